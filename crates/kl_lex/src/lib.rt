@@ -1,0 +1,6 @@
+//! Tokens of programs, types and catalogues, by longest match.
+#![tactic(auto)]
+
+mod token;
+
+pub use token::{Sym, Tok, Token, Tokens};

@@ -1,0 +1,94 @@
+use kl_base::{Label, Seq, Text};
+
+/// A symbol, in the order of the language's list of symbols.
+#[derive(Clone, Copy, Debug, PartialEq, Eq)]
+pub enum Sym {
+    /// `[|`
+    OpenList,
+    /// `|]`
+    CloseList,
+    /// `{|`
+    OpenBag,
+    /// `|}`
+    CloseBag,
+    /// `{`
+    OpenSet,
+    /// `}`
+    CloseSet,
+    /// `[`
+    OpenRec,
+    /// `]`
+    CloseRec,
+    /// `(`
+    OpenPar,
+    /// `)`
+    ClosePar,
+    /// `<=`
+    Le,
+    /// `>=`
+    Ge,
+    /// `<>`
+    Ne,
+    /// `<-`
+    Draw,
+    /// `<`
+    Lt,
+    /// `>`
+    Gt,
+    /// `==`
+    Equals,
+    /// `=>`
+    Arrow,
+    /// `=`
+    Eq,
+    /// `|`
+    Bar,
+    /// `,`
+    Comma,
+    /// `;`
+    Semi,
+    /// `...`
+    Dots,
+    /// `.`
+    Dot,
+    /// `:`
+    Colon,
+    /// `++`
+    Append,
+    /// `+`
+    Add,
+    /// `-`
+    Sub,
+    /// `*`
+    Mul,
+    /// `^`
+    Cat,
+    /// `\`
+    Bind,
+    /// `_`
+    Any,
+}
+
+/// What a token is.
+#[derive(Debug, Drop, PartialEq, Eq)]
+pub enum Tok {
+    /// A letter, then letters, digits and `_`. Keywords are words too.
+    Word(Label),
+    /// A run of digits of value at most 9223372036854775807.
+    Int(i64),
+    /// A run of digits of value 9223372036854775808, which a `-` makes the least integer.
+    Big,
+    /// A text between double quotes, its escapes resolved.
+    Text(Text),
+    Sym(Sym),
+}
+
+/// A token, which stands in the bytes from `from` to before `to`.
+#[derive(Debug, Drop, PartialEq, Eq)]
+pub struct Token {
+    pub what: Tok,
+    pub from: u32,
+    pub to: u32,
+}
+
+pub type Tokens = Seq<Token>;

@@ -1,0 +1,3 @@
+pub mod CanonLemmas
+pub mod OrderLemmas
+pub mod ShapeLemmas

@@ -1,0 +1,14 @@
+//! Values, their order, and collections in canonical form.
+#![tactic(auto)]
+
+mod measure;
+mod order;
+mod value;
+
+pub use kl_base::{Box, Label, NoMemory, Seq, Text, is_word};
+pub use measure::{depth, dup};
+pub use order::{canon, canon_laws, cmp, order_laws};
+pub use value::{Fields, Items, Kind, Value};
+
+#[cfg(test)]
+mod tests;
