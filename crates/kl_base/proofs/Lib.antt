@@ -1,1 +1,2 @@
+pub mod FieldsLemmas
 pub mod SortedLemmas

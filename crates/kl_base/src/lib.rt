@@ -9,6 +9,7 @@
 
 mod boxed;
 mod compared;
+mod fields;
 mod label;
 mod memory;
 mod seq;
