@@ -21,7 +21,7 @@ use Rattle.kl_value.proofs.OrderLemmas.{derived_is, compare_total, compare_exact
 use Rattle.kl_base.proofs.SortedLemmas.{sorted_is, all-sorted, IsRising-sorted, count-sorted, same_from_counts, same_from_members, IsStrictlySortedBy-dedup_sorted, members-to, members-from}
 
 -- the derived `==` of two values
-eq_is : (v w : Value) → equality.ghosts.eq v w ≡ eq_by_cmp compare v w
+pub eq_is : (v w : Value) → equality.ghosts.eq v w ≡ eq_by_cmp compare v w
 eq_is v w = laws.matches_eq-law v w ∙ ap (λ R. eq_by_cmp R v w) (λ i v w. derived_is v w i)
 
 pub sorted_values : (xs ys : List Value) → IsPermutation xs ys → IsSorted derived.ghosts.cmp ys → ys ≡ sorted compare xs

@@ -6,7 +6,8 @@ use crate::value::Value;
 use kl_base::{Box, Label, NoMemory, Seq};
 use std::alloc::Global;
 
-/// How many records, variants and collections stand in one another, up to the greatest u64.
+/// How many records, variants and collections stand in one another, a count past u64 being answered as the greatest
+/// u64. Takes no memory.
 #[cycle(depth)]
 #[tactic(auto, using(crate::proofs::ShapeLemmas::depths))]
 pub fn depth(v: &Value) -> u64
@@ -44,7 +45,10 @@ fn depth_fields(fields: &[(Label, Value)]) -> u64
     most
 }
 
-/// An equal value.
+/// An equal value. Its labels share the bytes of the first one's.
+///
+/// # Errors
+/// Want of memory.
 #[cycle(dup)]
 pub fn dup(alloc: Global, v: &Value) -> Result<Value, NoMemory>
     ensures { IfOk result (λ w. w ≡ v.now) }
