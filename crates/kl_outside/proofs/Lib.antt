@@ -1,0 +1,4 @@
+pub mod CountLemmas
+pub mod SinkLemmas
+pub mod FileLemmas
+mod Places

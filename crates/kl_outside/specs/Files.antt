@@ -1,0 +1,103 @@
+-- What files mean, and what each call does to them.
+use Rattle.std.specs.Prelude.{◌≡◌, ◌≢◌, ◌⊎◌, ℕ, ◌≤◌, ◌<◌, List, [], ◌++◌, length, take, Result, Option, Some, None, IfOk, OnErr, IsErrOf, ⊤}
+use Rattle.kl_base.specs.Counts.{Rose}
+use Rattle.kl_outside.specs.declared.stop.Stop.{Stop}
+use Rattle.kl_outside.specs.declared.stop.Stop.TheVariants.{Failed}
+use Rattle.kl_outside.specs.declared.files.Whole.{Whole}
+use Rattle.kl_outside.specs.declared.files.Whole.TheVariants.{Bytes, TooLong}
+
+-- What is known of some files: the bytes of each path, where they are told, with none at a path that is missing;
+-- under each number whether a file is open, and what it has left, where that is known; and how often a call failed.
+pub record FilesState : Type 0 where
+  pub told : Option (List ℕ → Option (List ℕ))
+  pub left : ℕ → Option (Option (List ℕ))
+  pub faults : ℕ
+
+-- The path is told to have these bytes.
+abbrev pub Holds : FilesState → List ℕ → List ℕ → Type 0
+Holds s path bytes = (files : _) × (s.told ≡ Some files) × (files path ≡ Some bytes)
+
+-- The path is told to be missing.
+abbrev pub IsMissing : FilesState → List ℕ → Type 0
+IsMissing s path = (files : _) × (s.told ≡ Some files) × (files path ≡ None)
+
+-- what a file has left when it is opened
+abbrev pub left_at_first : Option (List ℕ → Option (List ℕ)) → List ℕ → Option (List ℕ)
+left_at_first None path = None
+left_at_first (Some files) path = files path
+
+-- Every other file is open or not as it was, and has the same bytes left.
+abbrev pub OtherFiles : ℕ → FilesState → FilesState → Type 0
+OtherFiles file old new = (k : ℕ) → k ≢ file → new.left k ≡ old.left k
+
+-- `open_path`
+pub record Opens (path : List ℕ) (result : Result ℕ Stop) (old new : FilesState) : Type 0 where
+  pub told : new.told ≡ old.told
+  pub fresh : IfOk result (λ file. old.left file ≡ None)
+  pub left : IfOk result (λ file. new.left file ≡ Some (left_at_first old.told path))
+  pub others : IfOk result (λ file. OtherFiles file old new)
+  pub refused : OnErr result (new.left ≡ old.left)
+  pub later : old.faults ≤ new.faults
+  pub failed : IsErrOf result Failed → IsMissing old path ⊎ Rose old.faults new.faults
+  pub missing : IsMissing old path → IsErrOf result Failed × (new.faults ≡ old.faults)
+
+-- An open file has lost these bytes from the front of what it had left. Where that is not known, nothing is said.
+abbrev pub Consumed : Option (Option (List ℕ)) → Option (Option (List ℕ)) → List ℕ → Type 0
+Consumed (Some (Some old)) (Some (Some new)) bytes = old ≡ bytes ++ new
+Consumed (Some None) (Some None) bytes = ⊤
+Consumed (Some (Some old)) (Some None) bytes = ⊥
+Consumed (Some (Some old)) None bytes = ⊥
+Consumed (Some None) (Some (Some new)) bytes = ⊥
+Consumed (Some None) None bytes = ⊥
+Consumed None new bytes = ⊥
+
+-- no known byte is left
+abbrev pub IsAtEnd : Option (Option (List ℕ)) → Type 0
+IsAtEnd left = (bytes : _) → left ≡ Some (Some bytes) → bytes ≡ []
+
+-- `read`
+pub record Reads (file : ℕ) (into : List ℕ) (result : Result ℕ Stop) (old new : FilesState) : Type 0 where
+  pub told : new.told ≡ old.told
+  pub within : IfOk result (λ count. count ≤ length into)
+  pub bytes : IfOk result (λ count. Consumed (old.left file) (new.left file) (take count into))
+  pub end : IfOk result (λ count. count ≡ 0 → IsAtEnd (old.left file))
+  pub others : OtherFiles file old new
+  pub refused : OnErr result (new.left ≡ old.left)
+  pub later : old.faults ≤ new.faults
+  pub failed : IsErrOf result Failed → Rose old.faults new.faults
+
+-- `close`
+pub record Closes (file : ℕ) (old new : FilesState) : Type 0 where
+  pub told : new.told ≡ old.told
+  pub closed : new.left file ≡ None
+  pub others : OtherFiles file old new
+  pub faults : new.faults ≡ old.faults
+
+-- These bytes are few enough and were answered, or they are too many.
+abbrev pub IsWhole : ℕ → List ℕ → Whole → Type 0
+IsWhole most bytes (Bytes whole) = (whole ≡ bytes) × (length bytes ≤ most)
+IsWhole most bytes TooLong = most < length bytes
+
+-- No more bytes were answered than is allowed.
+abbrev pub IsWithin : ℕ → Whole → Type 0
+IsWithin most (Bytes whole) = length whole ≤ most
+IsWithin most TooLong = ⊤
+
+-- `read_whole`
+pub record ReadsWhole (path : List ℕ) (most : ℕ) (result : Result Whole Stop) (old new : FilesState) : Type 0 where
+  pub told : new.told ≡ old.told
+  pub left : new.left ≡ old.left
+  pub whole : (bytes : List ℕ) → Holds old path bytes → IfOk result (IsWhole most bytes)
+  pub within : IfOk result (IsWithin most)
+  pub later : old.faults ≤ new.faults
+  pub failed : IsErrOf result Failed → IsMissing old path ⊎ Rose old.faults new.faults
+  pub missing : IsMissing old path → IsErrOf result Failed × (new.faults ≡ old.faults)
+
+-- the part of `read_whole` between opening and closing
+pub record ReadsRest (file most : ℕ) (result : Result Whole Stop) (old new : FilesState) : Type 0 where
+  pub told : new.told ≡ old.told
+  pub others : OtherFiles file old new
+  pub whole : (bytes : List ℕ) → old.left file ≡ Some (Some bytes) → IfOk result (IsWhole most bytes)
+  pub within : IfOk result (IsWithin most)
+  pub later : old.faults ≤ new.faults
+  pub failed : IsErrOf result Failed → Rose old.faults new.faults
