@@ -1,0 +1,4 @@
+pub mod DrawLemmas
+pub mod NumberLemmas
+pub mod TextLemmas
+pub mod RunLemmas

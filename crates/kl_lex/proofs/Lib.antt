@@ -1,0 +1,5 @@
+pub mod Firsts
+pub mod Fronts
+pub mod Inside
+pub mod Readings
+pub mod Sequence

@@ -1,0 +1,4 @@
+pub mod Blank
+pub mod Lexing
+pub mod Reading
+pub mod Spelling

@@ -1,0 +1,109 @@
+-- How tokens are spelled.
+use Rattle.std.specs.Prelude.{◌≡◌, ◌≢◌, ℕ, pos, ◌+◌, ◌*◌, ◌<◌, ◌≤◌, ◌==◌, IsTrue, if◌then◌else◌, List, [], ◌∷◌, ◌++◌, Option, Some, None, codes}
+use Rattle.std.specs.List.{list_all}
+use Rattle.std.specs.Char.{is_ascii_digit, digit_value}
+use Rattle.std.specs.Str.Parse.{digits_value}
+use Rattle.kl_base.specs.Word.{is_word}
+use Rattle.kl_lex.specs.declared.token.Sym.{Sym as Symbol}
+use Rattle.kl_lex.specs.declared.token.Sym.TheVariants.{OpenList, CloseList, OpenBag, CloseBag, OpenSet, CloseSet, OpenRec, CloseRec, OpenPar, ClosePar, Le, Ge, Ne, Draw, Lt, Gt, Equals, Arrow, Eq, Bar, Comma, Semi, Dots, Dot, Colon, Append, Add, Sub, Mul, Cat, Bind, Any}
+use Rattle.kl_lex.specs.declared.token.Tok.{Tok}
+use Rattle.kl_lex.specs.declared.token.Tok.TheVariants.{Word, Int, Big, Text, Sym}
+
+-- ---- symbols
+
+abbrev pub spelling : Symbol → List ℕ
+spelling OpenList = codes "[|"
+spelling CloseList = codes "|]"
+spelling OpenBag = codes "{|"
+spelling CloseBag = codes "|}"
+spelling OpenSet = codes "{"
+spelling CloseSet = codes "}"
+spelling OpenRec = codes "["
+spelling CloseRec = codes "]"
+spelling OpenPar = codes "("
+spelling ClosePar = codes ")"
+spelling Le = codes "<="
+spelling Ge = codes ">="
+spelling Ne = codes "<>"
+spelling Draw = codes "<-"
+spelling Lt = codes "<"
+spelling Gt = codes ">"
+spelling Equals = codes "=="
+spelling Arrow = codes "=>"
+spelling Eq = codes "="
+spelling Bar = codes "|"
+spelling Comma = codes ","
+spelling Semi = codes ";"
+spelling Dots = codes "..."
+spelling Dot = codes "."
+spelling Colon = codes ":"
+spelling Append = codes "++"
+spelling Add = codes "+"
+spelling Sub = codes "-"
+spelling Mul = codes "*"
+spelling Cat = codes "^"
+spelling Bind = codes "\\"
+spelling Any = codes "_"
+
+-- ---- numbers
+
+-- digits, one at least
+abbrev pub IsNumber : List ℕ → Type 0
+IsNumber u = (u ≢ []) × IsTrue (list_all is_ascii_digit u)
+
+-- the greatest value of an integer token
+abbrev pub int_max : ℕ
+int_max = 9223372036854775807
+
+-- ---- texts
+
+-- the byte `"`
+abbrev pub quote : ℕ
+quote = 34
+
+-- the byte `\`
+abbrev pub backslash : ℕ
+backslash = 92
+
+-- the byte that a backslash and this byte mean
+abbrev pub escape : ℕ → Option ℕ
+escape c =
+    if c == quote then Some quote
+    else if c == backslash then Some backslash
+    else if c == 110 then Some 10  -- n, a line feed
+    else if c == 114 then Some 13  -- r, a carriage return
+    else if c == 116 then Some 9  -- t, a tab
+    else None
+
+-- one part of a text: the byte that it means, and how it is written
+pub data Part : ℕ → List ℕ → Type 0 where
+  plain : {b : ℕ} → b ≢ quote → b ≢ backslash → Part b (b ∷ [])
+  escaped : {b c : ℕ} → escape c ≡ Some b → Part b (backslash ∷ c ∷ [])
+  -- `\x` and two hexadecimal digits, of either case
+  hex : {high low : ℕ} → digit_value high < 16 → digit_value low < 16 → Part (16 * digit_value high + digit_value low) (backslash ∷ 120 ∷ high ∷ low ∷ [])
+
+-- the bytes are the parts, one behind the other, of a text that means these
+abbrev pub Parts : List ℕ → List ℕ → Type 0
+Parts [] u = u ≡ []
+Parts (b ∷ meant) u = (part : List ℕ) × (rest : List ℕ) × (u ≡ part ++ rest) × Part b part × Parts meant rest
+
+-- the bytes are a whole text, between its quotes, that means these
+abbrev pub IsText : List ℕ → List ℕ → Type 0
+IsText meant u = (inside : List ℕ) × (u ≡ quote ∷ (inside ++ quote ∷ [])) × Parts meant inside
+
+-- ---- tokens
+
+-- what is read as one: a word, a number of any size, a text or a symbol
+pub data Lexeme (u : List ℕ) : Type 0 where
+  word : IsTrue (is_word u) → Lexeme u
+  number : IsNumber u → Lexeme u
+  text : (meant : List ℕ) → IsText meant u → Lexeme u
+  symbol : (s : Symbol) → u ≡ spelling s → Lexeme u
+
+-- the bytes spell this token; a number past the greatest by more than one spells none
+abbrev pub Spelled : Tok → List ℕ → Type 0
+Spelled (Word w) u = IsTrue (is_word u) × (w ≡ u)
+Spelled (Int n) u = IsNumber u × (digits_value 10 u ≤ int_max) × (n ≡ pos (digits_value 10 u))
+Spelled Big u = IsNumber u × (digits_value 10 u ≡ int_max + 1)
+Spelled (Text meant) u = IsText meant u
+Spelled (Sym s) u = u ≡ spelling s

@@ -1,0 +1,12 @@
+pub mod Words
+pub mod Readers
+pub mod Keywords
+pub mod Marks
+pub mod Deciding
+pub mod SmallGrammar
+pub mod SmallNames
+pub mod SmallNumbers
+pub mod SmallTests
+pub mod SmallProgram
+pub mod SmallDescent
+pub mod SmallGives

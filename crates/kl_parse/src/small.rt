@@ -1,0 +1,72 @@
+ghost use Rattle.std.specs.Prelude.{◌≡◌};
+ghost use Rattle.kl_parse.specs.declared.small.SmallError.TheVariants.{NoMemory as SmallNoMemory};
+
+use kl_base::{Label, NoMemory, Seq};
+use std::alloc::{AllocError, AllocFailed};
+
+/// A number that is written out, or the name of what a generator draws.
+#[derive(Debug, Drop, PartialEq, Eq)]
+pub enum Atom {
+    Int(i64),
+    Name(Label),
+}
+
+/// The atoms that are added up: one or more.
+pub type Sum = Seq<Atom>;
+
+pub type Sums = Seq<Sum>;
+
+pub type Ints = Seq<i64>;
+
+/// What stands behind the bar of a comprehension.
+#[derive(Debug, Drop, PartialEq, Eq)]
+pub enum SmallQual {
+    /// `\name <- {numbers}`: draws each number of the set in turn under the name.
+    Gen(Label, Ints),
+    /// `sum = sum`: whether both have one value.
+    Test(Sum, Sum),
+}
+
+pub type SmallQuals = Seq<SmallQual>;
+
+/// A set of sums, `{sums};`, or a comprehension, `{sum | qualifiers};`.
+#[derive(Debug, Drop, PartialEq, Eq)]
+pub struct Small {
+    /// The items; in a comprehension the one before the bar.
+    pub head: Sums,
+    /// One or more, in a comprehension.
+    pub quals: Option<SmallQuals>,
+}
+
+/// Why bytes are read as no small program.
+#[derive(Clone, Copy, Debug, PartialEq, Eq)]
+pub enum SmallError {
+    /// They are none, or a name in it is not bound.
+    NotSmall,
+    /// Want of memory.
+    NoMemory,
+}
+
+impl From<NoMemory> for SmallError {
+    ghost from_gives = { λ _ e. e ≡ SmallNoMemory };
+
+    fn from(_error: NoMemory) -> SmallError {
+        SmallError::NoMemory
+    }
+}
+
+impl From<AllocError> for SmallError {
+    ghost from_gives = { λ _ e. e ≡ SmallNoMemory };
+
+    fn from(_error: AllocError) -> SmallError {
+        SmallError::NoMemory
+    }
+}
+
+impl<T: Drop> From<AllocFailed<T>> for SmallError {
+    ghost from_gives = { λ _ e. e ≡ SmallNoMemory };
+
+    fn from(_error: AllocFailed<T>) -> SmallError {
+        SmallError::NoMemory
+    }
+}
