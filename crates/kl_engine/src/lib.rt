@@ -8,3 +8,6 @@ mod run;
 pub use meaning::evaluate;
 pub use page::set_page;
 pub use run::{Answer, kleisli};
+
+#[cfg(test)]
+mod tests;
