@@ -1,9 +1,9 @@
 -- The inside of a text is read in one way.
-use Rattle.std.proofs.Common.{◌≡◌, ◌≢◌, ℕ, ◌+◌, ◌*◌, ◌<◌, ◌⊎◌, inl, inr, List, [], ◌∷◌, ◌++◌, length, Option, Some, None, refl, sym, ap, subst, ◌∙◌, append_assoc, arith}
+use Rattle.std.proofs.Common.{◌≡◌, ◌≢◌, ℕ, ◌+◌, ◌*◌, ◌<◌, List, [], ◌∷◌, ◌++◌, Some, None, refl, sym, ap, subst, ◌∙◌, append_assoc, arith}
 use Rattle.std.proofs.lemmas.List.{append-nil}
 use Rattle.std.specs.Char.{digit_value}
 use Rattle.kl_lex.specs.Spelling.{quote, backslash, escape, Part, plain, escaped, hex, Parts, IsText}
-use Rattle.kl_lex.specs.Reading.{Closes, PartFirst, NoPart}
+use Rattle.kl_lex.specs.Reading.{PartFirst, NoPart}
 
 -- a part begins with a byte that is no quote
 part_head : (b : ℕ) (part : List ℕ) → Part b part → (x : ℕ) × (xs : List ℕ) × (part ≡ x ∷ xs) × (x ≢ quote)
@@ -77,15 +77,6 @@ one_text m n u (v, e, h) (w, f, k) = (one_inside m n v w [] [] h k (let z : quot
 
 -- ---- the part at a front, by its first bytes
 
-pub no_part_in_none : NoPart []
-no_part_in_none b rest (part, e, p) =
-    let (x, xs, k, n) = part_head b part p in
-    let z : [] ≡ (x ∷ xs) ++ rest = subst (λ (w : List ℕ). [] ≡ w ++ rest) k e in
-    absurd cc
-
-pub no_part_at_quote : (bs : List ℕ) → NoPart (quote ∷ bs)
-no_part_at_quote bs b rest (part, e, p) = part_no_quote b part rest bs p (sym e)
-
 pub plain_first : (s : List ℕ) (b : ℕ) (bs : List ℕ) → s ≡ b ∷ bs → b ≢ quote → b ≢ backslash → PartFirst s b bs
 plain_first s b bs e n m = (b ∷ [], e, plain n m)
 
@@ -96,37 +87,11 @@ pub hex_first : (s : List ℕ) (h l b : ℕ) (bs : List ℕ) → s ≡ h ∷ l �
 hex_first s h l b bs e k =
     (backslash ∷ 120 ∷ h ∷ l ∷ [], ap (λ (z : List ℕ). backslash ∷ 120 ∷ z) e, subst (λ (z : ℕ). Part z (backslash ∷ 120 ∷ h ∷ l ∷ [])) (sym k.1) (hex k.0.0 k.0.1))
 
--- what follows a backslash in a part: an escape, or the letter `x` and two digits
-by_backslash : (bs : List ℕ) (b : ℕ) (part rest : List ℕ) → Part b part → backslash ∷ bs ≡ part ++ rest → ((c : ℕ) × (bs ≡ c ∷ rest) × (escape c ≡ Some b)) ⊎ ((h : ℕ) × (l : ℕ) × (bs ≡ 120 ∷ h ∷ l ∷ rest) × (digit_value h < 16) × (digit_value l < 16))
-by_backslash bs b part rest (plain n m) e = absurd (m (let k : backslash ≡ b = cc in sym k))
-by_backslash bs b part rest (escaped {c = c} h) e = inl (c, cc, h)
-by_backslash bs b part rest (hex {high = h} {low = l} x y) e = inr (h, l, cc, x, y)
-
-pub no_escape : (s : List ℕ) (c : ℕ) (bs : List ℕ) → s ≡ c ∷ bs → c ≢ 120 → escape c ≡ None → NoPart (backslash ∷ s)
-no_escape s c bs f n h b rest (part, e, p) =
-    elim (by_backslash s b part rest p e) [
-      | inl q ↦ absurd (let k : c ≡ q.0 = (let z = sym f ∙ q.1 in cc) in let z : None ≡ Some b = sym h ∙ ap escape k ∙ q.2 in cc)
-      | inr q ↦ n (let z = sym f ∙ q.2 in cc)
-    ]
-
-pub no_escape_in_none : (s : List ℕ) → s ≡ [] → NoPart (backslash ∷ s)
-no_escape_in_none s f b rest (part, e, p) =
-    elim (by_backslash s b part rest p e) [ inl q ↦ absurd (let z = sym f ∙ q.1 in cc) | inr q ↦ absurd (let z = sym f ∙ q.2 in cc) ]
-
 pub no_hex : (s : List ℕ) (h l : ℕ) (bs : List ℕ) → s ≡ h ∷ l ∷ bs → ((digit_value h < 16) × (digit_value l < 16) → ⊥) → NoPart (backslash ∷ 120 ∷ s)
-no_hex s h l bs f never b rest (part, e, p) =
-    elim (by_backslash (120 ∷ s) b part rest p e) [
-      | inl q ↦ escape_x q.0 b q.2 (let z = q.1 in cc)
-      | inr q ↦
-          let y : s ≡ q.0 ∷ q.1 ∷ rest = (let z = q.2 in cc) in
-          let i : q.0 ≡ h = (let z = sym f ∙ y in cc) in
-          let j : q.1 ≡ l = (let z = sym f ∙ y in cc) in
-          never (subst (λ (z : ℕ). digit_value z < 16) i q.3, subst (λ (z : ℕ). digit_value z < 16) j q.4)
-    ]
-
-pub no_hex_in_few : (bs : List ℕ) → length bs < 2 → NoPart (backslash ∷ 120 ∷ bs)
-no_hex_in_few bs few b rest (part, e, p) =
-    elim (by_backslash (120 ∷ bs) b part rest p e) [
-      | inl q ↦ escape_x q.0 b q.2 (let z = q.1 in cc)
-      | inr q ↦ absurd (let z : bs ≡ q.0 ∷ q.1 ∷ rest = (let y = q.2 in cc) in let k = ap length z in omega arith)
-    ]
+no_hex s h l bs f never b rest (part, e, plain nq nb) = nb cc
+no_hex s h l bs f never b rest (part, e, escaped {c = c} k) = escape_x c b k cc
+no_hex s h l bs f never b rest (part, e, hex {high = x} {low = y} i j) =
+    let k : h ∷ l ∷ bs ≡ x ∷ y ∷ rest = cc in
+    let a : x ≡ h = cc in
+    let d : y ≡ l = cc in
+    never (subst (λ (z : ℕ). digit_value z < 16) a i, subst (λ (z : ℕ). digit_value z < 16) d j)

@@ -1,11 +1,10 @@
 -- What each part of the lexer reads is the longest lexeme.
-use Rattle.std.proofs.Common.{◌≡◌, ◌≢◌, ℕ, zero, suc, ◌+◌, ◌-◌, ◌*◌, ◌<◌, ◌≤◌, Bool, true, false, cond, eqb, List, [], ◌∷◌, ◌++◌, length, take, drop, get_or, ◌⊎◌, inl, inr, ◌&&◌, ◌||◌, IsTrue, refl, sym, ap, subst, ◌∙◌, arith, Option, Some, None, add-one, one-add, length-append, append_assoc}
+use Rattle.std.proofs.Common.{◌≡◌, ◌≢◌, ℕ, zero, suc, ◌+◌, ◌-◌, ◌*◌, ◌<◌, ◌≤◌, Bool, true, false, cond, List, [], ◌∷◌, ◌++◌, length, take, get_or, IsTrue, refl, sym, ap, subst, ◌∙◌, arith, Some, None, append_assoc}
 use Rattle.std.proofs.lemmas.Bool.{and_parts, and_from}
 use Rattle.std.proofs.lemmas.Bool.Decides.{nat_tests}
-use Rattle.std.proofs.lemmas.List.{take-append-drop}
 use Rattle.std.proofs.lemmas.List.Sums.{take_while-cons}
 use Rattle.std.proofs.lemmas.List.Folds.{length-prefix_len}
-use Rattle.std.specs.Char.{is_ascii_alphabetic, is_ascii_alphanumeric, is_ascii_digit}
+use Rattle.std.specs.Char.{is_ascii_alphabetic, is_ascii_digit}
 use Rattle.std.specs.List.{list_all, prefix_len, take_while}
 use Rattle.std.specs.Int.{IsInRange}
 use Rattle.std.specs.Str.Parse.{digits_value}
@@ -218,11 +217,6 @@ symbol_starts bytes s rest h l = record {
   };
   spelled = refl;
 }
-
-pub symbol_none : (bytes : List ℕ) → 3 ≤ sort (first bytes) → ((s : Symbol) (rest : List ℕ) → bytes ≡ spelling s ++ rest → ⊥) → NoneStarts bytes
-symbol_none bytes h never what rest s =
-    let (t, e) = only_symbol s.lexeme s.longest.one (subst (λ (z : ℕ). 3 ≤ sort z) (sym (same_first bytes s.lexeme rest s.longest.one s.longest.parts)) h) in
-    never t rest (s.longest.parts ∙ ap (λ (z : List ℕ). z ++ rest) e)
 
 -- ---- no token starts in no bytes
 pub none_in_none : NoneStarts []

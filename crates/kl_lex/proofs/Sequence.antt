@@ -1,13 +1,12 @@
 -- The bytes have one list of tokens at most.
-use Rattle.std.proofs.Common.{◌≡◌, ◌≢◌, ℕ, suc, ◌+◌, ◌<◌, ◌≤◌, Bool, true, false, cond, eqb, List, [], ◌∷◌, ◌++◌, length, ◌⊎◌, inl, inr, refl, sym, ap, subst, ◌∙◌, arith, IsTrue, length-append}
-use Rattle.std.specs.List.{AllByRecursion}
+use Rattle.std.proofs.Common.{◌≡◌, ◌≢◌, ℕ, ◌+◌, ◌<◌, ◌≤◌, Bool, true, false, cond, eqb, List, [], ◌∷◌, ◌++◌, length, ◌⊎◌, inl, inr, refl, sym, ap, subst, ◌∙◌, arith, length-append}
 use Rattle.std.proofs.lemmas.Bool.{ne_eqb}
 use Rattle.kl_lex.specs.declared.token.Tok.{Tok}
 use Rattle.kl_lex.specs.declared.token.Token.{Token}
 use Rattle.kl_lex.specs.Blank.{line_feed, hash, is_white, InLine, EndsLine, Gap, none, white, comment, IsDue}
 use Rattle.kl_lex.specs.Reading.{LineBefore}
 use Rattle.kl_lex.specs.Spelling.{Lexeme, Spelled}
-use Rattle.kl_lex.specs.Lexing.{Longest, Starts, NoneStarts, Front, Upto, Tokens, PlacesRise}
+use Rattle.kl_lex.specs.Lexing.{Starts, NoneStarts, Front, Upto, Tokens, PlacesRise}
 use Rattle.kl_lex.proofs.Firsts.{lexeme_due, lexeme_full}
 use Rattle.kl_lex.proofs.Readings.{one_longest, one_spelled, none_in_none}
 

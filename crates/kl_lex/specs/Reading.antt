@@ -1,10 +1,10 @@
 -- What the parts of the lexer answer. No public contract cites this.
-use Rattle.std.specs.Prelude.{◌≡◌, ℕ, pos, ◌+◌, ◌*◌, ◌<◌, ◌≤◌, List, [], ◌∷◌, ◌++◌, length}
+use Rattle.std.specs.Prelude.{◌≡◌, ℕ, pos, ◌+◌, ◌≤◌, List, ◌∷◌, ◌++◌, length}
 use Rattle.kl_lex.specs.Blank.{InLine, EndsLine}
 use Rattle.kl_lex.specs.Spelling.{spelling, Part, Parts, quote, int_max}
 use Rattle.kl_lex.specs.declared.token.Sym.{Sym as Symbol}
 use Rattle.kl_lex.specs.declared.token.Tok.{Tok}
-use Rattle.kl_lex.specs.declared.token.Tok.TheVariants.{Word, Int, Big, Text, Sym}
+use Rattle.kl_lex.specs.declared.token.Tok.TheVariants.{Int, Big}
 
 -- the bytes are the rest of a line, and what is left from its end on
 abbrev pub LineBefore : List ℕ → List ℕ → Type 0

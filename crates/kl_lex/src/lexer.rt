@@ -44,11 +44,13 @@ impl<T: Drop> From<AllocFailed<T>> for LexError {
     }
 }
 
-/// The tokens of the bytes: each is the longest that starts at its byte, and between them stand white space and
-/// comments alone.
+/// The tokens of at most 65,536 bytes: each is the longest that starts at its byte, and between them stand white space
+/// and comments alone. White space is tab, line feed, carriage return and space. A comment runs from `#` to the next
+/// line feed or the end of the bytes.
 ///
 /// # Errors
-/// `Bad` with the first byte where a token is due and none starts, and want of memory.
+/// `Bad` with the first byte where a token is due and none starts: a digit that begins a number above
+/// 9223372036854775808, a quote that begins no whole text, or a byte that begins nothing. Want of memory.
 pub fn lex(alloc: Global, bytes: &[u8]) -> Result<Tokens, LexError>
     requires { length bytes.now ≤ 65536 }
     ensures tokens { IfOk result (AreTokens bytes.now) }

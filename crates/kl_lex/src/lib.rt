@@ -1,4 +1,11 @@
 //! Tokens of programs, types and catalogues, by longest match.
+//!
+//! What the tokens of some bytes are is a relation that knows nothing of the scan: the longest front that is a word, a
+//! run of digits, a text or a symbol, with white space and comments between. `lex` answers that list, which is the
+//! only one, or the byte at which there is none.
+//!
+//! What `rt plant` lets through here: a body that answers want of memory, which no contract of this project ties to
+//! a refused growth. It plants nothing in `lex`, for which the edits in `must-fail` stand.
 #![tactic(auto)]
 
 mod lexer;

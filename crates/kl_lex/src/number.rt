@@ -8,6 +8,9 @@ ghost use Rattle.kl_lex.specs.Spelling.{int_max};
 
 use crate::token::Tok;
 
+/// One more than the greatest integer.
+const BIG: u64 = 9_223_372_036_854_775_808;
+
 /// The number at the front, which is all the digits that follow one another there, and the bytes behind it.
 pub fn number_at(bytes: &[u8]) -> Option<(Tok, &[u8])>
     requires { IsTrue (is_ascii_digit (slice_index bytes.now 0)) }
@@ -39,9 +42,6 @@ fn int_of(value: u64) -> Option<Tok>
         Err(_) => None,
     }
 }
-
-/// One more than the greatest integer.
-const BIG: u64 = 9_223_372_036_854_775_808;
 
 /// The value of these digits, where it fits.
 fn value_of(digits: &[u8]) -> Option<u64>

@@ -39,9 +39,10 @@ holds_more set next k names more holds l = go (bytes_eq k l) refl
         let e : k ≡ l = (bytes_eq-Decides k l).0 h in
         (λ _. subst (λ (z : List ℕ). Contains (k ∷ names) z) e (first_of k names), λ _. more.0 l ∙ ap (λ z. cond z true (contains bytes_cmp set l)) (is_eq-slice_cmp k l ∙ h))
     go false h =
-        let same : contains bytes_cmp next l ≡ contains bytes_cmp set l = more.0 l ∙ ap (λ z. cond z true (contains bytes_cmp set l)) (is_eq-slice_cmp k l ∙ h) in
-        (λ t. Contains-append_right (k ∷ []) names l ((holds l).0 (sym same ∙ t)),
-          λ c. elim (first_or_other k l names c) [ inl e ↦ absurd (let y : true ≡ false = sym ((bytes_eq-Decides k l).1 e) ∙ h in cc) | inr d ↦ same ∙ (holds l).1 d ])
+        let same : contains bytes_cmp next l ≡ contains bytes_cmp set l = more.0 l ∙ ap (λ z. cond z true (contains bytes_cmp set l)) (is_eq-slice_cmp k l ∙ h) in (
+          λ t. Contains-append_right (k ∷ []) names l ((holds l).0 (sym same ∙ t)),
+          λ c. elim (first_or_other k l names c) [ inl e ↦ absurd (let y : true ≡ false = sym ((bytes_eq-Decides k l).1 e) ∙ h in cc) | inr d ↦ same ∙ (holds l).1 d ],
+        )
 
 -- ---- sums
 

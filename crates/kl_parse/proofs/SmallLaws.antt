@@ -1,5 +1,5 @@
 -- Laws of small programs: there is one for a text, and its numbers are those that digits write.
-use Rattle.std.proofs.Common.{◌≡◌, ℕ, ℤ, pos, ◌≤◌, ◌≤ℤ◌, List, [], ◌∷◌, refl, sym, subst, ◌∙◌, arith}
+use Rattle.std.proofs.Common.{◌≡◌, ℕ, ℤ, pos, ◌≤◌, List, [], ◌∷◌, refl, subst, arith}
 use Rattle.std.specs.List.{AllByRecursion}
 use Rattle.std.proofs.lemmas.Int.{ints}
 use Rattle.std.specs.Str.Parse.{digits_value}
@@ -8,16 +8,15 @@ use Rattle.kl_lex.specs.declared.token.Sym.TheVariants.{OpenSet, CloseSet, Draw,
 use Rattle.kl_lex.specs.declared.token.Tok.{Tok}
 use Rattle.kl_lex.specs.declared.token.Tok.TheVariants as tok
 use Rattle.kl_lex.specs.declared.token.Token.{Token}
-use Rattle.kl_lex.specs.Lexing.{Tokens, Upto}
+use Rattle.kl_lex.specs.Lexing.{Upto}
 use Rattle.kl_lex.specs.Spelling.{Spelled, int_max}
 use Rattle.kl_lex.proofs.Sequence.{read_whole}
 use Rattle.kl_parse.specs.declared.small.Atom.{Atom}
 use Rattle.kl_parse.specs.declared.small.Atom.TheVariants as atoms
 use Rattle.kl_parse.specs.declared.small.SmallQual.{SmallQual}
 use Rattle.kl_parse.specs.declared.small.Small.{Small}
-use Rattle.kl_parse.specs.Words.{Phrase, Then, Behind, Before, Many, Made, Or, Optional}
+use Rattle.kl_parse.specs.Words.{Phrase, Then, Behind, Before, Many, Made, Optional}
 use Rattle.kl_parse.specs.Marks.{Mark, IsInt, AnInt, AName}
-use Rattle.kl_parse.specs.Readers.{Out, ok}
 use Rattle.kl_parse.specs.SmallGrammar.{list_of, Parted, Braced, ReadsAtom, ReadsSum, gen_of, ReadsGen, test_of, ReadsTest, ReadsQual, set_of, ReadsSet, comp_of, ReadsComp, ReadsSmall}
 use Rattle.kl_parse.specs.SmallNumbers.{IsWritten, IsWrittenAtom, IsWrittenSum, IsWrittenQual, AllWritten}
 use Rattle.kl_parse.specs.SmallProgram.{IsSmall}

@@ -1,5 +1,5 @@
 -- The numbers of a small program.
-use Rattle.std.specs.Prelude.{ℕ, ℤ, pos, ◌≤ℤ◌, List}
+use Rattle.std.specs.Prelude.{ℤ, pos, ◌≤ℤ◌, List}
 use Rattle.std.specs.List.{AllByRecursion}
 use Rattle.kl_parse.specs.declared.small.Atom.{Atom}
 use Rattle.kl_parse.specs.declared.small.Atom.TheVariants.{Int, Name}

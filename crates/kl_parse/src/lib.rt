@@ -9,3 +9,6 @@ mod taking;
 
 pub use small::{Atom, Ints, Small, SmallError, SmallQual, SmallQuals, Sum, Sums};
 pub use small_reader::{read_small, small_laws, small_of};
+
+#[cfg(test)]
+mod tests;

@@ -2,7 +2,8 @@ ghost use Rattle.std.specs.Prelude.{◌≡◌};
 ghost use Rattle.kl_parse.specs.declared.small.SmallError.TheVariants.{NoMemory as SmallNoMemory};
 
 use kl_base::{Label, NoMemory, Seq};
-use std::alloc::{AllocError, AllocFailed};
+use std::alloc::AllocFailed;
+use thiserror::Error;
 
 /// A number that is written out, or the name of what a generator draws.
 #[derive(Debug, Drop, PartialEq, Eq)]
@@ -39,11 +40,13 @@ pub struct Small {
 }
 
 /// Why bytes are read as no small program.
-#[derive(Clone, Copy, Debug, PartialEq, Eq)]
+#[derive(Clone, Copy, Debug, PartialEq, Eq, Error)]
 pub enum SmallError {
     /// They are none, or a name in it is not bound.
+    #[error("no small program")]
     NotSmall,
     /// Want of memory.
+    #[error("out of memory")]
     NoMemory,
 }
 
@@ -51,14 +54,6 @@ impl From<NoMemory> for SmallError {
     ghost from_gives = { λ _ e. e ≡ SmallNoMemory };
 
     fn from(_error: NoMemory) -> SmallError {
-        SmallError::NoMemory
-    }
-}
-
-impl From<AllocError> for SmallError {
-    ghost from_gives = { λ _ e. e ≡ SmallNoMemory };
-
-    fn from(_error: AllocError) -> SmallError {
         SmallError::NoMemory
     }
 }

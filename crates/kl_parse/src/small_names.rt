@@ -30,10 +30,7 @@ fn quals_of(small: &Small) -> &[SmallQual]
 }
 
 /// The names that the generators bind, unless a test has a name that no generator before it binds.
-fn bound_names(
-    alloc: Global,
-    quals: &[SmallQual],
-) -> Result<Option<BTreeSet<Label>>, NoMemory>
+fn bound_names(alloc: Global, quals: &[SmallQual]) -> Result<Option<BTreeSet<Label>>, NoMemory>
     ensures { IfOk result (λ found. MatchOption found (QualsIn [] quals.now → ⊥) (λ names. QualsIn [] quals.now × Holds names (bound [] quals.now))) }
 {
     let mut names = BTreeSet::new(alloc);

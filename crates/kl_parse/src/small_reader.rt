@@ -30,7 +30,13 @@ fn int(tokens: &[Token]) -> Result<(i64, &[Token]), SmallError>
     ensures { Gives (λ x. x.0) (λ x. x.1.now) result (int tokens.now) }
 {
     match tokens {
-        [Token { what: Tok::Int(n), .. }, rest @ ..] => Ok((*n, rest)),
+        [
+            Token {
+                what: Tok::Int(n),
+                ..
+            },
+            rest @ ..,
+        ] => Ok((*n, rest)),
         _ => Err(SmallError::NotSmall),
     }
 }
@@ -39,9 +45,13 @@ fn name(tokens: &[Token]) -> Result<(Label, &[Token]), SmallError>
     ensures { Gives (λ x. x.0) (λ x. x.1.now) result (name tokens.now) }
 {
     match tokens {
-        [Token { what: Tok::Word(word), .. }, rest @ ..] if !is_keyword(word.slice()) => {
-            Ok((word.dup()?, rest))
-        }
+        [
+            Token {
+                what: Tok::Word(word),
+                ..
+            },
+            rest @ ..,
+        ] if !is_keyword(word.slice()) => { Ok((word.dup()?, rest)) }
         _ => Err(SmallError::NotSmall),
     }
 }
@@ -51,10 +61,20 @@ fn atom(tokens: &[Token]) -> Result<(Atom, &[Token]), SmallError>
     ensures { Gives (λ x. x.0) (λ x. x.1.now) result (atom tokens.now) }
 {
     match tokens {
-        [Token { what: Tok::Int(n), .. }, rest @ ..] => Ok((Atom::Int(*n), rest)),
-        [Token { what: Tok::Word(word), .. }, rest @ ..] if !is_keyword(word.slice()) => {
-            Ok((Atom::Name(word.dup()?), rest))
-        }
+        [
+            Token {
+                what: Tok::Int(n),
+                ..
+            },
+            rest @ ..,
+        ] => Ok((Atom::Int(*n), rest)),
+        [
+            Token {
+                what: Tok::Word(word),
+                ..
+            },
+            rest @ ..,
+        ] if !is_keyword(word.slice()) => { Ok((Atom::Name(word.dup()?), rest)) }
         _ => Err(SmallError::NotSmall),
     }
 }

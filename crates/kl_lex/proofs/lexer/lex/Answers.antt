@@ -1,4 +1,4 @@
-use Rattle.std.proofs.Common.{rules, ◌≡◌, ◌≢◌, [], ◌<◌, length, ap, arith}
+use Rattle.std.proofs.Common.{rules, ◌≢◌, [], length, ap, arith}
 use Rattle.std.proofs.lemmas.List.{nil_from_length}
 use Rattle.kl_lex.specs.Lexing.{Starts}
 use Rattle.kl_lex.proofs.Sequence.{gap_shorter, starts_shorter, refused_none, read_whole, upto_more, places_rise}

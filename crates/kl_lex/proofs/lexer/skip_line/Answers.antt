@@ -1,4 +1,4 @@
-use Rattle.std.proofs.Common.{◌≡◌, List, ℕ, [], ◌∷◌, ◌++◌, append_assoc, sym, ap, ◌∙◌}
+use Rattle.std.proofs.Common.{List, ℕ, [], ◌∷◌, ◌++◌, append_assoc, sym, ap, ◌∙◌}
 use Rattle.kl_lex.proofs.Fronts.{first_and_rest}
 use Rattle.kl_lex.proofs.Sequence.{in_line_more}
 use Rattle.kl_lex.proofs.lexer.skip_line.Goals as goal

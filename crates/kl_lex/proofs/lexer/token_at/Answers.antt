@@ -4,7 +4,7 @@ use Rattle.kl_lex.specs.Spelling.{quote}
 use Rattle.kl_lex.specs.Lexing.{Starts, NoneStarts}
 use Rattle.kl_lex.proofs.Firsts.{other_sort}
 use Rattle.kl_lex.proofs.Fronts.{begins}
-use Rattle.kl_lex.proofs.Readings.{text_starts, text_none, symbol_starts, symbol_none}
+use Rattle.kl_lex.proofs.Readings.{text_starts, text_none, symbol_starts}
 use Rattle.kl_lex.proofs.lexer.token_at.Goals as goal
 
 pub returns-in-None : goal.returns-in-None

@@ -1,6 +1,4 @@
-use Rattle.std.proofs.Common.{sym, ap, ◌∙◌, take}
-use Rattle.std.specs.List.{prefix_len}
-use Rattle.kl_base.specs.Word.{is_word_byte}
+use Rattle.std.proofs.Common.{sym, ◌∙◌}
 use Rattle.kl_lex.proofs.Fronts.{cut}
 use Rattle.kl_lex.proofs.Readings.{word_labelled, word_has_label}
 use Rattle.kl_lex.proofs.lexer.word_at.Goals as goal

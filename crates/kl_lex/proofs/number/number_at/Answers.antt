@@ -1,4 +1,4 @@
-use Rattle.std.proofs.Common.{◌≡◌, ◌++◌, List, ℕ, arith}
+use Rattle.std.proofs.Common.{arith}
 use Rattle.kl_lex.specs.Spelling.{IsNumber}
 use Rattle.kl_lex.specs.Lexing.{Longest}
 use Rattle.kl_lex.proofs.Fronts.{cut}

@@ -1,4 +1,4 @@
-use Rattle.std.proofs.Common.{◌≡◌, List, ℕ, ◌∷◌, MatchOption, sym, ap, subst, ◌∙◌}
+use Rattle.std.proofs.Common.{List, ℕ, MatchOption, sym, subst}
 use Rattle.kl_lex.specs.Spelling.{backslash}
 use Rattle.kl_lex.specs.Reading.{NoPart, PartFirst}
 use Rattle.kl_lex.proofs.Fronts.{first_and_rest, begins}

@@ -1,4 +1,4 @@
-use Rattle.std.proofs.Common.{◌≡◌, List, ℕ, ◌++◌, append_assoc, sym, ap, ◌∙◌}
+use Rattle.std.proofs.Common.{List, ℕ, ◌++◌, append_assoc, sym, ap, ◌∙◌}
 use Rattle.kl_lex.proofs.Inside.{parts_more, none_closes}
 use Rattle.kl_lex.proofs.quoted.text_at.Goals as goal
 

@@ -21,5 +21,5 @@ numbers-preserved c =
 pub returns : goal.returns
 returns c =
     let so_far : Progress (is_mark Comma) (behind (mark Comma) int) (more Comma int (c.args.first ∷ []) c.args.tokens.now) c.numbers.found.items c.numbers.rest.now =
-        subst (λ (z : ℤ). Progress (is_mark Comma) (behind (mark Comma) int) (more Comma int (z ∷ []) c.args.tokens.now) c.numbers.found.items c.numbers.rest.now) (to_z-of_z w64 c.args.first c.ranges.first) c.numbers.invariant in
+    subst (λ (z : ℤ). Progress (is_mark Comma) (behind (mark Comma) int) (more Comma int (z ∷ []) c.args.tokens.now) c.numbers.found.items c.numbers.rest.now) (to_z-of_z w64 c.args.first c.ranges.first) c.numbers.invariant in
     rw c.of.ensures (stops (is_mark Comma) (behind (mark Comma) int) (more Comma int (c.args.first ∷ []) c.args.tokens.now) c.numbers.found.items c.numbers.rest.now c.in_default.ensures so_far)
