@@ -38,6 +38,8 @@ impl<T> Box<T> {
 }
 
 impl<T: Drop> Box<T> {
+    /// A box with this value.
+    ///
     /// # Errors
     /// Want of memory; the value is dropped then.
     pub fn new(alloc: Global, value: T) -> Result<Box<T>, NoMemory>

@@ -1,4 +1,5 @@
 pub mod DrawLemmas
 pub mod NumberLemmas
-pub mod TextLemmas
+pub mod ReadyLemmas
 pub mod RunLemmas
+pub mod TextLemmas

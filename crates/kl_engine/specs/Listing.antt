@@ -1,4 +1,4 @@
--- How numbers stand in the text of a collection.
+-- How numbers stand in the text of a collection. No public contract cites this.
 use Rattle.std.specs.Prelude.{ℕ, ℤ, List, [], ◌∷◌, ◌++◌, codes}
 use Rattle.std.specs.Fmt.{signed_decimal}
 use Rattle.std.specs.List.{flat_map}

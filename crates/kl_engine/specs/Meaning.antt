@@ -64,20 +64,16 @@ abbrev pub each : {A : Type 0} → (A → Option (List ℤ)) → List A → Opti
 each f [] = Some []
 each f (a ∷ items) = after (f a) (λ xs. after (each f items) (λ ys. Some (xs ++ ys)))
 
--- What a comprehension draws. A generator binds its name to each of its numbers in turn; a test goes on where both
--- sums are equal; behind the last one the head is one number.
-abbrev pub draw : List Atom → List SmallQual → Bindings → Option (List ℤ)
-draw head [] env = after (sum_of env head) (λ n. Some (n ∷ []))
-draw head (Gen l ns ∷ quals) env = each (λ n. draw head quals ((l, n) ∷ env)) ns
-draw head (Test a b ∷ quals) env = after (sum_of env a) (λ m. after (sum_of env b) (λ n. if int_eq m n then draw head quals env else Some []))
-
 -- the numbers of a set: in rising order without repeats
 abbrev pub numbers_of_set : List ℤ → List ℤ
 numbers_of_set ns = dedup (eq_by_cmp int_cmp) (sorted int_cmp ns)
 
-abbrev pub from_its_set : SmallQual → SmallQual
-from_its_set (Gen l ns) = Gen l (numbers_of_set ns)
-from_its_set (Test a b) = Test a b
+-- What a comprehension draws. A generator binds its name to each number of its set in turn; a test goes on where both
+-- sums are equal; behind the last one the head is one number.
+abbrev pub draw : List Atom → List SmallQual → Bindings → Option (List ℤ)
+draw head [] env = after (sum_of env head) (λ n. Some (n ∷ []))
+draw head (Gen l ns ∷ quals) env = each (λ n. draw head quals ((l, n) ∷ env)) (numbers_of_set ns)
+draw head (Test a b ∷ quals) env = after (sum_of env a) (λ m. after (sum_of env b) (λ n. if int_eq m n then draw head quals env else Some []))
 
 -- the head of a comprehension is its only sum
 abbrev pub only : List (List Atom) → List Atom
@@ -87,7 +83,7 @@ only (head ∷ heads) = head
 -- a set by its items draws each of them
 abbrev pub drawn_by : List (List Atom) → Option (List SmallQual) → Option (List ℤ)
 drawn_by sums None = each (λ s. draw s [] []) sums
-drawn_by head (Some quals) = draw (only head) (map from_its_set quals) []
+drawn_by head (Some quals) = draw (only head) quals []
 
 abbrev pub set_of : Option (List ℤ) → Outcome
 set_of None = Over

@@ -2,8 +2,8 @@
 ghost use Rattle.std.specs.Prelude.{◌≡◌, [], ◌∷◌, ◌++◌, map, MatchOption, IfOk};
 ghost use Rattle.kl_base.specs.Fields.{field};
 ghost use Rattle.kl_value.specs.declared.value.Value.TheVariants as value;
-ghost use Rattle.kl_engine.specs.Meaning.{Done, Over, number_of, or_zero, sum_of, draw, from_its_set, numbers_of_set, each, drawn_by, outcome};
-ghost use Rattle.kl_engine.specs.Drawing.{bindings, Fills};
+ghost use Rattle.kl_engine.specs.Meaning.{Done, Over, number_of, or_zero, sum_of, draw, numbers_of_set, each, drawn_by, outcome};
+ghost use Rattle.kl_engine.specs.Drawing.{bindings, from_its_set, draw_ready, Fills, Passes};
 
 use kl_base::{Label, NoMemory, Seq};
 use kl_parse::{Atom, Small, SmallQual, SmallQuals, Sum};
@@ -47,7 +47,7 @@ enum Env<'a> {
 ///
 /// # Errors
 /// Want of memory.
-pub fn evaluate(alloc: Global, small: Small) -> Result<Option<Vec<i64>>, NoMemory>
+pub(crate) fn evaluate(alloc: Global, small: Small) -> Result<Option<Vec<i64>>, NoMemory>
     ensures { IfOk result (λ found. MatchOption found (outcome small ≡ Over) (λ ns. outcome small ≡ Done (value.Set (map value.Int ns.items)))) }
 {
     let Small { head, quals } = small;
@@ -60,6 +60,7 @@ pub fn evaluate(alloc: Global, small: Small) -> Result<Option<Vec<i64>>, NoMemor
 }
 
 // Adds what a small program draws to what was found.
+#[tactic(auto, using(crate::proofs::ReadyLemmas::ready_draws))]
 fn draw_all(
     alloc: Global,
     head: &[Sum],
@@ -163,39 +164,67 @@ fn sum(atoms: &[Atom], env: &Env) -> Option<i64>
     Some(total)
 }
 
-// Adds what the comprehension draws under these bindings to what was found.
-fn draw(head: &[Atom], quals: &[SmallQual], env: &Env, found: &mut Vec<i64>) -> Result<(), Stop>
-    ensures { Fills result found.old.items found.new.items (draw head.now quals.now (bindings env.now)) }
+// What comes behind the tests at the front of some qualifiers.
+enum Next<'a> {
+    // a generator, and what stands behind it
+    Generator(&'a Label, &'a [i64], &'a [SmallQual]),
+    // the head, since no qualifier is left
+    Head,
+    // a test that fails
+    Fails,
+    // a sum that overflows
+    Overflows,
+}
+
+// Goes through the tests up to the next generator.
+fn pass_tests<'a>(quals: &'a [SmallQual], env: &Env) -> Next<'a>
+    ensures { Passes quals.now (bindings env.now) result }
 {
-    match quals {
-        [] => match sum(head, env) {
+    let mut rest = quals;
+    'tests: while let [qual, behind @ ..] = rest {
+        let (left, right) = match qual {
+            SmallQual::Gen(name, numbers) => {
+                return Next::Generator(name, numbers.slice(), behind);
+            }
+            SmallQual::Test(left, right) => (left, right),
+        };
+        let Some(left) = sum(left.slice(), env) else {
+            return Next::Overflows;
+        };
+        let Some(right) = sum(right.slice(), env) else {
+            return Next::Overflows;
+        };
+        if left != right {
+            return Next::Fails;
+        }
+        rest = behind;
+    }
+    Next::Head
+}
+
+// Adds what the comprehension draws under these bindings to what was found. It calls itself for generators alone, so
+// that the stack does not grow with tests.
+fn draw(head: &[Atom], quals: &[SmallQual], env: &Env, found: &mut Vec<i64>) -> Result<(), Stop>
+    ensures { Fills result found.old.items found.new.items (draw_ready head.now quals.now (bindings env.now)) }
+{
+    match pass_tests(quals, env) {
+        Next::Head => match sum(head, env) {
             Some(number) => {
                 found.push(number)?;
                 Ok(())
             }
             None => Err(Stop::Overflow),
         },
-        [SmallQual::Gen(name, numbers), rest @ ..] => {
-            'numbers: for number in numbers.slice() {
+        Next::Fails => Ok(()),
+        Next::Overflows => Err(Stop::Overflow),
+        Next::Generator(name, numbers, rest) => {
+            'numbers: for number in numbers {
                 match draw(head, rest, &Env::Near(name, *number, &*env), found) {
                     Ok(()) => {}
                     Err(stop) => return Err(stop),
                 }
             }
             Ok(())
-        }
-        [SmallQual::Test(left, right), rest @ ..] => {
-            let Some(left) = sum(left.slice(), env) else {
-                return Err(Stop::Overflow);
-            };
-            let Some(right) = sum(right.slice(), env) else {
-                return Err(Stop::Overflow);
-            };
-            if left == right {
-                draw(head, rest, env, found)
-            } else {
-                Ok(())
-            }
         }
     }
 }

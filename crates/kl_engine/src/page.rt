@@ -12,7 +12,7 @@ use std::alloc::{AllocError, Global};
 ///
 /// # Errors
 /// Want of memory.
-pub fn set_page(alloc: Global, numbers: &[i64]) -> Result<Vec<u8>, AllocError>
+pub(crate) fn set_page(alloc: Global, numbers: &[i64]) -> Result<Vec<u8>, AllocError>
     ensures { IfOk result (λ page. page.items ≡ text_of (value.Set (map value.Int numbers.now)) ++ codes "\n") }
 {
     let mut page = Vec::from_slice(alloc, b"{")?;

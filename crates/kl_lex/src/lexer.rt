@@ -24,6 +24,7 @@ pub enum LexError {
     /// At this byte a token is due, and none starts there.
     #[error("no token starts at byte {byte}")]
     Bad { byte: u32 },
+    /// Want of memory.
     #[error("out of memory")]
     NoMemory,
 }

@@ -80,15 +80,20 @@ pub enum Tok {
     Big,
     /// A text between double quotes, its escapes resolved.
     Text(Text),
+    /// A symbol.
     Sym(Sym),
 }
 
 /// A token, which stands in the bytes from `from` to before `to`.
 #[derive(Debug, Drop, PartialEq, Eq)]
 pub struct Token {
+    /// What it is.
     pub what: Tok,
+    /// The place of its first byte.
     pub from: u32,
+    /// The place behind its last byte.
     pub to: u32,
 }
 
+/// The tokens of a text, in their order.
 pub type Tokens = Seq<Token>;

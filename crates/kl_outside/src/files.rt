@@ -45,7 +45,9 @@ pub trait Files {
 /// The bytes of a path, or that they are more than was allowed.
 #[derive(Debug, Drop, PartialEq, Eq)]
 pub enum Whole {
+    /// All bytes of the file.
     Bytes(Text),
+    /// The file has more bytes than was allowed.
     TooLong,
 }
 

@@ -118,6 +118,7 @@ pub struct HostSink<W> {
 impl<W: Write> HostSink<W> {
     ghost use Rattle.kl_outside.specs.Host.{stream_state};
 
+    /// A sink over a stream, with no fault so far.
     pub fn new(stream: W) -> HostSink<W>
         ensures { stream_state result ≡ record { taken = None; faults = 0; wants = 0 } }
     {

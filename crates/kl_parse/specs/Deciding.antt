@@ -1,4 +1,5 @@
 -- Which kind of token it is, as tests.
+-- No public contract cites this.
 use Rattle.std.specs.Prelude.{ℕ, ℤ, Bool, true, false, List, Option, Some, None, if◌then◌else◌}
 use Rattle.kl_lex.specs.declared.token.Sym.{Sym}
 use Rattle.kl_lex.specs.contracts.token.Sym.{the_type}

@@ -1,4 +1,5 @@
 -- A descent over a list of tokens, as a function: it reads a front. T is the type of tokens, F what is told where none is read.
+-- No public contract cites this.
 use Rattle.std.specs.Prelude.{ℕ, zero, suc, Bool, false, List, [], ◌∷◌, ◌++◌, length, Option, Some, None, if◌then◌else◌}
 
 -- what was read, and the rest

@@ -1,4 +1,5 @@
 -- The descent through the small grammar: for each word of it a reader that takes a longest front of the tokens.
+-- No public contract cites this.
 use Rattle.std.specs.Prelude.{ℕ, ℤ, List, [], ◌∷◌}
 use Rattle.kl_lex.specs.declared.token.Sym.{Sym}
 use Rattle.kl_lex.specs.declared.token.Sym.TheVariants.{OpenSet, CloseSet, Draw, Eq, Bar, Comma, Semi, Add, Bind}

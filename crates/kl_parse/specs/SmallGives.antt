@@ -1,4 +1,5 @@
 -- What a function of the descent answers, seen as an outcome.
+-- No public contract cites this.
 use Rattle.std.specs.Prelude.{◌≡◌, List, Result, Ok, Err}
 use Rattle.kl_lex.specs.declared.token.Token.{Token}
 use Rattle.kl_parse.specs.declared.small.SmallError.{SmallError}

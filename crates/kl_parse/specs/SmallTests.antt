@@ -1,4 +1,5 @@
 -- Tests of names against a set of names.
+-- No public contract cites this.
 use Rattle.std.specs.Prelude.{ℕ, Bool, true, IsTrue, ◌↔◌, List}
 use Rattle.std.specs.BTreeSet.{BTreeSet, contains}
 use Rattle.std.specs.List.{Contains, list_all}

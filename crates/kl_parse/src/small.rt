@@ -5,18 +5,22 @@ use kl_base::{Label, NoMemory, Seq};
 use std::alloc::AllocFailed;
 use thiserror::Error;
 
-/// A number that is written out, or the name of what a generator draws.
+/// A part of a sum.
 #[derive(Debug, Drop, PartialEq, Eq)]
 pub enum Atom {
+    /// A number that is written out.
     Int(i64),
+    /// The name of what a generator draws.
     Name(Label),
 }
 
 /// The atoms that are added up: one or more.
 pub type Sum = Seq<Atom>;
 
+/// The items of a set.
 pub type Sums = Seq<Sum>;
 
+/// The numbers of a generator's set, as they are written.
 pub type Ints = Seq<i64>;
 
 /// What stands behind the bar of a comprehension.
@@ -28,6 +32,7 @@ pub enum SmallQual {
     Test(Sum, Sum),
 }
 
+/// The qualifiers of a comprehension, in their order.
 pub type SmallQuals = Seq<SmallQual>;
 
 /// A set of sums, `{sums};`, or a comprehension, `{sum | qualifiers};`.

@@ -283,7 +283,8 @@ pub fn small_of(alloc: Global, tokens: &[Token]) -> Result<Small, SmallError>
     Ok(found)
 }
 
-/// The small program that the bytes are: white space and comments may stand between its tokens.
+/// The small program that the bytes are, of which there are at most 65,536: white space and comments may stand between
+/// its tokens.
 ///
 /// # Errors
 /// `NotSmall` exactly where they are none, or one with a name that is not bound. Want of memory.

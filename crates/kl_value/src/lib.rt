@@ -1,7 +1,7 @@
 //! Values, their order, and collections in canonical form.
 //!
 //! What `rt plant` lets through here: bodies that answer want of memory, which no contract of this project ties to a
-//! refused growth. A test with ample memory calls each of these functions.
+//! refused growth. A test with ample memory calls each of these functions. The laws have no body that could be planted.
 #![tactic(auto)]
 
 mod measure;

@@ -24,15 +24,23 @@ pub type Fields = Seq<(Label, Value)>;
 /// collections as lists, item by item, a proper prefix first.
 ///
 /// A value is canonical where each record's labels rise strictly, each set's items rise strictly, and each bag's
-/// items rise. Every public call that answers a value answers a canonical one, and takes only such.
+/// items rise. Every public call that answers a value answers a canonical one where it is given canonical ones.
 #[derive(Debug, Drop, PartialEq, Eq, PartialOrd, Ord, Hash)]
 pub enum Value {
+    /// `true` or `false`.
     Bool(bool),
+    /// An integer of 64 bits.
     Int(i64),
+    /// Any bytes: `"gene"`.
     Text(Text),
+    /// A record: `[title="Genes", vol=3]`.
     Rec(Fields),
+    /// A variant, one label with a value: `<chr=7>`.
     Inj(Label, Box<Value>),
+    /// A set: `{1, 2}`.
     Set(Items),
+    /// A bag: `{|1, 1|}`.
     Bag(Items),
+    /// A list: `[|2, 1, 2|]`.
     List(Items),
 }

@@ -1,5 +1,5 @@
 use Rattle.std.proofs.Common.{◌≡◌, map}
-use Rattle.kl_engine.specs.Meaning.{from_its_set}
+use Rattle.kl_engine.specs.Drawing.{from_its_set}
 use Rattle.kl_engine.proofs.meaning.from_their_sets.Given as goal
 
 abbrev pub invariant-quals : goal.invariant-quals
