@@ -1,6 +1,6 @@
 -- Labels that rise: as a test over neighbours, after a sort, and against repeats.
-use Rattle.std.proofs.Common.{◌≡◌, ℕ, suc, ◌+◌, ◌-◌, ◌<◌, ◌≤◌, Bool, true, false, cond, ◌&&◌, List, [], ◌∷◌, length, drop, get_or, map, Some, refl, sym, ap, subst, ◌∙◌, arith, Ordering, Less, Equal, Greater, is_lt, is_gt, IsPermutation, IsSorted, drop-cons, length-drop, true≢false, nat_eq}
-use Rattle.std.specs.Cmp.{IsTotalOrder, IsStrictWeakOrder, both_ways}
+use Rattle.std.proofs.Common.{◌≡◌, ℕ, suc, ◌+◌, ◌-◌, ◌<◌, ◌≤◌, Bool, true, false, ◌&&◌, List, [], ◌∷◌, length, drop, get_or, Some, refl, sym, ap, subst, ◌∙◌, arith, Ordering, Less, Equal, Greater, is_lt, is_gt, IsPermutation, drop-cons, length-drop, true≢false, nat_eq}
+use Rattle.std.specs.Cmp.{IsTotalOrder, IsStrictWeakOrder}
 use Rattle.std.proofs.lemmas.List.MinMax.{ranks_by}
 use Rattle.std.specs.FinMap.{nat_cmp-IsAntisymmetric, slice_cmp-IsAntisymmetric}
 use Rattle.std.specs.List.{AllByRecursion, IsDistinct}
@@ -9,7 +9,7 @@ use Rattle.std.specs.Cmp.Lexicographic.{pointwise}
 use Rattle.std.proofs.lemmas.Cmp.{on_total, nat_list_cmp_total, nat_list_eq_equiv}
 use Rattle.std.proofs.lemmas.Map.Keys.{IsDistinct-head, IsDistinct-tail, IsDistinct-IsPermutation}
 use Rattle.std.proofs.lemmas.List.Sorted.{IsPermutation-map}
-use Rattle.kl_base.specs.Fields.{bytes_cmp, labels_of, rises_from, rises, LabelsRise, LabelsDiffer, IsFieldsOf}
+use Rattle.kl_base.specs.Fields.{bytes_cmp, labels_of, rises_from, rises, LabelsDiffer, IsFieldsOf}
 use Rattle.kl_base.specs.Sorted.{IsRising}
 use Rattle.kl_base.proofs.SortedLemmas.{IsRising-from_sorted}
 

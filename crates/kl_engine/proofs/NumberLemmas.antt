@@ -1,20 +1,19 @@
 -- Numbers of a set, and the set of them.
-use Rattle.std.proofs.Common.{◌≡◌, ℤ, Bool, true, false, cond, List, [], ◌∷◌, ◌++◌, map, Some, Option, refl, sym, ap, ap₂, ◌∙◌, is_gt, is_eq, IsPermutation, IsSorted, int_eq}
+use Rattle.std.proofs.Common.{◌≡◌, ℤ, true, false, cond, List, [], ◌∷◌, ◌++◌, map, Some, Option, refl, sym, ap, ap₂, ◌∙◌, is_gt, is_eq, IsPermutation, IsSorted, int_eq}
 use Rattle.std.specs.FinMap.{int_cmp-IsAntisymmetric}
 use Rattle.std.specs.List.{dedup, dedup_from}
 use Rattle.std.specs.List.Retain.{IsFiltered, DiffersFromLast}
 use Rattle.std.specs.Ordering.{int_cmp, eq_by_cmp}
-use Rattle.std.proofs.lemmas.Cmp.{int_cmp_total, int_eq_equiv, tied_itself}
+use Rattle.std.proofs.lemmas.Cmp.{int_cmp_total}
 use Rattle.std.proofs.lemmas.List.Filters.{dedup_is}
 use Rattle.kl_base.specs.Sorted.{put_in, sorted}
 use Rattle.kl_value.specs.Canon.{canonical}
 use Rattle.kl_value.specs.Order.{order_layer, compare}
 use Rattle.kl_value.specs.declared.value.Kind.TheVariants.{Set}
-use Rattle.kl_value.specs.declared.value.Value.{Value}
 use Rattle.kl_value.specs.declared.value.Value.TheVariants as value
 use Rattle.kl_value.proofs.OrderLemmas.{compare-out}
 use Rattle.kl_base.proofs.SortedLemmas.{sorted_is}
-use Rattle.kl_engine.specs.Meaning.{Outcome, Done, numbers_of_set, set_of, drawn_by}
+use Rattle.kl_engine.specs.Meaning.{Done, numbers_of_set, set_of}
 
 same_number : (m n : ℤ) → int_eq m n ≡ eq_by_cmp int_cmp m n
 same_number m n = refl

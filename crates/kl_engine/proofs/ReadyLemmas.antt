@@ -1,5 +1,5 @@
 -- Generators whose numbers are sorted beforehand draw what those draw whose numbers are not.
-use Rattle.std.proofs.Common.{◌≡◌, ℤ, List, [], ◌∷◌, map, Option, Some, refl, if◌then◌else◌}
+use Rattle.std.proofs.Common.{◌≡◌, List, [], ◌∷◌, map, Some, refl, if◌then◌else◌}
 use Rattle.std.specs.Ordering.{int_eq}
 use Rattle.kl_parse.specs.declared.small.Atom.{Atom}
 use Rattle.kl_parse.specs.declared.small.SmallQual.{SmallQual}

@@ -1,7 +1,6 @@
 -- The ends of a run, each with its verdict.
-use Rattle.std.proofs.Common.{◌≡◌, ◌⊎◌, ◌<◌, ◌≤◌, ℕ, List, [], ◌++◌, Option, Some, None, Ok, Err, length, refl, sym, ◌∙◌, ap, subst, arith, inl, inr}
+use Rattle.std.proofs.Common.{◌≡◌, ◌≤◌, ℕ, List, [], Option, Some, Ok, length, refl, sym, ◌∙◌, ap, subst, arith, inl, inr}
 use Rattle.kl_outside.specs.Files.{FilesState, IsMissing, ReadsWhole}
-use Rattle.kl_outside.specs.declared.stop.Stop.TheVariants.{Failed}
 use Rattle.kl_outside.specs.declared.files.Whole.{Whole}
 use Rattle.kl_outside.specs.Sinks.{SinkState}
 use Rattle.kl_outside.specs.declared.files.Whole.TheVariants as whole
@@ -11,7 +10,7 @@ use Rattle.kl_parse.specs.SmallProgram.{IsSmall}
 use Rattle.kl_parse.specs.declared.small.Small.{Small}
 use Rattle.kl_parse.proofs.SmallLaws.{small_unique}
 use Rattle.kl_engine.specs.Meaning.{Outcome, outcome}
-use Rattle.kl_engine.specs.Run.{Verdict, Usage, Missing, TooLong, NotSmall, Ends, most_bytes, OfBytes, OfFile, status_of, page_of, IsEnd, IsVerdictStatus, Answers, Runs, Prints}
+use Rattle.kl_engine.specs.Run.{Verdict, Usage, Missing, TooLong, NotSmall, Ends, most_bytes, OfBytes, OfFile, status_of, page_of, IsVerdictStatus, Answers, Runs, Prints}
 
 -- Bytes have one verdict.
 pub one_verdict : (bytes : List ℕ) (v w : Verdict) → OfBytes bytes v → OfBytes bytes w → v ≡ w

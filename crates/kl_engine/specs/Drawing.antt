@@ -1,5 +1,5 @@
 -- What the evaluator's private functions answer. No public contract cites this.
-use Rattle.std.specs.Prelude.{◌≡◌, ◌<◌, ℤ, if◌then◌else◌, List, [], ◌∷◌, ◌++◌, length, map, Option, Some, None, Result, Ok, Err}
+use Rattle.std.specs.Prelude.{◌≡◌, ◌<◌, ℤ, if◌then◌else◌, List, [], ◌∷◌, ◌++◌, length, Option, Some, None, Result, Ok, Err}
 use Rattle.std.specs.Ordering.{int_eq}
 use Rattle.kl_parse.specs.declared.small.Atom.{Atom}
 use Rattle.kl_parse.specs.declared.small.SmallQual.{SmallQual}
