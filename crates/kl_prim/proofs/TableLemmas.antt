@@ -1,0 +1,213 @@
+-- The rows of the table at their codes.
+use Rattle.std.proofs.Common.{◌≡◌, ℕ, ℤ, ◌==◌, ◌&&◌, not, Bool, true, false, cond, ◌<◌, List, [], ◌∷◌, map, find, Option, Some, None, refl, sym, ap, subst, ◌∙◌, IsSome, IsSomeAnd, Result}
+use Rattle.std.specs.Option.{option_map, option_and_then}
+use Rattle.std.specs.List.{All, AllByRecursion, Contains, IsDistinct, list_all}
+use Rattle.std.proofs.Math.ListN.{get_or-map}
+use Rattle.std.proofs.lemmas.Bool.{eqb-true}
+use Rattle.std.proofs.lemmas.List.{length-map}
+use Rattle.std.proofs.lemmas.List.Elements.{All-contains, All-from_recursion}
+use Rattle.kl_value.specs.declared.Kind.{Kind}
+use Rattle.kl_value.specs.declared.Kind.TheVariants as kind
+use Rattle.kl_value.specs.declared.Value.{Value}
+use Rattle.kl_value.specs.declared.Value.TheVariants as value
+use Rattle.kl_prim.specs.Fits.{FitsShape, OneOf, IsCollection, IsCollectionOfInts, IsInt, IsNested}
+use Rattle.kl_prim.specs.Meaning.{Answer, Answers, one, with_some, all_some, as_ints, as_nested}
+use Rattle.kl_prim.specs.Table.{Entry, Fits, FitsRow, Row, entry_of, meaning, row_at, rows}
+use Rattle.kl_prim.specs.Views.{as_int, as_collection, collection, collection_layer, items_at}
+use Rattle.kl_prim.specs.declared.rows.PrimRow.{PrimRow}
+use Rattle.kl_prim.specs.declared.stop.PrimStop.{PrimStop}
+
+pub answers_by : (a b : Answer) (r : Result Value PrimStop) → a ≡ b → Answers b r → Answers a r
+answers_by a b r e h = subst (λ x. Answers x r) (sym e) h
+
+pub means : (code n : ℕ) (args : List Value) (a : Answer) → code ≡ n → meaning n args ≡ a → meaning code args ≡ a
+means code n args a e h = ap (λ k. meaning k args) e ∙ h
+
+pub fits : (code n : ℕ) (args : List Value) → code ≡ n → Fits code args → Fits n args
+fits code n args e h = subst (λ k. Fits k args) e h
+
+-- ---- collections as arguments
+
+some_of : {X : Type 0} (o : Option X) (P : X → Type 0) → IsSomeAnd o P → IsSome o
+some_of (Some x) P h = refl
+some_of None P h = absurd h
+
+weaker_one : (P Q : Value → Type 0) → ((v : Value) → P v → Q v) → (args : List Value) → OneOf P args → OneOf Q args
+weaker_one P Q f [] h = h
+weaker_one P Q f (v ∷ []) h = f v h
+weaker_one P Q f (v ∷ w ∷ vs) h = h
+
+pub ints_are : (args : List Value) → OneOf IsCollectionOfInts args → OneOf IsCollection args
+ints_are = weaker_one IsCollectionOfInts IsCollection (λ v h. some_of (as_collection v) _ h)
+
+pub nested_are : (args : List Value) → OneOf IsNested args → OneOf IsCollection args
+nested_are = weaker_one IsNested IsCollection (λ v h. some_of (as_collection v) _ h)
+
+collection_is : (k : Kind) (vs : List Value) → as_collection (collection k vs) ≡ Some (record { kind = k; items = vs })
+collection_is kind.Set vs = ap collection_layer (value.outs-Set vs)
+collection_is kind.Bag vs = ap collection_layer (value.outs-Bag vs)
+collection_is kind.List vs = ap collection_layer (value.outs-List vs)
+
+pub all_ints : (args : List Value) (k : Kind) (vs : List Value) → OneOf IsCollectionOfInts args → args ≡ collection k vs ∷ [] → All IsInt vs
+all_ints args k vs h e = subst (λ o. IsSomeAnd o (λ c. All IsInt c.items)) (collection_is k vs) (subst (OneOf IsCollectionOfInts) e h)
+
+pub all_nested : (args : List Value) (k : Kind) (vs : List Value) → OneOf IsNested args → args ≡ collection k vs ∷ []
+    → All (λ v. IsSome (items_at k v)) vs
+all_nested args k vs h e =
+    subst (λ o. IsSomeAnd o (λ c. All (λ w. IsSome (items_at c.kind w)) c.items)) (collection_is k vs) (subst (OneOf IsNested) e h)
+
+pub reads_ints : (args : List Value) (k : Kind) (vs : List Value) (f : List ℤ → Answer) → args ≡ collection k vs ∷ []
+    → one as_ints f args ≡ with_some (all_some as_int vs) f
+reads_ints args k vs f e =
+    ap (one as_ints f) e ∙ ap (λ o. with_some (option_and_then (λ c. all_some as_int c.items) o) f) (collection_is k vs)
+
+paired : {X : Type 0} (o : Option X) (k : Kind) (f : Kind × X → Answer) → with_some (option_map (λ x. (k, x)) o) f ≡ with_some o (λ x. f (k, x))
+paired (Some x) k f = refl
+paired None k f = refl
+
+pub reads_nested : (args : List Value) (k : Kind) (vs : List Value) (f : Kind × List (List Value) → Answer) → args ≡ collection k vs ∷ []
+    → one as_nested f args ≡ with_some (all_some (items_at k) vs) (λ lists. f (k, lists))
+reads_nested args k vs f e =
+    ap (one as_nested f) e
+    ∙ (ap (λ o. with_some (option_and_then (λ c. option_map (λ lists. (c.kind, lists)) (all_some (items_at c.kind) c.items)) o) f) (collection_is k vs)
+    ∙ paired (all_some (items_at k) vs) k f)
+
+-- ---- codes without a row
+
+absent : (code : ℕ) (rs : List Row) → AllByRecursion (λ r. r.entry.code ≡ code → ⊥) rs → find (λ r. r.entry.code == code) rs ≡ None
+absent code [] h = refl
+absent code (r ∷ rs) h =
+    elim (r.entry.code == code) as (λ b. (r.entry.code == code) ≡ b → cond b (Some r) (find (λ q. q.entry.code == code) rs) ≡ None) [
+      | true ↦ λ e. absurd (h.0 (eqb-true _ _ e))
+      | false ↦ λ e. absent code rs h.1
+    ] refl
+
+pub no_row : (code : ℕ) (args : List Value) → AllByRecursion (λ r. r.entry.code ≡ code → ⊥) rows → Fits code args → ⊥
+unfolding Fits row_at
+no_row code args each h = subst (λ o. FitsRow o args) (absent code rows each) h
+
+-- ---- keys that differ
+
+module _ {K : Type 0} (same : K → K → Bool) where
+  abbrev all_differ : List K → Bool
+  all_differ [] = true
+  all_differ (k ∷ ks) = list_all (λ l. not (same k l)) ks && all_differ ks
+
+  both : (a b : Bool) → (a && b) ≡ true → (a ≡ true) × (b ≡ true)
+  both true true e = (refl, refl)
+  both true false e = cc
+  both false b e = cc
+
+  unlike : (b : Bool) → not b ≡ true → b ≡ false
+  unlike true e = cc
+  unlike false e = refl
+
+  each_unlike : (k : K) (ks : List K) → list_all (λ l. not (same k l)) ks ≡ true → AllByRecursion (λ l. same k l ≡ false) ks
+  each_unlike k [] e = tt
+  each_unlike k (l ∷ ls) e = let parts = both (not (same k l)) (list_all (λ j. not (same k j)) ls) e in (unlike _ parts.0, each_unlike k ls parts.1)
+
+  pub distinct_is : (ks : List K) → all_differ ks ≡ true → IsDistinct same ks
+  unfolding IsDistinct
+  distinct_is [] e = tt
+  distinct_is (k ∷ ks) e = let parts = both (list_all (λ l. not (same k l)) ks) (all_differ ks) e in (each_unlike k ks parts.0, distinct_is ks parts.1)
+
+-- ---- from a row of the program's table to the row of its code
+
+abbrev IsAt : Entry → Type 0
+IsAt e = (r : Row) × (row_at e.code ≡ Some r) × (r.entry ≡ e)
+
+rows_at : AllByRecursion IsAt (map (λ r. r.entry) rows)
+unfolding row_at rows
+rows_at = (
+  (_, refl, refl),
+  (
+    (_, refl, refl),
+    (
+      (_, refl, refl),
+      (
+        (_, refl, refl),
+        (
+          (_, refl, refl),
+          (
+            (_, refl, refl),
+            (
+              (_, refl, refl),
+              (
+                (_, refl, refl),
+                (
+                  (_, refl, refl),
+                  (
+                    (_, refl, refl),
+                    (
+                      (_, refl, refl),
+                      (
+                        (_, refl, refl),
+                        (
+                          (_, refl, refl),
+                          (
+                            (_, refl, refl),
+                            (
+                              (_, refl, refl),
+                              (
+                                (_, refl, refl),
+                                (
+                                  (_, refl, refl),
+                                  (
+                                    (_, refl, refl),
+                                    (
+                                      (_, refl, refl),
+                                      (
+                                        (_, refl, refl),
+                                        (
+                                          (_, refl, refl),
+                                          (
+                                            (_, refl, refl),
+                                            (
+                                              (_, refl, refl),
+                                              (
+                                                (_, refl, refl),
+                                                (
+                                                  (_, refl, refl),
+                                                  (
+                                                    (_, refl, refl),
+                                                    tt,
+                                                  ),
+                                                ),
+                                              ),
+                                            ),
+                                          ),
+                                        ),
+                                      ),
+                                    ),
+                                  ),
+                                ),
+                              ),
+                            ),
+                          ),
+                        ),
+                      ),
+                    ),
+                  ),
+                ),
+              ),
+            ),
+          ),
+        ),
+      ),
+    ),
+  ),
+)
+
+pub entry_at : (e : Entry) → Contains (map (λ r. r.entry) rows) e → (r : Row) × (row_at e.code ≡ Some r) × (r.entry ≡ e)
+entry_at e c = All-contains IsAt (map (λ r. r.entry) rows) e (All-from_recursion IsAt (map (λ r. r.entry) rows) rows_at) c
+
+contains_map : {X Y : Type 0} (f : X → Y) (xs : List X) (x : X) → Contains xs x → Contains (map f xs) (f x)
+contains_map f xs x c = (c.0, subst (λ n. c.0 < n) (sym (length-map xs f)) c.1, get_or-map f xs c.0 x ∙ ap f c.2)
+
+-- what fits the shape of a row of the table fits its code
+pub fits_found : (rs : List PrimRow) (r : PrimRow) (args : List Value) → map entry_of rs ≡ map (λ q. q.entry) rows → Contains rs r
+    → FitsShape r.shape args → Fits r.code args
+unfolding Fits
+fits_found rs r args same c h =
+    let at = entry_at (entry_of r) (subst (λ es. Contains es (entry_of r)) same (contains_map entry_of rs r c)) in
+    subst (λ o. FitsRow o args) (sym at.1) (subst (λ e. FitsShape e.shape args) (sym at.2) h)

@@ -1,0 +1,4 @@
+pub mod Fits
+pub mod Meaning
+pub mod Table
+pub mod Views

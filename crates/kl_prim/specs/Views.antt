@@ -1,0 +1,56 @@
+-- What a value is, where it is of one shape.
+use Rattle.std.specs.Prelude.{ℕ, ℤ, Bool, List, Option, Some, None}
+use Rattle.kl_value.specs.declared.Kind.{Kind}
+use Rattle.kl_value.specs.declared.Kind.TheVariants as kind
+use Rattle.kl_value.specs.declared.Value.{Value, Value-F, out-Value}
+use Rattle.kl_value.specs.declared.Value.TheVariants as value
+
+abbrev pub bool_layer : Value-F Value → Option Bool
+bool_layer (Value-F.Bool b) = Some b
+bool_layer _ = None
+
+abbrev pub int_layer : Value-F Value → Option ℤ
+int_layer (Value-F.Int n) = Some n
+int_layer _ = None
+
+abbrev pub text_layer : Value-F Value → Option (List ℕ)
+text_layer (Value-F.Text t) = Some t
+text_layer _ = None
+
+pub record Collection : Type 0 where
+  pub kind : Kind
+  pub items : List Value
+
+abbrev pub collection_layer : Value-F Value → Option Collection
+collection_layer (Value-F.Set vs) = Some (record { kind = kind.Set; items = vs })
+collection_layer (Value-F.Bag vs) = Some (record { kind = kind.Bag; items = vs })
+collection_layer (Value-F.List vs) = Some (record { kind = kind.List; items = vs })
+collection_layer _ = None
+
+abbrev pub items_layer : Kind → Value-F Value → Option (List Value)
+items_layer kind.Set (Value-F.Set vs) = Some vs
+items_layer kind.Bag (Value-F.Bag vs) = Some vs
+items_layer kind.List (Value-F.List vs) = Some vs
+items_layer _ _ = None
+
+-- the truth value, integer, text or collection that a value is, and its items where it is a collection of the kind
+abbrev pub as_bool : Value → Option Bool
+as_bool v = bool_layer (out-Value v)
+
+abbrev pub as_int : Value → Option ℤ
+as_int v = int_layer (out-Value v)
+
+abbrev pub as_text : Value → Option (List ℕ)
+as_text v = text_layer (out-Value v)
+
+abbrev pub as_collection : Value → Option Collection
+as_collection v = collection_layer (out-Value v)
+
+abbrev pub items_at : Kind → Value → Option (List Value)
+items_at k v = items_layer k (out-Value v)
+
+-- the collection of a kind that has these items as they stand
+abbrev pub collection : Kind → List Value → Value
+collection kind.Set vs = value.Set vs
+collection kind.Bag vs = value.Bag vs
+collection kind.List vs = value.List vs
