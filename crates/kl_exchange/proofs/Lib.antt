@@ -1,0 +1,12 @@
+pub mod Bytes
+pub mod Canonical
+pub mod Completes
+pub mod LabelSets
+pub mod OneAnswer
+pub mod Pairs
+pub mod Printed
+pub mod ReadsBack
+pub mod Reading
+pub mod Runs
+pub mod Scanning
+pub mod TextLemmas

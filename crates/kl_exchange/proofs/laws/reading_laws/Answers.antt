@@ -1,0 +1,8 @@
+use Rattle.kl_exchange.proofs.OneAnswer.{one_front, one_answer}
+use Rattle.kl_exchange.proofs.laws.reading_laws.Goals as goal
+
+pub returns-clause-one_item : goal.returns-clause-one_item
+returns-clause-one_item c = one_front
+
+pub returns-clause-one_answer : goal.returns-clause-one_answer
+returns-clause-one_answer c = one_answer

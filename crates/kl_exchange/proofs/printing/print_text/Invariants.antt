@@ -1,0 +1,10 @@
+use Rattle.std.proofs.Common.{◌++◌, take, codes}
+use Rattle.std.specs.List.{flat_map}
+use Rattle.kl_value.specs.Written.{byte_text}
+use Rattle.kl_exchange.specs.Printing.{Prints}
+use Rattle.kl_exchange.proofs.printing.print_text.Given as goal
+
+abbrev pub invariant-bytes : goal.invariant-bytes
+invariant-bytes g l =
+    Prints (codes "\"" ++ flat_map byte_text (take l.byte-index l.text)) (g.S.Sink.state l.fn.sink) l.fn.page.bytes.items l.fn.page.stop
+    (g.S.Sink.state l.sink) l.page.bytes.items l.page.stop

@@ -1,0 +1,9 @@
+pub mod Fields
+pub mod Gathered
+pub mod Grammar
+pub mod Machine
+pub mod Printing
+pub mod Reading
+pub mod Scan
+pub mod State
+pub mod Stored
