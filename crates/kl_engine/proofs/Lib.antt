@@ -3,3 +3,7 @@ pub mod NumberLemmas
 pub mod ReadyLemmas
 pub mod RunLemmas
 pub mod TextLemmas
+pub mod ItemLemmas
+pub mod DrainLemmas
+pub mod PieceLemmas
+pub mod ShowLemmas

@@ -1,16 +1,17 @@
 -- The ends of a run, each with its verdict.
 use Rattle.std.proofs.Common.{◌≡◌, ◌≤◌, ℕ, List, [], Option, Some, Ok, length, refl, sym, ◌∙◌, ap, subst, arith, inl, inr}
+use Rattle.std.specs.Io.KnownBytes.{append_known}
 use Rattle.kl_outside.specs.Files.{FilesState, IsMissing, ReadsWhole}
 use Rattle.kl_outside.specs.declared.files.Whole.{Whole}
 use Rattle.kl_outside.specs.Sinks.{SinkState}
 use Rattle.kl_outside.specs.declared.files.Whole.TheVariants as whole
 use Rattle.kl_outside.proofs.FileLemmas.{was_there}
-use Rattle.kl_outside.proofs.SinkLemmas.{took_none}
+use Rattle.kl_outside.proofs.SinkLemmas.{took_none, append_known-nil}
 use Rattle.kl_parse.specs.SmallProgram.{IsSmall}
 use Rattle.kl_parse.specs.declared.small.Small.{Small}
 use Rattle.kl_parse.proofs.SmallLaws.{small_unique}
-use Rattle.kl_engine.specs.Meaning.{Outcome, outcome}
-use Rattle.kl_engine.specs.Run.{Verdict, Usage, Missing, TooLong, NotSmall, Ends, most_bytes, OfBytes, OfFile, status_of, page_of, IsVerdictStatus, Answers, Runs, Prints}
+use Rattle.kl_engine.specs.Meaning.{Outcome, outcome, Done, Over}
+use Rattle.kl_engine.specs.Run.{Verdict, Usage, Missing, TooLong, NotSmall, Ends, Shown, most_bytes, OfBytes, OfFile, status_of, page_of, IsVerdictStatus, Answers, Runs, Prints}
 
 -- Bytes have one verdict.
 pub one_verdict : (bytes : List ℕ) (v w : Verdict) → OfBytes bytes v → OfBytes bytes w → v ≡ w
@@ -25,6 +26,10 @@ one_verdict bytes (Ends end) NotSmall h k = absurd (k.1 h.1.0 h.1.1)
 one_verdict bytes (Ends end) (Ends other) h k = ap Ends (h.1.2 ∙ (ap outcome (small_unique bytes h.1.0 k.1.0 h.1.1 k.1.1) ∙ sym k.1.2))
 one_verdict bytes Usage w h k = absurd h
 one_verdict bytes Missing w h k = absurd h
+one_verdict bytes (Shown vs e) w h k = absurd h
+one_verdict bytes TooLong (Shown vs e) h k = absurd k
+one_verdict bytes NotSmall (Shown vs e) h k = absurd k
+one_verdict bytes (Ends end) (Shown vs e) h k = absurd k
 one_verdict bytes TooLong Usage h k = absurd k
 one_verdict bytes TooLong Missing h k = absurd k
 one_verdict bytes NotSmall Usage h k = absurd k
@@ -39,17 +44,21 @@ at_each_verdict file bytes w status f f' out out' is of answers v ofv =
     let same : w ≡ v = one_verdict bytes w v of (subst (λ o. OfFile o v) is ofv) in
     subst (λ u. Answers u status f f' out out') same answers
 
-pub refused : (v : Verdict) (f f' : FilesState) (out : SinkState) → page_of v ≡ [] → (status_of v ≡ 0 → ⊥) → (status_of v ≡ 6 → ⊥) → Answers v (status_of v) f f' out out
-refused v f f' out none no_0 no_6 = record {
+pub refused : (v : Verdict) (f f' : FilesState) (out : SinkState) → page_of v ≡ [] → Answers v (status_of v) f f' out out
+refused v f f' out none = record {
   answer = inl refl;
-  whole = λ end. absurd (elim end [ inl h ↦ no_0 h | inr h ↦ no_6 h ]);
+  whole = λ end. sym (ap (append_known out.taken) none ∙ append_known-nil out.taken);
   part = took_none (page_of v) out out refl;
 }
+
+whole_page : (end : Outcome) (status : ℕ) (out out' : SinkState) → Prints end status out out' → status ≡ status_of (Ends end) → out'.taken ≡ append_known out.taken (page_of (Ends end))
+whole_page (Done v) status out out' prints is = prints.whole (inl is)
+whole_page Over status out out' prints is = prints.whole (inr is)
 
 pub ended : (end : Outcome) (status : ℕ) (f f' : FilesState) (out out' : SinkState) → Prints end status out out' → Answers (Ends end) status f f' out out'
 ended end status f f' out out' prints = record {
   answer = elim prints.answer [ inl h ↦ inl h | inr (inl h) ↦ inr (inr (inl (h.0, h.1, tt))) | inr (inr h) ↦ inr (inr (inr h)) ];
-  whole = prints.whole;
+  whole = whole_page end status out out' prints;
   part = prints.part;
 }
 
@@ -69,7 +78,7 @@ was_read reads missing = let h = (reads.missing missing).0 in cc
 pub run_long : (path : List ℕ) (f f' : FilesState) (out : SinkState) → ReadsWhole path most_bytes (Ok whole.TooLong) f f' → Runs path 10 f f' out out
 run_long path f f' out reads = record {
   told = λ told is. let found = long path f f' told is reads in
-      at_each_verdict (told path) found.0 TooLong 10 f f' out out found.1 found.2 (refused TooLong f f' out refl (λ h. cc) (λ h. cc));
+      at_each_verdict (told path) found.0 TooLong 10 f f' out out found.1 found.2 (refused TooLong f f' out refl);
   shown = λ told is status. let found = long path f f' told is reads in
       (TooLong, subst (λ o. OfFile o TooLong) (sym found.1) found.2, refl);
   cause = record {
@@ -77,7 +86,7 @@ run_long path f f' out reads = record {
     missing = λ missing. absurd (was_read reads missing);
     read_fault = λ h. absurd cc;
     write_fault = λ h. absurd cc;
-    no_other = inl (inr (inr (inr (inr refl))));
+    no_other = inr (inr (inr (inr (inr (inr refl)))));
     nothing = λ h. refl;
   };
   closed = record { left = reads.left; told = reads.told };
@@ -86,7 +95,7 @@ run_long path f f' out reads = record {
 pub run_not_small : (path found : List ℕ) (f f' : FilesState) (out : SinkState) → ReadsWhole path most_bytes (Ok (whole.Bytes found)) f f' → ((s : Small) → IsSmall found s → ⊥) → Runs path 2 f f' out out
 run_not_small path found f f' out reads none = record {
   told = λ told is. let there = short path f f' told is found reads in
-      at_each_verdict (told path) found NotSmall 2 f f' out out there.0 (there.1, none) (refused NotSmall f f' out refl (λ h. cc) (λ h. cc));
+      at_each_verdict (told path) found NotSmall 2 f f' out out there.0 (there.1, none) (refused NotSmall f f' out refl);
   shown = λ told is status. let there = short path f f' told is found reads in
       (NotSmall, subst (λ o. OfFile o NotSmall) (sym there.0) (there.1, none), refl);
   cause = record {
@@ -94,7 +103,7 @@ run_not_small path found f f' out reads none = record {
     missing = λ missing. absurd (was_read reads missing);
     read_fault = λ h. absurd cc;
     write_fault = λ h. absurd cc;
-    no_other = inl (inr (inr (inl refl)));
+    no_other = inr (inl refl);
     nothing = λ h. refl;
   };
   closed = record { left = reads.left; told = reads.told };
@@ -118,7 +127,7 @@ run_to_end path found s status f f' out out' reads is_small prints = record {
     missing = λ missing. absurd (was_read reads missing);
     read_fault = λ h. absurd (omega (arith, h, prints.no_other));
     write_fault = prints.write_fault;
-    no_other = elim prints.no_other [ inl h ↦ inl (inl h) | inr (inl h) ↦ inl (inr (inr (inr (inl h)))) | inr (inr (inl h)) ↦ inr (inr (inl h)) | inr (inr (inr h)) ↦ inr (inr (inr h)) ];
+    no_other = elim prints.no_other [ inl h ↦ inl h | inr (inl h) ↦ inr (inr (inl h)) | inr (inr (inl h)) ↦ inr (inr (inr (inr (inl h)))) | inr (inr (inr h)) ↦ inr (inr (inr (inr (inr (inl h))))) ];
     nothing = λ h. prints.nothing (omega (arith, h, prints.no_other));
   };
   closed = record { left = reads.left; told = reads.told };

@@ -1,5 +1,9 @@
 pub mod Meaning
 pub mod Page
+pub mod Faults
+pub mod Showing
+pub mod Shown
 pub mod Run
+pub mod Words
 pub mod Drawing
 pub mod Listing

@@ -7,6 +7,7 @@
 mod meaning;
 mod page;
 mod run;
+mod showing;
 
 pub use run::{Answer, kleisli};
 
