@@ -1,11 +1,11 @@
 -- Which bytes are of which kind.
-use Rattle.std.proofs.Common.{◌≡◌, ◌≢◌, ℕ, ◌+◌, ◌-◌, ◌*◌, ◌^◌, ◌<◌, ◌≤◌, suc, zero, Bool, true, false, ◌&&◌, ◌||◌, cond, List, [], ◌∷◌, ◌++◌, length, refl, sym, ap, subst, ◌∙◌, arith, ◌==◌, nat_le, nat_lt, IsTrue, ◌⊎◌, inl, inr, ℤ, pos, negsuc, neg_ℤ, true≢false, Some, None}
-use Rattle.std.proofs.lemmas.Bool.Decides.{nat_tests, eqb_tells}
+use Rattle.std.proofs.Common.{◌≡◌, ◌≢◌, ℕ, ◌+◌, ◌*◌, ◌<◌, ◌≤◌, suc, zero, Bool, true, false, ◌&&◌, List, [], ◌∷◌, ◌++◌, refl, sym, subst, arith, ◌==◌, nat_le, nat_lt, ◌⊎◌, inl, inr, true≢false, Some}
+use Rattle.std.proofs.lemmas.Bool.Decides.{nat_tests}
 use Rattle.std.specs.Char.{is_ascii_digit, is_ascii_alphabetic, is_ascii_hexdigit, digit_value}
 use Rattle.std.specs.Int.{w64}
 use Rattle.std.specs.Prelude.{FitsSigned}
 use Rattle.std.specs.List.{list_all}
-use Rattle.std.specs.Str.Parse.{AllDigits, digits_value_after}
+use Rattle.std.specs.Str.Parse.{digits_value_after}
 use Rattle.kl_base.specs.Word.{is_word, is_word_byte}
 use Rattle.kl_exchange.specs.Grammar.{is_blank, signed, escape_of}
 use Rattle.kl_exchange.specs.Machine.{greatest_magnitude}

@@ -1,9 +1,9 @@
 -- What is spelled is canonical.
-use Rattle.std.proofs.Common.{◌≡◌, ℕ, suc, zero, List, [], ◌∷◌, map, refl, sym, ap, subst, ◌∙◌, ◌⊎◌, inl, inr, Some}
+use Rattle.std.proofs.Common.{◌≡◌, ℕ, suc, zero, List, [], ◌∷◌, map, refl, sym, ap, subst, ◌∙◌, inl, inr}
 use Rattle.std.specs.List.{AllByRecursion}
 use Rattle.std.proofs.lemmas.List.Elements.{recursion_from_All, All-from_recursion}
 use Rattle.std.proofs.lemmas.List.Sorted.{All-permutation}
-use Rattle.kl_base.specs.Fields.{LabelsRise, IsFieldsOf}
+use Rattle.kl_base.specs.Fields.{LabelsRise}
 use Rattle.kl_value.specs.Shape.{IsCanonical, IsCanonicalLayer}
 use Rattle.kl_value.proofs.CanonLemmas.{canonical_keeps}
 use Rattle.kl_value.specs.declared.Value.{Value, Value-F, every-Value, every_made-Value}

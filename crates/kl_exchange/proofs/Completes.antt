@@ -1,23 +1,20 @@
 -- What completes what a machine has come to: each byte that it takes may stand before what completes the next machine,
 -- and each machine can be completed.
-use Rattle.std.proofs.Common.{◌≡◌, ◌≢◌, ℕ, ◌+◌, ◌-◌, ◌*◌, ◌^◌, ◌<◌, ◌≤◌, suc, zero, Bool, true, false, ◌&&◌, ◌||◌, cond, List, [], ◌∷◌, ◌++◌, length, drop, get_or, refl, sym, ap, subst, ◌∙◌, arith, ◌==◌, nat_le, nat_lt, IsTrue, ◌⊎◌, inl, inr, Option, Some, None, Result, Ok, Err, ℤ, pos, append_assoc, append-nil, zero-add, drop-cons, drop_of_length-le, add-one, lit<}
-use Rattle.std.specs.Prelude.{⊤, FitsSigned, codes}
+use Rattle.std.proofs.Common.{◌≡◌, ℕ, ◌+◌, ◌-◌, ◌*◌, ◌<◌, ◌≤◌, suc, zero, Bool, true, false, ◌&&◌, cond, List, [], ◌∷◌, ◌++◌, length, drop, get_or, refl, sym, ap, subst, ◌∙◌, arith, ◌==◌, nat_le, nat_lt, IsTrue, ◌⊎◌, inl, inr, Option, Some, None, Result, Ok, Err, append_assoc, append-nil, zero-add, drop-cons, drop_of_length-le, add-one, lit<}
+use Rattle.std.specs.Prelude.{⊤, codes}
 use Rattle.std.specs.Char.{is_ascii_digit, is_ascii_alphabetic, is_ascii_hexdigit, digit_value}
-use Rattle.std.specs.Int.{w64}
-use Rattle.std.specs.List.{list_all, AllByRecursion, IsDistinct}
+use Rattle.std.specs.List.{AllByRecursion, IsDistinct}
 use Rattle.std.specs.Str.Parse.{AllDigits, digits_value_after, digits_value}
-use Rattle.kl_base.specs.Word.{is_word, is_word_byte, label_of}
-use Rattle.kl_base.specs.Fields.{LabelsDiffer, IsFieldsOf}
+use Rattle.kl_base.specs.Word.{is_word, is_word_byte}
+use Rattle.kl_base.specs.Fields.{LabelsDiffer}
 use Rattle.kl_value.specs.Canon.{canonical}
 use Rattle.kl_value.specs.declared.Kind.{Kind}
 use Rattle.kl_value.specs.declared.Kind.TheVariants as kind
 use Rattle.kl_value.specs.declared.Value.{Value}
 use Rattle.kl_value.specs.declared.Value.TheVariants as value
 use Rattle.kl_exchange.specs.Fields.{fields_of}
-use Rattle.kl_exchange.specs.Gathered.{has_label}
-use Rattle.kl_exchange.specs.Grammar.{is_blank, Blank, Padded, More, Listed, word_of, sign_of, signed, SpellsInt, SpellsByte, SpellsBytes, SpellsPlain, opening, closing, SpellsLabel, SpellsField, SpellsBracket, Spells, IsItem, escape_of}
+use Rattle.kl_exchange.specs.Grammar.{is_blank, Blank, Padded, More, word_of, sign_of, signed, SpellsByte, SpellsBytes, SpellsPlain, opening, closing, SpellsField, SpellsBracket, Spells, IsItem, escape_of}
 use Rattle.kl_exchange.specs.Machine.{Brackets, IsSound, IsSoundFrame, IsSoundHolder, IsSoundPhase, pending, goes, bad, run, Run, more, ends, fails, deep, followed, advanced, value_due, opens, opened, closes, ends_closing, behind_brace, behind_bracket, label_due, record_opened, named, in_name, in_word, behind_minus, after_item, after_field, after_value, in_digits, in_text, behind_escape, hex_due, low_hex_due, or_bad, with_digit, greatest_magnitude, hex_of, has_named, frame_of, first_of_close, last_of_close}
-use Rattle.kl_exchange.specs.declared.machine.Frame.{Frame}
 use Rattle.kl_exchange.specs.declared.machine.Frame.TheVariants as frame
 use Rattle.kl_exchange.specs.declared.machine.Holder.{Holder}
 use Rattle.kl_exchange.specs.declared.machine.Holder.TheVariants as holder
@@ -28,7 +25,7 @@ use Rattle.kl_exchange.specs.declared.machine.Step.{Step}
 use Rattle.kl_exchange.specs.declared.machine.Step.TheVariants as step
 use Rattle.kl_exchange.specs.declared.machine.Stop.{Stop}
 use Rattle.kl_exchange.specs.declared.machine.Stop.TheVariants as stop
-use Rattle.kl_exchange.proofs.Bytes.{digit_below, equal, after_ge, magnitude_fits, both_true, word_push, lt_from, le_from, at_most_from, unequal, hex_below}
+use Rattle.kl_exchange.proofs.Bytes.{digit_below, equal, magnitude_fits, both_true, word_push, lt_from, le_from, at_most_from, unequal, hex_below}
 use Rattle.kl_exchange.proofs.Pairs.{Pair, fields_of_is, differ_push, letters, room, letters_word, letters_bytes, length-letters, word_goes_on, longer_fresh}
 
 -- Behind a value v with these brackets round it, u completes the item to w. The values of the innermost bracket nest at

@@ -10,3 +10,4 @@ pub mod Reading
 pub mod Runs
 pub mod Scanning
 pub mod TextLemmas
+pub mod Totals

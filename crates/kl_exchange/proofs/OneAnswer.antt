@@ -1,10 +1,10 @@
 -- One item at the front, and one answer for each state.
-use Rattle.std.proofs.Common.{◌≡◌, ◌≢◌, ℕ, ◌+◌, ◌-◌, ◌<◌, ◌≤◌, suc, zero, Bool, true, false, cond, List, [], ◌∷◌, ◌++◌, length, take, drop, refl, sym, ap, subst, ◌∙◌, arith, IsTrue, ◌⊎◌, inl, inr, Option, Some, None, Result, Ok, Err, append_assoc, append-nil, length-append, take_at, take_all, take-append-drop, true≢false, nat_lt}
+use Rattle.std.proofs.Common.{◌≡◌, ◌≢◌, ℕ, ◌+◌, ◌-◌, ◌<◌, ◌≤◌, suc, zero, Bool, true, false, cond, List, [], ◌∷◌, ◌++◌, length, take, drop, refl, sym, ap, subst, ◌∙◌, arith, ◌⊎◌, inl, inr, Option, Some, None, Result, Ok, Err, append_assoc, append-nil, length-append, take_at, take_all, take-append-drop, true≢false, nat_lt}
 use Rattle.std.specs.List.{list_all}
 use Rattle.kl_value.specs.declared.Value.{Value}
 use Rattle.kl_exchange.specs.Grammar.{is_blank, Blank, IsItem, IsExchange, Begins}
 use Rattle.kl_exchange.specs.Machine.{run, Run, more, ends, fails, deep, start, advanced}
-use Rattle.kl_exchange.specs.Reading.{NoItem, Gives, Waits, Ends, IsBad, IsDeep, Reads}
+use Rattle.kl_exchange.specs.Reading.{Gives, Waits, Ends, IsBad, IsDeep, Reads}
 use Rattle.kl_exchange.specs.State.{State}
 use Rattle.kl_exchange.specs.declared.machine.Machine.{Machine}
 use Rattle.kl_exchange.specs.declared.machine.Stop.TheVariants as stop

@@ -1,6 +1,6 @@
 -- The fields of pairs whose labels differ: the pairs in rising order.
-use Rattle.std.proofs.Common.{◌≡◌, ◌⊎◌, inl, inr, ◌+◌, ◌<◌, zero, suc, length, length-append, ℕ, Bool, true, false, cond, List, [], ◌∷◌, ◌++◌, map, Some, None, refl, sym, ap, subst, ◌∙◌, Ordering, Less, Equal, Greater, is_gt, IsPermutation, true≢false, nat_eq, ◌||◌, ◌&&◌, ◌==◌, arith}
-use Rattle.std.specs.Ordering.{ordering_then, eq_by_cmp, nat_cmp}
+use Rattle.std.proofs.Common.{◌≡◌, ◌⊎◌, inl, inr, ◌+◌, ◌<◌, zero, suc, length, length-append, ℕ, Bool, true, false, cond, List, [], ◌∷◌, ◌++◌, Some, refl, sym, ap, subst, ◌∙◌, Ordering, Less, Equal, Greater, is_gt, IsPermutation, true≢false, nat_eq, ◌||◌, ◌&&◌, ◌==◌, arith}
+use Rattle.std.specs.Ordering.{ordering_then, nat_cmp}
 use Rattle.std.specs.Cmp.{IsTotalOrder}
 use Rattle.std.specs.FinMap.{IsAntisymmetric}
 use Rattle.std.specs.List.{AllByRecursion, IsDistinct, list_all}

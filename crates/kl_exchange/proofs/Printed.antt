@@ -1,11 +1,9 @@
 -- Bytes printed one after the other.
-use Rattle.std.proofs.Common.{◌≡◌, ℕ, ◌+◌, ◌-◌, ◌^◌, ◌<◌, ◌≤◌, min, List, [], ◌∷◌, ◌++◌, length, take, map, get_or, refl, sym, ap, subst, ◌∙◌, arith, Option, Some, None, Result, Ok, Err, append_assoc, append-nil, codes, Bool, true, false, true≢false, is_ok}
-use Rattle.std.specs.Prelude.{⊤, IsErrOf, OnOk, OnErr}
+use Rattle.std.proofs.Common.{◌≡◌, ℕ, ◌+◌, ◌<◌, List, [], ◌++◌, length, take, map, get_or, refl, sym, ap, subst, ◌∙◌, arith, Option, Some, None, Result, Ok, Err, append_assoc, append-nil, Bool, false, true≢false, is_ok}
+use Rattle.std.specs.Prelude.{OnOk, OnErr}
 use Rattle.std.specs.Io.KnownBytes.{append_known}
-use Rattle.kl_base.specs.Counts.{Rose}
-use Rattle.kl_outside.specs.Sinks.{SinkState, HasCause, TookPart, WritesWhole}
+use Rattle.kl_outside.specs.Sinks.{SinkState, HasCause, WritesWhole}
 use Rattle.kl_outside.specs.declared.Stop.{Stop}
-use Rattle.kl_outside.specs.declared.Stop.TheVariants as stop
 use Rattle.kl_value.specs.Written.{with_commas}
 use Rattle.kl_exchange.specs.Printing.{Puts, Prints, Adds, outcome, separator}
 use Rattle.kl_exchange.proofs.TextLemmas.{commas_more}

@@ -1,10 +1,10 @@
 -- What runs over the bytes left say of exchange texts.
-use Rattle.std.proofs.Common.{◌≡◌, ◌≢◌, ℕ, ◌+◌, ◌-◌, ◌<◌, ◌≤◌, suc, zero, Bool, true, false, List, [], ◌∷◌, ◌++◌, length, take, drop, refl, sym, ap, subst, ◌∙◌, arith, IsTrue, ◌⊎◌, inl, inr, Option, Some, None, Result, Ok, Err, append_assoc, append-nil, length-append, length-drop, take-append-drop, drop-drop, take_all, take_at, true≢false}
+use Rattle.std.proofs.Common.{◌≡◌, ℕ, ◌+◌, ◌-◌, ◌<◌, ◌≤◌, suc, zero, Bool, true, false, List, [], ◌∷◌, ◌++◌, length, take, drop, refl, sym, ap, subst, ◌∙◌, arith, IsTrue, ◌⊎◌, inl, inr, Option, Some, None, Result, Ok, Err, append-nil, length-append, length-drop, take-append-drop, drop-drop, take_all, take_at, true≢false}
 use Rattle.std.specs.Prelude.{⊤}
 use Rattle.kl_value.specs.declared.Value.{Value}
 use Rattle.kl_exchange.specs.Grammar.{is_blank, Blank, IsItem, IsExchange, Begins}
-use Rattle.kl_exchange.specs.Machine.{Brackets, IsSound, advanced, run, Run, more, ends, fails, deep, followed, start}
-use Rattle.kl_exchange.specs.Reading.{nesting, NoItem, Gives, Waits, Ends, IsBad, IsDeep, Reads}
+use Rattle.kl_exchange.specs.Machine.{IsSound, advanced, run, Run, more, ends, fails, deep, followed, start}
+use Rattle.kl_exchange.specs.Reading.{NoItem, Gives, Waits, IsBad, IsDeep, Reads}
 use Rattle.kl_exchange.specs.State.{State}
 use Rattle.kl_exchange.specs.declared.error.ReadError.{ReadError}
 use Rattle.kl_exchange.specs.declared.error.ReadError.TheVariants as error
@@ -12,7 +12,6 @@ use Rattle.kl_exchange.proofs.Bytes.{both_true}
 use Rattle.std.specs.List.{list_all}
 use Rattle.kl_exchange.specs.Scan.{Keeps, IsBegun}
 use Rattle.kl_exchange.specs.declared.machine.Machine.{Machine}
-use Rattle.kl_exchange.specs.declared.machine.Phase.TheVariants as phase
 use Rattle.kl_exchange.specs.declared.machine.Step.{Step}
 use Rattle.kl_exchange.specs.declared.machine.Step.TheVariants as step
 use Rattle.kl_exchange.specs.declared.machine.Stop.{Stop}

@@ -1,22 +1,18 @@
 -- Canonical text spells the value.
-use Rattle.std.proofs.Common.{◌≡◌, ◌≢◌, ℕ, ℤ, pos, negsuc, ◌+◌, ◌-◌, ◌*◌, ◌/◌, ◌%◌, ◌^◌, ◌<◌, ◌≤◌, suc, zero, max, Bool, true, false, cond, ◌&&◌, ◌||◌, ◌==◌, nat_lt, nat_le, neg_ℤ, List, [], ◌∷◌, ◌++◌, map, codes, refl, sym, ap, subst, ◌∙◌, arith, ◌⊎◌, inl, inr, Some, IsTrue, append_assoc, append-nil}
-use Rattle.std.specs.Prelude.{⊤, ◌↔◌, FitsSigned}
+use Rattle.std.proofs.Common.{◌≡◌, ℕ, ℤ, pos, negsuc, ◌+◌, ◌*◌, ◌/◌, ◌%◌, ◌<◌, ◌≤◌, suc, zero, Bool, true, false, cond, ◌&&◌, ◌||◌, ◌==◌, nat_lt, nat_le, neg_ℤ, List, [], ◌∷◌, ◌++◌, map, codes, refl, sym, ap, subst, ◌∙◌, arith, inl, inr, Some, IsTrue, append_assoc, append-nil}
+use Rattle.std.specs.Prelude.{FitsSigned}
 use Rattle.std.specs.Char.{is_ascii_hexdigit, digit_value}
 use Rattle.std.specs.Fmt.{signed_decimal, decimal}
 use Rattle.std.specs.Int.{w64}
 use Rattle.std.specs.List.{AllByRecursion, flat_map}
-use Rattle.std.specs.Str.Parse.{IsNumeral, digits_value}
 use Rattle.std.proofs.lemmas.Bool.Decides.{nat_tests}
 use Rattle.std.proofs.lemmas.Fmt.{decimal_is_IsNumeral}
 use Rattle.std.proofs.lemmas.List.Sorted.{IsPermutation-refl}
-use Rattle.kl_base.specs.Fields.{LabelsRise, IsFieldsOf}
 use Rattle.kl_base.specs.Word.{is_word}
-use Rattle.kl_value.specs.Canon.{canonical}
 use Rattle.kl_value.specs.Shape.{IsCanonical, IsCanonicalLayer, depth_of, depth_layer, greatest}
 use Rattle.kl_value.specs.Written.{text_of, byte_text, hex_digit, with_commas}
 use Rattle.kl_value.proofs.CanonLemmas.{canonical_only, canonical_list}
 use Rattle.kl_value.proofs.ShapeLemmas.{depth-out}
-use Rattle.kl_value.specs.declared.Kind.{Kind}
 use Rattle.kl_value.specs.declared.Kind.TheVariants as kind
 use Rattle.kl_value.specs.declared.Value.{Value, Value-F, out-Value, roll-Value, roll-out-Value, map-Value, every-Value, every_here-Value, every_held-Value}
 use Rattle.kl_value.specs.declared.Value.TheVariants as value

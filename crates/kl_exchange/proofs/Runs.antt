@@ -1,24 +1,23 @@
 -- Each spelling leads a machine on to what it spells.
-use Rattle.std.proofs.Common.{◌≡◌, ◌≢◌, ℕ, ◌+◌, ◌-◌, ◌*◌, ◌^◌, ◌<◌, ◌≤◌, suc, zero, Bool, true, false, ◌&&◌, ◌||◌, cond, List, [], ◌∷◌, ◌++◌, length, refl, sym, ap, subst, ◌∙◌, arith, ◌==◌, nat_le, nat_lt, IsTrue, ◌⊎◌, inl, inr, Some, None, Result, Ok, Err, ℤ, append_assoc, append-nil, zero-add}
-use Rattle.std.specs.Char.{is_ascii_digit, is_ascii_alphabetic, is_ascii_hexdigit, digit_value}
+use Rattle.std.proofs.Common.{◌≡◌, ℕ, ◌+◌, ◌*◌, ◌<◌, ◌≤◌, suc, zero, Bool, true, false, List, [], ◌∷◌, ◌++◌, length, refl, sym, ap, subst, ◌∙◌, arith, ◌==◌, nat_le, inl, inr, Result, Ok, Err, ℤ, append_assoc, append-nil, zero-add}
+use Rattle.std.specs.Char.{is_ascii_digit, is_ascii_alphabetic, digit_value}
 use Rattle.std.specs.Int.{w64}
 use Rattle.std.specs.Prelude.{FitsSigned}
 use Rattle.std.specs.List.{list_all}
 use Rattle.std.specs.Str.Parse.{AllDigits, digits_value_after, digits_value}
-use Rattle.kl_base.specs.Word.{is_word, is_word_byte, label_of}
+use Rattle.kl_base.specs.Word.{is_word, is_word_byte}
 use Rattle.kl_value.specs.declared.Value.{Value}
 use Rattle.kl_value.specs.declared.Value.TheVariants as value
 use Rattle.kl_value.specs.declared.Kind.{Kind}
 use Rattle.kl_value.specs.declared.Kind.TheVariants as kind
 use Rattle.kl_value.specs.Canon.{canonical}
-use Rattle.kl_base.specs.Fields.{LabelsDiffer, IsFieldsOf}
+use Rattle.kl_base.specs.Fields.{LabelsDiffer}
 use Rattle.kl_exchange.proofs.Pairs.{Pair, fields_are, differ_from_fields, fresh_label}
 use Rattle.kl_exchange.specs.Fields.{fields_of}
-use Rattle.kl_exchange.proofs.Bytes.{digit_is, digit_below, digit_not_blank, blank_at, blank_not_digit, blank_not_word, blank_not_bar, letter_not_blank, letter_not_bar, letter_not_close, not_equal, at_most, below, after_ge, fits_magnitude, both_true, escape_not_x, IsFirst, first_digit_is}
-use Rattle.kl_exchange.specs.Grammar.{is_blank, Blank, Padded, More, Listed, word_of, sign_of, signed, SpellsInt, SpellsByte, SpellsBytes, SpellsPlain, opening, closing, SpellsLabel, SpellsField, SpellsBracket, Spells, IsItem, escape_of}
-use Rattle.kl_exchange.specs.Machine.{Brackets, goes, bad, run, Run, more, ends, fails, deep, followed, advanced, value_due, opens, opened, closes, ends_closing, behind_brace, behind_bracket, label_due, record_opened, named, in_name, in_word, behind_minus, after_item, after_field, after_value, in_digits, in_text, behind_escape, hex_due, low_hex_due, or_bad, with_digit, greatest_magnitude, hex_of, has_named, frame_of, first_of_close}
+use Rattle.kl_exchange.proofs.Bytes.{digit_is, digit_not_blank, blank_not_digit, blank_not_word, blank_not_bar, letter_not_blank, letter_not_bar, letter_not_close, not_equal, at_most, below, after_ge, fits_magnitude, both_true, escape_not_x, IsFirst, first_digit_is}
+use Rattle.kl_exchange.specs.Grammar.{is_blank, Blank, Padded, More, Listed, word_of, sign_of, signed, SpellsInt, SpellsByte, SpellsBytes, SpellsPlain, opening, closing, SpellsLabel, SpellsField, SpellsBracket, Spells, IsItem}
+use Rattle.kl_exchange.specs.Machine.{Brackets, goes, run, Run, more, ends, fails, deep, followed, advanced, value_due, opens, opened, closes, ends_closing, behind_brace, behind_bracket, label_due, record_opened, named, in_name, in_word, behind_minus, after_item, after_field, after_value, in_digits, in_text, behind_escape, hex_due, low_hex_due, greatest_magnitude, has_named, frame_of}
 use Rattle.kl_exchange.specs.declared.machine.Machine.{Machine}
-use Rattle.kl_exchange.specs.declared.machine.Frame.{Frame}
 use Rattle.kl_exchange.specs.declared.machine.Frame.TheVariants as frame
 use Rattle.kl_exchange.specs.declared.machine.Holder.{Holder}
 use Rattle.kl_exchange.specs.declared.machine.Holder.TheVariants as holder

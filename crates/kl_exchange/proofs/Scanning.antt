@@ -1,7 +1,6 @@
 -- One byte of a scan.
-use Rattle.std.proofs.Common.{◌≡◌, ℕ, ◌+◌, ◌<◌, suc, List, ◌∷◌, length, drop, get_or, refl, sym, ap, subst, ◌∙◌, Result, Ok, Err, drop-cons, add-one}
-use Rattle.kl_value.specs.declared.Value.{Value}
-use Rattle.kl_exchange.specs.Machine.{IsSound, advanced, run, Run, more, ends, fails, deep, followed}
+use Rattle.std.proofs.Common.{◌≡◌, ℕ, ◌+◌, ◌<◌, List, ◌∷◌, length, drop, get_or, sym, ap, subst, ◌∙◌, Result, Ok, Err, drop-cons, add-one}
+use Rattle.kl_exchange.specs.Machine.{IsSound, advanced, run, fails, deep, followed}
 use Rattle.kl_exchange.specs.declared.machine.Machine.{Machine}
 use Rattle.kl_exchange.specs.declared.machine.Step.{Step}
 use Rattle.kl_exchange.specs.declared.machine.Step.TheVariants as step

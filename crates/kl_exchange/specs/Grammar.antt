@@ -1,5 +1,5 @@
 -- Exchange text: which bytes spell which values.
-use Rattle.std.specs.Prelude.{◌≡◌, ◌≢◌, ◌+◌, ◌*◌, cond, ℕ, ℤ, pos, Bool, true, false, ◌||◌, ◌==◌, List, [], ◌∷◌, ◌++◌, codes, ⊤, ◌⊎◌, IsTrue, Option, Some, None, FitsSigned, neg_ℤ}
+use Rattle.std.specs.Prelude.{◌≡◌, ◌≢◌, ◌+◌, ◌*◌, cond, ℕ, ℤ, pos, Bool, true, false, ◌||◌, ◌==◌, List, [], ◌∷◌, ◌++◌, codes, ◌⊎◌, IsTrue, Option, Some, None, FitsSigned, neg_ℤ}
 use Rattle.std.proofs.Common.{zero, suc}
 use Rattle.std.specs.Char.{is_ascii_hexdigit, digit_value}
 use Rattle.std.specs.Int.{w64}

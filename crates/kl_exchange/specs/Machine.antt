@@ -1,9 +1,8 @@
 -- What one byte makes of what an item's bytes have come to. Only contracts of private functions cite this; what a
 -- reader answers is said by the grammar.
-use Rattle.std.specs.Prelude.{◌≡◌, ℕ, ◌+◌, ◌-◌, ◌*◌, ◌^◌, ◌<◌, ◌≤◌, IsTrue, Bool, true, false, ◌||◌, ◌&&◌, ◌==◌, nat_lt, nat_le, nat_eq, cond, List, [], ◌∷◌, ◌++◌, length, ⊤, Option, Some, None, Result, Ok, Err, slice_index}
+use Rattle.std.specs.Prelude.{◌≡◌, ℕ, ◌+◌, ◌-◌, ◌*◌, ◌^◌, ◌<◌, ◌≤◌, IsTrue, Bool, true, false, ◌&&◌, ◌==◌, nat_lt, nat_le, cond, List, [], ◌∷◌, ◌++◌, length, ⊤, Option, Some, None, Result, Ok, Err, slice_index}
 use Rattle.std.specs.Char.{is_ascii_digit, is_ascii_alphabetic, is_ascii_hexdigit, digit_value}
-use Rattle.std.specs.List.{list_any, AllByRecursion}
-use Rattle.std.specs.Cmp.Lexicographic.{pointwise}
+use Rattle.std.specs.List.{AllByRecursion}
 use Rattle.kl_base.specs.Word.{is_word, is_word_byte, label_of}
 use Rattle.kl_base.specs.Fields.{LabelsDiffer}
 use Rattle.kl_exchange.specs.Fields.{fields_of}

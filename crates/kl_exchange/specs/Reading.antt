@@ -1,5 +1,5 @@
 -- What a reader of exchange text knows, and what it answers.
-use Rattle.std.specs.Prelude.{◌≡◌, ℕ, ◌+◌, ◌<◌, ◌≤◌, Bool, true, false, List, [], ◌++◌, length, take, ◌⊎◌, IsTrue, Option, Some, None, Result, Ok, Err}
+use Rattle.std.specs.Prelude.{◌≡◌, ℕ, ◌+◌, ◌<◌, ◌≤◌, true, false, List, [], ◌++◌, length, take, ◌⊎◌, IsTrue, Some, None, Result, Ok, Err}
 use Rattle.kl_value.specs.Shape.{IsCanonical}
 use Rattle.kl_value.specs.declared.Value.{Value}
 use Rattle.kl_exchange.specs.Grammar.{Blank, IsItem, IsExchange, Begins}

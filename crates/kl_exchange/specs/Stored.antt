@@ -1,5 +1,5 @@
 -- What the types of the program keep of every value: integers are within 64 bits, and labels are words.
-use Rattle.std.specs.Prelude.{ℕ, List, ⊤, IsTrue, FitsSigned}
+use Rattle.std.specs.Prelude.{⊤, IsTrue, FitsSigned}
 use Rattle.std.specs.Int.{w64}
 use Rattle.std.specs.List.{AllByRecursion}
 use Rattle.kl_base.specs.Word.{is_word}

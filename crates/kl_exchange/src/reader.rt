@@ -113,6 +113,15 @@ impl Reader {
     ///   exchange text. It comes before `NeedMore` and `Bad`. The reader answers the same from then on.
     /// - `NoMemory`: want of memory; the reader stays as it was.
     pub fn next(&mut self) -> Result<Item, ReadError>
+        ensures reads { Reads self.old result self.new }
+        // No byte is lost.
+        ensures total { self.new.place + length self.new.left ≡ self.old.place + length self.old.left }
+        ensures finished { self.new.finished ≡ self.old.finished }
+    {
+        self.answer()
+    }
+
+    fn answer(&mut self) -> Result<Item, ReadError>
         ensures { Reads self.old result self.new }
     {
         match self.refused {

@@ -1,3 +1,5 @@
+ghost use Rattle.std.specs.Prelude.{◌≡◌, ◌+◌, ◌^◌, ◌<◌, length};
+
 use crate::{Item, PrintError, ReadError, Reader, print, printing_laws, reading_laws};
 use kl_base::{Label, Seq, Text};
 use kl_outside::MemSink;
@@ -9,31 +11,39 @@ fn label(alloc: Global, word: &[u8]) -> Result<Label, Fail> {
     Ok(Label::new(alloc, word)?.ok_or("no word")?)
 }
 
-// Reads the bytes in two pieces, and answers whether the items are these.
-fn reads(alloc: Global, bytes: &[u8], cut: usize, items: &[Value]) -> Result<bool, Fail> {
-    let mut reader = Reader::new(alloc);
-    let mut count = 0;
-    for turn in 0..2 {
-        if turn == 0 {
-            reader.feed(bytes.get(..cut).unwrap_or(b""))?;
-        } else {
-            reader.feed(bytes.get(cut..).unwrap_or(b""))?;
-            reader.finish();
-        }
-        for _ in 0..bytes.len() {
-            match reader.next() {
-                Ok(Item::Value(value)) => {
-                    if items.get(count).is_none_or(|item| *item != value) {
-                        return Ok(false);
-                    }
-                    count += 1;
+// Reads on, and answers whether the items from a place in the list on are these, and the place behind them.
+fn take(reader: &mut Reader, items: &[Value], from: usize) -> Option<usize>
+    ensures total { reader.new.place + length reader.new.left ≡ reader.old.place + length reader.old.left }
+    ensures finished { reader.new.finished ≡ reader.old.finished }
+{
+    let mut place = from;
+    'items: for _ in 0..100 {
+        match reader.next() {
+            Ok(Item::Value(value)) => {
+                if items.get(place).is_none_or(|item| *item != value) {
+                    return None;
                 }
-                Ok(Item::NeedMore | Item::End) => break,
-                Err(_) => return Ok(false),
+                place = place.saturating_add(1);
             }
+            Ok(Item::NeedMore | Item::End) => break,
+            Err(_) => return None,
         }
     }
-    Ok(count == items.len())
+    Some(place)
+}
+
+// Reads the bytes in two pieces, and answers whether the items are these.
+fn reads(alloc: Global, first: &[u8], second: &[u8], items: &[Value]) -> Result<bool, Fail>
+    requires { length first.now + length second.now < 2 ^ 64 }
+{
+    let mut reader = Reader::new(alloc);
+    reader.feed(first)?;
+    let Some(place) = take(&mut reader, items, 0) else {
+        return Ok(false);
+    };
+    reader.feed(second)?;
+    reader.finish();
+    Ok(take(&mut reader, items, place) == Some(items.len()))
 }
 
 #[test]
@@ -49,18 +59,18 @@ fn items_are_read_however_the_bytes_are_cut(rt: HostRuntime) -> Result<(), Fail>
     let items = vec![in alloc; record, set, text]?;
     let bytes = b"[b=2,a=1]; {3, 1 ,3}; \"\\x41\\n\";";
     for cut in 0..=bytes.len() {
-        assert!(rt; reads(alloc, bytes, cut, &items)?, "cut at {cut}");
+        let (first, second) = bytes.split_at(cut);
+        assert!(rt; reads(alloc, first, second, &items)?, "cut at {cut}");
     }
     Ok(())
 }
 
 // The number of items before the refusal, and the refusal.
 fn refusal(alloc: Global, brackets: usize, bytes: &[u8]) -> Result<(u64, Option<ReadError>), Fail> {
+    let mut all = vec![in alloc; b'{'; brackets]?;
+    all.extend_from_slice(bytes)?;
     let mut reader = Reader::new(alloc);
-    for _ in 0..brackets {
-        reader.feed(b"{")?;
-    }
-    reader.feed(bytes)?;
+    reader.feed(&all)?;
     reader.finish();
     for _ in 0..bytes.len() {
         match reader.next() {

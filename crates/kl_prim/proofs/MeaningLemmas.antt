@@ -19,6 +19,7 @@ use Rattle.kl_prim.specs.Views.{Collection, as_bool, as_int, as_text, as_collect
 use Rattle.kl_prim.specs.declared.stop.PrimStop.{PrimStop}
 use Rattle.kl_prim.proofs.CollectionLemmas.{items_canonical}
 use Rattle.kl_prim.proofs.ItemLemmas.{all_some_is}
+use Rattle.kl_prim.proofs.TableLemmas.{◌&◌}
 
 -- ---- what holds of each row holds of the row at a code
 
@@ -81,85 +82,34 @@ SenseAt r = (args : List Value) → FitsShape r.entry.shape args → Makes (r.me
 
 sense_rows : AllByRecursion SenseAt rows
 unfolding rows
-sense_rows = (
-  λ args. makes_two IsAny IsAny as_any as_any _ (λ v h. refl) (λ v h. refl) (λ v w e. cc) args,
-  (
-    λ args. makes_two IsAny IsAny as_any as_any _ (λ v h. refl) (λ v h. refl) (λ v w e. cc) args,
-    (
-      λ args. makes_two IsAny IsAny as_any as_any _ (λ v h. refl) (λ v h. refl) (λ v w e. cc) args,
-      (
-        λ args. makes_two IsAny IsAny as_any as_any _ (λ v h. refl) (λ v h. refl) (λ v w e. cc) args,
-        (
-          λ args. makes_two IsAny IsAny as_any as_any _ (λ v h. refl) (λ v h. refl) (λ v w e. cc) args,
-          (
-            λ args. makes_two IsAny IsAny as_any as_any _ (λ v h. refl) (λ v h. refl) (λ v w e. cc) args,
-            (
-              λ args. makes_two IsInt IsInt as_int as_int _ (λ v h. h) (λ v h. h) (λ m n. makes_exact (m +ℤ n)) args,
-              (
-                λ args. makes_two IsInt IsInt as_int as_int _ (λ v h. h) (λ v h. h) (λ m n. makes_exact (m -ℤ n)) args,
-                (
-                  λ args. makes_two IsInt IsInt as_int as_int _ (λ v h. h) (λ v h. h) (λ m n. makes_exact (m *ℤ n)) args,
-                  (
-                    λ args. makes_one IsInt as_int _ (λ v h. h) (λ n. makes_exact (neg_ℤ n)) args,
-                    (
-                      λ args. makes_one IsBool as_bool _ (λ v h. h) (λ b e. cc) args,
-                      (
-                        λ args. makes_two IsText IsText as_text as_text _ (λ v h. h) (λ v h. h) (λ s t e. cc) args,
-                        (
-                          λ args. makes_one IsCollection as_collection _ (λ v h. h) (λ c e. cc) args,
-                          (
-                            λ args. makes_one IsCollection as_collection _ (λ v h. h) (λ c e. cc) args,
-                            (
-                              λ args. makes_one IsCollectionOfInts as_ints _ ints_some (λ ns. makes_exact (total ns)) args,
-                              (
-                                λ args. makes_two IsAny IsCollection as_any as_collection _ (λ v h. refl) (λ v h. h) (λ v c e. cc) args,
-                                (
-                                  λ args. makes_one IsCollection as_collection _ (λ v h. h) (λ c e. cc) args,
-                                  (
-                                    λ args. makes_one IsCollection as_collection _ (λ v h. h) (λ c e. cc) args,
-                                    (
-                                      λ args. makes_one IsNested as_nested _ nested_some (λ n e. cc) args,
-                                      (
-                                        λ args. makes_one IsCollection as_collection _ (λ v h. h) (λ c e. cc) args,
-                                        (
-                                          λ args. makes_one IsCollection as_collection _ (λ v h. h) (λ c e. cc) args,
-                                          (
-                                            λ args. makes_one IsCollection as_collection _ (λ v h. h) (λ c e. cc) args,
-                                            (
-                                              λ args. makes_one IsText as_text _ (λ v h. h) (λ t e. cc) args,
-                                              (
-                                                λ args. makes_two IsText IsText as_text as_text _ (λ v h. h) (λ v h. h) (λ s t e. cc) args,
-                                                (
-                                                  λ args. makes_one IsText as_text _ (λ v h. h) (λ t e. cc) args,
-                                                  (
-                                                    λ args. makes_one IsInt as_int _ (λ v h. h) (λ n e. cc) args,
-                                                    tt,
-                                                  ),
-                                                ),
-                                              ),
-                                            ),
-                                          ),
-                                        ),
-                                      ),
-                                    ),
-                                  ),
-                                ),
-                              ),
-                            ),
-                          ),
-                        ),
-                      ),
-                    ),
-                  ),
-                ),
-              ),
-            ),
-          ),
-        ),
-      ),
-    ),
-  ),
-)
+sense_rows =
+    (λ args. makes_two IsAny IsAny as_any as_any _ (λ v h. refl) (λ v h. refl) (λ v w e. cc) args) &
+    (λ args. makes_two IsAny IsAny as_any as_any _ (λ v h. refl) (λ v h. refl) (λ v w e. cc) args) &
+    (λ args. makes_two IsAny IsAny as_any as_any _ (λ v h. refl) (λ v h. refl) (λ v w e. cc) args) &
+    (λ args. makes_two IsAny IsAny as_any as_any _ (λ v h. refl) (λ v h. refl) (λ v w e. cc) args) &
+    (λ args. makes_two IsAny IsAny as_any as_any _ (λ v h. refl) (λ v h. refl) (λ v w e. cc) args) &
+    (λ args. makes_two IsAny IsAny as_any as_any _ (λ v h. refl) (λ v h. refl) (λ v w e. cc) args) &
+    (λ args. makes_two IsInt IsInt as_int as_int _ (λ v h. h) (λ v h. h) (λ m n. makes_exact (m +ℤ n)) args) &
+    (λ args. makes_two IsInt IsInt as_int as_int _ (λ v h. h) (λ v h. h) (λ m n. makes_exact (m -ℤ n)) args) &
+    (λ args. makes_two IsInt IsInt as_int as_int _ (λ v h. h) (λ v h. h) (λ m n. makes_exact (m *ℤ n)) args) &
+    (λ args. makes_one IsInt as_int _ (λ v h. h) (λ n. makes_exact (neg_ℤ n)) args) &
+    (λ args. makes_one IsBool as_bool _ (λ v h. h) (λ b e. cc) args) &
+    (λ args. makes_two IsText IsText as_text as_text _ (λ v h. h) (λ v h. h) (λ s t e. cc) args) &
+    (λ args. makes_one IsCollection as_collection _ (λ v h. h) (λ c e. cc) args) &
+    (λ args. makes_one IsCollection as_collection _ (λ v h. h) (λ c e. cc) args) &
+    (λ args. makes_one IsCollectionOfInts as_ints _ ints_some (λ ns. makes_exact (total ns)) args) &
+    (λ args. makes_two IsAny IsCollection as_any as_collection _ (λ v h. refl) (λ v h. h) (λ v c e. cc) args) &
+    (λ args. makes_one IsCollection as_collection _ (λ v h. h) (λ c e. cc) args) &
+    (λ args. makes_one IsCollection as_collection _ (λ v h. h) (λ c e. cc) args) &
+    (λ args. makes_one IsNested as_nested _ nested_some (λ n e. cc) args) &
+    (λ args. makes_one IsCollection as_collection _ (λ v h. h) (λ c e. cc) args) &
+    (λ args. makes_one IsCollection as_collection _ (λ v h. h) (λ c e. cc) args) &
+    (λ args. makes_one IsCollection as_collection _ (λ v h. h) (λ c e. cc) args) &
+    (λ args. makes_one IsText as_text _ (λ v h. h) (λ t e. cc) args) &
+    (λ args. makes_two IsText IsText as_text as_text _ (λ v h. h) (λ v h. h) (λ s t e. cc) args) &
+    (λ args. makes_one IsText as_text _ (λ v h. h) (λ t e. cc) args) &
+    (λ args. makes_one IsInt as_int _ (λ v h. h) (λ n e. cc) args) &
+    tt
 
 -- what fits makes sense
 pub meaning_sense : (code : ℕ) (args : List Value) → Fits code args → meaning code args ≢ senseless
@@ -188,85 +138,34 @@ TakesAt r = (args : List Value) → FitsShape r.entry.shape args → r.entry.ari
 
 takes_rows : AllByRecursion TakesAt rows
 unfolding rows
-takes_rows = (
-  λ args h. sym (two_long IsAny IsAny args h),
-  (
-    λ args h. sym (two_long IsAny IsAny args h),
-    (
-      λ args h. sym (two_long IsAny IsAny args h),
-      (
-        λ args h. sym (two_long IsAny IsAny args h),
-        (
-          λ args h. sym (two_long IsAny IsAny args h),
-          (
-            λ args h. sym (two_long IsAny IsAny args h),
-            (
-              λ args h. sym (two_long IsInt IsInt args h),
-              (
-                λ args h. sym (two_long IsInt IsInt args h),
-                (
-                  λ args h. sym (two_long IsInt IsInt args h),
-                  (
-                    λ args h. sym (one_long IsInt args h),
-                    (
-                      λ args h. sym (one_long IsBool args h),
-                      (
-                        λ args h. sym (two_long IsText IsText args h),
-                        (
-                          λ args h. sym (one_long IsCollection args h),
-                          (
-                            λ args h. sym (one_long IsCollection args h),
-                            (
-                              λ args h. sym (one_long IsCollectionOfInts args h),
-                              (
-                                λ args h. sym (two_long IsAny IsCollection args h),
-                                (
-                                  λ args h. sym (one_long IsCollection args h),
-                                  (
-                                    λ args h. sym (one_long IsCollection args h),
-                                    (
-                                      λ args h. sym (one_long IsNested args h),
-                                      (
-                                        λ args h. sym (one_long IsCollection args h),
-                                        (
-                                          λ args h. sym (one_long IsCollection args h),
-                                          (
-                                            λ args h. sym (one_long IsCollection args h),
-                                            (
-                                              λ args h. sym (one_long IsText args h),
-                                              (
-                                                λ args h. sym (two_long IsText IsText args h),
-                                                (
-                                                  λ args h. sym (one_long IsText args h),
-                                                  (
-                                                    λ args h. sym (one_long IsInt args h),
-                                                    tt,
-                                                  ),
-                                                ),
-                                              ),
-                                            ),
-                                          ),
-                                        ),
-                                      ),
-                                    ),
-                                  ),
-                                ),
-                              ),
-                            ),
-                          ),
-                        ),
-                      ),
-                    ),
-                  ),
-                ),
-              ),
-            ),
-          ),
-        ),
-      ),
-    ),
-  ),
-)
+takes_rows =
+    (λ args h. sym (two_long IsAny IsAny args h)) &
+    (λ args h. sym (two_long IsAny IsAny args h)) &
+    (λ args h. sym (two_long IsAny IsAny args h)) &
+    (λ args h. sym (two_long IsAny IsAny args h)) &
+    (λ args h. sym (two_long IsAny IsAny args h)) &
+    (λ args h. sym (two_long IsAny IsAny args h)) &
+    (λ args h. sym (two_long IsInt IsInt args h)) &
+    (λ args h. sym (two_long IsInt IsInt args h)) &
+    (λ args h. sym (two_long IsInt IsInt args h)) &
+    (λ args h. sym (one_long IsInt args h)) &
+    (λ args h. sym (one_long IsBool args h)) &
+    (λ args h. sym (two_long IsText IsText args h)) &
+    (λ args h. sym (one_long IsCollection args h)) &
+    (λ args h. sym (one_long IsCollection args h)) &
+    (λ args h. sym (one_long IsCollectionOfInts args h)) &
+    (λ args h. sym (two_long IsAny IsCollection args h)) &
+    (λ args h. sym (one_long IsCollection args h)) &
+    (λ args h. sym (one_long IsCollection args h)) &
+    (λ args h. sym (one_long IsNested args h)) &
+    (λ args h. sym (one_long IsCollection args h)) &
+    (λ args h. sym (one_long IsCollection args h)) &
+    (λ args h. sym (one_long IsCollection args h)) &
+    (λ args h. sym (one_long IsText args h)) &
+    (λ args h. sym (two_long IsText IsText args h)) &
+    (λ args h. sym (one_long IsText args h)) &
+    (λ args h. sym (one_long IsInt args h)) &
+    tt
 
 -- as many as the row says
 pub meaning_takes : (code : ℕ) (args : List Value) → Fits code args → Takes code (length args)
@@ -303,85 +202,34 @@ TotalAt r = r.entry.total ≡ true → (args : List Value) → Never (r.meaning 
 
 total_rows : AllByRecursion TotalAt rows
 unfolding rows
-total_rows = (
-  λ e args. never_two as_any as_any _ (λ v w h. cc) args,
-  (
-    λ e args. never_two as_any as_any _ (λ v w h. cc) args,
-    (
-      λ e args. never_two as_any as_any _ (λ v w h. cc) args,
-      (
-        λ e args. never_two as_any as_any _ (λ v w h. cc) args,
-        (
-          λ e args. never_two as_any as_any _ (λ v w h. cc) args,
-          (
-            λ e args. never_two as_any as_any _ (λ v w h. cc) args,
-            (
-              λ e. cc,
-              (
-                λ e. cc,
-                (
-                  λ e. cc,
-                  (
-                    λ e. cc,
-                    (
-                      λ e args. never_one as_bool _ (λ b h. cc) args,
-                      (
-                        λ e args. never_two as_text as_text _ (λ s t h. cc) args,
-                        (
-                          λ e args. never_one as_collection _ (λ c h. cc) args,
-                          (
-                            λ e args. never_one as_collection _ (λ c h. cc) args,
-                            (
-                              λ e. cc,
-                              (
-                                λ e args. never_two as_any as_collection _ (λ v c h. cc) args,
-                                (
-                                  λ e args. never_one as_collection _ (λ c h. cc) args,
-                                  (
-                                    λ e args. never_one as_collection _ (λ c h. cc) args,
-                                    (
-                                      λ e args. never_one as_nested _ (λ n h. cc) args,
-                                      (
-                                        λ e args. never_one as_collection _ (λ c h. cc) args,
-                                        (
-                                          λ e args. never_one as_collection _ (λ c h. cc) args,
-                                          (
-                                            λ e args. never_one as_collection _ (λ c h. cc) args,
-                                            (
-                                              λ e args. never_one as_text _ (λ t h. cc) args,
-                                              (
-                                                λ e args. never_two as_text as_text _ (λ s t h. cc) args,
-                                                (
-                                                  λ e args. never_one as_text _ (λ t h. cc) args,
-                                                  (
-                                                    λ e args. never_one as_int _ (λ n h. cc) args,
-                                                    tt,
-                                                  ),
-                                                ),
-                                              ),
-                                            ),
-                                          ),
-                                        ),
-                                      ),
-                                    ),
-                                  ),
-                                ),
-                              ),
-                            ),
-                          ),
-                        ),
-                      ),
-                    ),
-                  ),
-                ),
-              ),
-            ),
-          ),
-        ),
-      ),
-    ),
-  ),
-)
+total_rows =
+    (λ e args. never_two as_any as_any _ (λ v w h. cc) args) &
+    (λ e args. never_two as_any as_any _ (λ v w h. cc) args) &
+    (λ e args. never_two as_any as_any _ (λ v w h. cc) args) &
+    (λ e args. never_two as_any as_any _ (λ v w h. cc) args) &
+    (λ e args. never_two as_any as_any _ (λ v w h. cc) args) &
+    (λ e args. never_two as_any as_any _ (λ v w h. cc) args) &
+    (λ e. cc) &
+    (λ e. cc) &
+    (λ e. cc) &
+    (λ e. cc) &
+    (λ e args. never_one as_bool _ (λ b h. cc) args) &
+    (λ e args. never_two as_text as_text _ (λ s t h. cc) args) &
+    (λ e args. never_one as_collection _ (λ c h. cc) args) &
+    (λ e args. never_one as_collection _ (λ c h. cc) args) &
+    (λ e. cc) &
+    (λ e args. never_two as_any as_collection _ (λ v c h. cc) args) &
+    (λ e args. never_one as_collection _ (λ c h. cc) args) &
+    (λ e args. never_one as_collection _ (λ c h. cc) args) &
+    (λ e args. never_one as_nested _ (λ n h. cc) args) &
+    (λ e args. never_one as_collection _ (λ c h. cc) args) &
+    (λ e args. never_one as_collection _ (λ c h. cc) args) &
+    (λ e args. never_one as_collection _ (λ c h. cc) args) &
+    (λ e args. never_one as_text _ (λ t h. cc) args) &
+    (λ e args. never_two as_text as_text _ (λ s t h. cc) args) &
+    (λ e args. never_one as_text _ (λ t h. cc) args) &
+    (λ e args. never_one as_int _ (λ n h. cc) args) &
+    tt
 
 -- a total primitive does not overflow
 pub meaning_total : (code : ℕ) (args : List Value) → IsTotal code → meaning code args ≢ overflows
@@ -522,85 +370,34 @@ CleanAt r = (args : List Value) → AllByRecursion IsCanonical args → Clean (r
 
 clean_rows : AllByRecursion CleanAt rows
 unfolding rows
-clean_rows = (
-  λ args. clean_two as_any as_any _ (λ v w x y hv hw ex ey. canonical_bool _) args,
-  (
-    λ args. clean_two as_any as_any _ (λ v w x y hv hw ex ey. canonical_bool _) args,
-    (
-      λ args. clean_two as_any as_any _ (λ v w x y hv hw ex ey. canonical_bool _) args,
-      (
-        λ args. clean_two as_any as_any _ (λ v w x y hv hw ex ey. canonical_bool _) args,
-        (
-          λ args. clean_two as_any as_any _ (λ v w x y hv hw ex ey. canonical_bool _) args,
-          (
-            λ args. clean_two as_any as_any _ (λ v w x y hv hw ex ey. canonical_bool _) args,
-            (
-              λ args. clean_two as_int as_int _ (λ v w m n hv hw em en. exact_clean (m +ℤ n)) args,
-              (
-                λ args. clean_two as_int as_int _ (λ v w m n hv hw em en. exact_clean (m -ℤ n)) args,
-                (
-                  λ args. clean_two as_int as_int _ (λ v w m n hv hw em en. exact_clean (m *ℤ n)) args,
-                  (
-                    λ args. clean_one as_int _ (λ v n h e. exact_clean (neg_ℤ n)) args,
-                    (
-                      λ args. clean_one as_bool _ (λ v b h e. canonical_bool _) args,
-                      (
-                        λ args. clean_two as_text as_text _ (λ v w s t hv hw es et. canonical_text _) args,
-                        (
-                          λ args. clean_one as_collection _ (λ v c h e. canonical_bool _) args,
-                          (
-                            λ args. clean_one as_collection _ (λ v c h e. canonical_int _) args,
-                            (
-                              λ args. clean_one as_ints _ (λ v ns h e. exact_clean (total ns)) args,
-                              (
-                                λ args. clean_two as_any as_collection _ (λ v w x c hv hw ex ec. canonical_bool _) args,
-                                (
-                                  λ args. clean_one as_collection _ (λ v c h e. extreme_clean is_le c.kind c.items (held v c h e)) args,
-                                  (
-                                    λ args. clean_one as_collection _ (λ v c h e. extreme_clean is_ge c.kind c.items (held v c h e)) args,
-                                    (
-                                      λ args. clean_one as_nested _ (λ v n h e. canonical_keeps n.0 _ (nested_held v n h e)) args,
-                                      (
-                                        λ args. clean_one as_collection _ (λ v c h e. canonical_keeps kind.Set c.items (held v c h e)) args,
-                                        (
-                                          λ args. clean_one as_collection _ (λ v c h e. canonical_keeps kind.Bag c.items (held v c h e)) args,
-                                          (
-                                            λ args. clean_one as_collection _ (λ v c h e. canonical_keeps kind.List c.items (held v c h e)) args,
-                                            (
-                                              λ args. clean_one as_text _ (λ v t h e. canonical_int _) args,
-                                              (
-                                                λ args. clean_two as_text as_text _ (λ v w s t hv hw es et. canonical_bool _) args,
-                                                (
-                                                  λ args. clean_one as_text _ (λ v t h e. found_clean (number_in t)) args,
-                                                  (
-                                                    λ args. clean_one as_int _ (λ v n h e. canonical_text _) args,
-                                                    tt,
-                                                  ),
-                                                ),
-                                              ),
-                                            ),
-                                          ),
-                                        ),
-                                      ),
-                                    ),
-                                  ),
-                                ),
-                              ),
-                            ),
-                          ),
-                        ),
-                      ),
-                    ),
-                  ),
-                ),
-              ),
-            ),
-          ),
-        ),
-      ),
-    ),
-  ),
-)
+clean_rows =
+    (λ args. clean_two as_any as_any _ (λ v w x y hv hw ex ey. canonical_bool _) args) &
+    (λ args. clean_two as_any as_any _ (λ v w x y hv hw ex ey. canonical_bool _) args) &
+    (λ args. clean_two as_any as_any _ (λ v w x y hv hw ex ey. canonical_bool _) args) &
+    (λ args. clean_two as_any as_any _ (λ v w x y hv hw ex ey. canonical_bool _) args) &
+    (λ args. clean_two as_any as_any _ (λ v w x y hv hw ex ey. canonical_bool _) args) &
+    (λ args. clean_two as_any as_any _ (λ v w x y hv hw ex ey. canonical_bool _) args) &
+    (λ args. clean_two as_int as_int _ (λ v w m n hv hw em en. exact_clean (m +ℤ n)) args) &
+    (λ args. clean_two as_int as_int _ (λ v w m n hv hw em en. exact_clean (m -ℤ n)) args) &
+    (λ args. clean_two as_int as_int _ (λ v w m n hv hw em en. exact_clean (m *ℤ n)) args) &
+    (λ args. clean_one as_int _ (λ v n h e. exact_clean (neg_ℤ n)) args) &
+    (λ args. clean_one as_bool _ (λ v b h e. canonical_bool _) args) &
+    (λ args. clean_two as_text as_text _ (λ v w s t hv hw es et. canonical_text _) args) &
+    (λ args. clean_one as_collection _ (λ v c h e. canonical_bool _) args) &
+    (λ args. clean_one as_collection _ (λ v c h e. canonical_int _) args) &
+    (λ args. clean_one as_ints _ (λ v ns h e. exact_clean (total ns)) args) &
+    (λ args. clean_two as_any as_collection _ (λ v w x c hv hw ex ec. canonical_bool _) args) &
+    (λ args. clean_one as_collection _ (λ v c h e. extreme_clean is_le c.kind c.items (held v c h e)) args) &
+    (λ args. clean_one as_collection _ (λ v c h e. extreme_clean is_ge c.kind c.items (held v c h e)) args) &
+    (λ args. clean_one as_nested _ (λ v n h e. canonical_keeps n.0 _ (nested_held v n h e)) args) &
+    (λ args. clean_one as_collection _ (λ v c h e. canonical_keeps kind.Set c.items (held v c h e)) args) &
+    (λ args. clean_one as_collection _ (λ v c h e. canonical_keeps kind.Bag c.items (held v c h e)) args) &
+    (λ args. clean_one as_collection _ (λ v c h e. canonical_keeps kind.List c.items (held v c h e)) args) &
+    (λ args. clean_one as_text _ (λ v t h e. canonical_int _) args) &
+    (λ args. clean_two as_text as_text _ (λ v w s t hv hw es et. canonical_bool _) args) &
+    (λ args. clean_one as_text _ (λ v t h e. found_clean (number_in t)) args) &
+    (λ args. clean_one as_int _ (λ v n h e. canonical_text _) args) &
+    tt
 
 -- of canonical arguments the answer is canonical
 pub meaning_canonical : (code : ℕ) (args : List Value) (v : Value) → All IsCanonical args → meaning code args ≡ gives v → IsCanonical v

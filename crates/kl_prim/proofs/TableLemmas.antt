@@ -17,6 +17,11 @@ use Rattle.kl_prim.specs.Views.{as_int, as_collection, collection, collection_la
 use Rattle.kl_prim.specs.declared.rows.PrimRow.{PrimRow}
 use Rattle.kl_prim.specs.declared.stop.PrimStop.{PrimStop}
 
+-- a fact of each row, one beside the other
+infixr 3 ◌&◌
+abbrev pub ◌&◌ : {A B : Type 0} → A → B → A × B
+a & b = (a, b)
+
 pub answers_by : (a b : Answer) (r : Result Value PrimStop) → a ≡ b → Answers b r → Answers a r
 answers_by a b r e h = subst (λ x. Answers x r) (sym e) h
 
@@ -118,85 +123,34 @@ IsAt e = (r : Row) × (row_at e.code ≡ Some r) × (r.entry ≡ e)
 
 rows_at : AllByRecursion IsAt (map (λ r. r.entry) rows)
 unfolding row_at rows
-rows_at = (
-  (_, refl, refl),
-  (
-    (_, refl, refl),
-    (
-      (_, refl, refl),
-      (
-        (_, refl, refl),
-        (
-          (_, refl, refl),
-          (
-            (_, refl, refl),
-            (
-              (_, refl, refl),
-              (
-                (_, refl, refl),
-                (
-                  (_, refl, refl),
-                  (
-                    (_, refl, refl),
-                    (
-                      (_, refl, refl),
-                      (
-                        (_, refl, refl),
-                        (
-                          (_, refl, refl),
-                          (
-                            (_, refl, refl),
-                            (
-                              (_, refl, refl),
-                              (
-                                (_, refl, refl),
-                                (
-                                  (_, refl, refl),
-                                  (
-                                    (_, refl, refl),
-                                    (
-                                      (_, refl, refl),
-                                      (
-                                        (_, refl, refl),
-                                        (
-                                          (_, refl, refl),
-                                          (
-                                            (_, refl, refl),
-                                            (
-                                              (_, refl, refl),
-                                              (
-                                                (_, refl, refl),
-                                                (
-                                                  (_, refl, refl),
-                                                  (
-                                                    (_, refl, refl),
-                                                    tt,
-                                                  ),
-                                                ),
-                                              ),
-                                            ),
-                                          ),
-                                        ),
-                                      ),
-                                    ),
-                                  ),
-                                ),
-                              ),
-                            ),
-                          ),
-                        ),
-                      ),
-                    ),
-                  ),
-                ),
-              ),
-            ),
-          ),
-        ),
-      ),
-    ),
-  ),
-)
+rows_at =
+    (_, refl, refl) &
+    (_, refl, refl) &
+    (_, refl, refl) &
+    (_, refl, refl) &
+    (_, refl, refl) &
+    (_, refl, refl) &
+    (_, refl, refl) &
+    (_, refl, refl) &
+    (_, refl, refl) &
+    (_, refl, refl) &
+    (_, refl, refl) &
+    (_, refl, refl) &
+    (_, refl, refl) &
+    (_, refl, refl) &
+    (_, refl, refl) &
+    (_, refl, refl) &
+    (_, refl, refl) &
+    (_, refl, refl) &
+    (_, refl, refl) &
+    (_, refl, refl) &
+    (_, refl, refl) &
+    (_, refl, refl) &
+    (_, refl, refl) &
+    (_, refl, refl) &
+    (_, refl, refl) &
+    (_, refl, refl) &
+    tt
 
 pub entry_at : (e : Entry) → Contains (map (λ r. r.entry) rows) e → (r : Row) × (row_at e.code ≡ Some r) × (r.entry ≡ e)
 entry_at e c = All-contains IsAt (map (λ r. r.entry) rows) e (All-from_recursion IsAt (map (λ r. r.entry) rows) rows_at) c

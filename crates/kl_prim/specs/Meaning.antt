@@ -28,7 +28,7 @@ Answers a (Ok v) = a ≡ gives v
 Answers a (Err stop.Overflow) = a ≡ overflows
 Answers a (Err stop.NoMemory) = a ≢ overflows
 
--- the arguments, read as what is asked of them
+-- what is made of one argument, or of two, once each is read as what is asked
 abbrev pub with_some : {X : Type 0} → Option X → (X → Answer) → Answer
 with_some (Some x) f = f x
 with_some None f = senseless
@@ -123,7 +123,7 @@ sum = one as_ints (λ ns. exact (total ns))
 abbrev pub member : List Value → Answer
 member = two as_any as_collection (λ v c. truth (list_any (λ w. is_eq (compare w v)) c.items))
 
--- the item that passes a test beside each item, alone, or no item
+-- the item whose comparison with each item passes a test, if there is one
 abbrev pub extreme : (Ordering → Bool) → List Value → Option Value
 extreme test vs = find (λ v. list_all (λ w. test (compare v w)) vs) vs
 
@@ -131,6 +131,7 @@ abbrev pub alone : Option Value → List Value
 alone (Some v) = v ∷ []
 alone None = []
 
+-- an item that is at most, or at least, each item: it alone, or no item
 abbrev pub least : List Value → Answer
 least = one as_collection (λ c. gives (collection c.kind (alone (extreme is_le c.items))))
 

@@ -154,500 +154,124 @@ fn fits(shape: Shape, args: &[Value]) -> bool
     }
 }
 
-macro_rules! case {
-    ($name:literal, $first:expr, $second:expr, $answer:expr) => {
-        Case {
+macro_rules! sample {
+    (Bool $b:literal) => { Sample::Bool($b) };
+    (Int $n:expr) => { Sample::Int($n) };
+    (Text $bytes:literal) => { Sample::Text($bytes) };
+    ($kind:ident $numbers:expr) => { Sample::Ints(Kind::$kind, &$numbers) };
+    ($kind:ident $first:expr, $second:expr) => { Sample::Lists(Kind::$kind, &$first, &$second) };
+}
+
+macro_rules! optional {
+    () => { None };
+    (Overflow) => { None };
+    ($($sample:tt)+) => { Some(sample!($($sample)+)) };
+}
+
+macro_rules! cases {
+    ($($name:literal ($($first:tt)+) $(($($second:tt)+))? => ($($answer:tt)+);)+) => {
+        [$(Case {
             name: $name,
-            first: $first,
-            second: $second,
-            answer: $answer,
-        }
+            first: sample!($($first)+),
+            second: optional!($($($second)+)?),
+            answer: optional!($($answer)+),
+        }),+]
     };
 }
 
-static CASES: [Case; 91] = [
-    case!(
-        b"=",
-        Sample::Int(3),
-        Some(Sample::Int(3)),
-        Some(Sample::Bool(true))
-    ),
-    case!(
-        b"=",
-        Sample::Int(3),
-        Some(Sample::Int(4)),
-        Some(Sample::Bool(false))
-    ),
-    case!(
-        b"=",
-        Sample::Ints(Kind::List, &[10]),
-        Some(Sample::Ints(Kind::List, &[10])),
-        Some(Sample::Bool(true))
-    ),
-    case!(
-        b"=",
-        Sample::Ints(Kind::Set, &[1]),
-        Some(Sample::Ints(Kind::Bag, &[1])),
-        Some(Sample::Bool(false))
-    ),
-    case!(
-        b"<>",
-        Sample::Text(b"a"),
-        Some(Sample::Text(b"b")),
-        Some(Sample::Bool(true))
-    ),
-    case!(
-        b"<>",
-        Sample::Text(b"a"),
-        Some(Sample::Text(b"a")),
-        Some(Sample::Bool(false))
-    ),
-    case!(
-        b"<",
-        Sample::Int(10),
-        Some(Sample::Int(9)),
-        Some(Sample::Bool(false))
-    ),
-    case!(
-        b"<",
-        Sample::Int(9),
-        Some(Sample::Int(10)),
-        Some(Sample::Bool(true))
-    ),
-    case!(
-        b"<",
-        Sample::Text(b"10"),
-        Some(Sample::Text(b"9")),
-        Some(Sample::Bool(true))
-    ),
-    case!(
-        b"<",
-        Sample::Bool(false),
-        Some(Sample::Bool(true)),
-        Some(Sample::Bool(true))
-    ),
-    case!(
-        b"<",
-        Sample::Bool(true),
-        Some(Sample::Int(0)),
-        Some(Sample::Bool(true))
-    ),
-    case!(
-        b"<",
-        Sample::Ints(Kind::Bag, &[9]),
-        Some(Sample::Ints(Kind::List, &[])),
-        Some(Sample::Bool(true))
-    ),
-    case!(
-        b"<",
-        Sample::Ints(Kind::List, &[1]),
-        Some(Sample::Ints(Kind::List, &[1, 0])),
-        Some(Sample::Bool(true))
-    ),
-    case!(
-        b"<=",
-        Sample::Int(2),
-        Some(Sample::Int(2)),
-        Some(Sample::Bool(true))
-    ),
-    case!(
-        b"<=",
-        Sample::Int(3),
-        Some(Sample::Int(2)),
-        Some(Sample::Bool(false))
-    ),
-    case!(
-        b">",
-        Sample::Int(i64::MAX),
-        Some(Sample::Int(i64::MIN)),
-        Some(Sample::Bool(true))
-    ),
-    case!(
-        b">",
-        Sample::Int(1),
-        Some(Sample::Int(1)),
-        Some(Sample::Bool(false))
-    ),
-    case!(
-        b">=",
-        Sample::Int(1),
-        Some(Sample::Int(1)),
-        Some(Sample::Bool(true))
-    ),
-    case!(
-        b">=",
-        Sample::Int(i64::MIN),
-        Some(Sample::Int(i64::MAX)),
-        Some(Sample::Bool(false))
-    ),
-    case!(
-        b"+",
-        Sample::Int(9223372036854775806),
-        Some(Sample::Int(1)),
-        Some(Sample::Int(i64::MAX))
-    ),
-    case!(b"+", Sample::Int(i64::MAX), Some(Sample::Int(1)), None),
-    case!(b"+", Sample::Int(i64::MIN), Some(Sample::Int(-1)), None),
-    case!(
-        b"-",
-        Sample::Int(-9223372036854775807),
-        Some(Sample::Int(1)),
-        Some(Sample::Int(i64::MIN))
-    ),
-    case!(b"-", Sample::Int(i64::MIN), Some(Sample::Int(1)), None),
-    case!(b"-", Sample::Int(0), Some(Sample::Int(i64::MIN)), None),
-    case!(
-        b"-",
-        Sample::Int(5),
-        Some(Sample::Int(7)),
-        Some(Sample::Int(-2))
-    ),
-    case!(
-        b"*",
-        Sample::Int(i64::MIN),
-        Some(Sample::Int(1)),
-        Some(Sample::Int(i64::MIN))
-    ),
-    case!(b"*", Sample::Int(i64::MIN), Some(Sample::Int(-1)), None),
-    case!(
-        b"*",
-        Sample::Int(3037000500),
-        Some(Sample::Int(3037000500)),
-        None
-    ),
-    case!(
-        b"*",
-        Sample::Int(-3),
-        Some(Sample::Int(4)),
-        Some(Sample::Int(-12))
-    ),
-    case!(
-        b"neg",
-        Sample::Int(i64::MAX),
-        None,
-        Some(Sample::Int(-9223372036854775807))
-    ),
-    case!(b"neg", Sample::Int(i64::MIN), None, None),
-    case!(b"neg", Sample::Int(-5), None, Some(Sample::Int(5))),
-    case!(b"not", Sample::Bool(true), None, Some(Sample::Bool(false))),
-    case!(b"not", Sample::Bool(false), None, Some(Sample::Bool(true))),
-    case!(
-        b"^",
-        Sample::Text(b"ab"),
-        Some(Sample::Text(b"c")),
-        Some(Sample::Text(b"abc"))
-    ),
-    case!(
-        b"^",
-        Sample::Text(b""),
-        Some(Sample::Text(b"")),
-        Some(Sample::Text(b""))
-    ),
-    case!(
-        b"isempty",
-        Sample::Ints(Kind::Set, &[]),
-        None,
-        Some(Sample::Bool(true))
-    ),
-    case!(
-        b"isempty",
-        Sample::Ints(Kind::List, &[0]),
-        None,
-        Some(Sample::Bool(false))
-    ),
-    case!(
-        b"count",
-        Sample::Ints(Kind::Set, &[3, 1, 3]),
-        None,
-        Some(Sample::Int(2))
-    ),
-    case!(
-        b"count",
-        Sample::Ints(Kind::Bag, &[3, 1, 3]),
-        None,
-        Some(Sample::Int(3))
-    ),
-    case!(
-        b"count",
-        Sample::Ints(Kind::List, &[]),
-        None,
-        Some(Sample::Int(0))
-    ),
-    case!(
-        b"sum",
-        Sample::Ints(Kind::List, &[i64::MAX, 1, -1]),
-        None,
-        Some(Sample::Int(i64::MAX))
-    ),
-    case!(b"sum", Sample::Ints(Kind::List, &[i64::MAX, 1]), None, None),
-    case!(
-        b"sum",
-        Sample::Ints(Kind::Bag, &[i64::MIN, -1, 1]),
-        None,
-        Some(Sample::Int(i64::MIN))
-    ),
-    case!(
-        b"sum",
-        Sample::Ints(Kind::Set, &[2, 2]),
-        None,
-        Some(Sample::Int(2))
-    ),
-    case!(
-        b"sum",
-        Sample::Ints(Kind::Set, &[]),
-        None,
-        Some(Sample::Int(0))
-    ),
-    case!(
-        b"member",
-        Sample::Int(2),
-        Some(Sample::Ints(Kind::Set, &[5, 2, 9])),
-        Some(Sample::Bool(true))
-    ),
-    case!(
-        b"member",
-        Sample::Int(3),
-        Some(Sample::Ints(Kind::Set, &[5, 2, 9])),
-        Some(Sample::Bool(false))
-    ),
-    case!(
-        b"member",
-        Sample::Int(9),
-        Some(Sample::Ints(Kind::Bag, &[9, 1, 9])),
-        Some(Sample::Bool(true))
-    ),
-    case!(
-        b"member",
-        Sample::Int(1),
-        Some(Sample::Ints(Kind::List, &[7, 1])),
-        Some(Sample::Bool(true))
-    ),
-    case!(
-        b"member",
-        Sample::Int(1),
-        Some(Sample::Ints(Kind::List, &[])),
-        Some(Sample::Bool(false))
-    ),
-    case!(
-        b"least",
-        Sample::Ints(Kind::Set, &[5, 2, 9]),
-        None,
-        Some(Sample::Ints(Kind::Set, &[2]))
-    ),
-    case!(
-        b"least",
-        Sample::Ints(Kind::List, &[5, 2, 9]),
-        None,
-        Some(Sample::Ints(Kind::List, &[2]))
-    ),
-    case!(
-        b"least",
-        Sample::Ints(Kind::Bag, &[]),
-        None,
-        Some(Sample::Ints(Kind::Bag, &[]))
-    ),
-    case!(
-        b"greatest",
-        Sample::Ints(Kind::Bag, &[5, 9, 9]),
-        None,
-        Some(Sample::Ints(Kind::Bag, &[9]))
-    ),
-    case!(
-        b"greatest",
-        Sample::Ints(Kind::List, &[5, 9, 2]),
-        None,
-        Some(Sample::Ints(Kind::List, &[9]))
-    ),
-    case!(
-        b"greatest",
-        Sample::Ints(Kind::List, &[]),
-        None,
-        Some(Sample::Ints(Kind::List, &[]))
-    ),
-    case!(
-        b"flatten",
-        Sample::Lists(Kind::List, &[2, 1], &[1]),
-        None,
-        Some(Sample::Ints(Kind::List, &[2, 1, 1]))
-    ),
-    case!(
-        b"flatten",
-        Sample::Lists(Kind::Set, &[2, 1], &[1]),
-        None,
-        Some(Sample::Ints(Kind::Set, &[1, 2]))
-    ),
-    case!(
-        b"flatten",
-        Sample::Lists(Kind::Bag, &[2, 1], &[1]),
-        None,
-        Some(Sample::Ints(Kind::Bag, &[1, 1, 2]))
-    ),
-    case!(
-        b"setof",
-        Sample::Ints(Kind::Bag, &[2, 1, 1]),
-        None,
-        Some(Sample::Ints(Kind::Set, &[1, 2]))
-    ),
-    case!(
-        b"setof",
-        Sample::Ints(Kind::List, &[2, 1, 2]),
-        None,
-        Some(Sample::Ints(Kind::Set, &[1, 2]))
-    ),
-    case!(
-        b"setof",
-        Sample::Ints(Kind::Set, &[2, 1]),
-        None,
-        Some(Sample::Ints(Kind::Set, &[1, 2]))
-    ),
-    case!(
-        b"bagof",
-        Sample::Ints(Kind::List, &[2, 1, 2]),
-        None,
-        Some(Sample::Ints(Kind::Bag, &[1, 2, 2]))
-    ),
-    case!(
-        b"bagof",
-        Sample::Ints(Kind::Set, &[2, 1]),
-        None,
-        Some(Sample::Ints(Kind::Bag, &[1, 2]))
-    ),
-    case!(
-        b"listof",
-        Sample::Ints(Kind::Set, &[2, 1]),
-        None,
-        Some(Sample::Ints(Kind::List, &[1, 2]))
-    ),
-    case!(
-        b"listof",
-        Sample::Ints(Kind::Bag, &[2, 1, 2]),
-        None,
-        Some(Sample::Ints(Kind::List, &[1, 2, 2]))
-    ),
-    case!(
-        b"listof",
-        Sample::Ints(Kind::List, &[2, 1]),
-        None,
-        Some(Sample::Ints(Kind::List, &[2, 1]))
-    ),
-    case!(b"strlen", Sample::Text(b""), None, Some(Sample::Int(0))),
-    case!(
-        b"strlen",
-        Sample::Text(b"a\xFF\0"),
-        None,
-        Some(Sample::Int(3))
-    ),
-    case!(
-        b"startswith",
-        Sample::Text(b"abc"),
-        Some(Sample::Text(b"ab")),
-        Some(Sample::Bool(true))
-    ),
-    case!(
-        b"startswith",
-        Sample::Text(b"ab"),
-        Some(Sample::Text(b"abc")),
-        Some(Sample::Bool(false))
-    ),
-    case!(
-        b"startswith",
-        Sample::Text(b"a"),
-        Some(Sample::Text(b"")),
-        Some(Sample::Bool(true))
-    ),
-    case!(
-        b"startswith",
-        Sample::Text(b"ba"),
-        Some(Sample::Text(b"a")),
-        Some(Sample::Bool(false))
-    ),
-    case!(
-        b"toint",
-        Sample::Text(b"-12"),
-        None,
-        Some(Sample::Ints(Kind::Set, &[-12]))
-    ),
-    case!(
-        b"toint",
-        Sample::Text(b"007"),
-        None,
-        Some(Sample::Ints(Kind::Set, &[7]))
-    ),
-    case!(
-        b"toint",
-        Sample::Text(b"-0"),
-        None,
-        Some(Sample::Ints(Kind::Set, &[0]))
-    ),
-    case!(
-        b"toint",
-        Sample::Text(b"+1"),
-        None,
-        Some(Sample::Ints(Kind::Set, &[]))
-    ),
-    case!(
-        b"toint",
-        Sample::Text(b""),
-        None,
-        Some(Sample::Ints(Kind::Set, &[]))
-    ),
-    case!(
-        b"toint",
-        Sample::Text(b"-"),
-        None,
-        Some(Sample::Ints(Kind::Set, &[]))
-    ),
-    case!(
-        b"toint",
-        Sample::Text(b"1 "),
-        None,
-        Some(Sample::Ints(Kind::Set, &[]))
-    ),
-    case!(
-        b"toint",
-        Sample::Text(b"--1"),
-        None,
-        Some(Sample::Ints(Kind::Set, &[]))
-    ),
-    case!(
-        b"toint",
-        Sample::Text(b"\xFF"),
-        None,
-        Some(Sample::Ints(Kind::Set, &[]))
-    ),
-    case!(
-        b"toint",
-        Sample::Text(b"9223372036854775807"),
-        None,
-        Some(Sample::Ints(Kind::Set, &[i64::MAX]))
-    ),
-    case!(
-        b"toint",
-        Sample::Text(b"9223372036854775808"),
-        None,
-        Some(Sample::Ints(Kind::Set, &[]))
-    ),
-    case!(
-        b"toint",
-        Sample::Text(b"-9223372036854775808"),
-        None,
-        Some(Sample::Ints(Kind::Set, &[i64::MIN]))
-    ),
-    case!(
-        b"toint",
-        Sample::Text(b"-9223372036854775809"),
-        None,
-        Some(Sample::Ints(Kind::Set, &[]))
-    ),
-    case!(
-        b"totext",
-        Sample::Int(i64::MIN),
-        None,
-        Some(Sample::Text(b"-9223372036854775808"))
-    ),
-    case!(b"totext", Sample::Int(0), None, Some(Sample::Text(b"0"))),
-    case!(b"totext", Sample::Int(-7), None, Some(Sample::Text(b"-7"))),
-];
+static CASES: [Case; 91] = cases! {
+    b"=" (Int 3) (Int 3) => (Bool true);
+    b"=" (Int 3) (Int 4) => (Bool false);
+    b"=" (List [10]) (List [10]) => (Bool true);
+    b"=" (Set [1]) (Bag [1]) => (Bool false);
+    b"<>" (Text b"a") (Text b"b") => (Bool true);
+    b"<>" (Text b"a") (Text b"a") => (Bool false);
+    b"<" (Int 10) (Int 9) => (Bool false);
+    b"<" (Int 9) (Int 10) => (Bool true);
+    b"<" (Text b"10") (Text b"9") => (Bool true);
+    b"<" (Bool false) (Bool true) => (Bool true);
+    b"<" (Bool true) (Int 0) => (Bool true);
+    b"<" (Bag [9]) (List []) => (Bool true);
+    b"<" (List [1]) (List [1, 0]) => (Bool true);
+    b"<=" (Int 2) (Int 2) => (Bool true);
+    b"<=" (Int 3) (Int 2) => (Bool false);
+    b">" (Int i64::MAX) (Int i64::MIN) => (Bool true);
+    b">" (Int 1) (Int 1) => (Bool false);
+    b">=" (Int 1) (Int 1) => (Bool true);
+    b">=" (Int i64::MIN) (Int i64::MAX) => (Bool false);
+    b"+" (Int 9223372036854775806) (Int 1) => (Int i64::MAX);
+    b"+" (Int i64::MAX) (Int 1) => (Overflow);
+    b"+" (Int i64::MIN) (Int -1) => (Overflow);
+    b"-" (Int -9223372036854775807) (Int 1) => (Int i64::MIN);
+    b"-" (Int i64::MIN) (Int 1) => (Overflow);
+    b"-" (Int 0) (Int i64::MIN) => (Overflow);
+    b"-" (Int 5) (Int 7) => (Int -2);
+    b"*" (Int i64::MIN) (Int 1) => (Int i64::MIN);
+    b"*" (Int i64::MIN) (Int -1) => (Overflow);
+    b"*" (Int 3037000500) (Int 3037000500) => (Overflow);
+    b"*" (Int -3) (Int 4) => (Int -12);
+    b"neg" (Int i64::MAX) => (Int -9223372036854775807);
+    b"neg" (Int i64::MIN) => (Overflow);
+    b"neg" (Int -5) => (Int 5);
+    b"not" (Bool true) => (Bool false);
+    b"not" (Bool false) => (Bool true);
+    b"^" (Text b"ab") (Text b"c") => (Text b"abc");
+    b"^" (Text b"") (Text b"") => (Text b"");
+    b"isempty" (Set []) => (Bool true);
+    b"isempty" (List [0]) => (Bool false);
+    b"count" (Set [3, 1, 3]) => (Int 2);
+    b"count" (Bag [3, 1, 3]) => (Int 3);
+    b"count" (List []) => (Int 0);
+    b"sum" (List [i64::MAX, 1, -1]) => (Int i64::MAX);
+    b"sum" (List [i64::MAX, 1]) => (Overflow);
+    b"sum" (Bag [i64::MIN, -1, 1]) => (Int i64::MIN);
+    b"sum" (Set [2, 2]) => (Int 2);
+    b"sum" (Set []) => (Int 0);
+    b"member" (Int 2) (Set [5, 2, 9]) => (Bool true);
+    b"member" (Int 3) (Set [5, 2, 9]) => (Bool false);
+    b"member" (Int 9) (Bag [9, 1, 9]) => (Bool true);
+    b"member" (Int 1) (List [7, 1]) => (Bool true);
+    b"member" (Int 1) (List []) => (Bool false);
+    b"least" (Set [5, 2, 9]) => (Set [2]);
+    b"least" (List [5, 2, 9]) => (List [2]);
+    b"least" (Bag []) => (Bag []);
+    b"greatest" (Bag [5, 9, 9]) => (Bag [9]);
+    b"greatest" (List [5, 9, 2]) => (List [9]);
+    b"greatest" (List []) => (List []);
+    b"flatten" (List [2, 1], [1]) => (List [2, 1, 1]);
+    b"flatten" (Set [2, 1], [1]) => (Set [1, 2]);
+    b"flatten" (Bag [2, 1], [1]) => (Bag [1, 1, 2]);
+    b"setof" (Bag [2, 1, 1]) => (Set [1, 2]);
+    b"setof" (List [2, 1, 2]) => (Set [1, 2]);
+    b"setof" (Set [2, 1]) => (Set [1, 2]);
+    b"bagof" (List [2, 1, 2]) => (Bag [1, 2, 2]);
+    b"bagof" (Set [2, 1]) => (Bag [1, 2]);
+    b"listof" (Set [2, 1]) => (List [1, 2]);
+    b"listof" (Bag [2, 1, 2]) => (List [1, 2, 2]);
+    b"listof" (List [2, 1]) => (List [2, 1]);
+    b"strlen" (Text b"") => (Int 0);
+    b"strlen" (Text b"a\xFF\0") => (Int 3);
+    b"startswith" (Text b"abc") (Text b"ab") => (Bool true);
+    b"startswith" (Text b"ab") (Text b"abc") => (Bool false);
+    b"startswith" (Text b"a") (Text b"") => (Bool true);
+    b"startswith" (Text b"ba") (Text b"a") => (Bool false);
+    b"toint" (Text b"-12") => (Set [-12]);
+    b"toint" (Text b"007") => (Set [7]);
+    b"toint" (Text b"-0") => (Set [0]);
+    b"toint" (Text b"+1") => (Set []);
+    b"toint" (Text b"") => (Set []);
+    b"toint" (Text b"-") => (Set []);
+    b"toint" (Text b"1 ") => (Set []);
+    b"toint" (Text b"--1") => (Set []);
+    b"toint" (Text b"\xFF") => (Set []);
+    b"toint" (Text b"9223372036854775807") => (Set [i64::MAX]);
+    b"toint" (Text b"9223372036854775808") => (Set []);
+    b"toint" (Text b"-9223372036854775808") => (Set [i64::MIN]);
+    b"toint" (Text b"-9223372036854775809") => (Set []);
+    b"totext" (Int i64::MIN) => (Text b"-9223372036854775808");
+    b"totext" (Int 0) => (Text b"0");
+    b"totext" (Int -7) => (Text b"-7");
+};
 
 fn arguments(alloc: Global, case: &Case) -> Result<Vec<Value>, NoMemory>
     ensures { IfOk result (λ all. All IsCanonical all.items) }

@@ -1,4 +1,4 @@
-use Rattle.std.proofs.Common.{◌≡◌, ◌<◌, ◌++◌, List, codes, length, map, take, refl, sym, ap, subst, ◌∙◌, arith, take_all}
+use Rattle.std.proofs.Common.{◌<◌, ◌++◌, List, codes, length, map, refl, sym, ap, ◌∙◌, arith, take_all}
 use Rattle.std.specs.List.{flat_map}
 use Rattle.kl_value.specs.Written.{text_of, byte_text, with_commas}
 use Rattle.kl_value.specs.declared.Value.{Value}

@@ -1,4 +1,4 @@
-use Rattle.std.proofs.Common.{◌+◌, ◌<◌, [], ◌∷◌, ◌++◌, codes, length, take, sym, ap, arith, take_all}
+use Rattle.std.proofs.Common.{◌+◌, ◌<◌, [], ◌∷◌, ◌++◌, length, take, sym, ap, arith, take_all}
 use Rattle.std.specs.List.{flat_map}
 use Rattle.kl_value.specs.Written.{byte_text}
 use Rattle.kl_exchange.proofs.Printed.{then, shown}

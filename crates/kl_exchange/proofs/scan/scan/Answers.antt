@@ -1,6 +1,6 @@
-use Rattle.std.proofs.Common.{◌≡◌, ◌<◌, length, arith, sym, ◌∙◌, Ok, Err}
+use Rattle.std.proofs.Common.{◌<◌, length, arith, sym, ◌∙◌, Ok}
 use Rattle.kl_exchange.specs.declared.machine.Step.TheVariants as step
-use Rattle.kl_exchange.proofs.Scanning.{scan_step, scan_sound, scan_fails, scan_deep}
+use Rattle.kl_exchange.proofs.Scanning.{scan_step, scan_sound}
 use Rattle.kl_exchange.proofs.scan.scan.Goals as goal
 
 pub bytes-preserved : goal.bytes-preserved

@@ -3,7 +3,7 @@ use Rattle.std.specs.Ordering.{is_ne}
 use Rattle.std.proofs.lemmas.Int.{to_z-of_z}
 use Rattle.kl_prim.specs.Meaning.{truth}
 use Rattle.kl_prim.specs.Table.{Fits, meaning, row_at, rows}
-use Rattle.kl_prim.proofs.TableLemmas.{all_ints, all_nested, answers_by, fits, ints_are, means, nested_are, no_row, reads_ints, reads_nested}
+use Rattle.kl_prim.proofs.TableLemmas.{◌&◌, all_ints, all_nested, answers_by, fits, ints_are, means, nested_are, no_row, reads_ints, reads_nested}
 use Rattle.kl_prim.proofs.primitives.answer.Goals as goal
 
 pub two_values-requires : goal.two_values-requires
@@ -120,7 +120,35 @@ one_int-n-requires-in-26 c = fits c.args.code 26 c.args.args.now c.in-26.is c.re
 
 pub unreachable-requires : goal.unreachable-requires
 unfolding rows
-unreachable-requires c = no_row c.args.code c.args.args.now (λ e. omega arith, (λ e. omega arith, (λ e. omega arith, (λ e. omega arith, (λ e. omega arith, (λ e. omega arith, (λ e. omega arith, (λ e. omega arith, (λ e. omega arith, (λ e. omega arith, (λ e. omega arith, (λ e. omega arith, (λ e. omega arith, (λ e. omega arith, (λ e. omega arith, (λ e. omega arith, (λ e. omega arith, (λ e. omega arith, (λ e. omega arith, (λ e. omega arith, (λ e. omega arith, (λ e. omega arith, (λ e. omega arith, (λ e. omega arith, (λ e. omega arith, (λ e. omega arith, tt)))))))))))))))))))))))))) c.requires.fits
+unreachable-requires c =
+    no_row c.args.code c.args.args.now (
+    (λ e. omega arith) &
+    (λ e. omega arith) &
+    (λ e. omega arith) &
+    (λ e. omega arith) &
+    (λ e. omega arith) &
+    (λ e. omega arith) &
+    (λ e. omega arith) &
+    (λ e. omega arith) &
+    (λ e. omega arith) &
+    (λ e. omega arith) &
+    (λ e. omega arith) &
+    (λ e. omega arith) &
+    (λ e. omega arith) &
+    (λ e. omega arith) &
+    (λ e. omega arith) &
+    (λ e. omega arith) &
+    (λ e. omega arith) &
+    (λ e. omega arith) &
+    (λ e. omega arith) &
+    (λ e. omega arith) &
+    (λ e. omega arith) &
+    (λ e. omega arith) &
+    (λ e. omega arith) &
+    (λ e. omega arith) &
+    (λ e. omega arith) &
+    (λ e. omega arith) &
+    tt) c.requires.fits
 
 pub returns-in-1 : goal.returns-in-1
 unfolding meaning row_at rows

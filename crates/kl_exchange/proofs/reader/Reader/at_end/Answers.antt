@@ -1,4 +1,4 @@
-use Rattle.std.proofs.Common.{◌≡◌, Bool, true, false, drop, None, sym, ap, subst, ◌∙◌, refl}
+use Rattle.std.proofs.Common.{◌≡◌, true, false, drop, sym, ap, subst, ◌∙◌, refl}
 use Rattle.std.specs.List.{list_all}
 use Rattle.kl_exchange.specs.Grammar.{is_blank}
 use Rattle.kl_exchange.specs.Scan.{IsBegun}
