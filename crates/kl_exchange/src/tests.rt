@@ -164,3 +164,21 @@ fn values_are_printed_canonically(rt: HostRuntime) -> Result<(), Fail> {
     printing_laws();
     Ok(())
 }
+
+#[test]
+fn each_byte_is_printed_and_read_back(rt: HostRuntime) -> Result<(), Fail> {
+    let alloc = rt.alloc();
+    let mut bytes = Vec::new(alloc);
+    for byte in 0..=255u8 {
+        bytes.push(byte)?;
+    }
+    let value = Value::Text(Text::of(bytes));
+    let mut sink = MemSink::new(alloc);
+    assert!(rt; print(&value, &mut sink).is_ok());
+    assert_eq!(rt; sink.bytes().len(), 353);
+    let mut reader = Reader::new(alloc);
+    reader.feed(sink.bytes())?;
+    reader.feed(b";")?;
+    assert!(rt; matches!(reader.next(), Ok(Item::Value(read)) if read == value));
+    Ok(())
+}
