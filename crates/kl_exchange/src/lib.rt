@@ -14,8 +14,8 @@
 //! byte at a time: `specs/Machine.antt` says what a byte makes of it, for contracts of private functions. A reader holds
 //! the bytes of the item that is not whole, and what they have come to.
 //!
-//! What `rt plant` lets through here: bodies that answer want of memory, which no contract of this project ties to a
-//! refused growth, and other words in `Display`.
+//! The contracts let through bodies that answer want of memory, which no contract of this project ties to a refused
+//! growth, and other words in `Display`. `rt plant` has not run to its end on this crate yet.
 #![tactic(auto)]
 
 mod error;
