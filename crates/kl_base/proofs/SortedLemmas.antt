@@ -135,7 +135,7 @@ module _ {K : Type 0} (R : K → K → Ordering) (total : IsTotalOrder R) where
         (λ q. sum_by-IsPermutation (λ y. tick (eq_by_cmp R q y)) xs ys moved ∙ sym (count-sorted q xs))
 
 module _ {K : Type 0} (R : K → K → Ordering) (total : IsTotalOrder R) (exact : IsAntisymmetric R) where
-  IsSorted-from_rising : (xs : List K) → IsRising R xs → IsSorted R xs
+  pub IsSorted-from_rising : (xs : List K) → IsRising R xs → IsSorted R xs
   IsSorted-from_rising [] up k d low within = absurd (omega arith)
   IsSorted-from_rising (x ∷ []) up k d low within = absurd (omega arith)
   IsSorted-from_rising (x ∷ y ∷ ys) up zero d low within = ap is_lt (total.antisymm y x) ∙ not_below _ up.0.0
@@ -186,7 +186,7 @@ module _ {K : Type 0} (R : K → K → Ordering) (total : IsTotalOrder R) (exact
       Contains-dedup (eq_by_cmp_equiv total) (λ x y e. exact x y (tied _ e)) (sorted R xs) w
       (contains_from_count w (sorted R xs) (omega (arith, some, count-sorted R total w xs)))
 
-  IsRising-from_strict : (xs : List K) → IsStrictlySortedBy R xs → IsRising R xs
+  pub IsRising-from_strict : (xs : List K) → IsStrictlySortedBy R xs → IsRising R xs
   IsRising-from_strict [] up = tt
   IsRising-from_strict (x ∷ xs) up =
       (all_weaker _ _ (λ y less. ap is_gt less) xs (sorted_head R x xs up), IsRising-from_strict xs (sorted_tail R x xs up))

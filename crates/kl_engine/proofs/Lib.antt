@@ -1,9 +1,10 @@
 pub mod DrawLemmas
 pub mod NumberLemmas
 pub mod ReadyLemmas
-pub mod RunLemmas
 pub mod TextLemmas
-pub mod ItemLemmas
-pub mod DrainLemmas
-pub mod PieceLemmas
+pub mod FaultLemmas
+pub mod PageLemmas
+pub mod MeaningLemmas
+pub mod ProgramLemmas
 pub mod ShowLemmas
+pub mod TopLemmas

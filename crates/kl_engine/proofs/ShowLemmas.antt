@@ -1,284 +1,472 @@
--- The ends of showing a file, each with its verdict.
-use Rattle.std.proofs.Common.{◌≡◌, ◌⊎◌, inl, inr, ℕ, List, [], take, length, nat_le, Option, Some, None, Result, Ok, Err, IsErrOf, refl, sym, ap, subst, ◌∙◌, arith}
+-- How showing a file goes on, and how it ends.
+use Rattle.std.proofs.Common.{◌≡◌, ◌≢◌, ◌⊎◌, ◌≤◌, inl, inr, ℕ, List, [], ◌∷◌, ◌++◌, codes, Bool, true, false, Option, Some, None, Result, Ok, Err, IsOk, IsSome, refl, sym, ap, subst, ◌∙◌, arith, append-nil, append_assoc}
 use Rattle.std.specs.Io.KnownBytes.{append_known}
-use Rattle.kl_outside.specs.Files.{FilesState, Holds, IsMissing, Opens, Closes, OtherFiles, left_at_first}
-use Rattle.kl_outside.specs.Sinks.{SinkState, TookPart}
-use Rattle.kl_outside.specs.declared.stop.Stop.TheVariants as stop
 use Rattle.std.proofs.lemmas.Bool.{cases_eq}
+use Rattle.std.proofs.lemmas.Grind.{flat_map-append}
+use Rattle.kl_base.specs.Counts.{Rose}
+use Rattle.kl_exchange.specs.FileItems.{FileEnd, WholeText, BadAt, TooDeepAt, PastLimit, Shows, most_read, reading}
+use Rattle.kl_exchange.specs.FileReading.{FileReading, Left, HasRead, EndsSo, HeldOut, HandsOut, Fetched, Fetches}
+use Rattle.kl_exchange.specs.Printing.{Puts, as_stop}
+use Rattle.kl_exchange.specs.declared.error.FileError.{FileError}
+use Rattle.kl_exchange.specs.declared.error.FileError.TheVariants as error
+use Rattle.kl_exchange.specs.declared.error.PrintError.{PrintError}
+use Rattle.kl_exchange.specs.declared.error.PrintError.TheVariants as print
+use Rattle.kl_exchange.specs.declared.error.ReadError.{ReadError}
+use Rattle.kl_exchange.specs.declared.error.ReadError.TheVariants as read
+use Rattle.kl_exchange.specs.declared.reader.Item.{Item}
+use Rattle.kl_exchange.specs.declared.reader.Item.TheVariants as item
+use Rattle.kl_exchange.proofs.FileItems.{one_showing}
+use Rattle.kl_exchange.proofs.FileReading.{begins_so, first_shown}
+use Rattle.kl_exchange.proofs.Printed.{then}
+use Rattle.kl_outside.specs.Files.{FilesState, Opens, Closes, OtherFiles, left_at_first}
+use Rattle.kl_outside.specs.Sinks.{SinkState, TookPart}
+use Rattle.kl_outside.specs.declared.stop.Stop.{Stop}
+use Rattle.kl_outside.specs.declared.stop.Stop.TheVariants as stop
 use Rattle.kl_outside.proofs.FileLemmas.{fun_ext}
-use Rattle.kl_outside.proofs.SinkLemmas.{append_known-nil, took_none, took_front}
+use Rattle.kl_outside.proofs.SinkLemmas.{append_known-nil, append_known-append, took_none, took_all, took_front}
+use Rattle.kl_value.specs.Written.{text_of}
 use Rattle.kl_value.specs.declared.value.Value.{Value}
-use Rattle.kl_engine.specs.Faults.{TookLine}
-use Rattle.kl_engine.specs.Run.{Show, Verdict, Usage, Missing, TooLong, NotSmall, Ends, Shown, OfShownFile, OfShownBytes, status_of, line_of, end_status, Answers, IsVerdictStatus, IsShowLine, ShowsFile}
-use Rattle.kl_engine.specs.Showing.{lines, ShowEnd, WholeText, BadAt, TooDeep, PastLimit, Shows, most_shown}
-use Rattle.kl_engine.specs.Shown.{end_of, fault_status, fault_line, Reached, ShowsPath, ShowsRest}
-use Rattle.kl_engine.specs.declared.showing.ShowFault.{ShowFault}
-use Rattle.kl_engine.specs.declared.showing.ShowFault.TheVariants as fault
-use Rattle.kl_engine.proofs.DrainLemmas.{lines-append}
-use Rattle.kl_engine.proofs.ItemLemmas.{first_items, end_has_none, one_showing}
+use Rattle.kl_engine.specs.Answering.{Follows, Does, IsTold, IsOneOf, HasFault}
+use Rattle.kl_engine.specs.Commands.{Show}
+use Rattle.kl_engine.specs.Faults.{Ending}
+use Rattle.kl_engine.specs.Showing.{ShowsItems, Flushes, read_fault, fetch_fault, write_fault}
+use Rattle.kl_engine.specs.Verdict.{Verdict, refused, end_fault, lines, IsFile, IsShowing}
+use Rattle.kl_engine.specs.declared.fault.Fault.{Fault}
+use Rattle.kl_engine.specs.declared.fault.Fault.TheVariants as fault
+use Rattle.kl_engine.proofs.PageLemmas.{line_full}
 
-abbrev Answer : Type 0
-Answer = Result (Unit {0}) ShowFault
+abbrev line : Value → List ℕ
+line v = text_of v ++ codes "\n"
 
-unread : (limit : ℕ) (bytes : List ℕ) (result : Answer) (out : SinkState) → end_of result ≡ None → Reached limit bytes result out out
-unread limit bytes result out none = record {
+lines-append : (vs ws : List Value) → lines (vs ++ ws) ≡ lines vs ++ lines ws
+lines-append vs ws = flat_map-append line vs ws
+
+lines-one : (vs : List Value) (v : Value) → lines (vs ++ v ∷ []) ≡ lines vs ++ line v
+lines-one vs v = lines-append vs (v ∷ []) ∙ ap (λ bs. lines vs ++ bs) (append-nil (line v))
+
+-- the verdict on a file that has these items and this end
+abbrev shown : List Value → FileEnd → Verdict
+shown vs end = record { page = lines vs; ending = end_fault end }
+
+end_told : (end : FileEnd) → IsTold (end_fault end)
+end_told WholeText = tt
+end_told (BadAt place) = tt
+end_told (TooDeepAt place) = tt
+end_told PastLimit = tt
+
+showing_told : (bytes : List ℕ) (v : Verdict) → IsShowing bytes v → IsTold v.ending
+showing_told bytes v of = subst (λ w. IsTold w.ending) (sym of.3) (end_told of.1)
+
+-- all items were printed, and the end was met
+follows_end : (bytes : List ℕ) (vs : List Value) (end : FileEnd) (s0 s : FilesState) (out0 out : SinkState) → Shows most_read bytes vs end → out.taken ≡ append_known out0.taken (lines vs)
+    → (v : Verdict) → IsShowing bytes v → Follows v (end_fault end) s0 s out0 out
+follows_end bytes vs end s0 s out0 out shows took v of =
+    let one = one_showing most_read bytes vs of.0 end of.1 shows of.2 in
+    let same : shown vs end ≡ v = ap (λ ws. shown ws end) one.0 ∙ (ap (λ e. shown of.0 e) one.1 ∙ sym of.3) in
+    subst (λ w. Follows w (end_fault end) s0 s out0 out) same (record {
+      ends = inl refl;
+      whole = λ is. took;
+      part = took_all (lines vs) out0 out took;
+      missing = λ is. absurd (subst IsTold (ap (λ w. w.ending) is) (end_told end));
+    })
+
+end_other : (end : FileEnd) → IsOneOf (HasFault (Show [])) (end_fault end)
+end_other WholeText = tt
+end_other (BadAt place) = tt
+end_other (TooDeepAt place) = tt
+end_other PastLimit = tt
+
+-- the faults do not rest on the path
+as_path : (path : List ℕ) (end : Ending) → IsOneOf (HasFault (Show [])) end → IsOneOf (HasFault (Show path)) end
+as_path path None has = tt
+as_path path (Some fault.Usage) has = has
+as_path path (Some fault.NotSmall) has = has
+as_path path (Some (fault.BadFile place)) has = has
+as_path path (Some fault.Overflow) has = has
+as_path path (Some fault.Read) has = has
+as_path path (Some fault.Write) has = has
+as_path path (Some fault.NoMemory) has = has
+as_path path (Some fault.ProgramBytes) has = has
+as_path path (Some fault.FileBytes) has = has
+as_path path (Some fault.ItemNesting) has = has
+
+-- a fault of the outside, or want of memory, behind some items
+abbrev Cause : Fault → List Value → FilesState → FilesState → SinkState → SinkState → Type 0
+Cause f vs s0 s out0 out =
+    ((f ≡ fault.Read) × Rose s0.faults s.faults) ⊎ ((f ≡ fault.Write) × Rose out0.faults out.faults × (lines vs ≢ [])) ⊎ (f ≡ fault.NoMemory)
+
+no_front : (xs ys : List ℕ) → xs ≢ [] → xs ++ ys ≢ []
+no_front [] ys full is = full refl
+no_front (x ∷ xs) ys full is = cc
+
+unlike : (f : Fault) (vs : List Value) (s0 s : FilesState) (out0 out : SinkState) → Cause f vs s0 s out0 out → IsTold (Some f) → ⊥
+unlike f vs s0 s out0 out cause told = elim cause [
+  | inl h ↦ subst (λ g. IsTold (Some g)) h.0 told
+  | inr (inl h) ↦ subst (λ g. IsTold (Some g)) h.0 told
+  | inr (inr h) ↦ subst (λ g. IsTold (Some g)) h told
+]
+
+stop_other : (f : Fault) (vs : List Value) (s0 s : FilesState) (out0 out : SinkState) → Cause f vs s0 s out0 out → HasFault (Show []) f
+stop_other f vs s0 s out0 out cause = elim cause [
+  | inl h ↦ subst (HasFault (Show [])) (sym h.0) tt
+  | inr (inl h) ↦ subst (HasFault (Show [])) (sym h.0) tt
+  | inr (inr h) ↦ subst (HasFault (Show [])) (sym h) tt
+]
+
+follows_front : (bytes : List ℕ) (vs us : List Value) (f : Fault) (s0 s : FilesState) (out0 out : SinkState) → Cause f vs s0 s out0 out → TookPart (lines vs) out0 out
+    → (v : Verdict) (of : IsShowing bytes v) → of.0 ≡ vs ++ us → Follows v (Some f) s0 s out0 out
+follows_front bytes vs us f s0 s out0 out cause part v of is =
+    let page : v.page ≡ lines vs ++ lines us = ap (λ w. w.page) of.3 ∙ (ap lines is ∙ lines-append vs us) in
+    record {
+      ends = elim cause [
+        | inl h ↦ inr (inl (ap Some h.0, h.1))
+        | inr (inl h) ↦ inr (inr (inl (ap Some h.0, h.1, λ none. no_front (lines vs) (lines us) h.2 (sym page ∙ none))))
+        | inr (inr h) ↦ inr (inr (inr (ap Some h)))
+      ];
+      whole = λ same. absurd (unlike f vs s0 s out0 out cause (subst IsTold (sym same) (showing_told bytes v of)));
+      part = subst (λ bs. TookPart bs out0 out) (sym page) (took_front (lines vs) (lines us) out0 out part);
+      missing = λ same. absurd (subst (λ w. IsTold w.ending) same (showing_told bytes v of));
+    }
+
+-- The file is read on, and nothing else is.
+pub record Stays (file : ℕ) (now : FileReading) (s0 s : FilesState) : Type 0 where
+  pub is_file : now.file ≡ file
+  pub limit : now.limit ≡ most_read
+  pub told : s.told ≡ s0.told
+  pub others : OtherFiles file s0 s
+  pub is_open : IsSome (s.left file)
+  pub later : s0.faults ≤ s.faults
+
+-- So far the lines of all items that were read were printed, but for the bytes that the page holds.
+pub record Going (file : ℕ) (now : FileReading) (s0 s : FilesState) (out0 out : SinkState) (held : List ℕ) (begun : Bool) : Type 0 where
+  pub stays : Stays file now s0 s
+  pub vs : List Value
+  pub read : HasRead (s0.left file) vs now (s.left file)
+  pub done : List ℕ
+  pub all : lines vs ≡ done ++ held
+  pub took : out.taken ≡ append_known out0.taken done
+  pub later : out0.faults ≤ out.faults
+  pub some : begun ≡ true → lines vs ≢ []
+  pub none : begun ≡ false → held ≡ []
+
+pub going_none : (now : FileReading) (s : FilesState) (out : SinkState) → IsSome (s.left now.file) → now.text ≡ reading 0 [] false → now.past ≡ false → now.limit ≡ most_read → Going now.file now s s out out [] false
+going_none now s out is_open is_new unpast limit = record {
+  stays = record { is_file = refl; limit = limit; told = refl; others = λ k ne. refl; is_open = is_open; later = omega arith };
   vs = [];
-  read = [];
-  left = take limit bytes;
-  seen = refl;
-  items = refl;
-  part = took_none [] out out refl;
-  end = λ e is. absurd (let a = none in cc);
+  read = begins_so now (s.left now.file) is_new unpast;
+  done = [];
+  all = refl;
+  took = sym (append_known-nil out.taken);
+  later = omega arith;
+  some = λ is. absurd cc;
+  none = λ is. refl;
 }
 
-pub path_failed : (limit : ℕ) (path : List ℕ) (files files' : FilesState) (out : SinkState) → Opens path (Err stop.Failed) files files' → ShowsPath limit path (Err fault.Read) files files' out out
-path_failed limit path files files' out opens = record {
-  told = opens.told;
-  left = opens.refused;
-  missing = λ missing. (refl, refl);
-  read_fault = λ is. opens.failed refl;
-  write_fault = λ is. absurd cc;
-  reached = λ bytes holds. unread limit bytes (Err fault.Read) out refl;
-}
+module _ (file : ℕ) (new : FileReading) (s0 s : FilesState) (out0 out : SinkState) (vs : List Value) (stays : Stays file new s0 s) where
+  -- the end was met
+  ends_with : (end : FileEnd) → EndsSo (s0.left file) vs end new (s.left file) → out.taken ≡ append_known out0.taken (lines vs) → ShowsItems file (end_fault end) s0 s out0 out
+  ends_with end ends took = record {
+    told = stays.told;
+    others = stays.others;
+    is_open = stays.is_open;
+    later = stays.later;
+    read = λ is. absurd (subst IsTold is (end_told end));
+    write = λ is. absurd (subst IsTold is (end_told end));
+    no_other = end_other end;
+    follows = λ bytes known v of. follows_end bytes vs end s0 s out0 out (shows bytes known) took v of;
+    meant = λ bytes known is. (shown vs end, (vs, end, shows bytes known, refl), refl);
+  }
+    where
+      shows : (bytes : List ℕ) → s0.left file ≡ Some (Some bytes) → Shows most_read bytes vs end
+      shows bytes known = subst (λ n. Shows n bytes vs end) stays.limit (ends.1 bytes known)
 
-pub path_wanted : (limit : ℕ) (path : List ℕ) (files files' : FilesState) (out : SinkState) → Opens path (Err stop.NoMemory) files files' → ShowsPath limit path (Err fault.NoMemory) files files' out out
-path_wanted limit path files files' out opens = record {
-  told = opens.told;
-  left = opens.refused;
-  missing = λ missing. absurd (let a = (opens.missing missing).0 in cc);
-  read_fault = λ is. absurd cc;
-  write_fault = λ is. absurd cc;
-  reached = λ bytes holds. unread limit bytes (Err fault.NoMemory) out refl;
-}
-
--- what is open in the end is what was open at first
-same_left : (file : ℕ) (s0 s1 s2 s3 : FilesState) → s0.left file ≡ None → OtherFiles file s0 s1 → OtherFiles file s1 s2 → OtherFiles file s2 s3 → s3.left file ≡ None → (k : ℕ) → s3.left k ≡ s0.left k
-same_left file s0 s1 s2 s3 fresh a b d closed k = elim (cases_eq k file) [ inl is ↦ ap s3.left is ∙ (closed ∙ (sym fresh ∙ sym (ap s0.left is))) | inr ne ↦ d k ne ∙ (b k ne ∙ a k ne) ]
-
-pub path_shown : (limit : ℕ) (path : List ℕ) (file : ℕ) (result : Answer) (s0 s1 s2 s3 : FilesState) (out out' : SinkState)
-    → Opens path (Ok file) s0 s1 → ShowsRest limit file result s1 s2 out out' → Closes file s2 s3 → ShowsPath limit path result s0 s3 out out'
-path_shown limit path file result s0 s1 s2 s3 out out' opens rest closes = record {
-  told = closes.told ∙ (rest.told ∙ opens.told);
-  left = fun_ext (same_left file s0 s1 s2 s3 opens.fresh opens.others rest.others closes.others closes.closed);
-  missing = λ missing. absurd (let a = (opens.missing missing).0 in cc);
-  read_fault = λ is. inr (let a = opens.later in let b = rest.read_fault is in let c = closes.faults in omega arith);
-  write_fault = rest.write_fault;
-  reached = λ bytes holds. rest.reached bytes (opens.left ∙ ap Some (ap (λ t. left_at_first t path) holds.1 ∙ holds.2));
-}
-
-abbrev answer_status : Answer → ℕ
-answer_status (Ok done) = 0
-answer_status (Err e) = fault_status e
-
-abbrev answer_line : List ℕ → Answer → List ℕ
-answer_line path (Ok done) = []
-answer_line path (Err e) = fault_line path e
-
--- the status and the line of an end
-status_is : (result : Answer) (e : ShowEnd) → end_of result ≡ Some e → answer_status result ≡ end_status e
-status_is (Ok done) e is = ap end_status (let a : WholeText ≡ e = cc in a)
-status_is (Err (fault.Bad p)) e is = ap end_status (let a : BadAt p ≡ e = cc in a)
-status_is (Err fault.TooDeep) e is = ap end_status (let a : TooDeep ≡ e = cc in a)
-status_is (Err fault.TooLong) e is = ap end_status (let a : PastLimit ≡ e = cc in a)
-status_is (Err fault.Read) e is = absurd cc
-status_is (Err fault.Write) e is = absurd cc
-status_is (Err fault.NoMemory) e is = absurd cc
-
-line_is : (path : List ℕ) (vs : List Value) (result : Answer) (e : ShowEnd) → end_of result ≡ Some e → answer_line path result ≡ line_of (Show path) (Shown vs e)
-line_is path vs (Ok done) e is = ap (λ f. line_of (Show path) (Shown vs f)) (let a : WholeText ≡ e = cc in a)
-line_is path vs (Err (fault.Bad p)) e is = ap (λ f. line_of (Show path) (Shown vs f)) (let a : BadAt p ≡ e = cc in a)
-line_is path vs (Err fault.TooDeep) e is = ap (λ f. line_of (Show path) (Shown vs f)) (let a : TooDeep ≡ e = cc in a)
-line_is path vs (Err fault.TooLong) e is = ap (λ f. line_of (Show path) (Shown vs f)) (let a : PastLimit ≡ e = cc in a)
-line_is path vs (Err fault.Read) e is = absurd cc
-line_is path vs (Err fault.Write) e is = absurd cc
-line_is path vs (Err fault.NoMemory) e is = absurd cc
-
-low : (e : ShowEnd) → (end_status e ≡ 0) ⊎ (end_status e ≡ 5) ⊎ (end_status e ≡ 10)
-low WholeText = inl refl
-low (BadAt p) = inr (inl refl)
-low TooDeep = inr (inr refl)
-low PastLimit = inr (inr refl)
-
--- an answer tells of an end, or of one of the three faults
-data Kind (result : Answer) : Type 0 where
-  ends : (e : ShowEnd) → end_of result ≡ Some e → Kind result
-  read : result ≡ Err fault.Read → Kind result
-  write : result ≡ Err fault.Write → Kind result
-  memory : result ≡ Err fault.NoMemory → Kind result
-
-kind : (result : Answer) → Kind result
-kind (Ok done) = Kind.ends WholeText refl
-kind (Err (fault.Bad p)) = Kind.ends (BadAt p) refl
-kind (Err fault.TooDeep) = Kind.ends TooDeep refl
-kind (Err fault.TooLong) = Kind.ends PastLimit refl
-kind (Err fault.Read) = Kind.read refl
-kind (Err fault.Write) = Kind.write refl
-kind (Err fault.NoMemory) = Kind.memory refl
-
-module _ (path : List ℕ) (result : Answer) (files files' : FilesState) (out out' : SinkState) (shows : ShowsPath most_shown path result files files' out out') where
-  -- a file that is told to be missing
-  answers_missing : IsMissing files path → Answers Missing (answer_status result) files files' out out'
-  answers_missing missing =
-      let none = shows.missing missing in
-      let same : out'.taken ≡ append_known out.taken [] = ap (λ s. s.taken) none.1 ∙ sym (append_known-nil out.taken) in
-      record { answer = inl (ap answer_status none.0); whole = λ is. same; part = took_none [] out out' (ap (λ s. s.taken) none.1) }
-
-  module _ (bytes : List ℕ) (holds : Holds files path bytes) where
-    there : IsMissing files path → ⊥
-    there missing = let a : Some missing.0 ≡ Some holds.0 = sym missing.1 ∙ holds.1 in
-        let b : missing.0 ≡ holds.0 = cc in
-        let c : None ≡ Some bytes = sym missing.2 ∙ (ap (λ t. t path) b ∙ holds.2) in
-        cc
-
-    reached : Reached most_shown bytes result out out'
-    reached = shows.reached bytes holds
-
-    found : (e : ShowEnd) → end_of result ≡ Some e → Shows most_shown bytes reached.vs e
-    found e is = record { read = reached.read; left = reached.left; seen = reached.seen; items = reached.items; ends = (reached.end e is).0 }
-
-    -- what was printed is a front of all lines
-    front : (vs : List Value) (e : ShowEnd) → Shows most_shown bytes vs e → TookPart (lines vs) out out'
-    front vs e are =
-        let more = first_items reached.read reached.left are.read are.left reached.vs vs reached.items are.items
-        (end_has_none (length are.read) are.left (nat_le (length bytes) most_shown) e are.ends) (sym reached.seen ∙ are.seen) in
-        subst (λ bs. TookPart bs out out') (sym (ap lines more.1 ∙ lines-append reached.vs more.0)) (took_front (lines reached.vs) (lines more.0) out out' reached.part)
-
-    answers_shown : (vs : List Value) (e : ShowEnd) → Shows most_shown bytes vs e → Answers (Shown vs e) (answer_status result) files files' out out'
-    answers_shown vs e are = go (kind result)
-      where
-        failed : (status : ℕ) → (status ≡ 7) ⊎ (status ≡ 8) ⊎ (status ≡ 9) → answer_status result ≡ status → answer_status result ≡ end_status e → ⊥
-        failed status high is also = let l = low e in omega arith
-
-        go : Kind result → Answers (Shown vs e) (answer_status result) files files' out out'
-        go (Kind.ends f is) =
-            let one = one_showing most_shown bytes vs reached.vs e f are (found f is) in
-            record {
-              answer = inl (status_is result f is ∙ ap end_status (sym one.1));
-              whole = λ same. (reached.end f is).1 ∙ ap (λ ws. append_known out.taken (lines ws)) (sym one.0);
-              part = front vs e are;
-            }
-        go (Kind.read is) = record {
-          answer = inr (inl (ap answer_status is, elim (shows.read_fault is) [ inl missing ↦ absurd (there missing) | inr rose ↦ rose ]));
-          whole = λ same. absurd (failed 7 (inl refl) (ap answer_status is) same);
-          part = front vs e are;
-        }
-        go (Kind.write is) = record {
-          answer = inr (inr (inl (ap answer_status is, shows.write_fault is, tt)));
-          whole = λ same. absurd (failed 8 (inr (inl refl)) (ap answer_status is) same);
-          part = front vs e are;
-        }
-        go (Kind.memory is) = record {
-          answer = inr (inr (inr (ap answer_status is)));
-          whole = λ same. absurd (failed 9 (inr (inr refl)) (ap answer_status is) same);
-          part = front vs e are;
-        }
-
-    line_shown : (vs : List Value) (e : ShowEnd) → Shows most_shown bytes vs e → answer_status result ≡ end_status e → answer_line path result ≡ line_of (Show path) (Shown vs e)
-    line_shown vs e are same = go (kind result)
-      where
-        high : (status : ℕ) → (status ≡ 7) ⊎ (status ≡ 8) ⊎ (status ≡ 9) → answer_status result ≡ status → ⊥
-        high status h is = let l = low e in omega arith
-
-        go : Kind result → answer_line path result ≡ line_of (Show path) (Shown vs e)
-        go (Kind.ends f is) =
-            let one = one_showing most_shown bytes vs reached.vs e f are (found f is) in
-            line_is path vs result f is ∙ ap (λ x. line_of (Show path) (Shown vs x)) (sym one.1)
-        go (Kind.read is) = absurd (high 7 (inl refl) (ap answer_status is))
-        go (Kind.write is) = absurd (high 8 (inr (inl refl)) (ap answer_status is))
-        go (Kind.memory is) = absurd (high 9 (inr (inr refl)) (ap answer_status is))
-
-    verdict_shown : IsVerdictStatus (answer_status result) → (v : Verdict) × OfShownBytes bytes v × (answer_status result ≡ status_of v)
-    verdict_shown is = go (kind result)
-      where
-        high : (status : ℕ) → (status ≡ 7) ⊎ (status ≡ 8) ⊎ (status ≡ 9) → answer_status result ≡ status → ⊥
-        high status h same = omega (arith, is)
-
-        go : Kind result → (v : Verdict) × OfShownBytes bytes v × (answer_status result ≡ status_of v)
-        go (Kind.ends f same) = (Shown reached.vs f, found f same, status_is result f same)
-        go (Kind.read same) = absurd (high 7 (inl refl) (ap answer_status same))
-        go (Kind.write same) = absurd (high 8 (inr (inl refl)) (ap answer_status same))
-        go (Kind.memory same) = absurd (high 9 (inr (inr refl)) (ap answer_status same))
-
-  module _ (told : List ℕ → Option (List ℕ)) (known : files.told ≡ Some told) where
-    answers_of : (file : Option (List ℕ)) → told path ≡ file → (v : Verdict) → OfShownFile file v → Answers v (answer_status result) files files' out out'
-    answers_of None is v of = subst (λ w. Answers w (answer_status result) files files' out out') (sym of) (answers_missing (told, known, is))
-    answers_of (Some bytes) is (Shown vs e) of = answers_shown bytes (told, known, is) vs e of
-    answers_of (Some bytes) is Usage of = absurd of
-    answers_of (Some bytes) is Missing of = absurd of
-    answers_of (Some bytes) is TooLong of = absurd of
-    answers_of (Some bytes) is NotSmall of = absurd of
-    answers_of (Some bytes) is (Ends end) of = absurd of
-
-    verdict_of : (file : Option (List ℕ)) → told path ≡ file → IsVerdictStatus (answer_status result) → (v : Verdict) × OfShownFile file v × (answer_status result ≡ status_of v)
-    verdict_of None is status = absurd (let a : answer_status result ≡ 7 = ap answer_status (shows.missing (told, known, is)).0 in omega (arith, status))
-    verdict_of (Some bytes) is status = verdict_shown bytes (told, known, is) status
-
-    line_told : (file : Option (List ℕ)) → told path ≡ file → (v : Verdict) → OfShownFile file v → answer_status result ≡ status_of v → answer_line path result ≡ line_of (Show path) v
-    line_told None is v of same = ap (answer_line path) (shows.missing (told, known, is)).0 ∙ ap (line_of (Show path)) (sym of)
-    line_told (Some bytes) is (Shown vs e) of same = line_shown bytes (told, known, is) vs e of same
-    line_told (Some bytes) is Usage of same = absurd of
-    line_told (Some bytes) is Missing of same = absurd of
-    line_told (Some bytes) is TooLong of same = absurd of
-    line_told (Some bytes) is NotSmall of same = absurd of
-    line_told (Some bytes) is (Ends end) of same = absurd of
-
-  read_only : (r : Answer) → answer_status r ≡ 7 → IsErrOf r fault.Read
-  read_only (Ok done) is = absurd cc
-  read_only (Err (fault.Bad p)) is = absurd cc
-  read_only (Err fault.TooDeep) is = absurd cc
-  read_only (Err fault.TooLong) is = absurd cc
-  read_only (Err fault.Read) is = refl
-  read_only (Err fault.Write) is = absurd cc
-  read_only (Err fault.NoMemory) is = absurd cc
-
-  write_only : (r : Answer) → answer_status r ≡ 8 → IsErrOf r fault.Write
-  write_only (Ok done) is = absurd cc
-  write_only (Err (fault.Bad p)) is = absurd cc
-  write_only (Err fault.TooDeep) is = absurd cc
-  write_only (Err fault.TooLong) is = absurd cc
-  write_only (Err fault.Read) is = absurd cc
-  write_only (Err fault.Write) is = refl
-  write_only (Err fault.NoMemory) is = absurd cc
-
-  show_line : (r : Answer) → IsShowLine path (answer_status r) (answer_line path r)
-  show_line (Ok done) = IsShowLine.well refl refl
-  show_line (Err (fault.Bad p)) = IsShowLine.bad p refl refl
-  show_line (Err fault.TooDeep) = IsShowLine.nesting refl refl
-  show_line (Err fault.TooLong) = IsShowLine.too_long refl refl
-  show_line (Err fault.Read) = IsShowLine.reading refl refl
-  show_line (Err fault.Write) = IsShowLine.writing refl refl
-  show_line (Err fault.NoMemory) = IsShowLine.memory refl refl
-
-  has_status : (r : Answer) → (answer_status r ≡ 0) ⊎ (answer_status r ≡ 5) ⊎ (answer_status r ≡ 7) ⊎ (answer_status r ≡ 8) ⊎ (answer_status r ≡ 9) ⊎ (answer_status r ≡ 10)
-  has_status (Ok done) = inl refl
-  has_status (Err (fault.Bad p)) = inr (inl refl)
-  has_status (Err fault.TooDeep) = inr (inr (inr (inr (inr refl))))
-  has_status (Err fault.TooLong) = inr (inr (inr (inr (inr refl))))
-  has_status (Err fault.Read) = inr (inr (inl refl))
-  has_status (Err fault.Write) = inr (inr (inr (inl refl)))
-  has_status (Err fault.NoMemory) = inr (inr (inr (inr (inl refl))))
-
-  pub file_shown : (err err' : SinkState) → TookLine (answer_line path result) err err' → ShowsFile path (answer_status result) files files' out out' err err'
-  file_shown err err' line = record {
-    told = λ told known v of. answers_of told known (told path) refl v of;
-    shown = λ told known status. verdict_of told known (told path) refl status;
-    cause = record {
-      usage = (λ is. absurd (let h = has_status result in omega arith), λ is. absurd cc);
-      missing = λ missing. (ap answer_status (shows.missing missing).0, (shows.missing missing).1);
-      read_fault = λ is. shows.read_fault (read_only result is);
-      write_fault = λ is. shows.write_fault (write_only result is);
-      no_other = has_status result;
-      nothing = λ h. absurd h;
-    };
-    closed = record { left = shows.left; told = shows.told };
-    line = record { line = answer_line path result; is = show_line result; took = line };
-    line_told = λ told known v of same. subst (λ bs. TookLine bs err err') (line_told told known (told path) refl v of same) line;
+  -- a fault of the outside came first, or want of memory
+  stops_with : (f : Fault) → HasRead (s0.left file) vs new (s.left file) → TookPart (lines vs) out0 out → Cause f vs s0 s out0 out → ShowsItems file (Some f) s0 s out0 out
+  stops_with f has part cause = record {
+    told = stays.told;
+    others = stays.others;
+    is_open = stays.is_open;
+    later = stays.later;
+    read = λ is. elim cause [ inl h ↦ h.1 | inr (inl h) ↦ absurd (let a = h.0 in cc) | inr (inr h) ↦ absurd cc ];
+    write = λ is. elim cause [ inl h ↦ absurd (let a = h.0 in cc) | inr (inl h) ↦ h.1 | inr (inr h) ↦ absurd cc ];
+    no_other = stop_other f vs s0 s out0 out cause;
+    follows = λ bytes known v of.
+        let front = first_shown (s0.left file) vs of.0 new (s.left file) bytes of.1 has known (subst (λ n. Shows n bytes of.0 of.1) (sym stays.limit) of.2) in
+        follows_front bytes vs front.0 f s0 s out0 out cause part v of front.1;
+    meant = λ bytes known is. absurd (unlike f vs s0 s out0 out cause is);
   }
 
-pub file_shown_well : (path : List ℕ) (done : Unit {0}) (files files' : FilesState) (out out' err : SinkState) → ShowsPath most_shown path (Ok done) files files' out out' → ShowsFile path 0 files files' out out' err err
-file_shown_well path done files files' out out' err shows =
-    file_shown path (Ok done) files files' out out' shows err err (record { part = took_none [] err err refl; whole = inl (sym (append_known-nil err.taken)) })
+  -- a write was refused
+  refused_with : (e : PrintError) → HasRead (s0.left file) vs new (s.left file) → TookPart (lines vs) out0 out → lines vs ≢ [] → (as_stop {T = Unit {0}} (Err e) ≡ Err stop.Failed → Rose out0.faults out.faults) → ShowsItems file (Some (write_fault e)) s0 s out0 out
+  refused_with print.Failed has part full rose = stops_with fault.Write has part (inr (inl (refl, rose refl, full)))
+  refused_with print.NoMemory has part full rose = stops_with fault.NoMemory has part (inr (inr refl))
 
-pub file_shown_fault : (path : List ℕ) (e : ShowFault) (files files' : FilesState) (out out' err err' : SinkState) → ShowsPath most_shown path (Err e) files files' out out' → TookLine (fault_line path e) err err'
-    → ShowsFile path (fault_status e) files files' out out' err err'
-file_shown_fault path e files files' out out' err err' shows line = file_shown path (Err e) files files' out out' shows err err' line
+-- where no item came, the same items were read
+held_has : (first left : Left) (vs : List Value) (new : FileReading) (result : Result Item ReadError) → ((v : Value) → result ≡ Ok (item.Value v) → ⊥) → HeldOut first vs result new left → HasRead first vs new left
+held_has first left vs new (Ok (item.Value v)) none held = absurd (none v refl)
+held_has first left vs new (Ok item.NeedMore) none held = held
+held_has first left vs new (Ok item.End) none held = held.0
+held_has first left vs new (Err (read.Bad place)) none held = held.0
+held_has first left vs new (Err (read.TooDeep place)) none held = held.0
+held_has first left vs new (Err read.NoMemory) none held = held
+
+module _ (file : ℕ) (now : FileReading) (s0 s : FilesState) (out0 out : SinkState) (held : List ℕ) (begun : Bool) (so : Going file now s0 s out0 out held begun) where
+  stays_held : (new : FileReading) (result : Result Item ReadError) → HandsOut result now new → Stays file new s0 s
+  stays_held new result hands = record {
+    is_file = ap (λ r. r.file) hands.same ∙ so.stays.is_file;
+    limit = ap (λ r. r.limit) hands.same ∙ so.stays.limit;
+    told = so.stays.told;
+    others = so.stays.others;
+    is_open = so.stays.is_open;
+    later = so.stays.later;
+  }
+
+  held_out : (new : FileReading) (result : Result Item ReadError) → HandsOut result now new → HeldOut (s0.left file) so.vs result new (s.left file)
+  held_out new result hands = hands.goes (s0.left file) (s.left file) so.vs so.read
+
+  -- a line more goes behind what was printed
+  line_all : {T : Type 0} (v : Value) (result : Result T Stop) (out' : SinkState) (after : List ℕ) (puts : Puts (line v) result out held out' after) → lines (so.vs ++ v ∷ []) ≡ (so.done ++ puts.done) ++ puts.rest
+  line_all v result out' after puts =
+      lines-one so.vs v
+      ∙ (ap (λ bs. bs ++ line v) so.all
+      ∙ (append_assoc so.done held (line v)
+      ∙ (ap (λ bs. so.done ++ bs) puts.all
+      ∙ sym (append_assoc so.done puts.done puts.rest))))
+
+  line_took : {T : Type 0} (v : Value) (result : Result T Stop) (out' : SinkState) (after : List ℕ) (puts : Puts (line v) result out held out' after) → out'.taken ≡ append_known out0.taken (so.done ++ puts.done)
+  line_took v result out' after puts = puts.took ∙ (ap (λ k. append_known k puts.done) so.took ∙ append_known-append out0.taken so.done puts.done)
+
+  lines_full : (v : Value) → lines (so.vs ++ v ∷ []) ≢ []
+  lines_full v none = line_full (lines so.vs ++ text_of v) (append_assoc (lines so.vs) (text_of v) (codes "\n") ∙ (sym (lines-one so.vs v) ∙ none))
+
+  -- an item more was read and printed
+  pub going_value : {T : Type 0} (done : T) (new : FileReading) (v : Value) (out' : SinkState) (after : List ℕ) → HandsOut (Ok (item.Value v)) now new → Puts (line v) (Ok done) out held out' after → Going file new s0 s out0 out' after true
+  going_value done new v out' after hands puts = record {
+    stays = stays_held new (Ok (item.Value v)) hands;
+    vs = so.vs ++ v ∷ [];
+    read = held_out new (Ok (item.Value v)) hands;
+    done = so.done ++ puts.done;
+    all = line_all v (Ok done) out' after puts ∙ ap (λ bs. (so.done ++ puts.done) ++ bs) puts.holds;
+    took = line_took v (Ok done) out' after puts;
+    later = let a = so.later in let b = puts.cause.later in omega arith;
+    some = λ is. lines_full v;
+    none = λ is. absurd cc;
+  }
+
+  pub items_stopped : (e : PrintError) (new : FileReading) (v : Value) (out' : SinkState) (after : List ℕ) → HandsOut (Ok (item.Value v)) now new → Puts (line v) (as_stop {T = Unit {0}} (Err e)) out held out' after → ShowsItems file (Some (write_fault e)) s0 s out0 out'
+  items_stopped e new v out' after hands puts =
+      refused_with file new s0 s out0 out' (so.vs ++ v ∷ []) (stays_held new (Ok (item.Value v)) hands) e (held_out new (Ok (item.Value v)) hands) (record {
+        done = so.done ++ puts.done;
+        rest = puts.rest;
+        all = line_all v (as_stop {T = Unit {0}} (Err e)) out' after puts;
+        took = line_took v (as_stop {T = Unit {0}} (Err e)) out' after puts;
+      }) (lines_full v) (λ is. let a = so.later in let b = puts.cause.failed is in omega arith)
+
+  -- the page was written
+  module _ (out' : SinkState) (after : List ℕ) (flushes : Flushes {T = Unit {0}} begun (Ok tt) held after out out') where
+    flushed : (b : Bool) → begun ≡ b → (out'.taken ≡ append_known out0.taken (lines so.vs)) × (after ≡ []) × (out0.faults ≤ out'.faults)
+    flushed true is =
+        let w = flushes.writes is in (
+          w.0.took ∙ (ap (λ k. append_known k held) so.took ∙ (append_known-append out0.taken so.done held ∙ ap (append_known out0.taken) (sym so.all))),
+          w.1,
+          (let a = so.later in let b = w.0.cause.later in omega arith),
+        )
+    flushed false is =
+        let i = flushes.idle is in (
+          ap (λ o. o.taken) i.2 ∙ (so.took ∙ ap (append_known out0.taken) (sym (so.all ∙ (ap (λ bs. so.done ++ bs) (so.none is) ∙ append-nil so.done)))),
+          i.1 ∙ so.none is,
+          (let a = so.later in let b = ap (λ o. o.faults) i.2 in omega arith),
+        )
+
+    pub going_wait : (new : FileReading) → HandsOut (Ok item.NeedMore) now new → Going file new s0 s out0 out' after false
+    going_wait new hands =
+        let f = flushed begun refl in
+        record {
+          stays = stays_held new (Ok item.NeedMore) hands;
+          vs = so.vs;
+          read = held_out new (Ok item.NeedMore) hands;
+          done = lines so.vs;
+          all = sym (ap (λ bs. lines so.vs ++ bs) f.1 ∙ append-nil (lines so.vs));
+          took = f.0;
+          later = f.2;
+          some = λ is. absurd cc;
+          none = λ is. f.1;
+        }
+
+    pub items_end : (new : FileReading) → HandsOut (Ok item.End) now new → ShowsItems file None s0 s out0 out'
+    items_end new hands = ends_with file new s0 s out0 out' so.vs (stays_held new (Ok item.End) hands) WholeText (held_out new (Ok item.End) hands) (flushed begun refl).0
+
+    pub items_refused : (e : ReadError) (new : FileReading) → HandsOut (Err e) now new → ShowsItems file (Some (read_fault e)) s0 s out0 out'
+    items_refused (read.Bad place) new hands = ends_with file new s0 s out0 out' so.vs (stays_held new (Err (read.Bad place)) hands) (BadAt place) (held_out new (Err (read.Bad place)) hands) (flushed begun refl).0
+    items_refused (read.TooDeep place) new hands = ends_with file new s0 s out0 out' so.vs (stays_held new (Err (read.TooDeep place)) hands) (TooDeepAt place) (held_out new (Err (read.TooDeep place)) hands) (flushed begun refl).0
+    items_refused read.NoMemory new hands = stops_with file new s0 s out0 out' so.vs (stays_held new (Err read.NoMemory) hands) fault.NoMemory (held_out new (Err read.NoMemory) hands) (took_all (lines so.vs) out0 out' (flushed begun refl).0) (inr (inr refl))
+
+  -- writing the page was refused
+  pub items_unflushed : (e : PrintError) (result : Result Item ReadError) (new : FileReading) (out' : SinkState) (after : List ℕ) → ((v : Value) → result ≡ Ok (item.Value v) → ⊥) → HandsOut result now new → Flushes {T = Unit {0}} begun (as_stop (Err e)) held after out out' → ShowsItems file (Some (write_fault e)) s0 s out0 out'
+  items_unflushed e result new out' after no_item hands flushes = go begun refl
+    where
+      not_idle : (f : PrintError) → IsOk (as_stop {T = Unit {0}} (Err f)) → ⊥
+      not_idle print.Failed is = cc
+      not_idle print.NoMemory is = cc
+
+      go : (b : Bool) → begun ≡ b → ShowsItems file (Some (write_fault e)) s0 s out0 out'
+      go true is =
+          let w = (flushes.writes is).0 in
+          refused_with file new s0 s out0 out' so.vs (stays_held new result hands) e (held_has (s0.left file) (s.left file) so.vs new result no_item (held_out new result hands)) (record {
+            done = so.done ++ w.part.done;
+            rest = w.part.rest;
+            all = so.all ∙ (ap (λ bs. so.done ++ bs) w.part.all ∙ sym (append_assoc so.done w.part.done w.part.rest));
+            took = w.part.took ∙ (ap (λ k. append_known k w.part.done) so.took ∙ append_known-append out0.taken so.done w.part.done);
+          }) (so.some is) (λ failed. let a = so.later in let b = w.cause.failed failed in omega arith)
+      go false is = absurd (not_idle e (flushes.idle is).0)
+
+  -- the file was read on
+  module _ (new : FileReading) (t : FilesState) where
+    stays_fetched : (result : Result (Unit {0}) FileError) → Fetches result now new s t → Stays file new s0 t
+    stays_fetched result fetches = record {
+      is_file = ap (λ r. r.file) fetches.same ∙ so.stays.is_file;
+      limit = ap (λ r. r.limit) fetches.same ∙ so.stays.limit;
+      told = fetches.leaves.told ∙ so.stays.told;
+      others = λ k ne. fetches.leaves.others k (λ is. ne (is ∙ so.stays.is_file)) ∙ so.stays.others k ne;
+      is_open = subst (λ n. IsSome (t.left n)) so.stays.is_file fetches.leaves.is_open;
+      later = let a = so.stays.later in let b = fetches.leaves.later in omega arith;
+    }
+
+    came : (result : Result (Unit {0}) FileError) → Fetches result now new s t → Fetched (s0.left file) so.vs result new (t.left file)
+    came result fetches =
+        subst (λ n. Fetched (s0.left file) so.vs result new (t.left n)) so.stays.is_file
+        (fetches.goes (s0.left file) so.vs (subst (λ n. HasRead (s0.left file) so.vs now (s.left n)) (sym so.stays.is_file) so.read))
+
+    pub going_fetched : Fetches (Ok tt) now new s t → Going file new s0 t out0 out held begun
+    going_fetched fetches = record {
+      stays = stays_fetched (Ok tt) fetches;
+      vs = so.vs;
+      read = came (Ok tt) fetches;
+      done = so.done;
+      all = so.all;
+      took = so.took;
+      later = so.later;
+      some = so.some;
+      none = so.none;
+    }
+
+    took_lines : begun ≡ false → out.taken ≡ append_known out0.taken (lines so.vs)
+    took_lines is = so.took ∙ ap (append_known out0.taken) (sym (so.all ∙ (ap (λ bs. so.done ++ bs) (so.none is) ∙ append-nil so.done)))
+
+    pub items_unfetched : begun ≡ false → (e : FileError) → Fetches (Err e) now new s t → ShowsItems file (Some (fetch_fault e)) s0 t out0 out
+    items_unfetched is (error.Bad place) fetches = absurd (came (Err (error.Bad place)) fetches)
+    items_unfetched is (error.TooDeep place) fetches = absurd (came (Err (error.TooDeep place)) fetches)
+    items_unfetched is error.TooLong fetches = ends_with file new s0 t out0 out so.vs (stays_fetched (Err error.TooLong) fetches) PastLimit (came (Err error.TooLong) fetches) (took_lines is)
+    items_unfetched is error.Read fetches =
+        stops_with file new s0 t out0 out so.vs (stays_fetched (Err error.Read) fetches) fault.Read (came (Err error.Read) fetches) (took_all (lines so.vs) out0 out (took_lines is))
+        (inl (refl, (let a = so.stays.later in let b = fetches.leaves.failed refl in omega arith)))
+    items_unfetched is error.NoMemory fetches =
+        stops_with file new s0 t out0 out so.vs (stays_fetched (Err error.NoMemory) fetches) fault.NoMemory (came (Err error.NoMemory) fetches) (took_all (lines so.vs) out0 out (took_lines is)) (inr (inr refl))
+
+-- A line is put by its text and then its end.
+pub puts_line : (result : Result (Unit {0}) PrintError) (text end : List ℕ) (s t v : SinkState) (h k m : List ℕ) → Puts {T = Unit {0}} text (Ok tt) s h t k → Puts end (as_stop result) t k v m → Puts (text ++ end) (as_stop result) s h v m
+puts_line (Ok done) text end s t v h k m p q = (then {us = text} {bs = end} {s = s} {t = t} {v = v} {h = h} {k = k} {m = m} {w = None} {x = None} {y = None} (record { adds = p }) (record { adds = q })).adds
+puts_line (Err print.Failed) text end s t v h k m p q = (then {us = text} {bs = end} {s = s} {t = t} {v = v} {h = h} {k = k} {m = m} {w = None} {x = None} {y = Some stop.Failed} (record { adds = p }) (record { adds = q })).adds
+puts_line (Err print.NoMemory) text end s t v h k m p q = (then {us = text} {bs = end} {s = s} {t = t} {v = v} {h = h} {k = k} {m = m} {w = None} {x = None} {y = Some stop.NoMemory} (record { adds = p }) (record { adds = q })).adds
+
+-- Where the text was refused, nothing more is put.
+pub puts_stopped : (e : PrintError) (text end : List ℕ) (s t : SinkState) (h k : List ℕ) → Puts {T = Unit {0}} text (as_stop (Err e)) s h t k → Puts {T = Unit {0}} (text ++ end) (as_stop (Err e)) s h t k
+puts_stopped print.Failed text end s t h k p = (then {us = text} {bs = end} {s = s} {t = t} {v = t} {h = h} {k = k} {m = k} {w = None} {x = Some stop.Failed} {y = Some stop.Failed} (record { adds = p }) (record { adds = (refl, refl) })).adds
+puts_stopped print.NoMemory text end s t h k p = (then {us = text} {bs = end} {s = s} {t = t} {v = t} {h = h} {k = k} {m = k} {w = None} {x = Some stop.NoMemory} {y = Some stop.NoMemory} (record { adds = p }) (record { adds = (refl, refl) })).adds
+
+-- what a missing file comes to, of which nothing is printed
+missing_follows : (v : Verdict) (f f' : FilesState) (out : SinkState) → v ≡ refused fault.Read → Follows v (Some fault.Read) f f' out out
+missing_follows v f f' out is = record {
+  ends = inl (sym (ap (λ w. w.ending) is));
+  whole = λ end. sym (ap (λ w. append_known out.taken w.page) is ∙ append_known-nil out.taken);
+  part = took_none v.page out out refl;
+  missing = λ same. (refl, refl);
+}
+
+module _ (path : List ℕ) where
+  -- before an item was read
+  unread : (bytes : List ℕ) (fault' : Fault) (f f' : FilesState) (out : SinkState) → Cause fault' [] f f' out out → (v : Verdict) → IsShowing bytes v → Follows v (Some fault') f f' out out
+  unread bytes fault' f f' out cause v of = follows_front bytes [] of.0 fault' f f' out out cause (took_none [] out out refl) v of refl
+
+  pub show_failed : (f f' : FilesState) (out : SinkState) → Opens path (Err stop.Failed) f f' → Does (Show path) (Some fault.Read) f f' out out
+  show_failed f f' out opens = record {
+    told = λ told is v of. file_failed told is (told path) refl v of;
+    meant = λ told is well. absurd well;
+    caused = record {
+      usage = (λ is. absurd cc, λ is. absurd cc);
+      read = λ is. elim (opens.failed refl) [ inl missing ↦ inl (missing.0, missing.1, subst (λ o. IsFile IsShowing o (refused fault.Read)) (sym missing.2) refl) | inr rose ↦ inr rose ];
+      write = λ is. absurd cc;
+      no_other = tt;
+      nothing = λ is. absurd is;
+    };
+    closed = record { left = opens.refused; told = opens.told };
+  }
+    where
+      file_failed : (told : List ℕ → Option (List ℕ)) → f.told ≡ Some told → (file : Option (List ℕ)) → told path ≡ file → (v : Verdict) → IsFile IsShowing file v → Follows v (Some fault.Read) f f' out out
+      file_failed told is None at v of = missing_follows v f f' out of
+      file_failed told is (Some bytes) at v of = unread bytes fault.Read f f' out (inl (
+        refl,
+        elim (opens.failed refl) [
+          | inl missing ↦ absurd (let one : told ≡ missing.0 = let a = sym is ∙ missing.1 in cc in let b = ap (λ t. t path) one in let d = missing.2 in cc)
+          | inr rose ↦ rose
+        ],
+      )) v of
+
+  pub show_wanted : (f f' : FilesState) (out : SinkState) → Opens path (Err stop.NoMemory) f f' → Does (Show path) (Some fault.NoMemory) f f' out out
+  show_wanted f f' out opens = record {
+    told = λ told is v of. file_wanted told is (told path) refl v of;
+    meant = λ told is well. absurd well;
+    caused = record { usage = (λ is. absurd cc, λ is. absurd cc); read = λ is. absurd cc; write = λ is. absurd cc; no_other = tt; nothing = λ is. absurd is };
+    closed = record { left = opens.refused; told = opens.told };
+  }
+    where
+      file_wanted : (told : List ℕ → Option (List ℕ)) → f.told ≡ Some told → (file : Option (List ℕ)) → told path ≡ file → (v : Verdict) → IsFile IsShowing file v → Follows v (Some fault.NoMemory) f f' out out
+      file_wanted told is None at v of = absurd (let a = (opens.missing (told, is, at)).0 in cc)
+      file_wanted told is (Some bytes) at v of = unread bytes fault.NoMemory f f' out (inr (inr refl)) v of
+
+  -- what is open in the end is what was open at first
+  same_left : (file : ℕ) (s0 s1 s2 s3 : FilesState) → s0.left file ≡ None → OtherFiles file s0 s1 → OtherFiles file s1 s2 → OtherFiles file s2 s3 → s3.left file ≡ None → (k : ℕ) → s3.left k ≡ s0.left k
+  same_left file s0 s1 s2 s3 fresh a b d closed k = elim (cases_eq k file) [ inl is ↦ ap s3.left is ∙ (closed ∙ (sym fresh ∙ sym (ap s0.left is))) | inr ne ↦ d k ne ∙ (b k ne ∙ a k ne) ]
+
+  pub show_done : (file : ℕ) (end : Ending) (s0 s1 s2 s3 : FilesState) (out out' : SinkState) → Opens path (Ok file) s0 s1 → ShowsItems file end s1 s2 out out' → Closes file s2 s3 → Does (Show path) end s0 s3 out out'
+  show_done file end s0 s1 s2 s3 out out' opens shows closes = record {
+    told = λ told is v of. file_shown told is (told path) refl v of;
+    meant = λ told is well. file_meant told is (told path) refl well;
+    caused = record {
+      usage = (λ is. absurd (subst (IsOneOf (HasFault (Show []))) is shows.no_other), λ is. absurd cc);
+      read = λ is. inr (rose (shows.read is));
+      write = shows.write;
+      no_other = as_path path end shows.no_other;
+      nothing = λ is. absurd is;
+    };
+    closed = record {
+      left = fun_ext (same_left file s0 s1 s2 s3 opens.fresh opens.others shows.others closes.others closes.closed);
+      told = closes.told ∙ (shows.told ∙ opens.told);
+    };
+  }
+    where
+      rose : Rose s1.faults s2.faults → Rose s0.faults s3.faults
+      rose r = let a = opens.later in let c = closes.faults in omega arith
+
+      at : (told : List ℕ → Option (List ℕ)) → s0.told ≡ Some told → (bytes : List ℕ) → told path ≡ Some bytes → s1.left file ≡ Some (Some bytes)
+      at told is bytes has = opens.left ∙ ap Some (ap (λ t. left_at_first t path) is ∙ has)
+
+      gone : (told : List ℕ → Option (List ℕ)) → s0.told ≡ Some told → told path ≡ None → ⊥
+      gone told is none = let a = (opens.missing (told, is, none)).0 in cc
+
+      file_shown : (told : List ℕ → Option (List ℕ)) → s0.told ≡ Some told → (found : Option (List ℕ)) → told path ≡ found → (v : Verdict) → IsFile IsShowing found v → Follows v end s0 s3 out out'
+      file_shown told is None has v of = absurd (gone told is has)
+      file_shown told is (Some bytes) has v of =
+          let follows = shows.follows bytes (at told is bytes has) v of in
+          record {
+            ends = elim follows.ends [ inl h ↦ inl h | inr (inl h) ↦ inr (inl (h.0, rose h.1)) | inr (inr h) ↦ inr (inr h) ];
+            whole = follows.whole;
+            part = follows.part;
+            missing = follows.missing;
+          }
+
+      file_meant : (told : List ℕ → Option (List ℕ)) → s0.told ≡ Some told → (found : Option (List ℕ)) → told path ≡ found → IsTold end → (v : Verdict) × IsFile IsShowing (told path) v × (v.ending ≡ end)
+      file_meant told is None has well = absurd (gone told is has)
+      file_meant told is (Some bytes) has well =
+          let meant = shows.meant bytes (at told is bytes has) well in
+          (meant.0, subst (λ o. IsFile IsShowing o meant.0) (sym has) meant.1, meant.2)

@@ -1,32 +1,58 @@
--- The lines that tell of faults.
-use Rattle.std.specs.Prelude.{◌≡◌, ◌⊎◌, ℕ, List, ◌++◌, codes, decimal}
+-- The status of each fault, and the line that tells of it.
+use Rattle.std.specs.Prelude.{◌≡◌, ◌⊎◌, ℕ, List, [], ◌∷◌, codes, decimal, Option, Some, None, Result, Ok, Err}
+use Rattle.std.specs.List.{flat_map}
 use Rattle.std.specs.Io.KnownBytes.{append_known}
 use Rattle.kl_outside.specs.Counts.{Rose}
 use Rattle.kl_outside.specs.Sinks.{SinkState, TookPart}
+use Rattle.kl_engine.specs.declared.fault.Fault.{Fault}
+use Rattle.kl_engine.specs.declared.fault.Fault.TheVariants as fault
 
-abbrev pub usage_line : List ℕ
-usage_line = codes "usage: kleisli (run|explain|types|check) PROGRAM [CATALOGUE] [OPTIONS], kleisli show FILE, kleisli gen SEED N\n"
+-- the fault with which a command ended, or none where it ended well
+abbrev pub Ending : Type 0
+Ending = Option Fault
 
--- a source by its name, and the place from which on it is bad
-abbrev pub bad_line : List ℕ → ℕ → List ℕ
-bad_line name place = codes "source " ++ (name ++ (codes ": bad at " ++ (decimal place ++ codes "\n")))
+abbrev pub ending : Result (Unit {0}) Fault → Ending
+ending (Ok done) = None
+ending (Err f) = Some f
 
-abbrev pub read_line : List ℕ
-read_line = codes "read fault\n"
+abbrev pub fault_status : Fault → ℕ
+fault_status fault.Usage = 1
+fault_status fault.NotSmall = 2
+fault_status (fault.BadFile place) = 5
+fault_status fault.Overflow = 6
+fault_status fault.Read = 7
+fault_status fault.Write = 8
+fault_status fault.NoMemory = 9
+fault_status fault.ProgramBytes = 10
+fault_status fault.FileBytes = 10
+fault_status fault.ItemNesting = 10
 
-abbrev pub write_line : List ℕ
-write_line = codes "write fault\n"
+abbrev pub status_of : Ending → ℕ
+status_of None = 0
+status_of (Some f) = fault_status f
 
-abbrev pub memory_line : List ℕ
-memory_line = codes "out of memory\n"
+-- these texts one behind the other
+abbrev pub joined : List (List ℕ) → List ℕ
+joined texts = flat_map (λ t. t) texts
 
-abbrev pub nesting_line : List ℕ
-nesting_line = codes "limit: item nesting\n"
-
-abbrev pub length_line : List ℕ
-length_line = codes "limit: file bytes\n"
+-- the line of a fault, where the words name this path
+abbrev pub fault_line : List ℕ → Fault → List ℕ
+fault_line path fault.Usage = codes "usage: kleisli (run|explain|types|check) PROGRAM [CATALOGUE] [OPTIONS], kleisli show FILE, kleisli gen SEED N\n"
+fault_line path fault.NotSmall = []
+fault_line path (fault.BadFile place) = joined (codes "source " ∷ path ∷ codes ": bad at " ∷ decimal place ∷ codes "\n" ∷ [])
+fault_line path fault.Overflow = codes "overflow\n"
+fault_line path fault.Read = codes "read fault\n"
+fault_line path fault.Write = codes "write fault\n"
+fault_line path fault.NoMemory = codes "out of memory\n"
+fault_line path fault.ProgramBytes = codes "limit: program bytes\n"
+fault_line path fault.FileBytes = codes "limit: file bytes\n"
+fault_line path fault.ItemNesting = codes "limit: item nesting\n"
 
 -- The sink took the line, or a part of it and a count of its refusals rose.
 pub record TookLine (line : List ℕ) (old new : SinkState) : Type 0 where
   pub part : TookPart line old new
   pub whole : (new.taken ≡ append_known old.taken line) ⊎ Rose old.faults new.faults ⊎ Rose old.wants new.wants
+
+abbrev pub line_of : List ℕ → Ending → List ℕ
+line_of path None = []
+line_of path (Some f) = fault_line path f

@@ -1,9 +1,8 @@
 pub mod Meaning
-pub mod Page
 pub mod Faults
+pub mod Commands
+pub mod Verdict
+pub mod Answering
 pub mod Showing
-pub mod Shown
-pub mod Run
-pub mod Words
 pub mod Drawing
 pub mod Listing

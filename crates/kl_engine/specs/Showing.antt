@@ -1,55 +1,51 @@
--- What `show` prints of a file, and where that ends.
-use Rattle.std.specs.Prelude.{◌≡◌, ℕ, ◌+◌, ◌<◌, nat_le, Bool, true, false, List, [], ◌∷◌, ◌++◌, length, take, codes, None}
-use Rattle.std.specs.List.{flat_map}
-use Rattle.kl_exchange.specs.Grammar.{Blank, IsItem}
-use Rattle.kl_exchange.specs.Reading.{nesting, IsBad, IsDeep}
-use Rattle.kl_exchange.specs.State.{State}
-use Rattle.kl_value.specs.Written.{text_of}
-use Rattle.kl_value.specs.declared.value.Value.{Value}
+-- What the private functions of `show` answer. No public contract cites this.
+use Rattle.std.specs.Prelude.{◌≡◌, ℕ, ◌≤◌, Bool, true, false, List, [], Some, Result, IsOk, IsSome}
+use Rattle.kl_exchange.specs.declared.error.FileError.{FileError}
+use Rattle.kl_exchange.specs.declared.error.FileError.TheVariants as error
+use Rattle.kl_exchange.specs.declared.error.PrintError.{PrintError}
+use Rattle.kl_exchange.specs.declared.error.PrintError.TheVariants as print
+use Rattle.kl_exchange.specs.declared.error.ReadError.{ReadError}
+use Rattle.kl_exchange.specs.declared.error.ReadError.TheVariants as read
+use Rattle.kl_outside.specs.Counts.{Rose}
+use Rattle.kl_outside.specs.Files.{FilesState, OtherFiles}
+use Rattle.kl_outside.specs.Sinks.{SinkState, WritesWhole}
+use Rattle.kl_outside.specs.declared.stop.Stop.{Stop}
+use Rattle.kl_engine.specs.Answering.{Follows, IsTold, IsOneOf, HasFault}
+use Rattle.kl_engine.specs.Commands.{Show}
+use Rattle.kl_engine.specs.Faults.{Ending}
+use Rattle.kl_engine.specs.Verdict.{Verdict, IsShowing}
+use Rattle.kl_engine.specs.declared.fault.Fault.{Fault}
+use Rattle.kl_engine.specs.declared.fault.Fault.TheVariants as fault
 
--- how many bytes of a file are looked at
-abbrev pub most_shown : ℕ
-most_shown = 17179869184
+abbrev pub read_fault : ReadError → Fault
+read_fault (read.Bad place) = fault.BadFile place
+read_fault (read.TooDeep place) = fault.ItemNesting
+read_fault read.NoMemory = fault.NoMemory
 
--- one item behind the other
-abbrev pub Items : List ℕ → List Value → Type 0
-Items bytes [] = bytes ≡ []
-Items bytes (v ∷ vs) = (item : List ℕ) × (rest : List ℕ) × (bytes ≡ item ++ rest) × IsItem nesting item v × Items rest vs
+abbrev pub fetch_fault : FileError → Fault
+fetch_fault (error.Bad place) = fault.BadFile place
+fetch_fault (error.TooDeep place) = fault.ItemNesting
+fetch_fault error.TooLong = fault.FileBytes
+fetch_fault error.Read = fault.Read
+fetch_fault error.NoMemory = fault.NoMemory
 
--- the canonical text of each, and a newline
-abbrev pub lines : List Value → List ℕ
-lines vs = flat_map (λ v. text_of v ++ codes "\n") vs
+abbrev pub write_fault : PrintError → Fault
+write_fault print.Failed = fault.Write
+write_fault print.NoMemory = fault.NoMemory
 
--- what stands behind the items that are shown
-pub data ShowEnd : Type 0 where
-  -- white space, up to the file's end
-  WholeText : ShowEnd
-  -- bytes with which the file is no exchange text; its longest front that begins one has this length
-  BadAt : ℕ → ShowEnd
-  -- an item with a bracket too many
-  TooDeep : ShowEnd
-  -- less than an item, up to the greatest number of bytes, and the file has more
-  PastLimit : ShowEnd
+-- A page is written where it has any line.
+pub record Flushes {T : Type 0} (begun : Bool) (result : Result T Stop) (held after : List ℕ) (old new : SinkState) : Type 0 where
+  pub writes : begun ≡ true → WritesWhole held result old new × (after ≡ [])
+  pub idle : begun ≡ false → IsOk result × (after ≡ held) × (new ≡ old)
 
--- the bytes begin an item, and are less than that item
-abbrev pub BeginsItem : List ℕ → Type 0
-BeginsItem bytes = (more : List ℕ) × (v : Value) × (0 < length more) × IsItem nesting (bytes ++ more) v
-
--- so many bytes of items were read, and these are left
-abbrev pub reading : ℕ → List ℕ → Bool → State
-reading place left finished = record { place = place; left = left; finished = finished; refused = None }
-
--- what the bytes left come to
-abbrev pub EndsIn : ℕ → List ℕ → Bool → ShowEnd → Type 0
-EndsIn place left finished WholeText = (finished ≡ true) × Blank left
-EndsIn place left finished (BadAt p) = (k : ℕ) × (p ≡ place + k) × IsBad (reading place left finished) k
-EndsIn place left finished TooDeep = (k : ℕ) × IsDeep (reading place left finished) k
-EndsIn place left finished PastLimit = (finished ≡ false) × BeginsItem left
-
--- Of a file with these bytes, of which at most `limit` are looked at, these values are shown, and then comes this end.
-pub record Shows (limit : ℕ) (bytes : List ℕ) (vs : List Value) (end : ShowEnd) : Type 0 where
-  pub read : List ℕ
-  pub left : List ℕ
-  pub seen : take limit bytes ≡ read ++ left
-  pub items : Items read vs
-  pub ends : EndsIn (length read) left (nat_le (length bytes) limit) end
+-- what an open file has left is shown
+pub record ShowsItems (file : ℕ) (end : Ending) (files files' : FilesState) (out out' : SinkState) : Type 0 where
+  pub told : files'.told ≡ files.told
+  pub others : OtherFiles file files files'
+  pub is_open : IsSome (files'.left file)
+  pub later : files.faults ≤ files'.faults
+  pub read : end ≡ Some fault.Read → Rose files.faults files'.faults
+  pub write : end ≡ Some fault.Write → Rose out.faults out'.faults
+  pub no_other : IsOneOf (HasFault (Show [])) end
+  pub follows : (bytes : List ℕ) → files.left file ≡ Some (Some bytes) → (v : Verdict) → IsShowing bytes v → Follows v end files files' out out'
+  pub meant : (bytes : List ℕ) → files.left file ≡ Some (Some bytes) → IsTold end → (v : Verdict) × IsShowing bytes v × (v.ending ≡ end)

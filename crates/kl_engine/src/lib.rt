@@ -4,12 +4,15 @@
 //! call that always answers 9 meets them, as want of memory is tied to nothing; the tests refuse it.
 #![tactic(auto)]
 
+mod fault;
 mod meaning;
 mod page;
 mod run;
-mod showing;
+mod show;
+mod top;
 
-pub use run::{Answer, kleisli};
+pub use fault::Fault;
+pub use top::{Answer, Purpose, kleisli};
 
 #[cfg(test)]
 mod tests;

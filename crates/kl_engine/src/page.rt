@@ -1,12 +1,29 @@
 //! What is printed.
-ghost use Rattle.std.specs.Prelude.{◌≡◌, ◌++◌, map, codes, IfOk};
+ghost use Rattle.std.specs.Prelude.{◌≡◌, ◌≢◌, [], ◌++◌, map, codes, IfOk};
 ghost use Rattle.std.specs.List.{flat_map};
 ghost use Rattle.kl_value.specs.declared.value.Value.TheVariants as value;
 ghost use Rattle.kl_value.specs.Written.{text_of};
+ghost use Rattle.kl_engine.specs.Answering.{Prints};
+ghost use Rattle.kl_engine.specs.Faults.{ending};
 ghost use Rattle.kl_engine.specs.Listing.{another, listing};
+ghost use Rattle.kl_engine.specs.Verdict.{well};
 
+use crate::fault::Fault;
 use itoa::Buffer;
+use kl_outside::{Sink, Stop, write_whole};
 use std::alloc::{AllocError, Global};
+
+/// Prints a page, which has at least a newline.
+pub(crate) fn print_page<S: Sink>(page: &[u8], out: &mut S) -> Result<(), Fault>
+    requires { page.now ≢ [] }
+    ensures { Prints (well page.now) (ending result) (S.state out.old) (S.state out.new) }
+{
+    match write_whole(out, page) {
+        Ok(()) => Ok(()),
+        Err(Stop::Failed) => Err(Fault::Write),
+        Err(Stop::NoMemory) => Err(Fault::NoMemory),
+    }
+}
 
 /// The canonical text of the set of these numbers, and a newline.
 ///

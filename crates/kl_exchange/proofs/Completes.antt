@@ -21,8 +21,7 @@ use Rattle.kl_exchange.specs.declared.machine.Holder.TheVariants as holder
 use Rattle.kl_exchange.specs.declared.machine.Machine.{Machine}
 use Rattle.kl_exchange.specs.declared.machine.Phase.{Phase}
 use Rattle.kl_exchange.specs.declared.machine.Phase.TheVariants as phase
-use Rattle.kl_exchange.specs.declared.machine.Step.{Step}
-use Rattle.kl_exchange.specs.declared.machine.Step.TheVariants as step
+use Rattle.kl_exchange.specs.Machine.{Step}
 use Rattle.kl_exchange.specs.declared.machine.Stop.{Stop}
 use Rattle.kl_exchange.specs.declared.machine.Stop.TheVariants as stop
 use Rattle.kl_exchange.proofs.Bytes.{digit_below, equal, magnitude_fits, both_true, word_push, lt_from, le_from, at_most_from, unequal, hex_below}
@@ -107,8 +106,8 @@ Completes L st p u w = (n : ℕ) × (n + (pending p + length st) ≡ L) × At n 
 
 -- What one byte comes to is right: what completes the next machine, behind the byte, completes this one.
 abbrev pub Right : ℕ → Brackets → Phase → ℕ → Result Step Stop → Type 0
-Right L st p b (Ok (step.Goes m)) = IsSound L m.stack m.phase × ((u : List ℕ) (w : Value) → Completes L m.stack m.phase u w → Completes L st p (b ∷ u) w)
-Right L st p b (Ok (step.Ends v)) = Completes L st p (b ∷ []) v
+Right L st p b (Ok (Step.Goes m)) = IsSound L m.stack m.phase × ((u : List ℕ) (w : Value) → Completes L m.stack m.phase u w → Completes L st p (b ∷ u) w)
+Right L st p b (Ok (Step.Ends v)) = Completes L st p (b ∷ []) v
 Right L st p b (Err stop.TooDeep) = L ≤ pending p + length st
 Right L st p b (Err e) = ⊤
 
@@ -123,8 +122,8 @@ by_option P (Some x) f p q = p x refl
 -- from one machine to another that completes alike
 through : (L : ℕ) (st to : Brackets) (p q : Phase) (b : ℕ) (o : Result Step Stop) → pending q + length to ≤ pending p + length st
     → ((u : List ℕ) (w : Value) → Completes L to q u w → Completes L st p u w) → Right L to q b o → Right L st p b o
-through L st to p q b (Ok (step.Goes m)) as_deep leads right = (right.0, λ u w c. leads (b ∷ u) w (right.1 u w c))
-through L st to p q b (Ok (step.Ends v)) as_deep leads right = leads (b ∷ []) v right
+through L st to p q b (Ok (Step.Goes m)) as_deep leads right = (right.0, λ u w c. leads (b ∷ u) w (right.1 u w c))
+through L st to p q b (Ok (Step.Ends v)) as_deep leads right = leads (b ∷ []) v right
 through L st to p q b (Err stop.Bad) as_deep leads right = tt
 through L st to p q b (Err stop.TooDeep) as_deep leads right = omega arith
 through L st to p q b (Err stop.NoMemory) as_deep leads right = tt
@@ -777,7 +776,7 @@ module _ (L : ℕ) where
 abbrev pub Lifts : Result Step Stop → Result Step Stop → Type 0
 Lifts (Ok o) other = other ≡ Ok o
 Lifts (Err stop.Bad) other = other ≡ Err stop.Bad
-Lifts (Err stop.TooDeep) other = ((m : Machine) × (other ≡ Ok (step.Goes m))) ⊎ (other ≡ Err stop.TooDeep)
+Lifts (Err stop.TooDeep) other = ((m : Machine) × (other ≡ Ok (Step.Goes m))) ⊎ (other ≡ Err stop.TooDeep)
 Lifts (Err stop.NoMemory) other = other ≡ Err stop.NoMemory
 
 lifts_same : (o : Result Step Stop) → Lifts o o
@@ -850,8 +849,8 @@ module _ (L K : ℕ) (deeper : L ≤ K) where
 
   lifts_followed : (o p : Result Step Stop) (b : ℕ) (bytes : List ℕ) → ((n : Machine) → RunLifts (run L bytes n) (run K bytes n)) → Lifts o p
       → RunLifts (followed o b bytes (λ n. run L bytes n)) (followed p b bytes (λ n. run K bytes n))
-  lifts_followed (Ok (step.Goes m)) p b bytes again lift = rw lift (again m)
-  lifts_followed (Ok (step.Ends v)) p b bytes again lift = rw lift
+  lifts_followed (Ok (Step.Goes m)) p b bytes again lift = rw lift (again m)
+  lifts_followed (Ok (Step.Ends v)) p b bytes again lift = rw lift
   lifts_followed (Err stop.Bad) p b bytes again lift = rw lift
   lifts_followed (Err stop.TooDeep) p b bytes again lift = tt
   lifts_followed (Err stop.NoMemory) p b bytes again lift = rw lift

@@ -1,5 +1,6 @@
 -- Labels in order beside the fields that they come from.
-use Rattle.std.proofs.Common.{◌≡◌, ℕ, Bool, true, false, ◌&&◌, ◌||◌, ◌==◌, List, [], ◌∷◌, ◌++◌, refl, sym, ap, ap₂, ◌∙◌, arith, Ordering, Less, Equal, Greater, nat_eq, true≢false}
+use Rattle.std.proofs.Common.{◌≡◌, ℕ, ◌+◌, ◌<◌, ◌≤◌, length, drop, subst, length-append, drop_of_length-le, Bool, true, false, ◌&&◌, ◌||◌, ◌==◌, List, [], ◌∷◌, ◌++◌, refl, sym, ap, ap₂, ◌∙◌, arith, Ordering, Less, Equal, Greater, nat_eq, true≢false}
+use Rattle.std.proofs.lemmas.List.{drop-append-le}
 use Rattle.std.specs.Ordering.{nat_cmp, ordering_then, match_ordering, is_eq}
 use Rattle.std.specs.List.{list_any}
 use Rattle.std.specs.BTreeMap.{is_at}
@@ -74,3 +75,15 @@ labels_with ks next fs more k v are e f = record {
       ap (list_any (is_at (bytes_cmp l))) e
       ∙ (any_insert l ks k ∙ (ap₂ ◌||◌ (are.same l) (at_is l k) ∙ (sym (has_more l fs k v) ∙ ap (λ gs. has_label gs l) (sym f))));
 }
+
+-- a field more, behind the first sixteen or among them
+pub others_with : {T : Type 0} (ks next : List (List ℕ)) (fs more : List (List ℕ × T)) (k : List ℕ) (v : T) → AreLabels ks (drop 16 fs) → 16 ≤ length fs → next ≡ insert_key bytes_cmp ks k
+    → more ≡ fs ++ (k, v) ∷ [] → AreLabels next (drop 16 more)
+others_with ks next fs more k v are long e f =
+    labels_with ks next (drop 16 fs) (drop 16 more) k v are e (ap (drop 16) f ∙ drop-append-le 16 fs ((k, v) ∷ []) long)
+
+pub few_with : {T : Type 0} (ks next : List (List ℕ)) (fs more : List (List ℕ × T)) (k : List ℕ) (v : T) → AreLabels ks (drop 16 fs) → length fs < 16 → next ≡ ks → more ≡ fs ++ (k, v) ∷ [] → AreLabels next (drop 16 more)
+few_with ks next fs more k v are short e f =
+    let size : length more ≡ length fs + 1 = ap length f ∙ length-append fs ((k, v) ∷ []) in
+    subst (λ ms. AreLabels ms (drop 16 more)) (sym e)
+    (subst (AreLabels ks) (drop_of_length-le fs {i = 16} (omega arith) ∙ sym (drop_of_length-le more {i = 16} (omega arith))) are)

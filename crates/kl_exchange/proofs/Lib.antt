@@ -1,6 +1,9 @@
 pub mod Bytes
 pub mod Canonical
 pub mod Completes
+pub mod Fetching
+pub mod FileItems
+pub mod FileReading
 pub mod LabelSets
 pub mod OneAnswer
 pub mod Pairs
@@ -9,5 +12,6 @@ pub mod ReadsBack
 pub mod Reading
 pub mod Runs
 pub mod Scanning
+pub mod StoredLemmas
 pub mod TextLemmas
 pub mod Totals

@@ -4,7 +4,7 @@ use Rattle.std.specs.List.{list_all}
 use Rattle.kl_value.specs.declared.Value.{Value}
 use Rattle.kl_exchange.specs.Grammar.{is_blank, Blank, IsItem, IsExchange, Begins}
 use Rattle.kl_exchange.specs.Machine.{run, Run, more, ends, fails, deep, start, advanced}
-use Rattle.kl_exchange.specs.Reading.{Gives, Waits, Ends, IsBad, IsDeep, Reads}
+use Rattle.kl_exchange.specs.Reading.{GivesItem, Waits, EndsText, IsBad, IsDeep, ReadsNext}
 use Rattle.kl_exchange.specs.State.{State}
 use Rattle.kl_exchange.specs.declared.machine.Machine.{Machine}
 use Rattle.kl_exchange.specs.declared.machine.Stop.TheVariants as stop
@@ -80,7 +80,7 @@ module _ (old : State) where
   abbrev Answered : Result Item ReadError → State → Type 0
   Answered r new = (r, new) ≡ answer old (run 256 old.left start)
 
-  gives_answer : (v : Value) (new : State) → Gives old v new → Answered (Ok (item.Value v)) new
+  gives_answer : (v : Value) (new : State) → GivesItem old v new → Answered (Ok (item.Value v)) new
   gives_answer v new g =
       let met : run 256 old.left start ≡ ends v new.left = ap (λ bs. run 256 bs start) g.front ∙ run_item 256 256 g.bytes v new.left g.spells (omega arith) in
       let size : length old.left ≡ length g.bytes + length new.left = ap length g.front ∙ length-append g.bytes new.left in
@@ -106,7 +106,7 @@ module _ (old : State) where
   all_blank [] blank = refl
   all_blank (b ∷ bs) blank = rw (blank.0, all_blank bs blank.1)
 
-  ends_answer : (new : State) → Ends old new → Answered (Ok item.End) new
+  ends_answer : (new : State) → EndsText old new → Answered (Ok item.End) new
   ends_answer new w =
       ap (λ s. (Ok item.End, s)) w.same
       ∙ sym (ap (answer old) (run_blank 256 old.left w.blank)
@@ -213,7 +213,7 @@ module _ (old : State) where
   deep_answered place new c same =
       (λ i. (Err (error.TooDeep (c.1 i)), (same ∙ ap (λ p. record old { refused = Some (error.TooDeep p) }) c.1) i)) ∙ deep_place (run 256 old.left start) c.0 refl c.2
 
-  answered : (r : Result Item ReadError) (new : State) → old.refused ≡ None → Reads old r new → r ≢ Err error.NoMemory → Answered r new
+  answered : (r : Result Item ReadError) (new : State) → old.refused ≡ None → ReadsNext old r new → r ≢ Err error.NoMemory → Answered r new
   answered (Ok (item.Value v)) new fresh reads other = gives_answer v new reads
   answered (Ok item.NeedMore) new fresh reads other = waits_answer new reads
   answered (Ok item.End) new fresh reads other = ends_answer new reads
@@ -224,7 +224,7 @@ module _ (old : State) where
   answered (Err error.NoMemory) new fresh reads other = absurd (other refl)
 
   -- what a reader answers once it has refused
-  kept : (e : ReadError) (r : Result Item ReadError) (new : State) → old.refused ≡ Some e → Reads old r new → r ≢ Err error.NoMemory → Same (r, new) (Err e, old)
+  kept : (e : ReadError) (r : Result Item ReadError) (new : State) → old.refused ≡ Some e → ReadsNext old r new → r ≢ Err error.NoMemory → Same (r, new) (Err e, old)
   kept e (Ok (item.Value v)) new refused reads other = absurd (let fresh = reads.fresh in let clash : None ≡ Some e = sym fresh ∙ refused in cc)
   kept e (Ok item.NeedMore) new refused reads other = absurd (let fresh = reads.fresh in let clash : None ≡ Some e = sym fresh ∙ refused in cc)
   kept e (Ok item.End) new refused reads other = absurd (let fresh = reads.fresh in let clash : None ≡ Some e = sym fresh ∙ refused in cc)
@@ -234,7 +234,7 @@ module _ (old : State) where
   kept e (Err (error.TooDeep place)) new refused (inr c) other = absurd (let clash : None ≡ Some e = sym c.0 ∙ refused in cc)
   kept e (Err error.NoMemory) new refused reads other = absurd (other refl)
 
-pub one_answer : (old new other : State) (r s : Result Item ReadError) → Reads old r new → Reads old s other → r ≢ Err error.NoMemory → s ≢ Err error.NoMemory → (r ≡ s) × (new ≡ other)
+pub one_answer : (old new other : State) (r s : Result Item ReadError) → ReadsNext old r new → ReadsNext old s other → r ≢ Err error.NoMemory → s ≢ Err error.NoMemory → (r ≡ s) × (new ≡ other)
 one_answer old new other r s p q f g = both (refusal old.refused refl)
   where
     both : Same (r, new) (s, other) → (r ≡ s) × (new ≡ other)

@@ -4,7 +4,7 @@ use Rattle.std.specs.Prelude.{⊤}
 use Rattle.kl_value.specs.declared.Value.{Value}
 use Rattle.kl_exchange.specs.Grammar.{is_blank, Blank, IsItem, IsExchange, Begins}
 use Rattle.kl_exchange.specs.Machine.{IsSound, advanced, run, Run, more, ends, fails, deep, followed, start}
-use Rattle.kl_exchange.specs.Reading.{NoItem, Gives, Waits, IsBad, IsDeep, Reads}
+use Rattle.kl_exchange.specs.Reading.{NoItem, GivesItem, Waits, IsBad, IsDeep, ReadsNext}
 use Rattle.kl_exchange.specs.State.{State}
 use Rattle.kl_exchange.specs.declared.error.ReadError.{ReadError}
 use Rattle.kl_exchange.specs.declared.error.ReadError.TheVariants as error
@@ -12,8 +12,7 @@ use Rattle.kl_exchange.proofs.Bytes.{both_true}
 use Rattle.std.specs.List.{list_all}
 use Rattle.kl_exchange.specs.Scan.{Keeps, IsBegun}
 use Rattle.kl_exchange.specs.declared.machine.Machine.{Machine}
-use Rattle.kl_exchange.specs.declared.machine.Step.{Step}
-use Rattle.kl_exchange.specs.declared.machine.Step.TheVariants as step
+use Rattle.kl_exchange.specs.Machine.{Step}
 use Rattle.kl_exchange.specs.declared.machine.Stop.{Stop}
 use Rattle.kl_exchange.specs.declared.machine.Stop.TheVariants as stop
 use Rattle.kl_exchange.proofs.Completes.{Completes, Right, right, Lifts, lifts, can_complete, start_item, RunLifts, run_lifts}
@@ -21,30 +20,30 @@ use Rattle.std.proofs.Math.Nat.{suc-add}
 use Rattle.kl_exchange.proofs.Canonical.{item_canonical}
 use Rattle.kl_exchange.proofs.Runs.{extended, run_append, run_item, run_blank}
 
-abbrev CompletesAt : ℕ → Machine → List ℕ → Value → Type 0
+abbrev pub CompletesAt : ℕ → Machine → List ℕ → Value → Type 0
 CompletesAt L m u w = Completes L m.stack m.phase u w
 
 -- the bytes before these can be completed
-abbrev Begun : ℕ → Machine → List ℕ → List ℕ → Stop → Type 0
+abbrev pub Begun : ℕ → Machine → List ℕ → List ℕ → Stop → Type 0
 Begun L m bytes rest why = (front : List ℕ) × (b : ℕ) × (others : List ℕ) × (bytes ≡ front ++ rest) × (rest ≡ b ∷ others)
     × (n : Machine) × (run L front m ≡ more n) × IsSound L n.stack n.phase × ((u : List ℕ) (w : Value) → CompletesAt L n u w → CompletesAt L m (front ++ u) w)
     × (advanced L n.stack n.phase b ≡ Err why)
 
 -- what a run over bytes leads to
-abbrev Reaches : ℕ → Machine → List ℕ → Run → Type 0
+abbrev pub Reaches : ℕ → Machine → List ℕ → Run → Type 0
 Reaches L m bytes (more n) = IsSound L n.stack n.phase × ((u : List ℕ) (w : Value) → CompletesAt L n u w → CompletesAt L m (bytes ++ u) w)
 Reaches L m bytes (ends v rest) = (item : List ℕ) × (bytes ≡ item ++ rest) × CompletesAt L m item v
 Reaches L m bytes (fails rest) = Begun L m bytes rest stop.Bad ⊎ Begun L m bytes rest stop.NoMemory
 Reaches L m bytes (deep rest) = Begun L m bytes rest stop.TooDeep
 
 abbrev Advances : ℕ → Machine → ℕ → Machine → Type 0
-Advances L m b n = advanced L m.stack m.phase b ≡ Ok (step.Goes n)
+Advances L m b n = advanced L m.stack m.phase b ≡ Ok (Step.Goes n)
 
 module _ (L : ℕ) where
-  go_on : (m n : Machine) (b : ℕ) (bytes : List ℕ) → advanced L m.stack m.phase b ≡ Ok (step.Goes n) → run L (b ∷ bytes) m ≡ run L bytes n
+  go_on : (m n : Machine) (b : ℕ) (bytes : List ℕ) → advanced L m.stack m.phase b ≡ Ok (Step.Goes n) → run L (b ∷ bytes) m ≡ run L bytes n
   go_on m n b bytes e = ap (λ o. followed o b bytes (λ k. run L bytes k)) e
 
-  begun_before : (m n : Machine) (b : ℕ) (bytes rest : List ℕ) (why : Stop) → advanced L m.stack m.phase b ≡ Ok (step.Goes n)
+  begun_before : (m n : Machine) (b : ℕ) (bytes rest : List ℕ) (why : Stop) → advanced L m.stack m.phase b ≡ Ok (Step.Goes n)
       → ((u : List ℕ) (w : Value) → CompletesAt L n u w → CompletesAt L m (b ∷ u) w) → Begun L n bytes rest why → Begun L m (b ∷ bytes) rest why
   begun_before m n b bytes rest why e leads c = (
     b ∷ c.0,
@@ -59,7 +58,7 @@ module _ (L : ℕ) where
     c.9,
   )
 
-  reach_before : (m n : Machine) (b : ℕ) (bytes : List ℕ) (o : Run) → advanced L m.stack m.phase b ≡ Ok (step.Goes n)
+  reach_before : (m n : Machine) (b : ℕ) (bytes : List ℕ) (o : Run) → advanced L m.stack m.phase b ≡ Ok (Step.Goes n)
       → ((u : List ℕ) (w : Value) → CompletesAt L n u w → CompletesAt L m (b ∷ u) w) → Reaches L n bytes o → Reaches L m (b ∷ bytes) o
   reach_before m n b bytes (more k) e leads c = (c.0, λ u w d. leads (bytes ++ u) w (c.1 u w d))
   reach_before m n b bytes (ends v rest) e leads c = (b ∷ c.0, ap (λ bs. b ∷ bs) c.1, leads c.0 v c.2)
@@ -73,8 +72,8 @@ module _ (L : ℕ) where
 
   reach_step : (m : Machine) (b : ℕ) (bytes : List ℕ) (o : Result Step Stop) → IsSound L m.stack m.phase → advanced L m.stack m.phase b ≡ o → Right L m.stack m.phase b o
       → ((n : Machine) → IsSound L n.stack n.phase → Reaches L n bytes (run L bytes n)) → Reaches L m (b ∷ bytes) (followed o b bytes (λ n. run L bytes n))
-  reach_step m b bytes (Ok (step.Goes n)) sound e c again = reach_before m n b bytes (run L bytes n) e c.1 (again n c.0)
-  reach_step m b bytes (Ok (step.Ends v)) sound e c again = (b ∷ [], refl, c)
+  reach_step m b bytes (Ok (Step.Goes n)) sound e c again = reach_before m n b bytes (run L bytes n) e c.1 (again n c.0)
+  reach_step m b bytes (Ok (Step.Ends v)) sound e c again = (b ∷ [], refl, c)
   reach_step m b bytes (Err stop.Bad) sound e c again = inl (stopped m b bytes stop.Bad sound e)
   reach_step m b bytes (Err stop.TooDeep) sound e c again = stopped m b bytes stop.TooDeep sound e
   reach_step m b bytes (Err stop.NoMemory) sound e c again = inr (stopped m b bytes stop.NoMemory sound e)
@@ -219,7 +218,7 @@ module _ (left : List ℕ) (m : Machine) (met : run 256 left start ≡ more m) w
 
 -- where an item ends
 pub gives : (old new : State) (v : Value) (rest : List ℕ) → run 256 old.left start ≡ ends v rest → old.refused ≡ None → new.left ≡ rest
-    → new.place ≡ old.place + (length old.left - length rest) → new.finished ≡ old.finished → new.refused ≡ None → Gives old v new
+    → new.place ≡ old.place + (length old.left - length rest) → new.finished ≡ old.finished → new.refused ≡ None → GivesItem old v new
 gives old new v rest met fresh left place finished refused =
     let c = ends_item 256 old.left rest v met in
     record {
@@ -293,7 +292,7 @@ deeper_step n b sound e =
     sound_there : IsSound 257 n.stack n.phase
     sound_there = record { frames = sound.frames; at = sound.at; nesting = let low = sound.nesting in omega arith }
 
-    goes : ((k : Machine) × (advanced 257 n.stack n.phase b ≡ Ok (step.Goes k))) ⊎ (advanced 257 n.stack n.phase b ≡ Err stop.TooDeep)
+    goes : ((k : Machine) × (advanced 257 n.stack n.phase b ≡ Ok (Step.Goes k))) ⊎ (advanced 257 n.stack n.phase b ≡ Err stop.TooDeep)
         → (k : Machine) × (run 257 (b ∷ []) n ≡ more k)
     goes (inl c) = (c.0, go_on 257 n c.0 b [] c.1)
     goes (inr f) = absurd (let high = subst (Right 257 n.stack n.phase b) f (right 257 n.stack n.phase b sound_there) in let low = sound.nesting in omega arith)
@@ -388,7 +387,7 @@ module _ (buffer xs : List ℕ) (from to place : ℕ) (m n : Machine) (keeps : K
 
   pub ends_here : (finished : Bool) (refused : Option ReadError) (v : Value) (count : ℕ)
       → (count ≤ length (take (length xs - to) (drop to xs))) × (run 256 (take (length xs - to) (drop to xs)) n ≡ ends v (drop count (take (length xs - to) (drop to xs))))
-      → refused ≡ None → Gives (seen buffer place from finished refused) v (seen buffer (place + ((to + count) - from)) (to + count) finished refused)
+      → refused ≡ None → GivesItem (seen buffer place from finished refused) v (seen buffer (place + ((to + count) - from)) (to + count) finished refused)
   ends_here finished refused v count e fresh =
       gives (seen buffer place from finished refused) (seen buffer (place + ((to + count) - from)) (to + count) finished refused) v (drop (to + count) buffer)
       (goes_to (ends v (drop (to + count) buffer)) (e.1 ∙ ap (ends v) (behind count))) fresh refl
@@ -402,7 +401,7 @@ module _ (buffer xs : List ℕ) (from to place : ℕ) (m n : Machine) (keeps : K
 
   pub bad_here : (finished : Bool) (refused : Option ReadError) (count : ℕ)
       → (count < length (take (length xs - to) (drop to xs))) × (run 256 (take (length xs - to) (drop to xs)) n ≡ fails (drop count (take (length xs - to) (drop to xs))))
-      → refused ≡ None → Reads (seen buffer place from finished refused) (Err (error.Bad (place + ((to + count) - from))))
+      → refused ≡ None → ReadsNext (seen buffer place from finished refused) (Err (error.Bad (place + ((to + count) - from))))
       (seen buffer place from finished (Some (error.Bad (place + ((to + count) - from)))))
   bad_here finished refused count e fresh =
       let c = fails_begun (drop from buffer) (drop (to + count) buffer) (goes_to (fails (drop (to + count) buffer)) (e.1 ∙ ap fails (behind count))) in
@@ -420,7 +419,7 @@ module _ (buffer xs : List ℕ) (from to place : ℕ) (m n : Machine) (keeps : K
 
   pub deep_here : (finished : Bool) (refused : Option ReadError) (count : ℕ)
       → (count < length (take (length xs - to) (drop to xs))) × (run 256 (take (length xs - to) (drop to xs)) n ≡ deep (drop count (take (length xs - to) (drop to xs))))
-      → refused ≡ None → Reads (seen buffer place from finished refused) (Err (error.TooDeep (place + ((to + count) - from))))
+      → refused ≡ None → ReadsNext (seen buffer place from finished refused) (Err (error.TooDeep (place + ((to + count) - from))))
       (seen buffer place from finished (Some (error.TooDeep (place + ((to + count) - from)))))
   deep_here finished refused count e fresh =
       let met = goes_to (deep (drop (to + count) buffer)) (e.1 ∙ ap deep (behind count)) in
@@ -439,7 +438,7 @@ module _ (buffer xs : List ℕ) (from to place : ℕ) (m n : Machine) (keeps : K
 
 pub bad_end_here : (buffer : List ℕ) (from place len : ℕ) (refused : Option ReadError) (finished : Bool) → IsBegun (drop from buffer) → refused ≡ None → finished ≡ true
     → list_all is_blank (drop from buffer) ≡ false → len ≡ length buffer
-    → Reads (seen buffer place from finished refused) (Err (error.Bad (place + (len - from)))) (seen buffer place from finished (Some (error.Bad (place + (len - from)))))
+    → ReadsNext (seen buffer place from finished refused) (Err (error.Bad (place + (len - from)))) (seen buffer place from finished (Some (error.Bad (place + (len - from)))))
 bad_end_here buffer from place len refused finished begun fresh end text whole =
     let old : State = seen buffer place from finished refused in
     let size : length (drop from buffer) ≡ len - from = omega (arith, length-drop from buffer) in

@@ -9,51 +9,21 @@ use Rattle.std.proofs.lemmas.Bool.Decides.{nat_tests}
 use Rattle.std.proofs.lemmas.Fmt.{decimal_is_IsNumeral}
 use Rattle.std.proofs.lemmas.List.Sorted.{IsPermutation-refl}
 use Rattle.kl_base.specs.Word.{is_word}
-use Rattle.kl_value.specs.Shape.{IsCanonical, IsCanonicalLayer, depth_of, depth_layer, greatest}
+use Rattle.kl_value.specs.IsCanonical.{IsCanonical, IsCanonicalLayer}
+use Rattle.kl_value.specs.Shape.{depth_of, depth_layer, greatest}
 use Rattle.kl_value.specs.Written.{text_of, byte_text, hex_digit, with_commas}
 use Rattle.kl_value.proofs.CanonLemmas.{canonical_only, canonical_list}
 use Rattle.kl_value.proofs.ShapeLemmas.{depth-out}
 use Rattle.kl_value.specs.declared.Kind.TheVariants as kind
-use Rattle.kl_value.specs.declared.Value.{Value, Value-F, out-Value, roll-Value, roll-out-Value, map-Value, every-Value, every_here-Value, every_held-Value}
+use Rattle.kl_value.specs.declared.Value.{Value, Value-F, out-Value, roll-Value, roll-out-Value, every_here-Value}
 use Rattle.kl_value.specs.declared.Value.TheVariants as value
 use Rattle.kl_exchange.specs.Grammar.{Padded, More, Listed, SpellsInt, SpellsByte, SpellsBytes, SpellsPlain, SpellsLabel, SpellsField, SpellsBracket, Spells, IsItem, escape_of}
 use Rattle.kl_exchange.proofs.Bytes.{equal, unequal}
 use Rattle.kl_exchange.specs.Printing.{field_text}
 use Rattle.kl_exchange.specs.Stored.{IsStored, IsStoredLayer}
 use Rattle.kl_exchange.proofs.Pairs.{Pair}
+use Rattle.kl_exchange.proofs.StoredLemmas.{parts, children, stored_here}
 use Rattle.kl_exchange.proofs.TextLemmas.{text-Bool, text-Int, text-Text, text-Rec, text-Inj, text-Set, text-Bag, text-List}
-
--- what stands one level below
-abbrev parts : Value-F Value → List Value
-parts (Value-F.Rec fs) = map (λ f. f.1) fs
-parts (Value-F.Inj l v) = v ∷ []
-parts (Value-F.Set vs) = vs
-parts (Value-F.Bag vs) = vs
-parts (Value-F.List vs) = vs
-parts _ = []
-
-module _ (Q : Value-F Value → Type 0) where
-  abbrev Such : Type 0
-  Such = (v : Value) × every-Value Q v
-
-  each : (es : List Such) → AllByRecursion (every-Value Q) (map (λ e. e.0) es)
-  each [] = tt
-  each (e ∷ es) = (e.1, each es)
-
-  each_field : (es : List (List ℕ × Such)) → AllByRecursion (every-Value Q) (map (λ (f : Pair). f.1) (map (λ (e : List ℕ × Such). (e.0, e.1.0)) es))
-  each_field [] = tt
-  each_field (e ∷ es) = (e.1.1, each_field es)
-
-  kept : (y : Value-F Such) → AllByRecursion (every-Value Q) (parts (map-Value Such Value (λ e. e.0) y))
-  kept (Value-F.Rec es) = each_field es
-  kept (Value-F.Inj l e) = (e.1, tt)
-  kept (Value-F.Set es) = each es
-  kept (Value-F.Bag es) = each es
-  kept (Value-F.List es) = each es
-  kept _ = tt
-
-  children : (v : Value) → every-Value Q v → AllByRecursion (every-Value Q) (parts (out-Value v))
-  children v c = let held = every_held-Value Q v c in subst (λ x. AllByRecursion (every-Value Q) (parts x)) held.1 (kept held.0)
 
 -- numbers
 number_back : (n : ℤ) → FitsSigned w64 n → SpellsInt (signed_decimal n) n
@@ -215,10 +185,6 @@ no_bracket v (Value-F.List vs) e stored deep = absurd (omega arith)
 canonical_here : (v : Value) → IsCanonical v → IsCanonicalLayer (out-Value v) × AllByRecursion IsCanonical (parts (out-Value v))
 unfolding IsCanonical
 canonical_here v c = (every_here-Value IsCanonicalLayer v c, children IsCanonicalLayer v c)
-
-stored_here : (v : Value) → IsStored v → IsStoredLayer (out-Value v) × AllByRecursion IsStored (parts (out-Value v))
-unfolding IsStored
-stored_here v s = (every_here-Value IsStoredLayer v s, children IsStoredLayer v s)
 
 pub text_back : (n : ℕ) (v : Value) → IsCanonical v → IsStored v → depth_of v ≤ n → Spells n (text_of v) v
 text_back zero v c s deep = no_bracket v (out-Value v) refl (stored_here v s).0 (subst (λ d. d ≤ 0) (depth-out v) deep)

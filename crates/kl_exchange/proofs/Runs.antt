@@ -23,8 +23,7 @@ use Rattle.kl_exchange.specs.declared.machine.Holder.{Holder}
 use Rattle.kl_exchange.specs.declared.machine.Holder.TheVariants as holder
 use Rattle.kl_exchange.specs.declared.machine.Phase.{Phase}
 use Rattle.kl_exchange.specs.declared.machine.Phase.TheVariants as phase
-use Rattle.kl_exchange.specs.declared.machine.Step.{Step}
-use Rattle.kl_exchange.specs.declared.machine.Step.TheVariants as step
+use Rattle.kl_exchange.specs.Machine.{Step}
 use Rattle.kl_exchange.specs.declared.machine.Stop.{Stop}
 use Rattle.kl_exchange.specs.declared.machine.Stop.TheVariants as stop
 
@@ -37,8 +36,8 @@ extended L (deep rest) ys = deep (rest ++ ys)
 
 followed_append : (L : ℕ) (o : Result Step Stop) (b : ℕ) (xs ys : List ℕ) → ((m : Machine) → run L (xs ++ ys) m ≡ extended L (run L xs m) ys)
     → followed o b (xs ++ ys) (λ n. run L (xs ++ ys) n) ≡ extended L (followed o b xs (λ n. run L xs n)) ys
-followed_append L (Ok (step.Goes m)) b xs ys again = again m
-followed_append L (Ok (step.Ends v)) b xs ys again = refl
+followed_append L (Ok (Step.Goes m)) b xs ys again = again m
+followed_append L (Ok (Step.Ends v)) b xs ys again = refl
 followed_append L (Err stop.Bad) b xs ys again = refl
 followed_append L (Err stop.TooDeep) b xs ys again = refl
 followed_append L (Err stop.NoMemory) b xs ys again = refl

@@ -1,14 +1,17 @@
 -- The canonical text, shape by shape, and lists of pieces with commas.
-use Rattle.std.proofs.Common.{◌≡◌, ℕ, ℤ, ◌+◌, ◌<◌, suc, zero, Bool, true, false, cond, ◌==◌, List, [], ◌∷◌, ◌++◌, length, map, take, get_or, codes, refl, sym, ap, ◌∙◌, arith, append_assoc, append-nil}
+use Rattle.std.proofs.Common.{◌≡◌, ℕ, ℤ, ◌+◌, ◌-◌, ◌<◌, ◌≤◌, nat_le, nat_lt, suc, zero, Bool, true, false, not, ◌&&◌, ◌||◌, cond, ◌==◌, List, [], ◌∷◌, ◌++◌, length, length-drop, map, take, take_all, drop, get_or, ap₂, codes, refl, sym, ap, ◌∙◌, arith, append_assoc, append-nil}
 use Rattle.std.specs.Fmt.{signed_decimal}
-use Rattle.std.specs.List.{flat_map}
+use Rattle.std.specs.List.{flat_map, list_all}
+use Rattle.std.proofs.lemmas.Grind.{flat_map-append}
+use Rattle.std.proofs.Math.Seq.{take-add}
+use Rattle.kl_exchange.proofs.Bytes.{both_true}
 use Rattle.std.proofs.lemmas.Bool.Decides.{nat_tests}
 use Rattle.std.proofs.Math.Nat.{suc-add}
 use Rattle.kl_value.specs.Written.{byte_text, with_commas, text_layer, text_of}
 use Rattle.kl_value.specs.declared.Value.{Value, Value-F, out-Value, map-Value, fold_out-Value}
 use Rattle.kl_value.specs.declared.Value.TheVariants as value
 use Rattle.kl_exchange.specs.Grammar.{word_of}
-use Rattle.kl_exchange.specs.Printing.{field_text, separator}
+use Rattle.kl_exchange.specs.Printing.{field_text, is_plain, separator}
 
 text-out : (v : Value) → text_of v ≡ text_layer (map-Value Value (List ℕ) text_of (out-Value v))
 unfolding text_of
@@ -83,3 +86,36 @@ bytes_more [] i within = absurd (omega arith)
 bytes_more (b ∷ bs) zero within = append-nil (byte_text b)
 bytes_more (b ∷ bs) (suc i) within =
     rw (suc-add i 1) (ap (λ t. byte_text b ++ t) (bytes_more bs i (omega arith)) ∙ sym (append_assoc (byte_text b) (flat_map byte_text (take i bs)) (byte_text (get_or bs i 0))))
+
+-- a byte that stands as it is
+plain_byte : (b : ℕ) → is_plain b ≡ true → byte_text b ≡ b ∷ []
+plain_byte b plain =
+    let both = both_true ((nat_le 32 b && nat_lt b 127) || nat_le 128 b) (not (b == 34) && not (b == 92)) plain in
+    let marks = both_true (not (b == 34)) (not (b == 92)) both.1 in
+    rw (not_true (b == 34) marks.0, not_true (b == 92) marks.1, controls b both.0 10 (omega arith), controls b both.0 13 (omega arith), controls b both.0 9 (omega arith), both.0)
+  where
+    not_true : (c : Bool) → not c ≡ true → c ≡ false
+    not_true true e = sym e
+    not_true false e = refl
+
+    controls : (b : ℕ) → ((nat_le 32 b && nat_lt b 127) || nat_le 128 b) ≡ true → (k : ℕ) → k < 32 → (b == k) ≡ false
+    controls b e k small = grind (arith, nat_tests, e)
+
+plain_run : (bs : List ℕ) → list_all is_plain bs ≡ true → flat_map byte_text bs ≡ bs
+plain_run [] all = refl
+plain_run (b ∷ bs) all =
+    let both = both_true (is_plain b) (list_all is_plain bs) all in
+    ap₂ ◌++◌ (plain_byte b both.0) (plain_run bs both.1)
+
+-- a run more
+pub run_more : (text : List ℕ) (at count : ℕ) → list_all is_plain (take count (drop at text)) ≡ true → flat_map byte_text (take (at + count) text) ≡ flat_map byte_text (take at text) ++ take count (drop at text)
+run_more text at count all =
+    ap (flat_map byte_text) (take-add at count text)
+    ∙ (flat_map-append byte_text (take at text) (take count (drop at text)) ∙ ap (λ t. flat_map byte_text (take at text) ++ t) (plain_run (take count (drop at text)) all))
+
+pub run_printed : (text : List ℕ) (at count : ℕ) → at ≤ length text → list_all is_plain (take count (take (length text - at) (drop at text))) ≡ true
+    → 34 ∷ flat_map byte_text (take (at + count) text) ≡ 34 ∷ (flat_map byte_text (take at text) ++ take ((at + count) - at) (drop at text))
+run_printed text at count within all =
+    let rest : take (length text - at) (drop at text) ≡ drop at text = take_all (length text - at) (drop at text) (omega (arith, length-drop at text)) in
+    let size : (at + count) - at ≡ count = omega arith in
+    ap (λ t. 34 ∷ t) (run_more text at count (sym (ap (λ t. list_all is_plain (take count t)) rest) ∙ all) ∙ ap (λ n. flat_map byte_text (take at text) ++ take n (drop at text)) (sym size))

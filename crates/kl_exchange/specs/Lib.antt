@@ -1,4 +1,7 @@
 pub mod Fields
+pub mod Fetching
+pub mod FileItems
+pub mod FileReading
 pub mod Gathered
 pub mod Grammar
 pub mod Machine

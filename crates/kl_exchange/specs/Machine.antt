@@ -1,6 +1,6 @@
 -- What one byte makes of what an item's bytes have come to. Only contracts of private functions cite this; what a
 -- reader answers is said by the grammar.
-use Rattle.std.specs.Prelude.{◌≡◌, ℕ, ◌+◌, ◌-◌, ◌*◌, ◌^◌, ◌<◌, ◌≤◌, IsTrue, Bool, true, false, ◌&&◌, ◌==◌, nat_lt, nat_le, cond, List, [], ◌∷◌, ◌++◌, length, ⊤, Option, Some, None, Result, Ok, Err, slice_index}
+use Rattle.std.specs.Prelude.{◌≡◌, ℕ, ◌+◌, ◌-◌, ◌*◌, ◌^◌, ◌<◌, ◌≤◌, IsTrue, Bool, true, false, not, ◌&&◌, ◌==◌, nat_lt, nat_le, cond, List, [], ◌∷◌, ◌++◌, length, ⊤, Option, Some, None, Result, Ok, Err, slice_index}
 use Rattle.std.specs.Char.{is_ascii_digit, is_ascii_alphabetic, is_ascii_hexdigit, digit_value}
 use Rattle.std.specs.List.{AllByRecursion}
 use Rattle.kl_base.specs.Word.{is_word, is_word_byte, label_of}
@@ -20,26 +20,40 @@ use Rattle.kl_exchange.specs.declared.machine.Phase.{Phase}
 use Rattle.kl_exchange.specs.declared.machine.Phase.TheVariants as phase
 use Rattle.kl_exchange.specs.declared.machine.Holder.{Holder}
 use Rattle.kl_exchange.specs.declared.machine.Holder.TheVariants as holder
-use Rattle.kl_exchange.specs.declared.machine.Step.{Step}
-use Rattle.kl_exchange.specs.declared.machine.Step.TheVariants as step
+use Rattle.kl_exchange.specs.declared.machine.Next.{Next}
+use Rattle.kl_exchange.specs.declared.machine.Next.TheVariants as next
 use Rattle.kl_exchange.specs.declared.machine.Stop.{Stop}
 use Rattle.kl_exchange.specs.declared.machine.Stop.TheVariants as stop
 
--- what a function answers, unless memory runs out
-abbrev pub Gives : {T : Type 0} → Result T Stop → Result T Stop → Type 0
-Gives (Ok x) said = said ≡ Ok x
-Gives (Err stop.Bad) said = said ≡ Err stop.Bad
-Gives (Err stop.TooDeep) said = said ≡ Err stop.TooDeep
-Gives (Err stop.NoMemory) said = ⊤
+-- what a byte makes of a machine
+pub data Step : Type 0 where
+  Goes : Machine → Step
+  -- the byte ends the item
+  Ends : Value → Step
 
 abbrev pub Brackets : Type 0
 Brackets = List Frame
 
 abbrev pub goes : Brackets → Phase → Result Step Stop
-goes st p = Ok (step.Goes (record { stack = st; phase = p }))
+goes st p = Ok (Step.Goes (record { stack = st; phase = p }))
 
 abbrev pub bad : Result Step Stop
 bad = Err stop.Bad
+
+-- before an item
+abbrev pub start : Machine
+start = record { stack = []; phase = phase.Value }
+
+abbrev pub going : Phase → Result Next Stop
+going p = Ok (next.Goes p)
+
+-- What a function answers, and the stack that it leaves, are what is said, unless memory runs out.
+abbrev pub LeadsOn : Brackets → Result Next Stop → Result Step Stop → Type 0
+LeadsOn st (Ok (next.Goes p)) said = said ≡ goes st p
+LeadsOn st (Ok (next.Ends v)) said = (said ≡ Ok (Step.Ends v)) × (st ≡ [])
+LeadsOn st (Err stop.Bad) said = said ≡ bad
+LeadsOn st (Err stop.TooDeep) said = said ≡ Err stop.TooDeep
+LeadsOn st (Err stop.NoMemory) said = ⊤
 
 abbrev pub has_named : Holder → List ℕ → Bool
 has_named (holder.Record fields) l = has_label fields l
@@ -159,7 +173,7 @@ unfoldable pub after_value : Brackets → Value → ℕ → Result Step Stop
 after_value st v b = cond (is_blank b) (goes st (phase.After v)) (behind st)
   where
     behind : Brackets → Result Step Stop
-    behind [] = cond (b == 59) (Ok (step.Ends v)) bad
+    behind [] = cond (b == 59) (Ok (Step.Ends v)) bad
     behind (frame.Items k items ∷ st) = after_item st k (items ++ v ∷ []) b
     behind (frame.Field fields l ∷ st) = after_field st (fields ++ (l, v) ∷ []) b
     behind (frame.Variant l ∷ st) = cond (b == 62) (goes st (phase.After (value.Inj l v))) bad
@@ -253,8 +267,8 @@ pub data Run : Type 0 where
   deep : List ℕ → Run
 
 abbrev pub followed : Result Step Stop → ℕ → List ℕ → (Machine → Run) → Run
-followed (Ok (step.Goes m)) b bytes go = go m
-followed (Ok (step.Ends v)) b bytes go = ends v bytes
+followed (Ok (Step.Goes m)) b bytes go = go m
+followed (Ok (Step.Ends v)) b bytes go = ends v bytes
 followed (Err stop.Bad) b bytes go = fails (b ∷ bytes)
 followed (Err stop.TooDeep) b bytes go = deep (b ∷ bytes)
 followed (Err stop.NoMemory) b bytes go = fails (b ∷ bytes)
@@ -263,6 +277,24 @@ abbrev pub run : ℕ → List ℕ → Machine → Run
 run L [] m = more m
 run L (b ∷ bytes) m = followed (advanced L m.stack m.phase b) b bytes (λ n. run L bytes n)
 
--- before an item
-abbrev pub start : Machine
-start = record { stack = []; phase = phase.Value }
+-- The machine takes a byte, unless memory runs out. Behind an item's last byte it stands before the next item.
+abbrev pub Advances : Machine → Result (Option Value) Stop → Result Step Stop → Type 0
+Advances now (Ok None) said = said ≡ Ok (Step.Goes now)
+Advances now (Ok (Some v)) said = (said ≡ Ok (Step.Ends v)) × (now ≡ start)
+Advances now (Err stop.Bad) said = said ≡ bad
+Advances now (Err stop.TooDeep) said = said ≡ Err stop.TooDeep
+Advances now (Err stop.NoMemory) said = ⊤
+
+-- a byte that stands for itself in a text
+abbrev pub is_plain : ℕ → Bool
+is_plain b = not (b == 34) && not (b == 92)
+
+-- a blank changes nothing
+abbrev pub stays_on_blank : Phase → Bool
+stays_on_blank phase.Value = true
+stays_on_blank (phase.Opened k) = true
+stays_on_blank phase.RecordOpened = true
+stays_on_blank (phase.Label h) = true
+stays_on_blank (phase.Named h l) = true
+stays_on_blank (phase.After v) = true
+stays_on_blank _ = false

@@ -1,5 +1,5 @@
 -- What printing through a page does to a sink.
-use Rattle.std.specs.Prelude.{◌≡◌, ℕ, List, ◌++◌, codes, Result, Ok, Err, OnOk, Option, Some, None, cond, ◌==◌, []}
+use Rattle.std.specs.Prelude.{◌≡◌, ℕ, Bool, not, ◌&&◌, ◌||◌, nat_le, nat_lt, List, ◌++◌, codes, Result, Ok, Err, OnOk, Option, Some, None, cond, ◌==◌, []}
 use Rattle.std.specs.Io.KnownBytes.{append_known}
 use Rattle.kl_outside.specs.Sinks.{SinkState, HasCause}
 use Rattle.kl_outside.specs.declared.Stop.{Stop}
@@ -15,6 +15,10 @@ as_stop (Ok x) = Ok x
 as_stop (Err error.Failed) = Err stop.Failed
 as_stop (Err error.NoMemory) = Err stop.NoMemory
 
+abbrev pub error_of : Stop → PrintError
+error_of stop.Failed = error.Failed
+error_of stop.NoMemory = error.NoMemory
+
 abbrev pub field_text : List ℕ × Value → List ℕ
 field_text f = (f.0 ++ codes "=") ++ text_of f.1
 
@@ -22,7 +26,7 @@ field_text f = (f.0 ++ codes "=") ++ text_of f.1
 abbrev pub separator : ℕ → List ℕ
 separator place = cond (place == 0) [] (codes ", ")
 
--- The sink took the first of the bytes that were held and of these. Where nothing was refused the others are held.
+-- The sink took the first of the bytes that were held and of these. Where nothing was refused the others are held now.
 pub record Puts {T : Type 0} (bytes : List ℕ) (result : Result T Stop) (old : SinkState) (held : List ℕ) (new : SinkState) (after : List ℕ) : Type 0 where
   pub done : List ℕ
   pub rest : List ℕ
@@ -42,3 +46,7 @@ Adds (Some e) bytes old held new after stopped = (stopped ≡ Some e) × (new �
 -- Bytes are printed, unless the sink has stopped: then nothing more is written.
 pub record Prints (bytes : List ℕ) (old : SinkState) (held : List ℕ) (before : Option Stop) (new : SinkState) (after : List ℕ) (stopped : Option Stop) : Type 0 where
   pub adds : Adds before bytes old held new after stopped
+
+-- a byte that stands as it is in a text
+abbrev pub is_plain : ℕ → Bool
+is_plain b = ((nat_le 32 b && nat_lt b 127) || nat_le 128 b) && (not (b == 34) && not (b == 92))

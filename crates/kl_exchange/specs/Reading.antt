@@ -1,6 +1,6 @@
 -- What a reader of exchange text knows, and what it answers.
 use Rattle.std.specs.Prelude.{◌≡◌, ℕ, ◌+◌, ◌<◌, ◌≤◌, true, false, List, [], ◌++◌, length, take, ◌⊎◌, IsTrue, Some, None, Result, Ok, Err}
-use Rattle.kl_value.specs.Shape.{IsCanonical}
+use Rattle.kl_value.specs.IsCanonical.{IsCanonical}
 use Rattle.kl_value.specs.declared.Value.{Value}
 use Rattle.kl_exchange.specs.Grammar.{Blank, IsItem, IsExchange, Begins}
 use Rattle.kl_exchange.specs.declared.error.ReadError.{ReadError}
@@ -14,7 +14,7 @@ abbrev pub nesting : ℕ
 nesting = 256
 
 -- An item stands whole at the front of the bytes left. The answer is its value, and the bytes behind it are left.
-pub record Gives (old : State) (v : Value) (new : State) : Type 0 where
+pub record GivesItem (old : State) (v : Value) (new : State) : Type 0 where
   pub fresh : old.refused ≡ None
   pub bytes : List ℕ
   pub front : old.left ≡ bytes ++ new.left
@@ -35,7 +35,7 @@ pub record Waits (old new : State) : Type 0 where
   pub same : new ≡ old
 
 -- No more bytes come, and only white space is left.
-pub record Ends (old new : State) : Type 0 where
+pub record EndsText (old new : State) : Type 0 where
   pub fresh : old.refused ≡ None
   pub finished : old.finished ≡ true
   pub blank : Blank old.left
@@ -67,10 +67,10 @@ pub record IsDeep (old : State) (k : ℕ) : Type 0 where
 abbrev pub Refuses : State → ReadError → Type 0 → State → Type 0
 Refuses old e cause new = ((old.refused ≡ Some e) × (new ≡ old)) ⊎ ((old.refused ≡ None) × cause × (new ≡ record old { refused = Some e }))
 
-abbrev pub Reads : State → Result Item ReadError → State → Type 0
-Reads old (Ok (item.Value v)) new = Gives old v new
-Reads old (Ok item.NeedMore) new = Waits old new
-Reads old (Ok item.End) new = Ends old new
-Reads old (Err (error.Bad place)) new = Refuses old (error.Bad place) ((k : ℕ) × (place ≡ old.place + k) × IsBad old k) new
-Reads old (Err (error.TooDeep place)) new = Refuses old (error.TooDeep place) ((k : ℕ) × (place ≡ old.place + k) × IsDeep old k) new
-Reads old (Err error.NoMemory) new = new ≡ old
+abbrev pub ReadsNext : State → Result Item ReadError → State → Type 0
+ReadsNext old (Ok (item.Value v)) new = GivesItem old v new
+ReadsNext old (Ok item.NeedMore) new = Waits old new
+ReadsNext old (Ok item.End) new = EndsText old new
+ReadsNext old (Err (error.Bad place)) new = Refuses old (error.Bad place) ((k : ℕ) × (place ≡ old.place + k) × IsBad old k) new
+ReadsNext old (Err (error.TooDeep place)) new = Refuses old (error.TooDeep place) ((k : ℕ) × (place ≡ old.place + k) × IsDeep old k) new
+ReadsNext old (Err error.NoMemory) new = new ≡ old

@@ -8,12 +8,12 @@ use Rattle.kl_exchange.specs.declared.scan.Scanned.TheVariants as scanned
 use Rattle.kl_exchange.specs.declared.scan.Halt.{Halt}
 use Rattle.kl_exchange.specs.declared.scan.Halt.TheVariants as halt
 
-abbrev pub Scans : List ℕ → Result Scanned Halt → Run → Type 0
-Scans bytes (Ok (scanned.More m)) o = o ≡ more m
-Scans bytes (Ok (scanned.Ends v count)) o = (count ≤ length bytes) × (o ≡ ends v (drop count bytes))
-Scans bytes (Err (halt.Bad count)) o = (count < length bytes) × (o ≡ fails (drop count bytes))
-Scans bytes (Err (halt.TooDeep count)) o = (count < length bytes) × (o ≡ deep (drop count bytes))
-Scans bytes (Err halt.NoMemory) o = ⊤
+abbrev pub Scans : List ℕ → Machine → Result Scanned Halt → Run → Type 0
+Scans bytes now (Ok scanned.More) o = o ≡ more now
+Scans bytes now (Ok (scanned.Ends v count)) o = (count ≤ length bytes) × (o ≡ ends v (drop count bytes)) × (now ≡ start)
+Scans bytes now (Err (halt.Bad count)) o = (count < length bytes) × (o ≡ fails (drop count bytes))
+Scans bytes now (Err (halt.TooDeep count)) o = (count < length bytes) × (o ≡ deep (drop count bytes))
+Scans bytes now (Err halt.NoMemory) o = ⊤
 
 -- The bytes of the buffer from one place to another have come to this machine, and no count can pass its type.
 pub record Keeps (buffer : List ℕ) (from to place : ℕ) (m : Machine) : Type 0 where

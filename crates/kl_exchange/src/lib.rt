@@ -19,17 +19,20 @@
 #![tactic(auto)]
 
 mod error;
+mod file_reader;
 mod gathered;
 mod laws;
 mod machine;
+mod memo;
 mod printing;
 mod reader;
 mod scan;
 mod stack;
 
-pub use error::{PrintError, ReadError};
-pub use laws::{printing_laws, reading_laws};
-pub use printing::print;
+pub use error::{FileError, PrintError, ReadError};
+pub use file_reader::{FileReader, MOST_READ};
+pub use laws::{file_laws, reading_laws};
+pub use printing::{Page, print};
 pub use reader::{Item, Reader};
 
 #[cfg(test)]

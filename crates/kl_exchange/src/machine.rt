@@ -5,13 +5,16 @@ ghost use Rattle.kl_exchange.specs.Fields.{fields_of};
 ghost use Rattle.kl_exchange.specs.Grammar.{is_blank, signed, word_of, escape_of};
 ghost use Rattle.std.specs.List.{AllByRecursion};
 ghost use Rattle.kl_base.specs.Fields.{LabelsDiffer};
-ghost use Rattle.kl_exchange.specs.Machine.{IsSound, IsSoundFrame, Gives, goes, opens, value_due, closes, ends_closing, opened, behind_brace, behind_bracket, label_due, record_opened, named, in_name, in_word, behind_minus, after_item, after_field, after_value, in_digits, in_text, behind_escape, hex_due, low_hex_due, advanced, start, has_named, frame_of, first_of_close, last_of_close, greatest_magnitude, with_digit, hex_of};
+ghost use Rattle.kl_base.specs.Word.{is_word};
+ghost use Rattle.kl_exchange.specs.Machine.{IsSound, IsSoundFrame, LeadsOn, Advances, Brackets, going, opens, value_due, closes, ends_closing, opened, behind_brace, behind_bracket, label_due, record_opened, named, in_name, in_word, behind_minus, after_item, after_field, after_value, in_digits, in_text, behind_escape, hex_due, low_hex_due, advanced, start, has_named, frame_of, first_of_close, last_of_close, greatest_magnitude, with_digit, hex_of};
 
-use crate::gathered::{Gathered, with_last};
+use crate::gathered::{Gathered, Growing};
+use crate::memo::Memo;
 use crate::stack::Stack;
 use kl_base::{Box, Label, NoMemory, Seq, Text};
 use kl_value::{Fields, Kind, Value, canon};
 use std::alloc::Global;
+use std::mem;
 
 /// How many brackets may be open.
 pub const NESTING_LIMIT: usize = 256;
@@ -20,7 +23,7 @@ pub const NESTING_LIMIT: usize = 256;
 #[derive(Debug, Drop)]
 pub enum Frame {
     /// The items so far of a collection.
-    Items(Kind, Seq<Value>),
+    Items(Kind, Growing<Value>),
     /// The fields so far of a record, as they came, and the label of the value.
     Field(Gathered<Value>, Label),
     /// The label of a variant.
@@ -59,7 +62,7 @@ pub enum Phase {
     /// A label is due.
     Label(Holder),
     /// In a label, of which these bytes have come.
-    Name(Holder, Seq<u8>),
+    Name(Holder, Growing<u8>),
     /// Behind a label: `=` is due.
     Named(Holder, Label),
     /// In the word of this truth value, of which so many bytes have come.
@@ -69,20 +72,20 @@ pub enum Phase {
     /// In a number: whether it is negative, and its digits so far.
     Digits(bool, u64),
     /// In a text, with its bytes so far; then behind its `\`, its `\x`, and the first digit after that.
-    Text(Seq<u8>),
-    Escape(Seq<u8>),
-    Hex(Seq<u8>),
-    HexLow(Seq<u8>, u8),
+    Text(Growing<u8>),
+    Escape(Growing<u8>),
+    Hex(Growing<u8>),
+    HexLow(Growing<u8>, u8),
     /// Behind a value.
     After(Value),
     /// Behind the `|` that closes a bag or a list.
-    Closing(Kind, Seq<Value>),
+    Closing(Kind, Growing<Value>),
 }
 
-/// What a byte makes of a machine.
+/// Where a byte leads.
 #[derive(Debug, Drop)]
-pub enum Step {
-    Goes(Machine),
+pub enum Next {
+    Goes(Phase),
     /// The byte ends the item.
     Ends(Value),
 }
@@ -119,37 +122,58 @@ impl Machine {
     }
 }
 
-/// The machine after one more byte.
-pub fn advance(alloc: Global, machine: Machine, byte: u8) -> Result<Step, Stop>
-    requires { IsSound 256 machine.stack machine.phase }
-    ensures { Gives result (advanced 256 machine.stack machine.phase byte) }
+/// One more byte. It answers the value where the byte ends the item, and then the machine stands before the next one.
+pub fn advance(
+    alloc: Global,
+    memo: &mut Memo,
+    machine: &mut Machine,
+    byte: u8,
+) -> Result<Option<Value>, Stop>
+    requires { IsSound 256 machine.old.stack machine.old.phase }
+    ensures { Advances machine.new result (advanced 256 machine.old.stack machine.old.phase byte) }
 {
-    let Machine { stack, phase } = machine;
+    let phase = mem::replace(&mut machine.phase, Phase::Value);
+    match step(alloc, memo, &mut machine.stack, phase, byte) {
+        Ok(Next::Goes(phase)) => {
+            machine.phase = phase;
+            Ok(None)
+        }
+        Ok(Next::Ends(value)) => Ok(Some(value)),
+        Err(stop) => Err(stop),
+    }
+}
+
+fn step(
+    alloc: Global,
+    memo: &mut Memo,
+    stack: &mut Brackets,
+    phase: Phase,
+    byte: u8,
+) -> Result<Next, Stop>
+    requires { IsSound 256 stack.old phase }
+    ensures { LeadsOn stack.new result (advanced 256 stack.old phase byte) }
+{
     match phase {
         Phase::Value => value_due(alloc, stack, byte),
         Phase::Opened(kind) => opened(alloc, stack, kind, byte),
         Phase::Brace => behind_brace(alloc, stack, byte),
-        Phase::Bracket => behind_bracket(alloc, stack, byte),
-        Phase::RecordOpened => record_opened(alloc, stack, byte),
-        Phase::Label(holder) => label_due(alloc, stack, holder, byte),
-        Phase::Name(holder, name) => in_name(alloc, stack, holder, name, byte),
+        Phase::Bracket => behind_bracket(alloc, memo, byte),
+        Phase::RecordOpened => record_opened(alloc, memo, byte),
+        Phase::Label(holder) => label_due(alloc, holder, byte),
+        Phase::Name(holder, name) => in_name(alloc, memo, stack, holder, name, byte),
         Phase::Named(holder, label) => named(stack, holder, label, byte),
-        Phase::Word(word, count) => in_word(stack, word, count, byte),
-        Phase::Minus => behind_minus(stack, byte),
-        Phase::Digits(negative, magnitude) => in_digits(alloc, stack, negative, magnitude, byte),
-        Phase::Text(text) => in_text(stack, text, byte),
-        Phase::Escape(text) => behind_escape(stack, text, byte),
-        Phase::Hex(text) => hex_due(stack, text, byte),
-        Phase::HexLow(text, high) => low_hex_due(stack, text, high, byte),
-        Phase::After(value) => after_value(alloc, stack, value, byte),
-        Phase::Closing(kind, items) => closing(stack, kind, items, byte),
+        Phase::Word(word, count) => in_word(word, count, byte),
+        Phase::Minus => behind_minus(byte),
+        Phase::Digits(negative, magnitude) => {
+            in_digits(alloc, memo, stack, negative, magnitude, byte)
+        }
+        Phase::Text(text) => in_text(text, byte),
+        Phase::Escape(text) => behind_escape(text, byte),
+        Phase::Hex(text) => hex_due(text, byte),
+        Phase::HexLow(text, high) => low_hex_due(text, high, byte),
+        Phase::After(value) => after_value(alloc, memo, stack, value, byte),
+        Phase::Closing(kind, items) => closing(kind, items, byte),
     }
-}
-
-fn goes(stack: Brackets, phase: Phase) -> Result<Step, Stop>
-    ensures { result ≡ goes stack phase }
-{
-    Ok(Step::Goes(Machine { stack, phase }))
 }
 
 /// White space: tab, line feed, carriage return and space.
@@ -159,22 +183,28 @@ pub fn is_blank(byte: u8) -> bool
     matches!(byte, b'\t' | b'\n' | b'\r' | b' ')
 }
 
+fn goes(phase: Phase) -> Result<Next, Stop>
+    ensures { result ≡ going phase }
+{
+    Ok(Next::Goes(phase))
+}
+
 #[tactic(auto, unfolding(crate::specs::Machine::value_due))]
-fn value_due(alloc: Global, stack: Brackets, byte: u8) -> Result<Step, Stop>
-    ensures { Gives result (value_due 256 stack byte) }
+fn value_due(alloc: Global, stack: &Brackets, byte: u8) -> Result<Next, Stop>
+    ensures { LeadsOn stack.now result (value_due 256 stack.now byte) }
 {
     if is_blank(byte) {
-        goes(stack, Phase::Value)
+        goes(Phase::Value)
     } else if byte.is_ascii_digit() {
-        goes(stack, Phase::Digits(false, digit_of(byte)))
+        goes(Phase::Digits(false, digit_of(byte)))
     } else if byte == b'-' {
-        goes(stack, Phase::Minus)
+        goes(Phase::Minus)
     } else if byte == b'"' {
-        goes(stack, Phase::Text(Seq::of(Vec::new(alloc))))
+        goes(Phase::Text(Growing::new(alloc)))
     } else if byte == b't' {
-        goes(stack, Phase::Word(true, 1))
+        goes(Phase::Word(true, 1))
     } else if byte == b'f' {
-        goes(stack, Phase::Word(false, 1))
+        goes(Phase::Word(false, 1))
     } else if byte == b'{' {
         opens(stack, Phase::Brace)
     } else if byte == b'[' {
@@ -186,50 +216,49 @@ fn value_due(alloc: Global, stack: Brackets, byte: u8) -> Result<Step, Stop>
     }
 }
 
-fn opens(stack: Brackets, phase: Phase) -> Result<Step, Stop>
-    ensures { Gives result (opens 256 stack phase) }
+fn opens(stack: &Brackets, phase: Phase) -> Result<Next, Stop>
+    ensures { LeadsOn stack.now result (opens 256 stack.now phase) }
 {
     if stack.len() < NESTING_LIMIT {
-        goes(stack, phase)
+        goes(phase)
     } else {
         Err(Stop::TooDeep)
     }
 }
 
 #[tactic(auto, unfolding(crate::specs::Machine::opened))]
-fn opened(alloc: Global, stack: Brackets, kind: Kind, byte: u8) -> Result<Step, Stop>
-    ensures { Gives result (opened 256 stack kind byte) }
+fn opened(alloc: Global, stack: &mut Brackets, kind: Kind, byte: u8) -> Result<Next, Stop>
+    ensures { LeadsOn stack.new result (opened 256 stack.old kind byte) }
 {
     if is_blank(byte) {
-        goes(stack, Phase::Opened(kind))
+        goes(Phase::Opened(kind))
     } else if byte == first_of_close(kind) {
-        closes(stack, kind, Seq::of(Vec::new(alloc)))
+        closes(kind, Growing::new(alloc))
     } else {
-        let mut stack = stack;
-        stack.push(Frame::Items(kind, Seq::of(Vec::new(alloc))))?;
+        stack.push(Frame::Items(kind, Growing::new(alloc)))?;
         value_due(alloc, stack, byte)
     }
 }
 
 #[tactic(auto, unfolding(crate::specs::Machine::behind_brace))]
-fn behind_brace(alloc: Global, stack: Brackets, byte: u8) -> Result<Step, Stop>
-    ensures { Gives result (behind_brace 256 stack byte) }
+fn behind_brace(alloc: Global, stack: &mut Brackets, byte: u8) -> Result<Next, Stop>
+    ensures { LeadsOn stack.new result (behind_brace 256 stack.old byte) }
 {
     if byte == b'|' {
-        goes(stack, Phase::Opened(Kind::Bag))
+        goes(Phase::Opened(Kind::Bag))
     } else {
         opened(alloc, stack, Kind::Set, byte)
     }
 }
 
 #[tactic(auto, unfolding(crate::specs::Machine::behind_bracket))]
-fn behind_bracket(alloc: Global, stack: Brackets, byte: u8) -> Result<Step, Stop>
-    ensures { Gives result (behind_bracket stack byte) }
+fn behind_bracket(alloc: Global, memo: &mut Memo, byte: u8) -> Result<Next, Stop>
+    ensures { (st : Brackets) → LeadsOn st result (behind_bracket st byte) }
 {
     if byte == b'|' {
-        goes(stack, Phase::Opened(Kind::List))
+        goes(Phase::Opened(Kind::List))
     } else {
-        record_opened(alloc, stack, byte)
+        record_opened(alloc, memo, byte)
     }
 }
 
@@ -253,52 +282,54 @@ fn last_of_close(kind: Kind) -> u8
 
 // The first byte of the closing bracket has come.
 #[tactic(auto, unfolding(crate::specs::Machine::closes))]
-fn closes(stack: Brackets, kind: Kind, items: Seq<Value>) -> Result<Step, Stop>
-    ensures { Gives result (closes stack kind items) }
+fn closes(kind: Kind, items: Growing<Value>) -> Result<Next, Stop>
+    ensures { (st : Brackets) → LeadsOn st result (closes st kind items) }
 {
     match kind {
         Kind::Set => {
             let value = canon(kind, items.into_vec())?;
-            goes(stack, Phase::After(value))
+            goes(Phase::After(value))
         }
-        Kind::Bag | Kind::List => goes(stack, Phase::Closing(kind, items)),
+        Kind::Bag | Kind::List => goes(Phase::Closing(kind, items)),
     }
 }
 
 #[tactic(auto, unfolding(crate::specs::Machine::ends_closing))]
-fn closing(stack: Brackets, kind: Kind, items: Seq<Value>, byte: u8) -> Result<Step, Stop>
-    ensures { Gives result (ends_closing stack kind items byte) }
+fn closing(kind: Kind, items: Growing<Value>, byte: u8) -> Result<Next, Stop>
+    ensures { (st : Brackets) → LeadsOn st result (ends_closing st kind items byte) }
 {
     if byte == last_of_close(kind) {
         let value = canon(kind, items.into_vec())?;
-        goes(stack, Phase::After(value))
+        goes(Phase::After(value))
     } else {
         Err(Stop::Bad)
     }
 }
 
 #[tactic(auto, unfolding(crate::specs::Machine::record_opened))]
-fn record_opened(alloc: Global, stack: Brackets, byte: u8) -> Result<Step, Stop>
-    ensures { Gives result (record_opened stack byte) }
+fn record_opened(alloc: Global, memo: &mut Memo, byte: u8) -> Result<Next, Stop>
+    ensures { (st : Brackets) → LeadsOn st result (record_opened st byte) }
 {
     if is_blank(byte) {
-        goes(stack, Phase::RecordOpened)
+        goes(Phase::RecordOpened)
     } else if byte == b']' {
-        goes(stack, Phase::After(Value::Rec(Seq::of(Vec::new(alloc)))))
+        goes(Phase::After(Value::Rec(Seq::of(Vec::new(alloc)))))
     } else {
-        label_due(alloc, stack, Holder::Record(Gathered::new(alloc)), byte)
+        let fields = Gathered::with_room(alloc, memo.fields())?;
+        label_due(alloc, Holder::Record(fields), byte)
     }
 }
 
 #[tactic(auto, unfolding(crate::specs::Machine::label_due))]
-fn label_due(alloc: Global, stack: Brackets, holder: Holder, byte: u8) -> Result<Step, Stop>
-    ensures { Gives result (label_due stack holder byte) }
+fn label_due(alloc: Global, holder: Holder, byte: u8) -> Result<Next, Stop>
+    ensures { (st : Brackets) → LeadsOn st result (label_due st holder byte) }
 {
     if is_blank(byte) {
-        goes(stack, Phase::Label(holder))
+        goes(Phase::Label(holder))
     } else if byte.is_ascii_alphabetic() {
-        let name = with_last(Seq::of(Vec::new(alloc)), byte)?;
-        goes(stack, Phase::Name(holder, name))
+        let mut name = Growing::new(alloc);
+        name.push(byte)?;
+        goes(Phase::Name(holder, name))
     } else {
         Err(Stop::Bad)
     }
@@ -307,18 +338,21 @@ fn label_due(alloc: Global, stack: Brackets, holder: Holder, byte: u8) -> Result
 #[tactic(auto, unfolding(crate::specs::Machine::in_name))]
 fn in_name(
     alloc: Global,
-    stack: Brackets,
+    memo: &mut Memo,
+    stack: &mut Brackets,
     holder: Holder,
-    name: Seq<u8>,
+    name: Growing<u8>,
     byte: u8,
-) -> Result<Step, Stop>
-    ensures { Gives result (in_name stack holder name byte) }
+) -> Result<Next, Stop>
+    requires { IsTrue (is_word name) }
+    ensures { LeadsOn stack.new result (in_name stack.old holder name byte) }
 {
     if byte.is_ascii_alphanumeric() || byte == b'_' {
-        let name = with_last(name, byte)?;
-        return goes(stack, Phase::Name(holder, name));
+        let mut name = name;
+        name.push(byte)?;
+        return goes(Phase::Name(holder, name));
     }
-    match Label::new(alloc, name.slice())? {
+    match memo.label(alloc, name.slice())? {
         Some(label) => {
             if has_named(&holder, &label) {
                 Err(Stop::Bad)
@@ -341,15 +375,14 @@ fn has_named(holder: &Holder, label: &Label) -> bool
 }
 
 #[tactic(auto, unfolding(crate::specs::Machine::named))]
-fn named(stack: Brackets, holder: Holder, label: Label, byte: u8) -> Result<Step, Stop>
-    ensures { Gives result (named stack holder label byte) }
+fn named(stack: &mut Brackets, holder: Holder, label: Label, byte: u8) -> Result<Next, Stop>
+    ensures { LeadsOn stack.new result (named stack.old holder label byte) }
 {
     if is_blank(byte) {
-        goes(stack, Phase::Named(holder, label))
+        goes(Phase::Named(holder, label))
     } else if byte == b'=' {
-        let mut stack = stack;
         stack.push(frame_of(holder, label))?;
-        goes(stack, Phase::Value)
+        goes(Phase::Value)
     } else {
         Err(Stop::Bad)
     }
@@ -371,15 +404,15 @@ fn word_bytes(word: bool) -> &'static [u8]
 }
 
 #[tactic(auto, unfolding(crate::specs::Machine::in_word))]
-fn in_word(stack: Brackets, word: bool, count: usize, byte: u8) -> Result<Step, Stop>
-    ensures { Gives result (in_word stack word count byte) }
+fn in_word(word: bool, count: usize, byte: u8) -> Result<Next, Stop>
+    ensures { (st : Brackets) → LeadsOn st result (in_word st word count byte) }
 {
     let bytes = word_bytes(word);
     if count < bytes.len() && bytes[count] == byte {
         if count + 1 < bytes.len() {
-            goes(stack, Phase::Word(word, count + 1))
+            goes(Phase::Word(word, count + 1))
         } else {
-            goes(stack, Phase::After(Value::Bool(word)))
+            goes(Phase::After(Value::Bool(word)))
         }
     } else {
         Err(Stop::Bad)
@@ -387,11 +420,11 @@ fn in_word(stack: Brackets, word: bool, count: usize, byte: u8) -> Result<Step, 
 }
 
 #[tactic(auto, unfolding(crate::specs::Machine::behind_minus))]
-fn behind_minus(stack: Brackets, byte: u8) -> Result<Step, Stop>
-    ensures { Gives result (behind_minus stack byte) }
+fn behind_minus(byte: u8) -> Result<Next, Stop>
+    ensures { (st : Brackets) → LeadsOn st result (behind_minus st byte) }
 {
     if byte.is_ascii_digit() {
-        goes(stack, Phase::Digits(true, digit_of(byte)))
+        goes(Phase::Digits(true, digit_of(byte)))
     } else {
         Err(Stop::Bad)
     }
@@ -415,22 +448,24 @@ fn greatest_magnitude(negative: bool) -> u64
 #[tactic(auto, unfolding(crate::specs::Machine::in_digits))]
 fn in_digits(
     alloc: Global,
-    stack: Brackets,
+    memo: &mut Memo,
+    stack: &mut Brackets,
     negative: bool,
     magnitude: u64,
     byte: u8,
-) -> Result<Step, Stop>
+) -> Result<Next, Stop>
     requires range { magnitude ≤ greatest_magnitude negative }
-    requires frames { AllByRecursion IsSoundFrame stack }
-    ensures { Gives result (in_digits stack negative magnitude byte) }
+    requires frames { AllByRecursion IsSoundFrame stack.old }
+    ensures { LeadsOn stack.new result (in_digits stack.old negative magnitude byte) }
 {
     if byte.is_ascii_digit() {
         match with_digit(negative, magnitude, digit_of(byte)) {
-            Some(magnitude) => goes(stack, Phase::Digits(negative, magnitude)),
+            Some(magnitude) => goes(Phase::Digits(negative, magnitude)),
             None => Err(Stop::Bad),
         }
     } else {
-        after_value(alloc, stack, Value::Int(signed(negative, magnitude)), byte)
+        let value = Value::Int(signed(negative, magnitude));
+        after_value(alloc, memo, stack, value, byte)
     }
 }
 
@@ -460,16 +495,17 @@ fn signed(negative: bool, magnitude: u64) -> i64
 }
 
 #[tactic(auto, unfolding(crate::specs::Machine::in_text))]
-fn in_text(stack: Brackets, text: Seq<u8>, byte: u8) -> Result<Step, Stop>
-    ensures { Gives result (in_text stack text byte) }
+fn in_text(text: Growing<u8>, byte: u8) -> Result<Next, Stop>
+    ensures { (st : Brackets) → LeadsOn st result (in_text st text byte) }
 {
     if byte == b'"' {
-        goes(stack, Phase::After(Value::Text(Text::of(text.into_vec()))))
+        goes(Phase::After(Value::Text(Text::of(text.into_vec()))))
     } else if byte == b'\\' {
-        goes(stack, Phase::Escape(text))
+        goes(Phase::Escape(text))
     } else {
-        let text = with_last(text, byte)?;
-        goes(stack, Phase::Text(text))
+        let mut text = text;
+        text.push(byte)?;
+        goes(Phase::Text(text))
     }
 }
 
@@ -488,16 +524,17 @@ fn escaped(byte: u8) -> Option<u8>
 }
 
 #[tactic(auto, unfolding(crate::specs::Machine::behind_escape))]
-fn behind_escape(stack: Brackets, text: Seq<u8>, byte: u8) -> Result<Step, Stop>
-    ensures { Gives result (behind_escape stack text byte) }
+fn behind_escape(text: Growing<u8>, byte: u8) -> Result<Next, Stop>
+    ensures { (st : Brackets) → LeadsOn st result (behind_escape st text byte) }
 {
     if byte == b'x' {
-        return goes(stack, Phase::Hex(text));
+        return goes(Phase::Hex(text));
     }
     match escaped(byte) {
         Some(byte) => {
-            let text = with_last(text, byte)?;
-            goes(stack, Phase::Text(text))
+            let mut text = text;
+            text.push(byte)?;
+            goes(Phase::Text(text))
         }
         None => Err(Stop::Bad),
     }
@@ -516,54 +553,65 @@ fn hex_value(byte: u8) -> Option<u8>
 }
 
 #[tactic(auto, unfolding(crate::specs::Machine::hex_due))]
-fn hex_due(stack: Brackets, text: Seq<u8>, byte: u8) -> Result<Step, Stop>
-    ensures { Gives result (hex_due stack text byte) }
+fn hex_due(text: Growing<u8>, byte: u8) -> Result<Next, Stop>
+    ensures { (st : Brackets) → LeadsOn st result (hex_due st text byte) }
 {
     match hex_value(byte) {
-        Some(high) => goes(stack, Phase::HexLow(text, high)),
+        Some(high) => goes(Phase::HexLow(text, high)),
         None => Err(Stop::Bad),
     }
 }
 
 #[tactic(auto, unfolding(crate::specs::Machine::low_hex_due))]
-fn low_hex_due(stack: Brackets, text: Seq<u8>, high: u8, byte: u8) -> Result<Step, Stop>
+fn low_hex_due(text: Growing<u8>, high: u8, byte: u8) -> Result<Next, Stop>
     requires { high < 16 }
-    ensures { Gives result (low_hex_due stack text high byte) }
+    ensures { (st : Brackets) → LeadsOn st result (low_hex_due st text high byte) }
 {
     match hex_value(byte) {
         Some(low) => {
-            let text = with_last(text, high * 16 + low)?;
-            goes(stack, Phase::Text(text))
+            let mut text = text;
+            text.push(high * 16 + low)?;
+            goes(Phase::Text(text))
         }
         None => Err(Stop::Bad),
     }
 }
 
 #[tactic(auto, unfolding(crate::specs::Machine::after_value))]
-fn after_value(alloc: Global, stack: Brackets, value: Value, byte: u8) -> Result<Step, Stop>
-    requires { AllByRecursion IsSoundFrame stack }
-    ensures { Gives result (after_value stack value byte) }
+fn after_value(
+    alloc: Global,
+    memo: &mut Memo,
+    stack: &mut Brackets,
+    value: Value,
+    byte: u8,
+) -> Result<Next, Stop>
+    requires { AllByRecursion IsSoundFrame stack.old }
+    ensures { LeadsOn stack.new result (after_value stack.old value byte) }
 {
     if is_blank(byte) {
-        return goes(stack, Phase::After(value));
+        return goes(Phase::After(value));
     }
-    let mut stack = stack;
     match stack.pop() {
         None => {
             if byte == b';' {
-                Ok(Step::Ends(value))
+                Ok(Next::Ends(value))
             } else {
                 Err(Stop::Bad)
             }
         }
-        Some(Frame::Items(kind, items)) => after_item(stack, kind, with_last(items, value)?, byte),
+        Some(Frame::Items(kind, items)) => {
+            let mut items = items;
+            items.push(value)?;
+            after_item(stack, kind, items, byte)
+        }
         Some(Frame::Field(fields, label)) => {
-            after_field(stack, fields.with(label, value)?, byte)
+            let fields = fields.with(label, value)?;
+            after_field(memo, fields, byte)
         }
         Some(Frame::Variant(label)) => {
             if byte == b'>' {
                 let value = Value::Inj(label, Box::new(alloc, value)?);
-                goes(stack, Phase::After(value))
+                goes(Phase::After(value))
             } else {
                 Err(Stop::Bad)
             }
@@ -572,30 +620,37 @@ fn after_value(alloc: Global, stack: Brackets, value: Value, byte: u8) -> Result
 }
 
 #[tactic(auto, unfolding(crate::specs::Machine::after_item))]
-fn after_item(stack: Brackets, kind: Kind, items: Seq<Value>, byte: u8) -> Result<Step, Stop>
-    ensures { Gives result (after_item stack kind items byte) }
+fn after_item(
+    stack: &mut Brackets,
+    kind: Kind,
+    items: Growing<Value>,
+    byte: u8,
+) -> Result<Next, Stop>
+    ensures { LeadsOn stack.new result (after_item stack.old kind items byte) }
 {
     if byte == b',' {
-        let mut stack = stack;
         stack.push(Frame::Items(kind, items))?;
-        goes(stack, Phase::Value)
+        goes(Phase::Value)
     } else if byte == first_of_close(kind) {
-        closes(stack, kind, items)
+        closes(kind, items)
     } else {
         Err(Stop::Bad)
     }
 }
 
 #[tactic(auto, using(crate::proofs::Pairs::fields_are), unfolding(crate::specs::Machine::after_field))]
-fn after_field(stack: Brackets, fields: Gathered<Value>, byte: u8) -> Result<Step, Stop>
+fn after_field(memo: &mut Memo, fields: Gathered<Value>, byte: u8) -> Result<Next, Stop>
     requires { LabelsDiffer fields }
-    ensures { Gives result (after_field stack fields byte) }
+    ensures { (st : Brackets) → LeadsOn st result (after_field st fields byte) }
 {
     if byte == b',' {
-        goes(stack, Phase::Label(Holder::Record(fields)))
+        goes(Phase::Label(Holder::Record(fields)))
     } else if byte == b']' {
-        match Fields::new(fields.into_vec())? {
-            Some(fields) => goes(stack, Phase::After(Value::Rec(fields))),
+        let mut fields = fields.into_vec();
+        fields.shrink_to_fit();
+        memo.keep_fields(fields.len());
+        match Fields::new(fields)? {
+            Some(fields) => goes(Phase::After(Value::Rec(fields))),
             None => Err(Stop::Bad),
         }
     } else {

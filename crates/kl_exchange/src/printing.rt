@@ -1,11 +1,16 @@
 //! Canonical text.
-ghost use Rattle.std.specs.Prelude.{◌≡◌, ◌++◌, ◌<◌, codes, map};
-ghost use Rattle.std.specs.List.{flat_map};
+ghost use Rattle.std.specs.Prelude.{◌≡◌, ◌++◌, ◌<◌, ◌≤◌, [], ℕ, true, length, take, codes, map, FitsSigned, IsTrue};
+ghost use Rattle.std.specs.Int.{w64};
+ghost use Rattle.std.specs.List.{AllByRecursion, flat_map, list_all};
 ghost use Rattle.std.specs.Fmt.{signed_decimal};
+ghost use Rattle.kl_base.specs.Word.{is_word};
 ghost use Rattle.kl_outside.specs.Sinks.{WritesWhole};
+ghost use Rattle.kl_value.specs.IsCanonical.{IsCanonical};
+ghost use Rattle.kl_value.specs.Shape.{depth_of};
 ghost use Rattle.kl_value.specs.Written.{text_of, byte_text, with_commas, hex_digit};
-ghost use Rattle.kl_exchange.specs.Grammar.{word_of};
-ghost use Rattle.kl_exchange.specs.Printing.{Puts, Prints, as_stop, field_text, separator};
+ghost use Rattle.kl_exchange.specs.Grammar.{IsItem, word_of};
+ghost use Rattle.kl_exchange.specs.Printing.{Puts, Prints, as_stop, field_text, is_plain, separator};
+ghost use Rattle.kl_exchange.specs.Stored.{IsStored};
 
 use crate::error::PrintError;
 use arrayvec::ArrayVec;
@@ -13,13 +18,99 @@ use itoa::Buffer;
 use kl_base::Label;
 use kl_outside::{Sink, Stop, write_whole};
 use kl_value::Value;
+use std::marker::Model;
 
-// What is printed and not yet written, which spares the sink small pieces. Once the sink has stopped nothing more is
-// written.
+/// A page of printed text over a sink. What is printed is held until the page is full, or until `flush`, so that the sink
+/// gets few large pieces. Whoever reads where it may wait flushes first.
+///
+/// Contracts see the bytes that it holds. After an error it holds none, and of those that it held and was given the sink
+/// took the first.
 #[derive(Drop)]
-struct Page {
-    bytes: ArrayVec<u8, 4096>,
+pub struct Page {
+    held: Held,
+}
+
+// What is printed and not yet written. Once the sink has stopped nothing more is written.
+#[derive(Drop)]
+struct Held {
+    bytes: ArrayVec<u8, 8192>,
     stop: Option<Stop>,
+}
+
+impl Model for Page {
+    ghost use Rattle.std.specs.Prelude.{◌≡◌, List, ℕ, None};
+
+    ghost Value = { List ℕ };
+
+    ghost view = { λ p. p.held.bytes.items };
+
+    ghost invariant = { λ p. p.held.stop ≡ None };
+}
+
+impl Page {
+    /// An empty page. Takes no memory.
+    pub fn new() -> Page
+        ensures { result ≡ [] }
+    {
+        Page {
+            held: Held {
+                bytes: ArrayVec::new(),
+                stop: None,
+            },
+        }
+    }
+
+    /// Prints the canonical text of a value, as `print` says. With a `;` behind it the text reads back.
+    ///
+    /// # Errors
+    /// - `Failed`: a write failed, and the sink's count of faults rose.
+    /// - `NoMemory`: the sink found no memory, and its count of wants rose.
+    pub fn print<S: Sink>(&mut self, v: &Value, sink: &mut S) -> Result<(), PrintError>
+        ensures prints { Puts (text_of v.now) (as_stop result) (S.state sink.old) self.old (S.state sink.new) self.new }
+        ensures reads_back { (n : ℕ) → IsCanonical v.now → depth_of v.now ≤ n → IsItem n (text_of v.now ++ codes ";") v.now }
+    {
+        print_value(v, sink, &mut self.held);
+        match self.held.stop {
+            None => Ok(()),
+            Some(stop) => {
+                self.held.stop = None;
+                self.held.bytes.clear();
+                Err(PrintError::from(stop))
+            }
+        }
+    }
+
+    /// Puts bytes behind those held.
+    ///
+    /// # Errors
+    /// As `print`.
+    pub fn put<S: Sink>(&mut self, piece: &[u8], sink: &mut S) -> Result<(), PrintError>
+        ensures { Puts piece.now (as_stop result) (S.state sink.old) self.old (S.state sink.new) self.new }
+    {
+        match put_or_stop(piece, sink, &mut self.held.bytes) {
+            Ok(()) => Ok(()),
+            Err(stop) => {
+                self.held.bytes.clear();
+                Err(PrintError::from(stop))
+            }
+        }
+    }
+
+    /// Writes what is held.
+    ///
+    /// # Errors
+    /// As `print`.
+    pub fn flush<S: Sink>(&mut self, sink: &mut S) -> Result<(), PrintError>
+        ensures wrote { WritesWhole self.old (as_stop result) (S.state sink.old) (S.state sink.new) }
+        ensures empty { self.new ≡ [] }
+    {
+        let result = write_whole(sink, self.held.bytes.as_slice());
+        self.held.bytes.clear();
+        match result {
+            Ok(()) => Ok(()),
+            Err(stop) => Err(PrintError::from(stop)),
+        }
+    }
 }
 
 /// Writes the canonical text of a value, and takes no memory of its own.
@@ -29,36 +120,26 @@ struct Page {
 /// byte as `\x` and two lower-case hexadecimal digits. A record is `[a=1, b=2]`, a variant `<a=1>`, a set `{1, 2}`, a
 /// bag `{|1, 1|}` and a list `[|2, 1|]`.
 ///
+/// The text of a canonical value with a `;` behind it reads back: it is an item of that value, in a nesting of the
+/// value's depth.
+///
 /// # Errors
 /// After an error the sink took the first bytes of the text, and perhaps all.
 /// - `Failed`: a write failed, and the sink's count of faults rose.
 /// - `NoMemory`: the sink found no memory, and its count of wants rose.
 pub fn print<S: Sink>(v: &Value, sink: &mut S) -> Result<(), PrintError>
-    ensures { WritesWhole (text_of v.now) (as_stop result) (S.state sink.old) (S.state sink.new) }
+    ensures wrote { WritesWhole (text_of v.now) (as_stop result) (S.state sink.old) (S.state sink.new) }
+    ensures reads_back { (n : ℕ) → IsCanonical v.now → depth_of v.now ≤ n → IsItem n (text_of v.now ++ codes ";") v.now }
 {
-    match print_all(v, sink) {
-        Ok(()) => Ok(()),
-        Err(Stop::Failed) => Err(PrintError::Failed),
-        Err(Stop::NoMemory) => Err(PrintError::NoMemory),
-    }
-}
-
-fn print_all<S: Sink>(v: &Value, sink: &mut S) -> Result<(), Stop>
-    ensures { WritesWhole (text_of v.now) result (S.state sink.old) (S.state sink.new) }
-{
-    let mut page = Page {
-        bytes: ArrayVec::new(),
-        stop: None,
-    };
-    print_value(v, sink, &mut page);
-    match page.stop {
-        Some(stop) => Err(stop),
-        None => write_whole(sink, page.bytes.as_slice()),
+    let mut page = Page::new();
+    match page.print(v, sink) {
+        Ok(()) => page.flush(sink),
+        Err(error) => Err(error),
     }
 }
 
 // Prints a piece, which is written once the page is full.
-fn put<S: Sink>(piece: &[u8], sink: &mut S, page: &mut Page)
+fn put<S: Sink>(piece: &[u8], sink: &mut S, page: &mut Held)
     ensures { Prints piece.now (S.state sink.old) page.old.bytes.items page.old.stop (S.state sink.new) page.new.bytes.items page.new.stop }
 {
     match page.stop {
@@ -74,7 +155,7 @@ fn put<S: Sink>(piece: &[u8], sink: &mut S, page: &mut Page)
 fn put_or_stop<S: Sink>(
     piece: &[u8],
     sink: &mut S,
-    bytes: &mut ArrayVec<u8, 4096>,
+    bytes: &mut ArrayVec<u8, 8192>,
 ) -> Result<(), Stop>
     ensures { Puts piece.now result (S.state sink.old) bytes.old.items (S.state sink.new) bytes.new.items }
 {
@@ -92,8 +173,9 @@ fn put_or_stop<S: Sink>(
 }
 
 #[cycle(print)]
-fn print_value<S: Sink>(v: &Value, sink: &mut S, page: &mut Page)
-    ensures { Prints (text_of v.now) (S.state sink.old) page.old.bytes.items page.old.stop (S.state sink.new) page.new.bytes.items page.new.stop }
+fn print_value<S: Sink>(v: &Value, sink: &mut S, page: &mut Held)
+    ensures prints { Prints (text_of v.now) (S.state sink.old) page.old.bytes.items page.old.stop (S.state sink.new) page.new.bytes.items page.new.stop }
+    ensures stored { IsStored v.now }
 {
     match v {
         Value::Bool(word) => print_word(*word, sink, page),
@@ -106,7 +188,7 @@ fn print_value<S: Sink>(v: &Value, sink: &mut S, page: &mut Page)
         }
         Value::Inj(label, inner) => {
             put(b"<", sink, page);
-            put(label.slice(), sink, page);
+            put(label.word(), sink, page);
             put(b"=", sink, page);
             print_value(inner.get(), sink, page);
             put(b">", sink, page);
@@ -131,8 +213,9 @@ fn print_value<S: Sink>(v: &Value, sink: &mut S, page: &mut Page)
 
 // The items with a comma and a space between them.
 #[cycle(print)]
-fn print_items<S: Sink>(items: &[Value], sink: &mut S, page: &mut Page)
-    ensures { Prints (with_commas (map text_of items.now)) (S.state sink.old) page.old.bytes.items page.old.stop (S.state sink.new) page.new.bytes.items page.new.stop }
+fn print_items<S: Sink>(items: &[Value], sink: &mut S, page: &mut Held)
+    ensures prints { Prints (with_commas (map text_of items.now)) (S.state sink.old) page.old.bytes.items page.old.stop (S.state sink.new) page.new.bytes.items page.new.stop }
+    ensures stored { AllByRecursion IsStored items.now }
 {
     'items: for (i, item) in items.iter().enumerate() {
         put(separator(i), sink, page);
@@ -142,12 +225,13 @@ fn print_items<S: Sink>(items: &[Value], sink: &mut S, page: &mut Page)
 
 // The fields with a comma and a space between them.
 #[cycle(print)]
-fn print_fields<S: Sink>(fields: &[(Label, Value)], sink: &mut S, page: &mut Page)
-    ensures { Prints (with_commas (map field_text fields.now)) (S.state sink.old) page.old.bytes.items page.old.stop (S.state sink.new) page.new.bytes.items page.new.stop }
+fn print_fields<S: Sink>(fields: &[(Label, Value)], sink: &mut S, page: &mut Held)
+    ensures prints { Prints (with_commas (map field_text fields.now)) (S.state sink.old) page.old.bytes.items page.old.stop (S.state sink.new) page.new.bytes.items page.new.stop }
+    ensures stored { AllByRecursion (λ f. IsTrue (is_word f.0) × IsStored f.1) fields.now }
 {
     'fields: for (i, field) in fields.iter().enumerate() {
         put(separator(i), sink, page);
-        put(field.0.slice(), sink, page);
+        put(field.0.word(), sink, page);
         put(b"=", sink, page);
         print_value(&field.1, sink, page);
     }
@@ -160,7 +244,7 @@ fn separator(place: usize) -> &'static [u8]
     if place == 0 { b"" } else { b", " }
 }
 
-fn print_word<S: Sink>(word: bool, sink: &mut S, page: &mut Page)
+fn print_word<S: Sink>(word: bool, sink: &mut S, page: &mut Held)
     ensures { Prints (word_of word) (S.state sink.old) page.old.bytes.items page.old.stop (S.state sink.new) page.new.bytes.items page.new.stop }
 {
     if word {
@@ -170,24 +254,52 @@ fn print_word<S: Sink>(word: bool, sink: &mut S, page: &mut Page)
     }
 }
 
-fn print_number<S: Sink>(number: &i64, sink: &mut S, page: &mut Page)
-    ensures { Prints (signed_decimal number.now) (S.state sink.old) page.old.bytes.items page.old.stop (S.state sink.new) page.new.bytes.items page.new.stop }
+fn print_number<S: Sink>(number: &i64, sink: &mut S, page: &mut Held)
+    ensures prints { Prints (signed_decimal number.now) (S.state sink.old) page.old.bytes.items page.old.stop (S.state sink.new) page.new.bytes.items page.new.stop }
+    ensures fits { FitsSigned w64 number.now }
 {
     let mut buffer = Buffer::new();
     put(buffer.format(*number).as_bytes(), sink, page);
 }
 
-fn print_text<S: Sink>(text: &[u8], sink: &mut S, page: &mut Page)
+fn print_text<S: Sink>(text: &[u8], sink: &mut S, page: &mut Held)
     ensures { Prints ((codes "\"" ++ flat_map byte_text text.now) ++ codes "\"") (S.state sink.old) page.old.bytes.items page.old.stop (S.state sink.new) page.new.bytes.items page.new.stop }
 {
     put(b"\"", sink, page);
-    'bytes: for byte in text {
-        print_byte(*byte, sink, page);
+    let mut at = 0;
+    'runs: while at < text.len() {
+        let count = plain_bytes(&text[at..]);
+        if count == 0 {
+            print_byte(text[at], sink, page);
+            at += 1;
+            continue;
+        }
+        put(&text[at..at + count], sink, page);
+        at += count;
     }
     put(b"\"", sink, page);
 }
 
-fn print_byte<S: Sink>(byte: u8, sink: &mut S, page: &mut Page)
+// How many bytes at the front stand as they are.
+fn plain_bytes(bytes: &[u8]) -> usize
+    ensures within { result ≤ length bytes.now }
+    ensures all { list_all is_plain (take result bytes.now) ≡ true }
+{
+    for (i, byte) in bytes.iter().enumerate() {
+        if !is_plain(*byte) {
+            return i;
+        }
+    }
+    bytes.len()
+}
+
+fn is_plain(byte: u8) -> bool
+    ensures { result ≡ is_plain byte }
+{
+    matches!(byte, 32..=126 | 128..=255) && byte != b'"' && byte != b'\\'
+}
+
+fn print_byte<S: Sink>(byte: u8, sink: &mut S, page: &mut Held)
     ensures { Prints (byte_text byte) (S.state sink.old) page.old.bytes.items page.old.stop (S.state sink.new) page.new.bytes.items page.new.stop }
 {
     match byte {

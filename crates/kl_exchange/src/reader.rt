@@ -1,17 +1,19 @@
-ghost use Rattle.std.specs.Prelude.{◌≡◌, ◌+◌, ◌^◌, ◌<◌, [], ◌++◌, length, true, false, OnOk, OnErr};
+ghost use Rattle.std.specs.Prelude.{◌≡◌, ◌+◌, ◌^◌, ◌<◌, ◌≤◌, [], ◌++◌, length, drop, true, false, OnOk, OnErr, IsSome};
 ghost use Rattle.std.specs.List.{list_all};
 ghost use Rattle.kl_exchange.specs.Grammar.{is_blank};
-ghost use Rattle.kl_exchange.specs.Reading.{Reads};
+ghost use Rattle.kl_exchange.specs.Fetching.{FetchesBehind};
+ghost use Rattle.kl_exchange.specs.Reading.{ReadsNext};
 ghost use Rattle.kl_exchange.specs.Scan.{IsBegun};
 
 use crate::error::ReadError;
 use crate::machine::{Machine, is_blank};
+use crate::memo::Memo;
 use crate::scan::{Halt, Scanned, scan};
 use kl_base::NoMemory;
+use kl_outside::{Files, Stop};
 use kl_value::Value;
 use std::alloc::Global;
 use std::marker::Model;
-use std::mem;
 
 /// What a reader answers.
 #[derive(Debug, Drop)]
@@ -39,6 +41,7 @@ pub struct Reader {
     // Up to where the machine has taken them.
     scanned: usize,
     machine: Machine,
+    memo: Memo,
     place: u64,
     finished: bool,
     refused: Option<ReadError>,
@@ -68,6 +71,7 @@ impl Reader {
             start: 0,
             scanned: 0,
             machine: Machine::new(alloc),
+            memo: Memo::new(alloc),
             place: 0,
             finished: false,
             refused: None,
@@ -84,9 +88,36 @@ impl Reader {
         ensures ok { OnOk result (self.new ≡ record self.old { left = self.old.left ++ piece.now }) }
         ensures err { OnErr result (self.new ≡ self.old) }
     {
-        self.drop_read()?;
+        self.drop_read();
         self.buffer.extend_from_slice(piece)?;
         Ok(())
+    }
+
+    /// Adds the next bytes of an open file, at most `most`, and answers how many. 0 is the file's end.
+    ///
+    /// # Errors
+    /// As of the files' `read`, or want of memory; the reader and the file stay as they were.
+    pub(crate) fn read_from<F: Files>(
+        &mut self,
+        files: &mut F,
+        file: u64,
+        most: usize,
+    ) -> Result<usize, Stop>
+        requires is_open { IsSome ((F.state files.old).left file) }
+        requires some { 0 < most }
+        requires room { (self.old.place + length self.old.left) + most < 2 ^ 64 }
+        ensures fetched { FetchesBehind file most result self.old.left self.new.left (F.state files.old) (F.state files.new) }
+        ensures same { self.new ≡ record self.old { left = self.new.left } }
+    {
+        self.drop_read();
+        fetch_behind(&mut self.buffer, files, file, most)
+    }
+
+    /// The number of bytes that came.
+    pub(crate) fn total(&self) -> u64
+        ensures { result ≡ self.now.place + length self.now.left }
+    {
+        self.place + (self.buffer.len() - self.start) as u64
     }
 
     /// Says that no more bytes come. Takes no memory.
@@ -106,6 +137,9 @@ impl Reader {
     /// The next item, where one stands whole at the front of the bytes left. Else `NeedMore`, exactly where these are a
     /// proper prefix of an item and more may come, or `End`, exactly where no more come and only white space is left.
     ///
+    /// A value that it answers is canonical, and what `print` writes of it with a `;` is an item of it again
+    /// (`reading_laws`).
+    ///
     /// # Errors
     /// - `Bad`: exactly where the bytes are in no exchange text. The place is the length of the longest prefix of all
     ///   bytes that begins one. The reader answers the same from then on.
@@ -113,7 +147,7 @@ impl Reader {
     ///   exchange text. It comes before `NeedMore` and `Bad`. The reader answers the same from then on.
     /// - `NoMemory`: want of memory; the reader stays as it was.
     pub fn next(&mut self) -> Result<Item, ReadError>
-        ensures reads { Reads self.old result self.new }
+        ensures reads { ReadsNext self.old result self.new }
         // No byte is lost.
         ensures total { self.new.place + length self.new.left ≡ self.old.place + length self.old.left }
         ensures finished { self.new.finished ≡ self.old.finished }
@@ -122,16 +156,19 @@ impl Reader {
     }
 
     fn answer(&mut self) -> Result<Item, ReadError>
-        ensures { Reads self.old result self.new }
+        ensures { ReadsNext self.old result self.new }
     {
         match self.refused {
             Some(refused) => return Err(refused),
             None => {}
         }
-        let machine = mem::replace(&mut self.machine, Machine::new(self.alloc));
-        match scan(self.alloc, machine, &self.buffer[self.scanned..]) {
-            Ok(Scanned::More(machine)) => {
-                put(&mut self.machine, machine);
+        match scan(
+            self.alloc,
+            &mut self.memo,
+            &mut self.machine,
+            &self.buffer[self.scanned..],
+        ) {
+            Ok(Scanned::More) => {
                 self.scanned = self.buffer.len();
                 self.at_end()
             }
@@ -144,41 +181,42 @@ impl Reader {
             }
             Err(Halt::Bad(count)) => {
                 let place = self.place + (self.scanned + count - self.start) as u64;
+                put(&mut self.machine, Machine::new(self.alloc));
                 self.scanned = self.start;
                 self.refused = Some(ReadError::Bad { place });
                 Err(ReadError::Bad { place })
             }
             Err(Halt::TooDeep(count)) => {
                 let place = self.place + (self.scanned + count - self.start) as u64;
+                put(&mut self.machine, Machine::new(self.alloc));
                 self.scanned = self.start;
                 self.refused = Some(ReadError::TooDeep { place });
                 Err(ReadError::TooDeep { place })
             }
             Err(Halt::NoMemory) => {
+                put(&mut self.machine, Machine::new(self.alloc));
                 self.scanned = self.start;
                 Err(ReadError::NoMemory)
             }
         }
     }
 
-    // Gives the memory of items read back where it is more than what is left takes.
-    fn drop_read(&mut self) -> Result<(), NoMemory>
+    // Lets the bytes of items read go where they are more than those left.
+    fn drop_read(&mut self)
         ensures { self.new ≡ self.old }
     {
         if self.start > self.buffer.len() - self.start {
-            let left = Vec::from_slice(self.alloc, &self.buffer[self.start..])?;
-            self.buffer = left;
+            drop_front(&mut self.buffer, self.start);
             self.scanned -= self.start;
             self.start = 0;
         }
-        Ok(())
     }
 
     // All bytes left have been taken, and no item has ended.
     fn at_end(&mut self) -> Result<Item, ReadError>
         requires fresh { self.old.refused ≡ None }
         requires begun { IsBegun self.old.left }
-        ensures { Reads self.old result self.new }
+        ensures { ReadsNext self.old result self.new }
     {
         if !self.finished {
             Ok(Item::NeedMore)
@@ -188,6 +226,43 @@ impl Reader {
             let place = self.place + (self.buffer.len() - self.start) as u64;
             self.refused = Some(ReadError::Bad { place });
             Err(ReadError::Bad { place })
+        }
+    }
+}
+
+fn drop_front(bytes: &mut Vec<u8>, count: usize)
+    requires { count ≤ length bytes.old.items }
+    ensures { bytes.new.items ≡ drop count bytes.old.items }
+{
+    let left = bytes.len() - count;
+    bytes.copy_within(count.., 0);
+    bytes.truncate(left);
+}
+
+// The next bytes of an open file behind these, at most `most`.
+fn fetch_behind<F: Files>(
+    bytes: &mut Vec<u8>,
+    files: &mut F,
+    file: u64,
+    most: usize,
+) -> Result<usize, Stop>
+    requires is_open { IsSome ((F.state files.old).left file) }
+    requires some { 0 < most }
+    ensures { FetchesBehind file most result bytes.old.items bytes.new.items (F.state files.old) (F.state files.new) }
+{
+    let before = bytes.len();
+    let Some(end) = before.checked_add(most) else {
+        return Err(Stop::NoMemory);
+    };
+    bytes.resize(end, 0)?;
+    match files.read(file, &mut bytes[before..]) {
+        Ok(count) => {
+            bytes.truncate(before + count);
+            Ok(count)
+        }
+        Err(stop) => {
+            bytes.truncate(before);
+            Err(stop)
         }
     }
 }

@@ -8,3 +8,17 @@ pub mod NameLemmas
 pub mod SmallAnswer
 pub mod Yields
 pub mod SmallLaws
+pub mod KindLemmas
+pub mod PatGoods
+pub mod ExprFirsts
+pub mod ExprGoods
+pub mod Levels
+pub mod Scan
+pub mod Reading
+pub mod Kepts
+pub mod Steps
+pub mod Ranks
+pub mod FrontSteps
+pub mod ExprSteps
+pub mod Answer
+pub mod ProgramSteps

@@ -10,3 +10,11 @@ pub mod SmallTests
 pub mod SmallProgram
 pub mod SmallDescent
 pub mod SmallGives
+pub mod Syntax
+pub mod View
+pub mod Lexemes
+pub mod Grammar
+pub mod Parsing
+pub mod Kinds
+pub mod Gives
+pub mod Descent

@@ -1,4 +1,7 @@
-//! The first programs of the language, a small part of its grammar, as trees.
+//! The grammar of the language: `parse` reads a program off its tokens, and tells where tokens that spell none go wrong.
+//!
+//! The grammar is `ReadsProgram` in `specs/Grammar.antt`, line by line. Beside it stands a small part of the language, the
+//! first that was read:
 //!
 //! A small program is a set of sums, or a comprehension over sets of numbers:
 //!
@@ -17,14 +20,26 @@
 //! project ties to a refused growth.
 #![tactic(auto)]
 
+mod exprs;
+mod fault;
+mod front;
 mod keyword;
+mod operator;
+mod patterns;
+mod program;
 mod small;
 mod small_names;
 mod small_reader;
 mod taking;
+mod tree;
 
+pub use program::{ParseError, parse, parse_laws};
 pub use small::{Atom, Ints, Small, SmallError, SmallQual, SmallQuals, Sum, Sums};
 pub use small_reader::{read_small, small_laws, small_of};
+pub use tree::{
+    Branch, Branches, Decl, Decls, Expr, ExprFields, Exprs, Meaning, Op, PatFields, Pattern,
+    Program, Qual, Quals, Steps, Word, Words,
+};
 
 #[cfg(test)]
 mod tests;

@@ -1,117 +1,26 @@
 -- Collections in canonical form, and what is found in them.
-use Rattle.std.proofs.Common.{◌≡◌, ℕ, zero, suc, ◌+◌, ◌-◌, ◌<◌, ◌⊎◌, ⊎_elim, inl, inr, Bool, true, false, cond, List, [], ◌∷◌, map, length, take, get_or, find, Option, Some, None, Result, Ok, Err, MatchOption, slice_get, Bor, refl, sym, ap, ap₂, ◌&&◌, subst, ◌∙◌, arith, true≢false, Ordering, Less, Equal, Greater, is_lt, is_le, is_gt, is_ge, is_eq, is_ok, IsPermutation, IsSorted, add-one}
+use Rattle.std.proofs.Common.{◌≡◌, ℕ, ◌+◌, ◌-◌, ◌<◌, ⊎_elim, Bool, true, false, cond, List, [], ◌∷◌, length, take, get_or, find, Option, Some, None, Result, Ok, Err, MatchOption, slice_get, Bor, refl, sym, ap, ap₂, ◌&&◌, subst, ◌∙◌, arith, true≢false, Ordering, Less, Equal, Greater, is_lt, is_le, is_gt, is_ge, is_eq, is_ok}
 use Rattle.std.specs.List.{All, AllByRecursion, Contains, list_all, list_any}
-use Rattle.std.specs.List.Retain.{IsFiltered, DiffersFromLast}
-use Rattle.std.specs.List.Sorted.{IsStrictlySortedBy, IsBinarySearchResult, IsSearchInRange}
+use Rattle.std.specs.List.Sorted.{IsBinarySearchResult, IsSearchInRange}
 use Rattle.std.specs.Option.{option_copied}
 use Rattle.std.specs.Ordering.{ordering_reverse}
 use Rattle.std.proofs.lemmas.Bool.{cases_lt}
 use Rattle.std.proofs.lemmas.List.Elements.{All-contains, All-more, All-weaker, All-from_recursion, Contains-append_cases, Contains-append_left, Contains-append_right, Contains-get_or, Contains-push, Contains-push_cases, recursion_from_All, All-from_all_within}
 use Rattle.std.proofs.lemmas.Cmp.{tied_itself, upto}
 use Rattle.std.proofs.lemmas.List.Folds.{list_any_none, list_any-from_Any}
-use Rattle.std.proofs.lemmas.List.Sorted.{IsPermutation-refl, searchable_from_sorted}
-use Rattle.std.proofs.lemmas.Map.Keys.{sorted_head, sorted_tail}
+use Rattle.std.proofs.lemmas.List.Sorted.{searchable_from_sorted}
 use Rattle.kl_base.specs.Sorted.{IsRising}
-use Rattle.kl_value.specs.Canon.{canonical}
 use Rattle.kl_value.specs.Order.{compare}
-use Rattle.kl_value.specs.Shape.{IsCanonical, IsCanonicalLayer}
-use Rattle.kl_value.specs.declared.Kind.{Kind}
-use Rattle.kl_value.specs.declared.Kind.TheVariants as kind
-use Rattle.kl_value.specs.declared.Value.{Value, Value-F, map-Value, every-Value, every_here-Value, every_held-Value}
-use Rattle.kl_value.specs.declared.Value.TheVariants as value
+use Rattle.kl_value.specs.declared.Value.{Value}
 use Rattle.kl_value.specs.contracts.value.ValueOrd.TheImpl as derived
 use Rattle.kl_value.specs.contracts.value.ValuePartialEq.TheImpl as equality
 use Rattle.kl_value.proofs.OrderLemmas.{compare_total, compare_exact, derived_is}
-use Rattle.kl_value.proofs.CanonLemmas.{canonical_only, canonical_set, eq_is}
+use Rattle.kl_base.proofs.SortedLemmas.{IsSorted-from_rising}
+use Rattle.kl_value.proofs.CanonLemmas.{eq_is}
 use Rattle.kl_prim.specs.Meaning.{extreme}
-use Rattle.kl_prim.specs.Views.{collection}
-
--- ---- the items of a canonical collection
-
-abbrev Such : Type 0
-Such = (v : Value) × every-Value IsCanonicalLayer v
-
-abbrev AllCanonical : List Value → Type 0
-AllCanonical = AllByRecursion (every-Value IsCanonicalLayer)
-
-firsts : (es : List Such) → AllCanonical (map (λ e. e.0) es)
-firsts [] = tt
-firsts (e ∷ es) = (e.1, firsts es)
-
-held_set : (x : Value-F Such) (vs : List Value) → map-Value Such Value (λ e. e.0) x ≡ Value-F.Set vs → AllCanonical vs
-held_set (Value-F.Set es) vs e = let same : map (λ e. e.0) es ≡ vs = cc in subst AllCanonical same (firsts es)
-held_set x vs e = cc
-
-held_bag : (x : Value-F Such) (vs : List Value) → map-Value Such Value (λ e. e.0) x ≡ Value-F.Bag vs → AllCanonical vs
-held_bag (Value-F.Bag es) vs e = let same : map (λ e. e.0) es ≡ vs = cc in subst AllCanonical same (firsts es)
-held_bag x vs e = cc
-
-held_list : (x : Value-F Such) (vs : List Value) → map-Value Such Value (λ e. e.0) x ≡ Value-F.List vs → AllCanonical vs
-held_list (Value-F.List es) vs e = let same : map (λ e. e.0) es ≡ vs = cc in subst AllCanonical same (firsts es)
-held_list x vs e = cc
-
-pub items_canonical : (k : Kind) (vs : List Value) → IsCanonical (collection k vs) → All IsCanonical vs
-unfolding IsCanonical
-items_canonical kind.Set vs h = let held = every_held-Value IsCanonicalLayer (value.Set vs) h in All-from_recursion (every-Value IsCanonicalLayer) vs (held_set held.0 vs (held.1 ∙ value.outs-Set vs))
-items_canonical kind.Bag vs h = let held = every_held-Value IsCanonicalLayer (value.Bag vs) h in All-from_recursion (every-Value IsCanonicalLayer) vs (held_bag held.0 vs (held.1 ∙ value.outs-Bag vs))
-items_canonical kind.List vs h = let held = every_held-Value IsCanonicalLayer (value.List vs) h in All-from_recursion (every-Value IsCanonicalLayer) vs (held_list held.0 vs (held.1 ∙ value.outs-List vs))
-
--- ---- their order
-
-strict : (vs : List Value) → IsCanonical (value.Set vs) → IsStrictlySortedBy compare vs
-unfolding IsCanonical
-strict vs h = subst IsCanonicalLayer (value.outs-Set vs) (every_here-Value IsCanonicalLayer (value.Set vs) h)
-
-rising_bag : (vs : List Value) → IsCanonical (value.Bag vs) → IsRising compare vs
-unfolding IsCanonical
-rising_bag vs h = subst IsCanonicalLayer (value.outs-Bag vs) (every_here-Value IsCanonicalLayer (value.Bag vs) h)
-
-weaker : (v : Value) (vs : List Value) → AllByRecursion (λ w. compare v w ≡ Less) vs → AllByRecursion (λ w. is_gt (compare v w) ≡ false) vs
-weaker v [] h = tt
-weaker v (w ∷ ws) h = (ap is_gt h.0, weaker v ws h.1)
-
-rising_strict : (vs : List Value) → IsStrictlySortedBy compare vs → IsRising compare vs
-rising_strict [] up = tt
-rising_strict (v ∷ vs) up = (weaker v vs (sorted_head compare v vs up), rising_strict vs (sorted_tail compare v vs up))
-
-abbrev IsSorting : Kind → Type 0
-IsSorting k = (k ≡ kind.Set) ⊎ (k ≡ kind.Bag)
-
-pub rising : (k : Kind) (vs : List Value) → IsCanonical (collection k vs) → IsSorting k → IsRising compare vs
-rising kind.Set vs h s = rising_strict vs (strict vs h)
-rising kind.Bag vs h s = rising_bag vs h
-rising kind.List vs h s = elim s [ inl e ↦ cc | inr e ↦ cc ]
-
-not_below : (o : Ordering) → is_gt o ≡ false → is_lt (ordering_reverse o) ≡ false
-not_below Less h = refl
-not_below Equal h = refl
-not_below Greater h = absurd (true≢false h)
-
-sorted_rising : (vs : List Value) → IsRising compare vs → IsSorted compare vs
-sorted_rising [] up k d low within = absurd (omega arith)
-sorted_rising (v ∷ []) up k d low within = absurd (omega arith)
-sorted_rising (v ∷ w ∷ ws) up zero d low within = ap is_lt (compare_total.antisymm w v) ∙ not_below _ up.0.0
-sorted_rising (v ∷ w ∷ ws) up (suc k) d low within =
-    rw add-one (rw add-one at (sorted_rising (w ∷ ws) up.1 k d (omega arith) (omega arith)))
-
--- ---- the canonical form of items in canonical order
-
-pub set_again : (vs : List Value) → IsCanonical (value.Set vs) → value.Set vs ≡ canonical kind.Set vs
-set_again vs h = canonical_only kind.Set vs (value.Set vs) (vs, refl, strict vs h, λ w. (λ c. c, λ c. c))
-
-pub bag_again : (k : Kind) (vs : List Value) → IsCanonical (collection k vs) → IsSorting k → value.Bag vs ≡ canonical kind.Bag vs
-bag_again k vs h s = canonical_only kind.Bag vs (value.Bag vs) (vs, refl, rising k vs h s, λ w. refl)
 
 derived_same : derived.ghosts.cmp ≡ compare
 derived_same = λ i v w. derived_is v w i
-
--- of a copy us of vs
-pub set_of_bag : (vs us ws : List Value) → us ≡ vs → IsCanonical (value.Bag vs) → IsFiltered (DiffersFromLast equality.ghosts.eq) [] us ws
-    → value.Set ws ≡ canonical kind.Set vs
-set_of_bag vs us ws same h kept =
-    canonical_set vs us ws (subst (λ xs. IsPermutation vs xs) (sym same) (IsPermutation-refl vs))
-    (subst (λ R. IsSorted R us) (sym derived_same) (subst (IsSorted compare) (sym same) (sorted_rising vs (rising_bag vs h))))
-    kept
 
 -- ---- looking for an item
 
@@ -128,7 +37,7 @@ searched_in v vs (Ok i) up within at =
     let there = Contains-get_or vs i v within in
     sym (list_any-from_Any (λ w. is_eq (compare w v)) vs (there.0, get_or vs i v, there.1, there.2, ap is_eq (at v)))
 searched_in v vs (Err i) up within at =
-    let parted = at (searchable_from_sorted compare_total (λ w. w) vs v (sorted_rising vs up)) in
+    let parted = at (searchable_from_sorted compare_total (λ w. w) vs v (IsSorted-from_rising compare compare_total compare_exact vs up)) in
     sym (list_any_none (λ w. is_eq (compare w v)) vs
     (All-from_all_within (λ w. is_eq (compare w v) ≡ false) vs
     (λ k d low high. ⊎_elim (λ p. ap is_eq (parted.0 k d low p)) (λ p. ap is_eq (parted.1 k d p high)) (cases_lt k i))))

@@ -4,10 +4,9 @@ use Rattle.std.specs.Option.{option_map, option_and_then}
 use Rattle.std.specs.Result.{result_ok}
 use Rattle.std.specs.List.{All, AllByRecursion, flat_map}
 use Rattle.std.proofs.lemmas.List.Elements.{recursion_from_All}
-use Rattle.kl_value.specs.declared.Kind.{Kind}
 use Rattle.kl_value.specs.declared.Value.{Value}
 use Rattle.kl_prim.specs.Meaning.{all_some, total}
-use Rattle.kl_prim.specs.Views.{as_int, items_at}
+use Rattle.kl_value.specs.Views.{as_int}
 
 some_is : {Y : Type 0} (o : Option Y) (d : Y) → IsSome o → o ≡ Some (unwrap_or o d)
 some_is (Some y) d h = refl
@@ -39,10 +38,6 @@ total_is = fold-map (pos 0)
 pub some_from_ok : {T E : Type 0} (r : Result T E) (o : Option T) (P : Type 0) (v : T) → OkIff r P v → o ≡ result_ok r → SomeIff o P v
 some_from_ok (Ok x) o P v h e = subst (λ q. SomeIff q P v) (sym e) h
 some_from_ok (Err x) o P v h e = subst (λ q. SomeIff q P v) (sym e) h
-
--- the items of a value that is a collection of the kind, or none
-abbrev pub listed : Kind → Value → List Value
-listed k v = unwrap_or (items_at k v) []
 
 pub flat_map-map : {X Y Z : Type 0} (f : Y → List Z) (g : X → Y) (xs : List X) → flat_map f (map g xs) ≡ flat_map (λ x. f (g x)) xs
 flat_map-map f g [] = refl

@@ -1,23 +1,25 @@
 -- Laws of the table's meaning: it makes sense of what fits, total primitives do not overflow, and what is canonical
 -- stays so.
-use Rattle.std.proofs.Common.{◌≡◌, ◌==◌, ℕ, ℤ, ◌+ℤ◌, ◌-ℤ◌, ◌*ℤ◌, neg_ℤ, Ordering, is_le, is_ge, unwrap_or, Bool, true, false, cond, ◌≢◌, List, [], ◌∷◌, length, find, Option, Some, None, refl, sym, ap, subst, ◌∙◌, IsSome, IsSomeAnd, IfSome, IfOk, Result, Ok, Err, is_some, pos}
+use Rattle.std.proofs.Common.{◌≡◌, ◌==◌, ℕ, ℤ, ◌+ℤ◌, ◌-ℤ◌, ◌*ℤ◌, neg_ℤ, Ordering, is_le, is_ge, unwrap_or, Bool, true, false, cond, ◌≢◌, List, [], ◌∷◌, length, find, Option, Some, None, refl, sym, ap, subst, IsSome, IsSomeAnd, IfSome, IfOk, Result, Ok, Err, is_some, pos}
 use Rattle.std.specs.Option.{option_map, option_and_then}
 use Rattle.std.specs.List.{All, AllByRecursion, flat_map, list_all}
 use Rattle.std.proofs.lemmas.List.Elements.{All-append, All-from_recursion, All-nil, recursion_from_All}
 use Rattle.kl_value.specs.Canon.{canonical}
 use Rattle.kl_value.specs.Order.{compare}
-use Rattle.kl_value.specs.Shape.{IsCanonical, IsCanonicalLayer}
+use Rattle.kl_value.specs.IsCanonical.{IsCanonical}
 use Rattle.kl_value.specs.declared.Kind.{Kind}
 use Rattle.kl_value.specs.declared.Kind.TheVariants as kind
-use Rattle.kl_value.specs.declared.Value.{Value, Value-F, out-Value, roll-Value, roll-out-Value, map-Value, every-Value, every_made-Value}
+use Rattle.kl_value.specs.declared.Value.{Value, out-Value}
 use Rattle.kl_value.specs.declared.Value.TheVariants as value
 use Rattle.kl_value.proofs.CanonLemmas.{canonical_keeps}
-use Rattle.kl_prim.specs.Fits.{FitsShape, OneOf, TwoOf, IsAny, IsBool, IsCollection, IsCollectionOfInts, IsInt, IsNested, IsText}
+use Rattle.kl_value.proofs.IsCanonicalLemmas.{bool_made, int_made, text_made, items_canonical}
+use Rattle.kl_value.proofs.ViewLemmas.{collection_form, items_form}
+use Rattle.kl_value.specs.Views.{IsBool, IsCollection, IsInt, IsText}
+use Rattle.kl_prim.specs.Fits.{FitsShape, OneOf, TwoOf, IsAny, IsCollectionOfInts, IsNested}
 use Rattle.kl_prim.specs.Meaning.{Answer, Answers, gives, overflows, senseless, with_some, one, two, as_any, all_some, as_ints, as_nested, exact, fits_word, total, extreme, alone, number_in, set_of_found}
 use Rattle.kl_prim.specs.Table.{Fits, FitsRow, IsTotal, IsTotalRow, Row, Takes, TakesRow, meaning, meaning_of, row_at, rows}
-use Rattle.kl_prim.specs.Views.{Collection, as_bool, as_int, as_text, as_collection, items_at, collection, collection_layer, items_layer}
+use Rattle.kl_value.specs.Views.{Collection, as_bool, as_int, as_text, as_collection, items_at, collection}
 use Rattle.kl_prim.specs.declared.stop.PrimStop.{PrimStop}
-use Rattle.kl_prim.proofs.CollectionLemmas.{items_canonical}
 use Rattle.kl_prim.proofs.ItemLemmas.{all_some_is}
 use Rattle.kl_prim.proofs.TableLemmas.{◌&◌}
 
@@ -247,24 +249,8 @@ Clean (gives v) = IsCanonical v
 Clean overflows = Unit {0}
 Clean senseless = Unit {0}
 
-made : (v : Value) (x : Value-F Value) (y : Value-F ((w : Value) × every-Value IsCanonicalLayer w)) → out-Value v ≡ x
-    → map-Value ((w : Value) × every-Value IsCanonicalLayer w) Value (λ e. e.0) y ≡ x → IsCanonicalLayer x → every-Value IsCanonicalLayer v
-made v x y o m h = subst (every-Value IsCanonicalLayer) (ap roll-Value (sym o) ∙ roll-out-Value v) (every_made-Value IsCanonicalLayer x y m h)
-
-pub canonical_bool : (b : Bool) → IsCanonical (value.Bool b)
-unfolding IsCanonical
-canonical_bool b = made (value.Bool b) (Value-F.Bool b) (Value-F.Bool b) (value.outs-Bool b) refl tt
-
-pub canonical_int : (n : ℤ) → IsCanonical (value.Int n)
-unfolding IsCanonical
-canonical_int n = made (value.Int n) (Value-F.Int n) (Value-F.Int n) (value.outs-Int n) refl tt
-
-pub canonical_text : (t : List ℕ) → IsCanonical (value.Text t)
-unfolding IsCanonical
-canonical_text t = made (value.Text t) (Value-F.Text t) (Value-F.Text t) (value.outs-Text t) refl tt
-
 exact_clean : (z : ℤ) → Clean (exact z)
-exact_clean z = elim (fits_word z) as (λ b. Clean (cond b (gives (value.Int z)) overflows)) [ true ↦ canonical_int z | false ↦ tt ]
+exact_clean z = elim (fits_word z) as (λ b. Clean (cond b (gives (value.Int z)) overflows)) [ true ↦ int_made z | false ↦ tt ]
 
 alone_is : (k : Kind) (o : Option Value) → canonical k (alone o) ≡ collection k (alone o)
 unfolding canonical
@@ -289,27 +275,11 @@ extreme_clean test k vs h =
     alone_clean k (extreme test vs) (found_canonical (λ v. list_all (λ w. test (compare v w)) vs) vs (recursion_from_All IsCanonical vs h))
 
 found_clean : (o : Option ℤ) → IsCanonical (set_of_found o)
-found_clean (Some n) = alone_clean kind.Set (Some (value.Int n)) (canonical_int n)
+found_clean (Some n) = alone_clean kind.Set (Some (value.Int n)) (int_made n)
 found_clean None = alone_clean kind.Set None tt
-
-form_layer : (x : Value-F Value) (c : Collection) → collection_layer x ≡ Some c → roll-Value x ≡ collection c.kind c.items
-form_layer (Value-F.Set vs) c e = let same : record { kind = kind.Set; items = vs } ≡ c = cc in value.rolls-Set vs ∙ ap (λ d. collection d.kind d.items) same
-form_layer (Value-F.Bag vs) c e = let same : record { kind = kind.Bag; items = vs } ≡ c = cc in value.rolls-Bag vs ∙ ap (λ d. collection d.kind d.items) same
-form_layer (Value-F.List vs) c e = let same : record { kind = kind.List; items = vs } ≡ c = cc in value.rolls-List vs ∙ ap (λ d. collection d.kind d.items) same
-form_layer x c e = cc
-
--- a value that is read as a collection is that one
-pub collection_form : (v : Value) (c : Collection) → as_collection v ≡ Some c → v ≡ collection c.kind c.items
-collection_form v c e = sym (roll-out-Value v) ∙ form_layer (out-Value v) c e
 
 held : (v : Value) (c : Collection) → IsCanonical v → as_collection v ≡ Some c → All IsCanonical c.items
 held v c h e = items_canonical c.kind c.items (subst IsCanonical (collection_form v c e) h)
-
-items_form : (k : Kind) (x : Value-F Value) (vs : List Value) → items_layer k x ≡ Some vs → collection_layer x ≡ Some (record { kind = k; items = vs })
-items_form kind.Set (Value-F.Set us) vs e = let same : us ≡ vs = cc in ap (λ ws. Some (record { kind = kind.Set; items = ws })) same
-items_form kind.Bag (Value-F.Bag us) vs e = let same : us ≡ vs = cc in ap (λ ws. Some (record { kind = kind.Bag; items = ws })) same
-items_form kind.List (Value-F.List us) vs e = let same : us ≡ vs = cc in ap (λ ws. Some (record { kind = kind.List; items = ws })) same
-items_form k x vs e = cc
 
 lists_held : (k : Kind) (vs : List Value) (lists : List (List Value)) → AllByRecursion IsCanonical vs → all_some (items_at k) vs ≡ Some lists
     → All IsCanonical (flat_map (λ ws. ws) lists)
@@ -371,32 +341,32 @@ CleanAt r = (args : List Value) → AllByRecursion IsCanonical args → Clean (r
 clean_rows : AllByRecursion CleanAt rows
 unfolding rows
 clean_rows =
-    (λ args. clean_two as_any as_any _ (λ v w x y hv hw ex ey. canonical_bool _) args) &
-    (λ args. clean_two as_any as_any _ (λ v w x y hv hw ex ey. canonical_bool _) args) &
-    (λ args. clean_two as_any as_any _ (λ v w x y hv hw ex ey. canonical_bool _) args) &
-    (λ args. clean_two as_any as_any _ (λ v w x y hv hw ex ey. canonical_bool _) args) &
-    (λ args. clean_two as_any as_any _ (λ v w x y hv hw ex ey. canonical_bool _) args) &
-    (λ args. clean_two as_any as_any _ (λ v w x y hv hw ex ey. canonical_bool _) args) &
+    (λ args. clean_two as_any as_any _ (λ v w x y hv hw ex ey. bool_made _) args) &
+    (λ args. clean_two as_any as_any _ (λ v w x y hv hw ex ey. bool_made _) args) &
+    (λ args. clean_two as_any as_any _ (λ v w x y hv hw ex ey. bool_made _) args) &
+    (λ args. clean_two as_any as_any _ (λ v w x y hv hw ex ey. bool_made _) args) &
+    (λ args. clean_two as_any as_any _ (λ v w x y hv hw ex ey. bool_made _) args) &
+    (λ args. clean_two as_any as_any _ (λ v w x y hv hw ex ey. bool_made _) args) &
     (λ args. clean_two as_int as_int _ (λ v w m n hv hw em en. exact_clean (m +ℤ n)) args) &
     (λ args. clean_two as_int as_int _ (λ v w m n hv hw em en. exact_clean (m -ℤ n)) args) &
     (λ args. clean_two as_int as_int _ (λ v w m n hv hw em en. exact_clean (m *ℤ n)) args) &
     (λ args. clean_one as_int _ (λ v n h e. exact_clean (neg_ℤ n)) args) &
-    (λ args. clean_one as_bool _ (λ v b h e. canonical_bool _) args) &
-    (λ args. clean_two as_text as_text _ (λ v w s t hv hw es et. canonical_text _) args) &
-    (λ args. clean_one as_collection _ (λ v c h e. canonical_bool _) args) &
-    (λ args. clean_one as_collection _ (λ v c h e. canonical_int _) args) &
+    (λ args. clean_one as_bool _ (λ v b h e. bool_made _) args) &
+    (λ args. clean_two as_text as_text _ (λ v w s t hv hw es et. text_made _) args) &
+    (λ args. clean_one as_collection _ (λ v c h e. bool_made _) args) &
+    (λ args. clean_one as_collection _ (λ v c h e. int_made _) args) &
     (λ args. clean_one as_ints _ (λ v ns h e. exact_clean (total ns)) args) &
-    (λ args. clean_two as_any as_collection _ (λ v w x c hv hw ex ec. canonical_bool _) args) &
+    (λ args. clean_two as_any as_collection _ (λ v w x c hv hw ex ec. bool_made _) args) &
     (λ args. clean_one as_collection _ (λ v c h e. extreme_clean is_le c.kind c.items (held v c h e)) args) &
     (λ args. clean_one as_collection _ (λ v c h e. extreme_clean is_ge c.kind c.items (held v c h e)) args) &
     (λ args. clean_one as_nested _ (λ v n h e. canonical_keeps n.0 _ (nested_held v n h e)) args) &
     (λ args. clean_one as_collection _ (λ v c h e. canonical_keeps kind.Set c.items (held v c h e)) args) &
     (λ args. clean_one as_collection _ (λ v c h e. canonical_keeps kind.Bag c.items (held v c h e)) args) &
     (λ args. clean_one as_collection _ (λ v c h e. canonical_keeps kind.List c.items (held v c h e)) args) &
-    (λ args. clean_one as_text _ (λ v t h e. canonical_int _) args) &
-    (λ args. clean_two as_text as_text _ (λ v w s t hv hw es et. canonical_bool _) args) &
+    (λ args. clean_one as_text _ (λ v t h e. int_made _) args) &
+    (λ args. clean_two as_text as_text _ (λ v w s t hv hw es et. bool_made _) args) &
     (λ args. clean_one as_text _ (λ v t h e. found_clean (number_in t)) args) &
-    (λ args. clean_one as_int _ (λ v n h e. canonical_text _) args) &
+    (λ args. clean_one as_int _ (λ v n h e. text_made _) args) &
     tt
 
 -- of canonical arguments the answer is canonical

@@ -1,19 +1,21 @@
 -- The rows of the table at their codes.
-use Rattle.std.proofs.Common.{◌≡◌, ℕ, ℤ, ◌==◌, ◌&&◌, not, Bool, true, false, cond, ◌<◌, List, [], ◌∷◌, map, find, Option, Some, None, refl, sym, ap, subst, ◌∙◌, IsSome, IsSomeAnd, Result}
-use Rattle.std.specs.Option.{option_map, option_and_then}
+use Rattle.std.proofs.Common.{◌≡◌, ◌↔◌, ◌⊎◌, ⊎_elim, inl, inr, ℕ, ℤ, ◌==◌, ◌&&◌, not, Bool, true, false, cond, ◌<◌, List, [], ◌∷◌, map, find, Option, Some, None, refl, sym, ap, subst, ◌∙◌, IsSome, IsSomeAnd, IfSome, Bor, Result}
+use Rattle.std.specs.Option.{option_copied, option_map, option_and_then}
 use Rattle.std.specs.List.{All, AllByRecursion, Contains, IsDistinct, list_all}
 use Rattle.std.proofs.Math.ListN.{get_or-map}
 use Rattle.std.proofs.lemmas.Bool.{eqb-true}
 use Rattle.std.proofs.lemmas.List.{length-map}
-use Rattle.std.proofs.lemmas.List.Elements.{All-contains, All-from_recursion}
+use Rattle.std.proofs.lemmas.List.Elements.{All-contains, All-from_recursion, recursion_from_All}
 use Rattle.kl_value.specs.declared.Kind.{Kind}
-use Rattle.kl_value.specs.declared.Kind.TheVariants as kind
 use Rattle.kl_value.specs.declared.Value.{Value}
-use Rattle.kl_value.specs.declared.Value.TheVariants as value
-use Rattle.kl_prim.specs.Fits.{FitsShape, OneOf, IsCollection, IsCollectionOfInts, IsInt, IsNested}
-use Rattle.kl_prim.specs.Meaning.{Answer, Answers, one, with_some, all_some, as_ints, as_nested}
-use Rattle.kl_prim.specs.Table.{Entry, Fits, FitsRow, Row, entry_of, meaning, row_at, rows}
-use Rattle.kl_prim.specs.Views.{as_int, as_collection, collection, collection_layer, items_at}
+use Rattle.kl_value.specs.Views.{IsCollection, IsInt}
+use Rattle.kl_prim.specs.Fits.{FitsShape, OneOf, IsCollectionOfInts, IsNested}
+use Rattle.kl_value.specs.Canon.{canonical}
+use Rattle.kl_value.specs.IsCanonical.{IsCanonical}
+use Rattle.kl_prim.specs.Meaning.{Answer, Answers, one, with_some, all_some, as_ints, as_nested, gives, into}
+use Rattle.kl_prim.specs.Table.{Entry, Fits, FitsRow, Row, Takes, TakesRow, entry_of, meaning, row_at, rows}
+use Rattle.kl_value.specs.Views.{as_int, as_collection, collection, items_at}
+use Rattle.kl_value.proofs.ViewLemmas.{collection_is}
 use Rattle.kl_prim.specs.declared.rows.PrimRow.{PrimRow}
 use Rattle.kl_prim.specs.declared.stop.PrimStop.{PrimStop}
 
@@ -48,11 +50,6 @@ ints_are = weaker_one IsCollectionOfInts IsCollection (λ v h. some_of (as_colle
 pub nested_are : (args : List Value) → OneOf IsNested args → OneOf IsCollection args
 nested_are = weaker_one IsNested IsCollection (λ v h. some_of (as_collection v) _ h)
 
-collection_is : (k : Kind) (vs : List Value) → as_collection (collection k vs) ≡ Some (record { kind = k; items = vs })
-collection_is kind.Set vs = ap collection_layer (value.outs-Set vs)
-collection_is kind.Bag vs = ap collection_layer (value.outs-Bag vs)
-collection_is kind.List vs = ap collection_layer (value.outs-List vs)
-
 pub all_ints : (args : List Value) (k : Kind) (vs : List Value) → OneOf IsCollectionOfInts args → args ≡ collection k vs ∷ [] → All IsInt vs
 all_ints args k vs h e = subst (λ o. IsSomeAnd o (λ c. All IsInt c.items)) (collection_is k vs) (subst (OneOf IsCollectionOfInts) e h)
 
@@ -65,6 +62,19 @@ pub reads_ints : (args : List Value) (k : Kind) (vs : List Value) (f : List ℤ 
     → one as_ints f args ≡ with_some (all_some as_int vs) f
 reads_ints args k vs f e =
     ap (one as_ints f) e ∙ ap (λ o. with_some (option_and_then (λ c. all_some as_int c.items) o) f) (collection_is k vs)
+
+-- a collection made of the one argument
+pub into_by : (k : Kind) (args : List Value) (a : Value) (j : Kind) (vs : List Value) → args ≡ a ∷ [] → a ≡ collection j vs → into k args ≡ gives (canonical k vs)
+into_by k args a j vs e f =
+    ap (into k) (e ∙ ap (λ v. v ∷ []) f) ∙ ap (λ o. with_some o (λ c. gives (canonical k c.items))) (collection_is j vs)
+
+-- the one argument is canonical
+pub one_canonical : (args : List Value) (a v : Value) → args ≡ a ∷ [] → a ≡ v → All IsCanonical args → IsCanonical v
+one_canonical args a v e f all = subst IsCanonical f (recursion_from_All IsCanonical (a ∷ []) (subst (All IsCanonical) e all)).0
+
+-- it is a collection
+pub one_fits : (P : Value → Type 0) (args : List Value) (a : Value) → args ≡ a ∷ [] → OneOf P args → P a
+one_fits P args a e h = subst (OneOf P) e h
 
 paired : {X : Type 0} (o : Option X) (k : Kind) (f : Kind × X → Answer) → with_some (option_map (λ x. (k, x)) o) f ≡ with_some o (λ x. f (k, x))
 paired (Some x) k f = refl
@@ -90,6 +100,84 @@ absent code (r ∷ rs) h =
 pub no_row : (code : ℕ) (args : List Value) → AllByRecursion (λ r. r.entry.code ≡ code → ⊥) rows → Fits code args → ⊥
 unfolding Fits row_at
 no_row code args each h = subst (λ o. FitsRow o args) (absent code rows each) h
+
+-- ---- the row of a code
+
+find-map : {X Y : Type 0} (f : X → Y) (p : Y → Bool) (xs : List X) → option_map f (find (λ x. p (f x)) xs) ≡ find p (map f xs)
+find-map f p [] = refl
+find-map f p (x ∷ xs) =
+    elim (p (f x)) as (λ b. option_map f (cond b (Some x) (find (λ y. p (f y)) xs)) ≡ cond b (Some (f x)) (find p (map f xs))) [
+      | true ↦ refl
+      | false ↦ find-map f p xs
+    ]
+
+-- what is found in the program's table is the row at the code
+pub found_at : (code : ℕ) (rs : List PrimRow) → map entry_of rs ≡ map (λ r. r.entry) rows → option_map entry_of (find (λ r. r.code == code) rs) ≡ option_map (λ r. r.entry) (row_at code)
+unfolding row_at
+found_at code rs same =
+    find-map entry_of (λ e. e.code == code) rs ∙ (ap (find (λ e. e.code == code)) same ∙ sym (find-map (λ (r : Row). r.entry) (λ e. e.code == code) rows))
+
+-- and the arguments of its shape are those that fit the code
+pub fits_at : (code : ℕ) (r : PrimRow) (args : List Value) → Some (entry_of r) ≡ option_map (λ (q : Row). q.entry) (row_at code) → FitsShape r.shape args ↔ Fits code args
+unfolding Fits
+fits_at code r args e = go (row_at code) e
+  where
+    go : (o : Option Row) → Some (entry_of r) ≡ option_map (λ (q : Row). q.entry) o → FitsShape r.shape args ↔ FitsRow o args
+    go (Some q) e = let same : r.shape ≡ q.entry.shape = cc in (subst (λ s. FitsShape s args) same, subst (λ s. FitsShape s args) (sym same))
+    go None e = cc
+
+pub takes_found : (code : ℕ) (o : Option (Bor PrimRow)) → option_map entry_of (option_copied o) ≡ option_map (λ (q : Row). q.entry) (row_at code)
+    → IfSome o (λ r. (args : List Value) → FitsShape r.now.shape args ↔ Fits code args)
+takes_found code (Some r) e = λ args. fits_at code r.now args e
+takes_found code None e = tt
+
+-- ---- one argument or two
+
+abbrev IsFew : Row → Type 0
+IsFew r = (r.entry.arity ≡ 1) ⊎ (r.entry.arity ≡ 2)
+
+few_rows : AllByRecursion IsFew rows
+unfolding rows
+few_rows =
+    inr refl &
+    inr refl &
+    inr refl &
+    inr refl &
+    inr refl &
+    inr refl &
+    inr refl &
+    inr refl &
+    inr refl &
+    inl refl &
+    inl refl &
+    inr refl &
+    inl refl &
+    inl refl &
+    inl refl &
+    inr refl &
+    inl refl &
+    inl refl &
+    inl refl &
+    inl refl &
+    inl refl &
+    inl refl &
+    inl refl &
+    inr refl &
+    inl refl &
+    inl refl &
+    tt
+
+few_at : (code : ℕ) (rs : List Row) (n : ℕ) → AllByRecursion IsFew rs → TakesRow (find (λ r. r.entry.code == code) rs) n → (n ≡ 1) ⊎ (n ≡ 2)
+few_at code [] n few h = absurd h
+few_at code (r ∷ rs) n few h =
+    elim (r.entry.code == code) as (λ b. TakesRow (cond b (Some r) (find (λ q. q.entry.code == code) rs)) n → (n ≡ 1) ⊎ (n ≡ 2)) [
+      | true ↦ λ e. ⊎_elim (λ one. inl (sym e ∙ one)) (λ two. inr (sym e ∙ two)) few.0
+      | false ↦ λ e. few_at code rs n few.1 e
+    ] h
+
+pub takes_few : (code n : ℕ) → Takes code n → (n ≡ 1) ⊎ (n ≡ 2)
+unfolding Takes row_at
+takes_few code n h = few_at code rows n few_rows h
 
 -- ---- keys that differ
 

@@ -1,24 +1,12 @@
 -- Which arguments fit a shape.
 use Rattle.std.specs.Prelude.{List, [], ◌∷◌, All, IsSome, IsSomeAnd, ⊤}
 use Rattle.kl_value.specs.declared.Value.{Value}
-use Rattle.kl_prim.specs.Views.{as_bool, as_int, as_text, as_collection, items_at}
+use Rattle.kl_value.specs.Views.{IsBool, IsInt, IsText, IsCollection, as_collection, items_at}
 use Rattle.kl_prim.specs.declared.rows.Shape.{Shape}
 use Rattle.kl_prim.specs.declared.rows.Shape.TheVariants as shape
 
 abbrev pub IsAny : Value → Type 0
 IsAny v = ⊤
-
-abbrev pub IsBool : Value → Type 0
-IsBool v = IsSome (as_bool v)
-
-abbrev pub IsInt : Value → Type 0
-IsInt v = IsSome (as_int v)
-
-abbrev pub IsText : Value → Type 0
-IsText v = IsSome (as_text v)
-
-abbrev pub IsCollection : Value → Type 0
-IsCollection v = IsSome (as_collection v)
 
 abbrev pub IsCollectionOfInts : Value → Type 0
 IsCollectionOfInts v = IsSomeAnd (as_collection v) (λ c. All IsInt c.items)

@@ -1,4 +1,4 @@
+pub mod Arguments
 pub mod Fits
 pub mod Meaning
 pub mod Table
-pub mod Views

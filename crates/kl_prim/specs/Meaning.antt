@@ -1,5 +1,5 @@
 -- What each primitive makes of its arguments.
-use Rattle.std.specs.Prelude.{◌≡◌, ◌≢◌, ℕ, ◌^◌, ℤ, pos, negsuc, ◌+ℤ◌, ◌-ℤ◌, ◌*ℤ◌, neg_ℤ, Bool, not, ◌&&◌, if◌then◌else◌, nat_lt, nat_eq, List, [], ◌∷◌, ◌++◌, length, drop, find, fold, Option, Some, None, option_and_then, Result, Ok, Err}
+use Rattle.std.specs.Prelude.{◌≡◌, ◌≢◌, ℕ, ◌^◌, ℤ, pos, negsuc, ◌+ℤ◌, ◌-ℤ◌, ◌*ℤ◌, neg_ℤ, Bool, not, ◌&&◌, if◌then◌else◌, nat_lt, nat_eq, List, [], ◌∷◌, ◌++◌, length, drop, find, fold, Option, Some, None, option_and_then, unwrap_or, Result, Ok, Err}
 use Rattle.std.specs.Option.{option_map}
 use Rattle.std.specs.List.{list_all, list_any, flat_map, starts_with}
 use Rattle.std.specs.declared.cmp.Ordering.{Ordering}
@@ -12,7 +12,7 @@ use Rattle.kl_value.specs.Order.{compare}
 use Rattle.kl_value.specs.declared.Kind.{Kind}
 use Rattle.kl_value.specs.declared.Value.{Value}
 use Rattle.kl_value.specs.declared.Value.TheVariants as value
-use Rattle.kl_prim.specs.Views.{as_bool, as_int, as_text, as_collection, items_at, collection}
+use Rattle.kl_value.specs.Views.{as_bool, as_int, as_text, as_collection, items_at, collection}
 use Rattle.kl_prim.specs.declared.stop.PrimStop.{PrimStop}
 use Rattle.kl_prim.specs.declared.stop.PrimStop.TheVariants as stop
 
@@ -55,6 +55,10 @@ as_ints v = option_and_then (λ c. all_some as_int c.items) (as_collection v)
 -- a collection of collections of its own kind, as that kind and their items
 abbrev pub as_nested : Value → Option (Kind × List (List Value))
 as_nested v = option_and_then (λ c. option_map (λ lists. (c.kind, lists)) (all_some (items_at c.kind) c.items)) (as_collection v)
+
+-- the items of a value that is a collection of the kind, or none
+abbrev pub listed : Kind → Value → List Value
+listed k v = unwrap_or (items_at k v) []
 
 abbrev pub truth : Bool → Answer
 truth b = gives (value.Bool b)

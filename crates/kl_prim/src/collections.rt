@@ -5,13 +5,17 @@ ghost use Rattle.std.specs.Option.{option_copied};
 ghost use Rattle.std.specs.Ordering.{is_eq, is_ge, is_gt, is_le};
 ghost use Rattle.kl_value.specs.Canon.{canonical};
 ghost use Rattle.kl_value.specs.Order.{compare};
-ghost use Rattle.kl_value.specs.Shape.{IsCanonical};
-ghost use Rattle.kl_prim.specs.Meaning.{Answers, all_some, alone, extreme, gives, with_some};
-ghost use Rattle.kl_prim.specs.Views.{as_collection, items_at, collection};
+ghost use Rattle.kl_value.specs.IsCanonical.{IsCanonical};
+ghost use Rattle.kl_prim.specs.Meaning.{Answers, all_some, alone, extreme, gives, listed, with_some};
+ghost use Rattle.kl_value.specs.Views.{IsCollection, items_at, collection};
+ghost use Rattle.kl_prim.specs.Arguments.{value_in};
 
+use crate::args::Arg;
 use crate::stop::PrimStop;
-use crate::views::items_of;
-use kl_value::{Kind, NoMemory, Seq, Value, canon, cmp, dup};
+use kl_value::{
+    Kind, NoMemory, Seq, Value, canon, cmp, dup, dup_items, into_items, into_parts, items_of,
+    parts_of,
+};
 use std::alloc::Global;
 
 /// Whether some item is equal to the value: looked up where the items rise, else sought from the first on.
@@ -45,14 +49,6 @@ fn append_copies(alloc: Global, items: &[Value], into: &mut Vec<Value>) -> Resul
         into.push(dup(alloc, item)?)?;
     }
     Ok(())
-}
-
-fn copies(alloc: Global, items: &[Value]) -> Result<Vec<Value>, NoMemory>
-    ensures { IfOk result (λ all. all.items ≡ items.now) }
-{
-    let mut all = Vec::new(alloc);
-    append_copies(alloc, items, &mut all)?;
-    Ok(all)
 }
 
 // An item that is at most each item.
@@ -129,8 +125,8 @@ pub fn greatest(alloc: Global, kind: Kind, items: &[Value]) -> Result<Value, Pri
     alone(alloc, kind, greatest_of(kind, items))
 }
 
-/// The items of the items, in order, as a collection of the same kind.
-pub fn flatten(alloc: Global, kind: Kind, items: &[Value]) -> Result<Value, PrimStop>
+/// The items of the items of a collection that is lent, in order, as a collection of the same kind.
+pub fn flatten_lent(alloc: Global, kind: Kind, items: &[Value]) -> Result<Value, PrimStop>
     requires { All (λ v. IsSome (items_at kind v)) items.now }
     ensures { Answers (with_some (all_some (items_at kind) items.now) (λ lists. gives (canonical kind (flat_map (λ vs. vs) lists)))) result }
 {
@@ -141,25 +137,58 @@ pub fn flatten(alloc: Global, kind: Kind, items: &[Value]) -> Result<Value, Prim
     Ok(canon(kind, all)?)
 }
 
-/// The collection of another kind with the same items. Items that are in order already are not sorted.
-pub fn convert(alloc: Global, kind: Kind, items: &[Value], into: Kind) -> Result<Value, PrimStop>
-    requires { IsCanonical (collection kind items.now) }
-    ensures { Answers (gives (canonical into items.now)) result }
+/// The same of one that is handed over, whose items are kept.
+pub fn flatten_owned(alloc: Global, kind: Kind, items: Vec<Value>) -> Result<Value, PrimStop>
+    requires { All (λ v. IsSome (items_at kind v)) items.items }
+    ensures { Answers (with_some (all_some (items_at kind) items.items) (λ lists. gives (canonical kind (flat_map (λ vs. vs) lists)))) result }
 {
-    let mut all = copies(alloc, items)?;
+    Ok(canon(kind, joined(alloc, kind, items)?)?)
+}
+
+fn joined(alloc: Global, kind: Kind, items: Vec<Value>) -> Result<Vec<Value>, NoMemory>
+    requires { All (λ v. IsSome (items_at kind v)) items.items }
+    ensures { IfOk result (λ all. all.items ≡ flat_map (listed kind) items.items) }
+{
+    let mut all = Vec::new(alloc);
+    for item in items {
+        all.append(&mut into_items(kind, item))?;
+    }
+    Ok(all)
+}
+
+/// The kind and the items of a collection: copies where it is lent.
+pub fn taken(alloc: Global, arg: Arg<'_>) -> Result<(Kind, Vec<Value>), NoMemory>
+    requires { IsCollection (value_in arg) }
+    ensures { IfOk result (λ parts. value_in arg.entry ≡ collection parts.0 parts.1.items) }
+{
+    match arg {
+        Arg::Lent(v) => {
+            let (kind, items) = parts_of(v);
+            Ok((kind, dup_items(alloc, items)?))
+        }
+        Arg::Owned(v) => Ok(into_parts(v)),
+    }
+}
+
+/// The collection of another kind with the items of one of a kind. Items that are in order already are not sorted.
+pub fn convert(kind: Kind, items: Vec<Value>, into: Kind) -> Result<Value, PrimStop>
+    requires { IsCanonical (collection kind items.items) }
+    ensures { Answers (gives (canonical into items.items)) result }
+{
+    let mut items = items;
     match into {
         Kind::Set => match kind {
-            Kind::Set => Ok(Value::Set(Seq::of(all))),
+            Kind::Set => Ok(Value::Set(Seq::of(items))),
             Kind::Bag => {
-                all.dedup();
-                Ok(Value::Set(Seq::of(all)))
+                items.dedup();
+                Ok(Value::Set(Seq::of(items)))
             }
-            Kind::List => Ok(canon(into, all)?),
+            Kind::List => Ok(canon(into, items)?),
         },
         Kind::Bag => match kind {
-            Kind::Set | Kind::Bag => Ok(Value::Bag(Seq::of(all))),
-            Kind::List => Ok(canon(into, all)?),
+            Kind::Set | Kind::Bag => Ok(Value::Bag(Seq::of(items))),
+            Kind::List => Ok(canon(into, items)?),
         },
-        Kind::List => Ok(Value::List(Seq::of(all))),
+        Kind::List => Ok(Value::List(Seq::of(items))),
     }
 }

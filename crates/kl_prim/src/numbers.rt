@@ -1,13 +1,12 @@
 //! What is made of integers, and how many there are of something.
 ghost use Rattle.std.specs.Prelude.{◌≡◌, ◌<◌, ◌^◌, ℤ, pos, ◌+ℤ◌, ◌-ℤ◌, ◌*ℤ◌, neg_ℤ, All, SomeIff, FitsSigned, length};
 ghost use Rattle.std.specs.Int.{w64};
-ghost use Rattle.kl_prim.specs.Fits.{IsInt};
+ghost use Rattle.kl_value.specs.Views.{IsInt};
 ghost use Rattle.kl_prim.specs.Meaning.{Answers, amount, exact, gives, with_some, all_some, total};
-ghost use Rattle.kl_prim.specs.Views.{as_int};
+ghost use Rattle.kl_value.specs.Views.{as_int};
 
 use crate::stop::PrimStop;
-use crate::views::int_of;
-use kl_value::Value;
+use kl_value::{Value, int_of};
 
 // What a checked operation answers: none is an overflow.
 fn checked(answer: Option<i64>) -> Result<Value, PrimStop>

@@ -1,59 +1,61 @@
-//! The primitives: one list, from which the table and `apply` are made.
-ghost use Rattle.std.specs.Prelude.{◌≡◌, ◌≢◌, ◌↔◌, ℕ, List, length, map, All, IfOk};
-ghost use Rattle.kl_value.specs.Shape.{IsCanonical};
+//! The primitives: one list, from which the table and `apply_args` are made.
+ghost use Rattle.std.specs.Prelude.{◌≡◌, ◌≢◌, ◌↔◌, ◌==◌, ℕ, List, length, map, find, All, IfOk, IfSome};
+ghost use Rattle.std.specs.Option.{option_copied, option_map};
+ghost use Rattle.kl_value.specs.IsCanonical.{IsCanonical};
 ghost use Rattle.kl_value.specs.declared.Value.{Value};
+ghost use Rattle.kl_prim.specs.Arguments.{values_in};
+ghost use Rattle.kl_prim.specs.Fits.{FitsShape};
 ghost use Rattle.kl_prim.specs.Meaning.{Answers, gives, overflows, senseless};
-ghost use Rattle.kl_prim.specs.Table.{Fits, IsTotal, Takes, entry_of, meaning, rows};
+ghost use Rattle.kl_prim.specs.Table.{Fits, IsTotal, Takes, entry_of, meaning, row_at, rows};
 
-use crate::collections::{convert, flatten, greatest, least, member};
-use crate::numbers::{add, amount, multiply, negate, subtract, sum};
+use crate::answers::{
+    above, add, at_least, at_most, bagof, begins_with, below, complement, count, equal, flatten,
+    greatest, is_empty, join, least, listof, member, multiply, negate, setof, subtract, sum,
+    text_length, to_int, to_text, unequal,
+};
+use crate::args::{Arg, Args};
 use crate::rows::{PrimRow, PrimTable, Shape};
 use crate::stop::PrimStop;
-use crate::texts::{join, to_int, to_text};
-use crate::views::{
-    one_bool, one_collection, one_int, one_text, two_ints, two_texts, two_values,
-    value_and_collection,
-};
-use kl_value::{Kind, Value, cmp};
+use kl_value::Value;
 use std::alloc::Global;
 
-// Each primitive once: code, name, number of arguments, their shape, whether there is always an answer; how the
-// arguments are read; the answer.
+// Each primitive once: code, name, number of arguments, their shape, whether there is always an answer; the function
+// that answers.
 macro_rules! primitives {
     ($then:ident $code:ident $alloc:ident $args:ident) => {
         $then! { $code
-            1 b"=" 2 Compare true, (v, w) = two_values($args) => Ok(Value::Bool(cmp(v, w).is_eq()));
-            2 b"<>" 2 Compare true, (v, w) = two_values($args) => Ok(Value::Bool(cmp(v, w).is_ne()));
-            3 b"<" 2 Compare true, (v, w) = two_values($args) => Ok(Value::Bool(cmp(v, w).is_lt()));
-            4 b"<=" 2 Compare true, (v, w) = two_values($args) => Ok(Value::Bool(cmp(v, w).is_le()));
-            5 b">" 2 Compare true, (v, w) = two_values($args) => Ok(Value::Bool(cmp(v, w).is_gt()));
-            6 b">=" 2 Compare true, (v, w) = two_values($args) => Ok(Value::Bool(cmp(v, w).is_ge()));
-            7 b"+" 2 IntOp false, (m, n) = two_ints($args) => add(m, n);
-            8 b"-" 2 IntOp false, (m, n) = two_ints($args) => subtract(m, n);
-            9 b"*" 2 IntOp false, (m, n) = two_ints($args) => multiply(m, n);
-            10 b"neg" 1 IntFn false, n = one_int($args) => negate(n);
-            11 b"not" 1 BoolFn true, b = one_bool($args) => Ok(Value::Bool(!b));
-            12 b"^" 2 TextJoin true, (s, t) = two_texts($args) => join($alloc, s, t);
-            13 b"isempty" 1 CollTest true, (_, items) = one_collection($args) => Ok(Value::Bool(items.is_empty()));
-            14 b"count" 1 CollCount true, (_, items) = one_collection($args) => Ok(amount(items));
-            15 b"sum" 1 CollSum false, (_, items) = one_collection($args) => sum(items);
-            16 b"member" 2 Member true, (v, kind, items) = value_and_collection($args) => Ok(Value::Bool(member(v, kind, items)));
-            17 b"least" 1 CollSame true, (kind, items) = one_collection($args) => least($alloc, kind, items);
-            18 b"greatest" 1 CollSame true, (kind, items) = one_collection($args) => greatest($alloc, kind, items);
-            19 b"flatten" 1 Flatten true, (kind, items) = one_collection($args) => flatten($alloc, kind, items);
-            20 b"setof" 1 ToSet true, (kind, items) = one_collection($args) => convert($alloc, kind, items, Kind::Set);
-            21 b"bagof" 1 ToBag true, (kind, items) = one_collection($args) => convert($alloc, kind, items, Kind::Bag);
-            22 b"listof" 1 ToList true, (kind, items) = one_collection($args) => convert($alloc, kind, items, Kind::List);
-            23 b"strlen" 1 TextLen true, text = one_text($args) => Ok(amount(text));
-            24 b"startswith" 2 TextTest true, (s, t) = two_texts($args) => Ok(Value::Bool(s.starts_with(t)));
-            25 b"toint" 1 TextInts true, text = one_text($args) => to_int($alloc, text);
-            26 b"totext" 1 IntText true, n = one_int($args) => to_text($alloc, n);
+            1 b"=" 2 Compare true, equal(&$args);
+            2 b"<>" 2 Compare true, unequal(&$args);
+            3 b"<" 2 Compare true, below(&$args);
+            4 b"<=" 2 Compare true, at_most(&$args);
+            5 b">" 2 Compare true, above(&$args);
+            6 b">=" 2 Compare true, at_least(&$args);
+            7 b"+" 2 IntOp false, add(&$args);
+            8 b"-" 2 IntOp false, subtract(&$args);
+            9 b"*" 2 IntOp false, multiply(&$args);
+            10 b"neg" 1 IntFn false, negate(&$args);
+            11 b"not" 1 BoolFn true, complement(&$args);
+            12 b"^" 2 TextJoin true, join($alloc, &$args);
+            13 b"isempty" 1 CollTest true, is_empty(&$args);
+            14 b"count" 1 CollCount true, count(&$args);
+            15 b"sum" 1 CollSum false, sum(&$args);
+            16 b"member" 2 Member true, member(&$args);
+            17 b"least" 1 CollSame true, least($alloc, &$args);
+            18 b"greatest" 1 CollSame true, greatest($alloc, &$args);
+            19 b"flatten" 1 Flatten true, flatten($alloc, $args);
+            20 b"setof" 1 ToSet true, setof($alloc, $args);
+            21 b"bagof" 1 ToBag true, bagof($alloc, $args);
+            22 b"listof" 1 ToList true, listof($alloc, $args);
+            23 b"strlen" 1 TextLen true, text_length(&$args);
+            24 b"startswith" 2 TextTest true, begins_with(&$args);
+            25 b"toint" 1 TextInts true, to_int($alloc, &$args);
+            26 b"totext" 1 IntText true, to_text($alloc, &$args);
         }
     };
 }
 
 macro_rules! rows_of {
-    ($what:ident $($code:literal $name:literal $arity:literal $shape:ident $total:literal, $given:pat = $read:expr => $answer:expr;)*) => {
+    ($what:ident $($code:literal $name:literal $arity:literal $shape:ident $total:literal, $answer:expr;)*) => {
         [$(PrimRow {
             code: $code,
             name: $name,
@@ -65,12 +67,9 @@ macro_rules! rows_of {
 }
 
 macro_rules! answer_of {
-    ($what:ident $($code:literal $name:literal $arity:literal $shape:ident $total:literal, $given:pat = $read:expr => $answer:expr;)*) => {
+    ($what:ident $($code:literal $name:literal $arity:literal $shape:ident $total:literal, $answer:expr;)*) => {
         match $what {
-            $($code => {
-                let $given = $read;
-                $answer
-            })*
+            $($code => $answer,)*
             _ => unreachable!(),
         }
     };
@@ -85,6 +84,21 @@ pub fn table() -> PrimTable<26>
     PrimTable { rows: &ROWS }
 }
 
+/// The row of a code, and `None` exactly where the table has none. Arguments of a found row's shape are those that
+/// `apply` takes. Takes no memory.
+pub fn row_of(code: u8) -> Option<&'static PrimRow>
+    ensures row { option_map entry_of (option_copied result) ≡ option_map (λ r. r.entry) (row_at code) }
+    ensures takes { IfSome result (λ r. (args : List Value) → FitsShape r.now.shape args ↔ Fits code args) }
+{
+    at_code(table().rows, code)
+}
+
+fn at_code(rows: &[PrimRow], code: u8) -> Option<&PrimRow>
+    ensures { option_copied result ≡ find (λ r. r.code == code) rows.now }
+{
+    rows.iter().find(|row| row.code == code)
+}
+
 /// The laws of the table: arguments that fit are as many as the row says, and make sense; a total primitive does not
 /// overflow; of canonical arguments the answer is canonical.
 pub fn table_laws()
@@ -94,16 +108,32 @@ pub fn table_laws()
     ensures canonical { (code : ℕ) (args : List Value) (v : Value) → All IsCanonical args → meaning code args ≡ gives v → IsCanonical v }
 {}
 
-fn answer(alloc: Global, code: u8, args: &[Value]) -> Result<Value, PrimStop>
-    requires fits { Fits code args.now }
-    requires canonical { All IsCanonical args.now }
-    ensures { Answers (meaning code args.now) result }
+fn answer(alloc: Global, code: u8, args: Args<'_>) -> Result<Value, PrimStop>
+    requires fits { Fits code (values_in args) }
+    requires canonical { All IsCanonical (values_in args) }
+    ensures { Answers (meaning code (values_in args.entry)) result }
 {
     primitives!(answer_of code alloc args)
 }
 
-/// What the primitive of a code makes of arguments that fit the shape of its row, as the table means it. Arguments
-/// that are only looked at are not copied.
+/// What the primitive of a code makes of arguments that fit the shape of its row, as the table means it. What is only
+/// looked at is not copied, and of a collection that is handed over `flatten`, `setof`, `bagof` and `listof` keep the
+/// items.
+///
+/// # Errors
+/// `Overflow` exactly where the exact result leaves the 64-bit integers; `NoMemory`. What was handed over is dropped
+/// then.
+pub fn apply_args(alloc: Global, code: u8, args: Args<'_>) -> Result<Value, PrimStop>
+    requires fits { Fits code (values_in args) }
+    requires canonical { All IsCanonical (values_in args) }
+    ensures value { IfOk result (λ v. meaning code (values_in args.entry) ≡ gives v) }
+    ensures overflow { (result ≡ Err PrimStop.Overflow) ↔ (meaning code (values_in args.entry) ≡ overflows) }
+    ensures canonical { IfOk result IsCanonical }
+{
+    answer(alloc, code, args)
+}
+
+/// The same of arguments that are all lent.
 ///
 /// # Errors
 /// `Overflow` exactly where the exact result leaves the 64-bit integers; `NoMemory`.
@@ -114,5 +144,10 @@ pub fn apply(alloc: Global, code: u8, args: &[Value]) -> Result<Value, PrimStop>
     ensures overflow { (result ≡ Err PrimStop.Overflow) ↔ (meaning code args.now ≡ overflows) }
     ensures canonical { IfOk result IsCanonical }
 {
-    answer(alloc, code, args)
+    match args {
+        [v] => apply_args(alloc, code, Args::One(Arg::Lent(v))),
+        [v, w] => apply_args(alloc, code, Args::Two(Arg::Lent(v), Arg::Lent(w))),
+        [] => unreachable!(),
+        [_, _, _, ..] => unreachable!(),
+    }
 }

@@ -50,16 +50,22 @@ pub enum Shape {
 /// answer.
 #[derive(Clone, Copy, Debug)]
 pub struct PrimRow {
+    /// What `apply` knows it by.
     pub code: u8,
+    /// What programs call it.
     pub name: &'static [u8],
+    /// How many arguments it takes.
     pub arity: u8,
+    /// What these are, and what it gives.
     pub shape: Shape,
+    /// Whether it has an answer for all arguments of the shape.
     pub total: bool,
 }
 
 /// The rows of N primitives, no two of one code or name.
 #[derive(Clone, Copy, Debug)]
 pub struct PrimTable<const N: usize> {
+    /// Its rows, by rising code.
     pub rows: &'static [PrimRow],
     ghost counted: { length rows.now ≡ N },
     ghost codes_differ: { IsDistinct nat_eq (map (λ row. row.code) rows.now) } by { Prim.hlevel props },

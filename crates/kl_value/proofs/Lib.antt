@@ -1,3 +1,6 @@
 pub mod CanonLemmas
+pub mod IsCanonicalLemmas
+pub mod KeyLemmas
 pub mod OrderLemmas
 pub mod ShapeLemmas
+pub mod ViewLemmas

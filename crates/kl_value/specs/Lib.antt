@@ -1,6 +1,9 @@
 pub mod Canon
+pub mod IsCanonical
+pub mod Keys
 pub mod Order
 pub mod Shape
+pub mod Views
 pub mod Written
 pub use Rattle.kl_base.specs.Fields
 pub use Rattle.kl_base.specs.Sorted

@@ -1,10 +1,6 @@
--- How deep a value nests, and which values are canonical.
-use Rattle.std.specs.Prelude.{ℕ, ◌+◌, max, List, [], ◌∷◌, ⊤}
-use Rattle.std.specs.List.Sorted.{IsStrictlySortedBy}
-use Rattle.kl_base.specs.Fields.{LabelsRise}
-use Rattle.kl_value.specs.Order.{compare}
-use Rattle.kl_base.specs.Sorted.{IsRising}
-use Rattle.kl_value.specs.declared.value.Value.{Value, Value-F, fold-Value, every-Value}
+-- How deep a value nests.
+use Rattle.std.specs.Prelude.{ℕ, ◌+◌, max, List, [], ◌∷◌}
+use Rattle.kl_value.specs.declared.value.Value.{Value, Value-F, fold-Value}
 
 -- the greatest number that f gives of an item
 abbrev pub greatest : {X : Type 0} → (X → ℕ) → List X → ℕ
@@ -23,14 +19,3 @@ depth_layer d _ = 0
 -- how many records, variants and collections stand in one another
 unfoldable pub depth_of : Value → ℕ
 depth_of = fold-Value ℕ (depth_layer (λ n. n))
-
--- one level is in canonical form: labels strictly rise, a set's items strictly rise, and a bag's items rise
-abbrev pub IsCanonicalLayer : Value-F Value → Type 0
-IsCanonicalLayer (Value-F.Rec fs) = LabelsRise fs
-IsCanonicalLayer (Value-F.Set vs) = IsStrictlySortedBy compare vs
-IsCanonicalLayer (Value-F.Bag vs) = IsRising compare vs
-IsCanonicalLayer _ = ⊤
-
--- each level is
-unfoldable pub IsCanonical : Value → Type 0
-IsCanonical = every-Value IsCanonicalLayer

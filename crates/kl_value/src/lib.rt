@@ -6,12 +6,15 @@
 
 mod measure;
 mod order;
+mod sorting;
 mod value;
+mod views;
 
 pub use kl_base::{Box, Label, NoMemory, Seq, Text, is_word};
-pub use measure::{depth, dup};
+pub use measure::{depth, dup, dup_items};
 pub use order::{canon, canon_laws, cmp, order_laws};
 pub use value::{Fields, Items, Kind, Value};
+pub use views::{bool_of, bytes_of, field, int_of, into_items, into_parts, items_of, parts_of};
 
 #[cfg(test)]
 mod tests;

@@ -69,8 +69,12 @@ pub fn dup(alloc: Global, v: &Value) -> Result<Value, NoMemory>
     }
 }
 
+/// Equal values, in the same order.
+///
+/// # Errors
+/// Want of memory; the copies made so far are dropped then.
 #[cycle(dup)]
-fn dup_items(alloc: Global, items: &[Value]) -> Result<Vec<Value>, NoMemory>
+pub fn dup_items(alloc: Global, items: &[Value]) -> Result<Vec<Value>, NoMemory>
     ensures { IfOk result (λ copies. copies.items ≡ items.now) }
 {
     let mut copies = Vec::with_capacity(alloc, items.len())?;

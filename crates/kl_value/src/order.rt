@@ -5,11 +5,12 @@ ghost use Rattle.std.specs.FinMap.{IsAntisymmetric};
 ghost use Rattle.std.specs.Ordering.{eq_by_cmp};
 ghost use Rattle.kl_value.specs.Order.{compare};
 ghost use Rattle.kl_value.specs.Canon.{canonical, IsCanonicalOf};
-ghost use Rattle.kl_value.specs.Shape.{IsCanonical};
+ghost use Rattle.kl_value.specs.IsCanonical.{IsCanonical};
 ghost use Rattle.kl_value.specs.declared.value.Kind.{Kind};
 ghost use Rattle.kl_value.specs.declared.value.Value.{Value};
 ghost use Rattle.kl_value.specs.contracts.value.ValuePartialEq.TheImpl as equality;
 
+use crate::sorting::sort;
 use crate::value::{Kind, Value};
 use kl_base::{NoMemory, Seq};
 use std::cmp::Ordering;
@@ -36,22 +37,22 @@ pub fn canon_laws()
     ensures keeps { (k : Kind) (xs : List Value) → All IsCanonical xs → IsCanonical (canonical k xs) }
 {}
 
-/// The collection of these items: a set sorted without repeats, a bag sorted, a list as it is.
+/// The collection of these items: a set sorted without repeats, a bag sorted, a list as it is. Items that rise already
+/// are not sorted again.
 ///
 /// # Errors
 /// Want of memory; the items are dropped then.
 pub fn canon(kind: Kind, items: Vec<Value>) -> Result<Value, NoMemory>
     ensures { IfOk result (λ v. v ≡ canonical kind items.items) }
 {
-    let mut items = items;
     match kind {
         Kind::Set => {
-            items.sort()?;
+            let mut items = sort(items)?;
             items.dedup();
             Ok(Value::Set(Seq::of(items)))
         }
         Kind::Bag => {
-            items.sort()?;
+            let items = sort(items)?;
             Ok(Value::Bag(Seq::of(items)))
         }
         Kind::List => Ok(Value::List(Seq::of(items))),

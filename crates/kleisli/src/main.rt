@@ -1,7 +1,8 @@
 //! The program `kleisli`: the top call over the system's words, files and streams.
 //!
-//! It ends with the status that the top call answers. Before that call it can end with 9, where there is no memory for
-//! the words, with 1, where a word is not UTF-8, and with 12, where the system gives no words.
+//! It ends with the status that the top call answers. A word that is not UTF-8 is told as words that name no command.
+//! Before that call the program can end with 9, where there is no memory for the words, and with 12, where the system
+//! gives no words.
 #![tactic(auto)]
 
 use kl_engine::kleisli;
@@ -9,8 +10,6 @@ use kl_outside::{HostFiles, HostSink};
 use std::io::ErrorKind;
 use std::process::ExitCode;
 use std::{env, io};
-
-const FAULTY_WORDS: u8 = 1;
 
 const NO_MEMORY: u8 = 9;
 
@@ -21,7 +20,7 @@ fn main(rt: HostRuntime) -> ExitCode {
         Ok(words) => ExitCode::from(run(rt, &words)),
         Err(error) => ExitCode::from(match error.kind() {
             ErrorKind::OutOfMemory => NO_MEMORY,
-            ErrorKind::InvalidData => FAULTY_WORDS,
+            ErrorKind::InvalidData => run(rt, &[]),
             _ => NO_WORDS,
         }),
     }

@@ -1,3 +1,4 @@
+use Rattle.kl_exchange.proofs.Canonical.{item_nests, item_again}
 use Rattle.kl_exchange.proofs.OneAnswer.{one_front, one_answer}
 use Rattle.kl_exchange.proofs.laws.reading_laws.Goals as goal
 
@@ -6,3 +7,9 @@ returns-clause-one_item c = one_front
 
 pub returns-clause-one_answer : goal.returns-clause-one_answer
 returns-clause-one_answer c = one_answer
+
+pub returns-clause-nests : goal.returns-clause-nests
+returns-clause-nests c = item_nests
+
+pub returns-clause-again : goal.returns-clause-again
+returns-clause-again c = item_again

@@ -1,5 +1,6 @@
 use Rattle.std.proofs.Common.{◌∙◌}
-use Rattle.kl_prim.proofs.CollectionLemmas.{rising, last_high, found_high}
+use Rattle.kl_value.proofs.IsCanonicalLemmas.{rising}
+use Rattle.kl_prim.proofs.CollectionLemmas.{last_high, found_high}
 use Rattle.kl_prim.proofs.collections.greatest_of.Goals as goal
 
 pub returns-in-Set : goal.returns-in-Set

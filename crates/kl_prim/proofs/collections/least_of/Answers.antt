@@ -1,5 +1,6 @@
 use Rattle.std.proofs.Common.{◌∙◌}
-use Rattle.kl_prim.proofs.CollectionLemmas.{rising, first_low, found_low}
+use Rattle.kl_value.proofs.IsCanonicalLemmas.{rising}
+use Rattle.kl_prim.proofs.CollectionLemmas.{first_low, found_low}
 use Rattle.kl_prim.proofs.collections.least_of.Goals as goal
 
 pub returns-in-Set : goal.returns-in-Set

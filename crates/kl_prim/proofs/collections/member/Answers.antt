@@ -1,5 +1,6 @@
 use Rattle.std.proofs.Common.{◌∙◌}
-use Rattle.kl_prim.proofs.CollectionLemmas.{contained, rising, searched}
+use Rattle.kl_value.proofs.IsCanonicalLemmas.{rising}
+use Rattle.kl_prim.proofs.CollectionLemmas.{contained, searched}
 use Rattle.kl_prim.proofs.collections.member.Goals as goal
 
 pub returns-in-Set : goal.returns-in-Set

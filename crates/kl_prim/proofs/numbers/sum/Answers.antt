@@ -4,7 +4,7 @@ use Rattle.std.proofs.lemmas.List.{take_all}
 use Rattle.std.proofs.lemmas.List.Sums.{fold_more}
 use Rattle.kl_value.specs.declared.Value.{Value}
 use Rattle.kl_prim.specs.Meaning.{Answers, with_some, exact, total}
-use Rattle.kl_prim.specs.Views.{as_int}
+use Rattle.kl_value.specs.Views.{as_int}
 use Rattle.kl_prim.proofs.ItemLemmas.{int_at, all_some_is, some_from_ok, total_is}
 use Rattle.kl_prim.proofs.numbers.sum.Goals as goal
 

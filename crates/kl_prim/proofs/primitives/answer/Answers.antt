@@ -1,127 +1,117 @@
-use Rattle.std.proofs.Common.{◌∙◌, sym, ap, FitsSigned, w64, rules, arith, is_eq, is_lt, is_le, is_gt, is_ge}
-use Rattle.std.specs.Ordering.{is_ne}
-use Rattle.std.proofs.lemmas.Int.{to_z-of_z}
-use Rattle.kl_prim.specs.Meaning.{truth}
+use Rattle.std.proofs.Common.{arith, refl}
 use Rattle.kl_prim.specs.Table.{Fits, meaning, row_at, rows}
-use Rattle.kl_prim.proofs.TableLemmas.{◌&◌, all_ints, all_nested, answers_by, fits, ints_are, means, nested_are, no_row, reads_ints, reads_nested}
+use Rattle.kl_prim.proofs.TableLemmas.{◌&◌, answers_by, fits, means, no_row}
+use Rattle.kl_prim.specs.Arguments.{values_in}
 use Rattle.kl_prim.proofs.primitives.answer.Goals as goal
 
-pub two_values-requires : goal.two_values-requires
+pub equal-requires : goal.equal-requires
 unfolding Fits row_at rows
-two_values-requires c = fits c.args.code 1 c.args.args.now c.in-1.is c.requires.fits
+equal-requires c = fits c.args.code 1 (values_in c.args.args) c.in-1.is c.requires.fits
 
-pub two_values-requires-in-2 : goal.two_values-requires-in-2
+pub unequal-requires : goal.unequal-requires
 unfolding Fits row_at rows
-two_values-requires-in-2 c = fits c.args.code 2 c.args.args.now c.in-2.is c.requires.fits
+unequal-requires c = fits c.args.code 2 (values_in c.args.args) c.in-2.is c.requires.fits
 
-pub two_values-requires-in-3 : goal.two_values-requires-in-3
+pub below-requires : goal.below-requires
 unfolding Fits row_at rows
-two_values-requires-in-3 c = fits c.args.code 3 c.args.args.now c.in-3.is c.requires.fits
+below-requires c = fits c.args.code 3 (values_in c.args.args) c.in-3.is c.requires.fits
 
-pub two_values-requires-in-4 : goal.two_values-requires-in-4
+pub at_most-requires : goal.at_most-requires
 unfolding Fits row_at rows
-two_values-requires-in-4 c = fits c.args.code 4 c.args.args.now c.in-4.is c.requires.fits
+at_most-requires c = fits c.args.code 4 (values_in c.args.args) c.in-4.is c.requires.fits
 
-pub two_values-requires-in-5 : goal.two_values-requires-in-5
+pub above-requires : goal.above-requires
 unfolding Fits row_at rows
-two_values-requires-in-5 c = fits c.args.code 5 c.args.args.now c.in-5.is c.requires.fits
+above-requires c = fits c.args.code 5 (values_in c.args.args) c.in-5.is c.requires.fits
 
-pub two_values-requires-in-6 : goal.two_values-requires-in-6
+pub at_least-requires : goal.at_least-requires
 unfolding Fits row_at rows
-two_values-requires-in-6 c = fits c.args.code 6 c.args.args.now c.in-6.is c.requires.fits
+at_least-requires c = fits c.args.code 6 (values_in c.args.args) c.in-6.is c.requires.fits
 
-pub two_ints-m-requires : goal.two_ints-m-requires
+pub add-requires : goal.add-requires
 unfolding Fits row_at rows
-two_ints-m-requires c = fits c.args.code 7 c.args.args.now c.in-7.is c.requires.fits
+add-requires c = fits c.args.code 7 (values_in c.args.args) c.in-7.is c.requires.fits
 
-pub two_ints-m-requires-in-8 : goal.two_ints-m-requires-in-8
+pub subtract-requires : goal.subtract-requires
 unfolding Fits row_at rows
-two_ints-m-requires-in-8 c = fits c.args.code 8 c.args.args.now c.in-8.is c.requires.fits
+subtract-requires c = fits c.args.code 8 (values_in c.args.args) c.in-8.is c.requires.fits
 
-pub two_ints-m-requires-in-9 : goal.two_ints-m-requires-in-9
+pub multiply-requires : goal.multiply-requires
 unfolding Fits row_at rows
-two_ints-m-requires-in-9 c = fits c.args.code 9 c.args.args.now c.in-9.is c.requires.fits
+multiply-requires c = fits c.args.code 9 (values_in c.args.args) c.in-9.is c.requires.fits
 
-pub one_int-n-requires : goal.one_int-n-requires
+pub negate-requires : goal.negate-requires
 unfolding Fits row_at rows
-one_int-n-requires c = fits c.args.code 10 c.args.args.now c.in-10.is c.requires.fits
+negate-requires c = fits c.args.code 10 (values_in c.args.args) c.in-10.is c.requires.fits
 
-pub one_bool-b-requires : goal.one_bool-b-requires
+pub complement-requires : goal.complement-requires
 unfolding Fits row_at rows
-one_bool-b-requires c = fits c.args.code 11 c.args.args.now c.in-11.is c.requires.fits
+complement-requires c = fits c.args.code 11 (values_in c.args.args) c.in-11.is c.requires.fits
 
-pub two_texts-requires : goal.two_texts-requires
+pub join-requires : goal.join-requires
 unfolding Fits row_at rows
-two_texts-requires c = fits c.args.code 12 c.args.args.now c.in-12.is c.requires.fits
+join-requires c = fits c.args.code 12 (values_in c.args.args) c.in-12.is c.requires.fits
 
-pub one_collection-requires : goal.one_collection-requires
+pub is_empty-requires : goal.is_empty-requires
 unfolding Fits row_at rows
-one_collection-requires c = fits c.args.code 13 c.args.args.now c.in-13.is c.requires.fits
+is_empty-requires c = fits c.args.code 13 (values_in c.args.args) c.in-13.is c.requires.fits
 
-pub one_collection-requires-in-14 : goal.one_collection-requires-in-14
+pub count-requires : goal.count-requires
 unfolding Fits row_at rows
-one_collection-requires-in-14 c = fits c.args.code 14 c.args.args.now c.in-14.is c.requires.fits
-
-pub one_collection-requires-in-15 : goal.one_collection-requires-in-15
-unfolding Fits row_at rows
-one_collection-requires-in-15 c = ints_are c.args.args.now (fits c.args.code 15 c.args.args.now c.in-15.is c.requires.fits)
+count-requires c = fits c.args.code 14 (values_in c.args.args) c.in-14.is c.requires.fits
 
 pub sum-requires : goal.sum-requires
 unfolding Fits row_at rows
-sum-requires c = all_ints c.args.args.now _ _ (fits c.args.code 15 c.args.args.now c.in-15.is c.requires.fits) c.one_collection-in-15.ensures.form
+sum-requires c = fits c.args.code 15 (values_in c.args.args) c.in-15.is c.requires.fits
 
-pub value_and_collection-kind-requires : goal.value_and_collection-kind-requires
+pub member-requires-clause-fits : goal.member-requires-clause-fits
 unfolding Fits row_at rows
-value_and_collection-kind-requires c = fits c.args.code 16 c.args.args.now c.in-16.is c.requires.fits
+member-requires-clause-fits c = fits c.args.code 16 (values_in c.args.args) c.in-16.is c.requires.fits
 
-pub one_collection-kind-requires : goal.one_collection-kind-requires
+pub least-requires-clause-fits : goal.least-requires-clause-fits
 unfolding Fits row_at rows
-one_collection-kind-requires c = fits c.args.code 17 c.args.args.now c.in-17.is c.requires.fits
+least-requires-clause-fits c = fits c.args.code 17 (values_in c.args.args) c.in-17.is c.requires.fits
 
-pub one_collection-kind-requires-in-18 : goal.one_collection-kind-requires-in-18
+pub greatest-requires-clause-fits : goal.greatest-requires-clause-fits
 unfolding Fits row_at rows
-one_collection-kind-requires-in-18 c = fits c.args.code 18 c.args.args.now c.in-18.is c.requires.fits
-
-pub one_collection-kind-requires-in-19 : goal.one_collection-kind-requires-in-19
-unfolding Fits row_at rows
-one_collection-kind-requires-in-19 c = nested_are c.args.args.now (fits c.args.code 19 c.args.args.now c.in-19.is c.requires.fits)
+greatest-requires-clause-fits c = fits c.args.code 18 (values_in c.args.args) c.in-18.is c.requires.fits
 
 pub flatten-requires : goal.flatten-requires
 unfolding Fits row_at rows
-flatten-requires c = all_nested c.args.args.now _ _ (fits c.args.code 19 c.args.args.now c.in-19.is c.requires.fits) c.one_collection-kind-in-19.ensures.form
+flatten-requires c = fits c.args.code 19 (values_in c.args.args) c.in-19.is c.requires.fits
 
-pub one_collection-kind-requires-in-20 : goal.one_collection-kind-requires-in-20
+pub setof-requires-clause-fits : goal.setof-requires-clause-fits
 unfolding Fits row_at rows
-one_collection-kind-requires-in-20 c = fits c.args.code 20 c.args.args.now c.in-20.is c.requires.fits
+setof-requires-clause-fits c = fits c.args.code 20 (values_in c.args.args) c.in-20.is c.requires.fits
 
-pub one_collection-kind-requires-in-21 : goal.one_collection-kind-requires-in-21
+pub bagof-requires-clause-fits : goal.bagof-requires-clause-fits
 unfolding Fits row_at rows
-one_collection-kind-requires-in-21 c = fits c.args.code 21 c.args.args.now c.in-21.is c.requires.fits
+bagof-requires-clause-fits c = fits c.args.code 21 (values_in c.args.args) c.in-21.is c.requires.fits
 
-pub one_collection-kind-requires-in-22 : goal.one_collection-kind-requires-in-22
+pub listof-requires-clause-fits : goal.listof-requires-clause-fits
 unfolding Fits row_at rows
-one_collection-kind-requires-in-22 c = fits c.args.code 22 c.args.args.now c.in-22.is c.requires.fits
+listof-requires-clause-fits c = fits c.args.code 22 (values_in c.args.args) c.in-22.is c.requires.fits
 
-pub one_text-text-requires : goal.one_text-text-requires
+pub text_length-requires : goal.text_length-requires
 unfolding Fits row_at rows
-one_text-text-requires c = fits c.args.code 23 c.args.args.now c.in-23.is c.requires.fits
+text_length-requires c = fits c.args.code 23 (values_in c.args.args) c.in-23.is c.requires.fits
 
-pub two_texts-requires-in-24 : goal.two_texts-requires-in-24
+pub begins_with-requires : goal.begins_with-requires
 unfolding Fits row_at rows
-two_texts-requires-in-24 c = fits c.args.code 24 c.args.args.now c.in-24.is c.requires.fits
+begins_with-requires c = fits c.args.code 24 (values_in c.args.args) c.in-24.is c.requires.fits
 
-pub one_text-text-requires-in-25 : goal.one_text-text-requires-in-25
+pub to_int-requires : goal.to_int-requires
 unfolding Fits row_at rows
-one_text-text-requires-in-25 c = fits c.args.code 25 c.args.args.now c.in-25.is c.requires.fits
+to_int-requires c = fits c.args.code 25 (values_in c.args.args) c.in-25.is c.requires.fits
 
-pub one_int-n-requires-in-26 : goal.one_int-n-requires-in-26
+pub to_text-requires : goal.to_text-requires
 unfolding Fits row_at rows
-one_int-n-requires-in-26 c = fits c.args.code 26 c.args.args.now c.in-26.is c.requires.fits
+to_text-requires c = fits c.args.code 26 (values_in c.args.args) c.in-26.is c.requires.fits
 
 pub unreachable-requires : goal.unreachable-requires
 unfolding rows
 unreachable-requires c =
-    no_row c.args.code c.args.args.now (
+    no_row c.args.code (values_in c.args.args) (
     (λ e. omega arith) &
     (λ e. omega arith) &
     (λ e. omega arith) &
@@ -152,117 +142,104 @@ unreachable-requires c =
 
 pub returns-in-1 : goal.returns-in-1
 unfolding meaning row_at rows
-returns-in-1 c = means c.args.code 1 c.args.args.now _ c.in-1.is (c.two_values.ensures _) ∙ ap truth (sym (c.is_eq.ensures ∙ ap is_eq c.cmp.ensures))
+returns-in-1 c = answers_by _ _ _ (means c.args.code 1 (values_in c.args.args) _ c.in-1.is refl) c.equal.ensures
 
 pub returns-in-2 : goal.returns-in-2
 unfolding meaning row_at rows
-returns-in-2 c = means c.args.code 2 c.args.args.now _ c.in-2.is (c.two_values-in-2.ensures _) ∙ ap truth (sym (c.is_ne.ensures ∙ ap is_ne c.cmp-in-2.ensures))
+returns-in-2 c = answers_by _ _ _ (means c.args.code 2 (values_in c.args.args) _ c.in-2.is refl) c.unequal.ensures
 
 pub returns-in-3 : goal.returns-in-3
 unfolding meaning row_at rows
-returns-in-3 c = means c.args.code 3 c.args.args.now _ c.in-3.is (c.two_values-in-3.ensures _) ∙ ap truth (sym (c.is_lt.ensures ∙ ap is_lt c.cmp-in-3.ensures))
+returns-in-3 c = answers_by _ _ _ (means c.args.code 3 (values_in c.args.args) _ c.in-3.is refl) c.below.ensures
 
 pub returns-in-4 : goal.returns-in-4
 unfolding meaning row_at rows
-returns-in-4 c = means c.args.code 4 c.args.args.now _ c.in-4.is (c.two_values-in-4.ensures _) ∙ ap truth (sym (c.is_le.ensures ∙ ap is_le c.cmp-in-4.ensures))
+returns-in-4 c = answers_by _ _ _ (means c.args.code 4 (values_in c.args.args) _ c.in-4.is refl) c.at_most.ensures
 
 pub returns-in-5 : goal.returns-in-5
 unfolding meaning row_at rows
-returns-in-5 c = means c.args.code 5 c.args.args.now _ c.in-5.is (c.two_values-in-5.ensures _) ∙ ap truth (sym (c.is_gt.ensures ∙ ap is_gt c.cmp-in-5.ensures))
+returns-in-5 c = answers_by _ _ _ (means c.args.code 5 (values_in c.args.args) _ c.in-5.is refl) c.above.ensures
 
 pub returns-in-6 : goal.returns-in-6
 unfolding meaning row_at rows
-returns-in-6 c = means c.args.code 6 c.args.args.now _ c.in-6.is (c.two_values-in-6.ensures _) ∙ ap truth (sym (c.is_ge.ensures ∙ ap is_ge c.cmp-in-6.ensures))
+returns-in-6 c = answers_by _ _ _ (means c.args.code 6 (values_in c.args.args) _ c.in-6.is refl) c.at_least.ensures
 
 pub returns-in-7 : goal.returns-in-7
 unfolding meaning row_at rows
-returns-in-7 c =
-    let m : FitsSigned w64 c.two_ints-m.result.0 = search rules in
-    let n : FitsSigned w64 c.two_ints-m.result.1 = search rules in
-    answers_by _ _ _ (means c.args.code 7 c.args.args.now _ c.in-7.is (c.two_ints-m.ensures _)) (simp to_z-of_z at c.add.ensures)
+returns-in-7 c = answers_by _ _ _ (means c.args.code 7 (values_in c.args.args) _ c.in-7.is refl) c.add.ensures
 
 pub returns-in-8 : goal.returns-in-8
 unfolding meaning row_at rows
-returns-in-8 c =
-    let m : FitsSigned w64 c.two_ints-m-in-8.result.0 = search rules in
-    let n : FitsSigned w64 c.two_ints-m-in-8.result.1 = search rules in
-    answers_by _ _ _ (means c.args.code 8 c.args.args.now _ c.in-8.is (c.two_ints-m-in-8.ensures _)) (simp to_z-of_z at c.subtract.ensures)
+returns-in-8 c = answers_by _ _ _ (means c.args.code 8 (values_in c.args.args) _ c.in-8.is refl) c.subtract.ensures
 
 pub returns-in-9 : goal.returns-in-9
 unfolding meaning row_at rows
-returns-in-9 c =
-    let m : FitsSigned w64 c.two_ints-m-in-9.result.0 = search rules in
-    let n : FitsSigned w64 c.two_ints-m-in-9.result.1 = search rules in
-    answers_by _ _ _ (means c.args.code 9 c.args.args.now _ c.in-9.is (c.two_ints-m-in-9.ensures _)) (simp to_z-of_z at c.multiply.ensures)
+returns-in-9 c = answers_by _ _ _ (means c.args.code 9 (values_in c.args.args) _ c.in-9.is refl) c.multiply.ensures
 
 pub returns-in-10 : goal.returns-in-10
 unfolding meaning row_at rows
-returns-in-10 c =
-    let n : FitsSigned w64 c.one_int-n.result = search rules in
-    answers_by _ _ _ (means c.args.code 10 c.args.args.now _ c.in-10.is (c.one_int-n.ensures _)) (simp to_z-of_z at c.negate.ensures)
+returns-in-10 c = answers_by _ _ _ (means c.args.code 10 (values_in c.args.args) _ c.in-10.is refl) c.negate.ensures
 
 pub returns-in-11 : goal.returns-in-11
 unfolding meaning row_at rows
-returns-in-11 c = means c.args.code 11 c.args.args.now _ c.in-11.is (c.one_bool-b.ensures _)
+returns-in-11 c = answers_by _ _ _ (means c.args.code 11 (values_in c.args.args) _ c.in-11.is refl) c.complement.ensures
 
 pub returns-in-12 : goal.returns-in-12
 unfolding meaning row_at rows
-returns-in-12 c = answers_by _ _ _ (means c.args.code 12 c.args.args.now _ c.in-12.is (c.two_texts.ensures _)) c.join.ensures
+returns-in-12 c = answers_by _ _ _ (means c.args.code 12 (values_in c.args.args) _ c.in-12.is refl) c.join.ensures
 
 pub returns-in-13 : goal.returns-in-13
 unfolding meaning row_at rows
-returns-in-13 c = means c.args.code 13 c.args.args.now _ c.in-13.is (c.one_collection.ensures.reads _) ∙ ap truth (sym c.is_empty.ensures)
+returns-in-13 c = answers_by _ _ _ (means c.args.code 13 (values_in c.args.args) _ c.in-13.is refl) c.is_empty.ensures
 
 pub returns-in-14 : goal.returns-in-14
 unfolding meaning row_at rows
-returns-in-14 c = means c.args.code 14 c.args.args.now _ c.in-14.is (c.one_collection-in-14.ensures.reads _) ∙ c.amount.ensures
+returns-in-14 c = answers_by _ _ _ (means c.args.code 14 (values_in c.args.args) _ c.in-14.is refl) c.count.ensures
 
 pub returns-in-15 : goal.returns-in-15
 unfolding meaning row_at rows
-returns-in-15 c = answers_by _ _ _ (means c.args.code 15 c.args.args.now _ c.in-15.is (reads_ints c.args.args.now _ _ _ c.one_collection-in-15.ensures.form)) c.sum.ensures
+returns-in-15 c = answers_by _ _ _ (means c.args.code 15 (values_in c.args.args) _ c.in-15.is refl) c.sum.ensures
 
 pub returns-in-16 : goal.returns-in-16
 unfolding meaning row_at rows
-returns-in-16 c = means c.args.code 16 c.args.args.now _ c.in-16.is (c.value_and_collection-kind.ensures.reads _) ∙ ap truth (sym c.member.ensures)
+returns-in-16 c = answers_by _ _ _ (means c.args.code 16 (values_in c.args.args) _ c.in-16.is refl) c.member.ensures
 
 pub returns-in-17 : goal.returns-in-17
 unfolding meaning row_at rows
-returns-in-17 c = answers_by _ _ _ (means c.args.code 17 c.args.args.now _ c.in-17.is (c.one_collection-kind.ensures.reads _)) c.least.ensures
+returns-in-17 c = answers_by _ _ _ (means c.args.code 17 (values_in c.args.args) _ c.in-17.is refl) c.least.ensures
 
 pub returns-in-18 : goal.returns-in-18
 unfolding meaning row_at rows
-returns-in-18 c = answers_by _ _ _ (means c.args.code 18 c.args.args.now _ c.in-18.is (c.one_collection-kind-in-18.ensures.reads _)) c.greatest.ensures
+returns-in-18 c = answers_by _ _ _ (means c.args.code 18 (values_in c.args.args) _ c.in-18.is refl) c.greatest.ensures
 
 pub returns-in-19 : goal.returns-in-19
 unfolding meaning row_at rows
-returns-in-19 c = answers_by _ _ _ (means c.args.code 19 c.args.args.now _ c.in-19.is (reads_nested c.args.args.now _ _ _ c.one_collection-kind-in-19.ensures.form)) c.flatten.ensures
+returns-in-19 c = answers_by _ _ _ (means c.args.code 19 (values_in c.args.args) _ c.in-19.is refl) c.flatten.ensures
 
 pub returns-in-20 : goal.returns-in-20
 unfolding meaning row_at rows
-returns-in-20 c = answers_by _ _ _ (means c.args.code 20 c.args.args.now _ c.in-20.is (c.one_collection-kind-in-20.ensures.reads _)) c.convert.ensures
+returns-in-20 c = answers_by _ _ _ (means c.args.code 20 (values_in c.args.args) _ c.in-20.is refl) c.setof.ensures
 
 pub returns-in-21 : goal.returns-in-21
 unfolding meaning row_at rows
-returns-in-21 c = answers_by _ _ _ (means c.args.code 21 c.args.args.now _ c.in-21.is (c.one_collection-kind-in-21.ensures.reads _)) c.convert-in-21.ensures
+returns-in-21 c = answers_by _ _ _ (means c.args.code 21 (values_in c.args.args) _ c.in-21.is refl) c.bagof.ensures
 
 pub returns-in-22 : goal.returns-in-22
 unfolding meaning row_at rows
-returns-in-22 c = answers_by _ _ _ (means c.args.code 22 c.args.args.now _ c.in-22.is (c.one_collection-kind-in-22.ensures.reads _)) c.convert-in-22.ensures
+returns-in-22 c = answers_by _ _ _ (means c.args.code 22 (values_in c.args.args) _ c.in-22.is refl) c.listof.ensures
 
 pub returns-in-23 : goal.returns-in-23
 unfolding meaning row_at rows
-returns-in-23 c = means c.args.code 23 c.args.args.now _ c.in-23.is (c.one_text-text.ensures _) ∙ c.amount-in-23.ensures
+returns-in-23 c = answers_by _ _ _ (means c.args.code 23 (values_in c.args.args) _ c.in-23.is refl) c.text_length.ensures
 
 pub returns-in-24 : goal.returns-in-24
 unfolding meaning row_at rows
-returns-in-24 c = means c.args.code 24 c.args.args.now _ c.in-24.is (c.two_texts-in-24.ensures _) ∙ ap truth (sym c.starts_with.ensures.value)
+returns-in-24 c = answers_by _ _ _ (means c.args.code 24 (values_in c.args.args) _ c.in-24.is refl) c.begins_with.ensures
 
 pub returns-in-25 : goal.returns-in-25
 unfolding meaning row_at rows
-returns-in-25 c = answers_by _ _ _ (means c.args.code 25 c.args.args.now _ c.in-25.is (c.one_text-text-in-25.ensures _)) c.to_int.ensures
+returns-in-25 c = answers_by _ _ _ (means c.args.code 25 (values_in c.args.args) _ c.in-25.is refl) c.to_int.ensures
 
 pub returns-in-26 : goal.returns-in-26
 unfolding meaning row_at rows
-returns-in-26 c =
-    let n : FitsSigned w64 c.one_int-n-in-26.result = search rules in
-    answers_by _ _ _ (means c.args.code 26 c.args.args.now _ c.in-26.is (c.one_int-n-in-26.ensures _)) (simp to_z-of_z at c.to_text.ensures)
+returns-in-26 c = answers_by _ _ _ (means c.args.code 26 (values_in c.args.args) _ c.in-26.is refl) c.to_text.ensures

@@ -1,0 +1,132 @@
+-- Raising positions: what fits, and what stays.
+use Rattle.std.proofs.Common.{◌≡◌, ⊎_elim, ℕ, ◌+◌, ◌<◌, ◌≤◌, ◌^◌, List, [], ◌∷◌, ◌++◌, map, All, Option, Some, None, Result, Ok, Err, IfOk, refl, sym, ap, subst, ◌∙◌, arith}
+use Rattle.std.specs.List.{AllByRecursion}
+use Rattle.std.proofs.lemmas.List.Elements.{All-from_recursion}
+use Rattle.std.proofs.lemmas.Bool.{cases_lt, lt-ltb, le-ltb}
+use mathlib.Core.Path.{ap₂}
+use Rattle.kl_value.specs.declared.Kind.{Kind}
+use Rattle.kl_outcome.specs.Outcome.{Name}
+use Rattle.kl_core.specs.declared.term.Term.{Term}
+use Rattle.kl_core.specs.declared.term.Term.TheVariants as term
+use Rattle.kl_core.specs.Trees.{Tree, var, con, source, rec, proj, inj, case_of, make, union, ext, choice, bind, prim, Trees, no_trees, trees, Parts, no_parts, parts, Arms, no_arms, rest, arm, arms_of, rest_of, view, view_part, trees_view, parts_view}
+use Rattle.kl_core.specs.Positions.{raised, shift_of, shift_trees, shift_parts, shift_arms, InRange, TreesInRange, PartsInRange, ArmsInRange}
+use Rattle.kl_core.specs.Core.{core}
+use Rattle.kl_core.specs.Typing.{CoreTypes}
+use Rattle.kl_core.specs.Keeping.{MeansShifted, TypedShifted}
+use Rattle.kl_core.proofs.Meanings.{shift_keeps}
+use Rattle.kl_core.proofs.TypeLaws.{shift_typed}
+use Rattle.kl_core.proofs.Views.{view_Rec, view_Make, view_Prim, view_Case, view_option, arms_view, mapped_trees, mapped_parts, mapped_arms}
+
+-- ---- each of a list fits
+
+trees_fit : (ts : List Term) (n m : ℕ) → TreesInRange (shift_trees (trees_view ts) n m) → AllByRecursion (λ t. InRange (shift_of (view t) n m)) ts
+trees_fit [] n m h = tt
+trees_fit (t ∷ ts) n m h = (h.0, trees_fit ts n m h.1)
+
+parts_fit : (ps : List (Name × Term)) (n m : ℕ) → PartsInRange (shift_parts (parts_view ps) n m) → AllByRecursion (λ p. InRange (shift_of (view p.1) n m)) ps
+parts_fit [] n m h = tt
+parts_fit (p ∷ ps) n m h = (h.0, parts_fit ps n m h.1)
+
+arms_fit : (ps : List (Name × Term)) (last : Arms) (n m : ℕ) → ArmsInRange (shift_arms (arms_of (map view_part ps) last) n m)
+    → AllByRecursion (λ p. InRange (shift_of (view p.1) (n + 1) m)) ps × ArmsInRange (shift_arms last n m)
+arms_fit [] last n m h = (tt, h)
+arms_fit (p ∷ ps) last n m h = let r = arms_fit ps last n m h.1 in ((h.0, r.0), r.1)
+
+pub fit_Make : (t : Term) (k : Kind) (ts us : List Term) (n m : ℕ) → t ≡ term.Make k ts → us ≡ ts → InRange (shift_of (view t) n m) → All (λ t. InRange (shift_of (view t) n m)) us
+fit_Make t k ts us n m e f h = rw f (All-from_recursion _ ts (trees_fit ts n m (rw (e, view_Make) at h)))
+
+pub fit_Prim : (t : Term) (c : ℕ) (ts us : List Term) (n m : ℕ) → t ≡ term.Prim c ts → us ≡ ts → InRange (shift_of (view t) n m) → All (λ t. InRange (shift_of (view t) n m)) us
+fit_Prim t c ts us n m e f h = rw f (All-from_recursion _ ts (trees_fit ts n m (rw (e, view_Prim) at h)))
+
+pub fit_Rec : (t : Term) (ps qs : List (Name × Term)) (n m : ℕ) → t ≡ term.Rec ps → qs ≡ ps → InRange (shift_of (view t) n m) → All (λ p. InRange (shift_of (view p.1) n m)) qs
+fit_Rec t ps qs n m e f h = rw f (All-from_recursion _ ps (parts_fit ps n m (rw (e, view_Rec) at h)))
+
+case_fit : (t a : Term) (ps : List (Name × Term)) (c : Option Term) (n m : ℕ) → t ≡ term.Case a ps c → InRange (shift_of (view t) n m) → InRange (shift_of (view a) n m) × ArmsInRange (shift_arms (arms_view ps c) n m)
+case_fit t a ps c n m e h = subst (λ q. InRange (shift_of q n m)) (ap view e ∙ view_Case a ps c) h
+
+pub fit_subject : (t a b : Term) (ps : List (Name × Term)) (c : Option Term) (n m : ℕ) → t ≡ term.Case a ps c → b ≡ a → InRange (shift_of (view t) n m) → InRange (shift_of (view b) n m)
+fit_subject t a b ps c n m e f h = rw f (case_fit t a ps c n m e h).0
+
+pub fit_branches : (t a : Term) (ps qs : List (Name × Term)) (c : Option Term) (n m : ℕ) → t ≡ term.Case a ps c → qs ≡ ps → InRange (shift_of (view t) n m) → All (λ p. InRange (shift_of (view p.1) (n + 1) m)) qs
+fit_branches t a ps qs c n m e f h = rw f (All-from_recursion _ ps (arms_fit ps (rest_of (view_option c)) n m (case_fit t a ps c n m e h).1).0)
+
+pub fit_other : (t a : Term) (ps : List (Name × Term)) (c : Option Term) (b d : Term) (n m : ℕ) → t ≡ term.Case a ps c → c ≡ Some b → d ≡ b → InRange (shift_of (view t) n m) → InRange (shift_of (view d) n m)
+fit_other t a ps c b d n m e f g h =
+    let last = (arms_fit ps (rest_of (view_option c)) n m (case_fit t a ps c n m e h).1).1 in
+    rw g (subst (λ q. ArmsInRange (shift_arms (rest_of (view_option q)) n m)) f last)
+
+-- ---- what is raised
+
+pub raise_Make : (t : Term) (k : Kind) (ts us vs : List Term) (n m : ℕ) → t ≡ term.Make k ts → vs ≡ ts → map view us ≡ map (λ t. shift_of (view t) n m) vs → view (term.Make k us) ≡ shift_of (view t) n m
+raise_Make t k ts us vs n m e f h = rw (e, view_Make, view_Make) (ap (make k) (mapped_trees (λ t. shift_of t n m) (λ ts. shift_trees ts n m) refl (λ t ts. refl) ts us vs f h))
+
+pub raise_Prim : (t : Term) (c : ℕ) (ts us vs : List Term) (n m : ℕ) → t ≡ term.Prim c ts → vs ≡ ts → map view us ≡ map (λ t. shift_of (view t) n m) vs → view (term.Prim c us) ≡ shift_of (view t) n m
+raise_Prim t c ts us vs n m e f h = rw (e, view_Prim, view_Prim) (ap (prim c) (mapped_trees (λ t. shift_of t n m) (λ ts. shift_trees ts n m) refl (λ t ts. refl) ts us vs f h))
+
+pub raise_Rec : (t : Term) (ps qs rs : List (Name × Term)) (n m : ℕ) → t ≡ term.Rec ps → rs ≡ ps → map view_part qs ≡ map (λ p. (p.0, shift_of (view p.1) n m)) rs → view (term.Rec qs) ≡ shift_of (view t) n m
+raise_Rec t ps qs rs n m e f h = rw (e, view_Rec, view_Rec) (ap rec (mapped_parts (λ t. shift_of t n m) (λ ps. shift_parts ps n m) refl (λ l t ps. refl) ps qs rs f h))
+
+pub raise_Case : (t a b b' : Term) (ps qs rs : List (Name × Term)) (c d : Option Term) (n m : ℕ) → t ≡ term.Case a ps c → b' ≡ b → view b ≡ shift_of (view a) n m → rs ≡ ps
+    → map view_part qs ≡ map (λ p. (p.0, shift_of (view p.1) (n + 1) m)) rs → rest_of (view_option d) ≡ shift_arms (rest_of (view_option c)) n m → view (term.Case b' qs d) ≡ shift_of (view t) n m
+raise_Case t a b b' ps qs rs c d n m e j g f h i =
+    view_Case b' qs d
+    ∙ ap₂ case_of (ap view j ∙ g) (mapped_arms (λ t. shift_of t (n + 1) m) (λ bs. shift_arms bs n m) (λ l t bs. refl) ps qs rs (rest_of (view_option c)) (rest_of (view_option d)) f h i)
+    ∙ sym (ap (λ q. shift_of q n m) (ap view e ∙ view_Case a ps c))
+
+pub raise_other : (c : Option Term) (o d : Term) (n m : ℕ) → c ≡ Some o → view d ≡ shift_of (view o) n m → rest_of (view_option (Some d)) ≡ shift_arms (rest_of (view_option c)) n m
+raise_other c o d n m e h = rw e (ap rest h)
+
+pub raise_nothing : (c : Option Term) (n m : ℕ) → c ≡ None → rest_of (view_option None) ≡ shift_arms (rest_of (view_option c)) n m
+raise_nothing c n m e = rw e refl
+
+-- ---- nothing is raised above 32 bits
+
+same_var : (x n m : ℕ) → 2 ^ 32 ≤ n → raised n m x < 2 ^ 32 → raised n m x ≡ x
+same_var x n m g h = ⊎_elim (λ lt. rw (lt-ltb x n lt) refl) (λ ge. absurd (past ge (rw (le-ltb x n ge) at h))) (cases_lt x n)
+  where
+    past : n ≤ x → x + m < 2 ^ 32 → ⊥
+    past ge lt = omega arith
+
+mutual
+  pub none_raised : (t : Tree) (n m : ℕ) → 2 ^ 32 ≤ n → InRange (shift_of t n m) → shift_of t n m ≡ t
+  none_raised (var x) n m g h = ap var (same_var x n m g h)
+  none_raised (con v) n m g h = refl
+  none_raised (source i) n m g h = refl
+  none_raised (rec ps) n m g h = ap rec (none_raised_parts ps n m g h)
+  none_raised (proj l a) n m g h = ap (proj l) (none_raised a n m g h)
+  none_raised (inj l a) n m g h = ap (inj l) (none_raised a n m g h)
+  none_raised (case_of a bs) n m g h = ap₂ case_of (none_raised a n m g h.0) (none_raised_arms bs n m g h.1)
+  none_raised (make k ts) n m g h = ap (make k) (none_raised_trees ts n m g h)
+  none_raised (union a b) n m g h = ap₂ union (none_raised a n m g h.0) (none_raised b n m g h.1)
+  none_raised (ext k b s) n m g h = ap₂ (ext k) (none_raised b (n + 1) m (omega arith) h.0) (none_raised s n m g h.1)
+  none_raised (choice a b c) n m g h = ap (λ q. choice q (shift_of b n m) (shift_of c n m)) (none_raised a n m g h.0) ∙ ap₂ (choice a) (none_raised b n m g h.1) (none_raised c n m g h.2)
+  none_raised (bind a b) n m g h = ap₂ bind (none_raised a n m g h.0) (none_raised b (n + 1) m (omega arith) h.1)
+  none_raised (prim c ts) n m g h = ap (prim c) (none_raised_trees ts n m g h)
+
+  none_raised_trees : (ts : Trees) (n m : ℕ) → 2 ^ 32 ≤ n → TreesInRange (shift_trees ts n m) → shift_trees ts n m ≡ ts
+  none_raised_trees no_trees n m g h = refl
+  none_raised_trees (trees t ts) n m g h = ap₂ trees (none_raised t n m g h.0) (none_raised_trees ts n m g h.1)
+
+  none_raised_parts : (ps : Parts) (n m : ℕ) → 2 ^ 32 ≤ n → PartsInRange (shift_parts ps n m) → shift_parts ps n m ≡ ps
+  none_raised_parts no_parts n m g h = refl
+  none_raised_parts (parts l t ps) n m g h = ap₂ (parts l) (none_raised t n m g h.0) (none_raised_parts ps n m g h.1)
+
+  none_raised_arms : (bs : Arms) (n m : ℕ) → 2 ^ 32 ≤ n → ArmsInRange (shift_arms bs n m) → shift_arms bs n m ≡ bs
+  none_raised_arms no_arms n m g h = refl
+  none_raised_arms (rest c) n m g h = ap rest (none_raised c n m g h)
+  none_raised_arms (arm l b bs) n m g h = ap₂ (arm l) (none_raised b (n + 1) m (omega arith) h.0) (none_raised_arms bs n m g h.1)
+
+-- so a copy is what is raised there
+pub copied : {E : Type 0} (r : Result Term E) (t : Term) (n m : ℕ) → 2 ^ 32 ≤ n → InRange (shift_of (view t) n m) → IfOk r (λ u. u ≡ t) → IfOk r (λ u. view u ≡ shift_of (view t) n m)
+copied (Ok u) t n m g h e = ap view e ∙ sym (none_raised (view t) n m g h)
+copied (Err f) t n m g h e = tt
+
+-- ---- what the public call promises
+
+pub shifted_means : {E : Type 0} (r : Result Term E) (t : Tree) (n m : ℕ) → IfOk r (λ u. view u ≡ shift_of t n m) → IfOk r (λ u. MeansShifted t n m (view u))
+shifted_means (Ok u) t n m e = λ T pre mid post p q. ap (λ x. core T x (pre ++ (mid ++ post))) e ∙ shift_keeps T t pre mid post n m (sym p) (sym q)
+shifted_means (Err f) t n m e = tt
+
+pub shifted_typed : {E : Type 0} (r : Result Term E) (t : Tree) (n m : ℕ) → IfOk r (λ u. view u ≡ shift_of t n m) → IfOk r (λ u. TypedShifted t n m (view u))
+shifted_typed (Ok u) t n m e = λ S pre mid post s p q h. subst (λ x. CoreTypes S (pre ++ (mid ++ post)) x s) (sym e) (shift_typed S t pre mid post s n m (sym p) (sym q) h)
+shifted_typed (Err f) t n m e = tt

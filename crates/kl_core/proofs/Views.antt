@@ -1,0 +1,59 @@
+-- The trees of terms with lists in them, and what a map over trees makes of them.
+use Rattle.std.proofs.Common.{◌≡◌, ℕ, List, [], ◌∷◌, map, Option, Some, None, refl, sym, ap, ◌∙◌, rules}
+use mathlib.Core.Path.{ap₂}
+use Rattle.kl_value.specs.declared.Kind.{Kind}
+use Rattle.kl_outcome.specs.Outcome.{Name}
+use Rattle.kl_core.specs.declared.term.Term.{Term, the_lemmas}
+use Rattle.kl_core.specs.declared.term.Term.TheVariants as term
+use Rattle.kl_core.specs.Trees.{Tree, var, rec, case_of, make, prim, Trees, no_trees, trees, Parts, no_parts, parts, Arms, arm, trees_of, parts_of, arms_of, rest_of, view, view_part, trees_view, parts_view}
+
+pub view_Var : (x : ℕ) → view (term.Var x) ≡ var x
+view_Var x = search (rules, the_lemmas)
+
+pub view_Rec : (ps : List (Name × Term)) → view (term.Rec ps) ≡ rec (parts_view ps)
+view_Rec ps = search (rules, the_lemmas)
+
+pub view_Make : (k : Kind) (ts : List Term) → view (term.Make k ts) ≡ make k (trees_view ts)
+view_Make k ts = search (rules, the_lemmas)
+
+pub view_Prim : (c : ℕ) (ts : List Term) → view (term.Prim c ts) ≡ prim c (trees_view ts)
+view_Prim c ts = search (rules, the_lemmas)
+
+-- the branches of a case, and what stands behind `otherwise`
+abbrev pub view_option : Option Term → Option Tree
+view_option (Some t) = Some (view t)
+view_option None = None
+
+abbrev pub arms_view : List (Name × Term) → Option Term → Arms
+arms_view ps c = arms_of (map view_part ps) (rest_of (view_option c))
+
+pub view_Case : (a : Term) (ps : List (Name × Term)) (c : Option Term) → view (term.Case a ps c) ≡ case_of (view a) (arms_view ps c)
+view_Case a ps (Some c) = search (rules, the_lemmas)
+view_Case a ps None = search (rules, the_lemmas)
+
+-- a map over trees, on lists
+module _ (F : Tree → Tree) (G : Trees → Trees) (none : G no_trees ≡ no_trees) (more : (t : Tree) (ts : Trees) → G (trees t ts) ≡ trees (F t) (G ts)) where
+  pub over_trees : (ts : List Term) → G (trees_view ts) ≡ trees_of (map (λ t. F (view t)) ts)
+  over_trees [] = none
+  over_trees (t ∷ ts) = more (view t) (trees_view ts) ∙ ap (trees (F (view t))) (over_trees ts)
+
+  -- what is mapped, from the list that a loop made
+  pub mapped_trees : (ts us vs : List Term) → vs ≡ ts → map view us ≡ map (λ t. F (view t)) vs → trees_view us ≡ G (trees_view ts)
+  mapped_trees ts us vs f h = ap trees_of (h ∙ ap (map (λ t. F (view t))) f) ∙ sym (over_trees ts)
+
+module _ (F : Tree → Tree) (G : Parts → Parts) (none : G no_parts ≡ no_parts) (more : (l : Name) (t : Tree) (ps : Parts) → G (parts l t ps) ≡ parts l (F t) (G ps)) where
+  pub over_parts : (ps : List (Name × Term)) → G (parts_view ps) ≡ parts_of (map (λ p. (p.0, F (view p.1))) ps)
+  over_parts [] = none
+  over_parts (p ∷ ps) = more p.0 (view p.1) (parts_view ps) ∙ ap (parts p.0 (F (view p.1))) (over_parts ps)
+
+  pub mapped_parts : (ps qs rs : List (Name × Term)) → rs ≡ ps → map view_part qs ≡ map (λ p. (p.0, F (view p.1))) rs → parts_view qs ≡ G (parts_view ps)
+  mapped_parts ps qs rs f h = ap parts_of (h ∙ ap (map (λ p. (p.0, F (view p.1)))) f) ∙ sym (over_parts ps)
+
+module _ (F : Tree → Tree) (G : Arms → Arms) (more : (l : Name) (t : Tree) (bs : Arms) → G (arm l t bs) ≡ arm l (F t) (G bs)) where
+  pub over_arms : (ps : List (Name × Term)) (last : Arms) → G (arms_of (map view_part ps) last) ≡ arms_of (map (λ p. (p.0, F (view p.1))) ps) (G last)
+  over_arms [] last = refl
+  over_arms (p ∷ ps) last = more p.0 (view p.1) (arms_of (map view_part ps) last) ∙ ap (arm p.0 (F (view p.1))) (over_arms ps last)
+
+  pub mapped_arms : (ps qs rs : List (Name × Term)) (last end : Arms) → rs ≡ ps → map view_part qs ≡ map (λ p. (p.0, F (view p.1))) rs → end ≡ G last
+      → arms_of (map view_part qs) end ≡ G (arms_of (map view_part ps) last)
+  mapped_arms ps qs rs last end f h e = ap₂ arms_of (h ∙ ap (map (λ p. (p.0, F (view p.1)))) f) e ∙ sym (over_arms ps last)

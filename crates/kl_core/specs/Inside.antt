@@ -1,0 +1,37 @@
+-- For private functions alone: room for `with` inside a term, where it stands under so many binders of the whole already.
+use Rattle.std.specs.Prelude.{ℕ, ◌+◌, ◌<◌, ◌^◌, ⊤}
+use Rattle.kl_core.specs.Trees.{Tree, var, con, source, rec, proj, inj, case_of, make, union, ext, choice, bind, prim, Trees, no_trees, trees, Parts, no_parts, parts, Arms, no_arms, rest, arm}
+use Rattle.kl_core.specs.Positions.{InRange, shift_of}
+
+abbrev mutual
+  pub RoomIn : Tree → ℕ → ℕ → Tree → Type 0
+  RoomIn (var x) at under with = InRange (shift_of with 0 under)
+  RoomIn (con v) at under with = ⊤
+  RoomIn (source i) at under with = ⊤
+  RoomIn (rec ps) at under with = RoomParts ps at under with
+  RoomIn (proj l a) at under with = RoomIn a at under with
+  RoomIn (inj l a) at under with = RoomIn a at under with
+  RoomIn (case_of a bs) at under with = RoomIn a at under with × RoomArms bs at under with
+  RoomIn (make k ts) at under with = RoomTrees ts at under with
+  RoomIn (union a b) at under with = RoomIn a at under with × RoomIn b at under with
+  RoomIn (ext k b s) at under with = RoomIn s at under with × (at + 1 < 2 ^ 32) × RoomIn b (at + 1) (under + 1) with
+  RoomIn (choice a b c) at under with = RoomIn a at under with × RoomIn b at under with × RoomIn c at under with
+  RoomIn (bind a b) at under with = RoomIn a at under with × (at + 1 < 2 ^ 32) × RoomIn b (at + 1) (under + 1) with
+  RoomIn (prim c ts) at under with = RoomTrees ts at under with
+
+  pub RoomTrees : Trees → ℕ → ℕ → Tree → Type 0
+  RoomTrees no_trees at under with = ⊤
+  RoomTrees (trees t ts) at under with = RoomIn t at under with × RoomTrees ts at under with
+
+  pub RoomParts : Parts → ℕ → ℕ → Tree → Type 0
+  RoomParts no_parts at under with = ⊤
+  RoomParts (parts l t ps) at under with = RoomIn t at under with × RoomParts ps at under with
+
+  pub RoomArms : Arms → ℕ → ℕ → Tree → Type 0
+  RoomArms no_arms at under with = ⊤
+  RoomArms (rest c) at under with = RoomIn c at under with
+  RoomArms (arm l b bs) at under with = ((at + 1 < 2 ^ 32) × RoomIn b (at + 1) (under + 1) with) × RoomArms bs at under with
+
+-- under one more binder
+abbrev pub RoomUnder : Tree → ℕ → ℕ → Tree → Type 0
+RoomUnder t at under with = (at + 1 < 2 ^ 32) × RoomIn t (at + 1) (under + 1) with

@@ -1,0 +1,159 @@
+//! Moving the positions of a term.
+ghost use Rattle.std.specs.Prelude.{◌≡◌, ◌+◌, IfOk, All, map};
+ghost use Rattle.kl_core.specs.Trees.{view, view_part};
+ghost use Rattle.kl_core.specs.Positions.{InRange, shift_of};
+ghost use Rattle.kl_core.specs.Keeping.{MeansShifted, TypedShifted};
+
+use crate::copy::copy;
+use crate::term::{Term, TermBranches, TermFields, Terms};
+use kl_base::{Box, Label, NoMemory, Seq};
+use kl_value::dup as dup_value;
+use std::alloc::Global;
+
+/// Raises each free position at or above `from` by `by`. The term that it answers means the same whatever `by` values
+/// are put in at `from`.
+///
+/// # Errors
+/// Want of memory.
+pub fn shift(alloc: Global, t: &Term, from: u32, by: u32) -> Result<Term, NoMemory>
+    requires fits { InRange (shift_of (view t.now) from by) }
+    ensures shifted { IfOk result (λ u. view u ≡ shift_of (view t.now) from by) }
+    ensures means { IfOk result (λ u. MeansShifted (view t.now) from by (view u)) }
+    ensures typed { IfOk result (λ u. TypedShifted (view t.now) from by (view u)) }
+{
+    raise(alloc, t, from, by)
+}
+
+#[cycle(raise)]
+pub fn raise(alloc: Global, term: &Term, from: u32, by: u32) -> Result<Term, NoMemory>
+    requires fits { InRange (shift_of (view term.now) from by) }
+    ensures { IfOk result (λ t. view t ≡ shift_of (view term.now) from by) }
+{
+    match term {
+        Term::Var(x) => Ok(Term::Var(if *x < from { *x } else { *x + by })),
+        Term::Const(v) => Ok(Term::Const(dup_value(alloc, v)?)),
+        Term::Source(i) => Ok(Term::Source(*i)),
+        Term::Rec(fields) => Ok(Term::Rec(raise_fields(alloc, fields.slice(), from, by)?)),
+        Term::Proj(label, a) => {
+            let label = label.dup()?;
+            Ok(Term::Proj(label, raise_box(alloc, a, from, by)?))
+        }
+        Term::Inj(label, a) => {
+            let label = label.dup()?;
+            Ok(Term::Inj(label, raise_box(alloc, a, from, by)?))
+        }
+        Term::Case(a, branches, other) => {
+            let a = raise_box(alloc, a, from, by)?;
+            let branches = raise_branches(alloc, branches.slice(), from, by)?;
+            match other {
+                Some(other) => Ok(Term::Case(
+                    a,
+                    branches,
+                    Some(raise_box(alloc, other, from, by)?),
+                )),
+                None => Ok(Term::Case(a, branches, None)),
+            }
+        }
+        Term::Make(kind, terms) => Ok(Term::Make(
+            *kind,
+            raise_all(alloc, terms.slice(), from, by)?,
+        )),
+        Term::Union(a, b) => {
+            let a = raise_box(alloc, a, from, by)?;
+            Ok(Term::Union(a, raise_box(alloc, b, from, by)?))
+        }
+        Term::Ext(kind, body, source) => {
+            let body = raise_body(alloc, body, from, by)?;
+            Ok(Term::Ext(*kind, body, raise_box(alloc, source, from, by)?))
+        }
+        Term::If(a, b, c) => {
+            let a = raise_box(alloc, a, from, by)?;
+            let b = raise_box(alloc, b, from, by)?;
+            Ok(Term::If(a, b, raise_box(alloc, c, from, by)?))
+        }
+        Term::Let(a, b) => {
+            let a = raise_box(alloc, a, from, by)?;
+            Ok(Term::Let(a, raise_body(alloc, b, from, by)?))
+        }
+        Term::Prim(code, terms) => Ok(Term::Prim(
+            *code,
+            raise_all(alloc, terms.slice(), from, by)?,
+        )),
+    }
+}
+
+#[cycle(raise)]
+fn raise_box(alloc: Global, term: &Box<Term>, from: u32, by: u32) -> Result<Box<Term>, NoMemory>
+    requires fits { InRange (shift_of (view term.now) from by) }
+    ensures { IfOk result (λ t. view t ≡ shift_of (view term.now) from by) }
+{
+    Box::new(alloc, raise(alloc, term.get(), from, by)?)
+}
+
+// Under one more binder. Where that is past the greatest position, no position is raised.
+#[cycle(raise)]
+fn raise_under(alloc: Global, term: &Term, from: u32, by: u32) -> Result<Term, NoMemory>
+    requires fits { InRange (shift_of (view term.now) (from + 1) by) }
+    ensures { IfOk result (λ t. view t ≡ shift_of (view term.now) (from + 1) by) }
+{
+    match from.checked_add(1) {
+        Some(from) => raise(alloc, term, from, by),
+        None => copy(alloc, term),
+    }
+}
+
+#[cycle(raise)]
+fn raise_body(alloc: Global, term: &Box<Term>, from: u32, by: u32) -> Result<Box<Term>, NoMemory>
+    requires fits { InRange (shift_of (view term.now) (from + 1) by) }
+    ensures { IfOk result (λ t. view t ≡ shift_of (view term.now) (from + 1) by) }
+{
+    Box::new(alloc, raise_under(alloc, term.get(), from, by)?)
+}
+
+#[cycle(raise)]
+fn raise_all(alloc: Global, terms: &[Term], from: u32, by: u32) -> Result<Terms, NoMemory>
+    requires fits { All (λ t. InRange (shift_of (view t) from by)) terms.now }
+    ensures { IfOk result (λ ts. map view ts ≡ map (λ t. shift_of (view t) from by) terms.now) }
+{
+    let mut raised = Vec::with_capacity(alloc, terms.len())?;
+    for term in terms {
+        raised.push(raise(alloc, term, from, by)?)?;
+    }
+    Ok(Seq::of(raised))
+}
+
+#[cycle(raise)]
+fn raise_fields(
+    alloc: Global,
+    fields: &[(Label, Term)],
+    from: u32,
+    by: u32,
+) -> Result<TermFields, NoMemory>
+    requires fits { All (λ f. InRange (shift_of (view f.1) from by)) fields.now }
+    ensures { IfOk result (λ fs. map view_part fs ≡ map (λ f. (f.0, shift_of (view f.1) from by)) fields.now) }
+{
+    let mut raised = Vec::with_capacity(alloc, fields.len())?;
+    for field in fields {
+        let label = field.0.dup()?;
+        raised.push((label, raise(alloc, &field.1, from, by)?))?;
+    }
+    Ok(Seq::of(raised))
+}
+
+#[cycle(raise)]
+fn raise_branches(
+    alloc: Global,
+    branches: &[(Label, Term)],
+    from: u32,
+    by: u32,
+) -> Result<TermBranches, NoMemory>
+    requires fits { All (λ b. InRange (shift_of (view b.1) (from + 1) by)) branches.now }
+    ensures { IfOk result (λ bs. map view_part bs ≡ map (λ b. (b.0, shift_of (view b.1) (from + 1) by)) branches.now) }
+{
+    let mut raised = Vec::with_capacity(alloc, branches.len())?;
+    for branch in branches {
+        let label = branch.0.dup()?;
+        raised.push((label, raise_under(alloc, &branch.1, from, by)?))?;
+    }
+    Ok(Seq::of(raised))
+}

@@ -1,0 +1,5 @@
+use Rattle.kl_engine.proofs.TopLemmas.{neither_done}
+use Rattle.kl_engine.proofs.top.kleisli.Goals as goal
+
+pub returns-in-Neither-clause-does : goal.returns-in-Neither-clause-does
+returns-in-Neither-clause-does g c = rw (← c.in-Neither.ensures, c.end-in-Neither.ensures.fault) (neither_done _ _)

@@ -1,0 +1,100 @@
+//! How a command ends that does not end well: its status, and the line that tells of it.
+ghost use Rattle.std.specs.Prelude.{◌≡◌, List, ℕ};
+ghost use Rattle.std.specs.List.{flat_map};
+ghost use Rattle.kl_outside.specs.Sinks.{WritesWhole};
+ghost use Rattle.kl_engine.specs.Faults.{fault_status, fault_line, TookLine};
+
+use itoa::Buffer;
+use kl_outside::{Sink, Stop, write_whole};
+
+/// Why a command did not end well. Places are bytes of the file that the words name.
+#[derive(Clone, Copy, Debug, PartialEq, Eq)]
+pub enum Fault {
+    /// The words name no command.
+    Usage,
+    /// The program is no small program with bound names.
+    NotSmall,
+    /// The file that is shown is no exchange text; its longest prefix that begins one has this length.
+    BadFile(u64),
+    /// The program means an overflow.
+    Overflow,
+    /// The file is missing or could not be read.
+    Read,
+    /// `out` refused a write.
+    Write,
+    /// Want of memory.
+    NoMemory,
+    /// The program has more than 65,536 bytes.
+    ProgramBytes,
+    /// The file that is shown has more than 17,179,869,184 bytes.
+    FileBytes,
+    /// An item of the file that is shown has a bracket inside 256 others.
+    ItemNesting,
+}
+
+/// The status of a fault.
+pub fn status(fault: &Fault) -> u8
+    ensures { result ≡ fault_status fault.now }
+{
+    match fault {
+        Fault::Usage => 1,
+        Fault::NotSmall => 2,
+        Fault::BadFile(_) => 5,
+        Fault::Overflow => 6,
+        Fault::Read => 7,
+        Fault::Write => 8,
+        Fault::NoMemory => 9,
+        Fault::ProgramBytes | Fault::FileBytes | Fault::ItemNesting => 10,
+    }
+}
+
+/// Tells of a fault, where the words name this path. Where the line is refused, nothing else comes of it.
+pub fn tell<E: Sink>(fault: &Fault, path: &[u8], err: &mut E)
+    ensures { TookLine (fault_line path.now fault.now) (E.state err.old) (E.state err.new) }
+{
+    match write_line(fault, path, err) {
+        Ok(()) | Err(_) => {}
+    }
+}
+
+fn write_line<E: Sink>(fault: &Fault, path: &[u8], err: &mut E) -> Result<(), Stop>
+    ensures { WritesWhole (fault_line path.now fault.now) result (E.state err.old) (E.state err.new) }
+{
+    match fault {
+        Fault::Usage => write_whole(
+            err,
+            b"usage: kleisli (run|explain|types|check) PROGRAM [CATALOGUE] [OPTIONS], kleisli show FILE, kleisli gen SEED N\n",
+        ),
+        Fault::NotSmall => Ok(()),
+        Fault::BadFile(place) => write_parts(
+            err,
+            &[
+                b"source ",
+                path,
+                b": bad at ",
+                Buffer::new().format(*place).as_bytes(),
+                b"\n",
+            ],
+        ),
+        Fault::Overflow => write_whole(err, b"overflow\n"),
+        Fault::Read => write_whole(err, b"read fault\n"),
+        Fault::Write => write_whole(err, b"write fault\n"),
+        Fault::NoMemory => write_whole(err, b"out of memory\n"),
+        Fault::ProgramBytes => write_whole(err, b"limit: program bytes\n"),
+        Fault::FileBytes => write_whole(err, b"limit: file bytes\n"),
+        Fault::ItemNesting => write_whole(err, b"limit: item nesting\n"),
+    }
+}
+
+// Writes the parts one behind the other.
+fn write_parts<E: Sink>(err: &mut E, parts: &[&[u8]]) -> Result<(), Stop>
+    ensures { WritesWhole (flat_map (λ part. part.now) parts.now) result (E.state err.old) (E.state err.new) }
+{
+    'parts: for part in parts {
+        match write_whole(err, part) {
+            Ok(()) => {}
+            Err(stop) => return Err(stop),
+        }
+    }
+    Ok(())
+}

@@ -1,0 +1,2 @@
+//! What programs mean, and their types. Definitions alone.
+#![tactic(auto)]

@@ -1,0 +1,197 @@
+-- The readers of each level of expressions read that level.
+use Rattle.std.proofs.Common.{◌≡◌, ℕ, zero, suc, ◌+◌, Bool, true, false, ◌&&◌, IsTrue, List, [], ◌∷◌, ◌++◌, length, Option, Some, None, inl, inr, refl, sym, ap, subst, ◌∙◌, append_assoc}
+use Rattle.kl_lex.specs.declared.token.Sym.TheVariants as sy
+use Rattle.kl_lex.specs.declared.token.Token.{Token}
+use Rattle.kl_value.specs.declared.value.Kind.TheVariants as kind
+use Rattle.kl_parse.specs.declared.keyword.Keyword.TheVariants as key
+use Rattle.kl_parse.specs.declared.operator.Level.{Level}
+use Rattle.kl_parse.specs.declared.operator.Level.TheVariants as level
+use Rattle.kl_parse.specs.declared.tree.Op.{Op}
+use Rattle.kl_parse.specs.declared.tree.Expr.{Expr}
+use Rattle.kl_parse.specs.declared.tree.Expr.TheVariants as expr
+use Rattle.kl_parse.specs.declared.tree.Qual.TheVariants as qual
+use Rattle.kl_parse.specs.declared.tree.Pattern.{Pattern}
+use Rattle.kl_parse.specs.declared.tree.Branch.{Branch}
+use Rattle.kl_parse.specs.Lexemes.{IsSymbol, Symbol, IsKey, Key, Label, Name, Constant, IsLeast, AnOp}
+use Rattle.kl_parse.specs.Grammar.{name_of, path_of, chain_of, compare_of, branch_of, Chained, Args, Group, Rec, Inject, If, Coll, Let, Case, Named, Least, Prim, Post, Un, Mul, Add, Compare, Not, And, Ors, Whole, ABranch, PatVariant, ReadsPat, Reads, Sort, whole, negated, signed, added, of_sort, opens, PatInside}
+use Rattle.kl_parse.specs.Kinds.{among, is_symbol, is_key, one_symbol, one_key, name_kinds, constant_kinds, big_kinds, op_kinds, a_constant, an_op}
+use Rattle.kl_parse.specs.Descent as d
+use Rattle.kl_parse.proofs.KindLemmas.{all_of, none_of, decides_constant, decides_least, decides_op, symbol_of, is_symbol_of, least_among, key_of, on_symbol, on_key, on_least, on_op, has_symbol, has_key, has_label, has_name, has_constant, has_least}
+use Rattle.kl_parse.proofs.PatGoods.{Free, good_symbol, good_label, good_name, off, stop, past, past_key, good_variant, has_pat_field, opens_variant, has_reads_pat, good_reads_pat}
+use Rattle.kl_parse.proofs.ExprFirsts.{goes_prim, goes_path, goes_mul, goes_add, goes_compare, goes_and, goes_whole, on_args, on_constants, on_group, on_rec, on_inject, on_coll, on_case, on_named, on_let, on_if, on_not, on_minus, prim2, prim3, prim4, prim5, prim6, prim7, prim8, prim_kinds, un_kinds, not_kinds, if_kinds, whole_kinds, Prim2, Prim3, Prim4, Prim5, Prim6, Prim7, Prim8, on2, on3, on4, on5, on6, on7, on8, Minus, on_path, on_un, on_compare, on_ors, Iffy, on_iffy, on_whole, Second}
+use Rattle.kl_parse.proofs.ExprGoods.{looser, good_group, good_args, good_rec, good_inject, good_coll, good_case, good_if, good_let, opens_args, opens_group, opens_rec, opens_inject, opens_coll, opens_case, opens_if, opens_let}
+use Rattle.kl_phrase.specs.Words.{heads, Phrase, One, Nothing, Then, Behind, Before, Many, Made, Or, Optional, Opened, Never}
+use Rattle.kl_phrase.specs.Readers.{Reader, made, both, behind, chain, nothing, pick, opening, opened, one, many, fail, bad}
+use Rattle.kl_phrase.proofs.Theory.{Good, On, Off, Has, Opens, Meets, To, good_one, good_nothing, good_made, good_both, good_behind, good_pick, good_opening, good_follow, good_many, good_same, meets_many}
+use Rattle.kl_phrase.proofs.Firsts.{Stops, Heads, on_made, on_then, on_behind, on_opened, off_or, off_opened, off_nothing, meets_on, meets_or, meets_nothing, has_made, has_then, has_behind, has_left, has_right, has_nothing, has_many, opens_behind, opens_made}
+use Rattle.kl_phrase.proofs.Commit.{good_choose, Apart}
+
+pub no : {X : Type 0} → IsTrue false → X
+no i = absurd (let z : false ≡ true = i in cc)
+
+-- ---- some text spells it
+
+has_prim : (may : Bool) (P : Phrase Token Pattern) (E N U A : Phrase Token Expr) (B : Phrase Token Branch) → Has (Prim may P E N U A B)
+has_prim may P E N U A B = has_left (Made expr.Const Constant) (Prim2 may P E N U A B) (has_made expr.Const Constant has_constant)
+
+has_post : (may : Bool) (P : Phrase Token Pattern) (E N U A : Phrase Token Expr) (B : Phrase Token Branch) → Has (Post may P E N U A B)
+has_post may P E N U A B = has_made path_of (Then (Prim may P E N U A B) (Many (Behind (Symbol sy.Dot) Label))) (has_then (Prim may P E N U A B) (Many (Behind (Symbol sy.Dot) Label)) (has_prim may P E N U A B) (has_many (Behind (Symbol sy.Dot) Label)))
+
+has_un : (may : Bool) (P : Phrase Token Pattern) (E N U A : Phrase Token Expr) (B : Phrase Token Branch) → Has (Un may P E N U A B)
+has_un may P E N U A B = has_left Least (Minus may P E N U A B) (has_made expr.Const (Behind (Symbol sy.Sub) (One IsLeast)) (has_behind (Symbol sy.Sub) (One IsLeast) (has_symbol sy.Sub) has_least))
+
+has_chained : (l : Level) (S : Phrase Token Expr) → Has S → Has (Chained l S)
+has_chained l S has_in = has_made chain_of (Then S (Many (Then (AnOp l) S))) (has_then S (Many (Then (AnOp l) S)) has_in (has_many (Then (AnOp l) S)))
+
+has_mul : (may : Bool) (P : Phrase Token Pattern) (E N U A : Phrase Token Expr) (B : Phrase Token Branch) → Has (Mul may P E N U A B)
+has_mul may P E N U A B = has_chained level.Mul (Un may P E N U A B) (has_un may P E N U A B)
+
+has_add : (may : Bool) (P : Phrase Token Pattern) (E N U A : Phrase Token Expr) (B : Phrase Token Branch) → Has (Add may P E N U A B)
+has_add may P E N U A B = has_chained level.Add (Mul may P E N U A B) (has_mul may P E N U A B)
+
+has_compare : (may : Bool) (P : Phrase Token Pattern) (E N U A : Phrase Token Expr) (B : Phrase Token Branch) → Has (Compare may P E N U A B)
+has_compare may P E N U A B = has_made compare_of (Then (Add may P E N U A B) (Second may P E N U A B)) (has_then (Add may P E N U A B) (Second may P E N U A B) (has_add may P E N U A B) (has_right (Made Some (Then (AnOp level.Compare) (Add may P E N U A B))) (Nothing None) (has_nothing None)))
+
+has_not : (may : Bool) (P : Phrase Token Pattern) (E N U A : Phrase Token Expr) (B : Phrase Token Branch) → Has (Not may P E N U A B)
+has_not may P E N U A B = has_right (Opened may (Made expr.Not (Behind (Key key.Not) N))) (Compare may P E N U A B) (has_compare may P E N U A B)
+
+has_and : (may : Bool) (P : Phrase Token Pattern) (E N U A : Phrase Token Expr) (B : Phrase Token Branch) → Has (And may P E N U A B)
+has_and may P E N U A B = has_chained level.And (Not may P E N U A B) (has_not may P E N U A B)
+
+has_ors : (may : Bool) (P : Phrase Token Pattern) (E N U A : Phrase Token Expr) (B : Phrase Token Branch) → Has (Ors may P E N U A B)
+has_ors may P E N U A B = has_chained level.Or (And may P E N U A B) (has_and may P E N U A B)
+
+has_whole : (may : Bool) (P : Phrase Token Pattern) (E N U A : Phrase Token Expr) (B : Phrase Token Branch) → Has (Whole may P E N U A B)
+has_whole may P E N U A B = has_right (Opened may (Let P E)) (Iffy may P E N U A B) (has_right (Opened may (If E)) (Ors may P E N U A B) (has_ors may P E N U A B))
+
+pub has_sort : (s : Sort) (may : Bool) (P : Phrase Token Pattern) (E N U A : Phrase Token Expr) (B : Phrase Token Branch) → Has (of_sort s may P E N U A B)
+has_sort whole = has_whole
+has_sort negated = has_not
+has_sort signed = has_un
+has_sort added = has_add
+
+-- ---- a level
+
+-- S { op S }: what goes on is what goes on S, or an operator of the level
+good_chained : {N : ℕ} (l : Level) (goes more : List ℕ) {S W : Phrase Token Expr} {p : Reader Token Expr} → none_of (op_kinds l) goes ≡ true → all_of goes more ≡ true → all_of (op_kinds l) more ≡ true → Good N S W (Stops (among goes)) p → Has W → Good N (Chained l S) (Chained l W) (Stops (among more)) (d.chained l p)
+good_chained l goes more {S} {W} none gin lin good has_in =
+    good_made (good_both good (good_many (good_both {C = Free} (good_one (decides_op l)) good has_in (λ n b y v r h. tt)) on_step (stop (op_kinds l) goes none) (λ v h. (looser goes more gin v h, looser (op_kinds l) more lin v h))) (has_many (Then (AnOp l) W)) (meets_many (among (op_kinds l)) (Then (AnOp l) S) on_step (stop (op_kinds l) goes none) (looser goes more gin)))
+  where
+    on_step : On (among (op_kinds l)) (Then (AnOp l) S)
+    on_step = on_then (among (op_kinds l)) (AnOp l) S (on_op l)
+
+module _ (M : ℕ) (may : Bool) (P PW : Phrase Token Pattern) (E N U A EW NW UW AW : Phrase Token Expr) (B BW : Phrase Token Branch) (p : Reader Token Pattern) (e n u a : Reader Token Expr) (b : Reader Token Branch)
+    (gp : IsTrue may → Good M P PW Free p) (ge : IsTrue may → Good M E EW (Stops (among goes_whole)) e) (gn : IsTrue may → Good M N NW (Stops (among goes_compare)) n) (gu : IsTrue may → Good M U UW (Stops (among goes_path)) u) (ga : IsTrue may → Good M A AW (Stops (among goes_add)) a) (gb : IsTrue may → Good M B BW (Stops (among goes_whole)) b)
+    (hp : Has PW) (he : Has EW) (hn : Has NW) (hu : Has UW) (ha : Has AW) (hb : Has BW) (on_e : On (among whole_kinds) E) (on_u : On (among un_kinds) U) (apart : IsTrue may → Apart M (d.drawn p) (made qual.Cond (d.condition e))) where
+  freely : {X : Type 0} {S V : Phrase Token X} {r : Reader Token X} (kinds : List ℕ) → Good M S V Free r → Good M S V (Stops (among kinds)) r
+  freely kinds g = good_follow (Stops (among kinds)) (λ v h. tt) g
+
+  good_named : Good M (Named may E) (Named true EW) (Stops (among goes_prim)) (d.named M may e)
+  unfolding d.named
+  good_named =
+      good_made (good_both {C = Free} good_name
+      (good_opening (λ i. freely goes_prim (good_made (good_args M E EW e (ge i) he))) good_nothing (on_args E) (off_nothing (is_symbol sy.OpenPar) None (Stops (among goes_prim)) (looser (one_symbol sy.OpenPar) goes_prim refl)) (opens_args EW he))
+      (has_right (Opened true (Made Some (Args EW))) (Nothing None) (has_nothing None)) (λ n b y v r h. tt))
+
+  good_prim : Good M (Prim may P E N U A B) (Prim true PW EW NW UW AW BW) (Stops (among goes_prim)) (d.prim M may p e n u a b)
+  unfolding d.prim
+  good_prim =
+      good_pick (good_made (good_one decides_constant))
+      (good_opening (λ i. freely goes_prim (good_group M E EW e (ge i) he))
+      (good_opening (λ i. freely goes_prim (good_rec M E EW e (ge i) he))
+      (good_opening (λ i. freely goes_prim (good_inject M A AW a (ga i) ha))
+      (good_opening (λ i. freely goes_prim (good_coll M P PW p (gp i) hp E EW e (ge i) he on_e (apart i) kind.Set))
+      (good_opening (λ i. freely goes_prim (good_coll M P PW p (gp i) hp E EW e (ge i) he on_e (apart i) kind.Bag))
+      (good_opening (λ i. freely goes_prim (good_coll M P PW p (gp i) hp E EW e (ge i) he on_e (apart i) kind.List))
+      (good_opening (λ i. freely goes_prim (good_case M E EW e (ge i) he B BW b (gb i) hb)) good_named
+      (on_case E B) (off (Named may E) name_kinds (one_key key.Case) (Stops (among goes_prim)) refl (on_named may E)) (opens_case EW he BW hb))
+      (on_coll P E kind.List) (off (Prim8 may P E N U A B) prim8 (one_symbol sy.OpenList) (Stops (among goes_prim)) refl (on8 may P E N U A B)) (opens_coll EW he PW kind.List))
+      (on_coll P E kind.Bag) (off (Prim7 may P E N U A B) prim7 (one_symbol sy.OpenBag) (Stops (among goes_prim)) refl (on7 may P E N U A B)) (opens_coll EW he PW kind.Bag))
+      (on_coll P E kind.Set) (off (Prim6 may P E N U A B) prim6 (one_symbol sy.OpenSet) (Stops (among goes_prim)) refl (on6 may P E N U A B)) (opens_coll EW he PW kind.Set))
+      (on_inject A) (off (Prim5 may P E N U A B) prim5 (one_symbol sy.Lt) (Stops (among goes_prim)) refl (on5 may P E N U A B)) (opens_inject AW ha))
+      (on_rec E) (off (Prim4 may P E N U A B) prim4 (one_symbol sy.OpenRec) (Stops (among goes_prim)) refl (on4 may P E N U A B)) (opens_rec EW he))
+      (on_group E) (off (Prim3 may P E N U A B) prim3 (one_symbol sy.OpenPar) (Stops (among goes_prim)) refl (on3 may P E N U A B)) (opens_group EW he))
+      on_constants (off (Prim2 may P E N U A B) prim2 constant_kinds (Stops (among goes_prim)) refl (on2 may P E N U A B))
+
+  on_dot : On (is_symbol sy.Dot) (Behind (Symbol sy.Dot) Label)
+  on_dot = on_behind (is_symbol sy.Dot) (Symbol sy.Dot) Label (on_symbol sy.Dot)
+
+  good_post : Good M (Post may P E N U A B) (Post true PW EW NW UW AW BW) (Stops (among goes_path)) (d.post M may p e n u a b)
+  unfolding d.post
+  good_post =
+      good_made (good_both good_prim (good_many {C = Free} (past sy.Dot good_label has_label) on_dot (λ w h. tt) (λ v h. (tt, looser (one_symbol sy.Dot) goes_path refl v h))) (has_many (Behind (Symbol sy.Dot) Label)) (meets_many (is_symbol sy.Dot) (Behind (Symbol sy.Dot) Label) on_dot (stop (one_symbol sy.Dot) goes_prim refl) (looser goes_prim goes_path refl)))
+
+  and_false : (b : Bool) → (b && false) ≡ false
+  and_false true = refl
+  and_false false = refl
+
+  no_least : (ts : List Token) → heads (is_symbol sy.Sub) ts ≡ false → d.is_least ts ≡ false
+  no_least [] h = refl
+  no_least (t ∷ ts) h = rw h refl
+
+  good_least : Good M Least Least (Stops (among goes_path)) d.least_at
+  good_least = good_made (past sy.Sub (good_one decides_least) has_least)
+
+  opens_minus : Opens (is_symbol sy.Sub) (Made expr.Neg (Behind (Symbol sy.Sub) UW))
+  opens_minus = opens_made (is_symbol sy.Sub) expr.Neg (Behind (Symbol sy.Sub) UW) (opens_behind (is_symbol sy.Sub) (IsSymbol sy.Sub) UW (symbol_of sy.Sub) hu)
+
+  pub good_un : Good M (Un may P E N U A B) (Un true PW EW NW UW AW BW) (Stops (among goes_path)) (d.un M may p e n u a b)
+  unfolding d.un
+  good_un =
+      good_choose d.is_least good_least
+      (good_opening (λ i. good_made (past sy.Sub (gu i) hu)) good_post (on_minus U) (off (Post may P E N U A B) prim_kinds (one_symbol sy.Sub) (Stops (among goes_path)) refl (on_path may P E N U A B)) opens_minus)
+      on_least_text off_least_text
+    where
+      on_least_text : (n : ℕ) (x : Expr) (u v : List Token) → Least n x u → Stops (among goes_path) v → d.is_least (u ++ v) ≡ true
+      on_least_text n x u v (y, ey, (u1, u2, e, (t, e1, h1), (c, e2, h2))) h = rw (e, e1, e2) (both_true (is_symbol sy.Sub t) (among big_kinds c) (is_symbol_of sy.Sub t h1) (least_among c y h2))
+        where
+          both_true : (a b : Bool) → a ≡ true → b ≡ true → (a && b) ≡ true
+          both_true a b h k = rw (h, k) refl
+
+      off_least_text : (n : ℕ) (x : Expr) (w v : List Token) → Minus may P E N U A B n x w → Stops (among goes_path) v → d.is_least (w ++ v) ≡ false
+      off_least_text n x w v (inl (i, (y, ey, (u1, u2, e, (t, e1, h1), r)))) h = rw (e, e1) (ap (λ b. is_symbol sy.Sub t && b) (stop un_kinds big_kinds refl (u2 ++ v) (on_u (n + length u1) y u2 v r)) ∙ and_false (is_symbol sy.Sub t))
+      off_least_text n x w v (inr s) h = no_least (w ++ v) (stop prim_kinds (one_symbol sy.Sub) refl (w ++ v) (on_path may P E N U A B n x w v s))
+
+  good_mul : Good M (Mul may P E N U A B) (Mul true PW EW NW UW AW BW) (Stops (among goes_mul)) (d.mul M may p e n u a b)
+  unfolding d.mul
+  good_mul = good_chained level.Mul goes_path goes_mul refl refl refl good_un (has_un true PW EW NW UW AW BW)
+
+  pub good_add : Good M (Add may P E N U A B) (Add true PW EW NW UW AW BW) (Stops (among goes_add)) (d.add M may p e n u a b)
+  unfolding d.add
+  good_add = good_chained level.Add goes_mul goes_add refl refl refl good_mul (has_mul true PW EW NW UW AW BW)
+
+  abbrev Again : Phrase Token Expr → Phrase Token (Option (Op × Expr))
+  Again S = Made Some (Then (AnOp level.Compare) S)
+
+  on_again : On (among (op_kinds level.Compare)) (Again (Add may P E N U A B))
+  on_again = on_made (among (op_kinds level.Compare)) Some (Then (AnOp level.Compare) (Add may P E N U A B)) (on_then (among (op_kinds level.Compare)) (AnOp level.Compare) (Add may P E N U A B) (on_op level.Compare))
+
+  good_compare : Good M (Compare may P E N U A B) (Compare true PW EW NW UW AW BW) (Stops (among goes_compare)) (d.compare M may p e n u a b)
+  unfolding d.compare
+  good_compare =
+      good_made (good_both good_add
+      (good_pick (good_follow (Stops (among goes_compare)) (looser goes_add goes_compare refl) (good_made (good_both {C = Free} (good_one (decides_op level.Compare)) good_add (has_add true PW EW NW UW AW BW) (λ n b y v r h. tt)))) good_nothing on_again (off_nothing (among (op_kinds level.Compare)) None (Stops (among goes_compare)) (looser (op_kinds level.Compare) goes_compare refl)))
+      (has_right (Again (Add true PW EW NW UW AW BW)) (Nothing None) (has_nothing None))
+      (meets_or (Stops (among goes_add)) (Stops (among goes_compare)) (Again (Add may P E N U A B)) (Nothing None) (meets_on (Stops (among goes_compare)) (stop (op_kinds level.Compare) goes_add refl) on_again) (meets_nothing (Stops (among goes_add)) (Stops (among goes_compare)) None (looser goes_add goes_compare refl))))
+
+  opens_not : Opens (is_key key.Not) (Made expr.Not (Behind (Key key.Not) NW))
+  opens_not = opens_made (is_key key.Not) expr.Not (Behind (Key key.Not) NW) (opens_behind (is_key key.Not) (IsKey key.Not) NW (key_of key.Not) hn)
+
+  pub good_not : Good M (Not may P E N U A B) (Not true PW EW NW UW AW BW) (Stops (among goes_compare)) (d.negation M may p e n u a b)
+  unfolding d.negation
+  good_not = good_opening (λ i. good_made (past_key key.Not (gn i) hn)) good_compare (on_not N) (off (Compare may P E N U A B) un_kinds (one_key key.Not) (Stops (among goes_compare)) refl (on_compare may P E N U A B)) opens_not
+
+  good_and : Good M (And may P E N U A B) (And true PW EW NW UW AW BW) (Stops (among goes_and)) (d.and M may p e n u a b)
+  unfolding d.and
+  good_and = good_chained level.And goes_compare goes_and refl refl refl good_not (has_not true PW EW NW UW AW BW)
+
+  good_ors : Good M (Ors may P E N U A B) (Ors true PW EW NW UW AW BW) (Stops (among goes_whole)) (d.ors M may p e n u a b)
+  unfolding d.ors
+  good_ors = good_chained level.Or goes_and goes_whole refl refl refl good_and (has_and true PW EW NW UW AW BW)
+
+  pub good_whole : Good M (Whole may P E N U A B) (Whole true PW EW NW UW AW BW) (Stops (among goes_whole)) (d.read_whole M may p e n u a b)
+  unfolding d.read_whole
+  good_whole =
+      good_opening (λ i. good_let M P PW p (gp i) hp E EW e (ge i) he on_e (apart i))
+      (good_opening (λ i. good_if M E EW e (ge i) he) good_ors (on_if E) (off (Ors may P E N U A B) not_kinds (one_key key.If) (Stops (among goes_whole)) refl (on_ors may P E N U A B)) (opens_if EW he))
+      (on_let P E) (off (Iffy may P E N U A B) if_kinds (one_key key.Let) (Stops (among goes_whole)) refl (on_iffy may P E N U A B)) (opens_let EW he PW hp)

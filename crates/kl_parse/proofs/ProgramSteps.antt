@@ -1,0 +1,43 @@
+-- What the code's steps say of the descent through definitions.
+use Rattle.std.proofs.Common.{◌≡◌, ℕ, ◌<◌, List, [], ◌∷◌, ◌++◌, length, Option, refl, sym, ap, subst, ◌∙◌}
+use Rattle.kl_lex.specs.declared.token.Sym.TheVariants as sy
+use Rattle.kl_lex.specs.declared.token.Token.{Token}
+use Rattle.kl_parse.specs.declared.keyword.Keyword.TheVariants as key
+use Rattle.kl_parse.specs.declared.fault.Fault.{Fault}
+use Rattle.kl_parse.specs.declared.fault.Fault.TheVariants as fault
+use Rattle.kl_parse.specs.declared.tree.Word.{Word}
+use Rattle.kl_parse.specs.declared.tree.Pattern.{Pattern}
+use Rattle.kl_parse.specs.declared.tree.Expr.{Expr}
+use Rattle.kl_parse.specs.declared.tree.Decl.{Decl}
+use Rattle.kl_parse.specs.Gives.{Fails}
+use Rattle.kl_parse.specs.Grammar.{decl_of, whole}
+use Rattle.kl_parse.specs.Kinds.{is_key}
+use Rattle.kl_parse.specs.Parsing.{nests}
+use Rattle.kl_parse.specs.Descent as d
+use Rattle.kl_parse.specs.Descent.{mark}
+use Rattle.kl_parse.proofs.Kepts.{same_reads, same_body, keeps_rest}
+use Rattle.kl_parse.proofs.Steps.{AheadKey, behind_key, heads_key, rest_less}
+use Rattle.kl_phrase.specs.Readers.{Out, ok, fail, bad, deep, Reader, after, behind, before, both, made}
+use Rattle.kl_phrase.proofs.Kept.{Rests, keeps_made}
+use Rattle.kl_phrase.proofs.Gathered.{Progress, goes_on, breaks}
+use Rattle.kl_phrase.proofs.Exact.{Nested}
+
+abbrev pub ADecl : ℕ → Reader Token Decl
+ADecl N = d.decl N (d.read_pat N 256) (d.reads N 256 whole)
+
+decl_at : (N : ℕ) (rest more : List Token) → AheadKey key.Define rest more → ADecl N rest ≡ d.decl_rest N 256 more
+decl_at N rest more a = ap (λ (o : Out Token (Word × (Option Pattern × Expr))). after {B = Decl} o (λ x s. ok (decl_of x) s)) (behind_key key.Define (both (d.name N) (behind (mark sy.Equals) (before (d.body (d.read_pat N 256) (d.reads N 256 whole)) (mark sy.Semi)))) rest more a)
+
+rests_decl : (N : ℕ) (ts : List Token) → Rests ts (d.decl_rest N 256 ts)
+rests_decl N ts = (keeps_made decl_of (keeps_rest (Nested nests) N N 256 256 (same_reads N N 256 whole) (same_body N N 256 (same_reads N N 256 whole)))).rests ts
+
+pub decl_less : (N : ℕ) (rest more r : List Token) (a : Decl) → AheadKey key.Define rest more → d.decl_rest N 256 more ≡ ok a r → length r < length rest
+decl_less N rest more r a (t, e, h) i = rest_less t rest more r a (d.decl_rest N 256 more) e (rests_decl N more) i
+
+pub decl_on : (N : ℕ) (list : Out Token (List Decl)) (found : List Decl) (rest more r : List Token) (a : Decl) → AheadKey key.Define rest more → d.decl_rest N 256 more ≡ ok a r → Progress (is_key key.Define) (ADecl N) list found rest → Progress (is_key key.Define) (ADecl N) list (found ++ a ∷ []) r
+decl_on N list found rest more r a ahead e so = goes_on (is_key key.Define) (ADecl N) list found rest r a (heads_key key.Define rest more ahead) (decl_at N rest more ahead ∙ e) (decl_less N rest more r a ahead e) so
+
+pub decl_fails : (N : ℕ) (list : Out Token (List Decl)) (found : List Decl) (rest more : List Token) (f : Fault) → AheadKey key.Define rest more → Fails f (d.decl_rest N 256 more) → Progress (is_key key.Define) (ADecl N) list found rest → Fails f list
+decl_fails N list found rest more fault.Memory ahead h so = tt
+decl_fails N list found rest more (fault.Bad r) ahead h so = breaks (is_key key.Define) (ADecl N) list found rest bad r.now (heads_key key.Define rest more ahead) (decl_at N rest more ahead ∙ h) so
+decl_fails N list found rest more (fault.Deep r) ahead h so = breaks (is_key key.Define) (ADecl N) list found rest deep r.now (heads_key key.Define rest more ahead) (decl_at N rest more ahead ∙ h) so

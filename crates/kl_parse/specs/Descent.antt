@@ -1,0 +1,297 @@
+-- The descent: for each word of the grammar a reader. `total`: how many tokens there are in all.
+-- No public contract cites this.
+use Rattle.std.specs.Prelude.{ℕ, zero, suc, Bool, true, false, ◌&&◌, List, [], ◌∷◌, Option, Some, None, ◌⊎◌}
+use Rattle.kl_lex.specs.declared.token.Sym.{Sym}
+use Rattle.kl_lex.specs.declared.token.Sym.TheVariants as sym
+use Rattle.kl_lex.specs.declared.token.Token.{Token}
+use Rattle.kl_value.specs.declared.value.Kind.{Kind}
+use Rattle.kl_value.specs.declared.value.Kind.TheVariants as kind
+use Rattle.kl_value.specs.declared.value.Value.{Value}
+use Rattle.kl_parse.specs.declared.keyword.Keyword.{Keyword}
+use Rattle.kl_parse.specs.declared.keyword.Keyword.TheVariants as key
+use Rattle.kl_parse.specs.declared.operator.Level.{Level}
+use Rattle.kl_parse.specs.declared.operator.Level.TheVariants as level
+use Rattle.kl_parse.specs.declared.tree.Word.{Word}
+use Rattle.kl_parse.specs.declared.tree.Op.{Op}
+use Rattle.kl_parse.specs.declared.tree.Pattern.{Pattern}
+use Rattle.kl_parse.specs.declared.tree.Pattern.TheVariants as pattern
+use Rattle.kl_parse.specs.declared.tree.Expr.{Expr}
+use Rattle.kl_parse.specs.declared.tree.Expr.TheVariants as expr
+use Rattle.kl_parse.specs.declared.tree.Qual.{Qual}
+use Rattle.kl_parse.specs.declared.tree.Qual.TheVariants as qual
+use Rattle.kl_parse.specs.declared.tree.Branch.{Branch}
+use Rattle.kl_parse.specs.declared.tree.Decl.{Decl}
+use Rattle.kl_parse.specs.declared.tree.Program.{Program}
+use Rattle.kl_parse.specs.Lexemes.{word_of}
+use Rattle.kl_parse.specs.Grammar.{is_of, variant_of, shape_of, name_of, inject_of, gen_of, comp_of, case_of, path_of, chain_of, compare_of, let_of, if_of, branch_of, function_of, constant_of, decl_of, program_of, opener, closer, Sort, whole, negated, signed, added, opens}
+use Rattle.kl_parse.specs.Kinds.{among, is_symbol, is_key, label_kinds, constant_kinds, big_kinds, op_kinds, symbol_kind, a_symbol, a_key, a_label, a_name, a_constant, a_least, a_negative, an_op}
+use Rattle.kl_phrase.specs.Words.{heads}
+use Rattle.kl_phrase.specs.Readers.{Reader, bad, deep, fail, one, nothing, numbered, both, behind, before, chain, made, two, choose, pick, opened, opening, many, parted, tail_turn, tailed, followed, commit}
+
+abbrev pub mark : Sym → Reader Token (Unit {0})
+mark s = one (a_symbol s)
+
+abbrev pub word_mark : Keyword → Reader Token (Unit {0})
+word_mark k = one (a_key k)
+
+abbrev pub never : {A : Type 0} → Reader Token A
+never ts = fail deep ts
+
+-- a minus and the digits that it makes the least integer
+abbrev pub is_least : List Token → Bool
+is_least = two (is_symbol sym.Sub) (among big_kinds)
+
+-- what may follow a condition, and a body that is no function
+abbrev pub after_qual : List ℕ
+after_qual = symbol_kind sym.Comma ∷ symbol_kind sym.CloseSet ∷ symbol_kind sym.CloseBag ∷ symbol_kind sym.CloseList ∷ []
+
+abbrev pub least_at : Reader Token Expr
+least_at = made expr.Const (behind (mark sym.Sub) (one a_least))
+
+abbrev pub chained : Level → Reader Token Expr → Reader Token Expr
+chained l p = made chain_of (both p (many (among (op_kinds l)) (both (one (an_op l)) p)))
+
+-- what stands inside: expressions e
+module _ (e : Reader Token Expr) where
+  abbrev pub exprs : Reader Token (List Expr)
+  exprs = parted (is_symbol sym.Comma) (mark sym.Comma) e
+
+  abbrev pub in_args : Reader Token (List Expr)
+  in_args = before exprs (mark sym.ClosePar)
+
+  abbrev pub in_group : Reader Token Expr
+  in_group = before e (mark sym.ClosePar)
+
+  abbrev pub condition : Reader Token Expr
+  condition = followed (among after_qual) e
+
+  abbrev pub expr_before : Keyword → Reader Token Expr
+  expr_before k = before e (word_mark k)
+
+  abbrev pub in_if : Reader Token (Expr × (Expr × Expr))
+  in_if = both (expr_before key.Then) (both (expr_before key.Else) e)
+
+  abbrev pub otherwise : Reader Token (Option Expr)
+  otherwise = pick (is_key key.Otherwise) (made Some (behind (word_mark key.Otherwise) e)) (nothing None)
+
+  abbrev pub case_end : Reader Token (Option Expr)
+  case_end = before otherwise (word_mark key.End)
+
+  abbrev pub in_case : Reader Token Branch → Reader Token (Expr × (List Branch × Option Expr))
+  in_case b = both (expr_before key.Of) (both (parted (is_symbol sym.Comma) (mark sym.Comma) b) case_end)
+
+abbrev pub pat_before : Reader Token Pattern → Sym → Reader Token Pattern
+pat_before p s = before p (mark s)
+
+abbrev pub drawn : Reader Token Pattern → Reader Token Pattern
+drawn p = pat_before p sym.Draw
+
+abbrev pub parameter : Reader Token Pattern → Reader Token Pattern
+parameter p = pat_before p sym.Arrow
+
+abbrev pub plain_body : Reader Token Expr → Reader Token Expr
+plain_body e = followed (is_symbol sym.Semi) e
+
+-- patterns p too
+module _ (p : Reader Token Pattern) (e : Reader Token Expr) where
+  unfoldable pub qualifier : Reader Token Qual
+  qualifier = commit gen_of (drawn p) e (made qual.Cond (condition e))
+
+  abbrev pub quals : Reader Token (List Qual)
+  quals = parted (is_symbol sym.Comma) (mark sym.Comma) qualifier
+
+  -- items or a comprehension, behind their first expression
+  abbrev pub beyond : Kind → Expr → Reader Token Expr
+  beyond k first = pick (is_symbol sym.Bar) (made (λ found. comp_of k (first, found)) (behind (mark sym.Bar) quals)) (made (λ more. expr.Coll k (first ∷ more)) (many (is_symbol sym.Comma) (behind (mark sym.Comma) e)))
+
+  unfoldable pub body : Reader Token (Option Pattern × Expr)
+  body = commit function_of (parameter p) e (made constant_of (plain_body e))
+
+  unfoldable pub in_coll : Kind → Reader Token Expr
+  in_coll k = before (pick (is_symbol (closer k)) (nothing (expr.Coll k [])) (chain e (beyond k))) (mark (closer k))
+
+  abbrev pub coll : Kind → Reader Token Expr
+  coll k = behind (mark (opener k)) (in_coll k)
+
+  abbrev pub in_let : Reader Token (Pattern × (Expr × Expr))
+  in_let = both (pat_before p sym.Equals) (both (expr_before e key.In) e)
+
+module _ (total : ℕ) where
+  abbrev pub label : Reader Token Word
+  label = made word_of (numbered total (one a_label))
+
+  abbrev pub name : Reader Token Word
+  name = made word_of (numbered total (one a_name))
+
+  unfoldable pub simple : Reader Token Pattern
+  simple = pick (is_symbol sym.Bind) (made pattern.Bind (behind (mark sym.Bind) name))
+      (pick (is_symbol sym.Any) (made (λ _. pattern.Any) (mark sym.Any))
+      (pick (is_symbol sym.Sub) (made is_of (numbered total (behind (mark sym.Sub) (one a_negative))))
+      (pick (among constant_kinds) (made is_of (numbered total (one a_constant))) (made pattern.Same name))))
+
+  -- p: the patterns inside brackets
+  module _ (p : Reader Token Pattern) where
+    abbrev pub pat_field : Reader Token (Word × Pattern)
+    pat_field = both label (behind (mark sym.Eq) p)
+
+    abbrev pub pat_turn : Reader Token ((Word × Pattern) ⊎ Bool)
+    pat_turn = tail_turn (is_symbol sym.Comma) (is_symbol sym.Dots) (mark sym.Comma) pat_field (mark sym.Dots)
+
+    abbrev pub pat_fields : Reader Token (List (Word × Pattern) × Bool)
+    pat_fields = tailed (is_symbol sym.Comma) (is_symbol sym.Dots) (mark sym.Comma) pat_field (mark sym.Dots)
+
+    abbrev pub shape : Reader Token Pattern
+    shape = pick (among label_kinds) (made shape_of (both pat_field pat_fields)) (pick (is_symbol sym.Dots) (made (λ _. pattern.Rec [] true) (mark sym.Dots)) (nothing (pattern.Rec [] false)))
+
+    abbrev pub in_shape : Reader Token Pattern
+    in_shape = before shape (mark sym.CloseRec)
+
+    abbrev pub in_variant : Reader Token (Word × Pattern)
+    in_variant = before pat_field (mark sym.Gt)
+
+    abbrev pub pat_variant : Reader Token (Word × Pattern)
+    pat_variant = behind (mark sym.Lt) in_variant
+
+    unfoldable pub pat : Bool → Reader Token Pattern
+    pat may = opening (is_symbol sym.Lt) may (made variant_of pat_variant) (opening (is_symbol sym.OpenRec) may (behind (mark sym.OpenRec) in_shape) simple)
+
+  unfoldable pub read_pat : ℕ → Reader Token Pattern
+  read_pat zero = pat never false
+  read_pat (suc depth) = pat (read_pat depth) true
+
+  abbrev pub pat_inside : ℕ → Reader Token Pattern
+  pat_inside zero = never
+  pat_inside (suc depth) = read_pat depth
+
+  abbrev pub field : Reader Token Expr → Reader Token (Word × Expr)
+  field e = both label (behind (mark sym.Eq) e)
+
+  abbrev pub in_rec : Reader Token Expr → Reader Token (List (Word × Expr))
+  in_rec e = before (pick (among label_kinds) (parted (is_symbol sym.Comma) (mark sym.Comma) (field e)) (nothing [])) (mark sym.CloseRec)
+
+  abbrev pub in_inject : Reader Token Expr → Reader Token (Word × Expr)
+  in_inject a = before (field a) (mark sym.Gt)
+
+  -- behind the bracket of a branch: p inside it, e behind the arrow
+  abbrev pub in_branch : Reader Token Pattern → Reader Token Expr → Reader Token Branch
+  in_branch p e = made branch_of (both (in_variant p) (behind (mark sym.Arrow) e))
+
+  abbrev pub labels : Reader Token (List Word)
+  labels = many (is_symbol sym.Dot) (behind (mark sym.Dot) label)
+
+  unfoldable pub named : Bool → Reader Token Expr → Reader Token Expr
+  named may e = made name_of (both name (opening (is_symbol sym.OpenPar) may (made Some (behind (mark sym.OpenPar) (in_args e))) (nothing None)))
+
+  module _ (may : Bool) (p : Reader Token Pattern) (e n u a : Reader Token Expr) (b : Reader Token Branch) where
+    unfoldable pub prim : Reader Token Expr
+    prim = pick (among constant_kinds) (made expr.Const (one a_constant))
+        (opening (is_symbol sym.OpenPar) may (behind (mark sym.OpenPar) (in_group e))
+        (opening (is_symbol sym.OpenRec) may (made expr.Rec (behind (mark sym.OpenRec) (in_rec e)))
+        (opening (is_symbol sym.Lt) may (made inject_of (behind (mark sym.Lt) (in_inject a)))
+        (opening (is_symbol sym.OpenSet) may (coll p e kind.Set)
+        (opening (is_symbol sym.OpenBag) may (coll p e kind.Bag)
+        (opening (is_symbol sym.OpenList) may (coll p e kind.List)
+        (opening (is_key key.Case) may (made case_of (behind (word_mark key.Case) (in_case e b))) (named may e))))))))
+
+    unfoldable pub post : Reader Token Expr
+    post = made path_of (both prim labels)
+
+    unfoldable pub un : Reader Token Expr
+    un = choose is_least least_at (opening (is_symbol sym.Sub) may (made expr.Neg (behind (mark sym.Sub) u)) post)
+
+    unfoldable pub mul : Reader Token Expr
+    mul = chained level.Mul un
+
+    unfoldable pub add : Reader Token Expr
+    add = chained level.Add mul
+
+    unfoldable pub compare : Reader Token Expr
+    compare = made compare_of (both add (pick (among (op_kinds level.Compare)) (made Some (both (one (an_op level.Compare)) add)) (nothing None)))
+
+    unfoldable pub negation : Reader Token Expr
+    negation = opening (is_key key.Not) may (made expr.Not (behind (word_mark key.Not) n)) compare
+
+    unfoldable pub and : Reader Token Expr
+    and = chained level.And negation
+
+    unfoldable pub ors : Reader Token Expr
+    ors = chained level.Or and
+
+    unfoldable pub read_whole : Reader Token Expr
+    read_whole = opening (is_key key.Let) may (made let_of (behind (word_mark key.Let) (in_let p e))) (opening (is_key key.If) may (made if_of (behind (word_mark key.If) (in_if e))) ors)
+
+    -- what stands between the operators of a level
+    abbrev pub operand : Level → Reader Token Expr
+    operand level.Or = and
+    operand level.And = negation
+    operand level.Compare = add
+    operand level.Add = mul
+    operand level.Mul = un
+
+    abbrev pub of_sort : Sort → Reader Token Expr
+    of_sort whole = read_whole
+    of_sort negated = negation
+    of_sort signed = un
+    of_sort added = add
+
+  unfoldable pub branch : Bool → Reader Token Pattern → Reader Token Expr → Reader Token Branch
+  branch may p e = pick (is_symbol sym.Lt) (opened may (made branch_of (both (pat_variant p) (behind (mark sym.Arrow) e)))) (λ ts. fail bad ts)
+
+  unfoldable pub reads : ℕ → Sort → Reader Token Expr
+  reads zero s = of_sort false never never never never never never s
+  reads (suc depth) s = of_sort true (read_pat depth) (reads depth whole) (reads depth negated) (reads depth signed) (reads depth added) (branch (opens depth) (pat_inside depth) (reads depth whole)) s
+
+  module _ (p : Reader Token Pattern) (e : Reader Token Expr) where
+    abbrev pub decl : Reader Token Decl
+    decl = made decl_of (behind (word_mark key.Define) (both name (behind (mark sym.Equals) (before (body p e) (mark sym.Semi)))))
+
+    unfoldable pub read_program : Reader Token Program
+    read_program = made program_of (both (many (is_key key.Define) decl) (before e (mark sym.Semi)))
+
+  abbrev pub program : ℕ → Reader Token Program
+  program depth = read_program (read_pat depth) (reads depth whole)
+
+-- ---- as the code goes, by how deep nesting may go on
+
+module _ (total : ℕ) where
+  abbrev pub inside : ℕ → Sort → Reader Token Expr
+  inside zero s = never
+  inside (suc depth) s = reads total depth s
+
+  abbrev pub branch_at : ℕ → Reader Token Branch
+  branch_at depth = branch total (opens depth) (pat_inside total depth) (reads total depth whole)
+
+  abbrev pub branch_inside : ℕ → Reader Token Branch
+  branch_inside zero = never
+  branch_inside (suc depth) = branch_at depth
+
+  abbrev pub pat_at : ℕ → Reader Token Pattern
+  pat_at depth = pat total (pat_inside total depth) (opens depth)
+
+  abbrev pub named_at : ℕ → Reader Token Expr
+  named_at depth = named total (opens depth) (inside depth whole)
+
+  abbrev pub prim_at : ℕ → Reader Token Expr
+  prim_at depth = prim total (opens depth) (pat_inside total depth) (inside depth whole) (inside depth negated) (inside depth signed) (inside depth added) (branch_inside depth)
+
+  abbrev pub post_at : ℕ → Reader Token Expr
+  post_at depth = post total (opens depth) (pat_inside total depth) (inside depth whole) (inside depth negated) (inside depth signed) (inside depth added) (branch_inside depth)
+
+  abbrev pub sort_at : ℕ → Sort → Reader Token Expr
+  sort_at depth = of_sort total (opens depth) (pat_inside total depth) (inside depth whole) (inside depth negated) (inside depth signed) (inside depth added) (branch_inside depth)
+
+  abbrev pub compare_at : ℕ → Reader Token Expr
+  compare_at depth = compare total (opens depth) (pat_inside total depth) (inside depth whole) (inside depth negated) (inside depth signed) (inside depth added) (branch_inside depth)
+
+  abbrev pub operand_at : ℕ → Level → Reader Token Expr
+  operand_at depth = operand total (opens depth) (pat_inside total depth) (inside depth whole) (inside depth negated) (inside depth signed) (inside depth added) (branch_inside depth)
+
+  abbrev pub chain_at : ℕ → Level → Reader Token Expr
+  chain_at depth l = chained l (operand_at depth l)
+
+  -- what stands behind `define`
+  abbrev pub decl_rest : ℕ → Reader Token Decl
+  decl_rest depth = made decl_of (both (name total) (behind (mark sym.Equals) (before (body (read_pat total depth) (reads total depth whole)) (mark sym.Semi))))
+
+  abbrev pub decls : ℕ → Reader Token (List Decl)
+  decls depth = many (is_key key.Define) (decl total (read_pat total depth) (reads total depth whole))

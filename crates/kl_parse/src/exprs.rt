@@ -1,0 +1,737 @@
+//! Expressions, read off their tokens. `total`: how many tokens there are in all; `depth`: how much deeper they may
+//! nest.
+
+ghost use Rattle.std.specs.Prelude.{◌≡◌, ◌∷◌, [], MatchOption, IfOk, true, false};
+ghost use Rattle.kl_parse.specs.declared.tree.Expr.TheVariants as exprs_of;
+ghost use Rattle.kl_lex.specs.declared.token.Token.{Token as AToken};
+ghost use Rattle.kl_lex.specs.declared.token.Sym.TheVariants as symbols;
+ghost use Rattle.kl_phrase.specs.Words.{heads};
+ghost use Rattle.kl_phrase.specs.Readers.{behind, both, made, one, others, parted};
+ghost use Rattle.kl_parse.specs.declared.operator.Level.TheVariants as levels;
+ghost use Rattle.kl_parse.specs.Gives.{Gives};
+ghost use Rattle.kl_parse.specs.Grammar.{opener, let_of, if_of, inject_of, case_of, whole, negated, signed};
+ghost use Rattle.kl_parse.specs.Kinds.{among, is_symbol, op_kinds, an_op};
+ghost use Rattle.kl_parse.specs.Descent.{mark, read_pat, labels, reads, chain_at, operand_at, sort_at, compare_at, post_at, prim_at, named_at, branch_at, exprs, in_args, in_group, in_rec, in_inject, in_coll, in_let, in_if, in_case, case_end, expr_before, field, condition, qualifier, quals, beyond, otherwise};
+
+use crate::fault::Fault;
+use crate::front::{
+    constant, eat, eat_word, is_word, label, least, name, or_bad, or_deep, want, want_word,
+};
+use crate::keyword::Keyword;
+use crate::operator::{Level, operator};
+use crate::patterns::{pattern_before, variant_rest};
+use crate::tree::{
+    Branch, Branches, Expr, ExprFields, Exprs, Op, Pattern, Qual, Quals, Steps, Word, Words,
+};
+use kl_base::{Box, NoMemory, Seq};
+use kl_lex::{Sym, Token};
+use kl_value::Kind;
+use std::alloc::Global;
+
+/// `{ "." LABEL }`
+fn labels(alloc: Global, total: u32, tokens: &[Token]) -> Result<(Vec<Word>, &[Token]), Fault<'_>>
+    ensures { Gives (λ x. x.0.items) (λ x. x.1.now) result (labels total tokens.now) }
+{
+    let mut found = Vec::new(alloc);
+    let mut rest = tokens;
+    'labels: while let Some(after) = eat(rest, Sym::Dot) {
+        let (next, after) = label(total, after)?;
+        found.push(next)?;
+        rest = after;
+    }
+    Ok((found, rest))
+}
+
+/// The kind of collection that a bracket opens, and what stands behind it.
+fn opened(tokens: &[Token]) -> Option<(Kind, &[Token])>
+    ensures { MatchOption result ((heads (is_symbol symbols.OpenSet) tokens.now ≡ false) × (heads (is_symbol symbols.OpenBag) tokens.now ≡ false) × (heads (is_symbol symbols.OpenList) tokens.now ≡ false)) (λ x. (t : AToken) × (tokens.now ≡ t ∷ x.1.now) × (is_symbol (opener x.0) t ≡ true)) }
+{
+    if let Some(rest) = eat(tokens, Sym::OpenSet) {
+        return Some((Kind::Set, rest));
+    }
+    if let Some(rest) = eat(tokens, Sym::OpenBag) {
+        return Some((Kind::Bag, rest));
+    }
+    let rest = eat(tokens, Sym::OpenList)?;
+    Some((Kind::List, rest))
+}
+
+fn closer(kind: Kind) -> Sym
+    ensures { result ≡ Rattle.kl_parse.specs.Grammar.closer kind }
+{
+    match kind {
+        Kind::Set => Sym::CloseSet,
+        Kind::Bag => Sym::CloseBag,
+        Kind::List => Sym::CloseList,
+    }
+}
+
+/// Whether what follows may stand behind a condition.
+fn ends_condition(tokens: &[Token]) -> bool
+    ensures { result ≡ heads (among Rattle.kl_parse.specs.Descent.after_qual) tokens.now }
+{
+    eat(tokens, Sym::Comma).is_some()
+        || eat(tokens, Sym::CloseSet).is_some()
+        || eat(tokens, Sym::CloseBag).is_some()
+        || eat(tokens, Sym::CloseList).is_some()
+}
+
+fn make_let(alloc: Global, bound: Pattern, value: Expr, body: Expr) -> Result<Expr, NoMemory>
+    ensures { IfOk result (λ found. found ≡ exprs_of.Let bound value body) }
+{
+    Ok(Expr::Let(bound, Box::new(alloc, value)?, Box::new(alloc, body)?))
+}
+
+fn boxed(alloc: Global, one: Expr, other: Expr) -> Result<(Box<Expr>, Box<Expr>), NoMemory>
+    ensures { IfOk result (λ found. found ≡ (one, other)) }
+{
+    Ok((Box::new(alloc, one)?, Box::new(alloc, other)?))
+}
+
+fn make_if(alloc: Global, test: Expr, yes: Expr, no: Expr) -> Result<Expr, NoMemory>
+    ensures { IfOk result (λ found. found ≡ exprs_of.If test yes no) }
+{
+    let (yes, no) = boxed(alloc, yes, no)?;
+    Ok(Expr::If(Box::new(alloc, test)?, yes, no))
+}
+
+/// `"let" .. | "if" .. | or`
+#[cycle(expr)]
+pub fn expr(
+    alloc: Global,
+    total: u32,
+    depth: u32,
+    tokens: &[Token],
+) -> Result<(Expr, &[Token]), Fault<'_>>
+    ensures { Gives (λ x. x.0) (λ x. x.1.now) result (reads total depth whole tokens.now) }
+{
+    if let Some(rest) = eat_word(tokens, Keyword::Let) {
+        if depth == 0 {
+            return Err(Fault::Deep(tokens));
+        }
+        return let_rest(alloc, total, depth - 1, rest);
+    }
+    if let Some(rest) = eat_word(tokens, Keyword::If) {
+        if depth == 0 {
+            return Err(Fault::Deep(tokens));
+        }
+        return if_rest(alloc, total, depth - 1, rest);
+    }
+    chain(alloc, total, depth, Level::Or, tokens)
+}
+
+/// An expression and this keyword.
+#[cycle(expr)]
+fn expr_before(
+    alloc: Global,
+    total: u32,
+    depth: u32,
+    keyword: Keyword,
+    tokens: &[Token],
+) -> Result<(Expr, &[Token]), Fault<'_>>
+    ensures { Gives (λ x. x.0) (λ x. x.1.now) result (expr_before (reads total depth whole) keyword tokens.now) }
+{
+    let (found, rest) = expr(alloc, total, depth, tokens)?;
+    let rest = want_word(rest, keyword)?;
+    Ok((found, rest))
+}
+
+/// `pat "==" expr "in" expr`
+#[cycle(expr)]
+fn let_rest(
+    alloc: Global,
+    total: u32,
+    depth: u32,
+    tokens: &[Token],
+) -> Result<(Expr, &[Token]), Fault<'_>>
+    ensures { Gives (λ x. x.0) (λ x. x.1.now) result (made let_of (in_let (read_pat total depth) (reads total depth whole)) tokens.now) }
+{
+    let (bound, rest) = pattern_before(alloc, total, depth, Sym::Equals, tokens)?;
+    let (value, rest) = expr_before(alloc, total, depth, Keyword::In, rest)?;
+    let (body, rest) = expr(alloc, total, depth, rest)?;
+    Ok((make_let(alloc, bound, value, body)?, rest))
+}
+
+/// `expr "then" expr "else" expr`
+#[cycle(expr)]
+fn if_rest(
+    alloc: Global,
+    total: u32,
+    depth: u32,
+    tokens: &[Token],
+) -> Result<(Expr, &[Token]), Fault<'_>>
+    ensures { Gives (λ x. x.0) (λ x. x.1.now) result (made if_of (in_if (reads total depth whole)) tokens.now) }
+{
+    let (test, rest) = expr_before(alloc, total, depth, Keyword::Then, tokens)?;
+    let (yes, rest) = expr_before(alloc, total, depth, Keyword::Else, rest)?;
+    let (no, rest) = expr(alloc, total, depth, rest)?;
+    Ok((make_if(alloc, test, yes, no)?, rest))
+}
+
+/// `operand { op operand }`, with the operators of one level.
+#[cycle(expr)]
+fn chain(
+    alloc: Global,
+    total: u32,
+    depth: u32,
+    level: Level,
+    tokens: &[Token],
+) -> Result<(Expr, &[Token]), Fault<'_>>
+    ensures { Gives (λ x. x.0) (λ x. x.1.now) result (chain_at total depth level tokens.now) }
+{
+    let (first, rest) = operand(alloc, total, depth, level, tokens)?;
+    let (more, rest) = more_steps(alloc, total, depth, level, rest)?;
+    if more.is_empty() {
+        return Ok((first, rest));
+    }
+    Ok((Expr::Chain(Box::new(alloc, first)?, Seq::of(more)), rest))
+}
+
+#[cycle(expr)]
+fn more_steps(
+    alloc: Global,
+    total: u32,
+    depth: u32,
+    level: Level,
+    tokens: &[Token],
+) -> Result<(Vec<(Op, Expr)>, &[Token]), Fault<'_>>
+    ensures { Gives (λ x. x.0.items) (λ x. x.1.now) result (others (among (op_kinds level)) (both (one (an_op level)) (operand_at total depth level)) [] tokens.now) }
+{
+    let mut found = Vec::new(alloc);
+    let mut rest = tokens;
+    'steps: while let Some((op, after)) = operator(rest, level) {
+        let (next, after) = operand(alloc, total, depth, level, after)?;
+        found.push((op, next))?;
+        rest = after;
+    }
+    Ok((found, rest))
+}
+
+/// What stands between the operators of a level.
+#[cycle(expr)]
+fn operand(
+    alloc: Global,
+    total: u32,
+    depth: u32,
+    level: Level,
+    tokens: &[Token],
+) -> Result<(Expr, &[Token]), Fault<'_>>
+    ensures { Gives (λ x. x.0) (λ x. x.1.now) result (operand_at total depth level tokens.now) }
+{
+    match level {
+        Level::Or => chain(alloc, total, depth, Level::And, tokens),
+        Level::And => negation(alloc, total, depth, tokens),
+        Level::Compare => chain(alloc, total, depth, Level::Add, tokens),
+        Level::Add => chain(alloc, total, depth, Level::Mul, tokens),
+        Level::Mul => signed(alloc, total, depth, tokens),
+    }
+}
+
+/// `"not" not | cmp`
+#[cycle(expr)]
+fn negation(
+    alloc: Global,
+    total: u32,
+    depth: u32,
+    tokens: &[Token],
+) -> Result<(Expr, &[Token]), Fault<'_>>
+    ensures { Gives (λ x. x.0) (λ x. x.1.now) result (sort_at total depth negated tokens.now) }
+{
+    if let Some(rest) = eat_word(tokens, Keyword::Not) {
+        if depth == 0 {
+            return Err(Fault::Deep(tokens));
+        }
+        let (inner, rest) = negation(alloc, total, depth - 1, rest)?;
+        return Ok((Expr::Not(Box::new(alloc, inner)?), rest));
+    }
+    comparison(alloc, total, depth, tokens)
+}
+
+/// `add [ op add ]`, with the operators that compare.
+#[cycle(expr)]
+fn comparison(
+    alloc: Global,
+    total: u32,
+    depth: u32,
+    tokens: &[Token],
+) -> Result<(Expr, &[Token]), Fault<'_>>
+    ensures { Gives (λ x. x.0) (λ x. x.1.now) result (compare_at total depth tokens.now) }
+{
+    let (first, rest) = operand(alloc, total, depth, Level::Compare, tokens)?;
+    match operator(rest, Level::Compare) {
+        None => Ok((first, rest)),
+        Some((op, after)) => {
+            let (second, rest) = operand(alloc, total, depth, Level::Compare, after)?;
+            let mut steps = Vec::new(alloc);
+            steps.push((op, second))?;
+            Ok((Expr::Chain(Box::new(alloc, first)?, Seq::of(steps)), rest))
+        }
+    }
+}
+
+/// `"-" BIG | "-" un | post`
+#[cycle(expr)]
+fn signed(
+    alloc: Global,
+    total: u32,
+    depth: u32,
+    tokens: &[Token],
+) -> Result<(Expr, &[Token]), Fault<'_>>
+    ensures { Gives (λ x. x.0) (λ x. x.1.now) result (sort_at total depth signed tokens.now) }
+{
+    if let Some(found) = least(tokens) {
+        return Ok(found);
+    }
+    if let Some(rest) = eat(tokens, Sym::Sub) {
+        if depth == 0 {
+            return Err(Fault::Deep(tokens));
+        }
+        let (inner, rest) = signed(alloc, total, depth - 1, rest)?;
+        return Ok((Expr::Neg(Box::new(alloc, inner)?), rest));
+    }
+    path(alloc, total, depth, tokens)
+}
+
+/// `prim { "." LABEL }`
+#[cycle(expr)]
+fn path(
+    alloc: Global,
+    total: u32,
+    depth: u32,
+    tokens: &[Token],
+) -> Result<(Expr, &[Token]), Fault<'_>>
+    ensures { Gives (λ x. x.0) (λ x. x.1.now) result (post_at total depth tokens.now) }
+{
+    let (first, rest) = primary(alloc, total, depth, tokens)?;
+    let (words, rest) = labels(alloc, total, rest)?;
+    if words.is_empty() {
+        return Ok((first, rest));
+    }
+    Ok((Expr::Path(Box::new(alloc, first)?, Seq::of(words)), rest))
+}
+
+#[cycle(expr)]
+fn primary(
+    alloc: Global,
+    total: u32,
+    depth: u32,
+    tokens: &[Token],
+) -> Result<(Expr, &[Token]), Fault<'_>>
+    ensures { Gives (λ x. x.0) (λ x. x.1.now) result (prim_at total depth tokens.now) }
+{
+    if let Some((value, rest)) = constant(alloc, tokens)? {
+        return Ok((Expr::Const(value), rest));
+    }
+    if let Some(rest) = eat(tokens, Sym::OpenPar) {
+        if depth == 0 {
+            return Err(Fault::Deep(tokens));
+        }
+        return group_rest(alloc, total, depth - 1, rest);
+    }
+    if let Some(rest) = eat(tokens, Sym::OpenRec) {
+        if depth == 0 {
+            return Err(Fault::Deep(tokens));
+        }
+        let (fields, rest) = rec_rest(alloc, total, depth - 1, rest)?;
+        return Ok((Expr::Rec(fields), rest));
+    }
+    if let Some(rest) = eat(tokens, Sym::Lt) {
+        if depth == 0 {
+            return Err(Fault::Deep(tokens));
+        }
+        return inject_rest(alloc, total, depth - 1, rest);
+    }
+    if let Some((kind, rest)) = opened(tokens) {
+        if depth == 0 {
+            return Err(Fault::Deep(tokens));
+        }
+        return coll_rest(alloc, total, depth - 1, kind, rest);
+    }
+    if let Some(rest) = eat_word(tokens, Keyword::Case) {
+        if depth == 0 {
+            return Err(Fault::Deep(tokens));
+        }
+        return case_rest(alloc, total, depth - 1, rest);
+    }
+    named(alloc, total, depth, tokens)
+}
+
+/// `NAME [ "(" exprs ")" ]`
+#[cycle(expr)]
+fn named(
+    alloc: Global,
+    total: u32,
+    depth: u32,
+    tokens: &[Token],
+) -> Result<(Expr, &[Token]), Fault<'_>>
+    ensures { Gives (λ x. x.0) (λ x. x.1.now) result (named_at total depth tokens.now) }
+{
+    let (word, rest) = name(total, tokens)?;
+    match eat(rest, Sym::OpenPar) {
+        None => Ok((Expr::Name(word), rest)),
+        Some(after) => {
+            if depth == 0 {
+                return Err(Fault::Deep(rest));
+            }
+            let (args, after) = args_rest(alloc, total, depth - 1, after)?;
+            Ok((Expr::Call(word, args), after))
+        }
+    }
+}
+
+/// `exprs ")"`
+#[cycle(expr)]
+fn args_rest(
+    alloc: Global,
+    total: u32,
+    depth: u32,
+    tokens: &[Token],
+) -> Result<(Exprs, &[Token]), Fault<'_>>
+    ensures { Gives (λ x. x.0) (λ x. x.1.now) result (in_args (reads total depth whole) tokens.now) }
+{
+    let (first, rest) = expr(alloc, total, depth, tokens)?;
+    let (found, rest) = more_exprs(alloc, total, depth, first, rest)?;
+    let rest = want(rest, Sym::ClosePar)?;
+    Ok((found, rest))
+}
+
+/// The first expression and those that follow, each behind a comma.
+#[cycle(expr)]
+fn more_exprs(
+    alloc: Global,
+    total: u32,
+    depth: u32,
+    first: Expr,
+    tokens: &[Token],
+) -> Result<(Exprs, &[Token]), Fault<'_>>
+    ensures { Gives (λ x. x.0) (λ x. x.1.now) result (others (is_symbol symbols.Comma) (behind (mark symbols.Comma) (reads total depth whole)) (first ∷ []) tokens.now) }
+{
+    let mut found = Vec::new(alloc);
+    found.push(first)?;
+    let mut rest = tokens;
+    'exprs: while let Some(after) = eat(rest, Sym::Comma) {
+        let (next, after) = expr(alloc, total, depth, after)?;
+        found.push(next)?;
+        rest = after;
+    }
+    Ok((Seq::of(found), rest))
+}
+
+/// `expr ")"`
+#[cycle(expr)]
+fn group_rest(
+    alloc: Global,
+    total: u32,
+    depth: u32,
+    tokens: &[Token],
+) -> Result<(Expr, &[Token]), Fault<'_>>
+    ensures { Gives (λ x. x.0) (λ x. x.1.now) result (in_group (reads total depth whole) tokens.now) }
+{
+    let (inner, rest) = expr(alloc, total, depth, tokens)?;
+    let rest = want(rest, Sym::ClosePar)?;
+    Ok((inner, rest))
+}
+
+/// `[ field { "," field } ] "]"`
+#[cycle(expr)]
+fn rec_rest(
+    alloc: Global,
+    total: u32,
+    depth: u32,
+    tokens: &[Token],
+) -> Result<(ExprFields, &[Token]), Fault<'_>>
+    ensures { Gives (λ x. x.0) (λ x. x.1.now) result (in_rec total (reads total depth whole) tokens.now) }
+{
+    if !is_word(tokens) {
+        let rest = want(tokens, Sym::CloseRec)?;
+        return Ok((Seq::of(Vec::new(alloc)), rest));
+    }
+    let (first, rest) = field(alloc, total, depth, tokens)?;
+    let (found, rest) = more_fields(alloc, total, depth, first, rest)?;
+    let rest = want(rest, Sym::CloseRec)?;
+    Ok((found, rest))
+}
+
+#[cycle(expr)]
+fn field(
+    alloc: Global,
+    total: u32,
+    depth: u32,
+    tokens: &[Token],
+) -> Result<((Word, Expr), &[Token]), Fault<'_>>
+    ensures { Gives (λ x. x.0) (λ x. x.1.now) result (field total (reads total depth whole) tokens.now) }
+{
+    let (word, rest) = label(total, tokens)?;
+    let rest = want(rest, Sym::Eq)?;
+    let (found, rest) = expr(alloc, total, depth, rest)?;
+    Ok(((word, found), rest))
+}
+
+/// The first field and those that follow, each behind a comma.
+#[cycle(expr)]
+fn more_fields(
+    alloc: Global,
+    total: u32,
+    depth: u32,
+    first: (Word, Expr),
+    tokens: &[Token],
+) -> Result<(ExprFields, &[Token]), Fault<'_>>
+    ensures { Gives (λ x. x.0) (λ x. x.1.now) result (others (is_symbol symbols.Comma) (behind (mark symbols.Comma) (field total (reads total depth whole))) (first ∷ []) tokens.now) }
+{
+    let mut found = Vec::new(alloc);
+    found.push(first)?;
+    let mut rest = tokens;
+    'fields: while let Some(after) = eat(rest, Sym::Comma) {
+        let (next, after) = field(alloc, total, depth, after)?;
+        found.push(next)?;
+        rest = after;
+    }
+    Ok((Seq::of(found), rest))
+}
+
+/// `LABEL "=" add ">"`
+#[cycle(expr)]
+fn inject_rest(
+    alloc: Global,
+    total: u32,
+    depth: u32,
+    tokens: &[Token],
+) -> Result<(Expr, &[Token]), Fault<'_>>
+    ensures { Gives (λ x. x.0) (λ x. x.1.now) result (made inject_of (in_inject total (chain_at total depth levels.Add)) tokens.now) }
+{
+    let (word, rest) = label(total, tokens)?;
+    let rest = want(rest, Sym::Eq)?;
+    let (found, rest) = chain(alloc, total, depth, Level::Add, rest)?;
+    let rest = want(rest, Sym::Gt)?;
+    Ok((Expr::Inj(word, Box::new(alloc, found)?), rest))
+}
+
+/// What stands behind the bracket of a collection.
+#[cycle(expr)]
+fn coll_rest(
+    alloc: Global,
+    total: u32,
+    depth: u32,
+    kind: Kind,
+    tokens: &[Token],
+) -> Result<(Expr, &[Token]), Fault<'_>>
+    ensures { Gives (λ x. x.0) (λ x. x.1.now) result (in_coll (read_pat total depth) (reads total depth whole) kind tokens.now) }
+{
+    if let Some(rest) = eat(tokens, closer(kind)) {
+        return Ok((Expr::Coll(kind, Seq::of(Vec::new(alloc))), rest));
+    }
+    let (first, rest) = expr(alloc, total, depth, tokens)?;
+    let (found, rest) = beyond(alloc, total, depth, kind, first, rest)?;
+    let rest = want(rest, closer(kind))?;
+    Ok((found, rest))
+}
+
+/// What follows the first expression of a collection: a bar and qualifiers, or other items.
+#[cycle(expr)]
+fn beyond(
+    alloc: Global,
+    total: u32,
+    depth: u32,
+    kind: Kind,
+    first: Expr,
+    tokens: &[Token],
+) -> Result<(Expr, &[Token]), Fault<'_>>
+    ensures { Gives (λ x. x.0) (λ x. x.1.now) result (beyond (read_pat total depth) (reads total depth whole) kind first tokens.now) }
+{
+    match eat(tokens, Sym::Bar) {
+        Some(after) => {
+            let (found, rest) = qualifiers(alloc, total, depth, after)?;
+            Ok((Expr::Comp(kind, Box::new(alloc, first)?, found), rest))
+        }
+        None => {
+            let (found, rest) = more_exprs(alloc, total, depth, first, tokens)?;
+            Ok((Expr::Coll(kind, found), rest))
+        }
+    }
+}
+
+/// `qual { "," qual }`
+#[cycle(expr)]
+fn qualifiers(
+    alloc: Global,
+    total: u32,
+    depth: u32,
+    tokens: &[Token],
+) -> Result<(Quals, &[Token]), Fault<'_>>
+    ensures { Gives (λ x. x.0) (λ x. x.1.now) result (quals (read_pat total depth) (reads total depth whole) tokens.now) }
+{
+    let (first, rest) = qualifier(alloc, total, depth, tokens)?;
+    more_qualifiers(alloc, total, depth, first, rest)
+}
+
+/// The first qualifier and those that follow, each behind a comma.
+#[cycle(expr)]
+fn more_qualifiers(
+    alloc: Global,
+    total: u32,
+    depth: u32,
+    first: Qual,
+    tokens: &[Token],
+) -> Result<(Quals, &[Token]), Fault<'_>>
+    ensures { Gives (λ x. x.0) (λ x. x.1.now) result (others (is_symbol symbols.Comma) (behind (mark symbols.Comma) (qualifier (read_pat total depth) (reads total depth whole))) (first ∷ []) tokens.now) }
+{
+    let mut found = Vec::new(alloc);
+    found.push(first)?;
+    let mut rest = tokens;
+    'quals: while let Some(after) = eat(rest, Sym::Comma) {
+        let (next, after) = qualifier(alloc, total, depth, after)?;
+        found.push(next)?;
+        rest = after;
+    }
+    Ok((Seq::of(found), rest))
+}
+
+/// `pat "<-" expr | expr`. A pattern has no qualifier in it, so each token is read twice at most, however deep they nest.
+#[cycle(expr)]
+fn qualifier(
+    alloc: Global,
+    total: u32,
+    depth: u32,
+    tokens: &[Token],
+) -> Result<(Qual, &[Token]), Fault<'_>>
+    ensures { Gives (λ x. x.0) (λ x. x.1.now) result (qualifier (read_pat total depth) (reads total depth whole) tokens.now) }
+{
+    match pattern_before(alloc, total, depth, Sym::Draw, tokens) {
+        Ok((bound, rest)) => {
+            let (source, rest) = expr(alloc, total, depth, rest)?;
+            Ok((Qual::Gen(bound, source), rest))
+        }
+        Err(Fault::Memory) => Err(Fault::Memory),
+        Err(Fault::Bad(place)) => {
+            let (found, rest) = or_bad(place, condition(alloc, total, depth, tokens))?;
+            Ok((Qual::Cond(found), rest))
+        }
+        Err(Fault::Deep(place)) => {
+            let (found, rest) = or_deep(place, condition(alloc, total, depth, tokens))?;
+            Ok((Qual::Cond(found), rest))
+        }
+    }
+}
+
+/// An expression, where what follows may stand behind a condition.
+#[cycle(expr)]
+fn condition(
+    alloc: Global,
+    total: u32,
+    depth: u32,
+    tokens: &[Token],
+) -> Result<(Expr, &[Token]), Fault<'_>>
+    ensures { Gives (λ x. x.0) (λ x. x.1.now) result (condition (reads total depth whole) tokens.now) }
+{
+    let (found, rest) = expr(alloc, total, depth, tokens)?;
+    if !ends_condition(rest) {
+        return Err(Fault::Bad(rest));
+    }
+    Ok((found, rest))
+}
+
+/// `expr "of" branch { "," branch } otherwise "end"`
+#[cycle(expr)]
+fn case_rest(
+    alloc: Global,
+    total: u32,
+    depth: u32,
+    tokens: &[Token],
+) -> Result<(Expr, &[Token]), Fault<'_>>
+    ensures { Gives (λ x. x.0) (λ x. x.1.now) result (made case_of (in_case (reads total depth whole) (branch_at total depth)) tokens.now) }
+{
+    let (subject, rest) = expr_before(alloc, total, depth, Keyword::Of, tokens)?;
+    let (found, rest) = branches(alloc, total, depth, rest)?;
+    let (last, rest) = case_end(alloc, total, depth, rest)?;
+    Ok((Expr::Case(Box::new(alloc, subject)?, found, last), rest))
+}
+
+/// `branch { "," branch }`
+#[cycle(expr)]
+fn branches(
+    alloc: Global,
+    total: u32,
+    depth: u32,
+    tokens: &[Token],
+) -> Result<(Branches, &[Token]), Fault<'_>>
+    ensures { Gives (λ x. x.0) (λ x. x.1.now) result (parted (is_symbol symbols.Comma) (mark symbols.Comma) (branch_at total depth) tokens.now) }
+{
+    let (first, rest) = branch(alloc, total, depth, tokens)?;
+    more_branches(alloc, total, depth, first, rest)
+}
+
+/// `[ "otherwise" expr ] "end"`
+#[cycle(expr)]
+fn case_end(
+    alloc: Global,
+    total: u32,
+    depth: u32,
+    tokens: &[Token],
+) -> Result<(Option<Box<Expr>>, &[Token]), Fault<'_>>
+    ensures { Gives (λ x. x.0) (λ x. x.1.now) result (case_end (reads total depth whole) tokens.now) }
+{
+    let (found, rest) = otherwise(alloc, total, depth, tokens)?;
+    let rest = want_word(rest, Keyword::End)?;
+    Ok((found, rest))
+}
+
+/// `"<" LABEL "=" pat ">" "=>" expr`
+#[cycle(expr)]
+fn branch(
+    alloc: Global,
+    total: u32,
+    depth: u32,
+    tokens: &[Token],
+) -> Result<(Branch, &[Token]), Fault<'_>>
+    ensures { Gives (λ x. x.0) (λ x. x.1.now) result (branch_at total depth tokens.now) }
+{
+    let inner = want(tokens, Sym::Lt)?;
+    if depth == 0 {
+        return Err(Fault::Deep(tokens));
+    }
+    let ((label, pat), rest) = variant_rest(alloc, total, depth - 1, inner)?;
+    let rest = want(rest, Sym::Arrow)?;
+    let (body, rest) = expr(alloc, total, depth, rest)?;
+    Ok((Branch { label, pat, body }, rest))
+}
+
+/// The first branch and those that follow, each behind a comma.
+#[cycle(expr)]
+fn more_branches(
+    alloc: Global,
+    total: u32,
+    depth: u32,
+    first: Branch,
+    tokens: &[Token],
+) -> Result<(Branches, &[Token]), Fault<'_>>
+    ensures { Gives (λ x. x.0) (λ x. x.1.now) result (others (is_symbol symbols.Comma) (behind (mark symbols.Comma) (branch_at total depth)) (first ∷ []) tokens.now) }
+{
+    let mut found = Vec::new(alloc);
+    found.push(first)?;
+    let mut rest = tokens;
+    'branches: while let Some(after) = eat(rest, Sym::Comma) {
+        let (next, after) = branch(alloc, total, depth, after)?;
+        found.push(next)?;
+        rest = after;
+    }
+    Ok((Seq::of(found), rest))
+}
+
+/// `[ "otherwise" expr ]`
+#[cycle(expr)]
+fn otherwise(
+    alloc: Global,
+    total: u32,
+    depth: u32,
+    tokens: &[Token],
+) -> Result<(Option<Box<Expr>>, &[Token]), Fault<'_>>
+    ensures { Gives (λ x. x.0) (λ x. x.1.now) result (otherwise (reads total depth whole) tokens.now) }
+{
+    match eat_word(tokens, Keyword::Otherwise) {
+        None => Ok((None, tokens)),
+        Some(after) => {
+            let (found, rest) = expr(alloc, total, depth, after)?;
+            Ok((Some(Box::new(alloc, found)?), rest))
+        }
+    }
+}

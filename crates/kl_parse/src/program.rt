@@ -1,0 +1,149 @@
+//! Programs, read off their tokens.
+
+ghost use Rattle.std.specs.Prelude.{◌≡◌, ◌<◌, ◌^◌, ℕ, List, length, IfOk};
+ghost use Rattle.kl_lex.specs.declared.token.Token.{Token as AToken};
+ghost use Rattle.kl_parse.specs.declared.tree.Program.{Program as AProgram};
+ghost use Rattle.kl_parse.specs.Gives.{Gives};
+ghost use Rattle.kl_parse.specs.Grammar.{whole};
+ghost use Rattle.kl_parse.specs.Descent.{read_pat, reads, plain_body, body, decl_rest, decls, program};
+ghost use Rattle.kl_parse.specs.Parsing.{IsProgram, IsToldOf, OrMemory, Refuses};
+
+use crate::exprs::expr;
+use crate::fault::Fault;
+use crate::front::{eat, eat_word, name, number, or_bad, or_deep, want};
+use crate::keyword::Keyword;
+use crate::patterns::pattern_before;
+use crate::tree::{Decl, Expr, Pattern, Program};
+use kl_base::Seq;
+use kl_lex::{Sym, Token};
+use std::alloc::Global;
+use thiserror::Error;
+
+/// Why tokens are no program.
+#[derive(Clone, Copy, Debug, PartialEq, Eq, Error)]
+pub enum ParseError {
+    /// So many tokens begin some program, and no more of these do.
+    #[error("syntax at token {token}")]
+    Syntax { token: u32 },
+    /// This token makes the nesting 257, and those before it begin some program.
+    #[error("nesting at token {token}")]
+    TooDeep { token: u32 },
+    /// Want of memory.
+    #[error("out of memory")]
+    NoMemory,
+}
+
+/// How deep a program may nest.
+const MOST_NESTED: u32 = 256;
+
+/// An expression before a `;`.
+fn plain_body(alloc: Global, total: u32, tokens: &[Token]) -> Result<(Expr, &[Token]), Fault<'_>>
+    ensures { Gives (λ x. x.0) (λ x. x.1.now) result (plain_body (reads total 256 whole) tokens.now) }
+{
+    let (found, rest) = expr(alloc, total, MOST_NESTED, tokens)?;
+    if eat(rest, Sym::Semi).is_none() {
+        return Err(Fault::Bad(rest));
+    }
+    Ok((found, rest))
+}
+
+/// `pat "=>" expr | expr`
+fn body(
+    alloc: Global,
+    total: u32,
+    tokens: &[Token],
+) -> Result<((Option<Pattern>, Expr), &[Token]), Fault<'_>>
+    ensures { Gives (λ x. x.0) (λ x. x.1.now) result (body (read_pat total 256) (reads total 256 whole) tokens.now) }
+{
+    match pattern_before(alloc, total, MOST_NESTED, Sym::Arrow, tokens) {
+        Ok((bound, rest)) => {
+            let (found, rest) = expr(alloc, total, MOST_NESTED, rest)?;
+            Ok(((Some(bound), found), rest))
+        }
+        Err(Fault::Memory) => Err(Fault::Memory),
+        Err(Fault::Bad(place)) => {
+            let (found, rest) = or_bad(place, plain_body(alloc, total, tokens))?;
+            Ok(((None, found), rest))
+        }
+        Err(Fault::Deep(place)) => {
+            let (found, rest) = or_deep(place, plain_body(alloc, total, tokens))?;
+            Ok(((None, found), rest))
+        }
+    }
+}
+
+/// What stands behind `define`: `NAME "==" body ";"`
+fn decl_rest(alloc: Global, total: u32, tokens: &[Token]) -> Result<(Decl, &[Token]), Fault<'_>>
+    ensures { Gives (λ x. x.0) (λ x. x.1.now) result (decl_rest total 256 tokens.now) }
+{
+    let (name, rest) = name(total, tokens)?;
+    let rest = want(rest, Sym::Equals)?;
+    let ((param, body), rest) = body(alloc, total, rest)?;
+    let rest = want(rest, Sym::Semi)?;
+    Ok((Decl { name, param, body }, rest))
+}
+
+/// `{ "define" .. }`
+fn decls(alloc: Global, total: u32, tokens: &[Token]) -> Result<(Vec<Decl>, &[Token]), Fault<'_>>
+    ensures { Gives (λ x. x.0.items) (λ x. x.1.now) result (decls total 256 tokens.now) }
+{
+    let mut found = Vec::new(alloc);
+    let mut rest = tokens;
+    'decls: while let Some(after) = eat_word(rest, Keyword::Define) {
+        let (next, after) = decl_rest(alloc, total, after)?;
+        found.push(next)?;
+        rest = after;
+    }
+    Ok((found, rest))
+}
+
+/// `{ define } expr ";"`
+#[tactic(auto, unfolding(crate::specs::Descent::read_program))]
+fn program(alloc: Global, total: u32, tokens: &[Token]) -> Result<(Program, &[Token]), Fault<'_>>
+    ensures { Gives (λ x. x.0) (λ x. x.1.now) result (program total 256 tokens.now) }
+{
+    let (defs, rest) = decls(alloc, total, tokens)?;
+    let (last, rest) = expr(alloc, total, MOST_NESTED, rest)?;
+    let rest = want(rest, Sym::Semi)?;
+    Ok((
+        Program {
+            defs: Seq::of(defs),
+            last,
+        },
+        rest,
+    ))
+}
+
+/// The program that the tokens spell, nested at most 256 deep. Nesting counts, of brackets, `if`, `let`, `case`, `not` and
+/// unary minus, those that are not finished.
+///
+/// # Errors
+/// `Syntax` with the number of tokens of the longest prefix that begins some program. `TooDeep` with a token that makes the
+/// nesting 257. Want of memory.
+pub fn parse(alloc: Global, tokens: &[Token]) -> Result<Program, ParseError>
+    requires { length tokens.now < 2 ^ 32 }
+    ensures program { IfOk result (IsProgram tokens.now) }
+    ensures only { (p : AProgram) → IsProgram tokens.now p → OrMemory result p }
+    ensures refused { Refuses tokens.now result }
+{
+    let total = tokens.len() as u32;
+    match program(alloc, total, tokens) {
+        Ok((found, [])) => Ok(found),
+        Ok((_, rest)) => Err(ParseError::Syntax {
+            token: number(total, rest),
+        }),
+        Err(Fault::Memory) => Err(ParseError::NoMemory),
+        Err(Fault::Bad(rest)) => Err(ParseError::Syntax {
+            token: number(total, rest),
+        }),
+        Err(Fault::Deep(rest)) => Err(ParseError::TooDeep {
+            token: number(total, rest),
+        }),
+    }
+}
+
+/// Laws of programs, for the layers above to cite.
+pub fn parse_laws()
+    ensures unique { (ts : List AToken) (p q : AProgram) → IsProgram ts p → IsProgram ts q → p ≡ q }
+    ensures told { (ts : List AToken) → IsToldOf ts }
+{}

@@ -1,0 +1,7 @@
+use Rattle.std.proofs.Common.{◌≡◌}
+use Rattle.std.specs.List.{flat_map}
+use Rattle.kl_prim.specs.Meaning.{listed}
+use Rattle.kl_prim.proofs.collections.joined.Given as goal
+
+abbrev pub invariant-loop-item : goal.invariant-loop-item
+invariant-loop-item l = l.all.items ≡ flat_map (listed l.kind) l.yielded

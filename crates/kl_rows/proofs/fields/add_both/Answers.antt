@@ -1,0 +1,4 @@
+use Rattle.kl_rows.proofs.fields.add_both.Goals as goal
+
+pub find_in-requires : goal.find_in-requires
+find_in-requires c = c.loop-pair.invariant.0

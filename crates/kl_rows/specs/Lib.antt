@@ -1,0 +1,12 @@
+pub mod Copying
+pub mod Expanding
+pub mod Finite
+pub mod Joining
+pub mod Keeping
+pub mod Lists
+pub mod Making
+pub mod Places
+pub mod Schemes
+pub mod Solutions
+pub mod Steps
+pub mod Walking

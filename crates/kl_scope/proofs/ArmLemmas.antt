@@ -1,0 +1,388 @@
+-- The walk, a form of pattern and of expression each.
+use Rattle.std.proofs.Common.{◌≡◌, ℕ, suc, ◌-◌, List, [], ◌∷◌, ◌++◌, map, length, drop, Bool, Option, Some, None, Result, Ok, Err, IfOk, refl, sym, ap, subst, ◌∙◌, rules, append_assoc}
+use Rattle.std.specs.Option.{option_map}
+use Rattle.kl_base.specs.declared.memory.NoMemory.{NoMemory}
+use Rattle.kl_value.specs.declared.value.Kind.{Kind}
+use Rattle.kl_parse.specs.declared.tree.Branch.{Branch, out-Branch, roll-Branch, the_lemmas as branch_lemmas}
+use Rattle.kl_parse.specs.declared.tree.Expr.{Expr, the_lemmas}
+use Rattle.kl_parse.specs.declared.tree.Expr.TheVariants as expr
+use Rattle.kl_parse.specs.declared.tree.Op.{Op}
+use Rattle.kl_parse.specs.declared.tree.Pattern.{Pattern, the_lemmas as pattern_lemmas}
+use Rattle.kl_parse.specs.declared.tree.Pattern.TheVariants as code
+use Rattle.kl_parse.specs.declared.tree.Qual.{Qual, the_lemmas as qual_lemmas}
+use Rattle.kl_parse.specs.declared.tree.Qual.TheVariants as quals
+use Rattle.kl_parse.specs.declared.tree.Word.{Word}
+use Rattle.kl_parse.specs.Syntax.{Pat, draw, test, Pats, no_pats, pats, shape, Exp, call, fields, coll, comp, choice, bind, select, chain, Exps, no_exps, exps, no_flds, flds, Quals, no_quals, Branches, no_branches, branch, Steps, no_steps, step}
+use Rattle.kl_parse.specs.View.{view, exps_view, branches_view, exps_of, fields_view, field_view, flds_of, quals_view, qual_view, quals_of, steps_view, steps_of, step_view, branch_view, branches_of, rest_of, pattern_view, patterns_view, pats_of, pattern_pair}
+use Rattle.kl_scope.specs.declared.walk.Walk.{Walk}
+use Rattle.kl_scope.specs.declared.names.Sense.{Sense}
+use Rattle.kl_scope.specs.Senses.{Scope, called}
+use Rattle.kl_scope.specs.Patterns.{within, pattern_labels, variables, variables_all, tests}
+use Rattle.kl_scope.specs.Findings.{Finding, may_fail, used, repeated, pattern_findings, patterns_findings, drawn_findings, sure_findings, count, field_labels, branch_labels, behind, findings, findings_all, findings_fields, findings_quals, findings_branches, findings_steps}
+use Rattle.kl_scope.specs.Gathering.{gathered}
+use Rattle.kl_scope.specs.Resolved.{meant, resolved_pat, resolved_pats, resolved, resolved_all, resolved_fields, resolved_quals, resolved_branches, resolved_steps}
+use Rattle.kl_scope.specs.Walks.{Walked, Fronted, onto, same_scope, pattern_front, expr_front, field_front, step_front, PatternWalk, PatternsWalk, PatternsFront, ExprWalk, ItemsWalk, ExprsFront, FieldsFront, QualsFront, BranchesFront, StepsFront, QualFront, QualsWalk, BranchFront, BranchesWalk, RestWalk, StepsWalk, SureWalk, DrawnWalk}
+use Rattle.kl_scope.proofs.StayLemmas.{variables_stay}
+use Rattle.kl_scope.proofs.FindingLemmas.{gathered_append}
+use Rattle.kl_scope.proofs.WalkLemmas.{closed, left_is, behind_more, within_more, draw_in_front, test_in_front}
+
+-- ---- the lists of the code's trees
+
+pats_onto : (ps : List (Word × Pattern)) → onto pattern_front ps no_pats ≡ pats_of (map pattern_pair ps)
+pats_onto [] = refl
+pats_onto (p ∷ ps) = ap (pats p.0 (pattern_view p.1)) (pats_onto ps)
+
+pats_labels : (ps : List (Word × Pattern)) → pattern_labels (pats_of (map pattern_pair ps)) ≡ map (λ f. f.0) ps
+pats_labels [] = refl
+pats_labels (p ∷ ps) = ap (λ z. p.0 ∷ z) (pats_labels ps)
+
+exps_onto : (es : List Expr) → onto expr_front es no_exps ≡ exps_of (map view es)
+exps_onto [] = refl
+exps_onto (e ∷ es) = ap (exps (view e)) (exps_onto es)
+
+exps_count : (es : List Expr) → count (exps_of (map view es)) ≡ length es
+exps_count [] = refl
+exps_count (e ∷ es) = ap suc (exps_count es)
+
+flds_onto : (fs : List (Word × Expr)) → onto field_front fs no_flds ≡ flds_of (map field_view fs)
+flds_onto [] = refl
+flds_onto (f ∷ fs) = ap (flds f.0 (view f.1)) (flds_onto fs)
+
+flds_labels : (fs : List (Word × Expr)) → field_labels (flds_of (map field_view fs)) ≡ map (λ f. f.0) fs
+flds_labels [] = refl
+flds_labels (f ∷ fs) = ap (λ z. f.0 ∷ z) (flds_labels fs)
+
+quals_onto : (qs : List Qual) → onto qual_view qs no_quals ≡ quals_of (map qual_view qs)
+quals_onto [] = refl
+quals_onto (q ∷ qs) = ap (qual_view q) (quals_onto qs)
+
+branches_onto : (bs : List Branch) (rest : Branches) → onto branch_view bs rest ≡ branches_of (map branch_view bs) rest
+branches_onto [] rest = refl
+branches_onto (b ∷ bs) rest = ap (branch_view b) (branches_onto bs rest)
+
+steps_onto : (ss : List (Op × Expr)) → onto step_front ss no_steps ≡ steps_of (map step_view ss)
+steps_onto [] = refl
+steps_onto (s ∷ ss) = ap (step s.0 (view s.1)) (steps_onto ss)
+
+-- a whole list, walked
+module _ {A T : Type 0} (res : T → Scope → T) (found_in : T → Scope → List Finding) (scope_behind : T → Scope → Scope) (front : A → T → T) (none : T)
+    (res_none : (s : Scope) → res none s ≡ none) (found_none : (s : Scope) → found_in none s ≡ []) (scope_none : (s : Scope) → scope_behind none s ≡ s) where
+  whole : (xs ys : List A) (w v : Walk) → Fronted res found_in scope_behind (onto front xs) (onto front ys) w v → Walked res found_in scope_behind (onto front xs none) (onto front ys none) w v
+  whole xs ys w v h =
+      closed res found_in scope_behind (onto front xs) (onto front ys) none none w v v h
+      (record { tree = sym (res_none v.names); found = sym (ap (gathered v.findings) (found_none v.names)); scope = sym (scope_none v.names) })
+
+pub pats_walked : (ps qs : List (Word × Pattern)) (w v : Walk) → PatternsFront ps qs w v → Walked resolved_pats patterns_findings same_scope (pats_of (map pattern_pair ps)) (pats_of (map pattern_pair qs)) w v
+pats_walked ps qs w v h =
+    rw (← pats_onto ps, ← pats_onto qs) (whole resolved_pats patterns_findings same_scope pattern_front no_pats (λ s. refl) (λ s. refl) (λ s. refl) ps qs w v h)
+
+pub exps_walked : (es fs : List Expr) (w v : Walk) → ExprsFront es fs w v → Walked resolved_all findings_all same_scope (exps_of (map view es)) (exps_of (map view fs)) w v
+exps_walked es fs w v h =
+    rw (← exps_onto es, ← exps_onto fs) (whole resolved_all findings_all same_scope expr_front no_exps (λ s. refl) (λ s. refl) (λ s. refl) es fs w v h)
+
+pub flds_walked : (es fs : List (Word × Expr)) (w v : Walk) → FieldsFront es fs w v → Walked resolved_fields findings_fields same_scope (flds_of (map field_view es)) (flds_of (map field_view fs)) w v
+flds_walked es fs w v h =
+    rw (← flds_onto es, ← flds_onto fs) (whole resolved_fields findings_fields same_scope field_front no_flds (λ s. refl) (λ s. refl) (λ s. refl) es fs w v h)
+
+pub quals_walked : (es fs : List Qual) (w v : Walk) → QualsFront es fs w v → Walked resolved_quals findings_quals behind (quals_of (map qual_view es)) (quals_of (map qual_view fs)) w v
+quals_walked es fs w v h =
+    rw (← quals_onto es, ← quals_onto fs) (whole resolved_quals findings_quals behind qual_view no_quals (λ s. refl) (λ s. refl) (λ s. refl) es fs w v h)
+
+pub steps_walked : (es fs : List (Op × Expr)) (w v : Walk) → StepsFront es fs w v → Walked resolved_steps findings_steps same_scope (steps_of (map step_view es)) (steps_of (map step_view fs)) w v
+steps_walked es fs w v h =
+    rw (← steps_onto es, ← steps_onto fs) (whole resolved_steps findings_steps same_scope step_front no_steps (λ s. refl) (λ s. refl) (λ s. refl) es fs w v h)
+
+-- ---- results
+
+pub if_ok : {P Q : Type 0} (r : Result (Unit {0}) NoMemory) → (P → Q) → IfOk r (λ _. P) → IfOk r (λ _. Q)
+if_ok (Ok x) f p = f p
+if_ok (Err e) f p = tt
+
+-- ---- patterns
+
+pub record_walked : (ps qs : List (Word × Pattern)) (w v u : Walk) → v.names ≡ w.names → v.findings ≡ gathered w.findings (repeated [] (map (λ f. f.0) ps)) → PatternsFront ps qs v u
+    → PatternsWalk (patterns_view ps) (patterns_view qs) w u
+record_walked ps qs w v u same labels k =
+    let walked : Walked resolved_pats patterns_findings same_scope (patterns_view ps) (patterns_view qs) v u = pats_walked ps qs v u k in
+    record {
+      tree = walked.tree ∙ ap (resolved_pats (patterns_view ps)) same;
+      found = walked.found ∙ rw (labels, same, ← pats_labels ps) (sym (gathered_append w.findings (repeated [] (pattern_labels (patterns_view ps))) (patterns_findings (patterns_view ps) w.names)));
+      scope = walked.scope ∙ same;
+    }
+
+-- ---- expressions
+
+pub call_walked : (f g : Word) (es : List Expr) (b : Exps) (sense : Option Sense) (given : ℕ) (w v u : Walk) → v.names ≡ w.names → sense ≡ called w.names f.text → given ≡ length es → g ≡ meant sense f
+    → v.findings ≡ gathered w.findings (used sense f given) → ItemsWalk (exps_view es) b v u → ExprWalk (call f (exps_view es)) (call g b) w u
+call_walked f g es b sense given w v u same is many mean found k =
+    let now : v.findings ≡ gathered w.findings (used (called w.names f.text) f (count (exps_view es))) = found ∙ rw (is, many, exps_count es) refl in
+    record {
+      tree = rw (mean, is, k.tree, same) refl;
+      found = k.found ∙ rw (now, same) (sym (gathered_append w.findings (used (called w.names f.text) f (count (exps_view es))) (findings_all (exps_view es) w.names)));
+      scope = k.scope ∙ same;
+    }
+
+pub fields_walked : (es fs : List (Word × Expr)) (w v u : Walk) → v.names ≡ w.names → v.findings ≡ gathered w.findings (repeated [] (map (λ f. f.0) es)) → FieldsFront es fs v u → ExprWalk (fields (fields_view es)) (fields (fields_view fs)) w u
+fields_walked es fs w v u same labels k =
+    let walked : Walked resolved_fields findings_fields same_scope (fields_view es) (fields_view fs) v u = flds_walked es fs v u k in
+    record {
+      tree = ap fields (walked.tree ∙ ap (resolved_fields (fields_view es)) same);
+      found = walked.found ∙ rw (labels, same, ← flds_labels es) (sym (gathered_append w.findings (repeated [] (field_labels (fields_view es))) (findings_fields (fields_view es) w.names)));
+      scope = walked.scope ∙ same;
+    }
+
+pub comp_walked : (k : Kind) (qs rs : Quals) (e f : Exp) (depth : ℕ) (w v u : Walk) (last : Scope) → depth ≡ length w.names.variables → QualsWalk qs rs w v → ExprWalk e f v u
+    → last ≡ record u.names { variables = drop (length u.names.variables - depth) u.names.variables } → ExprWalk (comp k e qs) (comp k f rs) w (record { alloc = u.alloc; names = last; findings = u.findings })
+comp_walked k qs rs e f depth w v u last deep q h left =
+    let next : v.names ≡ behind qs w.names = q.scope in
+    record {
+      tree = rw (h.tree, q.tree, next) refl;
+      found = h.found ∙ rw (q.found, next) (sym (gathered_append w.findings (findings_quals qs w.names) (findings e (behind qs w.names))));
+      scope = left_is w.names (behind qs w.names) last depth (behind_more qs w.names) deep (subst (λ (s : Scope). last ≡ record s { variables = drop (length s.variables - depth) s.variables }) (h.scope ∙ next) left);
+    }
+
+-- a pattern and what it binds variables for
+pub record Bound (p : Pat) (e : Exp) (q : Pat) (f : Exp) (w v : Walk) : Type 0 where
+  pub pattern : q ≡ resolved_pat p w.names
+  pub body : f ≡ resolved e (within p w.names)
+  pub found : v.findings ≡ gathered w.findings (sure_findings p w.names ++ findings e (within p w.names))
+  pub scope : v.names ≡ w.names
+
+pub bound_walked : (p q : Pat) (e f : Exp) (depth : ℕ) (w v u : Walk) (last : Scope) → depth ≡ length w.names.variables → SureWalk p q w v → ExprWalk e f v u
+    → last ≡ record u.names { variables = drop (length u.names.variables - depth) u.names.variables } → Bound p e q f w (record { alloc = u.alloc; names = last; findings = u.findings })
+bound_walked p q e f depth w v u last deep k h left =
+    let next : v.names ≡ within p w.names = k.scope in
+    record {
+      pattern = k.tree;
+      body = h.tree ∙ ap (resolved e) next;
+      found = h.found ∙ rw (k.found, next) (sym (gathered_append w.findings (sure_findings p w.names) (findings e (within p w.names))));
+      scope = left_is w.names (within p w.names) last depth (within_more p w.names) deep (subst (λ (s : Scope). last ≡ record s { variables = drop (length s.variables - depth) s.variables }) (h.scope ∙ next) left);
+    }
+
+pub choice_walked : (a b c d e f : Exp) (w v u z : Walk) → ExprWalk a d w v → ExprWalk b e v u → ExprWalk c f u z → ExprWalk (choice a b c) (choice d e f) w z
+choice_walked a b c d e f w v u z h k j =
+    let one : v.names ≡ w.names = h.scope in
+    let two : u.names ≡ w.names = k.scope ∙ one in
+    record {
+      tree = rw (h.tree, k.tree, j.tree, two, one) refl;
+      found = j.found ∙ rw (k.found, h.found, two, one)
+          (sym (gathered_append w.findings (findings a w.names) (findings b w.names ++ findings c w.names) ∙ gathered_append (gathered w.findings (findings a w.names)) (findings b w.names) (findings c w.names)));
+      scope = j.scope ∙ two;
+    }
+
+pub bind_walked : (p q : Pat) (a b c d : Exp) (w v u : Walk) → ExprWalk a c w v → Bound p b q d v u → ExprWalk (bind p a b) (bind q c d) w u
+bind_walked p q a b c d w v u h k =
+    let one : v.names ≡ w.names = h.scope in
+    record {
+      tree = rw (h.tree, k.pattern, k.body, one) refl;
+      found = k.found ∙ rw (h.found, one) (sym (gathered_append w.findings (findings a w.names) (sure_findings p w.names ++ findings b (within p w.names))));
+      scope = k.scope ∙ one;
+    }
+
+label_is : (b : Branch) (rest : Branches) → branch_labels (branch_view b rest) ≡ (out-Branch b).label ∷ branch_labels rest
+label_is b rest = search (rules, branch_lemmas)
+
+labels_onto : (bs : List Branch) (c : Option Exp) → branch_labels (onto branch_view bs (rest_of c)) ≡ map (λ b. (out-Branch b).label) bs
+labels_onto [] None = refl
+labels_onto [] (Some e) = refl
+labels_onto (b ∷ bs) c = label_is b (onto branch_view bs (rest_of c)) ∙ ap (λ z. (out-Branch b).label ∷ z) (labels_onto bs c)
+
+pub branches_walked : (bs cs : List Branch) (w v u : Walk) → v.names ≡ w.names → v.findings ≡ gathered w.findings (repeated [] (map (λ b. (out-Branch b).label) bs)) → BranchesFront bs cs v u → BranchesWalk bs cs w u
+branches_walked bs cs w v u same labels k = record {
+  tree = λ rest. k.tree rest ∙ ap (resolved_branches (onto branch_view bs rest)) same;
+  found = λ rest. gathered_append w.findings (repeated [] (map (λ b. (out-Branch b).label) bs)) (findings_branches (onto branch_view bs rest) w.names)
+      ∙ ap (λ g. gathered g (findings_branches (onto branch_view bs rest) w.names)) (sym labels) ∙ ap (λ s. gathered v.findings (findings_branches (onto branch_view bs rest) s)) (sym same) ∙ k.found rest;
+  scope = sym (k.scope no_branches) ∙ same;
+}
+
+pub case_walked : (a b : Exp) (bs cs : List Branch) (c d : Option Expr) (w v u z : Walk) → ExprWalk a b w v → BranchesWalk bs cs v u → RestWalk c d u z
+    → ExprWalk (select a (onto branch_view bs (rest_of (option_map view c)))) (select b (onto branch_view cs (rest_of (option_map view d)))) w z
+case_walked a b bs cs c d w v u z h k r =
+    let one : v.names ≡ w.names = h.scope in
+    let rest = rest_of (option_map view c) in
+    let whole = onto branch_view bs rest in
+    record {
+      tree = rw (h.tree, r.tree, k.tree rest, one) refl;
+      found = r.found ∙ sym (k.found rest) ∙ rw (h.found, one)
+          (sym (ap (λ (ls : List Word). gathered w.findings (findings a w.names ++ (repeated [] ls ++ findings_branches whole w.names))) (labels_onto bs (option_map view c))
+          ∙ gathered_append w.findings (findings a w.names) (repeated [] (map (λ b. (out-Branch b).label) bs) ++ findings_branches whole w.names)));
+      scope = r.scope ∙ k.scope ∙ one;
+    }
+
+pub chain_walked : (a b : Exp) (ss ts : Steps) (w v u : Walk) → ExprWalk a b w v → StepsWalk ss ts v u → ExprWalk (chain a ss) (chain b ts) w u
+chain_walked a b ss ts w v u h k =
+    let one : v.names ≡ w.names = h.scope in
+    record {
+      tree = rw (h.tree, k.tree, one) refl;
+      found = k.found ∙ rw (h.found, one) (sym (gathered_append w.findings (findings a w.names) (findings_steps ss w.names)));
+      scope = k.scope ∙ one;
+    }
+
+pub branch_in_front : (l : Word) (p q : Pat) (e f : Exp) (w v : Walk) → Bound p e q f w v → BranchFront (branch l p e) (branch l q f) w v
+branch_in_front l p q e f w v h =
+    let one : v.names ≡ w.names = h.scope in
+    record {
+      tree = λ rest. rw (h.pattern, h.body, one) refl;
+      found = λ rest. ap (gathered w.findings) (sym (append_assoc (sure_findings p w.names) (findings e (within p w.names)) (findings_branches rest w.names)))
+          ∙ gathered_append w.findings (sure_findings p w.names ++ findings e (within p w.names)) (findings_branches rest w.names) ∙ rw (h.found, one) refl;
+      scope = λ rest. sym one;
+    }
+
+-- ---- the forms as the code has them
+
+view_rec : (ps : List (Word × Pattern)) (dots : Bool) → pattern_view (code.Rec ps dots) ≡ shape (patterns_view ps) dots
+view_rec ps dots = search (rules, pattern_lemmas)
+
+pub rec_ok : (r : Result (Unit {0}) NoMemory) (p q : Pattern) (ps qs zs : List (Word × Pattern)) (dots : Bool) (w u : Walk) → p ≡ code.Rec ps dots → q ≡ code.Rec qs dots → zs ≡ ps → IfOk r (λ _. PatternsWalk (patterns_view zs) (patterns_view qs) w u)
+    → IfOk r (λ _. PatternWalk (pattern_view p) (pattern_view q) w u)
+rec_ok r p q ps qs zs dots w u pe qe ze h =
+    if_ok r (λ k.
+    let walked : PatternsWalk (patterns_view ps) (patterns_view qs) w u = subst (λ (z : List (Word × Pattern)). PatternsWalk (patterns_view z) (patterns_view qs) w u) ze k in
+    rw (pe, qe, view_rec ps dots, view_rec qs dots) (record { tree = ap (λ (t : Pats). shape t dots) walked.tree; found = walked.found; scope = walked.scope })) h
+
+pub variables_rec : (p : Pattern) (ps zs : List (Word × Pattern)) (dots : Bool) → p ≡ code.Rec ps dots → zs ≡ ps → variables_all (patterns_view zs) ≡ variables (pattern_view p)
+variables_rec p ps zs dots pe pz = rw pz (sym (ap variables (ap pattern_view pe ∙ view_rec ps dots)))
+
+view_Call : (f : Word) (es : List Expr) → view (expr.Call f es) ≡ call f (exps_view es)
+view_Call f es = search (rules, the_lemmas)
+
+view_Rec : (fs : List (Word × Expr)) → view (expr.Rec fs) ≡ fields (fields_view fs)
+view_Rec fs = search (rules, the_lemmas)
+
+view_Coll : (k : Kind) (es : List Expr) → view (expr.Coll k es) ≡ coll k (exps_view es)
+view_Coll k es = search (rules, the_lemmas)
+
+view_Comp : (k : Kind) (e : Expr) (qs : List Qual) → view (expr.Comp k e qs) ≡ comp k (view e) (quals_view qs)
+view_Comp k e qs = search (rules, the_lemmas)
+
+view_If : (a b c : Expr) → view (expr.If a b c) ≡ choice (view a) (view b) (view c)
+view_If a b c = search (rules, the_lemmas)
+
+view_Let : (p : Pattern) (a b : Expr) → view (expr.Let p a b) ≡ bind (pattern_view p) (view a) (view b)
+view_Let p a b = search (rules, the_lemmas)
+
+view_Case : (a : Expr) (bs : List Branch) (c : Option Expr) → view (expr.Case a bs c) ≡ select (view a) (branches_view bs c)
+view_Case a bs c = search (rules, the_lemmas)
+
+view_Chain : (a : Expr) (ss : List (Op × Expr)) → view (expr.Chain a ss) ≡ chain (view a) (steps_view ss)
+view_Chain a ss = search (rules, the_lemmas)
+
+view_Gen : (p : Pattern) (e : Expr) → qual_view (quals.Gen p e) ≡ draw (pattern_view p) (view e)
+view_Gen p e = search (rules, qual_lemmas)
+
+view_Cond : (e : Expr) → qual_view (quals.Cond e) ≡ test (view e)
+view_Cond e = search (rules, qual_lemmas)
+
+-- what holds of the views holds of the code's trees
+seen_as : (r : Result (Unit {0}) NoMemory) (e g : Expr) (a b : Exp) (w u : Walk) → view e ≡ a → view g ≡ b → IfOk r (λ _. ExprWalk a b w u) → IfOk r (λ _. ExprWalk (view e) (view g) w u)
+seen_as r e g a b w u p q h = rw (p, q) h
+
+pub call_ok : (r : Result (Unit {0}) NoMemory) (e g : Expr) (f k y : Word) (es fs zs : List Expr) (w u : Walk) → e ≡ expr.Call f es → g ≡ expr.Call k fs → y ≡ f → zs ≡ es → IfOk r (λ _. ExprWalk (call y (exps_view zs)) (call k (exps_view fs)) w u)
+    → IfOk r (λ _. ExprWalk (view e) (view g) w u)
+call_ok r e g f k y es fs zs w u pe pg py pz h =
+    seen_as r e g (call f (exps_view es)) (call k (exps_view fs)) w u (ap view pe ∙ view_Call f es) (ap view pg ∙ view_Call k fs)
+    (subst (λ (x : Word). IfOk r (λ _. ExprWalk (call x (exps_view es)) (call k (exps_view fs)) w u)) py
+    (subst (λ (x : List Expr). IfOk r (λ _. ExprWalk (call y (exps_view x)) (call k (exps_view fs)) w u)) pz h))
+
+pub fields_ok : (r : Result (Unit {0}) NoMemory) (e g : Expr) (es fs zs : List (Word × Expr)) (w u : Walk) → e ≡ expr.Rec es → g ≡ expr.Rec fs → zs ≡ es → IfOk r (λ _. ExprWalk (fields (fields_view zs)) (fields (fields_view fs)) w u)
+    → IfOk r (λ _. ExprWalk (view e) (view g) w u)
+fields_ok r e g es fs zs w u pe pg pz h =
+    seen_as r e g (fields (fields_view es)) (fields (fields_view fs)) w u (ap view pe ∙ view_Rec es) (ap view pg ∙ view_Rec fs)
+    (subst (λ (x : List (Word × Expr)). IfOk r (λ _. ExprWalk (fields (fields_view x)) (fields (fields_view fs)) w u)) pz h)
+
+pub coll_ok : (r : Result (Unit {0}) NoMemory) (e g : Expr) (k : Kind) (es fs zs : List Expr) (w u : Walk) → e ≡ expr.Coll k es → g ≡ expr.Coll k fs → zs ≡ es → IfOk r (λ _. ItemsWalk (exps_view zs) (exps_view fs) w u)
+    → IfOk r (λ _. ExprWalk (view e) (view g) w u)
+coll_ok r e g k es fs zs w u pe pg pz h =
+    seen_as r e g (coll k (exps_view es)) (coll k (exps_view fs)) w u (ap view pe ∙ view_Coll k es) (ap view pg ∙ view_Coll k fs)
+    (if_ok r (λ j.
+    let walked : ItemsWalk (exps_view es) (exps_view fs) w u = subst (λ (x : List Expr). ItemsWalk (exps_view x) (exps_view fs) w u) pz j in
+    record { tree = ap (coll k) walked.tree; found = walked.found; scope = walked.scope }) h)
+
+-- the same where the part was reached
+seen : (e g : Expr) (a b : Exp) (w u : Walk) → view e ≡ a → view g ≡ b → ExprWalk a b w u → ExprWalk (view e) (view g) w u
+seen e g a b w u p q h = rw (p, q) h
+
+pub comp_is : (e g : Expr) (k : Kind) (a b y : Expr) (qs rs zs : List Qual) (depth : ℕ) (w v u : Walk) (last : Scope) → e ≡ expr.Comp k a qs → g ≡ expr.Comp k b rs → y ≡ a → zs ≡ qs → depth ≡ length w.names.variables
+    → QualsWalk (quals_view zs) (quals_view rs) w v → ExprWalk (view y) (view b) v u → last ≡ record u.names { variables = drop (length u.names.variables - depth) u.names.variables }
+    → ExprWalk (view e) (view g) w (record { alloc = u.alloc; names = last; findings = u.findings })
+comp_is e g k a b y qs rs zs depth w v u last pe pg py pz deep q h left =
+    seen e g (comp k (view a) (quals_view qs)) (comp k (view b) (quals_view rs)) w _ (ap view pe ∙ view_Comp k a qs) (ap view pg ∙ view_Comp k b rs)
+    (comp_walked k (quals_view qs) (quals_view rs) (view a) (view b) depth w v u last deep (subst (λ (x : List Qual). QualsWalk (quals_view x) (quals_view rs) w v) pz q)
+    (subst (λ (x : Expr). ExprWalk (view x) (view b) v u) py h) left)
+
+pub if_is : (e g : Expr) (a b c x y z d f j : Expr) (w v u o : Walk) → e ≡ expr.If a b c → g ≡ expr.If d f j → x ≡ a → y ≡ b → z ≡ c
+    → ExprWalk (view x) (view d) w v → ExprWalk (view y) (view f) v u → ExprWalk (view z) (view j) u o → ExprWalk (view e) (view g) w o
+if_is e g a b c x y z d f j w v u o pe pg px py pz h k l =
+    seen e g (choice (view a) (view b) (view c)) (choice (view d) (view f) (view j)) w o (ap view pe ∙ view_If a b c) (ap view pg ∙ view_If d f j)
+    (choice_walked (view a) (view b) (view c) (view d) (view f) (view j) w v u o (subst (λ (t : Expr). ExprWalk (view t) (view d) w v) px h) (subst (λ (t : Expr). ExprWalk (view t) (view f) v u) py k)
+    (subst (λ (t : Expr). ExprWalk (view t) (view j) u o) pz l))
+
+pub let_is : (e g : Expr) (p q m : Pattern) (a b c d x y : Expr) (depth : ℕ) (w v u o : Walk) (last : Scope) → e ≡ expr.Let p a b → g ≡ expr.Let q c d → m ≡ p → x ≡ a → y ≡ b → depth ≡ length v.names.variables
+    → ExprWalk (view x) (view c) w v → SureWalk (pattern_view m) (pattern_view q) v u → ExprWalk (view y) (view d) u o → last ≡ record o.names { variables = drop (length o.names.variables - depth) o.names.variables }
+    → ExprWalk (view e) (view g) w (record { alloc = o.alloc; names = last; findings = o.findings })
+let_is e g p q m a b c d x y depth w v u o last pe pg pm px py deep h s k left =
+    let last_walk : Walk = record { alloc = o.alloc; names = last; findings = o.findings } in
+    seen e g (bind (pattern_view p) (view a) (view b)) (bind (pattern_view q) (view c) (view d)) w last_walk (ap view pe ∙ view_Let p a b) (ap view pg ∙ view_Let q c d)
+    (bind_walked (pattern_view p) (pattern_view q) (view a) (view b) (view c) (view d) w v last_walk (subst (λ (t : Expr). ExprWalk (view t) (view c) w v) px h)
+    (bound_walked (pattern_view p) (pattern_view q) (view b) (view d) depth v u o last deep (subst (λ (t : Pattern). SureWalk (pattern_view t) (pattern_view q) v u) pm s) (subst (λ (t : Expr). ExprWalk (view t) (view d) u o) py k) left))
+
+pub case_is : (e g : Expr) (a b x : Expr) (bs cs zs : List Branch) (c d y : Option Expr) (w v u o : Walk) → e ≡ expr.Case a bs c → g ≡ expr.Case b cs d → x ≡ a → zs ≡ bs → y ≡ c
+    → ExprWalk (view x) (view b) w v → BranchesWalk zs cs v u → RestWalk y d u o → ExprWalk (view e) (view g) w o
+case_is e g a b x bs cs zs c d y w v u o pe pg px pz py h k r =
+    seen e g (select (view a) (onto branch_view bs (rest_of (option_map view c)))) (select (view b) (onto branch_view cs (rest_of (option_map view d)))) w o
+    (ap view pe ∙ view_Case a bs c ∙ ap (select (view a)) (sym (branches_onto bs (rest_of (option_map view c))))) (ap view pg ∙ view_Case b cs d ∙ ap (select (view b)) (sym (branches_onto cs (rest_of (option_map view d)))))
+    (case_walked (view a) (view b) bs cs c d w v u o (subst (λ (t : Expr). ExprWalk (view t) (view b) w v) px h) (subst (λ (t : List Branch). BranchesWalk t cs v u) pz k) (subst (λ (t : Option Expr). RestWalk t d u o) py r))
+
+pub chain_is : (e g : Expr) (a b x : Expr) (ss ts zs : List (Op × Expr)) (w v u : Walk) → e ≡ expr.Chain a ss → g ≡ expr.Chain b ts → x ≡ a → zs ≡ ss
+    → ExprWalk (view x) (view b) w v → StepsWalk (steps_view zs) (steps_view ts) v u → ExprWalk (view e) (view g) w u
+chain_is e g a b x ss ts zs w v u pe pg px pz h k =
+    seen e g (chain (view a) (steps_view ss)) (chain (view b) (steps_view ts)) w u (ap view pe ∙ view_Chain a ss) (ap view pg ∙ view_Chain b ts)
+    (chain_walked (view a) (view b) (steps_view ss) (steps_view ts) w v u (subst (λ (t : Expr). ExprWalk (view t) (view b) w v) px h) (subst (λ (t : List (Op × Expr)). StepsWalk (steps_view t) (steps_view ts) v u) pz k))
+
+pub gen_is : (e g : Qual) (p q m : Pattern) (a b x : Expr) (w v u : Walk) → e ≡ quals.Gen p a → g ≡ quals.Gen q b → m ≡ p → x ≡ a
+    → ExprWalk (view x) (view b) w v → DrawnWalk (pattern_view m) (pattern_view q) v u → QualFront (qual_view e) (qual_view g) w u
+gen_is e g p q m a b x w v u pe pg pm px h k =
+    rw (ap qual_view pe ∙ view_Gen p a, ap qual_view pg ∙ view_Gen q b)
+    (draw_in_front (pattern_view p) (pattern_view q) (view a) (view b) w v u (subst (λ (t : Expr). ExprWalk (view t) (view b) w v) px h) (subst (λ (t : Pattern). DrawnWalk (pattern_view t) (pattern_view q) v u) pm k))
+
+pub cond_is : (e g : Qual) (a b x : Expr) (w u : Walk) → e ≡ quals.Cond a → g ≡ quals.Cond b → x ≡ a → ExprWalk (view x) (view b) w u → QualFront (qual_view e) (qual_view g) w u
+cond_is e g a b x w u pe pg px k =
+    rw (ap qual_view pe ∙ view_Cond a, ap qual_view pg ∙ view_Cond b) (test_in_front (view a) (view b) w u (subst (λ (t : Expr). ExprWalk (view t) (view b) w u) px k))
+
+branch_seen : (b : Branch) (rest : Branches) → branch_view b rest ≡ branch (out-Branch b).label (pattern_view (out-Branch b).pat) (view (out-Branch b).body) rest
+branch_seen b rest = search (rules, branch_lemmas)
+
+rolled_seen : (l : Word) (p : Pattern) (e : Expr) (rest : Branches) → branch_view (roll-Branch (record { label = l; pat = p; body = e })) rest ≡ branch l (pattern_view p) (view e) rest
+rolled_seen l p e rest = search (rules, branch_lemmas)
+
+pub branch_is : (b : Branch) (q : Pattern) (f : Expr) (depth : ℕ) (w v u : Walk) (last : Scope) → depth ≡ length w.names.variables → SureWalk (pattern_view (out-Branch b).pat) (pattern_view q) w v → ExprWalk (view (out-Branch b).body) (view f) v u
+    → last ≡ record u.names { variables = drop (length u.names.variables - depth) u.names.variables }
+    → BranchFront (branch_view b) (branch_view (roll-Branch (record { label = (out-Branch b).label; pat = q; body = f }))) w (record { alloc = u.alloc; names = last; findings = u.findings })
+branch_is b q f depth w v u last deep s h left =
+    let z : Walk = record { alloc = u.alloc; names = last; findings = u.findings } in
+    let l = (out-Branch b).label in
+    let front = branch_in_front l (pattern_view (out-Branch b).pat) (pattern_view q) (view (out-Branch b).body) (view f) w z (bound_walked (pattern_view (out-Branch b).pat) (pattern_view q) (view (out-Branch b).body) (view f) depth w v u last deep s h left) in
+    record {
+      tree = λ rest. rolled_seen l q f (resolved_branches rest last) ∙ front.tree rest ∙ ap (λ t. resolved_branches t w.names) (sym (branch_seen b rest));
+      found = λ rest. ap (λ t. gathered w.findings (findings_branches t w.names)) (branch_seen b rest) ∙ front.found rest;
+      scope = front.scope;
+    }
+
+-- ---- patterns with their variables
+
+pub drawn_walked : (p q : Pat) (w v u : Walk) → PatternWalk p q w v → u.names ≡ within q v.names → u.findings ≡ gathered v.findings (repeated [] (variables q)) → DrawnWalk p q w u
+drawn_walked p q w v u h names found =
+    let same : variables q ≡ variables p = ap variables h.tree ∙ variables_stay p w.names in
+    let one : v.names ≡ w.names = h.scope in
+    record {
+      tree = h.tree;
+      found = found ∙ rw (h.found, same) (sym (gathered_append w.findings (pattern_findings p w.names) (repeated [] (variables p))));
+      scope = names ∙ rw (one, same) refl;
+    }
+
+pub sure_walked : (p q : Pat) (w v u : Walk) → v.names ≡ w.names → v.findings ≡ gathered w.findings (map may_fail (tests p)) → DrawnWalk p q v u → SureWalk p q w u
+sure_walked p q w v u one found h = record {
+  tree = h.tree ∙ ap (resolved_pat p) one;
+  found = h.found ∙ rw (found, one) (sym (gathered_append w.findings (map may_fail (tests p)) (drawn_findings p w.names)));
+  scope = h.scope ∙ ap (within p) one;
+}

@@ -1,0 +1,9 @@
+pub mod FindingLemmas
+pub mod NameLemmas
+pub mod TableLemmas
+pub mod WalkLemmas
+pub mod StayLemmas
+pub mod ArmLemmas
+pub mod DeclLemmas
+pub mod FirstLemmas
+pub mod ResolveLemmas

@@ -1,0 +1,136 @@
+use Rattle.std.proofs.Common.{get_or, length, refl, ap, ◌∙◌, map, [], rules}
+use Rattle.kl_parse.specs.declared.tree.Expr.{the_lemmas}
+use Rattle.kl_parse.specs.declared.tree.Qual.{the_lemmas as qual_lemmas}
+use Rattle.kl_parse.specs.declared.tree.Branch.{out-Branch}
+use Rattle.kl_parse.specs.View.{view, qual_view, branch_view}
+use Rattle.kl_scope.specs.Findings.{findings_all, findings_fields, findings_quals, findings_branches, findings_steps, behind, repeated}
+use Rattle.kl_scope.specs.Gathering.{gathered}
+use Rattle.kl_scope.specs.Resolved.{resolved_all, resolved_fields, resolved_quals, resolved_branches, resolved_steps}
+use Rattle.kl_scope.specs.Walks.{same_scope, expr_front, field_front, step_front}
+use Rattle.kl_scope.proofs.ArmLemmas.{call_ok, fields_ok, coll_ok, comp_is, if_is, let_is, case_is, chain_is, gen_is, cond_is, exps_walked, call_walked, fields_walked, quals_walked, branches_walked, branch_is, steps_walked}
+use Rattle.kl_scope.proofs.WalkLemmas.{item_walked, unvisited_more, unvisited_item, list_walked, expr_in_front, field_in_front, step_in_front}
+use Rattle.kl_scope.proofs.walk.Walk.+walk.Goals as goal
+
+pub expr-returns-in-Call : goal.expr-returns-in-Call
+expr-returns-in-Call t c = call_ok c.call.result c.args.e.now _ c.in-Call.word c.call.new.word _ c.in-Call.args c.call.new.args _ _ _ c.in-Call.is (first_of (search rules, search (rules, the_lemmas), search (rules, the_lemmas, c.in-Call.is))) c.in-Call.word-is c.in-Call.args-is c.call.ensures
+
+pub expr-returns-in-Rec : goal.expr-returns-in-Rec
+expr-returns-in-Rec t c = fields_ok c.record.result c.args.e.now _ c.in-Rec.fields c.record.new.entries _ _ _ c.in-Rec.is (first_of (search rules, search (rules, the_lemmas), search (rules, the_lemmas, c.in-Rec.is))) c.in-Rec.fields-is c.record.ensures
+
+pub expr-returns-in-Coll : goal.expr-returns-in-Coll
+expr-returns-in-Coll t c = coll_ok c.items.result c.args.e.now _ c.in-Coll.field-0 c.in-Coll.items c.items.new.items _ _ _ c.in-Coll.is (first_of (search rules, search (rules, the_lemmas), search (rules, the_lemmas, c.in-Coll.is))) c.in-Coll.items-is c.items.ensures
+
+pub items-items-preserved : goal.items-items-preserved
+items-items-preserved t c = record {
+  unvisited = unvisited_more c.slice_mut-items.result.now c.items.items c.items.i _ c.items.invariant.unvisited;
+  walked =
+      let x = get_or c.items.items c.items.i c.index-items-i.result in
+      item_walked resolved_all findings_all same_scope expr_front c.slice_mut-items.result.now c.items.items c.items.i x c.expr.new.e _ c.items.self c.expr.new.self c.items-test.true c.items.auto.items
+      (unvisited_item c.slice_mut-items.result.now c.items.items c.items.i c.index-items-i.result c.items-test.true c.items.invariant.unvisited) c.items.invariant.walked
+      (expr_in_front (view x) (view c.expr.new.e) c.items.self c.expr.new.self c.in_ok-expr.ensures);
+}
+
+pub items-returns : goal.items-returns
+items-returns t c = exps_walked c.args.items.now _ c.args.self.now c.items.self (list_walked resolved_all findings_all same_scope expr_front c.args.items.now c.slice_mut-items.result.now c.items.items c.items.i c.args.self.now c.items.self c.slice_mut-items.ensures.value c.items-test.false c.items.auto.items c.items.invariant.walked)
+
+pub call-returns : goal.call-returns
+call-returns t c =
+    call_walked c.args.word.now c.name.new.word c.args.args.now _ c.called-sense.result _ c.args.self.now (record { alloc = c.args.self.now.alloc; names = c.args.self.now.names; findings = c.name.new.self }) c.items.new.self
+    refl c.called-sense.ensures (ap length c.slice.ensures) c.in_ok-name.ensures.meant c.in_ok-name.ensures.found c.in_ok-items.ensures
+
+pub record-fields-preserved : goal.record-fields-preserved
+record-fields-preserved t c = record {
+  unvisited = unvisited_more c.slice_mut-entries.result.now c.fields.entries c.fields.i _ c.fields.invariant.unvisited;
+  walked =
+      let x = get_or c.fields.entries c.fields.i c.index-entries-i.result in
+      item_walked resolved_fields findings_fields same_scope field_front c.slice_mut-entries.result.now c.fields.entries c.fields.i x (x.0, c.expr.new.e) _ c.fields.self c.expr.new.self c.fields-test.true c.fields.auto.entries
+      (unvisited_item c.slice_mut-entries.result.now c.fields.entries c.fields.i c.index-entries-i.result c.fields-test.true c.fields.invariant.unvisited) c.fields.invariant.walked
+      (field_in_front x.0 (view x.1) (view c.expr.new.e) c.fields.self c.expr.new.self c.in_ok-expr.ensures);
+}
+
+pub record-returns : goal.record-returns
+record-returns t c =
+    fields_walked c.args.entries.now _ c.args.self.now _ c.fields.self refl (c.in_ok-labels.ensures ∙ ap (λ fs. gathered c.args.self.now.findings (repeated [] (map (λ f. f.0) fs))) c.slice.ensures)
+    (list_walked resolved_fields findings_fields same_scope field_front c.args.entries.now c.slice_mut-entries.result.now c.fields.entries c.fields.i _ c.fields.self c.slice_mut-entries.ensures.value c.fields-test.false c.fields.auto.entries c.fields.invariant.walked)
+
+pub quals-quals-preserved : goal.quals-quals-preserved
+quals-quals-preserved t c = record {
+  unvisited = unvisited_more c.slice_mut-quals.result.now c.quals.quals c.quals.i _ c.quals.invariant.unvisited;
+  walked =
+      let x = get_or c.quals.quals c.quals.i c.index-quals-i.result in
+      item_walked resolved_quals findings_quals behind qual_view c.slice_mut-quals.result.now c.quals.quals c.quals.i x c.qual.new.qual _ c.quals.self c.qual.new.self c.quals-test.true c.quals.auto.quals
+      (unvisited_item c.slice_mut-quals.result.now c.quals.quals c.quals.i c.index-quals-i.result c.quals-test.true c.quals.invariant.unvisited) c.quals.invariant.walked
+      (c.in_ok-qual.ensures);
+}
+
+pub quals-returns : goal.quals-returns
+quals-returns t c = quals_walked c.args.quals.now _ c.args.self.now c.quals.self (list_walked resolved_quals findings_quals behind qual_view c.args.quals.now c.slice_mut-quals.result.now c.quals.quals c.quals.i c.args.self.now c.quals.self c.slice_mut-quals.ensures.value c.quals-test.false c.quals.auto.quals c.quals.invariant.walked)
+
+pub branches-branches-preserved : goal.branches-branches-preserved
+branches-branches-preserved t c = record {
+  unvisited = unvisited_more c.slice_mut-branches.result.now c.branches.branches c.branches.i _ c.branches.invariant.unvisited;
+  walked =
+      let x = get_or c.branches.branches c.branches.i c.index-branches-i.result in
+      item_walked resolved_branches findings_branches same_scope branch_view c.slice_mut-branches.result.now c.branches.branches c.branches.i x c.branch-self.new.branch _ c.branches.self c.branch-self.new.self c.branches-test.true c.branches.auto.branches
+      (unvisited_item c.slice_mut-branches.result.now c.branches.branches c.branches.i c.index-branches-i.result c.branches-test.true c.branches.invariant.unvisited) c.branches.invariant.walked
+      (c.in_ok-branch.ensures);
+}
+
+pub branches-returns : goal.branches-returns
+branches-returns t c =
+    branches_walked c.args.branches.now _ c.args.self.now _ c.branches.self refl (c.in_ok-branch_labels.ensures ∙ ap (λ bs. gathered c.args.self.now.findings (repeated [] (map (λ b. (out-Branch b).label) bs))) c.slice.ensures)
+    (list_walked resolved_branches findings_branches same_scope branch_view c.args.branches.now c.slice_mut-branches.result.now c.branches.branches c.branches.i _ c.branches.self c.slice_mut-branches.ensures.value c.branches-test.false c.branches.auto.branches c.branches.invariant.walked)
+
+pub branch-returns : goal.branch-returns
+branch-returns t c =
+    branch_is c.args.branch.now c.sure.new.pattern c.expr.new.e c.depth-depth.result c.args.self.now c.sure.new.self c.expr.new.self c.leave.new.self c.depth-depth.ensures c.in_ok-sure.ensures c.in_ok-expr.ensures c.in_ok-leave.ensures
+
+pub steps-steps-preserved : goal.steps-steps-preserved
+steps-steps-preserved t c = record {
+  unvisited = unvisited_more c.slice_mut-steps.result.now c.steps.steps c.steps.i _ c.steps.invariant.unvisited;
+  walked =
+      let x = get_or c.steps.steps c.steps.i c.index-steps-i.result in
+      item_walked resolved_steps findings_steps same_scope step_front c.slice_mut-steps.result.now c.steps.steps c.steps.i x (x.0, c.expr.new.e) _ c.steps.self c.expr.new.self c.steps-test.true c.steps.auto.steps
+      (unvisited_item c.slice_mut-steps.result.now c.steps.steps c.steps.i c.index-steps-i.result c.steps-test.true c.steps.invariant.unvisited) c.steps.invariant.walked
+      (step_in_front x.0 (view x.1) (view c.expr.new.e) c.steps.self c.expr.new.self c.in_ok-expr.ensures);
+}
+
+pub steps-returns : goal.steps-returns
+steps-returns t c = steps_walked c.args.steps.now _ c.args.self.now c.steps.self (list_walked resolved_steps findings_steps same_scope step_front c.args.steps.now c.slice_mut-steps.result.now c.steps.steps c.steps.i c.args.self.now c.steps.self c.slice_mut-steps.ensures.value c.steps-test.false c.steps.auto.steps c.steps.invariant.walked)
+
+pub expr-returns-in_ok-leave-in-Comp : goal.expr-returns-in_ok-leave-in-Comp
+expr-returns-in_ok-leave-in-Comp t c =
+    comp_is c.args.e.now _ c.in-Comp.field-0 c.in-Comp.head c.expr.new.e c.get_mut.result.now c.in-Comp.quals c.quals.new.quals _ c.depth-depth.result c.args.self.now c.quals.new.self c.expr.new.self c.leave.new.self
+    c.in-Comp.is (first_of (search rules, search (rules, the_lemmas), search (rules, the_lemmas, c.in-Comp.is))) (c.get_mut.ensures.value ∙ c.in-Comp.head-is) c.in-Comp.quals-is c.depth-depth.ensures c.in_ok-quals-in-Comp.ensures c.in_ok-expr-in-Comp.ensures c.in_ok-leave-in-Comp.ensures
+
+pub expr-returns-in_ok-expr-in-If-3 : goal.expr-returns-in_ok-expr-in-If-3
+expr-returns-in_ok-expr-in-If-3 t c =
+    if_is c.args.e.now _ c.in-If.a c.in-If.b c.in-If.c c.get_mut-in-If.result.now c.get_mut-in-If-2.result.now c.get_mut-in-If-3.result.now c.expr-in-If.new.e c.expr-in-If-2.new.e c.expr-in-If-3.new.e
+    c.args.self.now c.expr-in-If.new.self c.expr-in-If-2.new.self c.expr-in-If-3.new.self c.in-If.is (first_of (search rules, search (rules, the_lemmas), search (rules, the_lemmas, c.in-If.is)))
+    (c.get_mut-in-If.ensures.value ∙ c.in-If.a-is) (c.get_mut-in-If-2.ensures.value ∙ c.in-If.b-is) (c.get_mut-in-If-3.ensures.value ∙ c.in-If.c-is) c.in_ok-expr-in-If.ensures c.in_ok-expr-in-If-2.ensures c.in_ok-expr-in-If-3.ensures
+
+pub expr-returns-in_ok-leave-in-Let : goal.expr-returns-in_ok-leave-in-Let
+expr-returns-in_ok-leave-in-Let t c =
+    let_is c.args.e.now _ c.in-Let.pattern c.sure.new.pattern _ c.in-Let.a c.in-Let.b c.expr-in-Let.new.e c.expr-in-Let-2.new.e c.get_mut-in-Let.result.now c.get_mut-in-Let-2.result.now c.depth-depth-in-Let.result
+    c.args.self.now c.expr-in-Let.new.self c.sure.new.self c.expr-in-Let-2.new.self c.leave-in-Let.new.self c.in-Let.is (first_of (search rules, search (rules, the_lemmas), search (rules, the_lemmas, c.in-Let.is)))
+    c.in-Let.pattern-is (c.get_mut-in-Let.ensures.value ∙ c.in-Let.a-is) (c.get_mut-in-Let-2.ensures.value ∙ c.in-Let.b-is) c.depth-depth-in-Let.ensures
+    c.in_ok-expr-in-Let.ensures c.in_ok-sure-in-Let.ensures c.in_ok-expr-in-Let-2.ensures c.in_ok-leave-in-Let.ensures
+
+pub expr-returns-in_ok-rest-in-Case : goal.expr-returns-in_ok-rest-in-Case
+expr-returns-in_ok-rest-in-Case t c =
+    case_is c.args.e.now _ c.in-Case.subject c.expr-in-Case.new.e c.get_mut-in-Case.result.now c.in-Case.branches c.branches.new.branches _ c.in-Case.rest c.rest.new.rest _
+    c.args.self.now c.expr-in-Case.new.self c.branches.new.self c.rest.new.self c.in-Case.is (first_of (search rules, search (rules, the_lemmas), search (rules, the_lemmas, c.in-Case.is)))
+    (c.get_mut-in-Case.ensures.value ∙ c.in-Case.subject-is) c.in-Case.branches-is c.in-Case.rest-is c.in_ok-expr-in-Case.ensures c.in_ok-branches-in-Case.ensures c.in_ok-rest-in-Case.ensures
+
+pub expr-returns-in_ok-steps-in-Chain : goal.expr-returns-in_ok-steps-in-Chain
+expr-returns-in_ok-steps-in-Chain t c =
+    chain_is c.args.e.now _ c.in-Chain.first c.expr-in-Chain.new.e c.get_mut-in-Chain.result.now c.in-Chain.steps c.steps.new.steps _ c.args.self.now c.expr-in-Chain.new.self c.steps.new.self c.in-Chain.is (first_of (search rules, search (rules, the_lemmas), search (rules, the_lemmas, c.in-Chain.is)))
+    (c.get_mut-in-Chain.ensures.value ∙ c.in-Chain.first-is) c.in-Chain.steps-is c.in_ok-expr-in-Chain.ensures c.in_ok-steps-in-Chain.ensures
+
+pub qual-returns-in_ok-drawn-in-Gen : goal.qual-returns-in_ok-drawn-in-Gen
+qual-returns-in_ok-drawn-in-Gen t c =
+    gen_is c.args.qual.now _ c.in-Gen.pattern c.drawn.new.pattern _ c.in-Gen.e c.expr.new.e _ c.args.self.now c.expr.new.self c.drawn.new.self c.in-Gen.is (first_of (search rules, search (rules, qual_lemmas), search (rules, qual_lemmas, c.in-Gen.is)))
+    c.in-Gen.pattern-is c.in-Gen.e-is c.in_ok-expr-in-Gen.ensures c.in_ok-drawn-in-Gen.ensures
+
+pub qual-returns-in_ok-expr-in-Cond : goal.qual-returns-in_ok-expr-in-Cond
+qual-returns-in_ok-expr-in-Cond t c = cond_is c.args.qual.now _ c.in-Cond.e c.expr-in-Cond.new.e _ c.args.self.now c.expr-in-Cond.new.self c.in-Cond.is (first_of (search rules, search (rules, qual_lemmas), search (rules, qual_lemmas, c.in-Cond.is))) c.in-Cond.e-is c.in_ok-expr-in-Cond.ensures

@@ -1,0 +1,9 @@
+pub mod Senses
+pub mod Patterns
+pub mod Findings
+pub mod Resolved
+pub mod Ranks
+pub mod Breaches
+pub mod Tables
+pub mod Gathering
+pub mod Walks

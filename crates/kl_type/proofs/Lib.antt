@@ -1,0 +1,4 @@
+pub mod GroundLemmas
+pub mod HasLemmas
+pub mod RowLemmas
+pub mod WrittenLemmas

@@ -1,0 +1,4 @@
+pub mod Ground
+pub mod Has
+pub mod Parts
+pub mod Written
