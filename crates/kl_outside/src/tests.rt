@@ -20,8 +20,8 @@ fn files_in_memory_are_read(rt: HostRuntime) -> Result<(), Fail> {
     let mut byte = [0u8];
     let file = files.open_path(b"a").expect(&rt, "a is there");
     assert_eq!(rt; files.read(file, &mut byte), Ok(1));
-    assert_eq!(rt; files.read(file, &mut byte), Err(Stop::Failed));
     files.close(file);
+    assert_eq!(rt; files.open_path(b"a"), Err(Stop::Failed));
     Ok(())
 }
 
