@@ -1,15 +1,20 @@
 -- The parser answers exactly the readings of the grammar, and the exact place where there is none.
-use Rattle.std.proofs.Common.{◌≡◌, ℕ, zero, suc, ◌-◌, ◌≤◌, List, [], ◌∷◌, length, Option, inl, inr, refl, sym, ap, subst, ◌∙◌}
+use Rattle.std.proofs.Common.{◌≡◌, ℕ, zero, suc, ◌+◌, ◌-◌, ◌≤◌, ◌<◌, IsTrue, List, [], ◌∷◌, ◌++◌, length, take, drop, Option, ◌⊎◌, inl, inr, refl, sym, ap, subst, ◌∙◌, append_assoc, length-append, arith}
+use Rattle.std.specs.List.{count_by}
+use Rattle.kl_phrase.specs.Words.{heads}
+use Rattle.kl_phrase.proofs.Theory.{Sound, Begins}
+use Rattle.std.proofs.lemmas.List.{append-nil}
 use Rattle.kl_lex.specs.declared.token.Token.{Token}
 use Rattle.kl_parse.specs.declared.tree.Program.{Program}
 use Rattle.kl_parse.specs.Grammar.{ReadsProgram}
-use Rattle.kl_parse.specs.Parsing.{IsProgram, IsToldOf, nests}
+use Rattle.kl_parse.specs.Parsing.{IsProgram, IsToldOf, OnePlace, nests, can_nest}
 use Rattle.kl_parse.specs.Descent as d
 use Rattle.kl_parse.proofs.PatGoods.{Free}
 use Rattle.kl_parse.proofs.Reading.{up, good_program, has_program}
 use Rattle.kl_parse.proofs.Kepts.{more_program, same_program}
-use Rattle.kl_phrase.specs.Readers.{Out, ok, fail, bad, deep, ended}
-use Rattle.kl_phrase.specs.Places.{IsPlace, IsDeepPlace, Answers}
+use Rattle.kl_parse.proofs.Depths.{Far, deepens_program}
+use Rattle.kl_phrase.specs.Readers.{Why, Out, ok, fail, bad, deep, ended}
+use Rattle.kl_phrase.specs.Places.{IsPlace, IsDeepPlace, BeginsAt, Answers}
 use Rattle.kl_phrase.proofs.Exact.{Exactly}
 use Rattle.kl_phrase.proofs.Exact as exact
 
@@ -32,6 +37,51 @@ told_by ts (fail deep r) h = inr (inr (length ts - length r, h.1))
 
 pub told : (ts : List Token) → IsToldOf ts
 told ts = told_by ts (ended (d.program (length ts) 256 ts)) (answers ts)
+
+-- ---- at most one place
+
+not_before : (ts : List Token) (j k : ℕ) → IsPlace ReadsProgram ts j → IsPlace ReadsProgram ts k → j < k → ⊥
+not_before ts j k h i lt = h.no_longer k lt i.within i.begins
+
+one_of : (ts : List Token) (j k : ℕ) → IsPlace ReadsProgram ts j → IsPlace ReadsProgram ts k → (j < k) ⊎ ((j ≡ k) ⊎ (k < j)) → j ≡ k
+one_of ts j k h i (inl lt) = absurd (not_before ts j k h i lt)
+one_of ts j k h i (inr (inl e)) = e
+one_of ts j k h i (inr (inr lt)) = absurd (not_before ts k j i h lt)
+
+compared : (j k : ℕ) → (j < k) ⊎ ((j ≡ k) ⊎ (k < j))
+compared zero zero = inr (inl refl)
+compared zero (suc k) = inl (omega arith)
+compared (suc j) zero = inr (inr (omega arith))
+compared (suc j) (suc k) = next (compared j k)
+  where
+    next : (j < k) ⊎ ((j ≡ k) ⊎ (k < j)) → (suc j < suc k) ⊎ ((suc j ≡ suc k) ⊎ (suc k < suc j))
+    next (inl lt) = inl (omega arith)
+    next (inr (inl e)) = inr (inl (ap suc e))
+    next (inr (inr lt)) = inr (inr (omega arith))
+
+pub one_place : (ts : List Token) → OnePlace ts
+one_place ts = (λ j k h i. one_of ts j k h i (compared j k), λ p k h i. i.not_whole (256, p, h), λ p k h i. i.not_whole p h)
+
+-- ---- what stands before a refusal
+
+take_front : (u r : List Token) → take (length u) (u ++ r) ≡ u
+take_front [] r = refl
+take_front (x ∷ u) r = ap (λ w. x ∷ w) (take_front u r)
+
+drop_front : (u r : List Token) → drop (length u) (u ++ r) ≡ r
+drop_front [] r = refl
+drop_front (x ∷ u) r = drop_front u r
+
+-- the front before a rest
+front_of : (total : ℕ) (ts u r : List Token) → total ≡ length ts → ts ≡ u ++ r → (take (total - length r) ts ≡ u) × (drop (total - length r) ts ≡ r)
+front_of total ts u r all e =
+    let k : total - length r ≡ length u = let l : length ts ≡ length u + length r = ap length e ∙ length-append u r in omega arith in
+    (ap (λ n. take n ts) k ∙ ap (take (length u)) e ∙ take_front u r, ap (λ n. drop n ts) k ∙ ap (drop (length u)) e ∙ drop_front u r)
+
+begins_at : (n : ℕ) (u s : List Token) → Begins (ReadsProgram n) 0 (u ++ s) → BeginsAt ReadsProgram n u
+begins_at n [] s b = let h = has_program n 0 in (h.1, h.0, h.2)
+begins_at n (t ∷ u) s (inl z) = absurd cc
+begins_at n (t ∷ u) s (inr (more, a, h)) = (s ++ more, a, subst (ReadsProgram n 0 a) (append_assoc (t ∷ u) s more) h)
 
 module _ (total : ℕ) (ts : List Token) (all : total ≡ length ts) where
   answered : (o : Out Token Program) → d.program total 256 ts ≡ o → Answers ReadsProgram nests 256 ts (ended o)
@@ -69,3 +119,30 @@ module _ (total : ℕ) (ts : List Token) (all : total ≡ length ts) where
 
   pub deep_none : (q : Program) (r : List Token) → d.program total 256 ts ≡ fail deep r → IsProgram ts q → ⊥
   deep_none q r e h = let k : Path (Out Token Program) (fail deep r) (ok q []) = only_so (fail deep r) q e h in cc
+
+  counts : 0 + length ts ≡ total
+  counts = let k : total ≡ length ts = all in omega arith
+
+  before : (w : Why) (r : List Token) (k : ℕ) → k ≡ total - length r → d.program total 256 ts ≡ fail w r → BeginsAt ReadsProgram 258 (take k ts)
+  before w r k ek e =
+      let h : Sound (ReadsProgram 256) (ReadsProgram 258) 0 ts (fail w r) = subst (λ (o : Out Token Program). Sound (ReadsProgram 256) (ReadsProgram 258) 0 ts o) e ((good_program total 256).sound 0 ts counts) in
+      let z : take k ts ≡ h.0 = ap (λ n. take n ts) ek ∙ (front_of total ts h.0 r all h.3).0 in
+      subst (BeginsAt ReadsProgram 258) (sym z) (begins_at 258 h.0 h.1 h.6)
+
+  pub bad_before : (r : List Token) (k : ℕ) → k ≡ total - length r → d.program total 256 ts ≡ fail bad r → BeginsAt ReadsProgram 258 (take k ts)
+  bad_before = before bad
+
+  pub deep_before : (r : List Token) (k : ℕ) → k ≡ total - length r → d.program total 256 ts ≡ fail deep r → BeginsAt ReadsProgram 258 (take k ts)
+  deep_before = before deep
+
+  pub rest_before : (p : Program) (r : List Token) (k : ℕ) → k ≡ total - length r → d.program total 256 ts ≡ ok p r → BeginsAt ReadsProgram 258 (take k ts)
+  rest_before p r k ek e =
+      let h : Sound (ReadsProgram 256) (ReadsProgram 258) 0 ts (ok p r) = subst (λ (o : Out Token Program). Sound (ReadsProgram 256) (ReadsProgram 258) 0 ts o) e ((good_program total 256).sound 0 ts counts) in
+      let z : take k ts ≡ h.0 = ap (λ n. take n ts) ek ∙ (front_of total ts h.0 r all h.1).0 in
+      subst (BeginsAt ReadsProgram 258) (sym z) ([], p, subst (ReadsProgram 258 0 p) (sym (append-nil h.0)) ((good_program total 256).wider 0 p h.0 h.2))
+
+  pub deep_behind : (r : List Token) → d.program total 256 ts ≡ fail deep r → (256 ≤ count_by can_nest (take (total - length r) ts)) × IsTrue (heads can_nest (drop (total - length r) ts))
+  deep_behind r e =
+      let h : Far {A = Program} 256 ts (fail deep r) = subst (λ (o : Out Token Program). Far 256 ts o) e ((deepens_program total 256).far ts) in
+      let k = front_of total ts h.0 r all h.1 in
+      (subst (λ z. 256 ≤ count_by can_nest z) (sym k.0) h.2, subst (λ z. IsTrue (heads can_nest z)) (sym k.1) h.3)

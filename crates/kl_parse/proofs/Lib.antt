@@ -16,6 +16,7 @@ pub mod Levels
 pub mod Scan
 pub mod Reading
 pub mod Kepts
+pub mod Depths
 pub mod Steps
 pub mod Ranks
 pub mod FrontSteps

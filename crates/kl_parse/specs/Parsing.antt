@@ -1,14 +1,19 @@
 -- What a parser answers.
-use Rattle.std.specs.Prelude.{◌≡◌, ℕ, zero, Bool, true, false, List, Result, Ok, Err, ◌⊎◌}
+use Rattle.std.specs.Prelude.{◌≡◌, ℕ, zero, suc, nat_eq, ◌≤◌, Bool, true, false, IsTrue, List, [], ◌∷◌, take, drop, Result, Ok, Err, ◌⊎◌}
+use Rattle.std.specs.List.{count_by, list_any}
+use Rattle.std.specs.Cmp.Lexicographic.{pointwise}
 use Rattle.kl_lex.specs.declared.token.Sym.TheVariants as sym
 use Rattle.kl_lex.specs.declared.token.Tok.{Tok}
 use Rattle.kl_lex.specs.declared.token.Tok.TheVariants as tok
 use Rattle.kl_lex.specs.declared.token.Token.{Token}
-use Rattle.kl_phrase.specs.Places.{IsPlace, IsDeepPlace}
+use Rattle.kl_phrase.specs.Words.{heads}
+use Rattle.kl_phrase.specs.Places.{IsPlace, IsDeepPlace, BeginsAt}
+use Rattle.kl_parse.specs.declared.keyword.Keyword.TheVariants as key
 use Rattle.kl_parse.specs.declared.program.ParseError.{ParseError}
 use Rattle.kl_parse.specs.declared.program.ParseError.TheVariants.{Syntax, TooDeep, NoMemory}
 use Rattle.kl_parse.specs.declared.tree.Program.{Program}
 use Rattle.kl_parse.specs.Grammar.{ReadsProgram}
+use Rattle.kl_parse.specs.Keywords.{spelling}
 
 -- the tokens are this program
 abbrev pub IsProgram : List Token → Program → Type 0
@@ -26,6 +31,24 @@ nests_at _ = false
 abbrev pub nests : Token → Bool
 nests t = nests_at t.what
 
+-- a token that can make the nesting deeper: an opening bracket, `<`, a minus, or one of four words
+abbrev pub nesting_words : List (List ℕ)
+nesting_words = spelling key.If ∷ spelling key.Let ∷ spelling key.Case ∷ spelling key.Not ∷ []
+
+abbrev pub can_nest_at : Tok → Bool
+can_nest_at (tok.Sym sym.OpenPar) = true
+can_nest_at (tok.Sym sym.OpenSet) = true
+can_nest_at (tok.Sym sym.OpenBag) = true
+can_nest_at (tok.Sym sym.OpenList) = true
+can_nest_at (tok.Sym sym.OpenRec) = true
+can_nest_at (tok.Sym sym.Lt) = true
+can_nest_at (tok.Sym sym.Sub) = true
+can_nest_at (tok.Word word) = list_any (pointwise nat_eq word) nesting_words
+can_nest_at _ = false
+
+abbrev pub can_nest : Token → Bool
+can_nest t = can_nest_at t.what
+
 -- the answer is this program, or want of memory
 abbrev pub OrMemory : Result Program ParseError → Program → Type 0
 OrMemory (Ok found) p = found ≡ p
@@ -37,6 +60,22 @@ Refuses ts (Ok p) = Unit {0}
 Refuses ts (Err (Syntax k)) = IsPlace ReadsProgram ts k
 Refuses ts (Err (TooDeep k)) = IsDeepPlace ReadsProgram nests 256 ts k
 Refuses ts (Err NoMemory) = Unit {0}
+
+-- what is refused for nesting stands at a token that can nest, behind 256 others
+abbrev pub NestsBehind : List Token → Result Program ParseError → Type 0
+NestsBehind ts (Err (TooDeep k)) = (256 ≤ count_by can_nest (take k ts)) × IsTrue (heads can_nest (drop k ts))
+NestsBehind ts _ = Unit {0}
+
+-- The tokens before a refusal begin a program that nests at most 258 deep: behind 255 others a `case` may have begun, whose
+-- branches are one deeper still.
+abbrev pub Shallow : List Token → Result Program ParseError → Type 0
+Shallow ts (Err (Syntax k)) = BeginsAt ReadsProgram 258 (take k ts)
+Shallow ts (Err (TooDeep k)) = BeginsAt ReadsProgram 258 (take k ts)
+Shallow ts _ = Unit {0}
+
+-- at most one place, and none in a program
+abbrev pub OnePlace : List Token → Type 0
+OnePlace ts = ((j k : ℕ) → IsPlace ReadsProgram ts j → IsPlace ReadsProgram ts k → j ≡ k) × ((p : Program) (k : ℕ) → IsProgram ts p → IsPlace ReadsProgram ts k → ⊥) × ((p : Program) (k : ℕ) → IsProgram ts p → IsDeepPlace ReadsProgram nests 256 ts k → ⊥)
 
 -- the tokens are a program, or have a place where no program goes on, or where what begins so nests too deep
 abbrev pub IsToldOf : List Token → Type 0

@@ -6,7 +6,7 @@ ghost use Rattle.kl_parse.specs.declared.tree.Program.{Program as AProgram};
 ghost use Rattle.kl_parse.specs.Gives.{Gives};
 ghost use Rattle.kl_parse.specs.Grammar.{whole};
 ghost use Rattle.kl_parse.specs.Descent.{read_pat, reads, plain_body, body, decl_rest, decls, program};
-ghost use Rattle.kl_parse.specs.Parsing.{IsProgram, IsToldOf, OrMemory, Refuses};
+ghost use Rattle.kl_parse.specs.Parsing.{IsProgram, IsToldOf, NestsBehind, OnePlace, OrMemory, Refuses, Shallow};
 
 use crate::exprs::expr;
 use crate::fault::Fault;
@@ -125,6 +125,8 @@ pub fn parse(alloc: Global, tokens: &[Token]) -> Result<Program, ParseError>
     ensures program { IfOk result (IsProgram tokens.now) }
     ensures only { (p : AProgram) → IsProgram tokens.now p → OrMemory result p }
     ensures refused { Refuses tokens.now result }
+    ensures nested { NestsBehind tokens.now result }
+    ensures shallow { Shallow tokens.now result }
 {
     let total = tokens.len() as u32;
     match program(alloc, total, tokens) {
@@ -146,4 +148,5 @@ pub fn parse(alloc: Global, tokens: &[Token]) -> Result<Program, ParseError>
 pub fn parse_laws()
     ensures unique { (ts : List AToken) (p q : AProgram) → IsProgram ts p → IsProgram ts q → p ≡ q }
     ensures told { (ts : List AToken) → IsToldOf ts }
+    ensures one_place { (ts : List AToken) → OnePlace ts }
 {}

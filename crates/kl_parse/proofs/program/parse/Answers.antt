@@ -1,5 +1,5 @@
 use Rattle.std.proofs.Common.{rules}
-use Rattle.kl_parse.proofs.Answer.{whole_program, same_program_read, rest_place, rest_none, bad_place, bad_none, deep_place, deep_none}
+use Rattle.kl_parse.proofs.Answer.{whole_program, same_program_read, rest_place, rest_none, bad_place, bad_none, deep_place, deep_none, rest_before, bad_before, deep_before, deep_behind}
 use Rattle.kl_parse.proofs.ExprSteps.{is_bad, is_deep}
 use Rattle.kl_parse.proofs.program.parse.Goals as goal
 
@@ -26,3 +26,15 @@ returns-in-Err-Deep-clause-only c = λ p h. absurd (deep_none _ c.args.tokens.no
 
 pub returns-in-Err-Deep-clause-refused : goal.returns-in-Err-Deep-clause-refused
 returns-in-Err-Deep-clause-refused c = rw c.number-in-Err-Deep.ensures (deep_place _ c.args.tokens.now (search rules) c.in-Err-Deep.rest.now (is_deep c.in-Err-Deep.field-0 c.in-Err-Deep.rest _ c.in-Err-Deep.field-0-is c.in-Err-Deep.ensures))
+
+pub returns-in-Ok-clause-shallow : goal.returns-in-Ok-clause-shallow
+returns-in-Ok-clause-shallow c = rest_before _ c.args.tokens.now (search rules) _ c.in-Ok.rest.now c.number.result c.number.ensures c.in-Ok.ensures
+
+pub returns-in-Err-Bad-clause-shallow : goal.returns-in-Err-Bad-clause-shallow
+returns-in-Err-Bad-clause-shallow c = bad_before _ c.args.tokens.now (search rules) c.in-Err-Bad.rest.now c.number-in-Err-Bad.result c.number-in-Err-Bad.ensures (is_bad c.in-Err-Bad.field-0 c.in-Err-Bad.rest _ c.in-Err-Bad.field-0-is c.in-Err-Bad.ensures)
+
+pub returns-in-Err-Deep-clause-shallow : goal.returns-in-Err-Deep-clause-shallow
+returns-in-Err-Deep-clause-shallow c = deep_before _ c.args.tokens.now (search rules) c.in-Err-Deep.rest.now c.number-in-Err-Deep.result c.number-in-Err-Deep.ensures (is_deep c.in-Err-Deep.field-0 c.in-Err-Deep.rest _ c.in-Err-Deep.field-0-is c.in-Err-Deep.ensures)
+
+pub returns-in-Err-Deep-clause-nested : goal.returns-in-Err-Deep-clause-nested
+returns-in-Err-Deep-clause-nested c = rw c.number-in-Err-Deep.ensures (deep_behind _ c.args.tokens.now (search rules) c.in-Err-Deep.rest.now (is_deep c.in-Err-Deep.field-0 c.in-Err-Deep.rest _ c.in-Err-Deep.field-0-is c.in-Err-Deep.ensures))
