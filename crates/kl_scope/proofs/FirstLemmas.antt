@@ -1,7 +1,7 @@
 -- What is kept of findings is the first breach, and the sources that are named.
 use Rattle.std.proofs.Common.{◌≡◌, ℕ, ◌<◌, ◌≤◌, ◌≢◌, ◌==◌, ◌⊎◌, ◌↔◌, inl, inr, Bool, true, false, ◌&&◌, ◌||◌, nat_lt, List, [], ◌∷◌, ◌++◌, length, get_or, replicate, Option, Some, None, if◌then◌else◌, refl, sym, subst, ◌∙◌, arith, append_assoc, append-nil}
 use Rattle.std.proofs.Math.ListN.{set}
-use Rattle.std.proofs.lemmas.List.{length-set, get_or-set_same, get_or-set_other, get_or-replicate, length-replicate}
+use Rattle.std.proofs.lemmas.List.{length-set, get_or-set_same, get_or-set_other, get_or-replicate, get_or_past, length-replicate}
 use Rattle.std.proofs.lemmas.List.Elements.{Contains-append_left, Contains-append_right, Contains-push_cases}
 use Rattle.std.proofs.lemmas.Bool.Decides.{Decides-ltb, Decides-eqb}
 use Rattle.std.specs.Bool.{Decides}
@@ -144,6 +144,14 @@ marked_all : (n : ℕ) (g : Gathered) (done fs : List Finding) → Marked n g.ma
 marked_all n g done [] h = rw append-nil h
 marked_all n g done (x ∷ fs) h = rw (← append_assoc done (x ∷ []) fs) (marked_all n (noted g x) (done ++ x ∷ []) fs (marked_more n g done x h))
 
+marked_from : (n : ℕ) (g : Gathered) (fs : List Finding) → g.marks ≡ replicate n false → Marked n (gathered g fs).marks fs
+unfolding Marked
+marked_from n g fs none = marked_all n g [] fs (rw none (length-replicate n false, λ i lt. (λ t. absurd (let k = get_or-replicate n i false false lt in let c : false ≡ true = sym k ∙ t in cc), λ c. absurd (let k = c.1 in omega arith))))
+
 pub marked_is : (n : ℕ) (g : Gathered) (fs : List Finding) → g.marks ≡ replicate n false → (i : ℕ) → i < n → (get_or (gathered g fs).marks i false ≡ true) ↔ Contains fs (mention i)
 unfolding Marked
-marked_is n g fs none = (marked_all n g [] fs (rw none (length-replicate n false, λ i lt. (λ t. absurd (let k = get_or-replicate n i false false lt in let c : false ≡ true = sym k ∙ t in cc), λ c. absurd (let k = c.1 in omega arith))))).1
+marked_is n g fs none = (marked_from n g fs none).1
+
+pub unmarked_is : (n : ℕ) (g : Gathered) (fs : List Finding) → g.marks ≡ replicate n false → (i : ℕ) → n ≤ i → get_or (gathered g fs).marks i false ≡ false
+unfolding Marked
+unmarked_is n g fs none i le = let h : length (gathered g fs).marks ≡ n = (marked_from n g fs none).0 in get_or_past (gathered g fs).marks i false (omega arith)

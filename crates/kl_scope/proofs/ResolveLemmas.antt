@@ -14,7 +14,7 @@ use Rattle.kl_scope.specs.Gathering.{Gathered, gathered}
 use Rattle.kl_scope.specs.Resolved.{resolved, resolved_decls}
 use Rattle.kl_scope.specs.Senses.{Name, Scope, at_first, defined}
 use Rattle.kl_scope.specs.Walks.{ProgramWalk, Whole}
-use Rattle.kl_scope.proofs.FirstLemmas.{best_is, none_is, some_is, marked_is}
+use Rattle.kl_scope.proofs.FirstLemmas.{best_is, none_is, some_is, marked_is, unmarked_is}
 
 sources_stay : (ds : Decls) (s : Scope) → (behind_decls ds s).sources ≡ s.sources
 sources_stay no_decls s = refl
@@ -46,6 +46,7 @@ module _ (p q : Program) (ss : List Name) (u : Walk) (whole : Whole p q ss u) wh
     marks = λ i lt.
         subst (λ (bs : List Bool). (get_or bs i false ≡ true) ↔ Contains (program_findings p ss) (mention i)) (ap (λ (g : Gathered). g.marks) (sym told) ∙ sym marks)
         (marked_is (length ss) w.findings (program_findings p ss) (ap (λ (g : Gathered). g.marks) fresh) i lt);
+    no_more = λ i le. rw (marks, ap (λ (g : Gathered). g.marks) told) (unmarked_is (length ss) w.findings (program_findings p ss) (ap (λ (g : Gathered). g.marks) fresh) i le);
   }
 
   refusal : (e : ScopeError) → IsFirstBreach p ss e → IsRefusal p ss e

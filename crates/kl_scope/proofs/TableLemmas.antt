@@ -4,41 +4,24 @@ use Rattle.std.proofs.lemmas.Slice.Eq.{bytes_eq-Decides}
 use Rattle.std.specs.Cmp.Lexicographic.{pointwise}
 use Rattle.std.specs.List.{IsDistinct, AllByRecursion, Contains}
 use Rattle.std.specs.Option.{option_map}
-use Rattle.kl_parse.specs.declared.tree.Meaning.TheVariants.{Primitive}
 use Rattle.kl_prim.specs.declared.rows.PrimRow.{PrimRow}
-use Rattle.kl_prim.specs.Table.{Entry, Row, entry_of, rows}
-use Rattle.kl_scope.specs.declared.names.Sense.{Sense}
-use Rattle.kl_scope.specs.Senses.{Name, sense, primitive_of, primitive_at}
+use Rattle.kl_prim.specs.Table.{entry_of, rows}
+use Rattle.kl_scope.specs.Senses.{Name, entry_named}
 
 abbrev pub has_name : Name → PrimRow → Bool
 has_name x r = bytes_eq r.name.now x
 
-abbrev pub sense_of : PrimRow → Sense
-sense_of r = sense (Primitive r.code) r.arity
-
-abbrev entry_sense : Entry → Sense
-entry_sense e = sense (Primitive e.code) e.arity
-
-found_rows : (x : Name) (rs : List Row) → option_map primitive_at (find (λ r. bytes_eq r.entry.name x) rs) ≡ option_map entry_sense (find (λ e. bytes_eq e.name x) (map (λ r. r.entry) rs))
-found_rows x [] = refl
-found_rows x (r ∷ rs) = step (bytes_eq r.entry.name x) (found_rows x rs)
-  where
-    step : (b : Bool) → option_map primitive_at (find (λ r. bytes_eq r.entry.name x) rs) ≡ option_map entry_sense (find (λ e. bytes_eq e.name x) (map (λ r. r.entry) rs))
-        → option_map primitive_at (cond b (Some r) (find (λ r. bytes_eq r.entry.name x) rs)) ≡ option_map entry_sense (cond b (Some r.entry) (find (λ e. bytes_eq e.name x) (map (λ r. r.entry) rs)))
-    step true h = refl
-    step false h = h
-
-found_entries : (x : Name) (rs : List PrimRow) → option_map entry_sense (find (λ e. bytes_eq e.name x) (map entry_of rs)) ≡ option_map sense_of (find (has_name x) rs)
+found_entries : (x : Name) (rs : List PrimRow) → find (λ e. bytes_eq e.name x) (map entry_of rs) ≡ option_map entry_of (find (has_name x) rs)
 found_entries x [] = refl
 found_entries x (r ∷ rs) = step (bytes_eq r.name.now x) (found_entries x rs)
   where
-    step : (b : Bool) → option_map entry_sense (find (λ e. bytes_eq e.name x) (map entry_of rs)) ≡ option_map sense_of (find (has_name x) rs)
-        → option_map entry_sense (cond b (Some (entry_of r)) (find (λ e. bytes_eq e.name x) (map entry_of rs))) ≡ option_map sense_of (cond b (Some r) (find (has_name x) rs))
+    step : (b : Bool) → find (λ e. bytes_eq e.name x) (map entry_of rs) ≡ option_map entry_of (find (has_name x) rs)
+        → cond b (Some (entry_of r)) (find (λ e. bytes_eq e.name x) (map entry_of rs)) ≡ option_map entry_of (cond b (Some r) (find (has_name x) rs))
     step true h = refl
     step false h = h
 
-primitive_is : (x : Name) (rs : List PrimRow) → map entry_of rs ≡ map (λ r. r.entry) rows → primitive_of x ≡ option_map sense_of (find (has_name x) rs)
-primitive_is x rs e = found_rows x rows ∙ ap (λ (es : List Entry). option_map entry_sense (find (λ e. bytes_eq e.name x) es)) (sym e) ∙ found_entries x rs
+entry_is : (x : Name) (rs : List PrimRow) → map entry_of rs ≡ map (λ r. r.entry) rows → entry_named x ≡ option_map entry_of (find (has_name x) rs)
+entry_is x rs e = ap (find (λ e. bytes_eq e.name x)) (sym e) ∙ found_entries x rs
 
 find_step : (b : Bool) (r : PrimRow) (o : Option PrimRow) → b ≡ false → cond b (Some r) o ≡ o
 find_step b r o h = rw h refl
@@ -67,8 +50,8 @@ one_found x (s ∷ rs) zero r d lt e n = rw (e, (bytes_eq-Decides r.name.now x).
 one_found x (s ∷ rs) (suc k) r d lt e n =
     find_step (bytes_eq s.name.now x) s (find (has_name x) rs) (ap (bytes_eq s.name.now) (sym n) ∙ apart_at s.name.now rs k r d.0 (omega arith) e) ∙ one_found x rs k r d.1 (omega arith) e n
 
-pub no_primitive : (x : Name) (rs : List PrimRow) → map entry_of rs ≡ map (λ r. r.entry) rows → All (λ r. r.name.now ≢ x) rs → None ≡ primitive_of x
-no_primitive x rs e h = sym (primitive_is x rs e ∙ ap (option_map sense_of) (none_found x rs h))
+pub no_entry : (x : Name) (rs : List PrimRow) → map entry_of rs ≡ map (λ r. r.entry) rows → All (λ r. r.name.now ≢ x) rs → entry_named x ≡ None
+no_entry x rs e h = entry_is x rs e ∙ ap (option_map entry_of) (none_found x rs h)
 
-pub a_primitive : (x : Name) (rs : List PrimRow) (r : PrimRow) → map entry_of rs ≡ map (λ r. r.entry) rows → IsDistinct (pointwise nat_eq) (map (λ r. r.name.now) rs) → Contains rs r → r.name.now ≡ x → Some (sense_of r) ≡ primitive_of x
-a_primitive x rs r e d h n = sym (primitive_is x rs e ∙ ap (option_map sense_of) (one_found x rs h.0 r d h.1 h.2 n))
+pub an_entry : (x : Name) (rs : List PrimRow) (r : PrimRow) → map entry_of rs ≡ map (λ r. r.entry) rows → IsDistinct (pointwise nat_eq) (map (λ r. r.name.now) rs) → Contains rs r → r.name.now ≡ x → entry_named x ≡ Some (entry_of r)
+an_entry x rs r e d h n = entry_is x rs e ∙ ap (option_map entry_of) (one_found x rs h.0 r d h.1 h.2 n)

@@ -44,6 +44,8 @@ pub record Resolves (p : Program) (sources : List Name) (s : Scoped) : Type 0 wh
   pub last : view s.program.last ≡ resolved (view p.last) (behind_decls (decls_of p.defs) (at_first sources))
   pub sources_kept : s.sources ≡ sources
   pub marks : (i : ℕ) → i < length sources → IsTrue (is_marked s i) ↔ Mentions p sources i
+  -- there is no source of any other number
+  pub no_more : (i : ℕ) → length sources ≤ i → is_marked s i ≡ false
 
 abbrev pub IsRefusal : Program → List Name → ScopeError → Type 0
 IsRefusal p sources NoMemory = Unit {0}

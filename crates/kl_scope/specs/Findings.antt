@@ -8,7 +8,7 @@ use Rattle.kl_parse.specs.Syntax.{Pat, catch, any, same, is, shape, variant, Pat
 use Rattle.kl_scope.specs.declared.refusal.ScopeError.{ScopeError}
 use Rattle.kl_scope.specs.declared.refusal.ScopeError.TheVariants.{Unknown, Twice, Misapplied, Refutable}
 use Rattle.kl_scope.specs.declared.names.Sense.{Sense}
-use Rattle.kl_scope.specs.Senses.{Name, Scope, named, called, defined}
+use Rattle.kl_scope.specs.Senses.{Name, Scope, named, called, is_taken, defined}
 use Rattle.kl_scope.specs.Patterns.{variables, tests, pattern_labels, within}
 
 pub data Finding : Type 0 where
@@ -134,13 +134,9 @@ abbrev mutual
 
 -- ---- programs
 
-abbrev pub is_known : Option Sense → Bool
-is_known None = false
-is_known (Some sense) = true
-
 -- a definition is named like an earlier one, a source or a primitive
 abbrev pub taken : Scope → Word → List Finding
-taken s w = only_if (is_known (called s w.text)) (breach (Twice w.text w.token))
+taken s w = only_if (is_taken s w.text) (breach (Twice w.text w.token))
 
 -- each definition in the scope behind those before it
 abbrev pub decls_findings : Decls → Scope → List Finding

@@ -1,12 +1,12 @@
 -- What a name stands for where it stands.
-use Rattle.std.specs.Prelude.{ℕ, suc, Bool, List, [], ◌∷◌, length, find, map, Option, Some, None, if◌then◌else◌, bytes_eq}
+use Rattle.std.specs.Prelude.{ℕ, suc, ◌==◌, nat_le, Bool, false, ◌||◌, List, [], ◌∷◌, length, find, map, Option, Some, None, is_some, option_and_then, if◌then◌else◌, bytes_eq}
 use Rattle.std.specs.Borrow.{Bor}
 use Rattle.std.specs.Option.{option_map, option_or}
 use Rattle.kl_parse.specs.declared.tree.Meaning.{Meaning}
 use Rattle.kl_parse.specs.declared.tree.Meaning.TheVariants.{Variable, Definition, Source, Primitive}
 use Rattle.kl_parse.specs.declared.tree.Word.{Word}
 use Rattle.kl_scope.specs.declared.names.Sense.{Sense}
-use Rattle.kl_prim.specs.Table.{Row, rows}
+use Rattle.kl_prim.specs.Table.{Entry, rows}
 
 abbrev pub Name : Type 0
 Name = List ℕ
@@ -39,11 +39,19 @@ definition_in (d ∷ ds) x = if bytes_eq d.0 x then Some (sense (Definition (len
 abbrev pub source_in : List Name → Name → Option Sense
 source_in ys x = option_map (λ i. sense (Source i) 0) (place_in ys x)
 
-abbrev pub primitive_at : Row → Sense
-primitive_at r = sense (Primitive r.entry.code) r.entry.arity
+-- the primitive of the table that has the name
+abbrev pub entry_named : Name → Option Entry
+entry_named x = find (λ e. bytes_eq e.name x) (map (λ r. r.entry) rows)
+
+-- codes 1 to 12 but 10 are operators, whose names call nothing
+abbrev pub is_operator : ℕ → Bool
+is_operator code = if code == 10 then false else nat_le code 12
+
+abbrev pub by_name : Entry → Option Sense
+by_name e = if is_operator e.code then None else Some (sense (Primitive e.code) e.arity)
 
 abbrev pub primitive_of : Name → Option Sense
-primitive_of x = option_map primitive_at (find (λ r. bytes_eq r.entry.name x) rows)
+primitive_of x = option_and_then by_name (entry_named x)
 
 -- a name: the innermost variable, then a definition, then a source
 abbrev pub named : Scope → Name → Option Sense
@@ -52,6 +60,10 @@ named s x = option_or (variable_in s.variables x) (option_or (definition_in s.de
 -- a name with arguments: then a primitive
 abbrev pub called : Scope → Name → Option Sense
 called s x = option_or (named s x) (primitive_of x)
+
+-- a new definition can't have the name: it has a meaning, or is an operator's
+abbrev pub is_taken : Scope → Name → Bool
+is_taken s x = is_some (named s x) || is_some (entry_named x)
 
 abbrev pub at_first : List Name → Scope
 at_first sources = record { variables = []; definitions = []; sources = sources }

@@ -1,15 +1,16 @@
 //! What can be named at a place.
-ghost use Rattle.std.specs.Prelude.{◌≡◌, ◌-◌, length, drop, IfOk, if◌then◌else◌, bytes_eq};
+ghost use Rattle.std.specs.Prelude.{◌≡◌, ◌-◌, length, drop, is_some, IfOk, if◌then◌else◌, bytes_eq};
 ghost use Rattle.std.specs.BTreeMap.{get};
 ghost use Rattle.std.specs.Option.{option_or};
 ghost use Rattle.kl_base.specs.Fields.{bytes_cmp};
 ghost use Rattle.kl_parse.specs.declared.tree.Meaning.TheVariants.{Source};
 ghost use Rattle.kl_scope.specs.Senses as sense;
-ghost use Rattle.kl_scope.specs.Senses.{Name, at_first, bound, all_bound, defined, primitive_of};
+ghost use Rattle.kl_prim.specs.Table.{entry_of};
+ghost use Rattle.kl_scope.specs.Senses.{Name, at_first, bound, all_bound, defined, by_name, primitive_of, entry_named};
 
 use kl_base::{Label, NoMemory, Seq};
 use kl_parse::{Meaning, Word};
-use kl_prim::table;
+use kl_prim::{PrimRow, table};
 use std::alloc::Global;
 use std::collections::BTreeMap;
 use std::marker::Model;
@@ -109,6 +110,16 @@ impl Names {
         match self.named(name) {
             Some(found) => Some(found),
             None => primitive(name),
+        }
+    }
+
+    /// Whether a new definition can't have the name.
+    pub fn is_taken(&self, name: &Label) -> bool
+        ensures { result ≡ sense.is_taken self.now name.now }
+    {
+        match self.named(name) {
+            Some(_) => true,
+            None => is_primitive(name),
         }
     }
 
@@ -223,15 +234,36 @@ fn number(place: usize) -> Result<u32, NoMemory>
     }
 }
 
-/// The primitive of a name.
+/// The primitive that a name calls.
 fn primitive(name: &Label) -> Option<Sense>
     ensures { result ≡ primitive_of name.now }
 {
     match table().find(name.slice()) {
-        Some(row) => Some(Sense {
+        Some(row) => by_name(row),
+        None => None,
+    }
+}
+
+// An operator is not called by its name.
+fn by_name(row: &PrimRow) -> Option<Sense>
+    ensures { result ≡ by_name (entry_of row.now) }
+{
+    if row.code <= 12 && row.code != 10 {
+        None
+    } else {
+        Some(Sense {
             means: Meaning::Primitive(row.code),
             takes: row.arity,
-        }),
-        None => None,
+        })
+    }
+}
+
+/// Whether a primitive of the table has the name.
+fn is_primitive(name: &Label) -> bool
+    ensures { result ≡ is_some (entry_named name.now) }
+{
+    match table().find(name.slice()) {
+        Some(_) => true,
+        None => false,
     }
 }

@@ -268,9 +268,10 @@ impl Walk {
         ensures names { IfOk result (λ _. self.new.names ≡ self.old.names) }
         ensures found { IfOk result (λ _. self.new.findings ≡ gathered self.old.findings (taken self.old.names name.now)) }
     {
-        match self.names.called(&name.text) {
-            Some(_) => self.findings.twice(name),
-            None => Ok(()),
+        if self.names.is_taken(&name.text) {
+            self.findings.twice(name)
+        } else {
+            Ok(())
         }
     }
 
