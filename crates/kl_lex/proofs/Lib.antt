@@ -1,5 +1,6 @@
 pub mod Firsts
 pub mod Fronts
 pub mod Inside
-pub mod Readings
+pub mod Placings
+mod Readings
 pub mod Sequence

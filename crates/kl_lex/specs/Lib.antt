@@ -1,4 +1,5 @@
 pub mod Blank
 pub mod Lexing
+pub mod Placing
 pub mod Reading
 pub mod Spelling

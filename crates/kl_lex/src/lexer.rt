@@ -1,11 +1,12 @@
 //! Bytes to tokens.
 
-ghost use Rattle.std.specs.Prelude.{◌≡◌, ◌≢◌, ◌≤◌, [], List, length, IsTrue, slice_index, IfOk, MatchOption};
+ghost use Rattle.std.specs.Prelude.{◌≡◌, ◌≢◌, ◌≤◌, ◌<◌, ◌^◌, [], List, length, IsTrue, slice_index, IfOk, MatchOption};
 ghost use Rattle.std.specs.Char.{is_ascii_alphabetic};
 ghost use Rattle.std.specs.List.{prefix_len};
 ghost use Rattle.kl_base.specs.Word.{is_word_byte};
 ghost use Rattle.kl_lex.specs.Blank.{Gap, IsDue, is_white};
 ghost use Rattle.kl_lex.specs.Lexing.{Starts, NoneStarts, Tokens as AreTokens, RefusedAt, OrMemory, PlacesRise};
+ghost use Rattle.kl_lex.specs.Placing.{Comes, AreLexed, token_of};
 ghost use Rattle.kl_lex.specs.Reading.{LineBefore};
 ghost use Rattle.kl_lex.specs.declared.lexer.LexError.TheVariants.{NoMemory as WantOfMemory};
 ghost use Rattle.kl_lex.specs.declared.token.Token.{Token as AToken};
@@ -13,7 +14,7 @@ ghost use Rattle.kl_lex.specs.declared.token.Token.{Token as AToken};
 use crate::number::number_at;
 use crate::quoted::text_at;
 use crate::symbol::symbol_at;
-use crate::token::{Tok, Token, Tokens};
+use crate::token::{Placed, Tok, Token, Tokens};
 use kl_base::{Label, NoMemory, Seq};
 use std::alloc::{AllocFailed, Global};
 use thiserror::Error;
@@ -60,19 +61,119 @@ pub fn lex(alloc: Global, bytes: &[u8]) -> Result<Tokens, LexError>
     ensures places { IfOk result (PlacesRise 0 (length bytes.now)) }
 {
     let mut tokens = Vec::new(alloc);
-    let mut rest = skip_blank(bytes);
-    'tokens: while !rest.is_empty() {
-        let from = (bytes.len() - rest.len()) as u32;
-        match token_at(alloc, rest)? {
-            None => return Err(LexError::Bad { byte: from }),
-            Some((what, after)) => {
-                let to = (bytes.len() - after.len()) as u32;
-                tokens.push(Token { what, from, to })?;
-                rest = skip_blank(after);
+    let mut lexer = Lexer::new(bytes);
+    'tokens: loop {
+        match lexer.next(alloc)? {
+            Next::End => return Ok(Seq::of(tokens)),
+            Next::Bad { byte } => return Err(LexError::Bad { byte: byte as u32 }),
+            Next::Token(token, after) => {
+                tokens.push(narrow(token))?;
+                lexer = after;
             }
         }
     }
-    Ok(Seq::of(tokens))
+}
+
+/// A token whose places take no more than 32 bits, with such places.
+fn narrow(token: Placed) -> Token
+    requires from { token.from < 2 ^ 32 }
+    requires to { token.to < 2 ^ 32 }
+    ensures { result ≡ token_of token }
+{
+    let Placed { what, from, to } = token;
+    Token {
+        what,
+        from: from as u32,
+        to: to as u32,
+    }
+}
+
+/// The tokens of bytes of any length, or where there are none.
+#[derive(Debug, Drop)]
+pub enum Lexed {
+    /// The tokens, in their order.
+    Tokens(Seq<Placed>),
+    /// At this byte a token is due, and none starts there.
+    Bad { byte: u64 },
+}
+
+/// The tokens of bytes of any length, by the same rules as those of `lex`.
+///
+/// # Errors
+/// Want of memory. What `lex` refuses is an answer here: the first byte where a token is due and none starts.
+pub fn lex_all(alloc: Global, bytes: &[u8]) -> Result<Lexed, NoMemory>
+    ensures { IfOk result (AreLexed bytes.now) }
+{
+    let mut tokens = Vec::new(alloc);
+    let mut lexer = Lexer::new(bytes);
+    'tokens: loop {
+        match lexer.next(alloc)? {
+            Next::End => return Ok(Lexed::Tokens(Seq::of(tokens))),
+            Next::Bad { byte } => return Ok(Lexed::Bad { byte }),
+            Next::Token(token, after) => {
+                tokens.push(token)?;
+                lexer = after;
+            }
+        }
+    }
+}
+
+/// What is left of some bytes, to be read token by token.
+#[derive(Clone, Copy)]
+pub struct Lexer<'a> {
+    total: usize,
+    rest: &'a [u8],
+}
+
+/// What comes next.
+#[derive(Drop)]
+pub enum Next<'a> {
+    /// A token, and what is left behind it.
+    Token(Placed, Lexer<'a>),
+    /// No more tokens.
+    End,
+    /// At this byte a token is due, and none starts there.
+    Bad { byte: u64 },
+}
+
+impl<'a> Lexer<'a> {
+    /// Before the first token of the bytes, which are of any length.
+    pub fn new(bytes: &'a [u8]) -> Lexer<'a>
+        ensures total { result.total ≡ length bytes.now }
+        ensures rest { result.rest.now ≡ bytes.now }
+    {
+        Lexer {
+            total: bytes.len(),
+            rest: bytes,
+        }
+    }
+
+    /// What comes behind white space and comments: a token, the longest that starts there, the end, or the byte at
+    /// which none starts. Reads no further than this.
+    ///
+    /// # Errors
+    /// Want of memory.
+    pub fn next(self, alloc: Global) -> Result<Next<'a>, NoMemory>
+        requires { length self.rest.now ≤ self.total }
+        ensures { IfOk result (Comes self.entry.total self.entry.rest.now) }
+    {
+        let rest = skip_blank(self.rest);
+        if rest.is_empty() {
+            return Ok(Next::End);
+        }
+        let from = (self.total - rest.len()) as u64;
+        match token_at(alloc, rest)? {
+            None => Ok(Next::Bad { byte: from }),
+            Some((what, after)) => {
+                let to = (self.total - after.len()) as u64;
+                let lexer = Lexer {
+                    total: self.total,
+                    rest: after,
+                };
+                Ok(Next::Token(Placed { what, from, to }, lexer))
+            }
+        }
+    }
 }
 
 /// The token at the front, and the bytes behind it.

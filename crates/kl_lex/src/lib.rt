@@ -2,7 +2,7 @@
 //!
 //! What the tokens of some bytes are is a relation that knows nothing of the scan: the longest front that is a word, a
 //! run of digits, a text or a symbol, with white space and comments between. `lex` answers that list, which is the
-//! only one, or the byte at which there is none.
+//! only one, or the byte at which there is none. A `Lexer` answers one token after the other, of bytes of any length.
 //!
 //! What `rt plant` lets through here: a body that answers want of memory, which no contract of this project ties to
 //! a refused growth. It plants nothing in `lex`, for which the edits in `must-fail` stand.
@@ -14,8 +14,8 @@ mod quoted;
 mod symbol;
 mod token;
 
-pub use lexer::{LexError, lex};
-pub use token::{Sym, Tok, Token, Tokens};
+pub use lexer::{LexError, Lexed, Lexer, Next, lex, lex_all};
+pub use token::{Placed, Sym, Tok, Token, Tokens};
 
 #[cfg(test)]
 mod tests;

@@ -1,4 +1,4 @@
-use crate::{LexError, Sym, Tok, lex};
+use crate::{LexError, Lexed, Sym, Tok, lex, lex_all};
 use std::test::Fail;
 
 #[test]
@@ -14,5 +14,16 @@ fn a_text_is_cut_into_tokens(rt: HostRuntime) -> Result<(), Fail> {
         })
     );
     assert!(rt; lex(alloc, b"a $") == Err(LexError::Bad { byte: 2 }));
+    Ok(())
+}
+
+#[test]
+fn a_text_of_any_length_is_cut_into_tokens(rt: HostRuntime) -> Result<(), Fail> {
+    let alloc = rt.alloc();
+    let Ok(Lexed::Tokens(tokens)) = lex_all(alloc, b"{ int }") else {
+        return Err(Fail::from("refused"));
+    };
+    assert_eq!(rt; tokens.slice().len(), 3);
+    assert!(rt; matches!(lex_all(alloc, b"a $"), Ok(Lexed::Bad { byte: 2 })));
     Ok(())
 }

@@ -97,3 +97,14 @@ pub struct Token {
 
 /// The tokens of a text, in their order.
 pub type Tokens = Seq<Token>;
+
+/// A token of a text of any length, which stands in the bytes from `from` to before `to`.
+#[derive(Debug, Drop, PartialEq, Eq)]
+pub struct Placed {
+    /// What it is.
+    pub what: Tok,
+    /// The place of its first byte.
+    pub from: u64,
+    /// The place behind its last byte.
+    pub to: u64,
+}

@@ -1,44 +1,61 @@
-use Rattle.std.proofs.Common.{rules, ◌≢◌, [], length, ap, arith}
-use Rattle.std.proofs.lemmas.List.{nil_from_length}
-use Rattle.kl_lex.specs.Lexing.{Starts}
-use Rattle.kl_lex.proofs.Sequence.{gap_shorter, starts_shorter, refused_none, read_whole, upto_more, places_rise}
+use Rattle.std.proofs.Common.{[], length, ap, ◌∙◌, arith}
+use Rattle.kl_lex.specs.Blank.{Gap, none}
+use Rattle.kl_lex.specs.Placing.{Comes}
+use Rattle.kl_lex.specs.declared.lexer.Next.TheVariants as next
+use Rattle.kl_lex.proofs.Placings.{ends, ends_only, ends_rising, stops, stops_only, goes_on, same_total, shorter, from_within, to_within}
 use Rattle.kl_lex.proofs.lexer.lex.Goals as goal
+use Rattle.kl_lex.proofs.lexer.lex.Goals.{In-End, In-Bad, In-Token}
+
+over : (c : In-End) → Gap c.tokens.lexer.rest.now []
+over c = rw c.in-End.is at c.in_ok-next.ensures
+
+failed : (c : In-Bad) → Comes c.tokens.lexer.total c.tokens.lexer.rest.now (next.Bad c.in-Bad.byte)
+failed c = rw c.in-Bad.is at c.in_ok-next.ensures
+
+came : (c : In-Token) → Comes c.tokens.lexer.total c.tokens.lexer.rest.now (next.Token c.in-Token.token c.in-Token.after)
+came c = rw c.in-Token.is at c.in_ok-next.ensures
 
 pub tokens-init : goal.tokens-init
-tokens-init c = record {
-  within = gap_shorter c.skip_blank-rest.ensures.gap;
-  so_far = rw c.new-tokens.ensures.items c.skip_blank-rest.ensures.gap;
-  due = c.skip_blank-rest.ensures.due;
-}
+tokens-init c = record { total = c.new-lexer.ensures.total; within = let e = ap length c.new-lexer.ensures.rest in omega arith; so_far = rw (c.new-tokens.ensures.items, c.new-lexer.ensures.rest) none }
 
-pub returns-in-None-clause-only : goal.returns-in-None-clause-only
-returns-in-None-clause-only c ts h =
-    let full : c.tokens.rest.now ≢ [] = λ e. let k = ap length e in search rules in
-    absurd (refused_none c.args.bytes.now c.tokens.tokens.items ts c.tokens.rest.now c.tokens.invariant.so_far (c.tokens.invariant.due full) (rw c.in-None.is at c.in_ok-token_at.ensures) h)
+pub next-requires : goal.next-requires
+next-requires c = omega (arith, c.tokens.invariant.within, c.tokens.invariant.total)
+
+pub narrow-requires-clause-from : goal.narrow-requires-clause-from
+narrow-requires-clause-from c = let k = from_within c.tokens.lexer.total c.tokens.lexer.rest.now c.in-Token.token c.in-Token.after (came (goal.at.narrow-requires-clause-from c).In-Token) in omega (arith, c.tokens.invariant.total, c.requires)
+
+pub narrow-requires-clause-to : goal.narrow-requires-clause-to
+narrow-requires-clause-to c = let k = to_within c.tokens.lexer.total c.tokens.lexer.rest.now c.in-Token.token c.in-Token.after (came (goal.at.narrow-requires-clause-to c).In-Token) in omega (arith, c.tokens.invariant.total, c.requires)
 
 pub tokens-smaller : goal.tokens-smaller
-tokens-smaller c =
-    let started : Starts c.tokens.rest.now c.in-Some.what c.in-Some.after.now = rw c.in-Some.is at c.in_ok-token_at.ensures in
-    omega (arith, starts_shorter c.tokens.rest.now c.in-Some.what c.in-Some.after.now started, gap_shorter c.skip_blank-rest-in-Some.ensures.gap)
+tokens-smaller c = shorter c.tokens.lexer.total c.tokens.lexer.rest.now c.in-Token.token c.in-Token.after (came (goal.at.tokens-smaller c).In-Token)
 
 pub tokens-preserved : goal.tokens-preserved
 tokens-preserved c =
-    let started : Starts c.tokens.rest.now c.in-Some.what c.in-Some.after.now = rw c.in-Some.is at c.in_ok-token_at.ensures in
-    let shorter = starts_shorter c.tokens.rest.now c.in-Some.what c.in-Some.after.now started in
-    let gap = gap_shorter c.skip_blank-rest-in-Some.ensures.gap in
+    let here = came (goal.at.tokens-preserved c).In-Token in
+    let less = shorter c.tokens.lexer.total c.tokens.lexer.rest.now c.in-Token.token c.in-Token.after here in
     record {
+      total = same_total c.tokens.lexer.total c.tokens.lexer.rest.now c.in-Token.token c.in-Token.after here ∙ c.tokens.invariant.total;
       within = omega (arith, c.tokens.invariant.within);
-      so_far =
-          rw c.in_ok-push-in-Some.ensures.items
-          (upto_more (length c.args.bytes.now) c.args.bytes.now c.tokens.tokens.items c.tokens.rest.now _ c.in-Some.after.now c.skip_blank-rest-in-Some.result.now c.tokens.invariant.so_far
-          (record { starts = started; from = omega (arith, c.tokens.invariant.within); to = omega (arith, c.tokens.invariant.within) })
-          c.skip_blank-rest-in-Some.ensures.gap);
-      due = c.skip_blank-rest-in-Some.ensures.due;
+      so_far = rw (c.in_ok-push-in-Token.ensures.items, c.narrow.ensures) (goes_on c.args.bytes.now c.tokens.tokens.items c.tokens.lexer.total c.tokens.invariant.total c.tokens.lexer.rest.now c.tokens.invariant.so_far c.in-Token.token c.in-Token.after here);
     }
 
-pub returns-clause-only : goal.returns-clause-only
-returns-clause-only c ts h = rw c.of.ensures (read_whole c.args.bytes.now c.tokens.tokens.items ts c.tokens.rest.now c.tokens.invariant.so_far (nil_from_length c.tokens.rest.now (search rules)) h)
+pub returns-in-End-clause-tokens : goal.returns-in-End-clause-tokens
+returns-in-End-clause-tokens c =
+    rw c.of.ensures (ends c.args.bytes.now c.tokens.tokens.items c.tokens.lexer.total c.tokens.invariant.total c.tokens.lexer.rest.now c.tokens.invariant.so_far (over (goal.at.returns-in-End-clause-tokens c).In-End))
 
-pub returns-clause-places : goal.returns-clause-places
-returns-clause-places c =
-    rw c.of.ensures (places_rise 0 (length c.args.bytes.now) c.args.bytes.now c.tokens.tokens.items c.tokens.rest.now (omega arith) c.tokens.invariant.so_far)
+pub returns-in-End-clause-only : goal.returns-in-End-clause-only
+returns-in-End-clause-only c us h =
+    rw c.of.ensures (ends_only c.args.bytes.now c.tokens.tokens.items c.tokens.lexer.total c.tokens.invariant.total c.tokens.lexer.rest.now c.tokens.invariant.so_far us (over (goal.at.returns-in-End-clause-only c).In-End) h)
+
+pub returns-in-End-clause-places : goal.returns-in-End-clause-places
+returns-in-End-clause-places c =
+    rw c.of.ensures (ends_rising c.args.bytes.now c.tokens.tokens.items c.tokens.lexer.total c.tokens.invariant.total c.tokens.lexer.rest.now c.tokens.invariant.so_far (over (goal.at.returns-in-End-clause-places c).In-End))
+
+pub returns-in-Bad-clause-only : goal.returns-in-Bad-clause-only
+returns-in-Bad-clause-only c us h =
+    absurd (stops_only c.args.bytes.now c.tokens.tokens.items c.tokens.lexer.total c.tokens.invariant.total c.tokens.lexer.rest.now c.tokens.invariant.so_far c.in-Bad.byte us (failed (goal.at.returns-in-Bad-clause-only c).In-Bad) h)
+
+pub returns-in-Bad-clause-bad : goal.returns-in-Bad-clause-bad
+returns-in-Bad-clause-bad c =
+    stops c.args.bytes.now c.tokens.tokens.items c.tokens.lexer.total c.tokens.invariant.total c.tokens.lexer.rest.now c.tokens.invariant.so_far c.in-Bad.byte (failed (goal.at.returns-in-Bad-clause-bad c).In-Bad)
