@@ -1,0 +1,6 @@
+//! The translation of programs to terms.
+#![tactic(auto)]
+
+mod laws;
+
+pub use laws::translation_laws;
