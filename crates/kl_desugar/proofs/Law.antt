@@ -17,7 +17,7 @@ use Rattle.kl_meaning.specs.Run.{Meant, nothing, value_of, function_of, primitiv
 use Rattle.kl_core.specs.Core.{Tables, core, core_all, core_items, core_parts, core_arms}
 use Rattle.kl_core.specs.Trees as term
 use Rattle.kl_core.specs.Trees.{Tree, Trees, no_trees, trees}
-use Rattle.kl_desugar.specs.Translation.{Scope, Code, value_by, function_by, primitive_by, Codes, empty, called_tree, operated_tree, projected, matched_here, tree, tree_all, tree_fields, tree_quals, tree_branches, tree_steps, no_sense, number_of, code_by, code_at, codes_first, with_code, codes_after, function_tree, term_of, tables_of}
+use Rattle.kl_desugar.specs.Translation.{Scope, Code, value_by, function_by, primitive_by, Codes, empty, called_tree, operated_tree, projected, matched_here, tree, tree_all, tree_fields, tree_quals, tree_branches, tree_steps, no_sense, number_of, code_by, code_at, codes_first, with_code, codes_after, function_tree, term_of, tables_of, Means}
 use Rattle.kl_desugar.specs.Translation as translation
 use Rattle.kl_desugar.proofs.Positions.{Held, scope, values, names, grows_none}
 use Rattle.kl_desugar.proofs.Refine.{Refines, refines_same, refines_is, after_up, if_up, opened_up, RefinesAll, args_up, Pairs, parts_up, order_up, FlowUp, item_up, collected_up, union_up}
@@ -193,3 +193,9 @@ pub term_means : (ds : Decls) (e : Exp) (ss : List (Name × Value)) → meaning_
 term_means ds e ss n =
     let T = tables_of ss in
     refines_is (meaning_of_program ds e ss) _ (tree_up T _ _ [] (after_meets T ds _ _ (all_first ss)) e []) n
+
+pub means : (ds : Decls) (e : Exp) (names : List Name) → Means ds e names (term_of ds e names)
+means ds e names ss is n = rw (sym is) (term_means ds e ss n)
+
+pub means_by : (ds : Decls) (e : Exp) (names : List Name) (t : Tree) → t ≡ term_of ds e names → Means ds e names t
+means_by ds e names t is = rw is (means ds e names)
