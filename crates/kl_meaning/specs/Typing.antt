@@ -2,7 +2,7 @@
 use Rattle.std.specs.Prelude.{◌≡◌, ℕ, Bool, true, false, ◌||◌, IsTrue, List, [], ◌∷◌, Option, Some, None, IsSome, ⊤}
 use Rattle.kl_base.specs.Fields.{field}
 use Rattle.kl_value.specs.declared.Kind.{Kind}
-use Rattle.kl_type.specs.Ground.{Ground, Row, bool, rec, var, coll as colls, at, IsGround}
+use Rattle.kl_type.specs.Ground.{Ground, Row, bool, int, str, rec, var, coll as colls, arrow, no_row, row, at, IsGround}
 use Rattle.kl_outcome.specs.Outcome.{Name}
 use Rattle.kl_outcome.specs.Typed.{Inhabits, PrimTypes}
 use Rattle.kl_parse.specs.declared.tree.Op.{Op}
@@ -11,6 +11,26 @@ use Rattle.kl_parse.specs.declared.tree.Word.{Word}
 use Rattle.kl_parse.specs.Syntax.{Pat, catch, any, same, is, shape, variant, Pats, no_pats, pats, Exp, con, name, call, fields, inject, coll, comp, choice, bind, select, path, invert, minus, chain, Exps, no_exps, exps, Flds, no_flds, flds, Quals, no_quals, draw, test, Branches, no_branches, otherwise, branch, Steps, no_steps, step, Decls, no_decls, constant, function}
 use Rattle.kl_meaning.specs.Match.{same_name, has_label}
 use Rattle.kl_meaning.specs.Run.{code_of, code_named}
+
+-- no function stands in it
+abbrev mutual
+  pub IsFirstOrder : Ground → Type 0
+  IsFirstOrder bool = ⊤
+  IsFirstOrder int = ⊤
+  IsFirstOrder str = ⊤
+  IsFirstOrder (rec r) = IsFirstOrderRow r
+  IsFirstOrder (var r) = IsFirstOrderRow r
+  IsFirstOrder (colls k t) = IsFirstOrder t
+  IsFirstOrder (arrow a b) = ⊥
+
+  pub IsFirstOrderRow : Row → Type 0
+  IsFirstOrderRow no_row = ⊤
+  IsFirstOrderRow (row l t r) = IsFirstOrder t × IsFirstOrderRow r
+
+-- One of the language's types: labels rise, a variant type has at least one, and no function stands in it. Where a
+-- derivation is free to choose a type it is one of these.
+abbrev pub IsType : Ground → Type 0
+IsType t = IsGround t × IsFirstOrder t
 
 -- the type of each variable, the last bound first
 abbrev pub Context : Type 0
@@ -88,13 +108,13 @@ has_branch (branch m p b bs) l = same_name l m.text || has_branch bs l
 
 abbrev mutual
   pub Types : Exp → Known → Context → Ground → Type 0
-  Types (con v) known G t = Inhabits t v
+  Types (con v) known G t = IsType t × Inhabits t v
   Types (name x) known G t = NameTypes known G x.text t
   Types (call f es) known G t = (ss : List Ground) × AllTypes es known G ss × CallTypes (known f.text) ss t
   Types (fields fs) known G t =
-      (r : Row) × (t ≡ rec r) × IsGround t × ((l : Name) → IsSome (at l r) → IsTrue (has_field fs l)) × FieldTypes fs known G r
-  Types (inject l a) known G t = (r : Row) × (s : Ground) × (t ≡ var r) × IsGround t × (at l.text r ≡ Some s) × Types a known G s
-  Types (coll k es) known G t = (s : Ground) × (t ≡ colls k s) × IsGround t × EachType es known G s
+      (r : Row) × (t ≡ rec r) × IsType t × ((l : Name) → IsSome (at l r) → IsTrue (has_field fs l)) × FieldTypes fs known G r
+  Types (inject l a) known G t = (r : Row) × (s : Ground) × (t ≡ var r) × IsType t × (at l.text r ≡ Some s) × Types a known G s
+  Types (coll k es) known G t = (s : Ground) × (t ≡ colls k s) × IsType t × EachType es known G s
   Types (comp k e qs) known G t = (s : Ground) × (H : Context) × (t ≡ colls k s) × QualTypes qs known G H × Types e known H s
   Types (choice a b c) known G t = Types a known G bool × Types b known G t × Types c known G t
   Types (bind p a b) known G t = (s : Ground) × (H : Context) × Types a known G s × Takes p (NameTypes known G) s G H × Types b known H t
@@ -159,7 +179,7 @@ with_sort d k known x = sort_if (same_name x d) k (known x)
 
 -- a function has the pairs of a type that its parameter takes and a type that its body has then
 abbrev pub FunctionTypes : Known → Pat → Exp → Ground → Ground → Type 0
-FunctionTypes known p e s t = (H : Context) × Takes p (NameTypes known []) s [] H × Types e known H t
+FunctionTypes known p e s t = IsType s × (H : Context) × Takes p (NameTypes known []) s [] H × Types e known H t
 
 -- a definition has the types of its expression over the definitions before it, each use a derivation of its own
 abbrev pub types_after : Decls → Known → Known
@@ -172,7 +192,7 @@ abbrev pub EachTyped : Decls → Known → Type 0
 EachTyped no_decls known = ⊤
 EachTyped (constant d e ds) known = ((t : Ground) × Types e known [] t) × EachTyped ds (with_sort d.text (value_of (Types e known [])) known)
 EachTyped (function d p e ds) known =
-    ((s : Ground) × (t : Ground) × IsGround s × FunctionTypes known p e s t) × EachTyped ds (with_sort d.text (function_of (FunctionTypes known p e)) known)
+    ((s : Ground) × (t : Ground) × FunctionTypes known p e s t) × EachTyped ds (with_sort d.text (function_of (FunctionTypes known p e)) known)
 
 -- the types of a program's last expression, and whether the program has a typing, over the types of its sources
 abbrev pub ProgramTypes : Decls → Exp → List (Name × Ground) → Ground → Type 0

@@ -1,0 +1,149 @@
+-- The term of an expression, a variant each.
+use Rattle.std.proofs.Common.{◌≡◌, ℕ, Bool, List, [], ◌∷◌, ◌++◌, map, Option, Some, None, length, drop, take, Result, Ok, Err, IfOk, refl, sym, ap, ◌∙◌, subst, rules}
+use Rattle.std.specs.Option.{option_map}
+use Rattle.kl_value.specs.declared.Kind.{Kind}
+use Rattle.kl_value.specs.declared.Value.{Value}
+use Rattle.kl_parse.specs.declared.Word.{Word}
+use Rattle.kl_parse.specs.declared.Pattern.{Pattern}
+use Rattle.kl_parse.specs.declared.tree.Op.{Op}
+use Rattle.kl_parse.specs.declared.tree.Expr.{Expr, the_lemmas}
+use Rattle.kl_parse.specs.declared.tree.Qual.{Qual}
+use Rattle.kl_parse.specs.declared.tree.Expr.TheVariants as expr
+use Rattle.kl_parse.specs.declared.tree.Branch.{Branch, out-Branch, the_lemmas as branch_lemmas}
+use Rattle.kl_parse.specs.declared.tree.Decl.{Decl}
+use Rattle.kl_parse.specs.Syntax.{Exp, name, coll, comp, choice, bind, invert, minus, call, inject, path, chain, fields, select, Quals, Branches, branch, Decls, no_decls}
+use Rattle.kl_parse.specs.View.{view, exps_of, quals_view, pattern_view, steps_view, fields_view, branch_view, branches_of, branches_view, rest_of, decl_of}
+use Rattle.kl_core.specs.declared.Term.{Term}
+use Rattle.kl_core.specs.declared.term.Term.{the_lemmas as code_lemmas}
+use Rattle.kl_core.specs.declared.term.Term.TheVariants as code
+use Rattle.kl_core.specs.Trees as term
+use Rattle.kl_core.specs.Trees.{Tree, view_part}
+use Rattle.kl_meaning.specs.Run.{in_order}
+use Rattle.kl_desugar.specs.Translation.{Scope, Codes, here, tree, tree_all, tree_fields, tree_branches, tree_steps, called_tree, projected, matched_here, no_sense, codes_after}
+use Rattle.kl_desugar.specs.Layers.{Layered, missed, wrapped, after_pat, pat_layers}
+use Rattle.kl_desugar.specs.Opening.{Opens}
+use Rattle.kl_desugar.specs.States.{Asks, field_of, arm_of}
+use Rattle.kl_desugar.proofs.Views.{view_make, view_case}
+use Rattle.kl_desugar.proofs.Wrapping.{matched_is, quals_are}
+
+pub view_Name : (x : Word) → view (expr.Name x) ≡ name x
+view_Name x = search (rules, the_lemmas)
+
+pub view_Not : (a : Expr) → view (expr.Not a) ≡ invert (view a)
+view_Not a = search (rules, the_lemmas)
+
+pub view_Coll : (k : Kind) (es : List Expr) → view (expr.Coll k es) ≡ coll k (exps_of (map view es))
+view_Coll k es = search (rules, the_lemmas)
+
+pub view_Comp : (k : Kind) (e : Expr) (qs : List Qual) → view (expr.Comp k e qs) ≡ comp k (view e) (quals_view qs)
+view_Comp k e qs = search (rules, the_lemmas)
+
+pub view_Let : (p : Pattern) (a b : Expr) → view (expr.Let p a b) ≡ bind (pattern_view p) (view a) (view b)
+view_Let p a b = search (rules, the_lemmas)
+
+trees_are : (es : List Expr) (codes : Codes) (S : Scope) → tree_all (exps_of (map view es)) codes S ≡ term.trees_of (map (λ e. tree (view e) codes S) es)
+trees_are [] codes S = refl
+trees_are (e ∷ es) codes S = ap (term.trees (tree (view e) codes S)) (trees_are es codes S)
+
+pub coll_is : (e : Expr) (k : Kind) (es fs : List Expr) (ts us : List Term) (codes : Codes) (S : Scope) → e ≡ expr.Coll k es → fs ≡ es → us ≡ ts
+    → map term.view ts ≡ map (λ e. tree (view e) codes S) fs → term.view (code.Make k us) ≡ tree (view e) codes S
+coll_is e k es fs ts us codes S p q r h =
+    rw (p, view_Coll, view_make, r, h, q) (ap (term.make k) (sym (trees_are es codes S)))
+
+pub comp_is : (e : Expr) (k : Kind) (a b : Expr) (qs rs : List Qual) (t u : Term) (codes : Codes) (S R : Scope) (ls : List Layered) → e ≡ expr.Comp k a qs → b ≡ a → rs ≡ qs
+    → Opens (quals_view rs) k codes S R [] ls → term.view t ≡ tree (view b) codes R
+    → term.view u ≡ wrapped (missed (Some k)) ls (term.make k (term.trees (term.view t) term.no_trees)) → term.view u ≡ tree (view e) codes S
+comp_is e k a b qs rs t u codes S R ls p q r o h w =
+    rw (p, view_Comp, w, h, q, o.layers, o.scope, r) (sym (quals_are (quals_view qs) k _ codes S))
+
+view_let : (a b : Term) → term.view (code.Let a b) ≡ term.bind (term.view a) (term.view b)
+view_let a b = search (rules, code_lemmas)
+
+view_inj : (l : List ℕ) (a : Term) → term.view (code.Inj l a) ≡ term.inj l (term.view a)
+view_inj l a = search (rules, code_lemmas)
+
+pub let_is : (e : Expr) (p : Pattern) (a b c d : Expr) (q : Pattern) (t u w : Term) (codes : Codes) (S : Scope) → e ≡ expr.Let p a b → q ≡ p → c ≡ a → d ≡ b → w ≡ u
+    → term.view t ≡ tree (view c) codes S → term.view u ≡ matched_here (pattern_view q) codes S no_sense (λ R. tree (view d) codes R) → term.view (code.Let t w) ≡ tree (view e) codes S
+let_is e p a b c d q t u w codes S i j k l m n h = rw (i, view_Let, view_let, n, m, h, j, k, l) refl
+
+pub within_is : (p : Pattern) (e : Expr) (codes : Codes) (S R Q : Scope) (ls : List Layered) (t u : Term) → Q ≡ R → Asks (pattern_view p) (here (length S)) codes S (None ∷ S) R [] ls
+    → term.view t ≡ tree (view e) codes Q → term.view u ≡ wrapped (missed None) ls (term.view t) → term.view u ≡ matched_here (pattern_view p) codes S no_sense (λ R. tree (view e) codes R)
+within_is p e codes S R Q ls t u m o h f =
+    rw (f, h, m, o.layers, o.scope) (sym (matched_is (pattern_view p) (here (length S)) codes S _ (λ Q. tree (view e) codes Q) (None ∷ S)))
+
+pub within_ok : {X : Type 0} (r : Result Term X) (p : Pattern) (e : Expr) (codes : Codes) (S R Q : Scope) (ls : List Layered) (t : Term) → Q ≡ R → Asks (pattern_view p) (here (length S)) codes S (None ∷ S) R [] ls
+    → term.view t ≡ tree (view e) codes Q → IfOk r (λ u. term.view u ≡ wrapped (missed None) ls (term.view t)) → IfOk r (λ u. term.view u ≡ matched_here (pattern_view p) codes S no_sense (λ R. tree (view e) codes R))
+within_ok (Ok u) p e codes S R Q ls t m o h f = within_is p e codes S R Q ls t u m o h f
+within_ok (Err x) p e codes S R Q ls t m o h f = tt
+
+view_Rec : (fs : List (Word × Expr)) → view (expr.Rec fs) ≡ fields (fields_view fs)
+view_Rec fs = search (rules, the_lemmas)
+
+fields_are : (fs : List (Word × Expr)) (codes : Codes) (S : Scope) → tree_fields (fields_view fs) codes S ≡ map (field_of codes S) fs
+fields_are [] codes S = refl
+fields_are (f ∷ fs) codes S = ap (λ z. field_of codes S f ∷ z) (fields_are fs codes S)
+
+pub rec_ok : {X : Type 0} (r : Result Term X) (e : Expr) (fs gs : List (Word × Expr)) (ts : List (List ℕ × Term)) (codes : Codes) (S : Scope) → e ≡ expr.Rec fs → gs ≡ fs
+    → map view_part ts ≡ map (field_of codes S) gs → IfOk r (λ t. term.view t ≡ term.rec (term.parts_of (in_order (map view_part ts)))) → IfOk r (λ t. term.view t ≡ tree (view e) codes S)
+rec_ok (Ok t) e fs gs ts codes S p q h w = rw (p, view_Rec, w, h, q) (ap (λ z. term.rec (term.parts_of (in_order z))) (sym (fields_are fs codes S)))
+rec_ok (Err x) e fs gs ts codes S p q h w = tt
+
+view_Case : (a : Expr) (bs : List Branch) (c : Option Expr) → view (expr.Case a bs c) ≡ select (view a) (branches_view bs c)
+view_Case a bs c = search (rules, the_lemmas)
+
+branch_seen : (b : Branch) (last : Branches) → branch_view b last ≡ branch (out-Branch b).label (pattern_view (out-Branch b).pat) (view (out-Branch b).body) last
+branch_seen b last = search (rules, branch_lemmas)
+
+branches_are : (bs : List Branch) (last : Branches) (codes : Codes) (S : Scope) → tree_branches (branches_of (map branch_view bs) last) codes S ≡ term.arms_of (map (arm_of codes S) bs) (tree_branches last codes S)
+branches_are [] last codes S = refl
+branches_are (b ∷ bs) last codes S =
+    ap (λ z. tree_branches z codes S) (branch_seen b (branches_of (map branch_view bs) last))
+    ∙ ap (term.arm (arm_of codes S b).0 (arm_of codes S b).1) (branches_are bs last codes S)
+
+pub case_is : (e a b : Expr) (bs cs : List Branch) (c d : Option Expr) (t : Term) (ts us : List (List ℕ × Term)) (u : Option Term) (codes : Codes) (S : Scope) → e ≡ expr.Case a bs c → b ≡ a → cs ≡ bs → d ≡ c → us ≡ ts
+    → map view_part ts ≡ map (arm_of codes S) cs → term.rest_of (option_map term.view u) ≡ tree_branches (rest_of (option_map view d)) codes S → term.view t ≡ tree (view b) codes S
+    → term.view (code.Case t us u) ≡ tree (view e) codes S
+case_is e a b bs cs c d t ts us u codes S i j k l m h g f =
+    rw (i, view_Case, view_case, f, j, m, h, k, g, l) (ap (term.case_of (tree (view a) codes S)) (sym (branches_are bs (rest_of (option_map view c)) codes S)))
+
+pub decl_then : (p : Option Pattern) (d : Decl) (ds : Decls) (codes : Codes) → codes_after (decl_of p d ds) codes ≡ codes_after ds (codes_after (decl_of p d no_decls) codes)
+decl_then (Some p) d ds codes = refl
+decl_then None d ds codes = refl
+
+pub view_Neg : (a : Expr) → view (expr.Neg a) ≡ minus (view a)
+view_Neg a = search (rules, the_lemmas)
+
+view_Call : (f : Word) (es : List Expr) → view (expr.Call f es) ≡ call f (exps_of (map view es))
+view_Call f es = search (rules, the_lemmas)
+
+view_Inj : (l : Word) (a : Expr) → view (expr.Inj l a) ≡ inject l (view a)
+view_Inj l a = search (rules, the_lemmas)
+
+view_Path : (a : Expr) (ws : List Word) → view (expr.Path a ws) ≡ path (view a) ws
+view_Path a ws = search (rules, the_lemmas)
+
+view_Chain : (a : Expr) (ss : List (Op × Expr)) → view (expr.Chain a ss) ≡ chain (view a) (steps_view ss)
+view_Chain a ss = search (rules, the_lemmas)
+
+pub call_is : (e : Expr) (f : Word) (es fs : List Expr) (ts : List Term) (u : Tree) (codes : Codes) (S : Scope) → e ≡ expr.Call f es → fs ≡ es
+    → map term.view ts ≡ map (λ e. tree (view e) codes S) fs → u ≡ called_tree (codes f.text) (term.trees_of (map term.view ts)) → u ≡ tree (view e) codes S
+call_is e f es fs ts u codes S p q h w = rw (p, view_Call, w, h, q) (ap (called_tree (codes f.text)) (sym (trees_are es codes S)))
+
+pub inj_is : (e : Expr) (l : Word) (a b : Expr) (m : List ℕ) (t : Term) (codes : Codes) (S : Scope) → e ≡ expr.Inj l a → b ≡ a → m ≡ l.text → term.view t ≡ tree (view b) codes S → term.view (code.Inj m t) ≡ tree (view e) codes S
+inj_is e l a b m t codes S p q r h = rw (p, view_Inj, view_inj, h, q, r) refl
+
+pub path_is : (e : Expr) (a b : Expr) (ws vs : List Word) (t u : Tree) (codes : Codes) (S : Scope) → e ≡ expr.Path a ws → b ≡ a → vs ≡ ws → t ≡ tree (view b) codes S → u ≡ projected vs t → u ≡ tree (view e) codes S
+path_is e a b ws vs t u codes S p q r h w = rw (p, view_Path, w, h, q, r) refl
+
+pub chain_is : (e : Expr) (a b : Expr) (ss ts : List (Op × Expr)) (t u : Tree) (codes : Codes) (S : Scope) → e ≡ expr.Chain a ss → b ≡ a → ts ≡ ss → t ≡ tree (view b) codes S → u ≡ tree_steps (steps_view ts) t codes S → u ≡ tree (view e) codes S
+chain_is e a b ss ts t u codes S p q r h w = rw (p, view_Chain, w, h, q, r) refl
+
+pub call_ok : {X : Type 0} (r : Result Term X) (e : Expr) (f : Word) (es fs : List Expr) (ts : List Term) (codes : Codes) (S : Scope) → e ≡ expr.Call f es → fs ≡ es
+    → map term.view ts ≡ map (λ e. tree (view e) codes S) fs → IfOk r (λ t. term.view t ≡ called_tree (codes f.text) (term.trees_of (map term.view ts))) → IfOk r (λ t. term.view t ≡ tree (view e) codes S)
+call_ok (Ok t) e f es fs ts codes S p q h w = call_is e f es fs ts (term.view t) codes S p q h w
+call_ok (Err x) e f es fs ts codes S p q h w = tt
+
+pub chain_ok : {X : Type 0} (r : Result Term X) (e : Expr) (a b : Expr) (ss ts : List (Op × Expr)) (f : Term) (codes : Codes) (S : Scope) → e ≡ expr.Chain a ss → b ≡ a → ts ≡ ss
+    → term.view f ≡ tree (view b) codes S → IfOk r (λ t. term.view t ≡ tree_steps (steps_view ts) (term.view f) codes S) → IfOk r (λ t. term.view t ≡ tree (view e) codes S)
+chain_ok (Ok t) e a b ss ts f codes S p q r h w = chain_is e a b ss ts (term.view f) (term.view t) codes S p q r h w
+chain_ok (Err x) e a b ss ts f codes S p q r h w = tt

@@ -1,0 +1,10 @@
+pub mod Arms
+pub mod Drawing
+pub mod Law
+pub mod Matching
+pub mod Naming
+pub mod Ordered
+pub mod Positions
+pub mod Refine
+pub mod Views
+pub mod Wrapping

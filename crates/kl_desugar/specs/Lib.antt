@@ -1,0 +1,4 @@
+pub mod Translation
+pub mod Layers
+pub mod Opening
+pub mod States

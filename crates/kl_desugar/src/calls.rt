@@ -1,0 +1,137 @@
+//! Calls, operators, fields: terms of terms.
+ghost use Rattle.std.specs.Prelude.{◌≡◌, true, false, map, IfOk};
+ghost use Rattle.kl_core.specs.Trees as term;
+ghost use Rattle.kl_meaning.specs.Run.{code_of};
+ghost use Rattle.kl_desugar.specs.Translation.{pair, function_by, called_tree, operated_tree, projected};
+ghost use Rattle.kl_desugar.specs.States.{codes_of};
+
+use crate::codes::{Codes, Found, find};
+use kl_base::{Box, Label, NoMemory, Seq};
+use kl_core::Term;
+use kl_parse::{Op, Word};
+use kl_value::Value;
+use std::alloc::Global;
+
+#[tactic(auto, using(crate::proofs::Views::view_rec))]
+fn no_sense(alloc: Global) -> Term
+    ensures { term.view result ≡ term.rec term.no_parts }
+{
+    Term::Rec(Seq::of(Vec::new(alloc)))
+}
+
+#[tactic(auto, using(crate::proofs::Views::apply_one, crate::proofs::Views::apply_other))]
+fn apply_to(alloc: Global, body: &Term, args: Vec<Term>) -> Result<Term, NoMemory>
+    ensures { IfOk result (λ t. term.view t ≡ called_tree (function_by (term.view body.now)) (term.trees_of (map term.view args.items))) }
+{
+    let mut args = args;
+    if args.len() != 1 {
+        return Ok(no_sense(alloc));
+    }
+    match args.pop() {
+        Some(arg) => {
+            let arg = Box::new(alloc, arg)?;
+            let body = body.dup(alloc)?;
+            Ok(Term::Let(arg, Box::new(alloc, body)?))
+        }
+        None => Ok(no_sense(alloc)),
+    }
+}
+
+/// A call of what a name stands for.
+#[tactic(auto, using(crate::proofs::Views::view_prim))]
+pub(crate) fn call(
+    alloc: Global,
+    codes: &Codes,
+    name: &Label,
+    args: Vec<Term>,
+) -> Result<Term, NoMemory>
+    ensures { IfOk result (λ t. term.view t ≡ called_tree (codes_of codes.now name.now) (term.trees_of (map term.view args.items))) }
+{
+    match find(codes, name)? {
+        Found::Function(body) => apply_to(alloc, body, args),
+        Found::Primitive(code) => Ok(Term::Prim(code, Seq::of(args))),
+        _ => Ok(no_sense(alloc)),
+    }
+}
+
+/// The code of an operator in the table of primitives.
+fn code_of(op: Op) -> u8
+    ensures { result ≡ code_of op }
+{
+    match op {
+        Op::Eq => 1,
+        Op::Ne => 2,
+        Op::Lt => 3,
+        Op::Le => 4,
+        Op::Gt => 5,
+        Op::Ge => 6,
+        Op::Add => 7,
+        Op::Sub => 8,
+        Op::Mul => 9,
+        Op::Cat => 12,
+        Op::And | Op::Or | Op::Append => 0,
+    }
+}
+
+fn truth(alloc: Global, b: bool) -> Result<Box<Term>, NoMemory>
+    ensures { IfOk result (λ t. term.view t ≡ term.con (Value.Bool b)) }
+{
+    Box::new(alloc, Term::Const(Value::Bool(b)))
+}
+
+fn both(alloc: Global, a: Term, b: Term) -> Result<Term, NoMemory>
+    ensures { IfOk result (λ t. term.view t ≡ term.choice (term.view a) (term.view b) (term.con (Value.Bool false))) }
+{
+    let other = truth(alloc, false)?;
+    let a = Box::new(alloc, a)?;
+    Ok(Term::If(a, Box::new(alloc, b)?, other))
+}
+
+fn either(alloc: Global, a: Term, b: Term) -> Result<Term, NoMemory>
+    ensures { IfOk result (λ t. term.view t ≡ term.choice (term.view a) (term.con (Value.Bool true)) (term.view b)) }
+{
+    let other = truth(alloc, true)?;
+    let a = Box::new(alloc, a)?;
+    Ok(Term::If(a, other, Box::new(alloc, b)?))
+}
+
+fn union(alloc: Global, a: Term, b: Term) -> Result<Term, NoMemory>
+    ensures { IfOk result (λ t. term.view t ≡ term.union (term.view a) (term.view b)) }
+{
+    let a = Box::new(alloc, a)?;
+    Ok(Term::Union(a, Box::new(alloc, b)?))
+}
+
+#[tactic(auto, using(crate::proofs::Views::view_prim))]
+fn two(alloc: Global, code: u8, a: Term, b: Term) -> Result<Term, NoMemory>
+    ensures { IfOk result (λ t. term.view t ≡ term.prim code (pair (term.view a) (term.view b))) }
+{
+    let mut args = Vec::new(alloc);
+    args.push(a)?;
+    args.push(b)?;
+    Ok(Term::Prim(code, Seq::of(args)))
+}
+
+/// A step of a chain.
+pub(crate) fn operate(alloc: Global, op: Op, a: Term, b: Term) -> Result<Term, NoMemory>
+    ensures { IfOk result (λ t. term.view t ≡ operated_tree op (term.view a) (term.view b)) }
+{
+    match op {
+        Op::And => both(alloc, a, b),
+        Op::Or => either(alloc, a, b),
+        Op::Append => union(alloc, a, b),
+        _ => two(alloc, code_of(op), a, b),
+    }
+}
+
+/// Fields one after the other.
+pub(crate) fn project(alloc: Global, words: &[Word], a: Term) -> Result<Term, NoMemory>
+    ensures { IfOk result (λ t. term.view t ≡ projected words.now (term.view a)) }
+{
+    let mut term = a;
+    'words: for word in words {
+        let label = word.text.dup()?;
+        term = Term::Proj(label, Box::new(alloc, term)?);
+    }
+    Ok(term)
+}

@@ -1,0 +1,120 @@
+//! What names stand for.
+ghost use Rattle.std.specs.Prelude.{◌≡◌, IfOk, map};
+ghost use Rattle.std.specs.Option.{option_map};
+ghost use Rattle.kl_core.specs.Trees.{view};
+ghost use Rattle.kl_prim.specs.Table.{entry_of};
+ghost use Rattle.kl_meaning.specs.Run.{code_named};
+ghost use Rattle.kl_desugar.specs.Translation.{codes_first, name_tree, number_of};
+ghost use Rattle.kl_desugar.specs.States.{code_in, codes_of, found_code};
+
+use crate::scope::{Slot, at_level, level};
+use kl_base::{Label, NoMemory, Seq};
+use kl_core::Term;
+use kl_prim::{PrimRow, table};
+use std::alloc::Global;
+
+/// A definition: a value, or a function of position 0.
+#[derive(Drop)]
+pub(crate) struct Def {
+    pub(crate) name: Label,
+    pub(crate) function: bool,
+    pub(crate) term: Term,
+}
+
+/// The sources, and the definitions so far, the last first.
+#[derive(Drop)]
+pub(crate) struct Codes<'a> {
+    pub(crate) sources: &'a [Label],
+    pub(crate) defs: Vec<Def>,
+}
+
+/// What a name that is no variable stands for.
+#[derive(Drop)]
+pub(crate) enum Found<'a> {
+    Nothing,
+    Value(&'a Term),
+    Function(&'a Term),
+    Source(u32),
+    Primitive(u8),
+}
+
+/// The code of the primitive with a name.
+pub(crate) fn code_named(name: &Label) -> Option<u8>
+    ensures { result ≡ code_named name.now }
+{
+    code_in(table().rows, name)
+}
+
+fn code_in(rows: &[PrimRow], name: &Label) -> Option<u8>
+    ensures { result ≡ code_in name.now (map entry_of rows.now) }
+{
+    for row in rows {
+        if *row.name == *name.slice() {
+            return Some(row.code);
+        }
+    }
+    None
+}
+
+/// The number of the source with a name.
+pub(crate) fn number_of(name: &Label, sources: &[Label]) -> Option<usize>
+    ensures { result ≡ number_of name.now sources.now 0 }
+{
+    for i in 0..sources.len() {
+        if *name == sources[i] {
+            return Some(i);
+        }
+    }
+    None
+}
+
+/// What a name that is no variable stands for.
+pub(crate) fn find<'a>(codes: &'a Codes, name: &Label) -> Result<Found<'a>, NoMemory>
+    ensures { IfOk result (λ f. found_code f ≡ codes_of codes.now name.now) }
+{
+    'defs: for def in codes.defs.as_slice() {
+        if *name == def.name {
+            return Ok(if def.function {
+                Found::Function(&def.term)
+            } else {
+                Found::Value(&def.term)
+            });
+        }
+    }
+    find_first(codes.sources, name)
+}
+
+fn find_first<'a>(sources: &[Label], name: &Label) -> Result<Found<'a>, NoMemory>
+    ensures { IfOk result (λ f. found_code f ≡ codes_first sources.now name.now) }
+{
+    match number_of(name, sources) {
+        Some(number) => match u32::try_from(number) {
+            Ok(number) => Ok(Found::Source(number)),
+            Err(_) => Err(NoMemory),
+        },
+        None => match code_named(name) {
+            Some(code) => Ok(Found::Primitive(code)),
+            None => Ok(Found::Nothing),
+        },
+    }
+}
+
+/// The term of a name.
+pub(crate) fn name_term(
+    alloc: Global,
+    codes: &Codes,
+    outer: &[Slot],
+    name: &Label,
+    count: usize,
+) -> Result<Term, NoMemory>
+    ensures { IfOk result (λ t. view t ≡ name_tree (codes_of codes.now) outer.now name.now count) }
+{
+    if let Some(level) = level(name, outer) {
+        return at_level(level, count);
+    }
+    match find(codes, name)? {
+        Found::Value(term) => term.dup(alloc),
+        Found::Source(number) => Ok(Term::Source(number)),
+        _ => Ok(Term::Rec(Seq::of(Vec::new(alloc)))),
+    }
+}

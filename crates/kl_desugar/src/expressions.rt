@@ -1,0 +1,282 @@
+//! Expressions as terms.
+ghost use Rattle.std.specs.Prelude.{◌≡◌, ◌∷◌, [], ◌++◌, length, map, IfOk};
+ghost use Rattle.std.specs.Option.{option_map};
+ghost use Rattle.kl_meaning.specs.Run.{in_order};
+ghost use Rattle.kl_parse.specs.Syntax.{no_quals};
+ghost use Rattle.kl_parse.specs.View.{pattern_view, qual_view, view, rest_of, quals_view, steps_view};
+ghost use Rattle.kl_core.specs.Trees as term;
+ghost use Rattle.kl_core.specs.Trees.{view_part};
+ghost use Rattle.kl_desugar.specs.Translation.{tree, tree_steps, tree_branches, matched_here, no_sense};
+ghost use Rattle.kl_desugar.specs.Layers.{missed, wrapped};
+ghost use Rattle.kl_desugar.specs.States.{layers_view, codes_of, field_of, arm_of};
+ghost use Rattle.kl_desugar.specs.Opening.{Opens};
+
+use crate::calls::{call, operate, project};
+use crate::codes::{Codes, name_term};
+use crate::layers::{Layer, ask, enter, wrap};
+use crate::scope::{Place, Slot, copy};
+use kl_base::{Box, Label, NoMemory, Seq};
+use kl_core::Term;
+use kl_parse::{Branch, Expr, Op, Pattern, Qual, Word};
+use kl_value::{Kind, dup as dup_value};
+use std::alloc::Global;
+
+#[tactic(auto, using(crate::proofs::Views::view_make))]
+fn made(alloc: Global, kind: Kind, head: Term) -> Result<Term, NoMemory>
+    ensures { IfOk result (λ t. term.view t ≡ term.make kind (term.trees (term.view head) term.no_trees)) }
+{
+    let mut items = Vec::new(alloc);
+    items.push(head)?;
+    Ok(Term::Make(kind, Seq::of(items)))
+}
+
+fn comprehended(alloc: Global, kind: Kind, layers: Vec<Layer>, head: Term) -> Result<Term, NoMemory>
+    ensures { IfOk result (λ t. term.view t ≡ wrapped (missed (Some kind)) (layers_view layers.items) (term.make kind (term.trees (term.view head) term.no_trees))) }
+{
+    let head = made(alloc, kind, head)?;
+    wrap(alloc, layers, Some(kind), head)
+}
+
+#[tactic(auto, using(crate::proofs::Views::view_prim))]
+fn one(alloc: Global, code: u8, a: Term) -> Result<Term, NoMemory>
+    ensures { IfOk result (λ t. term.view t ≡ term.prim code (term.trees (term.view a) term.no_trees)) }
+{
+    let mut args = Vec::new(alloc);
+    args.push(a)?;
+    Ok(Term::Prim(code, Seq::of(args)))
+}
+
+// A record of these fields.
+fn record(fields: Vec<(Label, Term)>) -> Result<Term, NoMemory>
+    ensures { IfOk result (λ t. term.view t ≡ term.rec (term.parts_of (in_order (map view_part fields.items)))) }
+{
+    let mut fields = fields;
+    fields.sort_by(|a, b| a.0.cmp(&b.0))?;
+    Ok(Term::Rec(Seq::of(fields)))
+}
+
+/// The term of an expression.
+#[cycle(tree)]
+#[tactic(auto, using(crate::proofs::Arms::coll_is, crate::proofs::Arms::comp_is, crate::proofs::Arms::let_is, crate::proofs::Arms::view_Name, crate::proofs::Arms::view_Not, crate::proofs::Arms::view_Neg, crate::proofs::Arms::call_is, crate::proofs::Arms::inj_is, crate::proofs::Arms::path_is, crate::proofs::Arms::chain_is, crate::proofs::Arms::case_is, crate::proofs::Arms::within_is))]
+pub(crate) fn tree(alloc: Global, e: &Expr, codes: &Codes, scope: &[Slot]) -> Result<Term, NoMemory>
+    ensures { IfOk result (λ t. term.view t ≡ tree (view e.now) (codes_of codes.now) scope.now) }
+{
+    match e {
+        Expr::Const(v) => Ok(Term::Const(dup_value(alloc, v)?)),
+        Expr::Name(word) => name_term(alloc, codes, scope, &word.text, scope.len()),
+        Expr::Coll(kind, items) => {
+            let items = tree_all(alloc, items.slice(), codes, scope)?;
+            Ok(Term::Make(*kind, Seq::of(items)))
+        }
+        Expr::Comp(kind, head, quals) => {
+            let mut inner = copy(alloc, scope)?;
+            let mut layers = Vec::new(alloc);
+            tree_quals(alloc, quals.slice(), *kind, codes, &mut inner, &mut layers)?;
+            let head = tree(alloc, head.get(), codes, &inner)?;
+            comprehended(alloc, *kind, layers, head)
+        }
+        Expr::If(a, b, c) => {
+            let a = tree_box(alloc, a, codes, scope)?;
+            let b = tree_box(alloc, b, codes, scope)?;
+            Ok(Term::If(a, b, tree_box(alloc, c, codes, scope)?))
+        }
+        Expr::Let(p, a, b) => {
+            let body = tree_within(alloc, b.get(), p, codes, scope)?;
+            let bound = tree_box(alloc, a, codes, scope)?;
+            Ok(Term::Let(bound, Box::new(alloc, body)?))
+        }
+        Expr::Not(a) => one(alloc, 11, tree(alloc, a.get(), codes, scope)?),
+        Expr::Neg(a) => one(alloc, 10, tree(alloc, a.get(), codes, scope)?),
+        Expr::Call(word, args) => {
+            let args = tree_all(alloc, args.slice(), codes, scope)?;
+            call(alloc, codes, &word.text, args)
+        }
+        Expr::Inj(word, a) => {
+            let a = tree_box(alloc, a, codes, scope)?;
+            let label = word.text.dup()?;
+            Ok(Term::Inj(label, a))
+        }
+        Expr::Path(a, words) => {
+            let a = tree(alloc, a.get(), codes, scope)?;
+            project(alloc, words.slice(), a)
+        }
+        Expr::Chain(a, steps) => {
+            let a = tree(alloc, a.get(), codes, scope)?;
+            tree_steps(alloc, steps.slice(), a, codes, scope)
+        }
+        Expr::Rec(fields) => record(tree_fields(alloc, fields.slice(), codes, scope)?),
+        Expr::Case(a, branches, other) => {
+            let other = tree_other(alloc, other, codes, scope)?;
+            let branches = tree_branches(alloc, branches.slice(), codes, scope)?;
+            let a = tree_box(alloc, a, codes, scope)?;
+            Ok(Term::Case(a, Seq::of(branches), other))
+        }
+    }
+}
+
+#[cycle(tree)]
+fn tree_box(
+    alloc: Global,
+    e: &Box<Expr>,
+    codes: &Codes,
+    scope: &[Slot],
+) -> Result<Box<Term>, NoMemory>
+    ensures { IfOk result (λ t. term.view t ≡ tree (view e.now) (codes_of codes.now) scope.now) }
+{
+    Box::new(alloc, tree(alloc, e.get(), codes, scope)?)
+}
+
+#[cycle(tree)]
+fn tree_all(
+    alloc: Global,
+    es: &[Expr],
+    codes: &Codes,
+    scope: &[Slot],
+) -> Result<Vec<Term>, NoMemory>
+    ensures { IfOk result (λ ts. map term.view ts.items ≡ map (λ e. tree (view e) (codes_of codes.now) scope.now) es.now) }
+{
+    let mut terms = Vec::with_capacity(alloc, es.len())?;
+    for e in es {
+        terms.push(tree(alloc, e, codes, scope)?)?;
+    }
+    Ok(terms)
+}
+
+#[cycle(tree)]
+fn tree_fields(
+    alloc: Global,
+    fields: &[(Word, Expr)],
+    codes: &Codes,
+    scope: &[Slot],
+) -> Result<Vec<(Label, Term)>, NoMemory>
+    ensures { IfOk result (λ ts. map view_part ts.items ≡ map (field_of (codes_of codes.now) scope.now) fields.now) }
+{
+    let mut terms = Vec::with_capacity(alloc, fields.len())?;
+    for field in fields {
+        let label = field.0.text.dup()?;
+        terms.push((label, tree(alloc, &field.1, codes, scope)?))?;
+    }
+    Ok(terms)
+}
+
+/// The term of what stands behind a pattern, where the pattern is to match the value bound last.
+#[cycle(tree)]
+pub(crate) fn tree_within(
+    alloc: Global,
+    body: &Expr,
+    pattern: &Pattern,
+    codes: &Codes,
+    scope: &[Slot],
+) -> Result<Term, NoMemory>
+    ensures { IfOk result (λ t. term.view t ≡ matched_here (pattern_view pattern.now) (codes_of codes.now) scope.now no_sense (λ R. tree (view body.now) (codes_of codes.now) R)) }
+{
+    let entered = enter(alloc, pattern, codes, scope)?;
+    let body = tree(alloc, body, codes, &entered.scope)?;
+    wrap(alloc, entered.layers, None, body)
+}
+
+#[cycle(tree)]
+fn tree_branches(
+    alloc: Global,
+    branches: &[Branch],
+    codes: &Codes,
+    scope: &[Slot],
+) -> Result<Vec<(Label, Term)>, NoMemory>
+    ensures { IfOk result (λ ts. map view_part ts.items ≡ map (arm_of (codes_of codes.now) scope.now) branches.now) }
+{
+    let mut terms = Vec::with_capacity(alloc, branches.len())?;
+    for branch in branches {
+        let label = branch.label.text.dup()?;
+        terms.push((
+            label,
+            tree_within(alloc, &branch.body, &branch.pat, codes, scope)?,
+        ))?;
+    }
+    Ok(terms)
+}
+
+#[cycle(tree)]
+fn tree_other(
+    alloc: Global,
+    other: &Option<Box<Expr>>,
+    codes: &Codes,
+    scope: &[Slot],
+) -> Result<Option<Box<Term>>, NoMemory>
+    ensures { IfOk result (λ t. term.rest_of (option_map term.view t) ≡ tree_branches (rest_of (option_map view other.now)) (codes_of codes.now) scope.now) }
+{
+    match other {
+        Some(other) => Ok(Some(Box::new(alloc, tree(alloc, other.get(), codes, scope)?)?)),
+        None => Ok(None),
+    }
+}
+
+#[cycle(tree)]
+fn tree_steps(
+    alloc: Global,
+    steps: &[(Op, Expr)],
+    first: Term,
+    codes: &Codes,
+    scope: &[Slot],
+) -> Result<Term, NoMemory>
+    ensures { IfOk result (λ t. term.view t ≡ tree_steps (steps_view steps.now) (term.view first) (codes_of codes.now) scope.now) }
+{
+    let mut term = first;
+    for step in steps {
+        let right = tree(alloc, &step.1, codes, scope)?;
+        term = operate(alloc, step.0, term, right)?;
+    }
+    Ok(term)
+}
+
+#[cycle(tree)]
+fn tree_quals(
+    alloc: Global,
+    quals: &[Qual],
+    kind: Kind,
+    codes: &Codes,
+    scope: &mut Vec<Slot>,
+    layers: &mut Vec<Layer>,
+) -> Result<(), NoMemory>
+    ensures { IfOk result (λ _. Opens (quals_view quals.now) kind (codes_of codes.now) scope.old.items scope.new.items (layers_view layers.old.items) (layers_view layers.new.items)) }
+{
+    for qual in quals {
+        tree_qual(alloc, qual, kind, codes, scope, layers)?;
+    }
+    Ok(())
+}
+
+#[cycle(tree)]
+fn tree_qual(
+    alloc: Global,
+    qual: &Qual,
+    kind: Kind,
+    codes: &Codes,
+    scope: &mut Vec<Slot>,
+    layers: &mut Vec<Layer>,
+) -> Result<(), NoMemory>
+    ensures { IfOk result (λ _. Opens (qual_view qual.now no_quals) kind (codes_of codes.now) scope.old.items scope.new.items (layers_view layers.old.items) (layers_view layers.new.items)) }
+{
+    match qual {
+        Qual::Gen(pattern, source) => {
+            let source = tree(alloc, source, codes, &*scope)?;
+            layers.push(Layer::Drawn(kind, source))?;
+            let level = scope.len();
+            let outer = copy(alloc, &*scope)?;
+            scope.insert(0, None)?;
+            ask(
+                alloc,
+                pattern,
+                &Place::Here(level),
+                codes,
+                &outer,
+                scope,
+                layers,
+            )
+        }
+        Qual::Cond(test) => {
+            let test = tree(alloc, test, codes, &*scope)?;
+            layers.push(Layer::Guard(test))?;
+            Ok(())
+        }
+    }
+}

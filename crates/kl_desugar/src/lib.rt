@@ -1,0 +1,20 @@
+//! The translation of programs to terms.
+//!
+//! `term_of` of `specs/Translation.antt` is the term of a program, and `translation_laws` says that it means what the
+//! program means. `translate` makes it. `specs/Layers.antt` says the same of a pattern and of qualifiers without
+//! functions, as layers round what they go on with, which is how the code makes them.
+#![tactic(auto)]
+
+mod calls;
+mod codes;
+mod expressions;
+mod laws;
+mod layers;
+mod program;
+mod scope;
+
+pub use laws::translation_laws;
+pub use program::translate;
+
+#[cfg(test)]
+mod tests;

@@ -1,0 +1,67 @@
+//! Programs as terms.
+ghost use Rattle.std.specs.Prelude.{◌≡◌, IfOk};
+ghost use Rattle.kl_parse.specs.Syntax.{no_decls};
+ghost use Rattle.kl_parse.specs.View.{view, decl_of, decls_of};
+ghost use Rattle.kl_core.specs.Trees as term;
+ghost use Rattle.kl_desugar.specs.Translation.{with_code, codes_after, codes_first, term_of, Means};
+ghost use Rattle.kl_desugar.specs.States.{codes_of, def_code};
+
+use crate::codes::{Codes, Def};
+use crate::expressions::{tree, tree_within};
+use kl_base::{Label, NoMemory};
+use kl_core::Term;
+use kl_parse::Decl;
+use kl_scope::Scoped;
+use std::alloc::Global;
+
+// What a definition stands for, over those before it.
+fn define(alloc: Global, def: &Decl, codes: &Codes) -> Result<Def, NoMemory>
+    ensures { IfOk result (λ d. with_code d.name (def_code d.function (term.view d.term)) (codes_of codes.now) ≡ codes_after (decl_of def.now.param def.now no_decls) (codes_of codes.now)) }
+{
+    let name = def.name.text.dup()?;
+    let scope = Vec::new(alloc);
+    match &def.param {
+        Some(param) => Ok(Def {
+            name,
+            function: true,
+            term: tree_within(alloc, &def.body, param, codes, &scope)?,
+        }),
+        None => Ok(Def {
+            name,
+            function: false,
+            term: tree(alloc, &def.body, codes, &scope)?,
+        }),
+    }
+}
+
+// What all definitions stand for.
+#[tactic(auto, using(crate::proofs::Arms::decl_then))]
+fn define_all<'a>(alloc: Global, defs: &[Decl], sources: &'a [Label]) -> Result<Codes<'a>, NoMemory>
+    ensures { IfOk result (λ codes. codes_of codes ≡ codes_after (decls_of defs.now) (codes_first sources.now)) }
+{
+    let mut codes = Codes {
+        sources,
+        defs: Vec::new(alloc),
+    };
+    'defs: for def in defs {
+        let def = define(alloc, def, &codes)?;
+        codes.defs.insert(0, def)?;
+    }
+    Ok(codes)
+}
+
+/// The term of a program: what it means, over the values of the program's sources by their numbers, the program means
+/// over these values.
+///
+/// # Errors
+/// Want of memory, and more positions or sources than 32 bits can number.
+#[tactic(auto, using(crate::proofs::Law::means_by))]
+pub fn translate(alloc: Global, scoped: &Scoped) -> Result<Term, NoMemory>
+    ensures term { IfOk result (λ t. term.view t ≡ term_of (decls_of scoped.now.program.defs) (view scoped.now.program.last) scoped.now.sources) }
+    ensures means { IfOk result (λ t. Means (decls_of scoped.now.program.defs) (view scoped.now.program.last) scoped.now.sources (term.view t)) }
+{
+    let program = scoped.program();
+    let codes = define_all(alloc, program.defs.slice(), scoped.sources())?;
+    let scope = Vec::new(alloc);
+    tree(alloc, &program.last, &codes, &scope)
+}
