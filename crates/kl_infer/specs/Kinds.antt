@@ -1,0 +1,19 @@
+-- The kind of the collections that a scheme stands for.
+use Rattle.std.specs.Prelude.{ℕ, List, Option, Some, None, slice_get}
+use Rattle.kl_value.specs.declared.Kind.{Kind}
+use Rattle.kl_rows.specs.declared.schemes.Node.TheVariants as node
+use Rattle.kl_rows.specs.declared.schemes.Part.{Part}
+use Rattle.kl_rows.specs.declared.schemes.Part.TheVariants.{Is}
+use Rattle.kl_rows.specs.declared.schemes.Scheme.{Scheme}
+
+abbrev fixed_kind : Option Part → Option Kind
+fixed_kind (Some (Is (node.Fixed k))) = Some k
+fixed_kind _ = None
+
+abbrev kind_in : List Part → Option Part → Option Kind
+kind_in parts (Some (Is (node.Coll k t))) = fixed_kind (slice_get parts k)
+kind_in parts _ = None
+
+-- the known kind of the collection at the root
+abbrev pub known_kind : Scheme → Option Kind
+known_kind s = kind_in s.nodes (slice_get s.nodes s.root)
