@@ -1,2 +1,5 @@
-pub mod Pages
-pub mod Trees
+pub mod KindLemmas
+pub mod PageLemmas
+pub mod RowLemmas
+pub mod TreeLemmas
+pub mod Writing

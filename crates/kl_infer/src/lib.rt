@@ -7,3 +7,6 @@ mod typed;
 
 pub use printing::print_scheme;
 pub use typed::{Schemes, Typed};
+
+#[cfg(test)]
+mod tests;

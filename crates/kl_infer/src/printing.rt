@@ -1,11 +1,12 @@
 //! The text of a scheme.
-ghost use Rattle.std.specs.Prelude.{◌≡◌, ◌<◌, ◌≤◌, [], length, IfOk, OnOk, MatchOption};
+ghost use Rattle.std.specs.Prelude.{◌≡◌, ◌<◌, ◌≤◌, ◌++◌, ◌∷◌, [], length, take, drop, IfOk, OnOk, MatchOption};
+ghost use Rattle.std.specs.Option.{option_map};
 ghost use Rattle.kl_base.specs.Sorted.{put_in, sorted};
 ghost use Rattle.kl_type.specs.Written.{separator, opening, closing};
 ghost use Rattle.kl_rows.specs.Schemes.{IsScheme};
 ghost use Rattle.kl_infer.specs.Numbers.{Writes, limit};
 ghost use Rattle.kl_infer.specs.Printed.{by_label, opening_text, closing_text, kind_variables, rest_variables, row_variables, row_text, tree_at, text, variables, scheme_text};
-ghost use Rattle.kl_infer.specs.Rows.{CanPrint, IsRowOf, behind, end_text};
+ghost use Rattle.kl_infer.specs.Rows.{CanPrint, IsEnd, IsRowOf, front_of, is_open, kind_of, mark_behind};
 
 use crate::page::Page;
 use kl_base::{Label, NoMemory, Text};
@@ -69,19 +70,18 @@ fn write(alloc: Global, parts: &[Part], place: usize, page: &mut Page) -> Result
             page.put(b" -> ")?;
             write(alloc, parts, *b as usize, page)
         }
-        Part::Is(_) => Ok(()),
-        _ => page.name(b"'", place),
+        Part::Is(Node::Row(_, _, _)) => Ok(()),
+        Part::Is(Node::EmptyRow) => Ok(()),
+        Part::Is(Node::Fixed(_)) => Ok(()),
+        Part::AnyType => page.name(b"'", place),
+        Part::AnyRow(_) => page.name(b"'", place),
+        Part::AnyKind => page.name(b"'", place),
     }
 }
 
 // The fields of the row at a place, with a comma and a space between them, and the mark of an open row.
 #[cycle(write)]
-fn write_row(
-    alloc: Global,
-    parts: &[Part],
-    place: usize,
-    page: &mut Page,
-) -> Result<(), NoMemory>
+fn write_row(alloc: Global, parts: &[Part], place: usize, page: &mut Page) -> Result<(), NoMemory>
     requires { CanPrint parts.now place }
     ensures { OnOk result (Writes page.old page.new (row_variables (tree_at parts.now place)) (row_text (tree_at parts.now place))) }
 {
@@ -107,18 +107,36 @@ fn row_of(
 {
     let mut fields = Vec::new(alloc);
     let mut end = place;
-    'row: while let Part::Is(Node::Row(label, item, rest)) = &parts[end] {
-        fields.push((label.dup()?, *item as usize))?;
-        end = *rest as usize;
+    'row: while let Some(front) = front_of(&parts[end]) {
+        fields.push((front.label.dup()?, front.item))?;
+        end = front.rest;
     }
     Ok((fields, end))
 }
 
+// The first field of a row, and what stands behind it.
+#[derive(Drop)]
+struct Front<'a> {
+    label: &'a Label,
+    item: usize,
+    rest: usize,
+}
+
+fn front_of(part: &Part) -> Option<Front<'_>>
+    ensures { option_map (λ f. (f.label.now, (f.item, f.rest))) result ≡ front_of part.now }
+{
+    match part {
+        Part::Is(Node::Row(label, item, rest)) => Some(Front {
+            label,
+            item: *item as usize,
+            rest: *rest as usize,
+        }),
+        _ => None,
+    }
+}
+
 // The same fields by rising label.
-fn by_labels(
-    alloc: Global,
-    fields: Vec<(Label, usize)>,
-) -> Result<Vec<(Label, usize)>, NoMemory>
+fn by_labels(alloc: Global, fields: Vec<(Label, usize)>) -> Result<Vec<(Label, usize)>, NoMemory>
     ensures { IfOk result (λ all. all.items ≡ sorted by_label fields.items) }
 {
     let mut sorted = Vec::with_capacity(alloc, fields.len())?;
@@ -133,15 +151,21 @@ fn by_labels(
 fn put_in(fields: &mut Vec<(Label, usize)>, field: (Label, usize)) -> Result<(), NoMemory>
     ensures { OnOk result (fields.new.items ≡ put_in by_label field fields.old.items) }
 {
-    let mut at = 0;
-    'fields: for i in 0..fields.len() {
-        if !field.0.cmp(&fields[i].0).is_gt() {
-            break;
-        }
-        at = i + 1;
-    }
+    let at = place_for(fields, &field);
     fields.insert(at, field)?;
     Ok(())
+}
+
+fn place_for(fields: &[(Label, usize)], field: &(Label, usize)) -> usize
+    ensures here { take result fields.now ++ field.now ∷ drop result fields.now ≡ put_in by_label field.now fields.now }
+    ensures within { result ≤ length fields.now }
+{
+    'fields: for i in 0..fields.len() {
+        if !field.0.cmp(&fields[i].0).is_gt() {
+            return i;
+        }
+    }
+    fields.len()
 }
 
 // What stands before the field at a place.
@@ -152,35 +176,29 @@ fn separator(place: usize) -> &'static [u8]
 }
 
 // The mark of an open row behind so many fields.
-fn write_rest(
-    parts: &[Part],
-    end: usize,
-    count: usize,
-    page: &mut Page,
-) -> Result<(), NoMemory>
-    requires { CanPrint parts.now end }
-    ensures { OnOk result (Writes page.old page.new (rest_variables (tree_at parts.now end)) (behind count (end_text (tree_at parts.now end)))) }
+fn write_rest(parts: &[Part], end: usize, count: usize, page: &mut Page) -> Result<(), NoMemory>
+    requires can { CanPrint parts.now end }
+    requires is_end { IsEnd (tree_at parts.now end) }
+    ensures { OnOk result (Writes page.old page.new (rest_variables (tree_at parts.now end)) (mark_behind count (tree_at parts.now end))) }
 {
-    match &parts[end] {
-        Part::Is(_) => Ok(()),
-        _ => {
-            page.put(separator(count))?;
-            page.name(b"...'", end)
-        }
+    if !is_open(&parts[end]) {
+        return Ok(());
     }
+    page.put(separator(count))?;
+    page.name(b"...'", end)
 }
 
 fn write_opening(parts: &[Part], kind: usize, page: &mut Page) -> Result<(), NoMemory>
     requires { CanPrint parts.now kind }
     ensures { OnOk result (Writes page.old page.new (kind_variables (tree_at parts.now kind)) (opening_text (tree_at parts.now kind))) }
 {
-    match &parts[kind] {
-        Part::Is(Node::Fixed(kind)) => page.put(opening(*kind)),
-        Part::Is(_) => Ok(()),
-        _ => {
-            page.name(b"%", kind)?;
-            page.put(b"(")
-        }
+    if is_open(&parts[kind]) {
+        page.name(b"%", kind)?;
+        return page.put(b"(");
+    }
+    match kind_of(&parts[kind]) {
+        Some(kind) => page.put(opening(kind)),
+        None => Ok(()),
     }
 }
 
@@ -188,10 +206,30 @@ fn write_closing(parts: &[Part], kind: usize, page: &mut Page) -> Result<(), NoM
     requires { CanPrint parts.now kind }
     ensures { OnOk result (Writes page.old page.new [] (λ all. closing_text (tree_at parts.now kind))) }
 {
-    match &parts[kind] {
-        Part::Is(Node::Fixed(kind)) => page.put(closing(*kind)),
-        Part::Is(_) => Ok(()),
-        _ => page.put(b")"),
+    if is_open(&parts[kind]) {
+        return page.put(b")");
+    }
+    match kind_of(&parts[kind]) {
+        Some(kind) => page.put(closing(kind)),
+        None => Ok(()),
+    }
+}
+
+fn is_open(part: &Part) -> bool
+    ensures { result ≡ is_open part.now }
+{
+    match part {
+        Part::Is(_) => false,
+        _ => true,
+    }
+}
+
+fn kind_of(part: &Part) -> Option<Kind>
+    ensures { result ≡ kind_of part.now }
+{
+    match part {
+        Part::Is(Node::Fixed(kind)) => Some(*kind),
+        _ => None,
     }
 }
 

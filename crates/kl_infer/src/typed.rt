@@ -1,8 +1,9 @@
 //! A program's types.
-ghost use Rattle.std.specs.Prelude.{◌≡◌, IfSome};
+ghost use Rattle.std.specs.Prelude.{◌≡◌, IfSome, slice_get};
 ghost use Rattle.kl_type.specs.Ground.{Ground, coll};
 ghost use Rattle.kl_rows.specs.Schemes.{Instance};
-ghost use Rattle.kl_infer.specs.Kinds.{known_kind};
+ghost use Rattle.kl_infer.specs.Kinds.{known_kind, kind_place, fixed_kind};
+ghost use Rattle.std.specs.Option.{option_copied};
 
 use kl_base::Seq;
 use kl_rows::{Node, Part, Scheme};
@@ -27,13 +28,46 @@ impl Typed {
         ensures table { result ≡ known_kind self.now.result }
         ensures instances { IfSome result (λ k. (t : Ground) → Instance self.now.result t → (s : Ground) × (t ≡ coll k s)) }
     {
-        let parts = self.result.nodes.slice();
-        match parts.get(self.result.root as usize) {
-            Some(Part::Is(Node::Coll(kind, _))) => match parts.get(*kind as usize) {
-                Some(Part::Is(Node::Fixed(kind))) => Some(*kind),
-                _ => None,
-            },
-            _ => None,
-        }
+        known_kind(&self.result)
+    }
+}
+
+fn known_kind(s: &Scheme) -> Option<Kind>
+    ensures { result ≡ known_kind s.now }
+{
+    let parts = s.nodes.slice();
+    match kind_place(part_at(parts, s.root as usize)) {
+        Some(place) => fixed_kind(part_at(parts, place)),
+        None => None,
+    }
+}
+
+#[tactic(auto, using(crate::proofs::TreeLemmas::some_at, crate::proofs::TreeLemmas::none_at))]
+fn part_at(parts: &[Part], place: usize) -> Option<&Part>
+    ensures { option_copied result ≡ slice_get parts.now place }
+{
+    if place < parts.len() {
+        Some(&parts[place])
+    } else {
+        None
+    }
+}
+
+// The place of the kind of a collection.
+fn kind_place(part: Option<&Part>) -> Option<usize>
+    ensures { result ≡ kind_place (option_copied part.entry) }
+{
+    match part {
+        Some(Part::Is(Node::Coll(kind, _))) => Some(*kind as usize),
+        _ => None,
+    }
+}
+
+fn fixed_kind(part: Option<&Part>) -> Option<Kind>
+    ensures { result ≡ fixed_kind (option_copied part.entry) }
+{
+    match part {
+        Some(Part::Is(Node::Fixed(kind))) => Some(*kind),
+        _ => None,
     }
 }
