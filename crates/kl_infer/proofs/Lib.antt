@@ -1,0 +1,5 @@
+pub mod KindLemmas
+pub mod PageLemmas
+pub mod RowLemmas
+pub mod TreeLemmas
+pub mod Writing
