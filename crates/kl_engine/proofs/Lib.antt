@@ -5,6 +5,7 @@ pub mod TextLemmas
 pub mod FaultLemmas
 pub mod PageLemmas
 pub mod MeaningLemmas
+pub mod CheckLemmas
 pub mod ProgramLemmas
 pub mod ShowLemmas
 pub mod TopLemmas

@@ -4,7 +4,7 @@ use Rattle.kl_outside.specs.Sinks.{SinkState}
 use Rattle.kl_parse.specs.SmallProgram.{IsSmall}
 use Rattle.kl_parse.specs.declared.small.Small.{Small}
 use Rattle.kl_parse.proofs.SmallLaws.{small_unique}
-use Rattle.kl_engine.specs.Answering.{Prints, DoesText, IsTold, IsOneOf, HasTextFault, PrintsNothing}
+use Rattle.kl_engine.specs.Answering.{one, Prints, DoesText, IsTold, IsOneOf, HasTextFault, PrintsNothing}
 use Rattle.kl_engine.specs.Commands.{Program}
 use Rattle.kl_engine.specs.Faults.{Ending}
 use Rattle.kl_engine.specs.Meaning.{Outcome, Done, Over, outcome}
@@ -18,7 +18,7 @@ meant_told text v of = elim of [ inl h ↦ subst (λ w. IsTold w.ending) (sym h.
 
 pub not_small : (text : List ℕ) (out : SinkState) → ((s : Small) → IsSmall text s → ⊥) → DoesText purpose.Run text (Some fault.NotSmall) out out
 not_small text out none = record {
-  told = λ v of. elim of [ inl h ↦ subst (λ w. Prints w (Some fault.NotSmall) out out) (sym h.1) (prints_refused fault.NotSmall out) | inr h ↦ absurd (none h.0 h.1) ];
+  told = λ v of. (v, one refl, elim of [ inl h ↦ subst (λ w. Prints w (Some fault.NotSmall) out out) (sym h.1) (prints_refused fault.NotSmall out) | inr h ↦ absurd (none h.0 h.1) ]);
   meant = λ is. (refused fault.NotSmall, inl (none, refl), refl);
   write = λ is. absurd cc;
   no_other = tt;
@@ -27,7 +27,7 @@ not_small text out none = record {
 
 pub small_wanted : (text : List ℕ) (out : SinkState) → DoesText purpose.Run text (Some fault.NoMemory) out out
 small_wanted text out = record {
-  told = λ v of. prints_wanted v out (meant_told text v of);
+  told = λ v of. (v, one refl, prints_wanted v out (meant_told text v of));
   meant = λ is. absurd is;
   write = λ is. absurd cc;
   no_other = tt;
@@ -57,10 +57,14 @@ prints_nothing Over end out out' prints is = prints.nothing refl
 
 pub small_meant : (text : List ℕ) (s : Small) (end : Ending) (out out' : SinkState) → IsSmall text s → Prints (of_outcome (outcome s)) end out out' → DoesText purpose.Run text end out out'
 small_meant text s end out out' is prints = record {
-  told = λ v of. elim of [
-    | inl h ↦ absurd (h.0 s is)
-    | inr h ↦ subst (λ w. Prints w end out out') (ap (λ t. of_outcome (outcome t)) (small_unique text s h.0 is h.1) ∙ sym h.2) prints
-  ];
+  told = λ v of. (
+    v,
+    one refl,
+    elim of [
+      | inl h ↦ absurd (h.0 s is)
+      | inr h ↦ subst (λ w. Prints w end out out') (ap (λ t. of_outcome (outcome t)) (small_unique text s h.0 is h.1) ∙ sym h.2) prints
+    ],
+  );
   meant = λ told. (
     of_outcome (outcome s),
     inr (s, is, refl),

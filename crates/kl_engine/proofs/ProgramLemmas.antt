@@ -8,17 +8,26 @@ use Rattle.kl_outside.specs.declared.files.Whole.TheVariants as whole
 use Rattle.kl_outside.specs.declared.stop.Stop.TheVariants as stop
 use Rattle.kl_outside.proofs.FileLemmas.{was_there}
 use Rattle.kl_outside.proofs.SinkLemmas.{took_none, append_known-nil}
-use Rattle.kl_engine.specs.Answering.{Follows, Prints, DoesText, Does, IsTold, IsOneOf, HasTextFault, HasFault}
+use Rattle.kl_engine.specs.Answering.{Alike, one, nested, unnested, renamed, Follows, Prints, DoesText, Does, IsTold, IsOneOf, HasTextFault, HasFault}
 use Rattle.kl_engine.specs.Commands.{Program}
 use Rattle.kl_engine.specs.Faults.{Ending}
 use Rattle.kl_engine.specs.Verdict.{Verdict, refused, most_bytes, IsText, IsProgram, IsFile}
 use Rattle.kl_engine.specs.declared.fault.Fault.TheVariants as fault
 use Rattle.kl_engine.specs.declared.top.Purpose.{Purpose}
 use Rattle.kl_engine.specs.declared.top.Purpose.TheVariants as purpose
+use Rattle.kl_engine.proofs.CheckLemmas.{checked_told}
 use Rattle.kl_engine.proofs.MeaningLemmas.{meant_told}
 
 text_told : (p : Purpose) (text : List ℕ) (v : Verdict) → IsText p text v → IsTold v.ending
 text_told purpose.Run text v of = meant_told text v of
+text_told purpose.Check text v of = checked_told text v of
+
+-- nor is one that is like it
+alike_told : (v w : Verdict) → Alike v w → IsTold v.ending → IsTold w.ending
+alike_told v w (one same) told = subst (λ u. IsTold u.ending) same told
+alike_told v w (nested byte this that) told = subst (λ u. IsTold u.ending) (sym that) tt
+alike_told v w (unnested byte this that) told = subst (λ u. IsTold u.ending) (sym that) tt
+alike_told v w (renamed x y byte this that same) told = subst (λ u. IsTold u.ending) (sym that) tt
 
 -- no verdict on a program's bytes is a fault of the outside
 program_told : (p : Purpose) (bytes : List ℕ) (v : Verdict) → IsProgram p bytes v → IsTold v.ending
@@ -28,6 +37,7 @@ program_told p bytes v of = elim of [ inl h ↦ subst (λ w. IsTold w.ending) (s
 of_program : (p : Purpose) (path : List ℕ) (end : Ending) → IsOneOf (HasTextFault p) end → IsOneOf (HasFault (Program p path)) end
 of_program p path None has = tt
 of_program p path (Some fault.Usage) has = has
+of_program p path (Some (fault.Text w byte)) has = has
 of_program p path (Some fault.NotSmall) has = has
 of_program p path (Some (fault.BadFile place)) has = has
 of_program p path (Some fault.Overflow) has = has
@@ -36,13 +46,19 @@ of_program p path (Some fault.Write) has = has
 of_program p path (Some fault.NoMemory) has = has
 of_program p path (Some fault.ProgramBytes) has = tt
 of_program p path (Some fault.FileBytes) has = has
+of_program p path (Some fault.Nesting) has = has
 of_program p path (Some fault.ItemNesting) has = has
 
 none_reads : (p : Purpose) (end : Ending) → IsOneOf (HasTextFault p) end → end ≡ Some fault.Read → ⊥
 none_reads purpose.Run end has is = subst (IsOneOf (HasTextFault purpose.Run)) is has
+none_reads purpose.Check end has is = subst (IsOneOf (HasTextFault purpose.Check)) is has
 
 none_misuses : (p : Purpose) (end : Ending) → IsOneOf (HasTextFault p) end → end ≡ Some fault.Usage → ⊥
 none_misuses purpose.Run end has is = subst (IsOneOf (HasTextFault purpose.Run)) is has
+none_misuses purpose.Check end has is = subst (IsOneOf (HasTextFault purpose.Check)) is has
+
+pub as_purpose : (p q : Purpose) (text : List ℕ) (end : Ending) (out out' : SinkState) → p ≡ q → DoesText q text end out out' → DoesText p text end out out'
+as_purpose p q text end out out' same does = subst (λ r. DoesText r text end out out') (sym same) does
 
 module _ (p : Purpose) (path : List ℕ) (f f' : FilesState) where
   was_read : {w : Whole} → ReadsWhole path most_bytes (Ok w) f f' → IsMissing f path → ⊥
@@ -53,13 +69,17 @@ module _ (p : Purpose) (path : List ℕ) (f f' : FilesState) where
     told = λ told is v of.
         let there = was_there path most_bytes (whole.Bytes text) f f' told reads is in
         let of' : IsProgram p there.0 v = subst (λ o. IsFile (IsProgram p) o v) there.1 of in
-        let prints : Prints v end out out' = does.told v (elim of' [ inl h ↦ absurd (let short = there.2.1 in let same = ap length there.2.0 in omega (arith, h.0)) | inr h ↦ subst (λ bs. IsText p bs v) (sym there.2.0) h.1 ]) in
-        record {
-          ends = elim prints.ends [ inl h ↦ inl h | inr (inl h) ↦ inr (inr (inl h)) | inr (inr h) ↦ inr (inr (inr h)) ];
-          whole = prints.whole;
-          part = prints.part;
-          missing = λ same. absurd (subst (λ w. IsTold w.ending) same (program_told p there.0 v of'));
-        };
+        let found = does.told v (elim of' [ inl h ↦ absurd (let short = there.2.1 in let same = ap length there.2.0 in omega (arith, h.0)) | inr h ↦ subst (λ bs. IsText p bs v) (sym there.2.0) h.1 ]) in
+        let prints : Prints found.0 end out out' = found.2 in (
+          found.0,
+          found.1,
+          record {
+            ends = elim prints.ends [ inl h ↦ inl h | inr (inl h) ↦ inr (inr (inl h)) | inr (inr h) ↦ inr (inr (inr h)) ];
+            whole = prints.whole;
+            part = prints.part;
+            missing = λ same. absurd (subst (λ w. IsTold w.ending) same (alike_told v found.0 found.1 (program_told p there.0 v of')));
+          },
+        );
     meant = λ told is well.
         let there = was_there path most_bytes (whole.Bytes text) f f' told reads is in
         let meant = does.meant well in
@@ -81,13 +101,16 @@ module _ (p : Purpose) (path : List ℕ) (f f' : FilesState) where
       told = λ told is v of.
           let there = was_there path most_bytes whole.TooLong f f' told reads is in
           let of' : IsProgram p there.0 v = subst (λ o. IsFile (IsProgram p) o v) there.1 of in
-          let same : v ≡ refused fault.ProgramBytes = elim of' [ inl h ↦ h.1 | inr h ↦ absurd (let long = there.2 in omega (arith, h.0)) ] in
-          record {
-            ends = inl (sym (ap (λ w. w.ending) same));
-            whole = λ end. sym (ap (λ w. append_known out.taken w.page) same ∙ append_known-nil out.taken);
-            part = took_none v.page out out refl;
-            missing = λ other. absurd (let two = sym same ∙ other in let ends = ap (λ w. w.ending) two in cc);
-          };
+          let same : v ≡ refused fault.ProgramBytes = elim of' [ inl h ↦ h.1 | inr h ↦ absurd (let long = there.2 in omega (arith, h.0)) ] in (
+            v,
+            one refl,
+            record {
+              ends = inl (sym (ap (λ w. w.ending) same));
+              whole = λ end. sym (ap (λ w. append_known out.taken w.page) same ∙ append_known-nil out.taken);
+              part = took_none v.page out out refl;
+              missing = λ other. absurd (let two = sym same ∙ other in let ends = ap (λ w. w.ending) two in cc);
+            },
+          );
       meant = λ told is well.
           let there = was_there path most_bytes whole.TooLong f f' told reads is in
           (refused fault.ProgramBytes, subst (λ o. IsFile (IsProgram p) o (refused fault.ProgramBytes)) (sym there.1) (inl (there.2, refl)), refl);
@@ -98,7 +121,7 @@ module _ (p : Purpose) (path : List ℕ) (f f' : FilesState) where
     -- what a file's bytes come to, or that it is missing
     pub program_failed : ReadsWhole path most_bytes (Err stop.Failed) f f' → Does (Program p path) (Some fault.Read) f f' out out
     program_failed reads = record {
-      told = λ told is v of. file_failed told is (told path) refl v of;
+      told = λ told is v of. (v, one refl, file_failed told is (told path) refl v of);
       meant = λ told is well. absurd well;
       caused = record { usage = (λ is. absurd cc, λ is. absurd cc); read = λ is. elim (reads.failed refl) [ inl missing ↦ inl (missing.0, missing.1, subst (λ o. IsFile (IsProgram p) o (refused fault.Read)) (sym missing.2) refl) | inr rose ↦ inr rose ]; write = λ is. absurd cc; no_other = tt; nothing = λ is. refl };
       closed = record { left = reads.left; told = reads.told };
@@ -120,7 +143,7 @@ module _ (p : Purpose) (path : List ℕ) (f f' : FilesState) where
 
     pub program_wanted : ReadsWhole path most_bytes (Err stop.NoMemory) f f' → Does (Program p path) (Some fault.NoMemory) f f' out out
     program_wanted reads = record {
-      told = λ told is v of. file_wanted told is (told path) refl v of;
+      told = λ told is v of. (v, one refl, file_wanted told is (told path) refl v of);
       meant = λ told is well. absurd well;
       caused = record { usage = (λ is. absurd cc, λ is. absurd cc); read = λ is. absurd cc; write = λ is. absurd cc; no_other = tt; nothing = λ is. refl };
       closed = record { left = reads.left; told = reads.told };

@@ -26,7 +26,7 @@ use Rattle.kl_outside.proofs.FileLemmas.{fun_ext}
 use Rattle.kl_outside.proofs.SinkLemmas.{append_known-nil, append_known-append, took_none, took_all, took_front}
 use Rattle.kl_value.specs.Written.{text_of}
 use Rattle.kl_value.specs.declared.value.Value.{Value}
-use Rattle.kl_engine.specs.Answering.{Follows, Does, IsTold, IsOneOf, HasFault}
+use Rattle.kl_engine.specs.Answering.{Alike, one, Follows, Does, IsTold, IsOneOf, HasFault}
 use Rattle.kl_engine.specs.Commands.{Show}
 use Rattle.kl_engine.specs.Faults.{Ending}
 use Rattle.kl_engine.specs.Showing.{ShowsItems, Flushes, read_fault, fetch_fault, write_fault}
@@ -80,6 +80,7 @@ end_other PastLimit = tt
 as_path : (path : List ℕ) (end : Ending) → IsOneOf (HasFault (Show [])) end → IsOneOf (HasFault (Show path)) end
 as_path path None has = tt
 as_path path (Some fault.Usage) has = has
+as_path path (Some (fault.Text w byte)) has = has
 as_path path (Some fault.NotSmall) has = has
 as_path path (Some (fault.BadFile place)) has = has
 as_path path (Some fault.Overflow) has = has
@@ -88,6 +89,7 @@ as_path path (Some fault.Write) has = has
 as_path path (Some fault.NoMemory) has = has
 as_path path (Some fault.ProgramBytes) has = has
 as_path path (Some fault.FileBytes) has = has
+as_path path (Some fault.Nesting) has = has
 as_path path (Some fault.ItemNesting) has = has
 
 -- a fault of the outside, or want of memory, behind some items
@@ -390,7 +392,7 @@ module _ (path : List ℕ) where
 
   pub show_failed : (f f' : FilesState) (out : SinkState) → Opens path (Err stop.Failed) f f' → Does (Show path) (Some fault.Read) f f' out out
   show_failed f f' out opens = record {
-    told = λ told is v of. file_failed told is (told path) refl v of;
+    told = λ told is v of. (v, one refl, file_failed told is (told path) refl v of);
     meant = λ told is well. absurd well;
     caused = record {
       usage = (λ is. absurd cc, λ is. absurd cc);
@@ -414,7 +416,7 @@ module _ (path : List ℕ) where
 
   pub show_wanted : (f f' : FilesState) (out : SinkState) → Opens path (Err stop.NoMemory) f f' → Does (Show path) (Some fault.NoMemory) f f' out out
   show_wanted f f' out opens = record {
-    told = λ told is v of. file_wanted told is (told path) refl v of;
+    told = λ told is v of. (v, one refl, file_wanted told is (told path) refl v of);
     meant = λ told is well. absurd well;
     caused = record { usage = (λ is. absurd cc, λ is. absurd cc); read = λ is. absurd cc; write = λ is. absurd cc; no_other = tt; nothing = λ is. absurd is };
     closed = record { left = opens.refused; told = opens.told };
@@ -430,7 +432,7 @@ module _ (path : List ℕ) where
 
   pub show_done : (file : ℕ) (end : Ending) (s0 s1 s2 s3 : FilesState) (out out' : SinkState) → Opens path (Ok file) s0 s1 → ShowsItems file end s1 s2 out out' → Closes file s2 s3 → Does (Show path) end s0 s3 out out'
   show_done file end s0 s1 s2 s3 out out' opens shows closes = record {
-    told = λ told is v of. file_shown told is (told path) refl v of;
+    told = λ told is v of. (v, one refl, file_shown told is (told path) refl v of);
     meant = λ told is well. file_meant told is (told path) refl well;
     caused = record {
       usage = (λ is. absurd (subst (IsOneOf (HasFault (Show []))) is shows.no_other), λ is. absurd cc);

@@ -9,6 +9,8 @@ use Rattle.kl_engine.specs.Faults.{Ending}
 use Rattle.kl_engine.specs.Verdict.{Verdict, refused, IsText, IsVerdict}
 use Rattle.kl_engine.specs.declared.fault.Fault.{Fault}
 use Rattle.kl_engine.specs.declared.fault.Fault.TheVariants as fault
+use Rattle.kl_engine.specs.declared.fault.Wrong.{Wrong}
+use Rattle.kl_engine.specs.declared.fault.Wrong.TheVariants as wrong
 use Rattle.kl_engine.specs.declared.top.Purpose.{Purpose}
 use Rattle.kl_engine.specs.declared.top.Purpose.TheVariants as purpose
 
@@ -19,6 +21,21 @@ pub record Follows (v : Verdict) (end : Ending) (files files' : FilesState) (out
   pub whole : end ≡ v.ending → out'.taken ≡ append_known out.taken v.page
   pub part : TookPart v.page out out'
   pub missing : v ≡ refused fault.Read → (end ≡ Some fault.Read) × (out' ≡ out)
+
+-- what is wrong, whatever the name
+abbrev pub unnamed : Wrong → Wrong
+unnamed (wrong.Unknown name) = wrong.Unknown []
+unnamed (wrong.Twice name) = wrong.Twice []
+unnamed (wrong.Misapplied name) = wrong.Misapplied []
+unnamed w = w
+
+-- Verdicts on the same bytes are one, but for two things. Tokens with which no program goes on, and that nest too deep
+-- besides, may be told either way; and the same breach at the same token may be told of another name.
+pub data Alike (v w : Verdict) : Type 0 where
+  one : v ≡ w → Alike v w
+  nested : (byte : ℕ) → v ≡ refused (fault.Text wrong.Syntax byte) → w ≡ refused fault.Nesting → Alike v w
+  unnested : (byte : ℕ) → v ≡ refused fault.Nesting → w ≡ refused (fault.Text wrong.Syntax byte) → Alike v w
+  renamed : (x y : Wrong) (byte : ℕ) → v ≡ refused (fault.Text x byte) → w ≡ refused (fault.Text y byte) → unnamed x ≡ unnamed y → Alike v w
 
 -- none of the faults that can come to any command
 abbrev pub IsTold : Ending → Type 0
@@ -34,6 +51,8 @@ HasTextFault p fault.Write = ⊤
 HasTextFault p fault.NoMemory = ⊤
 HasTextFault purpose.Run fault.NotSmall = ⊤
 HasTextFault purpose.Run fault.Overflow = ⊤
+HasTextFault purpose.Check (fault.Text w byte) = ⊤
+HasTextFault purpose.Check fault.Nesting = ⊤
 HasTextFault p f = ⊥
 
 -- the faults of each command
@@ -85,7 +104,7 @@ pub record IsClosed (files files' : FilesState) : Type 0 where
 
 -- what a command does
 pub record Does (command : Command) (end : Ending) (files files' : FilesState) (out out' : SinkState) : Type 0 where
-  pub told : (told : _) → files.told ≡ Some told → (v : Verdict) → IsVerdict told command v → Follows v end files files' out out'
+  pub told : (told : _) → files.told ≡ Some told → (v : Verdict) → IsVerdict told command v → (w : Verdict) × Alike v w × Follows w end files files' out out'
   -- the way back
   pub meant : (told : _) → files.told ≡ Some told → IsTold end → (v : Verdict) × IsVerdict told command v × (v.ending ≡ end)
   pub caused : IsCaused command end files files' out out'
@@ -100,7 +119,7 @@ pub record Prints (v : Verdict) (end : Ending) (out out' : SinkState) : Type 0 w
 
 -- what is done with a program's text
 pub record DoesText (p : Purpose) (text : List ℕ) (end : Ending) (out out' : SinkState) : Type 0 where
-  pub told : (v : Verdict) → IsText p text v → Prints v end out out'
+  pub told : (v : Verdict) → IsText p text v → (w : Verdict) × Alike v w × Prints w end out out'
   pub meant : IsTold end → (v : Verdict) × IsText p text v × (v.ending ≡ end)
   pub write : end ≡ Some fault.Write → Rose out.faults out'.faults
   pub no_other : IsOneOf (HasTextFault p) end

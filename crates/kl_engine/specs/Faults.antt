@@ -6,6 +6,8 @@ use Rattle.kl_outside.specs.Counts.{Rose}
 use Rattle.kl_outside.specs.Sinks.{SinkState, TookPart}
 use Rattle.kl_engine.specs.declared.fault.Fault.{Fault}
 use Rattle.kl_engine.specs.declared.fault.Fault.TheVariants as fault
+use Rattle.kl_engine.specs.declared.fault.Wrong.{Wrong}
+use Rattle.kl_engine.specs.declared.fault.Wrong.TheVariants as wrong
 
 -- the fault with which a command ended, or none where it ended well
 abbrev pub Ending : Type 0
@@ -17,6 +19,7 @@ ending (Err f) = Some f
 
 abbrev pub fault_status : Fault → ℕ
 fault_status fault.Usage = 1
+fault_status (fault.Text w byte) = 2
 fault_status fault.NotSmall = 2
 fault_status (fault.BadFile place) = 5
 fault_status fault.Overflow = 6
@@ -25,6 +28,7 @@ fault_status fault.Write = 8
 fault_status fault.NoMemory = 9
 fault_status fault.ProgramBytes = 10
 fault_status fault.FileBytes = 10
+fault_status fault.Nesting = 10
 fault_status fault.ItemNesting = 10
 
 abbrev pub status_of : Ending → ℕ
@@ -35,9 +39,22 @@ status_of (Some f) = fault_status f
 abbrev pub joined : List (List ℕ) → List ℕ
 joined texts = flat_map (λ t. t) texts
 
+-- what is wrong with a program's text, with a name in its midst, and at which byte
+abbrev pub text_line : List ℕ → List ℕ → List ℕ → ℕ → List ℕ
+text_line front name back byte = joined (codes "text: " ∷ front ∷ name ∷ back ∷ codes " at byte " ∷ decimal byte ∷ codes "\n" ∷ [])
+
+abbrev pub wrong_line : Wrong → ℕ → List ℕ
+wrong_line wrong.NoToken byte = text_line (codes "no token") [] [] byte
+wrong_line wrong.Syntax byte = text_line (codes "syntax") [] [] byte
+wrong_line (wrong.Unknown name) byte = text_line (codes "unknown name ") name [] byte
+wrong_line (wrong.Twice name) byte = text_line (codes "name ") name (codes " twice") byte
+wrong_line (wrong.Misapplied name) byte = text_line (codes "name ") name (codes " misapplied") byte
+wrong_line wrong.Refutable byte = text_line (codes "refutable pattern") [] [] byte
+
 -- the line of a fault, where the words name this path
 abbrev pub fault_line : List ℕ → Fault → List ℕ
 fault_line path fault.Usage = codes "usage: kleisli (run|explain|types|check) PROGRAM [CATALOGUE] [OPTIONS], kleisli show FILE, kleisli gen SEED N\n"
+fault_line path (fault.Text w byte) = wrong_line w byte
 fault_line path fault.NotSmall = []
 fault_line path (fault.BadFile place) = joined (codes "source " ∷ path ∷ codes ": bad at " ∷ decimal place ∷ codes "\n" ∷ [])
 fault_line path fault.Overflow = codes "overflow\n"
@@ -46,6 +63,7 @@ fault_line path fault.Write = codes "write fault\n"
 fault_line path fault.NoMemory = codes "out of memory\n"
 fault_line path fault.ProgramBytes = codes "limit: program bytes\n"
 fault_line path fault.FileBytes = codes "limit: file bytes\n"
+fault_line path fault.Nesting = codes "limit: nesting\n"
 fault_line path fault.ItemNesting = codes "limit: item nesting\n"
 
 -- The sink took the line, or a part of it and a count of its refusals rose.

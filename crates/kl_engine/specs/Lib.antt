@@ -1,6 +1,7 @@
 pub mod Meaning
 pub mod Faults
 pub mod Commands
+pub mod Checking
 pub mod Verdict
 pub mod Answering
 pub mod Showing

@@ -6,6 +6,7 @@ use Rattle.kl_parse.specs.SmallProgram.{IsSmall}
 use Rattle.kl_parse.specs.declared.small.Small.{Small}
 use Rattle.kl_value.specs.Written.{text_of}
 use Rattle.kl_value.specs.declared.value.Value.{Value}
+use Rattle.kl_engine.specs.Checking.{IsCheckEnd}
 use Rattle.kl_engine.specs.Commands.{Command, Neither, Program, Show}
 use Rattle.kl_engine.specs.Faults.{Ending}
 use Rattle.kl_engine.specs.Meaning.{Outcome, Done, Over, outcome}
@@ -41,6 +42,15 @@ of_outcome Over = refused fault.Overflow
 abbrev pub IsMeant : List ℕ → Verdict → Type 0
 IsMeant bytes v = (((s : Small) → IsSmall bytes s → ⊥) × (v ≡ refused fault.NotSmall)) ⊎ ((s : Small) × IsSmall bytes s × (v ≡ of_outcome (outcome s)))
 
+-- `ok` and a newline, or nothing
+abbrev pub of_check : Ending → Verdict
+of_check None = well (codes "ok\n")
+of_check (Some f) = refused f
+
+-- whether the bytes are a program in scope, and what is wrong where they are none
+abbrev pub IsChecked : List ℕ → Verdict → Type 0
+IsChecked bytes v = (end : Ending) × IsCheckEnd bytes end × (v ≡ of_check end)
+
 -- the fault of what stands behind the items of a file
 abbrev pub end_fault : FileEnd → Ending
 end_fault WholeText = None
@@ -59,6 +69,7 @@ IsShowing bytes v = (vs : List Value) × (end : FileEnd) × Shows most_read byte
 -- what the text of a program comes to
 abbrev pub IsText : Purpose → List ℕ → Verdict → Type 0
 IsText purpose.Run = IsMeant
+IsText purpose.Check = IsChecked
 
 abbrev pub IsProgram : Purpose → List ℕ → Verdict → Type 0
 IsProgram p bytes v = ((most_bytes < length bytes) × (v ≡ refused fault.ProgramBytes)) ⊎ ((length bytes ≤ most_bytes) × IsText p bytes v)

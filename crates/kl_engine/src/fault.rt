@@ -2,16 +2,19 @@
 ghost use Rattle.std.specs.Prelude.{◌≡◌, List, ℕ};
 ghost use Rattle.std.specs.List.{flat_map};
 ghost use Rattle.kl_outside.specs.Sinks.{WritesWhole};
-ghost use Rattle.kl_engine.specs.Faults.{fault_status, fault_line, TookLine};
+ghost use Rattle.kl_engine.specs.Faults.{fault_status, fault_line, wrong_line, text_line, TookLine};
 
 use itoa::Buffer;
+use kl_base::Label;
 use kl_outside::{Sink, Stop, write_whole};
 
 /// Why a command did not end well. Places are bytes of the file that the words name.
-#[derive(Clone, Copy, Debug, PartialEq, Eq)]
+#[derive(Debug, Drop, PartialEq, Eq)]
 pub enum Fault {
     /// The words name no command.
     Usage,
+    /// The program's text is wrong at this byte: that of the token, or the text's length where tokens are missing.
+    Text(Wrong, u32),
     /// The program is no small program with bound names.
     NotSmall,
     /// The file that is shown is no exchange text; its longest prefix that begins one has this length.
@@ -28,8 +31,27 @@ pub enum Fault {
     ProgramBytes,
     /// The file that is shown has more than 17,179,869,184 bytes.
     FileBytes,
+    /// The program nests deeper than 256.
+    Nesting,
     /// An item of the file that is shown has a bracket inside 256 others.
     ItemNesting,
+}
+
+/// What is wrong with a program's text.
+#[derive(Debug, Drop, PartialEq, Eq)]
+pub enum Wrong {
+    /// A token is due, and none starts there.
+    NoToken,
+    /// No program goes on so.
+    Syntax,
+    /// The name stands for nothing.
+    Unknown(Label),
+    /// The name stands there a second time.
+    Twice(Label),
+    /// The name does not take so many arguments.
+    Misapplied(Label),
+    /// The pattern has to match, and may not.
+    Refutable,
 }
 
 /// The status of a fault.
@@ -38,13 +60,13 @@ pub fn status(fault: &Fault) -> u8
 {
     match fault {
         Fault::Usage => 1,
-        Fault::NotSmall => 2,
+        Fault::Text(_, _) | Fault::NotSmall => 2,
         Fault::BadFile(_) => 5,
         Fault::Overflow => 6,
         Fault::Read => 7,
         Fault::Write => 8,
         Fault::NoMemory => 9,
-        Fault::ProgramBytes | Fault::FileBytes | Fault::ItemNesting => 10,
+        Fault::ProgramBytes | Fault::FileBytes | Fault::Nesting | Fault::ItemNesting => 10,
     }
 }
 
@@ -65,6 +87,7 @@ fn write_line<E: Sink>(fault: &Fault, path: &[u8], err: &mut E) -> Result<(), St
             err,
             b"usage: kleisli (run|explain|types|check) PROGRAM [CATALOGUE] [OPTIONS], kleisli show FILE, kleisli gen SEED N\n",
         ),
+        Fault::Text(wrong, byte) => write_wrong(wrong, *byte, err),
         Fault::NotSmall => Ok(()),
         Fault::BadFile(place) => write_parts(
             err,
@@ -82,8 +105,46 @@ fn write_line<E: Sink>(fault: &Fault, path: &[u8], err: &mut E) -> Result<(), St
         Fault::NoMemory => write_whole(err, b"out of memory\n"),
         Fault::ProgramBytes => write_whole(err, b"limit: program bytes\n"),
         Fault::FileBytes => write_whole(err, b"limit: file bytes\n"),
+        Fault::Nesting => write_whole(err, b"limit: nesting\n"),
         Fault::ItemNesting => write_whole(err, b"limit: item nesting\n"),
     }
+}
+
+fn write_wrong<E: Sink>(wrong: &Wrong, byte: u32, err: &mut E) -> Result<(), Stop>
+    ensures { WritesWhole (wrong_line wrong.now byte) result (E.state err.old) (E.state err.new) }
+{
+    match wrong {
+        Wrong::NoToken => write_text(b"no token", b"", b"", byte, err),
+        Wrong::Syntax => write_text(b"syntax", b"", b"", byte, err),
+        Wrong::Unknown(name) => write_text(b"unknown name ", name.slice(), b"", byte, err),
+        Wrong::Twice(name) => write_text(b"name ", name.slice(), b" twice", byte, err),
+        Wrong::Misapplied(name) => write_text(b"name ", name.slice(), b" misapplied", byte, err),
+        Wrong::Refutable => write_text(b"refutable pattern", b"", b"", byte, err),
+    }
+}
+
+// What is wrong, with a name in its midst, and at which byte.
+fn write_text<'a, E: Sink>(
+    front: &'a [u8],
+    name: &'a [u8],
+    back: &'a [u8],
+    byte: u32,
+    err: &mut E,
+) -> Result<(), Stop>
+    ensures { WritesWhole (text_line front.now name.now back.now byte) result (E.state err.old) (E.state err.new) }
+{
+    write_parts(
+        err,
+        &[
+            b"text: ",
+            front,
+            name,
+            back,
+            b" at byte ",
+            Buffer::new().format(byte).as_bytes(),
+            b"\n",
+        ],
+    )
 }
 
 // Writes the parts one behind the other.

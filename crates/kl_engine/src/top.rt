@@ -4,6 +4,7 @@ ghost use Rattle.kl_engine.specs.Answering.{Does};
 ghost use Rattle.kl_engine.specs.Commands.{Program, Show, Neither, asked, command_of, path_of};
 ghost use Rattle.kl_engine.specs.Faults.{TookLine, ending, status_of, line_of};
 
+use crate::check::check;
 use crate::fault::{Fault, status, tell};
 use crate::run::run;
 use crate::show::show;
@@ -14,28 +15,32 @@ use std::alloc::Global;
 const MOST: u64 = 65_536;
 
 /// What the top call answers.
-#[derive(Clone, Copy, Debug, PartialEq, Eq)]
+#[derive(Debug, Drop, PartialEq, Eq)]
 pub struct Answer {
     /// 0: well, and all that the command prints was written. Else that of the fault: 1: the words name no command with
-    /// one path. 2: the program is no small program with bound names. 5: the file that is shown is no exchange text. 6:
-    /// an overflow. 7: the file is missing or could not be read. 8: `out` refused a write. 9: want of memory. 10: the
-    /// program has more than 65,536 bytes, the file that is shown has more than 17,179,869,184, or an item of it has a
-    /// bracket inside 256 others. There is no other.
+    /// one path. 2: the program that is run is no small program with bound names, or that which is checked is no program
+    /// in scope. 5: the file that is shown is no exchange text. 6: an overflow. 7: the file is missing or could not be
+    /// read. 8: `out` refused a write. 9: want of memory. 10: the program has more than 65,536 bytes or nests deeper than
+    /// 256, the file that is shown has more than 17,179,869,184 bytes, or an item of it has a bracket inside 256 others.
+    /// There is no other.
     pub status: u8,
     /// Why the command did not end well, or none where it did.
     pub fault: Option<Fault>,
 }
 
 /// Does what the words say, which are those of the command line without the program's name. `run PATH` prints on `out`
-/// the set that the small program at the path means, and a newline. `show PATH` prints the canonical text of each item
-/// of the exchange text at the path, each with a newline, as it is read.
+/// the set that the small program at the path means, and a newline. `check PATH` prints `ok` and a newline where the
+/// file is a program in scope. `show PATH` prints the canonical text of each item of the exchange text at the path, each
+/// with a newline, as it is read.
 ///
 /// The refusals come in this order: words, before anything is opened; a file that is missing or fails; and what its
-/// bytes are. Of a program these are first too many, then no program, and then an overflow. Of a file that is shown
-/// that comes whose place stands first in the file, and its bytes behind the limit are not looked at.
+/// bytes are. Of a program these are first too many, then no program, and then an overflow; where it is checked, first
+/// too many, then a byte where no token starts, then tokens that are no program or nest too deep, and then the first
+/// breach of the rules of scope. Of a file that is shown that comes whose place stands first in the file, and its bytes
+/// behind the limit are not looked at.
 ///
-/// Where a command ends well `out` took exactly its page: of `run` the set and a newline, of `show` the lines of all
-/// items. Of an overflow and of every refusal before it the page is empty; of a file that is bad, too deep or too long
+/// Where a command ends well `out` took exactly its page: of `run` the set and a newline, of `check` its line, of `show`
+/// the lines of all items. Of an overflow and of every refusal before it the page is empty; of a file that is bad, too deep or too long
 /// it is the lines of the items that stand whole before the place. After a fault of reading or writing and after want
 /// of memory `out` took a front of the page.
 ///
@@ -69,7 +74,10 @@ pub fn kleisli<F: Files, S: Sink, E: Sink>(
 /// What is done with a program.
 #[derive(Clone, Copy)]
 pub enum Purpose {
+    /// It is run.
     Run,
+    /// It is read, and its names are looked up.
+    Check,
 }
 
 // What the words ask for, and the path behind it.
@@ -85,6 +93,10 @@ fn read_words(words: &[String]) -> Words
     match words {
         [command, path] if command.as_str() == "run" => Words::Program(
             Purpose::Run,
+            path.as_bytes(),
+        ),
+        [command, path] if command.as_str() == "check" => Words::Program(
+            Purpose::Check,
             path.as_bytes(),
         ),
         [command, path] if command.as_str() == "show" => Words::Show(path.as_bytes()),
@@ -131,5 +143,6 @@ fn do_program<F: Files, S: Sink>(
     };
     match purpose {
         Purpose::Run => run(alloc, text.slice(), out),
+        Purpose::Check => check(alloc, text.slice(), out),
     }
 }
