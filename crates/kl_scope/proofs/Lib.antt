@@ -7,3 +7,6 @@ pub mod ArmLemmas
 pub mod DeclLemmas
 pub mod FirstLemmas
 pub mod ResolveLemmas
+pub mod SizeLemmas
+pub mod LimitLemmas
+pub mod SizeForms

@@ -7,3 +7,6 @@ pub mod Breaches
 pub mod Tables
 pub mod Gathering
 pub mod Walks
+pub mod Sizes
+pub mod Limits
+pub mod Caps
