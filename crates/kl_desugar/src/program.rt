@@ -51,7 +51,8 @@ fn define_all<'a>(alloc: Global, defs: &[Decl], sources: &'a [Label]) -> Result<
 }
 
 /// The term of a program: what it means, over the values of the program's sources by their numbers, the program means
-/// over these values.
+/// over these values. The term of a definition stands at each of its uses, so that the term of a short program can be
+/// too large for any memory: whoever must not wait for that counts its nodes first.
 ///
 /// # Errors
 /// Want of memory, and more positions or sources than 32 bits can number.
