@@ -1,5 +1,5 @@
 -- The kind of a scheme's collections.
-use Rattle.std.proofs.Common.{◌≡◌, ℕ, List, Option, Some, None, slice_get, refl, sym, ap, ◌∙◌, subst}
+use Rattle.std.proofs.Common.{◌≡◌, ℕ, Option, Some, None, slice_get, refl, sym, ap, ◌∙◌}
 use Rattle.std.specs.Prelude.{IfSome}
 use Rattle.kl_value.specs.declared.Kind.{Kind}
 use Rattle.kl_type.specs.Ground.{Ground, coll}
@@ -7,7 +7,7 @@ use Rattle.kl_rows.specs.declared.schemes.Node.TheVariants as node
 use Rattle.kl_rows.specs.declared.schemes.Part.{Part}
 use Rattle.kl_rows.specs.declared.schemes.Part.TheVariants.{Is, AnyType, AnyRow, AnyKind}
 use Rattle.kl_rows.specs.declared.schemes.Scheme.{Scheme}
-use Rattle.kl_rows.specs.Schemes.{cells_of, Instance}
+use Rattle.kl_rows.specs.Schemes.{Instance}
 use Rattle.kl_infer.specs.Kinds.{fixed_kind, kind_place, kind_at, known_kind}
 use Rattle.kl_infer.proofs.TreeLemmas.{get_cells}
 

@@ -4,7 +4,6 @@ use mathlib.Core.Path.{ap₂}
 use Rattle.std.proofs.lemmas.Bool.Decides.{nat_tests}
 use Rattle.std.specs.List.{AllByRecursion, flat_map}
 use Rattle.std.specs.Ordering.{is_gt}
-use Rattle.kl_base.specs.Fields.{bytes_cmp}
 use Rattle.kl_base.specs.Sorted.{put_in, sorted}
 use Rattle.kl_value.specs.Written.{with_commas}
 use Rattle.kl_type.specs.Written.{separator}

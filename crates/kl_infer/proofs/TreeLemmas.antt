@@ -1,15 +1,14 @@
 -- Trees of parts.
-use Rattle.std.proofs.Common.{◌≡◌, ℕ, zero, suc, ◌+◌, ◌<◌, ◌≤◌, true, false, List, [], ◌∷◌, ◌++◌, length, map, option_map, Option, Some, None, slice_get, get_or, refl, sym, ap, ◌∙◌, subst, arith}
+use Rattle.std.proofs.Common.{◌≡◌, ℕ, zero, suc, ◌<◌, ◌≤◌, true, false, List, [], ◌∷◌, length, option_map, Option, Some, None, slice_get, get_or, refl, sym, ap, ◌∙◌, subst, arith}
 use mathlib.Core.Path.{ap₂}
 use Rattle.kl_rows.specs.declared.cell.Cell.{Cell}
-use Rattle.kl_rows.specs.declared.schemes.Node.{Node}
 use Rattle.kl_rows.specs.declared.schemes.Node.TheVariants as node
 use Rattle.kl_rows.specs.declared.schemes.Part.{Part}
 use Rattle.kl_rows.specs.declared.schemes.Part.TheVariants.{Is, AnyType, AnyRow, AnyKind}
 use Rattle.kl_rows.specs.declared.schemes.Scheme.{Scheme}
 use Rattle.kl_rows.specs.Places.{Sort, a_type, sort_of, Parts}
 use Rattle.kl_rows.specs.Schemes.{cell_of, cells_of, IsScheme}
-use Rattle.kl_infer.specs.Printed.{Tree, any, base, product, choice, items, arrow, field, no_field, kind, node_tree, part_tree, tree_to, tree_at, kind_variables, rest_variables, opening_text, closing_text}
+use Rattle.kl_infer.specs.Printed.{Tree, any, product, choice, items, arrow, field, kind, part_tree, tree_to, tree_at, kind_variables, rest_variables, opening_text, closing_text}
 use Rattle.kl_infer.specs.Rows.{Places, CanPrint, IsEnd, front_of, is_open, kind_of, mark_behind}
 use Rattle.kl_value.specs.declared.Kind.{Kind}
 

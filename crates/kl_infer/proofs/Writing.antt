@@ -1,6 +1,5 @@
 -- What the parts of a scheme write.
-use Rattle.std.proofs.Common.{◌≡◌, ℕ, ◌+◌, ◌<◌, ◌≤◌, Bool, true, false, List, [], ◌∷◌, ◌++◌, length, take, get_or, codes, Option, Some, None, Result, refl, sym, ap, ◌∙◌, subst, arith, append_assoc, append-nil}
-use Rattle.std.specs.Prelude.{OnOk}
+use Rattle.std.proofs.Common.{◌≡◌, ℕ, ◌+◌, ◌<◌, ◌≤◌, true, false, List, [], ◌∷◌, ◌++◌, length, take, get_or, codes, Some, None, refl, sym, ap, ◌∙◌, subst, arith, append_assoc, append-nil}
 use mathlib.Core.Path.{ap₂}
 use Rattle.kl_value.specs.declared.Kind.{Kind}
 use Rattle.kl_base.specs.Sorted.{sorted}
@@ -14,7 +13,7 @@ use Rattle.kl_infer.specs.declared.page.Page.{Page}
 use Rattle.kl_infer.specs.Numbers.{Writes, limit, add_all}
 use Rattle.kl_infer.specs.Printed.{scheme_text, Tree, any, base, product, choice, items, arrow, field, no_field, kind, part_tree, tree_at, by_label, variables, rest_variables, kind_variables, row_variables, text, row_text, opening_text, closing_text, name_text}
 use Rattle.kl_infer.specs.Rows.{CanPrint, IsEnd, IsRowOf, is_open, kind_of, mark_behind}
-use Rattle.kl_infer.proofs.PageLemmas.{nothing, next, other_words, on_ok}
+use Rattle.kl_infer.proofs.PageLemmas.{nothing, next, other_words}
 use Rattle.kl_infer.proofs.TreeLemmas.{some_at, tree_is, parts_can, open_tree, kind_tree, plain_tree, closed_tree}
 use Rattle.kl_infer.proofs.RowLemmas.{Fields, front_variables, front_texts, piece, row_variables_are, row_text_is, variables_last, texts_last, take_more}
 

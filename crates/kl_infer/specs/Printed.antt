@@ -1,5 +1,5 @@
 -- The text of a scheme.
-use Rattle.std.specs.Prelude.{◌≡◌, ℕ, zero, suc, ◌<◌, List, [], ◌∷◌, ◌++◌, length, map, codes, decimal, Option, Some, None, slice_get}
+use Rattle.std.specs.Prelude.{ℕ, zero, suc, List, [], ◌∷◌, ◌++◌, length, map, codes, decimal, Option, Some, slice_get}
 use Rattle.std.specs.List.{flat_map}
 use Rattle.std.specs.declared.cmp.Ordering.{Ordering}
 use Rattle.kl_base.specs.Fields.{bytes_cmp}
@@ -11,10 +11,8 @@ use Rattle.kl_type.specs.Written.{type_text, opening, closing}
 use Rattle.kl_rows.specs.declared.schemes.Node.{Node}
 use Rattle.kl_rows.specs.declared.schemes.Node.TheVariants as node
 use Rattle.kl_rows.specs.declared.schemes.Part.{Part}
-use Rattle.kl_rows.specs.declared.schemes.Part.TheVariants.{Is, AnyType, AnyRow, AnyKind}
+use Rattle.kl_rows.specs.declared.schemes.Part.TheVariants.{Is}
 use Rattle.kl_rows.specs.declared.schemes.Scheme.{Scheme}
-use Rattle.kl_rows.specs.Places.{Parts}
-use Rattle.kl_rows.specs.Schemes.{cells_of}
 use Rattle.kl_infer.specs.Numbers.{add_all, number}
 
 -- A part with its parts in the stead of their places. A variable is its own place.

@@ -1,4 +1,11 @@
-//! Types of programs: their text.
+//! The types of a program as schemes: their text, and the kind of what the program can give.
+//!
+//! A scheme is a table whose parts are shared. Its text is that of the tree of its parts: `scheme_text` in
+//! `specs/Printed.antt`. Each variable has a number there, from 1 in the order of first appearance: `number` in
+//! `specs/Numbers.antt`. The tree is never built, and what is past the limit of a text is not gone through.
+//!
+//! What `rt plant` lets through here: bodies that answer want of memory, which no contract of this project ties to a
+//! refused growth. A test with ample memory calls each public function.
 #![tactic(auto)]
 
 mod page;

@@ -54,9 +54,7 @@ impl Page {
         let mut buffer = Buffer::new();
         self.put(buffer.format(number).as_bytes())
     }
-}
 
-impl Page {
     // The number of a variable, which is seen from then on.
     fn number(&mut self, place: usize) -> Result<usize, NoMemory>
         ensures seen { OnOk result (self.new.seen.items ≡ cond self.old.full self.old.seen.items (add place self.old.seen.items)) }

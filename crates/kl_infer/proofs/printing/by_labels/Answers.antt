@@ -1,6 +1,4 @@
 use Rattle.std.proofs.Common.{rules, ◌≡◌, ◌∙◌, ◌++◌, ◌∷◌, [], sym, ap}
-use Rattle.kl_base.specs.Sorted.{put_in, sorted}
-use Rattle.kl_infer.specs.Printed.{by_label}
 use Rattle.kl_infer.proofs.RowLemmas.{put_all, put_all_last, put_all_sorted}
 use Rattle.kl_infer.proofs.printing.by_labels.Goals as goal
 

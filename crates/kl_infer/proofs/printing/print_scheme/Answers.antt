@@ -1,4 +1,4 @@
-use Rattle.std.proofs.Common.{◌≡◌, ◌∙◌, ◌≤◌, length, sym, ap, subst}
+use Rattle.std.proofs.Common.{◌∙◌, ◌≤◌, length, sym, subst}
 use Rattle.kl_infer.specs.Numbers.{limit}
 use Rattle.kl_infer.specs.Rows.{CanPrint}
 use Rattle.kl_infer.proofs.TreeLemmas.{scheme_can}

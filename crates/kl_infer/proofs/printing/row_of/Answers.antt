@@ -1,10 +1,8 @@
-use Rattle.std.proofs.Common.{rules, ◌≡◌, ◌∙◌, ◌++◌, ◌∷◌, [], Some, None, sym, ap, subst, refl}
-use Rattle.kl_rows.specs.declared.schemes.Part.TheVariants.{Is}
-use Rattle.kl_rows.specs.declared.schemes.Node.TheVariants as node
+use Rattle.std.proofs.Common.{rules, ◌≡◌, ◌++◌, ◌∷◌, [], Some, None, sym, subst}
 use Rattle.kl_infer.specs.Rows.{front_of}
 use Rattle.kl_infer.proofs.TreeLemmas.{some_at, front_tree}
 use Rattle.kl_infer.specs.Printed.{tree_at}
-use Rattle.kl_infer.proofs.RowLemmas.{OnRow, on_row_first, on_row_more, on_row_end}
+use Rattle.kl_infer.proofs.RowLemmas.{OnRow, on_row_more, on_row_end}
 use Rattle.kl_infer.proofs.printing.row_of.Goals as goal
 
 pub row-smaller : goal.row-smaller

@@ -1,4 +1,4 @@
-use Rattle.std.proofs.Common.{◌≡◌, [], ◌∙◌, sym, ap, subst}
+use Rattle.std.proofs.Common.{[], ◌∙◌, sym, ap, subst}
 use Rattle.kl_infer.specs.Numbers.{Writes}
 use Rattle.kl_infer.specs.Rows.{kind_of}
 use Rattle.kl_infer.proofs.PageLemmas.{on_ok}

@@ -1,4 +1,4 @@
-use Rattle.std.proofs.Common.{◌≡◌, [], ◌∙◌, sym, ap, subst}
+use Rattle.std.proofs.Common.{[], ◌∙◌, sym, subst}
 use Rattle.kl_infer.specs.Numbers.{Writes}
 use Rattle.kl_infer.proofs.PageLemmas.{on_ok}
 use Rattle.kl_infer.proofs.Writing.{mark_open, mark_closed}

@@ -1,4 +1,4 @@
-use Rattle.std.proofs.Common.{◌≡◌, ◌∙◌, sym, ap}
+use Rattle.std.proofs.Common.{◌∙◌}
 use Rattle.kl_infer.proofs.PageLemmas.{named, on_ok}
 use Rattle.kl_infer.proofs.page.Page.name.Goals as goal
 

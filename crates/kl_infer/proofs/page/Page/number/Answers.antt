@@ -1,4 +1,4 @@
-use Rattle.std.proofs.Common.{◌≡◌, ◌∙◌, sym, ap}
+use Rattle.std.proofs.Common.{◌∙◌, sym, ap}
 use Rattle.kl_infer.specs.Numbers.{number}
 use Rattle.kl_infer.proofs.PageLemmas.{number_add}
 use Rattle.kl_infer.proofs.page.Page.number.Goals as goal
