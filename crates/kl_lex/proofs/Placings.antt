@@ -56,3 +56,15 @@ byte_within total r byte (left, g, due, never, e) = omega arith
 
 pub full : (r : List ℕ) → (length r ≡ 0 → ⊥) → r ≡ [] → ⊥
 full r n e = n (ap length e)
+
+one_placed : (t s : Placed) → token_of t ≡ token_of s → t ≡ s
+one_placed t s e i = record { what = (e i).what; from = (e i).from; to = (e i).to }
+
+pub one_list : (ts us : List Placed) → map token_of ts ≡ map token_of us → ts ≡ us
+one_list [] [] e = refl
+one_list [] (u ∷ us) e = absurd cc
+one_list (t ∷ ts) [] e = absurd cc
+one_list (t ∷ ts) (u ∷ us) e =
+    let same : token_of t ≡ token_of u = cc in
+    let rest : map token_of ts ≡ map token_of us = cc in
+    ap (λ (z : Placed). z ∷ ts) (one_placed t u same) ∙ ap (λ (z : List Placed). u ∷ z) (one_list ts us rest)

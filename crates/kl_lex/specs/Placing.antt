@@ -28,3 +28,8 @@ Comes total bytes (next.Bad byte) = (left : List ℕ) × Gap bytes left × IsDue
 abbrev pub AreLexed : List ℕ → Lexed → Type 0
 AreLexed bytes (lexed.Tokens ts) = PlacedTokens bytes ts × PlacesRise 0 (length bytes) (map token_of ts)
 AreLexed bytes (lexed.Bad byte) = Refused bytes byte
+
+-- the answer is these tokens
+abbrev pub OnlyTokens : Lexed → List Placed → Type 0
+OnlyTokens (lexed.Tokens found) ts = found ≡ ts
+OnlyTokens (lexed.Bad byte) ts = ⊥

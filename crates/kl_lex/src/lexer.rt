@@ -6,10 +6,11 @@ ghost use Rattle.std.specs.List.{prefix_len};
 ghost use Rattle.kl_base.specs.Word.{is_word_byte};
 ghost use Rattle.kl_lex.specs.Blank.{Gap, IsDue, is_white};
 ghost use Rattle.kl_lex.specs.Lexing.{Starts, NoneStarts, Tokens as AreTokens, RefusedAt, OrMemory, PlacesRise};
-ghost use Rattle.kl_lex.specs.Placing.{Comes, AreLexed, token_of};
+ghost use Rattle.kl_lex.specs.Placing.{Comes, AreLexed, OnlyTokens, PlacedTokens, token_of};
 ghost use Rattle.kl_lex.specs.Reading.{LineBefore};
 ghost use Rattle.kl_lex.specs.declared.lexer.LexError.TheVariants.{NoMemory as WantOfMemory};
 ghost use Rattle.kl_lex.specs.declared.token.Token.{Token as AToken};
+ghost use Rattle.kl_lex.specs.declared.token.Placed.{Placed as APlaced};
 
 use crate::number::number_at;
 use crate::quoted::text_at;
@@ -102,7 +103,8 @@ pub enum Lexed {
 /// # Errors
 /// Want of memory. What `lex` refuses is an answer here: the first byte where a token is due and none starts.
 pub fn lex_all(alloc: Global, bytes: &[u8]) -> Result<Lexed, NoMemory>
-    ensures { IfOk result (AreLexed bytes.now) }
+    ensures tokens { IfOk result (AreLexed bytes.now) }
+    ensures only { (ts : List APlaced) → PlacedTokens bytes.now ts → IfOk result (λ found. OnlyTokens found ts) }
 {
     let mut tokens = Vec::new(alloc);
     let mut lexer = Lexer::new(bytes);

@@ -1,4 +1,10 @@
+pub mod Answer
+pub mod FieldGoods
+pub mod Goods
 pub mod GroundLemmas
 pub mod HasLemmas
+pub mod Kepts
 pub mod RowLemmas
+pub mod Steps
+pub mod TokenLemmas
 pub mod WrittenLemmas

@@ -5,12 +5,15 @@
 #![tactic(auto)]
 
 mod copying;
+mod fault;
 mod ground;
 mod printing;
+mod reading;
 mod typed;
 
 pub use ground::{Ty, TyFields};
 pub use printing::print_type;
+pub use reading::{TypeError, read_type, type_laws};
 pub use typed::has;
 
 #[cfg(test)]
