@@ -1,4 +1,4 @@
-use crate::{ScopeError, resolve, sizes};
+use crate::{ScopeError, resolve};
 use kl_base::{Box, Label, Seq};
 use kl_parse::{Expr, Meaning, Pattern, Program, Qual, Word};
 use kl_value::Kind;
@@ -38,7 +38,6 @@ fn names_carry_what_they_mean(rt: HostRuntime) -> Result<(), Fail> {
     assert!(rt; *scoped.program() == want);
     assert!(rt; scoped.mentions(1) && !scoped.mentions(0));
     assert_eq!(rt; scoped.sources().len(), 2);
-    assert!(rt; sizes(alloc, &scoped)?.is_none());
     Ok(())
 }
 
