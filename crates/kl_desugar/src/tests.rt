@@ -2,7 +2,7 @@ use crate::translate;
 use kl_base::{Box, Label, Seq};
 use kl_core::{Term, nodes};
 use kl_parse::{Expr, Meaning, Pattern, Program, Qual, Word};
-use kl_scope::resolve;
+use kl_scope::{Scoped, resolve};
 use kl_value::Kind;
 use std::alloc::Global;
 use std::test::Fail;
@@ -25,23 +25,37 @@ fn draws(alloc: Global) -> Result<Program, Fail> {
     })
 }
 
+fn scoped(alloc: Global) -> Result<Scoped, Fail> {
+    let sources = vec![in alloc; Label::new(alloc, b"pubs")?.ok_or("no word")?]?;
+    match resolve(alloc, draws(alloc)?, &sources) {
+        Ok(scoped) => Ok(scoped),
+        Err(_) => Err(Fail::from("not in scope")),
+    }
+}
+
+fn binds_the_item(term: &Term) -> bool {
+    match term {
+        Term::Let(bound, _) => matches!(bound.get(), Term::Var(0)),
+        _ => false,
+    }
+}
+
 // Ext(Set, y. Let(x = y, Make(Set, [x])), Source(0))
+fn is_loop(term: &Term) -> bool {
+    match term {
+        Term::Ext(Kind::Set, body, source) => {
+            matches!(source.get(), Term::Source(0)) && binds_the_item(body.get())
+        }
+        _ => false,
+    }
+}
+
 #[test]
 fn a_generator_is_a_loop(rt: HostRuntime) -> Result<(), Fail> {
     let alloc = rt.alloc();
-    let sources = vec![in alloc; Label::new(alloc, b"pubs")?.ok_or("no word")?]?;
-    let Ok(scoped) = resolve(alloc, draws(alloc)?, &sources) else {
-        return Err(Fail::from("not in scope"));
-    };
+    let scoped = scoped(alloc)?;
     let term = translate(alloc, &scoped)?;
+    assert!(rt; is_loop(&term));
     assert_eq!(rt; nodes(&term), 6);
-    let Term::Ext(Kind::Set, body, source) = &term else {
-        return Err(Fail::from("no loop"));
-    };
-    assert!(rt; matches!(source.get(), Term::Source(0)));
-    let Term::Let(bound, _) = body.get() else {
-        return Err(Fail::from("nothing is bound"));
-    };
-    assert!(rt; matches!(bound.get(), Term::Var(0)));
     Ok(())
 }
