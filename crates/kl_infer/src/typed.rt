@@ -12,8 +12,8 @@ use kl_value::Kind;
 /// The schemes of definitions, in their order.
 pub type Schemes = Seq<Scheme>;
 
-/// A program's types: a definition's or the program's own scheme has as instances exactly the types that it has. That
-/// of a function has the pairs of its parameter's type and its result's.
+/// A program's types, as schemes. That of a function has an arrow at its root, from its parameter's type to its
+/// result's.
 #[derive(Debug, Drop)]
 pub struct Typed {
     pub schemes: Schemes,
