@@ -499,8 +499,8 @@ module _ (t : Term) (k : Kind) (x y x' y' : Term) (env : List Value) (et : t ≡
       (record {
         moved = moved_then a b c m i.moved;
         gives = gathers (Draws (λ v. Comes a.types a.values (v ∷ env) (view x')) (flow vs e)) (Comes a.types a.values env (ext k (view x') (view y'))) k d r
-        (λ f q. (p, f, h, subst (λ z. Draws (λ v. Comes a.types a.values (v ∷ env) (view x')) z f) (sym is) q, refl))
-        (back (λ S T. FlowGives (Draws (λ v. Comes S T (v ∷ env) (view x')) (flow vs e)) d) a b m i.gives) g;
+            (λ f q. (p, f, h, subst (λ z. Draws (λ v. Comes a.types a.values (v ∷ env) (view x')) z f) (sym is) q, refl))
+            (back (λ S T. FlowGives (Draws (λ v. Comes S T (v ∷ env) (view x')) (flow vs e)) d) a b m i.gives) g;
       })
 
 -- the items of a collection, or before an overflow
@@ -547,8 +547,8 @@ module _ (t : Term) (x y x' : Term) (env : List Value) (et : t ≡ term.Union x 
       → Comes S T env (view t) (gathered k e (vs ++ ws))
   unites v k vs q ws e S T ev eq c d =
       let is : gathered k e (vs ++ ws) ≡ union_of (done v) q =
-          sym (ap (λ z. joined_to z q) (ap as_collection ev ∙ collection_is k vs)
-            ∙ ap (λ z. collected k (followed (flow vs fine) z)) eq ∙ ap (collected k) (flow_more vs ws e) ∙ collected_flow k (vs ++ ws) e) in
+      sym (ap (λ z. joined_to z q) (ap as_collection ev ∙ collection_is k vs)
+      ∙ ap (λ z. collected k (followed (flow vs fine) z)) eq ∙ ap (collected k) (flow_more vs ws e) ∙ collected_flow k (vs ++ ws) e) in
       subst (λ z. Comes S T env z (gathered k e (vs ++ ws))) (sym at_Union) (done v, c, (q, d, is))
 
   pub value_union : (y' : Term) (v w : Value) (k : Kind) (vs both : List Value) (r : Result Value Halt) (a b c : World) → y' ≡ y → v ≡ collection k vs → AddsItems w (Ok tt) vs both
@@ -560,8 +560,8 @@ module _ (t : Term) (x y x' : Term) (env : List Value) (et : t ≡ term.Union x 
       record {
         moved = moved_then a b c h.moved g'.moved;
         gives = gives_made (Comes a.types a.values env (view t)) (canonical k both) r
-        (subst (λ z. Comes a.types a.values env (view t) (done (canonical k z))) (sym add.3)
-        (unites v k vs (done w) ws fine a.types a.values ev is h.gives (back (λ S T. Comes S T env (view y) (done w)) a b h.moved g'.gives))) m;
+            (subst (λ z. Comes a.types a.values env (view t) (done (canonical k z))) (sym add.3)
+            (unites v k vs (done w) ws fine a.types a.values ev is h.gives (back (λ S T. Comes S T env (view y) (done w)) a b h.moved g'.gives))) m;
       }
 
   pub value_union_lost : (y' : Term) (v w : Value) (vs both : List Value) (e : Halt) (a b c : World) → Evals (view x') env (Ok v) a b → Evals (view y') env (Ok w) b c → AddsItems w (Err e) vs both → Evals (view t) env (Err e) a c
@@ -575,8 +575,8 @@ module _ (t : Term) (x y x' : Term) (env : List Value) (et : t ≡ term.Union x 
       record {
         moved = moved_then a b c h.moved g'.moved;
         gives = gives_over (Comes a.types a.values env (view t)) (kept k us.items) r
-        (subst (λ z. Comes a.types a.values env (view t) (over (kept k z))) (sym e)
-        (unites v k vs (over ws.items) ws.items overflow a.types a.values ev refl h.gives (back (λ S T. Comes S T env (view y) (over ws.items)) a b h.moved g'.gives))) m;
+            (subst (λ z. Comes a.types a.values env (view t) (over (kept k z))) (sym e)
+            (unites v k vs (over ws.items) ws.items overflow a.types a.values ev refl h.gives (back (λ S T. Comes S T env (view y) (over ws.items)) a b h.moved g'.gives))) m;
       }
   value_union_over y' v k vs (halt.Over ws) halt.NoMemory r a b c ey ev e h g m = record { moved = moved_then a b c h.moved g.moved; gives = subst (Gives (Comes a.types a.values env (view t))) (sym m) tt }
   value_union_over y' v k vs halt.NoMemory (halt.Over us) r a b c ey ev e h g m = absurd e
@@ -828,7 +828,7 @@ module _ (terms : List Term) (i : ℕ) (t : Term) (whole : Trees) (env now : Lis
         moved = moved_then a b c k.moved h.moved;
         sense = onto (λ S. (G : List Ground) × (s : Ground) × HaveTypes G env × EachType S G Later s) b c h.moved (k.sense.0, k.sense.1, k.sense.2, k.sense.3.1);
         onward = λ f d. subst (λ q. ItemsCome a.types a.values env whole q) (sym (ap (λ q. before q f) e ∙ before_then now (v ∷ []) f))
-        (k.onward (more v f) (done v, back (λ S T. Comes S T env (view t) (done v)) a b k.moved h.gives, (f, d, refl)));
+            (k.onward (more v f) (done v, back (λ S T. Comes S T env (view t) (done v)) a b k.moved h.gives, (f, d, refl)));
       }
 
   pub each_over : (q : Halt) (vs : Vec Value Global) (ws : Vec Value Global) (c : World) → q ≡ halt.Over vs → Evals (view t) env (Err q) b c → now ≡ ws.items → EvalsEach whole env (Err (halt.Over ws)) a c
@@ -838,7 +838,7 @@ module _ (terms : List Term) (i : ℕ) (t : Term) (whole : Trees) (env now : Lis
       record {
         moved = moved_then a b c k.moved h.moved;
         gives = subst (ItemsCome a.types a.values env whole) (before_end now overflow ∙ ap (λ q. flow q overflow) e)
-        (k.onward (stop overflow) (over vs.items, back (λ S T. Comes S T env (view t) (over vs.items)) a b k.moved h.gives, refl));
+            (k.onward (stop overflow) (over vs.items, back (λ S T. Comes S T env (view t) (over vs.items)) a b k.moved h.gives, refl));
       }
 
   pub each_lost : (v : Value) (now' : List Value) (q : Halt) (c : World) → Evals (view t) env (Ok v) b c → Adds (v ∷ []) (Err q) now now' → EvalsEach whole env (Err q) a c
@@ -890,11 +890,13 @@ module _ (t : Tree) (vs : List Value) (i : ℕ) (v : Value) (whole : Flow) (e : 
       record {
         moved = moved_then a b c k.moved h.moved;
         sense = onto (λ S. (G : List Ground) × (u : Ground) × (k : Kind) × (s : Ground) × HaveTypes G env × AllByRecursion (Inhabits u) (drop (i + 1) vs) × CoreTypes S (u ∷ G) t (coll k s)) b c h.moved
-        (k.sense.0, k.sense.1, k.sense.2, k.sense.3, k.sense.4, k.sense.5.1, k.sense.6);
+            (k.sense.0, k.sense.1, k.sense.2, k.sense.3, k.sense.4, k.sense.5.1, k.sense.6);
         onward = λ f d. subst (Draws (λ v. Comes a.types a.values (v ∷ env) t) whole) (sym (ap (λ q. before q f) add.3 ∙ before_then now ws f))
-        (k.onward (before ws f)
-        (done u, back (λ S T. Comes S T (v ∷ env) t (done u)) a b k.moved h.gives,
-        subst (λ q. Follows q (Draws (λ v. Comes a.types a.values (v ∷ env) t) (flow (drop (i + 1) vs) e)) (before ws f)) (sym items) (follows_flow ws _ f d)));
+            (k.onward (before ws f) (
+              done u,
+              back (λ S T. Comes S T (v ∷ env) t (done u)) a b k.moved h.gives,
+              subst (λ q. Follows q (Draws (λ v. Comes a.types a.values (v ∷ env) t) (flow (drop (i + 1) vs) e)) (before ws f)) (sym items) (follows_flow ws _ f d),
+            ));
       }
 
   pub body_lost : (u : Value) (now' : List Value) (q : Halt) (c : World) → Evals t (v ∷ env) (Ok u) b c → AddsItems u (Err q) now now' → EvalsBody t whole env (Err q) a c
@@ -907,8 +909,8 @@ module _ (t : Tree) (vs : List Value) (i : ℕ) (v : Value) (whole : Flow) (e : 
       record {
         moved = moved_then a b c k.moved h.moved;
         gives = subst (Draws (λ v. Comes a.types a.values (v ∷ env) t) whole)
-        (sym (before_then now ws.items (stop overflow)) ∙ before_end (now ++ ws.items) overflow ∙ ap (λ q. flow q overflow) (ap (λ q. q ++ ws.items) en ∙ sym m))
-        (k.onward (before ws.items (stop overflow)) (over ws.items, back (λ S T. Comes S T (v ∷ env) t (over ws.items)) a b k.moved h.gives, follows_over ws.items _));
+            (sym (before_then now ws.items (stop overflow)) ∙ before_end (now ++ ws.items) overflow ∙ ap (λ q. flow q overflow) (ap (λ q. q ++ ws.items) en ∙ sym m))
+            (k.onward (before ws.items (stop overflow)) (over ws.items, back (λ S T. Comes S T (v ∷ env) t (over ws.items)) a b k.moved h.gives, follows_over ws.items _));
       }
   body_over (halt.Over ws) halt.NoMemory items c en h m = record { moved = moved_then a b c (at_value).moved h.moved; gives = tt }
   body_over halt.NoMemory (halt.Over us) items c en h m = absurd m
@@ -950,8 +952,11 @@ module _ (fields : List (Name × Term)) (i : ℕ) (p : Name × Term) (whole : Pa
       record {
         moved = moved_then a b c k.moved h.moved;
         sense = onto (λ S. (G : List Ground) × (r : Row) × HaveTypes G env × PartTypes S G Rest r) b c h.moved (k.sense.0, k.sense.3.1, k.sense.2, k.sense.3.4);
-        onward = λ go o d. k.onward go o (done v, back (λ S T. Comes S T env (view p.1) (done v)) a b k.moved h.gives,
-        subst (λ q. PartsCome a.types a.values env Rest q o) (fun_ext (λ fs. ap go (ap (λ q. q ++ fs) e ∙ append_assoc now ((p.0, v) ∷ []) fs))) d);
+        onward = λ go o d. k.onward go o (
+          done v,
+          back (λ S T. Comes S T env (view p.1) (done v)) a b k.moved h.gives,
+          subst (λ q. PartsCome a.types a.values env Rest q o) (fun_ext (λ fs. ap go (ap (λ q. q ++ fs) e ∙ append_assoc now ((p.0, v) ∷ []) fs))) d,
+        );
       }
 
   pub fields_lost : (v : Value) (now' : List (Name × Value)) (e : EvalStop) (c : World) → EvalsPart (view p.1) env (Ok v) b c → AddsField p.0 v (Err e) now now' → EvalsFields whole env (Err e) a c

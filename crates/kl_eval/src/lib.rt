@@ -14,4 +14,3 @@ mod tables;
 pub use public::{eval, eval_list};
 pub use stop::EvalStop;
 pub use tables::{NoTables, Tables};
-

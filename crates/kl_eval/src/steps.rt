@@ -168,7 +168,11 @@ pub fn add_list(outcome: Result<Value, Halt>, into: &mut Vec<Value>) -> Result<(
 }
 
 /// Adds a field.
-pub fn push_field(label: &Label, value: Value, out: &mut Vec<(Label, Value)>) -> Result<(), EvalStop>
+pub fn push_field(
+    label: &Label,
+    value: Value,
+    out: &mut Vec<(Label, Value)>,
+) -> Result<(), EvalStop>
     ensures { AddsField label.now value result out.old.items out.new.items }
 {
     match label.dup() {
