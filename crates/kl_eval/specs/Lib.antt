@@ -1,0 +1,5 @@
+pub mod Comes
+pub mod Evals
+pub mod Steps
+pub mod Values
+pub mod World

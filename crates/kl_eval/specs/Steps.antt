@@ -1,0 +1,84 @@
+-- What the steps of the evaluator make.
+use Rattle.std.specs.Prelude.{◌≡◌, ℕ, suc, List, [], ◌∷◌, ◌++◌, Option, Some, None, Result, Ok, Err, Vec, cond, nat_eq, ⊤}
+use Rattle.std.specs.Option.{option_map}
+use Rattle.std.specs.declared.alloc.Global.{Global}
+use Rattle.std.specs.Cmp.Lexicographic.{pointwise}
+use Rattle.kl_value.specs.Canon.{canonical}
+use Rattle.kl_value.specs.IsCanonical.{IsCanonical}
+use Rattle.kl_value.specs.Views.{collection}
+use Rattle.kl_value.specs.declared.Kind.{Kind}
+use Rattle.kl_value.specs.declared.Value.{Value}
+use Rattle.kl_value.specs.declared.Value.TheVariants as value
+use Rattle.kl_prim.specs.Meaning.{Answer, gives, overflows}
+use Rattle.kl_outcome.specs.Outcome.{Name, Outcome, done, over, stuck, kept}
+use Rattle.kl_eval.specs.declared.stop.EvalStop.{EvalStop}
+use Rattle.kl_eval.specs.declared.stop.EvalStop.TheVariants as stop
+use Rattle.kl_eval.specs.declared.stop.Halt.{Halt}
+use Rattle.kl_eval.specs.declared.stop.Halt.TheVariants as halt
+
+-- a result says what an outcome is, unless memory ran out
+abbrev pub Answers : Outcome → Result Value Halt → Type 0
+Answers (done v) (Ok w) = w ≡ v
+Answers (done v) (Err (halt.Over ws)) = ⊥
+Answers (over vs) (Ok w) = ⊥
+Answers (over vs) (Err (halt.Over ws)) = ws.items ≡ vs
+Answers stuck r = ⊥
+Answers o (Err halt.NoMemory) = ⊤
+
+abbrev pub inside_of : Result Value Halt → Result Value EvalStop
+inside_of (Ok v) = Ok v
+inside_of (Err (halt.Over vs)) = Err stop.Overflow
+inside_of (Err halt.NoMemory) = Err stop.NoMemory
+
+abbrev pub Outside : EvalStop → Halt → Type 0
+Outside stop.Overflow (halt.Over vs) = vs.items ≡ []
+Outside stop.Overflow halt.NoMemory = ⊥
+Outside stop.NoMemory (halt.Over vs) = ⊥
+Outside stop.NoMemory halt.NoMemory = ⊤
+
+-- these at the end of a list, unless memory ran out
+abbrev pub Adds : List Value → Result (Unit {0}) Halt → List Value → List Value → Type 0
+Adds vs (Ok _) old new = new ≡ old ++ vs
+Adds vs (Err (halt.Over ws)) old new = ⊥
+Adds vs (Err halt.NoMemory) old new = ⊤
+
+abbrev pub AddsItems : Value → Result (Unit {0}) Halt → List Value → List Value → Type 0
+AddsItems v r old new = (k : Kind) × (vs : List Value) × (v ≡ collection k vs) × Adds vs r old new
+
+abbrev pub AddsField : Name → Value → Result (Unit {0}) EvalStop → List (Name × Value) → List (Name × Value) → Type 0
+AddsField l v (Ok _) old new = new ≡ old ++ (l, v) ∷ []
+AddsField l v (Err stop.Overflow) old new = ⊥
+AddsField l v (Err stop.NoMemory) old new = ⊤
+
+-- an overflow behind some items
+abbrev pub Behind : List Value → Halt → Halt → Type 0
+Behind vs (halt.Over ws) (halt.Over us) = us.items ≡ vs ++ ws.items
+Behind vs halt.NoMemory (halt.Over us) = ⊥
+Behind vs h halt.NoMemory = ⊤
+
+-- a collection of what was drawn
+abbrev pub Gathers : Kind → Result (Vec Value Global) Halt → Result Value Halt → Type 0
+Gathers k (Ok vs) r = Answers (done (canonical k vs.items)) r
+Gathers k (Err (halt.Over vs)) r = Answers (over (kept k vs.items)) r
+Gathers k (Err halt.NoMemory) r = r ≡ Err halt.NoMemory
+
+-- what an outcome has as a list at the end of another; want of memory leaves that as it was
+abbrev pub AddsList : Result Value Halt → Result (Unit {0}) EvalStop → List Value → List Value → Type 0
+AddsList (Ok v) (Ok _) old new = (vs : List Value) × (v ≡ value.List vs) × (new ≡ old ++ vs)
+AddsList (Ok v) (Err stop.Overflow) old new = ⊥
+AddsList (Err (halt.Over vs)) (Ok _) old new = ⊥
+AddsList (Err (halt.Over vs)) (Err stop.Overflow) old new = new ≡ old ++ vs.items
+AddsList (Err halt.NoMemory) (Ok _) old new = ⊥
+AddsList (Err halt.NoMemory) (Err stop.Overflow) old new = ⊥
+AddsList r (Err stop.NoMemory) old new = new ≡ old
+
+-- what a primitive answers
+abbrev pub AnswersPrim : Answer → Result Value EvalStop → Type 0
+AnswersPrim a (Ok v) = a ≡ gives v
+AnswersPrim a (Err stop.Overflow) = a ≡ overflows
+AnswersPrim a (Err stop.NoMemory) = ⊤
+
+-- the place of the first one with a label
+abbrev pub place_of : {X : Type 0} → Name → List (Name × X) → Option ℕ
+place_of l [] = None
+place_of l (p ∷ ps) = cond (pointwise nat_eq l p.0) (Some 0) (option_map suc (place_of l ps))
