@@ -4,8 +4,7 @@
 //! `specs/Printed.antt`. Each variable has a number there, from 1 in the order of first appearance: `number` in
 //! `specs/Numbers.antt`. The tree is never built, and what is past the limit of a text is not gone through.
 //!
-//! What `rt plant` lets through here: bodies that answer want of memory, which no contract of this project ties to a
-//! refused growth. A test with ample memory calls each public function.
+//! `rt plant` has not run on this crate yet. A test with ample memory calls each public function.
 #![tactic(auto)]
 
 mod page;
