@@ -1,4 +1,4 @@
-use crate::{Ty, has, print_type};
+use crate::{Ty, TypeError, has, print_type, read_type};
 use kl_base::{Box, Label, Seq};
 use kl_value::{Kind, Value};
 use std::alloc::Global;
@@ -22,5 +22,14 @@ fn a_type_is_copied_printed_and_had(rt: HostRuntime) -> Result<(), Fail> {
     let bag = Value::Bag(Seq::of(vec![in alloc; item]?));
     assert!(rt; has(&bag, &whole));
     assert!(rt; !has(&bag, &Ty::Int));
+    Ok(())
+}
+
+#[test]
+fn a_type_is_read_off_its_text(rt: HostRuntime) -> Result<(), Fail> {
+    let alloc = rt.alloc();
+    let whole = Ty::Coll(Kind::Set, Box::new(alloc, Ty::Int)?);
+    assert!(rt; read_type(alloc, b"{ int }") == Ok(whole));
+    assert!(rt; read_type(alloc, b"[a:int,a") == Err(TypeError::Bad { place: 7 }));
     Ok(())
 }
