@@ -14,7 +14,7 @@ use Rattle.kl_scope.specs.Ranks.{token_of, rule_of}
 use Rattle.kl_scope.specs.declared.refusal.ScopeError.{ScopeError}
 use Rattle.kl_scope.specs.declared.refusal.ScopeError.TheVariants.{Unknown, Twice, Misapplied, Refutable, NoMemory}
 use Rattle.kl_engine.specs.Answering.{unnamed, Alike, one, nested, unnested, renamed, Prints, DoesText, IsTold, IsOneOf, HasTextFault, PrintsNothing}
-use Rattle.kl_engine.specs.Checking.{byte_of, scope_fault, IsBreach, IsScopeEnd, IsTokensEnd, IsCheckEnd, Finds}
+use Rattle.kl_engine.specs.Checking.{byte_of, scope_fault, IsBreach, IsScopeEnd, IsWrongAt, IsDeepAt, IsTokensEnd, IsCheckEnd, Finds}
 use Rattle.kl_engine.specs.Commands.{Program as AProgram}
 use Rattle.kl_engine.specs.Faults.{Ending}
 use Rattle.kl_engine.specs.Verdict.{Verdict, well, refused, of_check, IsChecked}
@@ -106,12 +106,12 @@ one_place ts k j this that = elim (cases_order k j) [
 
 tokens_alike : (ts : List Token) (size : ℕ) (end other : Ending) → IsTokensEnd ts size end → IsTokensEnd ts size other → Alike (of_check end) (of_check other)
 tokens_alike ts size end other (inl (p, reads, ends)) (inl (q, also, too)) = scope_alike ts size q end other (subst (λ r. IsScopeEnd ts size r end) (unique ts p q reads also) ends) too
-tokens_alike ts size end other (inl (p, reads, ends)) (inr (inl (k, place, it))) = absurd (place.not_whole (256, p, reads))
-tokens_alike ts size end other (inl (p, reads, ends)) (inr (inr (k, place, it))) = absurd (place.not_whole p reads)
-tokens_alike ts size end other (inr (inl (k, place, is))) (inl (p, reads, ends)) = absurd (place.not_whole (256, p, reads))
-tokens_alike ts size end other (inr (inl (k, place, is))) (inr (inl (j, also, it))) = one (ap of_check (is ∙ (ap (λ n. Some (fault.Text wrong.Syntax (byte_of ts n size))) (one_place ts k j place also) ∙ sym it)))
+tokens_alike ts size end other (inl (p, reads, ends)) (inr (inl (k, place, it))) = absurd (place.0.not_whole (256, p, reads))
+tokens_alike ts size end other (inl (p, reads, ends)) (inr (inr (k, place, it))) = absurd (place.0.not_whole p reads)
+tokens_alike ts size end other (inr (inl (k, place, is))) (inl (p, reads, ends)) = absurd (place.0.not_whole (256, p, reads))
+tokens_alike ts size end other (inr (inl (k, place, is))) (inr (inl (j, also, it))) = one (ap of_check (is ∙ (ap (λ n. Some (fault.Text wrong.Syntax (byte_of ts n size))) (one_place ts k j place.0 also.0) ∙ sym it)))
 tokens_alike ts size end other (inr (inl (k, place, is))) (inr (inr (j, also, it))) = nested (byte_of ts k size) (ap of_check is) (ap of_check it)
-tokens_alike ts size end other (inr (inr (k, place, is))) (inl (p, reads, ends)) = absurd (place.not_whole p reads)
+tokens_alike ts size end other (inr (inr (k, place, is))) (inl (p, reads, ends)) = absurd (place.0.not_whole p reads)
 tokens_alike ts size end other (inr (inr (k, place, is))) (inr (inl (j, also, it))) = unnested (byte_of ts j size) (ap of_check is) (ap of_check it)
 tokens_alike ts size end other (inr (inr (k, place, is))) (inr (inr (j, also, it))) = one (ap of_check (is ∙ sym it))
 
@@ -192,8 +192,12 @@ few_tokens place total (t ∷ ts) (after, full, more) = let rest = few_tokens t.
 -- ---- what is found
 
 -- what is found of these tokens, which the layers saw under other names
-pub found_deep : (text : List ℕ) (ts us : List Token) (k : ℕ) → Tokens text ts → us ≡ ts → Refuses us (Err (TooDeep k)) → Finds text (Some fault.Nesting)
-found_deep text ts us k tokens same place = inr (inl (ts, tokens, inr (inr (k, subst (λ r. Refuses r (Err (TooDeep k))) same place, refl))))
+pub found_deep : (text : List ℕ) (ts us : List Token) (k : ℕ) → Tokens text ts → us ≡ ts → IsDeepAt us k → Finds text (Some fault.Nesting)
+found_deep text ts us k tokens same place = inr (inl (ts, tokens, inr (inr (k, subst (λ r. IsDeepAt r k) same place, refl))))
+
+pub found_wrong : (text : List ℕ) (ts us vs : List Token) (k byte : ℕ) → Tokens text ts → us ≡ ts → vs ≡ ts → IsWrongAt us k → byte ≡ byte_of vs k (length text) → Finds text (Some (fault.Text wrong.Syntax byte))
+found_wrong text ts us vs k byte tokens same also place is =
+    inr (inl (ts, tokens, inr (inl (k, subst (λ r. IsWrongAt r k) same place, ap (λ n. Some (fault.Text wrong.Syntax n)) (is ∙ ap (λ r. byte_of r k (length text)) also)))))
 
 pub found_well : (text : List ℕ) (ts us : List Token) (p : Program) → Tokens text ts → us ≡ ts → IsProgram us p → InScope p [] → Finds text None
 found_well text ts us p tokens same reads scope = inr (inl (ts, tokens, inl (p, subst (λ r. IsProgram r p) same reads, inl (scope, refl))))

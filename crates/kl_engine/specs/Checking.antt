@@ -4,7 +4,7 @@ use Rattle.std.specs.List.{slice_get}
 use Rattle.std.specs.Option.{option_map, unwrap_or}
 use Rattle.kl_lex.specs.Lexing.{Tokens, Refused}
 use Rattle.kl_lex.specs.declared.token.Token.{Token}
-use Rattle.kl_parse.specs.Parsing.{IsProgram, Refuses}
+use Rattle.kl_parse.specs.Parsing.{IsProgram, Refuses, NestsBehind, Shallow}
 use Rattle.kl_parse.specs.declared.program.ParseError.TheVariants.{Syntax, TooDeep}
 use Rattle.kl_parse.specs.declared.tree.Program.{Program}
 use Rattle.kl_scope.specs.Breaches.{InScope, IsFirstBreach}
@@ -36,9 +36,17 @@ IsBreach e = ⊤
 abbrev pub IsScopeEnd : List Token → ℕ → Program → Ending → Type 0
 IsScopeEnd ts size p end = (InScope p [] × (end ≡ None)) ⊎ ((e : ScopeError) × IsBreach e × IsFirstBreach p [] e × (end ≡ Some (scope_fault ts size e)))
 
+-- at this token no program goes on, and what stands before it begins a program of bounded nesting
+abbrev pub IsWrongAt : List Token → ℕ → Type 0
+IsWrongAt ts k = Refuses ts (Err (Syntax k)) × Shallow ts (Err (Syntax k))
+
+-- this token nests too deep: 256 that can nest stand before it
+abbrev pub IsDeepAt : List Token → ℕ → Type 0
+IsDeepAt ts k = Refuses ts (Err (TooDeep k)) × NestsBehind ts (Err (TooDeep k)) × Shallow ts (Err (TooDeep k))
+
 -- the tokens are a program; or at a place no program goes on; or they nest too deep
 abbrev pub IsTokensEnd : List Token → ℕ → Ending → Type 0
-IsTokensEnd ts size end = ((p : Program) × IsProgram ts p × IsScopeEnd ts size p end) ⊎ ((k : ℕ) × Refuses ts (Err (Syntax k)) × (end ≡ Some (fault.Text wrong.Syntax (byte_of ts k size)))) ⊎ ((k : ℕ) × Refuses ts (Err (TooDeep k)) × (end ≡ Some fault.Nesting))
+IsTokensEnd ts size end = ((p : Program) × IsProgram ts p × IsScopeEnd ts size p end) ⊎ ((k : ℕ) × IsWrongAt ts k × (end ≡ Some (fault.Text wrong.Syntax (byte_of ts k size)))) ⊎ ((k : ℕ) × IsDeepAt ts k × (end ≡ Some fault.Nesting))
 
 -- the bytes are tokens, or at one of them none starts
 abbrev pub IsCheckEnd : List ℕ → Ending → Type 0
