@@ -14,3 +14,6 @@ mod tables;
 pub use public::{eval, eval_list};
 pub use stop::EvalStop;
 pub use tables::{NoTables, Tables};
+
+#[cfg(test)]
+mod tests;

@@ -1,0 +1,20 @@
+use Rattle.std.proofs.Common.{rules, ◌≡◌, ℤ, pos, [], refl, sym, subst}
+use Rattle.kl_core.specs.Trees.{view, con}
+use Rattle.kl_core.specs.Typing.{CoreTypes}
+use Rattle.kl_core.specs.declared.term.Term.{the_lemmas}
+use Rattle.kl_core.specs.declared.term.Term.TheVariants as term
+use Rattle.kl_type.specs.Ground.{int}
+use Rattle.kl_outcome.specs.Typed.{HaveTypes, Has}
+use Rattle.kl_value.specs.declared.Value.{Value}
+use Rattle.kl_value.specs.declared.Value.TheVariants as value
+use Rattle.kl_value.proofs.IsCanonicalLemmas.{int_made}
+use Rattle.kl_eval.proofs.tests.four.Goals as goal
+
+view_Const : (v : Value) → view (term.Const v) ≡ con v
+view_Const v = search (rules, the_lemmas)
+
+is_int : (n : ℤ) → Has int (value.Int n)
+is_int n = rw (value.outs-Int n) refl
+
+pub returns : goal.returns
+returns c env w is = ([], int, subst (HaveTypes []) (sym is) tt, subst (λ t. CoreTypes w.types [] t int) (sym (view_Const (value.Int (pos 4)))) (is_int (pos 4), int_made (pos 4)))
