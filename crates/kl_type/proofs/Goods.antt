@@ -75,33 +75,33 @@ module _ (N : ℕ) (E W : Phrase Placed Ty) (e : Reader Placed Ty) (good : Good 
 
 -- ---- types
 
-abbrev R5 : Bool → Phrase Placed Ty → Phrase Placed Ty
-R5 may E = Or (Opened may (Var E)) (One IsBase)
+abbrev VariantOn : Bool → Phrase Placed Ty → Phrase Placed Ty
+VariantOn may E = Or (Opened may (Var E)) (One IsBase)
 
-abbrev R4 : Bool → Phrase Placed Ty → Phrase Placed Ty
-R4 may E = Or (Opened may (Rec E)) (R5 may E)
+abbrev RecordOn : Bool → Phrase Placed Ty → Phrase Placed Ty
+RecordOn may E = Or (Opened may (Rec E)) (VariantOn may E)
 
-abbrev R3 : Bool → Phrase Placed Ty → Phrase Placed Ty
-R3 may E = Or (Opened may (Coll E kind.List)) (R4 may E)
+abbrev ListOn : Bool → Phrase Placed Ty → Phrase Placed Ty
+ListOn may E = Or (Opened may (Coll E kind.List)) (RecordOn may E)
 
-abbrev R2 : Bool → Phrase Placed Ty → Phrase Placed Ty
-R2 may E = Or (Opened may (Coll E kind.Bag)) (R3 may E)
+abbrev BagOn : Bool → Phrase Placed Ty → Phrase Placed Ty
+BagOn may E = Or (Opened may (Coll E kind.Bag)) (ListOn may E)
 
 has_a_type : (may : Bool) (E : Phrase Placed Ty) → Has (AType E may)
-has_a_type may E = has_right (Opened may (Coll E kind.Set)) (R2 may E) (has_right (Opened may (Coll E kind.Bag)) (R3 may E) (has_right (Opened may (Coll E kind.List)) (R4 may E) (has_right (Opened may (Rec E)) (R5 may E) (has_right (Opened may (Var E)) (One IsBase) has_base))))
+has_a_type may E = has_right (Opened may (Coll E kind.Set)) (BagOn may E) (has_right (Opened may (Coll E kind.Bag)) (ListOn may E) (has_right (Opened may (Coll E kind.List)) (RecordOn may E) (has_right (Opened may (Rec E)) (VariantOn may E) (has_right (Opened may (Var E)) (One IsBase) has_base))))
 
 module _ (may : Bool) (E : Phrase Placed Ty) where
-  off5 : (s : Sym) → same_symbol sy.Lt s ≡ false → Off (is_symbol s) (R5 may E) Free
-  off5 s a = off_more may s sy.Lt (Var E) (One IsBase) a (on_var E) (off_on Free (word_no_symbol s) on_base)
+  off_variant : (s : Sym) → same_symbol sy.Lt s ≡ false → Off (is_symbol s) (VariantOn may E) Free
+  off_variant s a = off_more may s sy.Lt (Var E) (One IsBase) a (on_var E) (off_on Free (word_no_symbol s) on_base)
 
-  off4 : (s : Sym) → same_symbol sy.OpenRec s ≡ false → same_symbol sy.Lt s ≡ false → Off (is_symbol s) (R4 may E) Free
-  off4 s b a = off_more may s sy.OpenRec (Rec E) (R5 may E) b (on_rec E) (off5 s a)
+  off_record : (s : Sym) → same_symbol sy.OpenRec s ≡ false → same_symbol sy.Lt s ≡ false → Off (is_symbol s) (RecordOn may E) Free
+  off_record s b a = off_more may s sy.OpenRec (Rec E) (VariantOn may E) b (on_rec E) (off_variant s a)
 
-  off3 : (s : Sym) → same_symbol sy.OpenList s ≡ false → same_symbol sy.OpenRec s ≡ false → same_symbol sy.Lt s ≡ false → Off (is_symbol s) (R3 may E) Free
-  off3 s c b a = off_more may s sy.OpenList (Coll E kind.List) (R4 may E) c (on_coll E kind.List) (off4 s b a)
+  off_list : (s : Sym) → same_symbol sy.OpenList s ≡ false → same_symbol sy.OpenRec s ≡ false → same_symbol sy.Lt s ≡ false → Off (is_symbol s) (ListOn may E) Free
+  off_list s c b a = off_more may s sy.OpenList (Coll E kind.List) (RecordOn may E) c (on_coll E kind.List) (off_record s b a)
 
-  off2 : (s : Sym) → same_symbol sy.OpenBag s ≡ false → same_symbol sy.OpenList s ≡ false → same_symbol sy.OpenRec s ≡ false → same_symbol sy.Lt s ≡ false → Off (is_symbol s) (R2 may E) Free
-  off2 s g c b a = off_more may s sy.OpenBag (Coll E kind.Bag) (R3 may E) g (on_coll E kind.Bag) (off3 s c b a)
+  off_bag : (s : Sym) → same_symbol sy.OpenBag s ≡ false → same_symbol sy.OpenList s ≡ false → same_symbol sy.OpenRec s ≡ false → same_symbol sy.Lt s ≡ false → Off (is_symbol s) (BagOn may E) Free
+  off_bag s g c b a = off_more may s sy.OpenBag (Coll E kind.Bag) (ListOn may E) g (on_coll E kind.Bag) (off_list s c b a)
 
 good_a_type : (N : ℕ) (may : Bool) (E W : Phrase Placed Ty) (e : Reader Placed Ty) → (IsTrue may → Good N E W Free e) → Has W → Good N (AType E may) (AType W true) Free (d.a_type e may)
 unfolding d.a_type
@@ -111,10 +111,10 @@ good_a_type N may E W e good has_in =
     (good_opening (λ i. good_coll N E W e (good i) has_in kind.List)
     (good_opening (λ i. good_rec N E W e (good i) has_in)
     (good_opening (λ i. good_var N E W e (good i) has_in) (good_one decides_base) (on_var E) (off_on Free (word_no_symbol sy.Lt) on_base) (opens_var W has_in))
-    (on_rec E) (off5 may E sy.OpenRec refl) (opens_rec W has_in))
-    (on_coll E kind.List) (off4 may E sy.OpenList refl refl) (opens_coll W has_in kind.List))
-    (on_coll E kind.Bag) (off3 may E sy.OpenBag refl refl refl) (opens_coll W has_in kind.Bag))
-    (on_coll E kind.Set) (off2 may E sy.OpenSet refl refl refl refl) (opens_coll W has_in kind.Set)
+    (on_rec E) (off_variant may E sy.OpenRec refl) (opens_rec W has_in))
+    (on_coll E kind.List) (off_record may E sy.OpenList refl refl) (opens_coll W has_in kind.List))
+    (on_coll E kind.Bag) (off_list may E sy.OpenBag refl refl refl) (opens_coll W has_in kind.Bag))
+    (on_coll E kind.Set) (off_bag may E sy.OpenSet refl refl refl refl) (opens_coll W has_in kind.Set)
 
 -- ---- nested at most so deep
 
