@@ -610,16 +610,16 @@ module _ (t : Term) (i : ℕ) (env : List Value) (et : t ≡ term.Source i) wher
   at_Source : view t ≡ source i
   at_Source = ap view et ∙ view_Source i
 
-  pub source_there : (a : World) → Sense (view t) env a → IsSome (a.types i)
+  source_there : (a : World) → Sense (view t) env a → IsSome (a.types i)
   source_there a s = let s' = subst (λ q. Sense q env a) at_Source s in rw s'.3 refl
 
-  pub value_source : (v : Value) (a b : World) → Tabled i (Ok v) a b → Evals (view t) env (Ok v) a b
-  value_source v a b h = record { moved = h.moved; gives = subst (λ z. Comes a.types a.values env z (done v)) (sym at_Source) (v, h.gives, refl) }
+  pub value_source : (v : Value) (a b : World) → Sense (view t) env a → Tabled i (Ok v) a b → Evals (view t) env (Ok v) a b
+  value_source v a b s h = record { moved = h.moved; gives = subst (λ z. Comes a.types a.values env z (done v)) (sym at_Source) (v, h.gives (source_there a s), refl) }
 
-  pub value_source_stop : (e : EvalStop) (h : Halt) (a b : World) → Tabled i (Err e) a b → Outside e h → Evals (view t) env (Err h) a b
-  value_source_stop eval_stop.Overflow h a b p o = absurd p.gives
-  value_source_stop eval_stop.NoMemory (halt.Over ws) a b p o = absurd o
-  value_source_stop eval_stop.NoMemory halt.NoMemory a b p o = record { moved = p.moved; gives = tt }
+  pub value_source_stop : (e : EvalStop) (h : Halt) (a b : World) → Sense (view t) env a → Tabled i (Err e) a b → Outside e h → Evals (view t) env (Err h) a b
+  value_source_stop eval_stop.Overflow h a b s p o = absurd (p.gives (source_there a s))
+  value_source_stop eval_stop.NoMemory (halt.Over ws) a b s p o = absurd o
+  value_source_stop eval_stop.NoMemory halt.NoMemory a b s p o = record { moved = p.moved; gives = tt }
 
 -- ---- a primitive
 

@@ -1,5 +1,5 @@
 -- What an evaluation sees of the tables, and what it leaves.
-use Rattle.std.specs.Prelude.{◌≡◌, ℕ, Option, Some, None, Result, Ok, Err, ⊤}
+use Rattle.std.specs.Prelude.{◌≡◌, ℕ, Option, Some, None, IsSome, Result, Ok, Err, ⊤}
 use Rattle.kl_value.specs.declared.Value.{Value}
 use Rattle.kl_type.specs.Ground.{Ground}
 use Rattle.kl_outcome.specs.Typed.{Inhabits}
@@ -31,6 +31,7 @@ Read source (Ok v) S T = Reads S T source v
 Read source (Err stop.Overflow) S T = ⊥
 Read source (Err stop.NoMemory) S T = ⊤
 
+-- A source that is there is read. Of another nothing is said; no term that makes sense names one.
 pub record Tabled (source : ℕ) (r : Result Value EvalStop) (old new : World) : Type 0 where
   pub moved : Moved old new
-  pub gives : Read source r old.types old.values
+  pub gives : IsSome (old.types source) → Read source r old.types old.values

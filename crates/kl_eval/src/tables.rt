@@ -1,5 +1,4 @@
 //! Where an evaluation has the values of sources from.
-ghost use Rattle.std.specs.Prelude.{IsSome};
 ghost use Rattle.kl_eval.specs.World.{World, Tabled, no_sources};
 
 use crate::stop::EvalStop;
@@ -11,16 +10,16 @@ pub trait Tables {
     /// The types of the sources, and their values where they are told.
     ghost world: { Self → World };
 
-    /// The value of a source, by its number.
+    /// The value of a source, by its number. Of a number that no source has nothing is said; a term that makes sense
+    /// names none.
     ///
     /// # Errors
     /// Want of memory, and never an overflow.
     fn table(&mut self, alloc: Global, source: u32) -> Result<Value, EvalStop>
-        requires { IsSome ((world self.old).types source) }
         ensures { Tabled source result (world self.old) (world self.new) };
 }
 
-/// No sources.
+/// No sources, so that no term that makes sense names one.
 #[derive(Clone, Copy, Debug, Drop)]
 pub struct NoTables;
 
@@ -28,6 +27,6 @@ impl Tables for NoTables {
     ghost world = { λ _. no_sources };
 
     fn table(&mut self, _alloc: Global, _source: u32) -> Result<Value, EvalStop> {
-        unreachable!()
+        Err(EvalStop::NoMemory)
     }
 }

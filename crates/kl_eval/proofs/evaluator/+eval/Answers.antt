@@ -3,7 +3,7 @@ use Rattle.std.proofs.lemmas.Grind.{common_steps}
 use Rattle.kl_core.specs.declared.term.Term.{the_lemmas}
 use Rattle.kl_outcome.specs.Outcome.{done, over, fine, overflow, flow}
 use Rattle.kl_eval.specs.declared.stop.Halt.TheVariants as halt
-use Rattle.kl_eval.proofs.Forms.{body_fine, body_goes, body_lost, body_over, body_past, body_sense, body_starts, body_whole, call_arity, call_both, call_former_stop, call_latter_stop, call_only, call_only_stop, each_ends, each_goes, each_lost, each_none, each_over, each_sense, each_starts, evals_lent, evals_lost, evals_part, fields_ends, fields_goes, fields_lost, fields_sense, fields_starts, fields_stops, first_there, fits_both, fits_only, found, items_done, missing, moved_none, no_branch, over_gives, second_there, sense_body, sense_bound, sense_branch, sense_first, sense_former, sense_inj, sense_items, sense_latter, sense_make, sense_only, sense_other_at, sense_picked, sense_prim, sense_proj, sense_rec, sense_second, sense_source, sense_subject, sense_test, sense_var, source_there, source_whole, there_field, truth_there, value_branch, value_case_stop, value_if, value_if_stop, value_inj, value_inj_stop, value_let, value_let_stop, value_loop, value_make, value_other_at, value_prim, value_proj, value_proj_stop, value_rec, value_rec_stop, value_source, value_source_stop, value_union, value_union_first, value_union_lost, value_union_over, value_var, variant_there}
+use Rattle.kl_eval.proofs.Forms.{body_fine, body_goes, body_lost, body_over, body_past, body_sense, body_starts, body_whole, call_arity, call_both, call_former_stop, call_latter_stop, call_only, call_only_stop, each_ends, each_goes, each_lost, each_none, each_over, each_sense, each_starts, evals_lent, evals_lost, evals_part, fields_ends, fields_goes, fields_lost, fields_sense, fields_starts, fields_stops, first_there, fits_both, fits_only, found, items_done, missing, moved_none, no_branch, over_gives, second_there, sense_body, sense_bound, sense_branch, sense_first, sense_former, sense_inj, sense_items, sense_latter, sense_make, sense_only, sense_other_at, sense_picked, sense_prim, sense_proj, sense_rec, sense_second, sense_source, sense_subject, sense_test, sense_var, source_whole, there_field, truth_there, value_branch, value_case_stop, value_if, value_if_stop, value_inj, value_inj_stop, value_let, value_let_stop, value_loop, value_make, value_other_at, value_prim, value_proj, value_proj_stop, value_rec, value_rec_stop, value_source, value_source_stop, value_union, value_union_first, value_union_lost, value_union_over, value_var, variant_there}
 use Rattle.kl_eval.proofs.evaluator.+eval.Goals as goal
 
 pub value-variable-requires : goal.value-variable-requires
@@ -12,14 +12,11 @@ value-variable-requires g t c = sense_var _ _ _ _ c.in-Var.is c.requires
 pub value-returns-in-Var : goal.value-returns-in-Var
 value-returns-in-Var g t c = value_var _ _ _ _ _ _ c.in-Var.is c.variable.ensures c.copy.ensures
 
-pub value-table-requires : goal.value-table-requires
-value-table-requires g t c = source_there _ _ _ c.in-Source.is (g.T.Tables.world c.args.tables.now) c.requires
-
 pub value-returns-in-Ok : goal.value-returns-in-Ok
-value-returns-in-Ok g t c = value_source _ _ _ c.in-Source.is _ _ _ c.in-Ok.ensures
+value-returns-in-Ok g t c = value_source _ _ _ c.in-Source.is _ (g.T.Tables.world c.args.tables.now) _ c.requires c.in-Ok.ensures
 
 pub value-returns-in-Source : goal.value-returns-in-Source
-value-returns-in-Source g t c = value_source_stop _ _ _ c.in-Source.is _ _ _ _ c.in-Err.ensures c.outside.ensures
+value-returns-in-Source g t c = value_source_stop _ _ _ c.in-Source.is _ _ (g.T.Tables.world c.args.tables.now) _ c.requires c.in-Err.ensures c.outside.ensures
 
 pub value-each_field-requires : goal.value-each_field-requires
 value-each_field-requires g t c κs within = (search (rules, the_lemmas, arith), (within, sense_rec _ _ _ _ c.in-Rec.is c.slice.ensures (g.T.Tables.world c.args.tables.now) c.requires))
