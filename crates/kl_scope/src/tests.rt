@@ -1,7 +1,7 @@
-use crate::{ScopeError, resolve};
+use crate::{ScopeError, resolve, sizes};
 use kl_base::{Box, Label, Seq};
 use kl_parse::{Expr, Meaning, Pattern, Program, Qual, Word};
-use kl_value::Kind;
+use kl_value::{Kind, Value};
 use std::alloc::Global;
 use std::test::Fail;
 
@@ -50,5 +50,19 @@ fn the_first_breach_is_answered(rt: HostRuntime) -> Result<(), Fail> {
         Err(error) => assert!(rt; error == ScopeError::Unknown { name, token: 6 }),
         Ok(_) => return Err(Fail::from("in scope")),
     }
+    Ok(())
+}
+
+#[test]
+fn a_constant_is_within_the_limits(rt: HostRuntime) -> Result<(), Fail> {
+    let alloc = rt.alloc();
+    let program = Program {
+        defs: Seq::of(Vec::new(alloc)),
+        last: Expr::Const(Value::Int(1)),
+    };
+    let Ok(scoped) = resolve(alloc, program, &[]) else {
+        return Err(Fail::from("not in scope"));
+    };
+    assert!(rt; sizes(alloc, &scoped)?.is_none());
     Ok(())
 }
