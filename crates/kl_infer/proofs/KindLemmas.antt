@@ -1,5 +1,5 @@
 -- The kind of a scheme's collections.
-use Rattle.std.proofs.Common.{◌≡◌, ℕ, Option, Some, None, slice_get, refl, sym, ap, ◌∙◌}
+use Rattle.std.proofs.Common.{◌≡◌, ℕ, Option, Some, None, option_map, slice_get, refl, sym, ap, ◌∙◌}
 use Rattle.std.specs.Prelude.{IfSome}
 use Rattle.kl_value.specs.declared.Kind.{Kind}
 use Rattle.kl_type.specs.Ground.{Ground, coll}
@@ -7,7 +7,8 @@ use Rattle.kl_rows.specs.declared.schemes.Node.TheVariants as node
 use Rattle.kl_rows.specs.declared.schemes.Part.{Part}
 use Rattle.kl_rows.specs.declared.schemes.Part.TheVariants.{Is, AnyType, AnyRow, AnyKind}
 use Rattle.kl_rows.specs.declared.schemes.Scheme.{Scheme}
-use Rattle.kl_rows.specs.Schemes.{Instance}
+use Rattle.kl_rows.specs.Places.{a_type, sort_of, sort_at}
+use Rattle.kl_rows.specs.Schemes.{cells_of, given, Instance}
 use Rattle.kl_infer.specs.Kinds.{fixed_kind, kind_place, kind_at, known_kind}
 use Rattle.kl_infer.proofs.TreeLemmas.{get_cells}
 
@@ -33,7 +34,8 @@ gives_at s k (Some (Is (node.Coll j a))) here e t i =
     let f = fixed_is (slice_get s.nodes j) k e in
     let whole : i.by.types s.root ≡ coll (i.by.kinds j) (i.by.types a) = i.solves.each s.root _ (get_cells s.nodes s.root _ here) in
     let kind : i.by.kinds j ≡ k = i.solves.each j _ (get_cells s.nodes j _ f) in
-    (i.by.types a, sym i.root_is ∙ whole ∙ ap (λ x. coll x (i.by.types a)) kind)
+    let sort : sort_at (cells_of s.nodes) s.root ≡ Some a_type = ap (option_map sort_of) (get_cells s.nodes s.root _ here) in
+    (i.by.types a, sym i.root_is ∙ ap (λ q. given q i.by s.root) sort ∙ whole ∙ ap (λ x. coll x (i.by.types a)) kind)
 gives_at s k None here e t i = let z : ⊥ = cc in absurd z
 gives_at s k (Some (Is (node.Base b))) here e t i = let z : ⊥ = cc in absurd z
 gives_at s k (Some (Is (node.Rec r))) here e t i = let z : ⊥ = cc in absurd z

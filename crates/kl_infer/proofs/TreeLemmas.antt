@@ -1,12 +1,12 @@
 -- Trees of parts.
-use Rattle.std.proofs.Common.{◌≡◌, ℕ, zero, suc, ◌<◌, ◌≤◌, true, false, List, [], ◌∷◌, length, option_map, Option, Some, None, slice_get, get_or, refl, sym, ap, ◌∙◌, subst, arith}
+use Rattle.std.proofs.Common.{◌≡◌, ⊎_elim, ℕ, zero, suc, ◌<◌, ◌≤◌, true, false, List, [], ◌∷◌, length, option_map, Option, Some, None, slice_get, get_or, refl, sym, ap, ◌∙◌, subst, arith}
 use mathlib.Core.Path.{ap₂}
 use Rattle.kl_rows.specs.declared.cell.Cell.{Cell}
 use Rattle.kl_rows.specs.declared.schemes.Node.TheVariants as node
 use Rattle.kl_rows.specs.declared.schemes.Part.{Part}
 use Rattle.kl_rows.specs.declared.schemes.Part.TheVariants.{Is, AnyType, AnyRow, AnyKind}
 use Rattle.kl_rows.specs.declared.schemes.Scheme.{Scheme}
-use Rattle.kl_rows.specs.Places.{Sort, a_type, sort_of, Parts}
+use Rattle.kl_rows.specs.Places.{Sort, a_type, a_function, sort_of, Parts}
 use Rattle.kl_rows.specs.Schemes.{cell_of, cells_of, IsScheme}
 use Rattle.kl_infer.specs.Printed.{Tree, any, product, choice, items, arrow, field, kind, part_tree, tree_to, tree_at, kind_variables, rest_variables, opening_text, closing_text}
 use Rattle.kl_infer.specs.Rows.{Places, CanPrint, IsEnd, front_of, is_open, kind_of, mark_behind}
@@ -71,7 +71,7 @@ length_cells (p ∷ parts) = ap suc (length_cells parts)
 
 pub scheme_can : (s : Scheme) → IsScheme s → CanPrint s.nodes s.root
 scheme_can s good = record {
-  inside = let w = root_inside (cells_of s.nodes) s.root a_type good.root_in in omega (arith, w, length_cells s.nodes);
+  inside = let w : s.root < length (cells_of s.nodes) = ⊎_elim (λ e. root_inside (cells_of s.nodes) s.root a_type e) (λ e. root_inside (cells_of s.nodes) s.root a_function e) good.root_in in omega (arith, w, length_cells s.nodes);
   before = λ i p e. places_of i p (good.before i (cell_of p) (get_cells s.nodes i p e));
 }
 

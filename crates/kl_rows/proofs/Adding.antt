@@ -2,7 +2,7 @@
 use Rattle.std.proofs.Common.{◌≡◌, ◌↔◌, ◌⊎◌, inl, inr, ⊎_elim, ℕ, suc, Bool, true, false, IsTrue, List, [], ◌∷◌, ◌++◌, length, Some, slice_get, get_or, refl, sym, ap, ◌∙◌, subst, arith, length-append}
 use Rattle.kl_rows.specs.declared.cell.RowNode.TheVariants.{AnyRow, NoRow, Front}
 use Rattle.kl_rows.specs.declared.cell.Cell.{Cell}
-use Rattle.kl_rows.specs.declared.cell.Cell.TheVariants.{OfType, OfRow, OfKind}
+use Rattle.kl_rows.specs.declared.cell.Cell.TheVariants.{OfType, OfFunction, OfRow, OfKind}
 use Rattle.kl_rows.specs.Lists.{Fields}
 use Rattle.kl_rows.specs.Places.{Sort, a_row, sort_of, sort_at, IsPlaced, chained_one, Ended, Lacks, at_open, at_none, at_front, LacksAs, IsTidy, IsFine}
 use Rattle.kl_rows.specs.Solutions.{Says}
@@ -48,6 +48,7 @@ module _ (ns : List Cell) (d : Cell) (fine : IsFine ns) (can : CanMake ns d) whe
         short = omega (arith, total_push chained_one ns d);
       }
   new_ended (OfType n) e q p = let z : ⊥ = cc in absurd z
+  new_ended (OfFunction x y) e q p = let z : ⊥ = cc in absurd z
   new_ended (OfKind n) e q p = let z : ⊥ = cc in absurd z
 
   ended_at : (i : ℕ) (c : Cell) → sort_of c ≡ a_row → (slice_get ns i ≡ Some c) ⊎ ((i ≡ length ns) × (c ≡ d)) → Ended grown i
@@ -69,6 +70,7 @@ module _ (ns : List Cell) (d : Cell) (fine : IsFine ns) (can : CanMake ns d) whe
   lacks_new (OfRow NoRow) e l h = at_none (get_end ns d ∙ ap Some (sym e))
   lacks_new (OfRow (Front fs r)) e l h = at_front fs r (get_end ns d ∙ ap Some (sym e)) h.0 (lacks_kept ns grown l rows_kept h.1)
   lacks_new (OfType n) e l h = absurd h
+  lacks_new (OfFunction x y) e l h = absurd h
   lacks_new (OfKind n) e l h = absurd h
 
   pub adds : (new : List Cell) (i : ℕ) → new ≡ ns ++ d ∷ [] → i ≡ length ns → Adds ns new d i

@@ -3,12 +3,12 @@ use Rattle.std.proofs.Common.{◌≡◌, ⊎_elim, ℕ, zero, suc, ◌+◌, ◌<
 use Rattle.std.specs.List.{AllByRecursion}
 use Rattle.std.proofs.Math.ListN.{set}
 use Rattle.std.proofs.lemmas.Bool.{cases_eq}
-use Rattle.kl_rows.specs.declared.cell.TypeNode.TheVariants.{AnyType, Base, Rec, Var, Coll, Arrow, TypeLink}
+use Rattle.kl_rows.specs.declared.cell.TypeNode.TheVariants.{AnyType, Base, Rec, Var, Coll, TypeLink}
 use Rattle.kl_rows.specs.declared.cell.KindNode.TheVariants.{AnyKind, Fixed, KindLink}
 use Rattle.kl_rows.specs.declared.cell.RowNode.{RowNode}
 use Rattle.kl_rows.specs.declared.cell.RowNode.TheVariants.{AnyRow, NoRow, Front}
 use Rattle.kl_rows.specs.declared.cell.Cell.{Cell}
-use Rattle.kl_rows.specs.declared.cell.Cell.TheVariants.{OfType, OfRow, OfKind}
+use Rattle.kl_rows.specs.declared.cell.Cell.TheVariants.{OfType, OfFunction, OfRow, OfKind}
 use Rattle.kl_rows.specs.Lists.{Fields}
 use Rattle.kl_rows.specs.Places.{Sort, a_type, a_row, a_kind, sort_of, sort_at, AreTypes, IsPlaced, EndsAt, Walk, chained_one, chained, Lacks, at_open, at_none, at_front, IsTidy, IsFine, open_one, roots}
 use Rattle.kl_rows.specs.Solutions.{Assignment, Says, Solves}
@@ -19,11 +19,12 @@ abbrev pub Fact : Type 1
 Fact = Assignment → Type 0
 
 pub agrees_refl : (n : ℕ) (s : Assignment) → Agrees n s s
-agrees_refl n s = record { types = λ i h. refl; rows = λ i h. refl; kinds = λ i h. refl }
+agrees_refl n s = record { types = λ i h. refl; functions = λ i h. refl; rows = λ i h. refl; kinds = λ i h. refl }
 
 pub agrees_on : (m n : ℕ) (s u v : Assignment) → m ≤ n → Agrees m s u → Agrees n u v → Agrees m s v
 agrees_on m n s u v le a b = record {
   types = λ i h. b.types i (omega arith) ∙ a.types i h;
+  functions = λ i h. b.functions i (omega arith) ∙ a.functions i h;
   rows = λ i h. b.rows i (omega arith) ∙ a.rows i h;
   kinds = λ i h. b.kinds i (omega arith) ∙ a.kinds i h;
 }
@@ -118,7 +119,7 @@ placed_keeps old new i (OfType (Base b)) k h = tt
 placed_keeps old new i (OfType (Rec r)) k h = k.sorts r a_row h
 placed_keeps old new i (OfType (Var r)) k h = k.sorts r a_row h
 placed_keeps old new i (OfType (Coll j a)) k h = (k.sorts j a_kind h.0, k.sorts a a_type h.1)
-placed_keeps old new i (OfType (Arrow a b)) k h = (k.sorts a a_type h.0, k.sorts b a_type h.1)
+placed_keeps old new i (OfFunction a b) k h = (k.sorts a a_type h.0, k.sorts b a_type h.1)
 placed_keeps old new i (OfType (TypeLink a)) k h = (h.0, k.sorts a a_type h.1)
 placed_keeps old new i (OfRow (AnyRow lacks)) k h = tt
 placed_keeps old new i (OfRow NoRow) k h = tt
@@ -157,6 +158,7 @@ tidy_kept old new fs r h t = record { lack = all_map (λ f. Lacks old f.0 r) (λ
 pub row_of : (c : Cell) → sort_of c ≡ a_row → (n : RowNode) × (c ≡ OfRow n)
 row_of (OfRow n) h = (n, refl)
 row_of (OfType n) h = let e : ⊥ = cc in absurd e
+row_of (OfFunction a b) h = let e : ⊥ = cc in absurd e
 row_of (OfKind n) h = let e : ⊥ = cc in absurd e
 
 pub walk_end : (ns : List Cell) (k i : ℕ) (fs : Fields) (e : ℕ) → Walk ns k i fs e → EndsAt ns e

@@ -6,13 +6,13 @@ use Rattle.std.proofs.Math.ListN.{set}
 use Rattle.kl_base.specs.Fields.{field}
 use Rattle.kl_type.specs.Ground.{Row, rec, var, coll, arrow, at}
 use Rattle.kl_type.proofs.RowLemmas.{told}
-use Rattle.kl_rows.specs.declared.cell.TypeNode.TheVariants.{AnyType, Base, Rec, Var, Coll, Arrow, TypeLink}
+use Rattle.kl_rows.specs.declared.cell.TypeNode.TheVariants.{AnyType, Base, Rec, Var, Coll, TypeLink}
 use Rattle.kl_rows.specs.declared.cell.KindNode.TheVariants.{AnyKind, Fixed, KindLink}
 use Rattle.kl_rows.specs.declared.cell.RowNode.TheVariants.{AnyRow, NoRow, Front}
 use Rattle.kl_rows.specs.declared.cell.Cell.{Cell}
-use Rattle.kl_rows.specs.declared.cell.Cell.TheVariants.{OfType, OfRow, OfKind}
+use Rattle.kl_rows.specs.declared.cell.Cell.TheVariants.{OfType, OfFunction, OfRow, OfKind}
 use Rattle.kl_rows.specs.Lists.{Fields}
-use Rattle.kl_rows.specs.Places.{Sort, a_type, a_row, a_kind, sort_of, sort_at, IsType, IsRowAt, IsKind, AreTypes, Parts, IsPlaced, Lacks, LacksAs, at_open, at_none, at_front, Differ, IsFine}
+use Rattle.kl_rows.specs.Places.{Sort, a_type, a_function, a_row, a_kind, sort_of, sort_at, IsType, IsFunction, IsRowAt, IsKind, AreTypes, Parts, IsPlaced, Lacks, LacksAs, at_open, at_none, at_front, Differ, IsFine}
 use Rattle.kl_rows.specs.Solutions.{Assignment, Splits, Says}
 use Rattle.kl_rows.specs.Making.{IsNewTidy, CanMake}
 use Rattle.kl_rows.specs.Copying.{Fits, SameAt, Takes, renamed_fields, renamed, number_in, pulled, IsSource, IsEarlier, InOrder, kept_in, IsClosed, SameOn, Copied, Copies}
@@ -24,6 +24,7 @@ use Rattle.kl_rows.proofs.ListLemmas.{Label, none_some, field_here, field_there}
 
 sort_renamed : (f : ℕ → ℕ) (c : Cell) → sort_of (renamed f c) ≡ sort_of c
 sort_renamed f (OfType n) = refl
+sort_renamed f (OfFunction a b) = refl
 sort_renamed f (OfRow n) = refl
 sort_renamed f (OfKind n) = refl
 
@@ -52,7 +53,7 @@ renamed_same f g (OfType (Base b)) h = refl
 renamed_same f g (OfType (Rec r)) h = ap (λ x. OfType (Rec x)) h
 renamed_same f g (OfType (Var r)) h = ap (λ x. OfType (Var x)) h
 renamed_same f g (OfType (Coll k a)) h = ap₂ (λ x y. OfType (Coll x y)) h.0 h.1
-renamed_same f g (OfType (Arrow a b)) h = ap₂ (λ x y. OfType (Arrow x y)) h.0 h.1
+renamed_same f g (OfFunction a b) h = ap₂ (λ x y. OfFunction x y) h.0 h.1
 renamed_same f g (OfType (TypeLink a)) h = ap (λ x. OfType (TypeLink x)) h
 renamed_same f g (OfRow (AnyRow ls)) h = refl
 renamed_same f g (OfRow NoRow) h = refl
@@ -73,7 +74,7 @@ says_pulled numbers (OfType (Base b)) s i p e h = ap s.types (sym e) ∙ h
 says_pulled numbers (OfType (Rec r)) s i p e h = ap s.types (sym e) ∙ h
 says_pulled numbers (OfType (Var r)) s i p e h = ap s.types (sym e) ∙ h
 says_pulled numbers (OfType (Coll k a)) s i p e h = ap s.types (sym e) ∙ h
-says_pulled numbers (OfType (Arrow a b)) s i p e h = ap s.types (sym e) ∙ h
+says_pulled numbers (OfFunction a b) s i p e h = ap s.functions (sym e) ∙ h
 says_pulled numbers (OfType (TypeLink a)) s i p e h = ap s.types (sym e) ∙ h
 says_pulled numbers (OfRow (AnyRow ls)) s i p e h = subst (λ x. AllByRecursion (λ l. at l (s.rows x) ≡ None) ls) e h
 says_pulled numbers (OfRow NoRow) s i p e h = ap s.rows (sym e) ∙ h
@@ -98,7 +99,7 @@ module _ (source : List Cell) (numbers : List ℕ) (D : ℕ → Type 0) (s u : A
   fits_renamed (OfType (Rec r)) i p d h = h ∙ ap rec (sym (same.rows r d p))
   fits_renamed (OfType (Var r)) i p d h = h ∙ ap var (sym (same.rows r d p))
   fits_renamed (OfType (Coll k a)) i p d h = h ∙ ap₂ coll (sym (same.kinds k d.0 p.0)) (sym (same.types a d.1 p.1))
-  fits_renamed (OfType (Arrow a b)) i p d h = h ∙ ap₂ arrow (sym (same.types a d.0 p.0)) (sym (same.types b d.1 p.1))
+  fits_renamed (OfFunction a b) i p d h = h ∙ ap₂ arrow (sym (same.types a d.0 p.0)) (sym (same.types b d.1 p.1))
   fits_renamed (OfType (TypeLink a)) i p d h = h ∙ sym (same.types a d p.1)
   fits_renamed (OfRow (AnyRow ls)) i p d h = h
   fits_renamed (OfRow NoRow) i p d h = h
@@ -136,7 +137,7 @@ module _ (D : ℕ → Type 0) (source old now : List Cell) (numbers : List ℕ) 
       place (OfType (Rec r)) h d = sorted r a_row d h
       place (OfType (Var r)) h d = sorted r a_row d h
       place (OfType (Coll k a)) h d = (sorted k a_kind d.0 h.0, sorted a a_type d.1 h.1)
-      place (OfType (Arrow a b)) h d = (sorted a a_type d.0 h.0, sorted b a_type d.1 h.1)
+      place (OfFunction a b) h d = (sorted a a_type d.0 h.0, sorted b a_type d.1 h.1)
       place (OfType (TypeLink a)) h d = let s = sorted a a_type d h.1 in (sort_within now (number_in numbers a) a_type s, s)
       place (OfRow (AnyRow ls)) h d = tt
       place (OfRow NoRow) h d = tt
@@ -147,6 +148,7 @@ module _ (D : ℕ → Type 0) (source old now : List Cell) (numbers : List ℕ) 
 
       tidy : (c : Cell) → slice_get source i ≡ Some c → Parts c D → IsNewTidy now (renamed (number_in numbers) c)
       tidy (OfType n) e d = tt
+      tidy (OfFunction a b) e d = tt
       tidy (OfRow (AnyRow ls)) e d = tt
       tidy (OfRow NoRow) e d = tt
       tidy (OfRow (Front fs r)) e d = let t = good.tidy i fs r e in record { lack = lack_renamed fs r d.1 t.lack; differ = differ_renamed (number_in numbers) fs t.differ }
@@ -186,6 +188,7 @@ module _ (D : ℕ → Type 0) (source old now : List Cell) (numbers : List ℕ) 
     pulled_off : (s : Assignment) → Off i (pulled numbers s) (pulled after s)
     pulled_off s = record {
       types = λ j ne. ap s.types (get_or-set_other numbers i j p 0 ne);
+      functions = λ j ne. ap s.functions (get_or-set_other numbers i j p 0 ne);
       rows = λ j ne. ap s.rows (get_or-set_other numbers i j p 0 ne);
       kinds = λ j ne. ap s.kinds (get_or-set_other numbers i j p 0 ne);
     }
@@ -231,6 +234,10 @@ module _ (D : ℕ → Type 0) (source old now : List Cell) (numbers : List ℕ) 
                   (λ k. ap more.to.types (number_old j k) ∙ (let z = more.agrees in z.types (number_in numbers j) (sort_within now (number_in numbers j) a_type (sorted j a_type k q))) ∙ same.types j k q)
                   (λ z. ap (λ y. more.to.types (number_in after y)) z ∙ ap more.to.types number_new ∙ at_sort a_type (subst (IsType source) z q) more.to u more.holds ∙ ap u.types (sym z))
                   m;
+              functions = λ j m q. ⊎_elim
+                  (λ k. ap more.to.functions (number_old j k) ∙ (let z = more.agrees in z.functions (number_in numbers j) (sort_within now (number_in numbers j) a_function (sorted j a_function k q))) ∙ same.functions j k q)
+                  (λ z. ap (λ y. more.to.functions (number_in after y)) z ∙ ap more.to.functions number_new ∙ at_sort a_function (subst (IsFunction source) z q) more.to u more.holds ∙ ap u.functions (sym z))
+                  m;
               rows = λ j m q. ⊎_elim
                   (λ k. ap more.to.rows (number_old j k) ∙ (let z = more.agrees in z.rows (number_in numbers j) (sort_within now (number_in numbers j) a_row (sorted j a_row k q))) ∙ same.rows j k q)
                   (λ z. ap (λ y. more.to.rows (number_in after y)) z ∙ ap more.to.rows number_new ∙ at_sort a_row (subst (IsRowAt source) z q) more.to u more.holds ∙ ap u.rows (sym z))
@@ -260,7 +267,7 @@ copied_none source old kept order numbers fine size = record {
   lacks = λ l j d h. none j d;
   settled = λ h. h;
   up = λ s h. (h, λ j c d e. none j d);
-  down = λ s u h g. record { to = s; agrees = agrees_refl (length old) s; solves = h; holds = record { types = λ j d q. none j d; rows = λ j d q. none j d; kinds = λ j d q. none j d } };
+  down = λ s u h g. record { to = s; agrees = agrees_refl (length old) s; solves = h; holds = record { types = λ j d q. none j d; functions = λ j d q. none j d; rows = λ j d q. none j d; kinds = λ j d q. none j d } };
 }
   where
     none : {P : Type 0} (j : ℕ) → IsDone kept order 0 j → P
@@ -276,7 +283,7 @@ copied_as D E source old now numbers go come x = record {
   lacks = λ l j d h. x.lacks l j (come j d) h;
   settled = x.settled;
   up = λ s h. (let a = x.up s h in (a.0, λ j c d e. a.1 j c (come j d) e));
-  down = λ s u h g. grown_map old now s _ _ (λ w k same. record { types = λ j d q. same.types j (come j d) q; rows = λ j d q. same.rows j (come j d) q; kinds = λ j d q. same.kinds j (come j d) q }) (x.down s u h (λ j c d e. g j c (go j d) e));
+  down = λ s u h g. grown_map old now s _ _ (λ w k same. record { types = λ j d q. same.types j (come j d) q; functions = λ j d q. same.functions j (come j d) q; rows = λ j d q. same.rows j (come j d) q; kinds = λ j d q. same.kinds j (come j d) q }) (x.down s u h (λ j c d e. g j c (go j d) e));
 }
 
 below : (j k : ℕ) → j < k + 1 → (j < k) ⊎ (j ≡ k)
@@ -311,7 +318,7 @@ module _ (source old : List Cell) (kept : List Bool) (order : List ℕ) (good : 
       both (OfType (Rec r)) a b = pair r a b
       both (OfType (Var r)) a b = pair r a b
       both (OfType (Coll j t)) a b = (pair j a.0 b.0, pair t a.1 b.1)
-      both (OfType (Arrow t u)) a b = (pair t a.0 b.0, pair u a.1 b.1)
+      both (OfFunction t u) a b = (pair t a.0 b.0, pair u a.1 b.1)
       both (OfType (TypeLink t)) a b = pair t a b
       both (OfRow (AnyRow ls)) a b = tt
       both (OfRow NoRow) a b = tt

@@ -4,21 +4,21 @@ use Rattle.std.specs.List.{AllByRecursion}
 use Rattle.kl_value.specs.declared.value.Kind.{Kind}
 use Rattle.kl_type.specs.Ground.{Ground, Row, IsGround, IsRow}
 use Rattle.kl_rows.specs.declared.cell.TypeNode.{TypeNode}
-use Rattle.kl_rows.specs.declared.cell.TypeNode.TheVariants.{AnyType, Base, Rec, Var, Coll, Arrow, TypeLink}
+use Rattle.kl_rows.specs.declared.cell.TypeNode.TheVariants.{AnyType, Base, Rec, Var, Coll, TypeLink}
 use Rattle.kl_rows.specs.declared.cell.KindNode.{KindNode}
 use Rattle.kl_rows.specs.declared.cell.KindNode.TheVariants.{AnyKind, Fixed, KindLink}
 use Rattle.kl_rows.specs.declared.cell.RowNode.{RowNode}
 use Rattle.kl_rows.specs.declared.cell.RowNode.TheVariants.{AnyRow, NoRow, Front}
 use Rattle.kl_rows.specs.declared.cell.Cell.{Cell}
-use Rattle.kl_rows.specs.declared.cell.Cell.TheVariants.{OfType, OfRow, OfKind}
+use Rattle.kl_rows.specs.declared.cell.Cell.TheVariants.{OfType, OfFunction, OfRow, OfKind}
 use Rattle.kl_rows.specs.Lists.{Fields}
 use Rattle.kl_rows.specs.Places.{Parts, a_type, a_row, a_kind, AreTypes, IsPlaced, IsFine}
-use Rattle.kl_rows.specs.Solutions.{Assignment, TypeSays, RowSays, KindSays, Solves}
+use Rattle.kl_rows.specs.Solutions.{Assignment, TypeSays, FunctionSays, RowSays, KindSays, Solves}
 use Rattle.kl_rows.specs.Steps.{Agrees, Grown}
 use Rattle.kl_rows.specs.Making.{CanMake, Adds}
 use Rattle.kl_rows.proofs.CellLists.{get_within, sort_within}
 use Rattle.kl_rows.proofs.Advancing.{Fact, agrees_on}
-use Rattle.kl_rows.proofs.Assigning.{parts_on, Off, type_off, row_off, kind_off, says_off, with_type, with_row, with_kind, type_put, row_put, kind_put}
+use Rattle.kl_rows.proofs.Assigning.{parts_on, Off, type_off, function_off, row_off, kind_off, says_off, with_type, with_function, with_row, with_kind, type_put, function_put, row_put, kind_put}
 
 types_within : (ns : List Cell) (fs : Fields) → AreTypes ns fs → AllByRecursion (λ f. f.1 < length ns) fs
 types_within ns [] h = tt
@@ -31,7 +31,7 @@ parts_within ns i (OfType (Base b)) h = tt
 parts_within ns i (OfType (Rec r)) h = sort_within ns r a_row h
 parts_within ns i (OfType (Var r)) h = sort_within ns r a_row h
 parts_within ns i (OfType (Coll k a)) h = (sort_within ns k a_kind h.0, sort_within ns a a_type h.1)
-parts_within ns i (OfType (Arrow a b)) h = (sort_within ns a a_type h.0, sort_within ns b a_type h.1)
+parts_within ns i (OfFunction a b) h = (sort_within ns a a_type h.0, sort_within ns b a_type h.1)
 parts_within ns i (OfType (TypeLink a)) h = sort_within ns a a_type h.1
 parts_within ns i (OfRow (AnyRow ls)) h = tt
 parts_within ns i (OfRow NoRow) h = tt
@@ -43,6 +43,7 @@ parts_within ns i (OfKind (KindLink a)) h = sort_within ns a a_kind h.1
 pub off_agrees : (i n : ℕ) (s u : Assignment) → n ≤ i → Off i s u → Agrees n s u
 off_agrees i n s u le o = record {
   types = λ j lt. o.types j (omega arith);
+  functions = λ j lt. o.functions j (omega arith);
   rows = λ j lt. o.rows j (omega arith);
   kinds = λ j lt. o.kinds j (omega arith);
 }
@@ -81,6 +82,19 @@ module _ (old new : List Cell) (i : ℕ) (fine : IsFine old) where
         to = u;
         agrees = off_agrees i (length old) s u (omega arith) p.0;
         solves = (a.solves u).1 (off_solves old s u i fine (omega arith) p.0 h, subst (TypeSays n u) (sym p.1) (type_off i s u n t p.0 (private_within (OfType n) can at_end) says));
+        holds = p.1;
+      }
+
+  -- a new function goes from and to its types
+  pub grown_function : (a b : ℕ) → CanMake old (OfFunction a b) → Adds old new (OfFunction a b) i → (s : Assignment) → Solves old s → (t : Ground) → FunctionSays a b s t → Grown old new s (λ u. u.functions i ≡ t)
+  grown_function a b can k s h t says =
+      let p = function_put s i t in
+      let u : Assignment = with_function s i t in
+      let at_end : i ≡ length old = k.place in
+      record {
+        to = u;
+        agrees = off_agrees i (length old) s u (omega arith) p.0;
+        solves = (k.solves u).1 (off_solves old s u i fine (omega arith) p.0 h, subst (FunctionSays a b u) (sym p.1) (function_off i s u a b t p.0 (private_within (OfFunction a b) can at_end) says));
         holds = p.1;
       }
 

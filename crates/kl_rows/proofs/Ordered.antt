@@ -10,23 +10,23 @@ use Rattle.kl_type.proofs.RowLemmas.{put, put_row, at_put, at_put_other, at_ther
 use Rattle.kl_rows.specs.declared.cell.Scalar.{Scalar}
 use Rattle.kl_rows.specs.declared.cell.Scalar.TheVariants as scalar
 use Rattle.kl_rows.specs.declared.cell.TypeNode.{TypeNode}
-use Rattle.kl_rows.specs.declared.cell.TypeNode.TheVariants.{AnyType, Base, Rec, Var, Coll, Arrow, TypeLink}
+use Rattle.kl_rows.specs.declared.cell.TypeNode.TheVariants.{AnyType, Base, Rec, Var, Coll, TypeLink}
 use Rattle.kl_rows.specs.declared.cell.KindNode.{KindNode}
 use Rattle.kl_rows.specs.declared.cell.KindNode.TheVariants.{AnyKind, Fixed, KindLink}
 use Rattle.kl_rows.specs.declared.cell.RowNode.{RowNode}
 use Rattle.kl_rows.specs.declared.cell.RowNode.TheVariants.{AnyRow, NoRow, Front}
 use Rattle.kl_rows.specs.declared.cell.Cell.{Cell}
-use Rattle.kl_rows.specs.declared.cell.Cell.TheVariants.{OfType, OfRow, OfKind}
+use Rattle.kl_rows.specs.declared.cell.Cell.TheVariants.{OfType, OfFunction, OfRow, OfKind}
 use Rattle.kl_rows.specs.declared.finite.Mark.{Mark}
 use Rattle.kl_rows.specs.declared.finite.Mark.TheVariants.{Unseen, Full, Bare}
 use Rattle.kl_rows.specs.Lists.{Fields}
 use Rattle.kl_rows.specs.Places.{Parts, a_row, IsPlaced, IsIn, Lacks, at_open, at_none, at_front, Differ, IsFine}
-use Rattle.kl_rows.specs.Solutions.{Assignment, Splits, scalar_type, TypeSays, RowSays, KindSays, Says, Solves}
+use Rattle.kl_rows.specs.Solutions.{Assignment, Splits, scalar_type, TypeSays, FunctionSays, RowSays, KindSays, Says, Solves}
 use Rattle.kl_rows.specs.Finite.{Solvable, Order, mark_of, IsOrder, is_seen, full_if, full_only, all_seen, type_mark, front_mark, row_mark, next_mark}
 use Rattle.kl_rows.proofs.CellLists.{some_same, get_within, stands}
 use Rattle.kl_rows.proofs.ListLemmas.{Label, none_some, field_here, field_there}
 use Rattle.kl_rows.proofs.Advancing.{row_of}
-use Rattle.kl_rows.proofs.Assigning.{all_on, parts_on, Off, type_off, row_off, kind_off, says_off, with_type, with_row, with_kind, type_put, row_put, kind_put}
+use Rattle.kl_rows.proofs.Assigning.{all_on, parts_on, Off, type_off, function_off, row_off, kind_off, says_off, with_type, with_function, with_row, with_kind, type_put, function_put, row_put, kind_put}
 
 Seen : Mark → Type 0
 Seen m = m ≡ Unseen → ⊥
@@ -68,7 +68,7 @@ seen_parts (OfType (Base b)) m h = tt
 seen_parts (OfType (Rec r)) m h = one_seen (m r) h
 seen_parts (OfType (Var r)) m h = full_seen (m r) (only_full (m r) h)
 seen_parts (OfType (Coll k a)) m h = let both = two_seen (is_seen (m k)) (is_seen (m a)) h in (one_seen (m k) both.0, one_seen (m a) both.1)
-seen_parts (OfType (Arrow a b)) m h = let both = two_seen (is_seen (m a)) (is_seen (m b)) h in (one_seen (m a) both.0, one_seen (m b) both.1)
+seen_parts (OfFunction a b) m h = let both = two_seen (is_seen (m a)) (is_seen (m b)) h in (one_seen (m a) both.0, one_seen (m b) both.1)
 seen_parts (OfType (TypeLink a)) m h = one_seen (m a) h
 seen_parts (OfRow (AnyRow ls)) m h = tt
 seen_parts (OfRow NoRow) m h = tt
@@ -140,7 +140,7 @@ pub record Start (ns : List Cell) (K : ℕ → Bool) : Type 0 where
 -- what an order gives beside a start
 record Built (ns : List Cell) (K : ℕ → Bool) (start : Start ns K) (os : Order) : Type 0 where
   by : Assignment
-  same : (j : ℕ) → K j ≡ true → (by.types j ≡ start.by.types j) × (by.rows j ≡ start.by.rows j) × (by.kinds j ≡ start.by.kinds j)
+  same : (j : ℕ) → K j ≡ true → (by.types j ≡ start.by.types j) × (by.rows j ≡ start.by.rows j) × (by.kinds j ≡ start.by.kinds j) × (by.functions j ≡ start.by.functions j)
   held : (j : ℕ) (c : Cell) → slice_get ns j ≡ Some c → K j ≡ true → Says c by j
   says : (j : ℕ) (c : Cell) → slice_get ns j ≡ Some c → Seen (mark_of os j) → Says c by j
   parts : (j : ℕ) (c : Cell) → slice_get ns j ≡ Some c → Seen (mark_of os j) → Parts c (λ p. Seen (mark_of os p))
@@ -183,7 +183,6 @@ module _ (ns : List Cell) (fine : IsFine ns) (K : ℕ → Bool) (start : Start n
       let q = row_of st.cell st.sort in
       record { type = var (b.by.rows r); good = (b.full r q.0 (st.here ∙ ap Some q.1) (not_kept i r (start.variants i r e) off) (only_full (mark_of os r) h), b.by.rows_ground r); fits = refl }
   new_type i (Coll k a) e off p h = record { type = coll (b.by.kinds k) (b.by.types a); good = b.by.types_ground a; fits = refl }
-  new_type i (Arrow x a) e off p h = record { type = arrow (b.by.types x) (b.by.types a); good = (b.by.types_ground x, b.by.types_ground a); fits = refl }
   new_type i (TypeLink a) e off p h = record { type = b.by.types a; good = b.by.types_ground a; fits = refl }
 
   bare_full : (r : Row) (l : Label) (t : Ground) → at l r ≡ Some t → r ≡ no_row → ⊥
@@ -240,7 +239,7 @@ module _ (ns : List Cell) (fine : IsFine ns) (K : ℕ → Bool) (start : Start n
     extend : K i ≡ false → (u : Assignment) → Off i b.by u → Says c u i → ((n : RowNode) → c ≡ OfRow n → m ≡ Full → u.rows i ≡ no_row → ⊥) → Built ns K start ((i, m) ∷ os)
     extend no_keep u off said full = record {
       by = u;
-      same = λ j k. (let o = b.same j k in let d = away no_keep j k in (off.types j d ∙ o.0, off.rows j d ∙ o.1, off.kinds j d ∙ o.2));
+      same = λ j k. (let o = b.same j k in let d = away no_keep j k in (off.types j d ∙ o.0, off.rows j d ∙ o.1, off.kinds j d ∙ o.2, off.functions j d ∙ o.3));
       held = λ j x e k. says_off i b.by u x j off (away no_keep j k) (parts_on x _ _ (away no_keep) (start.parts j x e k)) (b.held j x e k);
       says = λ j x e k. ⊎_elim
           (λ same. subst (λ y. Says y u j) (some_same c x (sym here ∙ ap (slice_get ns) (sym same) ∙ e)) (subst (Says c u) (sym same) said))
@@ -277,6 +276,12 @@ module _ (ns : List Cell) (fine : IsFine ns) (K : ℕ → Bool) (start : Start n
       extend i m (OfType n) e q k w off (with_type b.by i t.type t.good) p.0
       (subst (TypeSays n (with_type b.by i t.type t.good)) (sym p.1) (type_off i b.by (with_type b.by i t.type t.good) n t.type p.0 (parts_on (OfType n) _ _ (not_new i m (OfType n) e q k w) (new_parts i m (OfType n) e q k w)) t.fits))
       (λ x z. (let y : ⊥ = cc in absurd y))
+  put_on i m (OfFunction x a) e q k w off =
+      let t : Ground = arrow (b.by.types x) (b.by.types a) in
+      let p = function_put b.by i t in
+      extend i m (OfFunction x a) e q k w off (with_function b.by i t) p.0
+      (subst (FunctionSays x a (with_function b.by i t)) (sym p.1) (function_off i b.by (with_function b.by i t) x a t p.0 (parts_on (OfFunction x a) _ _ (not_new i m (OfFunction x a) e q k w) (new_parts i m (OfFunction x a) e q k w)) refl))
+      (λ n z. (let y : ⊥ = cc in absurd y))
   put_on i m (OfRow n) e q k w off =
       let t = new_row i n e off (subst Seen q k) in
       let p = row_put b.by i t.row_new t.good in
@@ -294,18 +299,18 @@ module _ (ns : List Cell) (fine : IsFine ns) (K : ℕ → Bool) (start : Start n
   step i m c e q k w = elim (K i) as (λ x. K i ≡ x → Built ns K start ((i, m) ∷ os)) [ true ↦ λ h. pass_on i m c e q k w h | false ↦ λ h. put_on i m c e q k w h ] refl
 
 nothing : Assignment
-nothing = record { types = λ i. int; rows = λ i. no_row; kinds = λ i. kind.Set; types_ground = λ i. tt; rows_ground = λ i. tt }
+nothing = record { types = λ i. int; functions = λ i. int; rows = λ i. no_row; kinds = λ i. kind.Set; types_ground = λ i. tt; rows_ground = λ i. tt }
 
 build : (ns : List Cell) (K : ℕ → Bool) (start : Start ns K) → IsFine ns → (os : Order) → IsOrder ns os → Built ns K start os
 unfolding Seen
-build ns K start f [] h = record { by = start.by; same = λ j k. (refl, refl, refl); held = start.says; says = λ j c e k. absurd (k refl); parts = λ j c e k. absurd (k refl); full = λ j n e off k. (let z : ⊥ = cc in absurd z) }
+build ns K start f [] h = record { by = start.by; same = λ j k. (refl, refl, refl, refl); held = start.says; says = λ j c e k. absurd (k refl); parts = λ j c e k. absurd (k refl); full = λ j n e off k. (let z : ⊥ = cc in absurd z) }
 build ns K start f (o ∷ os) h = step ns f K start os (build ns K start f os h.5) o.0 o.1 h.0 h.1 h.2 h.3 h.4
 
 -- a start grows to what solves all cells
 pub record Whole (ns : List Cell) (K : ℕ → Bool) (start : Start ns K) : Type 0 where
   pub by : Assignment
   pub solves : Solves ns by
-  pub same : (j : ℕ) → K j ≡ true → (by.types j ≡ start.by.types j) × (by.rows j ≡ start.by.rows j) × (by.kinds j ≡ start.by.kinds j)
+  pub same : (j : ℕ) → K j ≡ true → (by.types j ≡ start.by.types j) × (by.rows j ≡ start.by.rows j) × (by.kinds j ≡ start.by.kinds j) × (by.functions j ≡ start.by.functions j)
 
 pub started_solvable : (ns : List Cell) (K : ℕ → Bool) (start : Start ns K) → IsFine ns → (os : Order) → IsOrder ns os → ((i : ℕ) → i < length ns → mark_of os i ≡ Unseen → ⊥) → Whole ns K start
 unfolding Seen

@@ -9,7 +9,7 @@ use Rattle.kl_rows.specs.declared.cell.TypeNode.TheVariants.{TypeLink}
 use Rattle.kl_rows.specs.declared.cell.KindNode.TheVariants.{KindLink}
 use Rattle.kl_rows.specs.declared.cell.RowNode.TheVariants.{Front}
 use Rattle.kl_rows.specs.declared.cell.Cell.{Cell}
-use Rattle.kl_rows.specs.declared.cell.Cell.TheVariants.{OfType, OfRow, OfKind}
+use Rattle.kl_rows.specs.declared.cell.Cell.TheVariants.{OfType, OfFunction, OfRow, OfKind}
 use Rattle.kl_rows.specs.Lists.{Fields}
 use Rattle.kl_rows.specs.Places.{a_type, sort_of, IsType, IsRowAt, AreTypes, Parts, Lacks, Differ, IsFine}
 use Rattle.kl_rows.specs.Solutions.{Assignment, Splits, Solves}
@@ -20,7 +20,7 @@ use Rattle.kl_rows.specs.Copying.{IsPlain, IsSettled, Fits, SameAt, Takes}
 use Rattle.kl_rows.proofs.Advancing.{KeepsRows, agrees_refl, keeps_refl, keeps_on}
 use Rattle.kl_rows.proofs.CellLists.{get_first, get_last, sort_within}
 use Rattle.kl_rows.proofs.Expansions.{pushed}
-use Rattle.kl_rows.proofs.Growing.{grown_with, grown_type, grown_row, grown_kind, parts_within}
+use Rattle.kl_rows.proofs.Growing.{grown_with, grown_type, grown_function, grown_row, grown_kind, parts_within}
 use Rattle.kl_rows.proofs.ListLemmas.{Label, none_some, field_here, field_there}
 use Rattle.kl_rows.proofs.Ordered.{labels_apart}
 
@@ -51,6 +51,7 @@ takes_plain old new c p fine can plain q = record {
 
     grow : (d : Cell) → d ≡ c → (s u : Assignment) (i : ℕ) → Solves old s → Fits d s u i → Grown old new s (λ w. SameAt (sort_of d) w p u i)
     grow (OfType n) e s u i h f = grown_type old new p fine n (subst (CanMake old) (sym e) can) (subst (λ x. Adds old new x p) (sym e) a) s h (u.types i) (u.types_ground i) f
+    grow (OfFunction x y) e s u i h f = grown_function old new p fine x y (subst (CanMake old) (sym e) can) (subst (λ z. Adds old new z p) (sym e) a) s h (u.functions i) f
     grow (OfRow n) e s u i h f = grown_row old new p fine n (subst (CanMake old) (sym e) can) (subst (λ x. Adds old new x p) (sym e) a) s h (u.rows i) (u.rows_ground i) f
     grow (OfKind n) e s u i h f = grown_kind old new p fine n (subst (CanMake old) (sym e) can) (subst (λ x. Adds old new x p) (sym e) a) s h (u.kinds i) f
 

@@ -6,12 +6,12 @@ use Rattle.std.proofs.Math.ListN.{set}
 use Rattle.std.proofs.lemmas.Bool.{cases_eq, eq-eqb, ne_eqb}
 use Rattle.kl_base.specs.Fields.{field}
 use Rattle.kl_type.specs.Ground.{Ground, Row, no_row, rec, var, coll, arrow, at, IsRow}
-use Rattle.kl_rows.specs.declared.cell.TypeNode.TheVariants.{AnyType, Base, Rec, Var, Coll, Arrow, TypeLink}
+use Rattle.kl_rows.specs.declared.cell.TypeNode.TheVariants.{AnyType, Base, Rec, Var, Coll, TypeLink}
 use Rattle.kl_rows.specs.declared.cell.KindNode.TheVariants.{AnyKind, Fixed, KindLink}
 use Rattle.kl_rows.specs.declared.cell.RowNode.{RowNode}
 use Rattle.kl_rows.specs.declared.cell.RowNode.TheVariants.{AnyRow, NoRow, Front}
 use Rattle.kl_rows.specs.declared.cell.Cell.{Cell}
-use Rattle.kl_rows.specs.declared.cell.Cell.TheVariants.{OfType, OfRow, OfKind}
+use Rattle.kl_rows.specs.declared.cell.Cell.TheVariants.{OfType, OfFunction, OfRow, OfKind}
 use Rattle.kl_rows.specs.Lists.{Fields}
 use Rattle.kl_rows.specs.Places.{a_type, a_row, a_kind, sort_of, IsRowAt, AreTypes, IsPlaced, IsEnd, EndsAt, Steps, Walk, chained_one, Ended, IsIn, Lacks, at_open, at_none, at_front, IsTidy, IsFine, open_one, roots}
 use Rattle.kl_rows.specs.Solutions.{Assignment, Splits, RowSays, Says, Solves}
@@ -139,6 +139,7 @@ put_ground false r q h k = k
 pub put_row : Assignment → ℕ → (r : Row) → IsRow r → Assignment
 put_row s n r g = record {
   types = s.types;
+  functions = s.functions;
   rows = λ i. put_at (nat_eq i n) r (s.rows i);
   kinds = s.kinds;
   types_ground = s.types_ground;
@@ -151,7 +152,7 @@ put_same s n r g = rw (eq-eqb n n refl) refl
 
 put_agrees : (s : Assignment) (n : ℕ) (r : Row) (g : IsRow r) → Agrees n s (put_row s n r g)
 unfolding put_row put_at
-put_agrees s n r g = record { types = λ i h. refl; rows = λ i h. (let d : i ≡ n → ⊥ = λ e. omega arith in rw (ne_eqb i n d) refl); kinds = λ i h. refl }
+put_agrees s n r g = record { types = λ i h. refl; functions = λ i h. refl; rows = λ i h. (let d : i ≡ n → ⊥ = λ e. omega arith in rw (ne_eqb i n d) refl); kinds = λ i h. refl }
 
 fronts_agree : (ns : List Cell) (fs : Fields) (s u : Assignment) (w e : Row) → AreTypes ns fs → Agrees (length ns) s u → AllByRecursion (λ f. (at f.0 w ≡ Some (s.types f.1)) × (at f.0 e ≡ None)) fs
     → AllByRecursion (λ f. (at f.0 w ≡ Some (u.types f.1)) × (at f.0 e ≡ None)) fs
@@ -171,8 +172,8 @@ says_agree ns i (OfType (Rec r)) s u l p a h = a.types i l ∙ h ∙ ap rec (sym
 says_agree ns i (OfType (Var r)) s u l p a h = a.types i l ∙ h ∙ ap var (sym (a.rows r (sort_within ns r a_row p)))
 says_agree ns i (OfType (Coll k x)) s u l p a h =
     a.types i l ∙ h ∙ ap (λ j. coll j (s.types x)) (sym (a.kinds k (sort_within ns k a_kind p.0))) ∙ ap (coll (u.kinds k)) (sym (a.types x (sort_within ns x a_type p.1)))
-says_agree ns i (OfType (Arrow x y)) s u l p a h =
-    a.types i l ∙ h ∙ ap (λ j. arrow j (s.types y)) (sym (a.types x (sort_within ns x a_type p.0))) ∙ ap (arrow (u.types x)) (sym (a.types y (sort_within ns y a_type p.1)))
+says_agree ns i (OfFunction x y) s u l p a h =
+    a.functions i l ∙ h ∙ ap (λ j. arrow j (s.types y)) (sym (a.types x (sort_within ns x a_type p.0))) ∙ ap (arrow (u.types x)) (sym (a.types y (sort_within ns y a_type p.1)))
 says_agree ns i (OfType (TypeLink x)) s u l p a h = a.types i l ∙ h ∙ sym (a.types x (sort_within ns x a_type p.1))
 says_agree ns i (OfRow (AnyRow ls)) s u l p a h = subst (λ r. AllByRecursion (λ m. at m r ≡ None) ls) (sym (a.rows i l)) h
 says_agree ns i (OfRow NoRow) s u l p a h = a.rows i l ∙ h

@@ -1,21 +1,22 @@
 -- Schemes that are settled, and their instances.
-use Rattle.std.proofs.Common.{◌≡◌, ℕ, ◌<◌, Bool, true, List, [], length, Some, slice_get, refl, sym, ap, ◌∙◌, subst, arith}
+use Rattle.std.proofs.Common.{◌≡◌, ℕ, ◌<◌, Bool, true, List, [], length, Option, Some, None, slice_get, inl, inr, refl, sym, ap, ◌∙◌, subst, arith}
 use Rattle.std.specs.List.{AllByRecursion}
+use Rattle.kl_type.specs.Ground.{Ground, arrow, IsGround}
 use Rattle.kl_rows.specs.declared.cell.TypeNode.TheVariants.{Var}
 use Rattle.kl_rows.specs.declared.cell.RowNode.TheVariants.{Front}
 use Rattle.kl_rows.specs.declared.cell.Cell.{Cell}
-use Rattle.kl_rows.specs.declared.cell.Cell.TheVariants.{OfType, OfRow}
+use Rattle.kl_rows.specs.declared.cell.Cell.TheVariants.{OfType, OfFunction, OfRow, OfKind}
 use Rattle.kl_rows.specs.declared.schemes.Part.{Part}
 use Rattle.kl_rows.specs.declared.schemes.Scheme.{Scheme}
 use Rattle.kl_rows.specs.Lists.{Fields}
-use Rattle.kl_rows.specs.Places.{a_type, IsType, Parts, IsPlaced, IsTidy, IsFine}
+use Rattle.kl_rows.specs.Places.{Sort, a_type, a_function, a_row, a_kind, sort_of, sort_at, IsType, IsFunction, IsTyped, Parts, IsPlaced, IsTidy, IsFine}
 use Rattle.kl_rows.specs.Solutions.{Assignment, Solves}
 use Rattle.kl_rows.specs.Finite.{IsOrderOf}
 use Rattle.kl_rows.specs.Keeping.{Needs}
-use Rattle.kl_rows.specs.Copying.{IsSettled, number_in, pulled, IsSource, IsEarlier, InOrder, kept_in, IsClosed, Copies}
-use Rattle.kl_rows.specs.Schemes.{cells_of, IsBasePart, IsScheme, Settles, Instantiates, Tabled, CountsTo, KeepsAll}
+use Rattle.kl_rows.specs.Copying.{IsSettled, number_in, pulled, IsSource, IsEarlier, InOrder, kept_in, IsClosed, SameOn, Copies}
+use Rattle.kl_rows.specs.Schemes.{cells_of, IsBasePart, given, Instance, IsScheme, Settles, Instantiates, Tabled, CountsTo, KeepsAll}
 use Rattle.kl_rows.proofs.Assigning.{parts_on}
-use Rattle.kl_rows.proofs.CellLists.{get_within, some_same, stands, sort_within}
+use Rattle.kl_rows.proofs.CellLists.{get_within, some_same, stands, sort_here, sort_within}
 use Rattle.kl_rows.proofs.Growing.{grown_map, parts_within}
 use Rattle.kl_rows.proofs.Ordered.{Start, started_solvable}
 
@@ -34,11 +35,37 @@ empty_solved cells s e = subst (λ cs. Solves cs s) (sym e) (record { each = λ 
 pub copies_settled : (kept : List Bool) (cells none table : List Cell) (numbers : List ℕ) → none ≡ [] → Copies kept cells none table numbers → IsSettled table
 copies_settled kept cells none table numbers e x = x.settled (empty_settled none e)
 
-pub root_within : (cells : List Cell) (root : ℕ) → IsType cells root → root < length cells
-root_within cells root h = sort_within cells root a_type h
+pub root_within : (cells : List Cell) (root : ℕ) → IsTyped cells root → root < length cells
+root_within cells root (inl h) = sort_within cells root a_type h
+root_within cells root (inr h) = sort_within cells root a_function h
+
+typed_as : (cells table : List Cell) (i j : ℕ) → sort_at table j ≡ sort_at cells i → IsTyped cells i → IsTyped table j
+typed_as cells table i j e (inl h) = inl (e ∙ h)
+typed_as cells table i j e (inr h) = inr (e ∙ h)
+
+given_same : (q : Option Sort) (w u : Assignment) (i j : ℕ) → w.types i ≡ u.types j → w.functions i ≡ u.functions j → given q w i ≡ given q u j
+given_same None w u i j h k = h
+given_same (Some a_type) w u i j h k = h
+given_same (Some a_function) w u i j h k = k
+given_same (Some a_row) w u i j h k = h
+given_same (Some a_kind) w u i j h k = h
+
+-- a copy has what its source has
+given_copied : (D : ℕ → Type 0) (cells : List Cell) (numbers : List ℕ) (w u : Assignment) (i : ℕ) → IsTyped cells i → D i → SameOn D cells numbers w u → given (sort_at cells i) w (number_in numbers i) ≡ given (sort_at cells i) u i
+given_copied D cells numbers w u i (inl e) d same = ap (λ q. given q w (number_in numbers i)) e ∙ same.types i d e ∙ sym (ap (λ q. given q u i) e)
+given_copied D cells numbers w u i (inr e) d same = ap (λ q. given q w (number_in numbers i)) e ∙ same.functions i d e ∙ sym (ap (λ q. given q u i) e)
+
+-- the cell with the number of a type or of a function
+record Typed (cells : List Cell) (i : ℕ) : Type 0 where
+  cell : Cell
+  here : slice_get cells i ≡ Some cell
+
+typed : (cells : List Cell) (i : ℕ) → IsTyped cells i → Typed cells i
+typed cells i (inl e) = let st = stands cells i a_type e in record { cell = st.cell; here = st.here }
+typed cells i (inr e) = let st = stands cells i a_function e in record { cell = st.cell; here = st.here }
 
 -- the copies of what a type needs are its scheme
-module _ (cells : List Cell) (list : List ℕ) (root : ℕ) (kept : List Bool) (none table : List Cell) (numbers : List ℕ) (parts : List Part) (fine : IsFine cells) (ordered : IsOrderOf cells list) (is_root : IsType cells root)
+module _ (cells : List Cell) (list : List ℕ) (root : ℕ) (kept : List Bool) (none table : List Cell) (numbers : List ℕ) (parts : List Part) (fine : IsFine cells) (ordered : IsOrderOf cells list) (is_root : IsTyped cells root)
     (needs : Needs cells kept root) (e : none ≡ []) (x : Copies kept cells none table numbers) (t : Tabled table parts) where
   start : (v : Assignment) → Solves table v → Start cells (kept_in kept)
   start v h = record {
@@ -49,33 +76,38 @@ module _ (cells : List Cell) (list : List ℕ) (root : ℕ) (kept : List Bool) (
     bares = λ j r q k. needs.told j (OfRow (Front [] r)) q k;
   }
 
-  begun : (v : Assignment) (h : Solves table v) → ((start v h).by.types root ≡ v.types (number_in numbers root))
+  begun : (v : Assignment) (h : Solves table v) → ((start v h).by.types root ≡ v.types (number_in numbers root)) × ((start v h).by.functions root ≡ v.functions (number_in numbers root))
   unfolding start
-  begun v h = refl
+  begun v h = (refl, refl)
 
   pub settles : (scheme : Scheme) → scheme.nodes ≡ parts → scheme.root ≡ number_in numbers root → Settles cells root scheme
   settles scheme n r =
       let settled = copies_settled kept cells none table numbers e x in
       let table_fine = x.fine in
       let same : cells_of scheme.nodes ≡ table = ap cells_of n ∙ t.same in
-      let st = stands cells root a_type is_root in
+      let st = typed cells root is_root in
+      let sorts : sort_at table (number_in numbers root) ≡ sort_at cells root = x.sorts root st.cell needs.root_in st.here ∙ sym (sort_here cells root st.cell st.here) in
+      let root_sort : sort_at (cells_of scheme.nodes) scheme.root ≡ sort_at cells root = ap (λ cs. sort_at cs scheme.root) same ∙ ap (sort_at table) r ∙ sorts in
       record {
         good = record {
           placed = subst (λ cs. (i : ℕ) (c : Cell) → slice_get cs i ≡ Some c → IsPlaced cs i c) (sym same) table_fine.placed;
           before = subst (λ cs. (i : ℕ) (c : Cell) → slice_get cs i ≡ Some c → Parts c (λ p. p < i)) (sym same) settled.before;
           tidy = subst (λ cs. (i : ℕ) (fs : Fields) (q : ℕ) → slice_get cs i ≡ Some (OfRow (Front fs q)) → IsTidy cs fs q) (sym same) table_fine.tidy;
           bases = subst (λ ps. AllByRecursion IsBasePart ps) (sym n) t.bases;
-          root_in = subst (λ cs. IsType cs scheme.root) (sym same) (subst (IsType table) (sym r) (x.sorts root st.cell needs.root_in st.here ∙ ap Some st.sort));
+          root_in = typed_as cells (cells_of scheme.nodes) root scheme.root root_sort is_root;
         };
+        sort = root_sort;
         to = λ s h.
             let g = x.down s s (empty_solved none s e) (λ j c k q. h.each j c q) in
             let w = g.holds in
-            record { by = g.to; solves = subst (λ cs. Solves cs g.to) (sym same) g.solves; root_is = ap g.to.types r ∙ w.types root needs.root_in is_root };
+            record { by = g.to; solves = subst (λ cs. Solves cs g.to) (sym same) g.solves; root_is = ap (λ q. given q g.to scheme.root) root_sort ∙ ap (given (sort_at cells root) g.to) r ∙ given_copied (λ j. kept_in kept j ≡ true) cells numbers g.to s root is_root needs.root_in w };
         from = λ u h.
             let v = h.by in
             let solved : Solves table v = subst (λ cs. Solves cs v) same h.solves in
             let w = started_solvable cells (kept_in kept) (start v solved) fine ordered.order ordered.is_order ordered.all in
-            (w.by, w.solves, (w.same root needs.root_in).0 ∙ begun v solved ∙ ap v.types (sym r) ∙ h.root_is);
+            let b = begun v solved in
+            let k = w.same root needs.root_in in
+            (w.by, w.solves, given_same (sort_at cells root) w.by v root (number_in numbers root) (k.0 ∙ b.0) (k.3 ∙ b.1) ∙ ap (given (sort_at cells root) v) (sym r) ∙ sym (ap (λ q. given q v scheme.root) root_sort) ∙ h.root_is);
       }
 
 -- a scheme as a source
@@ -103,25 +135,41 @@ all_closed table n kept m g h = record {
 pub instantiates : (scheme : Scheme) (table old new : List Cell) (n : ℕ) (kept : List Bool) (numbers : List ℕ) (i : ℕ) → table ≡ cells_of scheme.nodes → n ≡ length table → IsScheme scheme → KeepsAll n kept → Copies kept table old new numbers
     → i ≡ number_in numbers scheme.root → Instantiates old new scheme i
 instantiates scheme table old new n kept numbers i e m g h x r =
-    let is_root : IsType table scheme.root = subst (λ cs. IsType cs scheme.root) (sym e) g.root_in in
-    let lt = sort_within table scheme.root a_type is_root in
+    let is_root : IsTyped table scheme.root = subst (λ cs. IsTyped cs scheme.root) (sym e) g.root_in in
+    let lt = root_within table scheme.root is_root in
     let root_in : kept_in kept scheme.root ≡ true = h.each scheme.root (omega arith) in
-    let st = stands table scheme.root a_type is_root in
+    let st = typed table scheme.root is_root in
+    let same : sort_at table scheme.root ≡ sort_at (cells_of scheme.nodes) scheme.root = ap (λ cs. sort_at cs scheme.root) e in
+    let sorts : sort_at new i ≡ sort_at table scheme.root = ap (sort_at new) r ∙ x.sorts scheme.root st.cell root_in st.here ∙ sym (sort_here table scheme.root st.cell st.here) in
     record {
       fine = x.fine;
       keeps = x.keeps;
-      sort = subst (IsType new) (sym r) (x.sorts scheme.root st.cell root_in st.here ∙ ap Some st.sort);
+      sort = sorts ∙ same;
       up = λ s k.
           let a = x.up s k in (
             a.0,
             record {
               by = pulled numbers s;
               solves = subst (λ cs. Solves cs (pulled numbers s)) e (record { each = λ j c q. a.1 j c (let l = get_within table j c q in h.each j (omega arith)) q });
-              root_is = ap s.types (sym r);
+              root_is = ap (λ q. given q (pulled numbers s) scheme.root) (sym (sorts ∙ same)) ∙ given_same (sort_at new i) (pulled numbers s) s scheme.root (number_in numbers scheme.root) refl refl ∙ ap (given (sort_at new i) s) (sym r);
             },
           );
       down = λ s u k q.
           let v = q.by in
           let solved : Solves table v = subst (λ cs. Solves cs v) (sym e) q.solves in
-          grown_map old new s _ _ (λ w a same. ap w.types r ∙ same.types scheme.root root_in is_root ∙ q.root_is) (x.down s v k (λ j c d f. solved.each j c f));
+          grown_map old new s _ _ (λ w a one. ap (λ o. given o w i) sorts ∙ ap (given (sort_at table scheme.root) w) r ∙ given_copied (λ j. kept_in kept j ≡ true) table numbers w v scheme.root is_root root_in one ∙ ap (λ o. given o v scheme.root) same ∙ q.root_is) (x.down s v k (λ j c d f. solved.each j c f));
     }
+
+-- each instance of a type's scheme is a type
+pub type_instance : (scheme : Scheme) (t : Ground) → IsType (cells_of scheme.nodes) scheme.root → Instance scheme t → IsGround t
+type_instance scheme t e i = subst IsGround (ap (λ q. given q i.by scheme.root) (sym e) ∙ i.root_is) (i.by.types_ground scheme.root)
+
+-- and each of a function's goes from a type to a type
+pub function_instance : (scheme : Scheme) (t : Ground) → IsFunction (cells_of scheme.nodes) scheme.root → Instance scheme t → (a : Ground) × (b : Ground) × (t ≡ arrow a b) × IsGround a × IsGround b
+function_instance scheme t e i = let st = stands (cells_of scheme.nodes) scheme.root a_function e in go st.cell st.here st.sort
+  where
+    go : (c : Cell) → slice_get (cells_of scheme.nodes) scheme.root ≡ Some c → sort_of c ≡ a_function → (a : Ground) × (b : Ground) × (t ≡ arrow a b) × IsGround a × IsGround b
+    go (OfFunction a b) h q = (i.by.types a, i.by.types b, sym i.root_is ∙ ap (λ o. given o i.by scheme.root) e ∙ i.solves.each scheme.root (OfFunction a b) h, i.by.types_ground a, i.by.types_ground b)
+    go (OfType n) h q = let z : ⊥ = cc in absurd z
+    go (OfRow n) h q = let z : ⊥ = cc in absurd z
+    go (OfKind n) h q = let z : ⊥ = cc in absurd z

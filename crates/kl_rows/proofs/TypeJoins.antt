@@ -4,18 +4,18 @@ use mathlib.Core.Path.{ap₂}
 use Rattle.std.proofs.Math.ListN.{set}
 use Rattle.kl_value.specs.declared.value.Kind.{Kind}
 use Rattle.kl_value.specs.declared.value.Kind.TheVariants as kind
-use Rattle.kl_type.specs.Ground.{Ground, Row, rec, var, coll, arrow}
+use Rattle.kl_type.specs.Ground.{Ground, Row, rec, var, coll}
 use Rattle.kl_rows.specs.declared.cell.Scalar.{Scalar}
 use Rattle.kl_rows.specs.declared.cell.Scalar.TheVariants as scalar
 use Rattle.kl_rows.specs.declared.cell.TypeNode.{TypeNode}
-use Rattle.kl_rows.specs.declared.cell.TypeNode.TheVariants.{AnyType, Base, Rec, Var, Coll, Arrow, TypeLink}
+use Rattle.kl_rows.specs.declared.cell.TypeNode.TheVariants.{AnyType, Base, Rec, Var, Coll, TypeLink}
 use Rattle.kl_rows.specs.declared.cell.KindNode.{KindNode}
 use Rattle.kl_rows.specs.declared.cell.KindNode.TheVariants.{AnyKind, Fixed, KindLink}
 use Rattle.kl_rows.specs.declared.cell.RowNode.{RowNode}
 use Rattle.kl_rows.specs.declared.cell.Cell.{Cell}
 use Rattle.kl_rows.specs.declared.cell.Cell.TheVariants.{OfType, OfRow, OfKind}
 use Rattle.kl_rows.specs.declared.meet.Task.{Task}
-use Rattle.kl_rows.specs.declared.meet.Task.TheVariants.{Nothing, Rows, Parts, Colls, Clash}
+use Rattle.kl_rows.specs.declared.meet.Task.TheVariants.{Nothing, Rows, Colls, Clash}
 use Rattle.kl_rows.specs.Places.{IsPlaced, IsFine, open_one, roots}
 use Rattle.kl_rows.specs.Solutions.{Assignment, scalar_type, TypeSays, KindSays}
 use Rattle.kl_rows.specs.Steps.{Advances, Keeps}
@@ -31,7 +31,6 @@ kept_first (Base b) n s t h = h
 kept_first (Rec r) n s t h = h
 kept_first (Var r) n s t h = h
 kept_first (Coll k a) n s t h = h
-kept_first (Arrow a b) n s t h = h
 kept_first (TypeLink a) n s t h = h
 
 kept_says : (m n : TypeNode) (s : Assignment) (t : Ground) → TypeSays m s t → TypeSays n s t → TypeSays (kept m n) s t
@@ -40,7 +39,6 @@ kept_says (Base b) n s t h k = h
 kept_says (Rec r) n s t h k = h
 kept_says (Var r) n s t h k = h
 kept_says (Coll j a) n s t h k = h
-kept_says (Arrow a b) n s t h k = h
 kept_says (TypeLink a) n s t h k = h
 
 kept_root : (m n : TypeNode) → IsTypeRoot m → IsTypeRoot n → IsTypeRoot (kept m n)
@@ -49,7 +47,6 @@ kept_root (Base b) n h k = tt
 kept_root (Rec r) n h k = tt
 kept_root (Var r) n h k = tt
 kept_root (Coll j a) n h k = tt
-kept_root (Arrow a b) n h k = tt
 kept_root (TypeLink a) n h k = h
 
 open_root : (n : TypeNode) → IsTypeRoot n → open_one (OfType n) ≡ 1
@@ -58,7 +55,6 @@ open_root (Base b) h = refl
 open_root (Rec r) h = refl
 open_root (Var r) h = refl
 open_root (Coll j a) h = refl
-open_root (Arrow a b) h = refl
 open_root (TypeLink a) h = absurd h
 
 -- a root may stand anywhere
@@ -68,7 +64,6 @@ placed_root ns i j (Base b) r h = tt
 placed_root ns i j (Rec a) r h = h
 placed_root ns i j (Var a) r h = h
 placed_root ns i j (Coll k a) r h = h
-placed_root ns i j (Arrow a b) r h = h
 placed_root ns i j (TypeLink a) r h = absurd r
 
 kept_placed : (ns : List Cell) (i : ℕ) (m n : TypeNode) → IsPlaced ns i (OfType m) → IsPlaced ns i (OfType n) → IsPlaced ns i (OfType (kept m n))
@@ -77,7 +72,6 @@ kept_placed ns i (Base b) n h k = h
 kept_placed ns i (Rec r) n h k = h
 kept_placed ns i (Var r) n h k = h
 kept_placed ns i (Coll j a) n h k = h
-kept_placed ns i (Arrow a b) n h k = h
 kept_placed ns i (TypeLink a) n h k = h
 
 rec_same : (r q : Row) → rec r ≡ rec q → r ≡ q
@@ -88,9 +82,6 @@ var_same r q h = cc
 
 coll_same : (j k : Kind) (a b : Ground) → coll j a ≡ coll k b → (j ≡ k) × (a ≡ b)
 coll_same j k a b h = (cc, cc)
-
-arrow_same : (a b c d : Ground) → arrow a b ≡ arrow c d → (a ≡ c) × (b ≡ d)
-arrow_same a b c d h = (cc, cc)
 
 -- two scalars are one, or no type is both
 scalars_must : (a b : Scalar) (s : Assignment) → scalar_type a ≡ scalar_type b → TaskAsks (either (same_scalar a b)) s
@@ -126,12 +117,10 @@ asks_must (Base a) AnyType s t r q h k = tt
 asks_must (Rec a) AnyType s t r q h k = tt
 asks_must (Var a) AnyType s t r q h k = tt
 asks_must (Coll a b) AnyType s t r q h k = tt
-asks_must (Arrow a b) AnyType s t r q h k = tt
 asks_must (Base a) (Base b) s t r q h k = scalars_must a b s (sym h ∙ k)
 asks_must (Rec a) (Rec b) s t r q h k = rec_same _ _ (sym h ∙ k)
 asks_must (Var a) (Var b) s t r q h k = var_same _ _ (sym h ∙ k)
 asks_must (Coll a b) (Coll c d) s t r q h k = coll_same _ _ _ _ (sym h ∙ k)
-asks_must (Arrow a b) (Arrow c d) s t r q h k = arrow_same _ _ _ _ (sym h ∙ k)
 asks_must (TypeLink a) n s t r q h k = absurd r
 asks_must m (TypeLink a) s t r q h k = absurd q
 asks_must (Base scalar.Bool) _ s t r q h k = let e : ⊥ = cc in e
@@ -148,12 +137,10 @@ asks_enough (Base x) AnyType s t r q a h = tt
 asks_enough (Rec x) AnyType s t r q a h = tt
 asks_enough (Var x) AnyType s t r q a h = tt
 asks_enough (Coll x y) AnyType s t r q a h = tt
-asks_enough (Arrow x y) AnyType s t r q a h = tt
 asks_enough (Base x) (Base y) s t r q a h = h ∙ scalars_enough x y s a
 asks_enough (Rec x) (Rec y) s t r q a h = h ∙ ap rec a
 asks_enough (Var x) (Var y) s t r q a h = h ∙ ap var a
 asks_enough (Coll x y) (Coll z w) s t r q a h = h ∙ ap₂ coll a.0 a.1
-asks_enough (Arrow x y) (Arrow z w) s t r q a h = h ∙ ap₂ arrow a.0 a.1
 asks_enough (TypeLink x) n s t r q a h = absurd r
 asks_enough m (TypeLink x) s t r q a h = absurd q
 asks_enough _ _ s t r q a h = absurd a
@@ -164,12 +151,10 @@ tasks_within ns i j (Base x) AnyType r q h k = tt
 tasks_within ns i j (Rec x) AnyType r q h k = tt
 tasks_within ns i j (Var x) AnyType r q h k = tt
 tasks_within ns i j (Coll x y) AnyType r q h k = tt
-tasks_within ns i j (Arrow x y) AnyType r q h k = tt
 tasks_within ns i j (Base x) (Base y) r q h k = either_within ns (same_scalar x y)
 tasks_within ns i j (Rec x) (Rec y) r q h k = (h, k)
 tasks_within ns i j (Var x) (Var y) r q h k = (h, k)
 tasks_within ns i j (Coll x y) (Coll z w) r q h k = (h.0, h.1, k.0, k.1)
-tasks_within ns i j (Arrow x y) (Arrow z w) r q h k = (h.0, h.1, k.0, k.1)
 tasks_within ns i j (TypeLink x) n r q h k = absurd r
 tasks_within ns i j m (TypeLink x) r q h k = absurd q
 tasks_within ns i j _ _ r q h k = tt
@@ -177,7 +162,6 @@ tasks_within ns i j _ _ r q h k = tt
 within_keeps : (old new : List Cell) (t : Task) → Keeps old new → IsWithin old t → IsWithin new t
 within_keeps old new Nothing k h = tt
 within_keeps old new (Rows a b) k h = (k.sorts a _ h.0, k.sorts b _ h.1)
-within_keeps old new (Parts a b c d) k h = (k.sorts a _ h.0, k.sorts b _ h.1, k.sorts c _ h.2, k.sorts d _ h.3)
 within_keeps old new (Colls a b c d) k h = (k.sorts a _ h.0, k.sorts b _ h.1, k.sorts c _ h.2, k.sorts d _ h.3)
 within_keeps old new Clash k h = tt
 

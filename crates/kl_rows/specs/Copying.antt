@@ -2,22 +2,23 @@
 -- becomes one row for each field.
 use Rattle.std.specs.Prelude.{◌≡◌, ℕ, ◌<◌, Bool, true, false, List, [], ◌∷◌, length, Some, slice_get, slice_index, slice_index_or}
 use Rattle.kl_rows.specs.declared.cell.TypeNode.{TypeNode}
-use Rattle.kl_rows.specs.declared.cell.TypeNode.TheVariants.{AnyType, Base, Rec, Var, Coll, Arrow, TypeLink}
+use Rattle.kl_rows.specs.declared.cell.TypeNode.TheVariants.{AnyType, Base, Rec, Var, Coll, TypeLink}
 use Rattle.kl_rows.specs.declared.cell.KindNode.{KindNode}
 use Rattle.kl_rows.specs.declared.cell.KindNode.TheVariants.{AnyKind, Fixed, KindLink}
 use Rattle.kl_rows.specs.declared.cell.RowNode.{RowNode}
 use Rattle.kl_rows.specs.declared.cell.RowNode.TheVariants.{AnyRow, NoRow, Front}
 use Rattle.kl_rows.specs.declared.cell.Cell.{Cell}
-use Rattle.kl_rows.specs.declared.cell.Cell.TheVariants.{OfType, OfRow, OfKind}
+use Rattle.kl_rows.specs.declared.cell.Cell.TheVariants.{OfType, OfFunction, OfRow, OfKind}
 use Rattle.kl_rows.specs.Lists.{Fields}
-use Rattle.kl_rows.specs.Places.{Sort, a_type, a_row, a_kind, sort_of, sort_at, IsType, IsRowAt, IsKind, Parts, IsPlaced, Lacks, LacksAs, IsTidy, IsFine}
-use Rattle.kl_rows.specs.Solutions.{Assignment, TypeSays, RowSays, KindSays, Says, Solves}
+use Rattle.kl_rows.specs.Places.{Sort, a_type, a_function, a_row, a_kind, sort_of, sort_at, IsType, IsFunction, IsRowAt, IsKind, Parts, IsPlaced, Lacks, LacksAs, IsTidy, IsFine}
+use Rattle.kl_rows.specs.Solutions.{Assignment, TypeSays, FunctionSays, RowSays, KindSays, Says, Solves}
 use Rattle.kl_rows.specs.Steps.{Grown, Keeps}
 
 -- a cell that is no link, and no block but of one field
 abbrev pub IsPlain : Cell → Type 0
 IsPlain (OfType (TypeLink a)) = ⊥
 IsPlain (OfType n) = Unit {0}
+IsPlain (OfFunction a b) = Unit {0}
 IsPlain (OfRow (Front (f ∷ []) r)) = Unit {0}
 IsPlain (OfRow (Front fs r)) = ⊥
 IsPlain (OfRow n) = Unit {0}
@@ -32,12 +33,14 @@ pub record IsSettled (cells : List Cell) : Type 0 where
 -- what a cell says of what another assignment gives a number
 abbrev pub Fits : Cell → Assignment → Assignment → ℕ → Type 0
 Fits (OfType n) s u i = TypeSays n s (u.types i)
+Fits (OfFunction a b) s u i = FunctionSays a b s (u.functions i)
 Fits (OfRow n) s u i = RowSays n s (u.rows i)
 Fits (OfKind n) s u i = KindSays n s (u.kinds i)
 
 -- two assignments give two numbers the same
 abbrev pub SameAt : Sort → Assignment → ℕ → Assignment → ℕ → Type 0
 SameAt a_type w p u i = w.types p ≡ u.types i
+SameAt a_function w p u i = w.functions p ≡ u.functions i
 SameAt a_row w p u i = w.rows p ≡ u.rows i
 SameAt a_kind w p u i = w.kinds p ≡ u.kinds i
 
@@ -62,7 +65,6 @@ renamed_type f (Base b) = Base b
 renamed_type f (Rec r) = Rec (f r)
 renamed_type f (Var r) = Var (f r)
 renamed_type f (Coll k a) = Coll (f k) (f a)
-renamed_type f (Arrow a b) = Arrow (f a) (f b)
 renamed_type f (TypeLink a) = TypeLink (f a)
 
 abbrev pub renamed_row : (ℕ → ℕ) → RowNode → RowNode
@@ -78,6 +80,7 @@ renamed_kind f (KindLink a) = KindLink (f a)
 -- the cell with other numbers for its parts
 abbrev pub renamed : (ℕ → ℕ) → Cell → Cell
 renamed f (OfType n) = OfType (renamed_type f n)
+renamed f (OfFunction a b) = OfFunction (f a) (f b)
 renamed f (OfRow n) = OfRow (renamed_row f n)
 renamed f (OfKind n) = OfKind (renamed_kind f n)
 
@@ -88,6 +91,7 @@ number_in numbers j = slice_index numbers j
 abbrev pub pulled : List ℕ → Assignment → Assignment
 pulled numbers s = record {
   types = λ j. s.types (number_in numbers j);
+  functions = λ j. s.functions (number_in numbers j);
   rows = λ j. s.rows (number_in numbers j);
   kinds = λ j. s.kinds (number_in numbers j);
   types_ground = λ j. s.types_ground (number_in numbers j);
@@ -120,6 +124,7 @@ pub record IsClosed (cells : List Cell) (kept : List Bool) : Type 0 where
 -- the values of the cells that D names
 pub record SameOn (D : ℕ → Type 0) (cells : List Cell) (numbers : List ℕ) (w u : Assignment) : Type 0 where
   pub types : (j : ℕ) → D j → IsType cells j → w.types (number_in numbers j) ≡ u.types j
+  pub functions : (j : ℕ) → D j → IsFunction cells j → w.functions (number_in numbers j) ≡ u.functions j
   pub rows : (j : ℕ) → D j → IsRowAt cells j → w.rows (number_in numbers j) ≡ u.rows j
   pub kinds : (j : ℕ) → D j → IsKind cells j → w.kinds (number_in numbers j) ≡ u.kinds j
 

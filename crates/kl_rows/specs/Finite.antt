@@ -1,13 +1,13 @@
 -- Cells that some finite types, rows and kinds meet.
 use Rattle.std.specs.Prelude.{◌≡◌, ◌≢◌, ℕ, ◌+◌, ◌<◌, ◌≤◌, Bool, true, false, ◌&&◌, List, [], ◌∷◌, ◌++◌, length, Option, Some, None, nat_eq, slice_get}
 use Rattle.kl_rows.specs.declared.cell.TypeNode.{TypeNode}
-use Rattle.kl_rows.specs.declared.cell.TypeNode.TheVariants.{AnyType, Base, Rec, Var, Coll, Arrow, TypeLink}
+use Rattle.kl_rows.specs.declared.cell.TypeNode.TheVariants.{AnyType, Base, Rec, Var, Coll, TypeLink}
 use Rattle.kl_rows.specs.declared.cell.KindNode.{KindNode}
 use Rattle.kl_rows.specs.declared.cell.KindNode.TheVariants.{AnyKind, Fixed, KindLink}
 use Rattle.kl_rows.specs.declared.cell.RowNode.{RowNode}
 use Rattle.kl_rows.specs.declared.cell.RowNode.TheVariants.{AnyRow, NoRow, Front}
 use Rattle.kl_rows.specs.declared.cell.Cell.{Cell}
-use Rattle.kl_rows.specs.declared.cell.Cell.TheVariants.{OfType, OfRow, OfKind}
+use Rattle.kl_rows.specs.declared.cell.Cell.TheVariants.{OfType, OfFunction, OfRow, OfKind}
 use Rattle.kl_rows.specs.declared.finite.Mark.{Mark}
 use Rattle.kl_rows.specs.declared.finite.Mark.TheVariants.{Unseen, Full, Bare}
 use Rattle.kl_rows.specs.Lists.{Fields}
@@ -48,7 +48,6 @@ type_mark (Base b) m = Full
 type_mark (Rec r) m = full_if (is_seen (m r))
 type_mark (Var r) m = full_only (m r)
 type_mark (Coll k a) m = full_if (is_seen (m k) && is_seen (m a))
-type_mark (Arrow a b) m = full_if (is_seen (m a) && is_seen (m b))
 type_mark (TypeLink a) m = full_if (is_seen (m a))
 
 abbrev pub front_mark : Fields → (ℕ → Mark) → Mark → Mark
@@ -67,6 +66,7 @@ kind_mark (KindLink a) m = full_if (is_seen (m a))
 
 abbrev pub next_mark : Cell → (ℕ → Mark) → Mark
 next_mark (OfType n) m = type_mark n m
+next_mark (OfFunction a b) m = full_if (is_seen (m a) && is_seen (m b))
 next_mark (OfRow n) m = row_mark n m
 next_mark (OfKind n) m = kind_mark n m
 

@@ -2,14 +2,14 @@
 use Rattle.std.specs.Prelude.{◌≡◌, ◌↔◌, ℕ, Bool, IsTrue, List, [], ◌∷◌, length, Option, Some, None}
 use Rattle.kl_type.specs.Ground.{ground_of, IsProper}
 use Rattle.kl_rows.specs.Expanding.{Gives}
-use Rattle.kl_rows.specs.declared.cell.TypeNode.TheVariants.{Rec, Var, Coll, Arrow}
+use Rattle.kl_rows.specs.declared.cell.TypeNode.TheVariants.{Rec, Var, Coll}
 use Rattle.kl_rows.specs.declared.cell.KindNode.TheVariants.{Fixed}
 use Rattle.kl_rows.specs.declared.cell.RowNode.TheVariants.{NoRow, Front}
 use Rattle.kl_rows.specs.declared.cell.Cell.{Cell}
-use Rattle.kl_rows.specs.declared.cell.Cell.TheVariants.{OfType, OfRow, OfKind}
+use Rattle.kl_rows.specs.declared.cell.Cell.TheVariants.{OfType, OfFunction, OfRow, OfKind}
 use Rattle.kl_rows.specs.declared.schemes.Node.{Node}
 use Rattle.kl_rows.specs.declared.schemes.Node.TheVariants as node
-use Rattle.kl_rows.specs.Places.{Sort, a_type, a_row, a_kind, sort_of, sort_at, IsPlaced, Lacks, LacksAs, IsTidy, IsFine}
+use Rattle.kl_rows.specs.Places.{Sort, a_type, a_function, a_row, a_kind, sort_of, sort_at, IsPlaced, Lacks, LacksAs, IsTidy, IsFine}
 use Rattle.kl_rows.specs.Solutions.{Assignment, Says, Solves}
 use Rattle.kl_rows.specs.Steps.{Grown, Keeps}
 
@@ -38,7 +38,7 @@ CanMakeNode cells (node.Base t) = IsProper t
 CanMakeNode cells (node.Rec r) = CanMake cells (OfType (Rec r))
 CanMakeNode cells (node.Var r) = CanMake cells (OfType (Var r))
 CanMakeNode cells (node.Coll k t) = CanMake cells (OfType (Coll k t))
-CanMakeNode cells (node.Arrow a b) = CanMake cells (OfType (Arrow a b))
+CanMakeNode cells (node.Arrow a b) = CanMake cells (OfFunction a b)
 CanMakeNode cells (node.Row l t r) = CanMake cells (OfRow (Front ((l, t) ∷ []) r))
 CanMakeNode cells node.EmptyRow = CanMake cells (OfRow NoRow)
 CanMakeNode cells (node.Fixed k) = CanMake cells (OfKind (Fixed k))
@@ -49,7 +49,7 @@ MakesNode old new i (node.Base t) = Gives old new i (ground_of t)
 MakesNode old new i (node.Rec r) = Adds old new (OfType (Rec r)) i
 MakesNode old new i (node.Var r) = Adds old new (OfType (Var r)) i
 MakesNode old new i (node.Coll k t) = Adds old new (OfType (Coll k t)) i
-MakesNode old new i (node.Arrow a b) = Adds old new (OfType (Arrow a b)) i
+MakesNode old new i (node.Arrow a b) = Adds old new (OfFunction a b) i
 MakesNode old new i (node.Row l t r) = Adds old new (OfRow (Front ((l, t) ∷ []) r)) i
 MakesNode old new i node.EmptyRow = Adds old new (OfRow NoRow) i
 MakesNode old new i (node.Fixed k) = Adds old new (OfKind (Fixed k)) i
@@ -60,9 +60,10 @@ pub record HasSort (cells : List Cell) (a b : ℕ) : Type 0 where
   pub first : sort_at cells a ≡ Some sort
   pub second : sort_at cells b ≡ Some sort
 
--- two numbers of this sort have one type, row or kind
+-- two numbers of this sort have one type, function's type, row or kind
 abbrev pub Same : Option Sort → ℕ → ℕ → Assignment → Type 0
 Same (Some a_type) a b s = s.types a ≡ s.types b
+Same (Some a_function) a b s = s.functions a ≡ s.functions b
 Same (Some a_row) a b s = s.rows a ≡ s.rows b
 Same (Some a_kind) a b s = s.kinds a ≡ s.kinds b
 Same None a b s = ⊥

@@ -1,22 +1,25 @@
 -- Lists of cells that are in order: numbers are of the right sort, links lead back, and rows come to an end.
 use Rattle.std.specs.Prelude.{◌≡◌, ◌⊎◌, ℕ, zero, suc, ◌+◌, ◌<◌, ◌≤◌, List, [], ◌∷◌, ◌++◌, Option, Some, None, option_map, slice_get}
 use Rattle.std.specs.List.{AllByRecursion}
-use Rattle.kl_rows.specs.declared.cell.TypeNode.TheVariants.{AnyType, Base, Rec, Var, Coll, Arrow, TypeLink}
+use Rattle.kl_rows.specs.declared.cell.TypeNode.TheVariants.{AnyType, Base, Rec, Var, Coll, TypeLink}
 use Rattle.kl_rows.specs.declared.cell.KindNode.TheVariants.{AnyKind, Fixed, KindLink}
 use Rattle.kl_rows.specs.declared.cell.RowNode.{RowNode}
 use Rattle.kl_rows.specs.declared.cell.RowNode.TheVariants.{AnyRow, NoRow, Front}
 use Rattle.kl_rows.specs.declared.cell.Cell.{Cell}
-use Rattle.kl_rows.specs.declared.cell.Cell.TheVariants.{OfType, OfRow, OfKind}
+use Rattle.kl_rows.specs.declared.cell.Cell.TheVariants.{OfType, OfFunction, OfRow, OfKind}
 use Rattle.kl_base.specs.Fields.{field}
 use Rattle.kl_rows.specs.Lists.{Fields}
 
+-- A function is what a definition of one has: from its parameter's type to its result's. It is part of nothing.
 pub data Sort : Type 0 where
   a_type : Sort
+  a_function : Sort
   a_row : Sort
   a_kind : Sort
 
 abbrev pub sort_of : Cell → Sort
 sort_of (OfType n) = a_type
+sort_of (OfFunction a b) = a_function
 sort_of (OfRow n) = a_row
 sort_of (OfKind n) = a_kind
 
@@ -33,6 +36,13 @@ IsRowAt cells i = sort_at cells i ≡ Some a_row
 abbrev pub IsKind : List Cell → ℕ → Type 0
 IsKind cells i = sort_at cells i ≡ Some a_kind
 
+abbrev pub IsFunction : List Cell → ℕ → Type 0
+IsFunction cells i = sort_at cells i ≡ Some a_function
+
+-- what a scheme may be of
+abbrev pub IsTyped : List Cell → ℕ → Type 0
+IsTyped cells i = IsType cells i ⊎ IsFunction cells i
+
 abbrev pub AreTypes : List Cell → Fields → Type 0
 AreTypes cells fields = AllByRecursion (λ f. IsType cells f.1) fields
 
@@ -43,7 +53,7 @@ IsPlaced cells i (OfType (Base b)) = Unit {0}
 IsPlaced cells i (OfType (Rec r)) = IsRowAt cells r
 IsPlaced cells i (OfType (Var r)) = IsRowAt cells r
 IsPlaced cells i (OfType (Coll k a)) = IsKind cells k × IsType cells a
-IsPlaced cells i (OfType (Arrow a b)) = IsType cells a × IsType cells b
+IsPlaced cells i (OfFunction a b) = IsType cells a × IsType cells b
 IsPlaced cells i (OfType (TypeLink a)) = (a < i) × IsType cells a
 IsPlaced cells i (OfRow (AnyRow lacks)) = Unit {0}
 IsPlaced cells i (OfRow NoRow) = Unit {0}
@@ -59,7 +69,7 @@ Parts (OfType (Base b)) P = Unit {0}
 Parts (OfType (Rec r)) P = P r
 Parts (OfType (Var r)) P = P r
 Parts (OfType (Coll k a)) P = P k × P a
-Parts (OfType (Arrow a b)) P = P a × P b
+Parts (OfFunction a b) P = P a × P b
 Parts (OfType (TypeLink a)) P = P a
 Parts (OfRow (AnyRow ls)) P = Unit {0}
 Parts (OfRow NoRow) P = Unit {0}
@@ -141,6 +151,7 @@ pub record IsFine (cells : List Cell) : Type 0 where
 abbrev pub open_one : Cell → ℕ
 open_one (OfType (TypeLink a)) = 0
 open_one (OfType n) = 1
+open_one (OfFunction a b) = 0
 open_one (OfRow (AnyRow lacks)) = 1
 open_one (OfRow n) = 0
 open_one (OfKind (KindLink a)) = 0

@@ -10,6 +10,7 @@ use Rattle.kl_rows.specs.Solutions.{Assignment, Splits, Solves}
 -- the same below a number
 pub record Agrees (size : ℕ) (s u : Assignment) : Type 0 where
   pub types : (i : ℕ) → i < size → u.types i ≡ s.types i
+  pub functions : (i : ℕ) → i < size → u.functions i ≡ s.functions i
   pub rows : (i : ℕ) → i < size → u.rows i ≡ s.rows i
   pub kinds : (i : ℕ) → i < size → u.kinds i ≡ s.kinds i
 

@@ -1,6 +1,6 @@
 //! Cells copied in an order in which parts stand before wholes.
 ghost use Rattle.std.specs.Prelude.{◌≡◌, IfOk, slice_index};
-ghost use Rattle.kl_rows.specs.declared.cell.Cell.TheVariants.{OfType, OfRow, OfKind};
+ghost use Rattle.kl_rows.specs.declared.cell.Cell.TheVariants.{OfType, OfFunction, OfRow, OfKind};
 ghost use Rattle.kl_rows.specs.declared.cell.RowNode.TheVariants.{Front};
 ghost use Rattle.kl_rows.specs.Places.{IsFine};
 ghost use Rattle.kl_rows.specs.Making.{CanMake};
@@ -71,6 +71,10 @@ fn copy_cell(
             let at = copy_type(renamed_type(*node, numbers), target)?;
             Ok(at)
         }
+        Cell::OfFunction(from, to) => {
+            let at = copy_function(number(numbers, *from), number(numbers, *to), target)?;
+            Ok(at)
+        }
         Cell::OfRow(node) => {
             let node = renamed_row(alloc, node, numbers)?;
             let at = copy_row(alloc, node, target)?;
@@ -92,6 +96,15 @@ fn copy_type(node: TypeNode, target: &mut Vec<Cell>) -> Result<usize, NoMemory>
         return Ok(at);
     }
     let at = push(target, Cell::OfType(node))?;
+    Ok(at)
+}
+
+fn copy_function(from: usize, to: usize, target: &mut Vec<Cell>) -> Result<usize, NoMemory>
+    requires fine { IsFine target.old.items }
+    requires can { CanMake target.old.items (OfFunction from to) }
+    ensures { IfOk result (λ p. Takes target.old.items target.new.items (OfFunction from to) p) }
+{
+    let at = push(target, Cell::OfFunction(from, to))?;
     Ok(at)
 }
 
@@ -157,7 +170,6 @@ fn renamed_type(node: TypeNode, numbers: &[usize]) -> TypeNode
         TypeNode::Rec(r) => TypeNode::Rec(number(numbers, r)),
         TypeNode::Var(r) => TypeNode::Var(number(numbers, r)),
         TypeNode::Coll(k, t) => TypeNode::Coll(number(numbers, k), number(numbers, t)),
-        TypeNode::Arrow(a, b) => TypeNode::Arrow(number(numbers, a), number(numbers, b)),
         TypeNode::TypeLink(a) => TypeNode::TypeLink(number(numbers, a)),
     }
 }

@@ -60,6 +60,7 @@ fn next_mark(marks: &[Mark], cell: &Cell) -> Mark
 {
     match cell {
         Cell::OfType(node) => type_mark(marks, *node),
+        Cell::OfFunction(a, b) => full_if(is_seen(marks, *a) && is_seen(marks, *b)),
         Cell::OfRow(node) => row_mark(marks, node),
         Cell::OfKind(node) => kind_mark(marks, *node),
     }
@@ -75,9 +76,7 @@ fn type_mark(marks: &[Mark], node: TypeNode) -> Mark
             Mark::Full => Mark::Full,
             _ => Mark::Unseen,
         },
-        TypeNode::Coll(a, b) | TypeNode::Arrow(a, b) => {
-            full_if(is_seen(marks, a) && is_seen(marks, b))
-        }
+        TypeNode::Coll(a, b) => full_if(is_seen(marks, a) && is_seen(marks, b)),
     }
 }
 

@@ -97,12 +97,17 @@ fn keep_parts(cell: &Cell, kept: &mut Vec<bool>) -> bool
         Cell::OfType(node) => match node {
             TypeNode::AnyType | TypeNode::Base(_) => false,
             TypeNode::Rec(r) | TypeNode::Var(r) | TypeNode::TypeLink(r) => keep(kept, *r),
-            TypeNode::Coll(a, b) | TypeNode::Arrow(a, b) => {
+            TypeNode::Coll(a, b) => {
                 let first = keep(kept, *a);
                 let second = keep(kept, *b);
                 either(first, second)
             }
         },
+        Cell::OfFunction(a, b) => {
+            let first = keep(kept, *a);
+            let second = keep(kept, *b);
+            either(first, second)
+        }
         Cell::OfRow(node) => match node {
             RowNode::AnyRow(_) | RowNode::NoRow => false,
             RowNode::Front(fields, rest) => {

@@ -1,6 +1,6 @@
 //! A unifier of types, rows and kinds, and schemes.
 //!
-//! Types, rows and kinds go by numbers. What is said of them is the set of ground assignments that solve it: `Solves` in
+//! Types, functions, rows and kinds go by numbers. What is said of them is the set of ground assignments that solve it: `Solves` in
 //! `specs/Solutions.antt`. A unifier is most general where it leaves all of them that make the two one: `Unifies` in
 //! `specs/Making.antt`. A scheme stands for its instances: `Settles` and `Instantiates` in `specs/Schemes.antt`.
 //!

@@ -22,7 +22,6 @@ use std::alloc::Global;
 pub enum Task {
     Nothing,
     Rows(usize, usize),
-    Parts(usize, usize, usize, usize),
     Colls(usize, usize, usize, usize),
     Clash,
 }
@@ -43,11 +42,6 @@ pub fn meet(
 {
     match join_either(cells, first, second) {
         Task::Nothing => Ok(true),
-        Task::Parts(a, b, c, d) => {
-            pairs.push((a, c))?;
-            pairs.push((b, d))?;
-            Ok(true)
-        }
         Task::Colls(j, a, k, b) => {
             pairs.push((a, b))?;
             Ok(meet_kinds(cells, j, k))
@@ -112,7 +106,6 @@ fn compare(first: TypeNode, second: TypeNode) -> Task
         (TypeNode::Rec(a), TypeNode::Rec(b)) | (TypeNode::Var(a), TypeNode::Var(b)) => {
             Task::Rows(a, b)
         }
-        (TypeNode::Arrow(a, b), TypeNode::Arrow(c, d)) => Task::Parts(a, b, c, d),
         (TypeNode::Coll(j, a), TypeNode::Coll(k, b)) => Task::Colls(j, a, k, b),
         _ => Task::Clash,
     }

@@ -29,7 +29,7 @@ pub enum Node {
     EmptyRow,
     /// This kind.
     Fixed(Kind),
-    /// A function's type: from the first to the second.
+    /// A function: from the first type to the second. It is part of no other node.
     Arrow(u64, u64),
 }
 
@@ -49,7 +49,7 @@ pub enum Part {
 /// The parts of a scheme.
 pub type Nodes = Seq<Part>;
 
-/// A type with variables, as a table in which parts are shared. The root is the place of the whole.
+/// A type or a function with variables, as a table in which parts are shared. The root is the place of the whole.
 #[derive(Debug, Drop)]
 pub struct Scheme {
     /// The parts, each before the wholes that it is part of.
@@ -133,6 +133,7 @@ fn part_of(alloc: Global, cell: &Cell) -> Result<Part, NoMemory>
 {
     match cell {
         Cell::OfType(node) => Ok(type_part(*node)),
+        Cell::OfFunction(a, b) => Ok(Part::Is(Node::Arrow(*a as u64, *b as u64))),
         Cell::OfRow(RowNode::AnyRow(labels)) => {
             let mut lacks = Vec::new(alloc);
             add_labels(&mut lacks, labels.slice())?;
@@ -160,7 +161,6 @@ fn type_part(node: TypeNode) -> Part
         TypeNode::Rec(r) => Part::Is(Node::Rec(r as u64)),
         TypeNode::Var(r) => Part::Is(Node::Var(r as u64)),
         TypeNode::Coll(k, t) => Part::Is(Node::Coll(k as u64, t as u64)),
-        TypeNode::Arrow(a, b) => Part::Is(Node::Arrow(a as u64, b as u64)),
         TypeNode::TypeLink(_) => unreachable!(),
     }
 }
@@ -214,7 +214,7 @@ fn node_cell(alloc: Global, node: &Node) -> Result<Cell, NoMemory>
         Node::Rec(r) => Ok(Cell::OfType(TypeNode::Rec(*r as usize))),
         Node::Var(r) => Ok(Cell::OfType(TypeNode::Var(*r as usize))),
         Node::Coll(k, t) => Ok(Cell::OfType(TypeNode::Coll(*k as usize, *t as usize))),
-        Node::Arrow(a, b) => Ok(Cell::OfType(TypeNode::Arrow(*a as usize, *b as usize))),
+        Node::Arrow(a, b) => Ok(Cell::OfFunction(*a as usize, *b as usize)),
         Node::Row(label, t, r) => {
             let fields = vec![in alloc; (label.dup()?, *t as usize)]?;
             Ok(Cell::OfRow(RowNode::Front(Seq::of(fields), *r as usize)))

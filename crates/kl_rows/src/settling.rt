@@ -1,6 +1,6 @@
 //! Schemes from cells, and cells from schemes.
 ghost use Rattle.std.specs.Prelude.{IfOk, MatchOption};
-ghost use Rattle.kl_rows.specs.Places.{IsFine, IsType};
+ghost use Rattle.kl_rows.specs.Places.{IsFine, IsTyped};
 ghost use Rattle.kl_rows.specs.Finite.{Solvable, IsOrderOf};
 ghost use Rattle.kl_rows.specs.Schemes.{CountsTo, KeepsAll, IsScheme, Settles, Instantiates};
 
@@ -12,10 +12,10 @@ use crate::schemes::{Scheme, cells_of, parts_of};
 use kl_base::{NoMemory, Seq};
 use std::alloc::Global;
 
-/// The scheme of a type. None exactly where nothing solves the cells.
+/// The scheme of a type or of a function. None exactly where nothing solves the cells.
 pub fn settled(alloc: Global, cells: &[Cell], root: usize) -> Result<Option<Scheme>, NoMemory>
     requires fine { IsFine cells.now }
-    requires on_root { IsType cells.now root }
+    requires on_root { IsTyped cells.now root }
     ensures { IfOk result (λ found. MatchOption found (Solvable cells.now → ⊥) (λ scheme. Settles cells.now root scheme)) }
 {
     match order_of(alloc, cells)? {
@@ -35,7 +35,7 @@ fn scheme_of(
 ) -> Result<Scheme, NoMemory>
     requires fine { IsFine cells.now }
     requires ordered { IsOrderOf cells.now order.now }
-    requires on_root { IsType cells.now root }
+    requires on_root { IsTyped cells.now root }
     ensures { IfOk result (λ scheme. Settles cells.now root scheme) }
 {
     let kept = needed(alloc, cells, order, root)?;
@@ -48,7 +48,7 @@ fn scheme_of(
     })
 }
 
-/// The cells of a scheme. The number is that of a type that may be any instance.
+/// The cells of a scheme. The number is that of a type or of a function that may be any instance.
 pub fn instantiate(alloc: Global, scheme: &Scheme, cells: &mut Vec<Cell>) -> Result<usize, NoMemory>
     requires fine { IsFine cells.old.items }
     requires good { IsScheme scheme.now }

@@ -1,6 +1,6 @@
 //! The public calls.
 ghost use Rattle.std.specs.Prelude.{◌≡◌, ℕ, [], IfOk, MatchOption};
-ghost use Rattle.kl_rows.specs.Places.{IsFine, IsType, IsRowAt, sort_at};
+ghost use Rattle.kl_rows.specs.Places.{IsFine, IsTyped, IsRowAt, sort_at};
 ghost use Rattle.kl_rows.specs.Steps.{Advances};
 ghost use Rattle.kl_rows.specs.Finite.{Solvable};
 ghost use Rattle.kl_rows.specs.Schemes.{IsScheme, Settles, Instantiates};
@@ -15,13 +15,13 @@ use crate::fields::add_labels;
 use crate::finite::solvable;
 use crate::fresh::{add, make_type};
 use crate::meet::{meet_kinds, meet_rows};
-use crate::merging::{merge, merge_all};
+use crate::merging::{merge, merge_all, merge_functions};
 use crate::schemes::{Node, Scheme};
 use crate::settling::{instantiate, settled};
 use kl_base::{Label, NoMemory, Seq};
 use std::alloc::Global;
 
-/// Types, rows and kinds by numbers, and what is said of them.
+/// Types, functions, rows and kinds by numbers, and what is said of them.
 #[derive(Drop)]
 pub struct Unifier {
     pub alloc: Global,
@@ -88,7 +88,10 @@ impl Unifier {
             Node::Rec(r) => self.add_type(TypeNode::Rec(r as usize)),
             Node::Var(r) => self.add_type(TypeNode::Var(r as usize)),
             Node::Coll(k, t) => self.add_type(TypeNode::Coll(k as usize, t as usize)),
-            Node::Arrow(a, b) => self.add_type(TypeNode::Arrow(a as usize, b as usize)),
+            Node::Arrow(a, b) => {
+                let at = add(&mut self.cells, Cell::OfFunction(a as usize, b as usize))?;
+                Ok(at as u64)
+            }
             Node::Row(label, t, r) => {
                 let fields = vec![in self.alloc; (label, t as usize)]?;
                 let at = add(
@@ -117,13 +120,13 @@ impl Unifier {
         Ok(at as u64)
     }
 
-    /// What is said of a type, as a scheme: its instances are the types that the number can have.
+    /// What is said of a type or of a function, as a scheme: its instances are the types that the number can have.
     ///
     /// # Errors
     /// Want of memory.
     pub fn settle(&self, root: u64) -> Result<Scheme, NoMemory>
         requires fine { IsFine self.now.cells.items }
-        requires on_root { IsType self.now.cells.items root }
+        requires on_root { IsTyped self.now.cells.items root }
         requires solvable { Solvable self.now.cells.items }
         ensures { IfOk result (λ scheme. Settles self.now.cells.items root scheme) }
     {
@@ -140,14 +143,14 @@ impl Unifier {
     /// Want of memory.
     pub fn settled(&self, root: u64) -> Result<Option<Scheme>, NoMemory>
         requires fine { IsFine self.now.cells.items }
-        requires on_root { IsType self.now.cells.items root }
+        requires on_root { IsTyped self.now.cells.items root }
         ensures { IfOk result (λ found. MatchOption found (Solvable self.now.cells.items → ⊥) (λ scheme. Settles self.now.cells.items root scheme)) }
     {
         let found = settled(self.alloc, &self.cells, root as usize)?;
         Ok(found)
     }
 
-    /// A new type that may be any instance of the scheme, and nothing else.
+    /// A new type, or a new function where the scheme is one's, that may be any instance of the scheme, and nothing else.
     ///
     /// # Errors
     /// Want of memory; then the unifier may only be dropped.
@@ -160,7 +163,7 @@ impl Unifier {
         Ok(at as u64)
     }
 
-    /// Makes two types, two rows or two kinds one. False exactly where nothing that meets what was said makes them one.
+    /// Makes two types, two functions, two rows or two kinds one. False exactly where nothing that meets what was said makes them one.
     pub fn unify(&mut self, first: u64, second: u64) -> Result<bool, NoMemory>
         requires fine { IsFine self.old.cells.items }
         requires sorts { HasSort self.old.cells.items first second }
@@ -174,7 +177,7 @@ impl Unifier {
         Ok(holds)
     }
 
-    /// Makes two types, two rows or two kinds one. Where this is true only infinite types may be left.
+    /// Makes two types, two functions, two rows or two kinds one. Where this is true only infinite types may be left.
     pub fn merge(&mut self, first: u64, second: u64) -> Result<bool, NoMemory>
         requires fine { IsFine self.old.cells.items }
         requires sorts { HasSort self.old.cells.items first second }
@@ -185,6 +188,10 @@ impl Unifier {
         match &self.cells[first] {
             Cell::OfType(_) => {
                 let holds = merge(self.alloc, &mut self.cells, first, second)?;
+                Ok(holds)
+            }
+            Cell::OfFunction(_, _) => {
+                let holds = merge_functions(self.alloc, &mut self.cells, first, second)?;
                 Ok(holds)
             }
             Cell::OfKind(_) => Ok(meet_kinds(&mut self.cells, first, second)),

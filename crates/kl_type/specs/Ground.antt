@@ -6,7 +6,8 @@ use Rattle.kl_base.specs.Fields.{bytes_cmp}
 use Rattle.kl_value.specs.declared.Kind.{Kind}
 use Rattle.kl_type.specs.declared.ground.Ty.{Ty, Ty-F, fold-Ty}
 
--- A type without variables, and a row: labels with types.
+-- A type without variables, and a row: labels with types. An arrow is a definition's type, from its parameter's to its
+-- result's, and stands in no other.
 mutual
   pub data Ground : Type 0 where
     bool : Ground
@@ -30,13 +31,13 @@ at l (row m t r) = cond (pointwise nat_eq l m) (Some t) (at l r)
 abbrev pub IsBefore : List ℕ → Row → Type 0
 IsBefore l r = (m : List ℕ) (t : Ground) → at m r ≡ Some t → bytes_cmp l m ≡ Less
 
--- each row in it is in rising order, and a variant type has a label
+-- each row in it is in rising order, a variant type has a label, and no function stands in it
 abbrev mutual
   pub IsGround : Ground → Type 0
   IsGround (rec r) = IsRow r
   IsGround (var r) = (r ≡ no_row → ⊥) × IsRow r
   IsGround (coll k t) = IsGround t
-  IsGround (arrow a b) = IsGround a × IsGround b
+  IsGround (arrow a b) = ⊥
   IsGround bool = Unit {0}
   IsGround int = Unit {0}
   IsGround str = Unit {0}

@@ -1,6 +1,6 @@
 use Rattle.std.proofs.Common.{◌≡◌, sym, subst}
 use Rattle.kl_rows.specs.declared.cell.TypeNode.{TypeNode}
-use Rattle.kl_rows.specs.declared.cell.TypeNode.TheVariants.{AnyType, Base, Rec, Var, Coll, Arrow, TypeLink}
+use Rattle.kl_rows.specs.declared.cell.TypeNode.TheVariants.{AnyType, Base, Rec, Var, Coll, TypeLink}
 use Rattle.kl_rows.specs.declared.cell.Cell.TheVariants.{OfType}
 use Rattle.kl_rows.specs.Making.{CanMake}
 use Rattle.kl_rows.specs.Copying.{IsPlain, Takes}
@@ -13,7 +13,6 @@ plain (Base b) h = tt
 plain (Rec r) h = tt
 plain (Var r) h = tt
 plain (Coll k a) h = tt
-plain (Arrow a b) h = tt
 plain (TypeLink a) h = absurd (h a (λ i. TypeLink a))
 
 pub returns-in-TypeLink : goal.returns-in-TypeLink

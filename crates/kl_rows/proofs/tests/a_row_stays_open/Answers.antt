@@ -2,6 +2,9 @@ use Rattle.std.proofs.Common.{inl, refl, sym, subst, ◌∙◌}
 use Rattle.kl_rows.specs.Places.{a_row, IsIn}
 use Rattle.kl_rows.proofs.tests.a_row_stays_open.Goals as goal
 
+pub settled-requires-clause-on_root : goal.settled-requires-clause-on_root
+settled-requires-clause-on_root g c = inl c.in_ok-record.ensures.sort
+
 pub make-requires-clause-can : goal.make-requires-clause-can
 make-requires-clause-can g c = record {
   placed = ((c.in_ok-field.ensures.sort, tt), c.in_ok-field.ensures.keeps.sorts c.in_ok-rest.rest a_row c.in_ok-rest.ensures.sort);
