@@ -5,7 +5,7 @@ use Rattle.kl_phrase.specs.Words.{heads}
 use Rattle.kl_phrase.proofs.Theory.{Sound, Begins}
 use Rattle.std.proofs.lemmas.List.{append-nil}
 use Rattle.kl_lex.specs.declared.token.Token.{Token}
-use Rattle.kl_parse.specs.declared.tree.Program.{Program}
+use Rattle.kl_syntax.specs.declared.tree.Program.{Program}
 use Rattle.kl_parse.specs.Grammar.{ReadsProgram}
 use Rattle.kl_parse.specs.Parsing.{IsProgram, IsToldOf, OnePlace, nests, can_nest}
 use Rattle.kl_parse.specs.Descent as d

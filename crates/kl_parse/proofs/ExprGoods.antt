@@ -9,14 +9,14 @@ use Rattle.kl_parse.specs.declared.keyword.Keyword.{Keyword}
 use Rattle.kl_parse.specs.declared.keyword.Keyword.TheVariants as key
 use Rattle.kl_parse.specs.declared.operator.Level.{Level}
 use Rattle.kl_parse.specs.declared.operator.Level.TheVariants as level
-use Rattle.kl_parse.specs.declared.tree.Op.{Op}
-use Rattle.kl_parse.specs.declared.tree.Word.{Word}
-use Rattle.kl_parse.specs.declared.tree.Expr.{Expr}
-use Rattle.kl_parse.specs.declared.tree.Expr.TheVariants as expr
-use Rattle.kl_parse.specs.declared.tree.Qual.{Qual}
-use Rattle.kl_parse.specs.declared.tree.Qual.TheVariants as qual
-use Rattle.kl_parse.specs.declared.tree.Pattern.{Pattern}
-use Rattle.kl_parse.specs.declared.tree.Branch.{Branch}
+use Rattle.kl_syntax.specs.declared.tree.Op.{Op}
+use Rattle.kl_syntax.specs.declared.tree.Word.{Word}
+use Rattle.kl_syntax.specs.declared.tree.Expr.{Expr}
+use Rattle.kl_syntax.specs.declared.tree.Expr.TheVariants as expr
+use Rattle.kl_syntax.specs.declared.tree.Qual.{Qual}
+use Rattle.kl_syntax.specs.declared.tree.Qual.TheVariants as qual
+use Rattle.kl_syntax.specs.declared.tree.Pattern.{Pattern}
+use Rattle.kl_syntax.specs.declared.tree.Branch.{Branch}
 use Rattle.kl_parse.specs.Lexemes.{IsSymbol, Symbol, IsKey, Key, Label, Name, Constant, IsLeast, AnOp}
 use Rattle.kl_parse.specs.Grammar.{name_of, inject_of, case_of, path_of, chain_of, compare_of, let_of, if_of, gen_of, comp_of, branch_of, opener, closer, Chained, Exprs, Args, Group, Field, Rec, Inject, Otherwise, If, AQual, Inside, Coll, Let, Case, Named, Least, Prim, Post, Un, Mul, Add, Compare, Not, And, Ors, Whole, ABranch, PatVariant}
 use Rattle.kl_parse.specs.Kinds.{has, among, is_symbol, is_key, one_symbol, one_key, symbol_kind, key_kind, name_kinds, label_kinds, constant_kinds, big_kinds, op_kinds, a_constant, a_least, an_op}

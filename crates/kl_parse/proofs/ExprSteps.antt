@@ -12,14 +12,14 @@ use Rattle.kl_parse.specs.declared.operator.Level.{Level}
 use Rattle.kl_parse.specs.declared.operator.Level.TheVariants as level
 use Rattle.kl_parse.specs.declared.fault.Fault.{Fault}
 use Rattle.kl_parse.specs.declared.fault.Fault.TheVariants as fault
-use Rattle.kl_parse.specs.declared.tree.Word.{Word}
-use Rattle.kl_parse.specs.declared.tree.Op.{Op}
-use Rattle.kl_parse.specs.declared.tree.Pattern.{Pattern}
-use Rattle.kl_parse.specs.declared.tree.Expr.{Expr}
-use Rattle.kl_parse.specs.declared.tree.Expr.TheVariants as expr
-use Rattle.kl_parse.specs.declared.tree.Qual.{Qual}
-use Rattle.kl_parse.specs.declared.tree.Qual.TheVariants as qual
-use Rattle.kl_parse.specs.declared.tree.Branch.{Branch}
+use Rattle.kl_syntax.specs.declared.tree.Word.{Word}
+use Rattle.kl_syntax.specs.declared.tree.Op.{Op}
+use Rattle.kl_syntax.specs.declared.tree.Pattern.{Pattern}
+use Rattle.kl_syntax.specs.declared.tree.Expr.{Expr}
+use Rattle.kl_syntax.specs.declared.tree.Expr.TheVariants as expr
+use Rattle.kl_syntax.specs.declared.tree.Qual.{Qual}
+use Rattle.kl_syntax.specs.declared.tree.Qual.TheVariants as qual
+use Rattle.kl_syntax.specs.declared.tree.Branch.{Branch}
 use Rattle.kl_parse.specs.Gives.{Fails}
 use Rattle.kl_parse.specs.Grammar.{name_of, inject_of, gen_of, comp_of, case_of, path_of, chain_of, compare_of, let_of, if_of, branch_of, function_of, constant_of, opener, closer, Sort, whole, negated, signed, added, opens}
 use Rattle.kl_parse.specs.Kinds.{among, is_symbol, is_key, constant_kinds, big_kinds, op_kinds, a_constant, an_op, a_symbol}

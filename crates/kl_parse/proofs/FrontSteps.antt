@@ -6,7 +6,7 @@ use Rattle.kl_lex.specs.declared.token.Tok.{Tok}
 use Rattle.kl_lex.specs.declared.token.Tok.TheVariants as tok
 use Rattle.kl_lex.specs.declared.token.Token.{Token}
 use Rattle.kl_parse.specs.declared.operator.Level.{Level}
-use Rattle.kl_parse.specs.declared.tree.Op.{Op}
+use Rattle.kl_syntax.specs.declared.tree.Op.{Op}
 use Rattle.kl_parse.specs.Kinds.{has, kind_at, among, is_symbol, symbol_kind, label_kinds, op_kinds, op_at, of_level, an_op}
 use Rattle.kl_parse.proofs.KindLemmas.{symbol_at, has_or, and_true, either, decides_op, op_among, no_op}
 use Rattle.kl_phrase.specs.Words.{heads}

@@ -18,9 +18,9 @@ use Rattle.kl_parse.specs.contracts.keyword.Keyword as key_type
 use Rattle.kl_parse.specs.declared.operator.Level.{Level}
 use Rattle.kl_parse.specs.declared.operator.Level.TheVariants as level
 use Rattle.kl_parse.specs.contracts.operator.Level as level_type
-use Rattle.kl_parse.specs.declared.tree.Op.{Op}
-use Rattle.kl_parse.specs.declared.tree.Op.TheVariants as op
-use Rattle.kl_parse.specs.declared.tree.Word.{Word}
+use Rattle.kl_syntax.specs.declared.tree.Op.{Op}
+use Rattle.kl_syntax.specs.declared.tree.Op.TheVariants as op
+use Rattle.kl_syntax.specs.declared.tree.Word.{Word}
 use Rattle.kl_parse.specs.Keywords.{spelling, all_keywords, keyword_of}
 use Rattle.kl_parse.specs.Lexemes.{IsSymbol, Symbol, IsKey, Key, IsLabel, IsName, IsConstant, Constant, IsLeast, IsNegative, written, level_of, IsOp, AnOp, word_of, Label, Name}
 use Rattle.kl_parse.specs.Kinds.{key_kind, symbol_kind, word_kind, kind_at, has, among, is_symbol, is_key, name_kinds, label_kinds, constant_kinds, big_kinds, op_kinds, only, a_symbol, a_key, unless_key, a_label_at, a_label, a_name_at, a_name, truth_of, a_constant_at, a_constant, least, a_least_at, a_least, opposite, a_negative_at, a_negative, symbol_op, key_op, op_at, of_level, an_op}

@@ -1,13 +1,3 @@
-pub mod Theory
-pub mod Firsts
-pub mod MarkLemmas
-pub mod Gathered
-pub mod SmallGoods
-pub mod SmallSteps
-pub mod NameLemmas
-pub mod SmallAnswer
-pub mod Yields
-pub mod SmallLaws
 pub mod KindLemmas
 pub mod PatGoods
 pub mod ExprFirsts

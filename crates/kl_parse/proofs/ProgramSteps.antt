@@ -5,10 +5,10 @@ use Rattle.kl_lex.specs.declared.token.Token.{Token}
 use Rattle.kl_parse.specs.declared.keyword.Keyword.TheVariants as key
 use Rattle.kl_parse.specs.declared.fault.Fault.{Fault}
 use Rattle.kl_parse.specs.declared.fault.Fault.TheVariants as fault
-use Rattle.kl_parse.specs.declared.tree.Word.{Word}
-use Rattle.kl_parse.specs.declared.tree.Pattern.{Pattern}
-use Rattle.kl_parse.specs.declared.tree.Expr.{Expr}
-use Rattle.kl_parse.specs.declared.tree.Decl.{Decl}
+use Rattle.kl_syntax.specs.declared.tree.Word.{Word}
+use Rattle.kl_syntax.specs.declared.tree.Pattern.{Pattern}
+use Rattle.kl_syntax.specs.declared.tree.Expr.{Expr}
+use Rattle.kl_syntax.specs.declared.tree.Decl.{Decl}
 use Rattle.kl_parse.specs.Gives.{Fails}
 use Rattle.kl_parse.specs.Grammar.{decl_of, whole}
 use Rattle.kl_parse.specs.Kinds.{is_key}

@@ -14,14 +14,14 @@ use Rattle.kl_parse.specs.declared.keyword.Keyword.{Keyword}
 use Rattle.kl_parse.specs.declared.keyword.Keyword.TheVariants as key
 use Rattle.kl_parse.specs.declared.operator.Level.{Level}
 use Rattle.kl_parse.specs.declared.operator.Level.TheVariants as level
-use Rattle.kl_parse.specs.declared.tree.Op.{Op}
-use Rattle.kl_parse.specs.declared.tree.Op.TheVariants as op
-use Rattle.kl_parse.specs.declared.tree.Word.{Word}
-use Rattle.kl_parse.specs.declared.tree.Expr.{Expr}
-use Rattle.kl_parse.specs.declared.tree.Expr.TheVariants as expr
-use Rattle.kl_parse.specs.declared.tree.Pattern.{Pattern}
-use Rattle.kl_parse.specs.declared.tree.Pattern.TheVariants as pattern
-use Rattle.kl_parse.specs.declared.tree.Branch.{Branch}
+use Rattle.kl_syntax.specs.declared.tree.Op.{Op}
+use Rattle.kl_syntax.specs.declared.tree.Op.TheVariants as op
+use Rattle.kl_syntax.specs.declared.tree.Word.{Word}
+use Rattle.kl_syntax.specs.declared.tree.Expr.{Expr}
+use Rattle.kl_syntax.specs.declared.tree.Expr.TheVariants as expr
+use Rattle.kl_syntax.specs.declared.tree.Pattern.{Pattern}
+use Rattle.kl_syntax.specs.declared.tree.Pattern.TheVariants as pattern
+use Rattle.kl_syntax.specs.declared.tree.Branch.{Branch}
 use Rattle.kl_parse.specs.Keywords.{spelling, keyword_of}
 use Rattle.kl_parse.specs.Lexemes.{IsSymbol, Symbol, IsKey, Key, IsLabel, IsName, IsConstant, Constant, IsLeast, IsNegative, word_of, Label, Name, written, AnOp, IsOp}
 use Rattle.kl_parse.specs.Grammar.{is_of, variant_of, shape_of, name_of, inject_of, path_of, chain_of, compare_of, let_of, if_of, BindPat, AnyPat, NegativePat, ConstantPat, SamePat, Simple, PatField, ShapeFields, ShapeDots, PatRec, PatVariant, Pat, ReadsPat, Chained, Exprs, Args, Group, Field, Rec, Inject, If, Coll, Let, Case, Named, Least, Prim, Post, Un, Mul, Add, Compare, Not, And, Ors, Whole, opener, closer, Inside, Reads, whole, negated, signed, added, of_sort, Sort}

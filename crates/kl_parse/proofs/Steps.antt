@@ -7,9 +7,9 @@ use Rattle.kl_lex.specs.declared.token.Token.{Token}
 use Rattle.kl_parse.specs.declared.keyword.Keyword.{Keyword}
 use Rattle.kl_parse.specs.declared.fault.Fault.{Fault}
 use Rattle.kl_parse.specs.declared.fault.Fault.TheVariants as fault
-use Rattle.kl_parse.specs.declared.tree.Word.{Word}
-use Rattle.kl_parse.specs.declared.tree.Pattern.{Pattern}
-use Rattle.kl_parse.specs.declared.tree.Pattern.TheVariants as pattern
+use Rattle.kl_syntax.specs.declared.tree.Word.{Word}
+use Rattle.kl_syntax.specs.declared.tree.Pattern.{Pattern}
+use Rattle.kl_syntax.specs.declared.tree.Pattern.TheVariants as pattern
 use Rattle.kl_parse.specs.Gives.{Fails}
 use Rattle.kl_parse.specs.Grammar.{variant_of, shape_of, opens}
 use Rattle.kl_parse.specs.Kinds.{among, is_symbol, is_key, label_kinds, a_symbol}

@@ -11,17 +11,17 @@ use Rattle.kl_parse.specs.declared.keyword.Keyword.{Keyword}
 use Rattle.kl_parse.specs.declared.keyword.Keyword.TheVariants as key
 use Rattle.kl_parse.specs.declared.operator.Level.{Level}
 use Rattle.kl_parse.specs.declared.operator.Level.TheVariants as level
-use Rattle.kl_parse.specs.declared.tree.Word.{Word}
-use Rattle.kl_parse.specs.declared.tree.Op.{Op}
-use Rattle.kl_parse.specs.declared.tree.Pattern.{Pattern}
-use Rattle.kl_parse.specs.declared.tree.Pattern.TheVariants as pattern
-use Rattle.kl_parse.specs.declared.tree.Expr.{Expr}
-use Rattle.kl_parse.specs.declared.tree.Expr.TheVariants as expr
-use Rattle.kl_parse.specs.declared.tree.Qual.{Qual}
-use Rattle.kl_parse.specs.declared.tree.Qual.TheVariants as qual
-use Rattle.kl_parse.specs.declared.tree.Branch.{Branch}
-use Rattle.kl_parse.specs.declared.tree.Decl.{Decl}
-use Rattle.kl_parse.specs.declared.tree.Program.{Program}
+use Rattle.kl_syntax.specs.declared.tree.Word.{Word}
+use Rattle.kl_syntax.specs.declared.tree.Op.{Op}
+use Rattle.kl_syntax.specs.declared.tree.Pattern.{Pattern}
+use Rattle.kl_syntax.specs.declared.tree.Pattern.TheVariants as pattern
+use Rattle.kl_syntax.specs.declared.tree.Expr.{Expr}
+use Rattle.kl_syntax.specs.declared.tree.Expr.TheVariants as expr
+use Rattle.kl_syntax.specs.declared.tree.Qual.{Qual}
+use Rattle.kl_syntax.specs.declared.tree.Qual.TheVariants as qual
+use Rattle.kl_syntax.specs.declared.tree.Branch.{Branch}
+use Rattle.kl_syntax.specs.declared.tree.Decl.{Decl}
+use Rattle.kl_syntax.specs.declared.tree.Program.{Program}
 use Rattle.kl_parse.specs.Lexemes.{word_of}
 use Rattle.kl_parse.specs.Grammar.{is_of, variant_of, shape_of, name_of, inject_of, gen_of, comp_of, case_of, path_of, chain_of, compare_of, let_of, if_of, branch_of, function_of, constant_of, decl_of, program_of, opener, closer, Sort, whole, negated, signed, added, opens}
 use Rattle.kl_parse.specs.Kinds.{among, is_symbol, is_key, label_kinds, constant_kinds, big_kinds, op_kinds, symbol_kind, a_symbol, a_key, a_label, a_name, a_constant, a_least, a_negative, an_op}

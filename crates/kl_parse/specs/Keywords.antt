@@ -1,6 +1,5 @@
 -- The words that are no names.
-use Rattle.std.specs.Prelude.{ℕ, nat_eq, Bool, List, [], ◌∷◌, codes, map, find, Option}
-use Rattle.std.specs.List.{list_any}
+use Rattle.std.specs.Prelude.{ℕ, nat_eq, List, [], ◌∷◌, codes, find, Option}
 use Rattle.std.specs.Cmp.Lexicographic.{pointwise}
 use Rattle.kl_parse.specs.declared.keyword.Keyword.{Keyword}
 use Rattle.kl_parse.specs.declared.keyword.Keyword.TheVariants as key
@@ -29,9 +28,3 @@ all_keywords = key.And ∷ key.Case ∷ key.Define ∷ key.Else ∷ key.End ∷ 
 -- the keyword that is written so
 abbrev pub keyword_of : List ℕ → Option Keyword
 keyword_of word = find (λ k. pointwise nat_eq word (spelling k)) all_keywords
-
-abbrev pub keywords : List (List ℕ)
-keywords = codes "and" ∷ codes "case" ∷ codes "define" ∷ codes "else" ∷ codes "end" ∷ codes "false" ∷ codes "if" ∷ codes "in" ∷ codes "let" ∷ codes "not" ∷ codes "of" ∷ codes "or" ∷ codes "otherwise" ∷ codes "then" ∷ codes "true" ∷ []
-
-abbrev pub is_keyword : List ℕ → Bool
-is_keyword word = list_any (pointwise nat_eq word) keywords

@@ -15,8 +15,8 @@ use Rattle.kl_parse.specs.contracts.keyword.Keyword as key_type
 use Rattle.kl_parse.specs.declared.operator.Level.{Level}
 use Rattle.kl_parse.specs.declared.operator.Level.TheVariants as level
 use Rattle.kl_parse.specs.contracts.operator.Level as level_type
-use Rattle.kl_parse.specs.declared.tree.Op.{Op}
-use Rattle.kl_parse.specs.declared.tree.Op.TheVariants as op
+use Rattle.kl_syntax.specs.declared.tree.Op.{Op}
+use Rattle.kl_syntax.specs.declared.tree.Op.TheVariants as op
 use Rattle.kl_parse.specs.Keywords.{keyword_of}
 use Rattle.kl_parse.specs.Lexemes.{level_of}
 use denote.Enum.Bare.{sameb}

@@ -11,10 +11,10 @@ use Rattle.kl_parse.specs.declared.keyword.Keyword.{Keyword}
 use Rattle.kl_parse.specs.declared.keyword.Keyword.TheVariants as key
 use Rattle.kl_parse.specs.declared.operator.Level.{Level}
 use Rattle.kl_parse.specs.declared.operator.Level.TheVariants as level
-use Rattle.kl_parse.specs.declared.tree.Op.{Op}
-use Rattle.kl_parse.specs.declared.tree.Op.TheVariants as op
-use Rattle.kl_parse.specs.declared.tree.Word.{Word}
-use Rattle.kl_parse.specs.declared.tree.Meaning.TheVariants.{Open}
+use Rattle.kl_syntax.specs.declared.tree.Op.{Op}
+use Rattle.kl_syntax.specs.declared.tree.Op.TheVariants as op
+use Rattle.kl_syntax.specs.declared.tree.Word.{Word}
+use Rattle.kl_syntax.specs.declared.tree.Meaning.TheVariants.{Open}
 use Rattle.kl_parse.specs.Keywords.{spelling}
 use Rattle.kl_phrase.specs.Words.{Phrase, One, Numbered, Made}
 

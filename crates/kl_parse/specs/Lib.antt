@@ -1,17 +1,4 @@
-pub mod Words
-pub mod Readers
 pub mod Keywords
-pub mod Marks
-pub mod Deciding
-pub mod SmallGrammar
-pub mod SmallNames
-pub mod SmallNumbers
-pub mod SmallTests
-pub mod SmallProgram
-pub mod SmallDescent
-pub mod SmallGives
-pub mod Syntax
-pub mod View
 pub mod Lexemes
 pub mod Grammar
 pub mod Parsing

@@ -11,7 +11,7 @@ use Rattle.kl_phrase.specs.Places.{IsPlace, IsDeepPlace, BeginsAt}
 use Rattle.kl_parse.specs.declared.keyword.Keyword.TheVariants as key
 use Rattle.kl_parse.specs.declared.program.ParseError.{ParseError}
 use Rattle.kl_parse.specs.declared.program.ParseError.TheVariants.{Syntax, TooDeep, NoMemory}
-use Rattle.kl_parse.specs.declared.tree.Program.{Program}
+use Rattle.kl_syntax.specs.declared.tree.Program.{Program}
 use Rattle.kl_parse.specs.Grammar.{ReadsProgram}
 use Rattle.kl_parse.specs.Keywords.{spelling}
 

@@ -2,7 +2,7 @@
 //! nest.
 
 ghost use Rattle.std.specs.Prelude.{◌≡◌, ◌∷◌, [], MatchOption, IfOk, true, false};
-ghost use Rattle.kl_parse.specs.declared.tree.Expr.TheVariants as exprs_of;
+ghost use Rattle.kl_syntax.specs.declared.tree.Expr.TheVariants as exprs_of;
 ghost use Rattle.kl_lex.specs.declared.token.Token.{Token as AToken};
 ghost use Rattle.kl_lex.specs.declared.token.Sym.TheVariants as symbols;
 ghost use Rattle.kl_phrase.specs.Words.{heads};
@@ -20,11 +20,11 @@ use crate::front::{
 use crate::keyword::Keyword;
 use crate::operator::{Level, operator};
 use crate::patterns::{pattern_before, variant_rest};
-use crate::tree::{
-    Branch, Branches, Expr, ExprFields, Exprs, Op, Pattern, Qual, Quals, Steps, Word, Words,
-};
 use kl_base::{Box, NoMemory, Seq};
 use kl_lex::{Sym, Token};
+use kl_syntax::{
+    Branch, Branches, Expr, ExprFields, Exprs, Op, Pattern, Qual, Quals, Steps, Word, Words,
+};
 use kl_value::Kind;
 use std::alloc::Global;
 

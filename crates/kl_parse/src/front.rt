@@ -10,9 +10,9 @@ ghost use Rattle.kl_parse.specs.Descent.{mark, word_mark, name, label, least_at,
 
 use crate::fault::Fault;
 use crate::keyword::{Keyword, keyword_of};
-use crate::tree::{Expr, Meaning, Word};
 use kl_base::NoMemory;
 use kl_lex::{Sym, Tok, Token};
+use kl_syntax::{Expr, Meaning, Word};
 use kl_value::Value;
 use std::alloc::Global;
 

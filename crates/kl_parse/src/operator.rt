@@ -7,8 +7,8 @@ ghost use Rattle.kl_parse.specs.Kinds.{among, op_kinds, op_at, of_level, an_op};
 ghost use Rattle.kl_parse.specs.Lexemes.{level_of};
 
 use crate::keyword::{Keyword, keyword_of};
-use crate::tree::Op;
 use kl_lex::{Sym, Tok, Token};
+use kl_syntax::Op;
 
 /// Which operators bind alike, from the loosest to the tightest.
 #[derive(Clone, Copy, Debug, PartialEq, Eq)]

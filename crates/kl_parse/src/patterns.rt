@@ -7,9 +7,9 @@ ghost use Rattle.kl_parse.specs.Descent.{simple, pat_before, pat_field, pat_turn
 
 use crate::fault::Fault;
 use crate::front::{constant, eat, is_word, label, name, negative, number, want};
-use crate::tree::{PatFields, Pattern, Word};
 use kl_base::{Box, Seq};
 use kl_lex::{Sym, Token};
+use kl_syntax::{PatFields, Pattern, Word};
 use std::alloc::Global;
 
 /// A pattern that has no other inside.

@@ -2,7 +2,7 @@
 
 ghost use Rattle.std.specs.Prelude.{◌≡◌, ◌<◌, ◌^◌, ℕ, List, length, IfOk};
 ghost use Rattle.kl_lex.specs.declared.token.Token.{Token as AToken};
-ghost use Rattle.kl_parse.specs.declared.tree.Program.{Program as AProgram};
+ghost use Rattle.kl_syntax.specs.declared.tree.Program.{Program as AProgram};
 ghost use Rattle.kl_parse.specs.Gives.{Gives};
 ghost use Rattle.kl_parse.specs.Grammar.{whole};
 ghost use Rattle.kl_parse.specs.Descent.{read_pat, reads, plain_body, body, decl_rest, decls, program};
@@ -13,9 +13,9 @@ use crate::fault::Fault;
 use crate::front::{eat, eat_word, name, number, or_bad, or_deep, want};
 use crate::keyword::Keyword;
 use crate::patterns::pattern_before;
-use crate::tree::{Decl, Expr, Pattern, Program};
 use kl_base::Seq;
 use kl_lex::{Sym, Token};
+use kl_syntax::{Decl, Expr, Pattern, Program};
 use std::alloc::Global;
 use thiserror::Error;
 

@@ -1,5 +1,4 @@
-use crate::{Atom, Expr, Pattern, Program, Qual, Small, SmallQual, parse, read_small, small_of};
-use kl_base::{Label, Seq};
+use crate::{Expr, Pattern, Program, Qual, parse};
 use kl_lex::lex;
 use kl_value::Kind;
 use std::alloc::Global;
@@ -38,26 +37,5 @@ fn a_program_as_a_tree(rt: HostRuntime) -> Result<(), Fail> {
     let found = example(rt.alloc())?;
     assert!(rt; is_function(&found));
     assert!(rt; draws_and_tests(&found.last));
-    Ok(())
-}
-
-fn name(alloc: Global, word: &[u8]) -> Result<Label, Fail> {
-    Ok(Label::new(alloc, word)?.ok_or("no word")?)
-}
-
-#[test]
-fn a_small_program_as_a_tree(rt: HostRuntime) -> Result<(), Fail> {
-    let alloc = rt.alloc();
-    let bytes: &[u8] = b"{x + 1 | \\x <- {3, 1}};";
-    let x = name(alloc, b"x")?;
-    let head = Seq::of(vec![in alloc; Atom::Name(x.dup()?), Atom::Int(1)]?);
-    let drawn = SmallQual::Gen(x, Seq::of(vec![in alloc; 3, 1]?));
-    let want = Small {
-        head: Seq::of(vec![in alloc; head]?),
-        quals: Some(Seq::of(vec![in alloc; drawn]?)),
-    };
-    assert!(rt; read_small(alloc, bytes)? == want);
-    let tokens = lex(alloc, bytes)?;
-    assert!(rt; small_of(alloc, tokens.slice())? == want);
     Ok(())
 }

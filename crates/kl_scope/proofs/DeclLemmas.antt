@@ -1,12 +1,12 @@
 -- Definitions and programs, walked.
 use Rattle.std.proofs.Common.{◌≡◌, ℕ, ◌-◌, true, false, List, [], ◌∷◌, ◌++◌, length, take, drop, Option, Some, None, refl, sym, ap, subst, ◌∙◌}
-use Rattle.kl_parse.specs.declared.tree.Decl.{Decl}
-use Rattle.kl_parse.specs.declared.tree.Expr.{Expr}
-use Rattle.kl_parse.specs.declared.tree.Pattern.{Pattern}
-use Rattle.kl_parse.specs.declared.tree.Program.{Program}
-use Rattle.kl_parse.specs.declared.tree.Word.{Word}
-use Rattle.kl_parse.specs.Syntax.{Pat, Exp, Decls, no_decls, constant, function}
-use Rattle.kl_parse.specs.View.{view, pattern_view, decl_of, decls_of}
+use Rattle.kl_syntax.specs.declared.tree.Decl.{Decl}
+use Rattle.kl_syntax.specs.declared.tree.Expr.{Expr}
+use Rattle.kl_syntax.specs.declared.tree.Pattern.{Pattern}
+use Rattle.kl_syntax.specs.declared.tree.Program.{Program}
+use Rattle.kl_syntax.specs.declared.tree.Word.{Word}
+use Rattle.kl_syntax.specs.Syntax.{Pat, Exp, Decls, no_decls, constant, function}
+use Rattle.kl_syntax.specs.View.{view, pattern_view, decl_of, decls_of}
 use Rattle.kl_scope.specs.declared.walk.Walk.{Walk}
 use Rattle.kl_scope.specs.Senses.{Scope, defined}
 use Rattle.kl_scope.specs.Patterns.{within}

@@ -4,9 +4,9 @@ use Rattle.std.proofs.Math.Seq.{drop-cons}
 use Rattle.std.proofs.lemmas.Map.Text.{is_eq-slice_cmp}
 use Rattle.std.specs.BTreeSet.{BTreeSet, contains, Updates}
 use Rattle.kl_base.specs.Fields.{bytes_cmp}
-use Rattle.kl_parse.specs.declared.tree.Pattern.{Pattern}
-use Rattle.kl_parse.specs.declared.tree.Word.{Word}
-use Rattle.kl_parse.specs.View.{pattern_view, patterns_view}
+use Rattle.kl_syntax.specs.declared.tree.Pattern.{Pattern}
+use Rattle.kl_syntax.specs.declared.tree.Word.{Word}
+use Rattle.kl_syntax.specs.View.{pattern_view, patterns_view}
 use Rattle.kl_scope.specs.declared.refusal.ScopeError.TheVariants.{Twice}
 use Rattle.kl_scope.specs.Findings.{Finding, breach, may_fail, repeated, is_among, only_if}
 use Rattle.kl_scope.specs.Gathering.{Gathered, noted, gathered}

@@ -3,11 +3,11 @@ use Rattle.std.proofs.Common.{◌≡◌, ℕ, suc, ◌+◌, ◌<◌, ◌≤◌, 
 use Rattle.std.proofs.lemmas.List.{drop_all}
 use Rattle.std.proofs.lemmas.List.Elements.{All-push}
 use Rattle.kl_base.specs.declared.memory.NoMemory.{NoMemory}
-use Rattle.kl_parse.specs.declared.tree.Decl.{Decl}
-use Rattle.kl_parse.specs.declared.tree.Expr.{Expr}
-use Rattle.kl_parse.specs.declared.tree.Pattern.{Pattern}
-use Rattle.kl_parse.specs.Syntax.{Exp, Decls}
-use Rattle.kl_parse.specs.View.{view, decl_of, decls_of}
+use Rattle.kl_syntax.specs.declared.tree.Decl.{Decl}
+use Rattle.kl_syntax.specs.declared.tree.Expr.{Expr}
+use Rattle.kl_syntax.specs.declared.tree.Pattern.{Pattern}
+use Rattle.kl_syntax.specs.Syntax.{Exp, Decls}
+use Rattle.kl_syntax.specs.View.{view, decl_of, decls_of}
 use Rattle.kl_scope.specs.declared.counting.SizeBreach.{SizeBreach}
 use Rattle.kl_scope.specs.declared.counting.SizeBreach.TheVariants.{Nodes, Depth}
 use Rattle.kl_scope.specs.declared.terms.Size.{Size}

@@ -8,7 +8,7 @@ use Rattle.std.specs.BTreeMap.{BTreeMap, get, Updates}
 use Rattle.std.specs.Option.{option_map, option_or, option_copied, is_some, IsSome}
 use Rattle.std.specs.Result.{is_err, OnOk}
 use Rattle.kl_base.specs.Fields.{bytes_cmp}
-use Rattle.kl_parse.specs.declared.tree.Meaning.TheVariants.{Variable, Definition, Source}
+use Rattle.kl_syntax.specs.declared.tree.Meaning.TheVariants.{Variable, Definition, Source}
 use Rattle.kl_scope.specs.declared.names.Bound.{Bound}
 use Rattle.kl_scope.specs.declared.names.Sense.{Sense}
 use Rattle.kl_scope.specs.Senses.{Name, Scope, sense, place_in, definition_in, source_in, named}

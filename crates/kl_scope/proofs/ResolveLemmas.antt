@@ -1,9 +1,9 @@
 -- What the walk through a whole program shows.
 use Rattle.std.proofs.Common.{◌≡◌, ◌↔◌, Bool, true, false, List, ◌++◌, length, get_or, replicate, Some, None, refl, sym, ap, subst, ◌∙◌}
 use Rattle.std.specs.List.{Contains}
-use Rattle.kl_parse.specs.declared.tree.Program.{Program}
-use Rattle.kl_parse.specs.Syntax.{Decls, no_decls, constant, function}
-use Rattle.kl_parse.specs.View.{view, decls_of}
+use Rattle.kl_syntax.specs.declared.tree.Program.{Program}
+use Rattle.kl_syntax.specs.Syntax.{Decls, no_decls, constant, function}
+use Rattle.kl_syntax.specs.View.{view, decls_of}
 use Rattle.kl_scope.specs.declared.refusal.ScopeError.{ScopeError}
 use Rattle.kl_scope.specs.declared.refusal.ScopeError.TheVariants.{Unknown, Twice, Misapplied, Refutable, NoMemory}
 use Rattle.kl_scope.specs.declared.scoped.Scoped.{Scoped}

@@ -4,17 +4,17 @@ use Rattle.std.proofs.Math.Seq.{drop-cons}
 use Rattle.std.proofs.lemmas.List.{drop_all}
 use Rattle.kl_value.specs.declared.value.Kind.{Kind}
 use Rattle.kl_value.specs.declared.value.Value.{Value}
-use Rattle.kl_parse.specs.declared.tree.Branch.{Branch, out-Branch, the_lemmas as branch_lemmas}
-use Rattle.kl_parse.specs.declared.tree.Expr.{Expr, the_lemmas}
-use Rattle.kl_parse.specs.declared.tree.Expr.TheVariants as expr
-use Rattle.kl_parse.specs.declared.tree.Op.{Op}
-use Rattle.kl_parse.specs.declared.tree.Pattern.{Pattern, the_lemmas as pattern_lemmas}
-use Rattle.kl_parse.specs.declared.tree.Pattern.TheVariants as code
-use Rattle.kl_parse.specs.declared.tree.Qual.{Qual, the_lemmas as qual_lemmas}
-use Rattle.kl_parse.specs.declared.tree.Qual.TheVariants as quals
-use Rattle.kl_parse.specs.declared.tree.Word.{Word}
-use Rattle.kl_parse.specs.Syntax.{Quals, Branches}
-use Rattle.kl_parse.specs.View.{view, qual_view, branch_view, branches_view, branches_of, rest_of, exps_view, fields_view, quals_view, steps_view, pattern_view, patterns_view}
+use Rattle.kl_syntax.specs.declared.tree.Branch.{Branch, out-Branch, the_lemmas as branch_lemmas}
+use Rattle.kl_syntax.specs.declared.tree.Expr.{Expr, the_lemmas}
+use Rattle.kl_syntax.specs.declared.tree.Expr.TheVariants as expr
+use Rattle.kl_syntax.specs.declared.tree.Op.{Op}
+use Rattle.kl_syntax.specs.declared.tree.Pattern.{Pattern, the_lemmas as pattern_lemmas}
+use Rattle.kl_syntax.specs.declared.tree.Pattern.TheVariants as code
+use Rattle.kl_syntax.specs.declared.tree.Qual.{Qual, the_lemmas as qual_lemmas}
+use Rattle.kl_syntax.specs.declared.tree.Qual.TheVariants as quals
+use Rattle.kl_syntax.specs.declared.tree.Word.{Word}
+use Rattle.kl_syntax.specs.Syntax.{Quals, Branches}
+use Rattle.kl_syntax.specs.View.{view, qual_view, branch_view, branches_view, branches_of, rest_of, exps_view, fields_view, quals_view, steps_view, pattern_view, patterns_view}
 use Rattle.kl_scope.specs.declared.terms.Size.{Size}
 use Rattle.kl_scope.specs.Caps.{capped}
 use Rattle.kl_scope.specs.Sizes.{beside, node, leaf, no_parts, named, callee, matched, matched_fields, sized, sized_all, sized_fields, qualified, sized_branches, chained, third, projected}

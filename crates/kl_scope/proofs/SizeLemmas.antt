@@ -1,7 +1,7 @@
 -- Sizes as the code counts them are those of the terms, as far as 32 bits go.
 use Rattle.std.proofs.Common.{◌≡◌, ℕ, suc, ◌+◌, ◌<◌, ◌≤◌, max, min, List, [], ◌∷◌, refl, sym, ap, ◌∙◌, arith}
-use Rattle.kl_parse.specs.declared.tree.Word.{Word}
-use Rattle.kl_parse.specs.Syntax.{Pat, catch, any, same, is, shape, variant, Pats, no_pats, pats, Quals, no_quals, draw, test, Steps, no_steps, step}
+use Rattle.kl_syntax.specs.declared.tree.Word.{Word}
+use Rattle.kl_syntax.specs.Syntax.{Pat, catch, any, same, is, shape, variant, Pats, no_pats, pats, Quals, no_quals, draw, test, Steps, no_steps, step}
 use Rattle.kl_scope.specs.declared.terms.Size.{Size}
 use Rattle.kl_scope.specs.Caps.{most, capped}
 use Rattle.kl_scope.specs.Sizes.{beside, node, leaf, no_parts, named, matched, matched_fields, sized, qualified, chained, third, projected}

@@ -1,6 +1,6 @@
 -- A pattern keeps its variables where its names are resolved.
 use Rattle.std.proofs.Common.{◌≡◌, refl}
-use Rattle.kl_parse.specs.Syntax.{Pat, catch, any, same, is, shape, variant, Pats, no_pats, pats}
+use Rattle.kl_syntax.specs.Syntax.{Pat, catch, any, same, is, shape, variant, Pats, no_pats, pats}
 use Rattle.kl_scope.specs.Senses.{Scope}
 use Rattle.kl_scope.specs.Patterns.{variables, variables_all}
 use Rattle.kl_scope.specs.Resolved.{resolved_pat, resolved_pats}

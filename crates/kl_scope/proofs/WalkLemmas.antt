@@ -3,9 +3,9 @@ use Rattle.std.proofs.Common.{◌≡◌, ℕ, suc, ◌+◌, ◌-◌, ◌<◌, �
 use Rattle.std.proofs.Math.ListN.{set}
 use Rattle.std.proofs.Math.Seq.{take-suc, take-suc-set, drop-append_seam}
 use Rattle.std.proofs.lemmas.List.{length-append, length-set, get_or-set_other, get_or_default, take_all, drop_all, append-nil}
-use Rattle.kl_parse.specs.declared.tree.Op.{Op}
-use Rattle.kl_parse.specs.declared.tree.Word.{Word}
-use Rattle.kl_parse.specs.Syntax.{Pat, pats, Exp, exps, flds, Quals, no_quals, draw, test, step}
+use Rattle.kl_syntax.specs.declared.tree.Op.{Op}
+use Rattle.kl_syntax.specs.declared.tree.Word.{Word}
+use Rattle.kl_syntax.specs.Syntax.{Pat, pats, Exp, exps, flds, Quals, no_quals, draw, test, step}
 use Rattle.kl_scope.specs.declared.walk.Walk.{Walk}
 use Rattle.kl_scope.specs.Senses.{Name, Scope, bound, all_bound}
 use Rattle.kl_scope.specs.Patterns.{variables, within}

@@ -1,8 +1,8 @@
 -- Which programs are in scope, and which breach is told of the others.
 use Rattle.std.specs.Prelude.{◌≡◌, ℕ, ◌<◌, ◌≤◌, ◌⊎◌, ◌↔◌, Bool, false, IsTrue, List, ◌++◌, length, get_or}
 use Rattle.std.specs.List.{Contains}
-use Rattle.kl_parse.specs.declared.tree.Program.{Program}
-use Rattle.kl_parse.specs.View.{view, decls_of}
+use Rattle.kl_syntax.specs.declared.tree.Program.{Program}
+use Rattle.kl_syntax.specs.View.{view, decls_of}
 use Rattle.kl_scope.specs.declared.refusal.ScopeError.{ScopeError}
 use Rattle.kl_scope.specs.declared.refusal.ScopeError.TheVariants.{NoMemory}
 use Rattle.kl_scope.specs.declared.scoped.Scoped.{Scoped}

@@ -1,9 +1,9 @@
 -- Sizes as the code counts them: what passes 32 bits stays at the largest number.
 -- No public contract cites this.
 use Rattle.std.specs.Prelude.{◌≡◌, ℕ, min, List, Option, Some, None}
-use Rattle.kl_parse.specs.declared.tree.Decl.{Decl}
-use Rattle.kl_parse.specs.declared.tree.Pattern.{Pattern}
-use Rattle.kl_parse.specs.View.{view, pattern_view}
+use Rattle.kl_syntax.specs.declared.tree.Decl.{Decl}
+use Rattle.kl_syntax.specs.declared.tree.Pattern.{Pattern}
+use Rattle.kl_syntax.specs.View.{view, pattern_view}
 use Rattle.kl_scope.specs.declared.counting.SizeBreach.{SizeBreach}
 use Rattle.kl_scope.specs.declared.counting.SizeBreach.TheVariants.{Nodes, Depth}
 use Rattle.kl_scope.specs.declared.terms.Size.{Size}

@@ -1,7 +1,7 @@
 -- The limits on the sizes of terms.
 use Rattle.std.specs.Prelude.{◌≡◌, ℕ, ◌<◌, ◌≤◌, List, [], ◌∷◌, ◌++◌, length, All, Option, Some, None}
-use Rattle.kl_parse.specs.declared.tree.Program.{Program}
-use Rattle.kl_parse.specs.View.{view, decls_of}
+use Rattle.kl_syntax.specs.declared.tree.Program.{Program}
+use Rattle.kl_syntax.specs.View.{view, decls_of}
 use Rattle.kl_scope.specs.declared.counting.SizeBreach.{SizeBreach}
 use Rattle.kl_scope.specs.declared.counting.SizeBreach.TheVariants.{Nodes, Depth}
 use Rattle.kl_scope.specs.declared.terms.Size.{Size}

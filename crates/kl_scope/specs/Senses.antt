@@ -2,9 +2,9 @@
 use Rattle.std.specs.Prelude.{ℕ, suc, ◌==◌, nat_le, Bool, false, ◌||◌, List, [], ◌∷◌, length, find, map, Option, Some, None, is_some, option_and_then, if◌then◌else◌, bytes_eq}
 use Rattle.std.specs.Borrow.{Bor}
 use Rattle.std.specs.Option.{option_map, option_or}
-use Rattle.kl_parse.specs.declared.tree.Meaning.{Meaning}
-use Rattle.kl_parse.specs.declared.tree.Meaning.TheVariants.{Variable, Definition, Source, Primitive}
-use Rattle.kl_parse.specs.declared.tree.Word.{Word}
+use Rattle.kl_syntax.specs.declared.tree.Meaning.{Meaning}
+use Rattle.kl_syntax.specs.declared.tree.Meaning.TheVariants.{Variable, Definition, Source, Primitive}
+use Rattle.kl_syntax.specs.declared.tree.Word.{Word}
 use Rattle.kl_scope.specs.declared.names.Sense.{Sense}
 use Rattle.kl_prim.specs.Table.{Entry, rows}
 

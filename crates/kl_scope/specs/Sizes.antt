@@ -1,11 +1,11 @@
 -- How large the core terms are that the declarations of a program are translated to.
 use Rattle.std.specs.Prelude.{ℕ, suc, ◌+◌, max, min, List, [], ◌∷◌, ◌++◌, get_or}
-use Rattle.kl_parse.specs.declared.tree.Meaning.{Meaning}
-use Rattle.kl_parse.specs.declared.tree.Meaning.TheVariants.{Definition}
-use Rattle.kl_parse.specs.declared.tree.Op.{Op}
-use Rattle.kl_parse.specs.declared.tree.Op.TheVariants as op
-use Rattle.kl_parse.specs.declared.tree.Word.{Word}
-use Rattle.kl_parse.specs.Syntax.{Pat, catch, any, same, is, shape, variant, Pats, no_pats, pats, Exp, con, name, call, fields, inject, coll, comp, choice, bind, select, path, invert, minus, chain, Exps, no_exps, exps, Flds, no_flds, flds, Quals, no_quals, draw, test, Branches, no_branches, otherwise, branch, Steps, no_steps, step, Decls, no_decls, constant, function}
+use Rattle.kl_syntax.specs.declared.tree.Meaning.{Meaning}
+use Rattle.kl_syntax.specs.declared.tree.Meaning.TheVariants.{Definition}
+use Rattle.kl_syntax.specs.declared.tree.Op.{Op}
+use Rattle.kl_syntax.specs.declared.tree.Op.TheVariants as op
+use Rattle.kl_syntax.specs.declared.tree.Word.{Word}
+use Rattle.kl_syntax.specs.Syntax.{Pat, catch, any, same, is, shape, variant, Pats, no_pats, pats, Exp, con, name, call, fields, inject, coll, comp, choice, bind, select, path, invert, minus, chain, Exps, no_exps, exps, Flds, no_flds, flds, Quals, no_quals, draw, test, Branches, no_branches, otherwise, branch, Steps, no_steps, step, Decls, no_decls, constant, function}
 use Rattle.kl_scope.specs.declared.terms.Size.{Size}
 
 -- ---- terms, of which only nodes and depth are known

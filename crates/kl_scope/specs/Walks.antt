@@ -2,16 +2,16 @@
 -- No public contract cites this.
 use Rattle.std.specs.Prelude.{◌≡◌, false, List, [], ◌∷◌, ◌++◌, map, length, replicate, Option, None}
 use Rattle.std.specs.Option.{option_map}
-use Rattle.kl_parse.specs.declared.tree.Branch.{Branch, out-Branch}
-use Rattle.kl_parse.specs.declared.tree.Decl.{Decl}
-use Rattle.kl_parse.specs.declared.tree.Expr.{Expr}
-use Rattle.kl_parse.specs.declared.tree.Op.{Op}
-use Rattle.kl_parse.specs.declared.tree.Pattern.{Pattern}
-use Rattle.kl_parse.specs.declared.tree.Program.{Program}
-use Rattle.kl_parse.specs.declared.tree.Qual.{Qual}
-use Rattle.kl_parse.specs.declared.tree.Word.{Word}
-use Rattle.kl_parse.specs.Syntax.{Pat, Pats, pats, Exp, Exps, exps, Flds, flds, Quals, Branches, Steps, step, Decls}
-use Rattle.kl_parse.specs.View.{pattern_view, view, qual_view, branch_view, rest_of, decl_of, decls_of}
+use Rattle.kl_syntax.specs.declared.tree.Branch.{Branch, out-Branch}
+use Rattle.kl_syntax.specs.declared.tree.Decl.{Decl}
+use Rattle.kl_syntax.specs.declared.tree.Expr.{Expr}
+use Rattle.kl_syntax.specs.declared.tree.Op.{Op}
+use Rattle.kl_syntax.specs.declared.tree.Pattern.{Pattern}
+use Rattle.kl_syntax.specs.declared.tree.Program.{Program}
+use Rattle.kl_syntax.specs.declared.tree.Qual.{Qual}
+use Rattle.kl_syntax.specs.declared.tree.Word.{Word}
+use Rattle.kl_syntax.specs.Syntax.{Pat, Pats, pats, Exp, Exps, exps, Flds, flds, Quals, Branches, Steps, step, Decls}
+use Rattle.kl_syntax.specs.View.{pattern_view, view, qual_view, branch_view, rest_of, decl_of, decls_of}
 use Rattle.kl_scope.specs.declared.walk.Walk.{Walk}
 use Rattle.kl_scope.specs.Senses.{Name, Scope, at_first}
 use Rattle.kl_scope.specs.Patterns.{within, pattern_labels}

@@ -1,7 +1,7 @@
 //! How large the core terms of a program are, counted without making them.
 ghost use Rattle.std.specs.Prelude.{◌≡◌, get_or, map, IfOk};
-ghost use Rattle.kl_parse.specs.Syntax.{Quals, Branches};
-ghost use Rattle.kl_parse.specs.View.{view, qual_view, branch_view, branches_of, rest_of, exps_view, fields_view, quals_view, steps_view, pattern_view, patterns_view};
+ghost use Rattle.kl_syntax.specs.Syntax.{Quals, Branches};
+ghost use Rattle.kl_syntax.specs.View.{view, qual_view, branch_view, branches_of, rest_of, exps_view, fields_view, quals_view, steps_view, pattern_view, patterns_view};
 ghost use Rattle.kl_scope.specs.Caps.{capped, decl_size, Judges};
 ghost use Rattle.kl_scope.specs.Limits.{Tells, program_sizes};
 ghost use Rattle.kl_scope.specs.Sizes as size;
@@ -11,7 +11,7 @@ ghost use Rattle.std.specs.Option.{option_map};
 use crate::scoped::Scoped;
 use crate::terms::{LEAF, NO_PARTS, Size};
 use kl_base::{Box, NoMemory};
-use kl_parse::{Branch, Decl, Expr, Meaning, Op, Pattern, Qual, Word};
+use kl_syntax::{Branch, Decl, Expr, Meaning, Op, Pattern, Qual, Word};
 use std::alloc::Global;
 
 /// What a declaration passes. Declarations are counted from 0; the last expression is the one behind the definitions.

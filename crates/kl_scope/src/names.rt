@@ -3,14 +3,14 @@ ghost use Rattle.std.specs.Prelude.{◌≡◌, ◌-◌, length, drop, is_some, I
 ghost use Rattle.std.specs.BTreeMap.{get};
 ghost use Rattle.std.specs.Option.{option_or};
 ghost use Rattle.kl_base.specs.Fields.{bytes_cmp};
-ghost use Rattle.kl_parse.specs.declared.tree.Meaning.TheVariants.{Source};
+ghost use Rattle.kl_syntax.specs.declared.tree.Meaning.TheVariants.{Source};
 ghost use Rattle.kl_scope.specs.Senses as sense;
 ghost use Rattle.kl_prim.specs.Table.{entry_of};
 ghost use Rattle.kl_scope.specs.Senses.{Name, at_first, bound, all_bound, defined, by_name, primitive_of, entry_named};
 
 use kl_base::{Label, NoMemory, Seq};
-use kl_parse::{Meaning, Word};
 use kl_prim::{PrimRow, table};
+use kl_syntax::{Meaning, Word};
 use std::alloc::Global;
 use std::collections::BTreeMap;
 use std::marker::Model;

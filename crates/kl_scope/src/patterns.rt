@@ -1,11 +1,11 @@
 //! The variables of patterns.
 ghost use Rattle.std.specs.Prelude.{◌≡◌, ◌++◌, IfOk};
-ghost use Rattle.kl_parse.specs.View.{pattern_view, patterns_view};
+ghost use Rattle.kl_syntax.specs.View.{pattern_view, patterns_view};
 ghost use Rattle.kl_scope.specs.Patterns.{variables, variables_all};
 ghost use Rattle.kl_scope.specs.Senses.{behind_each};
 
 use kl_base::NoMemory;
-use kl_parse::{Pattern, Word};
+use kl_syntax::{Pattern, Word};
 
 /// Adds the variables of a pattern, as they are written.
 #[cycle(variables)]

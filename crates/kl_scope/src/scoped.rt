@@ -5,7 +5,7 @@ ghost use Rattle.kl_scope.specs.Breaches.{Resolves, IsRefusal, is_marked};
 use crate::refusal::ScopeError;
 use crate::walk::{Walk, walk_through};
 use kl_base::{Label, Seq};
-use kl_parse::Program;
+use kl_syntax::Program;
 use std::alloc::Global;
 
 /// A program in scope, each of whose names carries what it means.

@@ -1,6 +1,6 @@
 use crate::{ScopeError, resolve, sizes};
 use kl_base::{Box, Label, Seq};
-use kl_parse::{Expr, Meaning, Pattern, Program, Qual, Word};
+use kl_syntax::{Expr, Meaning, Pattern, Program, Qual, Word};
 use kl_value::{Kind, Value};
 use std::alloc::Global;
 use std::test::Fail;

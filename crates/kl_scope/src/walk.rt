@@ -1,7 +1,7 @@
 //! The walk through a program: it writes into each name what it means, and finds what breaks the rules.
 ghost use Rattle.std.specs.Prelude.{◌≡◌, [], IfOk};
-ghost use Rattle.kl_parse.specs.Syntax.{call, fields};
-ghost use Rattle.kl_parse.specs.View.{view, qual_view, branch_view, exps_view, fields_view, quals_view, steps_view, pattern_view, patterns_view};
+ghost use Rattle.kl_syntax.specs.Syntax.{call, fields};
+ghost use Rattle.kl_syntax.specs.View.{view, qual_view, branch_view, exps_view, fields_view, quals_view, steps_view, pattern_view, patterns_view};
 ghost use Rattle.kl_scope.specs.Findings.{taken, repeated};
 ghost use Rattle.kl_scope.specs.Patterns.{variables, within};
 ghost use Rattle.kl_scope.specs.Gathering.{gathered};
@@ -11,7 +11,7 @@ use crate::findings::Findings;
 use crate::names::Names;
 use crate::patterns::variables;
 use kl_base::{Box, Label, NoMemory};
-use kl_parse::{
+use kl_syntax::{
     Branch, Branches, Decl, Expr, ExprFields, Exprs, PatFields, Pattern, Program, Qual, Quals,
     Steps, Word,
 };

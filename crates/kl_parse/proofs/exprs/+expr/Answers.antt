@@ -2,8 +2,8 @@ use Rattle.std.proofs.Common.{rules, ◌-◌, ◌∷◌, [], length, arith, refl
 use Rattle.std.proofs.lemmas.Result.{err_from_is_err_and}
 use Rattle.kl_lex.specs.declared.token.Sym.TheVariants.{Comma}
 use Rattle.kl_parse.specs.declared.operator.Level.TheVariants.{Compare}
-use Rattle.kl_parse.specs.declared.tree.Expr.TheVariants as expr
-use Rattle.kl_parse.specs.declared.tree.Qual.TheVariants as qual
+use Rattle.kl_syntax.specs.declared.tree.Expr.TheVariants as expr
+use Rattle.kl_syntax.specs.declared.tree.Qual.TheVariants as qual
 use Rattle.kl_phrase.specs.Readers.{ok, bad, deep, instead, behind, others}
 use Rattle.kl_phrase.proofs.Gathered.{stops}
 use Rattle.kl_parse.specs.Grammar.{whole, negated, signed, path_of, branch_of}

@@ -1,8 +1,8 @@
 use Rattle.std.proofs.Common.{◌-◌, get_or, Option, ◌∙◌, ap, sym}
 use Rattle.std.specs.Option.{option_map}
-use Rattle.kl_parse.specs.declared.tree.Branch.{out-Branch}
-use Rattle.kl_parse.specs.declared.tree.Expr.{Expr}
-use Rattle.kl_parse.specs.View.{view, rest_of, steps_view, pattern_view}
+use Rattle.kl_syntax.specs.declared.tree.Branch.{out-Branch}
+use Rattle.kl_syntax.specs.declared.tree.Expr.{Expr}
+use Rattle.kl_syntax.specs.View.{view, rest_of, steps_view, pattern_view}
 use Rattle.kl_scope.specs.Caps.{capped}
 use Rattle.kl_scope.specs.Sizes.{leaf, sized, sized_branches}
 use Rattle.kl_scope.proofs.FindingLemmas.{at_item}

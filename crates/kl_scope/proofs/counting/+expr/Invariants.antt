@@ -1,6 +1,6 @@
 use Rattle.std.proofs.Common.{◌≡◌, drop, map}
-use Rattle.kl_parse.specs.Syntax.{Branches}
-use Rattle.kl_parse.specs.View.{exps_view, fields_view, quals_view, steps_view, branches_of, branch_view}
+use Rattle.kl_syntax.specs.Syntax.{Branches}
+use Rattle.kl_syntax.specs.View.{exps_view, fields_view, quals_view, steps_view, branches_of, branch_view}
 use Rattle.kl_scope.specs.Caps.{capped}
 use Rattle.kl_scope.specs.Sizes.{sized_all, sized_fields, qualified, sized_branches, chained}
 use Rattle.kl_scope.proofs.counting.+expr.Given as goal

@@ -1,5 +1,5 @@
 use Rattle.std.proofs.Common.{◌≡◌, drop}
-use Rattle.kl_parse.specs.View.{patterns_view}
+use Rattle.kl_syntax.specs.View.{patterns_view}
 use Rattle.kl_scope.specs.Caps.{capped}
 use Rattle.kl_scope.specs.Sizes.{matched_fields}
 use Rattle.kl_scope.proofs.counting.+matched.Given as goal

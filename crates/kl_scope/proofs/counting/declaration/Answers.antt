@@ -1,6 +1,6 @@
 use Rattle.std.proofs.Common.{Option, ◌∙◌, ap, sym}
-use Rattle.kl_parse.specs.declared.tree.Pattern.{Pattern}
-use Rattle.kl_parse.specs.View.{view, pattern_view}
+use Rattle.kl_syntax.specs.declared.tree.Pattern.{Pattern}
+use Rattle.kl_syntax.specs.View.{view, pattern_view}
 use Rattle.kl_scope.specs.Caps.{capped, decl_size}
 use Rattle.kl_scope.specs.Sizes.{leaf, sized}
 use Rattle.kl_scope.proofs.SizeLemmas.{up_matched, leaf_is}

@@ -1,11 +1,11 @@
 use Rattle.std.proofs.Common.{List, ◌++◌, ◌+◌, length, Option, Some, None, ◌∙◌, ap, sym, subst}
-use Rattle.kl_parse.specs.declared.tree.Program.{Program}
+use Rattle.kl_syntax.specs.declared.tree.Program.{Program}
 use Rattle.kl_scope.specs.declared.counting.SizeBreach.{SizeBreach}
 use Rattle.kl_scope.specs.declared.terms.Size.{Size}
 use Rattle.kl_scope.specs.Caps.{capped, decl_size, Judges}
 use Rattle.kl_scope.specs.Limits.{Tells, program_sizes}
 use Rattle.kl_scope.specs.Sizes.{sized}
-use Rattle.kl_parse.specs.View.{view}
+use Rattle.kl_syntax.specs.View.{view}
 use Rattle.kl_scope.proofs.LimitLemmas.{Going, at_def, going_told, going_more, going_end, ok_told}
 use Rattle.kl_scope.proofs.counting.sizes.Goals as goal
 

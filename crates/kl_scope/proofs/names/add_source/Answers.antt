@@ -1,7 +1,7 @@
 use Rattle.std.proofs.Common.{◌≡◌, Some, None, sym, ◌∙◌, subst}
 use Rattle.std.specs.BTreeMap.{get, Updates}
 use Rattle.kl_base.specs.Fields.{bytes_cmp}
-use Rattle.kl_parse.specs.declared.tree.Meaning.TheVariants.{Source}
+use Rattle.kl_syntax.specs.declared.tree.Meaning.TheVariants.{Source}
 use Rattle.kl_scope.specs.Senses.{Name, sense}
 use Rattle.kl_scope.proofs.NameLemmas.{source_added, none_copied}
 use Rattle.kl_scope.proofs.names.add_source.Goals as goal

@@ -1,5 +1,5 @@
 use Rattle.std.proofs.Common.{◌≡◌, ◌++◌, drop}
-use Rattle.kl_parse.specs.View.{patterns_view}
+use Rattle.kl_syntax.specs.View.{patterns_view}
 use Rattle.kl_scope.specs.Patterns.{variables_all}
 use Rattle.kl_scope.specs.Senses.{behind_each}
 use Rattle.kl_scope.proofs.patterns.+variables.Given as goal

@@ -1,5 +1,5 @@
 use Rattle.std.proofs.Common.{◌≡◌, map, drop}
-use Rattle.kl_parse.specs.View.{patterns_view}
+use Rattle.kl_syntax.specs.View.{patterns_view}
 use Rattle.kl_scope.specs.Findings.{may_fail}
 use Rattle.kl_scope.specs.Gathering.{gathered}
 use Rattle.kl_scope.specs.Patterns.{tests_all}

@@ -1,5 +1,5 @@
 use Rattle.std.proofs.Common.{◌≡◌, map, take}
-use Rattle.kl_parse.specs.declared.tree.Branch.{out-Branch}
+use Rattle.kl_syntax.specs.declared.tree.Branch.{out-Branch}
 use Rattle.kl_scope.specs.Senses.{behind_each}
 use Rattle.kl_scope.proofs.findings.Findings.branch_labels.Given as goal
 

@@ -1,7 +1,7 @@
 use Rattle.std.proofs.Common.{◌≡◌, length, arith, Some, sym, ◌∙◌, subst}
 use Rattle.std.specs.BTreeMap.{Updates}
 use Rattle.kl_base.specs.Fields.{bytes_cmp}
-use Rattle.kl_parse.specs.declared.tree.Meaning.TheVariants.{Definition}
+use Rattle.kl_syntax.specs.declared.tree.Meaning.TheVariants.{Definition}
 use Rattle.kl_scope.specs.Senses.{Name, sense}
 use Rattle.kl_scope.proofs.NameLemmas.{kept_defined, ok_of}
 use Rattle.kl_scope.proofs.names.Names.define.Goals as goal

@@ -1,6 +1,6 @@
 use Rattle.std.proofs.Common.{get_or, refl, ap, ◌∙◌, map, [], rules}
-use Rattle.kl_parse.specs.declared.tree.Pattern.{the_lemmas}
-use Rattle.kl_parse.specs.View.{pattern_view}
+use Rattle.kl_syntax.specs.declared.tree.Pattern.{the_lemmas}
+use Rattle.kl_syntax.specs.View.{pattern_view}
 use Rattle.kl_scope.specs.Findings.{patterns_findings, repeated}
 use Rattle.kl_scope.specs.Gathering.{gathered}
 use Rattle.kl_scope.specs.Resolved.{resolved_pats}

@@ -1,8 +1,8 @@
 use Rattle.std.proofs.Common.{get_or, length, refl, ap, ◌∙◌, map, [], rules}
-use Rattle.kl_parse.specs.declared.tree.Expr.{the_lemmas}
-use Rattle.kl_parse.specs.declared.tree.Qual.{the_lemmas as qual_lemmas}
-use Rattle.kl_parse.specs.declared.tree.Branch.{out-Branch}
-use Rattle.kl_parse.specs.View.{view, qual_view, branch_view}
+use Rattle.kl_syntax.specs.declared.tree.Expr.{the_lemmas}
+use Rattle.kl_syntax.specs.declared.tree.Qual.{the_lemmas as qual_lemmas}
+use Rattle.kl_syntax.specs.declared.tree.Branch.{out-Branch}
+use Rattle.kl_syntax.specs.View.{view, qual_view, branch_view}
 use Rattle.kl_scope.specs.Findings.{findings_all, findings_fields, findings_quals, findings_branches, findings_steps, behind, repeated}
 use Rattle.kl_scope.specs.Gathering.{gathered}
 use Rattle.kl_scope.specs.Resolved.{resolved_all, resolved_fields, resolved_quals, resolved_branches, resolved_steps}

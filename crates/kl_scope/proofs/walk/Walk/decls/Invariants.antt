@@ -1,5 +1,5 @@
 use Rattle.std.proofs.Common.{◌≡◌, ℕ, ◌≤◌, length, get_or, take}
-use Rattle.kl_parse.specs.declared.tree.Decl.{Decl}
+use Rattle.kl_syntax.specs.declared.tree.Decl.{Decl}
 use Rattle.kl_scope.specs.Walks.{DeclsWalk}
 use Rattle.kl_scope.proofs.walk.Walk.decls.Given as goal
 

@@ -1,4 +1,4 @@
-use Rattle.kl_parse.specs.View.{pattern_view}
+use Rattle.kl_syntax.specs.View.{pattern_view}
 use Rattle.kl_scope.proofs.ArmLemmas.{drawn_walked}
 use Rattle.kl_scope.proofs.walk.Walk.drawn.Goals as goal
 

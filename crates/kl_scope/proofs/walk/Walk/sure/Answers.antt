@@ -1,5 +1,5 @@
 use Rattle.std.proofs.Common.{refl}
-use Rattle.kl_parse.specs.View.{pattern_view}
+use Rattle.kl_syntax.specs.View.{pattern_view}
 use Rattle.kl_scope.proofs.ArmLemmas.{sure_walked}
 use Rattle.kl_scope.proofs.walk.Walk.sure.Goals as goal
 

@@ -1,15 +1,15 @@
 -- The trees that the code's own types show.
 use Rattle.std.specs.Prelude.{List, [], ◌∷◌, map, Option, Some, None}
-use Rattle.kl_parse.specs.declared.tree.Op.{Op}
-use Rattle.kl_parse.specs.declared.tree.Word.{Word}
-use Rattle.kl_parse.specs.declared.tree.Pattern.{Pattern, Pattern-F, fold-Pattern}
+use Rattle.kl_syntax.specs.declared.tree.Op.{Op}
+use Rattle.kl_syntax.specs.declared.tree.Word.{Word}
+use Rattle.kl_syntax.specs.declared.tree.Pattern.{Pattern, Pattern-F, fold-Pattern}
 use Rattle.std.specs.Option.{option_map}
-use Rattle.kl_parse.specs.declared.tree.Expr.{Expr, fold-Expr}
-use Rattle.kl_parse.specs.declared.tree.Qual.{Qual, fold-Qual}
-use Rattle.kl_parse.specs.declared.tree.Branch.{Branch, fold-Branch}
-use Rattle.kl_parse.specs.declared.tree.Expr.TheOpen.{Expr-F, Qual-F, Branch-F}
-use Rattle.kl_parse.specs.declared.tree.Decl.{Decl}
-use Rattle.kl_parse.specs.Syntax.{Pat, catch, any, same, is, shape, variant, Pats, no_pats, pats, Exp, con, name, call, fields, inject, coll, comp, choice, bind, select, path, invert, minus, chain, Exps, no_exps, exps, Flds, no_flds, flds, Quals, no_quals, draw, test, Branches, no_branches, otherwise, branch, Steps, no_steps, step, Decls, no_decls, constant, function}
+use Rattle.kl_syntax.specs.declared.tree.Expr.{Expr, fold-Expr}
+use Rattle.kl_syntax.specs.declared.tree.Qual.{Qual, fold-Qual}
+use Rattle.kl_syntax.specs.declared.tree.Branch.{Branch, fold-Branch}
+use Rattle.kl_syntax.specs.declared.tree.Expr.TheOpen.{Expr-F, Qual-F, Branch-F}
+use Rattle.kl_syntax.specs.declared.tree.Decl.{Decl}
+use Rattle.kl_syntax.specs.Syntax.{Pat, catch, any, same, is, shape, variant, Pats, no_pats, pats, Exp, con, name, call, fields, inject, coll, comp, choice, bind, select, path, invert, minus, chain, Exps, no_exps, exps, Flds, no_flds, flds, Quals, no_quals, draw, test, Branches, no_branches, otherwise, branch, Steps, no_steps, step, Decls, no_decls, constant, function}
 
 abbrev pub pats_of : List (Word × Pat) → Pats
 pats_of [] = no_pats

@@ -2,8 +2,8 @@
 use Rattle.std.specs.Prelude.{ℕ, Bool, List}
 use Rattle.kl_value.specs.declared.value.Kind.{Kind}
 use Rattle.kl_value.specs.declared.value.Value.{Value}
-use Rattle.kl_parse.specs.declared.tree.Op.{Op}
-use Rattle.kl_parse.specs.declared.tree.Word.{Word}
+use Rattle.kl_syntax.specs.declared.tree.Op.{Op}
+use Rattle.kl_syntax.specs.declared.tree.Word.{Word}
 
 mutual
   pub data Pat : Type 0 where
