@@ -3,8 +3,6 @@ pub mod TypeLaws
 pub mod Views
 pub mod Raising
 pub mod Putting
-pub mod OutcomeTypes
-pub mod PrimLemmas
 pub mod Safety
 pub mod Sizes
 pub mod Holding

@@ -1,17 +1,19 @@
 -- A term that makes sense has an outcome of its type.
 use Rattle.std.proofs.Common.{◌≡◌, ◌≢◌, ⊎_elim, ℕ, zero, suc, Bool, true, false, cond, nat_eq, List, [], ◌∷◌, Some, slice_get, refl, sym, ap, ◌∙◌, subst}
 use Rattle.std.specs.Cmp.Lexicographic.{pointwise, same_text}
+use Rattle.std.specs.List.Sorted.{IsStrictlySortedBy}
 use Rattle.std.proofs.lemmas.Cmp.{nat_list_eq_equiv}
+use Rattle.kl_base.specs.Fields.{bytes_cmp, labels_of}
 use Rattle.kl_value.specs.declared.Value.{Value}
-use Rattle.kl_type.specs.Ground.{Ground, Row, at}
+use Rattle.kl_type.specs.Ground.{Ground, Row, rec as rec_type, at}
 use Rattle.kl_prim.specs.Table.{meaning}
-use Rattle.kl_outcome.specs.Outcome.{Name, Outcome, done, over, stuck, outcome_of, answered, items_of, drawn}
+use Rattle.kl_outcome.specs.Outcome.{Name, Outcome, done, over, stuck, outcome_of, answered, recorded, items_of, drawn}
 use Rattle.kl_outcome.specs.Typed.{Inhabits, HaveTypes, OfType}
 use Rattle.kl_core.specs.Trees.{Tree, var, con, source, rec, proj, inj, case_of, make, union, ext, choice, bind, prim, Trees, no_trees, trees, Parts, no_parts, parts, Arms, no_arms, rest, arm}
 use Rattle.kl_core.specs.Core.{Tables, core, core_all, core_items, core_parts, core_arms}
-use Rattle.kl_core.specs.Typing.{SourceTypes, CoreTypes, EachType, AllTypes, PartTypes, ArmTypes, HasArm, HaveSources}
-use Rattle.kl_core.proofs.OutcomeTypes.{after_typed, choice_typed, part_typed, recorded_typed, PartsOf, tagged_typed, cases_typed, args_then_typed, ArgsOf, FlowOf, drawn_typed, items_typed, item_typed, collected_typed, union_typed}
-use Rattle.kl_core.proofs.PrimLemmas.{prim_typed}
+use Rattle.kl_core.specs.Typing.{SourceTypes, CoreTypes, EachType, AllTypes, PartTypes, ArmTypes, HasArm, HaveSources, labels_in}
+use Rattle.kl_outcome.proofs.OutcomeTypes.{after_typed, choice_typed, part_typed, recorded_typed, PartsOf, tagged_typed, cases_typed, args_then_typed, ArgsOf, FlowOf, drawn_typed, items_typed, item_typed, collected_typed, union_typed}
+use Rattle.kl_outcome.proofs.PrimLemmas.{prim_typed}
 
 get_typed : (G : List Ground) (env : List Value) (x : ℕ) (t : Ground) → HaveTypes G env → slice_get G x ≡ Some t → OfType t (outcome_of (slice_get env x))
 get_typed [] [] x t h e = cc
@@ -20,13 +22,20 @@ get_typed (s ∷ G) [] x t h e = absurd h
 get_typed (s ∷ G) (v ∷ env) zero t h e = let same : s ≡ t = cc in subst (λ q. Inhabits q v) same h.0
 get_typed (s ∷ G) (v ∷ env) (suc x) t h e = get_typed G env x t h.1 e
 
+labels_same : (ps : List (Name × Outcome)) (r : Row) → PartsOf ps r → labels_of ps ≡ labels_in r
+labels_same [] r h = ap labels_in (sym h)
+labels_same (p ∷ ps) r h = ap (λ ls. p.0 ∷ ls) (labels_same ps h.1 h.4) ∙ ap labels_in (sym h.2)
+
+record_typed : (ps : List (Name × Outcome)) (r : Row) → PartsOf ps r → IsStrictlySortedBy bytes_cmp (labels_in r) → OfType (rec_type r) (recorded ps)
+record_typed ps r h up = recorded_typed ps r h (subst (IsStrictlySortedBy bytes_cmp) (sym (labels_same ps r h)) up)
+
 module _ (S : SourceTypes) (T : Tables) (told : HaveSources S T) where
   mutual
     pub safe : (t : Tree) (G : List Ground) (env : List Value) (s : Ground) → HaveTypes G env → CoreTypes S G t s → OfType s (core T t env)
     safe (var x) G env s e h = get_typed G env x s e h
     safe (con v) G env s e h = h
     safe (source i) G env s e h = let f = told i s h in subst (λ o. OfType s (outcome_of o)) (sym f.1) f.2
-    safe (rec ps) G env s e h = subst (λ q. OfType q (core T (rec ps) env)) (sym h.1) (recorded_typed (core_parts T ps env) h.0 (safe_parts ps G env h.0 e h.3) h.2)
+    safe (rec ps) G env s e h = subst (λ q. OfType q (core T (rec ps) env)) (sym h.1) (record_typed (core_parts T ps env) h.0 (safe_parts ps G env h.0 e h.3) h.2)
     safe (proj l a) G env s e h = part_typed l h.0 s (core T a env) (safe a G env _ e h.1) h.2
     safe (inj l a) G env s e h = subst (λ q. OfType q (core T (inj l a) env)) (sym h.2) (tagged_typed l h.0 h.1 (core T a env) h.3 (safe a G env h.1 e h.4))
     safe (case_of a bs) G env s e h =

@@ -30,7 +30,7 @@ use Rattle.kl_core.specs.Core.{Tables}
 use Rattle.kl_core.specs.Trees.{Tree, var, con, source, rec, proj, inj, case_of, make, union, ext, choice, bind, prim, Trees, no_trees, trees, Parts, no_parts, parts, Arms, no_arms, rest, arm, trees_of, parts_of, arms_of, rest_of, view, view_part, trees_view, parts_view}
 use Rattle.kl_core.specs.Typing.{SourceTypes, CoreTypes, EachType, AllTypes, PartTypes, ArmTypes, HasArm, Covers}
 use Rattle.kl_core.proofs.Views.{view_Var, view_Rec, view_Make, view_Prim, view_option, arms_view, view_Case}
-use Rattle.kl_core.proofs.OutcomeTypes.{part_typed, part_is, items_inhabit, FlowOf, items_typed}
+use Rattle.kl_outcome.proofs.OutcomeTypes.{part_typed, part_is, items_inhabit, FlowOf, items_typed}
 use Rattle.kl_eval.specs.declared.stop.EvalStop.{EvalStop}
 use Rattle.kl_eval.specs.declared.stop.EvalStop.TheVariants as eval_stop
 use Rattle.kl_eval.specs.declared.stop.Halt.{Halt}
@@ -40,7 +40,7 @@ use Rattle.kl_eval.specs.Comes.{Then, Picks, Opens, Unites, Leads, Follows, Draw
 use Rattle.kl_eval.specs.Evals.{Sense, SenseIn, SenseEach, SenseParts, SenseCall, SenseBody, HasSense, Gives, PartGives, CallGives, FlowGives, FieldsGive, Evals, EvalsPart, EvalsEach, EvalsBody, EvalsFields, EvalsCall, end_of, before, OnEach, OnBody, OnFields}
 use Rattle.kl_eval.specs.Steps.{Answers, inside_of, Outside, Adds, AddsItems, AddsField, Behind, Gathers, AnswersPrim, place_of}
 use Rattle.kl_eval.proofs.Laws.{comes_typed}
-use Rattle.kl_core.proofs.PrimLemmas.{prim_fits}
+use Rattle.kl_outcome.proofs.PrimLemmas.{prim_fits}
 use Rattle.kl_eval.proofs.Shapes.{variant_typed}
 
 -- ---- terms as trees

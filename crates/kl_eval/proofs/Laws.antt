@@ -17,8 +17,8 @@ use Rattle.kl_outcome.specs.Typed.{Has, HasFields, Inhabits, HaveTypes, HasItems
 use Rattle.kl_core.specs.Core.{Tables, core, core_all, core_items, core_parts, core_arms}
 use Rattle.kl_core.specs.Trees.{Tree, var, con, source, rec, proj, inj, case_of, make, union, ext, choice, bind, prim, Trees, no_trees, trees, Parts, no_parts, parts, Arms, no_arms, rest, arm}
 use Rattle.kl_core.specs.Typing.{SourceTypes, CoreTypes, EachType, AllTypes, PartTypes, ArmTypes, HasArm, labels_in}
-use Rattle.kl_core.proofs.OutcomeTypes.{over_nil, part_typed, tagged_typed, FlowOf, items_typed, collected_typed, union_typed}
-use Rattle.kl_core.proofs.PrimLemmas.{prim_typed}
+use Rattle.kl_outcome.proofs.OutcomeTypes.{over_nil, part_typed, tagged_typed, FlowOf, items_typed, collected_typed, union_typed}
+use Rattle.kl_outcome.proofs.PrimLemmas.{prim_typed}
 use Rattle.kl_eval.proofs.Shapes.{record_typed, variant_typed}
 use Rattle.kl_eval.specs.World.{Reads}
 use Rattle.kl_eval.specs.Comes.{Then, Picks, Opens, Unites, Leads, Follows, Draws, Comes, ItemsCome, ArgsCome, PartsCome, ArmsCome}

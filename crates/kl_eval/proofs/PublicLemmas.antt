@@ -12,7 +12,7 @@ use Rattle.kl_outcome.specs.Typed.{Inhabits, HaveTypes, OfType}
 use Rattle.kl_core.specs.Core.{core}
 use Rattle.kl_core.specs.Trees.{Tree}
 use Rattle.kl_core.specs.Typing.{SourceTypes, CoreTypes, HaveSources}
-use Rattle.kl_core.proofs.OutcomeTypes.{items_inhabit}
+use Rattle.kl_outcome.proofs.OutcomeTypes.{items_inhabit}
 use Rattle.kl_core.proofs.Safety.{never_stuck}
 use Rattle.kl_eval.specs.declared.stop.EvalStop.{EvalStop}
 use Rattle.kl_eval.specs.declared.stop.EvalStop.TheVariants as eval_stop

@@ -7,7 +7,7 @@ use Rattle.kl_base.specs.Fields.{field}
 use Rattle.kl_value.specs.Order.{compare}
 use Rattle.kl_value.specs.declared.Value.{Value}
 use Rattle.kl_outcome.specs.Outcome.{Outcome, done, over, stuck, Flow, stop, fine, overflow, broken, Name, as_record, as_variant}
-use Rattle.kl_parse.specs.Syntax.{Pat, catch, any, same, is, shape, variant, Pats, no_pats, pats}
+use Rattle.kl_syntax.specs.Syntax.{Pat, catch, any, same, is, shape, variant, Pats, no_pats, pats}
 
 -- what each variable has, the last bound first
 abbrev pub Env : Type 0

@@ -5,11 +5,11 @@ use Rattle.kl_value.specs.declared.Kind.{Kind}
 use Rattle.kl_type.specs.Ground.{Ground, Row, bool, int, str, rec, var, coll as colls, arrow, no_row, row, at, IsGround}
 use Rattle.kl_outcome.specs.Outcome.{Name}
 use Rattle.kl_outcome.specs.Typed.{Inhabits, PrimTypes}
-use Rattle.kl_parse.specs.declared.tree.Op.{Op}
-use Rattle.kl_parse.specs.declared.tree.Op.TheVariants as op
-use Rattle.kl_parse.specs.declared.tree.Word.{Word}
-use Rattle.kl_parse.specs.Syntax.{Pat, catch, any, same, is, shape, variant, Pats, no_pats, pats, Exp, con, name, call, fields, inject, coll, comp, choice, bind, select, path, invert, minus, chain, Exps, no_exps, exps, Flds, no_flds, flds, Quals, no_quals, draw, test, Branches, no_branches, otherwise, branch, Steps, no_steps, step, Decls, no_decls, constant, function}
-use Rattle.kl_meaning.specs.Match.{same_name, has_label}
+use Rattle.kl_syntax.specs.declared.tree.Op.{Op}
+use Rattle.kl_syntax.specs.declared.tree.Op.TheVariants as op
+use Rattle.kl_syntax.specs.declared.tree.Word.{Word}
+use Rattle.kl_syntax.specs.Syntax.{Pat, catch, any, same, is, shape, variant, Pats, no_pats, pats, Exp, con, name, call, fields, inject, coll, comp, choice, bind, select, path, invert, minus, chain, Exps, no_exps, exps, Flds, no_flds, flds, Quals, no_quals, draw, test, Branches, no_branches, otherwise, branch, Steps, no_steps, step, Decls, no_decls, constant, function}
+use Rattle.kl_meaning.specs.Match.{Env, same_name, has_label}
 use Rattle.kl_meaning.specs.Run.{code_of, code_named}
 
 -- no function stands in it
@@ -35,6 +35,12 @@ IsType t = IsGround t × IsFirstOrder t
 -- the type of each variable, the last bound first
 abbrev pub Context : Type 0
 Context = List (Name × Ground)
+
+-- values of these types at the same names, in the same order
+abbrev pub HaveTypesByName : Context → Env → Type 0
+HaveTypesByName [] [] = ⊤
+HaveTypesByName (b ∷ G) (c ∷ env) = (b.0 ≡ c.0) × Inhabits b.1 c.1 × HaveTypesByName G env
+HaveTypesByName _ _ = ⊥
 
 -- what types a name has that is no variable: those of a value; of a function, pairs of parameter and result; or a
 -- primitive's

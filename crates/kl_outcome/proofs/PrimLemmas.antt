@@ -22,7 +22,7 @@ use Rattle.kl_prim.proofs.TableLemmas.{◌&◌}
 use Rattle.kl_outcome.specs.Outcome.{answered}
 use Rattle.kl_outcome.specs.Typed.{Has, HaveTypes, OfType, ShapeTypes, RowTypes, PrimTypes}
 use Rattle.kl_value.proofs.ViewLemmas.{collection_is}
-use Rattle.kl_core.proofs.OutcomeTypes.{canonical_has, over_nil}
+use Rattle.kl_outcome.proofs.OutcomeTypes.{canonical_has, over_nil}
 
 -- ---- arguments of these types
 

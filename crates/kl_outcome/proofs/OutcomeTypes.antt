@@ -6,7 +6,7 @@ use Rattle.std.specs.List.Sorted.{IsStrictlySortedBy}
 use Rattle.std.specs.Ordering.{eq_by_cmp}
 use Rattle.std.proofs.lemmas.List.Elements.{recursion_from_All, All-from_recursion}
 use Rattle.std.proofs.lemmas.List.Filters.{All-dedup}
-use Rattle.kl_base.specs.Fields.{bytes_cmp, field, labels_of}
+use Rattle.kl_base.specs.Fields.{bytes_cmp, field, labels_of, LabelsRise}
 use Rattle.kl_base.specs.Sorted.{sorted}
 use Rattle.kl_base.proofs.SortedLemmas.{all-sorted}
 use Rattle.kl_value.specs.Canon.{canonical}
@@ -24,7 +24,6 @@ use Rattle.kl_value.proofs.IsCanonicalLemmas.{items_canonical, record_made, vari
 use Rattle.kl_value.proofs.ViewLemmas.{collection_is}
 use Rattle.kl_outcome.specs.Outcome.{Name, Outcome, done, over, stuck, End, fine, overflow, broken, Flow, more, stop, flow, items_in, end_in, followed, drawn, after, outcome_of, args_then, parts_then, recorded, tagged, chosen, if_then, record_layer, as_record, variant_layer, as_variant, field_in, part, opened, cases, items_at_all, items_of, item_then, gathered, collected, joined_to, union_of}
 use Rattle.kl_outcome.specs.Typed.{Has, HasFields, HasAt, Inhabits, HaveTypes, HasItems, OfType}
-use Rattle.kl_core.specs.Typing.{labels_in}
 
 some_same : {A : Type 0} (a b : A) → Some a ≡ Some b → a ≡ b
 some_same a b h = cc
@@ -121,27 +120,40 @@ choice_typed t c o q s h g = after_typed t bool c (λ v. chosen (as_bool v) o q)
 
 -- ---- records
 
-abbrev Found : Name → Ground → List (Name × Value) → Type 0
+-- what a record of a type is read as
+abbrev pub FieldsOf : Row → List (Name × Value) → Type 0
+FieldsOf r fs = HasFields r fs × AllByRecursion (λ f. IsCanonical f.1) fs
+
+abbrev pub IsRecordOf : Row → Value → Type 0
+IsRecordOf r v = (fs : List (Name × Value)) × (as_record v ≡ Some fs) × FieldsOf r fs
+
+pub record_is : (r : Row) (v : Value) → Inhabits (rec r) v → IsRecordOf r v
+record_is r v i =
+    let fs : List (Name × Value) = i.0.0 in
+    (fs, ap as_record i.0.1 ∙ ap record_layer (value.outs-Rec fs), (i.0.2, fields_canonical fs (subst IsCanonical i.0.1 i.1)))
+
+abbrev pub Found : Name → Ground → List (Name × Value) → Type 0
 Found l t fs = (v : Value) × (field l fs ≡ Some v) × Inhabits t v
 
-field_typed : (r : Row) (l : Name) (t : Ground) (fs : List (Name × Value)) → HasFields r fs → AllByRecursion (λ f. IsCanonical f.1) fs → at l r ≡ Some t → Found l t fs
-field_typed no_row l t fs h all e = absurd cc
-field_typed (row m s r) l t fs h all e =
-    let all' = subst (AllByRecursion (λ f. IsCanonical f.1)) h.2 all in
-    subst (Found l t) (sym h.2) (by_bit (pointwise nat_eq l m) refl all' (field_typed r l t h.1 h.4 all'.1))
+pub field_typed : (r : Row) (l : Name) (t : Ground) (fs : List (Name × Value)) → FieldsOf r fs → at l r ≡ Some t → Found l t fs
+field_typed no_row l t fs h e = absurd cc
+field_typed (row m s r) l t fs h' e =
+    let h = h'.0 in
+    let all = subst (AllByRecursion (λ f. IsCanonical f.1)) h.2 h'.1 in
+    subst (Found l t) (sym h.2) (by_bit (pointwise nat_eq l m) refl h.0 h.1 h.3 all (field_typed r l t h.1 (h.4, all.1)))
   where
-    by_bit : (b : Bool) → pointwise nat_eq l m ≡ b → AllByRecursion (λ f. IsCanonical f.1) ((m, h.0) ∷ h.1) → (at l r ≡ Some t → Found l t h.1) → Found l t ((m, h.0) ∷ h.1)
-    by_bit true is good next = (h.0, rw is refl, (subst (λ z. Has z h.0) (some_same _ _ (rw is at e)) h.3, good.0))
-    by_bit false is good next = let f = next (rw is at e) in (f.0, rw is f.1, f.2)
+    by_bit : (b : Bool) → pointwise nat_eq l m ≡ b → (v : Value) (fs : List (Name × Value)) → Has s v → AllByRecursion (λ f. IsCanonical f.1) ((m, v) ∷ fs) → (at l r ≡ Some t → Found l t fs) → Found l t ((m, v) ∷ fs)
+    by_bit true is v fs has good next = (v, rw is refl, (subst (λ z. Has z v) (some_same _ _ (rw is at e)) has, good.0))
+    by_bit false is v fs has good next = let f = next (rw is at e) in (f.0, rw is f.1, f.2)
 
 pub part_typed : (l : Name) (r : Row) (t : Ground) (o : Outcome) → OfType (rec r) o → at l r ≡ Some t → OfType t (part l o)
 part_typed l r t o h e = after_typed t (rec r) o (λ v. field_in l (as_record v)) h got
   where
     got : (v : Value) → Inhabits (rec r) v → OfType t (field_in l (as_record v))
     got v i =
-        let fs : List (Name × Value) = i.0.0 in
-        let f = field_typed r l t fs i.0.2 (fields_canonical fs (subst IsCanonical i.0.1 i.1)) e in
-        let is : field_in l (as_record v) ≡ done f.0 = ap (λ q. field_in l (as_record q)) i.0.1 ∙ ap (λ x. field_in l (record_layer x)) (value.outs-Rec fs) ∙ ap outcome_of f.1 in
+        let g = record_is r v i in
+        let f = field_typed r l t g.0 g.2 e in
+        let is : field_in l (as_record v) ≡ done f.0 = ap (field_in l) g.1 ∙ ap outcome_of f.1 in
         subst (OfType t) (sym is) f.2
 
 field_same : (l : Name) (x : Value-F Value) → field_in l (record_layer x) ≡ outcome_of (field_layer l x)
@@ -158,20 +170,17 @@ PartsOf [] r = r ≡ no_row
 PartsOf (p ∷ ps) r = (s : Ground) × (rest : Row) × (r ≡ row p.0 s rest) × OfType s p.1 × PartsOf ps rest
 
 parts_then_typed : (t : Ground) (ps : List (Name × Outcome)) (r : Row) (go : List (Name × Value) → Outcome) → PartsOf ps r
-    → ((fs : List (Name × Value)) → HasFields r fs → AllByRecursion (λ f. IsCanonical f.1) fs → OfType t (go fs)) → OfType t (parts_then ps go)
-parts_then_typed t [] r go h g = g [] (subst (λ q. HasFields q []) (sym h) refl) tt
+    → ((fs : List (Name × Value)) → FieldsOf r fs → labels_of fs ≡ labels_of ps → OfType t (go fs)) → OfType t (parts_then ps go)
+parts_then_typed t [] r go h g = g [] (subst (λ q. HasFields q []) (sym h) refl, tt) refl
 parts_then_typed t (p ∷ ps) r go h g =
     after_typed t h.0 p.1 (λ v. parts_then ps (λ fs. go ((p.0, v) ∷ fs))) h.3
-    (λ v i. parts_then_typed t ps h.1 (λ fs. go ((p.0, v) ∷ fs)) h.4 (λ fs has good. g ((p.0, v) ∷ fs) (subst (λ q. HasFields q ((p.0, v) ∷ fs)) (sym h.2) (v, fs, refl, i.0, has)) (i.1, good)))
+    (λ v i. parts_then_typed t ps h.1 (λ fs. go ((p.0, v) ∷ fs)) h.4
+    (λ fs k e. g ((p.0, v) ∷ fs) (subst (λ q. HasFields q ((p.0, v) ∷ fs)) (sym h.2) (v, fs, refl, i.0, k.0), (i.1, k.1)) (ap (λ ls. p.0 ∷ ls) e)))
 
-labels_same : (r : Row) (fs : List (Name × Value)) → HasFields r fs → labels_of fs ≡ labels_in r
-labels_same no_row fs h = ap labels_of h
-labels_same (row l s r) fs h = ap labels_of h.2 ∙ ap (λ ls. l ∷ ls) (labels_same r h.1 h.4)
-
-pub recorded_typed : (ps : List (Name × Outcome)) (r : Row) → PartsOf ps r → IsStrictlySortedBy bytes_cmp (labels_in r) → OfType (rec r) (recorded ps)
+pub recorded_typed : (ps : List (Name × Outcome)) (r : Row) → PartsOf ps r → LabelsRise ps → OfType (rec r) (recorded ps)
 recorded_typed ps r h up =
     parts_then_typed (rec r) ps r (λ fs. done (value.Rec fs)) h
-    (λ fs has good. ((fs, refl, has), record_made fs good (subst (IsStrictlySortedBy bytes_cmp) (sym (labels_same r fs has)) up)))
+    (λ fs k e. ((fs, refl, k.0), record_made fs k.1 (subst (IsStrictlySortedBy bytes_cmp) (sym e) up)))
 
 -- ---- variants
 
@@ -197,17 +206,25 @@ at_has (row m u r) l v h = by_bit (pointwise nat_eq l m) refl (at_has r l v)
 pub tagged_typed : (l : Name) (r : Row) (s : Ground) (o : Outcome) → at l r ≡ Some s → OfType s o → OfType (var r) (tagged l o)
 tagged_typed l r s o e h = after_typed (var r) s o (λ v. done (value.Inj l v)) h (λ v i. ((l, v, refl, has_at r l s v e i.0), variant_made l v i.1))
 
+-- what a variant of a type is read as
+abbrev pub IsVariantOf : Row → Value → Type 0
+IsVariantOf r v = (l : Name) × (s : Ground) × (w : Value) × (as_variant v ≡ Some (l, w)) × (at l r ≡ Some s) × Inhabits s w
+
+pub variant_is : (r : Row) (v : Value) → Inhabits (var r) v → IsVariantOf r v
+variant_is r v i =
+    let l : Name = i.0.0 in
+    let w : Value = i.0.1 in
+    let f = at_has r l w i.0.3 in
+    (l, f.0, w, ap as_variant i.0.2 ∙ ap variant_layer (value.outs-Inj l w), f.1, (f.2, carried_canonical l w (subst IsCanonical i.0.2 i.1)))
+
 pub cases_typed : (r : Row) (t : Ground) (o : Outcome) (go : Name → Value → Outcome) → OfType (var r) o
     → ((l : Name) (s : Ground) (v : Value) → at l r ≡ Some s → Inhabits s v → OfType t (go l v)) → OfType t (cases o go)
 cases_typed r t o go h g = after_typed t (var r) o (λ v. opened (as_variant v) go) h got
   where
     got : (v : Value) → Inhabits (var r) v → OfType t (opened (as_variant v) go)
     got v i =
-        let l : Name = i.0.0 in
-        let w : Value = i.0.1 in
-        let f = at_has r l w i.0.3 in
-        let is : opened (as_variant v) go ≡ go l w = ap (λ q. opened (as_variant q) go) i.0.2 ∙ ap (λ x. opened (variant_layer x) go) (value.outs-Inj l w) in
-        subst (OfType t) (sym is) (g l f.0 w f.1 (f.2, carried_canonical l w (subst IsCanonical i.0.2 i.1)))
+        let f = variant_is r v i in
+        subst (OfType t) (sym (ap (λ q. opened q go) f.3)) (g f.0 f.1 f.2 f.4 f.5)
 
 -- ---- arguments
 

@@ -1,0 +1,64 @@
+-- What the rules of scope say of a program's form: a pattern that has to match always does, and no record has a label
+-- twice.
+use Rattle.std.specs.Prelude.{◌≡◌, false, ⊤}
+use Rattle.kl_syntax.specs.Syntax.{Pat, catch, any, same, is, shape, variant, Pats, no_pats, pats, Exp, con, name, call, fields, inject, coll, comp, choice, bind, select, path, invert, minus, chain, Exps, no_exps, exps, Flds, no_flds, flds, Quals, no_quals, draw, test, Branches, no_branches, otherwise, branch, Steps, no_steps, step, Decls, no_decls, constant, function}
+use Rattle.kl_meaning.specs.Typing.{has_field}
+
+-- without a test in it, a pattern matches each value of a type that it takes
+abbrev mutual
+  pub IsSurePattern : Pat → Type 0
+  IsSurePattern (catch x) = ⊤
+  IsSurePattern any = ⊤
+  IsSurePattern (same x) = ⊥
+  IsSurePattern (is w n) = ⊥
+  IsSurePattern (shape ps dots) = AreSurePatterns ps
+  IsSurePattern (variant l p) = ⊥
+
+  pub AreSurePatterns : Pats → Type 0
+  AreSurePatterns no_pats = ⊤
+  AreSurePatterns (pats l p ps) = IsSurePattern p × AreSurePatterns ps
+
+-- a generator's pattern may test, those of `let`, of a branch and of a parameter may not
+abbrev mutual
+  pub IsTidy : Exp → Type 0
+  IsTidy (con v) = ⊤
+  IsTidy (name x) = ⊤
+  IsTidy (call f es) = AreTidy es
+  IsTidy (fields fs) = AreTidyFields fs
+  IsTidy (inject l a) = IsTidy a
+  IsTidy (coll k es) = AreTidy es
+  IsTidy (comp k e qs) = AreTidyQuals qs × IsTidy e
+  IsTidy (choice a b c) = IsTidy a × IsTidy b × IsTidy c
+  IsTidy (bind p a b) = IsSurePattern p × IsTidy a × IsTidy b
+  IsTidy (select a bs) = IsTidy a × AreTidyBranches bs
+  IsTidy (path a ls) = IsTidy a
+  IsTidy (invert a) = IsTidy a
+  IsTidy (minus a) = IsTidy a
+  IsTidy (chain a ss) = IsTidy a × AreTidySteps ss
+
+  pub AreTidy : Exps → Type 0
+  AreTidy no_exps = ⊤
+  AreTidy (exps e es) = IsTidy e × AreTidy es
+
+  pub AreTidyFields : Flds → Type 0
+  AreTidyFields no_flds = ⊤
+  AreTidyFields (flds l e fs) = (has_field fs l.text ≡ false) × IsTidy e × AreTidyFields fs
+
+  pub AreTidyQuals : Quals → Type 0
+  AreTidyQuals no_quals = ⊤
+  AreTidyQuals (draw p s qs) = IsTidy s × AreTidyQuals qs
+  AreTidyQuals (test c qs) = IsTidy c × AreTidyQuals qs
+
+  pub AreTidyBranches : Branches → Type 0
+  AreTidyBranches no_branches = ⊤
+  AreTidyBranches (otherwise c) = IsTidy c
+  AreTidyBranches (branch l p b bs) = IsSurePattern p × IsTidy b × AreTidyBranches bs
+
+  pub AreTidySteps : Steps → Type 0
+  AreTidySteps no_steps = ⊤
+  AreTidySteps (step c e ss) = IsTidy e × AreTidySteps ss
+
+abbrev pub IsTidyProgram : Decls → Exp → Type 0
+IsTidyProgram no_decls e = IsTidy e
+IsTidyProgram (constant d a ds) e = IsTidy a × IsTidyProgram ds e
+IsTidyProgram (function d p a ds) e = IsSurePattern p × IsTidy a × IsTidyProgram ds e

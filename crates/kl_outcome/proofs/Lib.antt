@@ -1,0 +1,2 @@
+pub mod OutcomeTypes
+pub mod PrimLemmas
