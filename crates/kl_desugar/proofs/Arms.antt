@@ -1,18 +1,17 @@
 -- The term of an expression, a variant each.
-use Rattle.std.proofs.Common.{◌≡◌, ℕ, Bool, List, [], ◌∷◌, ◌++◌, map, Option, Some, None, length, drop, take, Result, Ok, Err, IfOk, refl, sym, ap, ◌∙◌, subst, rules}
+use Rattle.std.proofs.Common.{◌≡◌, ℕ, List, [], ◌∷◌, map, Option, Some, None, length, Result, Ok, Err, IfOk, refl, sym, ap, ◌∙◌, rules}
 use Rattle.std.specs.Option.{option_map}
 use Rattle.kl_value.specs.declared.Kind.{Kind}
-use Rattle.kl_value.specs.declared.Value.{Value}
-use Rattle.kl_parse.specs.declared.Word.{Word}
-use Rattle.kl_parse.specs.declared.Pattern.{Pattern}
-use Rattle.kl_parse.specs.declared.tree.Op.{Op}
-use Rattle.kl_parse.specs.declared.tree.Expr.{Expr, the_lemmas}
-use Rattle.kl_parse.specs.declared.tree.Qual.{Qual}
-use Rattle.kl_parse.specs.declared.tree.Expr.TheVariants as expr
-use Rattle.kl_parse.specs.declared.tree.Branch.{Branch, out-Branch, the_lemmas as branch_lemmas}
-use Rattle.kl_parse.specs.declared.tree.Decl.{Decl}
-use Rattle.kl_parse.specs.Syntax.{Exp, name, coll, comp, choice, bind, invert, minus, call, inject, path, chain, fields, select, Quals, Branches, branch, Decls, no_decls}
-use Rattle.kl_parse.specs.View.{view, exps_of, quals_view, pattern_view, steps_view, fields_view, branch_view, branches_of, branches_view, rest_of, decl_of}
+use Rattle.kl_syntax.specs.declared.Word.{Word}
+use Rattle.kl_syntax.specs.declared.Pattern.{Pattern}
+use Rattle.kl_syntax.specs.declared.tree.Op.{Op}
+use Rattle.kl_syntax.specs.declared.tree.Expr.{Expr, the_lemmas}
+use Rattle.kl_syntax.specs.declared.tree.Qual.{Qual}
+use Rattle.kl_syntax.specs.declared.tree.Expr.TheVariants as expr
+use Rattle.kl_syntax.specs.declared.tree.Branch.{Branch, out-Branch, the_lemmas as branch_lemmas}
+use Rattle.kl_syntax.specs.declared.tree.Decl.{Decl}
+use Rattle.kl_syntax.specs.Syntax.{name, coll, comp, bind, invert, minus, call, inject, path, chain, fields, select, Branches, branch, Decls, no_decls}
+use Rattle.kl_syntax.specs.View.{view, exps_of, quals_view, pattern_view, steps_view, fields_view, branch_view, branches_of, branches_view, rest_of, decl_of}
 use Rattle.kl_core.specs.declared.Term.{Term}
 use Rattle.kl_core.specs.declared.term.Term.{the_lemmas as code_lemmas}
 use Rattle.kl_core.specs.declared.term.Term.TheVariants as code
@@ -20,7 +19,7 @@ use Rattle.kl_core.specs.Trees as term
 use Rattle.kl_core.specs.Trees.{Tree, view_part}
 use Rattle.kl_meaning.specs.Run.{in_order}
 use Rattle.kl_desugar.specs.Translation.{Scope, Codes, here, tree, tree_all, tree_fields, tree_branches, tree_steps, called_tree, projected, matched_here, no_sense, codes_after}
-use Rattle.kl_desugar.specs.Layers.{Layered, missed, wrapped, after_pat, pat_layers}
+use Rattle.kl_desugar.specs.Layers.{Layered, missed, wrapped}
 use Rattle.kl_desugar.specs.Opening.{Opens}
 use Rattle.kl_desugar.specs.States.{Asks, field_of, arm_of}
 use Rattle.kl_desugar.proofs.Views.{view_make, view_case}

@@ -1,19 +1,18 @@
 -- The term means what the program means.
-use Rattle.std.proofs.Common.{◌≡◌, ◌≢◌, ◌⊎◌, inl, inr, ℕ, suc, ◌+◌, Bool, true, false, cond, List, [], ◌∷◌, ◌++◌, length, map, Option, Some, None, slice_get, refl, sym, ap, subst, ◌∙◌, arith}
+use Rattle.std.proofs.Common.{◌≡◌, ◌≢◌, inr, ℕ, suc, ◌+◌, Bool, true, false, cond, List, [], ◌∷◌, ◌++◌, map, Option, Some, None, slice_get, refl, sym, ap, ◌∙◌, arith}
 use Rattle.kl_base.specs.Fields.{field}
 use Rattle.kl_value.specs.declared.Kind.{Kind}
 use Rattle.kl_value.specs.declared.Value.{Value}
 use Rattle.kl_value.specs.declared.Value.TheVariants as value
-use Rattle.kl_prim.specs.Meaning.{gives}
 use Rattle.kl_prim.specs.Table.{meaning}
 use Rattle.kl_value.specs.Views.{as_bool}
-use Rattle.kl_outcome.specs.Outcome.{Outcome, done, over, stuck, Flow, more, stop, flow, fine, overflow, broken, Name, after, answered, args_then, if_then, chosen, applied, recorded, tagged, outcome_of, as_record, as_variant, field_in, part, opened, cases, collected, items_of, item_then, drawn, union_of}
-use Rattle.kl_parse.specs.declared.tree.Op.{Op}
-use Rattle.kl_parse.specs.declared.tree.Word.{Word}
-use Rattle.kl_parse.specs.declared.tree.Op.TheVariants as op
-use Rattle.kl_parse.specs.Syntax.{Pat, Exp, con, name, call, fields, inject, coll, comp, choice, bind, select, path, invert, minus, chain, Exps, no_exps, exps, Flds, no_flds, flds, Quals, no_quals, draw, test, Branches, no_branches, otherwise, branch, Steps, no_steps, step, Decls, no_decls, constant, function}
-use Rattle.kl_meaning.specs.Match.{Env, Fit, same_name, fits, if_fits, must_fit}
-use Rattle.kl_meaning.specs.Run.{Meant, nothing, value_of, function_of, primitive, Known, look_up, one_then, called, code_of, operated, in_order, parts_of, flow_if, draw_if, run, run_all, run_items, run_fields, run_quals, run_branches, run_steps, code_named, meant_by_code, meant_at, at_first, with_known, known_after, meaning_of_program}
+use Rattle.kl_outcome.specs.Outcome.{Outcome, done, over, stuck, Flow, stop, fine, Name, answered, if_then, chosen, applied, outcome_of, as_record, as_variant, field_in, part, collected, item_then}
+use Rattle.kl_syntax.specs.declared.tree.Op.{Op}
+use Rattle.kl_syntax.specs.declared.tree.Word.{Word}
+use Rattle.kl_syntax.specs.declared.tree.Op.TheVariants as op
+use Rattle.kl_syntax.specs.Syntax.{Exp, con, name, call, fields, inject, coll, comp, choice, bind, select, path, invert, minus, chain, Exps, no_exps, exps, Flds, no_flds, flds, Quals, no_quals, draw, test, Branches, no_branches, otherwise, branch, Steps, no_steps, step, Decls, no_decls, constant, function}
+use Rattle.kl_meaning.specs.Match.{Env, same_name, fits}
+use Rattle.kl_meaning.specs.Run.{Meant, nothing, value_of, function_of, primitive, Known, look_up, called, operated, parts_of, flow_if, draw_if, run, run_all, run_items, run_fields, run_quals, run_branches, run_steps, code_named, meant_at, at_first, known_after, meaning_of_program}
 use Rattle.kl_core.specs.Core.{Tables, core, core_all, core_items, core_parts, core_arms}
 use Rattle.kl_core.specs.Trees as term
 use Rattle.kl_core.specs.Trees.{Tree, Trees, no_trees, trees}
@@ -22,7 +21,7 @@ use Rattle.kl_desugar.specs.Translation as translation
 use Rattle.kl_desugar.proofs.Positions.{Held, scope, values, names, grows_none}
 use Rattle.kl_desugar.proofs.Refine.{Refines, refines_same, refines_is, after_up, if_up, opened_up, RefinesAll, args_up, Pairs, parts_up, order_up, FlowUp, item_up, collected_up, union_up}
 use Rattle.kl_desugar.proofs.Drawing.{draw_from_up}
-use Rattle.kl_desugar.proofs.Matching.{fit_to, must_is, if_is, kept_none, Meets, AllMeet, name_up, here_up, bool_is}
+use Rattle.kl_desugar.proofs.Matching.{must_is, if_is, kept_none, Meets, AllMeet, name_up, here_up}
 
 either : (b : Bool) (o q o' q' : Outcome) → Refines o o' → Refines q q' → Refines (cond b o q) (cond b o' q')
 either true o q o' q' h k = h
@@ -149,22 +148,23 @@ module _ (T : Tables) (known : Known) (codes : Codes) (rest : List Value) (meets
     steps_up no_steps o t P h = h
     steps_up (step c e ss) o t P h = steps_up ss _ _ P (operated_up T c o (run e known (names P)) t (tree e codes (scope P)) _ h (tree_up e P))
 
--- a source's value stands at its number
-abbrev SourceAt : Tables → Option Value → Option ℕ → Type 0
-SourceAt T (Some v) (Some n) = T n ≡ Some v
-SourceAt T None None = Unit {0}
-SourceAt T _ _ = ⊥
+-- what a source has stands at its number
+module _ {V : Type 0} where
+  abbrev pub SourceAt : (ℕ → Option V) → Option V → Option ℕ → Type 0
+  SourceAt T (Some v) (Some n) = T n ≡ Some v
+  SourceAt T None None = Unit {0}
+  SourceAt T _ _ = ⊥
 
-source_found : (T : Tables) (b : Bool) (u : Value) (i : ℕ) (v : Option Value) (n : Option ℕ) → T i ≡ Some u → SourceAt T v n → SourceAt T (cond b (Some u) v) (cond b (Some i) n)
-source_found T true u i v n h k = h
-source_found T false u i v n h k = k
+  source_found : (T : ℕ → Option V) (b : Bool) (u : V) (i : ℕ) (v : Option V) (n : Option ℕ) → T i ≡ Some u → SourceAt T v n → SourceAt T (cond b (Some u) v) (cond b (Some i) n)
+  source_found T true u i v n h k = h
+  source_found T false u i v n h k = k
 
-source_at : (x : Name) (ss : List (Name × Value)) (T : Tables) (i : ℕ) → ((j : ℕ) → T (i + j) ≡ slice_get (map (λ s. s.1) ss) j) → SourceAt T (field x ss) (number_of x (map (λ s. s.0) ss) i)
-source_at x [] T i h = tt
-source_at x (s ∷ ss) T i h =
-    let e : i ≡ i + 0 = omega arith in
-    source_found T (same_name x s.0) s.1 i _ _ (ap T e ∙ h 0)
-    (source_at x ss T (suc i) (λ j. let d : suc i + j ≡ i + suc j = omega arith in ap T d ∙ h (suc j)))
+  pub source_at : (x : Name) (ss : List (Name × V)) (T : ℕ → Option V) (i : ℕ) → ((j : ℕ) → T (i + j) ≡ slice_get (map (λ s. s.1) ss) j) → SourceAt T (field x ss) (number_of x (map (λ s. s.0) ss) i)
+  source_at x [] T i h = tt
+  source_at x (s ∷ ss) T i h =
+      let e : i ≡ i + 0 = omega arith in
+      source_found T (same_name x s.0) s.1 i _ _ (ap T e ∙ h 0)
+      (source_at x ss T (suc i) (λ j. let d : suc i + j ≡ i + suc j = omega arith in ap T d ∙ h (suc j)))
 
 first_meets : (T : Tables) (v : Option Value) (n c : Option ℕ) → SourceAt T v n → Meets T (meant_at v c) (code_at n c)
 first_meets T (Some v) (Some n) c h = λ env. ap outcome_of h

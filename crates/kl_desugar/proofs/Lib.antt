@@ -1,10 +1,14 @@
 pub mod Arms
 pub mod Drawing
+pub mod Fielding
+pub mod Fitting
 pub mod Law
 pub mod Matching
 pub mod Naming
 pub mod Ordered
 pub mod Positions
 pub mod Refine
+pub mod Sense
+pub mod Tidying
 pub mod Views
 pub mod Wrapping

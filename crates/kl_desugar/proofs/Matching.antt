@@ -1,5 +1,5 @@
 -- The term of a pattern matches as the pattern does.
-use Rattle.std.proofs.Common.{◌≡◌, ◌≢◌, ℕ, Bool, true, false, ◌||◌, cond, List, [], ◌∷◌, ◌++◌, length, Option, Some, None, refl, sym, ap, subst, ◌∙◌}
+use Rattle.std.proofs.Common.{◌≡◌, ℕ, Bool, true, false, ◌||◌, cond, List, [], ◌∷◌, ◌++◌, length, Option, Some, None, refl, ap}
 use Rattle.std.specs.List.{list_all}
 use Rattle.std.specs.Ordering.{is_eq}
 use Rattle.kl_base.specs.Fields.{field}
@@ -7,19 +7,18 @@ use Rattle.kl_value.specs.Order.{compare}
 use Rattle.kl_value.specs.declared.Kind.{Kind}
 use Rattle.kl_value.specs.declared.Value.{Value}
 use Rattle.kl_value.specs.declared.Value.TheVariants as value
-use Rattle.kl_prim.specs.Meaning.{gives}
 use Rattle.kl_prim.specs.Table.{meaning, row_at, rows}
 use Rattle.kl_value.specs.Views.{as_bool}
-use Rattle.kl_outcome.specs.Outcome.{Outcome, done, over, stuck, Flow, stop, fine, overflow, broken, Name, after, answered, if_then, chosen, outcome_of, as_record, as_variant, opened, collected}
-use Rattle.kl_parse.specs.Syntax.{Pat, catch, any, same, is, shape, variant, Pats, no_pats, pats}
+use Rattle.kl_outcome.specs.Outcome.{Outcome, done, over, stuck, Flow, stop, fine, overflow, Name, after, answered, if_then, outcome_of, as_record, as_variant, opened, collected}
+use Rattle.kl_syntax.specs.Syntax.{Pat, catch, any, same, is, shape, variant, Pats, no_pats, pats}
 use Rattle.kl_meaning.specs.Match.{Env, Fit, bound, misses, past, odd, fit_then, same_name, compared, has_label, fit_field, fit_record, fit_variant, fits, fits_fields, if_fits, must_fit}
 use Rattle.kl_meaning.specs.Run.{Meant, nothing, value_of, function_of, primitive, Known, as_value, named, look_up}
 use Rattle.kl_core.specs.Core.{Tables, core}
 use Rattle.kl_core.specs.Trees.{Tree}
 use Rattle.kl_desugar.specs.Translation.{Scope, level_of, Place, here, inside, place_tree, Code, value_by, function_by, primitive_by, Codes, code_tree, level_tree, name_tree, matched, matched_fields, matched_here, empty}
 use Rattle.kl_desugar.specs.Translation as translation
-use Rattle.kl_desugar.proofs.Positions.{Held, scope, values, names, level_get, Grows, grows_none, grows_one, grows_both, nearest, level_is, At, name_at, Stands, stands_more, place_is}
-use Rattle.kl_desugar.proofs.Refine.{Refines, refines_same, after_up}
+use Rattle.kl_desugar.proofs.Positions.{Held, scope, values, names, Grows, grows_none, grows_one, grows_both, nearest, level_is, At, name_at, Stands, stands_more, place_is}
+use Rattle.kl_desugar.proofs.Refine.{Refines}
 
 -- what comes of a fit, where `miss` comes of none
 abbrev pub fit_to : Outcome → Fit → (Env → Outcome) → Outcome

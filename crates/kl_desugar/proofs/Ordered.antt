@@ -1,5 +1,5 @@
 -- A stable sort by label leaves the fields of a record in their order.
-use Rattle.std.proofs.Common.{◌≡◌, ℕ, Bool, true, false, not, ◌&&◌, cond, List, [], ◌∷◌, map, refl, sym, ap, ap₂, subst, ◌∙◌, true≢false, Ordering, Less, Equal, Greater, is_lt, is_gt, is_eq}
+use Rattle.std.proofs.Common.{◌≡◌, Bool, true, false, not, ◌&&◌, cond, List, [], ◌∷◌, map, refl, sym, ap, ap₂, subst, ◌∙◌, true≢false, Ordering, Less, Equal, Greater, is_lt, is_gt, is_eq}
 use Rattle.std.specs.Cmp.{IsTotalOrder, IsStrictWeakOrder}
 use Rattle.std.specs.List.{AllByRecursion, filter}
 use Rattle.std.specs.List.Sorted.{IsSortedBy, IsStableBy, ties}
@@ -12,7 +12,7 @@ use Rattle.kl_base.proofs.SortedLemmas.{IsRising-from_sorted, IsRising-sorted}
 use Rattle.kl_outcome.specs.Outcome.{Name}
 use Rattle.kl_meaning.specs.Run.{by_label, in_order}
 use Rattle.kl_core.specs.declared.term.Term.{Term}
-use Rattle.kl_core.specs.Trees.{Tree, view_part}
+use Rattle.kl_core.specs.Trees.{view_part}
 
 equal_is : (o : Ordering) → is_eq o ≡ true → o ≡ Equal
 equal_is Less h = absurd (true≢false (sym h))

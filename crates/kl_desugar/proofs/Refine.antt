@@ -1,12 +1,11 @@
 -- An outcome is kept unless it makes no sense.
-use Rattle.std.proofs.Common.{◌≡◌, ◌≢◌, ◌⊎◌, inl, inr, ℕ, Bool, true, false, cond, List, [], ◌∷◌, ◌++◌, Option, Some, None, refl, sym, ap, subst, ◌∙◌}
+use Rattle.std.proofs.Common.{◌≡◌, ◌≢◌, ◌⊎◌, inl, inr, Bool, true, false, cond, List, [], ◌∷◌, Option, Some, None, refl, sym, ap}
 use Rattle.std.specs.Ordering.{is_gt}
-use Rattle.kl_base.specs.Sorted.{put_in, sorted}
+use Rattle.kl_base.specs.Sorted.{put_in}
 use Rattle.kl_value.specs.declared.Kind.{Kind}
-use Rattle.kl_value.specs.declared.Kind.TheVariants as kind
 use Rattle.kl_value.specs.declared.Value.{Value}
 use Rattle.kl_value.specs.Views.{as_bool, as_collection, Collection}
-use Rattle.kl_outcome.specs.Outcome.{Outcome, done, over, stuck, End, fine, overflow, broken, Flow, more, stop, flow, items_in, end_in, at_end, followed, drawn, Name, after, args_then, parts_then, chosen, if_then, applied, recorded, opened, cases, items_of, item_then, kept, gathered, collected, joined_to, union_of}
+use Rattle.kl_outcome.specs.Outcome.{Outcome, done, over, stuck, fine, broken, Flow, more, flow, end_in, followed, Name, after, args_then, parts_then, chosen, if_then, opened, items_of, item_then, collected, joined_to, union_of}
 use Rattle.kl_meaning.specs.Run.{by_label, in_order}
 
 abbrev pub Refines : Outcome → Outcome → Type 0

@@ -1,11 +1,11 @@
 -- The layers make the term.
-use Rattle.std.proofs.Common.{◌≡◌, ℕ, List, [], ◌∷◌, ◌++◌, length, Option, Some, None, refl, sym, ap, ◌∙◌}
+use Rattle.std.proofs.Common.{◌≡◌, List, [], ◌∷◌, ◌++◌, length, None, refl, sym, ap, ◌∙◌}
 use Rattle.kl_value.specs.declared.Kind.{Kind}
-use Rattle.kl_parse.specs.Syntax.{Pat, catch, any, same, is, shape, variant, Pats, no_pats, pats, Quals, no_quals, draw, test}
+use Rattle.kl_syntax.specs.Syntax.{Pat, catch, any, same, is, shape, variant, Pats, no_pats, pats, Quals, no_quals, draw, test}
 use Rattle.kl_core.specs.Trees as term
 use Rattle.kl_core.specs.Trees.{Tree, arm, rest}
-use Rattle.kl_desugar.specs.Translation.{Scope, Place, here, inside, place_tree, Codes, tree, tree_quals, matched, matched_fields, matched_here, empty}
-use Rattle.kl_desugar.specs.Layers.{Layered, bound, guard, opened, drawn, wrap_one, wrapped, after_pat, after_pats, pat_layers, pats_layers, after_quals, quals_layers}
+use Rattle.kl_desugar.specs.Translation.{Scope, Place, here, inside, place_tree, Codes, tree, tree_quals, matched, matched_fields, empty}
+use Rattle.kl_desugar.specs.Layers.{Layered, wrap_one, wrapped, after_pat, after_pats, pat_layers, pats_layers, after_quals, quals_layers}
 
 pub wrapped_both : (e : Tree) (xs ys : List Layered) (a : Tree) → wrapped e (xs ++ ys) a ≡ wrapped e xs (wrapped e ys a)
 wrapped_both e [] ys a = refl

@@ -2,3 +2,4 @@ pub mod Translation
 pub mod Layers
 pub mod Opening
 pub mod States
+pub mod Sense

@@ -1,7 +1,7 @@
 -- What qualifiers ask.
 use Rattle.std.specs.Prelude.{◌≡◌, List, ◌++◌}
 use Rattle.kl_value.specs.declared.Kind.{Kind}
-use Rattle.kl_parse.specs.Syntax.{Quals}
+use Rattle.kl_syntax.specs.Syntax.{Quals}
 use Rattle.kl_desugar.specs.Translation.{Scope, Codes}
 use Rattle.kl_desugar.specs.Layers.{Layered, after_quals, quals_layers}
 

@@ -1,15 +1,13 @@
 -- What the code's own types stand for.
-use Rattle.std.specs.Prelude.{◌≡◌, ℕ, Bool, List, [], ◌∷◌, ◌++◌, cond, length, map, Option, Some, None}
-use Rattle.kl_value.specs.declared.Kind.{Kind}
+use Rattle.std.specs.Prelude.{◌≡◌, ℕ, Bool, List, [], ◌∷◌, ◌++◌, cond, map, Option, Some, None}
 use Rattle.kl_outcome.specs.Outcome.{Name}
 use Rattle.kl_prim.specs.Table.{Entry}
 use Rattle.kl_meaning.specs.Match.{same_name}
-use Rattle.kl_parse.specs.declared.tree.Branch.{Branch, out-Branch}
-use Rattle.kl_parse.specs.declared.tree.Expr.{Expr}
-use Rattle.kl_parse.specs.declared.tree.Word.{Word}
-use Rattle.kl_parse.specs.Syntax.{Pat}
-use Rattle.kl_parse.specs.View.{pattern_view, view as exp_view}
-use Rattle.kl_core.specs.declared.Term.{Term}
+use Rattle.kl_syntax.specs.declared.tree.Branch.{Branch, out-Branch}
+use Rattle.kl_syntax.specs.declared.tree.Expr.{Expr}
+use Rattle.kl_syntax.specs.declared.tree.Word.{Word}
+use Rattle.kl_syntax.specs.Syntax.{Pat}
+use Rattle.kl_syntax.specs.View.{pattern_view, view as exp_view}
 use Rattle.kl_core.specs.Trees.{Tree, view}
 use Rattle.kl_core.specs.Trees as term
 use Rattle.kl_desugar.specs.Translation.{Scope, Place, here, inside, Code, nothing, value_by, function_by, primitive_by, Codes, with_code, codes_first, tree, matched_here, no_sense}

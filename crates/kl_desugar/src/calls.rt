@@ -8,7 +8,7 @@ ghost use Rattle.kl_desugar.specs.States.{codes_of};
 use crate::codes::{Codes, Found, find};
 use kl_base::{Box, Label, NoMemory, Seq};
 use kl_core::Term;
-use kl_parse::{Op, Word};
+use kl_syntax::{Op, Word};
 use kl_value::Value;
 use std::alloc::Global;
 

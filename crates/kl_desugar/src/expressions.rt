@@ -2,8 +2,8 @@
 ghost use Rattle.std.specs.Prelude.{◌≡◌, ◌∷◌, [], ◌++◌, length, map, IfOk};
 ghost use Rattle.std.specs.Option.{option_map};
 ghost use Rattle.kl_meaning.specs.Run.{in_order};
-ghost use Rattle.kl_parse.specs.Syntax.{no_quals};
-ghost use Rattle.kl_parse.specs.View.{pattern_view, qual_view, view, rest_of, quals_view, steps_view};
+ghost use Rattle.kl_syntax.specs.Syntax.{no_quals};
+ghost use Rattle.kl_syntax.specs.View.{pattern_view, qual_view, view, rest_of, quals_view, steps_view};
 ghost use Rattle.kl_core.specs.Trees as term;
 ghost use Rattle.kl_core.specs.Trees.{view_part};
 ghost use Rattle.kl_desugar.specs.Translation.{tree, tree_steps, tree_branches, matched_here, no_sense};
@@ -17,7 +17,7 @@ use crate::layers::{Layer, ask, enter, wrap};
 use crate::scope::{Place, Slot, copy};
 use kl_base::{Box, Label, NoMemory, Seq};
 use kl_core::Term;
-use kl_parse::{Branch, Expr, Op, Pattern, Qual, Word};
+use kl_syntax::{Branch, Expr, Op, Pattern, Qual, Word};
 use kl_value::{Kind, dup as dup_value};
 use std::alloc::Global;
 

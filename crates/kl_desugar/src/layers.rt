@@ -2,7 +2,7 @@
 ghost use Rattle.std.specs.Prelude.{◌≡◌, ◌∷◌, [], ◌++◌, length, None as none, IfOk};
 ghost use Rattle.kl_core.specs.Trees.{view};
 ghost use Rattle.kl_core.specs.Trees as term;
-ghost use Rattle.kl_parse.specs.View.{pattern_view};
+ghost use Rattle.kl_syntax.specs.View.{pattern_view};
 ghost use Rattle.kl_desugar.specs.Translation.{here};
 ghost use Rattle.kl_desugar.specs.Layers.{missed, wrap_one, wrapped, equals, after_pat, pat_layers};
 ghost use Rattle.kl_desugar.specs.States.{layer_view, layers_view, place_view, codes_of, Asks};
@@ -11,7 +11,7 @@ use crate::codes::{Codes, name_term};
 use crate::scope::{Place, Slot, copy, place_term};
 use kl_base::{Box, Label, NoMemory, Seq};
 use kl_core::Term;
-use kl_parse::{Pattern, Word};
+use kl_syntax::{Pattern, Word};
 use kl_value::{Kind, dup as dup_value};
 use std::alloc::Global;
 

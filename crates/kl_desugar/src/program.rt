@@ -1,7 +1,7 @@
 //! Programs as terms.
 ghost use Rattle.std.specs.Prelude.{◌≡◌, IfOk};
-ghost use Rattle.kl_parse.specs.Syntax.{no_decls};
-ghost use Rattle.kl_parse.specs.View.{view, decl_of, decls_of};
+ghost use Rattle.kl_syntax.specs.Syntax.{no_decls};
+ghost use Rattle.kl_syntax.specs.View.{view, decl_of, decls_of};
 ghost use Rattle.kl_core.specs.Trees as term;
 ghost use Rattle.kl_desugar.specs.Translation.{with_code, codes_after, codes_first, term_of, Means};
 ghost use Rattle.kl_desugar.specs.States.{codes_of, def_code};
@@ -10,8 +10,8 @@ use crate::codes::{Codes, Def};
 use crate::expressions::{tree, tree_within};
 use kl_base::{Label, NoMemory};
 use kl_core::Term;
-use kl_parse::Decl;
 use kl_scope::Scoped;
+use kl_syntax::Decl;
 use std::alloc::Global;
 
 // What a definition stands for, over those before it.

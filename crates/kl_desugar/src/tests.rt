@@ -1,8 +1,8 @@
 use crate::translate;
 use kl_base::{Box, Label, Seq};
 use kl_core::{Term, nodes};
-use kl_parse::{Expr, Meaning, Pattern, Program, Qual, Word};
 use kl_scope::{Scoped, resolve};
+use kl_syntax::{Expr, Meaning, Pattern, Program, Qual, Word};
 use kl_value::Kind;
 use std::alloc::Global;
 use std::test::Fail;

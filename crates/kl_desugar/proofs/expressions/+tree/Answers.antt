@@ -1,4 +1,3 @@
-use Rattle.std.proofs.Common.{refl, sym, ap, ◌∙◌}
 use Rattle.kl_desugar.proofs.Arms.{call_ok, chain_ok, coll_is, rec_ok, within_ok}
 use Rattle.kl_desugar.proofs.expressions.+tree.Goals as goal
 

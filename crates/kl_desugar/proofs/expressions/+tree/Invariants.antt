@@ -1,5 +1,5 @@
 use Rattle.std.proofs.Common.{◌≡◌, ◌++◌, map, take, drop}
-use Rattle.kl_parse.specs.View.{view, quals_view, steps_view}
+use Rattle.kl_syntax.specs.View.{view, quals_view, steps_view}
 use Rattle.kl_core.specs.Trees as term
 use Rattle.kl_core.specs.Trees.{view_part}
 use Rattle.kl_desugar.specs.Translation.{tree, tree_steps}

@@ -1,4 +1,4 @@
-use Rattle.std.proofs.Common.{rules, map, ap, ◌∙◌}
+use Rattle.std.proofs.Common.{rules, ap, ◌∙◌}
 use Rattle.std.proofs.lemmas.List.Sorted.{answers_always}
 use Rattle.kl_core.specs.Trees as term
 use Rattle.kl_desugar.proofs.Ordered.{below, below_ranks, sorted_view}

@@ -1,5 +1,5 @@
 use Rattle.std.proofs.Common.{◌≡◌, ◌++◌, drop}
-use Rattle.kl_parse.specs.View.{patterns_view}
+use Rattle.kl_syntax.specs.View.{patterns_view}
 use Rattle.kl_desugar.specs.Layers.{after_pats, pats_layers}
 use Rattle.kl_desugar.specs.States.{layers_view, place_view, codes_of}
 use Rattle.kl_desugar.proofs.layers.+ask.Given as goal

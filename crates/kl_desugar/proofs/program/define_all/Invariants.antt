@@ -1,5 +1,5 @@
 use Rattle.std.proofs.Common.{◌≡◌, drop}
-use Rattle.kl_parse.specs.View.{decls_of}
+use Rattle.kl_syntax.specs.View.{decls_of}
 use Rattle.kl_desugar.specs.Translation.{codes_first, codes_after}
 use Rattle.kl_desugar.specs.States.{codes_of}
 use Rattle.kl_desugar.proofs.program.define_all.Given as goal
