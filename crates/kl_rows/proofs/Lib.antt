@@ -3,6 +3,7 @@ pub mod Advancing
 pub mod Assigning
 pub mod Cases
 pub mod CellLists
+pub mod Choosing
 pub mod Copies
 pub mod Depths
 pub mod Expansions

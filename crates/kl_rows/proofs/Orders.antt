@@ -16,10 +16,10 @@ record Place (list : List ℕ) (p : ℕ) : Type 0 where
   within : at < length list
   here : slice_get list at ≡ Some p
 
-mark_here : (i : ℕ) (m : Mark) (os : Order) (p : ℕ) → p ≡ i → mark_of ((i, m) ∷ os) p ≡ m
+pub mark_here : (i : ℕ) (m : Mark) (os : Order) (p : ℕ) → p ≡ i → mark_of ((i, m) ∷ os) p ≡ m
 mark_here i m os p e = rw (eq-eqb p i e) refl
 
-mark_there : (i : ℕ) (m : Mark) (os : Order) (p : ℕ) → (p ≡ i → ⊥) → mark_of ((i, m) ∷ os) p ≡ mark_of os p
+pub mark_there : (i : ℕ) (m : Mark) (os : Order) (p : ℕ) → (p ≡ i → ⊥) → mark_of ((i, m) ∷ os) p ≡ mark_of os p
 mark_there i m os p d = rw (ne_eqb p i d) refl
 
 longer : (list : List ℕ) (i : ℕ) → length (list ++ i ∷ []) ≡ length list + 1
