@@ -1,0 +1,12 @@
+pub mod Fronts
+pub mod Many
+pub mod Opening
+pub mod OverRows
+pub mod Rising
+pub mod RowShapes
+pub mod Shapes
+pub mod Sorting
+pub mod Steps
+pub mod Turns
+pub mod Typings
+pub mod Values

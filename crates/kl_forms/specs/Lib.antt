@@ -1,0 +1,4 @@
+pub mod Checks
+pub mod Constants
+pub mod Forms
+pub mod Rows

@@ -1,0 +1,170 @@
+//! Records and variants.
+ghost use Rattle.std.specs.Prelude.{◌≡◌, [], IfOk, map};
+ghost use Rattle.kl_base.specs.Fields.{bytes_cmp, labels_of};
+ghost use Rattle.kl_base.specs.Sorted.{IsRising};
+ghost use Rattle.kl_rows.specs.Places.{IsFine, IsType, AreTypes};
+ghost use Rattle.kl_forms.specs.Checks.{Checks, Finds};
+ghost use Rattle.kl_forms.specs.Forms.{FieldOf, VariantOf, IsRecord, IsVariant};
+ghost use Rattle.kl_forms.specs.Rows.{FindsRow, Fronts, next};
+
+use crate::types::same;
+use kl_base::{Label, NoMemory};
+use kl_rows::{Node, Unifier};
+use std::alloc::Global;
+
+// The first number, if it stands at the label.
+fn next(fields: &[(Label, u64)], label: &Label) -> Option<u64>
+    ensures { result ≡ next label.now fields.now }
+{
+    match fields {
+        [field, ..] if *label == field.0 => Some(field.1),
+        _ => None,
+    }
+}
+
+fn labels_of(alloc: Global, fields: &[(Label, u64)]) -> Result<Vec<Label>, NoMemory>
+    ensures { IfOk result (λ labels. labels.items ≡ labels_of fields.now) }
+{
+    let mut labels = Vec::with_capacity(alloc, fields.len())?;
+    for field in fields {
+        labels.push(field.0.dup()?)?;
+    }
+    Ok(labels)
+}
+
+// What stands behind the fields of a row: nothing, or if it is open others.
+fn end_of(u: &mut Unifier, fields: &[(Label, u64)], is_open: bool) -> Result<u64, NoMemory>
+    requires fine { IsFine u.old.cells.items }
+    ensures { IfOk result (λ row. Fronts is_open fields.now [] u.old.cells.items u.new.cells.items row) }
+{
+    if is_open {
+        let labels = labels_of(u.alloc, fields)?;
+        let row = u.fresh_row(&labels)?;
+        return Ok(row);
+    }
+    let row = u.make(Node::EmptyRow)?;
+    Ok(row)
+}
+
+// A row with these fields, which are sorted, and if it is open others. None where the types that stand at one label can't
+// be one.
+fn sorted_row(
+    u: &mut Unifier,
+    fields: &[(Label, u64)],
+    is_open: bool,
+) -> Result<Option<u64>, NoMemory>
+    requires fine { IsFine u.old.cells.items }
+    requires fields_there { AreTypes u.old.cells.items fields.now }
+    requires rise { IsRising (λ f g. bytes_cmp f.0 g.0) fields.now }
+    ensures { IfOk result (λ found. FindsRow found u.old.cells.items u.new.cells.items is_open fields.now) }
+{
+    let mut row = end_of(u, fields, is_open)?;
+    'fields: for i in (0..fields.len()).rev() {
+        let field = &fields[i];
+        match next(&fields[i + 1..], &field.0) {
+            Some(later) => {
+                let holds = same(u, field.1, later)?;
+                if !holds {
+                    return Ok(None);
+                }
+            }
+            None => {
+                let label = field.0.dup()?;
+                row = u.make(Node::Row(label, field.1, row))?;
+            }
+        }
+    }
+    Ok(Some(row))
+}
+
+// The same of fields in any order.
+fn row_of(
+    u: &mut Unifier,
+    fields: Vec<(Label, u64)>,
+    is_open: bool,
+) -> Result<Option<u64>, NoMemory>
+    requires fine { IsFine u.old.cells.items }
+    requires fields_there { AreTypes u.old.cells.items fields.items }
+    ensures { IfOk result (λ found. FindsRow found u.old.cells.items u.new.cells.items is_open fields.items) }
+{
+    let mut fields = fields;
+    fields.sort_by(|f, g| f.0.cmp(&g.0))?;
+    let found = sorted_row(u, &fields, is_open)?;
+    Ok(found)
+}
+
+/// Whether the type can be a record with these labels and types and, if it is open, others. A label may stand twice;
+/// then its types are one.
+pub fn is_record(
+    u: &mut Unifier,
+    fields: Vec<(Label, u64)>,
+    is_open: bool,
+    want: u64,
+) -> Result<bool, NoMemory>
+    requires fine { IsFine u.old.cells.items }
+    requires there { IsType u.old.cells.items want }
+    requires fields_there { AreTypes u.old.cells.items fields.items }
+    ensures { IfOk result (λ holds. Checks holds u.old.cells.items u.new.cells.items (IsRecord is_open fields.items want)) }
+{
+    match row_of(u, fields, is_open)? {
+        None => Ok(false),
+        Some(row) => {
+            let all = u.make(Node::Rec(row))?;
+            let holds = same(u, all, want)?;
+            Ok(holds)
+        }
+    }
+}
+
+/// Whether the type can be a variant with these labels and types and, if it is open, others. A label may stand twice;
+/// then its types are one.
+pub fn is_variant(
+    u: &mut Unifier,
+    fields: Vec<(Label, u64)>,
+    is_open: bool,
+    want: u64,
+) -> Result<bool, NoMemory>
+    requires fine { IsFine u.old.cells.items }
+    requires there { IsType u.old.cells.items want }
+    requires fields_there { AreTypes u.old.cells.items fields.items }
+    ensures { IfOk result (λ holds. Checks holds u.old.cells.items u.new.cells.items (IsVariant is_open fields.items want)) }
+{
+    match row_of(u, fields, is_open)? {
+        None => Ok(false),
+        Some(row) => {
+            let all = u.make(Node::Var(row))?;
+            let holds = same(u, all, want)?;
+            Ok(holds)
+        }
+    }
+}
+
+/// What a record has at the label. None where the type can have none.
+pub fn field_of(u: &mut Unifier, label: &Label, want: u64) -> Result<Option<u64>, NoMemory>
+    requires fine { IsFine u.old.cells.items }
+    requires there { IsType u.old.cells.items want }
+    ensures { IfOk result (λ found. Finds found u.old.cells.items u.new.cells.items (FieldOf label.now want)) }
+{
+    let item = u.fresh_type()?;
+    let fields = vec![in u.alloc; (label.dup()?, item)]?;
+    let holds = is_record(u, fields, true, want)?;
+    if !holds {
+        return Ok(None);
+    }
+    Ok(Some(item))
+}
+
+/// What a variant has at the label. None where the type can have none.
+pub fn variant_of(u: &mut Unifier, label: &Label, want: u64) -> Result<Option<u64>, NoMemory>
+    requires fine { IsFine u.old.cells.items }
+    requires there { IsType u.old.cells.items want }
+    ensures { IfOk result (λ found. Finds found u.old.cells.items u.new.cells.items (VariantOf label.now want)) }
+{
+    let item = u.fresh_type()?;
+    let fields = vec![in u.alloc; (label.dup()?, item)]?;
+    let holds = is_variant(u, fields, true, want)?;
+    if !holds {
+        return Ok(None);
+    }
+    Ok(Some(item))
+}
