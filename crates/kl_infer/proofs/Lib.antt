@@ -3,3 +3,16 @@ pub mod PageLemmas
 pub mod RowLemmas
 pub mod TreeLemmas
 pub mod Writing
+pub mod Leaving
+pub mod Grounds
+pub mod Forms
+pub mod Lists
+pub mod PatternForms
+pub mod Loops
+pub mod Views
+pub mod Naming
+pub mod Answering
+pub mod Taking
+pub mod Concluding
+pub mod Alike
+pub mod Programs

@@ -2,3 +2,8 @@ pub mod Kinds
 pub mod Numbers
 pub mod Printed
 pub mod Rows
+pub mod Inferred
+pub mod Refusing
+pub mod Asking
+pub mod Names
+pub mod Declaring

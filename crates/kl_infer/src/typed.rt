@@ -1,8 +1,9 @@
 //! A program's types.
-ghost use Rattle.std.specs.Prelude.{◌≡◌, IfSome, slice_get};
+ghost use Rattle.std.specs.Prelude.{◌≡◌, IfSome, Some, slice_get};
+ghost use Rattle.kl_value.specs.declared.Kind.{Kind};
 ghost use Rattle.kl_type.specs.Ground.{Ground, coll};
-ghost use Rattle.kl_rows.specs.Schemes.{Instance};
-ghost use Rattle.kl_infer.specs.Kinds.{known_kind, kind_place, fixed_kind};
+ghost use Rattle.kl_rows.specs.Schemes.{Instance, IsScheme};
+ghost use Rattle.kl_infer.specs.Kinds.{known_kind, kind_place, fixed_kind, HasOther};
 ghost use Rattle.std.specs.Option.{option_copied};
 
 use kl_base::Seq;
@@ -23,10 +24,12 @@ pub struct Typed {
 
 impl Typed {
     /// The kind of the collections that the program can give. None exactly where its result is no collection, or one
-    /// of any kind. Takes no memory.
+    /// of any kind: for each kind that is not the answer, some instance of the result's scheme is no collection of
+    /// that kind. Takes no memory.
     pub fn result_kind(&self) -> Option<Kind>
         ensures table { result ≡ known_kind self.now.result }
         ensures instances { IfSome result (λ k. (t : Ground) → Instance self.now.result t → (s : Ground) × (t ≡ coll k s)) }
+        ensures others { (k : Kind) → IsScheme self.now.result → (t : Ground) → Instance self.now.result t → (result ≡ Some k → ⊥) → HasOther self.now.result k }
     {
         known_kind(&self.result)
     }

@@ -1,0 +1,69 @@
+-- What names stand for.
+use Rattle.std.proofs.Common.{◌≡◌, ◌⊎◌, inl, inr, ⊎_elim, ℕ, min, ◌+◌, ◌<◌, ◌≤◌, Bool, true, false, cond, List, [], ◌∷◌, ◌++◌, length, drop, get_or, slice_index_or, map, find, Option, Some, None, refl, sym, ap, ◌∙◌, arith, append_assoc}
+use Rattle.std.proofs.lemmas.List.{drop_all, append-nil}
+use Rattle.std.proofs.lemmas.Bool.{cases_lt}
+use Rattle.kl_base.specs.Fields.{field}
+use Rattle.kl_outcome.specs.Outcome.{Name}
+use Rattle.kl_prim.specs.Table.{Row, rows}
+use Rattle.kl_rows.specs.Lists.{Fields}
+use Rattle.kl_meaning.specs.Match.{same_name}
+use Rattle.kl_meaning.specs.Run.{code_at, code_named}
+use Rattle.kl_infer.specs.Asking.{onto}
+use Rattle.kl_infer.specs.Names.{Meant, code_in, last_from, defined, meant_over, labelled}
+use Rattle.kl_rows.specs.declared.Scheme.{Scheme}
+use Rattle.kl_syntax.specs.declared.tree.Decl.{Decl}
+use Rattle.kl_infer.proofs.Loops.{at_item, at_number}
+
+found_by : (b : Bool) (r : Row) (o : Option Row) (c : Option ℕ) → code_at o ≡ c → code_at (cond b (Some r) o) ≡ cond b (Some r.entry.code) c
+found_by true r o c h = refl
+found_by false r o c h = h
+
+among : (x : Name) (rs : List Row) → code_at (find (λ r. same_name r.entry.name x) rs) ≡ code_in x (map (λ r. r.entry) rs)
+among x [] = refl
+among x (r ∷ rs) = found_by (same_name r.entry.name x) r _ _ (among x rs)
+
+pub code_is : (x : Name) → code_named x ≡ code_in x (map (λ r. r.entry) rows)
+unfolding code_named
+code_is x = among x rows
+
+-- the last of a block is the innermost
+pub field_onto : (x : Name) (bs ns : Fields) → field x (onto bs ns) ≡ last_from x bs (field x ns)
+field_onto x [] ns = refl
+field_onto x (b ∷ bs) ns = field_onto x bs (b ∷ ns)
+
+pub innermost : (x : Name) (bs ns : Fields) (o r : Option ℕ) → o ≡ field x ns → r ≡ last_from x bs o → r ≡ field x (onto bs ns)
+innermost x bs ns o r e h = h ∙ ap (last_from x bs) e ∙ sym (field_onto x bs ns)
+
+pub meant_step : (x : Name) (ds : List Decl) (ss : List Scheme) (n : ℕ) (d : Decl) (s : Scheme) (m p w : Meant) → n < length ds → n < length ss → d ≡ get_or ds n d → s ≡ get_or ss n s
+    → p ≡ cond (same_name x d.name.text) (defined d.param s) m → meant_over x (drop n ds) (drop n ss) m ≡ w → meant_over x (drop (n + 1) ds) (drop (n + 1) ss) p ≡ w
+meant_step x ds ss n d s m p w l1 l2 e1 e2 h g =
+    ap (meant_over x (drop (n + 1) ds) (drop (n + 1) ss)) h
+    ∙ sym (ap (λ (z : List Decl). meant_over x z (drop n ss) m) (at_item ds n d l1 e1) ∙ ap (λ (z : List Scheme). meant_over x (d ∷ drop (n + 1) ds) z m) (at_item ss n s l2 e2)) ∙ g
+
+over_none : (x : Name) (ds : List Decl) (m : Meant) → meant_over x ds [] m ≡ m
+over_none x [] m = refl
+over_none x (d ∷ ds) m = refl
+
+pub meant_end : (x : Name) (ds : List Decl) (ss : List Scheme) (n : ℕ) (m w : Meant) → (length ds ≤ n) ⊎ (length ss ≤ n) → meant_over x (drop n ds) (drop n ss) m ≡ w → m ≡ w
+meant_end x ds ss n m w le g = ⊎_elim
+    (λ l. ap (λ (z : List Decl). meant_over x z (drop n ss) m) (sym (drop_all n ds l)) ∙ g)
+    (λ l. sym (over_none x (drop n ds) m) ∙ ap (λ (z : List Scheme). meant_over x (drop n ds) z m) (sym (drop_all n ss l)) ∙ g) le
+
+pub least_of : (m n i : ℕ) → min m n ≤ i → (m ≤ i) ⊎ (n ≤ i)
+least_of m n i h = ⊎_elim (λ l. inl (omega arith)) (λ l. inr (omega arith)) (cases_lt m n)
+
+-- ---- labels with numbers
+
+pub labels_start : (all : Fields) (ls : List Name) (ns : List ℕ) → all ≡ [] → all ++ labelled ls ns ≡ labelled ls ns
+labels_start all ls ns e = ap (λ (z : Fields). z ++ labelled ls ns) e
+
+pub labels_more : {X : Type 0} (f : X → Name) (all new : Fields) (xs : List X) (ns : List ℕ) (i : ℕ) (x y : X) (l : Name) → length ns ≡ length xs → i < length xs → x ≡ get_or xs i x → x ≡ y → l ≡ f y → new ≡ all ++ (l, slice_index_or ns i 0) ∷ []
+    → all ++ labelled (map f (drop i xs)) (drop i ns) ≡ labelled (map f xs) ns → new ++ labelled (map f (drop (i + 1) xs)) (drop (i + 1) ns) ≡ labelled (map f xs) ns
+labels_more {X} f all new xs ns i x y l size lt e ey el en h =
+    let n = slice_index_or ns i 0 in
+    let rest = labelled (map f (drop (i + 1) xs)) (drop (i + 1) ns) in
+    ap (λ (z : Fields). z ++ rest) en ∙ append_assoc all ((l, n) ∷ []) rest ∙ ap (λ (z : Name). all ++ (z, n) ∷ rest) (el ∙ sym (ap f ey))
+    ∙ sym (ap (λ (z : List X). all ++ labelled (map f z) (drop i ns)) (at_item xs i x lt e) ∙ ap (λ (z : List ℕ). all ++ labelled (f x ∷ map f (drop (i + 1) xs)) z) (at_number ns i (omega arith))) ∙ h
+
+pub labels_done : {X : Type 0} (f : X → Name) (all : Fields) (xs : List X) (ns : List ℕ) (i : ℕ) → length xs ≤ i → all ++ labelled (map f (drop i xs)) (drop i ns) ≡ labelled (map f xs) ns → all ≡ labelled (map f xs) ns
+labels_done {X} f all xs ns i le h = sym (append-nil all) ∙ sym (ap (λ (z : List X). all ++ labelled (map f z) (drop i ns)) (drop_all i xs le)) ∙ h

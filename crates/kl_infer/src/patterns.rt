@@ -1,0 +1,87 @@
+//! Types of patterns.
+ghost use Rattle.std.specs.Prelude.{◌≡◌, ◌∷◌, [], IfOk, length, map};
+ghost use Rattle.kl_syntax.specs.View.{pattern_view, patterns_view};
+ghost use Rattle.kl_meaning.specs.Typing.{NameTypes, Takes};
+ghost use Rattle.kl_infer.specs.Asking.{Binds, context, onto};
+ghost use Rattle.kl_infer.specs.Names.{Ready, TakesAll, labelled, names, sorts};
+
+use crate::scope::{Known, Scope};
+use crate::typing::Typing;
+use kl_base::{Label, NoMemory};
+use kl_syntax::{Pattern, Word};
+use std::alloc::Global;
+
+impl Typing {
+    /// The pattern takes the type. Its variables are added to `bound`. A bare name is looked up outside the pattern.
+    #[cycle(takes)]
+    pub fn takes(
+        &mut self,
+        p: &Pattern,
+        known: &Known,
+        outside: &Scope,
+        t: u64,
+        bound: &mut Vec<(Label, u64)>,
+    ) -> Result<(), NoMemory>
+        requires { Ready known.now self.old (onto bound.old.items (names outside.now)) (t ∷ []) }
+        ensures { IfOk result (λ _. Binds self.old self.new bound.old.items bound.new.items (names outside.now) (λ s. Takes (pattern_view p.now) (NameTypes (sorts known.now) (context s (names outside.now))) (s.types t))) }
+    {
+        if !self.possible {
+            return Ok(());
+        }
+        match p {
+            Pattern::Bind(x) => {
+                bound.push((x.text.dup()?, t))?;
+                Ok(())
+            }
+            Pattern::Any => Ok(()),
+            Pattern::Same(x) => self.name(&x.text, known, outside, t),
+            Pattern::Is(v, _) => self.value(v, t),
+            Pattern::Rec(fields, dots) => {
+                let fields = fields.slice();
+                let types = self.fresh_many(fields.len())?;
+                let all = labelled(self.unifier.alloc, fields, &types)?;
+                self.record(all, *dots, t)?;
+                self.takes_fields(fields, known, outside, &types, bound)
+            }
+            Pattern::Inj(l, inner) => {
+                let item = self.variant(&l.text, t)?;
+                self.takes(inner.get(), known, outside, item, bound)
+            }
+        }
+    }
+
+    #[cycle(takes)]
+    fn takes_fields(
+        &mut self,
+        fields: &[(Word, Pattern)],
+        known: &Known,
+        outside: &Scope,
+        types: &[u64],
+        bound: &mut Vec<(Label, u64)>,
+    ) -> Result<(), NoMemory>
+        requires ready { Ready known.now self.old (onto bound.old.items (names outside.now)) types.now }
+        requires size { length types.now ≡ length fields.now }
+        ensures { IfOk result (λ _. Binds self.old self.new bound.old.items bound.new.items (names outside.now) (λ s. TakesAll (patterns_view fields.now) (NameTypes (sorts known.now) (context s (names outside.now))) (map s.types types.now))) }
+    {
+        'fields: for i in 0..fields.len() {
+            self.takes(&fields[i].1, known, outside, types[i], bound)?;
+        }
+        Ok(())
+    }
+}
+
+/// The labels of fields with these numbers.
+pub fn labelled<T>(
+    alloc: Global,
+    fields: &[(Word, T)],
+    types: &[u64],
+) -> Result<Vec<(Label, u64)>, NoMemory>
+    requires { length types.now ≡ length fields.now }
+    ensures { IfOk result (λ all. all.items ≡ labelled (map (λ f. f.0.text) fields.now) types.now) }
+{
+    let mut all = Vec::with_capacity(alloc, fields.len())?;
+    'fields: for i in 0..fields.len() {
+        all.push((fields[i].0.text.dup()?, types[i]))?;
+    }
+    Ok(all)
+}
