@@ -1,11 +1,10 @@
-pub mod DrawLemmas
-pub mod NumberLemmas
-pub mod ReadyLemmas
-pub mod TextLemmas
 pub mod FaultLemmas
+pub mod PutLemmas
 pub mod PageLemmas
-pub mod MeaningLemmas
-pub mod CheckLemmas
+pub mod ReadLemmas
+pub mod LineLemmas
+pub mod DoneLemmas
+pub mod AnswerLemmas
 pub mod ProgramLemmas
 pub mod ShowLemmas
 pub mod TopLemmas

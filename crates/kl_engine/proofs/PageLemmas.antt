@@ -1,11 +1,16 @@
 -- What is printed of a verdict.
 use Rattle.std.proofs.Common.{◌≢◌, inl, inr, ℕ, List, [], ◌++◌, codes, length, Some, None, Ok, Err, refl, sym, ap, subst, arith, length-append}
 use Rattle.kl_outside.specs.Sinks.{SinkState, WritesWhole}
+use Rattle.kl_outside.specs.declared.stop.Stop.{Stop}
 use Rattle.kl_outside.specs.declared.stop.Stop.TheVariants as stop
 use Rattle.kl_outside.proofs.SinkLemmas.{took_none, append_known-nil}
+use Rattle.kl_exchange.specs.Printing.{as_stop}
+use Rattle.kl_exchange.specs.declared.error.PrintError.{PrintError}
+use Rattle.kl_exchange.specs.declared.error.PrintError.TheVariants as print
+use Rattle.kl_value.specs.declared.value.Value.{Value}
 use Rattle.kl_engine.specs.Answering.{Prints, IsTold}
-use Rattle.kl_engine.specs.Meaning.{Outcome, Done, Over}
-use Rattle.kl_engine.specs.Verdict.{Verdict, well, refused, of_outcome}
+use Rattle.kl_engine.specs.Showing.{write_fault}
+use Rattle.kl_engine.specs.Verdict.{Verdict, well, refused, list_front, cut_list}
 use Rattle.kl_engine.specs.declared.fault.Fault.{Fault}
 use Rattle.kl_engine.specs.declared.fault.Fault.TheVariants as fault
 
@@ -23,6 +28,31 @@ module _ (page : List ℕ) (full : page ≢ []) (out out' : SinkState) where
   pub page_wanted : {T : Type 0} → WritesWhole {T = T} page (Err stop.NoMemory) out out' → Prints (well page) (Some fault.NoMemory) out out'
   page_wanted writes = record { ends = inr (inr refl); whole = λ is. absurd cc; part = writes.part; nothing = λ none. absurd (full none) }
 
+  pub page_stopped : (e : PrintError) → WritesWhole {T = Unit {0}} page (as_stop (Err e)) out out' → Prints (well page) (Some (write_fault e)) out out'
+  page_stopped print.Failed writes = page_failed writes
+  page_stopped print.NoMemory writes = page_wanted writes
+
+abbrev pub stop_fault : Stop → Fault
+stop_fault stop.Failed = fault.Write
+stop_fault stop.NoMemory = fault.NoMemory
+
+-- a page of any verdict was refused
+pub page_cut : (v : Verdict) → IsTold v.ending → v.page ≢ [] → (e : Stop) (out out' : SinkState) → WritesWhole {T = Unit {0}} v.page (Err e) out out' → Prints v (Some (stop_fault e)) out out'
+page_cut v told full stop.Failed out out' writes = record { ends = inr (inl (refl, writes.cause.failed refl, full)); whole = λ is. absurd (subst IsTold (sym is) told); part = writes.part; nothing = λ none. absurd (full none) }
+page_cut v told full stop.NoMemory out out' writes = record { ends = inr (inr refl); whole = λ is. absurd (subst IsTold (sym is) told); part = writes.part; nothing = λ none. absurd (full none) }
+
+-- the items of a list up to an overflow
+module _ (vs : List Value) (out out' : SinkState) where
+  front_full : list_front vs ≢ []
+  front_full is = cc
+
+  pub cut_took : {T : Type 0} (done : T) → WritesWhole (list_front vs) (Ok done) out out' → Prints (cut_list vs) (Some fault.Overflow) out out'
+  cut_took done writes = record { ends = inl refl; whole = λ is. writes.took; part = writes.part; nothing = λ none. absurd (front_full none) }
+
+  pub cut_stopped : (e : PrintError) → WritesWhole {T = Unit {0}} (list_front vs) (as_stop (Err e)) out out' → Prints (cut_list vs) (Some (write_fault e)) out out'
+  cut_stopped print.Failed writes = record { ends = inr (inl (refl, writes.cause.failed refl, front_full)); whole = λ is. absurd cc; part = writes.part; nothing = λ none. absurd (front_full none) }
+  cut_stopped print.NoMemory writes = record { ends = inr (inr refl); whole = λ is. absurd cc; part = writes.part; nothing = λ none. absurd (front_full none) }
+
 -- nothing is printed
 pub prints_refused : (f : Fault) (out : SinkState) → Prints (refused f) (Some f) out out
 prints_refused f out = record { ends = inl refl; whole = λ is. sym (append_known-nil out.taken); part = took_none [] out out refl; nothing = λ none. refl }
@@ -35,7 +65,3 @@ prints_wanted v out told = record {
   part = took_none v.page out out refl;
   nothing = λ none. refl;
 }
-
-pub outcome_told : (o : Outcome) → IsTold (of_outcome o).ending
-outcome_told (Done v) = tt
-outcome_told Over = tt

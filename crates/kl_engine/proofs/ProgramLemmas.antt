@@ -8,19 +8,14 @@ use Rattle.kl_outside.specs.declared.files.Whole.TheVariants as whole
 use Rattle.kl_outside.specs.declared.stop.Stop.TheVariants as stop
 use Rattle.kl_outside.proofs.FileLemmas.{was_there}
 use Rattle.kl_outside.proofs.SinkLemmas.{took_none, append_known-nil}
-use Rattle.kl_engine.specs.Answering.{Alike, one, nested, unnested, renamed, Follows, Prints, DoesText, Does, IsTold, IsOneOf, HasTextFault, HasFault}
+use Rattle.kl_engine.specs.Answering.{Alike, one, nested, unnested, renamed, retyped, Follows, Prints, DoesText, Does, IsTold, IsOneOf, HasTextFault, HasFault}
 use Rattle.kl_engine.specs.Commands.{Program}
 use Rattle.kl_engine.specs.Faults.{Ending}
 use Rattle.kl_engine.specs.Verdict.{Verdict, refused, most_bytes, IsText, IsProgram, IsFile}
 use Rattle.kl_engine.specs.declared.fault.Fault.TheVariants as fault
 use Rattle.kl_engine.specs.declared.top.Purpose.{Purpose}
 use Rattle.kl_engine.specs.declared.top.Purpose.TheVariants as purpose
-use Rattle.kl_engine.proofs.CheckLemmas.{checked_told}
-use Rattle.kl_engine.proofs.MeaningLemmas.{meant_told}
-
-text_told : (p : Purpose) (text : List ℕ) (v : Verdict) → IsText p text v → IsTold v.ending
-text_told purpose.Run text v of = meant_told text v of
-text_told purpose.Check text v of = checked_told text v of
+use Rattle.kl_engine.proofs.DoneLemmas.{text_told, listing_told}
 
 -- nor is one that is like it
 alike_told : (v w : Verdict) → Alike v w → IsTold v.ending → IsTold w.ending
@@ -28,6 +23,7 @@ alike_told v w (one same) told = subst (λ u. IsTold u.ending) same told
 alike_told v w (nested byte this that) told = subst (λ u. IsTold u.ending) (sym that) tt
 alike_told v w (unnested byte this that) told = subst (λ u. IsTold u.ending) (sym that) tt
 alike_told v w (renamed x y byte this that same) told = subst (λ u. IsTold u.ending) (sym that) tt
+alike_told v w (retyped ds e this that) told = listing_told ds e w that
 
 -- no verdict on a program's bytes is a fault of the outside
 program_told : (p : Purpose) (bytes : List ℕ) (v : Verdict) → IsProgram p bytes v → IsTold v.ending
@@ -38,7 +34,7 @@ of_program : (p : Purpose) (path : List ℕ) (end : Ending) → IsOneOf (HasText
 of_program p path None has = tt
 of_program p path (Some fault.Usage) has = has
 of_program p path (Some (fault.Text w byte)) has = has
-of_program p path (Some fault.NotSmall) has = has
+of_program p path (Some (fault.IllTyped decl)) has = has
 of_program p path (Some (fault.BadFile place)) has = has
 of_program p path (Some fault.Overflow) has = has
 of_program p path (Some fault.Read) has = tt
@@ -48,14 +44,15 @@ of_program p path (Some fault.ProgramBytes) has = tt
 of_program p path (Some fault.FileBytes) has = has
 of_program p path (Some fault.Nesting) has = has
 of_program p path (Some fault.ItemNesting) has = has
+of_program p path (Some fault.TermNodes) has = has
+of_program p path (Some fault.TermDepth) has = has
+of_program p path (Some fault.SchemeBytes) has = has
 
 none_reads : (p : Purpose) (end : Ending) → IsOneOf (HasTextFault p) end → end ≡ Some fault.Read → ⊥
-none_reads purpose.Run end has is = subst (IsOneOf (HasTextFault purpose.Run)) is has
-none_reads purpose.Check end has is = subst (IsOneOf (HasTextFault purpose.Check)) is has
+none_reads p end has is = subst (IsOneOf (HasTextFault p)) is has
 
 none_misuses : (p : Purpose) (end : Ending) → IsOneOf (HasTextFault p) end → end ≡ Some fault.Usage → ⊥
-none_misuses purpose.Run end has is = subst (IsOneOf (HasTextFault purpose.Run)) is has
-none_misuses purpose.Check end has is = subst (IsOneOf (HasTextFault purpose.Check)) is has
+none_misuses p end has is = subst (IsOneOf (HasTextFault p)) is has
 
 pub as_purpose : (p q : Purpose) (text : List ℕ) (end : Ending) (out out' : SinkState) → p ≡ q → DoesText q text end out out' → DoesText p text end out out'
 as_purpose p q text end out out' same does = subst (λ r. DoesText r text end out out') (sym same) does

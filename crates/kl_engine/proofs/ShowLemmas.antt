@@ -81,7 +81,7 @@ as_path : (path : List ℕ) (end : Ending) → IsOneOf (HasFault (Show [])) end 
 as_path path None has = tt
 as_path path (Some fault.Usage) has = has
 as_path path (Some (fault.Text w byte)) has = has
-as_path path (Some fault.NotSmall) has = has
+as_path path (Some (fault.IllTyped decl)) has = has
 as_path path (Some (fault.BadFile place)) has = has
 as_path path (Some fault.Overflow) has = has
 as_path path (Some fault.Read) has = has
@@ -91,6 +91,9 @@ as_path path (Some fault.ProgramBytes) has = has
 as_path path (Some fault.FileBytes) has = has
 as_path path (Some fault.Nesting) has = has
 as_path path (Some fault.ItemNesting) has = has
+as_path path (Some fault.TermNodes) has = has
+as_path path (Some fault.TermDepth) has = has
+as_path path (Some fault.SchemeBytes) has = has
 
 -- a fault of the outside, or want of memory, behind some items
 abbrev Cause : Fault → List Value → FilesState → FilesState → SinkState → SinkState → Type 0
@@ -364,17 +367,6 @@ module _ (file : ℕ) (now : FileReading) (s0 s : FilesState) (out0 out : SinkSt
         (inl (refl, (let a = so.stays.later in let b = fetches.leaves.failed refl in omega arith)))
     items_unfetched is error.NoMemory fetches =
         stops_with file new s0 t out0 out so.vs (stays_fetched (Err error.NoMemory) fetches) fault.NoMemory (came (Err error.NoMemory) fetches) (took_all (lines so.vs) out0 out (took_lines is)) (inr (inr refl))
-
--- A line is put by its text and then its end.
-pub puts_line : (result : Result (Unit {0}) PrintError) (text end : List ℕ) (s t v : SinkState) (h k m : List ℕ) → Puts {T = Unit {0}} text (Ok tt) s h t k → Puts end (as_stop result) t k v m → Puts (text ++ end) (as_stop result) s h v m
-puts_line (Ok done) text end s t v h k m p q = (then {us = text} {bs = end} {s = s} {t = t} {v = v} {h = h} {k = k} {m = m} {w = None} {x = None} {y = None} (record { adds = p }) (record { adds = q })).adds
-puts_line (Err print.Failed) text end s t v h k m p q = (then {us = text} {bs = end} {s = s} {t = t} {v = v} {h = h} {k = k} {m = m} {w = None} {x = None} {y = Some stop.Failed} (record { adds = p }) (record { adds = q })).adds
-puts_line (Err print.NoMemory) text end s t v h k m p q = (then {us = text} {bs = end} {s = s} {t = t} {v = v} {h = h} {k = k} {m = m} {w = None} {x = None} {y = Some stop.NoMemory} (record { adds = p }) (record { adds = q })).adds
-
--- Where the text was refused, nothing more is put.
-pub puts_stopped : (e : PrintError) (text end : List ℕ) (s t : SinkState) (h k : List ℕ) → Puts {T = Unit {0}} text (as_stop (Err e)) s h t k → Puts {T = Unit {0}} (text ++ end) (as_stop (Err e)) s h t k
-puts_stopped print.Failed text end s t h k p = (then {us = text} {bs = end} {s = s} {t = t} {v = t} {h = h} {k = k} {m = k} {w = None} {x = Some stop.Failed} {y = Some stop.Failed} (record { adds = p }) (record { adds = (refl, refl) })).adds
-puts_stopped print.NoMemory text end s t h k p = (then {us = text} {bs = end} {s = s} {t = t} {v = t} {h = h} {k = k} {m = k} {w = None} {x = Some stop.NoMemory} {y = Some stop.NoMemory} (record { adds = p }) (record { adds = (refl, refl) })).adds
 
 -- what a missing file comes to, of which nothing is printed
 missing_follows : (v : Verdict) (f f' : FilesState) (out : SinkState) → v ≡ refused fault.Read → Follows v (Some fault.Read) f f' out out

@@ -6,7 +6,8 @@ use Rattle.kl_outside.specs.Files.{FilesState}
 use Rattle.kl_outside.specs.Sinks.{SinkState, TookPart}
 use Rattle.kl_engine.specs.Commands.{Command, Neither, Program, Show}
 use Rattle.kl_engine.specs.Faults.{Ending}
-use Rattle.kl_engine.specs.Verdict.{Verdict, refused, IsText, IsVerdict}
+use Rattle.kl_engine.specs.Verdict.{Verdict, refused, IsListing, IsText, IsVerdict}
+use Rattle.kl_syntax.specs.Syntax.{Decls, Exp}
 use Rattle.kl_engine.specs.declared.fault.Fault.{Fault}
 use Rattle.kl_engine.specs.declared.fault.Fault.TheVariants as fault
 use Rattle.kl_engine.specs.declared.fault.Wrong.{Wrong}
@@ -29,13 +30,15 @@ unnamed (wrong.Twice name) = wrong.Twice []
 unnamed (wrong.Misapplied name) = wrong.Misapplied []
 unnamed w = w
 
--- Verdicts on the same bytes are one, but for two things. Tokens with which no program goes on, and that nest too deep
--- besides, may be told either way; and the same breach at the same token may be told of another name.
+-- Verdicts on the same bytes are one, but for three things. Tokens with which no program goes on, and that nest too deep
+-- besides, may be told either way; the same breach at the same token may be told of another name; and of the types of
+-- one program other principal schemes, of the same instances, may be listed.
 pub data Alike (v w : Verdict) : Type 0 where
   one : v ≡ w → Alike v w
   nested : (byte : ℕ) → v ≡ refused (fault.Text wrong.Syntax byte) → w ≡ refused fault.Nesting → Alike v w
   unnested : (byte : ℕ) → v ≡ refused fault.Nesting → w ≡ refused (fault.Text wrong.Syntax byte) → Alike v w
   renamed : (x y : Wrong) (byte : ℕ) → v ≡ refused (fault.Text x byte) → w ≡ refused (fault.Text y byte) → unnamed x ≡ unnamed y → Alike v w
+  retyped : (ds : Decls) (e : Exp) → IsListing ds e v → IsListing ds e w → Alike v w
 
 -- none of the faults that can come to any command
 abbrev pub IsTold : Ending → Type 0
@@ -45,14 +48,22 @@ IsTold (Some fault.Write) = ⊥
 IsTold (Some fault.NoMemory) = ⊥
 IsTold (Some f) = ⊤
 
+-- its types are inferred
+abbrev pub IsTyping : Purpose → Type 0
+IsTyping purpose.Check = ⊥
+IsTyping p = ⊤
+
 -- the faults that a program's text may come to
 abbrev pub HasTextFault : Purpose → Fault → Type 0
 HasTextFault p fault.Write = ⊤
 HasTextFault p fault.NoMemory = ⊤
-HasTextFault purpose.Run fault.NotSmall = ⊤
-HasTextFault purpose.Run fault.Overflow = ⊤
-HasTextFault purpose.Check (fault.Text w byte) = ⊤
-HasTextFault purpose.Check fault.Nesting = ⊤
+HasTextFault p (fault.Text w byte) = ⊤
+HasTextFault p fault.Nesting = ⊤
+HasTextFault p fault.TermNodes = IsTyping p
+HasTextFault p fault.TermDepth = IsTyping p
+HasTextFault p (fault.IllTyped decl) = IsTyping p
+HasTextFault p fault.SchemeBytes = p ≡ purpose.Types
+HasTextFault p fault.Overflow = p ≡ purpose.Run
 HasTextFault p f = ⊥
 
 -- the faults of each command
@@ -74,10 +85,13 @@ abbrev pub IsOneOf : (Fault → Type 0) → Ending → Type 0
 IsOneOf Has None = ⊤
 IsOneOf Has (Some f) = Has f
 
--- the faults before which a program prints nothing
+-- The faults before which a program prints nothing. Before an overflow items of a list may have been printed, and before
+-- a scheme that is too long the lines of others.
 abbrev pub IsBefore : Fault → Type 0
 IsBefore fault.Write = ⊥
 IsBefore fault.NoMemory = ⊥
+IsBefore fault.Overflow = ⊥
+IsBefore fault.SchemeBytes = ⊥
 IsBefore f = ⊤
 
 abbrev pub PrintsNothing : Command → Ending → Type 0

@@ -14,7 +14,7 @@ pub data Command : Type 0 where
 
 -- a command and one path
 abbrev pub command_of : List (List ℕ) → Command
-command_of (command ∷ path ∷ []) = if bytes_eq command (codes "run") then Program purpose.Run path else if bytes_eq command (codes "check") then Program purpose.Check path else if bytes_eq command (codes "show") then Show path else Neither
+command_of (command ∷ path ∷ []) = if bytes_eq command (codes "run") then Program purpose.Run path else if bytes_eq command (codes "check") then Program purpose.Check path else if bytes_eq command (codes "types") then Program purpose.Types path else if bytes_eq command (codes "show") then Show path else Neither
 command_of words = Neither
 
 -- the path that the words name

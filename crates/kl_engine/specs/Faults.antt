@@ -1,5 +1,5 @@
 -- The status of each fault, and the line that tells of it.
-use Rattle.std.specs.Prelude.{◌≡◌, ◌⊎◌, ℕ, List, [], ◌∷◌, codes, decimal, Option, Some, None, Result, Ok, Err}
+use Rattle.std.specs.Prelude.{◌≡◌, ◌⊎◌, ℕ, ◌+◌, List, [], ◌∷◌, codes, decimal, Option, Some, None, Result, Ok, Err}
 use Rattle.std.specs.List.{flat_map}
 use Rattle.std.specs.Io.KnownBytes.{append_known}
 use Rattle.kl_outside.specs.Counts.{Rose}
@@ -20,7 +20,7 @@ ending (Err f) = Some f
 abbrev pub fault_status : Fault → ℕ
 fault_status fault.Usage = 1
 fault_status (fault.Text w byte) = 2
-fault_status fault.NotSmall = 2
+fault_status (fault.IllTyped decl) = 3
 fault_status (fault.BadFile place) = 5
 fault_status fault.Overflow = 6
 fault_status fault.Read = 7
@@ -30,6 +30,9 @@ fault_status fault.ProgramBytes = 10
 fault_status fault.FileBytes = 10
 fault_status fault.Nesting = 10
 fault_status fault.ItemNesting = 10
+fault_status fault.TermNodes = 10
+fault_status fault.TermDepth = 10
+fault_status fault.SchemeBytes = 10
 
 abbrev pub status_of : Ending → ℕ
 status_of None = 0
@@ -55,7 +58,7 @@ wrong_line wrong.Refutable byte = text_line (codes "refutable pattern") [] [] by
 abbrev pub fault_line : List ℕ → Fault → List ℕ
 fault_line path fault.Usage = codes "usage: kleisli (run|explain|types|check) PROGRAM [CATALOGUE] [OPTIONS], kleisli show FILE, kleisli gen SEED N\n"
 fault_line path (fault.Text w byte) = wrong_line w byte
-fault_line path fault.NotSmall = []
+fault_line path (fault.IllTyped decl) = joined (codes "types: no typing for declaration " ∷ decimal (decl + 1) ∷ codes "\n" ∷ [])
 fault_line path (fault.BadFile place) = joined (codes "source " ∷ path ∷ codes ": bad at " ∷ decimal place ∷ codes "\n" ∷ [])
 fault_line path fault.Overflow = codes "overflow\n"
 fault_line path fault.Read = codes "read fault\n"
@@ -65,6 +68,9 @@ fault_line path fault.ProgramBytes = codes "limit: program bytes\n"
 fault_line path fault.FileBytes = codes "limit: file bytes\n"
 fault_line path fault.Nesting = codes "limit: nesting\n"
 fault_line path fault.ItemNesting = codes "limit: item nesting\n"
+fault_line path fault.TermNodes = codes "limit: term nodes\n"
+fault_line path fault.TermDepth = codes "limit: term depth\n"
+fault_line path fault.SchemeBytes = codes "limit: scheme bytes\n"
 
 -- The sink took the line, or a part of it and a count of its refusals rose.
 pub record TookLine (line : List ℕ) (old new : SinkState) : Type 0 where

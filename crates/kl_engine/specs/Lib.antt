@@ -1,9 +1,8 @@
-pub mod Meaning
 pub mod Faults
 pub mod Commands
-pub mod Checking
+pub mod Reading
 pub mod Verdict
+pub mod Typing
 pub mod Answering
+pub mod Running
 pub mod Showing
-pub mod Drawing
-pub mod Listing

@@ -1,8 +1,8 @@
 //! How a command ends that does not end well: its status, and the line that tells of it.
-ghost use Rattle.std.specs.Prelude.{◌≡◌, List, ℕ};
+ghost use Rattle.std.specs.Prelude.{◌≡◌, List, [], ◌∷◌, ℕ, codes, decimal};
 ghost use Rattle.std.specs.List.{flat_map};
 ghost use Rattle.kl_outside.specs.Sinks.{WritesWhole};
-ghost use Rattle.kl_engine.specs.Faults.{fault_status, fault_line, wrong_line, text_line, TookLine};
+ghost use Rattle.kl_engine.specs.Faults.{fault_status, fault_line, joined, wrong_line, text_line, TookLine};
 
 use itoa::Buffer;
 use kl_base::Label;
@@ -15,8 +15,8 @@ pub enum Fault {
     Usage,
     /// The program's text is wrong at this byte: that of the token, or the text's length where tokens are missing.
     Text(Wrong, u32),
-    /// The program is no small program with bound names.
-    NotSmall,
+    /// The program has no typing: this declaration, counted from 0, is the first without one.
+    IllTyped(u32),
     /// The file that is shown is no exchange text; its longest prefix that begins one has this length.
     BadFile(u64),
     /// The program means an overflow.
@@ -35,6 +35,12 @@ pub enum Fault {
     Nesting,
     /// An item of the file that is shown has a bracket inside 256 others.
     ItemNesting,
+    /// The term of a declaration has more than 4,096 nodes.
+    TermNodes,
+    /// The term of a declaration is deeper than 512.
+    TermDepth,
+    /// The text of a declaration's scheme has more than 65,536 bytes.
+    SchemeBytes,
 }
 
 /// What is wrong with a program's text.
@@ -60,13 +66,20 @@ pub fn status(fault: &Fault) -> u8
 {
     match fault {
         Fault::Usage => 1,
-        Fault::Text(_, _) | Fault::NotSmall => 2,
+        Fault::Text(_, _) => 2,
+        Fault::IllTyped(_) => 3,
         Fault::BadFile(_) => 5,
         Fault::Overflow => 6,
         Fault::Read => 7,
         Fault::Write => 8,
         Fault::NoMemory => 9,
-        Fault::ProgramBytes | Fault::FileBytes | Fault::Nesting | Fault::ItemNesting => 10,
+        Fault::ProgramBytes
+        | Fault::FileBytes
+        | Fault::Nesting
+        | Fault::ItemNesting
+        | Fault::TermNodes
+        | Fault::TermDepth
+        | Fault::SchemeBytes => 10,
     }
 }
 
@@ -88,7 +101,7 @@ fn write_line<E: Sink>(fault: &Fault, path: &[u8], err: &mut E) -> Result<(), St
             b"usage: kleisli (run|explain|types|check) PROGRAM [CATALOGUE] [OPTIONS], kleisli show FILE, kleisli gen SEED N\n",
         ),
         Fault::Text(wrong, byte) => write_wrong(wrong, *byte, err),
-        Fault::NotSmall => Ok(()),
+        Fault::IllTyped(decl) => write_untyped(*decl as u64 + 1, err),
         Fault::BadFile(place) => write_parts(
             err,
             &[
@@ -107,7 +120,23 @@ fn write_line<E: Sink>(fault: &Fault, path: &[u8], err: &mut E) -> Result<(), St
         Fault::FileBytes => write_whole(err, b"limit: file bytes\n"),
         Fault::Nesting => write_whole(err, b"limit: nesting\n"),
         Fault::ItemNesting => write_whole(err, b"limit: item nesting\n"),
+        Fault::TermNodes => write_whole(err, b"limit: term nodes\n"),
+        Fault::TermDepth => write_whole(err, b"limit: term depth\n"),
+        Fault::SchemeBytes => write_whole(err, b"limit: scheme bytes\n"),
     }
+}
+
+fn write_untyped<E: Sink>(number: u64, err: &mut E) -> Result<(), Stop>
+    ensures { WritesWhole (joined (codes "types: no typing for declaration " ∷ decimal number ∷ codes "\n" ∷ [])) result (E.state err.old) (E.state err.new) }
+{
+    write_parts(
+        err,
+        &[
+            b"types: no typing for declaration ",
+            Buffer::new().format(number).as_bytes(),
+            b"\n",
+        ],
+    )
 }
 
 fn write_wrong<E: Sink>(wrong: &Wrong, byte: u32, err: &mut E) -> Result<(), Stop>

@@ -1,17 +1,17 @@
 //! What is printed.
-ghost use Rattle.std.specs.Prelude.{◌≡◌, ◌≢◌, [], ◌++◌, map, codes, IfOk};
-ghost use Rattle.std.specs.List.{flat_map};
-ghost use Rattle.kl_value.specs.declared.value.Value.TheVariants as value;
-ghost use Rattle.kl_value.specs.Written.{text_of};
+ghost use Rattle.std.specs.Prelude.{◌≡◌, ◌≢◌, [], ◌++◌, codes, map};
+ghost use Rattle.kl_exchange.specs.Printing.{Puts, as_stop, separator};
+ghost use Rattle.kl_outside.specs.Sinks.{WritesWhole};
+ghost use Rattle.kl_value.specs.Written.{text_of, with_commas};
 ghost use Rattle.kl_engine.specs.Answering.{Prints};
 ghost use Rattle.kl_engine.specs.Faults.{ending};
-ghost use Rattle.kl_engine.specs.Listing.{another, listing};
-ghost use Rattle.kl_engine.specs.Verdict.{well};
+ghost use Rattle.kl_engine.specs.Showing.{write_fault};
+ghost use Rattle.kl_engine.specs.Verdict.{well, cut_list, list_front};
 
 use crate::fault::Fault;
-use itoa::Buffer;
+use kl_exchange::{Page, PrintError};
 use kl_outside::{Sink, Stop, write_whole};
-use std::alloc::{AllocError, Global};
+use kl_value::Value;
 
 /// Prints a page, which has at least a newline.
 pub(crate) fn print_page<S: Sink>(page: &[u8], out: &mut S) -> Result<(), Fault>
@@ -25,40 +25,109 @@ pub(crate) fn print_page<S: Sink>(page: &[u8], out: &mut S) -> Result<(), Fault>
     }
 }
 
-/// The canonical text of the set of these numbers, and a newline.
-///
-/// # Errors
-/// Want of memory.
-pub(crate) fn set_page(alloc: Global, numbers: &[i64]) -> Result<Vec<u8>, AllocError>
-    ensures { IfOk result (λ page. page.items ≡ text_of (value.Set (map value.Int numbers.now)) ++ codes "\n") }
+/// The fault of a print that was refused.
+pub(crate) fn write_fault(error: PrintError) -> Fault
+    ensures { result ≡ write_fault error }
 {
-    let mut page = Vec::from_slice(alloc, b"{")?;
-    add_listing(&mut page, numbers)?;
-    page.extend_from_slice(b"}\n")?;
-    Ok(page)
+    match error {
+        PrintError::Failed => Fault::Write,
+        PrintError::NoMemory => Fault::NoMemory,
+    }
 }
 
-// Adds the numbers with a comma and a space between them.
-fn add_listing(page: &mut Vec<u8>, numbers: &[i64]) -> Result<(), AllocError>
-    ensures { IfOk result (λ done. page.new.items ≡ page.old.items ++ listing numbers.now) }
+/// Puts a value and a newline on a page.
+pub(crate) fn put_line<S: Sink>(
+    value: &Value,
+    page: &mut Page,
+    out: &mut S,
+) -> Result<(), PrintError>
+    ensures { Puts (text_of value.now ++ codes "\n") (as_stop result) (S.state out.old) page.old (S.state out.new) page.new }
 {
-    match numbers {
-        [] => Ok(()),
-        [first, others @ ..] => {
-            page.extend_from_slice(Buffer::new().format(*first).as_bytes())?;
-            add_others(page, others)
+    match page.print(value, out) {
+        Ok(()) => page.put(b"\n", out),
+        Err(error) => Err(error),
+    }
+}
+
+/// Prints a value and a newline.
+pub(crate) fn print_value<S: Sink>(value: &Value, out: &mut S) -> Result<(), Fault>
+    ensures { Prints (well (text_of value.now ++ codes "\n")) (ending result) (S.state out.old) (S.state out.new) }
+{
+    match print_line(value, out) {
+        Ok(()) => Ok(()),
+        Err(error) => Err(write_fault(error)),
+    }
+}
+
+fn print_line<S: Sink>(value: &Value, out: &mut S) -> Result<(), PrintError>
+    ensures { WritesWhole (text_of value.now ++ codes "\n") (as_stop result) (S.state out.old) (S.state out.new) }
+{
+    let mut page = Page::new();
+    match put_line(value, &mut page, out) {
+        Ok(()) => page.flush(out),
+        Err(error) => Err(error),
+    }
+}
+
+/// Prints the items of a list that end in an overflow, which it then answers.
+pub(crate) fn print_cut_list<S: Sink>(items: &[Value], out: &mut S) -> Result<(), Fault>
+    ensures { Prints (cut_list items.now) (ending result) (S.state out.old) (S.state out.new) }
+{
+    match print_front(items, out) {
+        Ok(()) => Err(Fault::Overflow),
+        Err(error) => Err(write_fault(error)),
+    }
+}
+
+fn print_front<S: Sink>(items: &[Value], out: &mut S) -> Result<(), PrintError>
+    ensures { WritesWhole (list_front items.now) (as_stop result) (S.state out.old) (S.state out.new) }
+{
+    let mut page = Page::new();
+    match put_front(items, &mut page, out) {
+        Ok(()) => page.flush(out),
+        Err(error) => Err(error),
+    }
+}
+
+fn put_front<S: Sink>(items: &[Value], page: &mut Page, out: &mut S) -> Result<(), PrintError>
+    ensures { Puts (list_front items.now) (as_stop result) (S.state out.old) page.old (S.state out.new) page.new }
+{
+    match page.put(b"[|", out) {
+        Ok(()) => put_items(items, page, out),
+        Err(error) => Err(error),
+    }
+}
+
+// The items with a comma and a space between them.
+fn put_items<S: Sink>(items: &[Value], page: &mut Page, out: &mut S) -> Result<(), PrintError>
+    ensures { Puts (with_commas (map text_of items.now)) (as_stop result) (S.state out.old) page.old (S.state out.new) page.new }
+{
+    'items: for i in 0..items.len() {
+        match put_item(i, &items[i], page, out) {
+            Ok(()) => {}
+            Err(error) => return Err(error),
         }
     }
+    Ok(())
 }
 
-// Adds the numbers that are not the first.
-fn add_others(page: &mut Vec<u8>, numbers: &[i64]) -> Result<(), AllocError>
-    ensures { IfOk result (λ done. page.new.items ≡ page.old.items ++ flat_map another numbers.now) }
+// The item at a place, behind what stands between it and the one before.
+fn put_item<S: Sink>(
+    place: usize,
+    item: &Value,
+    page: &mut Page,
+    out: &mut S,
+) -> Result<(), PrintError>
+    ensures { Puts (separator place ++ text_of item.now) (as_stop result) (S.state out.old) page.old (S.state out.new) page.new }
 {
-    let mut buffer = Buffer::new();
-    'numbers: for number in numbers {
-        page.extend_from_slice(b", ")?;
-        page.extend_from_slice(buffer.format(*number).as_bytes())?;
+    match page.put(between(place), out) {
+        Ok(()) => page.print(item, out),
+        Err(error) => Err(error),
     }
-    Ok(())
+}
+
+fn between(place: usize) -> &'static [u8]
+    ensures { result.now ≡ separator place }
+{
+    if place == 0 { b"" } else { b", " }
 }

@@ -9,6 +9,7 @@ ghost use Rattle.kl_engine.specs.Faults.{ending};
 ghost use Rattle.kl_engine.specs.Showing.{ShowsItems, Flushes, read_fault, fetch_fault, write_fault};
 
 use crate::fault::Fault;
+use crate::page::{put_line, write_fault};
 use kl_exchange::{FileError, FileReader, Item, MOST_READ, Page, PrintError, ReadError};
 use kl_outside::{Files, Sink, Stop};
 use kl_value::Value;
@@ -104,29 +105,11 @@ fn fetch_fault(error: FileError) -> Fault
     }
 }
 
-fn write_fault(error: PrintError) -> Fault
-    ensures { result ≡ write_fault error }
-{
-    match error {
-        PrintError::Failed => Fault::Write,
-        PrintError::NoMemory => Fault::NoMemory,
-    }
-}
-
 // Prints a value and a newline, and lets the value go.
 fn print_line<S: Sink>(value: Value, page: &mut Page, out: &mut S) -> Result<(), PrintError>
     ensures { Puts (text_of value ++ codes "\n") (as_stop result) (S.state out.old) page.old (S.state out.new) page.new }
 {
     put_line(&value, page, out)
-}
-
-fn put_line<S: Sink>(value: &Value, page: &mut Page, out: &mut S) -> Result<(), PrintError>
-    ensures { Puts (text_of value.now ++ codes "\n") (as_stop result) (S.state out.old) page.old (S.state out.new) page.new }
-{
-    match page.print(value, out) {
-        Ok(()) => page.put(b"\n", out),
-        Err(error) => Err(error),
-    }
 }
 
 // Writes a page that has any line.

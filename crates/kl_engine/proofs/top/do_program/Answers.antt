@@ -13,5 +13,8 @@ returns-in-Err-NoMemory g c = program_wanted _ _ _ _ _ (rw c.in-Err-NoMemory.fie
 pub returns-in-Run : goal.returns-in-Run
 returns-in-Run g c = program_done _ _ _ _ c.in-Ok-Bytes.text _ _ _ (rw c.in-Ok-Bytes.field-0-is at c.in-Ok-Bytes.ensures) (as_purpose _ _ _ _ _ _ c.in-Run.is (rw c.slice.ensures at c.run.ensures))
 
+pub returns-in-Check : goal.returns-in-Check
+returns-in-Check g c = program_done _ _ _ _ c.in-Ok-Bytes.text _ _ _ (rw c.in-Ok-Bytes.field-0-is at c.in-Ok-Bytes.ensures) (as_purpose _ _ _ _ _ _ c.in-Check.is (rw c.slice-in-Check.ensures at c.check.ensures))
+
 pub returns : goal.returns
-returns g c = program_done _ _ _ _ c.in-Ok-Bytes.text _ _ _ (rw c.in-Ok-Bytes.field-0-is at c.in-Ok-Bytes.ensures) (as_purpose _ _ _ _ _ _ c.in-Check.is (rw c.slice-in-Check.ensures at c.check.ensures))
+returns g c = program_done _ _ _ _ c.in-Ok-Bytes.text _ _ _ (rw c.in-Ok-Bytes.field-0-is at c.in-Ok-Bytes.ensures) (as_purpose _ _ _ _ _ _ c.in-Types.is (rw c.slice-in-Types.ensures at c.types.ensures))

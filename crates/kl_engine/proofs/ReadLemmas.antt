@@ -1,0 +1,153 @@
+-- What is read of the text of a program, and that this is all that can be told of it.
+use Rattle.std.proofs.Common.{◌≡◌, inl, inr, ℕ, ◌+◌, ◌≤◌, ◌==◌, if◌then◌else◌, List, [], ◌∷◌, length, Some, None, Ok, Err, refl, sym, ap, subst, ◌∙◌, arith}
+use Rattle.std.proofs.lemmas.Bool.{cases_order}
+use Rattle.kl_lex.specs.declared.token.Token.{Token}
+use Rattle.kl_lex.specs.Lexing.{Tokens, Refused, PlacesRise}
+use Rattle.kl_lex.proofs.Sequence.{one_lexing, refused_none}
+use Rattle.kl_parse.specs.Parsing.{IsProgram, Refuses}
+use Rattle.kl_parse.specs.declared.program.ParseError.TheVariants.{Syntax, TooDeep}
+use Rattle.kl_parse.proofs.Answer.{unique}
+use Rattle.kl_syntax.specs.declared.tree.Program.{Program}
+use Rattle.kl_scope.specs.Breaches.{NotAfter, InScope, IsFirstBreach, IsRefusal, Resolves}
+use Rattle.kl_scope.specs.Ranks.{token_of, rule_of}
+use Rattle.kl_scope.specs.declared.refusal.ScopeError.{ScopeError}
+use Rattle.kl_scope.specs.declared.refusal.ScopeError.TheVariants.{Unknown, Twice, Misapplied, Refutable, NoMemory}
+use Rattle.kl_scope.specs.declared.scoped.Scoped.{Scoped}
+use Rattle.kl_engine.specs.Answering.{unnamed, Alike, one, nested, unnested, renamed}
+use Rattle.kl_engine.specs.Reading.{byte_of, scope_fault, IsBreach, IsWrongAt, IsDeepAt, IsScopeFault, IsTokensFault, IsTextFault, IsProgramOf, Reads}
+use Rattle.kl_engine.specs.Verdict.{refused}
+use Rattle.kl_engine.specs.declared.fault.Fault.{Fault}
+use Rattle.kl_engine.specs.declared.fault.Fault.TheVariants as fault
+use Rattle.kl_engine.specs.declared.fault.Wrong.{Wrong}
+use Rattle.kl_engine.specs.declared.fault.Wrong.TheVariants as wrong
+
+-- ---- which faults a text has
+
+module _ (P : Fault → Type 0) (bad : (w : Wrong) (byte : ℕ) → P (fault.Text w byte)) (deep : P fault.Nesting) where
+  any_breach : (ts : List Token) (size : ℕ) (e : ScopeError) → IsBreach e → P (scope_fault ts size e)
+  any_breach ts size (Unknown name token) is = bad (wrong.Unknown name) (byte_of ts token size)
+  any_breach ts size (Twice name token) is = bad (wrong.Twice name) (byte_of ts token size)
+  any_breach ts size (Misapplied name token) is = bad (wrong.Misapplied name) (byte_of ts token size)
+  any_breach ts size (Refutable token) is = bad wrong.Refutable (byte_of ts token size)
+  any_breach ts size NoMemory is = absurd is
+
+  -- each fault of a text is one of these
+  pub any_fault : (bytes : List ℕ) (f : Fault) → IsTextFault bytes f → P f
+  any_fault bytes f (inl (ts, tokens, inl (p, e, reads, breach, first, is))) = subst P (sym is) (any_breach ts (length bytes) e breach)
+  any_fault bytes f (inl (ts, tokens, inr (inl (k, place, is)))) = subst P (sym is) (bad wrong.Syntax (byte_of ts k (length bytes)))
+  any_fault bytes f (inl (ts, tokens, inr (inr (k, place, is)))) = subst P (sym is) deep
+  any_fault bytes f (inr (byte, none, is)) = subst P (sym is) (bad wrong.NoToken byte)
+
+-- ---- two faults of one text are alike
+
+abbrev wrong_of : ScopeError → Wrong
+wrong_of (Unknown name token) = wrong.Unknown name
+wrong_of (Twice name token) = wrong.Twice name
+wrong_of (Misapplied name token) = wrong.Misapplied name
+wrong_of _ = wrong.Refutable
+
+fault_is : (ts : List Token) (size : ℕ) (e : ScopeError) → IsBreach e → scope_fault ts size e ≡ fault.Text (wrong_of e) (byte_of ts (token_of e) size)
+fault_is ts size (Unknown name token) is = refl
+fault_is ts size (Twice name token) is = refl
+fault_is ts size (Misapplied name token) is = refl
+fault_is ts size (Refutable token) is = refl
+fault_is ts size NoMemory is = absurd is
+
+abbrev by_rule : ℕ → Wrong
+by_rule n = if n == 1 then wrong.Unknown [] else if n == 2 then wrong.Twice [] else if n == 3 then wrong.Misapplied [] else wrong.Refutable
+
+unnamed_is : (e : ScopeError) → unnamed (wrong_of e) ≡ by_rule (rule_of e)
+unnamed_is (Unknown name token) = refl
+unnamed_is (Twice name token) = refl
+unnamed_is (Misapplied name token) = refl
+unnamed_is (Refutable token) = refl
+unnamed_is NoMemory = refl
+
+same_rank : (e f : ScopeError) → NotAfter e f → NotAfter f e → (token_of e ≡ token_of f) × (rule_of e ≡ rule_of f)
+same_rank e f (inl a) (inl b) = absurd (omega (arith, a, b))
+same_rank e f (inl a) (inr b) = absurd (let same = b.0 in omega (arith, a, same))
+same_rank e f (inr a) (inl b) = absurd (let same = a.0 in omega (arith, b, same))
+same_rank e f (inr a) (inr b) = (a.0, let this = a.1 in let that = b.1 in omega (arith, this, that))
+
+scope_alike : (ts : List Token) (size : ℕ) (f g : Fault) → IsScopeFault ts size f → IsScopeFault ts size g → Alike (refused f) (refused g)
+scope_alike ts size f g (p, e, reads, breach, first, is) (q, d, again, also, second, it) =
+    let too : IsFirstBreach p [] d = subst (λ r. IsFirstBreach r [] d) (unique ts q p again reads) second in
+    let same = same_rank e d (first.first d too.breaks) (too.first e first.breaks) in
+    renamed (wrong_of e) (wrong_of d) (byte_of ts (token_of e) size)
+    (ap refused (is ∙ fault_is ts size e breach))
+    (ap refused (it ∙ (fault_is ts size d also ∙ ap (λ n. fault.Text (wrong_of d) (byte_of ts n size)) (sym same.0))))
+    (unnamed_is e ∙ (ap by_rule same.1 ∙ sym (unnamed_is d)))
+
+one_place : (ts : List Token) (k j : ℕ) → Refuses ts (Err (Syntax k)) → Refuses ts (Err (Syntax j)) → k ≡ j
+one_place ts k j this that = elim (cases_order k j) [
+  | inl same ↦ same
+  | inr (inl less) ↦ absurd (this.no_longer j less that.within that.begins)
+  | inr (inr less) ↦ absurd (that.no_longer k less this.within this.begins)
+]
+
+tokens_alike : (ts : List Token) (size : ℕ) (f g : Fault) → IsTokensFault ts size f → IsTokensFault ts size g → Alike (refused f) (refused g)
+tokens_alike ts size f g (inl this) (inl that) = scope_alike ts size f g this that
+tokens_alike ts size f g (inl (p, e, reads, breach, first, was)) (inr (inl (k, place, it))) = absurd (place.0.not_whole (256, p, reads))
+tokens_alike ts size f g (inl (p, e, reads, breach, first, was)) (inr (inr (k, place, it))) = absurd (place.0.not_whole p reads)
+tokens_alike ts size f g (inr (inl (k, place, is))) (inl (p, e, reads, breach, first, was)) = absurd (place.0.not_whole (256, p, reads))
+tokens_alike ts size f g (inr (inl (k, place, is))) (inr (inl (j, also, it))) = one (ap refused (is ∙ (ap (λ n. fault.Text wrong.Syntax (byte_of ts n size)) (one_place ts k j place.0 also.0) ∙ sym it)))
+tokens_alike ts size f g (inr (inl (k, place, is))) (inr (inr (j, also, it))) = nested (byte_of ts k size) (ap refused is) (ap refused it)
+tokens_alike ts size f g (inr (inr (k, place, is))) (inl (p, e, reads, breach, first, was)) = absurd (place.0.not_whole p reads)
+tokens_alike ts size f g (inr (inr (k, place, is))) (inr (inl (j, also, it))) = unnested (byte_of ts j size) (ap refused is) (ap refused it)
+tokens_alike ts size f g (inr (inr (k, place, is))) (inr (inr (j, also, it))) = one (ap refused (is ∙ sym it))
+
+pub faults_alike : (bytes : List ℕ) (f g : Fault) → IsTextFault bytes f → IsTextFault bytes g → Alike (refused f) (refused g)
+faults_alike bytes f g (inl (ts, tokens, ends)) (inl (us, also, too)) =
+    let same = (one_lexing (length bytes) bytes ts us [] [] tokens (inl refl) also (inl refl)).0 in
+    tokens_alike us (length bytes) f g (subst (λ r. IsTokensFault r (length bytes) f) same ends) too
+faults_alike bytes f g (inl (ts, tokens, ends)) (inr (byte, (us, left, upto, due, none, at), it)) = absurd (refused_none bytes us ts left upto due none tokens)
+faults_alike bytes f g (inr (byte, (us, left, upto, due, none, at), is)) (inl (ts, tokens, ends)) = absurd (refused_none bytes us ts left upto due none tokens)
+faults_alike bytes f g (inr (byte, (us, left, upto, due, none, at), is)) (inr (byte2, (us2, left2, upto2, due2, none2, at2), it)) =
+    let same = (one_lexing (length bytes) bytes us us2 left left2 upto (inr (due, none)) upto2 (inr (due2, none2))).1 in
+    let place : byte ≡ byte2 = omega (arith, at, at2, ap length same) in
+    one (ap refused (is ∙ (ap (λ n. fault.Text wrong.NoToken n) place ∙ sym it)))
+
+-- ---- a text in scope is one program, and has no fault
+
+tokens_whole : (ts : List Token) (size : ℕ) (f : Fault) (p : Program) → IsProgram ts p → InScope p [] → IsTokensFault ts size f → ⊥
+tokens_whole ts size f p reads scope (inl (q, e, again, breach, first, is)) = scope e (subst (λ r. IsFirstBreach r [] e) (unique ts q p again reads) first).breaks
+tokens_whole ts size f p reads scope (inr (inl (k, place, is))) = place.0.not_whole (256, p, reads)
+tokens_whole ts size f p reads scope (inr (inr (k, place, is))) = place.0.not_whole p reads
+
+pub no_fault : (bytes : List ℕ) (f : Fault) (p : Program) → IsProgramOf bytes p → IsTextFault bytes f → ⊥
+no_fault bytes f p whole (inl (ts, tokens, ends)) =
+    let same = (one_lexing (length bytes) bytes ts whole.tokens [] [] tokens (inl refl) whole.lexed (inl refl)).0 in
+    tokens_whole whole.tokens (length bytes) f p whole.spelled whole.in_scope (subst (λ r. IsTokensFault r (length bytes) f) same ends)
+no_fault bytes f p whole (inr (byte, (us, left, upto, due, none, at), is)) = refused_none bytes us whole.tokens left upto due none whole.lexed
+
+pub one_program : (bytes : List ℕ) (p q : Program) → IsProgramOf bytes p → IsProgramOf bytes q → p ≡ q
+one_program bytes p q this that =
+    let same = (one_lexing (length bytes) bytes this.tokens that.tokens [] [] this.lexed (inl refl) that.lexed (inl refl)).0 in
+    unique that.tokens p q (subst (λ r. IsProgram r p) same this.spelled) that.spelled
+
+pub few_tokens : (place total : ℕ) (ts : List Token) → PlacesRise place total ts → place + length ts ≤ total
+few_tokens place total [] rise = omega (arith, rise)
+few_tokens place total (t ∷ ts) (after, full, more) = let rest = few_tokens t.to total ts more in omega (arith, after, full, rest)
+
+-- ---- what is found
+
+-- what is found of these tokens, which the layers saw under other names
+pub found_deep : (text : List ℕ) (ts us : List Token) (k : ℕ) → Tokens text ts → us ≡ ts → IsDeepAt us k → Reads text (Err fault.Nesting)
+found_deep text ts us k tokens same place = inr (inl (ts, tokens, inr (inr (k, subst (λ r. IsDeepAt r k) same place, refl))))
+
+pub found_wrong : (text : List ℕ) (ts us vs : List Token) (k byte : ℕ) → Tokens text ts → us ≡ ts → vs ≡ ts → IsWrongAt us k → byte ≡ byte_of vs k (length text) → Reads text (Err (fault.Text wrong.Syntax byte))
+found_wrong text ts us vs k byte tokens same also place is =
+    inr (inl (ts, tokens, inr (inl (k, subst (λ r. IsWrongAt r k) same place, ap (fault.Text wrong.Syntax) (is ∙ ap (λ r. byte_of r k (length text)) also)))))
+
+pub found_program : (text : List ℕ) (ts us : List Token) (p : Program) (s : Scoped) → Tokens text ts → us ≡ ts → IsProgram us p → Resolves p [] s → Reads text (Ok s)
+found_program text ts us p s tokens same reads resolves = (p, record { tokens = ts; lexed = tokens; spelled = subst (λ r. IsProgram r p) same reads; in_scope = resolves.in_scope }, resolves)
+
+found_breach : (text : List ℕ) (ts us vs : List Token) (p : Program) (e : ScopeError) → Tokens text ts → us ≡ ts → vs ≡ ts → IsProgram us p → IsRefusal p [] e → Reads text (Err (scope_fault vs (length text) e))
+found_breach text ts us vs p (Unknown name token) tokens same also reads first = inr (inl (ts, tokens, inl (p, Unknown name token, subst (λ r. IsProgram r p) same reads, tt, first, ap (λ r. scope_fault r (length text) (Unknown name token)) also)))
+found_breach text ts us vs p (Twice name token) tokens same also reads first = inr (inl (ts, tokens, inl (p, Twice name token, subst (λ r. IsProgram r p) same reads, tt, first, ap (λ r. scope_fault r (length text) (Twice name token)) also)))
+found_breach text ts us vs p (Misapplied name token) tokens same also reads first = inr (inl (ts, tokens, inl (p, Misapplied name token, subst (λ r. IsProgram r p) same reads, tt, first, ap (λ r. scope_fault r (length text) (Misapplied name token)) also)))
+found_breach text ts us vs p (Refutable token) tokens same also reads first = inr (inl (ts, tokens, inl (p, Refutable token, subst (λ r. IsProgram r p) same reads, tt, first, ap (λ r. scope_fault r (length text) (Refutable token)) also)))
+found_breach text ts us vs p NoMemory tokens same also reads first = inl refl
+
+pub found_fault : (text : List ℕ) (ts us vs : List Token) (p : Program) (e : ScopeError) (f : Fault) → Tokens text ts → us ≡ ts → vs ≡ ts → IsProgram us p → IsRefusal p [] e → f ≡ scope_fault vs (length text) e → Reads text (Err f)
+found_fault text ts us vs p e f tokens same also reads first is = subst (λ g. Reads text (Err g)) (sym is) (found_breach text ts us vs p e tokens same also reads first)

@@ -1,0 +1,34 @@
+use Rattle.kl_engine.proofs.fault.write_line.Goals as goal
+
+pub returns-in-Read : goal.returns-in-Read
+returns-in-Read g c = rw c.in-Read.is c.write_whole-in-Read.ensures
+
+pub returns-in-Write : goal.returns-in-Write
+returns-in-Write g c = rw c.in-Write.is c.write_whole-in-Write.ensures
+
+pub returns-in-NoMemory : goal.returns-in-NoMemory
+returns-in-NoMemory g c = rw c.in-NoMemory.is c.write_whole-in-NoMemory.ensures
+
+pub returns-in-ProgramBytes : goal.returns-in-ProgramBytes
+returns-in-ProgramBytes g c = rw c.in-ProgramBytes.is c.write_whole-in-ProgramBytes.ensures
+
+pub returns-in-FileBytes : goal.returns-in-FileBytes
+returns-in-FileBytes g c = rw c.in-FileBytes.is c.write_whole-in-FileBytes.ensures
+
+pub returns-in-Nesting : goal.returns-in-Nesting
+returns-in-Nesting g c = rw c.in-Nesting.is c.write_whole-in-Nesting.ensures
+
+pub returns-in-ItemNesting : goal.returns-in-ItemNesting
+returns-in-ItemNesting g c = rw c.in-ItemNesting.is c.write_whole-in-ItemNesting.ensures
+
+pub returns-in-TermNodes : goal.returns-in-TermNodes
+returns-in-TermNodes g c = rw c.in-TermNodes.is c.write_whole-in-TermNodes.ensures
+
+pub returns-in-TermDepth : goal.returns-in-TermDepth
+returns-in-TermDepth g c = rw c.in-TermDepth.is c.write_whole-in-TermDepth.ensures
+
+pub returns-in-SchemeBytes : goal.returns-in-SchemeBytes
+returns-in-SchemeBytes g c = rw c.in-SchemeBytes.is c.write_whole-in-SchemeBytes.ensures
+
+pub returns-in-IllTyped : goal.returns-in-IllTyped
+returns-in-IllTyped g c = rw c.in-IllTyped.is c.write_untyped.ensures

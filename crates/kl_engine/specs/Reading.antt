@@ -1,0 +1,81 @@
+-- Which bytes are a program in scope, and with what fault others are refused.
+use Rattle.std.specs.Prelude.{◌≡◌, ◌⊎◌, ⊤, ℕ, List, [], length, Some, None, Err, Result, Ok}
+use Rattle.std.specs.List.{slice_get}
+use Rattle.std.specs.Option.{option_map, unwrap_or}
+use Rattle.kl_lex.specs.Lexing.{Tokens, Refused}
+use Rattle.kl_lex.specs.declared.token.Token.{Token}
+use Rattle.kl_parse.specs.Parsing.{IsProgram, Refuses, NestsBehind, Shallow}
+use Rattle.kl_parse.specs.declared.program.ParseError.TheVariants.{Syntax, TooDeep}
+use Rattle.kl_syntax.specs.declared.tree.Program.{Program}
+use Rattle.kl_syntax.specs.Syntax.{Decls, Exp}
+use Rattle.kl_syntax.specs.View.{view, decls_of}
+use Rattle.kl_scope.specs.Breaches.{InScope, IsFirstBreach, Resolves}
+use Rattle.kl_scope.specs.Findings.{behind_decls}
+use Rattle.kl_scope.specs.Resolved.{resolved, resolved_decls}
+use Rattle.kl_scope.specs.Senses.{at_first}
+use Rattle.kl_scope.specs.declared.scoped.Scoped.{Scoped}
+use Rattle.kl_scope.specs.declared.refusal.ScopeError.{ScopeError}
+use Rattle.kl_scope.specs.declared.refusal.ScopeError.TheVariants.{Unknown, Twice, Misapplied, Refutable, NoMemory}
+use Rattle.kl_engine.specs.declared.fault.Fault.{Fault}
+use Rattle.kl_engine.specs.declared.fault.Fault.TheVariants as fault
+use Rattle.kl_engine.specs.declared.fault.Wrong.TheVariants as wrong
+
+-- the first byte of the token of this number, or the end of the text where there is none
+abbrev pub byte_of : List Token → ℕ → ℕ → ℕ
+byte_of ts number end = unwrap_or (option_map (λ t. t.from) (slice_get ts number)) end
+
+-- how a breach of the rules of scope is told, in a text of these tokens and so many bytes
+abbrev pub scope_fault : List Token → ℕ → ScopeError → Fault
+scope_fault ts size (Unknown name token) = fault.Text (wrong.Unknown name) (byte_of ts token size)
+scope_fault ts size (Twice name token) = fault.Text (wrong.Twice name) (byte_of ts token size)
+scope_fault ts size (Misapplied name token) = fault.Text (wrong.Misapplied name) (byte_of ts token size)
+scope_fault ts size (Refutable token) = fault.Text wrong.Refutable (byte_of ts token size)
+scope_fault ts size NoMemory = fault.NoMemory
+
+-- want of memory is no breach
+abbrev pub IsBreach : ScopeError → Type 0
+IsBreach NoMemory = ⊥
+IsBreach e = ⊤
+
+-- at this token no program goes on, and what stands before it begins a program of bounded nesting
+abbrev pub IsWrongAt : List Token → ℕ → Type 0
+IsWrongAt ts k = Refuses ts (Err (Syntax k)) × Shallow ts (Err (Syntax k))
+
+-- this token nests too deep: 256 that can nest stand before it
+abbrev pub IsDeepAt : List Token → ℕ → Type 0
+IsDeepAt ts k = Refuses ts (Err (TooDeep k)) × NestsBehind ts (Err (TooDeep k)) × Shallow ts (Err (TooDeep k))
+
+-- the tokens are a program that breaks a rule of scope, and this is its first breach
+abbrev pub IsScopeFault : List Token → ℕ → Fault → Type 0
+IsScopeFault ts size f = (p : Program) × (e : ScopeError) × IsProgram ts p × IsBreach e × IsFirstBreach p [] e × (f ≡ scope_fault ts size e)
+
+-- the tokens break a rule of scope; or at a place no program goes on; or they nest too deep
+abbrev pub IsTokensFault : List Token → ℕ → Fault → Type 0
+IsTokensFault ts size f = IsScopeFault ts size f ⊎ ((k : ℕ) × IsWrongAt ts k × (f ≡ fault.Text wrong.Syntax (byte_of ts k size))) ⊎ ((k : ℕ) × IsDeepAt ts k × (f ≡ fault.Nesting))
+
+-- the bytes are no program in scope, and this is what is told of them
+abbrev pub IsTextFault : List ℕ → Fault → Type 0
+IsTextFault bytes f = ((ts : List Token) × Tokens bytes ts × IsTokensFault ts (length bytes) f) ⊎ ((byte : ℕ) × Refused bytes byte × (f ≡ fault.Text wrong.NoToken byte))
+
+-- the bytes are this program, and it keeps to the rules of scope
+pub record IsProgramOf (bytes : List ℕ) (p : Program) : Type 0 where
+  pub tokens : List Token
+  pub lexed : Tokens bytes tokens
+  pub spelled : IsProgram tokens p
+  pub in_scope : InScope p []
+
+-- its definitions and its last expression, where each name carries what it means
+abbrev pub definitions : Program → Decls
+definitions p = resolved_decls (decls_of p.defs) (at_first [])
+
+abbrev pub last : Program → Exp
+last p = resolved (view p.last) (behind_decls (decls_of p.defs) (at_first []))
+
+-- what reading answers: the program in scope with what its names mean, a fault of the text, or want of memory
+abbrev pub Reads : List ℕ → Result Scoped Fault → Type 0
+Reads bytes (Ok s) = (p : Program) × IsProgramOf bytes p × Resolves p [] s
+Reads bytes (Err f) = (f ≡ fault.NoMemory) ⊎ IsTextFault bytes f
+
+-- the program was in scope before its names carried what they mean
+abbrev pub WasInScope : Scoped → Type 0
+WasInScope s = (p : Program) × Resolves p [] s
