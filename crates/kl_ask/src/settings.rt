@@ -1,0 +1,54 @@
+//! How a program is run, and what is counted while it runs.
+
+use kl_base::Seq;
+
+/// How a loop over a source inside another loop is joined.
+#[derive(Clone, Copy, Debug, PartialEq, Eq)]
+pub enum JoinHow {
+    /// Rows of the outer loop are taken in blocks, and the inner source is read once for each.
+    Block,
+    /// The inner source is read once, and its rows are found by a key.
+    Index,
+}
+
+/// How a program is run. No setting changes what it means.
+#[derive(Clone, Copy, Debug, PartialEq, Eq)]
+pub struct Settings {
+    /// How many rows a block of a join holds: 1 to 65,536.
+    pub block: u32,
+    /// How many rows are pulled at once: 1 to 4,096.
+    pub fetch: u32,
+    /// How many answers of subqueries are kept: 0 to 4,096.
+    pub cache: u32,
+    /// How loops are joined.
+    pub join: JoinHow,
+    /// Whether the term is rewritten before it is run.
+    pub rewrite: bool,
+    /// Whether work is sent to the drivers that can do it.
+    pub delegate: bool,
+}
+
+/// One execution of a join: its number, its outer rows, and how often its inner source was started.
+#[derive(Clone, Copy, Debug, PartialEq, Eq)]
+pub struct JoinRun {
+    pub join: u32,
+    pub outer: u64,
+    pub starts: u64,
+}
+
+/// What is counted while a program runs. A count whose mechanism does not run is 0 or empty.
+#[derive(Debug, Drop, PartialEq, Eq)]
+pub struct Trace {
+    /// Steps of rewriting.
+    pub steps: u32,
+    /// How often each scan was started, by its number.
+    pub starts: Seq<(u32, u64)>,
+    /// The executions of joins.
+    pub joins: Seq<JoinRun>,
+    /// Look-ups in the cache of subqueries that found their answer.
+    pub hits: u64,
+    /// Look-ups in the cache of subqueries that did not.
+    pub misses: u64,
+    /// The most rows that a block of a join held.
+    pub peak: u32,
+}
