@@ -1,10 +1,10 @@
 -- Each reader of the descent reads its word of the grammar; what it answers rests on no token behind the first of the rest;
 -- and beside it goes a flat one, which calls each failure a plain one.
-use Rattle.std.proofs.Common.{◌≡◌, ℕ, zero, suc, Bool, List, ◌∷◌, length, ◌⊎◌, inl, inr, refl}
+use Rattle.std.proofs.Common.{ℕ, zero, suc, Bool, List, ◌∷◌, length, ◌⊎◌, inl, inr, refl}
 use Rattle.kl_lex.specs.declared.token.Sym.TheVariants as sy
 use Rattle.kl_lex.specs.declared.token.Placed.{Placed}
 use Rattle.kl_phrase.specs.Words.{Phrase, One, Then, Behind, Before, Many}
-use Rattle.kl_phrase.specs.Readers.{Why, Reader, one, nothing, behind, before, both, made, pick, goes, turns, loop, upto, many}
+use Rattle.kl_phrase.specs.Readers.{Why, Reader, one, behind, before, both, goes, turns, loop, many}
 use Rattle.kl_phrase.proofs.Theory.{Good, On, Has, good_one, good_made, good_both, good_behind, good_before, good_many}
 use Rattle.kl_phrase.proofs.Firsts.{Stops, on_made, on_behind, has_then, has_behind, has_before, has_many}
 use Rattle.kl_phrase.proofs.Kept.{Keeps, Takes, Rests, keeps_one, keeps_made, keeps_both, keeps_behind, keeps_before, keeps_many, takes_one, takes_made, takes_behind}

@@ -1,6 +1,6 @@
 -- The descent: for each word of the grammar a reader.
 -- No public contract cites this.
-use Rattle.std.specs.Prelude.{ℕ, nat_eq, Bool, true, false, List, Option, Some, None, codes, if◌then◌else◌}
+use Rattle.std.specs.Prelude.{ℕ, nat_eq, Bool, true, false, List, Option, Some, None, codes}
 use Rattle.std.specs.Cmp.Lexicographic.{pointwise}
 use Rattle.kl_lex.specs.declared.token.Sym.TheVariants as sym
 use Rattle.kl_lex.specs.declared.token.Tok.{Tok}

@@ -1,5 +1,5 @@
 -- The grammar of catalogues: which tokens spell which catalogue, its types nested at most so deep.
-use Rattle.std.specs.Prelude.{◌≡◌, ℕ, Bool, false, List, codes}
+use Rattle.std.specs.Prelude.{◌≡◌, ℕ, false, List, codes}
 use Rattle.kl_lex.specs.declared.token.Sym.TheVariants as sym
 use Rattle.kl_lex.specs.declared.token.Tok.TheVariants as tok
 use Rattle.kl_lex.specs.declared.token.Placed.{Placed}

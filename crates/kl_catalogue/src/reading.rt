@@ -108,11 +108,7 @@ fn place_of(total: usize, tokens: &[Placed]) -> u32
 ///
 /// # Errors
 /// As `read_catalogue`, which reads the tokens first.
-fn catalogue_of(
-    alloc: Global,
-    total: usize,
-    tokens: &[Placed],
-) -> Result<Catalogue, CatalogueError>
+fn catalogue_of(alloc: Global, total: usize, tokens: &[Placed]) -> Result<Catalogue, CatalogueError>
     requires short { total ≤ 65536 }
     requires places { PlacesRise 0 total (map token_of tokens.now) }
     ensures spells { IfOk result (SpellsCatalogue tokens.now) }

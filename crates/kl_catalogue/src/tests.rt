@@ -18,6 +18,8 @@ fn a_catalogue_is_read(rt: HostRuntime) -> Result<(), Fail> {
 
 #[test]
 fn a_colon_is_missing(rt: HostRuntime) -> Result<(), Fail> {
-    assert!(rt; read_catalogue(rt.alloc(), b"source p {int}") == Err(CatalogueError::Bad { byte: 9 }));
+    assert!(rt;
+        read_catalogue(rt.alloc(), b"source p {int}") == Err(CatalogueError::Bad { byte: 9 })
+    );
     Ok(())
 }
