@@ -24,21 +24,23 @@ pub fn allows(a: &Abilities, ty: &Ty, ask: &Ask) -> bool
 }
 
 // Whether these are all columns of the rows of a source, which are none where the rows are no records.
+#[tactic(auto, using(crate::proofs::Columns::column_rules))]
 fn keeps_all(keep: &[Label], ty: &Ty) -> bool
     ensures { result ≡ same_names keep.now (columns (item_of (ground_of ty.now))) }
 {
     match ty {
         Ty::Coll(_, item) => keeps_row(keep, item.get()),
-        _ => keeps_row(keep, ty),
+        Ty::Bool | Ty::Int | Ty::Str | Ty::Rec(_) | Ty::Var(_) => keeps_row(keep, ty),
     }
 }
 
+#[tactic(auto, using(crate::proofs::Columns::column_rules))]
 fn keeps_row(keep: &[Label], item: &Ty) -> bool
     ensures { result ≡ same_names keep.now (columns (ground_of item.now)) }
 {
     match item {
         Ty::Rec(fields) => keeps_fields(keep, fields.slice()),
-        _ => keep.is_empty(),
+        Ty::Bool | Ty::Int | Ty::Str | Ty::Var(_) | Ty::Coll(_, _) => keep.is_empty(),
     }
 }
 
