@@ -1,0 +1,5 @@
+pub mod Asked
+pub mod Asks
+pub mod Driver
+pub mod Lists
+pub mod World
