@@ -108,7 +108,7 @@ pub quiet_steps : (i : ℕ) (ds es : List State) (P : State → State → Type 0
 quiet_steps i ds es P calm s = record {
   size = s.size;
   each = λ j x y hx hy. ⊎_elim
-    (λ is. calm x y (s.here x y (ap (slice_get ds) (sym is) ∙ hx) (ap (slice_get es) (sym is) ∙ hy)))
-    (λ ne. subst (λ q. Quiet x q) (some_same (sym hx ∙ sym (s.others j ne) ∙ hy)) (quiet_none x))
-    (cases_eq j i);
+      (λ is. calm x y (s.here x y (ap (slice_get ds) (sym is) ∙ hx) (ap (slice_get es) (sym is) ∙ hy)))
+      (λ ne. subst (λ q. Quiet x q) (some_same (sym hx ∙ sym (s.others j ne) ∙ hy)) (quiet_none x))
+      (cases_eq j i);
 }
