@@ -1,26 +1,23 @@
 -- A number that is given is within its range, since clap took it.
-use Rattle.std.proofs.Common.{◌≡◌, ◌∙◌, ◌<◌, ◌≤◌, ◌^◌, ◌&&◌, ℕ, zero, suc, Bool, true, false, List, [], ◌∷◌, Option, Some, None, Ok, Err, length, map, refl, sym, ap, subst, codes, inl, inr, not, arith, true≢false}
+use Rattle.std.proofs.Common.{◌≡◌, ◌∙◌, ◌<◌, ◌≤◌, ◌^◌, ℕ, zero, suc, Bool, true, false, List, [], ◌∷◌, Option, Some, None, Ok, Err, length, map, refl, sym, ap, subst, codes, inl, inr, not, arith, true≢false}
 use Rattle.std.specs.Prelude.{⊤, ◌==◌, Result, IfOk, IfSome, pos, option_and_then, option_map, slice_get, unwrap_or}
 use Rattle.std.specs.Borrow.{Bor}
 use Rattle.std.specs.List.{All, slice_index_or}
 use Rattle.std.specs.Str.{bytes_eq}
-use Rattle.std.specs.Str.Parse.{ParsesUnsigned, without_leading_plus}
+use Rattle.std.specs.Str.Parse.{ParsesUnsigned}
 use Rattle.std.proofs.lemmas.Bool.{cases_lt, eqb-true}
 use Rattle.std.proofs.lemmas.Slice.Eq.{bytes_eq-Decides}
 use Rattle.clap.specs.Facts.{Entry, EntryPasses, EntryValuesPass, PassesArg, ReadsByParser, args_of, groups_of, parser_of_value}
-use Rattle.clap.specs.Matches.{ReadsOne}
 use Rattle.clap.specs.Values.{Accepts, IsSignedIn, read_as, reading_of}
 use Rattle.clap.specs.Built.{IsAuto}
 use Rattle.clap.specs.Walk.{rule_of}
-use Rattle.clap.specs.Words.{App, Rule, Text, IsParsedFrom, SameRules, app_of, found_of, matched_of, one_text, rows_of, without_minus}
+use Rattle.clap.specs.Words.{App, Rule, Text, IsParsedFrom, SameRules, app_of, found_of, matched_of, rows_of, without_minus}
 use Rattle.clap.specs.declared.ArgMatches.{ArgMatches}
 use Rattle.clap.specs.declared.builder.arg.Arg.{Arg}
 use Rattle.clap.specs.declared.builder.command.Command.{Command}
 use Rattle.clap.specs.declared.builder.command.Command.TheViews.{out-Command}
-use Rattle.clap.specs.declared.builder.value_parser.ValueParser.{ValueParser}
 use Rattle.clap.specs.declared.builder.value_parser.ValueParser.TheVariants as parser
 use Rattle.clap.specs.declared.builder.value_parser.Reading.TheVariants.{WithoutMinus}
-use Rattle.clap.specs.declared.parser.matches.Found.{Found}
 use Rattle.clap.specs.declared.parser.matches.MatchedArg.{MatchedArg}
 use Rattle.clap.proofs.CallerLemmas.{entry_by_id}
 use Rattle.clap.proofs.CallerReads.{signed_reads}
@@ -198,7 +195,7 @@ number_in line m p id low high known fits =
 
     at : (o : Option MatchedArg) → matched_of (found_of m) id ≡ o
         → IfSome (option_and_then number_told (option_and_then (λ a. option_map (λ s. read_as a.reading s.now) (slice_get a.vals.items 0)) (matched_of (found_of m) id)))
-            (λ n. (low ≤ n) × (n ≤ high))
+        (λ n. (low ≤ n) × (n ≤ high))
     at None is = rw is tt
     at (Some a) is = rw is (value a is (slice_get a.vals.items 0) refl)
 

@@ -1,5 +1,5 @@
 -- The command of some words.
-use Rattle.std.specs.Prelude.{◌≡◌, ◌≤◌, ⊤, ◌&&◌, ◌^◌, ℕ, Bool, true, false, not, List, [], ◌∷◌, Option, Some, None, Result, MatchResult, IfErr, length, codes, nat_lt, option_and_then, option_map, unwrap_or, if◌then◌else◌}
+use Rattle.std.specs.Prelude.{◌≡◌, ◌≤◌, ⊤, ◌&&◌, ◌^◌, ℕ, Bool, false, not, List, [], ◌∷◌, Option, Some, None, Result, MatchResult, IfErr, codes, nat_lt, option_and_then, option_map, unwrap_or, if◌then◌else◌}
 use Rattle.std.specs.Option.{option_map_or}
 use Rattle.std.specs.Str.{bytes_eq}
 use Rattle.std.specs.Str.Parse.{digits_value, without_leading_plus}

@@ -50,7 +50,9 @@ pub enum Command {
         catalogue: Option<Text>,
     },
     /// The items of a file of values are printed.
-    Show { file: Text },
+    Show {
+        file: Text,
+    },
 }
 
 /// A program that is to be run.

@@ -24,10 +24,7 @@ fn refusal(error: &Error) -> WordsError
 }
 
 // What clap reads of the words, of which the first is the command's name.
-fn read_line<'a>(
-    line: clap::Command<'a>,
-    words: &'a [String],
-) -> Result<ArgMatches<'a>, WordsError>
+fn read_line<'a>(line: clap::Command<'a>, words: &'a [String]) -> Result<ArgMatches<'a>, WordsError>
     requires { is_simple_and_free (app_of line) ≡ true }
     ensures ok { IfOk result (λ matches. reading (app_of line.entry) (map string_bytes words.entry.now) ≡ Some (rows_of (found_of matches))) }
     ensures parsed { IfOk result (IsParsedFrom line.entry) }
@@ -134,15 +131,14 @@ fn run(alloc: Global, words: &[String]) -> Result<Job, WordsError>
 }
 
 // A program and perhaps a catalogue, behind a command of this name.
-fn paths(
-    alloc: Global,
-    name: &str,
-    words: &[String],
-) -> Result<(Text, Option<Text>), WordsError>
+fn paths(alloc: Global, name: &str, words: &[String]) -> Result<(Text, Option<Text>), WordsError>
     ensures { Answers (on_program name.now (map string_bytes words.now)) result }
 {
     let matches = read_line(line::program(alloc, name)?, words)?;
-    Ok((path(alloc, &matches, "program")?, optional_path(alloc, &matches, "catalogue")?))
+    Ok((
+        path(alloc, &matches, "program")?,
+        optional_path(alloc, &matches, "catalogue")?,
+    ))
 }
 
 fn file(alloc: Global, words: &[String]) -> Result<Text, WordsError>

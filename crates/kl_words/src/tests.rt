@@ -14,13 +14,21 @@ fn words_of(alloc: Global, line: &str) -> Result<Vec<String>, Fail> {
 #[test]
 fn options_are_read(rt: HostRuntime) -> Result<(), Fail> {
     let alloc = rt.alloc();
-    let words = words_of(alloc, "run --join=block p --cache 0 c --no-rewrite --first +5")?;
+    let words = words_of(
+        alloc,
+        "run --join=block p --cache 0 c --no-rewrite --first +5",
+    )?;
     let Ok(Command::Run(job)) = read_words(alloc, words.as_slice()) else {
         return Err(Fail::from("no job"));
     };
-    assert!(rt; job.program.slice() == b"p" && job.catalogue.is_some_and(|c| c.slice() == b"c"));
-    assert!(rt; job.settings.block == 256 && job.settings.fetch == 64 && job.settings.cache == 0);
-    assert!(rt; job.settings.join == JoinHow::Block && !job.settings.rewrite && job.settings.delegate);
+    assert!(rt; job.program.slice() == b"p".as_slice());
+    assert!(rt;
+        job.catalogue
+            .is_some_and(|path| path.slice() == b"c".as_slice())
+    );
+    let settings = job.settings;
+    assert!(rt; settings.block == 256 && settings.fetch == 64 && settings.cache == 0);
+    assert!(rt; settings.join == JoinHow::Block && !settings.rewrite && settings.delegate);
     assert!(rt; job.first == Some(5) && !job.stats);
     Ok(())
 }
