@@ -1,8 +1,12 @@
 -- What comes of attaching the sources that a program mentions.
 use Rattle.std.specs.Prelude.{◌≡◌, ◌⊎◌, ℕ, suc, ◌<◌, Bool, true, false, List, [], ◌∷◌, map, Option, Some, None, Result, IfOk, IfErr, OnOk, MatchResult, slice_get, ⊤}
+use Rattle.std.specs.List.{AllByRecursion}
 use Rattle.kl_base.specs.Counts.{Rose}
 use Rattle.kl_value.specs.declared.Value.{Value}
+use Rattle.kl_type.specs.Ground.{ground_of}
 use Rattle.kl_outcome.specs.Outcome.{Name}
+use Rattle.kl_outcome.specs.Typed.{Inhabits}
+use Rattle.kl_ask.specs.Asks.{item_of}
 use Rattle.kl_ask.specs.Driver.{DriverKind, State, Stored, Missing, Bad, Long, Deep, Rows, Keeps, told_rows}
 use Rattle.kl_ask.specs.Lists.{EachSteps}
 use Rattle.kl_ask.specs.declared.ask.DriverError.{DriverError}
@@ -10,10 +14,7 @@ use Rattle.kl_ask.specs.declared.ask.DriverError.TheVariants as error
 use Rattle.kl_ask.specs.declared.session.Attached.{Attached}
 use Rattle.kl_sources.specs.declared.attaching.AttachError.{AttachError}
 use Rattle.kl_sources.specs.declared.source.Source.{Source}
-use Rattle.kl_sources.specs.Sources.{contents, HaveValues, FirstWithout}
-
-abbrev pub kinds_of : List State → List DriverKind
-kinds_of ds = map (λ d. d.kind) ds
+use Rattle.kl_sources.specs.Sources.{kinds_of, contents, HaveValues, FirstWithout}
 
 -- the same marks of the numbers below n
 abbrev pub AgreeBelow : ℕ → (ℕ → Bool) → (ℕ → Bool) → Type 0
@@ -102,15 +103,29 @@ pub record Causes (marks : ℕ → Bool) (sources : List Source) (old new : List
   pub named : refused.name ≡ e.source
   pub cause : IsMishap e.error old new ⊎ ((marks place ≡ true) × (StandsWithout (kinds_of old) marks sources refused e.error ⊎ IsUnread (kinds_of old) marks sources refused e.error old new))
 
--- ---- all
+-- ---- what stands after it
 
--- every marked source stands at its driver under its name, with its type and, where they are told, its rows
-abbrev pub StandsAt : List DriverKind → Source → State → Type 0
-StandsAt ks s d = d.attached s.name ≡ Some (record { ty = s.ty; rows = told_rows (contents ks s) })
+-- rows of the source's type, or contents that are not told
+abbrev pub HasTyped : Source → Option Stored → Type 0
+HasTyped s (Some (Rows rows)) = AllByRecursion (Inhabits (item_of (ground_of s.ty))) rows
+HasTyped s (Some _) = ⊥
+HasTyped s None = ⊤
+
+-- a source is attached at its driver under its name, with its type and, where they are told, its rows
+pub record Stands (ks : List DriverKind) (ds : List State) (s : Source) : Type 0 where
+  pub driver : State
+  pub there : slice_get ds s.driver ≡ Some driver
+  pub attached : driver.attached s.name ≡ Some (record { ty = s.ty; rows = told_rows (contents ks s) })
+  pub typed : HasTyped s (contents ks s)
+
+-- ---- all
 
 pub record AttachesAll (marks : ℕ → Bool) (sources : List Source) (result : Result (List Attached) AttachError) (old new : List State) : Type 0 where
   pub drivers : EachSteps (MayAttach marks sources) old new
   pub list : IfOk result (λ list. list ≡ list_of marks 0 sources)
+  pub stand : OnOk result ((i : ℕ) (s : Source) → slice_get sources i ≡ Some s → marks i ≡ true → Stands (kinds_of old) new s)
+  -- the sources have values, or some driver does not tell
+  pub values : OnOk result (((vs : List (Name × Value)) × HaveValues (kinds_of old) marks 0 sources vs) ⊎ NoVerdict (kinds_of old) marks sources)
   -- where contents that are told say that a source is the first without rows, its error comes, or a mishap
   pub refused : (s : Source) (w : Stored) → FirstWithout (kinds_of old) marks 0 sources s w → MatchResult result (λ _. ⊥) (IsRefusalOf s w old new)
   pub cause : IfErr result (Causes marks sources old new)

@@ -11,8 +11,8 @@ use Rattle.kl_type.specs.declared.Ty.{Ty}
 use Rattle.kl_prim.specs.Table.{rows}
 use Rattle.kl_outcome.specs.Outcome.{Name}
 use Rattle.kl_ask.specs.Asks.{kind_of}
-use Rattle.kl_ask.specs.Driver.{DriverKind, Stored, Rows, stored_by}
-use Rattle.kl_catalogue.specs.declared.catalogue.Entry.{Entry}
+use Rattle.kl_ask.specs.Driver.{DriverKind, State, Stored, Rows, Suits, stored_by}
+use Rattle.kl_catalogue.specs.declared.reading.Entry.{Entry}
 use Rattle.kl_sources.specs.declared.source.Source.{Source}
 use Rattle.kl_sources.specs.declared.placing.PlaceError.{PlaceError}
 use Rattle.kl_sources.specs.declared.placing.PlaceError.TheVariants.{Twice, NoDriver, Unsuited}
@@ -25,6 +25,10 @@ types_of ss = map (λ s. (s.name, s.ty)) ss
 
 abbrev pub grounds_of : List Source → List (Name × Ground)
 grounds_of ss = map (λ p. (p.0, ground_of p.1)) (types_of ss)
+
+-- what drivers are
+abbrev pub kinds_of : List State → List DriverKind
+kinds_of ds = map (λ d. d.kind) ds
 
 -- ---- which sources a catalogue names
 
@@ -64,9 +68,14 @@ sources_of ks before (e ∷ es) = in_front (placed ks before e) (sources_of ks (
 abbrev pub IsSuited : List DriverKind → Source → Type 0
 IsSuited ks s = (k : DriverKind) × (slice_get ks s.driver ≡ Some k) × (k.suits s.ty ≡ true)
 
+-- and what it can do besides goes with that type, which is a collection's
+abbrev pub IsFit : List DriverKind → Source → Type 0
+IsFit ks s = (k : DriverKind) × (slice_get ks s.driver ≡ Some k) × Suits k.abilities (ground_of s.ty)
+
 -- sources whose names differ, each of a proper type and at a driver that suits it
 pub record ArePlaced (ks : List DriverKind) (ss : List Source) : Type 0 where
   pub suited : AllByRecursion (IsSuited ks) ss
+  pub fit : AllByRecursion (IsFit ks) ss
   pub proper : AllByRecursion (λ s. IsProper s.ty) ss
   pub differ : IsDistinct same (names_of ss)
 

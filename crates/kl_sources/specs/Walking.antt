@@ -1,20 +1,16 @@
 -- Attaching sources one by one: what stands once the first of them are attached, and at a refusal. The laws of the
 -- whole call follow.
-use Rattle.std.specs.Prelude.{◌≡◌, ◌⊎◌, ℕ, ◌<◌, Bool, true, List, length, Option, Some, None, Result, Ok, Err, IsOk, slice_get, ⊤}
-use Rattle.std.specs.List.{AllByRecursion}
-use Rattle.kl_type.specs.Ground.{ground_of}
-use Rattle.kl_outcome.specs.Typed.{Inhabits}
+use Rattle.std.specs.Prelude.{◌≡◌, ◌⊎◌, ℕ, ◌<◌, Bool, true, false, List, length, Option, Some, None, Result, Ok, Err, IsOk, slice_get, ⊤}
 use Rattle.kl_outcome.specs.Outcome.{Name}
-use Rattle.kl_ask.specs.Asks.{item_of}
-use Rattle.kl_ask.specs.Driver.{DriverKind, State, Stored, Rows, Keeps, Attaches}
+use Rattle.kl_ask.specs.Driver.{DriverKind, State, Stored, Keeps, Attaches}
 use Rattle.kl_ask.specs.Lists.{EachSteps, StepsAt}
 use Rattle.kl_ask.specs.declared.ask.DriverError.{DriverError}
 use Rattle.kl_ask.specs.declared.ask.DriverError.TheVariants as error
 use Rattle.kl_ask.specs.declared.session.Attached.{Attached}
 use Rattle.kl_sources.specs.declared.source.Source.{Source}
 use Rattle.kl_sources.specs.declared.walking.Refused.{Refused}
-use Rattle.kl_sources.specs.Sources.{contents}
-use Rattle.kl_sources.specs.Attaching.{kinds_of, IsErrorOf, IsUnreadable, IsMishap, SomeRose, StandsAt, list_of}
+use Rattle.kl_sources.specs.Sources.{kinds_of, contents}
+use Rattle.kl_sources.specs.Attaching.{IsErrorOf, IsUnreadable, IsMishap, SomeRose, Stands, list_of}
 
 abbrev pub IsMarkedBelow : ℕ → (ℕ → Bool) → List Source → Name → Type 0
 IsMarkedBelow n marks sources x = (i : ℕ) × (s : Source) × (i < n) × (slice_get sources i ≡ Some s) × (marks i ≡ true) × (s.name ≡ x)
@@ -25,18 +21,6 @@ pub record MayAttachBelow (n : ℕ) (marks : ℕ → Bool) (sources : List Sourc
   pub asked : new.asked ≡ old.asked
   pub handed : new.handed ≡ old.handed
   pub others : (x : Name) → (IsMarkedBelow n marks sources x → ⊥) → new.attached x ≡ old.attached x
-
--- rows of the source's type, or contents that are not told
-abbrev pub HasTyped : Source → Option Stored → Type 0
-HasTyped s (Some (Rows rows)) = AllByRecursion (Inhabits (item_of (ground_of s.ty))) rows
-HasTyped s (Some _) = ⊥
-HasTyped s None = ⊤
-
-pub record Stands (ks : List DriverKind) (ds : List State) (s : Source) : Type 0 where
-  pub driver : State
-  pub there : slice_get ds s.driver ≡ Some driver
-  pub attached : StandsAt ks s driver
-  pub typed : HasTyped s (contents ks s)
 
 -- the marked ones of the first n sources are attached
 pub record AttachesBelow (n : ℕ) (marks : ℕ → Bool) (sources : List Source) (old new : List State) : Type 0 where

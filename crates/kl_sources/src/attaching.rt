@@ -1,7 +1,7 @@
 //! Attaching the sources that a program mentions.
 ghost use Rattle.std.specs.Prelude.{◌≡◌, ◌<◌, ℕ, Bool, length, map};
 ghost use Rattle.kl_scope.specs.Breaches.{is_marked};
-ghost use Rattle.kl_sources.specs.Sources.{ArePlaced};
+ghost use Rattle.kl_sources.specs.Sources.{ArePlaced, kinds_of};
 ghost use Rattle.kl_sources.specs.Attaching.{AgreeBelow, AttachesAll, HaveNone};
 
 use crate::source::Source;
@@ -31,7 +31,7 @@ pub fn attach_sources(
     scoped: &Scoped,
     drivers: &mut Vec<Box<dyn Driver>>,
 ) -> Result<Seq<Attached>, AttachError>
-    requires placed { ArePlaced (map (λ d. (state d).kind) drivers.old.items) sources.items }
+    requires placed { ArePlaced (kinds_of (map (λ d. state d) drivers.old.items)) sources.items }
     requires clear { HaveNone (map (λ d. state d) drivers.old.items) }
     ensures { (marks : ℕ → Bool) → AgreeBelow (length sources.items) marks (is_marked scoped.now) → AttachesAll marks sources.items result (map (λ d. state d) drivers.old.items) (map (λ d. state d) drivers.new.items) }
 {

@@ -6,7 +6,7 @@ ghost use Rattle.kl_base.specs.Fields.{bytes_cmp};
 ghost use Rattle.kl_type.specs.Ground.{IsProper};
 ghost use Rattle.kl_prim.specs.Table.{rows};
 ghost use Rattle.kl_sources.specs.declared.placing.PlaceError.TheVariants.{NoMemory as WantOfMemory};
-ghost use Rattle.kl_sources.specs.Sources.{ArePlaced, same, driver_named, sources_of};
+ghost use Rattle.kl_sources.specs.Sources.{ArePlaced, IsFit, kinds_of, same, driver_named, sources_of};
 ghost use Rattle.kl_sources.specs.Sources as names;
 ghost use Rattle.kl_sources.specs.Placing.{AnswersList, AnswersOne, Finds};
 
@@ -63,8 +63,8 @@ pub fn place_sources(
 ) -> Result<Vec<Source>, PlaceError>
     requires numbered { length drivers.now.items < 2 ^ 32 }
     requires proper { All (λ e. IsProper e.ty) entries.now }
-    ensures exact { AnswersList (sources_of (map (λ d. (state d).kind) drivers.now.items) [] entries.now) result }
-    ensures placed { IfOk result (λ sources. ArePlaced (map (λ d. (state d).kind) drivers.now.items) sources.items) }
+    ensures exact { AnswersList (sources_of (kinds_of (map (λ d. state d) drivers.now.items)) [] entries.now) result }
+    ensures placed { IfOk result (λ sources. ArePlaced (kinds_of (map (λ d. state d) drivers.now.items)) sources.items) }
 {
     let mut taken = BTreeSet::new(alloc);
     let mut sources = Vec::new(alloc);
@@ -78,7 +78,8 @@ pub fn place_sources(
             Ok(source) => source,
             Err(error) => return Err(error),
         };
-        taken.insert(entry.name.dup()?)?;
+        let name = entry.name.dup()?;
+        taken.insert(name)?;
         sources.push(source)?;
     }
     Ok(sources)
@@ -103,7 +104,8 @@ fn is_primitive(name: &Label) -> bool
 // An entry at its driver.
 fn place(alloc: Global, entry: &Entry, drivers: &Vec<Box<dyn Driver>>) -> Result<Source, PlaceError>
     requires { length drivers.now.items < 2 ^ 32 }
-    ensures { AnswersOne (names.at_driver entry.now (driver_named entry.now.driver (map (λ d. (state d).kind) drivers.now.items))) result }
+    ensures answer { AnswersOne (names.at_driver entry.now (driver_named entry.now.driver (kinds_of (map (λ d. state d) drivers.now.items)))) result }
+    ensures fit { IfOk result (IsFit (kinds_of (map (λ d. state d) drivers.now.items))) }
 {
     let driver = match find_driver(drivers, &entry.driver) {
         Some(driver) => driver,
@@ -128,7 +130,7 @@ fn place(alloc: Global, entry: &Entry, drivers: &Vec<Box<dyn Driver>>) -> Result
 
 // The place of the first driver with the name.
 fn find_driver(drivers: &Vec<Box<dyn Driver>>, name: &Label) -> Option<usize>
-    ensures { Finds name.now (map (λ d. (state d).kind) drivers.now.items) result }
+    ensures { Finds name.now (kinds_of (map (λ d. state d) drivers.now.items)) result }
 {
     'drivers: for i in 0..drivers.len() {
         if name_boxed(&drivers[i]) == name.slice() {

@@ -4,7 +4,7 @@ ghost use Rattle.kl_type.specs.Ground.{IsProper};
 ghost use Rattle.kl_scope.specs.Breaches.{is_marked};
 ghost use Rattle.kl_ask.specs.Driver.{Attaches};
 ghost use Rattle.kl_ask.specs.Lists.{AtIndex, StepsAt};
-ghost use Rattle.kl_sources.specs.Sources.{ArePlaced};
+ghost use Rattle.kl_sources.specs.Sources.{ArePlaced, kinds_of};
 ghost use Rattle.kl_sources.specs.Attaching.{HaveNone, list_of, listed};
 ghost use Rattle.kl_sources.specs.Walking.{Walks, WalksAll, AttachesIf, IsWant};
 
@@ -28,7 +28,7 @@ pub fn attach_listed(
     scoped: &Scoped,
     drivers: &mut Vec<Box<dyn Driver>>,
 ) -> Result<Seq<Attached>, Refused>
-    requires placed { ArePlaced (map (λ d. (state d).kind) drivers.old.items) sources.now }
+    requires placed { ArePlaced (kinds_of (map (λ d. state d) drivers.old.items)) sources.now }
     requires clear { HaveNone (map (λ d. state d) drivers.old.items) }
     ensures { WalksAll (is_marked scoped.now) sources.now result (map (λ d. state d) drivers.old.items) (map (λ d. state d) drivers.new.items) }
 {
@@ -51,7 +51,7 @@ fn attach_marked(
     drivers: &mut Vec<Box<dyn Driver>>,
 ) -> Result<(), Refused>
     requires numbered { length sources.now < 2 ^ 32 }
-    requires placed { ArePlaced (map (λ d. (state d).kind) drivers.old.items) sources.now }
+    requires placed { ArePlaced (kinds_of (map (λ d. state d) drivers.old.items)) sources.now }
     requires clear { HaveNone (map (λ d. state d) drivers.old.items) }
     ensures { Walks (is_marked scoped.now) sources.now result (map (λ d. state d) drivers.old.items) (map (λ d. state d) drivers.new.items) }
 {
@@ -76,12 +76,13 @@ fn attach_if(
     requires fresh { AtIndex source.now.driver (λ d. d.attached source.now.name ≡ None) (map (λ d. state d) drivers.old.items) }
     ensures { AttachesIf marked source.now result (map (λ d. state d) drivers.old.items) (map (λ d. state d) drivers.new.items) }
 {
-    if !marked {
-        return Ok(());
-    }
-    match attach(source, drivers) {
-        Ok(_) => Ok(()),
-        Err(error) => Err(error),
+    if marked {
+        match attach(source, drivers) {
+            Ok(_) => Ok(()),
+            Err(error) => Err(error),
+        }
+    } else {
+        Ok(())
     }
 }
 
