@@ -1,9 +1,9 @@
-use Rattle.std.proofs.Common.{arith}
+use Rattle.std.proofs.Common.{◌<◌, ◌^◌, arith}
 use Rattle.kl_sources.proofs.PlacingLemmas.{found_within, place_fits, suits_not, suits_it, is_fit}
 use Rattle.kl_sources.proofs.placing.place.Goals as goal
 
 pub overflow_cast-result : goal.overflow_cast-result
-overflow_cast-result g c = place_fits _ _ _ c.in-Some.driver c.requires c.in-Some.ensures
+overflow_cast-result g c = let lt : c.in-Some.driver < 2 ^ 32 = place_fits _ _ _ c.in-Some.driver c.requires c.in-Some.ensures in omega arith
 
 pub returns-then-not-suits_boxed-clause-answer : goal.returns-then-not-suits_boxed-clause-answer
 returns-then-not-suits_boxed-clause-answer g c =
