@@ -153,12 +153,12 @@ fn file(alloc: Global, words: &[String]) -> Result<Text, WordsError>
 /// `run PROGRAM [CATALOGUE]` has the options `--block N` (1 to 65,536; 256 where it is not given), `--fetch N` (1 to
 /// 4,096; 64), `--cache N` (0 to 4,096; 64), `--join block` or `--join index` (the second), `--no-rewrite`,
 /// `--no-delegate`, `--first N` (0 to 4,294,967,295) and `--stats`. `types PROGRAM [CATALOGUE]`, `check PROGRAM
-/// [CATALOGUE]` and `show FILE` have none. A number is digits, with a `+` before them or not.
+/// [CATALOGUE]` and `show FILE` have none. A number is digits, with a sign before them or not.
 ///
 /// # Errors
 /// `Usage` where there is no first word or it names no command, and where the words behind it are not those of that
-/// command: one too many or too few, an option that there is not, that is given twice, whose value is missing or out of
-/// its range, or a call for help. Want of memory.
+/// command: one too many or too few, an option that there is not, that is given twice, whose value is missing, out of its
+/// range or none that it takes, a value where none is taken, or a call for help. Want of memory.
 pub fn read_words(alloc: Global, words: &[String]) -> Result<Command, WordsError>
     ensures meant { Answers (command_of (map string_bytes words.now)) result }
     ensures within { IfOk result KeepsLimits }
