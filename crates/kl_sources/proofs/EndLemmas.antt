@@ -18,6 +18,7 @@ use Rattle.kl_sources.specs.Sources.{ArePlaced, IsSuited, kinds_of, contents, co
 use Rattle.kl_sources.specs.Attaching.{AgreeBelow, AttachesAll, HasTyped, IsErrorOf, IsMishap, IsRefusalOf, IsUnread, IsUnreadable, MayAttach, NoVerdict, SomeRose, Stands, StandsWithout, Causes, list_of, listed}
 use Rattle.kl_sources.specs.Walking.{AttachesBelow, IsMarkedBelow, IsWant, MayAttachBelow, RefusesFor, StopsAt, WalksAll, WalksToEnd}
 use Rattle.kl_sources.proofs.Lists.{some_same, element, of_all}
+use Rattle.kl_sources.proofs.SessionLemmas.{serves}
 use Rattle.kl_sources.proofs.StepLemmas.{begins}
 
 below_or : (a b : ℕ) → (a < b) ⊎ (b ≤ a)
@@ -262,6 +263,7 @@ module _ (marks : ℕ → Bool) (ss : List Source) (old new : List State) (place
     drivers = all_steps (length ss) h.below;
     list = h.list;
     stand = λ i s is mk. h.below.stand i s (slice_get_within ss i s is) is mk;
+    ready = λ settings trace fetch. serves (kinds_of old) marks ss placed new (λ i s is mk. h.below.stand i s (slice_get_within ss i s is) is mk) all h.list settings trace fetch;
     values = elim (told_or_not (kinds_of old) marks ss (length ss) typed) [
       | inl rows ↦ inl (values_for (kinds_of old) marks 0 ss (λ i t is mk. rows i t (slice_get_within ss i t is) is (ap marks (sym (zero-add i)) ∙ mk)))
       | inr u ↦ inr (untold_verdict (kinds_of old) marks ss placed (length ss) typed u)
@@ -329,6 +331,7 @@ module _ (marks : ℕ → Bool) (ss : List Source) (old new : List State) (place
       drivers = all_steps stops.count stops.below;
       list = tt;
       stand = tt;
+      ready = tt;
       values = tt;
       refused = λ s w first. refused_first s w (first_at (kinds_of old) marks 0 ss s w first);
       cause = record { place = r.place; refused = stops.source; there = stops.there; named = sym named; cause = subst CauseOf (sym with_error) cause_here };

@@ -2,4 +2,5 @@ pub mod Lists
 pub mod NameLemmas
 pub mod PlacingLemmas
 pub mod StepLemmas
+pub mod SessionLemmas
 pub mod EndLemmas

@@ -11,10 +11,13 @@ use Rattle.kl_ask.specs.Driver.{DriverKind, State, Stored, Missing, Bad, Long, D
 use Rattle.kl_ask.specs.Lists.{EachSteps}
 use Rattle.kl_ask.specs.declared.ask.DriverError.{DriverError}
 use Rattle.kl_ask.specs.declared.ask.DriverError.TheVariants as error
+use Rattle.kl_ask.specs.World.{World, IsReady, types_of, values_of}
 use Rattle.kl_ask.specs.declared.session.Attached.{Attached}
+use Rattle.kl_ask.specs.declared.settings.Settings.{Settings}
+use Rattle.kl_ask.specs.declared.settings.Trace.{Trace}
 use Rattle.kl_sources.specs.declared.attaching.AttachError.{AttachError}
 use Rattle.kl_sources.specs.declared.source.Source.{Source}
-use Rattle.kl_sources.specs.Sources.{kinds_of, contents, HaveValues, FirstWithout}
+use Rattle.kl_sources.specs.Sources.{grounds_of, kinds_of, contents, HaveValues, FirstWithout}
 
 -- the same marks of the numbers below n
 abbrev pub AgreeBelow : ℕ → (ℕ → Bool) → (ℕ → Bool) → Type 0
@@ -118,12 +121,24 @@ pub record Stands (ks : List DriverKind) (ds : List State) (s : Source) : Type 0
   pub attached : driver.attached s.name ≡ Some (record { ty = s.ty; rows = told_rows (contents ks s) })
   pub typed : HasTyped s (contents ks s)
 
+abbrev pub world_of : List State → List Attached → Settings → Trace → World
+world_of ds list settings trace = record { drivers = ds; sources = list; settings = settings; trace = trace }
+
+-- A session is ready for a program: each source has its type there, by its number, and the values that are said of the
+-- sources are those of the session.
+pub record Serves (ks : List DriverKind) (marks : ℕ → Bool) (sources : List Source) (w : World) : Type 0 where
+  pub ready : IsReady w
+  pub types : (i : ℕ) → types_of w i ≡ slice_get (map (λ p. p.1) (grounds_of sources)) i
+  pub values : (vs : List (Name × Value)) → HaveValues ks marks 0 sources vs → (i : ℕ) → values_of w i ≡ slice_get (map (λ p. p.1) vs) i
+
 -- ---- all
 
 pub record AttachesAll (marks : ℕ → Bool) (sources : List Source) (result : Result (List Attached) AttachError) (old new : List State) : Type 0 where
   pub drivers : EachSteps (MayAttach marks sources) old new
   pub list : IfOk result (λ list. list ≡ list_of marks 0 sources)
+  -- each marked source stands at its driver, and a session of these drivers and this list is ready
   pub stand : OnOk result ((i : ℕ) (s : Source) → slice_get sources i ≡ Some s → marks i ≡ true → Stands (kinds_of old) new s)
+  pub ready : IfOk result (λ list. (settings : Settings) (trace : Trace) → 0 < settings.fetch → Serves (kinds_of old) marks sources (world_of new list settings trace))
   -- the sources have values, or some driver does not tell
   pub values : OnOk result (((vs : List (Name × Value)) × HaveValues (kinds_of old) marks 0 sources vs) ⊎ NoVerdict (kinds_of old) marks sources)
   -- where contents that are told say that a source is the first without rows, its error comes, or a mishap
