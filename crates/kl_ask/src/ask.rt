@@ -55,7 +55,9 @@ pub enum Ask {
         tests: Seq<ColTest>,
     },
     /// The rows of a statement of SQL.
-    Sql { text: Text },
+    Sql {
+        text: Text,
+    },
 }
 
 /// What was found to have changed since a source was attached.

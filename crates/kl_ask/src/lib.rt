@@ -2,7 +2,9 @@
 #![tactic(auto)]
 
 mod ask;
+mod driver;
 mod settings;
 
 pub use ask::{Abilities, Ask, Cmp, ColTest, Drift, DriverError, Right};
+pub use driver::Driver;
 pub use settings::{JoinHow, JoinRun, Settings, Trace};

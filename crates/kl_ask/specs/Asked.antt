@@ -1,0 +1,22 @@
+-- How often each ask was asked.
+use Rattle.std.specs.Prelude.{◌≡◌, ℕ, ◌+◌, ◌-◌, ◌^◌, min, Bool, List, [], ◌∷◌, cond}
+use Rattle.kl_ask.specs.contracts.ask.AskPartialEq.TheImpl as equality
+use Rattle.kl_ask.specs.declared.ask.Ask.{Ask}
+
+-- two asks are the same where their fields are
+abbrev pub same_ask : Ask → Ask → Bool
+same_ask a b = equality.ghosts.eq a b
+
+-- A count that is kept in 64 bits stands still at its greatest value.
+abbrev pub raised_by : ℕ → ℕ → ℕ
+raised_by n count = min (count + n) (2 ^ 64 - 1)
+
+-- the kept list with one time more for this ask
+abbrev pub with_ask : Ask → List (Ask × ℕ) → List (Ask × ℕ)
+with_ask ask [] = (ask, 1) ∷ []
+with_ask ask (kept ∷ asked) = cond (same_ask kept.0 ask) ((kept.0, raised_by 1 kept.1) ∷ asked) (kept ∷ with_ask ask asked)
+
+-- the sum of the times
+abbrev pub all_times : List (Ask × ℕ) → ℕ
+all_times [] = 0
+all_times (kept ∷ asked) = kept.1 + all_times asked

@@ -1,0 +1,286 @@
+-- What a driver means, and what each call does to it.
+use Rattle.std.specs.Prelude.{◌≡◌, ◌≢◌, ◌⊎◌, ◌<◌, ◌≤◌, ℕ, ◌+◌, ◌^◌, Bool, true, false, List, [], ◌++◌, length, Result, Option, Some, None, Ok, Err, IfOk, OnOk, OnErr, IsErrOf, IsSome, ⊤}
+use Rattle.std.specs.List.{AllByRecursion}
+use Rattle.std.specs.List.Sorted.{IsPermutation}
+use Rattle.kl_base.specs.Counts.{Rose}
+use Rattle.kl_value.specs.declared.Kind.{Kind}
+use Rattle.kl_value.specs.declared.Kind.TheVariants as kind
+use Rattle.kl_value.specs.declared.Value.{Value}
+use Rattle.kl_type.specs.Ground.{Ground, Row, bool, int, str, rec, coll, no_row, row, ground_of}
+use Rattle.kl_type.specs.declared.Ty.{Ty}
+use Rattle.kl_outcome.specs.Outcome.{Name}
+use Rattle.kl_outcome.specs.Typed.{Inhabits}
+use Rattle.kl_ask.specs.Asked.{with_ask, raised_by}
+use Rattle.kl_ask.specs.Asks.{item_of, kind_of, answers, shown_type, is_allowed, AskFits}
+use Rattle.kl_ask.specs.declared.ask.Abilities.{Abilities}
+use Rattle.kl_ask.specs.declared.ask.Ask.{Ask}
+use Rattle.kl_ask.specs.declared.ask.Ask.TheVariants as asks
+use Rattle.kl_ask.specs.declared.ask.ColTest.{ColTest}
+use Rattle.kl_ask.specs.declared.ask.Drift.{Drift}
+use Rattle.kl_ask.specs.declared.ask.Drift.TheVariants as drift
+use Rattle.kl_ask.specs.declared.ask.DriverError.{DriverError}
+use Rattle.kl_ask.specs.declared.ask.DriverError.TheVariants as error
+
+-- ---- what a driver means
+
+-- what stands at a locator, read as a type: nothing; unreadable from a place on; past a length; nested too deep at a
+-- place; or rows
+pub data Stored : Type 0 where
+  Missing : Stored
+  Bad : ℕ → Stored
+  Long : ℕ → Stored
+  Deep : ℕ → Stored
+  Rows : List Value → Stored
+
+-- what a driver is and does not change; `stored` is None where contents are not told
+pub record DriverKind : Type 0 where
+  pub name : List ℕ
+  pub abilities : Abilities
+  pub suits : Ty → Bool
+  pub stored : Option (List ℕ → Ty → Stored)
+
+-- an attached source: the type of the whole collection and, where contents are told, its rows
+pub record Source : Type 0 where
+  pub ty : Ty
+  pub rows : Option (List Value)
+
+-- an open cursor: its ask, the type of its rows, the rows that are left where contents are told, and a number that the
+-- rows left do not pass
+pub record Cursor : Type 0 where
+  pub ask : Ask
+  pub ty : Ground
+  pub left : Option (List Value)
+  pub bound : ℕ
+
+pub record State : Type 0 where
+  pub kind : DriverKind
+  pub attached : Name → Option Source
+  pub cursors : ℕ → Option Cursor
+  pub asked : List (Ask × ℕ)
+  pub handed : ℕ
+  pub faults : ℕ
+  pub drifts : ℕ
+  pub unread : ℕ
+
+abbrev pub IsTold : State → Type 0
+IsTold s = IsSome s.kind.stored
+
+-- ---- what every call keeps
+
+pub record Keeps (old new : State) : Type 0 where
+  pub kind : new.kind ≡ old.kind
+  pub handed : old.handed ≤ new.handed
+  pub faults : old.faults ≤ new.faults
+  pub drifts : old.drifts ≤ new.drifts
+  pub no_drift : IsTold old → new.drifts ≡ old.drifts
+  pub unread : old.unread ≤ new.unread
+
+abbrev pub OtherCursors : ℕ → State → State → Type 0
+OtherCursors cursor old new = (k : ℕ) → k ≢ cursor → new.cursors k ≡ old.cursors k
+
+abbrev pub OtherSources : Name → State → State → Type 0
+OtherSources source old new = (name : Name) → name ≢ source → new.attached name ≡ old.attached name
+
+-- ---- `suits`
+
+abbrev pub IsBase : Ground → Type 0
+IsBase bool = ⊤
+IsBase int = ⊤
+IsBase str = ⊤
+IsBase _ = ⊥
+
+abbrev pub AllBase : Row → Type 0
+AllBase no_row = ⊤
+AllBase (row l t r) = IsBase t × AllBase r
+
+-- records with one or more fields, all of base types
+abbrev pub IsFlat : Ground → Type 0
+IsFlat (rec no_row) = ⊥
+IsFlat (rec (row l t r)) = IsBase t × AllBase r
+IsFlat _ = ⊥
+
+abbrev pub IsColl : Ground → Type 0
+IsColl t = (k : Kind) × (u : Ground) × (t ≡ coll k u)
+
+-- A driver suits only collections; one that selects, projects or joins only those of flat records; one that joins no
+-- lists.
+pub record Suits (a : Abilities) (t : Ground) : Type 0 where
+  pub collection : IsColl t
+  pub select : a.select ≡ true → IsFlat (item_of t)
+  pub project : a.project ≡ true → IsFlat (item_of t)
+  pub join : a.join ≡ true → IsFlat (item_of t)
+  pub no_list : a.join ≡ true → kind_of t ≢ kind.List
+
+-- ---- `attach`
+
+abbrev pub stored_by : Option (List ℕ → Ty → Stored) → List ℕ → Ty → Option Stored
+stored_by None locator ty = None
+stored_by (Some stored) locator ty = Some (stored locator ty)
+
+-- what stands at a locator, where contents are told
+abbrev pub stored_at : State → List ℕ → Ty → Option Stored
+stored_at s locator ty = stored_by s.kind.stored locator ty
+
+abbrev pub rows_in : Stored → Option (List Value)
+rows_in (Rows rows) = Some rows
+rows_in _ = None
+
+abbrev pub told_rows : Option Stored → Option (List Value)
+told_rows (Some stored) = rows_in stored
+told_rows None = None
+
+-- a source is unreadable: contents that are told say so, or else the count of unreadable sources rose
+abbrev pub Unreadable : Stored → Option Stored → State → State → Type 0
+Unreadable why stored old new = (stored ≡ Some why) ⊎ ((IsTold old → ⊥) × Rose old.unread new.unread)
+
+pub record Attaches (source : Name) (locator : List ℕ) (ty : Ty) (result : Result ℕ DriverError) (old new : State) : Type 0 where
+  pub keeps : Keeps old new
+  pub cursors : new.cursors ≡ old.cursors
+  pub asked : new.asked ≡ old.asked
+  pub handed : new.handed ≡ old.handed
+  pub others : OtherSources source old new
+  pub attached : OnOk result (new.attached source ≡ Some (record { ty = ty; rows = told_rows (stored_at old locator ty) }))
+  -- the number of rows that a whole scan hands
+  pub count : IfOk result (λ count. (rows : List Value) → stored_at old locator ty ≡ Some (Rows rows) → count ≡ length rows)
+  pub typed : OnOk result ((rows : List Value) → stored_at old locator ty ≡ Some (Rows rows) → AllByRecursion (Inhabits (item_of (ground_of ty))) rows)
+  pub refused : OnErr result (new.attached ≡ old.attached)
+  -- what contents that are told say is not attached
+  pub missing : stored_at old locator ty ≡ Some Missing → OnOk result ⊥ × (new.faults ≡ old.faults)
+  pub bad : (place : ℕ) → stored_at old locator ty ≡ Some (Bad place) → OnOk result ⊥
+  pub long : (most : ℕ) → stored_at old locator ty ≡ Some (Long most) → OnOk result ⊥
+  pub deep : (place : ℕ) → stored_at old locator ty ≡ Some (Deep place) → OnOk result ⊥
+  -- the cause of each refusal
+  pub failed : IsErrOf result error.Failed → (stored_at old locator ty ≡ Some Missing) ⊎ Rose old.faults new.faults
+  pub bad_source : (place : ℕ) → IsErrOf result (error.BadSource place) → Unreadable (Bad place) (stored_at old locator ty) old new
+  pub too_long : (most : ℕ) → IsErrOf result (error.TooLong most) → Unreadable (Long most) (stored_at old locator ty) old new
+  pub too_deep : (place : ℕ) → IsErrOf result (error.TooDeep place) → Unreadable (Deep place) (stored_at old locator ty) old new
+  pub no_change : (d : Drift) → IsErrOf result (error.Changed d) → ⊥
+
+-- ---- `start`
+
+-- An ask of rows may be started where its source is attached, the driver is able to answer it, and its columns and tests
+-- fit the type. No driver joins, so none is asked SQL.
+abbrev pub CanStart : State → Ask → Type 0
+CanStart s (asks.Rows source keep tests) = (a : Source) × (s.attached source ≡ Some a) × (is_allowed s.kind.abilities (ground_of a.ty) (asks.Rows source keep tests) ≡ true) × AskFits (ground_of a.ty) keep tests
+CanStart s (asks.Sql text) = ⊥
+
+-- the same rows, of a list in the same order
+abbrev pub InOrder : Kind → List Value → List Value → Type 0
+InOrder kind.List rows shown = shown ≡ rows
+InOrder _ rows shown = IsPermutation rows shown
+
+-- what a new cursor has left, where contents are told
+abbrev pub Shows : Kind → List Name → List ColTest → Option (List Value) → Option (List Value) → Type 0
+Shows k keep tests (Some rows) left = (shown : List Value) × (left ≡ Some shown) × InOrder k (answers rows keep tests) shown
+Shows k keep tests None left = left ≡ None
+
+-- a cursor that has handed nothing yet, over an attached source
+pub record IsFresh (keep : List Name) (tests : List ColTest) (source : Source) (cursor : Cursor) : Type 0 where
+  pub ty : cursor.ty ≡ shown_type keep (item_of (ground_of source.ty))
+  pub left : Shows (kind_of (ground_of source.ty)) keep tests source.rows cursor.left
+  pub bound : cursor.bound ≤ 2 ^ 64
+
+abbrev pub OpensAt : Ask → State → Cursor → Type 0
+OpensAt (asks.Rows source keep tests) old cursor = (a : Source) → old.attached source ≡ Some a → IsFresh keep tests a cursor
+OpensAt (asks.Sql text) old cursor = ⊥
+
+pub record Opens (ask : Ask) (cursor : ℕ) (old new : State) : Type 0 where
+  pub free : old.cursors cursor ≡ None
+  pub opened : Cursor
+  pub now : new.cursors cursor ≡ Some opened
+  pub ask_kept : opened.ask ≡ ask
+  pub fresh : OpensAt ask old opened
+  pub others : OtherCursors cursor old new
+  pub asked : new.asked ≡ with_ask ask old.asked
+
+pub record Starts (ask : Ask) (result : Result ℕ DriverError) (old new : State) : Type 0 where
+  pub keeps : Keeps old new
+  pub attached : new.attached ≡ old.attached
+  pub handed : new.handed ≡ old.handed
+  pub opens : IfOk result (λ cursor. Opens ask cursor old new)
+  pub refused : OnErr result ((new.cursors ≡ old.cursors) × (new.asked ≡ old.asked))
+  pub failed : IsErrOf result error.Failed → Rose old.faults new.faults
+  pub no_other : OnErr result (IsErrOf result error.Failed ⊎ IsErrOf result error.NoMemory)
+
+-- ---- `pull`
+
+-- a cursor handed these rows: as many as were asked for, or else all that were left
+pub record Hands (limit : ℕ) (rows : List Value) (old new : Cursor) : Type 0 where
+  pub ask : new.ask ≡ old.ask
+  pub ty : new.ty ≡ old.ty
+  pub some : 0 < length rows
+  pub most : length rows ≤ limit
+  pub typed : AllByRecursion (Inhabits old.ty) rows
+  pub bound : new.bound + length rows ≤ old.bound
+  pub left : (all : List Value) → old.left ≡ Some all → (rest : List Value) × (all ≡ rows ++ rest) × (new.left ≡ Some rest) × ((length rows ≡ limit) ⊎ (rest ≡ []))
+  pub untold : old.left ≡ None → new.left ≡ None
+
+-- contents that are told say that no row is left
+abbrev pub IsSpent : Cursor → Type 0
+IsSpent c = (all : List Value) → c.left ≡ Some all → all ≡ []
+
+abbrev pub HasTests : Ask → Type 0
+HasTests (asks.Rows source keep tests) = tests ≢ []
+HasTests (asks.Sql text) = ⊤
+
+-- a cursor that has no row left from now on
+abbrev pub emptied : Cursor → Cursor
+emptied c = record { ask = c.ask; ty = c.ty; left = c.left; bound = 0 }
+
+pub record PullsMore (cursor most : ℕ) (into into' : List Value) (c : Cursor) (old new : State) : Type 0 where
+  pub rows : List Value
+  pub then : Cursor
+  pub appended : into' ≡ into ++ rows
+  pub now : new.cursors cursor ≡ Some then
+  pub hands : Hands most rows c then
+  pub handed : new.handed ≡ raised_by (length rows) old.handed
+
+pub record PullsNone (cursor : ℕ) (into into' : List Value) (c : Cursor) (old new : State) : Type 0 where
+  pub same : into' ≡ into
+  pub spent : IsSpent c
+  -- where contents are not told, an ask with tests may have no row left though more were possible
+  pub over : (c.bound ≡ 0) ⊎ ((IsTold old → ⊥) × HasTests c.ask)
+  pub now : new.cursors cursor ≡ Some (emptied c)
+  pub handed : new.handed ≡ old.handed
+
+-- two kept values differ
+abbrev pub Differs : Drift → Type 0
+Differs (drift.Bytes kept found) = found ≢ kept
+Differs (drift.Count kept found) = found ≢ kept
+Differs (drift.Unread place) = ⊤
+Differs (drift.Misfit item) = ⊤
+
+-- the cause of a refusal
+abbrev pub Cause : DriverError → State → State → Type 0
+Cause error.Failed old new = Rose old.faults new.faults
+Cause (error.Changed d) old new = (IsTold old → ⊥) × Rose old.drifts new.drifts × Differs d
+Cause error.NoMemory old new = ⊤
+Cause _ old new = ⊥
+
+pub record PullRefused (cursor : ℕ) (e : DriverError) (into into' : List Value) (old new : State) : Type 0 where
+  pub same : into' ≡ into
+  pub closed : new.cursors cursor ≡ None
+  pub handed : new.handed ≡ old.handed
+  pub cause : Cause e old new
+
+abbrev pub PullResult : ℕ → ℕ → List Value → List Value → Cursor → Result Bool DriverError → State → State → Type 0
+PullResult cursor most into into' c (Ok true) old new = PullsMore cursor most into into' c old new
+PullResult cursor most into into' c (Ok false) old new = PullsNone cursor into into' c old new
+PullResult cursor most into into' c (Err e) old new = PullRefused cursor e into into' old new
+
+pub record Pulls (cursor most : ℕ) (into into' : List Value) (result : Result Bool DriverError) (old new : State) : Type 0 where
+  pub keeps : Keeps old new
+  pub attached : new.attached ≡ old.attached
+  pub asked : new.asked ≡ old.asked
+  pub others : OtherCursors cursor old new
+  pub answer : (c : Cursor) → old.cursors cursor ≡ Some c → PullResult cursor most into into' c result old new
+
+-- ---- `finish`
+
+pub record Finishes (cursor : ℕ) (old new : State) : Type 0 where
+  pub keeps : Keeps old new
+  pub attached : new.attached ≡ old.attached
+  pub asked : new.asked ≡ old.asked
+  pub handed : new.handed ≡ old.handed
+  pub closed : new.cursors cursor ≡ None
+  pub others : OtherCursors cursor old new

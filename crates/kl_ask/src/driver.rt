@@ -1,0 +1,79 @@
+//! What answers asks.
+ghost use Rattle.std.specs.Prelude.{◌≡◌, ◌<◌, ◌^◌, ◌-◌, min, true, None, IsSome};
+ghost use Rattle.kl_type.specs.Ground.{IsProper, ground_of};
+ghost use Rattle.kl_ask.specs.Asked.{all_times};
+ghost use Rattle.kl_ask.specs.Driver.{State, Suits, CanStart, Attaches, Starts, Pulls, Finishes};
+
+use crate::ask::{Abilities, Ask, DriverError};
+use kl_base::{Label, Text};
+use kl_type::Ty;
+use kl_value::Value;
+
+/// A server of sources: it attaches them, and hands the rows that asks of them answer.
+///
+/// What it means is one `State`: what it is, its attached sources, its open cursors, what it was asked, and counts that
+/// never fall, of rows handed, of faults, of drifts and of sources that it could not read. Where it tells its contents,
+/// what comes of each call is exact; where it does not, only types, causes and frames are.
+///
+/// No call changes what the driver is, contents that are told, or anything that its entry does not name.
+pub trait Driver: Drop {
+    /// What the driver means.
+    ghost state: { Self → State };
+
+    /// The name by which a catalogue names it.
+    fn name(&self) -> &[u8]
+        ensures { result.now ≡ (state self.now).kind.name };
+
+    /// What it can do beside handing whole rows.
+    fn abilities(&self) -> Abilities
+        ensures { result ≡ (state self.now).kind.abilities };
+
+    /// Whether it can hold a source of this type: a collection, and of flat records where it does more than handing whole
+    /// rows. Takes no memory.
+    fn suits(&self, ty: &Ty) -> bool
+        ensures gives { result ≡ (state self.now).kind.suits ty.now }
+        ensures only { result ≡ true → Suits (state self.now).kind.abilities (ground_of ty.now) };
+
+    /// Attaches the source at a locator under a name that has none, and answers the number of rows that a whole scan
+    /// hands.
+    ///
+    /// # Errors
+    /// `Failed` where the file is missing, or on a fault; `BadSource`, `TooLong` and `TooDeep` where it is unreadable as
+    /// this type; `NoMemory`. Nothing is attached then.
+    fn attach(&mut self, source: &Label, locator: &Text, ty: &Ty) -> Result<u64, DriverError>
+        requires proper { IsProper ty.now }
+        requires suits { (state self.old).kind.suits ty.now ≡ true }
+        requires fresh { (state self.old).attached source.now ≡ None }
+        ensures { Attaches source.now locator.now ty.now result (state self.old) (state self.new) };
+
+    /// Opens a cursor for an ask, and answers its number, which no open cursor has.
+    ///
+    /// # Errors
+    /// `Failed` on a fault; `NoMemory`. Nothing is opened or counted then.
+    fn start(&mut self, ask: &Ask) -> Result<u64, DriverError>
+        requires { CanStart (state self.old) ask.now }
+        ensures { Starts ask.now result (state self.old) (state self.new) };
+
+    /// Appends the next rows of an open cursor, at least one and at most `most`, or answers false: no row is left.
+    ///
+    /// # Errors
+    /// `Failed` on a fault; `Changed` where the source is not what it was when it was attached; `NoMemory`. The cursor is
+    /// closed then, and `into` is as before.
+    fn pull(&mut self, cursor: u64, most: u32, into: &mut Vec<Value>) -> Result<bool, DriverError>
+        requires is_open { IsSome ((state self.old).cursors cursor) }
+        requires room { 0 < most }
+        ensures { Pulls cursor most into.old.items into.new.items result (state self.old) (state self.new) };
+
+    /// Closes an open cursor. Takes no memory.
+    fn finish(&mut self, cursor: u64)
+        requires { IsSome ((state self.old).cursors cursor) }
+        ensures { Finishes cursor (state self.old) (state self.new) };
+
+    /// How many cursors were started. The count stands still at its greatest value.
+    fn starts(&self) -> u64
+        ensures { result ≡ min (all_times (state self.now).asked) (2 ^ 64 - 1) };
+
+    /// How many rows were handed. The count stands still at its greatest value.
+    fn handed(&self) -> u64
+        ensures { result ≡ (state self.now).handed };
+}
