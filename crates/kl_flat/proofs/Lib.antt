@@ -1,6 +1,6 @@
-pub mod Blanks
 pub mod Fuel
 pub mod Options
 pub mod Placing
+pub mod Rows
 pub mod Steps
 pub mod Typing

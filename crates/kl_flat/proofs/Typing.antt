@@ -1,5 +1,6 @@
 -- The rows of a table are canonical records of its type.
-use Rattle.std.proofs.Common.{◌≡◌, ℕ, Bool, true, false, ◌&&◌, not, List, [], ◌∷◌, map, length, cond, nat_eq, Option, Some, None, IsSome, All, refl, ap, sym, ◌∙◌, subst, inl, inr, ⊎_elim, ℤ}
+use Rattle.std.proofs.Common.{◌≡◌, ℕ, Bool, true, false, ◌&&◌, not, List, [], ◌∷◌, map, length, cond, nat_eq, Option, Some, None, IsSome, All, refl, ap, sym, ◌∙◌, subst, inl, inr, ⊎_elim, ℤ, IfOk, Result, Ok, Err}
+use Rattle.kl_flat.specs.declared.table.Table.{Table}
 use Rattle.std.specs.Bool.{IsTrue}
 use Rattle.std.specs.Option.{option_map, option_and_then}
 use Rattle.std.specs.List.{AllByRecursion, list_all, zip}
@@ -30,7 +31,7 @@ some_same a b h = cc
 -- ---- cells
 
 truth_is : (b : Bool) (v : Value) → value.Bool b ≡ v → Inhabits bool v
-truth_is b v e = subst (Inhabits bool) e (subst IsSome (sym (ap bool_layer (value.outs-Bool b))) tt, bool_made b)
+truth_is b v e = subst (Inhabits bool) e (subst IsSome (sym (ap bool_layer (value.outs-Bool b))) refl, bool_made b)
 
 truth_good : (x y : Bool) (v : Value) → cond x (Some (value.Bool true)) (cond y (Some (value.Bool false)) None) ≡ Some v → Inhabits bool v
 truth_good true y v e = truth_is true v (some_same _ v e)
@@ -38,11 +39,11 @@ truth_good false true v e = truth_is false v (some_same _ v e)
 truth_good false false v e = cc
 
 number_good : (o : Option ℤ) (v : Value) → option_map value.Int o ≡ Some v → Inhabits int v
-number_good (Some n) v e = subst (Inhabits int) (some_same _ v e) (subst IsSome (sym (ap int_layer (value.outs-Int n))) tt, int_made n)
+number_good (Some n) v e = subst (Inhabits int) (some_same _ v e) (subst IsSome (sym (ap int_layer (value.outs-Int n))) refl, int_made n)
 number_good None v e = cc
 
 text_good : (bs : List ℕ) (v : Value) → Some (value.Text bs) ≡ Some v → Inhabits str v
-text_good bs v e = subst (Inhabits str) (some_same _ v e) (subst IsSome (sym (ap bytes_layer (value.outs-Text bs))) tt, text_made bs)
+text_good bs v e = subst (Inhabits str) (some_same _ v e) (subst IsSome (sym (ap bytes_layer (value.outs-Text bs))) refl, text_made bs)
 
 layer_good : (bs : List ℕ) (x : Ty-F Ty) (v : Value) → cell_layer bs x ≡ Some v → Inhabits (ground_of (roll-Ty x)) v
 layer_good bs Ty-F.Bool v e = subst (λ g. Inhabits g v) (sym (ap ground_of ty.rolls-Bool ∙ ground-Bool)) (truth_good _ _ v e)
@@ -71,12 +72,15 @@ GoodFields columns fs = HasFields (row_by ground_of columns) fs × AllByRecursio
 
 parts_good : (cells : List (List ℕ × List ℕ)) (columns : Columns) (fs : List (List ℕ × Value)) → all_of (map (part_in cells) columns) ≡ Some fs → GoodFields columns fs
 parts_good cells [] fs e = let none : [] ≡ fs = some_same _ fs e in subst (GoodFields []) none (refl, tt, refl)
-parts_good cells (c ∷ columns) fs e = by (part_in cells c) refl
+parts_good cells (c ∷ columns) fs e = by (part_in cells c) refl (λ gs more. parts_good cells columns gs more)
   where
-    rest : (f : List ℕ × Value) → part_in cells c ≡ Some f → (o : Option (List (List ℕ × Value))) → all_of (map (part_in cells) columns) ≡ o → option_map (λ xs. f ∷ xs) o ≡ Some fs → GoodFields (c ∷ columns) fs
-    rest f is None more h = cc
-    rest f is (Some gs) more h =
-        let good = parts_good cells columns gs more in
+    abbrev Later : Type 0
+    Later = (gs : List (List ℕ × Value)) → all_of (map (part_in cells) columns) ≡ Some gs → GoodFields columns gs
+
+    rest : Later → (f : List ℕ × Value) → part_in cells c ≡ Some f → (o : Option (List (List ℕ × Value))) → all_of (map (part_in cells) columns) ≡ o → option_map (λ xs. f ∷ xs) o ≡ Some fs → GoodFields (c ∷ columns) fs
+    rest later f is None more h = cc
+    rest later f is (Some gs) more h =
+        let good = later gs more in
         let here = part_good cells c f is in
         let same : f ∷ gs ≡ fs = some_same _ fs h in
         subst (GoodFields (c ∷ columns)) same (
@@ -85,9 +89,9 @@ parts_good cells (c ∷ columns) fs e = by (part_in cells c) refl
           (λ i. here.0 i ∷ good.2 i),
         )
 
-    by : (o : Option (List ℕ × Value)) → part_in cells c ≡ o → GoodFields (c ∷ columns) fs
-    by None is = let bad = rw is at e in cc
-    by (Some f) is = rest f is (all_of (map (part_in cells) columns)) refl (rw is at e)
+    by : (o : Option (List ℕ × Value)) → part_in cells c ≡ o → Later → GoodFields (c ∷ columns) fs
+    by None is later = let bad = rw is at e in cc
+    by (Some f) is later = rest later f is (all_of (map (part_in cells) columns)) refl (rw is at e)
 
 pub row_good : (columns : Columns) (header entry : Record) (v : Value) → LabelsRise columns → row_in columns header entry ≡ Some v → Inhabits (rec (row_by ground_of columns)) v
 row_good columns header entry v up e = by (nat_eq (length entry) (length header)) refl
@@ -105,11 +109,11 @@ row_good columns header entry v up e = by (nat_eq (length entry) (length header)
 
 front_good : (columns : Columns) (header : Record) → LabelsRise columns → (rs : List Record) → AllByRecursion (Inhabits (rec (row_by ground_of columns))) (front_of (map (row_in columns header) rs))
 front_good columns header up [] = tt
-front_good columns header up (r ∷ rs) = by (row_in columns header r) refl
+front_good columns header up (r ∷ rs) = by (row_in columns header r) refl (front_good columns header up rs)
   where
-    by : (o : Option Value) → row_in columns header r ≡ o → AllByRecursion (Inhabits (rec (row_by ground_of columns))) (front_of (map (row_in columns header) (r ∷ rs)))
-    by None is = rw is tt
-    by (Some v) is = rw is (row_good columns header r v up is, front_good columns header up rs)
+    by : (o : Option Value) → row_in columns header r ≡ o → AllByRecursion (Inhabits (rec (row_by ground_of columns))) (front_of (map (row_in columns header) rs)) → AllByRecursion (Inhabits (rec (row_by ground_of columns))) (front_of (map (row_in columns header) (r ∷ rs)))
+    by None is later = rw is tt
+    by (Some v) is later = rw is (row_good columns header r v up is, later)
 
 rows_good : (columns : Columns) → LabelsRise columns → (rs : List Record) → AllByRecursion (Inhabits (rec (row_by ground_of columns))) (rows_in columns rs)
 rows_good columns up [] = tt
@@ -146,4 +150,8 @@ pub columns_up : (t : Ty) → IsProper t → LabelsRise (columns_of t)
 columns_up t h = items_up (out-Ty t) (subst (λ u. IsGround (ground_of u)) (sym (roll-out-Ty t)) h)
 
 pub table_good : (bytes : List ℕ) (t : Ty) → IsProper t → All (Inhabits (row_type t)) (table_rows bytes t)
-table_good bytes t h = All-from_recursion _ (rows_good (columns_of t) (columns_up t h) (table_records bytes))
+table_good bytes t h = All-from_recursion _ _ (rows_good (columns_of t) (columns_up t h) (table_records bytes))
+
+pub typed_table : {E : Type 0} (bytes : List ℕ) (t : Ty) (r : Result Table E) → IsProper t → IfOk r (λ table. table.rows ≡ table_rows bytes t) → IfOk r (λ table. All (Inhabits (row_type t)) table.rows)
+typed_table bytes t (Ok table) h is = subst (All (Inhabits (row_type t))) (sym is) (table_good bytes t h)
+typed_table bytes t (Err e) h is = tt

@@ -1,5 +1,5 @@
 -- What a cell of a table means.
-use Rattle.std.specs.Prelude.{Bool, ◌||◌, ◌==◌, ℕ, List, [], ◌∷◌, reverse, Option, Some, None, cond, codes, nat_eq}
+use Rattle.std.specs.Prelude.{Bool, true, false, ◌||◌, ◌==◌, ℕ, List, [], ◌∷◌, reverse, Option, Some, None, cond, codes, nat_eq}
 use Rattle.std.specs.Cmp.Lexicographic.{pointwise}
 use Rattle.std.specs.Option.{option_map}
 use Rattle.kl_value.specs.declared.Value.{Value}
@@ -24,7 +24,7 @@ truth_in bs =
     cond (pointwise nat_eq bs (codes "true")) (Some (value.Bool true))
     (cond (pointwise nat_eq bs (codes "false")) (Some (value.Bool false)) None)
 
-abbrev cell_layer : List ℕ → Ty-F Ty → Option Value
+abbrev pub cell_layer : List ℕ → Ty-F Ty → Option Value
 cell_layer bs Ty-F.Bool = truth_in bs
 cell_layer bs Ty-F.Int = option_map value.Int (number_in (without_blanks bs))
 cell_layer bs Ty-F.Str = Some (value.Text bs)

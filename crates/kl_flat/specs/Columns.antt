@@ -16,7 +16,7 @@ items_layer _ = []
 abbrev pub columns_of : Ty → List (List ℕ × Ty)
 columns_of t = items_layer (out-Ty t)
 
-abbrev base_layer : Ty-F Ty → Bool
+abbrev pub base_layer : Ty-F Ty → Bool
 base_layer Ty-F.Bool = true
 base_layer Ty-F.Int = true
 base_layer Ty-F.Str = true

@@ -1,7 +1,7 @@
 -- What the bytes of a table mean.
 use Rattle.std.specs.Prelude.{Bool, ◌&&◌, ◌==◌, ℕ, ◌+◌, List, [], ◌∷◌, map, length, Option, Some, None, cond, nat_eq}
 use Rattle.std.specs.Cmp.Lexicographic.{pointwise}
-use Rattle.std.specs.List.{count_by, list_all, starts_with, zip}
+use Rattle.std.specs.List.{list_all, starts_with, zip}
 use Rattle.std.specs.Option.{option_map, option_and_then}
 use Rattle.csv.specs.Reading.{default_config, records, strip_bom}
 use Rattle.kl_base.specs.Fields.{field}
@@ -26,9 +26,14 @@ two_marks = 0xEF ∷ 0xBB ∷ 0xBF ∷ 0xEF ∷ 0xBB ∷ 0xBF ∷ []
 abbrev pub table_records : List ℕ → List Record
 table_records bytes = cond (starts_with nat_eq bytes two_marks) [] (records default_config (strip_bom bytes))
 
+-- how often a label stands in a header
+abbrev pub times : List ℕ → Record → ℕ
+times l [] = 0
+times l (h ∷ hs) = cond (pointwise nat_eq l h) 1 0 + times l hs
+
 -- each column's label stands in the header exactly once
 abbrev pub is_header : Columns → Record → Bool
-is_header columns header = list_all (λ c. count_by (pointwise nat_eq c.0) header == 1) columns
+is_header columns header = list_all (λ c. times c.0 header == 1) columns
 
 -- all of these, if each is there
 abbrev pub all_of : {A : Type 0} → List (Option A) → Option (List A)

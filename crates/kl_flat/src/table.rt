@@ -1,14 +1,12 @@
 //! Reads a table.
-ghost use Rattle.std.specs.Prelude.{◌≡◌, ◌≢◌, [], false, map, All, IfOk, IsTrue, MatchOption, Some, nat_eq};
-ghost use Rattle.std.specs.Cmp.Lexicographic.{pointwise};
-ghost use Rattle.std.specs.List.{count_by};
+ghost use Rattle.std.specs.Prelude.{◌≡◌, ◌≢◌, [], false, map, All, IfOk, IsTrue, MatchOption, Some};
 ghost use Rattle.csv.specs.Records.{field_at, fields_of};
 ghost use Rattle.kl_type.specs.Ground.{IsProper};
 ghost use Rattle.kl_outcome.specs.Typed.{Inhabits};
 ghost use Rattle.kl_flat.specs.Columns.{is_table_type, row_type};
 ghost use Rattle.kl_flat.specs.Places.{ArePlaces};
 ghost use Rattle.kl_flat.specs.Records.{IsPlain, records_left};
-ghost use Rattle.kl_flat.specs.Table.{bad_record, first_missing, front_of, is_header, row_in, table_rows};
+ghost use Rattle.kl_flat.specs.Table.{bad_record, first_missing, front_of, is_header, row_in, table_rows, times};
 
 use crate::cells::cell_value;
 use crate::columns::columns_of;
@@ -55,7 +53,7 @@ pub fn read_table(alloc: Global, bytes: &[u8], ty: &Ty) -> Result<Table, NoMemor
     let Some(places) = places_of(alloc, columns, &header)? else {
         return Ok(without_header(alloc));
     };
-    read_rows(alloc, reader, columns, &header, &places)
+    read_rows(alloc, &mut reader, columns, &header, &places)
 }
 
 // A table whose header is bad.
@@ -89,7 +87,7 @@ fn places_of(
 
 // The place of the one field with these bytes.
 fn only_place(header: &ByteRecord, name: &[u8]) -> Option<usize>
-    ensures { MatchOption result (count_by (pointwise nat_eq name.now) (fields_of header.now) ≢ 1) (λ i. (count_by (pointwise nat_eq name.now) (fields_of header.now) ≡ 1) × (field_at (fields_of header.now) i ≡ Some name.now)) }
+    ensures { MatchOption result (times name.now (fields_of header.now) ≢ 1) (λ i. (times name.now (fields_of header.now) ≡ 1) × (field_at (fields_of header.now) i ≡ Some name.now)) }
 {
     let mut found = None;
     for i in 0..header.len() {
@@ -109,20 +107,19 @@ fn only_place(header: &ByteRecord, name: &[u8]) -> Option<usize>
 // The rows that are left, under a header.
 fn read_rows(
     alloc: Global,
-    reader: Reader<&[u8]>,
+    reader: &mut Reader<&[u8]>,
     columns: &[(Label, Ty)],
     header: &ByteRecord,
     places: &[usize],
 ) -> Result<Table, NoMemory>
-    requires plain { IsPlain reader }
+    requires plain { IsPlain reader.old }
     requires places { ArePlaces columns.now (fields_of header.now) places.now }
-    ensures rows { IfOk result (λ t. t.rows ≡ front_of (map (row_in columns.now (fields_of header.now)) (records_left reader))) }
-    ensures bad { IfOk result (λ t. t.bad ≡ first_missing 1 (map (row_in columns.now (fields_of header.now)) (records_left reader))) }
+    ensures rows { IfOk result (λ t. t.rows ≡ front_of (map (row_in columns.now (fields_of header.now)) (records_left reader.old))) }
+    ensures bad { IfOk result (λ t. t.bad ≡ first_missing 1 (map (row_in columns.now (fields_of header.now)) (records_left reader.old))) }
 {
-    let mut reader = reader;
     let mut entry = ByteRecord::new(alloc);
     let mut rows = Vec::new(alloc);
-    'records: while next_record(&mut reader, &mut entry)? {
+    'records: while next_record(reader, &mut entry)? {
         let Some(row) = row_in(alloc, columns, header, places, &entry)? else {
             let number = rows.len() as u64 + 1;
             return Ok(Table {
@@ -154,13 +151,15 @@ fn row_in(
     }
     let mut fields = Vec::with_capacity(alloc, columns.len())?;
     for i in 0..columns.len() {
+        let column = &columns[i];
         let Some(cell) = entry.get(places[i]) else {
             return Ok(None);
         };
-        let Some(value) = cell_value(alloc, cell, &columns[i].1)? else {
+        let Some(value) = cell_value(alloc, cell, &column.1)? else {
             return Ok(None);
         };
-        fields.push((columns[i].0.dup()?, value))?;
+        let label = column.0.dup()?;
+        fields.push((label, value))?;
     }
     Ok(Some(Value::Rec(Seq::of(fields))))
 }
