@@ -1,5 +1,5 @@
 -- Asks: which of them a driver can be asked, and what they answer.
-use Rattle.std.specs.Prelude.{◌≡◌, ℕ, ◌+◌, ◌-◌, ◌^◌, min, Bool, true, false, ◌&&◌, ◌||◌, List, [], ◌∷◌, map, cond, nat_eq, Option, Some, None, IsSome, filter}
+use Rattle.std.specs.Prelude.{◌≡◌, ◌==◌, Bool, false, ◌&&◌, ◌||◌, List, [], ◌∷◌, length, map, filter, cond, nat_eq, Option, Some, None, IsSome}
 use Rattle.std.specs.List.{AllByRecursion, list_all, list_any}
 use Rattle.std.specs.List.Sorted.{IsStrictlySortedBy}
 use Rattle.std.specs.Cmp.Lexicographic.{pointwise}
@@ -98,26 +98,22 @@ shown_type keep t = t
 abbrev pub same_names : List Name → List Name → Bool
 same_names = pointwise (pointwise nat_eq)
 
-abbrev pub no_tests : List ColTest → Bool
-no_tests [] = true
-no_tests (t ∷ ts) = false
-
 -- Whole rows without tests are always allowed. Tests need `select`, fewer columns `project`, and SQL `join`.
 abbrev pub is_allowed : Abilities → Ground → Ask → Bool
-is_allowed a t (asks.Rows source keep tests) = (no_tests tests || a.select) && (same_names keep (columns (item_of t)) || a.project)
+is_allowed a t (asks.Rows source keep tests) = (length tests == 0 || a.select) && (same_names keep (columns (item_of t)) || a.project)
 is_allowed a t (asks.Sql text) = a.join
 
 abbrev pub SideFits : Ground → Ground → Right → Type 0
-SideFits row t (right.Col l) = column l row ≡ Some t
-SideFits row t (right.Const c) = Inhabits t c
+SideFits item t (right.Col l) = column l item ≡ Some t
+SideFits item t (right.Const c) = Inhabits t c
 
 -- a test fits rows of a type: its column is there, and both sides have one type
 abbrev pub TestFits : Ground → ColTest → Type 0
-TestFits row test = (t : Ground) × (column test.left row ≡ Some t) × SideFits row t test.right
+TestFits item test = (t : Ground) × (column test.left item ≡ Some t) × SideFits item t test.right
 
 -- Columns that are kept are there, and stand in strictly rising order, so that none is kept twice. Where the rows are no
 -- records, no column is there: none is kept, and nothing is tested.
 pub record AskFits (t : Ground) (keep : List Name) (tests : List ColTest) : Type 0 where
   pub rising : IsStrictlySortedBy bytes_cmp keep
-  pub columns : AllByRecursion (λ l. IsSome (column l (item_of t))) keep
-  pub tests : AllByRecursion (TestFits (item_of t)) tests
+  pub there : AllByRecursion (λ l. IsSome (column l (item_of t))) keep
+  pub fitting : AllByRecursion (TestFits (item_of t)) tests

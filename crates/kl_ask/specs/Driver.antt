@@ -160,9 +160,12 @@ pub record Attaches (source : Name) (locator : List ℕ) (ty : Ty) (result : Res
 
 -- An ask of rows may be started where its source is attached, the driver is able to answer it, and its columns and tests
 -- fit the type. No driver joins, so none is asked SQL.
-abbrev pub CanStart : State → Ask → Type 0
-CanStart s (asks.Rows source keep tests) = (a : Source) × (s.attached source ≡ Some a) × (is_allowed s.kind.abilities (ground_of a.ty) (asks.Rows source keep tests) ≡ true) × AskFits (ground_of a.ty) keep tests
-CanStart s (asks.Sql text) = ⊥
+abbrev pub IsAnswerable : State → Ask → Type 0
+IsAnswerable s (asks.Rows source keep tests) = (a : Source) × (s.attached source ≡ Some a) × (is_allowed s.kind.abilities (ground_of a.ty) (asks.Rows source keep tests) ≡ true) × AskFits (ground_of a.ty) keep tests
+IsAnswerable s (asks.Sql text) = ⊥
+
+pub record CanStart (s : State) (ask : Ask) : Type 0 where
+  pub answerable : IsAnswerable s ask
 
 -- the same rows, of a list in the same order
 abbrev pub InOrder : Kind → List Value → List Value → Type 0

@@ -1,3 +1,5 @@
-pub mod Asks
 pub mod Asked
+pub mod Asks
 pub mod Driver
+pub mod Lists
+pub mod World

@@ -1,7 +1,10 @@
 //! What drivers are asked.
+ghost use Rattle.std.specs.Prelude.{◌≡◌};
+ghost use Rattle.kl_ask.specs.declared.ask.DriverError.TheVariants.{NoMemory as WantOfMemory};
 
-use kl_base::{Label, Seq, Text};
+use kl_base::{Label, NoMemory, Seq, Text};
 use kl_value::Value;
+use std::alloc::{AllocError, AllocFailed};
 
 /// What a driver can do beside handing whole rows.
 #[derive(Clone, Copy, Debug, PartialEq, Eq)]
@@ -89,4 +92,28 @@ pub enum DriverError {
     Changed { drift: Drift },
     /// Want of memory.
     NoMemory,
+}
+
+impl From<NoMemory> for DriverError {
+    ghost from_gives = { λ _ e. e ≡ WantOfMemory };
+
+    fn from(_error: NoMemory) -> DriverError {
+        DriverError::NoMemory
+    }
+}
+
+impl From<AllocError> for DriverError {
+    ghost from_gives = { λ _ e. e ≡ WantOfMemory };
+
+    fn from(_error: AllocError) -> DriverError {
+        DriverError::NoMemory
+    }
+}
+
+impl<T: Drop> From<AllocFailed<T>> for DriverError {
+    ghost from_gives = { λ _ e. e ≡ WantOfMemory };
+
+    fn from(_error: AllocFailed<T>) -> DriverError {
+        DriverError::NoMemory
+    }
 }

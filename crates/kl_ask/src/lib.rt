@@ -2,9 +2,20 @@
 #![tactic(auto)]
 
 mod ask;
+mod asked;
+mod asking;
+mod boxed;
 mod driver;
+mod session;
 mod settings;
 
 pub use ask::{Abilities, Ask, Cmp, ColTest, Drift, DriverError, Right};
+pub use asked::{count_ask, sum_asked};
+pub use asking::allows;
+pub use boxed::{
+    abilities_boxed, attach_boxed, finish_boxed, handed_boxed, name_boxed, pull_boxed, start_boxed,
+    suits_boxed,
+};
 pub use driver::Driver;
+pub use session::{Attached, Seen, Session};
 pub use settings::{JoinHow, JoinRun, Settings, Trace};

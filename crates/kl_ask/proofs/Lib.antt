@@ -1,0 +1,5 @@
+pub mod Boxes
+pub mod Columns
+pub mod Kept
+pub mod Whole
+pub mod Worlds

@@ -1,0 +1,180 @@
+-- Asks for whole rows without tests.
+use Rattle.std.proofs.Common.{◌≡◌, ◌≢◌, ◌⊎◌, inl, inr, ⊎_elim, ℕ, Bool, true, false, ◌||◌, cond, nat_eq, List, [], ◌∷◌, map, Option, Some, None, IsSome, refl, sym, ap, subst, ◌∙◌}
+use Rattle.std.specs.Prelude.{filter}
+use Rattle.std.specs.List.{AllByRecursion, list_any, Contains}
+use Rattle.std.specs.List.Sorted.{IsStrictlySortedBy, IsPermutation}
+use Rattle.std.specs.Cmp.Lexicographic.{pointwise}
+use Rattle.std.specs.declared.cmp.Ordering.TheVariants.{Less}
+use Rattle.std.proofs.lemmas.Cmp.{nat_list_eq_equiv}
+use Rattle.std.proofs.lemmas.List.Sorted.{Contains-permutation, IsPermutation-sym, sum_by-IsPermutation}
+use Rattle.kl_base.specs.Fields.{bytes_cmp, labels_of}
+use Rattle.kl_base.specs.Sorted.{count_of}
+use Rattle.kl_value.specs.Canon.{canonical, IsCanonicalOf}
+use Rattle.kl_value.specs.Order.{compare}
+use Rattle.kl_value.specs.Views.{as_bool, as_int, as_text, bool_layer, int_layer, bytes_layer, collection}
+use Rattle.kl_value.specs.declared.Kind.{Kind}
+use Rattle.kl_value.specs.declared.Kind.TheVariants as kind
+use Rattle.kl_value.specs.declared.Value.{Value, Value-F, out-Value}
+use Rattle.kl_value.specs.declared.Value.TheVariants as value
+use Rattle.kl_value.proofs.CanonLemmas.{canonical_is, canonical_only}
+use Rattle.kl_type.specs.Ground.{Ground, Row, bool, int, str, rec, var, coll, arrow, no_row, row, at, IsBefore, IsRow, IsGround, IsProper, ground_of}
+use Rattle.kl_type.proofs.RowLemmas.{told, at_here, at_there, never_less}
+use Rattle.kl_type.specs.declared.Ty.{Ty}
+use Rattle.kl_outcome.specs.Outcome.{Name, as_record, record_layer}
+use Rattle.kl_outcome.specs.Typed.{Has, HasFields, Inhabits}
+use Rattle.kl_ask.specs.Asks.{item_of, row_labels, columns, column, is_kept, shown_fields, shown, answers, shown_row, shown_type, same_names, is_allowed, AskFits}
+use Rattle.kl_ask.specs.Driver.{State, Source, CanStart, InOrder}
+use Rattle.kl_ask.specs.declared.ask.Ask.TheVariants as asks
+
+all_on : {X : Type 0} (P Q : X → Type 0) (xs : List X) → ((x : X) → P x → Q x) → AllByRecursion P xs → AllByRecursion Q xs
+all_on P Q [] f h = tt
+all_on P Q (x ∷ xs) f h = (f x h.0, all_on P Q xs f h.1)
+
+or_true : (b c : Bool) → c ≡ true → (b || c) ≡ true
+or_true true c h = refl
+or_true false c h = h
+
+-- ---- all columns are kept
+
+all_kept : (ls : List Name) → AllByRecursion (λ l. is_kept ls l ≡ true) ls
+all_kept [] = tt
+all_kept (l ∷ ls) = (rw (nat_list_eq_equiv.refl l) refl, all_on (λ m. is_kept ls m ≡ true) (λ m. is_kept (l ∷ ls) m ≡ true) ls (λ m h. or_true (pointwise nat_eq l m) (is_kept ls m) h) (all_kept ls))
+
+row_kept : (keep : List Name) (r : Row) → AllByRecursion (λ l. is_kept keep l ≡ true) (row_labels r) → shown_row keep r ≡ r
+row_kept keep no_row h = refl
+row_kept keep (row l t r) h = rw h.0 (ap (row l t) (row_kept keep r h.1))
+
+pub whole_type : (t : Ground) → shown_type (columns t) t ≡ t
+whole_type (rec r) = ap rec (row_kept (row_labels r) r (all_kept (row_labels r)))
+whole_type bool = refl
+whole_type int = refl
+whole_type str = refl
+whole_type (var r) = refl
+whole_type (coll k t) = refl
+whole_type (arrow a b) = refl
+
+labels_same : (r : Row) (fs : List (Name × Value)) → HasFields r fs → labels_of fs ≡ row_labels r
+labels_same no_row fs h = ap labels_of h
+labels_same (row l s r) fs h = ap labels_of h.2 ∙ ap (λ ls. l ∷ ls) (labels_same r h.1 h.4)
+
+fields_kept : (keep : List Name) (fs : List (Name × Value)) → AllByRecursion (λ l. is_kept keep l ≡ true) (labels_of fs) → filter (λ f. is_kept keep f.0) fs ≡ fs
+fields_kept keep [] h = refl
+fields_kept keep (f ∷ fs) h = rw h.0 (ap (λ gs. f ∷ gs) (fields_kept keep fs h.1))
+
+no_bool : (x : Value-F Value) → IsSome (bool_layer x) → record_layer x ≡ None
+no_bool (Value-F.Rec fs) h = cc
+no_bool x h = refl
+
+no_int : (x : Value-F Value) → IsSome (int_layer x) → record_layer x ≡ None
+no_int (Value-F.Rec fs) h = cc
+no_int x h = refl
+
+no_text : (x : Value-F Value) → IsSome (bytes_layer x) → record_layer x ≡ None
+no_text (Value-F.Rec fs) h = cc
+no_text x h = refl
+
+no_collection : (k : Kind) (vs : List Value) → as_record (collection k vs) ≡ None
+no_collection kind.Set vs = ap record_layer (value.outs-Set vs)
+no_collection kind.Bag vs = ap record_layer (value.outs-Bag vs)
+no_collection kind.List vs = ap record_layer (value.outs-List vs)
+
+pub whole_row : (t : Ground) (v : Value) → Has t v → shown (columns t) v ≡ v
+whole_row (rec r) v h =
+    let fs : List (Name × Value) = h.0 in
+    let keep = row_labels r in
+    let is : as_record v ≡ Some fs = ap as_record h.1 ∙ ap record_layer (value.outs-Rec fs) in
+    let all : AllByRecursion (λ l. is_kept keep l ≡ true) (labels_of fs) = subst (AllByRecursion (λ l. is_kept keep l ≡ true)) (sym (labels_same r fs h.2)) (all_kept keep) in
+    ap (shown_fields v keep) is ∙ ap value.Rec (fields_kept keep fs all) ∙ sym h.1
+whole_row bool v h = ap (shown_fields v []) (no_bool (out-Value v) h)
+whole_row int v h = ap (shown_fields v []) (no_int (out-Value v) h)
+whole_row str v h = ap (shown_fields v []) (no_text (out-Value v) h)
+whole_row (var r) v h = ap (shown_fields v []) (ap as_record h.2 ∙ ap record_layer (value.outs-Inj h.0 h.1))
+whole_row (coll k t) v h = ap (shown_fields v []) (ap as_record h.1 ∙ no_collection k h.0)
+whole_row (arrow a b) v h = absurd h
+
+-- the answers are the rows
+pub whole_rows : (t : Ground) (rows : List Value) → AllByRecursion (Inhabits t) rows → answers rows (columns t) [] ≡ rows
+whole_rows t [] h = refl
+whole_rows t (v ∷ vs) h = ap (λ w. w ∷ answers vs (columns t) []) (whole_row t v h.0.0) ∙ ap (λ ws. v ∷ ws) (whole_rows t vs h.1)
+
+-- ---- they may be started
+
+before_rest : (l m : Name) (t : Ground) (r : Row) → IsBefore m r → IsBefore l (row m t r) → IsBefore l r
+before_rest l m t r b h n u e = ⊎_elim
+    (λ p. absurd (never_less n (subst (λ k. bytes_cmp k n ≡ Less) (sym p.1) (b n u e))))
+    (λ d. h n u (at_there n m t r d.1 ∙ e))
+    (told n m)
+
+labels_after : (l : Name) (r : Row) → IsRow r → IsBefore l r → AllByRecursion (λ m. bytes_cmp l m ≡ Less) (row_labels r)
+labels_after l no_row good h = tt
+labels_after l (row m t r) good h = (h m t (at_here m m t r refl), labels_after l r good.2 (before_rest l m t r good.0 h))
+
+labels_rise : (r : Row) → IsRow r → IsStrictlySortedBy bytes_cmp (row_labels r)
+unfolding IsStrictlySortedBy
+labels_rise no_row good = tt
+labels_rise (row l t r) good = (labels_after l r good.2 good.0, labels_rise r good.2)
+
+none_rise : IsStrictlySortedBy bytes_cmp []
+unfolding IsStrictlySortedBy
+none_rise = tt
+
+item_rises : (t : Ground) → IsGround t → IsStrictlySortedBy bytes_cmp (columns t)
+item_rises (rec r) good = labels_rise r good
+item_rises bool good = none_rise
+item_rises int good = none_rise
+item_rises str good = none_rise
+item_rises (var r) good = none_rise
+item_rises (coll k t) good = none_rise
+item_rises (arrow a b) good = none_rise
+
+columns_rise : (t : Ground) → IsGround t → IsStrictlySortedBy bytes_cmp (columns (item_of t))
+columns_rise (coll k t) good = item_rises t good
+columns_rise (rec r) good = item_rises (rec r) good
+columns_rise bool good = none_rise
+columns_rise int good = none_rise
+columns_rise str good = none_rise
+columns_rise (var r) good = none_rise
+columns_rise (arrow a b) good = none_rise
+
+some_cond : {X : Type 0} (b : Bool) (x : X) (o : Option X) → IsSome o → IsSome (cond b (Some x) o)
+some_cond true x o h = refl
+some_cond false x o h = h
+
+labels_there : (r : Row) → AllByRecursion (λ l. IsSome (at l r)) (row_labels r)
+labels_there no_row = tt
+labels_there (row l t r) = (rw (nat_list_eq_equiv.refl l) refl, all_on (λ m. IsSome (at m r)) (λ m. IsSome (at m (row l t r))) (row_labels r) (λ m h. some_cond (pointwise nat_eq m l) t (at m r) h) (labels_there r))
+
+columns_there : (t : Ground) → AllByRecursion (λ l. IsSome (column l t)) (columns t)
+columns_there (rec r) = labels_there r
+columns_there bool = tt
+columns_there int = tt
+columns_there str = tt
+columns_there (var r) = tt
+columns_there (coll k t) = tt
+columns_there (arrow a b) = tt
+
+names_same : (ls : List Name) → same_names ls ls ≡ true
+names_same [] = refl
+names_same (l ∷ ls) = rw (nat_list_eq_equiv.refl l, names_same ls) refl
+
+pub can_start_whole : (s : State) (source : Name) (ty : Ty) (a : Source) → s.attached source ≡ Some a → a.ty ≡ ty → IsProper a.ty → CanStart s (asks.Rows source (columns (item_of (ground_of ty))) [])
+can_start_whole s source ty a is same good = subst (λ u. CanStart s (asks.Rows source (columns (item_of (ground_of u))) [])) same (record {
+  answerable = (a, is, rw (names_same (columns (item_of (ground_of a.ty)))) refl, record { rising = columns_rise (ground_of a.ty) good; there = columns_there (item_of (ground_of a.ty)); fitting = tt });
+})
+
+-- ---- rows in another order are the same collection
+
+pub in_order_none : (k : Kind) (rows : List Value) → IsPermutation rows rows → InOrder k rows rows
+in_order_none kind.Set rows h = h
+in_order_none kind.Bag rows h = h
+in_order_none kind.List rows h = refl
+
+pub in_order_canonical : (k : Kind) (rows shown : List Value) → InOrder k rows shown → canonical k shown ≡ canonical k rows
+in_order_canonical kind.Set rows shown h =
+    let c = canonical_is kind.Set rows in
+    sym (canonical_only kind.Set shown (canonical kind.Set rows)
+    (c.0, c.1, c.2, λ w. (λ m. Contains-permutation rows shown w h ((c.3 w).0 m), λ m. (c.3 w).1 (Contains-permutation shown rows w (IsPermutation-sym rows shown h) m))))
+in_order_canonical kind.Bag rows shown h =
+    let c = canonical_is kind.Bag rows in
+    sym (canonical_only kind.Bag shown (canonical kind.Bag rows) (c.0, c.1, c.2, λ w. c.3 w ∙ sym (sum_by-IsPermutation _ rows shown h)))
+in_order_canonical kind.List rows shown h = ap (canonical kind.List) h

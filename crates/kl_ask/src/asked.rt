@@ -1,0 +1,38 @@
+//! How often each ask was asked, kept in the same way by every driver.
+ghost use Rattle.std.specs.Prelude.{◌≡◌, ◌-◌, ◌^◌, min, OnErr, OnOk};
+ghost use Rattle.kl_ask.specs.Asked.{all_times, with_ask};
+
+use crate::ask::Ask;
+use kl_base::NoMemory;
+use std::alloc::Global;
+
+/// Counts an ask once more. A count stands still at its greatest value.
+///
+/// # Errors
+/// Want of memory; the list is as before then.
+pub fn count_ask(alloc: Global, asked: &mut Vec<(Ask, u64)>, ask: &Ask) -> Result<(), NoMemory>
+    ensures counted { OnOk result (asked.new.items ≡ with_ask ask.now asked.old.items) }
+    ensures refused { OnErr result (asked.new.items ≡ asked.old.items) }
+{
+    for i in 0..asked.len() {
+        if asked[i].0 == *ask {
+            let kept = &mut asked[i];
+            kept.1 = kept.1.saturating_add(1);
+            return Ok(());
+        }
+    }
+    let ask = ask.dup(alloc)?;
+    asked.push((ask, 1))?;
+    Ok(())
+}
+
+/// How often anything was asked. The sum stands still at its greatest value.
+pub fn sum_asked(asked: &[(Ask, u64)]) -> u64
+    ensures { result ≡ min (all_times asked.now) (2 ^ 64 - 1) }
+{
+    let mut sum = 0u64;
+    for kept in asked {
+        sum = sum.saturating_add(kept.1);
+    }
+    sum
+}

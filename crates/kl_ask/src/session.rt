@@ -1,0 +1,36 @@
+//! The session of a program.
+ghost use Rattle.kl_ask.specs.World.{World};
+
+use crate::driver::Driver;
+use crate::settings::{Settings, Trace};
+use kl_base::{Label, Seq};
+use kl_type::Ty;
+
+/// A source of a program: its name, the type of the whole collection, and the place of its driver in the list.
+#[derive(Debug, Drop)]
+pub struct Attached {
+    pub source: Label,
+    pub ty: Ty,
+    pub driver: u32,
+}
+
+/// What a program runs over. It owns the drivers while the program runs.
+#[derive(Drop)]
+pub struct Session {
+    pub drivers: Vec<Box<dyn Driver>>,
+    /// The sources, in the order in which terms number them.
+    pub sources: Seq<Attached>,
+    pub settings: Settings,
+    pub trace: Trace,
+}
+
+/// What contracts see of a session, through its drivers' boxes.
+pub trait Seen {
+    ghost world: { Self → World };
+}
+
+impl Seen for Session {
+    ghost use Rattle.std.specs.Prelude.{map};
+
+    ghost world = { λ s. record { drivers = map (λ d. (Driver-box d).state d.value) s.drivers.items; sources = s.sources; settings = s.settings; trace = s.trace } };
+}
