@@ -22,8 +22,8 @@ use Rattle.kl_type.proofs.RowLemmas.{told, at_here, at_there, never_less}
 use Rattle.kl_type.specs.declared.Ty.{Ty}
 use Rattle.kl_outcome.specs.Outcome.{Name, as_record, record_layer}
 use Rattle.kl_outcome.specs.Typed.{Has, HasFields, Inhabits}
-use Rattle.kl_ask.specs.Asks.{item_of, row_labels, columns, column, is_kept, shown_fields, shown, answers, shown_row, shown_type, same_names, is_allowed, AskFits}
-use Rattle.kl_ask.specs.Driver.{State, Source, CanStart, InOrder}
+use Rattle.kl_ask.specs.Asks.{item_of, kind_of, row_labels, columns, column, is_kept, shown_fields, shown, answers, shown_row, shown_type, same_names, is_allowed, AskFits}
+use Rattle.kl_ask.specs.Driver.{State, Source, IsColl, CanStart, InOrder}
 use Rattle.kl_ask.specs.declared.ask.Ask.TheVariants as asks
 
 all_on : {X : Type 0} (P Q : X → Type 0) (xs : List X) → ((x : X) → P x → Q x) → AllByRecursion P xs → AllByRecursion Q xs
@@ -161,6 +161,10 @@ pub can_start_whole : (s : State) (source : Name) (ty : Ty) (a : Source) → s.a
 can_start_whole s source ty a is same good = subst (λ u. CanStart s (asks.Rows source (columns (item_of (ground_of u))) [])) same (record {
   answerable = (a, is, rw (names_same (columns (item_of (ground_of a.ty)))) refl, record { rising = columns_rise (ground_of a.ty) good; there = columns_there (item_of (ground_of a.ty)); fitting = tt });
 })
+
+-- a collection type is that of its kind over its items
+pub collection_is : (t : Ground) → IsColl t → t ≡ coll (kind_of t) (item_of t)
+collection_is t h = subst (λ q. q ≡ coll (kind_of q) (item_of q)) (sym h.2) refl
 
 -- ---- rows in another order are the same collection
 

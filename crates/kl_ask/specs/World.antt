@@ -7,7 +7,7 @@ use Rattle.kl_value.specs.declared.Value.{Value}
 use Rattle.kl_type.specs.Ground.{Ground, IsProper, ground_of}
 use Rattle.kl_outcome.specs.Typed.{Inhabits}
 use Rattle.kl_ask.specs.Asks.{item_of, kind_of}
-use Rattle.kl_ask.specs.Driver.{State, Source, Keeps}
+use Rattle.kl_ask.specs.Driver.{State, Source, Keeps, IsColl}
 use Rattle.kl_ask.specs.Lists.{EachSteps}
 use Rattle.kl_ask.specs.declared.session.Attached.{Attached}
 use Rattle.kl_ask.specs.declared.settings.Settings.{Settings}
@@ -51,10 +51,12 @@ types_of w i = type_in (source_at w i)
 unfoldable pub values_of : World → ℕ → Option Value
 values_of w i = value_in (source_at w i)
 
--- An attached source has the type under which the session lists it. That is a proper one, and rows that are told have it.
+-- An attached source has the type under which the session lists it. That is a proper one, of a collection, and rows that
+-- are told have it.
 pub record IsListed (a : Attached) (s : Source) : Type 0 where
   pub ty : s.ty ≡ a.ty
   pub proper : IsProper s.ty
+  pub collection : IsColl (ground_of s.ty)
   pub typed : (rows : List Value) → s.rows ≡ Some rows → AllByRecursion (Inhabits (item_of (ground_of s.ty))) rows
 
 -- a session over which a program can run: rows are pulled, and each source that is attached is so as it is listed
