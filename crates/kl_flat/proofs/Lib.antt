@@ -3,4 +3,5 @@ pub mod Options
 pub mod Placing
 pub mod Rows
 pub mod Steps
+pub mod Suiting
 pub mod Typing

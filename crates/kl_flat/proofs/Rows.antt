@@ -79,7 +79,7 @@ cell_in columns header entry places i c found size lt is = cell_at header entry 
   where
     there : field_at header (get_or places i 0) ≡ Some c.0
     there =
-        let few : i < length places = omega (arith, lt, sym (length-map (field_at header) places) ∙ ap length found.labels ∙ length-map (λ (d : List ℕ × Ty). Some d.0) columns) in
+        let few : i < length places = omega (arith, lt, sym (length-map places (field_at header)) ∙ ap length found.labels ∙ length-map columns (λ (d : List ℕ × Ty). Some d.0)) in
         sym (get_or-map (field_at header) places i 0 None few) ∙ ap (λ os. get_or os i None) found.labels ∙ get_or-map (λ (d : List ℕ × Ty). Some d.0) columns i c None lt ∙ ap (λ (d : List ℕ × Ty). Some d.0) (sym is)
 
     once : (b : Bool) → (times c.0 header == 1) ≡ b → times c.0 header ≡ 1

@@ -1,7 +1,6 @@
 -- Types of tables.
 use Rattle.std.specs.Prelude.{Bool, true, false, not, ◌&&◌, ◌==◌, ℕ, List, [], length, Option}
 use Rattle.std.specs.List.{list_all}
-use Rattle.kl_type.specs.Ground.{Ground, rec, row_by, ground_of}
 use Rattle.kl_type.specs.declared.ground.Ty.{Ty, Ty-F, out-Ty}
 
 abbrev pub fields_layer : Ty-F Ty → List (List ℕ × Ty)
@@ -28,7 +27,3 @@ is_base t = base_layer (out-Ty t)
 -- a collection of records with one or more fields, all of base types
 abbrev pub is_table_type : Ty → Bool
 is_table_type t = not (length (columns_of t) == 0) && list_all (λ c. is_base c.1) (columns_of t)
-
--- the type of the rows
-abbrev pub row_type : Ty → Ground
-row_type t = rec (row_by ground_of (columns_of t))

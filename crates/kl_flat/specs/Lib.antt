@@ -1,5 +1,6 @@
 pub mod Cells
 pub mod Columns
+pub mod Fitting
 pub mod Places
 pub mod Records
 pub mod Table

@@ -1,9 +1,11 @@
 //! Reads a table.
-ghost use Rattle.std.specs.Prelude.{◌≡◌, ◌≢◌, [], false, map, All, IfOk, IsTrue, MatchOption, Some};
+ghost use Rattle.std.specs.Prelude.{◌≡◌, ◌≢◌, [], false, map, IfOk, IsTrue, MatchOption, Some};
 ghost use Rattle.csv.specs.Records.{field_at, fields_of};
-ghost use Rattle.kl_type.specs.Ground.{IsProper};
+ghost use Rattle.std.specs.List.{AllByRecursion};
+ghost use Rattle.kl_type.specs.Ground.{IsProper, ground_of};
+ghost use Rattle.kl_ask.specs.Asks.{item_of};
 ghost use Rattle.kl_outcome.specs.Typed.{Inhabits};
-ghost use Rattle.kl_flat.specs.Columns.{is_table_type, row_type};
+ghost use Rattle.kl_flat.specs.Columns.{is_table_type};
 ghost use Rattle.kl_flat.specs.Places.{ArePlaces};
 ghost use Rattle.kl_flat.specs.Records.{IsPlain, records_left};
 ghost use Rattle.kl_flat.specs.Table.{bad_record, first_missing, front_of, is_header, row_in, table_rows, times};
@@ -39,7 +41,7 @@ pub fn read_table(alloc: Global, bytes: &[u8], ty: &Ty) -> Result<Table, NoMemor
     requires proper { IsProper ty.now }
     ensures rows { IfOk result (λ t. t.rows ≡ table_rows bytes.now ty.now) }
     ensures bad { IfOk result (λ t. t.bad ≡ bad_record bytes.now ty.now) }
-    ensures typed { IfOk result (λ t. All (Inhabits (row_type ty.now)) t.rows) }
+    ensures typed { IfOk result (λ t. AllByRecursion (Inhabits (item_of (ground_of ty.now))) t.rows) }
 {
     if bytes.starts_with(b"\xEF\xBB\xBF\xEF\xBB\xBF") {
         return Ok(without_header(alloc));
