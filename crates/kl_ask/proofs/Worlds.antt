@@ -5,7 +5,7 @@ use Rattle.std.proofs.lemmas.Grind.{common_steps}
 use Rattle.std.proofs.lemmas.Option.{gets, slice_get_within}
 use Rattle.kl_ask.specs.Driver.{State, Source, Keeps}
 use Rattle.kl_ask.specs.Lists.{StepsAt, EachSteps}
-use Rattle.kl_ask.specs.World.{World, IsListed, IsReady, Moved, Quiet, at_driver, at_source, source_at, type_in, value_in, types_of, values_of}
+use Rattle.kl_ask.specs.World.{World, IsListed, IsReady, Moved, Quiet, at_driver, at_place, at_source, source_at, type_in, value_in, types_of, values_of}
 use Rattle.kl_ask.specs.declared.session.Attached.{Attached}
 
 pub fun_ext : {A B : Type 0} {f g : A → B} → ((x : A) → f x ≡ g x) → f ≡ g
@@ -68,19 +68,23 @@ beyond xs ys i size is = by_case (slice_get ys i) refl
     by_case None h = h
     by_case (Some y) h = absurd (let lt = slice_get_within ys i y h in let x = there xs i (omega (arith, lt, size)) in cc)
 
-driver_stays : (a b : World) → Moved a b → (s : Attached) → at_driver s (slice_get b.drivers s.driver) ≡ at_driver s (slice_get a.drivers s.driver)
-driver_stays a b m s = by_case (slice_get a.drivers s.driver) refl
+driver_stays : (a b : World) → Moved a b → (s : Attached) (place : ℕ) → at_driver s (slice_get b.drivers place) ≡ at_driver s (slice_get a.drivers place)
+driver_stays a b m s place = by_case (slice_get a.drivers place) refl
   where
-    by_case : (o : Option State) → slice_get a.drivers s.driver ≡ o → at_driver s (slice_get b.drivers s.driver) ≡ at_driver s (slice_get a.drivers s.driver)
-    by_case None is = rw (is, beyond a.drivers b.drivers s.driver m.drivers.size is) refl
+    by_case : (o : Option State) → slice_get a.drivers place ≡ o → at_driver s (slice_get b.drivers place) ≡ at_driver s (slice_get a.drivers place)
+    by_case None is = rw (is, beyond a.drivers b.drivers place m.drivers.size is) refl
     by_case (Some x) is =
-        let y = there b.drivers s.driver (omega (arith, slice_get_within a.drivers s.driver x is, m.drivers.size)) in
-        let q = m.drivers.each s.driver x y.0 is y.1 in
+        let y = there b.drivers place (omega (arith, slice_get_within a.drivers place x is, m.drivers.size)) in
+        let q = m.drivers.each place x y.0 is y.1 in
         rw (is, y.1) (ap (λ f. f s.source) q.attached)
+
+place_stays : (a b : World) → Moved a b → (s : Attached) (o : Option ℕ) → at_place s o b.drivers ≡ at_place s o a.drivers
+place_stays a b m s (Some place) = driver_stays a b m s place
+place_stays a b m s None = refl
 
 listed_stays : (a b : World) → Moved a b → (o : Option Attached) → at_source o b.drivers ≡ at_source o a.drivers
 listed_stays a b m None = refl
-listed_stays a b m (Some s) = driver_stays a b m s
+listed_stays a b m (Some s) = place_stays a b m s s.driver
 
 pub source_stays : (a b : World) → Moved a b → (i : ℕ) → source_at b i ≡ source_at a i
 source_stays a b m i = ap (λ ss. at_source (slice_get ss i) b.drivers) m.sources ∙ listed_stays a b m (slice_get a.sources i)
@@ -104,7 +108,7 @@ pub quiet_steps : (i : ℕ) (ds es : List State) (P : State → State → Type 0
 quiet_steps i ds es P calm s = record {
   size = s.size;
   each = λ j x y hx hy. ⊎_elim
-    (λ is. calm x y (s.here x y (ap (slice_get ds) (sym is) ∙ hx) (ap (slice_get es) (sym is) ∙ hy)))
-    (λ ne. subst (λ q. Quiet x q) (some_same (sym hx ∙ sym (s.others j ne) ∙ hy)) (quiet_none x))
-    (cases_eq j i);
+      (λ is. calm x y (s.here x y (ap (slice_get ds) (sym is) ∙ hx) (ap (slice_get es) (sym is) ∙ hy)))
+      (λ ne. subst (λ q. Quiet x q) (some_same (sym hx ∙ sym (s.others j ne) ∙ hy)) (quiet_none x))
+      (cases_eq j i);
 }

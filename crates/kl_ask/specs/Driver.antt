@@ -44,8 +44,8 @@ pub record Source : Type 0 where
   pub ty : Ty
   pub rows : Option (List Value)
 
--- an open cursor: its ask, the type of its rows, the rows that are left where contents are told, and a number that the
--- rows left do not pass
+-- an open cursor: its ask, the type of its rows, the rows that are left where contents are told, and a number that falls
+-- with each pull that hands rows, so that pulls come to an end
 pub record Cursor : Type 0 where
   pub ask : Ask
   pub ty : Ground

@@ -1,5 +1,5 @@
 -- What an evaluation sees of a session, and what it leaves.
-use Rattle.std.specs.Prelude.{◌≡◌, ◌<◌, ℕ, List, Option, Some, None, slice_get}
+use Rattle.std.specs.Prelude.{◌≡◌, ◌<◌, ℕ, List, [], Option, Some, None, slice_get}
 use Rattle.std.specs.List.{AllByRecursion}
 use Rattle.kl_base.specs.Counts.{Rose}
 use Rattle.kl_value.specs.Canon.{canonical}
@@ -24,8 +24,13 @@ abbrev pub at_driver : Attached → Option State → Option Source
 at_driver a (Some d) = d.attached a.source
 at_driver a None = None
 
+-- a source that no driver has is there without rows
+abbrev pub at_place : Attached → Option ℕ → List State → Option Source
+at_place a (Some place) ds = at_driver a (slice_get ds place)
+at_place a None ds = Some (record { ty = a.ty; rows = Some [] })
+
 abbrev pub at_source : Option Attached → List State → Option Source
-at_source (Some a) ds = at_driver a (slice_get ds a.driver)
+at_source (Some a) ds = at_place a a.driver ds
 at_source None ds = None
 
 abbrev pub source_at : World → ℕ → Option Source

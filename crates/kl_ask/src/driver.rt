@@ -28,8 +28,8 @@ pub trait Driver: Drop {
     fn abilities(&self) -> Abilities
         ensures { result ≡ (state self.now).kind.abilities };
 
-    /// Whether it can hold a source of this type: a collection, and of flat records where it does more than handing whole
-    /// rows. Takes no memory.
+    /// Whether it can hold a source of this type: a collection, of flat records where it does more than handing whole
+    /// rows, and no list where it joins. Takes no memory.
     fn suits(&self, ty: &Ty) -> bool
         ensures gives { result ≡ (state self.now).kind.suits ty.now }
         ensures only { result ≡ true → Suits (state self.now).kind.abilities (ground_of ty.now) };

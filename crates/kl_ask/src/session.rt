@@ -6,12 +6,13 @@ use crate::settings::{Settings, Trace};
 use kl_base::{Label, Seq};
 use kl_type::Ty;
 
-/// A source of a program: its name, the type of the whole collection, and the place of its driver in the list.
+/// A source of a program: its name, the type of the whole collection, and the place of its driver in the list. One that
+/// the program does not mention has no driver: nothing asks for its rows, and it counts as empty.
 #[derive(Debug, Drop)]
 pub struct Attached {
     pub source: Label,
     pub ty: Ty,
-    pub driver: u32,
+    pub driver: Option<u32>,
 }
 
 /// What a program runs over. It owns the drivers while the program runs.

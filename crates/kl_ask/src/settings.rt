@@ -1,6 +1,8 @@
 //! How a program is run, and what is counted while it runs.
+ghost use Rattle.kl_ask.specs.Trace.{IsBlank};
 
 use kl_base::Seq;
+use std::alloc::Global;
 
 /// How a loop over a source inside another loop is joined.
 #[derive(Clone, Copy, Debug, PartialEq, Eq)]
@@ -51,4 +53,20 @@ pub struct Trace {
     pub misses: u64,
     /// The most rows that a block of a join held.
     pub peak: u32,
+}
+
+impl Trace {
+    /// Nothing is counted yet. Takes no memory.
+    pub fn new(alloc: Global) -> Trace
+        ensures { IsBlank result }
+    {
+        Trace {
+            steps: 0,
+            starts: Seq::of(Vec::new(alloc)),
+            joins: Seq::of(Vec::new(alloc)),
+            hits: 0,
+            misses: 0,
+            peak: 0,
+        }
+    }
 }

@@ -5,7 +5,6 @@ use Rattle.kl_lex.specs.declared.lexer.Lexed.{Lexed}
 use Rattle.kl_lex.specs.declared.lexer.Lexed.TheVariants as lexed
 use Rattle.kl_lex.specs.Placing.{PlacedTokens, AreLexed, OnlyTokens}
 use Rattle.kl_phrase.specs.Readers.{Out, ok, fail, bad, deep, ended}
-use Rattle.kl_phrase.specs.Places.{Answers}
 use Rattle.kl_phrase.proofs.Exact.{Exactly, Nested}
 use Rattle.kl_phrase.proofs.Exact as exact
 use Rattle.kl_phrase.proofs.Kept.{Rests}
@@ -14,23 +13,29 @@ use Rattle.kl_type.specs.Grammar.{Reads}
 use Rattle.std.specs.Prelude.{Result, Ok, Err, IfOk}
 use Rattle.kl_type.specs.declared.reading.TypeError.{TypeError}
 use Rattle.kl_type.specs.declared.reading.TypeError.TheVariants.{Bad, TooDeep, NoMemory}
-use Rattle.kl_type.specs.Reading.{SpellsType, ReadsType, byte_of, each, IsBadAt, IsDeepAt, AtBad, AtDeep, OrMemory, Refuses, RefusesTokens}
+use Rattle.kl_type.specs.Places.{FirstAnswers, OnePlace}
+use Rattle.kl_type.specs.Reading.{SpellsType, ReadsType, byte_of, is_bracket, IsBadAt, IsDeepAt, AtBad, AtDeep, OrMemory, Refuses, RefusesTokens}
 use Rattle.kl_type.specs.Descent as d
 use Rattle.kl_type.proofs.FieldGoods.{Free}
 use Rattle.kl_type.proofs.Goods.{has_reads, good_reads}
 use Rattle.kl_type.proofs.Kepts.{more_reads, same_reads, rests_reads}
+use Rattle.kl_type.proofs.FirstPlaces as firsts
+use Rattle.kl_type.proofs.Flats.{flat_reads, firstly}
 
-exactly : Exactly Reads suc Free each (λ N n. d.reads n)
-exactly = record { has = has_reads; good = good_reads; ends = tt; more = more_reads; same = λ N M n. same_reads (Nested each) N M n }
+exactly : Exactly Reads suc Free is_bracket (λ N n. d.reads n)
+exactly = record { has = has_reads; good = good_reads; ends = tt; more = more_reads; same = λ N M n. same_reads (Nested is_bracket) N M n }
 
-answers : (ts : List Placed) → Answers Reads each 256 ts (ended (d.reads 256 ts))
-answers ts = exact.answers Reads suc Free each (λ N n. d.reads n) exactly 256 ts
+answers : (ts : List Placed) → FirstAnswers Reads is_bracket 256 ts (ended (d.reads 256 ts))
+answers ts = firsts.answers Reads Free is_bracket is_bracket (λ N n. d.reads n) (λ N n. flat_reads n) exactly firstly (λ t h. h) 256 ts
 
 pub unique : (ts : List Placed) (t u : Ty) → SpellsType ts t → SpellsType ts u → t ≡ u
-unique ts t u h i = exact.unique Reads suc Free each (λ N n. d.reads n) exactly 256 256 t u ts h i
+unique ts t u h i = exact.unique Reads suc Free is_bracket (λ N n. d.reads n) exactly 256 256 t u ts h i
+
+pub one_place : (ts : List Placed) → OnePlace Reads is_bracket 256 ts
+one_place ts = firsts.one_place Reads is_bracket 256 ts
 
 only : (ts : List Placed) (t : Ty) → SpellsType ts t → ended (d.reads 256 ts) ≡ ok t []
-only ts t h = exact.only Reads suc Free each (λ N n. d.reads n) exactly 256 t ts h
+only ts t h = exact.only Reads suc Free is_bracket (λ N n. d.reads n) exactly 256 t ts h
 
 empty : (r : List Placed) → length r ≡ 0 → r ≡ []
 empty [] z = refl
@@ -48,8 +53,8 @@ dropped ts u r e =
     ap (λ (n : ℕ). drop n ts) j ∙ ap (λ (z : List Placed). drop (length u) z) e ∙ drop_rest u r
 
 module _ (total : ℕ) (ts : List Placed) where
-  answered : (o : Out Placed Ty) → d.reads 256 ts ≡ o → Answers Reads each 256 ts (ended o)
-  answered o e = subst (λ (z : Out Placed Ty). Answers Reads each 256 ts (ended z)) e (answers ts)
+  answered : (o : Out Placed Ty) → d.reads 256 ts ≡ o → FirstAnswers Reads is_bracket 256 ts (ended o)
+  answered o e = subst (λ (z : Out Placed Ty). FirstAnswers Reads is_bracket 256 ts (ended z)) e (answers ts)
 
   only_so : (o : Out Placed Ty) (u : Ty) → d.reads 256 ts ≡ o → SpellsType ts u → ended o ≡ ok u []
   only_so o u e h = ap ended (sym e) ∙ only ts u h

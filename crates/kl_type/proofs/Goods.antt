@@ -20,7 +20,7 @@ use Rattle.kl_type.proofs.FieldGoods.{Free, FieldList, on_fields, good_fields, h
 
 -- ---- with which tokens they begin
 
-on_coll : (E : Phrase Placed Ty) (k : Kind) → On (is_symbol (opener k)) (Coll E k)
+pub on_coll : (E : Phrase Placed Ty) (k : Kind) → On (is_symbol (opener k)) (Coll E k)
 on_coll E k = on_made (is_symbol (opener k)) (ty.Coll k) (Behind (Symbol (opener k)) (Before E (Symbol (closer k)))) (on_behind (is_symbol (opener k)) (Symbol (opener k)) (Before E (Symbol (closer k))) (on_symbol (opener k)))
 
 abbrev InRec : Phrase Placed Ty → Phrase Placed FieldList
@@ -29,10 +29,10 @@ InRec E = Before (Optional [] (Fields E)) (Symbol sy.CloseRec)
 abbrev InVar : Phrase Placed Ty → Phrase Placed FieldList
 InVar E = Before (Fields E) (Symbol sy.Gt)
 
-on_rec : (E : Phrase Placed Ty) → On (is_symbol sy.OpenRec) (Rec E)
+pub on_rec : (E : Phrase Placed Ty) → On (is_symbol sy.OpenRec) (Rec E)
 on_rec E = on_made (is_symbol sy.OpenRec) ty.Rec (Behind (Symbol sy.OpenRec) (InRec E)) (on_behind (is_symbol sy.OpenRec) (Symbol sy.OpenRec) (InRec E) (on_symbol sy.OpenRec))
 
-on_var : (E : Phrase Placed Ty) → On (is_symbol sy.Lt) (Var E)
+pub on_var : (E : Phrase Placed Ty) → On (is_symbol sy.Lt) (Var E)
 on_var E = on_made (is_symbol sy.Lt) ty.Var (Behind (Symbol sy.Lt) (InVar E)) (on_behind (is_symbol sy.Lt) (Symbol sy.Lt) (InVar E) (on_symbol sy.Lt))
 
 -- what begins with another symbol, or otherwise
@@ -61,16 +61,16 @@ module _ (W : Phrase Placed Ty) (has_in : Has W) where
   opens_rec = opens_made (is_symbol sy.OpenRec) ty.Rec (Behind (Symbol sy.OpenRec) (InRec W)) (opens_behind (is_symbol sy.OpenRec) (IsSymbol sy.OpenRec) (InRec W) (symbol_of sy.OpenRec) has_in_rec)
 
 module _ (N : ℕ) (E W : Phrase Placed Ty) (e : Reader Placed Ty) (good : Good N E W Free e) (has_in : Has W) where
-  good_coll : (k : Kind) → Good N (Coll E k) (Coll W k) Free (d.coll e k)
+  pub good_coll : (k : Kind) → Good N (Coll E k) (Coll W k) Free (d.coll e k)
   good_coll k = good_made (good_behind (good_symbol (opener k) Free) (good_before good (good_symbol (closer k) Free) (has_symbol (closer k)) (λ n b y v r h. tt)) (has_in_coll W has_in k) (λ n b y v r h. tt))
 
   good_optional : Good N (Optional [] (Fields E)) (Optional [] (Fields W)) (Heads (is_symbol sy.CloseRec)) (pick is_word (d.fields e) (nothing []))
   good_optional = good_pick (good_follow (Heads (is_symbol sy.CloseRec)) (heads_without (apart sy.CloseRec sy.Comma refl)) (good_fields N E W e good has_in)) good_nothing (on_fields E) (off_nothing is_word [] (Heads (is_symbol sy.CloseRec)) (heads_without (symbol_no_word sy.CloseRec)))
 
-  good_rec : Good N (Rec E) (Rec W) Free (d.rec e)
+  pub good_rec : Good N (Rec E) (Rec W) Free (d.rec e)
   good_rec = good_made (good_behind (good_symbol sy.OpenRec Free) (good_before good_optional (good_symbol sy.CloseRec Free) (has_symbol sy.CloseRec) (meets_on Free (λ v h. h) (on_symbol sy.CloseRec))) (has_in_rec W has_in) (λ n b y v r h. tt))
 
-  good_var : Good N (Var E) (Var W) Free (d.var e)
+  pub good_var : Good N (Var E) (Var W) Free (d.var e)
   good_var = good_made (good_behind (good_symbol sy.Lt Free) (good_before (good_fields N E W e good has_in) (good_symbol sy.Gt Free) (has_symbol sy.Gt) (meets_on Free (heads_without (apart sy.Gt sy.Comma refl)) (on_symbol sy.Gt))) (has_in_var W has_in) (λ n b y v r h. tt))
 
 -- ---- types
@@ -91,16 +91,16 @@ has_a_type : (may : Bool) (E : Phrase Placed Ty) → Has (AType E may)
 has_a_type may E = has_right (Opened may (Coll E kind.Set)) (BagOn may E) (has_right (Opened may (Coll E kind.Bag)) (ListOn may E) (has_right (Opened may (Coll E kind.List)) (RecordOn may E) (has_right (Opened may (Rec E)) (VariantOn may E) (has_right (Opened may (Var E)) (One IsBase) has_base))))
 
 module _ (may : Bool) (E : Phrase Placed Ty) where
-  off_variant : (s : Sym) → same_symbol sy.Lt s ≡ false → Off (is_symbol s) (VariantOn may E) Free
+  pub off_variant : (s : Sym) → same_symbol sy.Lt s ≡ false → Off (is_symbol s) (VariantOn may E) Free
   off_variant s a = off_more may s sy.Lt (Var E) (One IsBase) a (on_var E) (off_on Free (word_no_symbol s) on_base)
 
-  off_record : (s : Sym) → same_symbol sy.OpenRec s ≡ false → same_symbol sy.Lt s ≡ false → Off (is_symbol s) (RecordOn may E) Free
+  pub off_record : (s : Sym) → same_symbol sy.OpenRec s ≡ false → same_symbol sy.Lt s ≡ false → Off (is_symbol s) (RecordOn may E) Free
   off_record s b a = off_more may s sy.OpenRec (Rec E) (VariantOn may E) b (on_rec E) (off_variant s a)
 
-  off_list : (s : Sym) → same_symbol sy.OpenList s ≡ false → same_symbol sy.OpenRec s ≡ false → same_symbol sy.Lt s ≡ false → Off (is_symbol s) (ListOn may E) Free
+  pub off_list : (s : Sym) → same_symbol sy.OpenList s ≡ false → same_symbol sy.OpenRec s ≡ false → same_symbol sy.Lt s ≡ false → Off (is_symbol s) (ListOn may E) Free
   off_list s c b a = off_more may s sy.OpenList (Coll E kind.List) (RecordOn may E) c (on_coll E kind.List) (off_record s b a)
 
-  off_bag : (s : Sym) → same_symbol sy.OpenBag s ≡ false → same_symbol sy.OpenList s ≡ false → same_symbol sy.OpenRec s ≡ false → same_symbol sy.Lt s ≡ false → Off (is_symbol s) (BagOn may E) Free
+  pub off_bag : (s : Sym) → same_symbol sy.OpenBag s ≡ false → same_symbol sy.OpenList s ≡ false → same_symbol sy.OpenRec s ≡ false → same_symbol sy.Lt s ≡ false → Off (is_symbol s) (BagOn may E) Free
   off_bag s g c b a = off_more may s sy.OpenBag (Coll E kind.Bag) (ListOn may E) g (on_coll E kind.Bag) (off_list s c b a)
 
 good_a_type : (N : ℕ) (may : Bool) (E W : Phrase Placed Ty) (e : Reader Placed Ty) → (IsTrue may → Good N E W Free e) → Has W → Good N (AType E may) (AType W true) Free (d.a_type e may)

@@ -1,5 +1,7 @@
 pub mod Answer
 pub mod FieldGoods
+pub mod FirstPlaces
+pub mod Flats
 pub mod Goods
 pub mod GroundLemmas
 pub mod HasLemmas

@@ -1,5 +1,5 @@
 -- The descent: for each word of the grammar a reader.
--- No public contract cites this.
+-- Only the contracts of what reads a type inside a longer list of tokens cite this.
 use Rattle.std.specs.Prelude.{ℕ, zero, suc, nat_eq, Bool, true, false, List, [], length, Option, Some, None, if◌then◌else◌, codes}
 use Rattle.std.specs.Cmp.Lexicographic.{pointwise}
 use Rattle.kl_base.specs.Fields.{field as at_label}

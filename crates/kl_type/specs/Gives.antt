@@ -1,5 +1,5 @@
 -- What a function of the descent answers, seen as an outcome.
--- No public contract cites this.
+-- Only the contracts of what reads a type inside a longer list of tokens cite this.
 use Rattle.std.specs.Prelude.{◌≡◌, List, Result, Ok, Err}
 use Rattle.kl_lex.specs.declared.token.Placed.{Placed}
 use Rattle.kl_phrase.specs.Readers.{Out, ok, fail, bad, deep}

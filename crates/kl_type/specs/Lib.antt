@@ -4,5 +4,6 @@ pub mod Grammar
 pub mod Ground
 pub mod Has
 pub mod Parts
+pub mod Places
 pub mod Reading
 pub mod Written

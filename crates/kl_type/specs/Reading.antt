@@ -1,13 +1,16 @@
 -- Which bytes are which type, and where those that are none go wrong.
-use Rattle.std.specs.Prelude.{◌≡◌, ℕ, Bool, true, List, [], ◌∷◌, length, drop, Result, Ok, Err, ◌⊎◌}
+use Rattle.std.specs.Prelude.{◌≡◌, ℕ, Bool, true, false, List, [], ◌∷◌, length, drop, Result, Ok, Err, ◌⊎◌}
+use Rattle.kl_lex.specs.declared.token.Sym.TheVariants as sym
+use Rattle.kl_lex.specs.declared.token.Tok.{Tok}
+use Rattle.kl_lex.specs.declared.token.Tok.TheVariants as tok
 use Rattle.kl_lex.specs.declared.token.Placed.{Placed}
 use Rattle.kl_lex.specs.Lexing.{Refused}
 use Rattle.kl_lex.specs.Placing.{PlacedTokens}
-use Rattle.kl_phrase.specs.Places.{IsPlace, IsDeepPlace}
 use Rattle.kl_type.specs.declared.ground.Ty.{Ty}
 use Rattle.kl_type.specs.declared.reading.TypeError.{TypeError}
 use Rattle.kl_type.specs.declared.reading.TypeError.TheVariants.{Bad, TooDeep, NoMemory}
 use Rattle.kl_type.specs.Grammar.{Reads}
+use Rattle.kl_type.specs.Places.{IsFirstBad, IsFirstDeep}
 
 -- the tokens are this type, nested at most 256 deep
 abbrev pub SpellsType : List Placed → Ty → Type 0
@@ -22,17 +25,25 @@ abbrev pub byte_of : ℕ → List Placed → ℕ
 byte_of total [] = total
 byte_of total (t ∷ ts) = t.from
 
--- each bracket nests
-abbrev pub each : Placed → Bool
-each t = true
+-- the brackets that nest: { {| [| [ <
+abbrev pub is_bracket_at : Tok → Bool
+is_bracket_at (tok.Sym sym.OpenSet) = true
+is_bracket_at (tok.Sym sym.OpenBag) = true
+is_bracket_at (tok.Sym sym.OpenList) = true
+is_bracket_at (tok.Sym sym.OpenRec) = true
+is_bracket_at (tok.Sym sym.Lt) = true
+is_bracket_at _ = false
 
--- so many tokens are all that begin some type
+abbrev pub is_bracket : Placed → Bool
+is_bracket t = is_bracket_at t.what
+
+-- so many tokens are all that begin some type, and they begin one nested at most 256 deep
 abbrev pub IsBadAt : List Placed → ℕ → Type 0
-IsBadAt ts k = IsPlace Reads ts k
+IsBadAt ts k = IsFirstBad Reads 256 ts k
 
--- so many tokens stand before the one that makes the nesting 257
+-- so many tokens begin a type nested at most 256 deep, and the next one is a bracket that makes the nesting 257
 abbrev pub IsDeepAt : List Placed → ℕ → Type 0
-IsDeepAt ts k = IsDeepPlace Reads each 256 ts k
+IsDeepAt ts k = IsFirstDeep Reads is_bracket 256 ts k
 
 -- the answer is this type, or want of memory
 abbrev pub OrMemory : Result Ty TypeError → Ty → Type 0

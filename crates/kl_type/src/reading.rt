@@ -4,15 +4,16 @@ ghost use Rattle.kl_phrase.specs.Words.{heads};
 ghost use Rattle.kl_phrase.specs.Readers.{one};
 ghost use Rattle.kl_lex.specs.declared.token.Placed.{Placed as APlaced};
 ghost use Rattle.kl_lex.specs.declared.token.Sym.TheVariants as symbols;
-ghost use Rattle.kl_lex.specs.declared.token.Tok.TheVariants.{Word};
 ghost use Rattle.kl_type.specs.declared.ground.Ty.{Ty as AType};
 ghost use Rattle.kl_type.specs.declared.reading.TypeError.TheVariants.{NoMemory as WantOfMemory};
 ghost use Rattle.kl_type.specs.Gives.{Gives};
-ghost use Rattle.kl_type.specs.Grammar.{opener, closer as closer_of};
-ghost use Rattle.kl_type.specs.Descent.{is_symbol, is_word, mark, a_base, base_of, a_label, field, fields, in_coll, in_rec, in_var, reads};
-ghost use Rattle.kl_type.specs.Reading.{ReadsType, SpellsType, OrMemory, Refuses, RefusesTokens, byte_of};
+ghost use Rattle.kl_type.specs.Grammar.{Reads, opener, closer as closer_of};
+ghost use Rattle.kl_type.specs.Descent.{is_symbol, is_word, a_base, base_of, a_label, field, fields, in_coll, in_rec, in_var, reads};
+ghost use Rattle.kl_type.specs.Places.{OnePlace};
+ghost use Rattle.kl_type.specs.Reading.{ReadsType, SpellsType, OrMemory, Refuses, RefusesTokens, is_bracket};
 
 use crate::fault::Fault;
+use crate::front::{byte_of, eat, want, word_at};
 use crate::ground::{Ty, TyFields};
 use kl_base::{Box, Label, NoMemory, Seq};
 use kl_lex::{Lexed, Placed, Sym, Tok, lex_all};
@@ -46,48 +47,6 @@ impl From<NoMemory> for TypeError {
 
 /// How deep a type may nest.
 const MOST_NESTED: u32 = 256;
-
-/// What stands behind this symbol, if the tokens begin with it.
-fn eat(tokens: &[Placed], symbol: Sym) -> Option<&[Placed]>
-    ensures { MatchOption result (heads (is_symbol symbol) tokens.now ≡ false) (λ rest. (t : APlaced) × (tokens.now ≡ t ∷ rest.now) × (is_symbol symbol t ≡ true)) }
-{
-    match tokens {
-        [
-            Placed {
-                what: Tok::Sym(found),
-                ..
-            },
-            rest @ ..,
-        ] if *found == symbol => Some(rest),
-        _ => None,
-    }
-}
-
-/// What stands behind this symbol, which has to come.
-fn want(tokens: &[Placed], symbol: Sym) -> Result<&[Placed], Fault<'_>>
-    ensures { Gives (λ x. tt) (λ x. x.now) result (mark symbol tokens.now) }
-{
-    match eat(tokens, symbol) {
-        None => Err(Fault::Bad(tokens)),
-        Some(rest) => Ok(rest),
-    }
-}
-
-/// The word that comes, and what stands behind it.
-fn word_at(tokens: &[Placed]) -> Option<(&Label, &[Placed])>
-    ensures { MatchOption result (heads is_word tokens.now ≡ false) (λ x. (t : APlaced) × (tokens.now ≡ t ∷ x.1.now) × (t.what ≡ Word x.0.now)) }
-{
-    match tokens {
-        [
-            Placed {
-                what: Tok::Word(word),
-                ..
-            },
-            rest @ ..,
-        ] => Some((word, rest)),
-        _ => None,
-    }
-}
 
 /// Whether a word comes.
 fn comes_word(tokens: &[Placed]) -> bool
@@ -288,14 +247,15 @@ fn field<'a>(
     Ok(((name, inner), rest))
 }
 
-/// The byte at which these last tokens of a text of so many bytes begin.
-fn byte_of(total: usize, tokens: &[Placed]) -> u64
-    ensures { result ≡ byte_of total tokens.now }
+/// The type with which the tokens begin, and what stands behind it.
+///
+/// # Errors
+/// As the descent over the grammar of types tells (`reads` in `specs/Descent.antt`): the tokens from the first one with
+/// which no type goes on, or from the bracket that opens inside 256 others. Want of memory.
+pub fn read_front(alloc: Global, tokens: &[Placed]) -> Result<(Ty, &[Placed]), Fault<'_>>
+    ensures { Gives (λ x. x.0) (λ x. x.1.now) result (reads 256 tokens.now) }
 {
-    match tokens {
-        [] => total as u64,
-        [first, ..] => first.from,
-    }
+    read(alloc, MOST_NESTED, tokens)
 }
 
 /// The type that the tokens of a text of so many bytes spell.
@@ -307,7 +267,7 @@ fn type_of(alloc: Global, total: usize, tokens: &[Placed]) -> Result<Ty, TypeErr
     ensures only { (t : AType) → SpellsType tokens.now t → OrMemory result t }
     ensures refused { RefusesTokens total tokens.now result }
 {
-    match read(alloc, MOST_NESTED, tokens) {
+    match read_front(alloc, tokens) {
         Ok((found, [])) => Ok(found),
         Ok((_, rest)) => Err(TypeError::Bad {
             place: byte_of(total, rest),
@@ -328,7 +288,9 @@ fn type_of(alloc: Global, total: usize, tokens: &[Placed]) -> Result<Ty, TypeErr
 /// # Errors
 /// `Bad` exactly where the bytes are no type: with the first byte where a token is due and none starts, else with the
 /// first byte of the first token with which no type goes on, or the length of the text where tokens are missing.
-/// `TooDeep` with the bracket that opens inside 256 others, where the tokens through it begin some type. Want of memory.
+/// `TooDeep` with the first bracket that opens inside 256 others: the tokens before it begin a type that nests at most 256
+/// deep, those through it one that nests 257 deep, and none that nests less. It comes before any refusal of a token behind it.
+/// Want of memory.
 pub fn read_type(alloc: Global, bytes: &[u8]) -> Result<Ty, TypeError>
     ensures reads { IfOk result (ReadsType bytes.now) }
     ensures only { (t : AType) → ReadsType bytes.now t → OrMemory result t }
@@ -340,7 +302,9 @@ pub fn read_type(alloc: Global, bytes: &[u8]) -> Result<Ty, TypeError>
     }
 }
 
-/// Laws of the texts of types, for the layers above to cite.
+/// Laws of the texts of types, for the layers above to cite: tokens are at most one type, and go wrong at most at one
+/// place, in at most one way, and nowhere where they are a type.
 pub fn type_laws()
-    ensures { (ts : List APlaced) (t u : AType) → SpellsType ts t → SpellsType ts u → t ≡ u }
+    ensures unique { (ts : List APlaced) (t u : AType) → SpellsType ts t → SpellsType ts u → t ≡ u }
+    ensures one_place { (ts : List APlaced) → OnePlace Reads is_bracket 256 ts }
 {}

@@ -1,4 +1,4 @@
-use Rattle.kl_type.proofs.Answer.{reads_so, only_as}
+use Rattle.kl_type.proofs.Answer.{reads_so, only_as, refused_so}
 use Rattle.kl_type.proofs.reading.read_type.Goals as goal
 
 pub returns-in-Tokens-clause-reads : goal.returns-in-Tokens-clause-reads
@@ -8,3 +8,7 @@ returns-in-Tokens-clause-reads c =
 pub returns-in-Tokens-clause-only : goal.returns-in-Tokens-clause-only
 returns-in-Tokens-clause-only c =
     only_as c.args.bytes.now c.in_ok-byte.field-0 c.in-Tokens.tokens c.slice.result.now c.in-Tokens.is c.slice.ensures c.in_ok-byte.ensures.tokens c.in_ok-byte.ensures.only c.type_of.result c.type_of.ensures.only
+
+pub returns-in-Tokens-clause-refused : goal.returns-in-Tokens-clause-refused
+returns-in-Tokens-clause-refused c =
+    refused_so c.args.bytes.now c.in_ok-byte.field-0 c.in-Tokens.tokens c.slice.result.now c.in-Tokens.is c.slice.ensures c.in_ok-byte.ensures.tokens c.in_ok-byte.ensures.only c.type_of.result c.type_of.ensures.refused

@@ -1,0 +1,4 @@
+pub mod Answer
+pub mod Goods
+pub mod Lexemes
+pub mod Steps

@@ -1,0 +1,4 @@
+pub mod Descent
+pub mod Grammar
+pub mod Keywords
+pub mod Reading

@@ -1,0 +1,131 @@
+-- What comes of attaching the sources that a program mentions.
+use Rattle.std.specs.Prelude.{◌≡◌, ◌⊎◌, ℕ, suc, ◌<◌, Bool, true, false, List, [], ◌∷◌, map, Option, Some, None, Result, IfOk, IfErr, OnOk, MatchResult, slice_get, ⊤}
+use Rattle.std.specs.List.{AllByRecursion}
+use Rattle.kl_base.specs.Counts.{Rose}
+use Rattle.kl_value.specs.declared.Value.{Value}
+use Rattle.kl_type.specs.Ground.{ground_of}
+use Rattle.kl_outcome.specs.Outcome.{Name}
+use Rattle.kl_outcome.specs.Typed.{Inhabits}
+use Rattle.kl_ask.specs.Asks.{item_of}
+use Rattle.kl_ask.specs.Driver.{DriverKind, State, Stored, Missing, Bad, Long, Deep, Rows, Keeps, told_rows}
+use Rattle.kl_ask.specs.Lists.{EachSteps}
+use Rattle.kl_ask.specs.declared.ask.DriverError.{DriverError}
+use Rattle.kl_ask.specs.declared.ask.DriverError.TheVariants as error
+use Rattle.kl_ask.specs.declared.session.Attached.{Attached}
+use Rattle.kl_sources.specs.declared.attaching.AttachError.{AttachError}
+use Rattle.kl_sources.specs.declared.source.Source.{Source}
+use Rattle.kl_sources.specs.Sources.{kinds_of, contents, HaveValues, FirstWithout}
+
+-- the same marks of the numbers below n
+abbrev pub AgreeBelow : ℕ → (ℕ → Bool) → (ℕ → Bool) → Type 0
+AgreeBelow n marks others = (i : ℕ) → i < n → marks i ≡ others i
+
+-- nothing is attached at any driver
+abbrev pub HaveNone : List State → Type 0
+HaveNone ds = (i : ℕ) (d : State) → slice_get ds i ≡ Some d → (x : Name) → d.attached x ≡ None
+
+-- the list of a session: all sources, each with its driver where it is marked
+abbrev pub listed : Bool → Source → Attached
+listed true s = record { source = s.name; ty = s.ty; driver = Some s.driver }
+listed false s = record { source = s.name; ty = s.ty; driver = None }
+
+abbrev pub list_of : (ℕ → Bool) → ℕ → List Source → List Attached
+list_of marks n [] = []
+list_of marks n (s ∷ ss) = listed (marks n) s ∷ list_of marks (suc n) ss
+
+-- ---- what the drivers keep
+
+abbrev pub IsMarkedName : (ℕ → Bool) → List Source → Name → Type 0
+IsMarkedName marks sources x = (i : ℕ) × (s : Source) × (slice_get sources i ≡ Some s) × (marks i ≡ true) × (s.name ≡ x)
+
+-- a driver at which nothing but marked sources may have been attached
+pub record MayAttach (marks : ℕ → Bool) (sources : List Source) (old new : State) : Type 0 where
+  pub keeps : Keeps old new
+  pub cursors : new.cursors ≡ old.cursors
+  pub asked : new.asked ≡ old.asked
+  pub handed : new.handed ≡ old.handed
+  pub others : (x : Name) → (IsMarkedName marks sources x → ⊥) → new.attached x ≡ old.attached x
+
+-- a count of some driver rose
+abbrev pub SomeRose : (State → ℕ) → List State → List State → Type 0
+SomeRose count old new = (i : ℕ) × (a : State) × (b : State) × (slice_get old i ≡ Some a) × (slice_get new i ≡ Some b) × Rose (count a) (count b)
+
+-- ---- sources that are not told
+
+abbrev pub SomeUntold : List DriverKind → (ℕ → Bool) → ℕ → List Source → Type 0
+SomeUntold ks marks n [] = ⊥
+SomeUntold ks marks n (s ∷ ss) = ((marks n ≡ true) × (contents ks s ≡ None)) ⊎ SomeUntold ks marks (suc n) ss
+
+-- Some driver does not tell its contents, so that neither values nor a first source without rows are said of these
+-- sources.
+pub record NoVerdict (ks : List DriverKind) (marks : ℕ → Bool) (sources : List Source) : Type 0 where
+  pub driver : (i : ℕ) × (k : DriverKind) × (slice_get ks i ≡ Some k) × (k.stored ≡ None)
+  pub no_values : (vs : List (Name × Value)) → HaveValues ks marks 0 sources vs → ⊥
+  pub no_first : (s : Source) (w : Stored) → FirstWithout ks marks 0 sources s w → ⊥
+
+-- ---- refusals
+
+-- the answer of a driver that cannot read what stands at a source
+abbrev pub IsErrorOf : Stored → DriverError → Type 0
+IsErrorOf Missing e = e ≡ error.Failed
+IsErrorOf (Bad place) e = e ≡ error.BadSource place
+IsErrorOf (Long most) e = e ≡ error.TooLong most
+IsErrorOf (Deep place) e = e ≡ error.TooDeep place
+IsErrorOf (Rows rows) e = ⊥
+
+abbrev pub IsUnreadable : DriverError → Type 0
+IsUnreadable (error.BadSource place) = ⊤
+IsUnreadable (error.TooLong most) = ⊤
+IsUnreadable (error.TooDeep place) = ⊤
+IsUnreadable _ = ⊥
+
+-- a fault of some driver, or want of memory
+abbrev pub IsMishap : DriverError → List State → List State → Type 0
+IsMishap e old new = ((e ≡ error.Failed) × SomeRose (λ d. d.faults) old new) ⊎ (e ≡ error.NoMemory)
+
+-- the error of what stands at a source, or a mishap
+abbrev pub IsRefusalOf : Source → Stored → List State → List State → AttachError → Type 0
+IsRefusalOf s w old new e = ((e.source ≡ s.name) × IsErrorOf w e.error) ⊎ IsMishap e.error old new
+
+-- contents that are told say that the source is without rows
+abbrev pub StandsWithout : List DriverKind → (ℕ → Bool) → List Source → Source → DriverError → Type 0
+StandsWithout ks marks sources s e = (w : Stored) × IsErrorOf w e × (contents ks s ≡ Some w) × (FirstWithout ks marks 0 sources s w ⊎ NoVerdict ks marks sources)
+
+-- the source is not told, and its driver counted one that it could not read
+abbrev pub IsUnread : List DriverKind → (ℕ → Bool) → List Source → Source → DriverError → List State → List State → Type 0
+IsUnread ks marks sources s e old new = IsUnreadable e × (contents ks s ≡ None) × NoVerdict ks marks sources × SomeRose (λ d. d.unread) old new
+
+-- the cause of a refusal, which is that of one of the sources
+pub record Causes (marks : ℕ → Bool) (sources : List Source) (old new : List State) (e : AttachError) : Type 0 where
+  pub place : ℕ
+  pub refused : Source
+  pub there : slice_get sources place ≡ Some refused
+  pub named : refused.name ≡ e.source
+  pub cause : IsMishap e.error old new ⊎ ((marks place ≡ true) × (StandsWithout (kinds_of old) marks sources refused e.error ⊎ IsUnread (kinds_of old) marks sources refused e.error old new))
+
+-- ---- what stands after it
+
+-- rows of the source's type, or contents that are not told
+abbrev pub HasTyped : Source → Option Stored → Type 0
+HasTyped s (Some (Rows rows)) = AllByRecursion (Inhabits (item_of (ground_of s.ty))) rows
+HasTyped s (Some _) = ⊥
+HasTyped s None = ⊤
+
+-- a source is attached at its driver under its name, with its type and, where they are told, its rows
+pub record Stands (ks : List DriverKind) (ds : List State) (s : Source) : Type 0 where
+  pub driver : State
+  pub there : slice_get ds s.driver ≡ Some driver
+  pub attached : driver.attached s.name ≡ Some (record { ty = s.ty; rows = told_rows (contents ks s) })
+  pub typed : HasTyped s (contents ks s)
+
+-- ---- all
+
+pub record AttachesAll (marks : ℕ → Bool) (sources : List Source) (result : Result (List Attached) AttachError) (old new : List State) : Type 0 where
+  pub drivers : EachSteps (MayAttach marks sources) old new
+  pub list : IfOk result (λ list. list ≡ list_of marks 0 sources)
+  pub stand : OnOk result ((i : ℕ) (s : Source) → slice_get sources i ≡ Some s → marks i ≡ true → Stands (kinds_of old) new s)
+  -- the sources have values, or some driver does not tell
+  pub values : OnOk result (((vs : List (Name × Value)) × HaveValues (kinds_of old) marks 0 sources vs) ⊎ NoVerdict (kinds_of old) marks sources)
+  -- where contents that are told say that a source is the first without rows, its error comes, or a mishap
+  pub refused : (s : Source) (w : Stored) → FirstWithout (kinds_of old) marks 0 sources s w → MatchResult result (λ _. ⊥) (IsRefusalOf s w old new)
+  pub cause : IfErr result (Causes marks sources old new)

@@ -1,0 +1,4 @@
+pub mod Sources
+pub mod Placing
+pub mod Attaching
+pub mod Walking

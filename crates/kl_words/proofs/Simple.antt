@@ -1,0 +1,16 @@
+-- The command lines are such whose reading clap defines.
+use Rattle.std.proofs.Common.{◌≡◌, true, refl}
+use Rattle.clap.specs.Words.{Text, is_simple_and_free}
+use Rattle.kl_words.specs.Lines.{program_line, run_line, show_line}
+
+pub run_simple : is_simple_and_free run_line ≡ true
+unfolding run_line program_line
+run_simple = refl
+
+pub program_simple : (name : Text) → is_simple_and_free (program_line name) ≡ true
+unfolding program_line
+program_simple name = refl
+
+pub show_simple : is_simple_and_free show_line ≡ true
+unfolding show_line
+show_simple = refl

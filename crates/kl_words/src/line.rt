@@ -1,0 +1,69 @@
+//! The command lines, as `clap` is told them.
+ghost use Rattle.std.specs.Prelude.{◌≡◌, false, IfOk};
+ghost use Rattle.clap.specs.Words.{app_of, rule_of};
+ghost use Rattle.kl_words.specs.Lines.{flag_rule, number_rule, place_rule, program_line, run_line, show_line, text_rule};
+
+use clap::builder::ValueParser;
+use clap::{Arg, ArgAction, Command};
+use std::alloc::{AllocError, Global};
+
+fn place<'a>(alloc: Global, name: &'a str, required: bool) -> Arg<'a>
+    ensures rule { rule_of result ≡ place_rule name.entry.now required }
+    ensures local { result.global ≡ false }
+{
+    Arg::new(alloc, name).required(required)
+}
+
+fn number<'a>(alloc: Global, name: &'a str, least: i64, most: i64) -> Arg<'a>
+    ensures rule { rule_of result ≡ number_rule name.entry.now least most }
+    ensures local { result.global ≡ false }
+{
+    Arg::new(alloc, name)
+        .long(name)
+        .value_parser(ValueParser::signed(least, most))
+}
+
+fn text<'a>(alloc: Global, name: &'a str) -> Arg<'a>
+    ensures rule { rule_of result ≡ text_rule name.entry.now }
+    ensures local { result.global ≡ false }
+{
+    Arg::new(alloc, name).long(name)
+}
+
+fn flag<'a>(alloc: Global, name: &'a str) -> Arg<'a>
+    ensures rule { rule_of result ≡ flag_rule name.entry.now }
+    ensures local { result.global ≡ false }
+{
+    Arg::new(alloc, name).long(name).action(ArgAction::SetTrue)
+}
+
+/// A command on a program and perhaps a catalogue.
+pub fn program<'a>(alloc: Global, name: &'a str) -> Result<Command<'a>, AllocError>
+    ensures { IfOk result (λ line. app_of line ≡ program_line name.entry.now) }
+{
+    Command::new(alloc, name)
+        .arg(place(alloc, "program", true))?
+        .arg(place(alloc, "catalogue", false))
+}
+
+/// `run`, with its options.
+pub fn run<'a>(alloc: Global) -> Result<Command<'a>, AllocError>
+    ensures { IfOk result (λ line. app_of line ≡ run_line) }
+{
+    program(alloc, "run")?
+        .arg(number(alloc, "block", 1, 65_536))?
+        .arg(number(alloc, "fetch", 1, 4_096))?
+        .arg(number(alloc, "cache", 0, 4_096))?
+        .arg(text(alloc, "join"))?
+        .arg(flag(alloc, "no-rewrite"))?
+        .arg(flag(alloc, "no-delegate"))?
+        .arg(number(alloc, "first", 0, 4_294_967_295))?
+        .arg(flag(alloc, "stats"))
+}
+
+/// `show`, on a file.
+pub fn show<'a>(alloc: Global) -> Result<Command<'a>, AllocError>
+    ensures { IfOk result (λ line. app_of line ≡ show_line) }
+{
+    Command::new(alloc, "show").arg(place(alloc, "file", true))
+}
