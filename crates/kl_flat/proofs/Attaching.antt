@@ -1,0 +1,245 @@
+-- What attaching says of a file that was read.
+use Rattle.std.proofs.Common.{Result, ◌≡◌, ◌≢◌, ◌⊎◌, ◌<◌, ◌≤◌, ◌+◌, ◌-◌, ◌^◌, min, ℕ, Bool, true, false, List, [], ◌∷◌, ◌++◌, length, Option, Some, None, Ok, Err, IsSome, IsErrOf, refl, sym, ◌∙◌, ap, subst, arith, rules, inl, inr, nat_lt, nat_eq, cond}
+use Rattle.std.proofs.lemmas.Bool.Decides.{nat_tests}
+use Rattle.std.specs.List.{AllByRecursion}
+use Rattle.std.specs.Cmp.Lexicographic.{pointwise, same_text}
+use Rattle.std.specs.Option.{option_map}
+use Rattle.kl_base.specs.Counts.{Rose}
+use Rattle.kl_value.specs.declared.Value.{Value}
+use Rattle.kl_type.specs.Ground.{ground_of}
+use Rattle.kl_type.specs.declared.ground.Ty.{Ty}
+use Rattle.kl_type.proofs.RowLemmas.{same_label}
+use Rattle.kl_outcome.specs.Outcome.{Name}
+use Rattle.kl_outcome.specs.Typed.{Inhabits}
+use Rattle.kl_outside.proofs.FileLemmas.{was_there}
+use Rattle.kl_outside.specs.Files.{FilesState, ReadsWhole, IsWhole, IsMissing}
+use Rattle.kl_outside.specs.declared.files.Whole.{Whole}
+use Rattle.kl_outside.specs.declared.files.Whole.TheVariants.{Bytes, TooLong}
+use Rattle.kl_outside.specs.declared.stop.Stop.TheVariants as stop
+use Rattle.kl_ask.specs.Asks.{item_of}
+use Rattle.kl_ask.specs.Driver.{State, Stored, Missing, Bad, Long, Deep, Rows, Source as Attached, Attaches, rows_in, told_rows, stored_by}
+use Rattle.kl_ask.specs.declared.ask.Ask.{Ask}
+use Rattle.kl_ask.specs.declared.ask.Drift.{Drift}
+use Rattle.kl_ask.specs.declared.ask.DriverError.{DriverError}
+use Rattle.kl_ask.specs.declared.ask.DriverError.TheVariants as error
+use Rattle.kl_flat.specs.Flat.{flat_state, source_at, told_only, attached_of, contents_of, most_bytes, stored_bytes, stored_of, stored_rows}
+use Rattle.kl_flat.specs.Table.{bad_record, table_rows}
+use Rattle.kl_flat.specs.declared.parts.Source.{Source}
+use Rattle.kl_flat.specs.declared.parts.Open.{Open}
+
+some_none : {T : Type 0} {x : T} → Some x ≡ None → ⊥
+some_none h = cc
+
+-- what stands at a path, read as a type, where bytes are told
+abbrev pub at_path : Option (List ℕ → Option (List ℕ)) → List ℕ → Ty → Option Stored
+at_path told path ty = stored_by (contents_of told) path ty
+
+-- either nothing is told, or what was read stands there
+abbrev Stands : Option (List ℕ → Option (List ℕ)) → List ℕ → Ty → Whole → Type 0
+Stands told path ty whole = (told ≡ None) ⊎ ((bytes : List ℕ) × (at_path told path ty ≡ Some (stored_bytes bytes ty)) × IsWhole most_bytes bytes whole)
+
+stands : (path : List ℕ) (ty : Ty) (whole : Whole) (f f' : FilesState) → ReadsWhole path most_bytes (Ok whole) f f' → Stands f.told path ty whole
+stands path ty whole f f' reads = by f.told refl
+  where
+    by : (t : Option (List ℕ → Option (List ℕ))) → f.told ≡ t → Stands f.told path ty whole
+    by None is = inl is
+    by (Some files) is =
+        let found = was_there path most_bytes whole f f' files reads is in
+        inr (found.0, ap (λ t. at_path t path ty) is ∙ ap (λ o. Some (stored_of o ty)) found.1, found.2)
+
+is_missing : (path : List ℕ) (ty : Ty) (f : FilesState) → at_path f.told path ty ≡ Some Missing → IsMissing f path
+is_missing path ty f is = by f.told refl
+  where
+    rows_not : (bytes : List ℕ) (o : Option ℕ) → stored_rows bytes ty o ≡ Missing → ⊥
+    rows_not bytes None e = cc
+    rows_not bytes (Some place) e = cc
+
+    bytes_not : (bytes : List ℕ) (b : Bool) → cond b (Long most_bytes) (stored_rows bytes ty (bad_record bytes ty)) ≡ Missing → ⊥
+    bytes_not bytes true e = cc
+    bytes_not bytes false e = rows_not bytes (bad_record bytes ty) e
+
+    some_same : {x y : Stored} → Some x ≡ Some y → x ≡ y
+    some_same h = cc
+
+    at : (o : Option (List ℕ)) → Some (stored_of o ty) ≡ Some Missing → o ≡ None
+    at None e = refl
+    at (Some bytes) e = absurd (bytes_not bytes (nat_lt most_bytes (length bytes)) (some_same e))
+
+    by : (t : Option (List ℕ → Option (List ℕ))) → f.told ≡ t → IsMissing f path
+    by None none = let e : at_path f.told path ty ≡ None = ap (λ t. at_path t path ty) none in absurd (some_none (sym is ∙ e))
+    by (Some files) told = (files, told, at (files path) (sym (ap (λ t. at_path t path ty) told) ∙ is))
+
+missing_is : (path : List ℕ) (ty : Ty) (f : FilesState) → IsMissing f path → at_path f.told path ty ≡ Some Missing
+missing_is path ty f is = ap (λ t. at_path t path ty) is.1 ∙ ap (λ o. Some (stored_of o ty)) is.2
+
+untold : (t : Option (List ℕ → Option (List ℕ))) → t ≡ None → IsSome (contents_of t) → ⊥
+untold None is told = cc
+untold (Some files) is told = some_none is
+
+err_same : {x y : DriverError} → IsErrOf {T = ℕ} {E = DriverError} (Err x) y → x ≡ y
+err_same h = cc
+
+-- the cause of a refusal
+abbrev CauseOf : DriverError → Option Stored → FilesState → FilesState → ℕ → ℕ → Type 0
+CauseOf error.Failed at f f' unread unread' = (at ≡ Some Missing) ⊎ Rose f.faults f'.faults
+CauseOf (error.BadSource place) at f f' unread unread' = (at ≡ Some (Bad place)) ⊎ ((f.told ≡ None) × Rose unread unread')
+CauseOf (error.TooLong most) at f f' unread unread' = (at ≡ Some (Long most)) ⊎ ((f.told ≡ None) × Rose unread unread')
+CauseOf (error.TooDeep place) at f f' unread unread' = ⊥
+CauseOf (error.Changed d) at f f' unread unread' = ⊥
+CauseOf error.NoMemory at f f' unread unread' = Unit {0}
+
+unread_cause : {A : Type 0} {P : Type 0} (f : FilesState) → P ⊎ ((f.told ≡ None) × A) → P ⊎ ((IsSome (contents_of f.told) → ⊥) × A)
+unread_cause f (inl p) = inl p
+unread_cause f (inr e) = inr (untold f.told e.0, e.1)
+
+-- a refused `attach`
+pub refused : (e : DriverError) (source path : List ℕ) (ty : Ty) (f f' : FilesState) (sources : List Source) (cursors : List (Option Open)) (asked : List (Ask × ℕ)) (handed unread unread' : ℕ)
+    → f'.told ≡ f.told → f.faults ≤ f'.faults → unread ≤ unread' → CauseOf e (at_path f.told path ty) f f' unread unread'
+    → (at_path f.told path ty ≡ Some Missing → f'.faults ≡ f.faults)
+    → Attaches source path ty (Err e) (flat_state f sources cursors asked handed unread) (flat_state f' sources cursors asked handed unread')
+refused e source path ty f f' sources cursors asked handed unread unread' told faults more cause missing =
+    subst (λ t. Attaches source path ty (Err e) (flat_state f sources cursors asked handed unread) (flat_state (record { told = t; left = f'.left; faults = f'.faults }) sources cursors asked handed unread')) (sym told) (record {
+      keeps = record { kind = refl; handed = omega arith; faults = faults; drifts = omega arith; no_drift = λ is. refl; unread = more };
+      cursors = refl;
+      asked = refl;
+      handed = refl;
+      others = λ name ne. refl;
+      attached = tt;
+      count = tt;
+      typed = tt;
+      refused = refl;
+      missing = λ is. (tt, missing is);
+      bad = λ place is. tt;
+      long = λ most is. tt;
+      deep = λ place is. tt;
+      failed = λ is. subst (λ e. CauseOf e (at_path f.told path ty) f f' unread unread') (err_same is) cause;
+      bad_source = λ place is. unread_cause f (subst (λ e. CauseOf e (at_path f.told path ty) f f' unread unread') (err_same is) cause);
+      too_long = λ most is. unread_cause f (subst (λ e. CauseOf e (at_path f.told path ty) f f' unread unread') (err_same is) cause);
+      too_deep = λ place is. absurd (subst (λ e. CauseOf e (at_path f.told path ty) f f' unread unread') (err_same is) cause);
+      no_change = λ d is. subst (λ e. CauseOf e (at_path f.told path ty) f f' unread unread') (err_same is) cause;
+    })
+
+module _ (source path : List ℕ) (ty : Ty) (f f' : FilesState) (sources : List Source) (cursors : List (Option Open)) (asked : List (Ask × ℕ)) (handed unread : ℕ) where
+  -- the file could not be read
+  pub unreadable_file : (e : DriverError) → ReadsWhole path most_bytes (Err stop.Failed) f f' → Attaches source path ty (Err error.Failed) (flat_state f sources cursors asked handed unread) (flat_state f' sources cursors asked handed unread)
+  unreadable_file e reads = refused error.Failed source path ty f f' sources cursors asked handed unread unread reads.told reads.later (omega arith)
+      (by (reads.failed refl)) (λ is. (reads.missing (is_missing path ty f is)).1)
+    where
+      by : IsMissing f path ⊎ Rose f.faults f'.faults → (at_path f.told path ty ≡ Some Missing) ⊎ Rose f.faults f'.faults
+      by (inl is) = inl (missing_is path ty f is)
+      by (inr rose) = inr rose
+
+  pub no_memory_file : ReadsWhole path most_bytes (Err stop.NoMemory) f f' → Attaches source path ty (Err error.NoMemory) (flat_state f sources cursors asked handed unread) (flat_state f' sources cursors asked handed unread)
+  no_memory_file reads = refused error.NoMemory source path ty f f' sources cursors asked handed unread unread reads.told reads.later (omega arith) tt (λ is. (reads.missing (is_missing path ty f is)).1)
+
+  -- the file was read, and memory wanted then
+  pub no_memory : (whole : Whole) → ReadsWhole path most_bytes (Ok whole) f f' → Attaches source path ty (Err error.NoMemory) (flat_state f sources cursors asked handed unread) (flat_state f' sources cursors asked handed unread)
+  no_memory whole reads = refused error.NoMemory source path ty f f' sources cursors asked handed unread unread reads.told reads.later (omega arith) tt (λ is. (reads.missing (is_missing path ty f is)).1)
+
+  pub no_memory_as : (whole : Whole) (result : Result ℕ DriverError) (sources' : List Source) → ReadsWhole path most_bytes (Ok whole) f f' → sources' ≡ sources → result ≡ Err error.NoMemory
+      → Attaches source path ty result (flat_state f sources cursors asked handed unread) (flat_state f' sources' cursors asked handed unread)
+  no_memory_as whole result sources' reads same is =
+      subst (λ r. Attaches source path ty r (flat_state f sources cursors asked handed unread) (flat_state f' sources' cursors asked handed unread)) (sym is)
+      (subst (λ ss. Attaches source path ty (Err error.NoMemory) (flat_state f sources cursors asked handed unread) (flat_state f' ss cursors asked handed unread)) (sym same) (no_memory whole reads))
+
+  pub too_long : (unread' : ℕ) → ReadsWhole path most_bytes (Ok TooLong) f f' → unread' ≡ min (unread + 1) (2 ^ 64 - 1) → unread < 2 ^ 64
+      → Attaches source path ty (Err (error.TooLong most_bytes)) (flat_state f sources cursors asked handed unread) (flat_state f' sources cursors asked handed unread')
+  too_long unread' reads rose fits = refused (error.TooLong most_bytes) source path ty f f' sources cursors asked handed unread unread' reads.told reads.later (omega (arith, rose, fits))
+      (by (stands path ty TooLong f f' reads)) (λ is. (reads.missing (is_missing path ty f is)).1)
+    where
+      by : Stands f.told path ty TooLong → (at_path f.told path ty ≡ Some (Long most_bytes)) ⊎ ((f.told ≡ None) × Rose unread unread')
+      by (inl none) = inr (none, omega (arith, rose))
+      by (inr found) = let long : nat_lt most_bytes (length found.0) ≡ true = grind (arith, nat_tests, found.2) in inl (found.1 ∙ ap Some (rw long refl))
+
+  pub bad_source : (bytes : List ℕ) (place unread' : ℕ) → ReadsWhole path most_bytes (Ok (Bytes bytes)) f f' → bad_record bytes ty ≡ Some place → unread' ≡ min (unread + 1) (2 ^ 64 - 1) → unread < 2 ^ 64
+      → Attaches source path ty (Err (error.BadSource place)) (flat_state f sources cursors asked handed unread) (flat_state f' sources cursors asked handed unread')
+  bad_source bytes place unread' reads bad rose fits = refused (error.BadSource place) source path ty f f' sources cursors asked handed unread unread' reads.told reads.later (omega (arith, rose, fits))
+      (by (stands path ty (Bytes bytes) f f' reads)) (λ is. (reads.missing (is_missing path ty f is)).1)
+    where
+      by : Stands f.told path ty (Bytes bytes) → (at_path f.told path ty ≡ Some (Bad place)) ⊎ ((f.told ≡ None) × Rose unread unread')
+      by (inl none) = inr (none, omega (arith, rose))
+      by (inr found) =
+          let short : nat_lt most_bytes (length found.0) ≡ false = grind (arith, nat_tests, found.2.1) in
+          let same : bad_record found.0 ty ≡ Some place = ap (λ b. bad_record b ty) (sym found.2.0) ∙ bad in
+          inl (found.1 ∙ ap Some (rw short (ap (stored_rows found.0 ty) same)))
+
+-- ---- the sources with one more
+
+not_same : (l m : List ℕ) → (m ≡ l → ⊥) → pointwise nat_eq l m ≡ false
+not_same l m ne = by (pointwise nat_eq l m) refl
+  where
+    by : (b : Bool) → b ≡ pointwise nat_eq l m → pointwise nat_eq l m ≡ false
+    by true is = absurd (ne (sym (same_text l m is)))
+    by false is = sym is
+
+other_source : (sources : List Source) (s : Source) (name : Name) → name ≢ s.name → source_at (sources ++ s ∷ []) name ≡ source_at sources name
+other_source [] s name ne = let e = not_same s.name name ne in rw e refl
+other_source (t ∷ sources) s name ne = ap (λ o. cond (pointwise nat_eq t.name name) (Some t) o) (other_source sources s name ne)
+
+this_source : (sources : List Source) (s : Source) → source_at sources s.name ≡ None → source_at (sources ++ s ∷ []) s.name ≡ Some s
+this_source [] s none = let e = same_label s.name in rw e refl
+this_source (t ∷ sources) s none = by (pointwise nat_eq t.name s.name) refl (λ e. this_source sources s e)
+  where
+    by : (b : Bool) → pointwise nat_eq t.name s.name ≡ b → (source_at sources s.name ≡ None → source_at (sources ++ s ∷ []) s.name ≡ Some s) → source_at (t ∷ (sources ++ s ∷ [])) s.name ≡ Some s
+    by true is more = let e = rw is at none in absurd (some_none e)
+    by false is more = let e = rw is at none in rw is (more e)
+
+map_none : {A B : Type 0} (g : A → B) (o : Option A) → option_map g o ≡ None → o ≡ None
+map_none g None is = refl
+map_none g (Some x) is = absurd (some_none is)
+
+abbrev Good : Option (List ℕ → Option (List ℕ)) → List ℕ → Ty → List Value → Type 0
+Good told path ty rows = (told_only told rows ≡ told_rows (at_path told path ty)) × ((all : List Value) → at_path told path ty ≡ Some (Rows all) → all ≡ rows)
+    × (at_path told path ty ≡ Some Missing → ⊥) × ((place : ℕ) → at_path told path ty ≡ Some (Bad place) → ⊥) × ((most : ℕ) → at_path told path ty ≡ Some (Long most) → ⊥) × ((place : ℕ) → at_path told path ty ≡ Some (Deep place) → ⊥)
+
+good_rows : (path : List ℕ) (ty : Ty) (f : FilesState) (bytes : List ℕ) (rows : List Value) → rows ≡ table_rows bytes ty → bad_record bytes ty ≡ None → Stands f.told path ty (Bytes bytes) → Good f.told path ty rows
+good_rows path ty f bytes rows are good stand = by f.told refl stand
+  where
+    rows_same : {xs ys : List Value} → Some (Rows xs) ≡ Some (Rows ys) → xs ≡ ys
+    rows_same h = cc
+
+    none : {s : Stored} → None ≡ Some s → ⊥
+    none h = cc
+
+    by : (t : Option (List ℕ → Option (List ℕ))) → f.told ≡ t → Stands t path ty (Bytes bytes) → Good t path ty rows
+    by None told st = (refl, λ all is. absurd (none is), λ is. none is, λ place is. none is, λ most is. none is, λ place is. none is)
+    by (Some files) told (inl untold_is) = absurd (some_none untold_is)
+    by (Some files) told (inr found) =
+        let short : nat_lt most_bytes (length found.0) ≡ false = grind (arith, nat_tests, found.2.1) in
+        let fine : bad_record found.0 ty ≡ None = ap (λ b. bad_record b ty) (sym found.2.0) ∙ good in
+        let same : table_rows found.0 ty ≡ rows = ap (λ b. table_rows b ty) (sym found.2.0) ∙ sym are in
+        let all : at_path (Some files) path ty ≡ Some (Rows rows) = found.1 ∙ ap Some (rw short (ap (stored_rows found.0 ty) fine ∙ ap Rows same)) in
+        (sym (ap told_rows all), λ xs is. rows_same (sym is ∙ all), λ is. let e : Some (Rows rows) ≡ Some Missing = sym all ∙ is in cc, λ place is. let e : Some (Rows rows) ≡ Some (Bad place) = sym all ∙ is in cc, λ most is. let e : Some (Rows rows) ≡ Some (Long most) = sym all ∙ is in cc, λ place is. let e : Some (Rows rows) ≡ Some (Deep place) = sym all ∙ is in cc)
+
+abbrev mk : Ty → Option (List Value) → Attached
+mk t r = record { ty = t; rows = r }
+
+-- a table that was read and attached
+pub attach_done : (source path bytes : List ℕ) (ty : Ty) (count : ℕ) (s : Source) (f f' : FilesState) (sources sources' : List Source) (cursors : List (Option Open)) (asked : List (Ask × ℕ)) (handed unread : ℕ)
+    → ReadsWhole path most_bytes (Ok (Bytes bytes)) f f' → bad_record bytes ty ≡ None → s.rows ≡ table_rows bytes ty → s.name ≡ source → s.ty ≡ ty → count ≡ length s.rows
+    → AllByRecursion (Inhabits (item_of (ground_of ty))) s.rows → option_map (attached_of f.told) (source_at sources source) ≡ None → sources' ≡ sources ++ s ∷ []
+    → Attaches source path ty (Ok count) (flat_state f sources cursors asked handed unread) (flat_state f' sources' cursors asked handed unread)
+attach_done source path bytes ty count s f f' sources sources' cursors asked handed unread reads fine rows name type size typed fresh grown =
+    let facts = good_rows path ty f bytes s.rows rows fine (stands path ty (Bytes bytes) f f' reads) in
+    let here : source_at (sources ++ s ∷ []) source ≡ Some s = subst (λ n. source_at (sources ++ s ∷ []) n ≡ Some s) name (this_source sources s (subst (λ n. source_at sources n ≡ None) (sym name) (map_none (attached_of f.told) (source_at sources source) fresh))) in
+    let kept : attached_of f.told s ≡ record { ty = ty; rows = told_rows (at_path f.told path ty) } = ap (λ t. mk t (told_only f.told s.rows)) type ∙ ap (λ r. mk ty r) facts.0 in
+    subst (λ t. Attaches source path ty (Ok count) (flat_state f sources cursors asked handed unread) (flat_state (record { told = t; left = f'.left; faults = f'.faults }) sources' cursors asked handed unread)) (sym reads.told) (record {
+      keeps = record { kind = refl; handed = omega arith; faults = reads.later; drifts = omega arith; no_drift = λ is. refl; unread = omega arith };
+      cursors = refl;
+      asked = refl;
+      handed = refl;
+      others = λ n ne. ap (option_map (attached_of f.told)) (ap (λ xs. source_at xs n) grown ∙ other_source sources s n (λ is. ne (is ∙ name)));
+      attached = ap (option_map (attached_of f.told)) (ap (λ xs. source_at xs source) grown ∙ here) ∙ ap Some kept;
+      count = λ all is. size ∙ ap length (sym (facts.1 all is));
+      typed = λ all is. subst (AllByRecursion (Inhabits (item_of (ground_of ty)))) (sym (facts.1 all is)) typed;
+      refused = tt;
+      missing = λ is. absurd (facts.2 is);
+      bad = λ place is. facts.3 place is;
+      long = λ most is. facts.4 most is;
+      deep = λ place is. facts.5 place is;
+      failed = λ is. absurd cc;
+      bad_source = λ place is. absurd cc;
+      too_long = λ most is. absurd cc;
+      too_deep = λ place is. absurd cc;
+      no_change = λ d is. cc;
+    })

@@ -1,0 +1,10 @@
+pub mod Attaching
+pub mod Cursors
+pub mod Fuel
+pub mod Options
+pub mod Placing
+pub mod Rows
+pub mod Shown
+pub mod Steps
+pub mod Suiting
+pub mod Typing

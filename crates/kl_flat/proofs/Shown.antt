@@ -1,0 +1,101 @@
+-- The answers of an ask have the type that the ask shows.
+use Rattle.std.proofs.Common.{◌≡◌, ◌≤◌, ℕ, zero, suc, ◌+◌, Bool, true, false, List, [], ◌∷◌, ◌++◌, map, filter, length, drop, cond, Some, refl, sym, ap, ◌∙◌, subst, arith, length-append}
+use Rattle.std.specs.List.{AllByRecursion, list_all}
+use Rattle.std.specs.List.Sorted.{IsStrictlySortedBy}
+use Rattle.std.proofs.lemmas.List.Kept.{IsStrictlySortedBy-filter}
+use Rattle.kl_base.specs.Fields.{bytes_cmp, labels_of, LabelsRise}
+use Rattle.kl_value.specs.IsCanonical.{IsCanonical, IsCanonicalLayer}
+use Rattle.kl_value.specs.declared.Value.{Value, every_here-Value}
+use Rattle.kl_value.specs.declared.Value.TheVariants as value
+use Rattle.kl_value.proofs.IsCanonicalLemmas.{record_made}
+use Rattle.kl_type.specs.Ground.{Ground, Row, rec, no_row, row}
+use Rattle.kl_outcome.specs.Outcome.{Name, as_record, record_layer}
+use Rattle.kl_outcome.specs.Typed.{HasFields, Inhabits}
+use Rattle.kl_outcome.proofs.OutcomeTypes.{record_is}
+use Rattle.kl_ask.specs.Asks.{answers, is_kept, passes, shown, shown_fields, shown_row, shown_type}
+use Rattle.kl_ask.specs.Driver.{IsFlat}
+use Rattle.kl_ask.specs.declared.ask.ColTest.{ColTest}
+
+some_same : {A : Type 0} {x y : A} → Some x ≡ Some y → x ≡ y
+some_same h = cc
+
+rising : (fs : List (Name × Value)) → IsCanonical (value.Rec fs) → LabelsRise fs
+unfolding IsCanonical
+rising fs h = subst IsCanonicalLayer (value.outs-Rec fs) (every_here-Value IsCanonicalLayer (value.Rec fs) h)
+
+module _ (keep : List Name) where
+  abbrev kept : List (Name × Value) → List (Name × Value)
+  kept fs = filter (λ f. is_kept keep f.0) fs
+
+  kept_fields : (r : Row) (fs : List (Name × Value)) → HasFields r fs → HasFields (shown_row keep r) (kept fs)
+  kept_fields no_row fs h = ap kept h
+  kept_fields (row l t r) fs h = subst (λ gs. HasFields (shown_row keep (row l t r)) (kept gs)) (sym h.2) (by (is_kept keep l) refl (kept_fields r h.1 h.4))
+    where
+      by : (b : Bool) → is_kept keep l ≡ b → HasFields (shown_row keep r) (kept h.1) → HasFields (shown_row keep (row l t r)) (kept ((l, h.0) ∷ h.1))
+      by true is more = rw is (h.0, kept h.1, refl, h.3, more)
+      by false is more = rw is more
+
+  kept_all : (P : Name × Value → Type 0) (fs : List (Name × Value)) → AllByRecursion P fs → AllByRecursion P (kept fs)
+  kept_all P [] h = tt
+  kept_all P (f ∷ fs) h = by (is_kept keep f.0) refl (kept_all P fs h.1)
+    where
+      by : (b : Bool) → is_kept keep f.0 ≡ b → AllByRecursion P (kept fs) → AllByRecursion P (kept (f ∷ fs))
+      by true is more = rw is (h.0, more)
+      by false is more = rw is more
+
+  kept_labels : (fs : List (Name × Value)) → labels_of (kept fs) ≡ filter (is_kept keep) (labels_of fs)
+  kept_labels [] = refl
+  kept_labels (f ∷ fs) = by (is_kept keep f.0) refl (kept_labels fs)
+    where
+      by : (b : Bool) → is_kept keep f.0 ≡ b → labels_of (kept fs) ≡ filter (is_kept keep) (labels_of fs) → labels_of (kept (f ∷ fs)) ≡ filter (is_kept keep) (labels_of (f ∷ fs))
+      by true is more = rw is (ap (λ ls. f.0 ∷ ls) more)
+      by false is more = rw is more
+
+  shown_record : (r : Row) (v : Value) → Inhabits (rec r) v → Inhabits (shown_type keep (rec r)) (shown keep v)
+  shown_record r v i =
+      let parts = record_is r v i in
+      let fs = parts.0 in
+      let same : i.0.0 ≡ fs = some_same (sym (ap as_record i.0.1 ∙ ap record_layer (value.outs-Rec i.0.0)) ∙ parts.1) in
+      let up = rising fs (subst (λ gs. IsCanonical (value.Rec gs)) same (subst IsCanonical i.0.1 i.1)) in
+      let made : value.Rec (kept fs) ≡ shown keep v = ap (shown_fields v keep) (sym parts.1) in
+      subst (Inhabits (rec (shown_row keep r))) made (
+        (kept fs, refl, kept_fields r fs parts.2.0),
+        record_made (kept fs) (kept_all (λ f. IsCanonical f.1) fs parts.2.1) (subst (IsStrictlySortedBy bytes_cmp) (sym (kept_labels fs)) (IsStrictlySortedBy-filter bytes_cmp (is_kept keep) (labels_of fs) up)),
+      )
+
+  shown_typed : (t : Ground) → IsFlat t → (v : Value) → Inhabits t v → Inhabits (shown_type keep t) (shown keep v)
+  shown_typed (rec no_row) flat v i = absurd flat
+  shown_typed (rec (row l t r)) flat v i = shown_record (row l t r) v i
+  shown_typed t flat v i = absurd flat
+
+  -- the answers among typed rows
+  pub answers_typed : (tests : List ColTest) (t : Ground) → IsFlat t → (rows : List Value) → AllByRecursion (Inhabits t) rows → AllByRecursion (Inhabits (shown_type keep t)) (answers rows keep tests)
+  answers_typed tests t flat [] h = tt
+  answers_typed tests t flat (v ∷ rows) h = by (list_all (passes v) tests) refl (answers_typed tests t flat rows h.1)
+    where
+      by : (b : Bool) → list_all (passes v) tests ≡ b → AllByRecursion (Inhabits (shown_type keep t)) (answers rows keep tests) → AllByRecursion (Inhabits (shown_type keep t)) (answers (v ∷ rows) keep tests)
+      by true is more = rw is (shown_typed t flat v h.0, more)
+      by false is more = rw is more
+
+  pub answers-passed : (tests : List ColTest) (v : Value) (rows : List Value) → list_all (passes v) tests ≡ true → answers (v ∷ rows) keep tests ≡ shown keep v ∷ answers rows keep tests
+  answers-passed tests v rows is = rw is refl
+
+  pub answers-failed : (tests : List ColTest) (v : Value) (rows : List Value) → list_all (passes v) tests ≡ false → answers (v ∷ rows) keep tests ≡ answers rows keep tests
+  answers-failed tests v rows is = rw is refl
+
+  pub answers-few : (tests : List ColTest) (rows : List Value) → length (answers rows keep tests) ≤ length rows
+  answers-few tests [] = omega arith
+  answers-few tests (v ∷ rows) = by (list_all (passes v) tests) refl (answers-few tests rows)
+    where
+      by : (b : Bool) → list_all (passes v) tests ≡ b → length (answers rows keep tests) ≤ length rows → length (answers (v ∷ rows) keep tests) ≤ suc (length rows)
+      by true is less = rw is (omega (arith, less))
+      by false is less = rw is (omega (arith, less))
+
+pub all_drop : {X : Type 0} (P : X → Type 0) (n : ℕ) (xs : List X) → AllByRecursion P xs → AllByRecursion P (drop n xs)
+all_drop P zero xs h = h
+all_drop P (suc n) [] h = tt
+all_drop P (suc n) (x ∷ xs) h = all_drop P n xs h.1
+
+pub all_front : {X : Type 0} (P : X → Type 0) (xs ys : List X) → AllByRecursion P (xs ++ ys) → AllByRecursion P xs
+all_front P [] ys h = tt
+all_front P (x ∷ xs) ys h = (h.0, all_front P xs ys h.1)

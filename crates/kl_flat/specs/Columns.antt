@@ -1,0 +1,29 @@
+-- Types of tables.
+use Rattle.std.specs.Prelude.{Bool, true, false, not, ◌&&◌, ◌==◌, ℕ, List, [], length, Option}
+use Rattle.std.specs.List.{list_all}
+use Rattle.kl_type.specs.declared.ground.Ty.{Ty, Ty-F, out-Ty}
+
+abbrev pub fields_layer : Ty-F Ty → List (List ℕ × Ty)
+fields_layer (Ty-F.Rec fs) = fs
+fields_layer _ = []
+
+abbrev pub items_layer : Ty-F Ty → List (List ℕ × Ty)
+items_layer (Ty-F.Coll k t) = fields_layer (out-Ty t)
+items_layer _ = []
+
+-- the labels and types of the columns that a type asks of a table: the fields of a collection of records
+abbrev pub columns_of : Ty → List (List ℕ × Ty)
+columns_of t = items_layer (out-Ty t)
+
+abbrev pub base_layer : Ty-F Ty → Bool
+base_layer Ty-F.Bool = true
+base_layer Ty-F.Int = true
+base_layer Ty-F.Str = true
+base_layer _ = false
+
+abbrev pub is_base : Ty → Bool
+is_base t = base_layer (out-Ty t)
+
+-- a collection of records with one or more fields, all of base types
+abbrev pub is_table_type : Ty → Bool
+is_table_type t = not (length (columns_of t) == 0) && list_all (λ c. is_base c.1) (columns_of t)

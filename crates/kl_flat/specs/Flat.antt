@@ -1,0 +1,105 @@
+-- What a flat driver means.
+use Rattle.std.specs.Prelude.{◌≡◌, ℕ, Bool, true, false, List, [], ◌∷◌, length, drop, Option, Some, None, cond, slice_get, codes, nat_eq, nat_lt}
+use Rattle.std.specs.Cmp.Lexicographic.{pointwise}
+use Rattle.std.specs.Option.{option_map, option_flatten}
+use Rattle.kl_value.specs.declared.Value.{Value}
+use Rattle.kl_type.specs.Ground.{ground_of}
+use Rattle.kl_type.specs.declared.ground.Ty.{Ty}
+use Rattle.kl_outside.specs.Files.{FilesState}
+use Rattle.kl_outcome.specs.Outcome.{Name}
+use Rattle.kl_ask.specs.Asks.{answers, item_of, shown_type}
+use Rattle.kl_ask.specs.Driver.{State, DriverKind, Stored, Missing, Bad, Long, Rows, Source as Attached, Cursor}
+use Rattle.kl_ask.specs.declared.ask.Ask.{Ask}
+use Rattle.kl_ask.specs.declared.ask.Ask.TheVariants as asks
+use Rattle.kl_ask.specs.declared.ask.ColTest.{ColTest}
+use Rattle.kl_flat.specs.Columns.{is_table_type}
+use Rattle.kl_flat.specs.Table.{bad_record, table_rows}
+use Rattle.kl_flat.specs.declared.parts.Source.{Source}
+use Rattle.kl_flat.specs.declared.parts.Open.{Open}
+
+-- ---- contents
+
+-- the greatest length of a table's file
+abbrev pub most_bytes : ℕ
+most_bytes = 268435456
+
+abbrev pub stored_rows : List ℕ → Ty → Option ℕ → Stored
+stored_rows bytes ty None = Rows (table_rows bytes ty)
+stored_rows bytes ty (Some place) = Bad place
+
+abbrev pub stored_bytes : List ℕ → Ty → Stored
+stored_bytes bytes ty = cond (nat_lt most_bytes (length bytes)) (Long most_bytes) (stored_rows bytes ty (bad_record bytes ty))
+
+-- what a file holds, read as a table of a type
+abbrev pub stored_of : Option (List ℕ) → Ty → Stored
+stored_of None ty = Missing
+stored_of (Some bytes) ty = stored_bytes bytes ty
+
+-- contents are told where the files tell their bytes, and a locator is a path
+abbrev pub contents_of : Option (List ℕ → Option (List ℕ)) → Option (List ℕ → Ty → Stored)
+contents_of None = None
+contents_of (Some files) = Some (λ locator ty. stored_of (files locator) ty)
+
+-- ---- sources and cursors
+
+-- rows are told where the files tell their bytes
+abbrev pub told_only : {A : Type 0} → Option A → List Value → Option (List Value)
+told_only None rows = None
+told_only (Some told) rows = Some rows
+
+abbrev pub source_at : List Source → Name → Option Source
+source_at [] name = None
+source_at (source ∷ sources) name = cond (pointwise nat_eq source.name name) (Some source) (source_at sources name)
+
+-- the attached source that an ask names
+abbrev pub asked_source : List Source → Ask → Option Source
+asked_source sources (asks.Rows source keep tests) = source_at sources source
+asked_source sources (asks.Sql text) = None
+
+abbrev pub attached_of : {A : Type 0} → Option A → Source → Attached
+attached_of told source = record { ty = source.ty; rows = told_only told source.rows }
+
+abbrev pub keep_of : Ask → List Name
+keep_of (asks.Rows source keep tests) = keep
+keep_of (asks.Sql text) = []
+
+abbrev pub tests_of : Ask → List ColTest
+tests_of (asks.Rows source keep tests) = tests
+tests_of (asks.Sql text) = []
+
+-- the answers that a cursor has left
+abbrev pub left_of : Open → List Value
+left_of o = answers (drop o.at o.rows) (keep_of o.ask) (tests_of o.ask)
+
+abbrev pub cursor_of : {A : Type 0} → Option A → Open → Cursor
+cursor_of told o = record {
+  ask = o.ask;
+  ty = shown_type (keep_of o.ask) (item_of (ground_of o.ty));
+  left = told_only told (left_of o);
+  bound = length (left_of o);
+}
+
+abbrev pub open_at : List (Option Open) → ℕ → Option Open
+open_at cursors k = option_flatten (slice_get cursors k)
+
+-- ---- the driver
+
+abbrev pub flat_kind : Option (List ℕ → Option (List ℕ)) → DriverKind
+flat_kind told = record {
+  name = codes "flat";
+  abilities = record { select = true; project = true; join = false; unique = false };
+  suits = is_table_type;
+  stored = contents_of told;
+}
+
+abbrev pub flat_state : FilesState → List Source → List (Option Open) → List (Ask × ℕ) → ℕ → ℕ → State
+flat_state files sources cursors asked handed unread = record {
+  kind = flat_kind files.told;
+  attached = λ name. option_map (attached_of files.told) (source_at sources name);
+  cursors = λ k. option_map (cursor_of files.told) (open_at cursors k);
+  asked = asked;
+  handed = handed;
+  faults = files.faults;
+  drifts = 0;
+  unread = unread;
+}

@@ -1,0 +1,156 @@
+//! The driver of tables.
+ghost use Rattle.std.specs.Prelude.{◌≡◌, ℕ, []};
+ghost use Rattle.kl_flat.specs.Flat.{flat_state, open_at};
+
+use crate::answering::next_answers;
+use crate::columns::is_table_type;
+use crate::parts::{Open, Source};
+use crate::sources::{find_asked, keep_of, opened, tests_of};
+use crate::table::{Table, read_table};
+use kl_ask::{Abilities, Ask, Driver, DriverError, count_ask, sum_asked};
+use kl_base::{Label, Shared, Text};
+use kl_outside::{Files, Stop, Whole, read_whole};
+use kl_type::Ty;
+use kl_value::Value;
+use std::alloc::Global;
+use std::mem;
+
+// The greatest length of a table's file.
+const MOST_BYTES: u64 = 268_435_456;
+
+/// A driver over files that are tables. A locator is the path of a file, which is read whole when its source is attached;
+/// rows come in the order of the file.
+///
+/// It tells its contents exactly where its files tell their bytes, and its count of faults is theirs. Its count of sources
+/// that it could not read rises where a table has a bad record or too many bytes.
+#[derive(Drop)]
+pub struct FlatDriver<F: Files + Drop> {
+    alloc: Global,
+    files: F,
+    sources: Vec<Source>,
+    cursors: Vec<Option<Open>>,
+    asked: Vec<(Ask, u64)>,
+    handed: u64,
+    unread: u64,
+}
+
+impl<F: Files + Drop> FlatDriver<F> {
+    /// A driver over these files, with nothing attached, no cursor open, and its other counts at 0.
+    pub fn new(alloc: Global, files: F) -> FlatDriver<F>
+        ensures { ⟦<FlatDriver<F> as Driver>⟧.state result ≡ flat_state (F.state files) [] [] [] 0 0 }
+    {
+        FlatDriver {
+            alloc,
+            files,
+            sources: Vec::new(alloc),
+            cursors: Vec::new(alloc),
+            asked: Vec::new(alloc),
+            handed: 0,
+            unread: 0,
+        }
+    }
+}
+
+impl<F: Files + Drop> Driver for FlatDriver<F> {
+    ghost state = { λ d. flat_state (F.state d.files) d.sources.items d.cursors.items d.asked.items d.handed d.unread };
+
+    fn name(&self) -> &[u8] {
+        b"flat"
+    }
+
+    fn abilities(&self) -> Abilities {
+        Abilities {
+            select: true,
+            project: true,
+            join: false,
+            unique: false,
+        }
+    }
+
+    fn suits(&self, ty: &Ty) -> bool {
+        is_table_type(ty)
+    }
+
+    fn attach(&mut self, source: &Label, locator: &Text, ty: &Ty) -> Result<u64, DriverError> {
+        let bytes = match read_whole(self.alloc, &mut self.files, locator.slice(), MOST_BYTES) {
+            Ok(Whole::Bytes(bytes)) => bytes,
+            Ok(Whole::TooLong) => {
+                self.unread = self.unread.saturating_add(1);
+                return Err(DriverError::TooLong { most: MOST_BYTES });
+            }
+            Err(Stop::Failed) => return Err(DriverError::Failed),
+            Err(Stop::NoMemory) => return Err(DriverError::NoMemory),
+        };
+        let Table { rows, bad } = read_table(self.alloc, bytes.slice(), ty)?;
+        if let Some(place) = bad {
+            self.unread = self.unread.saturating_add(1);
+            return Err(DriverError::BadSource { place });
+        }
+        let count = rows.len() as u64;
+        let name = source.dup()?;
+        let ty = Shared::new(self.alloc, ty.dup(self.alloc)?)?;
+        let rows = Shared::new(self.alloc, rows)?;
+        self.sources.push(Source { name, ty, rows })?;
+        Ok(count)
+    }
+
+    fn start(&mut self, ask: &Ask) -> Result<u64, DriverError> {
+        let Some(source) = find_asked(&self.sources, ask) else {
+            unreachable!()
+        };
+        let open = opened(self.alloc, source, ask)?;
+        let cursor = self.cursors.len();
+        self.cursors.push(None)?;
+        count_ask(self.alloc, &mut self.asked, ask)?;
+        self.cursors[cursor] = Some(open);
+        Ok(cursor as u64)
+    }
+
+    fn pull(&mut self, cursor: u64, most: u32, into: &mut Vec<Value>) -> Result<bool, DriverError> {
+        let cursor = cursor as usize;
+        let Some(open) = mem::replace(&mut self.cursors[cursor], None) else {
+            unreachable!()
+        };
+        let Open { ask, ty, rows, at } = open;
+        let (taken, at) = next_answers(
+            self.alloc,
+            rows.get().slice(),
+            at,
+            keep_of(&ask),
+            tests_of(&ask),
+            most,
+        )?;
+        if taken.is_empty() {
+            self.cursors[cursor] = Some(Open { ask, ty, rows, at });
+            return Ok(false);
+        }
+        let count = taken.len() as u64;
+        let mut taken = taken;
+        into.append(&mut taken)?;
+        self.cursors[cursor] = Some(Open { ask, ty, rows, at });
+        self.handed = self.handed.saturating_add(count);
+        Ok(true)
+    }
+
+    fn finish(&mut self, cursor: u64) {
+        self.cursors[cursor as usize] = None;
+        close_last(&mut self.cursors);
+    }
+
+    fn starts(&self) -> u64 {
+        sum_asked(&self.asked)
+    }
+
+    fn handed(&self) -> u64 {
+        self.handed
+    }
+}
+
+// Drops the places of closed cursors behind the last open one, so that they are used again.
+fn close_last(cursors: &mut Vec<Option<Open>>)
+    ensures { (k : ℕ) → open_at cursors.new.items k ≡ open_at cursors.old.items k }
+{
+    'places: while let Some(None) = cursors.last() {
+        cursors.pop();
+    }
+}
