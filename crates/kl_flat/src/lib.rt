@@ -13,6 +13,3 @@ mod table;
 
 pub use driver::FlatDriver;
 pub use table::{Table, read_table};
-
-#[cfg(test)]
-mod tests;
