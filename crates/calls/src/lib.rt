@@ -1,4 +1,4 @@
-//! Tests: each public call of the layers below the top call once, on its happy path, with ample memory.
+//! Tests: each public call of some of the larger crates once, on its happy path, with ample memory.
 //!
 //! That a call does not answer want of memory without need is in no contract; these tests show it. They stand together
 //! here, as a crate that has tests is proved twice.
@@ -9,14 +9,4 @@ mod core_terms;
 #[cfg(test)]
 mod exchange;
 #[cfg(test)]
-mod forms;
-#[cfg(test)]
-mod inference;
-#[cfg(test)]
 mod names;
-#[cfg(test)]
-mod parser;
-#[cfg(test)]
-mod translation;
-#[cfg(test)]
-mod unifier;

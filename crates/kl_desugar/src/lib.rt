@@ -18,3 +18,6 @@ mod scope;
 
 pub use laws::{sense_laws, translation_laws};
 pub use program::translate;
+
+#[cfg(test)]
+mod tests;

@@ -29,3 +29,6 @@ mod typing;
 pub use inference::{InferError, infer};
 pub use printing::print_scheme;
 pub use typed::{Schemes, Typed};
+
+#[cfg(test)]
+mod tests;

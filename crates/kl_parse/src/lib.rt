@@ -16,3 +16,6 @@ pub use kl_syntax::{
     Program, Qual, Quals, Steps, Word, Words,
 };
 pub use program::{ParseError, parse, parse_laws};
+
+#[cfg(test)]
+mod tests;

@@ -1,5 +1,5 @@
+use crate::{Expr, Pattern, Program, Qual, parse};
 use kl_lex::lex;
-use kl_parse::{Expr, Pattern, Program, Qual, parse};
 use kl_value::Kind;
 use std::alloc::Global;
 use std::test::Fail;

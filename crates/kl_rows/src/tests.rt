@@ -1,5 +1,5 @@
+use crate::{Node, Part, Unifier};
 use kl_base::Label;
-use kl_rows::{Node, Part, Unifier};
 use kl_type::Ty;
 use kl_value::Kind;
 use std::test::Fail;

@@ -1,5 +1,5 @@
+use crate::{Typed, print_scheme};
 use kl_base::{Label, Seq};
-use kl_infer::{Typed, print_scheme};
 use kl_rows::{Node, Unifier};
 use kl_value::Kind;
 use std::test::Fail;

@@ -1,5 +1,5 @@
 use Rattle.kl_rows.specs.Places.{a_kind}
-use Rattle.calls.proofs.unifier.a_collection_of_open_kind.Goals as goal
+use Rattle.kl_rows.proofs.tests.a_collection_of_open_kind.Goals as goal
 
 pub merge-requires-clause-sorts : goal.merge-requires-clause-sorts
 merge-requires-clause-sorts g c = record {

@@ -1,6 +1,6 @@
 use Rattle.std.proofs.Common.{inl, refl, sym, subst, ◌∙◌}
 use Rattle.kl_rows.specs.Places.{a_row, IsIn}
-use Rattle.calls.proofs.unifier.a_row_stays_open.Goals as goal
+use Rattle.kl_rows.proofs.tests.a_row_stays_open.Goals as goal
 
 pub settled-requires-clause-on_root : goal.settled-requires-clause-on_root
 settled-requires-clause-on_root g c = inl c.in_ok-record.ensures.sort

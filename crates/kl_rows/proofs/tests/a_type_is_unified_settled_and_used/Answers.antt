@@ -4,7 +4,7 @@ use Rattle.kl_type.proofs.GroundLemmas.{ground-Int}
 use Rattle.kl_rows.specs.Places.{a_type, sort_at}
 use Rattle.kl_rows.specs.Schemes.{cells_of}
 use Rattle.kl_rows.proofs.Adding.{unified_solvable}
-use Rattle.calls.proofs.unifier.a_type_is_unified_settled_and_used.Goals as goal
+use Rattle.kl_rows.proofs.tests.a_type_is_unified_settled_and_used.Goals as goal
 
 pub make-requires-clause-can : goal.make-requires-clause-can
 make-requires-clause-can g c = subst IsGround (sym ground-Int) tt

@@ -1,6 +1,6 @@
+use crate::translate;
 use kl_base::{Box, Label, Seq};
 use kl_core::{Term, nodes};
-use kl_desugar::translate;
 use kl_scope::{Scoped, resolve};
 use kl_syntax::{Expr, Meaning, Pattern, Program, Qual, Word};
 use kl_value::Kind;

@@ -1,5 +1,5 @@
+use crate::{applied, field_of, items_of, operated, value};
 use kl_base::Label;
-use kl_forms::{applied, field_of, items_of, operated, value};
 use kl_rows::Unifier;
 use kl_syntax::Op;
 use kl_value::{Kind, Value};
