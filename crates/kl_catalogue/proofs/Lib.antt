@@ -1,4 +1,5 @@
 pub mod Answer
 pub mod Goods
 pub mod Lexemes
+pub mod Proper
 pub mod Steps
