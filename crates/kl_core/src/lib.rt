@@ -18,3 +18,6 @@ pub use measure::{depth, nodes};
 pub use moving::shift;
 pub use replacing::subst;
 pub use term::{Term, TermBranches, TermFields, Terms};
+
+#[cfg(test)]
+mod tests;

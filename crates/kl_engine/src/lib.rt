@@ -1,7 +1,7 @@
 //! The top call: what the program does, from the bytes that come in to the bytes that go out.
 //!
 //! `rt plant` has not run on this crate since `run` reads the whole language. A top call that always answers 9 meets the
-//! contracts, as want of memory is tied to nothing; the program `cases` refuses it.
+//! contracts, as want of memory is tied to nothing; the tests refuse it.
 #![tactic(auto)]
 
 mod check;
@@ -15,3 +15,6 @@ mod types;
 
 pub use fault::{Fault, Wrong};
 pub use top::{Answer, Purpose, kleisli};
+
+#[cfg(test)]
+mod tests;

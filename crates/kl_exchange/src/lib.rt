@@ -34,3 +34,6 @@ pub use file_reader::{FileReader, MOST_READ};
 pub use laws::{file_laws, reading_laws};
 pub use printing::{Page, print};
 pub use reader::{Item, Reader};
+
+#[cfg(test)]
+mod tests;

@@ -1,5 +1,5 @@
+use crate::{FileReader, Item, MOST_READ, Page, Reader, file_laws, print, reading_laws};
 use kl_base::Text;
-use kl_exchange::{FileReader, Item, MOST_READ, Page, Reader, file_laws, print, reading_laws};
 use kl_outside::{Files, MemFiles, MemSink};
 use kl_value::Value;
 use std::alloc::Global;

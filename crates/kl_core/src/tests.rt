@@ -1,5 +1,5 @@
+use crate::{Term, depth, fits, is_total, nodes, occurs, shift, subst};
 use kl_base::{Box, Seq};
-use kl_core::{Term, depth, fits, is_total, nodes, occurs, shift, subst};
 use kl_value::{Kind, Value};
 use std::alloc::Global;
 use std::test::Fail;

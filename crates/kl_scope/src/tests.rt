@@ -1,5 +1,5 @@
+use crate::{ScopeError, resolve, sizes};
 use kl_base::{Box, Label, Seq};
-use kl_scope::{ScopeError, resolve, sizes};
 use kl_syntax::{Expr, Meaning, Pattern, Program, Qual, Word};
 use kl_value::{Kind, Value};
 use std::alloc::Global;
