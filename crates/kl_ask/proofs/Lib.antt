@@ -1,3 +1,4 @@
+pub mod Attaching
 pub mod Boxes
 pub mod Columns
 pub mod Kept

@@ -23,7 +23,7 @@ use Rattle.kl_type.specs.declared.Ty.{Ty}
 use Rattle.kl_outcome.specs.Outcome.{Name, as_record, record_layer}
 use Rattle.kl_outcome.specs.Typed.{Has, HasFields, Inhabits}
 use Rattle.kl_ask.specs.Asks.{item_of, kind_of, row_labels, columns, column, is_kept, shown_fields, shown, answers, shown_row, shown_type, same_names, is_allowed, AskFits}
-use Rattle.kl_ask.specs.Driver.{State, Source, IsColl, CanStart, InOrder}
+use Rattle.kl_ask.specs.Driver.{State, Source, Cursor, IsColl, CanStart, InOrder, emptied}
 use Rattle.kl_ask.specs.declared.ask.Ask.TheVariants as asks
 
 all_on : {X : Type 0} (P Q : X → Type 0) (xs : List X) → ((x : X) → P x → Q x) → AllByRecursion P xs → AllByRecursion Q xs
@@ -182,3 +182,11 @@ in_order_canonical kind.Bag rows shown h =
     let c = canonical_is kind.Bag rows in
     sym (canonical_only kind.Bag shown (canonical kind.Bag rows) (c.0, c.1, c.2, λ w. c.3 w ∙ sym (sum_by-IsPermutation _ rows shown h)))
 in_order_canonical kind.List rows shown h = ap (canonical kind.List) h
+
+-- ---- a cursor with nothing left
+
+abbrev cursor_with : Cursor → ℕ → Cursor
+cursor_with c n = record { ask = c.ask; ty = c.ty; left = c.left; bound = n }
+
+pub emptied_same : (c : Cursor) → c.bound ≡ 0 → emptied c ≡ c
+emptied_same c e = ap (cursor_with c) (sym e)

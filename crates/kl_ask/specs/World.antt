@@ -85,3 +85,7 @@ pub record Moved (old new : World) : Type 0 where
 -- a count of some driver rose
 abbrev pub SomeRose : (State → ℕ) → World → World → Type 0
 SomeRose count old new = (i : ℕ) × (a : State) × (b : State) × (slice_get old.drivers i ≡ Some a) × (slice_get new.drivers i ≡ Some b) × Rose (count a) (count b)
+
+-- no driver has a cursor open
+abbrev pub NoCursors : List State → Type 0
+NoCursors ds = (i : ℕ) (d : State) → slice_get ds i ≡ Some d → (k : ℕ) → d.cursors k ≡ None

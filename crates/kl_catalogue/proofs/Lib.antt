@@ -1,5 +1,4 @@
 pub mod Answer
 pub mod Goods
 pub mod Lexemes
-pub mod Proper
 pub mod Steps

@@ -1,12 +1,11 @@
 //! Catalogues, read off their text.
 
-ghost use Rattle.std.specs.Prelude.{◌≡◌, ◌≤◌, ◌<◌, ◌^◌, [], List, length, map, All, IfOk};
+ghost use Rattle.std.specs.Prelude.{◌≡◌, ◌≤◌, ◌<◌, ◌^◌, [], List, length, map, IfOk};
 ghost use Rattle.kl_lex.specs.Lexing.{PlacesRise};
 ghost use Rattle.kl_lex.specs.Placing.{token_of};
 ghost use Rattle.kl_lex.specs.declared.token.Placed.{Placed as APlaced};
 ghost use Rattle.kl_type.specs.Gives.{Gives};
 ghost use Rattle.kl_type.specs.Descent.{reads};
-ghost use Rattle.kl_type.specs.Ground.{IsProper};
 ghost use Rattle.kl_type.specs.Places.{OnePlace};
 ghost use Rattle.kl_type.specs.Reading.{byte_of, is_bracket};
 ghost use Rattle.kl_catalogue.specs.declared.reading.Entry.{Entry as AnEntry};
@@ -133,7 +132,7 @@ fn catalogue_of(alloc: Global, total: usize, tokens: &[Placed]) -> Result<Catalo
 
 /// The catalogue that the bytes are, at most 65,536 of them: `{ "source" NAME ":" type "=" NAME TEXT ";" }`. White space
 /// and comments may stand between tokens. A NAME is a word that is no keyword of the language; the fields of a type come in
-/// any order, each label once, and types nest at most 256 deep. The types are proper.
+/// any order, each label once, and types nest at most 256 deep.
 ///
 /// # Errors
 /// `Bad` exactly where the bytes are no catalogue: with the first byte where a token is due and none starts, else with the
@@ -143,7 +142,6 @@ fn catalogue_of(alloc: Global, total: usize, tokens: &[Placed]) -> Result<Catalo
 pub fn read_catalogue(alloc: Global, bytes: &[u8]) -> Result<Catalogue, CatalogueError>
     requires { length bytes.now ≤ 65536 }
     ensures reads { IfOk result (IsCatalogue bytes.now) }
-    ensures proper { IfOk result (λ c. All (λ e. IsProper e.ty) c) }
     ensures only { (c : List AnEntry) → IsCatalogue bytes.now c → OrMemory result c }
     ensures refused { Refuses bytes.now result }
 {

@@ -22,7 +22,7 @@ const MOST_BYTES: u64 = 268_435_456;
 /// rows come in the order of the file.
 ///
 /// It tells its contents exactly where its files tell their bytes, and its count of faults is theirs. Its count of sources
-/// that it could not read rises where a table has a bad record or too many bytes. RFC 4180 has the form of the files.
+/// that it could not read rises where a table has a bad record or too many bytes.
 #[derive(Drop)]
 pub struct FlatDriver<F: Files + Drop> {
     alloc: Global,

@@ -19,10 +19,10 @@ pub fn reader(alloc: Global, bytes: &[u8]) -> Reader<&[u8]>
         .from_reader(alloc, bytes)
 }
 
-/// Reads the next record into `entry`, and says whether there was one.
+/// Reads the next record into `record`, and says whether there was one.
 ///
 /// # Errors
-/// Want of memory. Nothing else can fail a read of bytes in memory, but no clause says so.
+/// Want of memory.
 pub fn next_record(reader: &mut Reader<&[u8]>, entry: &mut ByteRecord) -> Result<bool, NoMemory>
     requires { IsPlain reader.old }
     ensures plain { IfOk result (λ found. MatchBool found (IsPlain reader.new) (records_left reader.old ≡ [])) }

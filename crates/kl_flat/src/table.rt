@@ -29,11 +29,10 @@ pub struct Table {
 /// Reads the rows of a table, whose first record is its header, as items of a collection type.
 ///
 /// One UTF-8 byte order mark at the very start is no part of the table; behind a second one there is no record. The
-/// records are those of `csv` with its defaults: fields are quoted as in RFC 4180, and empty lines are left out. Record
-/// 0 is bad where there is no header, or where a label of the type does not stand in it exactly once; other columns are
-/// ignored. A record of another length than the header is bad, and one with a cell that has no value of its column's
-/// type: an integer is an optional `-` and digits within 64 bits, with spaces and tabs around it; a truth value is
-/// `true` or `false`; a text is any bytes.
+/// records are those of `csv`, by RFC 4180. Record 0 is bad where there is no header, or where a label of the type does
+/// not stand in it exactly once; other columns are ignored. A record of another length than the header is bad, and one
+/// with a cell that has no value of its column's type: an integer is an optional `-` and digits within 64 bits, with
+/// spaces and tabs around it; a truth value is `true` or `false`; a text is any bytes.
 ///
 /// # Errors
 /// Want of memory.

@@ -1,5 +1,5 @@
 -- What the whole call comes to.
-use Rattle.std.proofs.Common.{◌≡◌, ◌⊎◌, ◌<◌, ◌≤◌, ℕ, zero, suc, ◌+◌, Bool, true, false, List, [], ◌∷◌, ◌++◌, length, take, Option, Some, None, Result, Ok, Err, refl, sym, ap, subst, ◌∙◌, arith, inl, inr, get_or, slice_get, zero-add, add-zero, add-one}
+use Rattle.std.proofs.Common.{◌≡◌, ◌⊎◌, ◌<◌, ◌≤◌, ℕ, zero, suc, ◌+◌, Bool, true, false, List, [], ◌∷◌, ◌++◌, map, length, take, Option, Some, None, Result, Ok, Err, refl, sym, ap, subst, ◌∙◌, arith, inl, inr, get_or, slice_get, zero-add, add-zero, add-one}
 use Rattle.std.proofs.lemmas.Bool.{cases_eq}
 use Rattle.std.proofs.lemmas.Option.{slice_get_read, slice_get_within}
 use Rattle.std.specs.Result.{MatchResult}
@@ -15,8 +15,8 @@ use Rattle.kl_sources.specs.declared.attaching.AttachError.{AttachError}
 use Rattle.kl_sources.specs.declared.source.Source.{Source}
 use Rattle.kl_sources.specs.declared.walking.Refused.{Refused}
 use Rattle.kl_sources.specs.Sources.{ArePlaced, IsSuited, kinds_of, contents, contents_at, HasRows, HaveValues, IsValueAt, IsReadable, FirstWithout, value_of, empty_of}
-use Rattle.kl_sources.specs.Attaching.{AgreeBelow, AttachesAll, HasTyped, IsErrorOf, IsMishap, IsRefusalOf, IsUnread, MayAttach, NoVerdict, StandsWithout, list_of, listed}
-use Rattle.kl_sources.specs.Walking.{AttachesBelow, IsWant, MayAttachBelow, StopsAt, WalksAll, WalksToEnd}
+use Rattle.kl_sources.specs.Attaching.{AgreeBelow, AttachesAll, HasTyped, IsErrorOf, IsMishap, IsRefusalOf, IsUnread, IsUnreadable, MayAttach, NoVerdict, SomeRose, Stands, StandsWithout, Causes, list_of, listed}
+use Rattle.kl_sources.specs.Walking.{AttachesBelow, IsMarkedBelow, IsWant, MayAttachBelow, RefusesFor, StopsAt, WalksAll, WalksToEnd}
 use Rattle.kl_sources.proofs.Lists.{some_same, element, of_all}
 use Rattle.kl_sources.proofs.SessionLemmas.{serves}
 use Rattle.kl_sources.proofs.StepLemmas.{begins}

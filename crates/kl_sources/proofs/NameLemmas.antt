@@ -1,5 +1,5 @@
 -- Names of primitives and of sources.
-use Rattle.std.proofs.Common.{◌≡◌, ◌≢◌, ◌<◌, ℕ, zero, suc, Bool, true, false, ◌||◌, List, [], ◌∷◌, map, length, get_or, Some, All, refl, sym, ap, subst, ◌∙◌, arith, slice_get}
+use Rattle.std.proofs.Common.{◌≡◌, ◌≢◌, ◌<◌, ℕ, zero, suc, Bool, true, false, ◌||◌, List, [], ◌∷◌, map, length, get_or, Option, Some, None, All, refl, sym, ap, subst, ◌∙◌, arith, slice_get}
 use Rattle.std.proofs.lemmas.Slice.Eq.{bytes_eq-Decides}
 use Rattle.std.specs.List.{AllByRecursion, Contains, IsDistinct, list_any}
 use Rattle.kl_prim.specs.declared.rows.PrimRow.{PrimRow}
@@ -7,7 +7,7 @@ use Rattle.kl_prim.specs.Table.{entry_of, rows}
 use Rattle.kl_outcome.specs.Outcome.{Name}
 use Rattle.kl_sources.specs.declared.source.Source.{Source}
 use Rattle.kl_sources.specs.Sources.{same, names_of}
-use Rattle.kl_sources.proofs.Lists.{some_same}
+use Rattle.kl_sources.proofs.Lists.{some_same, of_all}
 
 pub same_is : (a b : Name) → same a b ≡ true → a ≡ b
 same_is a b h = (bytes_eq-Decides a b).0 h

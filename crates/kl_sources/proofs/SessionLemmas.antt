@@ -1,24 +1,26 @@
 -- What a session of attached sources has of them.
-use Rattle.std.proofs.Common.{◌≡◌, ◌<◌, ℕ, zero, suc, ◌+◌, Bool, true, false, List, [], ◌∷◌, map, Option, Some, None, refl, sym, ap, subst, ◌∙◌, arith, slice_get, zero-add, add-zero}
+use Rattle.std.proofs.Common.{◌≡◌, ◌<◌, ℕ, zero, suc, ◌+◌, Bool, true, false, List, [], ◌∷◌, map, length, Option, Some, None, refl, sym, ap, subst, ◌∙◌, arith, slice_get, zero-add, add-zero}
+use Rattle.std.proofs.lemmas.Option.{slice_get_within}
 use Rattle.std.specs.List.{AllByRecursion}
 use Rattle.kl_value.specs.Canon.{canonical}
 use Rattle.kl_value.specs.Views.{collection}
 use Rattle.kl_value.specs.declared.Kind.{Kind}
 use Rattle.kl_value.specs.declared.Kind.TheVariants as kind
 use Rattle.kl_value.specs.declared.Value.{Value}
-use Rattle.kl_type.specs.Ground.{IsProper, ground_of}
+use Rattle.kl_type.specs.Ground.{Ground, IsProper, ground_of}
+use Rattle.kl_type.specs.declared.Ty.{Ty}
 use Rattle.kl_outcome.specs.Outcome.{Name}
 use Rattle.kl_outcome.specs.Typed.{Inhabits}
 use Rattle.kl_ask.specs.Asks.{item_of, kind_of}
-use Rattle.kl_ask.specs.Driver.{Source as AttachedSource, DriverKind, State, Stored, Missing, Bad, Long, Deep, Rows, told_rows}
-use Rattle.kl_ask.specs.World.{IsListed, at_driver, at_source, source_at, type_in, types_of, value_in, value_of_rows, values_of}
+use Rattle.kl_ask.specs.Driver.{Source as AttachedSource, DriverKind, State, Stored, Missing, Bad, Long, Deep, Rows, IsColl, told_rows}
+use Rattle.kl_ask.specs.World.{World, IsListed, IsReady, at_driver, at_place, at_source, source_at, type_in, types_of, value_in, value_of_rows, values_of}
 use Rattle.kl_ask.specs.declared.session.Attached.{Attached}
 use Rattle.kl_ask.specs.declared.settings.Settings.{Settings}
 use Rattle.kl_ask.specs.declared.settings.Trace.{Trace}
 use Rattle.kl_sources.specs.declared.source.Source.{Source}
-use Rattle.kl_sources.specs.Sources.{ArePlaced, IsFit, contents, grounds_of, HaveValues, IsValueAt}
+use Rattle.kl_sources.specs.Sources.{ArePlaced, IsFit, contents, empty_of, grounds_of, HaveValues, IsValueAt, value_of}
 use Rattle.kl_sources.specs.Attaching.{HasTyped, Serves, Stands, list_of, listed, world_of}
-use Rattle.kl_sources.proofs.Lists.{some_same, of_all}
+use Rattle.kl_sources.proofs.Lists.{some_same, of_all, mapped}
 
 shifts : (marks : ℕ → Bool) (n i : ℕ) → marks (suc n + i) ≡ marks (n + suc i)
 shifts marks n i = ap marks (omega arith)

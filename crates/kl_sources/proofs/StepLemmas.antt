@@ -1,20 +1,24 @@
 -- Attaching sources one by one.
-use Rattle.std.proofs.Common.{◌≡◌, ◌≢◌, ◌⊎◌, ◌<◌, ◌≤◌, ℕ, ◌+◌, Bool, true, false, List, length, Option, Some, None, Result, Ok, Err, IsSome, refl, sym, ap, subst, ◌∙◌, arith, inl, inr, slice_get}
+use Rattle.std.proofs.Common.{◌≡◌, ◌≢◌, ◌⊎◌, ◌<◌, ◌≤◌, ℕ, zero, suc, ◌+◌, ◌-◌, ◌^◌, min, Bool, true, false, List, [], ◌∷◌, map, length, Option, Some, None, Result, Ok, Err, IsSome, refl, sym, ap, subst, ◌∙◌, arith, inl, inr, slice_get}
 use Rattle.std.proofs.lemmas.Bool.{cases_eq}
 use Rattle.std.proofs.lemmas.Option.{slice_get_within}
-use Rattle.std.specs.Result.{IsOk}
+use Rattle.std.specs.List.{AllByRecursion, IsDistinct}
+use Rattle.std.specs.Result.{IsErrOf, IsOk}
 use Rattle.kl_base.specs.Counts.{Rose}
-use Rattle.kl_type.specs.Ground.{IsProper}
+use Rattle.kl_value.specs.declared.Value.{Value}
+use Rattle.kl_type.specs.Ground.{IsProper, ground_of}
 use Rattle.kl_type.specs.declared.Ty.{Ty}
 use Rattle.kl_outcome.specs.Outcome.{Name}
+use Rattle.kl_outcome.specs.Typed.{Inhabits}
+use Rattle.kl_ask.specs.Asks.{item_of}
 use Rattle.kl_ask.specs.Driver.{Source as AttachedSource, DriverKind, State, Stored, Missing, Bad, Long, Deep, Rows, Keeps, Attaches, IsTold, Unreadable, stored_by, stored_at, told_rows}
 use Rattle.kl_ask.specs.Lists.{AtIndex, StepsAt, EachSteps}
 use Rattle.kl_ask.specs.declared.ask.DriverError.{DriverError}
 use Rattle.kl_ask.specs.declared.ask.DriverError.TheVariants as error
 use Rattle.kl_sources.specs.declared.source.Source.{Source}
 use Rattle.kl_sources.specs.declared.walking.Refused.{Refused}
-use Rattle.kl_sources.specs.Sources.{ArePlaced, IsSuited, kinds_of, contents, contents_at}
-use Rattle.kl_sources.specs.Attaching.{HaveNone, IsErrorOf, IsUnreadable, HasTyped, Stands}
+use Rattle.kl_sources.specs.Sources.{ArePlaced, IsSuited, same, names_of, kinds_of, contents, contents_at}
+use Rattle.kl_sources.specs.Attaching.{HaveNone, IsErrorOf, IsUnreadable, IsMishap, SomeRose, HasTyped, Stands}
 use Rattle.kl_sources.specs.Walking.{IsMarkedBelow, MayAttachBelow, AttachesBelow, RefusesFor, StopsAt, SameEnd, AttachesIf}
 use Rattle.kl_sources.proofs.Lists.{some_same, element, of_all, mapped, unmapped}
 use Rattle.kl_sources.proofs.NameLemmas.{one_of_name}

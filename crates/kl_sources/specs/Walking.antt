@@ -1,6 +1,6 @@
 -- Attaching sources one by one: what stands once the first of them are attached, and at a refusal. The laws of the
 -- whole call follow.
-use Rattle.std.specs.Prelude.{◌≡◌, ◌⊎◌, ℕ, ◌<◌, Bool, true, false, List, length, Some, None, Result, Ok, Err, IsOk, slice_get, ⊤}
+use Rattle.std.specs.Prelude.{◌≡◌, ◌⊎◌, ℕ, ◌<◌, Bool, true, false, List, length, Option, Some, None, Result, Ok, Err, IsOk, slice_get, ⊤}
 use Rattle.kl_outcome.specs.Outcome.{Name}
 use Rattle.kl_ask.specs.Driver.{DriverKind, State, Stored, Keeps, Attaches}
 use Rattle.kl_ask.specs.Lists.{EachSteps, StepsAt}

@@ -11,8 +11,7 @@ use kl_base::{Label, Seq};
 use kl_scope::Scoped;
 use std::alloc::Global;
 
-/// Why sources are not attached: a source that is refused, and its driver's answer. A fault and want of memory may be
-/// told of any source.
+/// Why sources are not attached: the first that is refused, and its driver's answer.
 #[derive(Debug, Drop, PartialEq, Eq)]
 pub struct AttachError {
     pub source: Label,
@@ -24,9 +23,8 @@ pub struct AttachError {
 /// mentions it.
 ///
 /// # Errors
-/// What a driver answers of a source that is refused, with its cause; some of the mentioned sources may be attached then.
-/// Where contents are told, it is the first that stands without rows. Want of memory, and more sources than 32 bits can
-/// number, are told of any source.
+/// What the driver answers of the first source that is refused; the sources before it stay attached. Want of memory, and
+/// more sources than 32 bits can number, are told of any source.
 pub fn attach_sources(
     alloc: Global,
     sources: Vec<Source>,

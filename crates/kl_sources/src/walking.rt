@@ -1,4 +1,4 @@
-//! Sources are attached one by one.
+// Sources are attached one by one.
 ghost use Rattle.std.specs.Prelude.{◌≡◌, ◌<◌, ◌^◌, ◌++◌, ◌∷◌, [], length, map, true, None, OnOk, MatchResult};
 ghost use Rattle.kl_type.specs.Ground.{IsProper};
 ghost use Rattle.kl_scope.specs.Breaches.{is_marked};

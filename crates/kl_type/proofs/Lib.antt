@@ -6,7 +6,6 @@ pub mod Goods
 pub mod GroundLemmas
 pub mod HasLemmas
 pub mod Kepts
-pub mod Proper
 pub mod RowLemmas
 pub mod Steps
 pub mod TokenLemmas

@@ -8,7 +8,6 @@ ghost use Rattle.kl_type.specs.declared.ground.Ty.{Ty as AType};
 ghost use Rattle.kl_type.specs.declared.reading.TypeError.TheVariants.{NoMemory as WantOfMemory};
 ghost use Rattle.kl_type.specs.Gives.{Gives};
 ghost use Rattle.kl_type.specs.Grammar.{Reads, opener, closer as closer_of};
-ghost use Rattle.kl_type.specs.Ground.{IsProper};
 ghost use Rattle.kl_type.specs.Descent.{is_symbol, is_word, a_base, base_of, a_label, field, fields, in_coll, in_rec, in_var, reads};
 ghost use Rattle.kl_type.specs.Places.{OnePlace};
 ghost use Rattle.kl_type.specs.Reading.{ReadsType, SpellsType, OrMemory, Refuses, RefusesTokens, is_bracket};
@@ -284,7 +283,7 @@ fn type_of(alloc: Global, total: usize, tokens: &[Placed]) -> Result<Ty, TypeErr
 }
 
 /// The type that the bytes are. White space and comments may stand between its tokens, and its fields come in any
-/// order, each label once. It is proper.
+/// order, each label once.
 ///
 /// # Errors
 /// `Bad` exactly where the bytes are no type: with the first byte where a token is due and none starts, else with the
@@ -294,7 +293,6 @@ fn type_of(alloc: Global, total: usize, tokens: &[Placed]) -> Result<Ty, TypeErr
 /// Want of memory.
 pub fn read_type(alloc: Global, bytes: &[u8]) -> Result<Ty, TypeError>
     ensures reads { IfOk result (ReadsType bytes.now) }
-    ensures proper { IfOk result IsProper }
     ensures only { (t : AType) → ReadsType bytes.now t → OrMemory result t }
     ensures refused { Refuses bytes.now result }
 {
@@ -304,10 +302,9 @@ pub fn read_type(alloc: Global, bytes: &[u8]) -> Result<Ty, TypeError>
     }
 }
 
-/// Laws of the texts of types, for the layers above to cite: tokens are at most one type, which is proper, and go wrong at
-/// most at one place, in at most one way, and nowhere where they are a type.
+/// Laws of the texts of types, for the layers above to cite: tokens are at most one type, and go wrong at most at one
+/// place, in at most one way, and nowhere where they are a type.
 pub fn type_laws()
     ensures unique { (ts : List APlaced) (t u : AType) → SpellsType ts t → SpellsType ts u → t ≡ u }
-    ensures proper { (ts : List APlaced) (t : AType) → SpellsType ts t → IsProper t }
     ensures one_place { (ts : List APlaced) → OnePlace Reads is_bracket 256 ts }
 {}

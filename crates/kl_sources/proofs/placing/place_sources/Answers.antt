@@ -1,4 +1,4 @@
-use Rattle.std.proofs.Common.{arith}
+use Rattle.std.proofs.Common.{arith, refl}
 use Rattle.kl_sources.proofs.PlacingLemmas.{begins, name_taken, entry_wrong, goes_on, ended, fit_so_far, are_placed}
 use Rattle.kl_sources.proofs.placing.place_sources.Goals as goal
 
