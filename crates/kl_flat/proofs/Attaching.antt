@@ -1,5 +1,5 @@
 -- What attaching says of a file that was read.
-use Rattle.std.proofs.Common.{Result, ◌≡◌, ◌≢◌, ◌⊎◌, ◌<◌, ◌≤◌, ◌+◌, ◌-◌, ◌^◌, min, ℕ, Bool, true, false, List, [], ◌∷◌, ◌++◌, length, Option, Some, None, Ok, Err, IsSome, IsErrOf, refl, sym, ◌∙◌, ap, subst, arith, rules, inl, inr, nat_lt, nat_eq, cond}
+use Rattle.std.proofs.Common.{Result, ◌≡◌, ◌≢◌, ◌⊎◌, ◌<◌, ◌≤◌, ◌+◌, ◌-◌, ◌^◌, min, ℕ, Bool, true, false, List, [], ◌∷◌, ◌++◌, length, Option, Some, None, Ok, Err, IsSome, IsErrOf, refl, sym, ◌∙◌, ap, subst, arith, inl, inr, nat_lt, nat_eq, cond}
 use Rattle.std.proofs.lemmas.Bool.Decides.{nat_tests}
 use Rattle.std.specs.List.{AllByRecursion}
 use Rattle.std.specs.Cmp.Lexicographic.{pointwise, same_text}
@@ -17,9 +17,8 @@ use Rattle.kl_outside.specs.declared.files.Whole.{Whole}
 use Rattle.kl_outside.specs.declared.files.Whole.TheVariants.{Bytes, TooLong}
 use Rattle.kl_outside.specs.declared.stop.Stop.TheVariants as stop
 use Rattle.kl_ask.specs.Asks.{item_of}
-use Rattle.kl_ask.specs.Driver.{State, Stored, Missing, Bad, Long, Deep, Rows, Source as Attached, Attaches, rows_in, told_rows, stored_by}
+use Rattle.kl_ask.specs.Driver.{Stored, Missing, Bad, Long, Deep, Rows, Source as Attached, Attaches, told_rows, stored_by}
 use Rattle.kl_ask.specs.declared.ask.Ask.{Ask}
-use Rattle.kl_ask.specs.declared.ask.Drift.{Drift}
 use Rattle.kl_ask.specs.declared.ask.DriverError.{DriverError}
 use Rattle.kl_ask.specs.declared.ask.DriverError.TheVariants as error
 use Rattle.kl_flat.specs.Flat.{flat_state, source_at, told_only, attached_of, contents_of, most_bytes, stored_bytes, stored_of, stored_rows}

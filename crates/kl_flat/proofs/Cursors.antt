@@ -1,7 +1,7 @@
 -- Cursors of a flat driver: how they are opened, what they hand, and how they are closed.
-use Rattle.std.proofs.Common.{Result, zero, suc, ◌≡◌, ◌≢◌, ◌⊎◌, ◌<◌, ◌≤◌, ◌+◌, ◌-◌, ◌^◌, min, ℕ, Bool, true, false, List, [], ◌∷◌, ◌++◌, length, get_or, set, take, drop, Option, Some, None, Ok, Err, refl, sym, ◌∙◌, ap, subst, arith, rules, inl, inr, slice_get, length-append, append-nil, IsSome}
+use Rattle.std.proofs.Common.{Result, zero, suc, ◌≡◌, ◌≢◌, ◌⊎◌, ◌<◌, ◌+◌, ◌^◌, ℕ, Bool, true, false, List, [], ◌∷◌, ◌++◌, length, set, drop, Option, Some, None, Ok, Err, refl, sym, ◌∙◌, ap, subst, arith, inl, inr, slice_get, length-append, IsSome}
 use Rattle.std.proofs.Math.Path.{fun_ext}
-use Rattle.std.proofs.lemmas.Grind.{common_steps, elements}
+use Rattle.std.proofs.lemmas.Grind.{common_steps}
 use Rattle.std.proofs.lemmas.List.Sorted.{IsPermutation-refl}
 use Rattle.std.proofs.lemmas.Option.{gets}
 use Rattle.std.specs.List.{AllByRecursion}
@@ -15,14 +15,14 @@ use Rattle.kl_outcome.specs.Typed.{Inhabits}
 use Rattle.kl_outside.specs.Files.{FilesState}
 use Rattle.kl_ask.specs.Asked.{raised_by, with_ask}
 use Rattle.kl_ask.specs.Asks.{answers, item_of, kind_of, shown_type}
-use Rattle.kl_ask.specs.Driver.{State, Source as Attached, Cursor, CanStart, Starts, Opens, OpensAt, IsFresh, InOrder, Shows, Pulls, PullResult, PullsMore, PullsNone, Hands, Finishes, IsFlat, emptied}
+use Rattle.kl_ask.specs.Driver.{Cursor, CanStart, Starts, OpensAt, IsFresh, InOrder, Shows, Pulls, PullsMore, PullsNone, Hands, Finishes, IsFlat, emptied}
 use Rattle.kl_ask.specs.declared.ask.Ask.{Ask}
 use Rattle.kl_ask.specs.declared.ask.Ask.TheVariants as asks
 use Rattle.kl_ask.specs.declared.ask.ColTest.{ColTest}
 use Rattle.kl_ask.specs.declared.ask.DriverError.{DriverError}
 use Rattle.kl_ask.specs.declared.ask.DriverError.TheVariants as error
 use Rattle.kl_flat.specs.Answering.{Takes}
-use Rattle.kl_flat.specs.Flat.{asked_source, flat_state, source_at, told_only, attached_of, cursor_of, keep_of, left_of, open_at, tests_of}
+use Rattle.kl_flat.specs.Flat.{asked_source, flat_state, told_only, attached_of, cursor_of, keep_of, left_of, open_at, tests_of}
 use Rattle.kl_flat.specs.declared.parts.Source.{Source}
 use Rattle.kl_flat.specs.declared.parts.Open.{Open}
 use Rattle.kl_flat.proofs.Suiting.{item_flat}

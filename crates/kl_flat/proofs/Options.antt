@@ -1,7 +1,7 @@
 -- Lists in which something may be missing.
-use Rattle.std.proofs.Common.{◌≡◌, ℕ, ◌+◌, List, [], ◌∷◌, ◌++◌, length, Option, Some, None, All, refl, ap, sym, ◌∙◌}
+use Rattle.std.proofs.Common.{◌≡◌, List, [], ◌∷◌, ◌++◌, Option, Some, None, refl, ap, sym, ◌∙◌}
 use Rattle.std.specs.Option.{option_map}
-use Rattle.kl_flat.specs.Table.{all_of, front_of, first_missing}
+use Rattle.kl_flat.specs.Table.{all_of}
 
 module _ {A : Type 0} where
   pub all_of-none : (os : List (Option A)) (rest : List (Option A)) → all_of (os ++ None ∷ rest) ≡ None

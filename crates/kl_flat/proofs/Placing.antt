@@ -1,5 +1,5 @@
 -- Where labels stand in a header, and what a record has there.
-use Rattle.std.proofs.Common.{◌≡◌, ◌≤◌, ◌<◌, ℕ, zero, suc, ◌+◌, Bool, true, false, List, [], ◌∷◌, ◌++◌, cond, length, take, nat_eq, Some, None, refl, ap, sym, ◌∙◌, subst, arith, add_comm, eqb-true, ◌==◌}
+use Rattle.std.proofs.Common.{◌≡◌, ◌≤◌, ◌<◌, ℕ, zero, suc, ◌+◌, Bool, true, false, List, [], ◌∷◌, cond, length, take, nat_eq, Some, None, refl, ap, sym, ◌∙◌, subst, arith, add_comm, eqb-true, ◌==◌}
 use Rattle.std.specs.List.{zip}
 use Rattle.std.specs.Cmp.Lexicographic.{pointwise}
 use Rattle.csv.specs.Records.{field_at}

@@ -1,7 +1,7 @@
 -- Rows of a table, from the places of the columns.
-use Rattle.std.proofs.Common.{◌≡◌, ◌≢◌, ◌<◌, ◌≤◌, ◌==◌, ℕ, suc, ◌+◌, Bool, true, false, List, [], ◌∷◌, ◌++◌, map, cond, length, take, drop, get_or, nat_eq, Option, Some, None, refl, sym, ap, ◌∙◌, subst, arith, rules, append_assoc, append-nil, eq-eqb, add-one, eqb-true, true≢false}
-use Rattle.std.specs.List.{list_all, zip}
-use Rattle.std.specs.Option.{option_map, option_and_then, MatchOption, is_some}
+use Rattle.std.proofs.Common.{◌≡◌, ◌<◌, ◌==◌, ℕ, suc, ◌+◌, Bool, true, false, List, [], ◌∷◌, ◌++◌, map, cond, length, take, drop, get_or, nat_eq, Option, Some, None, refl, sym, ap, ◌∙◌, subst, arith, eq-eqb, add-one, eqb-true, true≢false}
+use Rattle.std.specs.List.{zip}
+use Rattle.std.specs.Option.{option_map, MatchOption, is_some}
 use Rattle.std.specs.Cmp.Lexicographic.{pointwise}
 use Rattle.std.proofs.lemmas.Grind.{common_steps}
 use Rattle.std.proofs.lemmas.List.{get_or-map, length-map, map-append}
@@ -13,9 +13,9 @@ use Rattle.kl_value.specs.declared.Value.TheVariants as value
 use Rattle.kl_type.specs.declared.ground.Ty.{Ty}
 use Rattle.kl_flat.specs.Cells.{cell_value}
 use Rattle.kl_flat.specs.Places.{ArePlaces}
-use Rattle.kl_flat.specs.Table.{Columns, Record, all_of, front_of, first_missing, is_header, part_in, row_in, times}
+use Rattle.kl_flat.specs.Table.{Columns, Record, all_of, is_header, part_in, row_in, times}
 use Rattle.kl_flat.proofs.Options.{all_of-none, all_of-more}
-use Rattle.kl_flat.proofs.Placing.{cell_at, count_front, count_step, field-there}
+use Rattle.kl_flat.proofs.Placing.{cell_at, count_front, count_step}
 
 -- ---- the place of a label
 

@@ -1,13 +1,13 @@
 -- Which types tables have, seen as ground types.
-use Rattle.std.proofs.Common.{◌≡◌, ℕ, ◌==◌, not, Bool, true, false, ◌&&◌, List, [], ◌∷◌, length, refl, sym, ap, ◌∙◌, subst, true≢false}
+use Rattle.std.proofs.Common.{◌≡◌, ℕ, ◌==◌, not, Bool, true, false, ◌&&◌, [], ◌∷◌, length, refl, sym, ap, ◌∙◌, subst}
 use Rattle.std.specs.List.{list_all}
 use Rattle.kl_value.specs.declared.Kind.{Kind}
-use Rattle.kl_type.specs.Ground.{Ground, Row, rec, coll, row_by, ground_of}
+use Rattle.kl_type.specs.Ground.{Ground, rec, coll, row_by, ground_of}
 use Rattle.kl_type.specs.declared.ground.Ty.{Ty, Ty-F, out-Ty, roll-Ty, roll-out-Ty}
 use Rattle.kl_type.specs.declared.ground.Ty.TheVariants as ty
 use Rattle.kl_type.proofs.GroundLemmas.{ground-Bool, ground-Int, ground-Str, ground-Rec, ground-Coll}
 use Rattle.kl_ask.specs.Asks.{item_of}
-use Rattle.kl_ask.specs.Driver.{IsBase, AllBase, IsFlat, IsColl, Suits}
+use Rattle.kl_ask.specs.Driver.{IsBase, AllBase, IsFlat, Suits}
 use Rattle.kl_flat.specs.Columns.{columns_of, fields_layer, items_layer, is_base, is_table_type, base_layer}
 use Rattle.kl_flat.specs.Table.{Columns}
 

@@ -1,9 +1,8 @@
 -- The rows of a table are canonical records of its type.
-use Rattle.std.proofs.Common.{◌≡◌, ℕ, Bool, true, false, ◌&&◌, not, List, [], ◌∷◌, map, length, cond, nat_eq, Option, Some, None, IsSome, All, refl, ap, sym, ◌∙◌, subst, inl, inr, ⊎_elim, ℤ, IfOk, Result, Ok, Err}
+use Rattle.std.proofs.Common.{◌≡◌, ℕ, Bool, true, false, ◌&&◌, List, [], ◌∷◌, map, length, cond, nat_eq, Option, Some, None, IsSome, refl, ap, sym, ◌∙◌, subst, ⊎_elim, ℤ, IfOk, Result, Ok, Err}
 use Rattle.kl_flat.specs.declared.table.Table.{Table}
-use Rattle.std.specs.Bool.{IsTrue}
-use Rattle.std.specs.Option.{option_map, option_and_then}
-use Rattle.std.specs.List.{AllByRecursion, list_all, zip}
+use Rattle.std.specs.Option.{option_map}
+use Rattle.std.specs.List.{AllByRecursion, zip}
 use Rattle.std.specs.List.Sorted.{IsStrictlySortedBy}
 use Rattle.std.specs.Cmp.Lexicographic.{pointwise, same_text}
 use Rattle.kl_ask.specs.Asks.{item_of}
@@ -15,18 +14,18 @@ use Rattle.kl_base.proofs.FieldsLemmas.{rise_strictly}
 use Rattle.kl_flat.specs.Fitting.{all_fit, are_rows, fit_fields, fits_base, fits_layer}
 use Rattle.kl_base.specs.Fields.{bytes_cmp, field, labels_of, rises, rises_from, LabelsRise}
 use Rattle.kl_value.specs.IsCanonical.{IsCanonical}
-use Rattle.kl_value.specs.Views.{as_bool, as_int, as_text, bool_layer, int_layer, bytes_layer}
+use Rattle.kl_value.specs.Views.{bool_layer, int_layer, bytes_layer}
 use Rattle.kl_value.specs.declared.Value.{Value, Value-F, out-Value, roll-Value, roll-out-Value}
 use Rattle.kl_value.specs.declared.Value.TheVariants as value
 use Rattle.kl_value.proofs.IsCanonicalLemmas.{bool_made, int_made, text_made, record_made}
 use Rattle.kl_prim.specs.Meaning.{number_in}
-use Rattle.kl_type.specs.Ground.{Ground, Row, bool, int, str, rec, coll, no_row, row, row_by, at, ground_of, IsBefore, IsGround, IsProper, IsRow}
+use Rattle.kl_type.specs.Ground.{bool, int, str, rec, row_by, ground_of, IsBefore, IsGround, IsProper, IsRow}
 use Rattle.kl_type.specs.declared.ground.Ty.{Ty, Ty-F, out-Ty, roll-Ty, roll-out-Ty}
 use Rattle.kl_type.specs.declared.ground.Ty.TheVariants as ty
 use Rattle.kl_type.proofs.GroundLemmas.{ground-Bool, ground-Int, ground-Str, ground-Rec, ground-Coll}
 use Rattle.kl_type.proofs.RowLemmas.{at_here, at_there, same_label, told}
-use Rattle.kl_outcome.specs.Typed.{Has, HasFields, Inhabits}
-use Rattle.kl_flat.specs.Cells.{cell_layer, cell_value, truth_in, without_blanks}
+use Rattle.kl_outcome.specs.Typed.{HasFields, Inhabits}
+use Rattle.kl_flat.specs.Cells.{cell_layer, cell_value, without_blanks}
 use Rattle.kl_flat.specs.Columns.{columns_of, fields_layer, items_layer, is_table_type}
 use Rattle.kl_flat.specs.Table.{Columns, Record, all_of, front_of, part_in, row_in, rows_in, table_records, table_rows, is_header}
 

@@ -1,5 +1,5 @@
 -- Types of tables.
-use Rattle.std.specs.Prelude.{Bool, true, false, not, ◌&&◌, ◌==◌, ℕ, List, [], length, Option}
+use Rattle.std.specs.Prelude.{Bool, true, false, not, ◌&&◌, ◌==◌, ℕ, List, [], length}
 use Rattle.std.specs.List.{list_all}
 use Rattle.kl_type.specs.declared.ground.Ty.{Ty, Ty-F, out-Ty}
 

@@ -1,5 +1,5 @@
 -- What a flat driver means.
-use Rattle.std.specs.Prelude.{◌≡◌, ℕ, Bool, true, false, List, [], ◌∷◌, length, drop, Option, Some, None, cond, slice_get, codes, nat_eq, nat_lt}
+use Rattle.std.specs.Prelude.{ℕ, true, false, List, [], ◌∷◌, length, drop, Option, Some, None, cond, slice_get, codes, nat_eq, nat_lt}
 use Rattle.std.specs.Cmp.Lexicographic.{pointwise}
 use Rattle.std.specs.Option.{option_map, option_flatten}
 use Rattle.kl_value.specs.declared.Value.{Value}

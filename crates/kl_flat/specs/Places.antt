@@ -1,5 +1,5 @@
 -- Where the columns of a type stand in a header. No public contract cites this.
-use Rattle.std.specs.Prelude.{◌≡◌, true, ℕ, List, Option, Some, map}
+use Rattle.std.specs.Prelude.{◌≡◌, true, ℕ, List, Some, map}
 use Rattle.csv.specs.Records.{field_at}
 use Rattle.kl_flat.specs.Table.{Columns, Record, is_header}
 

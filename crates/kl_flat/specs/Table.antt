@@ -1,5 +1,5 @@
 -- What the bytes of a table mean.
-use Rattle.std.specs.Prelude.{Bool, ◌&&◌, ◌==◌, ℕ, ◌+◌, List, [], ◌∷◌, map, length, Option, Some, None, cond, nat_eq}
+use Rattle.std.specs.Prelude.{Bool, ◌==◌, ℕ, ◌+◌, List, [], ◌∷◌, map, length, Option, Some, None, cond, nat_eq}
 use Rattle.std.specs.Cmp.Lexicographic.{pointwise}
 use Rattle.std.specs.List.{list_all, starts_with, zip}
 use Rattle.std.specs.Option.{option_map, option_and_then}

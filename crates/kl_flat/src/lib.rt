@@ -13,3 +13,6 @@ mod table;
 
 pub use driver::FlatDriver;
 pub use table::{Table, read_table};
+
+#[cfg(test)]
+mod tests;

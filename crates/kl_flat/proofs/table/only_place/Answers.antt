@@ -1,4 +1,4 @@
-use Rattle.std.proofs.Common.{◌≡◌, arith, sym, rules, true, false, ap, ◌∙◌, nat_eq, None}
+use Rattle.std.proofs.Common.{◌≡◌, arith, sym, rules, true, false, nat_eq}
 use Rattle.std.specs.Option.{is_some}
 use Rattle.std.specs.Cmp.Lexicographic.{pointwise, same_text}
 use Rattle.csv.specs.Records.{fields_of}

@@ -1,4 +1,4 @@
-use Rattle.std.proofs.Common.{◌≡◌, ◌==◌, false, arith, ap, sym, ◌∙◌}
+use Rattle.std.proofs.Common.{◌==◌, ap, sym, ◌∙◌}
 use Rattle.std.proofs.lemmas.List.Folds.{list_all_at}
 use Rattle.csv.specs.Records.{fields_of}
 use Rattle.kl_flat.specs.Table.{times}

@@ -1,7 +1,4 @@
-use Rattle.std.proofs.Common.{◌≡◌, ◌++◌, ◌∷◌, [], None, Some, length, sym, ap, ◌∙◌}
-use Rattle.std.specs.List.{zip}
-use Rattle.csv.specs.Records.{fields_of}
-use Rattle.kl_flat.specs.Table.{part_in}
+use Rattle.std.proofs.Common.{◌++◌, ◌∷◌, [], None, Some, sym, ap, ◌∙◌}
 use Rattle.kl_flat.proofs.Rows.{cell_in, no_row, one_more, part_is, part_none}
 use Rattle.kl_flat.proofs.table.row_in.Goals as goal
 
