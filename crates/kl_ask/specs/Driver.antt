@@ -145,7 +145,7 @@ pub record Attaches (source : Name) (locator : List ℕ) (ty : Ty) (result : Res
   pub typed : OnOk result ((rows : List Value) → stored_at old locator ty ≡ Some (Rows rows) → AllByRecursion (Inhabits (item_of (ground_of ty))) rows)
   pub refused : OnErr result (new.attached ≡ old.attached)
   -- what contents that are told say is not attached
-  pub missing : stored_at old locator ty ≡ Some Missing → OnOk result ⊥ × (new.faults ≡ old.faults)
+  pub missing : stored_at old locator ty ≡ Some Missing → OnOk result ⊥ × (new.faults ≡ old.faults) × (new.unread ≡ old.unread)
   pub bad : (place : ℕ) → stored_at old locator ty ≡ Some (Bad place) → OnOk result ⊥
   pub long : (most : ℕ) → stored_at old locator ty ≡ Some (Long most) → OnOk result ⊥
   pub deep : (place : ℕ) → stored_at old locator ty ≡ Some (Deep place) → OnOk result ⊥

@@ -1,7 +1,6 @@
 -- What an evaluation sees of a session, and what it leaves.
 use Rattle.std.specs.Prelude.{◌≡◌, ◌<◌, ℕ, List, [], Option, Some, None, slice_get}
 use Rattle.std.specs.List.{AllByRecursion}
-use Rattle.kl_base.specs.Counts.{Rose}
 use Rattle.kl_value.specs.Canon.{canonical}
 use Rattle.kl_value.specs.declared.Value.{Value}
 use Rattle.kl_type.specs.Ground.{Ground, IsProper, ground_of}
@@ -81,7 +80,3 @@ pub record Moved (old new : World) : Type 0 where
   pub settings : new.settings ≡ old.settings
   pub trace : new.trace ≡ old.trace
   pub drivers : EachSteps Quiet old.drivers new.drivers
-
--- a count of some driver rose
-abbrev pub SomeRose : (State → ℕ) → World → World → Type 0
-SomeRose count old new = (i : ℕ) × (a : State) × (b : State) × (slice_get old.drivers i ≡ Some a) × (slice_get new.drivers i ≡ Some b) × Rose (count a) (count b)

@@ -94,7 +94,7 @@ unread_cause f (inr e) = inr (untold f.told e.0, e.1)
 -- a refused `attach`
 pub refused : (e : DriverError) (source path : List ℕ) (ty : Ty) (f f' : FilesState) (sources : List Source) (cursors : List (Option Open)) (asked : List (Ask × ℕ)) (handed unread unread' : ℕ)
     → f'.told ≡ f.told → f.faults ≤ f'.faults → unread ≤ unread' → CauseOf e (at_path f.told path ty) f f' unread unread'
-    → (at_path f.told path ty ≡ Some Missing → f'.faults ≡ f.faults)
+    → (at_path f.told path ty ≡ Some Missing → (f'.faults ≡ f.faults) × (unread' ≡ unread))
     → Attaches source path ty (Err e) (flat_state f sources cursors asked handed unread) (flat_state f' sources cursors asked handed unread')
 refused e source path ty f f' sources cursors asked handed unread unread' told faults more cause missing =
     subst (λ t. Attaches source path ty (Err e) (flat_state f sources cursors asked handed unread) (flat_state (record { told = t; left = f'.left; faults = f'.faults }) sources cursors asked handed unread')) (sym told) (record {
@@ -107,7 +107,7 @@ refused e source path ty f f' sources cursors asked handed unread unread' told f
       count = tt;
       typed = tt;
       refused = refl;
-      missing = λ is. (tt, missing is);
+      missing = λ is. (tt, (missing is).0, (missing is).1);
       bad = λ place is. tt;
       long = λ most is. tt;
       deep = λ place is. tt;
@@ -122,18 +122,18 @@ module _ (source path : List ℕ) (ty : Ty) (f f' : FilesState) (sources : List 
   -- the file could not be read
   pub unreadable_file : (e : DriverError) → ReadsWhole path most_bytes (Err stop.Failed) f f' → Attaches source path ty (Err error.Failed) (flat_state f sources cursors asked handed unread) (flat_state f' sources cursors asked handed unread)
   unreadable_file e reads = refused error.Failed source path ty f f' sources cursors asked handed unread unread reads.told reads.later (omega arith)
-      (by (reads.failed refl)) (λ is. (reads.missing (is_missing path ty f is)).1)
+      (by (reads.failed refl)) (λ is. ((reads.missing (is_missing path ty f is)).1, refl))
     where
       by : IsMissing f path ⊎ Rose f.faults f'.faults → (at_path f.told path ty ≡ Some Missing) ⊎ Rose f.faults f'.faults
       by (inl is) = inl (missing_is path ty f is)
       by (inr rose) = inr rose
 
   pub no_memory_file : ReadsWhole path most_bytes (Err stop.NoMemory) f f' → Attaches source path ty (Err error.NoMemory) (flat_state f sources cursors asked handed unread) (flat_state f' sources cursors asked handed unread)
-  no_memory_file reads = refused error.NoMemory source path ty f f' sources cursors asked handed unread unread reads.told reads.later (omega arith) tt (λ is. (reads.missing (is_missing path ty f is)).1)
+  no_memory_file reads = refused error.NoMemory source path ty f f' sources cursors asked handed unread unread reads.told reads.later (omega arith) tt (λ is. ((reads.missing (is_missing path ty f is)).1, refl))
 
   -- the file was read, and memory wanted then
   pub no_memory : (whole : Whole) → ReadsWhole path most_bytes (Ok whole) f f' → Attaches source path ty (Err error.NoMemory) (flat_state f sources cursors asked handed unread) (flat_state f' sources cursors asked handed unread)
-  no_memory whole reads = refused error.NoMemory source path ty f f' sources cursors asked handed unread unread reads.told reads.later (omega arith) tt (λ is. (reads.missing (is_missing path ty f is)).1)
+  no_memory whole reads = refused error.NoMemory source path ty f f' sources cursors asked handed unread unread reads.told reads.later (omega arith) tt (λ is. ((reads.missing (is_missing path ty f is)).1, refl))
 
   pub no_memory_as : (whole : Whole) (result : Result ℕ DriverError) (sources' : List Source) → ReadsWhole path most_bytes (Ok whole) f f' → sources' ≡ sources → result ≡ Err error.NoMemory
       → Attaches source path ty result (flat_state f sources cursors asked handed unread) (flat_state f' sources' cursors asked handed unread)
@@ -144,7 +144,7 @@ module _ (source path : List ℕ) (ty : Ty) (f f' : FilesState) (sources : List 
   pub too_long : (unread' : ℕ) → ReadsWhole path most_bytes (Ok TooLong) f f' → unread' ≡ min (unread + 1) (2 ^ 64 - 1) → unread < 2 ^ 64
       → Attaches source path ty (Err (error.TooLong most_bytes)) (flat_state f sources cursors asked handed unread) (flat_state f' sources cursors asked handed unread')
   too_long unread' reads rose fits = refused (error.TooLong most_bytes) source path ty f f' sources cursors asked handed unread unread' reads.told reads.later (omega (arith, rose, fits))
-      (by (stands path ty TooLong f f' reads)) (λ is. (reads.missing (is_missing path ty f is)).1)
+      (by (stands path ty TooLong f f' reads)) (λ is. let q = (reads.missing (is_missing path ty f is)).0 in absurd cc)
     where
       by : Stands f.told path ty TooLong → (at_path f.told path ty ≡ Some (Long most_bytes)) ⊎ ((f.told ≡ None) × Rose unread unread')
       by (inl none) = inr (none, omega (arith, rose))
@@ -153,7 +153,7 @@ module _ (source path : List ℕ) (ty : Ty) (f f' : FilesState) (sources : List 
   pub bad_source : (bytes : List ℕ) (place unread' : ℕ) → ReadsWhole path most_bytes (Ok (Bytes bytes)) f f' → bad_record bytes ty ≡ Some place → unread' ≡ min (unread + 1) (2 ^ 64 - 1) → unread < 2 ^ 64
       → Attaches source path ty (Err (error.BadSource place)) (flat_state f sources cursors asked handed unread) (flat_state f' sources cursors asked handed unread')
   bad_source bytes place unread' reads bad rose fits = refused (error.BadSource place) source path ty f f' sources cursors asked handed unread unread' reads.told reads.later (omega (arith, rose, fits))
-      (by (stands path ty (Bytes bytes) f f' reads)) (λ is. (reads.missing (is_missing path ty f is)).1)
+      (by (stands path ty (Bytes bytes) f f' reads)) (λ is. let q = (reads.missing (is_missing path ty f is)).0 in absurd cc)
     where
       by : Stands f.told path ty (Bytes bytes) → (at_path f.told path ty ≡ Some (Bad place)) ⊎ ((f.told ≡ None) × Rose unread unread')
       by (inl none) = inr (none, omega (arith, rose))

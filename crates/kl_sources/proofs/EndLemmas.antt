@@ -11,13 +11,14 @@ use Rattle.kl_ask.specs.Lists.{EachSteps}
 use Rattle.kl_ask.specs.declared.ask.DriverError.{DriverError}
 use Rattle.kl_ask.specs.declared.ask.DriverError.TheVariants as error
 use Rattle.kl_ask.specs.declared.session.Attached.{Attached}
+use Rattle.kl_ask.proofs.Worlds.{some_same}
 use Rattle.kl_sources.specs.declared.attaching.AttachError.{AttachError}
 use Rattle.kl_sources.specs.declared.source.Source.{Source}
 use Rattle.kl_sources.specs.declared.walking.Refused.{Refused}
 use Rattle.kl_sources.specs.Sources.{ArePlaced, IsSuited, kinds_of, contents, contents_at, HasRows, HaveValues, IsValueAt, IsReadable, FirstWithout, value_of, empty_of}
 use Rattle.kl_sources.specs.Attaching.{AgreeBelow, AttachesAll, HasTyped, IsErrorOf, IsMishap, IsRefusalOf, IsUnread, MayAttach, NoVerdict, StandsWithout, list_of, listed}
 use Rattle.kl_sources.specs.Walking.{AttachesBelow, IsWant, MayAttachBelow, StopsAt, WalksAll, WalksToEnd}
-use Rattle.kl_sources.proofs.Lists.{some_same, element, of_all}
+use Rattle.kl_sources.proofs.Lists.{element, of_all}
 use Rattle.kl_sources.proofs.SessionLemmas.{serves}
 use Rattle.kl_sources.proofs.StepLemmas.{begins}
 
@@ -334,7 +335,17 @@ module _ (marks : ℕ → Bool) (ss : List Source) (old new : List State) (place
       ready = tt;
       values = tt;
       refused = λ s w first. refused_first s w (first_at (kinds_of old) marks 0 ss s w first);
-      cause = record { place = r.place; refused = stops.source; there = stops.there; named = sym named; cause = subst CauseOf (sym with_error) cause_here };
+      cause = record {
+        place = r.place;
+        refused = stops.source;
+        there = stops.there;
+        named = sym named;
+        cause = subst CauseOf (sym with_error) cause_here;
+        before = λ enough i s lt is mk. elim stops.cause [
+          | inl want ↦ absurd (enough (with_error ∙ want))
+          | inr h ↦ stops.below.stand i s (omega (arith, lt, h.0)) is mk
+        ];
+      };
     }
 
 module _ (marks : ℕ → Bool) (ss : List Source) (old new : List State) (placed : ArePlaced (kinds_of old) ss) where

@@ -3,9 +3,7 @@ use Rattle.std.proofs.Common.{◌≡◌, ◌<◌, ℕ, zero, suc, List, [], ◌�
 use Rattle.std.proofs.lemmas.Option.{slice_get-map}
 use Rattle.std.specs.List.{AllByRecursion}
 use Rattle.std.specs.Option.{option_map}
-
-pub some_same : {T : Type 0} {x y : T} → Some x ≡ Some y → x ≡ y
-some_same h = grind arith
+use Rattle.kl_ask.proofs.Worlds.{some_same}
 
 pub element : {T : Type 0} (xs : List T) (i : ℕ) → i < length xs → (x : T) × (slice_get xs i ≡ Some x)
 element [] i lt = absurd (omega arith)

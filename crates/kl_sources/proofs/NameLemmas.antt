@@ -5,9 +5,9 @@ use Rattle.std.specs.List.{AllByRecursion, Contains, IsDistinct, list_any}
 use Rattle.kl_prim.specs.declared.rows.PrimRow.{PrimRow}
 use Rattle.kl_prim.specs.Table.{entry_of, rows}
 use Rattle.kl_outcome.specs.Outcome.{Name}
+use Rattle.kl_ask.proofs.Worlds.{some_same}
 use Rattle.kl_sources.specs.declared.source.Source.{Source}
 use Rattle.kl_sources.specs.Sources.{same, names_of}
-use Rattle.kl_sources.proofs.Lists.{some_same}
 
 pub same_is : (a b : Name) → same a b ≡ true → a ≡ b
 same_is a b h = (bytes_eq-Decides a b).0 h

@@ -15,10 +15,11 @@ use Rattle.kl_ask.specs.World.{IsListed, at_driver, at_source, source_at, type_i
 use Rattle.kl_ask.specs.declared.session.Attached.{Attached}
 use Rattle.kl_ask.specs.declared.settings.Settings.{Settings}
 use Rattle.kl_ask.specs.declared.settings.Trace.{Trace}
+use Rattle.kl_ask.proofs.Worlds.{some_same}
 use Rattle.kl_sources.specs.declared.source.Source.{Source}
 use Rattle.kl_sources.specs.Sources.{ArePlaced, IsFit, contents, grounds_of, HaveValues, IsValueAt}
 use Rattle.kl_sources.specs.Attaching.{HasTyped, Serves, Stands, list_of, listed, world_of}
-use Rattle.kl_sources.proofs.Lists.{some_same, of_all}
+use Rattle.kl_sources.proofs.Lists.{of_all}
 
 shifts : (marks : ℕ → Bool) (n i : ℕ) → marks (suc n + i) ≡ marks (n + suc i)
 shifts marks n i = ap marks (omega arith)

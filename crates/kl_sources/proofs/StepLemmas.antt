@@ -11,26 +11,14 @@ use Rattle.kl_ask.specs.Driver.{Source as AttachedSource, DriverKind, State, Sto
 use Rattle.kl_ask.specs.Lists.{AtIndex, StepsAt, EachSteps}
 use Rattle.kl_ask.specs.declared.ask.DriverError.{DriverError}
 use Rattle.kl_ask.specs.declared.ask.DriverError.TheVariants as error
+use Rattle.kl_ask.proofs.Worlds.{keeps_none, keeps_then, some_same}
 use Rattle.kl_sources.specs.declared.source.Source.{Source}
 use Rattle.kl_sources.specs.declared.walking.Refused.{Refused}
 use Rattle.kl_sources.specs.Sources.{ArePlaced, IsSuited, kinds_of, contents, contents_at}
 use Rattle.kl_sources.specs.Attaching.{HaveNone, IsErrorOf, IsUnreadable, HasTyped, Stands}
 use Rattle.kl_sources.specs.Walking.{IsMarkedBelow, MayAttachBelow, AttachesBelow, RefusesFor, StopsAt, SameEnd, AttachesIf}
-use Rattle.kl_sources.proofs.Lists.{some_same, element, of_all, mapped, unmapped}
+use Rattle.kl_sources.proofs.Lists.{element, of_all, mapped, unmapped}
 use Rattle.kl_sources.proofs.NameLemmas.{one_of_name}
-
-keeps_same : (s : State) → Keeps s s
-keeps_same s = record { kind = refl; handed = omega arith; faults = omega arith; drifts = omega arith; no_drift = λ told. refl; unread = omega arith }
-
-keeps_on : (a b c : State) → Keeps a b → Keeps b c → Keeps a c
-keeps_on a b c k l = record {
-  kind = l.kind ∙ k.kind;
-  handed = omega (arith, k.handed, l.handed);
-  faults = omega (arith, k.faults, l.faults);
-  drifts = omega (arith, k.drifts, l.drifts);
-  no_drift = λ told. l.no_drift (subst (λ q. IsSome q.stored) (sym k.kind) told) ∙ k.no_drift told;
-  unread = omega (arith, k.unread, l.unread);
-}
 
 below_more : (n : ℕ) (marks : ℕ → Bool) (ss : List Source) (x : Name) → IsMarkedBelow n marks ss x → IsMarkedBelow (n + 1) marks ss x
 below_more n marks ss x h = (h.0, h.1, omega (arith, h.2), h.3, h.4, h.5)
@@ -38,7 +26,7 @@ below_more n marks ss x h = (h.0, h.1, omega (arith, h.2), h.3, h.4, h.5)
 module _ (marks : ℕ → Bool) (ss : List Source) where
   pub begins : (ds : List State) → AttachesBelow 0 marks ss ds ds
   begins ds = record {
-    drivers = record { size = refl; each = λ i a b ha hb. subst (λ s. MayAttachBelow 0 marks ss a s) (some_same (sym ha ∙ hb)) (record { keeps = keeps_same a; cursors = refl; asked = refl; handed = refl; others = λ x never. refl }) };
+    drivers = record { size = refl; each = λ i a b ha hb. subst (λ s. MayAttachBelow 0 marks ss a s) (some_same (sym ha ∙ hb)) (record { keeps = keeps_none a; cursors = refl; asked = refl; handed = refl; others = λ x never. refl }) };
     stand = λ i s lt is marked. absurd (omega (arith, lt));
   }
 
@@ -149,7 +137,7 @@ module _ (old : List State) (ss : List Source) (placed : ArePlaced (kinds_of old
               on i a c b m h = elim h [
                 | inl e ↦ subst (MayAttachBelow (n + 1) marks ss a) e (wider marks ss n a b m)
                 | inr g ↦ record {
-                  keeps = keeps_on a b c m.keeps g.1.keeps;
+                  keeps = keeps_then a b c m.keeps g.1.keeps;
                   cursors = g.1.cursors ∙ m.cursors;
                   asked = g.1.asked ∙ m.asked;
                   handed = g.1.handed ∙ m.handed;
@@ -216,13 +204,13 @@ module _ (old : List State) (ss : List Source) (placed : ArePlaced (kinds_of old
       unread_for : (e : DriverError) (w : Stored) (f : State) → slice_get new s.driver ≡ Some f → IsErrorOf w e → IsUnreadable e → Unreadable w (stored_at now.1 s.locator s.ty) now.1 f → RefusesFor (kinds_of old) s e old new
       unread_for e w f there error_of unreadable h = elim h [
         | inl stands ↦ inr (inl (w, error_of, sym said ∙ stands))
-        | inr none ↦ inr (inr (unreadable, untold none.0, (s.driver, now.0, f, now.2, there, rose_since now.0.unread now.1.unread f.unread now.4.keeps.unread none.1)))
+        | inr none ↦ inr (inr (unreadable, untold none.0, (now.0, f, now.2, there, rose_since now.0.unread now.1.unread f.unread now.4.keeps.unread none.1)))
       ]
 
       refused_for : (e : DriverError) (f : State) → slice_get new s.driver ≡ Some f → Attaches s.name s.locator s.ty (Err e) now.1 f → RefusesFor (kinds_of old) s e old new
       refused_for error.Failed f there g = elim (g.failed refl) [
         | inl missing ↦ inr (inl (Missing, refl, sym said ∙ missing))
-        | inr rose ↦ inl (inl (refl, (s.driver, now.0, f, now.2, there, rose_since now.0.faults now.1.faults f.faults now.4.keeps.faults rose)))
+        | inr rose ↦ inl (inl (refl, (s.driver, (now.0, f, now.2, there, rose_since now.0.faults now.1.faults f.faults now.4.keeps.faults rose))))
       ]
       refused_for (error.BadSource place) f there g = unread_for (error.BadSource place) (Bad place) f there refl tt (g.bad_source place refl)
       refused_for (error.TooLong most) f there g = unread_for (error.TooLong most) (Long most) f there refl tt (g.too_long most refl)
@@ -248,7 +236,7 @@ module _ (old : List State) (ss : List Source) (placed : ArePlaced (kinds_of old
           on i a c b m h = elim h [
             | inl same_state ↦ subst (MayAttachBelow n marks ss a) same_state m
             | inr g ↦ record {
-              keeps = keeps_on a b c m.keeps g.1.keeps;
+              keeps = keeps_then a b c m.keeps g.1.keeps;
               cursors = g.1.cursors ∙ m.cursors;
               asked = g.1.asked ∙ m.asked;
               handed = g.1.handed ∙ m.handed;

@@ -1,5 +1,5 @@
 -- What comes of attaching the sources that a program mentions.
-use Rattle.std.specs.Prelude.{◌≡◌, ◌⊎◌, ℕ, suc, ◌<◌, Bool, true, false, List, [], ◌∷◌, map, Option, Some, None, Result, IfOk, IfErr, OnOk, MatchResult, slice_get, ⊤}
+use Rattle.std.specs.Prelude.{◌≡◌, ◌≢◌, ◌⊎◌, ℕ, suc, ◌<◌, Bool, true, false, List, [], ◌∷◌, map, Option, Some, None, Result, IfOk, IfErr, OnOk, MatchResult, slice_get, ⊤}
 use Rattle.std.specs.List.{AllByRecursion}
 use Rattle.kl_base.specs.Counts.{Rose}
 use Rattle.kl_value.specs.declared.Value.{Value}
@@ -49,15 +49,14 @@ pub record MayAttach (marks : ℕ → Bool) (sources : List Source) (old new : S
   pub handed : new.handed ≡ old.handed
   pub others : (x : Name) → (IsMarkedName marks sources x → ⊥) → new.attached x ≡ old.attached x
 
--- a count of some driver rose
+-- a count of the driver at a place rose; and of some driver
+abbrev pub RoseAt : ℕ → (State → ℕ) → List State → List State → Type 0
+RoseAt place count old new = (a : State) × (b : State) × (slice_get old place ≡ Some a) × (slice_get new place ≡ Some b) × Rose (count a) (count b)
+
 abbrev pub SomeRose : (State → ℕ) → List State → List State → Type 0
-SomeRose count old new = (i : ℕ) × (a : State) × (b : State) × (slice_get old i ≡ Some a) × (slice_get new i ≡ Some b) × Rose (count a) (count b)
+SomeRose count old new = (i : ℕ) × RoseAt i count old new
 
 -- ---- sources that are not told
-
-abbrev pub SomeUntold : List DriverKind → (ℕ → Bool) → ℕ → List Source → Type 0
-SomeUntold ks marks n [] = ⊥
-SomeUntold ks marks n (s ∷ ss) = ((marks n ≡ true) × (contents ks s ≡ None)) ⊎ SomeUntold ks marks (suc n) ss
 
 -- Some driver does not tell its contents, so that neither values nor a first source without rows are said of these
 -- sources.
@@ -65,6 +64,21 @@ pub record NoVerdict (ks : List DriverKind) (marks : ℕ → Bool) (sources : Li
   pub driver : (i : ℕ) × (k : DriverKind) × (slice_get ks i ≡ Some k) × (k.stored ≡ None)
   pub no_values : (vs : List (Name × Value)) → HaveValues ks marks 0 sources vs → ⊥
   pub no_first : (s : Source) (w : Stored) → FirstWithout ks marks 0 sources s w → ⊥
+
+-- ---- what stands at a driver
+
+-- rows of the source's type, or contents that are not told
+abbrev pub HasTyped : Source → Option Stored → Type 0
+HasTyped s (Some (Rows rows)) = AllByRecursion (Inhabits (item_of (ground_of s.ty))) rows
+HasTyped s (Some _) = ⊥
+HasTyped s None = ⊤
+
+-- a source is attached at its driver under its name, with its type and, where they are told, its rows
+pub record Stands (ks : List DriverKind) (ds : List State) (s : Source) : Type 0 where
+  pub driver : State
+  pub there : slice_get ds s.driver ≡ Some driver
+  pub attached : driver.attached s.name ≡ Some (record { ty = s.ty; rows = told_rows (contents ks s) })
+  pub typed : HasTyped s (contents ks s)
 
 -- ---- refusals
 
@@ -96,30 +110,19 @@ StandsWithout ks marks sources s e = (w : Stored) × IsErrorOf w e × (contents 
 
 -- the source is not told, and its driver counted one that it could not read
 abbrev pub IsUnread : List DriverKind → (ℕ → Bool) → List Source → Source → DriverError → List State → List State → Type 0
-IsUnread ks marks sources s e old new = IsUnreadable e × (contents ks s ≡ None) × NoVerdict ks marks sources × SomeRose (λ d. d.unread) old new
+IsUnread ks marks sources s e old new = IsUnreadable e × (contents ks s ≡ None) × NoVerdict ks marks sources × RoseAt s.driver (λ d. d.unread) old new
 
--- the cause of a refusal, which is that of one of the sources
+-- The cause of a refusal, which is that of one of the sources. Those that are mentioned before it stand at their drivers,
+-- unless memory ran out.
 pub record Causes (marks : ℕ → Bool) (sources : List Source) (old new : List State) (e : AttachError) : Type 0 where
   pub place : ℕ
   pub refused : Source
   pub there : slice_get sources place ≡ Some refused
   pub named : refused.name ≡ e.source
   pub cause : IsMishap e.error old new ⊎ ((marks place ≡ true) × (StandsWithout (kinds_of old) marks sources refused e.error ⊎ IsUnread (kinds_of old) marks sources refused e.error old new))
+  pub before : e.error ≢ error.NoMemory → (i : ℕ) (s : Source) → i < place → slice_get sources i ≡ Some s → marks i ≡ true → Stands (kinds_of old) new s
 
--- ---- what stands after it
-
--- rows of the source's type, or contents that are not told
-abbrev pub HasTyped : Source → Option Stored → Type 0
-HasTyped s (Some (Rows rows)) = AllByRecursion (Inhabits (item_of (ground_of s.ty))) rows
-HasTyped s (Some _) = ⊥
-HasTyped s None = ⊤
-
--- a source is attached at its driver under its name, with its type and, where they are told, its rows
-pub record Stands (ks : List DriverKind) (ds : List State) (s : Source) : Type 0 where
-  pub driver : State
-  pub there : slice_get ds s.driver ≡ Some driver
-  pub attached : driver.attached s.name ≡ Some (record { ty = s.ty; rows = told_rows (contents ks s) })
-  pub typed : HasTyped s (contents ks s)
+-- ---- the session
 
 abbrev pub world_of : List State → List Attached → Settings → Trace → World
 world_of ds list settings trace = record { drivers = ds; sources = list; settings = settings; trace = trace }

@@ -10,7 +10,7 @@ use Rattle.kl_ask.specs.declared.session.Attached.{Attached}
 use Rattle.kl_sources.specs.declared.source.Source.{Source}
 use Rattle.kl_sources.specs.declared.walking.Refused.{Refused}
 use Rattle.kl_sources.specs.Sources.{kinds_of, contents}
-use Rattle.kl_sources.specs.Attaching.{IsErrorOf, IsUnreadable, IsMishap, SomeRose, Stands, list_of}
+use Rattle.kl_sources.specs.Attaching.{IsErrorOf, IsUnreadable, IsMishap, RoseAt, Stands, list_of}
 
 abbrev pub IsMarkedBelow : ℕ → (ℕ → Bool) → List Source → Name → Type 0
 IsMarkedBelow n marks sources x = (i : ℕ) × (s : Source) × (i < n) × (slice_get sources i ≡ Some s) × (marks i ≡ true) × (s.name ≡ x)
@@ -32,7 +32,7 @@ abbrev pub RefusesFor : List DriverKind → Source → DriverError → List Stat
 RefusesFor ks s e old new =
     IsMishap e old new
     ⊎ ((w : Stored) × IsErrorOf w e × (contents ks s ≡ Some w))
-    ⊎ (IsUnreadable e × (contents ks s ≡ None) × SomeRose (λ d. d.unread) old new)
+    ⊎ (IsUnreadable e × (contents ks s ≡ None) × RoseAt s.driver (λ d. d.unread) old new)
 
 -- so many sources are attached, and there is a reason to go no further
 pub record StopsAt (marks : ℕ → Bool) (sources : List Source) (old new : List State) (r : Refused) : Type 0 where

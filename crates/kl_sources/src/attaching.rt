@@ -24,8 +24,8 @@ pub struct AttachError {
 /// mentions it.
 ///
 /// # Errors
-/// What a driver answers of a source that is refused, with its cause; some of the mentioned sources may be attached then.
-/// Where contents are told, it is the first that stands without rows. Want of memory, and more sources than 32 bits can
+/// What a driver answers of a source that is refused, with its cause; the mentioned sources before it stay attached. Where
+/// contents are told, it is the first that stands without rows. Want of memory, and more sources than 32 bits can
 /// number, are told of any source.
 pub fn attach_sources(
     alloc: Global,
