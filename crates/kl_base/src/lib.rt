@@ -22,6 +22,3 @@ pub use memory::NoMemory;
 pub use seq::Seq;
 pub use shared::Shared;
 pub use text::Text;
-
-#[cfg(test)]
-mod tests;

@@ -13,6 +13,3 @@ mod keyword;
 mod reading;
 
 pub use reading::{Catalogue, CatalogueError, Entry, catalogue_laws, read_catalogue};
-
-#[cfg(test)]
-mod tests;

@@ -18,6 +18,3 @@ pub use measure::{depth, nodes};
 pub use moving::shift;
 pub use replacing::subst;
 pub use term::{Term, TermBranches, TermFields, Terms};
-
-#[cfg(test)]
-mod tests;

@@ -18,6 +18,3 @@ mod scope;
 
 pub use laws::{sense_laws, translation_laws};
 pub use program::translate;
-
-#[cfg(test)]
-mod tests;

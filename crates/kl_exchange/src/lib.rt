@@ -34,6 +34,3 @@ pub use file_reader::{FileReader, MOST_READ};
 pub use laws::{file_laws, reading_laws};
 pub use printing::{Page, print};
 pub use reader::{Item, Reader};
-
-#[cfg(test)]
-mod tests;

@@ -26,6 +26,3 @@ pub use primitives::{applied, operated};
 pub use records::{field_of, is_record, is_variant, variant_of};
 pub use types::uses_type;
 pub use uses::{uses_function, uses_value};
-
-#[cfg(test)]
-mod tests;

@@ -29,6 +29,3 @@ mod typing;
 pub use inference::{InferError, infer};
 pub use printing::print_scheme;
 pub use typed::{Schemes, Typed};
-
-#[cfg(test)]
-mod tests;

@@ -16,6 +16,3 @@ mod token;
 
 pub use lexer::{LexError, Lexed, Lexer, Next, lex, lex_all};
 pub use token::{Placed, Sym, Tok, Token, Tokens};
-
-#[cfg(test)]
-mod tests;

@@ -16,6 +16,3 @@ pub use kl_syntax::{
     Program, Qual, Quals, Steps, Word, Words,
 };
 pub use program::{ParseError, parse, parse_laws};
-
-#[cfg(test)]
-mod tests;

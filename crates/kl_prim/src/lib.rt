@@ -27,6 +27,3 @@ pub use args::{Arg, Args};
 pub use primitives::{apply, apply_args, row_of, table, table_laws};
 pub use rows::{PrimRow, PrimTable, Shape};
 pub use stop::PrimStop;
-
-#[cfg(test)]
-mod tests;

@@ -28,6 +28,3 @@ mod unifier;
 pub use cell::{Cell, KindNode, RowNode, Scalar, TypeNode};
 pub use schemes::{Node, Nodes, Part, Scheme};
 pub use unifier::Unifier;
-
-#[cfg(test)]
-mod tests;

@@ -17,6 +17,3 @@ mod walk;
 pub use counting::{SizeBreach, sizes};
 pub use refusal::ScopeError;
 pub use scoped::{Scoped, resolve};
-
-#[cfg(test)]
-mod tests;

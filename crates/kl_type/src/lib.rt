@@ -21,6 +21,3 @@ pub use ground::{Ty, TyFields};
 pub use printing::print_type;
 pub use reading::{TypeError, read_front, read_type, type_laws};
 pub use typed::has;
-
-#[cfg(test)]
-mod tests;

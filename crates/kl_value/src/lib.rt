@@ -15,6 +15,3 @@ pub use measure::{depth, dup, dup_items};
 pub use order::{canon, canon_laws, cmp, order_laws};
 pub use value::{Fields, Items, Kind, Value};
 pub use views::{bool_of, bytes_of, field, int_of, into_items, into_parts, items_of, parts_of};
-
-#[cfg(test)]
-mod tests;

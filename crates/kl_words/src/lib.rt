@@ -11,6 +11,3 @@ mod read;
 
 pub use command::{Command, Job, WordsError};
 pub use read::read_words;
-
-#[cfg(test)]
-mod tests;

@@ -1,0 +1,41 @@
+use kl_lex::lex;
+use kl_parse::{Expr, Pattern, Program, Qual, parse};
+use kl_value::Kind;
+use std::alloc::Global;
+use std::test::Fail;
+
+fn example(alloc: Global) -> Result<Program, Fail> {
+    let tokens = lex(
+        alloc,
+        b"define f == \\x => x + 1; {f(y) | [a=\\y, ...] <- s, not y = 2};",
+    )?;
+    if tokens.slice().len() > 100 {
+        return Err(Fail::from("too many tokens"));
+    }
+    Ok(parse(alloc, tokens.slice())?)
+}
+
+fn is_function(program: &Program) -> bool {
+    matches!(program.defs.slice(), [def] if def.param.is_some())
+}
+
+fn draws_and_tests(last: &Expr) -> bool {
+    match last {
+        Expr::Comp(Kind::Set, _, quals) => matches!(
+            quals.slice(),
+            [
+                Qual::Gen(Pattern::Rec(_, true), _),
+                Qual::Cond(Expr::Not(_))
+            ]
+        ),
+        _ => false,
+    }
+}
+
+#[test]
+fn a_program_as_a_tree(rt: HostRuntime) -> Result<(), Fail> {
+    let found = example(rt.alloc())?;
+    assert!(rt; is_function(&found));
+    assert!(rt; draws_and_tests(&found.last));
+    Ok(())
+}
