@@ -1,8 +1,10 @@
 -- What a driver means, and what each call does to it.
 use Rattle.std.specs.Prelude.{◌≡◌, ◌≢◌, ◌⊎◌, ◌<◌, ◌≤◌, ℕ, ◌+◌, ◌^◌, Bool, true, false, List, [], ◌++◌, length, Result, Option, Some, None, Ok, Err, IfOk, OnOk, OnErr, IsErrOf, IsSome, ⊤}
-use Rattle.std.specs.List.{AllByRecursion}
+use Rattle.std.specs.List.{AllByRecursion, IsDistinct}
 use Rattle.std.specs.List.Sorted.{IsPermutation}
+use Rattle.std.specs.Ordering.{is_eq}
 use Rattle.kl_base.specs.Counts.{Rose}
+use Rattle.kl_value.specs.Order.{compare}
 use Rattle.kl_value.specs.declared.Kind.{Kind}
 use Rattle.kl_value.specs.declared.Kind.TheVariants as kind
 use Rattle.kl_value.specs.declared.Value.{Value}
@@ -39,13 +41,16 @@ pub record DriverKind : Type 0 where
   pub suits : Ty → Bool
   pub stored : Option (List ℕ → Ty → Stored)
 
--- an attached source: the type of the whole collection and, where contents are told, its rows
+-- an attached source: the type of the whole collection; its rows, where contents are told; how many rows a whole scan
+-- hands; and the number of its bytes when it was attached, where the driver keeps that
 pub record Source : Type 0 where
   pub ty : Ty
   pub rows : Option (List Value)
+  pub count : ℕ
+  pub kept : Option ℕ
 
--- an open cursor: its ask, the type of its rows, the rows that are left where contents are told, and a number that falls
--- with each pull that hands rows, so that pulls come to an end
+-- an open cursor: its ask, the type of its rows, the rows that are left where contents are told, and how many rows it may
+-- still hand
 pub record Cursor : Type 0 where
   pub ask : Ask
   pub ty : Ground
@@ -113,6 +118,9 @@ pub record Suits (a : Abilities) (t : Ground) : Type 0 where
 
 -- ---- `attach`
 
+abbrev pub same_value : Value → Value → Bool
+same_value a b = is_eq (compare a b)
+
 abbrev pub stored_by : Option (List ℕ → Ty → Stored) → List ℕ → Ty → Option Stored
 stored_by None locator ty = None
 stored_by (Some stored) locator ty = Some (stored locator ty)
@@ -139,9 +147,11 @@ pub record Attaches (source : Name) (locator : List ℕ) (ty : Ty) (result : Res
   pub asked : new.asked ≡ old.asked
   pub handed : new.handed ≡ old.handed
   pub others : OtherSources source old new
-  pub attached : OnOk result (new.attached source ≡ Some (record { ty = ty; rows = told_rows (stored_at old locator ty) }))
-  -- the number of rows that a whole scan hands
+  -- the answer is the number of rows that a whole scan hands
+  pub attached : IfOk result (λ count. (kept : Option ℕ) × (new.attached source ≡ Some (record { ty = ty; rows = told_rows (stored_at old locator ty); count = count; kept = kept })))
   pub count : IfOk result (λ count. (rows : List Value) → stored_at old locator ty ≡ Some (Rows rows) → count ≡ length rows)
+  -- a driver with `unique` repeats no row of a set
+  pub unique : old.kind.abilities.unique ≡ true → kind_of (ground_of ty) ≡ kind.Set → OnOk result ((rows : List Value) → stored_at old locator ty ≡ Some (Rows rows) → IsDistinct same_value rows)
   pub typed : OnOk result ((rows : List Value) → stored_at old locator ty ≡ Some (Rows rows) → AllByRecursion (Inhabits (item_of (ground_of ty))) rows)
   pub refused : OnErr result (new.attached ≡ old.attached)
   -- what contents that are told say is not attached
@@ -177,10 +187,14 @@ abbrev pub Shows : Kind → List Name → List ColTest → Option (List Value) �
 Shows k keep tests (Some rows) left = (shown : List Value) × (left ≡ Some shown) × InOrder k (answers rows keep tests) shown
 Shows k keep tests None left = left ≡ None
 
--- a cursor that has handed nothing yet, over an attached source
+-- A cursor that has handed nothing yet, over an attached source: without tests it may hand each row of the source, and
+-- with tests no more than these; where contents are told, exactly those that the ask answers.
 pub record IsFresh (keep : List Name) (tests : List ColTest) (source : Source) (cursor : Cursor) : Type 0 where
   pub ty : cursor.ty ≡ shown_type keep (item_of (ground_of source.ty))
   pub left : Shows (kind_of (ground_of source.ty)) keep tests source.rows cursor.left
+  pub most : cursor.bound ≤ source.count
+  pub whole : tests ≡ [] → cursor.bound ≡ source.count
+  pub told : (shown : List Value) → cursor.left ≡ Some shown → cursor.bound ≡ length shown
   pub bound : cursor.bound ≤ 2 ^ 64
 
 abbrev pub OpensAt : Ask → State → Cursor → Type 0
@@ -214,7 +228,7 @@ pub record Hands (limit : ℕ) (rows : List Value) (old new : Cursor) : Type 0 w
   pub some : 0 < length rows
   pub most : length rows ≤ limit
   pub typed : AllByRecursion (Inhabits old.ty) rows
-  pub bound : new.bound + length rows ≤ old.bound
+  pub bound : new.bound + length rows ≡ old.bound
   pub left : (all : List Value) → old.left ≡ Some all → (rest : List Value) × (all ≡ rows ++ rest) × (new.left ≡ Some rest) × ((length rows ≡ limit) ⊎ (rest ≡ []))
   pub untold : old.left ≡ None → new.left ≡ None
 
@@ -224,7 +238,7 @@ IsSpent c = (all : List Value) → c.left ≡ Some all → all ≡ []
 
 abbrev pub HasTests : Ask → Type 0
 HasTests (asks.Rows source keep tests) = tests ≢ []
-HasTests (asks.Sql text) = ⊤
+HasTests (asks.Sql text) = ⊥
 
 -- a cursor that has no row left from now on
 abbrev pub emptied : Cursor → Cursor
@@ -246,30 +260,37 @@ pub record PullsNone (cursor : ℕ) (into into' : List Value) (c : Cursor) (old 
   pub now : new.cursors cursor ≡ Some (emptied c)
   pub handed : new.handed ≡ old.handed
 
--- two kept values differ
-abbrev pub Differs : Drift → Type 0
-Differs (drift.Bytes kept found) = found ≢ kept
-Differs (drift.Count kept found) = found ≢ kept
-Differs (drift.Unread place) = ⊤
-Differs (drift.Misfit item) = ⊤
+-- the attached source that an ask names
+abbrev pub source_of : State → Ask → Option Source
+source_of s (asks.Rows source keep tests) = s.attached source
+source_of s (asks.Sql text) = None
+
+-- a source is not what it was when it was attached: it has other bytes than were kept, or another number of rows, or what
+-- stands at a place or an item no longer reads
+abbrev pub HasDrifted : Source → Drift → Type 0
+HasDrifted s (drift.Bytes kept found) = (s.kept ≡ Some kept) × (found ≢ kept)
+HasDrifted s (drift.Count kept found) = (s.count ≡ kept) × (found ≢ kept)
+HasDrifted s (drift.Unread place) = ⊤
+HasDrifted s (drift.Misfit item) = ⊤
 
 -- the cause of a refusal
 abbrev pub Cause : DriverError → State → State → Type 0
 Cause error.Failed old new = Rose old.faults new.faults
-Cause (error.Changed d) old new = (IsTold old → ⊥) × Rose old.drifts new.drifts × Differs d
+Cause (error.Changed d) old new = (IsTold old → ⊥) × Rose old.drifts new.drifts
 Cause error.NoMemory old new = ⊤
 Cause _ old new = ⊥
 
-pub record PullRefused (cursor : ℕ) (e : DriverError) (into into' : List Value) (old new : State) : Type 0 where
+pub record PullRefused (cursor : ℕ) (e : DriverError) (into into' : List Value) (c : Cursor) (old new : State) : Type 0 where
   pub same : into' ≡ into
   pub closed : new.cursors cursor ≡ None
   pub handed : new.handed ≡ old.handed
   pub cause : Cause e old new
+  pub drifted : (d : Drift) → e ≡ error.Changed d → (s : Source) → source_of old c.ask ≡ Some s → HasDrifted s d
 
 abbrev pub PullResult : ℕ → ℕ → List Value → List Value → Cursor → Result Bool DriverError → State → State → Type 0
 PullResult cursor most into into' c (Ok true) old new = PullsMore cursor most into into' c old new
 PullResult cursor most into into' c (Ok false) old new = PullsNone cursor into into' c old new
-PullResult cursor most into into' c (Err e) old new = PullRefused cursor e into into' old new
+PullResult cursor most into into' c (Err e) old new = PullRefused cursor e into into' c old new
 
 pub record Pulls (cursor most : ℕ) (into into' : List Value) (result : Result Bool DriverError) (old new : State) : Type 0 where
   pub keeps : Keeps old new

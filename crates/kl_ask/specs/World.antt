@@ -26,7 +26,7 @@ at_driver a None = None
 -- a source that no driver has is there without rows
 abbrev pub at_place : Attached → Option ℕ → List State → Option Source
 at_place a (Some place) ds = at_driver a (slice_get ds place)
-at_place a None ds = Some (record { ty = a.ty; rows = Some [] })
+at_place a None ds = Some (record { ty = a.ty; rows = Some []; count = 0; kept = None })
 
 abbrev pub at_source : Option Attached → List State → Option Source
 at_source (Some a) ds = at_place a a.driver ds

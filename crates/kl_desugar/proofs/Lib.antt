@@ -4,7 +4,6 @@ pub mod Fielding
 pub mod Fitting
 pub mod Law
 pub mod Matching
-pub mod Naming
 pub mod Ordered
 pub mod Positions
 pub mod Refine

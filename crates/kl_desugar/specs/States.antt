@@ -1,8 +1,6 @@
 -- What the code's own types stand for.
-use Rattle.std.specs.Prelude.{◌≡◌, ℕ, Bool, List, [], ◌∷◌, ◌++◌, cond, map, Option, Some, None}
+use Rattle.std.specs.Prelude.{◌≡◌, Bool, List, [], ◌∷◌, ◌++◌, cond, map}
 use Rattle.kl_outcome.specs.Outcome.{Name}
-use Rattle.kl_prim.specs.Table.{Entry}
-use Rattle.kl_meaning.specs.Match.{same_name}
 use Rattle.kl_syntax.specs.declared.tree.Branch.{Branch, out-Branch}
 use Rattle.kl_syntax.specs.declared.tree.Expr.{Expr}
 use Rattle.kl_syntax.specs.declared.tree.Word.{Word}
@@ -55,11 +53,6 @@ found_code (found.Primitive c) = primitive_by c
 pub record Asks (p : Pat) (t : Place) (codes : Codes) (S : Scope) (old new : Scope) (ls ms : List Layered) : Type 0 where
   pub scope : new ≡ after_pat p old
   pub layers : ms ≡ ls ++ pat_layers p t codes S old
-
--- the code of the first row with a name
-abbrev pub code_in : Name → List Entry → Option ℕ
-code_in x [] = None
-code_in x (e ∷ es) = cond (same_name e.name x) (Some e.code) (code_in x es)
 
 -- a field and a branch with their terms
 abbrev pub field_of : Codes → Scope → Word × Expr → Name × Tree

@@ -1,13 +1,13 @@
 //! Calls, operators, fields: terms of terms.
 ghost use Rattle.std.specs.Prelude.{◌≡◌, true, false, map, IfOk};
 ghost use Rattle.kl_core.specs.Trees as term;
-ghost use Rattle.kl_meaning.specs.Run.{code_of};
 ghost use Rattle.kl_desugar.specs.Translation.{pair, function_by, called_tree, operated_tree, projected};
 ghost use Rattle.kl_desugar.specs.States.{codes_of};
 
 use crate::codes::{Codes, Found, find};
 use kl_base::{Box, Label, NoMemory, Seq};
 use kl_core::Term;
+use kl_meaning::code_of;
 use kl_syntax::{Op, Word};
 use kl_value::Value;
 use std::alloc::Global;
@@ -51,25 +51,6 @@ pub(crate) fn call(
         Found::Function(body) => apply_to(alloc, body, args),
         Found::Primitive(code) => Ok(Term::Prim(code, Seq::of(args))),
         _ => Ok(no_sense(alloc)),
-    }
-}
-
-/// The code of an operator in the table of primitives.
-fn code_of(op: Op) -> u8
-    ensures { result ≡ code_of op }
-{
-    match op {
-        Op::Eq => 1,
-        Op::Ne => 2,
-        Op::Lt => 3,
-        Op::Le => 4,
-        Op::Gt => 5,
-        Op::Ge => 6,
-        Op::Add => 7,
-        Op::Sub => 8,
-        Op::Mul => 9,
-        Op::Cat => 12,
-        Op::And | Op::Or | Op::Append => 0,
     }
 }
 

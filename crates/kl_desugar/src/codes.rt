@@ -1,16 +1,14 @@
 //! What names stand for.
-ghost use Rattle.std.specs.Prelude.{◌≡◌, IfOk, map};
+ghost use Rattle.std.specs.Prelude.{◌≡◌, IfOk};
 ghost use Rattle.std.specs.Option.{option_map};
 ghost use Rattle.kl_core.specs.Trees.{view};
-ghost use Rattle.kl_prim.specs.Table.{entry_of};
-ghost use Rattle.kl_meaning.specs.Run.{code_named};
 ghost use Rattle.kl_desugar.specs.Translation.{codes_first, name_tree, number_of};
-ghost use Rattle.kl_desugar.specs.States.{code_in, codes_of, found_code};
+ghost use Rattle.kl_desugar.specs.States.{codes_of, found_code};
 
 use crate::scope::{Slot, at_level, level};
 use kl_base::{Label, NoMemory, Seq};
 use kl_core::Term;
-use kl_prim::{PrimRow, table};
+use kl_meaning::code_named;
 use std::alloc::Global;
 
 /// A definition: a value, or a function of position 0.
@@ -36,24 +34,6 @@ pub(crate) enum Found<'a> {
     Function(&'a Term),
     Source(u32),
     Primitive(u8),
-}
-
-/// The code of the primitive with a name.
-pub(crate) fn code_named(name: &Label) -> Option<u8>
-    ensures { result ≡ code_named name.now }
-{
-    code_in(table().rows, name)
-}
-
-fn code_in(rows: &[PrimRow], name: &Label) -> Option<u8>
-    ensures { result ≡ code_in name.now (map entry_of rows.now) }
-{
-    for row in rows {
-        if *row.name == *name.slice() {
-            return Some(row.code);
-        }
-    }
-    None
 }
 
 /// The number of the source with a name.

@@ -5,7 +5,6 @@ ghost use Rattle.kl_type.specs.Ground.{Ground, coll};
 ghost use Rattle.kl_rows.specs.Places.{IsFine, IsType};
 ghost use Rattle.kl_rows.specs.Solutions.{scalar_type};
 ghost use Rattle.kl_outcome.specs.Typed.{ShapeTypes};
-ghost use Rattle.kl_meaning.specs.Run.{code_of};
 ghost use Rattle.kl_value.specs.declared.Kind.{Kind};
 ghost use Rattle.kl_forms.specs.Checks.{Checks, Finds};
 ghost use Rattle.kl_forms.specs.Forms.{ItemsOf, DrawnFrom, Applies, Operates};
@@ -13,6 +12,7 @@ ghost use Rattle.kl_forms.specs.Forms.{ItemsOf, DrawnFrom, Applies, Operates};
 use crate::collections::{any_items_of, has_any_items, has_items, is_collection, items_of};
 use crate::types::{is_scalar, same};
 use kl_base::NoMemory;
+use kl_meaning::code_of;
 use kl_prim::{Shape, row_of};
 use kl_rows::{Scalar, Unifier};
 use kl_syntax::Op;
@@ -265,24 +265,6 @@ fn is_turned(u: &mut Unifier, arg: u64, kind: Kind, want: u64) -> Result<bool, N
     };
     let holds = has_items(u, kind, item, want)?;
     Ok(holds)
-}
-
-fn code_of(op: Op) -> u8
-    ensures { result ≡ code_of op }
-{
-    match op {
-        Op::Eq => 1,
-        Op::Ne => 2,
-        Op::Lt => 3,
-        Op::Le => 4,
-        Op::Gt => 5,
-        Op::Ge => 6,
-        Op::Add => 7,
-        Op::Sub => 8,
-        Op::Mul => 9,
-        Op::Cat => 12,
-        Op::And | Op::Or | Op::Append => 0,
-    }
 }
 
 // Whether the types can be those of two collections of one type, and that type.

@@ -4,27 +4,13 @@ use Rattle.std.proofs.lemmas.List.{drop_all, append-nil}
 use Rattle.std.proofs.lemmas.Bool.{cases_lt}
 use Rattle.kl_base.specs.Fields.{field}
 use Rattle.kl_outcome.specs.Outcome.{Name}
-use Rattle.kl_prim.specs.Table.{Row, rows}
 use Rattle.kl_rows.specs.Lists.{Fields}
 use Rattle.kl_meaning.specs.Match.{same_name}
-use Rattle.kl_meaning.specs.Run.{code_at, code_named}
 use Rattle.kl_infer.specs.Asking.{onto}
-use Rattle.kl_infer.specs.Names.{Meant, code_in, last_from, defined, meant_over, labelled}
+use Rattle.kl_infer.specs.Names.{Meant, last_from, defined, meant_over, labelled}
 use Rattle.kl_rows.specs.declared.Scheme.{Scheme}
 use Rattle.kl_syntax.specs.declared.tree.Decl.{Decl}
 use Rattle.kl_infer.proofs.Loops.{at_item, at_number}
-
-found_by : (b : Bool) (r : Row) (o : Option Row) (c : Option ℕ) → code_at o ≡ c → code_at (cond b (Some r) o) ≡ cond b (Some r.entry.code) c
-found_by true r o c h = refl
-found_by false r o c h = h
-
-among : (x : Name) (rs : List Row) → code_at (find (λ r. same_name r.entry.name x) rs) ≡ code_in x (map (λ r. r.entry) rs)
-among x [] = refl
-among x (r ∷ rs) = found_by (same_name r.entry.name x) r _ _ (among x rs)
-
-pub code_is : (x : Name) → code_named x ≡ code_in x (map (λ r. r.entry) rows)
-unfolding code_named
-code_is x = among x rows
 
 -- the last of a block is the innermost
 pub field_onto : (x : Name) (bs ns : Fields) → field x (onto bs ns) ≡ last_from x bs (field x ns)

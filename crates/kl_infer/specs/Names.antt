@@ -9,7 +9,6 @@ use Rattle.kl_rows.specs.Places.{Sort as CellSort, a_type, a_function, sort_at, 
 use Rattle.kl_rows.specs.Schemes.{IsScheme, Instance, cells_of}
 use Rattle.kl_rows.specs.declared.Scheme.{Scheme}
 use Rattle.kl_outcome.specs.Outcome.{Name}
-use Rattle.kl_prim.specs.Table.{Entry}
 use Rattle.kl_syntax.specs.declared.tree.Decl.{Decl}
 use Rattle.kl_syntax.specs.declared.tree.Pattern.{Pattern}
 use Rattle.kl_meaning.specs.Match.{same_name}
@@ -97,11 +96,6 @@ pub record Ready (known : Known) (t : Typing) (ns : Fields) (ws : List ℕ) : Ty
   pub fine : IsTrue t.possible → IsFine (cells t)
   pub bound : IsTrue t.possible → AreTypes (cells t) ns
   pub wants : IsTrue t.possible → AllByRecursion (IsType (cells t)) ws
-
--- the code of the first row with a name
-abbrev pub code_in : Name → List Entry → Option ℕ
-code_in x [] = None
-code_in x (e ∷ es) = cond (same_name e.name x) (Some e.code) (code_in x es)
 
 -- labels with numbers, one each
 abbrev pub labelled : List Name → List ℕ → Fields

@@ -1,13 +1,11 @@
 //! What names stand for.
-ghost use Rattle.std.specs.Prelude.{◌≡◌, cond, map};
+ghost use Rattle.std.specs.Prelude.{◌≡◌, cond};
 ghost use Rattle.kl_base.specs.Fields.{field};
-ghost use Rattle.kl_prim.specs.Table.{entry_of};
 ghost use Rattle.kl_meaning.specs.Match.{same_name};
-ghost use Rattle.kl_meaning.specs.Run.{code_named};
-ghost use Rattle.kl_infer.specs.Names.{names, last_from, meant, meant_of, meant_first, defined, code_in};
+ghost use Rattle.kl_infer.specs.Names.{names, last_from, meant, meant_of, meant_first, defined};
 
 use kl_base::Label;
-use kl_prim::{PrimRow, table};
+use kl_meaning::code_named;
 use kl_rows::Scheme;
 use kl_syntax::Decl;
 use kl_type::Ty;
@@ -105,22 +103,4 @@ fn first_sense<'a>(sources: &'a [(Label, Ty)], name: &Label) -> Sense<'a>
         Some(code) => Sense::Primitive(code),
         None => Sense::Nothing,
     }
-}
-
-/// The code of the primitive with a name.
-fn code_named(name: &Label) -> Option<u8>
-    ensures { result ≡ code_named name.now }
-{
-    code_in(table().rows, name)
-}
-
-fn code_in(rows: &[PrimRow], name: &Label) -> Option<u8>
-    ensures { result ≡ code_in name.now (map entry_of rows.now) }
-{
-    for row in rows {
-        if *row.name == *name.slice() {
-            return Some(row.code);
-        }
-    }
-    None
 }

@@ -2,3 +2,4 @@ pub mod Match
 pub mod Run
 pub mod Typing
 pub mod Tidy
+pub mod Codes
