@@ -13,9 +13,10 @@ use std::alloc::Global;
 /// - `out` and `err`: what they took, nothing if it is left out. `front` in place of `out`: of what `out` took this is
 ///   the page, and it took a front of it.
 /// - `piece`: how many bytes of a piece `out` and `err` take at most; all if it is left out.
-/// - `files_fail`, `out_fails`, `err_fails`: lists of the calls that fail, counted from 1.
+/// - `files_fail`, `driver_fails`, `out_fails`, `err_fails`: lists of the calls that fail, counted from 1. The driver of
+///   flat files reads the same files, but counts its own calls.
 /// - `turns`: `<files=3>` has the case run three times, where one call of files fails each time, from the first to the
-///   third. So do `<out=3>` and `<err=3>` with writes.
+///   third. So does `<driver=3>` with the driver's files, and `<out=3>` and `<err=3>` with writes.
 ///
 /// A text is a text, or a list of parts one behind the other: each a text, or a record `[text="{", times=256]`.
 #[derive(Drop)]
@@ -69,6 +70,7 @@ impl Took {
 #[derive(Drop)]
 pub struct Fails {
     pub files: Vec<u64>,
+    pub driver: Vec<u64>,
     pub out: Vec<u64>,
     pub err: Vec<u64>,
 }
@@ -84,12 +86,13 @@ pub struct Turns {
 #[derive(Clone, Copy)]
 pub enum Side {
     Files,
+    Driver,
     Out,
     Err,
 }
 
 // The fields of a case.
-const LABELS: [&[u8]; 12] = [
+const LABELS: [&[u8]; 13] = [
     b"shows",
     b"words",
     b"files",
@@ -99,6 +102,7 @@ const LABELS: [&[u8]; 12] = [
     b"err",
     b"piece",
     b"files_fail",
+    b"driver_fails",
     b"out_fails",
     b"err_fails",
     b"turns",
@@ -166,9 +170,15 @@ fn read_piece(fields: &[(Label, Value)]) -> Result<usize> {
 
 fn read_fails(alloc: Global, fields: &[(Label, Value)]) -> Result<Fails> {
     let files = read_calls(alloc, items_at(fields, b"files_fail")?)?;
+    let driver = read_calls(alloc, items_at(fields, b"driver_fails")?)?;
     let out = read_calls(alloc, items_at(fields, b"out_fails")?)?;
     let err = read_calls(alloc, items_at(fields, b"err_fails")?)?;
-    Ok(Fails { files, out, err })
+    Ok(Fails {
+        files,
+        driver,
+        out,
+        err,
+    })
 }
 
 fn read_turns(fields: &[(Label, Value)]) -> Result<Turns> {
@@ -189,6 +199,8 @@ fn read_turns(fields: &[(Label, Value)]) -> Result<Turns> {
 fn read_side(label: &[u8]) -> Result<Side> {
     if label == b"files".as_slice() {
         Ok(Side::Files)
+    } else if label == b"driver".as_slice() {
+        Ok(Side::Driver)
     } else if label == b"out".as_slice() {
         Ok(Side::Out)
     } else if label == b"err".as_slice() {

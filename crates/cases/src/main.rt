@@ -5,6 +5,7 @@
 #![tactic(auto)]
 
 mod case;
+mod drivers;
 mod pieces;
 mod run;
 mod table;

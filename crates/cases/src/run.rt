@@ -1,6 +1,7 @@
 //! Running a case.
 
 use crate::case::{Case, Side, read_case};
+use crate::drivers::flat_driver;
 use crate::pieces::Pieces;
 use anyhow::{Context, Result};
 use kl_engine::kleisli;
@@ -30,15 +31,25 @@ fn try_case(alloc: Global, case: &Case) -> Result<Option<Vec<u8>>> {
 
 // Runs a case where this call fails too. There is no call 0.
 fn try_turn(alloc: Global, case: &Case, call: u64) -> Result<Option<Vec<u8>>> {
-    let mut files = files_of(alloc, case)?;
+    let mut files = files_of(alloc, case, &case.given.fails.files)?;
+    let mut tables = files_of(alloc, case, &case.given.fails.driver)?;
     let mut out = sink_of(alloc, case, &case.given.fails.out)?;
     let mut err = sink_of(alloc, case, &case.given.fails.err)?;
     match case.given.turns.of {
         Side::Files => files.fail_at(call)?,
+        Side::Driver => tables.fail_at(call)?,
         Side::Out => out.sink.fail_at(call)?,
         Side::Err => err.sink.fail_at(call)?,
     }
-    let answer = kleisli(alloc, &case.given.words, &mut files, &mut out, &mut err);
+    let mut drivers = flat_driver(alloc, tables)?;
+    let answer = kleisli(
+        alloc,
+        &case.given.words,
+        &mut files,
+        &mut drivers,
+        &mut out,
+        &mut err,
+    );
     let status = i64::from(answer.status);
     if case.wanted.fits(status, out.sink.bytes(), err.sink.bytes()) {
         return Ok(None);
@@ -54,13 +65,13 @@ fn try_turn(alloc: Global, case: &Case, call: u64) -> Result<Option<Vec<u8>>> {
     Ok(Some(line))
 }
 
-fn files_of(alloc: Global, case: &Case) -> Result<MemFiles> {
+fn files_of(alloc: Global, case: &Case, fails: &[u64]) -> Result<MemFiles> {
     let mut entries = Vec::new(alloc);
     for (path, text) in &case.given.files {
         entries.push((path.dup(alloc)?, text.dup(alloc)?))?;
     }
     let mut files = MemFiles::new(alloc, entries);
-    for call in &case.given.fails.files {
+    for call in fails {
         files.fail_at(*call)?;
     }
     Ok(files)

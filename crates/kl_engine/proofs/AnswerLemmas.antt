@@ -1,7 +1,9 @@
 -- What the outcome of a program's term tells of the program.
-use Rattle.std.proofs.Common.{◌≡◌, ◌≢◌, inl, inr, Bool, true, false, List, [], ◌++◌, codes, reverse, Option, Some, Ok, Err, refl, sym, ap, subst, ◌∙◌}
+use Rattle.std.proofs.Common.{◌≡◌, ◌≢◌, ◌⊎◌, inl, inr, ℕ, Bool, true, false, List, [], ◌++◌, codes, reverse, Option, Some, None, Ok, Err, refl, sym, ap, subst, ◌∙◌, ⊤}
+use Rattle.std.specs.Io.KnownBytes.{append_known}
+use Rattle.kl_outside.specs.Counts.{Rose}
 use Rattle.kl_outside.specs.Sinks.{SinkState}
-use Rattle.kl_value.specs.Written.{text_of}
+use Rattle.kl_outside.proofs.SinkLemmas.{took_none, append_known-nil}
 use Rattle.kl_value.specs.declared.Value.{Value}
 use Rattle.kl_value.specs.declared.Value.TheVariants as value
 use Rattle.kl_value.specs.declared.Kind.{Kind}
@@ -11,101 +13,258 @@ use Rattle.kl_rows.specs.declared.Scheme.{Scheme}
 use Rattle.kl_rows.specs.Schemes.{IsScheme, Instance}
 use Rattle.kl_outcome.specs.Outcome.{Name, Outcome, done, over, stuck}
 use Rattle.kl_syntax.specs.Syntax.{Exp, Decls}
-use Rattle.kl_syntax.specs.View.{view, decls_of}
-use Rattle.kl_scope.specs.declared.scoped.Scoped.{Scoped}
-use Rattle.kl_meaning.specs.Run.{meaning_of_program}
-use Rattle.kl_meaning.specs.Tidy.{IsTidyProgram}
-use Rattle.kl_meaning.specs.Typing.{ProgramTypes}
-use Rattle.kl_meaning.proofs.Safety.{never_stuck}
-use Rattle.kl_core.specs.Core.{core}
-use Rattle.kl_core.specs.Trees.{Tree}
-use Rattle.kl_core.specs.Typing.{CoreTypes, HaveSources}
-use Rattle.kl_desugar.specs.Translation.{Means, term_of}
-use Rattle.kl_desugar.proofs.Sense.{makes_sense}
-use Rattle.kl_desugar.proofs.Tidying.{resolved_tidy}
-use Rattle.kl_eval.specs.Evals.{Sense, SenseList, Tells, Lists, Evaluates, EvaluatesList}
-use Rattle.kl_eval.specs.World.{World, no_sources}
+use Rattle.kl_ask.specs.Driver.{State}
+use Rattle.kl_eval.specs.Evals.{Tells, Lists}
 use Rattle.kl_eval.specs.declared.stop.EvalStop.{EvalStop}
 use Rattle.kl_eval.specs.declared.stop.EvalStop.TheVariants as stop
-use Rattle.kl_infer.specs.Inferred.{Infers}
 use Rattle.kl_infer.specs.Kinds.{HasOther}
-use Rattle.kl_infer.specs.declared.Typed.{Typed}
-use Rattle.kl_engine.specs.Answering.{Prints, IsTold}
+use Rattle.kl_engine.specs.Answering.{SomeRose, KeepsDrivers, IsOutside, reading, drifting, wanting, Follows, Prints, IsTold, IsOneOf, PrintsNothing}
+use Rattle.kl_engine.specs.Commands.{Program}
 use Rattle.kl_engine.specs.Faults.{Ending}
-use Rattle.kl_engine.specs.Reading.{WasInScope}
-use Rattle.kl_engine.specs.Running.{Answers, AnswersList, AnswersValue, IsListScheme, IsListOutcome, IsValueOutcome}
-use Rattle.kl_engine.specs.Verdict.{Verdict, well, refused, GivesList, cut_list, IsOutcome}
+use Rattle.kl_engine.specs.Running.{AnswersTerm, HasRunFault, IsListScheme, IsListOutcome, IsValueOutcome}
+use Rattle.kl_engine.specs.Verdict.{Verdict, value_page, refused, cut, cut_list, suffice, first_of, overflowing}
+use Rattle.kl_engine.specs.declared.fault.Fault.{Fault}
 use Rattle.kl_engine.specs.declared.fault.Fault.TheVariants as fault
-use Rattle.kl_engine.proofs.PageLemmas.{prints_refused, prints_wanted}
+use Rattle.kl_engine.specs.declared.top.Purpose.TheVariants as purpose
+use Rattle.kl_engine.proofs.DoneLemmas.{follows_prints}
 
--- ---- evaluations
+-- ---- ends of a run
 
-pub none_have : HaveSources no_sources.types no_sources.values
-none_have i t is = absurd cc
+-- how a term's outcome may end: well, or with an overflow
+abbrev pub IsRunEnd : Ending → Type 0
+IsRunEnd None = ⊤
+IsRunEnd (Some fault.Overflow) = ⊤
+IsRunEnd (Some f) = ⊥
 
--- an outcome that makes sense comes to a verdict
-list_verdict : (o : Outcome) → o ≢ stuck → (v : Verdict) × IsListOutcome o v × IsTold v.ending
-list_verdict (done x) makes = (well (text_of x ++ codes "\n"), refl, tt)
-list_verdict (over vs) makes = (cut_list vs, refl, tt)
-list_verdict stuck makes = absurd (makes refl)
+-- an end before which nothing is printed and that no outcome has
+abbrev pub IsStopped : Fault → List State → List State → Type 0
+IsStopped fault.Read ds ds' = SomeRose (λ d. d.faults) ds ds'
+IsStopped (fault.Changed name) ds ds' = SomeRose (λ d. d.drifts) ds ds'
+IsStopped fault.NoMemory ds ds' = ⊤
+IsStopped f ds ds' = ⊥
 
-value_verdict : (o : Outcome) → o ≢ stuck → (v : Verdict) × IsValueOutcome o v × IsTold v.ending
-value_verdict (done x) makes = (well (text_of x ++ codes "\n"), refl, tt)
-value_verdict (over vs) makes = (refused fault.Overflow, refl, tt)
-value_verdict stuck makes = absurd (makes refl)
+module _ (ds ds' : List State) (out out' : SinkState) where
+  stopped_outside : (v : Verdict) (f : Fault) → IsStopped f ds ds' → IsOutside ⊥ v (Some f) ds ds' out out'
+  stopped_outside v fault.Read rose = reading refl (inr rose)
+  stopped_outside v (fault.Changed name) rose = drifting name refl rose
+  stopped_outside v fault.NoMemory rose = wanting refl
+  stopped_outside v fault.Usage rose = absurd rose
+  stopped_outside v (fault.Text w byte) rose = absurd rose
+  stopped_outside v (fault.IllTyped decl) rose = absurd rose
+  stopped_outside v (fault.Catalogue byte) rose = absurd rose
+  stopped_outside v (fault.NameTwice name) rose = absurd rose
+  stopped_outside v (fault.NoDriver name) rose = absurd rose
+  stopped_outside v (fault.Unsuited name) rose = absurd rose
+  stopped_outside v (fault.BadFile place) rose = absurd rose
+  stopped_outside v (fault.BadSource name place) rose = absurd rose
+  stopped_outside v fault.Overflow rose = absurd rose
+  stopped_outside v fault.Write rose = absurd rose
+  stopped_outside v fault.ProgramBytes rose = absurd rose
+  stopped_outside v fault.CatalogueBytes rose = absurd rose
+  stopped_outside v fault.FileBytes rose = absurd rose
+  stopped_outside v fault.Nesting rose = absurd rose
+  stopped_outside v fault.ItemNesting rose = absurd rose
+  stopped_outside v fault.TermNodes rose = absurd rose
+  stopped_outside v fault.TermDepth rose = absurd rose
+  stopped_outside v fault.SchemeBytes rose = absurd rose
 
-pub list_wanted : (o : Outcome) (out : SinkState) → o ≢ stuck → AnswersList o (Some fault.NoMemory) out out
-list_wanted o out makes = let found = list_verdict o makes in (found.0, found.1, prints_wanted found.0 out found.2)
+  stopped_end : (f : Fault) → IsStopped f ds ds' → IsRunEnd (Some f) → ⊥
+  stopped_end fault.Overflow rose is = rose
+  stopped_end fault.Read rose is = is
+  stopped_end (fault.Changed name) rose is = is
+  stopped_end fault.NoMemory rose is = is
+  stopped_end fault.Usage rose is = is
+  stopped_end (fault.Text w byte) rose is = is
+  stopped_end (fault.IllTyped decl) rose is = is
+  stopped_end (fault.Catalogue byte) rose is = is
+  stopped_end (fault.NameTwice name) rose is = is
+  stopped_end (fault.NoDriver name) rose is = is
+  stopped_end (fault.Unsuited name) rose is = is
+  stopped_end (fault.BadFile place) rose is = is
+  stopped_end (fault.BadSource name place) rose is = is
+  stopped_end fault.Write rose is = is
+  stopped_end fault.ProgramBytes rose is = is
+  stopped_end fault.CatalogueBytes rose is = is
+  stopped_end fault.FileBytes rose is = is
+  stopped_end fault.Nesting rose is = is
+  stopped_end fault.ItemNesting rose is = is
+  stopped_end fault.TermNodes rose is = is
+  stopped_end fault.TermDepth rose is = is
+  stopped_end fault.SchemeBytes rose is = is
 
-pub value_wanted : (o : Outcome) (out : SinkState) → o ≢ stuck → AnswersValue o (Some fault.NoMemory) out out
-value_wanted o out makes = let found = value_verdict o makes in (found.0, found.1, prints_wanted found.0 out found.2)
+  stopped_fault : (f : Fault) → IsStopped f ds ds' → HasRunFault f
+  stopped_fault fault.Read rose = tt
+  stopped_fault (fault.Changed name) rose = tt
+  stopped_fault fault.NoMemory rose = tt
+  stopped_fault fault.Overflow rose = tt
+  stopped_fault fault.Write rose = tt
+  stopped_fault fault.Usage rose = rose
+  stopped_fault (fault.Text w byte) rose = rose
+  stopped_fault (fault.IllTyped decl) rose = rose
+  stopped_fault (fault.Catalogue byte) rose = rose
+  stopped_fault (fault.NameTwice name) rose = rose
+  stopped_fault (fault.NoDriver name) rose = rose
+  stopped_fault (fault.Unsuited name) rose = rose
+  stopped_fault (fault.BadFile place) rose = rose
+  stopped_fault (fault.BadSource name place) rose = rose
+  stopped_fault fault.ProgramBytes rose = rose
+  stopped_fault fault.CatalogueBytes rose = rose
+  stopped_fault fault.FileBytes rose = rose
+  stopped_fault fault.Nesting rose = rose
+  stopped_fault fault.ItemNesting rose = rose
+  stopped_fault fault.TermNodes rose = rose
+  stopped_fault fault.TermDepth rose = rose
+  stopped_fault fault.SchemeBytes rose = rose
 
-pub list_given : (o : Outcome) (x : Unit {0}) (old items : List Value) (end : Ending) (out out' : SinkState) → old ≡ [] → o ≢ stuck → Lists o (Ok x) old items
-    → Prints (well (text_of (value.List items) ++ codes "\n")) end out out' → AnswersList o end out out'
-list_given (done v) x old items end out out' none makes (vs, is, added) prints =
+some_fault : (f g : Fault) → Some f ≡ Some g → f ≡ g
+some_fault f g is = cc
+
+-- ---- a term's outcome, where it is printed or something came before
+
+module _ (IsOut : Verdict → Type 0) (told : Type 0) (ds ds' : List State) (keeps : KeepsDrivers (λ name. ⊥) ds ds') where
+  -- a fault of the outside came, and nothing was printed
+  pub term_stopped : (f : Fault) (out : SinkState) → IsStopped f ds ds' → (told → (v : Verdict) × IsOut v × IsRunEnd v.ending) → AnswersTerm IsOut told (Some f) ds ds' out out
+  term_stopped f out rose some = record {
+    follows = λ is. let found = some is in (
+      found.0,
+      found.1,
+      record {
+        ends = inr (stopped_outside ds ds' out out found.0 f rose);
+        whole = λ same. absurd (stopped_end ds ds' out out f rose (subst IsRunEnd (sym same) found.2));
+        part = took_none found.0.page out out refl;
+      },
+    );
+    read = λ is. subst (λ g. IsStopped g ds ds') (some_fault f fault.Read is) rose;
+    write = λ is. absurd (subst (λ g. IsStopped g ds ds') (some_fault f fault.Write is) rose);
+    changed = λ name is. subst (λ g. IsStopped g ds ds') (some_fault f (fault.Changed name) is) rose;
+    no_other = stopped_fault ds ds' out out f rose;
+    nothing = λ is. refl;
+    drivers = keeps;
+  }
+
+  run_end : (v : Verdict) (f : Fault) → IsRunEnd v.ending → v.ending ≡ Some f → (IsRunEnd (Some f) → ⊥) → ⊥
+  run_end v f end is none = none (subst IsRunEnd is end)
+
+  run_fault : (end : Ending) → IsRunEnd end → IsOneOf HasRunFault end
+  run_fault None is = tt
+  run_fault (Some fault.Overflow) is = tt
+  run_fault (Some fault.Read) is = tt
+  run_fault (Some fault.Write) is = tt
+  run_fault (Some fault.NoMemory) is = tt
+  run_fault (Some (fault.Changed name)) is = tt
+  run_fault (Some fault.Usage) is = is
+  run_fault (Some (fault.Text w byte)) is = is
+  run_fault (Some (fault.IllTyped decl)) is = is
+  run_fault (Some (fault.Catalogue byte)) is = is
+  run_fault (Some (fault.NameTwice name)) is = is
+  run_fault (Some (fault.NoDriver name)) is = is
+  run_fault (Some (fault.Unsuited name)) is = is
+  run_fault (Some (fault.BadFile place)) is = is
+  run_fault (Some (fault.BadSource name place)) is = is
+  run_fault (Some fault.ProgramBytes) is = is
+  run_fault (Some fault.CatalogueBytes) is = is
+  run_fault (Some fault.FileBytes) is = is
+  run_fault (Some fault.Nesting) is = is
+  run_fault (Some fault.ItemNesting) is = is
+  run_fault (Some fault.TermNodes) is = is
+  run_fault (Some fault.TermDepth) is = is
+  run_fault (Some fault.SchemeBytes) is = is
+
+  never_before : (end : Ending) → IsRunEnd end → PrintsNothing (Program (purpose.Run None) [] None) end → ⊥
+  never_before None is nothing = nothing
+  never_before (Some fault.Overflow) is nothing = nothing
+  never_before (Some fault.Write) is nothing = nothing
+  never_before (Some fault.NoMemory) is nothing = nothing
+  never_before (Some fault.Read) is nothing = is
+  never_before (Some (fault.Changed name)) is nothing = is
+  never_before (Some fault.Usage) is nothing = is
+  never_before (Some (fault.Text w byte)) is nothing = is
+  never_before (Some (fault.IllTyped decl)) is nothing = is
+  never_before (Some (fault.Catalogue byte)) is nothing = is
+  never_before (Some (fault.NameTwice name)) is nothing = is
+  never_before (Some (fault.NoDriver name)) is nothing = is
+  never_before (Some (fault.Unsuited name)) is nothing = is
+  never_before (Some (fault.BadFile place)) is nothing = is
+  never_before (Some (fault.BadSource name place)) is nothing = is
+  never_before (Some fault.ProgramBytes) is nothing = is
+  never_before (Some fault.CatalogueBytes) is nothing = is
+  never_before (Some fault.FileBytes) is nothing = is
+  never_before (Some fault.Nesting) is nothing = is
+  never_before (Some fault.ItemNesting) is nothing = is
+  never_before (Some fault.TermNodes) is nothing = is
+  never_before (Some fault.TermDepth) is nothing = is
+  never_before (Some fault.SchemeBytes) is nothing = is
+
+  -- the outcome is printed
+  pub term_printed : (v : Verdict) (end : Ending) (out out' : SinkState) → IsRunEnd v.ending → (told → IsOut v) → Prints v end out out' → AnswersTerm IsOut told end ds ds' out out'
+  term_printed v end out out' ended of prints = record {
+    follows = λ is. (v, of is, follows_prints v end out out' prints ds ds');
+    read = λ is. absurd (elim prints.ends [
+      | inl h ↦ run_end v fault.Read ended (sym h ∙ is) (λ e. e)
+      | inr (inl h) ↦ (let two : Some fault.Write ≡ Some fault.Read = sym h.0 ∙ is in cc)
+      | inr (inr h) ↦ (let two : Some fault.NoMemory ≡ Some fault.Read = sym h ∙ is in cc)
+    ]);
+    write = λ is. elim prints.ends [
+      | inl h ↦ absurd (run_end v fault.Write ended (sym h ∙ is) (λ e. e))
+      | inr (inl h) ↦ h.1
+      | inr (inr h) ↦ absurd (let two : Some fault.NoMemory ≡ Some fault.Write = sym h ∙ is in cc)
+    ];
+    changed = λ name is. absurd (elim prints.ends [
+      | inl h ↦ run_end v (fault.Changed name) ended (sym h ∙ is) (λ e. e)
+      | inr (inl h) ↦ (let two : Some fault.Write ≡ Some (fault.Changed name) = sym h.0 ∙ is in cc)
+      | inr (inr h) ↦ (let two : Some fault.NoMemory ≡ Some (fault.Changed name) = sym h ∙ is in cc)
+    ]);
+    no_other = elim prints.ends [
+      | inl h ↦ subst (IsOneOf HasRunFault) (sym h) (run_fault v.ending ended)
+      | inr (inl h) ↦ subst (IsOneOf HasRunFault) (sym h.0) tt
+      | inr (inr h) ↦ subst (IsOneOf HasRunFault) (sym h) tt
+    ];
+    nothing = λ is. absurd (elim prints.ends [
+      | inl h ↦ never_before v.ending ended (subst (PrintsNothing (Program (purpose.Run None) [] None)) h is)
+      | inr (inl h) ↦ subst (PrintsNothing (Program (purpose.Run None) [] None)) h.0 is
+      | inr (inr h) ↦ subst (PrintsNothing (Program (purpose.Run None) [] None)) h is
+    ]);
+    drivers = keeps;
+  }
+
+-- ---- what an outcome comes to
+
+cut_end : (first : Option ℕ) (enough : Bool) (vs : List Value) → IsRunEnd (if enough then value_page (value.List (first_of first vs)) else overflowing vs).ending
+cut_end first true vs = tt
+cut_end first false vs = tt
+
+pub list_verdict : (first : Option ℕ) (o : Outcome) → o ≢ stuck → (v : Verdict) × IsListOutcome first o v × IsRunEnd v.ending
+list_verdict first (done x) makes = (value_page (cut first x), refl, tt)
+list_verdict first (over vs) makes = (cut_list first vs, refl, cut_end first (suffice first vs) vs)
+list_verdict first stuck makes = absurd (makes refl)
+
+pub value_verdict : (first : Option ℕ) (o : Outcome) → o ≢ stuck → (v : Verdict) × IsValueOutcome first o v × IsRunEnd v.ending
+value_verdict first (done x) makes = (value_page (cut first x), refl, tt)
+value_verdict first (over vs) makes = (refused fault.Overflow, refl, tt)
+value_verdict first stuck makes = absurd (makes refl)
+
+-- the value of an outcome
+pub value_is : (first : Option ℕ) (o : Outcome) (w : Value) → o ≢ stuck → Tells o (Ok w) → IsValueOutcome first o (value_page (cut first w))
+value_is first (done v) w makes told = ap (λ x. value_page (cut first x)) told
+value_is first (over vs) w makes told = absurd told
+value_is first stuck w makes told = absurd (makes refl)
+
+pub value_past : (first : Option ℕ) (o : Outcome) → o ≢ stuck → Tells o (Err stop.Overflow) → IsValueOutcome first o (refused fault.Overflow)
+value_past first (done v) makes told = absurd told
+value_past first (over vs) makes told = refl
+value_past first stuck makes told = absurd (makes refl)
+
+pub list_is : (first : Option ℕ) (o : Outcome) (x : Unit {0}) (old items : List Value) → old ≡ [] → o ≢ stuck → Lists o (Ok x) old items → IsListOutcome first o (value_page (cut first (value.List items)))
+list_is first (done v) x old items none makes (vs, is, added) =
     let same : value.List items ≡ v = ap value.List (added ∙ ap (λ xs. xs ++ vs) none) ∙ sym is in
-    (well (text_of v ++ codes "\n"), refl, subst (λ w. Prints (well (text_of w ++ codes "\n")) end out out') same prints)
-list_given (over vs) x old items end out out' none makes told prints = absurd told
-list_given stuck x old items end out out' none makes told prints = absurd (makes refl)
+    ap (λ w. value_page (cut first w)) same
+list_is first (over vs) x old items none makes told = absurd told
+list_is first stuck x old items none makes told = absurd (makes refl)
 
-pub list_cut : (o : Outcome) (old items : List Value) (end : Ending) (out out' : SinkState) → old ≡ [] → o ≢ stuck → Lists o (Err stop.Overflow) old items
-    → Prints (cut_list items) end out out' → AnswersList o end out out'
-list_cut (done v) old items end out out' none makes told prints = absurd told
-list_cut (over vs) old items end out out' none makes told prints =
-    let same : items ≡ vs = told ∙ ap (λ xs. xs ++ vs) none in
-    (cut_list vs, refl, subst (λ xs. Prints (cut_list xs) end out out') same prints)
-list_cut stuck old items end out out' none makes told prints = absurd (makes refl)
-
-pub value_given : (o : Outcome) (w : Value) (end : Ending) (out out' : SinkState) → o ≢ stuck → Tells o (Ok w) → Prints (well (text_of w ++ codes "\n")) end out out' → AnswersValue o end out out'
-value_given (done v) w end out out' makes told prints = (well (text_of v ++ codes "\n"), refl, subst (λ u. Prints (well (text_of u ++ codes "\n")) end out out') told prints)
-value_given (over vs) w end out out' makes told prints = absurd told
-value_given stuck w end out out' makes told prints = absurd (makes refl)
-
-pub value_past : (o : Outcome) (out : SinkState) → o ≢ stuck → Tells o (Err stop.Overflow) → AnswersValue o (Some fault.Overflow) out out
-value_past (done v) out makes told = absurd told
-value_past (over vs) out makes told = (refused fault.Overflow, refl, prints_refused fault.Overflow out)
-value_past stuck out makes told = absurd (makes refl)
-
--- ---- what the evaluator's answers tell, of a term without free positions
-
-module _ (t : Tree) (env : List Value) (closed : env ≡ []) (out : SinkState) where
-  at_none : (P : List Value → Type 0) → P (reverse env) → P []
-  at_none P h = subst (λ xs. P (reverse xs)) closed h
-
-  pub past_value : (e : EvalStop) (w : World) → e ≡ stop.Overflow → Evaluates t (reverse env) (Err e) no_sources w → AnswersValue (core no_sources.values t []) (Some fault.Overflow) out out
-  past_value e w is evaluates =
-      let found : Evaluates t [] (Err e) no_sources w = at_none (λ xs. Evaluates t xs (Err e) no_sources w) evaluates in
-      value_past (core no_sources.values t []) out (found.sense none_have) (subst (λ x. Tells (core no_sources.values t []) (Err x)) is found.tells)
-
-  pub wanted_value : (e : EvalStop) (w : World) → Evaluates t (reverse env) (Err e) no_sources w → AnswersValue (core no_sources.values t []) (Some fault.NoMemory) out out
-  wanted_value e w evaluates =
-      let found : Evaluates t [] (Err e) no_sources w = at_none (λ xs. Evaluates t xs (Err e) no_sources w) evaluates in
-      value_wanted (core no_sources.values t []) out (found.sense none_have)
-
-  pub wanted_list : (e : EvalStop) (old new : List Value) (w : World) → EvaluatesList t (reverse env) (Err e) old new no_sources w → AnswersList (core no_sources.values t []) (Some fault.NoMemory) out out
-  wanted_list e old new w evaluates =
-      let found : EvaluatesList t [] (Err e) old new no_sources w = at_none (λ xs. EvaluatesList t xs (Err e) old new no_sources w) evaluates in
-      list_wanted (core no_sources.values t []) out (found.sense none_have)
+pub list_cut : (first : Option ℕ) (o : Outcome) (old items : List Value) → old ≡ [] → o ≢ stuck → Lists o (Err stop.Overflow) old items → IsListOutcome first o (cut_list first items)
+list_cut first (done v) old items none makes told = absurd told
+list_cut first (over vs) old items none makes told = ap (cut_list first) (told ∙ ap (λ xs. xs ++ vs) none)
+list_cut first stuck old items none makes told = absurd (makes refl)
 
 -- ---- the kind of a result
 
@@ -115,65 +274,3 @@ other_told scheme r differs others good some lists =
     let other = others kind.List good some.0 some.1 differs in
     let list = lists other.0 other.1 in
     other.2 list.0 list.1
-
--- ---- a program that has types
-
-pub tidied : (s : Scoped) → WasInScope s → IsTidyProgram (decls_of s.program.defs) (view s.program.last)
-tidied s scope = resolved_tidy scope.0 [] s scope.1
-
-module _ (ds : Decls) (e : Exp) (typed : Typed) (tidy : IsTidyProgram ds e) (infers : Infers ds e [] typed) where
-  has : (u : Ground) × ProgramTypes ds e [] u
-  has = infers.result.has_one
-
-  pub has_instance : (u : Ground) × Instance typed.result u
-  has_instance = (has.0, (infers.result.instances has.0).1 has.1)
-
-  meant : meaning_of_program ds e [] ≢ stuck
-  meant = never_stuck ds e [] [] has.0 tidy tt has.1
-
-  gives : IsListScheme typed.result → GivesList ds e
-  gives lists u of = lists u ((infers.result.instances u).1 of)
-
-  lists : GivesList ds e → IsListScheme typed.result
-  lists of u is = of u ((infers.result.instances u).0 is)
-
-  as_list : (end : Ending) (out out' : SinkState) → IsListScheme typed.result → AnswersList (meaning_of_program ds e []) end out out' → Answers ds e end out out'
-  as_list end out out' of (v, told, prints) = (v, outcome (meaning_of_program ds e []) told, prints)
-    where
-      outcome : (o : Outcome) → IsListOutcome o v → IsOutcome ds e o v
-      outcome (done x) is = is
-      outcome (over xs) is = inl (gives of, is)
-      outcome stuck is = is
-
-  as_value : (end : Ending) (out out' : SinkState) → (IsListScheme typed.result → ⊥) → AnswersValue (meaning_of_program ds e []) end out out' → Answers ds e end out out'
-  as_value end out out' other (v, told, prints) = (v, outcome (meaning_of_program ds e []) told, prints)
-    where
-      outcome : (o : Outcome) → IsValueOutcome o v → IsOutcome ds e o v
-      outcome (done x) is = is
-      outcome (over xs) is = inr (λ of. other (lists of), is)
-      outcome stuck is = is
-
-  -- the term, where its sources are those of the program
-  module _ (names : List Name) (t : Tree) (is : t ≡ term_of ds e names) (none : names ≡ []) (means : Means ds e names t) where
-    sense : (u : Ground) → ProgramTypes ds e [] u → CoreTypes no_sources.types [] t u
-    sense u of = subst (λ x. CoreTypes no_sources.types [] x u) (sym (is ∙ ap (term_of ds e) none)) (makes_sense ds e [] u tidy of)
-
-    pub value_sense : Sense t [] no_sources
-    value_sense = ([], has.0, tt, sense has.0 has.1)
-
-    pub list_sense : IsListScheme typed.result → SenseList t [] no_sources
-    list_sense of = let list = gives of has.0 has.1 in ([], list.0, tt, subst (CoreTypes no_sources.types [] t) list.1 (sense has.0 has.1))
-
-    same : core no_sources.values t [] ≡ meaning_of_program ds e []
-    same = means [] (sym none) meant
-
-    pub list_answered : (end : Ending) (out out' : SinkState) → IsListScheme typed.result → AnswersList (core no_sources.values t []) end out out' → Answers ds e end out out'
-    list_answered end out out' of answers = as_list end out out' of (subst (λ o. AnswersList o end out out') same answers)
-
-    pub value_answered : (end : Ending) (out out' : SinkState) → (IsListScheme typed.result → ⊥) → AnswersValue (core no_sources.values t []) end out out' → Answers ds e end out out'
-    value_answered end out out' other answers = as_value end out out' other (subst (λ o. AnswersValue o end out out') same answers)
-
-  -- memory ran out before anything was printed
-  pub answer_wanted : (listed : Bool) (out : SinkState) → (listed ≡ true → IsListScheme typed.result) → (listed ≡ false → IsListScheme typed.result → ⊥) → Answers ds e (Some fault.NoMemory) out out
-  answer_wanted true out of other = as_list (Some fault.NoMemory) out out (of refl) (list_wanted (meaning_of_program ds e []) out meant)
-  answer_wanted false out of other = as_value (Some fault.NoMemory) out out (other refl) (value_wanted (meaning_of_program ds e []) out meant)

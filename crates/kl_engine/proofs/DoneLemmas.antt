@@ -1,311 +1,371 @@
--- What the text of a program comes to, and how a call ends that does what is asked for.
-use Rattle.std.proofs.Common.{◌≡◌, ◌⊎◌, inl, inr, ℕ, suc, ◌<◌, ◌≤◌, nat_lt, Bool, true, false, if◌then◌else◌, List, [], ◌∷◌, ◌++◌, codes, length, Option, Some, None, Result, Ok, Err, refl, sym, ap, subst, ◌∙◌, arith}
-use Rattle.std.specs.Prelude.{All}
-use Rattle.std.specs.Option.{option_map}
-use Rattle.std.proofs.lemmas.Bool.{lt-ltb, le-ltb}
-use Rattle.std.proofs.lemmas.List.Elements.{All-head, All-tail}
+-- How a call ends that does what is asked for.
+use Rattle.std.proofs.Common.{◌≡◌, ◌⊎◌, inl, inr, ℕ, ◌<◌, nat_lt, if◌then◌else◌, Bool, true, false, List, [], ◌∷◌, codes, length, Option, Some, None, Result, Ok, Err, refl, sym, ap, subst, ◌∙◌, arith, ⊤}
+use Rattle.std.proofs.lemmas.Option.{gets}
+use Rattle.std.specs.Prelude.{All, IsTrue, slice_get}
+use Rattle.std.specs.Io.KnownBytes.{append_known}
+use Rattle.kl_outside.specs.Counts.{Rose}
 use Rattle.kl_outside.specs.Sinks.{SinkState}
+use Rattle.kl_outside.proofs.SinkLemmas.{took_none, append_known-nil}
 use Rattle.kl_type.specs.Ground.{Ground}
-use Rattle.kl_outcome.specs.Outcome.{Name, Outcome, done, over, stuck}
-use Rattle.kl_rows.specs.declared.Scheme.{Scheme}
-use Rattle.kl_syntax.specs.Syntax.{Exp, Decls, no_decls, constant, function}
+use Rattle.kl_outcome.specs.Outcome.{Name}
+use Rattle.kl_syntax.specs.Syntax.{Exp, Decls}
 use Rattle.kl_syntax.specs.View.{view, decls_of}
 use Rattle.kl_syntax.specs.declared.tree.Program.{Program}
-use Rattle.kl_scope.specs.Breaches.{Resolves}
-use Rattle.kl_scope.specs.Limits.{HasManyNodes, IsDeep, IsWithin, IsFirstPast, Tells}
+use Rattle.kl_scope.specs.Breaches.{Mentions, Resolves, is_marked}
+use Rattle.kl_scope.specs.Limits.{Tells}
 use Rattle.kl_scope.specs.Sizes.{declared}
 use Rattle.kl_scope.specs.declared.counting.SizeBreach.{SizeBreach}
-use Rattle.kl_scope.specs.declared.counting.SizeBreach.TheVariants.{Nodes, Depth}
 use Rattle.kl_scope.specs.declared.scoped.Scoped.{Scoped}
-use Rattle.kl_scope.specs.declared.terms.Size.{Size}
-use Rattle.kl_meaning.specs.Run.{meaning_of_program}
-use Rattle.kl_meaning.specs.Typing.{Known, Types as TypesOf, FunctionTypes, HasTyping, with_sort, value_of, function_of, types_at_first}
-use Rattle.kl_infer.specs.Inferred.{Infers, FailsAt, IsIllTyped}
 use Rattle.kl_infer.specs.Numbers.{limit}
 use Rattle.kl_infer.specs.Printed.{scheme_text}
 use Rattle.kl_infer.specs.declared.Typed.{Typed}
-use Rattle.kl_engine.specs.Answering.{Alike, one, retyped, Prints, DoesText, IsTold, IsOneOf, HasTextFault, IsTyping, PrintsNothing}
+use Rattle.kl_meaning.specs.Typing.{HasTyping}
+use Rattle.kl_rows.specs.declared.Scheme.{Scheme}
+use Rattle.kl_ask.specs.Driver.{State, IsTold as IsToldBy}
+use Rattle.kl_sources.specs.Sources.{names_of, grounds_of}
+use Rattle.kl_sources.specs.declared.source.Source.{Source}
+use Rattle.kl_engine.specs.Answering.{kinds_of, Alike, one, IsOutside, reading, writing, drifting, wanting, Follows, Prints, DoesText, IsTold, IsRun, IsOneOf, HasTextFault, IsTyping, IsUnread, NeedsDrivers, IsMentionedIn, PrintsNothing, KeepsDrivers}
 use Rattle.kl_engine.specs.Commands.{Program as AProgram}
 use Rattle.kl_engine.specs.Faults.{Ending}
 use Rattle.kl_engine.specs.Reading.{IsTextFault, IsProgramOf, definitions, last, Reads}
-use Rattle.kl_engine.specs.Running.{Answers, DoneWith}
+use Rattle.kl_engine.specs.Running.{Ends, before, followed, untold, IsNamed, DoneBy, DoneWith, DoneMeaning}
 use Rattle.kl_engine.specs.Typing.{breach_fault, IsTypingFault, IsTyped, Types, TypesOfAny}
-use Rattle.kl_engine.specs.Verdict.{Verdict, well, refused, size_fault, AfterSizes, IsSized, IsUntyped, behind, named_schemes, scheme_line, scheme_lines, IsListing, GivesList, cut_list, IsOutcome, IsMeant, IsDone, IsText}
+use Rattle.kl_engine.specs.Verdict.{Verdict, well, refused, size_fault, AfterSizes, IsSized, IsUntyped, named_schemes, behind, scheme_lines, IsListing, IsMeant, IsDone, AreMarks, IsText, scheme_line}
 use Rattle.kl_engine.specs.declared.fault.Fault.{Fault}
 use Rattle.kl_engine.specs.declared.fault.Fault.TheVariants as fault
+use Rattle.kl_engine.specs.declared.fault.Wrong.{Wrong}
 use Rattle.kl_engine.specs.declared.top.Purpose.{Purpose}
 use Rattle.kl_engine.specs.declared.top.Purpose.TheVariants as purpose
-use Rattle.kl_engine.proofs.PageLemmas.{prints_refused, prints_wanted}
-use Rattle.kl_engine.proofs.ReadLemmas.{any_fault, faults_alike, no_fault, one_program}
+use Rattle.kl_engine.proofs.AlikeLemmas.{text_alike, marks_one}
+use Rattle.kl_engine.proofs.DriverLemmas.{keeps_same, keeps_wider}
+use Rattle.kl_engine.proofs.FairLemmas.{Fair, IsOfVerdict, fair_done, fair_text}
+use Rattle.kl_engine.proofs.PageLemmas.{prints_refused}
+use Rattle.kl_engine.proofs.ReadLemmas.{any_fault, no_fault, one_program}
+use Rattle.kl_engine.proofs.SizeLemmas.{told_size, sized_faults}
 
--- ---- sizes
+-- ---- faults that no source has
 
-many : (s : Size) (ss : List Size) → 4096 < s.nodes → size_fault (s ∷ ss) ≡ Some fault.TermNodes
-many s ss past = ap (λ b. if b then Some fault.TermNodes else if nat_lt 512 s.depth then Some fault.TermDepth else size_fault ss) (lt-ltb 4096 s.nodes past)
+abbrev IsPlain : Fault → Type 0
+IsPlain fault.Read = ⊥
+IsPlain (fault.Changed name) = ⊥
+IsPlain (fault.BadSource name place) = ⊥
+IsPlain fault.FileBytes = ⊥
+IsPlain fault.ItemNesting = ⊥
+IsPlain f = ⊤
 
-few : (s : Size) (ss : List Size) → s.nodes ≤ 4096 → size_fault (s ∷ ss) ≡ if nat_lt 512 s.depth then Some fault.TermDepth else size_fault ss
-few s ss within = ap (λ b. if b then Some fault.TermNodes else if nat_lt 512 s.depth then Some fault.TermDepth else size_fault ss) (le-ltb 4096 s.nodes within)
+unread_plain : (f : Fault) → IsPlain f → IsUnread f → ⊥
+unread_plain (fault.BadSource name place) plain is = plain
+unread_plain fault.FileBytes plain is = plain
+unread_plain fault.ItemNesting plain is = plain
+unread_plain fault.Usage plain is = is
+unread_plain (fault.Text w byte) plain is = is
+unread_plain (fault.IllTyped decl) plain is = is
+unread_plain (fault.Catalogue byte) plain is = is
+unread_plain (fault.NameTwice name) plain is = is
+unread_plain (fault.NoDriver name) plain is = is
+unread_plain (fault.Unsuited name) plain is = is
+unread_plain (fault.BadFile place) plain is = is
+unread_plain fault.Overflow plain is = is
+unread_plain fault.Read plain is = is
+unread_plain fault.Write plain is = is
+unread_plain fault.NoMemory plain is = is
+unread_plain (fault.Changed name) plain is = is
+unread_plain fault.ProgramBytes plain is = is
+unread_plain fault.CatalogueBytes plain is = is
+unread_plain fault.Nesting plain is = is
+unread_plain fault.TermNodes plain is = is
+unread_plain fault.TermDepth plain is = is
+unread_plain fault.SchemeBytes plain is = is
 
-deep : (s : Size) (ss : List Size) → IsDeep s → size_fault (s ∷ ss) ≡ Some fault.TermDepth
-deep s ss is = few s ss is.0 ∙ ap (λ b. if b then Some fault.TermDepth else size_fault ss) (lt-ltb 512 s.depth is.1)
+-- a place where something stands is one of a list
+get_within : {T : Type 0} (xs : List T) (i : ℕ) (x : T) → slice_get xs i ≡ Some x → i < length xs
+get_within xs i x is = grind (arith, gets, is)
 
-fits : (s : Size) (ss : List Size) → IsWithin s → size_fault (s ∷ ss) ≡ size_fault ss
-fits s ss is = few s ss is.0 ∙ ap (λ b. if b then Some fault.TermDepth else size_fault ss) (le-ltb 512 s.depth is.1)
+-- ---- what was printed of a verdict
 
-all_fit : (ss : List Size) → All IsWithin ss → size_fault ss ≡ None
-all_fit [] all = refl
-all_fit (s ∷ ss) all = fits s ss (All-head IsWithin s ss all) ∙ all_fit ss (All-tail IsWithin s ss all)
+-- the ends of a page that is printed
+module _ (v : Verdict) (end : Ending) (out out' : SinkState) (prints : Prints v end out out') where
+  pub follows_prints : (ds ds' : List State) → Follows ⊥ v end ds ds' out out'
+  follows_prints ds ds' = record {
+    ends = elim prints.ends [ inl h ↦ inl h | inr (inl h) ↦ inr (writing h.0 h.1 h.2) | inr (inr h) ↦ inr (wanting h) ];
+    whole = prints.whole;
+    part = prints.part;
+  }
 
-behind_fitting : (before after : List Size) → All IsWithin before → size_fault (before ++ after) ≡ size_fault after
-behind_fitting [] after all = refl
-behind_fitting (s ∷ ss) after all = fits s (ss ++ after) (All-head IsWithin s ss all) ∙ behind_fitting ss after (All-tail IsWithin s ss all)
+  module _ (p : Purpose) (fair : Fair p v) where
+    pub wrote : end ≡ Some fault.Write → Rose out.faults out'.faults
+    wrote same = elim prints.ends [
+      | inl h ↦ absurd (subst IsOfVerdict (sym h ∙ same) fair.told)
+      | inr (inl h) ↦ h.1
+      | inr (inr h) ↦ absurd (let one_end = sym h ∙ same in cc)
+    ]
 
-first_past : (IsPast : Size → Type 0) (f : Fault) → ((s : Size) (ss : List Size) → IsPast s → size_fault (s ∷ ss) ≡ Some f) → (decl : ℕ) (sizes : List Size) → IsFirstPast IsPast decl sizes → size_fault sizes ≡ Some f
-first_past IsPast f told decl sizes is = ap size_fault is.parts ∙ (behind_fitting is.before (is.size ∷ is.after) is.earlier ∙ told is.size is.after is.past)
+    pub has_fault : IsOneOf (HasTextFault p) end
+    has_fault = elim prints.ends [
+      | inl h ↦ subst (IsOneOf (HasTextFault p)) (sym h) fair.has
+      | inr (inl h) ↦ subst (IsOneOf (HasTextFault p)) (sym h.0) tt
+      | inr (inr h) ↦ subst (IsOneOf (HasTextFault p)) (sym h) tt
+    ]
 
-pub told_size : (found : Option SizeBreach) (sizes : List Size) → Tells found sizes → size_fault sizes ≡ option_map breach_fault found
-told_size None sizes tells = all_fit sizes tells
-told_size (Some (Nodes decl)) sizes tells = first_past HasManyNodes fault.TermNodes many decl sizes tells
-told_size (Some (Depth decl)) sizes tells = first_past IsDeep fault.TermDepth deep decl sizes tells
+    pub printed_nothing : PrintsNothing (AProgram p [] None) end → out' ≡ out
+    printed_nothing is = elim prints.ends [
+      | inl h ↦ prints.nothing (fair.empty (subst (PrintsNothing (AProgram p [] None)) h is))
+      | inr (inl h) ↦ absurd (subst (PrintsNothing (AProgram p [] None)) h.0 is)
+      | inr (inr h) ↦ absurd (subst (PrintsNothing (AProgram p [] None)) h is)
+    ]
 
--- the fault is one of sizes
-module _ (P : Fault → Type 0) (nodes : P fault.TermNodes) (depth : P fault.TermDepth) where
-  one_size : (x y : Bool) (rest : Option Fault) (f : Fault) → (rest ≡ Some f → P f) → (if x then Some fault.TermNodes else if y then Some fault.TermDepth else rest) ≡ Some f → P f
-  one_size true y rest f more is = let same : fault.TermNodes ≡ f = cc in subst P same nodes
-  one_size false true rest f more is = let same : fault.TermDepth ≡ f = cc in subst P same depth
-  one_size false false rest f more is = more is
+  pub plain_end : (plain : IsOneOf IsPlain v.ending) → IsOneOf IsPlain end
+  plain_end plain = elim prints.ends [
+    | inl h ↦ subst (IsOneOf IsPlain) (sym h) plain
+    | inr (inl h) ↦ subst (IsOneOf IsPlain) (sym h.0) tt
+    | inr (inr h) ↦ subst (IsOneOf IsPlain) (sym h) tt
+  ]
 
-  sized_faults : (ss : List Size) (f : Fault) → size_fault ss ≡ Some f → P f
-  sized_faults [] f is = absurd cc
-  sized_faults (s ∷ ss) f is = one_size (nat_lt 4096 s.nodes) (nat_lt 512 s.depth) (size_fault ss) f (sized_faults ss f) is
+plain_no : (end : Ending) (f : Fault) → IsOneOf IsPlain end → end ≡ Some f → (IsPlain f → ⊥) → ⊥
+plain_no end f plain is none = none (subst (IsOneOf IsPlain) is plain)
 
--- ---- one verdict, or alike
+plain_line : (long : Bool) (d : Name × Scheme) (v : Verdict) → IsOneOf IsPlain v.ending → IsOneOf IsPlain (if long then refused fault.SchemeBytes else behind (scheme_line d) v).ending
+plain_line true d v plain = tt
+plain_line false d v plain = plain
 
-one_failing : (ds : Decls) (e : Exp) (known : Known) (n m : ℕ) → FailsAt ds e known n → FailsAt ds e known m → n ≡ m
-one_failing no_decls e known n m this that = this.0 ∙ sym that.0
-one_failing (constant d b ds) e known n m (inl (none, is)) (inl (also, it)) = none ∙ sym also
-one_failing (constant d b ds) e known n m (inl (zero_is, none)) (inr (k, is, typed, rest)) = absurd (none typed.0 typed.1)
-one_failing (constant d b ds) e known n m (inr (k, is, typed, rest)) (inl (zero_is, none)) = absurd (none typed.0 typed.1)
-one_failing (constant d b ds) e known n m (inr (k, is, typed, rest)) (inr (j, it, also, more)) = is ∙ (ap suc (one_failing ds e (with_sort d.text (value_of (TypesOf b known [])) known) k j rest more) ∙ sym it)
-one_failing (function d p b ds) e known n m (inl (none, is)) (inl (also, it)) = none ∙ sym also
-one_failing (function d p b ds) e known n m (inl (zero_is, none)) (inr (k, is, typed, rest)) = absurd (none typed.0 typed.1 typed.2)
-one_failing (function d p b ds) e known n m (inr (k, is, typed, rest)) (inl (zero_is, none)) = absurd (none typed.0 typed.1 typed.2)
-one_failing (function d p b ds) e known n m (inr (k, is, typed, rest)) (inr (j, it, also, more)) = is ∙ (ap suc (one_failing ds e (with_sort d.text (function_of (FunctionTypes known p b)) known) k j rest more) ∙ sym it)
+plain_lines : (lines : List (Name × Scheme)) → IsOneOf IsPlain (scheme_lines lines).ending
+plain_lines [] = tt
+plain_lines (d ∷ ds) = plain_line (nat_lt limit (length (scheme_text d.1))) d (scheme_lines ds) (plain_lines ds)
 
-module _ (ds : Decls) (e : Exp) where
-  untyped_alike : (v w : Verdict) → IsUntyped ds e v → IsUntyped ds e w → Alike v w
-  untyped_alike v w (n, ill, is) (m, also, it) = one (is ∙ (ap (λ k. refused (fault.IllTyped k)) (one_failing ds e (types_at_first []) n m ill.fails also.fails) ∙ sym it))
+-- a verdict of a program was printed, and no source was asked
+pub printed_done : (ss : List Source) (marks : ℕ → Bool) (p : Purpose) (program : Decls) (e : Exp) (v : Verdict) (end : Ending) (ds : List State) (out out' : SinkState)
+    → IsDone (kinds_of ds) ss marks p program e v → IsOneOf IsPlain v.ending → Prints v end out out' → DoneWith ss marks p program e end ds ds out out'
+printed_done ss marks p program e v end ds out out' of plain prints =
+    let fair = fair_done (kinds_of ds) ss marks program e p v of in
+    let plain_too = plain_end v end out out' prints plain in record {
+      ends = followed v of (follows_prints v end out out' prints ds ds);
+      read = λ is. absurd (plain_no end fault.Read plain_too is (λ h. h));
+      write = wrote v end out out' prints p fair;
+      unread = λ f is un. absurd (plain_no end f plain_too is (λ h. unread_plain f h un));
+      changed = λ name is. absurd (plain_no end (fault.Changed name) plain_too is (λ h. h));
+      no_other = has_fault v end out out' prints p fair;
+      nothing = printed_nothing v end out out' prints p fair;
+      drivers = keeps_same (IsNamed ss marks) ds;
+      still = λ is. refl;
+    }
 
-  outcome_one : (o : Outcome) (v w : Verdict) → IsOutcome ds e o v → IsOutcome ds e o w → v ≡ w
-  outcome_one (done x) v w this that = this ∙ sym that
-  outcome_one (over xs) v w (inl (list, is)) (inl (also, it)) = is ∙ sym it
-  outcome_one (over xs) v w (inl (list, is)) (inr (none, it)) = absurd (none list)
-  outcome_one (over xs) v w (inr (none, is)) (inl (list, it)) = absurd (none list)
-  outcome_one (over xs) v w (inr (none, is)) (inr (also, it)) = is ∙ sym it
-  outcome_one stuck v w this that = absurd this
+-- a front of nothing at all
+follows_outside : (v : Verdict) (end : Ending) (ds ds' : List State) (out out' : SinkState) (p : Purpose) → Fair p v → out' ≡ out → (v.ending ≡ end → v.page ≡ []) → IsOutside ⊥ v end ds ds' out out' → Follows ⊥ v end ds ds' out out'
+follows_outside v end ds ds' out out' p fair same empty outside = record {
+  ends = inr outside;
+  whole = λ is. ap (λ o. o.taken) same ∙ sym (ap (λ page. append_known out.taken page) (empty (sym is)) ∙ append_known-nil out.taken);
+  part = took_none v.page out out' (ap (λ o. o.taken) same);
+}
 
-  after_alike : (size : Option Fault) (Goes : Verdict → Type 0) → ((v w : Verdict) → Goes v → Goes w → Alike v w) → (v w : Verdict) → AfterSizes size Goes v → AfterSizes size Goes w → Alike v w
-  after_alike (Some f) Goes alike v w this that = one (this ∙ sym that)
-  after_alike None Goes alike v w this that = alike v w this that
-
-  listing_alike : (v w : Verdict) → IsUntyped ds e v ⊎ IsListing ds e v → IsUntyped ds e w ⊎ IsListing ds e w → Alike v w
-  listing_alike v w (inl this) (inl that) = untyped_alike v w this that
-  listing_alike v w (inl (n, ill, is)) (inr (typed, infers, it)) = absurd (ill.none infers.has_typing)
-  listing_alike v w (inr (typed, infers, is)) (inl (n, ill, it)) = absurd (ill.none infers.has_typing)
-  listing_alike v w (inr this) (inr that) = retyped ds e this that
-
-  meant_alike : (v w : Verdict) → IsUntyped ds e v ⊎ IsMeant ds e v → IsUntyped ds e w ⊎ IsMeant ds e w → Alike v w
-  meant_alike v w (inl this) (inl that) = untyped_alike v w this that
-  meant_alike v w (inl (n, ill, is)) (inr (typing, it)) = absurd (ill.none typing)
-  meant_alike v w (inr (typing, is)) (inl (n, ill, it)) = absurd (ill.none typing)
-  meant_alike v w (inr (typing, is)) (inr (also, it)) = one (outcome_one (meaning_of_program ds e []) v w is it)
-
-  done_alike : (p : Purpose) (v w : Verdict) → IsDone p ds e v → IsDone p ds e w → Alike v w
-  done_alike purpose.Check v w this that = one (this ∙ sym that)
-  done_alike purpose.Types v w this that = after_alike (size_fault (declared ds e [])) (λ u. IsUntyped ds e u ⊎ IsListing ds e u) listing_alike v w this that
-  done_alike purpose.Run v w this that = after_alike (size_fault (declared ds e [])) (λ u. IsUntyped ds e u ⊎ IsMeant ds e u) meant_alike v w this that
-
-text_alike : (p : Purpose) (bytes : List ℕ) (v w : Verdict) → IsText p bytes v → IsText p bytes w → Alike v w
-text_alike p bytes v w (inl (f, this, is)) (inl (g, that, it)) = subst (λ u. Alike u w) (sym is) (subst (Alike (refused f)) (sym it) (faults_alike bytes f g this that))
-text_alike p bytes v w (inl (f, this, is)) (inr (q, whole, it)) = absurd (no_fault bytes f q whole this)
-text_alike p bytes v w (inr (q, whole, is)) (inl (f, that, it)) = absurd (no_fault bytes f q whole that)
-text_alike p bytes v w (inr (q, whole, is)) (inr (r, also, it)) =
-    let same = one_program bytes q r whole also in
-    done_alike (definitions r) (last r) p v w (subst (λ s. IsDone p (definitions s) (last s) v) same is) it
-
--- ---- what every verdict on a text keeps to
-
--- It is told, with a fault of its purpose, and before each fault but two nothing is printed.
-record Fair (p : Purpose) (v : Verdict) : Type 0 where
-  told : IsTold v.ending
-  has : IsOneOf (HasTextFault p) v.ending
-  empty : PrintsNothing (AProgram p []) v.ending → v.page ≡ []
-
-fair_at : (p : Purpose) (v w : Verdict) → v ≡ w → Fair p w → Fair p v
-fair_at p v w same fair = subst (Fair p) (sym same) fair
-
-fair_fault : (p : Purpose) (f : Fault) → IsTold (Some f) → HasTextFault p f → Fair p (refused f)
-fair_fault p f told has = record { told = told; has = has; empty = λ is. refl }
-
-fair_well : (p : Purpose) (page : List ℕ) → Fair p (well page)
-fair_well p page = record { told = tt; has = tt; empty = λ is. absurd is }
-
--- a purpose that looks at types
-module _ (p : Purpose) (typing : IsTyping p) (ds : Decls) (e : Exp) where
-  fair_untyped : (v : Verdict) → IsUntyped ds e v → Fair p v
-  fair_untyped v (n, ill, is) = fair_at p v (refused (fault.IllTyped n)) is (fair_fault p (fault.IllTyped n) tt typing)
-
-  fair_after : (Goes : Verdict → Type 0) → ((v : Verdict) → Goes v → Fair p v) → (v : Verdict) → IsSized ds e Goes v → Fair p v
-  fair_after Goes fair v is = pick (size_fault (declared ds e [])) refl is
-    where
-      pick : (size : Option Fault) → size_fault (declared ds e []) ≡ size → AfterSizes size Goes v → Fair p v
-      pick (Some f) at same = fair_at p v (refused f) same (sized_faults (λ g. Fair p (refused g)) (fair_fault p fault.TermNodes tt typing) (fair_fault p fault.TermDepth tt typing) (declared ds e []) f at)
-      pick None at goes = fair v goes
-
-ends_at : (long : Bool) (d : Name × Scheme) (v : Verdict) (f : Fault) → (v.ending ≡ Some f → PrintsNothing (AProgram purpose.Types []) (Some f) → ⊥)
-    → (if long then refused fault.SchemeBytes else behind (scheme_line d) v).ending ≡ Some f → PrintsNothing (AProgram purpose.Types []) (Some f) → ⊥
-ends_at true d v f more is before = let same : Some f ≡ Some fault.SchemeBytes = sym is in subst (PrintsNothing (AProgram purpose.Types [])) same before
-ends_at false d v f more is before = more is before
-
-line_ends : (ds : List (Name × Scheme)) (f : Fault) → (scheme_lines ds).ending ≡ Some f → PrintsNothing (AProgram purpose.Types []) (Some f) → ⊥
-line_ends [] f is before = absurd cc
-line_ends (d ∷ ds) f is before = ends_at (nat_lt limit (length (scheme_text d.1))) d (scheme_lines ds) f (line_ends ds f) is before
-
-fair_behind : (front : List ℕ) (v : Verdict) (end : Ending) → v.ending ≡ end → ((f : Fault) → v.ending ≡ Some f → PrintsNothing (AProgram purpose.Types []) (Some f) → ⊥) → Fair purpose.Types v → Fair purpose.Types (behind front v)
-fair_behind front v None at ends fair = record { told = fair.told; has = fair.has; empty = λ is. absurd (subst (PrintsNothing (AProgram purpose.Types [])) at is) }
-fair_behind front v (Some f) at ends fair = record { told = fair.told; has = fair.has; empty = λ is. absurd (ends f at (subst (PrintsNothing (AProgram purpose.Types [])) at is)) }
-
-fair_line : (long : Bool) (d : Name × Scheme) (v : Verdict) → ((f : Fault) → v.ending ≡ Some f → PrintsNothing (AProgram purpose.Types []) (Some f) → ⊥) → Fair purpose.Types v
-    → Fair purpose.Types (if long then refused fault.SchemeBytes else behind (scheme_line d) v)
-fair_line true d v ends fair = record { told = tt; has = refl; empty = λ is. refl }
-fair_line false d v ends fair = fair_behind (scheme_line d) v v.ending refl ends fair
-
-fair_lines : (ds : List (Name × Scheme)) → Fair purpose.Types (scheme_lines ds)
-fair_lines [] = fair_well purpose.Types []
-fair_lines (d ∷ ds) = fair_line (nat_lt limit (length (scheme_text d.1))) d (scheme_lines ds) (line_ends ds) (fair_lines ds)
-
-pub listing_told : (ds : Decls) (e : Exp) (v : Verdict) → IsListing ds e v → IsTold v.ending
-listing_told ds e v (typed, infers, is) = subst (λ w. IsTold w.ending) (sym is) (fair_lines (named_schemes ds typed)).told
-
-fair_outcome : (ds : Decls) (e : Exp) (o : Outcome) (v : Verdict) → IsOutcome ds e o v → Fair purpose.Run v
-fair_outcome ds e (done x) v is = fair_at purpose.Run v _ is (fair_well purpose.Run _)
-fair_outcome ds e (over xs) v (inl (list, is)) = fair_at purpose.Run v (cut_list xs) is (record { told = tt; has = refl; empty = λ before. absurd before })
-fair_outcome ds e (over xs) v (inr (none, is)) = fair_at purpose.Run v (refused fault.Overflow) is (fair_fault purpose.Run fault.Overflow tt refl)
-fair_outcome ds e stuck v is = absurd is
-
-fair_done : (p : Purpose) (ds : Decls) (e : Exp) (v : Verdict) → IsDone p ds e v → Fair p v
-fair_done purpose.Check ds e v is = fair_at purpose.Check v _ is (fair_well purpose.Check _)
-fair_done purpose.Types ds e v is =
-    fair_after purpose.Types tt ds e (λ w. IsUntyped ds e w ⊎ IsListing ds e w)
-    (λ w goes. elim goes [ inl h ↦ fair_untyped purpose.Types tt ds e w h | inr h ↦ fair_at purpose.Types w _ h.2 (fair_lines (named_schemes ds h.0)) ]) v is
-fair_done purpose.Run ds e v is =
-    fair_after purpose.Run tt ds e (λ w. IsUntyped ds e w ⊎ IsMeant ds e w)
-    (λ w goes. elim goes [ inl h ↦ fair_untyped purpose.Run tt ds e w h | inr h ↦ fair_outcome ds e (meaning_of_program ds e []) w h.1 ]) v is
-
-fair_text : (p : Purpose) (bytes : List ℕ) (v : Verdict) → IsText p bytes v → Fair p v
-fair_text p bytes v (inl (f, of, is)) = fair_at p v (refused f) is (any_fault (λ g. Fair p (refused g)) (λ w byte. fair_fault p (fault.Text w byte) tt tt) (fair_fault p fault.Nesting tt tt) bytes f of)
-fair_text p bytes v (inr (q, whole, is)) = fair_done p (definitions q) (last q) v is
-
-pub text_told : (p : Purpose) (bytes : List ℕ) (v : Verdict) → IsText p bytes v → IsTold v.ending
-text_told p bytes v of = (fair_text p bytes v of).told
-
--- ---- how a call ends
-
-pub text_wanted : (p : Purpose) (text : List ℕ) (out : SinkState) → DoesText p text (Some fault.NoMemory) out out
-text_wanted p text out = record {
-  told = λ v of. (v, one refl, prints_wanted v out (text_told p text v of));
-  meant = λ is. absurd is;
+-- memory ran out first
+pub wanted_done : (IsVerdict : (ℕ → Bool) → Verdict → Type 0) (ss : List Source) (marks : ℕ → Bool) (p : Purpose) (ds : List State) (out : SinkState) → DoneBy IsVerdict ss marks p (Some fault.NoMemory) ds ds out out
+wanted_done IsVerdict ss marks p ds out = record {
+  ends = before refl (λ is. is) (λ v. wanting refl);
+  read = λ is. absurd cc;
   write = λ is. absurd cc;
+  unread = λ f is un. absurd (plain_no (Some fault.NoMemory) f tt is (λ h. unread_plain f h un));
+  changed = λ name is. absurd cc;
   no_other = tt;
   nothing = λ is. refl;
+  drivers = keeps_same (IsNamed ss marks) ds;
+  still = λ is. refl;
 }
 
--- a verdict on the text was printed
-pub does_text : (p : Purpose) (text : List ℕ) (v : Verdict) (end : Ending) (out out' : SinkState) → IsText p text v → Prints v end out out' → DoesText p text end out out'
-does_text p text v end out out' of prints = let fair = fair_text p text v of in record {
-  told = λ w is. (v, text_alike p text w v is of, prints);
-  meant = λ told. (
-    v,
-    of,
-    elim prints.ends [
-      | inl h ↦ sym h
-      | inr (inl h) ↦ absurd (subst IsTold h.0 told)
-      | inr (inr h) ↦ absurd (subst IsTold h told)
-    ],
-  );
-  write = λ same. elim prints.ends [
-    | inl h ↦ absurd (subst IsTold (sym h ∙ same) fair.told)
-    | inr (inl h) ↦ h.1
-    | inr (inr h) ↦ absurd (let one_end = sym h ∙ same in cc)
-  ];
-  no_other = elim prints.ends [
-    | inl h ↦ subst (IsOneOf (HasTextFault p)) (sym h) fair.has
-    | inr (inl h) ↦ subst (IsOneOf (HasTextFault p)) (sym h.0) tt
-    | inr (inr h) ↦ subst (IsOneOf (HasTextFault p)) (sym h) tt
-  ];
-  nothing = λ is. elim prints.ends [
-    | inl h ↦ prints.nothing (fair.empty (subst (PrintsNothing (AProgram p [])) h is))
-    | inr (inl h) ↦ absurd (subst (PrintsNothing (AProgram p [])) h.0 is)
-    | inr (inr h) ↦ absurd (subst (PrintsNothing (AProgram p [])) h is)
-  ];
+-- ---- texts
+
+-- an end that is told is none of the outside
+outside_untold : (v : Verdict) (end : Ending) (ds ds' : List State) (out out' : SinkState) → IsTold end → IsOutside ⊥ v end ds ds' out out' → ⊥
+outside_untold v end ds ds' out out' told (reading is rose) = subst IsTold is told
+outside_untold v end ds ds' out out' told (writing is rose page) = subst IsTold is told
+outside_untold v end ds ds' out out' told (drifting name is rose) = subst IsTold is told
+outside_untold v end ds ds' out out' told (wanting is) = subst IsTold is told
+
+-- of a verdict that ends as an end that is not told nothing is printed
+untold_empty : (p : Purpose) (v : Verdict) (end : Ending) → Fair p v → (IsTold end → ⊥) → v.ending ≡ end → v.page ≡ []
+untold_empty p v None fair untold is = absurd (untold tt)
+untold_empty p v (Some fault.Read) fair untold is = fair.empty (subst (PrintsNothing (AProgram p [] None)) (sym is) tt)
+untold_empty p v (Some fault.Write) fair untold is = absurd (subst IsOfVerdict is fair.told)
+untold_empty p v (Some (fault.Changed name)) fair untold is = absurd (subst IsOfVerdict is fair.told)
+untold_empty p v (Some fault.NoMemory) fair untold is = absurd (subst IsOfVerdict is fair.told)
+untold_empty p v (Some fault.Usage) fair untold is = absurd (untold tt)
+untold_empty p v (Some (fault.Text w byte)) fair untold is = absurd (untold tt)
+untold_empty p v (Some (fault.IllTyped decl)) fair untold is = absurd (untold tt)
+untold_empty p v (Some (fault.Catalogue byte)) fair untold is = absurd (untold tt)
+untold_empty p v (Some (fault.NameTwice name)) fair untold is = absurd (untold tt)
+untold_empty p v (Some (fault.NoDriver name)) fair untold is = absurd (untold tt)
+untold_empty p v (Some (fault.Unsuited name)) fair untold is = absurd (untold tt)
+untold_empty p v (Some (fault.BadFile place)) fair untold is = absurd (untold tt)
+untold_empty p v (Some (fault.BadSource name place)) fair untold is = absurd (untold tt)
+untold_empty p v (Some fault.Overflow) fair untold is = absurd (untold tt)
+untold_empty p v (Some fault.ProgramBytes) fair untold is = absurd (untold tt)
+untold_empty p v (Some fault.CatalogueBytes) fair untold is = absurd (untold tt)
+untold_empty p v (Some fault.FileBytes) fair untold is = absurd (untold tt)
+untold_empty p v (Some fault.Nesting) fair untold is = absurd (untold tt)
+untold_empty p v (Some fault.ItemNesting) fair untold is = absurd (untold tt)
+untold_empty p v (Some fault.TermNodes) fair untold is = absurd (untold tt)
+untold_empty p v (Some fault.TermDepth) fair untold is = absurd (untold tt)
+untold_empty p v (Some fault.SchemeBytes) fair untold is = absurd (untold tt)
+
+-- a verdict on the text was printed, and no source was asked
+does_text : (ss : List Source) (p : Purpose) (text : List ℕ) (v : Verdict) (end : Ending) (ds : List State) (out out' : SinkState)
+    → IsText (kinds_of ds) ss p text v → IsOneOf IsPlain v.ending → Prints v end out out' → DoesText ss p text end ds ds out out'
+does_text ss p text v end ds out out' of plain prints =
+    let fair = fair_text (kinds_of ds) ss p text v of in
+    let plain_too = plain_end v end out out' prints plain in record {
+      told = λ w is. (v, text_alike (kinds_of ds) ss p text w v is of, follows_prints v end out out' prints ds ds);
+      meant = λ told needs. (
+        v,
+        of,
+        elim prints.ends [
+          | inl h ↦ sym h
+          | inr (inl h) ↦ absurd (subst IsTold h.0 told)
+          | inr (inr h) ↦ absurd (subst IsTold h told)
+        ],
+      );
+      read = λ is. absurd (plain_no end fault.Read plain_too is (λ h. h));
+      write = wrote v end out out' prints p fair;
+      unread = λ f is un. absurd (plain_no end f plain_too is (λ h. unread_plain f h un));
+      changed = λ name is. absurd (plain_no end (fault.Changed name) plain_too is (λ h. h));
+      no_other = has_fault v end out out' prints p fair;
+      nothing = printed_nothing v end out out' prints p fair;
+      drivers = keeps_same (IsMentionedIn ss text) ds;
+      still = λ is. refl;
+    }
+
+text_wanted : (ss : List Source) (p : Purpose) (text : List ℕ) (ds : List State) (out : SinkState) → DoesText ss p text (Some fault.NoMemory) ds ds out out
+text_wanted ss p text ds out = record {
+  told = λ v of. let fair = fair_text (kinds_of ds) ss p text v of in (v, one refl, follows_outside v (Some fault.NoMemory) ds ds out out p fair refl (untold_empty p v (Some fault.NoMemory) fair (λ is. is)) (wanting refl));
+  meant = λ is needs. absurd is;
+  read = λ is. absurd cc;
+  write = λ is. absurd cc;
+  unread = λ f is un. absurd (plain_no (Some fault.NoMemory) f tt is (λ h. unread_plain f h un));
+  changed = λ name is. absurd cc;
+  no_other = tt;
+  nothing = λ is. refl;
+  drivers = keeps_same (IsMentionedIn ss text) ds;
+  still = λ is. refl;
 }
 
--- nothing was printed, and a fault is told
-does_refuse : (p : Purpose) (text : List ℕ) (f : Fault) (out : SinkState) → IsText p text (refused f) → DoesText p text (Some f) out out
-does_refuse p text f out of = does_text p text (refused f) (Some f) out out of (prints_refused f out)
+pub unread : (ss : List Source) (p : Purpose) (text : List ℕ) (f : Fault) (ds : List State) (out : SinkState) → Reads (names_of ss) text (Err f) → DoesText ss p text (Some f) ds ds out out
+unread ss p text f ds out (inl is) = subst (λ g. DoesText ss p text (Some g) ds ds out out) (sym is) (text_wanted ss p text ds out)
+unread ss p text f ds out (inr of) = does_text ss p text (refused f) (Some f) ds out out (inl (f, of, refl)) (any_fault IsPlain (λ w byte. tt) tt (names_of ss) text f of) (prints_refused f out)
 
-pub unread : (p : Purpose) (text : List ℕ) (f : Fault) (out : SinkState) → Reads text (Err f) → DoesText p text (Some f) out out
-unread p text f out (inl is) = subst (λ g. DoesText p text (Some g) out out) (sym is) (text_wanted p text out)
-unread p text f out (inr of) = does_refuse p text f out (inl (f, of, refl))
+-- what was done with a program in scope was done with its text
+module _ (ss : List Source) (p : Purpose) (text : List ℕ) (end : Ending) (ds ds' : List State) (out out' : SinkState) (q : Program) (s : Scoped) (whole : IsProgramOf (names_of ss) text q) (resolves : Resolves q (names_of ss) s)
+    (does : DoneWith ss (is_marked s) p (definitions (names_of ss) q) (last (names_of ss) q) end ds ds' out out') where
+  marks_told : AreMarks q (names_of ss) (is_marked s)
+  marks_told = resolves.marks
 
-pub checked : (text : List ℕ) (s : Scoped) (end : Ending) (out out' : SinkState) → Reads text (Ok s) → Prints (well (codes "ok\n")) end out out' → DoesText purpose.Check text end out out'
-checked text s end out out' reads prints = does_text purpose.Check text (well (codes "ok\n")) end out out' (inr (reads.0, reads.1, refl)) prints
+  as_text : (v : Verdict) → IsDone (kinds_of ds) ss (is_marked s) p (definitions (names_of ss) q) (last (names_of ss) q) v → IsText (kinds_of ds) ss p text v
+  as_text v of = inr (q, is_marked s, whole, marks_told, of)
+
+  no_verdict : ((others : ℕ → Bool) → ((i : ℕ) → i < length ss → is_marked s i ≡ others i) → (v : Verdict) → IsDone (kinds_of ds) ss others p (definitions (names_of ss) q) (last (names_of ss) q) v → ⊥) → (v : Verdict) → IsText (kinds_of ds) ss p text v → ⊥
+  no_verdict none v (inl (f, of, is)) = no_fault (names_of ss) text f q whole of
+  no_verdict none v (inr (r, others, also, again, is)) =
+      let same : r ≡ q = one_program (names_of ss) text r q also whole in
+      let again_too : AreMarks q (names_of ss) others = subst (λ x. AreMarks x (names_of ss) others) same again in
+      none others (marks_one q ss (is_marked s) others marks_told again_too) v (subst (λ x. IsDone (kinds_of ds) ss others p (definitions (names_of ss) x) (last (names_of ss) x) v) same is)
+
+  named : (name : Name) → IsNamed ss (is_marked s) name → IsMentionedIn ss text name
+  named name (i, at, marked) = (q, whole, i, at, (resolves.marks i (get_within (names_of ss) i name at)).0 (subst IsTrue (sym marked) tt))
+
+  told_by : Ends (λ others. IsDone (kinds_of ds) ss others p (definitions (names_of ss) q) (last (names_of ss) q)) ss (is_marked s) p end ds ds' out out' → (v : Verdict) → IsText (kinds_of ds) ss p text v → (w : Verdict) × Alike v w × Follows ⊥ w end ds ds' out out'
+  told_by (before same none outside) v of = let fair = fair_text (kinds_of ds) ss p text v of in (v, one refl, follows_outside v end ds ds' out out' p fair same (untold_empty p v end fair none) (outside v))
+  told_by (followed w is follows) v of = (w, text_alike (kinds_of ds) ss p text v w of (as_text w is), follows)
+  told_by (untold none all needs) v of = absurd (no_verdict none v of)
+
+  meant_by : Ends (λ others. IsDone (kinds_of ds) ss others p (definitions (names_of ss) q) (last (names_of ss) q)) ss (is_marked s) p end ds ds' out out' → IsTold end → (NeedsDrivers p end → All IsToldBy ds) → (v : Verdict) × IsText (kinds_of ds) ss p text v × (v.ending ≡ end)
+  meant_by (before same none outside) told needs = absurd (none told)
+  meant_by (followed w is follows) told needs = (w, as_text w is, elim follows.ends [ inl h ↦ sym h | inr h ↦ absurd (outside_untold w end ds ds' out out' told h) ])
+  meant_by (untold none all must) told needs = absurd (all (needs (must told)))
+
+  pub program_done : DoesText ss p text end ds ds' out out'
+  program_done = record {
+    told = told_by does.ends;
+    meant = meant_by does.ends;
+    read = does.read;
+    write = does.write;
+    unread = does.unread;
+    changed = does.changed;
+    no_other = does.no_other;
+    nothing = does.nothing;
+    drivers = keeps_wider (IsNamed ss (is_marked s)) (IsMentionedIn ss text) ds ds' named does.drivers;
+    still = does.still;
+  }
 
 -- ---- the types of a program
 
 after_none : (size : Option Fault) (Goes : Verdict → Type 0) (v : Verdict) → size ≡ None → Goes v → AfterSizes size Goes v
 after_none size Goes v none goes = subst (λ s. AfterSizes s Goes v) (sym none) goes
 
-typing_fault : (ds : Decls) (e : Exp) (f : Fault) (Goes : Verdict → Type 0) → IsTypingFault ds e f → IsSized ds e (λ w. IsUntyped ds e w ⊎ Goes w) (refused f)
-typing_fault ds e f Goes (inl past) = subst (λ s. AfterSizes s (λ w. IsUntyped ds e w ⊎ Goes w) (refused f)) (sym past) refl
-typing_fault ds e f Goes (inr (fit, n, ill, is)) = after_none _ _ (refused f) fit (inl (n, ill, ap refused is))
+typing_fault : (grounds : List (Name × Ground)) (program : Decls) (e : Exp) (f : Fault) (Goes : Verdict → Type 0) → IsTypingFault grounds program e f → IsSized program e (λ w. IsUntyped grounds program e w ⊎ Goes w) (refused f)
+typing_fault grounds program e f Goes (inl past) = subst (λ s. AfterSizes s (λ w. IsUntyped grounds program e w ⊎ Goes w) (refused f)) (sym past) refl
+typing_fault grounds program e f Goes (inr (fit, n, ill, is)) = after_none _ _ (refused f) fit (inl (n, ill, ap refused is))
+
+plain_typing : (grounds : List (Name × Ground)) (program : Decls) (e : Exp) (f : Fault) → IsTypingFault grounds program e f → IsPlain f
+plain_typing grounds program e f (inl past) = sized_faults IsPlain tt tt (declared program e []) f past
+plain_typing grounds program e f (inr (fit, n, ill, is)) = subst IsPlain (sym is) tt
 
 -- the trees of a program are those that its names were resolved in
-module _ (P : Decls → Exp → Type 0) (p : Program) (s : Scoped) (resolves : Resolves p [] s) where
-  pub as_resolved : P (decls_of s.program.defs) (view s.program.last) → P (definitions p) (last p)
-  as_resolved h = subst (λ ds. P ds (last p)) resolves.defs (subst (P (decls_of s.program.defs)) resolves.last h)
+module _ (P : Decls → Exp → Type 0) (names : List Name) (p : Program) (s : Scoped) (resolves : Resolves p names s) where
+  pub as_resolved : P (decls_of s.program.defs) (view s.program.last) → P (definitions names p) (last names p)
+  as_resolved h = subst (λ ds. P ds (last names p)) resolves.defs (subst (P (decls_of s.program.defs)) resolves.last h)
 
--- what was done with a program in scope was done with its text
-pub done_program : (p : Purpose) (text : List ℕ) (s : Scoped) (end : Ending) (out out' : SinkState) → Reads text (Ok s)
-    → DoneWith p (decls_of s.program.defs) (view s.program.last) end out out' → DoesText p text end out out'
-done_program p text s end out out' (q, whole, resolves) does = elim (as_resolved (λ ds e. DoneWith p ds e end out out') q s resolves does) [
-  | inl h ↦ subst (λ x. DoesText p text x out out') (sym h.0) (subst (DoesText p text (Some fault.NoMemory) out) (sym h.1) (text_wanted p text out))
-  | inr h ↦ does_text p text h.0 end out out' (inr (q, whole, h.1)) h.2
-]
+pub done_program : (ss : List Source) (p : Purpose) (text : List ℕ) (s : Scoped) (end : Ending) (ds ds' : List State) (out out' : SinkState) → Reads (names_of ss) text (Ok s)
+    → DoneWith ss (is_marked s) p (decls_of s.program.defs) (view s.program.last) end ds ds' out out' → DoesText ss p text end ds ds' out out'
+done_program ss p text s end ds ds' out out' (q, whole, resolves) does =
+    program_done ss p text end ds ds' out out' q s whole resolves (as_resolved (λ program e. DoneWith ss (is_marked s) p program e end ds ds' out out') (names_of ss) q s resolves does)
 
-module _ (ds : Decls) (e : Exp) where
-  pub untyped_types : (f : Fault) (out : SinkState) → Types ds e (Err f) → DoneWith purpose.Types ds e (Some f) out out
-  untyped_types f out (inl is) = inl (ap Some is, refl)
-  untyped_types f out (inr of) = inr (refused f, typing_fault ds e f (IsListing ds e) of, prints_refused f out)
+pub checked : (ss : List Source) (text : List ℕ) (s : Scoped) (end : Ending) (ds : List State) (out out' : SinkState) → Reads (names_of ss) text (Ok s) → Prints (well (codes "ok\n")) end out out' → DoesText ss purpose.Check text end ds ds out out'
+checked ss text s end ds out out' (q, whole, resolves) prints = does_text ss purpose.Check text (well (codes "ok\n")) end ds out out' (inr (q, is_marked s, whole, resolves.marks, refl)) tt prints
 
-  pub untyped_run : (f : Fault) (out : SinkState) → Types ds e (Err f) → DoneWith purpose.Run ds e (Some f) out out
-  untyped_run f out (inl is) = inl (ap Some is, refl)
-  untyped_run f out (inr of) = inr (refused f, typing_fault ds e f (IsMeant ds e) of, prints_refused f out)
+module _ (ss : List Source) (marks : ℕ → Bool) (program : Decls) (e : Exp) (ds : List State) where
+  pub untyped_types : (f : Fault) (out : SinkState) → Types (grounds_of ss) program e (Err f) → DoneWith ss marks purpose.Types program e (Some f) ds ds out out
+  untyped_types f out (inl is) = subst (λ g. DoneWith ss marks purpose.Types program e (Some g) ds ds out out) (sym is) (wanted_done (λ others. IsDone (kinds_of ds) ss others purpose.Types program e) ss marks purpose.Types ds out)
+  untyped_types f out (inr of) = printed_done ss marks purpose.Types program e (refused f) (Some f) ds out out (typing_fault (grounds_of ss) program e f (IsListing (grounds_of ss) program e) of) (plain_typing (grounds_of ss) program e f of) (prints_refused f out)
 
-  pub listed : (typed : Typed) (end : Ending) (out out' : SinkState) → IsTyped ds e typed → Prints (scheme_lines (named_schemes ds typed)) end out out' → DoneWith purpose.Types ds e end out out'
+  pub untyped_run : (first : Option ℕ) (f : Fault) (out : SinkState) → Types (grounds_of ss) program e (Err f) → DoneWith ss marks (purpose.Run first) program e (Some f) ds ds out out
+  untyped_run first f out (inl is) = subst (λ g. DoneWith ss marks (purpose.Run first) program e (Some g) ds ds out out) (sym is) (wanted_done (λ others. IsDone (kinds_of ds) ss others (purpose.Run first) program e) ss marks (purpose.Run first) ds out)
+  untyped_run first f out (inr of) = printed_done ss marks (purpose.Run first) program e (refused f) (Some f) ds out out (typing_fault (grounds_of ss) program e f (λ w. HasTyping program e (grounds_of ss) × IsMeant (kinds_of ds) ss marks first program e w) of) (plain_typing (grounds_of ss) program e f of) (prints_refused f out)
+
+  pub listed : (typed : Typed) (end : Ending) (out out' : SinkState) → IsTyped (grounds_of ss) program e typed → Prints (scheme_lines (named_schemes program typed)) end out out' → DoneWith ss marks purpose.Types program e end ds ds out out'
   listed typed end out out' types prints =
-      inr (scheme_lines (named_schemes ds typed), after_none (size_fault (declared ds e [])) (λ w. IsUntyped ds e w ⊎ IsListing ds e w) (scheme_lines (named_schemes ds typed)) types.fits (inr (typed, types.infers, refl)), prints)
+      printed_done ss marks purpose.Types program e (scheme_lines (named_schemes program typed)) end ds out out'
+      (after_none (size_fault (declared program e [])) (λ w. IsUntyped (grounds_of ss) program e w ⊎ IsListing (grounds_of ss) program e w) (scheme_lines (named_schemes program typed)) types.fits (inr (typed, types.infers, refl)))
+      (plain_lines (named_schemes program typed)) prints
 
-  pub answered : (typed : Typed) (end : Ending) (out out' : SinkState) → IsTyped ds e typed → Answers ds e end out out' → DoneWith purpose.Run ds e end out out'
-  answered typed end out out' types (v, told, prints) =
-      inr (v, after_none (size_fault (declared ds e [])) (λ w. IsUntyped ds e w ⊎ IsMeant ds e w) v types.fits (inr (types.infers.has_typing, told)), prints)
+  -- a program that has a typing comes to what it means
+  pub answered : (first : Option ℕ) (typed : Typed) (end : Ending) (ds' : List State) (out out' : SinkState) → IsTyped (grounds_of ss) program e typed → DoneMeaning ss marks first program e end ds ds' out out' → DoneWith ss marks (purpose.Run first) program e end ds ds' out out'
+  answered first typed end ds' out out' types does = record {
+    ends = ends_typed does.ends;
+    read = does.read;
+    write = does.write;
+    unread = does.unread;
+    changed = does.changed;
+    no_other = does.no_other;
+    nothing = does.nothing;
+    drivers = does.drivers;
+    still = does.still;
+  }
+    where
+      IsRunning : (ℕ → Bool) → Verdict → Type 0
+      IsRunning others w = IsUntyped (grounds_of ss) program e w ⊎ (HasTyping program e (grounds_of ss) × IsMeant (kinds_of ds) ss others first program e w)
 
+      not_meant : (others : ℕ → Bool) (v : Verdict) → (IsMeant (kinds_of ds) ss others first program e v → ⊥) → IsDone (kinds_of ds) ss others (purpose.Run first) program e v → ⊥
+      not_meant others v none of = elim (subst (λ s. AfterSizes s (IsRunning others) v) types.fits of) [ inl h ↦ h.1.none types.infers.has_typing | inr h ↦ none h.1 ]
+
+      ends_typed : Ends (λ others. IsMeant (kinds_of ds) ss others first program e) ss marks (purpose.Run first) end ds ds' out out' → Ends (λ others. IsDone (kinds_of ds) ss others (purpose.Run first) program e) ss marks (purpose.Run first) end ds ds' out out'
+      ends_typed (before same none outside) = before same none outside
+      ends_typed (followed v of follows) = followed v (after_none (size_fault (declared program e [])) (IsRunning marks) v types.fits (inr (types.infers.has_typing, of))) follows
+      ends_typed (untold none all needs) = untold (λ others same v. not_meant others v (none others same v)) all needs
+
+module _ (grounds : List (Name × Ground)) (program : Decls) (e : Exp) where
   -- ---- what inferring types answers
 
-  pub sized_types : (result : Result Typed Fault) → Tells None (declared ds e []) → TypesOfAny ds e result → Types ds e result
-  sized_types (Ok typed) tells infers = record { fits = told_size None (declared ds e []) tells; infers = infers }
+  pub sized_types : (result : Result Typed Fault) → Tells None (declared program e []) → TypesOfAny grounds program e result → Types grounds program e result
+  sized_types (Ok typed) tells infers = record { fits = told_size None (declared program e []) tells; infers = infers }
   sized_types (Err f) tells (inl is) = inl is
-  sized_types (Err f) tells (inr (n, ill, is)) = inr (inr (told_size None (declared ds e []) tells, n, ill, is))
+  sized_types (Err f) tells (inr (n, ill, is)) = inr (inr (told_size None (declared program e []) tells, n, ill, is))
 
-  pub past_types : (found : SizeBreach) → Tells (Some found) (declared ds e []) → Types ds e (Err (breach_fault found))
-  past_types found tells = inr (inl (told_size (Some found) (declared ds e []) tells))
+  pub past_types : (found : SizeBreach) → Tells (Some found) (declared program e []) → Types grounds program e (Err (breach_fault found))
+  past_types found tells = inr (inl (told_size (Some found) (declared program e []) tells))

@@ -3,7 +3,12 @@ pub mod PutLemmas
 pub mod PageLemmas
 pub mod ReadLemmas
 pub mod LineLemmas
+pub mod SizeLemmas
+pub mod DriverLemmas
+pub mod AlikeLemmas
+pub mod FairLemmas
 pub mod DoneLemmas
+pub mod InputLemmas
 pub mod AnswerLemmas
 pub mod ProgramLemmas
 pub mod ShowLemmas

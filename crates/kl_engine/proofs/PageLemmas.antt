@@ -1,5 +1,5 @@
 -- What is printed of a verdict.
-use Rattle.std.proofs.Common.{◌≢◌, inl, inr, ℕ, List, [], ◌++◌, codes, length, Some, None, Ok, Err, refl, sym, ap, subst, arith, length-append}
+use Rattle.std.proofs.Common.{◌≡◌, ◌≢◌, inl, inr, ℕ, Bool, true, false, if◌then◌else◌, Option, List, [], ◌++◌, codes, length, Some, None, Ok, Err, refl, sym, ap, subst, arith, length-append}
 use Rattle.kl_outside.specs.Sinks.{SinkState, WritesWhole}
 use Rattle.kl_outside.specs.declared.stop.Stop.{Stop}
 use Rattle.kl_outside.specs.declared.stop.Stop.TheVariants as stop
@@ -8,9 +8,11 @@ use Rattle.kl_exchange.specs.Printing.{as_stop}
 use Rattle.kl_exchange.specs.declared.error.PrintError.{PrintError}
 use Rattle.kl_exchange.specs.declared.error.PrintError.TheVariants as print
 use Rattle.kl_value.specs.declared.value.Value.{Value}
+use Rattle.kl_value.specs.declared.value.Value.TheVariants as value
 use Rattle.kl_engine.specs.Answering.{Prints, IsTold}
 use Rattle.kl_engine.specs.Showing.{write_fault}
-use Rattle.kl_engine.specs.Verdict.{Verdict, well, refused, list_front, cut_list}
+use Rattle.kl_engine.specs.Verdict.{Verdict, well, refused, list_front, overflowing, cut_list, cut, first_of, suffice, value_page}
+use Rattle.kl_engine.specs.Faults.{Ending}
 use Rattle.kl_engine.specs.declared.fault.Fault.{Fault}
 use Rattle.kl_engine.specs.declared.fault.Fault.TheVariants as fault
 
@@ -46,10 +48,10 @@ module _ (vs : List Value) (out out' : SinkState) where
   front_full : list_front vs ≢ []
   front_full is = cc
 
-  pub cut_took : {T : Type 0} (done : T) → WritesWhole (list_front vs) (Ok done) out out' → Prints (cut_list vs) (Some fault.Overflow) out out'
+  pub cut_took : {T : Type 0} (done : T) → WritesWhole (list_front vs) (Ok done) out out' → Prints (overflowing vs) (Some fault.Overflow) out out'
   cut_took done writes = record { ends = inl refl; whole = λ is. writes.took; part = writes.part; nothing = λ none. absurd (front_full none) }
 
-  pub cut_stopped : (e : PrintError) → WritesWhole {T = Unit {0}} (list_front vs) (as_stop (Err e)) out out' → Prints (cut_list vs) (Some (write_fault e)) out out'
+  pub cut_stopped : (e : PrintError) → WritesWhole {T = Unit {0}} (list_front vs) (as_stop (Err e)) out out' → Prints (overflowing vs) (Some (write_fault e)) out out'
   cut_stopped print.Failed writes = record { ends = inr (inl (refl, writes.cause.failed refl, front_full)); whole = λ is. absurd cc; part = writes.part; nothing = λ none. absurd (front_full none) }
   cut_stopped print.NoMemory writes = record { ends = inr (inr refl); whole = λ is. absurd cc; part = writes.part; nothing = λ none. absurd (front_full none) }
 
@@ -65,3 +67,10 @@ prints_wanted v out told = record {
   part = took_none v.page out out refl;
   nothing = λ none. refl;
 }
+
+-- items of a list that are all that are wanted, and those that are not
+pub printed_enough : (first : Option ℕ) (vs : List Value) (end : Ending) (out out' : SinkState) → suffice first vs ≡ true → Prints (value_page (cut first (value.List vs))) end out out' → Prints (cut_list first vs) end out out'
+printed_enough first vs end out out' is prints = subst (λ b. Prints (if b then value_page (value.List (first_of first vs)) else overflowing vs) end out out') (sym is) prints
+
+pub printed_short : (first : Option ℕ) (vs : List Value) (end : Ending) (out out' : SinkState) → suffice first vs ≡ false → Prints (overflowing vs) end out out' → Prints (cut_list first vs) end out out'
+printed_short first vs end out out' is prints = subst (λ b. Prints (if b then value_page (value.List (first_of first vs)) else overflowing vs) end out out') (sym is) prints

@@ -1,156 +1,226 @@
 -- What is done with a program, by what is done with its text.
-use Rattle.std.proofs.Common.{◌≡◌, inl, inr, ℕ, List, length, Option, Some, None, Ok, Err, refl, sym, ◌∙◌, ap, subst, arith}
+use Rattle.std.proofs.Common.{◌≡◌, ◌⊎◌, inl, inr, ℕ, List, [], length, Option, Some, None, Ok, Err, refl, sym, ◌∙◌, ap, ap₂, subst, arith, ⊤}
+use Rattle.std.specs.Prelude.{All}
 use Rattle.std.specs.Io.KnownBytes.{append_known}
-use Rattle.kl_outside.specs.Files.{FilesState, IsMissing, ReadsWhole}
+use Rattle.kl_outside.specs.Counts.{Rose}
+use Rattle.kl_outside.specs.Files.{FilesState}
 use Rattle.kl_outside.specs.Sinks.{SinkState}
-use Rattle.kl_outside.specs.declared.files.Whole.{Whole}
-use Rattle.kl_outside.specs.declared.files.Whole.TheVariants as whole
-use Rattle.kl_outside.specs.declared.stop.Stop.TheVariants as stop
-use Rattle.kl_outside.proofs.FileLemmas.{was_there}
 use Rattle.kl_outside.proofs.SinkLemmas.{took_none, append_known-nil}
-use Rattle.kl_engine.specs.Answering.{Alike, one, nested, unnested, renamed, retyped, Follows, Prints, DoesText, Does, IsTold, IsOneOf, HasTextFault, HasFault}
+use Rattle.kl_outcome.specs.Outcome.{Name}
+use Rattle.kl_ask.specs.Driver.{DriverKind, State, IsTold as IsToldBy}
+use Rattle.kl_sources.specs.declared.source.Source.{Source}
+use Rattle.kl_engine.specs.Answering.{kinds_of, Alike, one, nested, unnested, renamed, retyped, IsOutside, reading, writing, drifting, wanting, Follows, Prints, DoesText, Does, IsTold, IsRun, IsOneOf, HasTextFault, HasFault, IsMentionedIn, IsMentioned, PrintsNothing, IsUnread, LacksFile, IsStored, SomeRose}
 use Rattle.kl_engine.specs.Commands.{Program}
 use Rattle.kl_engine.specs.Faults.{Ending}
-use Rattle.kl_engine.specs.Verdict.{Verdict, refused, most_bytes, IsText, IsProgram, IsFile}
+use Rattle.kl_engine.specs.Inputs.{IsInputsEnd, ReadsInputs}
+use Rattle.kl_engine.specs.Verdict.{Verdict, refused, most_bytes, IsText, IsInputsFault, HasInputs, IsProgram}
+use Rattle.kl_engine.specs.declared.fault.Fault.{Fault}
 use Rattle.kl_engine.specs.declared.fault.Fault.TheVariants as fault
+use Rattle.kl_engine.specs.declared.inputs.Inputs.{Inputs}
 use Rattle.kl_engine.specs.declared.top.Purpose.{Purpose}
-use Rattle.kl_engine.specs.declared.top.Purpose.TheVariants as purpose
-use Rattle.kl_engine.proofs.DoneLemmas.{text_told, listing_told}
+use Rattle.kl_engine.proofs.DriverLemmas.{keeps_same, keeps_wider}
+use Rattle.kl_engine.proofs.FairLemmas.{IsOfVerdict, fair_text}
+use Rattle.kl_engine.proofs.InputLemmas.{inputs_one, inputs_well, inputs_fault_one, inputs_verdict}
 
--- nor is one that is like it
-alike_told : (v w : Verdict) → Alike v w → IsTold v.ending → IsTold w.ending
-alike_told v w (one same) told = subst (λ u. IsTold u.ending) same told
-alike_told v w (nested byte this that) told = subst (λ u. IsTold u.ending) (sym that) tt
-alike_told v w (unnested byte this that) told = subst (λ u. IsTold u.ending) (sym that) tt
-alike_told v w (renamed x y byte this that same) told = subst (λ u. IsTold u.ending) (sym that) tt
-alike_told v w (retyped ds e this that) told = listing_told ds e w that
+-- a fault of the outside, where a file failed too
+outside_also : (FilesRose : Type 0) (v : Verdict) (end : Ending) (ds ds' : List State) (out out' : SinkState) → IsOutside ⊥ v end ds ds' out out' → IsOutside FilesRose v end ds ds' out out'
+outside_also FilesRose v end ds ds' out out' (reading is (inl none)) = absurd none
+outside_also FilesRose v end ds ds' out out' (reading is (inr rose)) = reading is (inr rose)
+outside_also FilesRose v end ds ds' out out' (writing is rose page) = writing is rose page
+outside_also FilesRose v end ds ds' out out' (drifting name is rose) = drifting name is rose
+outside_also FilesRose v end ds ds' out out' (wanting is) = wanting is
 
--- no verdict on a program's bytes is a fault of the outside
-program_told : (p : Purpose) (bytes : List ℕ) (v : Verdict) → IsProgram p bytes v → IsTold v.ending
-program_told p bytes v of = elim of [ inl h ↦ subst (λ w. IsTold w.ending) (sym h.1) tt | inr h ↦ text_told p bytes v h.1 ]
+follows_also : (FilesRose : Type 0) (v : Verdict) (end : Ending) (ds ds' : List State) (out out' : SinkState) → Follows ⊥ v end ds ds' out out' → Follows FilesRose v end ds ds' out out'
+follows_also FilesRose v end ds ds' out out' follows = record {
+  ends = elim follows.ends [ inl h ↦ inl h | inr h ↦ inr (outside_also FilesRose v end ds ds' out out' h) ];
+  whole = follows.whole;
+  part = follows.part;
+}
 
 -- A text's fault is a program's.
-of_program : (p : Purpose) (path : List ℕ) (end : Ending) → IsOneOf (HasTextFault p) end → IsOneOf (HasFault (Program p path)) end
-of_program p path None has = tt
-of_program p path (Some fault.Usage) has = has
-of_program p path (Some (fault.Text w byte)) has = has
-of_program p path (Some (fault.IllTyped decl)) has = has
-of_program p path (Some (fault.BadFile place)) has = has
-of_program p path (Some fault.Overflow) has = has
-of_program p path (Some fault.Read) has = tt
-of_program p path (Some fault.Write) has = has
-of_program p path (Some fault.NoMemory) has = has
-of_program p path (Some fault.ProgramBytes) has = tt
-of_program p path (Some fault.FileBytes) has = has
-of_program p path (Some fault.Nesting) has = has
-of_program p path (Some fault.ItemNesting) has = has
-of_program p path (Some fault.TermNodes) has = has
-of_program p path (Some fault.TermDepth) has = has
-of_program p path (Some fault.SchemeBytes) has = has
-
-none_reads : (p : Purpose) (end : Ending) → IsOneOf (HasTextFault p) end → end ≡ Some fault.Read → ⊥
-none_reads p end has is = subst (IsOneOf (HasTextFault p)) is has
+of_program : (p : Purpose) (path : List ℕ) (catalogue : Option (List ℕ)) (end : Ending) → IsOneOf (HasTextFault p) end → IsOneOf (HasFault (Program p path catalogue)) end
+of_program p path catalogue None has = tt
+of_program p path catalogue (Some fault.Usage) has = has
+of_program p path catalogue (Some (fault.Text w byte)) has = has
+of_program p path catalogue (Some (fault.IllTyped decl)) has = has
+of_program p path catalogue (Some (fault.Catalogue byte)) has = tt
+of_program p path catalogue (Some (fault.NameTwice name)) has = tt
+of_program p path catalogue (Some (fault.NoDriver name)) has = tt
+of_program p path catalogue (Some (fault.Unsuited name)) has = tt
+of_program p path catalogue (Some (fault.BadFile place)) has = has
+of_program p path catalogue (Some (fault.BadSource name place)) has = has
+of_program p path catalogue (Some fault.Overflow) has = has
+of_program p path catalogue (Some fault.Read) has = tt
+of_program p path catalogue (Some fault.Write) has = has
+of_program p path catalogue (Some fault.NoMemory) has = has
+of_program p path catalogue (Some (fault.Changed name)) has = has
+of_program p path catalogue (Some fault.ProgramBytes) has = tt
+of_program p path catalogue (Some fault.CatalogueBytes) has = tt
+of_program p path catalogue (Some fault.FileBytes) has = has
+of_program p path catalogue (Some fault.Nesting) has = has
+of_program p path catalogue (Some fault.ItemNesting) has = has
+of_program p path catalogue (Some fault.TermNodes) has = has
+of_program p path catalogue (Some fault.TermDepth) has = has
+of_program p path catalogue (Some fault.SchemeBytes) has = has
 
 none_misuses : (p : Purpose) (end : Ending) → IsOneOf (HasTextFault p) end → end ≡ Some fault.Usage → ⊥
 none_misuses p end has is = subst (IsOneOf (HasTextFault p)) is has
 
-pub as_purpose : (p q : Purpose) (text : List ℕ) (end : Ending) (out out' : SinkState) → p ≡ q → DoesText q text end out out' → DoesText p text end out out'
-as_purpose p q text end out out' same does = subst (λ r. DoesText r text end out out') (sym same) does
-
-module _ (p : Purpose) (path : List ℕ) (f f' : FilesState) where
-  was_read : {w : Whole} → ReadsWhole path most_bytes (Ok w) f f' → IsMissing f path → ⊥
-  was_read reads missing = let h = (reads.missing missing).0 in cc
-
-  pub program_done : (text : List ℕ) (end : Ending) (out out' : SinkState) → ReadsWhole path most_bytes (Ok (whole.Bytes text)) f f' → DoesText p text end out out' → Does (Program p path) end f f' out out'
-  program_done text end out out' reads does = record {
-    told = λ told is v of.
-        let there = was_there path most_bytes (whole.Bytes text) f f' told reads is in
-        let of' : IsProgram p there.0 v = subst (λ o. IsFile (IsProgram p) o v) there.1 of in
-        let found = does.told v (elim of' [ inl h ↦ absurd (let short = there.2.1 in let same = ap length there.2.0 in omega (arith, h.0)) | inr h ↦ subst (λ bs. IsText p bs v) (sym there.2.0) h.1 ]) in
-        let prints : Prints found.0 end out out' = found.2 in (
-          found.0,
-          found.1,
-          record {
-            ends = elim prints.ends [ inl h ↦ inl h | inr (inl h) ↦ inr (inr (inl h)) | inr (inr h) ↦ inr (inr (inr h)) ];
-            whole = prints.whole;
-            part = prints.part;
-            missing = λ same. absurd (subst (λ w. IsTold w.ending) same (alike_told v found.0 found.1 (program_told p there.0 v of')));
-          },
-        );
-    meant = λ told is well.
-        let there = was_there path most_bytes (whole.Bytes text) f f' told reads is in
-        let meant = does.meant well in
-        (meant.0, subst (λ o. IsFile (IsProgram p) o meant.0) (sym there.1) (inr (there.2.1, subst (λ bs. IsText p bs meant.0) there.2.0 meant.1)), meant.2);
+module _ (p : Purpose) (path : List ℕ) (catalogue : Option (List ℕ)) (f f' : FilesState) where
+  pub program_does : (i : Inputs) (end : Ending) (ds ds' : List State) (out out' : SinkState) → ReadsInputs path catalogue (kinds_of ds) (Ok i) f f' → DoesText i.sources p i.text end ds ds' out out' → Does (Program p path catalogue) end f f' ds ds' out out'
+  program_does i end ds ds' out out' reads does = record {
+    told = λ told is v of. elim of [
+      | inl h ↦ absurd (inputs_well told (kinds_of ds) path catalogue i.text i.sources h.0 (reads.inputs told is) h.1)
+      | inr h ↦
+        let same = inputs_one told (kinds_of ds) path catalogue h.0 i.text h.1 i.sources h.2 (reads.inputs told is) in
+        let found = does.told v (subst (λ ss. IsText (kinds_of ds) ss p i.text v) same.1 (subst (λ text. IsText (kinds_of ds) h.1 p text v) same.0 h.3)) in
+        (found.0, found.1, follows_also (Rose f.faults f'.faults) found.0 end ds ds' out out' found.2)
+    ];
+    meant = λ told is well needs. let found = does.meant well needs in (found.0, inr (i.text, i.sources, reads.inputs told is, found.1), found.2);
     caused = record {
-      usage = (λ is. absurd (none_misuses p end does.no_other is), λ is. absurd cc);
-      read = λ is. absurd (none_reads p end does.no_other is);
+      usage = λ is. absurd (none_misuses p end does.no_other is);
+      no_usage = λ is. absurd cc;
+      read = λ is. elim (does.read is) [ inl h ↦ inr (inl h) | inr h ↦ inr (inr (inr h)) ];
       write = does.write;
-      no_other = of_program p path end does.no_other;
+      changed = does.changed;
+      no_other = of_program p path catalogue end does.no_other;
       nothing = does.nothing;
     };
-    closed = record { left = reads.left; told = reads.told };
+    unread = does.unread;
+    closed = record {
+      left = reads.left;
+      told = reads.told;
+      drivers = keeps_wider (IsMentionedIn i.sources i.text) (λ name. ⊤) ds ds' (λ name is. tt) does.drivers;
+      still = does.still;
+      mentioned = λ told is. keeps_wider (IsMentionedIn i.sources i.text) (IsMentioned told (kinds_of ds) (Program p path catalogue)) ds ds' (λ name mentioned. (i.text, i.sources, reads.inputs told is, mentioned)) does.drivers;
+    };
   }
 
-  -- the program was not read
-  module _ (out : SinkState) where
-    pub program_long : ReadsWhole path most_bytes (Ok whole.TooLong) f f' → Does (Program p path) (Some fault.ProgramBytes) f f' out out
-    program_long reads = record {
-      told = λ told is v of.
-          let there = was_there path most_bytes whole.TooLong f f' told reads is in
-          let of' : IsProgram p there.0 v = subst (λ o. IsFile (IsProgram p) o v) there.1 of in
-          let same : v ≡ refused fault.ProgramBytes = elim of' [ inl h ↦ h.1 | inr h ↦ absurd (let long = there.2 in omega (arith, h.0)) ] in (
-            v,
-            one refl,
-            record {
-              ends = inl (sym (ap (λ w. w.ending) same));
-              whole = λ end. sym (ap (λ w. append_known out.taken w.page) same ∙ append_known-nil out.taken);
-              part = took_none v.page out out refl;
-              missing = λ other. absurd (let two = sym same ∙ other in let ends = ap (λ w. w.ending) two in cc);
-            },
-          );
-      meant = λ told is well.
-          let there = was_there path most_bytes whole.TooLong f f' told reads is in
-          (refused fault.ProgramBytes, subst (λ o. IsFile (IsProgram p) o (refused fault.ProgramBytes)) (sym there.1) (inl (there.2, refl)), refl);
-      caused = record { usage = (λ is. absurd cc, λ is. absurd cc); read = λ is. absurd cc; write = λ is. absurd cc; no_other = tt; nothing = λ is. refl };
-      closed = record { left = reads.left; told = reads.told };
+  -- a fault of the files is a program's
+  inputs_has : (f : Fault) → IsInputsEnd f → HasFault (Program p path catalogue) f
+  inputs_has fault.Usage has = has
+  inputs_has (fault.Text w byte) has = absurd has
+  inputs_has (fault.IllTyped decl) has = absurd has
+  inputs_has (fault.Catalogue byte) has = tt
+  inputs_has (fault.NameTwice name) has = tt
+  inputs_has (fault.NoDriver name) has = tt
+  inputs_has (fault.Unsuited name) has = tt
+  inputs_has (fault.BadFile place) has = has
+  inputs_has (fault.BadSource name place) has = absurd has
+  inputs_has fault.Overflow has = absurd has
+  inputs_has fault.Read has = tt
+  inputs_has fault.Write has = tt
+  inputs_has fault.NoMemory has = tt
+  inputs_has (fault.Changed name) has = absurd has
+  inputs_has fault.ProgramBytes has = tt
+  inputs_has fault.CatalogueBytes has = tt
+  inputs_has fault.FileBytes has = absurd has
+  inputs_has fault.Nesting has = tt
+  inputs_has fault.ItemNesting has = absurd has
+  inputs_has fault.TermNodes has = absurd has
+  inputs_has fault.TermDepth has = absurd has
+  inputs_has fault.SchemeBytes has = absurd has
+
+  -- The files were refused: nothing was printed, and no driver was asked.
+  module _ (g : Fault) (ds : List State) (out : SinkState) (reads : ReadsInputs path catalogue (kinds_of ds) (Err g) f f') where
+    not_usage : g ≡ fault.Usage → ⊥
+    not_usage is = subst IsInputsEnd is reads.no_other
+
+    not_write : g ≡ fault.Write → ⊥
+    not_write is = subst IsInputsEnd is reads.no_other
+
+    not_changed : (name : Name) → g ≡ fault.Changed name → ⊥
+    not_changed name is = subst IsInputsEnd is reads.no_other
+
+    not_unread : (h : Fault) → g ≡ h → IsUnread h → ⊥
+    not_unread (fault.BadSource name place) is un = subst IsInputsEnd is reads.no_other
+    not_unread fault.FileBytes is un = subst IsInputsEnd is reads.no_other
+    not_unread fault.ItemNesting is un = subst IsInputsEnd is reads.no_other
+    not_unread fault.Usage is un = un
+    not_unread (fault.Text w byte) is un = un
+    not_unread (fault.IllTyped decl) is un = un
+    not_unread (fault.Catalogue byte) is un = un
+    not_unread (fault.NameTwice name) is un = un
+    not_unread (fault.NoDriver name) is un = un
+    not_unread (fault.Unsuited name) is un = un
+    not_unread (fault.BadFile place) is un = un
+    not_unread fault.Overflow is un = un
+    not_unread fault.Read is un = un
+    not_unread fault.Write is un = un
+    not_unread fault.NoMemory is un = un
+    not_unread (fault.Changed name) is un = un
+    not_unread fault.ProgramBytes is un = un
+    not_unread fault.CatalogueBytes is un = un
+    not_unread fault.Nesting is un = un
+    not_unread fault.TermNodes is un = un
+    not_unread fault.TermDepth is un = un
+    not_unread fault.SchemeBytes is un = un
+
+    -- nothing is printed of a verdict that ends as this
+    follows_none : (v : Verdict) → (v.ending ≡ Some g → v.page ≡ []) → (Some g ≡ v.ending) ⊎ IsOutside (Rose f.faults f'.faults) v (Some g) ds ds out out → Follows (Rose f.faults f'.faults) v (Some g) ds ds out out
+    follows_none v empty ends = record {
+      ends = ends;
+      whole = λ is. sym (ap (append_known out.taken) (empty (sym is)) ∙ append_known-nil out.taken);
+      part = took_none v.page out out refl;
     }
 
-    -- what a file's bytes come to, or that it is missing
-    pub program_failed : ReadsWhole path most_bytes (Err stop.Failed) f f' → Does (Program p path) (Some fault.Read) f f' out out
-    program_failed reads = record {
-      told = λ told is v of. (v, one refl, file_failed told is (told path) refl v of);
-      meant = λ told is well. absurd well;
-      caused = record { usage = (λ is. absurd cc, λ is. absurd cc); read = λ is. elim (reads.failed refl) [ inl missing ↦ inl (missing.0, missing.1, subst (λ o. IsFile (IsProgram p) o (refused fault.Read)) (sym missing.2) refl) | inr rose ↦ inr rose ]; write = λ is. absurd cc; no_other = tt; nothing = λ is. refl };
-      closed = record { left = reads.left; told = reads.told };
-    }
+    told_refused : (told : List ℕ → Option (List ℕ)) → f.told ≡ Some told → (v : Verdict) → IsProgram told (kinds_of ds) p path catalogue v → Follows (Rose f.faults f'.faults) v (Some g) ds ds out out
+    told_refused told is v of = elim (reads.refused told is) [
+      | inl none ↦ follows_none v (λ same. absurd (of_verdict v told of (same ∙ ap Some none))) (inr (wanting (ap Some none)))
+      | inr (inl failed) ↦ follows_none v (λ same. read_empty v told of (same ∙ ap Some failed.0)) (inr (reading (ap Some failed.0) (inl failed.1)))
+      | inr (inr wrong) ↦ elim of [
+        | inl h ↦
+          let same : v ≡ refused g = h.2 ∙ ap refused (inputs_fault_one told (kinds_of ds) path catalogue h.0 g h.1 wrong) in
+          follows_none v (λ ends. ap (λ w. w.page) same) (inl (sym (ap (λ w. w.ending) same)))
+        | inr h ↦ absurd (inputs_well told (kinds_of ds) path catalogue h.0 h.1 g h.2 wrong)
+      ]
+    ]
       where
-        file_failed : (told : List ℕ → Option (List ℕ)) → f.told ≡ Some told → (file : Option (List ℕ)) → told path ≡ file → (v : Verdict) → IsFile (IsProgram p) file v → Follows v (Some fault.Read) f f' out out
-        file_failed told is None at v of = record {
-          ends = inl (sym (ap (λ w. w.ending) of));
-          whole = λ end. sym (ap (λ w. append_known out.taken w.page) of ∙ append_known-nil out.taken);
-          part = took_none v.page out out refl;
-          missing = λ same. (refl, refl);
-        }
-        file_failed told is (Some bytes) at v of = record {
-          ends = inr (inl (refl, elim (reads.failed refl) [ inl missing ↦ absurd (let one : told ≡ missing.0 = let a = sym is ∙ missing.1 in cc in let b = ap (λ t. t path) one in let d = missing.2 in cc) | inr rose ↦ rose ]));
-          whole = λ end. absurd (subst IsTold (sym end) (program_told p bytes v of));
-          part = took_none v.page out out refl;
-          missing = λ same. (refl, refl);
-        }
+        of_verdict : (v : Verdict) (told : List ℕ → Option (List ℕ)) → IsProgram told (kinds_of ds) p path catalogue v → v.ending ≡ Some fault.NoMemory → ⊥
+        of_verdict v told (inl h) same = inputs_verdict told (kinds_of ds) path catalogue h.0 h.1 (let both : Some h.0 ≡ Some fault.NoMemory = ap (λ w. w.ending) (sym h.2) ∙ same in cc)
+        of_verdict v told (inr h) same = subst IsOfVerdict same (fair_text (kinds_of ds) h.1 p h.0 v h.3).told
 
-    pub program_wanted : ReadsWhole path most_bytes (Err stop.NoMemory) f f' → Does (Program p path) (Some fault.NoMemory) f f' out out
-    program_wanted reads = record {
-      told = λ told is v of. (v, one refl, file_wanted told is (told path) refl v of);
-      meant = λ told is well. absurd well;
-      caused = record { usage = (λ is. absurd cc, λ is. absurd cc); read = λ is. absurd cc; write = λ is. absurd cc; no_other = tt; nothing = λ is. refl };
-      closed = record { left = reads.left; told = reads.told };
+        read_empty : (v : Verdict) (told : List ℕ → Option (List ℕ)) → IsProgram told (kinds_of ds) p path catalogue v → v.ending ≡ Some fault.Read → v.page ≡ []
+        read_empty v told (inl h) same = ap (λ w. w.page) h.2
+        read_empty v told (inr h) same = (fair_text (kinds_of ds) h.1 p h.0 v h.3).empty (subst (PrintsNothing (Program p [] None)) (sym same) tt)
+
+    pub program_refused : Does (Program p path catalogue) (Some g) f f' ds ds out out
+    program_refused = record {
+      told = λ told is v of. (v, one refl, told_refused told is v of);
+      meant = λ told is well needs. elim (reads.refused told is) [
+        | inl none ↦ absurd (subst (λ h. IsTold (Some h)) none well)
+        | inr (inl failed) ↦ absurd (subst (λ h. IsTold (Some h)) failed.0 well)
+        | inr (inr wrong) ↦ (refused g, inl (g, wrong, refl), refl)
+      ];
+      caused = record {
+        usage = λ is. absurd (not_usage (some_one is));
+        no_usage = λ is. absurd cc;
+        read = λ is. read_cause (some_one is);
+        write = λ is. absurd (not_write (some_one is));
+        changed = λ name is. absurd (not_changed name (some_one is));
+        no_other = inputs_has g reads.no_other;
+        nothing = λ is. refl;
+      };
+      unread = λ h is un. absurd (not_unread h (some_one is) un);
+      closed = record {
+        left = reads.left;
+        told = reads.told;
+        drivers = keeps_same (λ name. ⊤) ds;
+        still = λ is. refl;
+        mentioned = λ told is. keeps_same (IsMentioned told (kinds_of ds) (Program p path catalogue)) ds;
+      };
     }
       where
-        file_wanted : (told : List ℕ → Option (List ℕ)) → f.told ≡ Some told → (file : Option (List ℕ)) → told path ≡ file → (v : Verdict) → IsFile (IsProgram p) file v → Follows v (Some fault.NoMemory) f f' out out
-        file_wanted told is None at v of = absurd (let a = (reads.missing (told, is, at)).0 in cc)
-        file_wanted told is (Some bytes) at v of = record {
-          ends = inr (inr (inr refl));
-          whole = λ end. absurd (subst IsTold (sym end) (program_told p bytes v of));
-          part = took_none v.page out out refl;
-          missing = λ same. absurd (subst (λ w. IsTold w.ending) same (program_told p bytes v of));
-        }
+        some_one : {x y : Fault} → Some x ≡ Some y → x ≡ y
+        some_one is = cc
+
+        read_cause : g ≡ fault.Read → LacksFile (Program p path catalogue) f (kinds_of ds) ⊎ IsStored (kinds_of ds) fault.Read ⊎ Rose f.faults f'.faults ⊎ SomeRose (λ d. d.faults) ds ds
+        read_cause is = pick f.told refl
+          where
+            pick : (found : Option (List ℕ → Option (List ℕ))) → f.told ≡ found → LacksFile (Program p path catalogue) f (kinds_of ds) ⊎ IsStored (kinds_of ds) fault.Read ⊎ Rose f.faults f'.faults ⊎ SomeRose (λ d. d.faults) ds ds
+            pick None at = inr (inr (inl (reads.read at is)))
+            pick (Some told) at = elim (reads.refused told at) [
+              | inl none ↦ absurd (let two : fault.Read ≡ fault.NoMemory = sym is ∙ none in cc)
+              | inr (inl failed) ↦ inr (inr (inl failed.1))
+              | inr (inr wrong) ↦ inl (told, at, inl (fault.Read, subst (IsInputsFault told (kinds_of ds) path catalogue) is wrong, refl))
+            ]

@@ -10,6 +10,7 @@ use Rattle.kl_parse.proofs.Answer.{unique}
 use Rattle.kl_syntax.specs.declared.tree.Program.{Program}
 use Rattle.kl_scope.specs.Breaches.{NotAfter, InScope, IsFirstBreach, IsRefusal, Resolves}
 use Rattle.kl_scope.specs.Ranks.{token_of, rule_of}
+use Rattle.kl_scope.specs.Senses.{Name}
 use Rattle.kl_scope.specs.declared.refusal.ScopeError.{ScopeError}
 use Rattle.kl_scope.specs.declared.refusal.ScopeError.TheVariants.{Unknown, Twice, Misapplied, Refutable, NoMemory}
 use Rattle.kl_scope.specs.declared.scoped.Scoped.{Scoped}
@@ -32,11 +33,11 @@ module _ (P : Fault → Type 0) (bad : (w : Wrong) (byte : ℕ) → P (fault.Tex
   any_breach ts size NoMemory is = absurd is
 
   -- each fault of a text is one of these
-  pub any_fault : (bytes : List ℕ) (f : Fault) → IsTextFault bytes f → P f
-  any_fault bytes f (inl (ts, tokens, inl (p, e, reads, breach, first, is))) = subst P (sym is) (any_breach ts (length bytes) e breach)
-  any_fault bytes f (inl (ts, tokens, inr (inl (k, place, is)))) = subst P (sym is) (bad wrong.Syntax (byte_of ts k (length bytes)))
-  any_fault bytes f (inl (ts, tokens, inr (inr (k, place, is)))) = subst P (sym is) deep
-  any_fault bytes f (inr (byte, none, is)) = subst P (sym is) (bad wrong.NoToken byte)
+  pub any_fault : (names : List Name) (bytes : List ℕ) (f : Fault) → IsTextFault names bytes f → P f
+  any_fault names bytes f (inl (ts, tokens, inl (p, e, reads, breach, first, is))) = subst P (sym is) (any_breach ts (length bytes) e breach)
+  any_fault names bytes f (inl (ts, tokens, inr (inl (k, place, is)))) = subst P (sym is) (bad wrong.Syntax (byte_of ts k (length bytes)))
+  any_fault names bytes f (inl (ts, tokens, inr (inr (k, place, is)))) = subst P (sym is) deep
+  any_fault names bytes f (inr (byte, none, is)) = subst P (sym is) (bad wrong.NoToken byte)
 
 -- ---- two faults of one text are alike
 
@@ -69,9 +70,9 @@ same_rank e f (inl a) (inr b) = absurd (let same = b.0 in omega (arith, a, same)
 same_rank e f (inr a) (inl b) = absurd (let same = a.0 in omega (arith, b, same))
 same_rank e f (inr a) (inr b) = (a.0, let this = a.1 in let that = b.1 in omega (arith, this, that))
 
-scope_alike : (ts : List Token) (size : ℕ) (f g : Fault) → IsScopeFault ts size f → IsScopeFault ts size g → Alike (refused f) (refused g)
-scope_alike ts size f g (p, e, reads, breach, first, is) (q, d, again, also, second, it) =
-    let too : IsFirstBreach p [] d = subst (λ r. IsFirstBreach r [] d) (unique ts q p again reads) second in
+scope_alike : (names : List Name) (ts : List Token) (size : ℕ) (f g : Fault) → IsScopeFault names ts size f → IsScopeFault names ts size g → Alike (refused f) (refused g)
+scope_alike names ts size f g (p, e, reads, breach, first, is) (q, d, again, also, second, it) =
+    let too : IsFirstBreach p names d = subst (λ r. IsFirstBreach r names d) (unique ts q p again reads) second in
     let same = same_rank e d (first.first d too.breaks) (too.first e first.breaks) in
     renamed (wrong_of e) (wrong_of d) (byte_of ts (token_of e) size)
     (ap refused (is ∙ fault_is ts size e breach))
@@ -85,43 +86,43 @@ one_place ts k j this that = elim (cases_order k j) [
   | inr (inr less) ↦ absurd (that.no_longer k less this.within this.begins)
 ]
 
-tokens_alike : (ts : List Token) (size : ℕ) (f g : Fault) → IsTokensFault ts size f → IsTokensFault ts size g → Alike (refused f) (refused g)
-tokens_alike ts size f g (inl this) (inl that) = scope_alike ts size f g this that
-tokens_alike ts size f g (inl (p, e, reads, breach, first, was)) (inr (inl (k, place, it))) = absurd (place.0.not_whole (256, p, reads))
-tokens_alike ts size f g (inl (p, e, reads, breach, first, was)) (inr (inr (k, place, it))) = absurd (place.0.not_whole p reads)
-tokens_alike ts size f g (inr (inl (k, place, is))) (inl (p, e, reads, breach, first, was)) = absurd (place.0.not_whole (256, p, reads))
-tokens_alike ts size f g (inr (inl (k, place, is))) (inr (inl (j, also, it))) = one (ap refused (is ∙ (ap (λ n. fault.Text wrong.Syntax (byte_of ts n size)) (one_place ts k j place.0 also.0) ∙ sym it)))
-tokens_alike ts size f g (inr (inl (k, place, is))) (inr (inr (j, also, it))) = nested (byte_of ts k size) (ap refused is) (ap refused it)
-tokens_alike ts size f g (inr (inr (k, place, is))) (inl (p, e, reads, breach, first, was)) = absurd (place.0.not_whole p reads)
-tokens_alike ts size f g (inr (inr (k, place, is))) (inr (inl (j, also, it))) = unnested (byte_of ts j size) (ap refused is) (ap refused it)
-tokens_alike ts size f g (inr (inr (k, place, is))) (inr (inr (j, also, it))) = one (ap refused (is ∙ sym it))
+tokens_alike : (names : List Name) (ts : List Token) (size : ℕ) (f g : Fault) → IsTokensFault names ts size f → IsTokensFault names ts size g → Alike (refused f) (refused g)
+tokens_alike names ts size f g (inl this) (inl that) = scope_alike names ts size f g this that
+tokens_alike names ts size f g (inl (p, e, reads, breach, first, was)) (inr (inl (k, place, it))) = absurd (place.0.not_whole (256, p, reads))
+tokens_alike names ts size f g (inl (p, e, reads, breach, first, was)) (inr (inr (k, place, it))) = absurd (place.0.not_whole p reads)
+tokens_alike names ts size f g (inr (inl (k, place, is))) (inl (p, e, reads, breach, first, was)) = absurd (place.0.not_whole (256, p, reads))
+tokens_alike names ts size f g (inr (inl (k, place, is))) (inr (inl (j, also, it))) = one (ap refused (is ∙ (ap (λ n. fault.Text wrong.Syntax (byte_of ts n size)) (one_place ts k j place.0 also.0) ∙ sym it)))
+tokens_alike names ts size f g (inr (inl (k, place, is))) (inr (inr (j, also, it))) = nested (byte_of ts k size) (ap refused is) (ap refused it)
+tokens_alike names ts size f g (inr (inr (k, place, is))) (inl (p, e, reads, breach, first, was)) = absurd (place.0.not_whole p reads)
+tokens_alike names ts size f g (inr (inr (k, place, is))) (inr (inl (j, also, it))) = unnested (byte_of ts j size) (ap refused is) (ap refused it)
+tokens_alike names ts size f g (inr (inr (k, place, is))) (inr (inr (j, also, it))) = one (ap refused (is ∙ sym it))
 
-pub faults_alike : (bytes : List ℕ) (f g : Fault) → IsTextFault bytes f → IsTextFault bytes g → Alike (refused f) (refused g)
-faults_alike bytes f g (inl (ts, tokens, ends)) (inl (us, also, too)) =
+pub faults_alike : (names : List Name) (bytes : List ℕ) (f g : Fault) → IsTextFault names bytes f → IsTextFault names bytes g → Alike (refused f) (refused g)
+faults_alike names bytes f g (inl (ts, tokens, ends)) (inl (us, also, too)) =
     let same = (one_lexing (length bytes) bytes ts us [] [] tokens (inl refl) also (inl refl)).0 in
-    tokens_alike us (length bytes) f g (subst (λ r. IsTokensFault r (length bytes) f) same ends) too
-faults_alike bytes f g (inl (ts, tokens, ends)) (inr (byte, (us, left, upto, due, none, at), it)) = absurd (refused_none bytes us ts left upto due none tokens)
-faults_alike bytes f g (inr (byte, (us, left, upto, due, none, at), is)) (inl (ts, tokens, ends)) = absurd (refused_none bytes us ts left upto due none tokens)
-faults_alike bytes f g (inr (byte, (us, left, upto, due, none, at), is)) (inr (byte2, (us2, left2, upto2, due2, none2, at2), it)) =
+    tokens_alike names us (length bytes) f g (subst (λ r. IsTokensFault names r (length bytes) f) same ends) too
+faults_alike names bytes f g (inl (ts, tokens, ends)) (inr (byte, (us, left, upto, due, none, at), it)) = absurd (refused_none bytes us ts left upto due none tokens)
+faults_alike names bytes f g (inr (byte, (us, left, upto, due, none, at), is)) (inl (ts, tokens, ends)) = absurd (refused_none bytes us ts left upto due none tokens)
+faults_alike names bytes f g (inr (byte, (us, left, upto, due, none, at), is)) (inr (byte2, (us2, left2, upto2, due2, none2, at2), it)) =
     let same = (one_lexing (length bytes) bytes us us2 left left2 upto (inr (due, none)) upto2 (inr (due2, none2))).1 in
     let place : byte ≡ byte2 = omega (arith, at, at2, ap length same) in
     one (ap refused (is ∙ (ap (λ n. fault.Text wrong.NoToken n) place ∙ sym it)))
 
 -- ---- a text in scope is one program, and has no fault
 
-tokens_whole : (ts : List Token) (size : ℕ) (f : Fault) (p : Program) → IsProgram ts p → InScope p [] → IsTokensFault ts size f → ⊥
-tokens_whole ts size f p reads scope (inl (q, e, again, breach, first, is)) = scope e (subst (λ r. IsFirstBreach r [] e) (unique ts q p again reads) first).breaks
-tokens_whole ts size f p reads scope (inr (inl (k, place, is))) = place.0.not_whole (256, p, reads)
-tokens_whole ts size f p reads scope (inr (inr (k, place, is))) = place.0.not_whole p reads
+tokens_whole : (names : List Name) (ts : List Token) (size : ℕ) (f : Fault) (p : Program) → IsProgram ts p → InScope p names → IsTokensFault names ts size f → ⊥
+tokens_whole names ts size f p reads scope (inl (q, e, again, breach, first, is)) = scope e (subst (λ r. IsFirstBreach r names e) (unique ts q p again reads) first).breaks
+tokens_whole names ts size f p reads scope (inr (inl (k, place, is))) = place.0.not_whole (256, p, reads)
+tokens_whole names ts size f p reads scope (inr (inr (k, place, is))) = place.0.not_whole p reads
 
-pub no_fault : (bytes : List ℕ) (f : Fault) (p : Program) → IsProgramOf bytes p → IsTextFault bytes f → ⊥
-no_fault bytes f p whole (inl (ts, tokens, ends)) =
+pub no_fault : (names : List Name) (bytes : List ℕ) (f : Fault) (p : Program) → IsProgramOf names bytes p → IsTextFault names bytes f → ⊥
+no_fault names bytes f p whole (inl (ts, tokens, ends)) =
     let same = (one_lexing (length bytes) bytes ts whole.tokens [] [] tokens (inl refl) whole.lexed (inl refl)).0 in
-    tokens_whole whole.tokens (length bytes) f p whole.spelled whole.in_scope (subst (λ r. IsTokensFault r (length bytes) f) same ends)
-no_fault bytes f p whole (inr (byte, (us, left, upto, due, none, at), is)) = refused_none bytes us whole.tokens left upto due none whole.lexed
+    tokens_whole names whole.tokens (length bytes) f p whole.spelled whole.in_scope (subst (λ r. IsTokensFault names r (length bytes) f) same ends)
+no_fault names bytes f p whole (inr (byte, (us, left, upto, due, none, at), is)) = refused_none bytes us whole.tokens left upto due none whole.lexed
 
-pub one_program : (bytes : List ℕ) (p q : Program) → IsProgramOf bytes p → IsProgramOf bytes q → p ≡ q
-one_program bytes p q this that =
+pub one_program : (names : List Name) (bytes : List ℕ) (p q : Program) → IsProgramOf names bytes p → IsProgramOf names bytes q → p ≡ q
+one_program names bytes p q this that =
     let same = (one_lexing (length bytes) bytes this.tokens that.tokens [] [] this.lexed (inl refl) that.lexed (inl refl)).0 in
     unique that.tokens p q (subst (λ r. IsProgram r p) same this.spelled) that.spelled
 
@@ -132,22 +133,22 @@ few_tokens place total (t ∷ ts) (after, full, more) = let rest = few_tokens t.
 -- ---- what is found
 
 -- what is found of these tokens, which the layers saw under other names
-pub found_deep : (text : List ℕ) (ts us : List Token) (k : ℕ) → Tokens text ts → us ≡ ts → IsDeepAt us k → Reads text (Err fault.Nesting)
-found_deep text ts us k tokens same place = inr (inl (ts, tokens, inr (inr (k, subst (λ r. IsDeepAt r k) same place, refl))))
+pub found_deep : (names : List Name) (text : List ℕ) (ts us : List Token) (k : ℕ) → Tokens text ts → us ≡ ts → IsDeepAt us k → Reads names text (Err fault.Nesting)
+found_deep names text ts us k tokens same place = inr (inl (ts, tokens, inr (inr (k, subst (λ r. IsDeepAt r k) same place, refl))))
 
-pub found_wrong : (text : List ℕ) (ts us vs : List Token) (k byte : ℕ) → Tokens text ts → us ≡ ts → vs ≡ ts → IsWrongAt us k → byte ≡ byte_of vs k (length text) → Reads text (Err (fault.Text wrong.Syntax byte))
-found_wrong text ts us vs k byte tokens same also place is =
+pub found_wrong : (names : List Name) (text : List ℕ) (ts us vs : List Token) (k byte : ℕ) → Tokens text ts → us ≡ ts → vs ≡ ts → IsWrongAt us k → byte ≡ byte_of vs k (length text) → Reads names text (Err (fault.Text wrong.Syntax byte))
+found_wrong names text ts us vs k byte tokens same also place is =
     inr (inl (ts, tokens, inr (inl (k, subst (λ r. IsWrongAt r k) same place, ap (fault.Text wrong.Syntax) (is ∙ ap (λ r. byte_of r k (length text)) also)))))
 
-pub found_program : (text : List ℕ) (ts us : List Token) (p : Program) (s : Scoped) → Tokens text ts → us ≡ ts → IsProgram us p → Resolves p [] s → Reads text (Ok s)
-found_program text ts us p s tokens same reads resolves = (p, record { tokens = ts; lexed = tokens; spelled = subst (λ r. IsProgram r p) same reads; in_scope = resolves.in_scope }, resolves)
+pub found_program : (names : List Name) (text : List ℕ) (ts us : List Token) (p : Program) (s : Scoped) → Tokens text ts → us ≡ ts → IsProgram us p → Resolves p names s → Reads names text (Ok s)
+found_program names text ts us p s tokens same reads resolves = (p, record { tokens = ts; lexed = tokens; spelled = subst (λ r. IsProgram r p) same reads; in_scope = resolves.in_scope }, resolves)
 
-found_breach : (text : List ℕ) (ts us vs : List Token) (p : Program) (e : ScopeError) → Tokens text ts → us ≡ ts → vs ≡ ts → IsProgram us p → IsRefusal p [] e → Reads text (Err (scope_fault vs (length text) e))
-found_breach text ts us vs p (Unknown name token) tokens same also reads first = inr (inl (ts, tokens, inl (p, Unknown name token, subst (λ r. IsProgram r p) same reads, tt, first, ap (λ r. scope_fault r (length text) (Unknown name token)) also)))
-found_breach text ts us vs p (Twice name token) tokens same also reads first = inr (inl (ts, tokens, inl (p, Twice name token, subst (λ r. IsProgram r p) same reads, tt, first, ap (λ r. scope_fault r (length text) (Twice name token)) also)))
-found_breach text ts us vs p (Misapplied name token) tokens same also reads first = inr (inl (ts, tokens, inl (p, Misapplied name token, subst (λ r. IsProgram r p) same reads, tt, first, ap (λ r. scope_fault r (length text) (Misapplied name token)) also)))
-found_breach text ts us vs p (Refutable token) tokens same also reads first = inr (inl (ts, tokens, inl (p, Refutable token, subst (λ r. IsProgram r p) same reads, tt, first, ap (λ r. scope_fault r (length text) (Refutable token)) also)))
-found_breach text ts us vs p NoMemory tokens same also reads first = inl refl
+found_breach : (text : List ℕ) (ts us vs : List Token) (p : Program) (e : ScopeError) → Tokens text ts → us ≡ ts → vs ≡ ts → IsProgram us p → IsRefusal p names e → Reads names text (Err (scope_fault vs (length text) e))
+found_breach names text ts us vs p (Unknown name token) tokens same also reads first = inr (inl (ts, tokens, inl (p, Unknown name token, subst (λ r. IsProgram r p) same reads, tt, first, ap (λ r. scope_fault r (length text) (Unknown name token)) also)))
+found_breach names text ts us vs p (Twice name token) tokens same also reads first = inr (inl (ts, tokens, inl (p, Twice name token, subst (λ r. IsProgram r p) same reads, tt, first, ap (λ r. scope_fault r (length text) (Twice name token)) also)))
+found_breach names text ts us vs p (Misapplied name token) tokens same also reads first = inr (inl (ts, tokens, inl (p, Misapplied name token, subst (λ r. IsProgram r p) same reads, tt, first, ap (λ r. scope_fault r (length text) (Misapplied name token)) also)))
+found_breach names text ts us vs p (Refutable token) tokens same also reads first = inr (inl (ts, tokens, inl (p, Refutable token, subst (λ r. IsProgram r p) same reads, tt, first, ap (λ r. scope_fault r (length text) (Refutable token)) also)))
+found_breach names text ts us vs p NoMemory tokens same also reads first = inl refl
 
-pub found_fault : (text : List ℕ) (ts us vs : List Token) (p : Program) (e : ScopeError) (f : Fault) → Tokens text ts → us ≡ ts → vs ≡ ts → IsProgram us p → IsRefusal p [] e → f ≡ scope_fault vs (length text) e → Reads text (Err f)
-found_fault text ts us vs p e f tokens same also reads first is = subst (λ g. Reads text (Err g)) (sym is) (found_breach text ts us vs p e tokens same also reads first)
+pub found_fault : (names : List Name) (text : List ℕ) (ts us vs : List Token) (p : Program) (e : ScopeError) (f : Fault) → Tokens text ts → us ≡ ts → vs ≡ ts → IsProgram us p → IsRefusal p names e → f ≡ scope_fault vs (length text) e → Reads names text (Err f)
+found_fault names text ts us vs p e f tokens same also reads first is = subst (λ g. Reads names text (Err g)) (sym is) (found_breach names text ts us vs p e tokens same also reads first)

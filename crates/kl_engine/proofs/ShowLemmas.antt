@@ -26,10 +26,10 @@ use Rattle.kl_outside.proofs.FileLemmas.{fun_ext}
 use Rattle.kl_outside.proofs.SinkLemmas.{append_known-nil, append_known-append, took_none, took_all, took_front}
 use Rattle.kl_value.specs.Written.{text_of}
 use Rattle.kl_value.specs.declared.value.Value.{Value}
-use Rattle.kl_engine.specs.Answering.{Alike, one, Follows, Does, IsTold, IsOneOf, HasFault}
+use Rattle.kl_engine.specs.Answering.{IsTold, IsOneOf, HasFault}
 use Rattle.kl_engine.specs.Commands.{Show}
 use Rattle.kl_engine.specs.Faults.{Ending}
-use Rattle.kl_engine.specs.Showing.{ShowsItems, Flushes, read_fault, fetch_fault, write_fault}
+use Rattle.kl_engine.specs.Showing.{FollowsFile, DoesShow, ShowsItems, Flushes, read_fault, fetch_fault, write_fault}
 use Rattle.kl_engine.specs.Verdict.{Verdict, refused, end_fault, lines, IsFile, IsShowing}
 use Rattle.kl_engine.specs.declared.fault.Fault.{Fault}
 use Rattle.kl_engine.specs.declared.fault.Fault.TheVariants as fault
@@ -59,11 +59,11 @@ showing_told bytes v of = subst (λ w. IsTold w.ending) (sym of.3) (end_told of.
 
 -- all items were printed, and the end was met
 follows_end : (bytes : List ℕ) (vs : List Value) (end : FileEnd) (s0 s : FilesState) (out0 out : SinkState) → Shows most_read bytes vs end → out.taken ≡ append_known out0.taken (lines vs)
-    → (v : Verdict) → IsShowing bytes v → Follows v (end_fault end) s0 s out0 out
+    → (v : Verdict) → IsShowing bytes v → FollowsFile v (end_fault end) s0 s out0 out
 follows_end bytes vs end s0 s out0 out shows took v of =
     let one = one_showing most_read bytes vs of.0 end of.1 shows of.2 in
     let same : shown vs end ≡ v = ap (λ ws. shown ws end) one.0 ∙ (ap (λ e. shown of.0 e) one.1 ∙ sym of.3) in
-    subst (λ w. Follows w (end_fault end) s0 s out0 out) same (record {
+    subst (λ w. FollowsFile w (end_fault end) s0 s out0 out) same (record {
       ends = inl refl;
       whole = λ is. took;
       part = took_all (lines vs) out0 out took;
@@ -119,7 +119,7 @@ stop_other f vs s0 s out0 out cause = elim cause [
 ]
 
 follows_front : (bytes : List ℕ) (vs us : List Value) (f : Fault) (s0 s : FilesState) (out0 out : SinkState) → Cause f vs s0 s out0 out → TookPart (lines vs) out0 out
-    → (v : Verdict) (of : IsShowing bytes v) → of.0 ≡ vs ++ us → Follows v (Some f) s0 s out0 out
+    → (v : Verdict) (of : IsShowing bytes v) → of.0 ≡ vs ++ us → FollowsFile v (Some f) s0 s out0 out
 follows_front bytes vs us f s0 s out0 out cause part v of is =
     let page : v.page ≡ lines vs ++ lines us = ap (λ w. w.page) of.3 ∙ (ap lines is ∙ lines-append vs us) in
     record {
@@ -369,7 +369,7 @@ module _ (file : ℕ) (now : FileReading) (s0 s : FilesState) (out0 out : SinkSt
         stops_with file new s0 t out0 out so.vs (stays_fetched (Err error.NoMemory) fetches) fault.NoMemory (came (Err error.NoMemory) fetches) (took_all (lines so.vs) out0 out (took_lines is)) (inr (inr refl))
 
 -- what a missing file comes to, of which nothing is printed
-missing_follows : (v : Verdict) (f f' : FilesState) (out : SinkState) → v ≡ refused fault.Read → Follows v (Some fault.Read) f f' out out
+missing_follows : (v : Verdict) (f f' : FilesState) (out : SinkState) → v ≡ refused fault.Read → FollowsFile v (Some fault.Read) f f' out out
 missing_follows v f f' out is = record {
   ends = inl (sym (ap (λ w. w.ending) is));
   whole = λ end. sym (ap (λ w. append_known out.taken w.page) is ∙ append_known-nil out.taken);
@@ -379,24 +379,21 @@ missing_follows v f f' out is = record {
 
 module _ (path : List ℕ) where
   -- before an item was read
-  unread : (bytes : List ℕ) (fault' : Fault) (f f' : FilesState) (out : SinkState) → Cause fault' [] f f' out out → (v : Verdict) → IsShowing bytes v → Follows v (Some fault') f f' out out
+  unread : (bytes : List ℕ) (fault' : Fault) (f f' : FilesState) (out : SinkState) → Cause fault' [] f f' out out → (v : Verdict) → IsShowing bytes v → FollowsFile v (Some fault') f f' out out
   unread bytes fault' f f' out cause v of = follows_front bytes [] of.0 fault' f f' out out cause (took_none [] out out refl) v of refl
 
-  pub show_failed : (f f' : FilesState) (out : SinkState) → Opens path (Err stop.Failed) f f' → Does (Show path) (Some fault.Read) f f' out out
+  pub show_failed : (f f' : FilesState) (out : SinkState) → Opens path (Err stop.Failed) f f' → DoesShow path (Some fault.Read) f f' out out
   show_failed f f' out opens = record {
-    told = λ told is v of. (v, one refl, file_failed told is (told path) refl v of);
+    follows = λ told is v of. file_failed told is (told path) refl v of;
     meant = λ told is well. absurd well;
-    caused = record {
-      usage = (λ is. absurd cc, λ is. absurd cc);
-      read = λ is. elim (opens.failed refl) [ inl missing ↦ inl (missing.0, missing.1, subst (λ o. IsFile IsShowing o (refused fault.Read)) (sym missing.2) refl) | inr rose ↦ inr rose ];
-      write = λ is. absurd cc;
-      no_other = tt;
-      nothing = λ is. absurd is;
-    };
-    closed = record { left = opens.refused; told = opens.told };
+    read = λ is. opens.failed refl;
+    write = λ is. absurd cc;
+    no_other = tt;
+    left = opens.refused;
+    told = opens.told;
   }
     where
-      file_failed : (told : List ℕ → Option (List ℕ)) → f.told ≡ Some told → (file : Option (List ℕ)) → told path ≡ file → (v : Verdict) → IsFile IsShowing file v → Follows v (Some fault.Read) f f' out out
+      file_failed : (told : List ℕ → Option (List ℕ)) → f.told ≡ Some told → (file : Option (List ℕ)) → told path ≡ file → (v : Verdict) → IsFile IsShowing file v → FollowsFile v (Some fault.Read) f f' out out
       file_failed told is None at v of = missing_follows v f f' out of
       file_failed told is (Some bytes) at v of = unread bytes fault.Read f f' out (inl (
         refl,
@@ -406,15 +403,18 @@ module _ (path : List ℕ) where
         ],
       )) v of
 
-  pub show_wanted : (f f' : FilesState) (out : SinkState) → Opens path (Err stop.NoMemory) f f' → Does (Show path) (Some fault.NoMemory) f f' out out
+  pub show_wanted : (f f' : FilesState) (out : SinkState) → Opens path (Err stop.NoMemory) f f' → DoesShow path (Some fault.NoMemory) f f' out out
   show_wanted f f' out opens = record {
-    told = λ told is v of. (v, one refl, file_wanted told is (told path) refl v of);
+    follows = λ told is v of. file_wanted told is (told path) refl v of;
     meant = λ told is well. absurd well;
-    caused = record { usage = (λ is. absurd cc, λ is. absurd cc); read = λ is. absurd cc; write = λ is. absurd cc; no_other = tt; nothing = λ is. absurd is };
-    closed = record { left = opens.refused; told = opens.told };
+    read = λ is. absurd cc;
+    write = λ is. absurd cc;
+    no_other = tt;
+    left = opens.refused;
+    told = opens.told;
   }
     where
-      file_wanted : (told : List ℕ → Option (List ℕ)) → f.told ≡ Some told → (file : Option (List ℕ)) → told path ≡ file → (v : Verdict) → IsFile IsShowing file v → Follows v (Some fault.NoMemory) f f' out out
+      file_wanted : (told : List ℕ → Option (List ℕ)) → f.told ≡ Some told → (file : Option (List ℕ)) → told path ≡ file → (v : Verdict) → IsFile IsShowing file v → FollowsFile v (Some fault.NoMemory) f f' out out
       file_wanted told is None at v of = absurd (let a = (opens.missing (told, is, at)).0 in cc)
       file_wanted told is (Some bytes) at v of = unread bytes fault.NoMemory f f' out (inr (inr refl)) v of
 
@@ -422,21 +422,15 @@ module _ (path : List ℕ) where
   same_left : (file : ℕ) (s0 s1 s2 s3 : FilesState) → s0.left file ≡ None → OtherFiles file s0 s1 → OtherFiles file s1 s2 → OtherFiles file s2 s3 → s3.left file ≡ None → (k : ℕ) → s3.left k ≡ s0.left k
   same_left file s0 s1 s2 s3 fresh a b d closed k = elim (cases_eq k file) [ inl is ↦ ap s3.left is ∙ (closed ∙ (sym fresh ∙ sym (ap s0.left is))) | inr ne ↦ d k ne ∙ (b k ne ∙ a k ne) ]
 
-  pub show_done : (file : ℕ) (end : Ending) (s0 s1 s2 s3 : FilesState) (out out' : SinkState) → Opens path (Ok file) s0 s1 → ShowsItems file end s1 s2 out out' → Closes file s2 s3 → Does (Show path) end s0 s3 out out'
+  pub show_done : (file : ℕ) (end : Ending) (s0 s1 s2 s3 : FilesState) (out out' : SinkState) → Opens path (Ok file) s0 s1 → ShowsItems file end s1 s2 out out' → Closes file s2 s3 → DoesShow path end s0 s3 out out'
   show_done file end s0 s1 s2 s3 out out' opens shows closes = record {
-    told = λ told is v of. (v, one refl, file_shown told is (told path) refl v of);
+    follows = λ told is v of. file_shown told is (told path) refl v of;
     meant = λ told is well. file_meant told is (told path) refl well;
-    caused = record {
-      usage = (λ is. absurd (subst (IsOneOf (HasFault (Show []))) is shows.no_other), λ is. absurd cc);
-      read = λ is. inr (rose (shows.read is));
-      write = shows.write;
-      no_other = as_path path end shows.no_other;
-      nothing = λ is. absurd is;
-    };
-    closed = record {
-      left = fun_ext (same_left file s0 s1 s2 s3 opens.fresh opens.others shows.others closes.others closes.closed);
-      told = closes.told ∙ (shows.told ∙ opens.told);
-    };
+    read = λ is. inr (rose (shows.read is));
+    write = shows.write;
+    no_other = as_path path end shows.no_other;
+    left = fun_ext (same_left file s0 s1 s2 s3 opens.fresh opens.others shows.others closes.others closes.closed);
+    told = closes.told ∙ (shows.told ∙ opens.told);
   }
     where
       rose : Rose s1.faults s2.faults → Rose s0.faults s3.faults
@@ -448,7 +442,7 @@ module _ (path : List ℕ) where
       gone : (told : List ℕ → Option (List ℕ)) → s0.told ≡ Some told → told path ≡ None → ⊥
       gone told is none = let a = (opens.missing (told, is, none)).0 in cc
 
-      file_shown : (told : List ℕ → Option (List ℕ)) → s0.told ≡ Some told → (found : Option (List ℕ)) → told path ≡ found → (v : Verdict) → IsFile IsShowing found v → Follows v end s0 s3 out out'
+      file_shown : (told : List ℕ → Option (List ℕ)) → s0.told ≡ Some told → (found : Option (List ℕ)) → told path ≡ found → (v : Verdict) → IsFile IsShowing found v → FollowsFile v end s0 s3 out out'
       file_shown told is None has v of = absurd (gone told is has)
       file_shown told is (Some bytes) has v of =
           let follows = shows.follows bytes (at told is bytes has) v of in

@@ -1,16 +1,80 @@
--- Words that name no command.
-use Rattle.std.proofs.Common.{inl, Some, refl, sym, ap, ◌∙◌}
+-- What the top call does where no program is read: words that name no command, want of memory, and a file that is shown.
+use Rattle.std.proofs.Common.{◌≡◌, ◌⊎◌, inl, inr, ℕ, false, List, [], Option, Some, None, refl, sym, ap, subst, ◌∙◌, ⊤}
 use Rattle.std.specs.Io.KnownBytes.{append_known}
+use Rattle.kl_exchange.specs.FileItems.{FileEnd, WholeText, BadAt, TooDeepAt, PastLimit}
+use Rattle.kl_outside.specs.Counts.{Rose}
 use Rattle.kl_outside.specs.Files.{FilesState}
 use Rattle.kl_outside.specs.Sinks.{SinkState}
 use Rattle.kl_outside.proofs.SinkLemmas.{took_none, append_known-nil}
-use Rattle.kl_engine.specs.Answering.{one, Does}
-use Rattle.kl_engine.specs.Commands.{Neither}
-use Rattle.kl_engine.specs.Verdict.{refused}
+use Rattle.kl_outcome.specs.Outcome.{Name}
+use Rattle.kl_ask.specs.Driver.{DriverKind, State}
+use Rattle.kl_ask.specs.declared.settings.Trace.{Trace}
+use Rattle.kl_engine.specs.Answering.{kinds_of, one, IsOutside, reading, writing, wanting, Follows, Does, IsMentioned, UnreadCause, IsUnread, IsOneOf, HasFault}
+use Rattle.kl_engine.specs.Commands.{Command, Neither, Program, Show}
+use Rattle.kl_engine.specs.Faults.{Ending}
+use Rattle.kl_engine.specs.Showing.{FollowsFile, DoesShow}
+use Rattle.kl_engine.specs.Stats.{told_text}
+use Rattle.kl_engine.specs.Verdict.{Verdict, refused, end_fault, IsShowing, IsFile, IsVerdict}
+use Rattle.kl_engine.specs.declared.fault.Fault.{Fault}
 use Rattle.kl_engine.specs.declared.fault.Fault.TheVariants as fault
+use Rattle.kl_engine.proofs.DriverLemmas.{keeps_same}
+use Rattle.kl_engine.proofs.FairLemmas.{IsOfVerdict, fair_text}
+use Rattle.kl_engine.proofs.InputLemmas.{inputs_verdict}
 
-pub neither_done : (f : FilesState) (out : SinkState) → Does Neither (Some fault.Usage) f f out out
-neither_done f out = record {
+-- no verdict is want of memory
+end_is : (end : FileEnd) → end_fault end ≡ Some fault.NoMemory → ⊥
+end_is WholeText is = cc
+end_is (BadAt place) is = cc
+end_is (TooDeepAt place) is = cc
+end_is PastLimit is = cc
+
+file_is : (found : Option (List ℕ)) (v : Verdict) → IsFile IsShowing found v → v.ending ≡ Some fault.NoMemory → ⊥
+file_is None v of is = let both : Some fault.Read ≡ Some fault.NoMemory = ap (λ w. w.ending) (sym of) ∙ is in cc
+file_is (Some bytes) v of is = end_is of.1 (ap (λ w. w.ending) (sym of.3) ∙ is)
+
+never_wanted : (told : List ℕ → Option (List ℕ)) (ks : List DriverKind) (command : Command) (v : Verdict) → IsVerdict told ks command v → v.ending ≡ Some fault.NoMemory → ⊥
+never_wanted told ks Neither v of is = let both : Some fault.Usage ≡ Some fault.NoMemory = ap (λ w. w.ending) (sym of) ∙ is in cc
+never_wanted told ks (Program p path catalogue) v (inl h) is = inputs_verdict told ks path catalogue h.0 h.1 (let both : Some h.0 ≡ Some fault.NoMemory = ap (λ w. w.ending) (sym h.2) ∙ is in cc)
+never_wanted told ks (Program p path catalogue) v (inr h) is = subst IsOfVerdict is (fair_text ks h.1 p h.0 v h.3).told
+never_wanted told ks (Show path) v of is = file_is (told path) v of is
+
+wants_fault : (command : Command) → HasFault command fault.NoMemory
+wants_fault Neither = tt
+wants_fault (Program p path catalogue) = tt
+wants_fault (Show path) = tt
+
+unread_wanted : (command : Command) (ds : List State) → UnreadCause command (Some fault.NoMemory) ds ds
+unread_wanted Neither ds = tt
+unread_wanted (Program p path catalogue) ds = λ f is un. absurd (let same : fault.NoMemory ≡ f = cc in subst IsUnread (sym same) un)
+unread_wanted (Show path) ds = tt
+
+pub wanted_does : (command : Command) (f : FilesState) (ds : List State) (out : SinkState) → Does command (Some fault.NoMemory) f f ds ds out out
+wanted_does command f ds out = record {
+  told = λ told is v of. (
+    v,
+    one refl,
+    record {
+      ends = inr (wanting refl);
+      whole = λ same. absurd (never_wanted told (kinds_of ds) command v of (sym same));
+      part = took_none v.page out out refl;
+    },
+  );
+  meant = λ told is well needs. absurd well;
+  caused = record {
+    usage = λ is. absurd cc;
+    no_usage = λ is. inr refl;
+    read = λ is. absurd cc;
+    write = λ is. absurd cc;
+    changed = λ name is. absurd cc;
+    no_other = wants_fault command;
+    nothing = λ is. refl;
+  };
+  unread = unread_wanted command ds;
+  closed = record { left = refl; told = refl; drivers = keeps_same (λ name. ⊤) ds; still = λ is. refl; mentioned = λ told is. keeps_same (IsMentioned told (kinds_of ds) command) ds };
+}
+
+pub neither_does : (f : FilesState) (ds : List State) (out : SinkState) → Does Neither (Some fault.Usage) f f ds ds out out
+neither_does f ds out = record {
   told = λ told is v of. (
     v,
     one refl,
@@ -18,10 +82,65 @@ neither_done f out = record {
       ends = inl (sym (ap (λ w. w.ending) of));
       whole = λ end. sym (ap (λ w. append_known out.taken w.page) of ∙ append_known-nil out.taken);
       part = took_none v.page out out refl;
-      missing = λ other. absurd (let two = sym of ∙ other in let ends = ap (λ w. w.ending) two in cc);
     },
   );
-  meant = λ told is well. (refused fault.Usage, refl, refl);
-  caused = record { usage = (λ is. refl, λ is. refl); read = λ is. absurd cc; write = λ is. absurd cc; no_other = tt; nothing = λ is. refl };
-  closed = record { left = refl; told = refl };
+  meant = λ told is well needs. (refused fault.Usage, refl, refl);
+  caused = record {
+    usage = λ is. refl;
+    no_usage = λ is. inl refl;
+    read = λ is. absurd cc;
+    write = λ is. absurd cc;
+    changed = λ name is. absurd cc;
+    no_other = tt;
+    nothing = λ is. refl;
+  };
+  unread = tt;
+  closed = record { left = refl; told = refl; drivers = keeps_same (λ name. ⊤) ds; still = λ is. refl; mentioned = λ told is. keeps_same (IsMentioned told (kinds_of ds) Neither) ds };
 }
+
+-- ---- a file that is shown
+
+shown_end : (path : List ℕ) (end : Ending) → IsOneOf (HasFault (Show path)) end → end ≡ Some fault.Usage → ⊥
+shown_end path end has is = subst (IsOneOf (HasFault (Show path))) is has
+
+shown_drift : (path : List ℕ) (end : Ending) (name : Name) → IsOneOf (HasFault (Show path)) end → end ≡ Some (fault.Changed name) → ⊥
+shown_drift path end name has is = subst (IsOneOf (HasFault (Show path))) is has
+
+pub show_does : (path : List ℕ) (end : Ending) (f f' : FilesState) (ds : List State) (out out' : SinkState) → DoesShow path end f f' out out' → Does (Show path) end f f' ds ds out out'
+show_does path end f f' ds out out' shows = record {
+  told = λ told is v of.
+      let follows = shows.follows told is v of in (
+        v,
+        one refl,
+        record {
+          ends = elim follows.ends [
+            | inl h ↦ inl h
+            | inr (inl h) ↦ inr (reading h.0 (inl h.1))
+            | inr (inr (inl h)) ↦ inr (writing h.0 h.1 h.2)
+            | inr (inr (inr h)) ↦ inr (wanting h)
+          ];
+          whole = follows.whole;
+          part = follows.part;
+        },
+      );
+  meant = λ told is well needs. shows.meant told is well;
+  caused = record {
+    usage = λ is. absurd (shown_end path end shows.no_other is);
+    no_usage = λ is. absurd cc;
+    read = λ is. elim (shows.read is) [
+      | inl missing ↦ inl (missing.0, missing.1, subst (λ o. IsFile IsShowing o (refused fault.Read)) (sym missing.2) refl)
+      | inr rose ↦ inr (inr (inl rose))
+    ];
+    write = shows.write;
+    changed = λ name is. absurd (shown_drift path end name shows.no_other is);
+    no_other = shows.no_other;
+    nothing = λ is. absurd is;
+  };
+  unread = tt;
+  closed = record { left = shows.left; told = shows.told; drivers = keeps_same (λ name. ⊤) ds; still = λ is. refl; mentioned = λ told is. keeps_same (IsMentioned told (kinds_of ds) (Show path)) ds };
+}
+
+-- where no counts are told, none matters
+pub told_still : (path : List ℕ) (end : Ending) (trace : Trace) (n m : ℕ) → told_text false path end trace n ≡ told_text false path end trace m
+told_still path None trace n m = refl
+told_still path (Some f) trace n m = refl

@@ -1,13 +1,22 @@
--- What a command does: how it ends, what it prints, and the cause of each fault.
-use Rattle.std.specs.Prelude.{◌≡◌, ◌≢◌, ◌⊎◌, ◌↔◌, ℕ, List, [], Some, None, ⊤}
+-- What a command does: how it ends, what it prints, the cause of each fault, and what stays as it was.
+use Rattle.std.specs.Prelude.{◌≡◌, ◌≢◌, ◌⊎◌, ◌↔◌, ℕ, List, [], map, Option, Some, None, slice_get, All, ⊤}
 use Rattle.std.specs.Io.KnownBytes.{append_known}
 use Rattle.kl_outside.specs.Counts.{Rose}
 use Rattle.kl_outside.specs.Files.{FilesState}
 use Rattle.kl_outside.specs.Sinks.{SinkState, TookPart}
+use Rattle.kl_type.specs.Ground.{Ground}
+use Rattle.kl_outcome.specs.Outcome.{Name}
+use Rattle.kl_syntax.specs.Syntax.{Decls, Exp}
+use Rattle.kl_syntax.specs.declared.tree.Program.{Program as AProgram}
+use Rattle.kl_scope.specs.Breaches.{Mentions}
+use Rattle.kl_ask.specs.Driver.{DriverKind, State, Stored, Keeps, IsTold as IsToldBy}
+use Rattle.kl_ask.specs.Lists.{EachSteps}
+use Rattle.kl_sources.specs.Sources.{names_of, contents}
+use Rattle.kl_sources.specs.declared.source.Source.{Source}
 use Rattle.kl_engine.specs.Commands.{Command, Neither, Program, Show}
 use Rattle.kl_engine.specs.Faults.{Ending}
-use Rattle.kl_engine.specs.Verdict.{Verdict, refused, IsListing, IsText, IsVerdict}
-use Rattle.kl_syntax.specs.Syntax.{Decls, Exp}
+use Rattle.kl_engine.specs.Reading.{IsProgramOf}
+use Rattle.kl_engine.specs.Verdict.{Verdict, refused, stored_fault, IsListing, IsText, HasInputs, IsVerdict}
 use Rattle.kl_engine.specs.declared.fault.Fault.{Fault}
 use Rattle.kl_engine.specs.declared.fault.Fault.TheVariants as fault
 use Rattle.kl_engine.specs.declared.fault.Wrong.{Wrong}
@@ -15,13 +24,47 @@ use Rattle.kl_engine.specs.declared.fault.Wrong.TheVariants as wrong
 use Rattle.kl_engine.specs.declared.top.Purpose.{Purpose}
 use Rattle.kl_engine.specs.declared.top.Purpose.TheVariants as purpose
 
--- Where the files tell their bytes: the command ends as the verdict says, or a fault with its cause, or want of memory,
--- came first. What was printed is the verdict's page, or a front of it.
-pub record Follows (v : Verdict) (end : Ending) (files files' : FilesState) (out out' : SinkState) : Type 0 where
-  pub ends : (end ≡ v.ending) ⊎ ((end ≡ Some fault.Read) × Rose files.faults files'.faults) ⊎ ((end ≡ Some fault.Write) × Rose out.faults out'.faults × (v.page ≢ [])) ⊎ (end ≡ Some fault.NoMemory)
+-- ---- drivers
+
+abbrev pub kinds_of : List State → List DriverKind
+kinds_of ds = map (λ d. d.kind) ds
+
+-- a count of some driver rose
+abbrev pub SomeRose : (State → ℕ) → List State → List State → Type 0
+SomeRose count old new = (i : ℕ) × (a : State) × (b : State) × (slice_get old i ≡ Some a) × (slice_get new i ≡ Some b) × Rose (count a) (count b)
+
+-- A driver is what it was, has no cursor open that it had not, and has nothing new attached but under names like these.
+pub record KeepsDriver (Named : Name → Type 0) (old new : State) : Type 0 where
+  pub keeps : Keeps old new
+  pub cursors : new.cursors ≡ old.cursors
+  pub attached : (name : Name) → (Named name → ⊥) → new.attached name ≡ old.attached name
+
+abbrev pub KeepsDrivers : (Name → Type 0) → List State → List State → Type 0
+KeepsDrivers Named old new = EachSteps (KeepsDriver Named) old new
+
+-- nothing is attached, and no cursor is open
+abbrev pub IsIdle : State → Type 0
+IsIdle d = ((name : Name) → d.attached name ≡ None) × ((k : ℕ) → d.cursors k ≡ None)
+
+-- what some driver tells to stand at some source is this fault
+abbrev pub IsStored : List DriverKind → Fault → Type 0
+IsStored ks f = (s : Source) × (w : Stored) × (contents ks s ≡ Some w) × (stored_fault s.name w ≡ Some f)
+
+-- ---- the end of a command
+
+-- A fault of the outside, or want of memory: it may come before the end that a verdict has, where its cause is there.
+pub data IsOutside (FilesRose : Type 0) (v : Verdict) (end : Ending) (ds ds' : List State) (out out' : SinkState) : Type 0 where
+  reading : end ≡ Some fault.Read → FilesRose ⊎ SomeRose (λ d. d.faults) ds ds' → IsOutside FilesRose v end ds ds' out out'
+  writing : end ≡ Some fault.Write → Rose out.faults out'.faults → v.page ≢ [] → IsOutside FilesRose v end ds ds' out out'
+  drifting : (name : Name) → end ≡ Some (fault.Changed name) → SomeRose (λ d. d.drifts) ds ds' → IsOutside FilesRose v end ds ds' out out'
+  wanting : end ≡ Some fault.NoMemory → IsOutside FilesRose v end ds ds' out out'
+
+-- The command ends as the verdict says, or a fault of the outside came first. What was printed is the verdict's page, or
+-- a front of it.
+pub record Follows (FilesRose : Type 0) (v : Verdict) (end : Ending) (ds ds' : List State) (out out' : SinkState) : Type 0 where
+  pub ends : (end ≡ v.ending) ⊎ IsOutside FilesRose v end ds ds' out out'
   pub whole : end ≡ v.ending → out'.taken ≡ append_known out.taken v.page
   pub part : TookPart v.page out out'
-  pub missing : v ≡ refused fault.Read → (end ≡ Some fault.Read) × (out' ≡ out)
 
 -- what is wrong, whatever the name
 abbrev pub unnamed : Wrong → Wrong
@@ -38,22 +81,29 @@ pub data Alike (v w : Verdict) : Type 0 where
   nested : (byte : ℕ) → v ≡ refused (fault.Text wrong.Syntax byte) → w ≡ refused fault.Nesting → Alike v w
   unnested : (byte : ℕ) → v ≡ refused fault.Nesting → w ≡ refused (fault.Text wrong.Syntax byte) → Alike v w
   renamed : (x y : Wrong) (byte : ℕ) → v ≡ refused (fault.Text x byte) → w ≡ refused (fault.Text y byte) → unnamed x ≡ unnamed y → Alike v w
-  retyped : (ds : Decls) (e : Exp) → IsListing ds e v → IsListing ds e w → Alike v w
+  retyped : (grounds : List (Name × Ground)) (ds : Decls) (e : Exp) → IsListing grounds ds e v → IsListing grounds ds e w → Alike v w
 
 -- none of the faults that can come to any command
 abbrev pub IsTold : Ending → Type 0
 IsTold None = ⊤
 IsTold (Some fault.Read) = ⊥
 IsTold (Some fault.Write) = ⊥
+IsTold (Some (fault.Changed name)) = ⊥
 IsTold (Some fault.NoMemory) = ⊥
 IsTold (Some f) = ⊤
+
+-- ---- which faults come to what
 
 -- its types are inferred
 abbrev pub IsTyping : Purpose → Type 0
 IsTyping purpose.Check = ⊥
 IsTyping p = ⊤
 
--- the faults that a program's text may come to
+abbrev pub IsRun : Purpose → Type 0
+IsRun (purpose.Run first) = ⊤
+IsRun p = ⊥
+
+-- the faults that a program's text may come to, and those of its sources
 abbrev pub HasTextFault : Purpose → Fault → Type 0
 HasTextFault p fault.Write = ⊤
 HasTextFault p fault.NoMemory = ⊤
@@ -63,16 +113,27 @@ HasTextFault p fault.TermNodes = IsTyping p
 HasTextFault p fault.TermDepth = IsTyping p
 HasTextFault p (fault.IllTyped decl) = IsTyping p
 HasTextFault p fault.SchemeBytes = p ≡ purpose.Types
-HasTextFault p fault.Overflow = p ≡ purpose.Run
+HasTextFault p fault.Overflow = IsRun p
+HasTextFault p fault.Read = IsRun p
+HasTextFault p (fault.Changed name) = IsRun p
+HasTextFault p (fault.BadSource name place) = IsRun p
+HasTextFault p fault.FileBytes = IsRun p
+HasTextFault p fault.ItemNesting = IsRun p
 HasTextFault p f = ⊥
 
 -- the faults of each command
 abbrev pub HasFault : Command → Fault → Type 0
 HasFault Neither fault.Usage = ⊤
+HasFault Neither fault.NoMemory = ⊤
 HasFault Neither f = ⊥
 HasFault command fault.Read = ⊤
-HasFault (Program p path) fault.ProgramBytes = ⊤
-HasFault (Program p path) f = HasTextFault p f
+HasFault (Program p path catalogue) fault.ProgramBytes = ⊤
+HasFault (Program p path catalogue) fault.CatalogueBytes = ⊤
+HasFault (Program p path catalogue) (fault.Catalogue byte) = ⊤
+HasFault (Program p path catalogue) (fault.NameTwice name) = ⊤
+HasFault (Program p path catalogue) (fault.NoDriver name) = ⊤
+HasFault (Program p path catalogue) (fault.Unsuited name) = ⊤
+HasFault (Program p path catalogue) f = HasTextFault p f
 HasFault (Show path) fault.Write = ⊤
 HasFault (Show path) fault.NoMemory = ⊤
 HasFault (Show path) (fault.BadFile place) = ⊤
@@ -99,42 +160,93 @@ PrintsNothing (Show path) end = ⊥
 PrintsNothing command None = ⊥
 PrintsNothing command (Some f) = IsBefore f
 
--- the order of refusals comes to a file that is told to be missing
-abbrev pub LacksFile : Command → FilesState → Type 0
-LacksFile command files = (told : _) × (files.told ≡ Some told) × IsVerdict told command (refused fault.Read)
+-- a source was found unreadable, too long or nested too deep
+abbrev pub IsUnread : Fault → Type 0
+IsUnread (fault.BadSource name place) = ⊤
+IsUnread fault.FileBytes = ⊤
+IsUnread fault.ItemNesting = ⊤
+IsUnread f = ⊥
 
--- Whether the files tell their bytes or not, each ending has its cause.
-pub record IsCaused (command : Command) (end : Ending) (files files' : FilesState) (out out' : SinkState) : Type 0 where
-  pub usage : (end ≡ Some fault.Usage) ↔ (command ≡ Neither)
-  pub read : end ≡ Some fault.Read → LacksFile command files ⊎ Rose files.faults files'.faults
-  pub write : end ≡ Some fault.Write → Rose out.faults out'.faults
-  pub no_other : IsOneOf (HasFault command) end
-  pub nothing : PrintsNothing command end → out' ≡ out
+-- an end that rests on what drivers tell
+abbrev pub NeedsDrivers : Purpose → Ending → Type 0
+NeedsDrivers (purpose.Run first) None = ⊤
+NeedsDrivers (purpose.Run first) (Some fault.Overflow) = ⊤
+NeedsDrivers (purpose.Run first) (Some f) = IsUnread f
+NeedsDrivers p end = ⊥
 
--- No file is open that was not, and the same bytes are told.
-pub record IsClosed (files files' : FilesState) : Type 0 where
-  pub left : files'.left ≡ files.left
-  pub told : files'.told ≡ files.told
+abbrev pub CommandNeedsDrivers : Command → Ending → Type 0
+CommandNeedsDrivers (Program p path catalogue) end = NeedsDrivers p end
+CommandNeedsDrivers command end = ⊥
 
--- what a command does
-pub record Does (command : Command) (end : Ending) (files files' : FilesState) (out out' : SinkState) : Type 0 where
-  pub told : (told : _) → files.told ≡ Some told → (v : Verdict) → IsVerdict told command v → (w : Verdict) × Alike v w × Follows w end files files' out out'
-  -- the way back
-  pub meant : (told : _) → files.told ≡ Some told → IsTold end → (v : Verdict) × IsVerdict told command v × (v.ending ≡ end)
-  pub caused : IsCaused command end files files' out out'
-  pub closed : IsClosed files files'
+-- ---- what is done with a program's text
 
--- A page is printed, or a front of it. No file is read.
+-- a page is printed, or a front of it
 pub record Prints (v : Verdict) (end : Ending) (out out' : SinkState) : Type 0 where
   pub ends : (end ≡ v.ending) ⊎ ((end ≡ Some fault.Write) × Rose out.faults out'.faults × (v.page ≢ [])) ⊎ (end ≡ Some fault.NoMemory)
   pub whole : end ≡ v.ending → out'.taken ≡ append_known out.taken v.page
   pub part : TookPart v.page out out'
   pub nothing : v.page ≡ [] → out' ≡ out
 
--- what is done with a program's text
-pub record DoesText (p : Purpose) (text : List ℕ) (end : Ending) (out out' : SinkState) : Type 0 where
-  pub told : (v : Verdict) → IsText p text v → (w : Verdict) × Alike v w × Prints w end out out'
-  pub meant : IsTold end → (v : Verdict) × IsText p text v × (v.ending ≡ end)
+-- a name that the program in a text mentions
+abbrev pub IsMentionedIn : List Source → List ℕ → Name → Type 0
+IsMentionedIn ss text name = (q : AProgram) × IsProgramOf (names_of ss) text q × (i : ℕ) × (slice_get (names_of ss) i ≡ Some name) × Mentions q (names_of ss) i
+
+pub record DoesText (ss : List Source) (p : Purpose) (text : List ℕ) (end : Ending) (ds ds' : List State) (out out' : SinkState) : Type 0 where
+  pub told : (v : Verdict) → IsText (kinds_of ds) ss p text v → (w : Verdict) × Alike v w × Follows ⊥ w end ds ds' out out'
+  pub meant : IsTold end → (NeedsDrivers p end → All IsToldBy ds) → (v : Verdict) × IsText (kinds_of ds) ss p text v × (v.ending ≡ end)
+  pub read : end ≡ Some fault.Read → IsStored (kinds_of ds) fault.Read ⊎ SomeRose (λ d. d.faults) ds ds'
   pub write : end ≡ Some fault.Write → Rose out.faults out'.faults
+  pub unread : (f : Fault) → end ≡ Some f → IsUnread f → IsStored (kinds_of ds) f ⊎ SomeRose (λ d. d.unread) ds ds'
+  pub changed : (name : Name) → end ≡ Some (fault.Changed name) → SomeRose (λ d. d.drifts) ds ds'
   pub no_other : IsOneOf (HasTextFault p) end
-  pub nothing : PrintsNothing (Program p []) end → out' ≡ out
+  pub nothing : PrintsNothing (Program p [] None) end → out' ≡ out
+  pub drivers : KeepsDrivers (IsMentionedIn ss text) ds ds'
+  pub still : (IsRun p → ⊥) → ds' ≡ ds
+
+-- ---- what a command does
+
+-- the order of refusals comes to a file that is told to be missing
+abbrev pub LacksFile : Command → FilesState → List DriverKind → Type 0
+LacksFile command files ks = (told : _) × (files.told ≡ Some told) × IsVerdict told ks command (refused fault.Read)
+
+-- Whether files and drivers tell their bytes or not, each ending has its cause.
+pub record IsCaused (command : Command) (end : Ending) (files files' : FilesState) (ds ds' : List State) (out out' : SinkState) : Type 0 where
+  pub usage : end ≡ Some fault.Usage → command ≡ Neither
+  pub no_usage : command ≡ Neither → (end ≡ Some fault.Usage) ⊎ (end ≡ Some fault.NoMemory)
+  pub read : end ≡ Some fault.Read → LacksFile command files (kinds_of ds) ⊎ IsStored (kinds_of ds) fault.Read ⊎ Rose files.faults files'.faults ⊎ SomeRose (λ d. d.faults) ds ds'
+  pub write : end ≡ Some fault.Write → Rose out.faults out'.faults
+  pub changed : (name : Name) → end ≡ Some (fault.Changed name) → SomeRose (λ d. d.drifts) ds ds'
+  pub no_other : IsOneOf (HasFault command) end
+  pub nothing : PrintsNothing command end → out' ≡ out
+
+-- The same of a source that is unreadable, too long or nested too deep: some driver tells so, or its count rose.
+abbrev pub UnreadCause : Command → Ending → List State → List State → Type 0
+UnreadCause (Program p path catalogue) end ds ds' = (f : Fault) → end ≡ Some f → IsUnread f → IsStored (kinds_of ds) f ⊎ SomeRose (λ d. d.unread) ds ds'
+UnreadCause command end ds ds' = ⊤
+
+-- a name that the program of a command mentions
+abbrev pub IsMentioned : (List ℕ → Option (List ℕ)) → List DriverKind → Command → Name → Type 0
+IsMentioned told ks (Program p path catalogue) name = (text : List ℕ) × (ss : List Source) × HasInputs told ks path catalogue text ss × IsMentionedIn ss text name
+IsMentioned told ks command name = ⊥
+
+abbrev pub IsRunning : Command → Type 0
+IsRunning (Program p path catalogue) = IsRun p
+IsRunning command = ⊥
+
+-- No file and no cursor is open that was not, and the same bytes are told. Only a run attaches sources, and none but
+-- those that its program mentions.
+pub record IsClosed (command : Command) (files files' : FilesState) (ds ds' : List State) : Type 0 where
+  pub left : files'.left ≡ files.left
+  pub told : files'.told ≡ files.told
+  pub drivers : KeepsDrivers (λ name. ⊤) ds ds'
+  pub still : (IsRunning command → ⊥) → ds' ≡ ds
+  pub mentioned : (told : _) → files.told ≡ Some told → KeepsDrivers (IsMentioned told (kinds_of ds) command) ds ds'
+
+-- what a command does
+pub record Does (command : Command) (end : Ending) (files files' : FilesState) (ds ds' : List State) (out out' : SinkState) : Type 0 where
+  pub told : (told : _) → files.told ≡ Some told → (v : Verdict) → IsVerdict told (kinds_of ds) command v → (w : Verdict) × Alike v w × Follows (Rose files.faults files'.faults) w end ds ds' out out'
+  -- the way back
+  pub meant : (told : _) → files.told ≡ Some told → IsTold end → (CommandNeedsDrivers command end → All IsToldBy ds) → (v : Verdict) × IsVerdict told (kinds_of ds) command v × (v.ending ≡ end)
+  pub caused : IsCaused command end files files' ds ds' out out'
+  pub unread : UnreadCause command end ds ds'
+  pub closed : IsClosed command files files' ds ds'

@@ -1,30 +1,31 @@
 -- What the words ask for.
-use Rattle.std.specs.Prelude.{ℕ, List, [], ◌∷◌, if◌then◌else◌, codes}
-use Rattle.std.specs.Str.{bytes_eq}
+use Rattle.std.specs.Prelude.{ℕ, Bool, true, false, List, [], Option, Some, None}
+use Rattle.kl_words.specs.declared.command.Command.{Command as Read}
+use Rattle.kl_words.specs.declared.command.Command.TheVariants as read
 use Rattle.kl_engine.specs.declared.top.Purpose.{Purpose}
 use Rattle.kl_engine.specs.declared.top.Purpose.TheVariants as purpose
-use Rattle.kl_engine.specs.declared.top.Words.{Words}
-use Rattle.kl_engine.specs.declared.top.Words.TheVariants as words
 
 pub data Command : Type 0 where
   Neither : Command
-  -- something is done with the program at a path
-  Program : Purpose → List ℕ → Command
+  -- something is done with the program at a path, over the catalogue at another, if there is one
+  Program : Purpose → List ℕ → Option (List ℕ) → Command
   Show : List ℕ → Command
 
--- a command and one path
-abbrev pub command_of : List (List ℕ) → Command
-command_of (command ∷ path ∷ []) = if bytes_eq command (codes "run") then Program purpose.Run path else if bytes_eq command (codes "check") then Program purpose.Check path else if bytes_eq command (codes "types") then Program purpose.Types path else if bytes_eq command (codes "show") then Show path else Neither
-command_of words = Neither
+-- the command of the words, as they are read
+abbrev pub asked : Option Read → Command
+asked None = Neither
+asked (Some (read.Run job)) = Program (purpose.Run job.first) job.program job.catalogue
+asked (Some (read.Types program catalogue)) = Program purpose.Types program catalogue
+asked (Some (read.Check program catalogue)) = Program purpose.Check program catalogue
+asked (Some (read.Show file)) = Show file
+
+-- whether what was counted is to be told
+abbrev pub wants_stats : Option Read → Bool
+wants_stats (Some (read.Run job)) = job.stats
+wants_stats command = false
 
 -- the path that the words name
 abbrev pub path_of : Command → List ℕ
 path_of Neither = []
-path_of (Program purpose path) = path
+path_of (Program purpose path catalogue) = path
 path_of (Show path) = path
-
--- the same of the words as the code has them
-abbrev pub asked : Words → Command
-asked words.Neither = Neither
-asked (words.Program purpose path) = Program purpose path.now
-asked (words.Show path) = Show path.now

@@ -21,12 +21,19 @@ abbrev pub fault_status : Fault → ℕ
 fault_status fault.Usage = 1
 fault_status (fault.Text w byte) = 2
 fault_status (fault.IllTyped decl) = 3
+fault_status (fault.Catalogue byte) = 4
+fault_status (fault.NameTwice name) = 4
+fault_status (fault.NoDriver name) = 4
+fault_status (fault.Unsuited name) = 4
 fault_status (fault.BadFile place) = 5
+fault_status (fault.BadSource name place) = 5
 fault_status fault.Overflow = 6
 fault_status fault.Read = 7
 fault_status fault.Write = 8
 fault_status fault.NoMemory = 9
+fault_status (fault.Changed name) = 11
 fault_status fault.ProgramBytes = 10
+fault_status fault.CatalogueBytes = 10
 fault_status fault.FileBytes = 10
 fault_status fault.Nesting = 10
 fault_status fault.ItemNesting = 10
@@ -54,17 +61,28 @@ wrong_line (wrong.Twice name) byte = text_line (codes "name ") name (codes " twi
 wrong_line (wrong.Misapplied name) byte = text_line (codes "name ") name (codes " misapplied") byte
 wrong_line wrong.Refutable byte = text_line (codes "refutable pattern") [] [] byte
 
+-- a file or a source is unreadable from a place on
+abbrev pub bad_line : List ℕ → ℕ → List ℕ
+bad_line name place = joined (codes "source " ∷ name ∷ codes ": bad at " ∷ decimal place ∷ codes "\n" ∷ [])
+
 -- the line of a fault, where the words name this path
 abbrev pub fault_line : List ℕ → Fault → List ℕ
 fault_line path fault.Usage = codes "usage: kleisli (run|explain|types|check) PROGRAM [CATALOGUE] [OPTIONS], kleisli show FILE, kleisli gen SEED N\n"
 fault_line path (fault.Text w byte) = wrong_line w byte
 fault_line path (fault.IllTyped decl) = joined (codes "types: no typing for declaration " ∷ decimal (decl + 1) ∷ codes "\n" ∷ [])
-fault_line path (fault.BadFile place) = joined (codes "source " ∷ path ∷ codes ": bad at " ∷ decimal place ∷ codes "\n" ∷ [])
+fault_line path (fault.Catalogue byte) = joined (codes "catalogue: syntax at byte " ∷ decimal byte ∷ codes "\n" ∷ [])
+fault_line path (fault.NameTwice name) = joined (codes "catalogue: name " ∷ name ∷ codes " twice\n" ∷ [])
+fault_line path (fault.NoDriver name) = joined (codes "catalogue: no driver " ∷ name ∷ codes "\n" ∷ [])
+fault_line path (fault.Unsuited name) = joined (codes "catalogue: type of " ∷ name ∷ codes " does not suit its driver\n" ∷ [])
+fault_line path (fault.BadFile place) = bad_line path place
+fault_line path (fault.BadSource name place) = bad_line name place
 fault_line path fault.Overflow = codes "overflow\n"
 fault_line path fault.Read = codes "read fault\n"
 fault_line path fault.Write = codes "write fault\n"
 fault_line path fault.NoMemory = codes "out of memory\n"
+fault_line path (fault.Changed name) = joined (codes "source " ∷ name ∷ codes " changed\n" ∷ [])
 fault_line path fault.ProgramBytes = codes "limit: program bytes\n"
+fault_line path fault.CatalogueBytes = codes "limit: catalogue bytes\n"
 fault_line path fault.FileBytes = codes "limit: file bytes\n"
 fault_line path fault.Nesting = codes "limit: nesting\n"
 fault_line path fault.ItemNesting = codes "limit: item nesting\n"

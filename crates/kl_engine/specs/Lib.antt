@@ -1,6 +1,7 @@
 pub mod Faults
 pub mod Commands
 pub mod Reading
+pub mod Catalogues
 pub mod Verdict
 pub mod Typing
 pub mod Answering

@@ -1,4 +1,4 @@
--- Which bytes are a program in scope, and with what fault others are refused.
+-- Which bytes are a program in scope over sources of these names, and with what fault others are refused.
 use Rattle.std.specs.Prelude.{◌≡◌, ◌⊎◌, ⊤, ℕ, List, [], length, Some, None, Err, Result, Ok}
 use Rattle.std.specs.List.{slice_get}
 use Rattle.std.specs.Option.{option_map, unwrap_or}
@@ -12,7 +12,7 @@ use Rattle.kl_syntax.specs.View.{view, decls_of}
 use Rattle.kl_scope.specs.Breaches.{InScope, IsFirstBreach, Resolves}
 use Rattle.kl_scope.specs.Findings.{behind_decls}
 use Rattle.kl_scope.specs.Resolved.{resolved, resolved_decls}
-use Rattle.kl_scope.specs.Senses.{at_first}
+use Rattle.kl_scope.specs.Senses.{Name, at_first}
 use Rattle.kl_scope.specs.declared.scoped.Scoped.{Scoped}
 use Rattle.kl_scope.specs.declared.refusal.ScopeError.{ScopeError}
 use Rattle.kl_scope.specs.declared.refusal.ScopeError.TheVariants.{Unknown, Twice, Misapplied, Refutable, NoMemory}
@@ -46,36 +46,36 @@ abbrev pub IsDeepAt : List Token → ℕ → Type 0
 IsDeepAt ts k = Refuses ts (Err (TooDeep k)) × NestsBehind ts (Err (TooDeep k)) × Shallow ts (Err (TooDeep k))
 
 -- the tokens are a program that breaks a rule of scope, and this is its first breach
-abbrev pub IsScopeFault : List Token → ℕ → Fault → Type 0
-IsScopeFault ts size f = (p : Program) × (e : ScopeError) × IsProgram ts p × IsBreach e × IsFirstBreach p [] e × (f ≡ scope_fault ts size e)
+abbrev pub IsScopeFault : List Name → List Token → ℕ → Fault → Type 0
+IsScopeFault names ts size f = (p : Program) × (e : ScopeError) × IsProgram ts p × IsBreach e × IsFirstBreach p names e × (f ≡ scope_fault ts size e)
 
 -- the tokens break a rule of scope; or at a place no program goes on; or they nest too deep
-abbrev pub IsTokensFault : List Token → ℕ → Fault → Type 0
-IsTokensFault ts size f = IsScopeFault ts size f ⊎ ((k : ℕ) × IsWrongAt ts k × (f ≡ fault.Text wrong.Syntax (byte_of ts k size))) ⊎ ((k : ℕ) × IsDeepAt ts k × (f ≡ fault.Nesting))
+abbrev pub IsTokensFault : List Name → List Token → ℕ → Fault → Type 0
+IsTokensFault names ts size f = IsScopeFault names ts size f ⊎ ((k : ℕ) × IsWrongAt ts k × (f ≡ fault.Text wrong.Syntax (byte_of ts k size))) ⊎ ((k : ℕ) × IsDeepAt ts k × (f ≡ fault.Nesting))
 
 -- the bytes are no program in scope, and this is what is told of them
-abbrev pub IsTextFault : List ℕ → Fault → Type 0
-IsTextFault bytes f = ((ts : List Token) × Tokens bytes ts × IsTokensFault ts (length bytes) f) ⊎ ((byte : ℕ) × Refused bytes byte × (f ≡ fault.Text wrong.NoToken byte))
+abbrev pub IsTextFault : List Name → List ℕ → Fault → Type 0
+IsTextFault names bytes f = ((ts : List Token) × Tokens bytes ts × IsTokensFault names ts (length bytes) f) ⊎ ((byte : ℕ) × Refused bytes byte × (f ≡ fault.Text wrong.NoToken byte))
 
 -- the bytes are this program, and it keeps to the rules of scope
-pub record IsProgramOf (bytes : List ℕ) (p : Program) : Type 0 where
+pub record IsProgramOf (names : List Name) (bytes : List ℕ) (p : Program) : Type 0 where
   pub tokens : List Token
   pub lexed : Tokens bytes tokens
   pub spelled : IsProgram tokens p
-  pub in_scope : InScope p []
+  pub in_scope : InScope p names
 
 -- its definitions and its last expression, where each name carries what it means
-abbrev pub definitions : Program → Decls
-definitions p = resolved_decls (decls_of p.defs) (at_first [])
+abbrev pub definitions : List Name → Program → Decls
+definitions names p = resolved_decls (decls_of p.defs) (at_first names)
 
-abbrev pub last : Program → Exp
-last p = resolved (view p.last) (behind_decls (decls_of p.defs) (at_first []))
+abbrev pub last : List Name → Program → Exp
+last names p = resolved (view p.last) (behind_decls (decls_of p.defs) (at_first names))
 
 -- what reading answers: the program in scope with what its names mean, a fault of the text, or want of memory
-abbrev pub Reads : List ℕ → Result Scoped Fault → Type 0
-Reads bytes (Ok s) = (p : Program) × IsProgramOf bytes p × Resolves p [] s
-Reads bytes (Err f) = (f ≡ fault.NoMemory) ⊎ IsTextFault bytes f
+abbrev pub Reads : List Name → List ℕ → Result Scoped Fault → Type 0
+Reads names bytes (Ok s) = (p : Program) × IsProgramOf names bytes p × Resolves p names s
+Reads names bytes (Err f) = (f ≡ fault.NoMemory) ⊎ IsTextFault names bytes f
 
 -- the program was in scope before its names carried what they mean
-abbrev pub WasInScope : Scoped → Type 0
-WasInScope s = (p : Program) × Resolves p [] s
+abbrev pub WasInScope : List Name → Scoped → Type 0
+WasInScope names s = (p : Program) × Resolves p names s

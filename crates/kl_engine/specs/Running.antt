@@ -1,52 +1,106 @@
 -- What the private functions of `run` and `types` answer. No public contract cites this.
-use Rattle.std.specs.Prelude.{◌≡◌, ◌⊎◌, codes, nat_lt, true, false, List, [], ◌++◌, length, Some, None, Result, Ok, Err}
+use Rattle.std.specs.Prelude.{◌≡◌, ◌⊎◌, ℕ, ◌<◌, codes, nat_lt, Bool, true, false, List, [], ◌++◌, length, Option, Some, None, Result, Ok, Err, slice_get, All, ⊤}
+use Rattle.kl_outside.specs.Counts.{Rose}
 use Rattle.kl_outside.specs.Sinks.{SinkState, WritesWhole}
 use Rattle.kl_outside.specs.declared.stop.Stop.TheVariants as stop
-use Rattle.kl_value.specs.Written.{text_of}
 use Rattle.kl_value.specs.declared.value.Kind.TheVariants as kind
 use Rattle.kl_type.specs.Ground.{Ground, coll}
 use Rattle.kl_rows.specs.Schemes.{Instance}
 use Rattle.kl_outcome.specs.Outcome.{Name, Outcome, done, over, stuck}
 use Rattle.kl_rows.specs.declared.Scheme.{Scheme}
 use Rattle.kl_syntax.specs.Syntax.{Decls, Exp}
-use Rattle.kl_meaning.specs.Run.{meaning_of_program}
-use Rattle.kl_engine.specs.Answering.{Prints}
+use Rattle.kl_ask.specs.Driver.{State, IsTold as IsToldBy}
+use Rattle.kl_ask.specs.declared.ask.DriverError.{DriverError}
+use Rattle.kl_ask.specs.declared.ask.DriverError.TheVariants as error
+use Rattle.kl_sources.specs.Sources.{names_of}
+use Rattle.kl_sources.specs.declared.source.Source.{Source}
+use Rattle.kl_engine.specs.Answering.{kinds_of, SomeRose, KeepsDrivers, IsStored, Follows, IsOutside, IsTold, IsRun, HasTextFault, IsOneOf, PrintsNothing, IsUnread, NeedsDrivers}
+use Rattle.kl_engine.specs.Commands.{Program}
 use Rattle.kl_engine.specs.Faults.{Ending}
 use Rattle.kl_infer.specs.Numbers.{limit}
 use Rattle.kl_infer.specs.Printed.{scheme_text}
-use Rattle.kl_engine.specs.Verdict.{Verdict, well, refused, scheme_line, scheme_lines, cut_list, IsOutcome, IsDone}
+use Rattle.kl_engine.specs.Verdict.{Verdict, value_page, cut, refused, scheme_line, scheme_lines, cut_list, IsMeant, IsDone}
 use Rattle.kl_engine.specs.declared.fault.Fault.{Fault}
 use Rattle.kl_engine.specs.declared.fault.Fault.TheVariants as fault
 use Rattle.kl_engine.specs.declared.top.Purpose.{Purpose}
+use Rattle.kl_engine.specs.declared.top.Purpose.TheVariants as purpose
 
 -- each instance is the type of a list
 abbrev pub IsListScheme : Scheme → Type 0
 IsListScheme scheme = (t : Ground) → Instance scheme t → (s : Ground) × (t ≡ coll kind.List s)
 
 -- what an outcome comes to where it is that of a list, and where it is not
-abbrev pub IsListOutcome : Outcome → Verdict → Type 0
-IsListOutcome (done v) w = w ≡ well (text_of v ++ codes "\n")
-IsListOutcome (over vs) w = w ≡ cut_list vs
-IsListOutcome stuck w = ⊥
+abbrev pub IsListOutcome : Option ℕ → Outcome → Verdict → Type 0
+IsListOutcome first (done v) w = w ≡ value_page (cut first v)
+IsListOutcome first (over vs) w = w ≡ cut_list first vs
+IsListOutcome first stuck w = ⊥
 
-abbrev pub IsValueOutcome : Outcome → Verdict → Type 0
-IsValueOutcome (done v) w = w ≡ well (text_of v ++ codes "\n")
-IsValueOutcome (over vs) w = w ≡ refused fault.Overflow
-IsValueOutcome stuck w = ⊥
+abbrev pub IsValueOutcome : Option ℕ → Outcome → Verdict → Type 0
+IsValueOutcome first (done v) w = w ≡ value_page (cut first v)
+IsValueOutcome first (over vs) w = w ≡ refused fault.Overflow
+IsValueOutcome first stuck w = ⊥
 
-abbrev pub AnswersList : Outcome → Ending → SinkState → SinkState → Type 0
-AnswersList o end out out' = (v : Verdict) × IsListOutcome o v × Prints v end out out'
+abbrev pub IsOutcome : Bool → Option ℕ → Outcome → Verdict → Type 0
+IsOutcome true first o w = IsListOutcome first o w
+IsOutcome false first o w = IsValueOutcome first o w
 
-abbrev pub AnswersValue : Outcome → Ending → SinkState → SinkState → Type 0
-AnswersValue o end out out' = (v : Verdict) × IsValueOutcome o v × Prints v end out out'
+-- how it is told that a driver refuses a source
+abbrev pub fault_of : Name → DriverError → Fault
+fault_of x error.Failed = fault.Read
+fault_of x (error.BadSource place) = fault.BadSource x place
+fault_of x (error.TooLong place) = fault.FileBytes
+fault_of x (error.TooDeep place) = fault.ItemNesting
+fault_of x (error.Changed drift) = fault.Changed x
+fault_of x error.NoMemory = fault.NoMemory
 
--- what a purpose makes of a program is printed, or memory ran out before
-abbrev pub DoneWith : Purpose → Decls → Exp → Ending → SinkState → SinkState → Type 0
-DoneWith p ds e end out out' = ((end ≡ Some fault.NoMemory) × (out' ≡ out)) ⊎ ((v : Verdict) × IsDone p ds e v × Prints v end out out')
+-- the ends of a term that is evaluated over sources that are attached
+abbrev pub HasRunFault : Fault → Type 0
+HasRunFault fault.Overflow = ⊤
+HasRunFault fault.Read = ⊤
+HasRunFault (fault.Changed name) = ⊤
+HasRunFault fault.Write = ⊤
+HasRunFault fault.NoMemory = ⊤
+HasRunFault f = ⊥
 
--- what the program means is printed
-abbrev pub Answers : Decls → Exp → Ending → SinkState → SinkState → Type 0
-Answers ds e end out out' = (v : Verdict) × IsOutcome ds e (meaning_of_program ds e []) v × Prints v end out out'
+-- An outcome is printed. Where the sources are told it is that of the term, and in any case each fault has its cause.
+pub record AnswersTerm (IsOutcome : Verdict → Type 0) (told : Type 0) (end : Ending) (ds ds' : List State) (out out' : SinkState) : Type 0 where
+  pub follows : told → (v : Verdict) × IsOutcome v × Follows ⊥ v end ds ds' out out'
+  pub read : end ≡ Some fault.Read → SomeRose (λ d. d.faults) ds ds'
+  pub write : end ≡ Some fault.Write → Rose out.faults out'.faults
+  pub changed : (name : Name) → end ≡ Some (fault.Changed name) → SomeRose (λ d. d.drifts) ds ds'
+  pub no_other : IsOneOf HasRunFault end
+  pub nothing : PrintsNothing (Program (purpose.Run None) [] None) end → out' ≡ out
+  pub drivers : KeepsDrivers (λ name. ⊥) ds ds'
+
+-- How what is done with a program ends: a fault of the outside or want of memory came before anything was printed; or a
+-- verdict of the program is followed; or it comes to sources that are not told, and so to no verdict.
+pub data Ends (IsVerdict : (ℕ → Bool) → Verdict → Type 0) (ss : List Source) (marks : ℕ → Bool) (p : Purpose) (end : Ending) (ds ds' : List State) (out out' : SinkState) : Type 0 where
+  before : out' ≡ out → (IsTold end → ⊥) → ((v : Verdict) → IsOutside ⊥ v end ds ds' out out') → Ends IsVerdict ss marks p end ds ds' out out'
+  followed : (v : Verdict) → IsVerdict marks v → Follows ⊥ v end ds ds' out out' → Ends IsVerdict ss marks p end ds ds' out out'
+  untold : ((others : ℕ → Bool) → ((i : ℕ) → i < length ss → marks i ≡ others i) → (v : Verdict) → IsVerdict others v → ⊥) → (All IsToldBy ds → ⊥) → (IsTold end → NeedsDrivers p end) → Ends IsVerdict ss marks p end ds ds' out out'
+
+-- a name of the sources that is mentioned
+abbrev pub IsNamed : List Source → (ℕ → Bool) → Name → Type 0
+IsNamed ss marks name = (i : ℕ) × (slice_get (names_of ss) i ≡ Some name) × (marks i ≡ true)
+
+pub record DoneBy (IsVerdict : (ℕ → Bool) → Verdict → Type 0) (ss : List Source) (marks : ℕ → Bool) (p : Purpose) (end : Ending) (ds ds' : List State) (out out' : SinkState) : Type 0 where
+  pub ends : Ends IsVerdict ss marks p end ds ds' out out'
+  pub read : end ≡ Some fault.Read → IsStored (kinds_of ds) fault.Read ⊎ SomeRose (λ d. d.faults) ds ds'
+  pub write : end ≡ Some fault.Write → Rose out.faults out'.faults
+  pub unread : (f : Fault) → end ≡ Some f → IsUnread f → IsStored (kinds_of ds) f ⊎ SomeRose (λ d. d.unread) ds ds'
+  pub changed : (name : Name) → end ≡ Some (fault.Changed name) → SomeRose (λ d. d.drifts) ds ds'
+  pub no_other : IsOneOf (HasTextFault p) end
+  pub nothing : PrintsNothing (Program p [] None) end → out' ≡ out
+  pub drivers : KeepsDrivers (IsNamed ss marks) ds ds'
+  pub still : (IsRun p → ⊥) → ds' ≡ ds
+
+-- what a purpose makes of a program is done
+abbrev pub DoneWith : List Source → (ℕ → Bool) → Purpose → Decls → Exp → Ending → List State → List State → SinkState → SinkState → Type 0
+DoneWith ss marks p program e end ds ds' out out' = DoneBy (λ others. IsDone (kinds_of ds) ss others p program e) ss marks p end ds ds' out out'
+
+-- what a run of a program with a typing comes to is done
+abbrev pub DoneMeaning : List Source → (ℕ → Bool) → Option ℕ → Decls → Exp → Ending → List State → List State → SinkState → SinkState → Type 0
+DoneMeaning ss marks first program e end ds ds' out out' = DoneBy (λ others. IsMeant (kinds_of ds) ss others first program e) ss marks (purpose.Run first) end ds ds' out out'
 
 -- the line of a declaration is written, or nothing where the text of its scheme is too long
 abbrev pub ListsLine : Name × Scheme → Result (Unit {0}) Fault → SinkState → SinkState → Type 0

@@ -1,5 +1,5 @@
 -- What the private functions of `show` answer. No public contract cites this.
-use Rattle.std.specs.Prelude.{◌≡◌, ℕ, ◌≤◌, Bool, true, false, List, [], Some, Result, IsOk, IsSome}
+use Rattle.std.specs.Prelude.{◌≡◌, ◌≢◌, ◌⊎◌, ℕ, ◌≤◌, Bool, true, false, List, [], Some, Result, IsOk, IsSome}
 use Rattle.kl_exchange.specs.declared.error.FileError.{FileError}
 use Rattle.kl_exchange.specs.declared.error.FileError.TheVariants as error
 use Rattle.kl_exchange.specs.declared.error.PrintError.{PrintError}
@@ -7,13 +7,14 @@ use Rattle.kl_exchange.specs.declared.error.PrintError.TheVariants as print
 use Rattle.kl_exchange.specs.declared.error.ReadError.{ReadError}
 use Rattle.kl_exchange.specs.declared.error.ReadError.TheVariants as read
 use Rattle.kl_outside.specs.Counts.{Rose}
-use Rattle.kl_outside.specs.Files.{FilesState, OtherFiles}
-use Rattle.kl_outside.specs.Sinks.{SinkState, WritesWhole}
+use Rattle.std.specs.Io.KnownBytes.{append_known}
+use Rattle.kl_outside.specs.Files.{FilesState, OtherFiles, IsMissing}
+use Rattle.kl_outside.specs.Sinks.{SinkState, WritesWhole, TookPart}
 use Rattle.kl_outside.specs.declared.stop.Stop.{Stop}
-use Rattle.kl_engine.specs.Answering.{Follows, IsTold, IsOneOf, HasFault}
+use Rattle.kl_engine.specs.Answering.{IsTold, IsOneOf, HasFault}
 use Rattle.kl_engine.specs.Commands.{Show}
 use Rattle.kl_engine.specs.Faults.{Ending}
-use Rattle.kl_engine.specs.Verdict.{Verdict, IsShowing}
+use Rattle.kl_engine.specs.Verdict.{Verdict, refused, IsFile, IsShowing}
 use Rattle.kl_engine.specs.declared.fault.Fault.{Fault}
 use Rattle.kl_engine.specs.declared.fault.Fault.TheVariants as fault
 
@@ -38,6 +39,24 @@ pub record Flushes {T : Type 0} (begun : Bool) (result : Result T Stop) (held af
   pub writes : begun ≡ true → WritesWhole held result old new × (after ≡ [])
   pub idle : begun ≡ false → IsOk result × (after ≡ held) × (new ≡ old)
 
+-- The end of a verdict on a file, or a fault of the outside with its cause, or want of memory, came first. What was printed
+-- is the verdict's page, or a front of it.
+pub record FollowsFile (v : Verdict) (end : Ending) (files files' : FilesState) (out out' : SinkState) : Type 0 where
+  pub ends : (end ≡ v.ending) ⊎ ((end ≡ Some fault.Read) × Rose files.faults files'.faults) ⊎ ((end ≡ Some fault.Write) × Rose out.faults out'.faults × (v.page ≢ [])) ⊎ (end ≡ Some fault.NoMemory)
+  pub whole : end ≡ v.ending → out'.taken ≡ append_known out.taken v.page
+  pub part : TookPart v.page out out'
+  pub missing : v ≡ refused fault.Read → (end ≡ Some fault.Read) × (out' ≡ out)
+
+-- the file at a path is shown
+pub record DoesShow (path : List ℕ) (end : Ending) (files files' : FilesState) (out out' : SinkState) : Type 0 where
+  pub follows : (told : _) → files.told ≡ Some told → (v : Verdict) → IsFile IsShowing (told path) v → FollowsFile v end files files' out out'
+  pub meant : (told : _) → files.told ≡ Some told → IsTold end → (v : Verdict) × IsFile IsShowing (told path) v × (v.ending ≡ end)
+  pub read : end ≡ Some fault.Read → IsMissing files path ⊎ Rose files.faults files'.faults
+  pub write : end ≡ Some fault.Write → Rose out.faults out'.faults
+  pub no_other : IsOneOf (HasFault (Show path)) end
+  pub left : files'.left ≡ files.left
+  pub told : files'.told ≡ files.told
+
 -- what an open file has left is shown
 pub record ShowsItems (file : ℕ) (end : Ending) (files files' : FilesState) (out out' : SinkState) : Type 0 where
   pub told : files'.told ≡ files.told
@@ -47,5 +66,5 @@ pub record ShowsItems (file : ℕ) (end : Ending) (files files' : FilesState) (o
   pub read : end ≡ Some fault.Read → Rose files.faults files'.faults
   pub write : end ≡ Some fault.Write → Rose out.faults out'.faults
   pub no_other : IsOneOf (HasFault (Show [])) end
-  pub follows : (bytes : List ℕ) → files.left file ≡ Some (Some bytes) → (v : Verdict) → IsShowing bytes v → Follows v end files files' out out'
+  pub follows : (bytes : List ℕ) → files.left file ≡ Some (Some bytes) → (v : Verdict) → IsShowing bytes v → FollowsFile v end files files' out out'
   pub meant : (bytes : List ℕ) → files.left file ≡ Some (Some bytes) → IsTold end → (v : Verdict) × IsShowing bytes v × (v.ending ≡ end)

@@ -1,5 +1,7 @@
--- What inferring the types of a program answers. No public contract cites this.
-use Rattle.std.specs.Prelude.{◌≡◌, ◌⊎◌, ℕ, [], Some, None, Result, Ok, Err}
+-- What inferring the types of a program answers, over sources of these types. No public contract cites this.
+use Rattle.std.specs.Prelude.{◌≡◌, ◌⊎◌, ℕ, List, [], Some, None, Result, Ok, Err}
+use Rattle.kl_type.specs.Ground.{Ground}
+use Rattle.kl_outcome.specs.Outcome.{Name}
 use Rattle.kl_syntax.specs.Syntax.{Decls, Exp}
 use Rattle.kl_scope.specs.Sizes.{declared}
 use Rattle.kl_scope.specs.declared.counting.SizeBreach.{SizeBreach}
@@ -19,20 +21,20 @@ abbrev pub FitsSizes : Decls → Exp → Type 0
 FitsSizes ds e = size_fault (declared ds e []) ≡ None
 
 -- a term is too large; or a declaration has no type
-abbrev pub IsTypingFault : Decls → Exp → Fault → Type 0
-IsTypingFault ds e f = (size_fault (declared ds e []) ≡ Some f) ⊎ (FitsSizes ds e × (n : ℕ) × IsIllTyped ds e [] n × (f ≡ fault.IllTyped n))
+abbrev pub IsTypingFault : List (Name × Ground) → Decls → Exp → Fault → Type 0
+IsTypingFault grounds ds e f = (size_fault (declared ds e []) ≡ Some f) ⊎ (FitsSizes ds e × (n : ℕ) × IsIllTyped ds e grounds n × (f ≡ fault.IllTyped n))
 
 -- its terms fit, and it has these types
-pub record IsTyped (ds : Decls) (e : Exp) (typed : Typed) : Type 0 where
+pub record IsTyped (grounds : List (Name × Ground)) (ds : Decls) (e : Exp) (typed : Typed) : Type 0 where
   pub fits : FitsSizes ds e
-  pub infers : Infers ds e [] typed
+  pub infers : Infers ds e grounds typed
 
 -- what inferring the types of a program answers
-abbrev pub Types : Decls → Exp → Result Typed Fault → Type 0
-Types ds e (Ok typed) = IsTyped ds e typed
-Types ds e (Err f) = (f ≡ fault.NoMemory) ⊎ IsTypingFault ds e f
+abbrev pub Types : List (Name × Ground) → Decls → Exp → Result Typed Fault → Type 0
+Types grounds ds e (Ok typed) = IsTyped grounds ds e typed
+Types grounds ds e (Err f) = (f ≡ fault.NoMemory) ⊎ IsTypingFault grounds ds e f
 
 -- the same of terms of any size
-abbrev pub TypesOfAny : Decls → Exp → Result Typed Fault → Type 0
-TypesOfAny ds e (Ok typed) = Infers ds e [] typed
-TypesOfAny ds e (Err f) = (f ≡ fault.NoMemory) ⊎ ((n : ℕ) × IsIllTyped ds e [] n × (f ≡ fault.IllTyped n))
+abbrev pub TypesOfAny : List (Name × Ground) → Decls → Exp → Result Typed Fault → Type 0
+TypesOfAny grounds ds e (Ok typed) = Infers ds e grounds typed
+TypesOfAny grounds ds e (Err f) = (f ≡ fault.NoMemory) ⊎ ((n : ℕ) × IsIllTyped ds e grounds n × (f ≡ fault.IllTyped n))

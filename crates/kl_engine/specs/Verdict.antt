@@ -1,10 +1,11 @@
 -- What words mean over files: what is to be printed, and the fault with which that ends.
-use Rattle.std.specs.Prelude.{◌≡◌, ◌⊎◌, ℕ, ◌<◌, ◌≤◌, nat_lt, List, [], ◌∷◌, ◌++◌, length, map, codes, Option, Some, None, if◌then◌else◌}
+use Rattle.std.specs.Prelude.{◌≡◌, ◌⊎◌, ℕ, ◌<◌, ◌≤◌, ◌↔◌, nat_lt, nat_le, Bool, false, IsTrue, List, [], ◌∷◌, ◌++◌, length, map, take, codes, Option, Some, None, if◌then◌else◌}
 use Rattle.std.specs.List.{flat_map, zip}
 use Rattle.kl_exchange.specs.FileItems.{FileEnd, WholeText, BadAt, TooDeepAt, PastLimit, Shows, most_read}
 use Rattle.kl_value.specs.Written.{text_of, with_commas}
 use Rattle.kl_value.specs.declared.value.Kind.TheVariants as kind
 use Rattle.kl_value.specs.declared.value.Value.{Value}
+use Rattle.kl_value.specs.declared.value.Value.TheVariants as value
 use Rattle.kl_type.specs.Ground.{Ground, coll}
 use Rattle.kl_rows.specs.declared.Scheme.{Scheme}
 use Rattle.kl_outcome.specs.Outcome.{Name, Outcome, done, over, stuck}
@@ -18,6 +19,11 @@ use Rattle.kl_infer.specs.Inferred.{Infers, IsIllTyped}
 use Rattle.kl_infer.specs.Numbers.{limit}
 use Rattle.kl_infer.specs.Printed.{scheme_text}
 use Rattle.kl_infer.specs.declared.Typed.{Typed}
+use Rattle.kl_scope.specs.Breaches.{Mentions}
+use Rattle.kl_ask.specs.Driver.{DriverKind, Stored, Missing, Bad, Long, Deep, Rows}
+use Rattle.kl_sources.specs.Sources.{names_of, grounds_of, HaveValues, FirstWithout}
+use Rattle.kl_sources.specs.declared.source.Source.{Source}
+use Rattle.kl_engine.specs.Catalogues.{IsCatalogueFault, IsCatalogueOf}
 use Rattle.kl_engine.specs.Reading.{IsTextFault, IsProgramOf, definitions, last}
 use Rattle.kl_engine.specs.Commands.{Command, Neither, Program as AProgram, Show}
 use Rattle.kl_engine.specs.Faults.{Ending}
@@ -41,11 +47,13 @@ refused f = record { page = []; ending = Some f }
 abbrev pub most_bytes : ℕ
 most_bytes = 65536
 
--- The order of refusals. First the words, then the file that they name: that it is missing, and what its bytes are.
--- Of a program these are too many first, and then they are no program in scope or come to something.
+-- The order of refusals. First the words, then the file that they name: that it is missing, and what its bytes are. Of a
+-- program these are too many first; then comes the catalogue: that it is missing, too many bytes, its text, its entries in
+-- their order; and then the text of the program.
 
 -- What the text of a program comes to: where it is one in scope, of each declaration that its term is too large, then
--- that it has no type; and then what it is asked for.
+-- that it has no type; and then what it is asked for. A run reads the sources that the program mentions, in the order of
+-- the catalogue.
 
 -- the fault of the first declaration that is past a limit, by the sizes of their terms
 abbrev pub size_fault : List Size → Option Fault
@@ -60,8 +68,8 @@ abbrev pub IsSized : Decls → Exp → (Verdict → Type 0) → Verdict → Type
 IsSized ds e Goes v = AfterSizes (size_fault (declared ds e [])) Goes v
 
 -- the program has no typing: the first declaration without one is told
-abbrev pub IsUntyped : Decls → Exp → Verdict → Type 0
-IsUntyped ds e v = (n : ℕ) × IsIllTyped ds e [] n × (v ≡ refused (fault.IllTyped n))
+abbrev pub IsUntyped : List (Name × Ground) → Decls → Exp → Verdict → Type 0
+IsUntyped grounds ds e v = (n : ℕ) × IsIllTyped ds e grounds n × (v ≡ refused (fault.IllTyped n))
 
 -- ---- `types`
 
@@ -86,39 +94,75 @@ scheme_lines [] = well []
 scheme_lines (d ∷ ds) = if nat_lt limit (length (scheme_text d.1)) then refused fault.SchemeBytes else behind (scheme_line d) (scheme_lines ds)
 
 -- the principal schemes of the declarations are listed
-abbrev pub IsListing : Decls → Exp → Verdict → Type 0
-IsListing ds e v = (typed : Typed) × Infers ds e [] typed × (v ≡ scheme_lines (named_schemes ds typed))
+abbrev pub IsListing : List (Name × Ground) → Decls → Exp → Verdict → Type 0
+IsListing grounds ds e v = (typed : Typed) × Infers ds e grounds typed × (v ≡ scheme_lines (named_schemes ds typed))
 
 -- ---- `run`
 
 -- each type of the program is one of lists
-abbrev pub GivesList : Decls → Exp → Type 0
-GivesList ds e = (t : Ground) → ProgramTypes ds e [] t → (s : Ground) × (t ≡ coll kind.List s)
+abbrev pub GivesList : List (Name × Ground) → Decls → Exp → Type 0
+GivesList grounds ds e = (t : Ground) → ProgramTypes ds e grounds t → (s : Ground) × (t ≡ coll kind.List s)
+
+-- the first of some items, where a number is given
+abbrev pub first_of : Option ℕ → List Value → List Value
+first_of None vs = vs
+first_of (Some n) vs = take n vs
+
+-- a collection is cut to its first items
+abbrev pub cut : Option ℕ → Value → Value
+cut first (value.Set vs) = value.Set (first_of first vs)
+cut first (value.Bag vs) = value.Bag (first_of first vs)
+cut first (value.List vs) = value.List (first_of first vs)
+cut first v = v
+
+-- whether so many items are wanted that these are enough
+abbrev pub suffice : Option ℕ → List Value → Bool
+suffice None vs = false
+suffice (Some n) vs = nat_le n (length vs)
+
+-- a value and a newline
+abbrev pub value_page : Value → Verdict
+value_page v = well (text_of v ++ codes "\n")
 
 -- a list as far as it goes, without its end
 abbrev pub list_front : List Value → List ℕ
 list_front vs = codes "[|" ++ with_commas (map text_of vs)
 
--- its items up to an overflow
-abbrev pub cut_list : List Value → Verdict
-cut_list vs = record { page = list_front vs; ending = Some fault.Overflow }
+-- the items of a list up to an overflow
+abbrev pub overflowing : List Value → Verdict
+overflowing vs = record { page = list_front vs; ending = Some fault.Overflow }
+
+-- the same where no more than the first are wanted: if these stand before it, the overflow is not come to
+abbrev pub cut_list : Option ℕ → List Value → Verdict
+cut_list first vs = if suffice first vs then value_page (value.List (first_of first vs)) else overflowing vs
 
 -- a value and a newline; or an overflow, before which of a list its items are printed, and of all else nothing
-abbrev pub IsOutcome : Decls → Exp → Outcome → Verdict → Type 0
-IsOutcome ds e (done v) w = w ≡ well (text_of v ++ codes "\n")
-IsOutcome ds e (over vs) w = (GivesList ds e × (w ≡ cut_list vs)) ⊎ ((GivesList ds e → ⊥) × (w ≡ refused fault.Overflow))
-IsOutcome ds e stuck w = ⊥
+abbrev pub IsOutcome : List (Name × Ground) → Option ℕ → Decls → Exp → Outcome → Verdict → Type 0
+IsOutcome grounds first ds e (done v) w = w ≡ value_page (cut first v)
+IsOutcome grounds first ds e (over vs) w = (GivesList grounds ds e × (w ≡ cut_list first vs)) ⊎ ((GivesList grounds ds e → ⊥) × (w ≡ refused fault.Overflow))
+IsOutcome grounds first ds e stuck w = ⊥
 
--- a program that has a typing comes to what it means
-abbrev pub IsMeant : Decls → Exp → Verdict → Type 0
-IsMeant ds e v = HasTyping ds e [] × IsOutcome ds e (meaning_of_program ds e []) v
+-- what stands at a source in place of rows
+abbrev pub stored_fault : Name → Stored → Option Fault
+stored_fault name Missing = Some fault.Read
+stored_fault name (Bad place) = Some (fault.BadSource name place)
+stored_fault name (Long most) = Some fault.FileBytes
+stored_fault name (Deep place) = Some fault.ItemNesting
+stored_fault name (Rows rows) = None
+
+-- The first source that the program mentions and that has no rows is refused; or else the program comes to what it
+-- means over the values of its sources.
+abbrev pub IsMeant : List DriverKind → List Source → (ℕ → Bool) → Option ℕ → Decls → Exp → Verdict → Type 0
+IsMeant ks ss marks first ds e v =
+    ((s : Source) × (w : Stored) × (f : Fault) × FirstWithout ks marks 0 ss s w × (stored_fault s.name w ≡ Some f) × (v ≡ refused f))
+    ⊎ ((vs : List (Name × Value)) × HaveValues ks marks 0 ss vs × IsOutcome (grounds_of ss) first ds e (meaning_of_program ds e vs) v)
 
 -- ---- all that is done with programs
 
-abbrev pub IsDone : Purpose → Decls → Exp → Verdict → Type 0
-IsDone purpose.Check ds e v = v ≡ well (codes "ok\n")
-IsDone purpose.Types ds e v = IsSized ds e (λ w. IsUntyped ds e w ⊎ IsListing ds e w) v
-IsDone purpose.Run ds e v = IsSized ds e (λ w. IsUntyped ds e w ⊎ IsMeant ds e w) v
+abbrev pub IsDone : List DriverKind → List Source → (ℕ → Bool) → Purpose → Decls → Exp → Verdict → Type 0
+IsDone ks ss marks purpose.Check ds e v = v ≡ well (codes "ok\n")
+IsDone ks ss marks purpose.Types ds e v = IsSized ds e (λ w. IsUntyped (grounds_of ss) ds e w ⊎ IsListing (grounds_of ss) ds e w) v
+IsDone ks ss marks (purpose.Run first) ds e v = IsSized ds e (λ w. IsUntyped (grounds_of ss) ds e w ⊎ (HasTyping ds e (grounds_of ss) × IsMeant ks ss marks first ds e w)) v
 
 -- the fault of what stands behind the items of a file
 abbrev pub end_fault : FileEnd → Ending
@@ -135,19 +179,55 @@ lines vs = flat_map (λ v. text_of v ++ codes "\n") vs
 abbrev pub IsShowing : List ℕ → Verdict → Type 0
 IsShowing bytes v = (vs : List Value) × (end : FileEnd) × Shows most_read bytes vs end × (v ≡ record { page = lines vs; ending = end_fault end })
 
--- what the text of a program comes to
-abbrev pub IsText : Purpose → List ℕ → Verdict → Type 0
-IsText p bytes v = ((f : Fault) × IsTextFault bytes f × (v ≡ refused f)) ⊎ ((q : Program) × IsProgramOf bytes q × IsDone p (definitions q) (last q) v)
+-- these marks tell which sources the program mentions
+abbrev pub AreMarks : Program → List Name → (ℕ → Bool) → Type 0
+AreMarks q names marks = (i : ℕ) → i < length names → IsTrue (marks i) ↔ Mentions q names i
 
-abbrev pub IsProgram : Purpose → List ℕ → Verdict → Type 0
-IsProgram p bytes v = ((most_bytes < length bytes) × (v ≡ refused fault.ProgramBytes)) ⊎ ((length bytes ≤ most_bytes) × IsText p bytes v)
+-- what the text of a program comes to, over some drivers and sources
+abbrev pub IsText : List DriverKind → List Source → Purpose → List ℕ → Verdict → Type 0
+IsText ks ss p bytes v =
+    ((f : Fault) × IsTextFault (names_of ss) bytes f × (v ≡ refused f))
+    ⊎ ((q : Program) × (marks : ℕ → Bool) × IsProgramOf (names_of ss) bytes q × AreMarks q (names_of ss) marks × IsDone ks ss marks p (definitions (names_of ss) q) (last (names_of ss) q) v)
+
+-- ---- files
+
+-- what is wrong with a file: it is missing, or has too many bytes, or its bytes are wrong
+abbrev pub IsFileFault : Fault → (List ℕ → Fault → Type 0) → Option (List ℕ) → Fault → Type 0
+IsFileFault long AreWrong None f = f ≡ fault.Read
+IsFileFault long AreWrong (Some bytes) f = ((most_bytes < length bytes) × (f ≡ long)) ⊎ ((length bytes ≤ most_bytes) × AreWrong bytes f)
+
+-- what is wrong with the catalogue that a command names, if it names one
+abbrev pub IsSourcesFault : (List ℕ → Option (List ℕ)) → List DriverKind → Option (List ℕ) → Fault → Type 0
+IsSourcesFault told ks None f = ⊥
+IsSourcesFault told ks (Some path) f = IsFileFault fault.CatalogueBytes (IsCatalogueFault ks) (told path) f
+
+-- the sources of a command: those of its catalogue, and none where it names none
+abbrev pub HasSources : (List ℕ → Option (List ℕ)) → List DriverKind → Option (List ℕ) → List Source → Type 0
+HasSources told ks None ss = ss ≡ []
+HasSources told ks (Some path) ss = (bytes : List ℕ) × (told path ≡ Some bytes) × (length bytes ≤ most_bytes) × IsCatalogueOf ks bytes ss
+
+-- what is wrong with the files of a command: first with its program, and then with its catalogue
+abbrev pub IsInputsFault : (List ℕ → Option (List ℕ)) → List DriverKind → List ℕ → Option (List ℕ) → Fault → Type 0
+IsInputsFault told ks path catalogue f = IsFileFault fault.ProgramBytes (λ text. IsSourcesFault told ks catalogue) (told path) f
+
+-- a command has this text and these sources
+pub record HasInputs (told : List ℕ → Option (List ℕ)) (ks : List DriverKind) (path : List ℕ) (catalogue : Option (List ℕ)) (text : List ℕ) (ss : List Source) : Type 0 where
+  pub at : told path ≡ Some text
+  pub few : length text ≤ most_bytes
+  pub sources : HasSources told ks catalogue ss
+
+-- what is wrong with its files is told first, and then what its text comes to
+abbrev pub IsProgram : (List ℕ → Option (List ℕ)) → List DriverKind → Purpose → List ℕ → Option (List ℕ) → Verdict → Type 0
+IsProgram told ks p path catalogue v =
+    ((f : Fault) × IsInputsFault told ks path catalogue f × (v ≡ refused f))
+    ⊎ ((text : List ℕ) × (ss : List Source) × HasInputs told ks path catalogue text ss × IsText ks ss p text v)
 
 abbrev pub IsFile : (List ℕ → Verdict → Type 0) → Option (List ℕ) → Verdict → Type 0
 IsFile AreBytes None v = v ≡ refused fault.Read
 IsFile AreBytes (Some bytes) v = AreBytes bytes v
 
--- the verdict on a command, over files with these bytes
-abbrev pub IsVerdict : (List ℕ → Option (List ℕ)) → Command → Verdict → Type 0
-IsVerdict told Neither v = v ≡ refused fault.Usage
-IsVerdict told (AProgram p path) v = IsFile (IsProgram p) (told path) v
-IsVerdict told (Show path) v = IsFile IsShowing (told path) v
+-- the verdict on a command, over files with these bytes and drivers of these kinds
+abbrev pub IsVerdict : (List ℕ → Option (List ℕ)) → List DriverKind → Command → Verdict → Type 0
+IsVerdict told ks Neither v = v ≡ refused fault.Usage
+IsVerdict told ks (AProgram p path catalogue) v = IsProgram told ks p path catalogue v
+IsVerdict told ks (Show path) v = IsFile IsShowing (told path) v

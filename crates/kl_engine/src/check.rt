@@ -1,5 +1,6 @@
 //! What `check` does with a program's text: it reads it, looks its names up, and prints that it is well.
-ghost use Rattle.std.specs.Prelude.{◌≤◌, length};
+ghost use Rattle.std.specs.Prelude.{◌≤◌, List, length};
+ghost use Rattle.kl_ask.specs.Driver.{State};
 ghost use Rattle.kl_engine.specs.Answering.{DoesText};
 ghost use Rattle.kl_engine.specs.Faults.{ending};
 ghost use Rattle.kl_engine.specs.declared.top.Purpose.TheVariants.{Check};
@@ -8,15 +9,24 @@ use crate::fault::Fault;
 use crate::page::print_page;
 use crate::read::read_program;
 use kl_outside::Sink;
+use kl_sources::{Source, names_of};
 use std::alloc::Global;
 
-/// Checks the program that a text is.
-pub fn check<S: Sink>(alloc: Global, text: &[u8], out: &mut S) -> Result<(), Fault>
+/// Checks the program that a text is, over these sources.
+pub fn check<S: Sink>(
+    alloc: Global,
+    text: &[u8],
+    sources: &[Source],
+    out: &mut S,
+) -> Result<(), Fault>
     requires { length text.now ≤ 65536 }
-    ensures { DoesText Check text.now (ending result) (S.state out.old) (S.state out.new) }
+    ensures { (ds : List State) → DoesText sources.now Check text.now (ending result) ds ds (S.state out.old) (S.state out.new) }
 {
-    match read_program(alloc, text) {
-        Ok(_) => print_page(b"ok\n", out),
-        Err(fault) => Err(fault),
+    match names_of(alloc, sources) {
+        Ok(names) => match read_program(alloc, text, &names) {
+            Ok(_) => print_page(b"ok\n", out),
+            Err(fault) => Err(fault),
+        },
+        Err(_) => Err(Fault::NoMemory),
     }
 }

@@ -2,7 +2,7 @@
 ghost use Rattle.std.specs.Prelude.{◌≡◌, List, [], ◌∷◌, ℕ, codes, decimal};
 ghost use Rattle.std.specs.List.{flat_map};
 ghost use Rattle.kl_outside.specs.Sinks.{WritesWhole};
-ghost use Rattle.kl_engine.specs.Faults.{fault_status, fault_line, joined, wrong_line, text_line, TookLine};
+ghost use Rattle.kl_engine.specs.Faults.{fault_status, fault_line, bad_line, joined, wrong_line, text_line, TookLine};
 
 use itoa::Buffer;
 use kl_base::Label;
@@ -17,23 +17,38 @@ pub enum Fault {
     Text(Wrong, u32),
     /// The program has no typing: this declaration, counted from 0, is the first without one.
     IllTyped(u32),
+    /// The catalogue's text is wrong at this byte: that of the token, or the text's length where tokens are missing.
+    Catalogue(u32),
+    /// An entry of the catalogue has a name that stands before, or a primitive's.
+    NameTwice(Label),
+    /// An entry of the catalogue names a driver that is not there.
+    NoDriver(Label),
+    /// An entry of the catalogue has a type that does not suit its driver.
+    Unsuited(Label),
     /// The file that is shown is no exchange text; its longest prefix that begins one has this length.
     BadFile(u64),
+    /// The source of this name is unreadable as its type, from this place on: of a table the record of this number, the
+    /// header being 0.
+    BadSource(Label, u64),
     /// The program means an overflow.
     Overflow,
-    /// The file is missing or could not be read.
+    /// A file is missing or could not be read.
     Read,
     /// `out` refused a write.
     Write,
     /// Want of memory.
     NoMemory,
+    /// The source of this name is not what it was when it was attached.
+    Changed(Label),
     /// The program has more than 65,536 bytes.
     ProgramBytes,
-    /// The file that is shown has more than 17,179,869,184 bytes.
+    /// The catalogue has more than 65,536 bytes.
+    CatalogueBytes,
+    /// The file that is shown has more than 17,179,869,184 bytes, or that of a source more than its driver reads.
     FileBytes,
-    /// The program nests deeper than 256.
+    /// The program or the catalogue nests deeper than 256.
     Nesting,
-    /// An item of the file that is shown has a bracket inside 256 others.
+    /// An item of the file that is shown, or of a source, has a bracket inside 256 others.
     ItemNesting,
     /// The term of a declaration has more than 4,096 nodes.
     TermNodes,
@@ -68,12 +83,18 @@ pub fn status(fault: &Fault) -> u8
         Fault::Usage => 1,
         Fault::Text(_, _) => 2,
         Fault::IllTyped(_) => 3,
-        Fault::BadFile(_) => 5,
+        Fault::Catalogue(_)
+        | Fault::NameTwice(_)
+        | Fault::NoDriver(_)
+        | Fault::Unsuited(_) => 4,
+        Fault::BadFile(_) | Fault::BadSource(_, _) => 5,
         Fault::Overflow => 6,
         Fault::Read => 7,
         Fault::Write => 8,
         Fault::NoMemory => 9,
+        Fault::Changed(_) => 11,
         Fault::ProgramBytes
+        | Fault::CatalogueBytes
         | Fault::FileBytes
         | Fault::Nesting
         | Fault::ItemNesting
@@ -102,21 +123,39 @@ fn write_line<E: Sink>(fault: &Fault, path: &[u8], err: &mut E) -> Result<(), St
         ),
         Fault::Text(wrong, byte) => write_wrong(wrong, *byte, err),
         Fault::IllTyped(decl) => write_untyped(*decl as u64 + 1, err),
-        Fault::BadFile(place) => write_parts(
+        Fault::BadFile(place) => write_bad_source(path, *place, err),
+        Fault::Catalogue(byte) => write_parts(
             err,
             &[
-                b"source ",
-                path,
-                b": bad at ",
-                Buffer::new().format(*place).as_bytes(),
+                b"catalogue: syntax at byte ",
+                Buffer::new().format(*byte).as_bytes(),
                 b"\n",
             ],
         ),
+        Fault::NameTwice(name) => write_parts(
+            err,
+            &[b"catalogue: name ", name.slice(), b" twice\n"],
+        ),
+        Fault::NoDriver(name) => write_parts(
+            err,
+            &[b"catalogue: no driver ", name.slice(), b"\n"],
+        ),
+        Fault::Unsuited(name) => write_parts(
+            err,
+            &[
+                b"catalogue: type of ",
+                name.slice(),
+                b" does not suit its driver\n",
+            ],
+        ),
+        Fault::BadSource(name, place) => write_bad_source(name.slice(), *place, err),
+        Fault::Changed(name) => write_parts(err, &[b"source ", name.slice(), b" changed\n"]),
         Fault::Overflow => write_whole(err, b"overflow\n"),
         Fault::Read => write_whole(err, b"read fault\n"),
         Fault::Write => write_whole(err, b"write fault\n"),
         Fault::NoMemory => write_whole(err, b"out of memory\n"),
         Fault::ProgramBytes => write_whole(err, b"limit: program bytes\n"),
+        Fault::CatalogueBytes => write_whole(err, b"limit: catalogue bytes\n"),
         Fault::FileBytes => write_whole(err, b"limit: file bytes\n"),
         Fault::Nesting => write_whole(err, b"limit: nesting\n"),
         Fault::ItemNesting => write_whole(err, b"limit: item nesting\n"),
@@ -124,6 +163,21 @@ fn write_line<E: Sink>(fault: &Fault, path: &[u8], err: &mut E) -> Result<(), St
         Fault::TermDepth => write_whole(err, b"limit: term depth\n"),
         Fault::SchemeBytes => write_whole(err, b"limit: scheme bytes\n"),
     }
+}
+
+fn write_bad_source<E: Sink>(name: &[u8], place: u64, err: &mut E) -> Result<(), Stop>
+    ensures { WritesWhole (bad_line name.now place) result (E.state err.old) (E.state err.new) }
+{
+    write_parts(
+        err,
+        &[
+            b"source ",
+            name,
+            b": bad at ",
+            Buffer::new().format(place).as_bytes(),
+            b"\n",
+        ],
+    )
 }
 
 fn write_untyped<E: Sink>(number: u64, err: &mut E) -> Result<(), Stop>
@@ -177,7 +231,7 @@ fn write_text<'a, E: Sink>(
 }
 
 // Writes the parts one behind the other.
-fn write_parts<E: Sink>(err: &mut E, parts: &[&[u8]]) -> Result<(), Stop>
+pub(crate) fn write_parts<E: Sink>(err: &mut E, parts: &[&[u8]]) -> Result<(), Stop>
     ensures { WritesWhole (flat_map (λ part. part.now) parts.now) result (E.state err.old) (E.state err.new) }
 {
     'parts: for part in parts {

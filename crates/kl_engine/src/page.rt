@@ -6,9 +6,11 @@ ghost use Rattle.kl_value.specs.Written.{text_of, with_commas};
 ghost use Rattle.kl_engine.specs.Answering.{Prints};
 ghost use Rattle.kl_engine.specs.Faults.{ending};
 ghost use Rattle.kl_engine.specs.Showing.{write_fault};
-ghost use Rattle.kl_engine.specs.Verdict.{well, cut_list, list_front};
+ghost use Rattle.kl_engine.specs.Verdict.{value_page, cut_list, suffice, overflowing, list_front, well};
 
+use crate::cut::cut;
 use crate::fault::Fault;
+use kl_base::Seq;
 use kl_exchange::{Page, PrintError};
 use kl_outside::{Sink, Stop, write_whole};
 use kl_value::Value;
@@ -51,7 +53,7 @@ pub(crate) fn put_line<S: Sink>(
 
 /// Prints a value and a newline.
 pub(crate) fn print_value<S: Sink>(value: &Value, out: &mut S) -> Result<(), Fault>
-    ensures { Prints (well (text_of value.now ++ codes "\n")) (ending result) (S.state out.old) (S.state out.new) }
+    ensures { Prints (value_page value.now) (ending result) (S.state out.old) (S.state out.new) }
 {
     match print_line(value, out) {
         Ok(()) => Ok(()),
@@ -69,9 +71,34 @@ fn print_line<S: Sink>(value: &Value, out: &mut S) -> Result<(), PrintError>
     }
 }
 
-/// Prints the items of a list that end in an overflow, which it then answers.
-pub(crate) fn print_cut_list<S: Sink>(items: &[Value], out: &mut S) -> Result<(), Fault>
-    ensures { Prints (cut_list items.now) (ending result) (S.state out.old) (S.state out.new) }
+/// Prints the items of a list that end in an overflow, which it then answers; or the first of them, where these are all
+/// that are wanted.
+pub(crate) fn print_cut_list<S: Sink>(
+    items: Vec<Value>,
+    first: Option<u32>,
+    out: &mut S,
+) -> Result<(), Fault>
+    ensures { Prints (cut_list first items.items) (ending result) (S.state out.old) (S.state out.new) }
+{
+    if suffice(&items, first) {
+        print_value(&cut(Value::List(Seq::of(items)), first), out)
+    } else {
+        print_overflow(&items, out)
+    }
+}
+
+// Whether these items are all that are wanted.
+fn suffice(items: &[Value], first: Option<u32>) -> bool
+    ensures { result ≡ suffice first items.now }
+{
+    match first {
+        None => false,
+        Some(most) => most as usize <= items.len(),
+    }
+}
+
+fn print_overflow<S: Sink>(items: &[Value], out: &mut S) -> Result<(), Fault>
+    ensures { Prints (overflowing items.now) (ending result) (S.state out.old) (S.state out.new) }
 {
     match print_front(items, out) {
         Ok(()) => Err(Fault::Overflow),

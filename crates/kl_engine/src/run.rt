@@ -1,70 +1,163 @@
 //! What `run` does with a program's text: it prints the value that the program means.
-ghost use Rattle.std.specs.Prelude.{◌≡◌, ◌≤◌, [], length, true, false};
+ghost use Rattle.std.specs.Prelude.{◌≡◌, ◌≤◌, ◌<◌, [], All, length, map, true, false};
+ghost use Rattle.kl_ask.specs.Driver.{State};
+ghost use Rattle.kl_ask.specs.World.{Moved, types_of, values_of};
 ghost use Rattle.kl_core.specs.Core.{core};
 ghost use Rattle.kl_core.specs.Trees.{view as term_view};
+ghost use Rattle.kl_core.specs.Typing.{HaveSources};
+ghost use Rattle.kl_desugar.specs.Translation.{Means, term_of};
 ghost use Rattle.kl_eval.specs.Evals.{Sense, SenseList};
-ghost use Rattle.kl_eval.specs.World.{no_sources};
 ghost use Rattle.kl_infer.specs.Inferred.{Infers};
 ghost use Rattle.kl_rows.specs.Schemes.{IsScheme, Instance};
+ghost use Rattle.kl_scope.specs.Breaches.{is_marked};
+ghost use Rattle.kl_sources.specs.Sources.{ArePlaced, names_of, grounds_of};
 ghost use Rattle.kl_syntax.specs.View.{view, decls_of};
-ghost use Rattle.kl_type.specs.Ground.{Ground};
-ghost use Rattle.kl_engine.specs.Answering.{DoesText};
+ghost use Rattle.kl_type.specs.Ground.{Ground, IsProper};
+ghost use Rattle.kl_engine.specs.Answering.{DoesText, IsIdle, kinds_of};
 ghost use Rattle.kl_engine.specs.Faults.{ending};
 ghost use Rattle.kl_engine.specs.Reading.{WasInScope};
-ghost use Rattle.kl_engine.specs.Running.{Answers, AnswersList, AnswersValue, DoneWith, IsListScheme};
+ghost use Rattle.kl_engine.specs.Running.{AnswersTerm, DoneWith, DoneMeaning, IsOutcome, IsListScheme, IsListOutcome, IsValueOutcome, fault_of};
 ghost use Rattle.kl_engine.specs.declared.top.Purpose.TheVariants.{Run};
 
 use crate::fault::Fault;
+use crate::cut::cut;
 use crate::page::{print_cut_list, print_value};
-use crate::read::{infer_types, read_program};
-use kl_base::Seq;
+use crate::read::{infer_over, read_program};
+use kl_ask::{Driver, DriverError, Session, Settings, Trace};
+use kl_base::{Label, Seq};
 use kl_core::Term;
 use kl_desugar::translate;
-use kl_eval::{EvalStop, NoTables, eval, eval_list};
+use kl_eval::{EvalStop, eval, eval_list};
 use kl_infer::Typed;
 use kl_outside::Sink;
 use kl_scope::Scoped;
+use kl_sources::{AttachError, Source, attach_sources, names_of};
 use kl_value::{Kind, Value};
 use std::alloc::Global;
+use std::mem;
 
-/// Runs the program that a text is.
-pub fn run<S: Sink>(alloc: Global, text: &[u8], out: &mut S) -> Result<(), Fault>
-    requires { length text.now ≤ 65536 }
-    ensures { DoesText Run text.now (ending result) (S.state out.old) (S.state out.new) }
+/// How a program is run: the settings, and how many of the first items are wanted, if not all are.
+#[derive(Clone, Copy)]
+pub struct How {
+    pub settings: Settings,
+    pub first: Option<u32>,
+}
+
+/// Runs the program that a text is, over these sources.
+pub fn run<S: Sink>(
+    alloc: Global,
+    text: &[u8],
+    sources: Vec<Source>,
+    how: How,
+    drivers: &mut Vec<Box<dyn Driver>>,
+    out: &mut S,
+) -> Result<(), Fault>
+    requires few { length text.now ≤ 65536 }
+    requires placed { ArePlaced (kinds_of (map (λ d. state d) drivers.old.items)) sources.items }
+    requires idle { All IsIdle (map (λ d. state d) drivers.old.items) }
+    requires fetch { 0 < how.now.settings.fetch }
+    ensures { DoesText sources.items (Run how.now.first) text.now (ending result) (map (λ d. state d) drivers.old.items) (map (λ d. state d) drivers.new.items) (S.state out.old) (S.state out.new) }
 {
-    match read_program(alloc, text) {
-        Ok(scoped) => run_program(alloc, &scoped, out),
-        Err(fault) => Err(fault),
+    match names_of(alloc, &sources) {
+        Ok(names) => match read_program(alloc, text, &names) {
+            Ok(scoped) => run_program(alloc, &scoped, sources, how, drivers, out),
+            Err(fault) => Err(fault),
+        },
+        Err(_) => Err(Fault::NoMemory),
     }
 }
 
 // Runs a program in scope.
-fn run_program<S: Sink>(alloc: Global, scoped: &Scoped, out: &mut S) -> Result<(), Fault>
-    requires { WasInScope scoped.now }
-    ensures { DoneWith Run (decls_of scoped.now.program.defs) (view scoped.now.program.last) (ending result) (S.state out.old) (S.state out.new) }
+fn run_program<S: Sink>(
+    alloc: Global,
+    scoped: &Scoped,
+    sources: Vec<Source>,
+    how: How,
+    drivers: &mut Vec<Box<dyn Driver>>,
+    out: &mut S,
+) -> Result<(), Fault>
+    requires scope { WasInScope (names_of sources.items) scoped.now }
+    requires placed { ArePlaced (kinds_of (map (λ d. state d) drivers.old.items)) sources.items }
+    requires idle { All IsIdle (map (λ d. state d) drivers.old.items) }
+    requires fetch { 0 < how.now.settings.fetch }
+    ensures { DoneWith sources.items (is_marked scoped.now) (Run how.now.first) (decls_of scoped.now.program.defs) (view scoped.now.program.last) (ending result) (map (λ d. state d) drivers.old.items) (map (λ d. state d) drivers.new.items) (S.state out.old) (S.state out.new) }
 {
-    match infer_types(alloc, scoped) {
-        Ok(typed) => answer(alloc, scoped, &typed, out),
+    match infer_over(alloc, scoped, &sources) {
+        Ok(typed) => answer(alloc, scoped, &typed, sources, how, drivers, out),
         Err(fault) => Err(fault),
     }
 }
 
 // Prints what a program means that has these types.
-fn answer<S: Sink>(alloc: Global, scoped: &Scoped, typed: &Typed, out: &mut S) -> Result<(), Fault>
-    requires scope { WasInScope scoped.now }
-    requires types { Infers (decls_of scoped.now.program.defs) (view scoped.now.program.last) [] typed.now }
-    ensures { Answers (decls_of scoped.now.program.defs) (view scoped.now.program.last) (ending result) (S.state out.old) (S.state out.new) }
+fn answer<S: Sink>(
+    alloc: Global,
+    scoped: &Scoped,
+    typed: &Typed,
+    sources: Vec<Source>,
+    how: How,
+    drivers: &mut Vec<Box<dyn Driver>>,
+    out: &mut S,
+) -> Result<(), Fault>
+    requires scope { WasInScope (names_of sources.items) scoped.now }
+    requires types { Infers (grounds_of sources.items) (decls_of scoped.now.program.defs) (view scoped.now.program.last) typed.now }
+    requires placed { ArePlaced (kinds_of (map (λ d. state d) drivers.old.items)) sources.items }
+    requires idle { All IsIdle (map (λ d. state d) drivers.old.items) }
+    requires fetch { 0 < how.now.settings.fetch }
+    ensures { DoneMeaning sources.items (is_marked scoped.now) how.now.first (decls_of scoped.now.program.defs) (view scoped.now.program.last) (ending result) (map (λ d. state d) drivers.old.items) (map (λ d. state d) drivers.new.items) (S.state out.old) (S.state out.new) }
 {
     let is_list = gives_list(typed);
     match translate(alloc, scoped) {
-        Ok(term) => {
-            if is_list {
-                answer_list(alloc, &term, out)
-            } else {
-                answer_value(alloc, &term, out)
+        Ok(term) => match attach_sources(alloc, sources, scoped, drivers) {
+            Ok(attached) => {
+                let mut session = Session {
+                    drivers: mem::replace(drivers, Vec::new(alloc)),
+                    sources: attached,
+                    settings: how.settings,
+                    trace: Trace::new(alloc),
+                };
+                let result = answer_term(alloc, &term, is_list, how.first, &mut session, out);
+                let Session { drivers: back, .. } = session;
+                *drivers = back;
+                result
             }
-        }
+            Err(AttachError { source, error }) => Err(driver_fault(source, error)),
+        },
         Err(_) => Err(Fault::NoMemory),
+    }
+}
+
+// Prints what a term comes to.
+fn answer_term<S: Sink>(
+    alloc: Global,
+    term: &Term,
+    is_list: bool,
+    first: Option<u32>,
+    session: &mut Session,
+    out: &mut S,
+) -> Result<(), Fault>
+    requires sense { Sense (term_view term.now) [] (world session.old) }
+    requires list { is_list ≡ true → SenseList (term_view term.now) [] (world session.old) }
+    ensures prints { AnswersTerm (IsOutcome is_list first.now (core (values_of (world session.old)) (term_view term.now) [])) (HaveSources (types_of (world session.old)) (values_of (world session.old))) (ending result) (map (λ d. state d) session.old.drivers.items) (map (λ d. state d) session.new.drivers.items) (S.state out.old) (S.state out.new) }
+    ensures rest { Moved (world session.old) (world session.new) }
+{
+    if is_list {
+        answer_list(alloc, term, first, session, out)
+    } else {
+        answer_value(alloc, term, first, session, out)
+    }
+}
+
+// The fault of a source that its driver refuses.
+fn driver_fault(source: Label, error: DriverError) -> Fault
+    ensures { result ≡ fault_of source error }
+{
+    match error {
+        DriverError::Failed => Fault::Read,
+        DriverError::BadSource { place } => Fault::BadSource(source, place),
+        DriverError::TooLong { .. } => Fault::FileBytes,
+        DriverError::TooDeep { .. } => Fault::ItemNesting,
+        DriverError::Changed { .. } => Fault::Changed(source),
+        DriverError::NoMemory => Fault::NoMemory,
     }
 }
 
@@ -84,28 +177,44 @@ fn gives_list(typed: &Typed) -> bool
 }
 
 // Prints the items of a list.
-fn answer_list<S: Sink>(alloc: Global, term: &Term, out: &mut S) -> Result<(), Fault>
-    requires { SenseList (term_view term.now) [] no_sources }
-    ensures { AnswersList (core no_sources.values (term_view term.now) []) (ending result) (S.state out.old) (S.state out.new) }
+fn answer_list<S: Sink>(
+    alloc: Global,
+    term: &Term,
+    first: Option<u32>,
+    session: &mut Session,
+    out: &mut S,
+) -> Result<(), Fault>
+    requires { SenseList (term_view term.now) [] (world session.old) }
+    ensures prints { AnswersTerm (IsListOutcome first.now (core (values_of (world session.old)) (term_view term.now) [])) (HaveSources (types_of (world session.old)) (values_of (world session.old))) (ending result) (map (λ d. state d) session.old.drivers.items) (map (λ d. state d) session.new.drivers.items) (S.state out.old) (S.state out.new) }
+    ensures rest { Moved (world session.old) (world session.new) }
 {
     let mut env = Vec::new(alloc);
     let mut items = Vec::new(alloc);
-    match eval_list(alloc, term, &mut env, &mut NoTables, &mut items) {
-        Ok(()) => print_value(&Value::List(Seq::of(items)), out),
-        Err(EvalStop::Overflow) => print_cut_list(&items, out),
+    match eval_list(alloc, term, &mut env, session, &mut items) {
+        Ok(()) => print_value(&cut(Value::List(Seq::of(items)), first), out),
+        Err(EvalStop::Overflow) => print_cut_list(items, first, out),
+        Err(EvalStop::Driver { source, error }) => Err(driver_fault(source, error)),
         Err(EvalStop::NoMemory) => Err(Fault::NoMemory),
     }
 }
 
 // Prints a value that is no list.
-fn answer_value<S: Sink>(alloc: Global, term: &Term, out: &mut S) -> Result<(), Fault>
-    requires { Sense (term_view term.now) [] no_sources }
-    ensures { AnswersValue (core no_sources.values (term_view term.now) []) (ending result) (S.state out.old) (S.state out.new) }
+fn answer_value<S: Sink>(
+    alloc: Global,
+    term: &Term,
+    first: Option<u32>,
+    session: &mut Session,
+    out: &mut S,
+) -> Result<(), Fault>
+    requires { Sense (term_view term.now) [] (world session.old) }
+    ensures prints { AnswersTerm (IsValueOutcome first.now (core (values_of (world session.old)) (term_view term.now) [])) (HaveSources (types_of (world session.old)) (values_of (world session.old))) (ending result) (map (λ d. state d) session.old.drivers.items) (map (λ d. state d) session.new.drivers.items) (S.state out.old) (S.state out.new) }
+    ensures rest { Moved (world session.old) (world session.new) }
 {
     let mut env = Vec::new(alloc);
-    match eval(alloc, term, &mut env, &mut NoTables) {
-        Ok(value) => print_value(&value, out),
+    match eval(alloc, term, &mut env, session) {
+        Ok(value) => print_value(&cut(value, first), out),
         Err(EvalStop::Overflow) => Err(Fault::Overflow),
+        Err(EvalStop::Driver { source, error }) => Err(driver_fault(source, error)),
         Err(EvalStop::NoMemory) => Err(Fault::NoMemory),
     }
 }

@@ -3,10 +3,8 @@ ghost use Rattle.std.specs.Prelude.{◌≡◌, ◌++◌, [], codes, false, IsSom
 ghost use Rattle.kl_exchange.specs.FileItems.{most_read, reading};
 ghost use Rattle.kl_exchange.specs.Printing.{Puts, as_stop};
 ghost use Rattle.kl_value.specs.Written.{text_of};
-ghost use Rattle.kl_engine.specs.Answering.{Does};
-ghost use Rattle.kl_engine.specs.Commands.{Show};
 ghost use Rattle.kl_engine.specs.Faults.{ending};
-ghost use Rattle.kl_engine.specs.Showing.{ShowsItems, Flushes, read_fault, fetch_fault, write_fault};
+ghost use Rattle.kl_engine.specs.Showing.{DoesShow, ShowsItems, Flushes, read_fault, fetch_fault, write_fault};
 
 use crate::fault::Fault;
 use crate::page::{put_line, write_fault};
@@ -25,7 +23,7 @@ pub fn show<F: Files, S: Sink>(
     files: &mut F,
     out: &mut S,
 ) -> Result<(), Fault>
-    ensures { Does (Show path.now) (ending result) (F.state files.old) (F.state files.new) (S.state out.old) (S.state out.new) }
+    ensures { DoesShow path.now (ending result) (F.state files.old) (F.state files.new) (S.state out.old) (S.state out.new) }
 {
     let file = match files.open_path(path) {
         Ok(file) => file,

@@ -1,8 +1,10 @@
 //! What `types` does with a program's text: it lists the principal types of its declarations.
-ghost use Rattle.std.specs.Prelude.{◌≡◌, ◌≤◌, ◌++◌, All, IfOk, codes, length, map};
+ghost use Rattle.std.specs.Prelude.{◌≡◌, ◌≤◌, ◌++◌, ℕ, Bool, List, All, IfOk, codes, length, map};
 ghost use Rattle.std.specs.List.{zip};
 ghost use Rattle.kl_rows.specs.Schemes.{IsScheme};
 ghost use Rattle.kl_syntax.specs.View.{view, decls_of};
+ghost use Rattle.kl_ask.specs.Driver.{State};
+ghost use Rattle.kl_type.specs.Ground.{IsProper};
 ghost use Rattle.kl_engine.specs.Answering.{DoesText, Prints};
 ghost use Rattle.kl_engine.specs.Faults.{ending};
 ghost use Rattle.kl_engine.specs.Running.{DoneWith, ListsLine, ListsFront};
@@ -10,30 +12,46 @@ ghost use Rattle.kl_engine.specs.Verdict.{named_schemes, scheme_lines};
 ghost use Rattle.kl_engine.specs.declared.top.Purpose.TheVariants.{Types};
 
 use crate::fault::Fault;
-use crate::read::{infer_types, read_program};
+use crate::read::{infer_over, read_program};
 use kl_infer::{Typed, print_scheme};
 use kl_outside::{Sink, Stop, write_whole};
 use kl_rows::Scheme;
 use kl_scope::Scoped;
+use kl_sources::{Source, names_of};
 use kl_syntax::Decl;
 use std::alloc::{AllocError, Global};
 
-/// Lists the types of the program that a text is.
-pub fn types<S: Sink>(alloc: Global, text: &[u8], out: &mut S) -> Result<(), Fault>
-    requires { length text.now ≤ 65536 }
-    ensures { DoesText Types text.now (ending result) (S.state out.old) (S.state out.new) }
+/// Lists the types of the program that a text is, over these sources.
+pub fn types<S: Sink>(
+    alloc: Global,
+    text: &[u8],
+    sources: &[Source],
+    out: &mut S,
+) -> Result<(), Fault>
+    requires few { length text.now ≤ 65536 }
+    requires proper { All (λ s. IsProper s.ty) sources.now }
+    ensures { (ds : List State) → DoesText sources.now Types text.now (ending result) ds ds (S.state out.old) (S.state out.new) }
 {
-    match read_program(alloc, text) {
-        Ok(scoped) => list_types(alloc, &scoped, out),
-        Err(fault) => Err(fault),
+    match names_of(alloc, sources) {
+        Ok(names) => match read_program(alloc, text, &names) {
+            Ok(scoped) => list_types(alloc, &scoped, sources, out),
+            Err(fault) => Err(fault),
+        },
+        Err(_) => Err(Fault::NoMemory),
     }
 }
 
 // Lists the types of a program in scope.
-fn list_types<S: Sink>(alloc: Global, scoped: &Scoped, out: &mut S) -> Result<(), Fault>
-    ensures { DoneWith Types (decls_of scoped.now.program.defs) (view scoped.now.program.last) (ending result) (S.state out.old) (S.state out.new) }
+fn list_types<S: Sink>(
+    alloc: Global,
+    scoped: &Scoped,
+    sources: &[Source],
+    out: &mut S,
+) -> Result<(), Fault>
+    requires { All (λ s. IsProper s.ty) sources.now }
+    ensures { (marks : ℕ → Bool) (ds : List State) → DoneWith sources.now marks Types (decls_of scoped.now.program.defs) (view scoped.now.program.last) (ending result) ds ds (S.state out.old) (S.state out.new) }
 {
-    match infer_types(alloc, scoped) {
+    match infer_over(alloc, scoped, sources) {
         Ok(typed) => list(alloc, scoped, &typed, out),
         Err(fault) => Err(fault),
     }

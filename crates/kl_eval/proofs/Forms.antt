@@ -35,7 +35,11 @@ use Rattle.kl_eval.specs.declared.stop.EvalStop.{EvalStop}
 use Rattle.kl_eval.specs.declared.stop.EvalStop.TheVariants as eval_stop
 use Rattle.kl_eval.specs.declared.stop.Halt.{Halt}
 use Rattle.kl_eval.specs.declared.stop.Halt.TheVariants as halt
-use Rattle.kl_eval.specs.World.{World, Moved, Reads, Tabled}
+use Rattle.kl_ask.specs.World.{World, IsReady, Moved, types_of, values_of}
+use Rattle.kl_ask.proofs.Worlds.{moved_none, moved_then, types_stay, values_stay, ready_on}
+use Rattle.kl_ask.specs.declared.DriverError.{DriverError}
+use Rattle.kl_eval.specs.World.{Reads, StoppedBy, Tabled}
+use Rattle.kl_eval.proofs.Stops.{stopped_then}
 use Rattle.kl_eval.specs.Comes.{Then, Picks, Opens, Unites, Leads, Follows, Draws, Comes, ItemsCome, ArgsCome, PartsCome, ArmsCome}
 use Rattle.kl_eval.specs.Evals.{Sense, SenseIn, SenseEach, SenseParts, SenseCall, SenseBody, HasSense, Gives, PartGives, CallGives, FlowGives, FieldsGive, Evals, EvalsPart, EvalsEach, EvalsBody, EvalsFields, EvalsCall, end_of, before, OnEach, OnBody, OnFields}
 use Rattle.kl_eval.specs.Steps.{Answers, inside_of, Outside, Adds, AddsItems, AddsField, Behind, Gathers, AnswersPrim, place_of}
@@ -71,51 +75,78 @@ fun_ext h = λ i x. h x i
 
 -- ---- worlds
 
-pub moved_none : (a : World) → Moved a a
-moved_none a = record { types = refl; values = refl }
+pub back : (P : SourceTypes → Tables → Type 0) (a b : World) → Moved a b → P (types_of b) (values_of b) → P (types_of a) (values_of a)
+back P a b m h = subst (λ T. P (types_of a) T) (values_stay a b m) (subst (λ S. P S (values_of b)) (types_stay a b m) h)
 
-pub moved_then : (a b c : World) → Moved a b → Moved b c → Moved a c
-moved_then a b c m n = record { types = n.types ∙ m.types; values = n.values ∙ m.values }
+pub onto : (P : SourceTypes → Type 0) (a b : World) → Moved a b → P (types_of a) → P (types_of b)
+onto P a b m h = subst P (sym (types_stay a b m)) h
 
-pub back : (P : SourceTypes → Tables → Type 0) (a b : World) → Moved a b → P b.types b.values → P a.types a.values
-back P a b m h = subst (λ T. P a.types T) m.values (subst (λ S. P S b.values) m.types h)
-
-pub onto : (P : SourceTypes → Type 0) (a b : World) → Moved a b → P a.types → P b.types
-onto P a b m h = subst P (sym m.types) h
+-- what makes sense still does
+pub sense_on : (t : Tree) (env : List Value) (a b : World) → Moved a b → Sense t env a → Sense t env b
+sense_on t env a b m s = (s.0, s.1, s.2, onto (λ S. CoreTypes S s.0 t s.1) a b m s.3, ready_on a b m s.4)
 
 -- ---- results
 
-pub gives_map : (P Q : Outcome → Type 0) (r : Result Value Halt) → ((o : Outcome) → P o → Q o) → Gives P r → Gives Q r
-gives_map P Q (Ok v) f h = f (done v) h
-gives_map P Q (Err (halt.Over vs)) f h = f (over vs.items) h
-gives_map P Q (Err halt.NoMemory) f h = tt
+module _ (P Q : Outcome → Type 0) (a b : World) where
+  pub gives_map : (r : Result Value Halt) → ((o : Outcome) → P o → Q o) → Gives P a b r → Gives Q a b r
+  gives_map (Ok v) f h = f (done v) h
+  gives_map (Err (halt.Over vs)) f h = f (over vs.items) h
+  gives_map (Err (halt.Driver l e)) f h = h
+  gives_map (Err halt.NoMemory) f h = tt
 
-pub gives_made : (P : Outcome → Type 0) (v : Value) (r : Result Value Halt) → P (done v) → Answers (done v) r → Gives P r
-gives_made P v (Ok w) h a = subst (λ q. P (done q)) (sym a) h
-gives_made P v (Err (halt.Over ws)) h a = absurd a
-gives_made P v (Err halt.NoMemory) h a = tt
+  pub gives_stop : (e : EvalStop) (h : Halt) → PartGives P a b (Err e) → Outside e h → ((vs : List Value) → P (over vs) → Q (over [])) → Gives Q a b (Err h)
+  gives_stop eval_stop.Overflow (halt.Over ws) p o f = subst (λ q. Q (over q)) (sym o) (f p.0 p.1)
+  gives_stop eval_stop.Overflow (halt.Driver l e) p o f = absurd o
+  gives_stop eval_stop.Overflow halt.NoMemory p o f = absurd o
+  gives_stop (eval_stop.Driver l e) h p o f = subst (λ q. Gives Q a b (Err q)) (sym o) p
+  gives_stop eval_stop.NoMemory (halt.Over ws) p o f = absurd o
+  gives_stop eval_stop.NoMemory (halt.Driver l e) p o f = absurd o
+  gives_stop eval_stop.NoMemory halt.NoMemory p o f = tt
 
-pub gives_over : (P : Outcome → Type 0) (vs : List Value) (r : Result Value Halt) → P (over vs) → Answers (over vs) r → Gives P r
-gives_over P vs (Ok w) h a = absurd a
-gives_over P vs (Err (halt.Over ws)) h a = subst (λ q. P (over q)) (sym a) h
-gives_over P vs (Err halt.NoMemory) h a = tt
+module _ (P : Outcome → Type 0) (a b : World) where
+  pub gives_made : (v : Value) (r : Result Value Halt) → P (done v) → Answers (done v) r → Gives P a b r
+  gives_made v (Ok w) h k = subst (λ q. P (done q)) (sym k) h
+  gives_made v (Err (halt.Over ws)) h k = absurd k
+  gives_made v (Err (halt.Driver l e)) h k = absurd k
+  gives_made v (Err halt.NoMemory) h k = tt
 
-pub gives_inside : (P : Outcome → Type 0) (r : Result Value Halt) (q : Result Value EvalStop) → q ≡ inside_of r → Gives P r → PartGives P q
-gives_inside P r q e h = subst (PartGives P) (sym e) (go r h)
-  where
-    go : (r : Result Value Halt) → Gives P r → PartGives P (inside_of r)
-    go (Ok v) h = h
-    go (Err (halt.Over vs)) h = (vs.items, h)
-    go (Err halt.NoMemory) h = tt
+  pub gives_over : (vs : List Value) (r : Result Value Halt) → P (over vs) → Answers (over vs) r → Gives P a b r
+  gives_over vs (Ok w) h k = absurd k
+  gives_over vs (Err (halt.Over ws)) h k = subst (λ q. P (over q)) (sym k) h
+  gives_over vs (Err (halt.Driver l e)) h k = absurd k
+  gives_over vs (Err halt.NoMemory) h k = tt
 
-pub gives_stop : (P Q : Outcome → Type 0) (e : EvalStop) (h : Halt) → PartGives P (Err e) → Outside e h → ((vs : List Value) → P (over vs) → Q (over [])) → Gives Q (Err h)
-gives_stop P Q eval_stop.Overflow (halt.Over ws) p o f = subst (λ q. Q (over q)) (sym o) (f p.0 p.1)
-gives_stop P Q eval_stop.Overflow halt.NoMemory p o f = absurd o
-gives_stop P Q eval_stop.NoMemory (halt.Over ws) p o f = absurd o
-gives_stop P Q eval_stop.NoMemory halt.NoMemory p o f = tt
+  pub gives_inside : (r : Result Value Halt) (q : Result Value EvalStop) → q ≡ inside_of r → Gives P a b r → PartGives P a b q
+  gives_inside r q e h = subst (PartGives P a b) (sym e) (go r h)
+    where
+      go : (r : Result Value Halt) → Gives P a b r → PartGives P a b (inside_of r)
+      go (Ok v) h = h
+      go (Err (halt.Over vs)) h = (vs.items, h)
+      go (Err (halt.Driver l e)) h = h
+      go (Err halt.NoMemory) h = tt
+
+-- a later result, seen from before
+module _ (a b c : World) (m : Moved a b) where
+  pub gives_from : (P : Outcome → Type 0) (r : Result Value Halt) → Gives P b c r → Gives P a c r
+  gives_from P (Ok v) h = h
+  gives_from P (Err (halt.Over vs)) h = h
+  gives_from P (Err (halt.Driver l e)) h = stopped_then l e a b c m h
+  gives_from P (Err halt.NoMemory) h = tt
+
+  pub part_from : (P : Outcome → Type 0) (r : Result Value EvalStop) → PartGives P b c r → PartGives P a c r
+  part_from P (Ok v) h = h
+  part_from P (Err eval_stop.Overflow) h = h
+  part_from P (Err (eval_stop.Driver l e)) h = stopped_then l e a b c m h
+  part_from P (Err eval_stop.NoMemory) h = tt
+
+  pub flow_from : (P : Flow → Type 0) (r : Result (Vec Value Global) Halt) → FlowGives P b c r → FlowGives P a c r
+  flow_from P (Ok vs) h = h
+  flow_from P (Err (halt.Over vs)) h = h
+  flow_from P (Err (halt.Driver l e)) h = stopped_then l e a b c m h
+  flow_from P (Err halt.NoMemory) h = tt
 
 pub evals_part : (t : Tree) (env : List Value) (r : Result Value Halt) (q : Result Value EvalStop) (a b : World) → Evals t env r a b → q ≡ inside_of r → EvalsPart t env q a b
-evals_part t env r q a b h e = record { moved = h.moved; gives = gives_inside (Comes a.types a.values env t) r q e h.gives }
+evals_part t env r q a b h e = record { moved = h.moved; gives = gives_inside (Comes (types_of a) (values_of a) env t) a b r q e h.gives }
 
 -- a part, and then a term
 module _ (t x t' : Tree) (env env' : List Value) (v : Value) where
@@ -125,14 +156,15 @@ module _ (t x t' : Tree) (env env' : List Value) (v : Value) where
   evals_then : (r : Result Value Halt) (a b c : World) → EvalsPart x env (Ok v) a b → Evals t' env' r b c → Step → Evals t env r a c
   evals_then r a b c h k f = record {
     moved = moved_then a b c h.moved k.moved;
-    gives = gives_map (Comes a.types a.values env' t') (Comes a.types a.values env t) r (λ o d. f a.types a.values o h.gives d) (back (λ S T. Gives (Comes S T env' t') r) a b h.moved k.gives);
+    gives = gives_map (Comes (types_of a) (values_of a) env' t') (Comes (types_of a) (values_of a) env t) a c r (λ o d. f (types_of a) (values_of a) o h.gives d)
+        (gives_from a b c h.moved (Comes (types_of a) (values_of a) env' t') r (back (λ S T. Gives (Comes S T env' t') b c r) a b h.moved k.gives));
   }
 
 evals_made : (t x : Tree) (env : List Value) (v u : Value) (r : Result Value Halt) (a b : World) → EvalsPart x env (Ok v) a b → Answers (done u) r → ((S : SourceTypes) (T : Tables) → Comes S T env x (done v) → Comes S T env t (done u)) → Evals t env r a b
-evals_made t x env v u r a b h k f = record { moved = h.moved; gives = gives_made (Comes a.types a.values env t) u r (f a.types a.values h.gives) k }
+evals_made t x env v u r a b h k f = record { moved = h.moved; gives = gives_made (Comes (types_of a) (values_of a) env t) a b u r (f (types_of a) (values_of a) h.gives) k }
 
 evals_stop : (t x : Tree) (env : List Value) (e : EvalStop) (h : Halt) (a b : World) → EvalsPart x env (Err e) a b → Outside e h → ((S : SourceTypes) (T : Tables) (vs : List Value) → Comes S T env x (over vs) → Comes S T env t (over [])) → Evals t env (Err h) a b
-evals_stop t x env e h a b p o f = record { moved = p.moved; gives = gives_stop (Comes a.types a.values env x) (Comes a.types a.values env t) e h p.gives o (f a.types a.values) }
+evals_stop t x env e h a b p o f = record { moved = p.moved; gives = gives_stop (Comes (types_of a) (values_of a) env x) (Comes (types_of a) (values_of a) env t) a b e h p.gives o (f (types_of a) (values_of a)) }
 
 -- ---- variables, constants and sources
 
@@ -150,7 +182,7 @@ pub come_var : (t : Term) (x : ℕ) (v : Value) (env : List Value) → t ≡ ter
 come_var t x v env e g S T = subst (λ q. Comes S T env q (done v)) (sym (ap view e ∙ view_Var x)) (sym (ap outcome_of g))
 
 pub value_var : (t : Term) (x : ℕ) (env : List Value) (v : Value) (r : Result Value Halt) (a : World) → t ≡ term.Var x → slice_get env x ≡ Some v → Answers (done v) r → Evals (view t) env r a a
-value_var t x env v r a e g k = record { moved = moved_none a; gives = gives_made (Comes a.types a.values env (view t)) v r (come_var t x v env e g a.types a.values) k }
+value_var t x env v r a e g k = record { moved = moved_none a; gives = gives_made (Comes (types_of a) (values_of a) env (view t)) a a v r (come_var t x v env e g (types_of a) (values_of a)) k }
 
 -- ---- fields
 
@@ -184,10 +216,10 @@ pub lent_there : (t : Term) (l m : Name) (x x' : Term) (env : List Value) (v : V
 lent_there t l m x x' env v et em ex s c = proj_there s.0 (λ i. None) t l m x x' env et em ex v s.1 (c s.0 (λ i. None))
 
 pub sense_proj : (t : Term) (l : Name) (x x' : Term) (env : List Value) (a : World) → t ≡ term.Proj l x → x' ≡ x → Sense (view t) env a → Sense (view x') env a
-sense_proj t l x x' env a et ex s = proj_sense a.types a.values t l l x x' env et refl ex s
+sense_proj t l x x' env a et ex s = let p = proj_sense (types_of a) (values_of a) t l l x x' env et refl ex (s.0, s.1, s.2, s.3) in (p.0, p.1, p.2, p.3, s.4)
 
 pub there_field : (t : Term) (l m : Name) (x x' : Term) (env : List Value) (v w : Value) (a b : World) → t ≡ term.Proj l x → m ≡ l → x' ≡ x → w ≡ v → Sense (view t) env a → EvalsPart (view x') env (Ok v) a b → IsSome (field_at m w)
-there_field t l m x x' env v w a b et em ex ew s h = subst (λ q. IsSome (field_at m q)) (sym ew) (proj_there a.types a.values t l m x x' env et em ex v s h.gives)
+there_field t l m x x' env v w a b et em ex ew s h = subst (λ q. IsSome (field_at m q)) (sym ew) (proj_there (types_of a) (values_of a) t l m x x' env et em ex v (s.0, s.1, s.2, s.3) h.gives)
 
 pub value_proj : (t : Term) (l m : Name) (x x' : Term) (env : List Value) (v w u : Value) (r : Result Value Halt) (a b : World) → t ≡ term.Proj l x → m ≡ l → x' ≡ x → w ≡ v → field_at m w ≡ Some u → EvalsPart (view x') env (Ok v) a b → Answers (done u) r → Evals (view t) env r a b
 value_proj t l m x x' env v w u r a b et em ex ew ef h k =
@@ -203,7 +235,7 @@ module _ (t : Term) (l m : Name) (x x' : Term) (env : List Value) (et : t ≡ te
   at_Inj = ap view et ∙ view_Inj l x ∙ ap (λ q. inj l (view q)) (sym ex) ∙ ap (λ q. inj q (view x')) (sym em)
 
   pub sense_inj : (a : World) → Sense (view t) env a → Sense (view x') env a
-  sense_inj a s = let s' = subst (λ q. Sense q env a) at_Inj s in (s'.0, s'.3.1, s'.2, s'.3.4)
+  sense_inj a s = let s' = subst (λ q. Sense q env a) at_Inj s in (s'.0, s'.3.1, s'.2, s'.3.4, s'.4)
 
   pub value_inj : (v : Value) (r : Result Value Halt) (a b : World) → EvalsPart (view x') env (Ok v) a b → Answers (done (value.Inj m v)) r → Evals (view t) env r a b
   value_inj v r a b h k = evals_made (view t) (view x') env v (value.Inj m v) r a b h k (λ S T c. subst (λ q. Comes S T env q (done (value.Inj m v))) (sym at_Inj) (done v, c, refl))
@@ -214,13 +246,17 @@ module _ (t : Term) (l m : Name) (x x' : Term) (env : List Value) (et : t ≡ te
 -- ---- `If`
 
 pub evals_lent : (t : Tree) (env : List Value) (v : Value) (a : World) → ((S : SourceTypes) (T : Tables) → Comes S T env t (done v)) → EvalsPart t env (Ok v) a a
-evals_lent t env v a f = record { moved = moved_none a; gives = f a.types a.values }
+evals_lent t env v a f = record { moved = moved_none a; gives = f (types_of a) (values_of a) }
 
-pub over_gives : (t : Tree) (env : List Value) (f : Halt) (vs : Vec Value Global) (a b : World) → f ≡ halt.Over vs → Evals t env (Err f) a b → Comes a.types a.values env t (over vs.items)
+pub over_gives : (t : Tree) (env : List Value) (f : Halt) (vs : Vec Value Global) (a b : World) → f ≡ halt.Over vs → Evals t env (Err f) a b → Comes (types_of a) (values_of a) env t (over vs.items)
 over_gives t env f vs a b e h = (subst (λ q. Evals t env (Err q) a b) e h).gives
 
 pub evals_lost : (t : Tree) (env : List Value) (a b : World) → Moved a b → Evals t env (Err halt.NoMemory) a b
 evals_lost t env a b m = record { moved = m; gives = tt }
+
+-- what stopped a part by a driver stops the whole
+pub evals_refused : (t x : Tree) (env : List Value) (q : Halt) (l : Name) (e : DriverError) (a b : World) → q ≡ halt.Driver l e → Evals x env (Err q) a b → Evals t env (Err (halt.Driver l e)) a b
+evals_refused t x env q l e a b eq h = let h' = subst (λ z. Evals x env (Err z) a b) eq h in record { moved = h'.moved; gives = h'.gives }
 
 abbrev pub picked : Bool → Term → Term → Term
 picked true y z = y
@@ -231,17 +267,17 @@ module _ (t x y z x' : Term) (env : List Value) (et : t ≡ term.If x y z) (ex :
   at_If = ap view et ∙ view_If x y z ∙ ap (λ q. choice (view q) (view y) (view z)) (sym ex)
 
   pub sense_test : (a : World) → Sense (view t) env a → Sense (view x') env a
-  sense_test a s = let s' = subst (λ q. Sense q env a) at_If s in (s'.0, bool, s'.2, s'.3.0)
+  sense_test a s = let s' = subst (λ q. Sense q env a) at_If s in (s'.0, bool, s'.2, s'.3.0, s'.4)
 
   pub truth_there : (v w : Value) (a b : World) → w ≡ v → Sense (view t) env a → EvalsPart (view x') env (Ok v) a b → IsBool w
   truth_there v w a b ew s h =
       let s' = subst (λ q. Sense q env a) at_If s in
-      subst IsBool (sym ew) (comes_typed a.types a.values (view x') s'.0 env bool (done v) s'.2 s'.3.0 h.gives).0
+      subst IsBool (sym ew) (comes_typed (types_of a) (values_of a) (view x') s'.0 env bool (done v) s'.2 s'.3.0 h.gives).0
 
   pub sense_picked : (p : Term) (bit : Bool) (a b : World) → p ≡ picked bit y z → Moved a b → Sense (view t) env a → Sense (view p) env b
   sense_picked p bit a b ep m s =
       let s' = subst (λ q. Sense q env a) at_If s in
-      subst (λ q. Sense (view q) env b) (sym ep) (onto (λ S. SenseIn S (view (picked bit y z)) env) a b m (s'.0, s'.1, s'.2, by_bit bit a.types s'.0 s'.1 s'.3))
+      subst (λ q. Sense (view q) env b) (sym ep) (sense_on (view (picked bit y z)) env a b m (s'.0, s'.1, s'.2, by_bit bit (types_of a) s'.0 s'.1 s'.3, s'.4))
     where
       by_bit : (bit : Bool) (S : SourceTypes) (G : List Ground) (s : Ground) → CoreTypes S G (choice (view x') (view y) (view z)) s → CoreTypes S G (view (picked bit y z)) s
       by_bit true S G s h = h.1
@@ -266,14 +302,14 @@ module _ (t x y x' : Term) (env : List Value) (et : t ≡ term.Let x y) (ex : x'
   at_Let = ap view et ∙ view_Let x y ∙ ap (λ q. bind (view q) (view y)) (sym ex)
 
   pub sense_bound : (a : World) → Sense (view t) env a → Sense (view x') env a
-  sense_bound a s = let s' = subst (λ q. Sense q env a) at_Let s in (s'.0, s'.3.0, s'.2, s'.3.1)
+  sense_bound a s = let s' = subst (λ q. Sense q env a) at_Let s in (s'.0, s'.3.0, s'.2, s'.3.1, s'.4)
 
   pub sense_body : (y' : Term) (v w : Value) (a b : World) → y' ≡ y → w ≡ v → Sense (view t) env a → EvalsPart (view x') env (Ok v) a b → Sense (view y') (w ∷ env) b
   sense_body y' v w a b ey ew s h =
       let s' = subst (λ q. Sense q env a) at_Let s in
-      let i : Inhabits s'.3.0 v = comes_typed a.types a.values (view x') s'.0 env s'.3.0 (done v) s'.2 s'.3.1 h.gives in
+      let i : Inhabits s'.3.0 v = comes_typed (types_of a) (values_of a) (view x') s'.0 env s'.3.0 (done v) s'.2 s'.3.1 h.gives in
       subst (λ q. Sense (view q) (w ∷ env) b) (sym ey)
-      (subst (λ q. Sense (view y) (q ∷ env) b) (sym ew) (onto (λ S. SenseIn S (view y) (v ∷ env)) a b h.moved (s'.3.0 ∷ s'.0, s'.1, (i, s'.2), s'.3.2)))
+      (subst (λ q. Sense (view y) (q ∷ env) b) (sym ew) (sense_on (view y) (v ∷ env) a b h.moved (s'.3.0 ∷ s'.0, s'.1, (i, s'.2), s'.3.2, s'.4)))
 
   pub value_let : (y' : Term) (v w : Value) (r : Result Value Halt) (a b c : World) → y' ≡ y → w ≡ v → EvalsPart (view x') env (Ok v) a b → Evals (view y') (w ∷ env) r b c → Evals (view t) env r a c
   value_let y' v w r a b c ey ew h k =
@@ -368,16 +404,16 @@ module _ (t x x' : Term) (ps qs : List (Name × Term)) (c : Option Term) (env : 
   at_Case = ap view et ∙ view_Case x ps c ∙ ap (λ q. case_of (view q) (arms_view ps c)) (sym ex) ∙ ap (λ q. case_of (view x') (arms_view q c)) (sym eq)
 
   pub sense_subject : (a : World) → Sense (view t) env a → Sense (view x') env a
-  sense_subject a s = let s' = subst (λ q. Sense q env a) at_Case s in (s'.0, var_type s'.3.0, s'.2, s'.3.1)
+  sense_subject a s = let s' = subst (λ q. Sense q env a) at_Case s in (s'.0, var_type s'.3.0, s'.2, s'.3.1, s'.4)
 
   module _ (v w : Value) (l : Name) (u : Value) (a b : World) (ew : w ≡ v) (ev : as_variant w ≡ Some (l, u)) (s : Sense (view t) env a) (h : EvalsPart (view x') env (Ok v) a b) where
     abbrev Carried : Type 0
-    Carried = (G : List Ground) × (k : Ground) × (r : Row) × (f : Ground) × HaveTypes G env × Covers r (arms_view qs c) × ArmTypes a.types G (arms_view qs c) r k × (at l r ≡ Some f) × Inhabits f u
+    Carried = (G : List Ground) × (k : Ground) × (r : Row) × (f : Ground) × HaveTypes G env × Covers r (arms_view qs c) × ArmTypes (types_of a) G (arms_view qs c) r k × (at l r ≡ Some f) × Inhabits f u
 
     carried : Carried
     carried =
         let s' = subst (λ q. Sense q env a) at_Case s in
-        let i : Inhabits (var_type s'.3.0) v = comes_typed a.types a.values (view x') s'.0 env (var_type s'.3.0) (done v) s'.2 s'.3.1 h.gives in
+        let i : Inhabits (var_type s'.3.0) v = comes_typed (types_of a) (values_of a) (view x') s'.0 env (var_type s'.3.0) (done v) s'.2 s'.3.1 h.gives in
         let d = variant_typed s'.3.0 v i in
         let before : Name × Value = (d.0, d.2) in
         let behind : Name × Value = (l, u) in
@@ -387,16 +423,16 @@ module _ (t x x' : Term) (ps qs : List (Name × Term)) (c : Option Term) (env : 
         (s'.0, s'.1, s'.3.0, d.1, s'.2, s'.3.2, s'.3.3, subst (λ k. at k s'.3.0 ≡ Some d.1) el d.4, subst (Inhabits d.1) eu d.5)
 
     pub sense_branch : (i : ℕ) (p : Name × Term) → place_of l qs ≡ Some i → slice_get qs i ≡ Some p → Sense (view p.1) (u ∷ env) b
-    sense_branch i p e g = let d = carried in onto (λ S. SenseIn S (view p.1) (u ∷ env)) a b h.moved (d.3 ∷ d.0, d.1, (d.8, d.4), arm_typed a.types d.0 (rest_of (view_option c)) d.2 d.1 l d.3 d.7 qs i p e g d.6)
+    sense_branch i p e g = let d = carried in sense_on (view p.1) (u ∷ env) a b h.moved (d.3 ∷ d.0, d.1, (d.8, d.4), arm_typed (types_of a) d.0 (rest_of (view_option c)) d.2 d.1 l d.3 d.7 qs i p e g d.6, s.4)
 
-    other_there : place_of l qs ≡ None → (k : Carried) → HasArm l (rest_of (view_option c)) × ArmTypes a.types k.0 (rest_of (view_option c)) k.2 k.1
-    other_there e d = other_typed a.types d.0 (rest_of (view_option c)) d.2 d.1 l d.3 d.7 qs e (d.5 l (rw d.7 refl)) d.6
+    other_there : place_of l qs ≡ None → (k : Carried) → HasArm l (rest_of (view_option c)) × ArmTypes (types_of a) k.0 (rest_of (view_option c)) k.2 k.1
+    other_there e d = other_typed (types_of a) d.0 (rest_of (view_option c)) d.2 d.1 l d.3 d.7 qs e (d.5 l (rw d.7 refl)) d.6
 
     pub sense_other : (y : Term) → place_of l qs ≡ None → c ≡ Some y → Sense (view y) env b
     sense_other y e ec =
         let d = carried in
         let o = (other_there e d).1 in
-        onto (λ S. SenseIn S (view y) env) a b h.moved (d.0, d.1, d.4, subst (λ z. ArmTypes a.types d.0 (rest_of (view_option z)) d.2 d.1) ec o)
+        sense_on (view y) env a b h.moved (d.0, d.1, d.4, subst (λ z. ArmTypes (types_of a) d.0 (rest_of (view_option z)) d.2 d.1) ec o, s.4)
 
     pub no_branch : place_of l qs ≡ None → c ≡ None → ⊥
     no_branch e ec = subst (λ z. HasArm l (rest_of (view_option z))) ec (other_there e carried).0
@@ -404,7 +440,7 @@ module _ (t x x' : Term) (ps qs : List (Name × Term)) (c : Option Term) (env : 
   pub variant_there : (v w : Value) (a b : World) → w ≡ v → Sense (view t) env a → EvalsPart (view x') env (Ok v) a b → IsSome (as_variant w)
   variant_there v w a b ew s h =
       let s' = subst (λ q. Sense q env a) at_Case s in
-      let d = variant_typed s'.3.0 v (comes_typed a.types a.values (view x') s'.0 env (var_type s'.3.0) (done v) s'.2 s'.3.1 h.gives) in
+      let d = variant_typed s'.3.0 v (comes_typed (types_of a) (values_of a) (view x') s'.0 env (var_type s'.3.0) (done v) s'.2 s'.3.1 h.gives) in
       subst (λ q. IsSome (as_variant q)) (sym ew) (rw d.3 refl)
 
   pub sense_other_at : (v w : Value) (l : Name) (u : Value) (a b : World) → w ≡ v → as_variant w ≡ Some (l, u) → Sense (view t) env a → EvalsPart (view x') env (Ok v) a b → (y y' : Term) → place_of l qs ≡ None → c ≡ Some y → y' ≡ y → Sense (view y') env b
@@ -444,10 +480,12 @@ flow_end (v ∷ vs) e = flow_end vs e
 pub collected_flow : (k : Kind) (vs : List Value) (e : End) → collected k (flow vs e) ≡ gathered k e vs
 collected_flow k vs e = ap (λ q. gathered k q (items_in (flow vs e))) (flow_end vs e) ∙ ap (gathered k e) (flow_items vs e)
 
-pub gathers : (P : Flow → Type 0) (Q : Outcome → Type 0) (k : Kind) (d : Result (Vec Value Global) Halt) (r : Result Value Halt) → ((f : Flow) → P f → Q (collected k f)) → FlowGives P d → Gathers k d r → Gives Q r
-gathers P Q k (Ok vs) r f h g = gives_made Q (canonical k vs.items) r (subst Q (collected_flow k vs.items fine) (f (flow vs.items fine) h)) g
-gathers P Q k (Err (halt.Over vs)) r f h g = gives_over Q (kept k vs.items) r (subst Q (collected_flow k vs.items overflow) (f (flow vs.items overflow) h)) g
-gathers P Q k (Err halt.NoMemory) r f h g = subst (Gives Q) (sym g) tt
+module _ (P : Flow → Type 0) (Q : Outcome → Type 0) (k : Kind) (a b : World) where
+  pub gathers : (d : Result (Vec Value Global) Halt) (r : Result Value Halt) → ((f : Flow) → P f → Q (collected k f)) → FlowGives P a b d → Gathers k d r → Gives Q a b r
+  gathers (Ok vs) r f h g = gives_made Q a b (canonical k vs.items) r (subst Q (collected_flow k vs.items fine) (f (flow vs.items fine) h)) g
+  gathers (Err (halt.Over vs)) r f h g = gives_over Q a b (kept k vs.items) r (subst Q (collected_flow k vs.items overflow) (f (flow vs.items overflow) h)) g
+  gathers (Err (halt.Driver l e)) r f h g = subst (Gives Q a b) (sym g) h
+  gathers (Err halt.NoMemory) r f h g = subst (Gives Q a b) (sym g) tt
 
 -- a literal
 module _ (t : Term) (k : Kind) (ts us : List Term) (env : List Value) (et : t ≡ term.Make k ts) (eu : us ≡ ts) where
@@ -455,12 +493,12 @@ module _ (t : Term) (k : Kind) (ts us : List Term) (env : List Value) (et : t �
   at_Make = ap view et ∙ view_Make k ts ∙ ap (λ q. make k (trees_view q)) (sym eu)
 
   pub sense_make : (a : World) → Sense (view t) env a → SenseEach (trees_view us) env a
-  sense_make a s = let s' = subst (λ q. Sense q env a) at_Make s in (s'.0, s'.3.0, s'.2, s'.3.2)
+  sense_make a s = let s' = subst (λ q. Sense q env a) at_Make s in (s'.0, s'.3.0, s'.2, s'.3.2, s'.4)
 
   pub value_make : (d : Result (Vec Value Global) Halt) (r : Result Value Halt) (a b : World) → EvalsEach (trees_view us) env d a b → Gathers k d r → Evals (view t) env r a b
   value_make d r a b h g =
       subst (λ q. Evals q env r a b) (sym at_Make)
-      (record { moved = h.moved; gives = gathers (ItemsCome a.types a.values env (trees_view us)) (Comes a.types a.values env (make k (trees_view us))) k d r (λ f c. (f, c, refl)) h.gives g })
+      (record { moved = h.moved; gives = gathers (ItemsCome (types_of a) (values_of a) env (trees_view us)) (Comes (types_of a) (values_of a) env (make k (trees_view us))) k a b d r (λ f c. (f, c, refl)) h.gives g })
 
 -- ---- a loop
 
@@ -469,38 +507,37 @@ module _ (t : Term) (k : Kind) (x y x' y' : Term) (env : List Value) (et : t ≡
   at_Ext = ap view et ∙ view_Ext k x y ∙ ap (λ q. ext k (view q) (view y)) (sym ex) ∙ ap (λ q. ext k (view x') (view q)) (sym ey)
 
   pub sense_source : (a : World) → Sense (view t) env a → Sense (view y') env a
-  sense_source a s = let s' = subst (λ q. Sense q env a) at_Ext s in (s'.0, coll s'.3.1 s'.3.2, s'.2, s'.3.4)
+  sense_source a s = let s' = subst (λ q. Sense q env a) at_Ext s in (s'.0, coll s'.3.1 s'.3.2, s'.2, s'.3.4, s'.4)
 
   -- a source is a collection
-  pub source_whole : (v : Value) (a : World) → Sense (view t) env a → Comes a.types a.values env (view y') (done v) → IsCollection v
+  pub source_whole : (v : Value) (a : World) → Sense (view t) env a → Comes (types_of a) (values_of a) env (view y') (done v) → IsCollection v
   source_whole v a s c =
       let s' = subst (λ q. Sense q env a) at_Ext s in
-      let i : OfType (coll s'.3.1 s'.3.2) (done v) = comes_typed a.types a.values (view y') s'.0 env (coll s'.3.1 s'.3.2) (done v) s'.2 s'.3.4 c in
+      let i : OfType (coll s'.3.1 s'.3.2) (done v) = comes_typed (types_of a) (values_of a) (view y') s'.0 env (coll s'.3.1 s'.3.2) (done v) s'.2 s'.3.4 c in
       let d = items_inhabit s'.3.1 s'.3.2 v i in
       rw d.1 refl
 
   -- the items of a source
-  pub sense_items : (p : Outcome) (vs : List Value) (e : End) (a b : World) → Moved a b → items_of p ≡ flow vs e → Sense (view t) env a → Comes a.types a.values env (view y') p → SenseBody (view x') vs env b
+  pub sense_items : (p : Outcome) (vs : List Value) (e : End) (a b : World) → Moved a b → items_of p ≡ flow vs e → Sense (view t) env a → Comes (types_of a) (values_of a) env (view y') p → SenseBody (view x') vs env b
   sense_items p vs e a b m is s c =
       let s' = subst (λ q. Sense q env a) at_Ext s in
       let ty = s'.3 in
-      let all : AllByRecursion (Inhabits ty.2) vs = front ty.2 vs (subst (FlowOf ty.2) is (items_typed ty.1 ty.2 p (comes_typed a.types a.values (view y') s'.0 env (coll ty.1 ty.2) p s'.2 ty.4 c))) in
-      onto (λ S. (G : List Ground) × (u : Ground) × (k : Kind) × (s : Ground) × HaveTypes G env × AllByRecursion (Inhabits u) vs × CoreTypes S (u ∷ G) (view x') (coll k s)) a b m
-      (s'.0, ty.2, k, ty.0, s'.2, all, subst (λ q. CoreTypes a.types (ty.2 ∷ s'.0) (view x') q) ty.3 ty.5)
+      let all : AllByRecursion (Inhabits ty.2) vs = front ty.2 vs (subst (FlowOf ty.2) is (items_typed ty.1 ty.2 p (comes_typed (types_of a) (values_of a) (view y') s'.0 env (coll ty.1 ty.2) p s'.2 ty.4 c))) in
+      (s'.0, ty.2, k, ty.0, s'.2, all, onto (λ S. CoreTypes S (ty.2 ∷ s'.0) (view x') (coll k ty.0)) a b m (subst (λ q. CoreTypes (types_of a) (ty.2 ∷ s'.0) (view x') q) ty.3 ty.5), ready_on a b m s'.4)
     where
       front : (u : Ground) (vs : List Value) → FlowOf u (flow vs e) → AllByRecursion (Inhabits u) vs
       front u [] h = tt
       front u (v ∷ vs) h = (h.0, front u vs h.1)
 
-  pub value_loop : (p : Outcome) (vs : List Value) (e : End) (d : Result (Vec Value Global) Halt) (r : Result Value Halt) (a b c : World) → Moved a b → items_of p ≡ flow vs e → Comes a.types a.values env (view y') p
+  pub value_loop : (p : Outcome) (vs : List Value) (e : End) (d : Result (Vec Value Global) Halt) (r : Result Value Halt) (a b c : World) → Moved a b → items_of p ≡ flow vs e → Comes (types_of a) (values_of a) env (view y') p
       → EvalsBody (view x') (flow vs e) env d b c → Gathers k d r → Evals (view t) env r a c
   value_loop p vs e d r a b c m is h i g =
       subst (λ q. Evals q env r a c) (sym at_Ext)
       (record {
         moved = moved_then a b c m i.moved;
-        gives = gathers (Draws (λ v. Comes a.types a.values (v ∷ env) (view x')) (flow vs e)) (Comes a.types a.values env (ext k (view x') (view y'))) k d r
-            (λ f q. (p, f, h, subst (λ z. Draws (λ v. Comes a.types a.values (v ∷ env) (view x')) z f) (sym is) q, refl))
-            (back (λ S T. FlowGives (Draws (λ v. Comes S T (v ∷ env) (view x')) (flow vs e)) d) a b m i.gives) g;
+        gives = gathers (Draws (λ v. Comes (types_of a) (values_of a) (v ∷ env) (view x')) (flow vs e)) (Comes (types_of a) (values_of a) env (ext k (view x') (view y'))) k a c d r
+            (λ f q. (p, f, h, subst (λ z. Draws (λ v. Comes (types_of a) (values_of a) (v ∷ env) (view x')) z f) (sym is) q, refl))
+            (flow_from a b c m (Draws (λ v. Comes (types_of a) (values_of a) (v ∷ env) (view x')) (flow vs e)) d (back (λ S T. FlowGives (Draws (λ v. Comes S T (v ∷ env) (view x')) (flow vs e)) b c d) a b m i.gives)) g;
       })
 
 -- the items of a collection, or before an overflow
@@ -518,28 +555,28 @@ module _ (t : Term) (x y x' : Term) (env : List Value) (et : t ≡ term.Union x 
   at_Union = ap view et ∙ view_Union x y ∙ ap (λ q. union (view q) (view y)) (sym ex)
 
   pub sense_first : (a : World) → Sense (view t) env a → Sense (view x') env a
-  sense_first a s = let s' = subst (λ q. Sense q env a) at_Union s in (s'.0, s'.1, s'.2, s'.3.3)
+  sense_first a s = let s' = subst (λ q. Sense q env a) at_Union s in (s'.0, s'.1, s'.2, s'.3.3, s'.4)
 
   -- the first is a collection
   pub first_there : (v : Value) (a b : World) → Sense (view t) env a → Evals (view x') env (Ok v) a b → IsCollection v
   first_there v a b s h =
       let s' = subst (λ q. Sense q env a) at_Union s in
       let ty = s'.3 in
-      let i : OfType (coll ty.0 ty.1) (done v) = subst (λ q. OfType q (done v)) ty.2 (comes_typed a.types a.values (view x') s'.0 env s'.1 (done v) s'.2 ty.3 h.gives) in
+      let i : OfType (coll ty.0 ty.1) (done v) = subst (λ q. OfType q (done v)) ty.2 (comes_typed (types_of a) (values_of a) (view x') s'.0 env s'.1 (done v) s'.2 ty.3 h.gives) in
       let c = items_inhabit ty.0 ty.1 v i in
       rw c.1 refl
 
   pub sense_second : (y' : Term) (a b : World) → y' ≡ y → Moved a b → Sense (view t) env a → Sense (view y') env b
   sense_second y' a b ey m s =
       let s' = subst (λ q. Sense q env a) at_Union s in
-      subst (λ q. Sense (view q) env b) (sym ey) (onto (λ S. SenseIn S (view y) env) a b m (s'.0, s'.1, s'.2, s'.3.4))
+      subst (λ q. Sense (view q) env b) (sym ey) (sense_on (view y) env a b m (s'.0, s'.1, s'.2, s'.3.4, s'.4))
 
   pub second_there : (y' : Term) (w : Value) (a b c : World) → y' ≡ y → Moved a b → Sense (view t) env a → Evals (view y') env (Ok w) b c → IsCollection w
   second_there y' w a b c ey m s h =
       let s' = subst (λ q. Sense q env a) at_Union s in
       let ty = s'.3 in
-      let h' : Comes a.types a.values env (view y) (done w) = back (λ S T. Comes S T env (view y) (done w)) a b m (subst (λ q. Evals (view q) env (Ok w) b c) ey h).gives in
-      let i : OfType (coll ty.0 ty.1) (done w) = subst (λ q. OfType q (done w)) ty.2 (comes_typed a.types a.values (view y) s'.0 env s'.1 (done w) s'.2 ty.4 h') in
+      let h' : Comes (types_of a) (values_of a) env (view y) (done w) = back (λ S T. Comes S T env (view y) (done w)) a b m (subst (λ q. Evals (view q) env (Ok w) b c) ey h).gives in
+      let i : OfType (coll ty.0 ty.1) (done w) = subst (λ q. OfType q (done w)) ty.2 (comes_typed (types_of a) (values_of a) (view y) s'.0 env s'.1 (done w) s'.2 ty.4 h') in
       let d = items_inhabit ty.0 ty.1 w i in
       rw d.1 refl
 
@@ -559,13 +596,14 @@ module _ (t : Term) (x y x' : Term) (env : List Value) (et : t ≡ term.Union x 
       let is : items_of (done w) ≡ flow ws fine = ap items_at_all (ap as_collection add.2 ∙ collection_is add.0 ws) in
       record {
         moved = moved_then a b c h.moved g'.moved;
-        gives = gives_made (Comes a.types a.values env (view t)) (canonical k both) r
-            (subst (λ z. Comes a.types a.values env (view t) (done (canonical k z))) (sym add.3)
-            (unites v k vs (done w) ws fine a.types a.values ev is h.gives (back (λ S T. Comes S T env (view y) (done w)) a b h.moved g'.gives))) m;
+        gives = gives_made (Comes (types_of a) (values_of a) env (view t)) a c (canonical k both) r
+            (subst (λ z. Comes (types_of a) (values_of a) env (view t) (done (canonical k z))) (sym add.3)
+            (unites v k vs (done w) ws fine (types_of a) (values_of a) ev is h.gives (back (λ S T. Comes S T env (view y) (done w)) a b h.moved g'.gives))) m;
       }
 
   pub value_union_lost : (y' : Term) (v w : Value) (vs both : List Value) (e : Halt) (a b c : World) → Evals (view x') env (Ok v) a b → Evals (view y') env (Ok w) b c → AddsItems w (Err e) vs both → Evals (view t) env (Err e) a c
   value_union_lost y' v w vs both (halt.Over us) a b c h g add = absurd add.3
+  value_union_lost y' v w vs both (halt.Driver l e) a b c h g add = absurd add.3
   value_union_lost y' v w vs both halt.NoMemory a b c h g add = record { moved = moved_then a b c h.moved g.moved; gives = tt }
 
   pub value_union_over : (y' : Term) (v : Value) (k : Kind) (vs : List Value) (e f : Halt) (r : Result Value Halt) (a b c : World) → y' ≡ y → v ≡ collection k vs → Behind vs e f
@@ -574,16 +612,24 @@ module _ (t : Term) (x y x' : Term) (env : List Value) (et : t ≡ term.Union x 
       let g' = subst (λ q. Evals (view q) env (Err (halt.Over ws)) b c) ey g in
       record {
         moved = moved_then a b c h.moved g'.moved;
-        gives = gives_over (Comes a.types a.values env (view t)) (kept k us.items) r
-            (subst (λ z. Comes a.types a.values env (view t) (over (kept k z))) (sym e)
-            (unites v k vs (over ws.items) ws.items overflow a.types a.values ev refl h.gives (back (λ S T. Comes S T env (view y) (over ws.items)) a b h.moved g'.gives))) m;
+        gives = gives_over (Comes (types_of a) (values_of a) env (view t)) a c (kept k us.items) r
+            (subst (λ z. Comes (types_of a) (values_of a) env (view t) (over (kept k z))) (sym e)
+            (unites v k vs (over ws.items) ws.items overflow (types_of a) (values_of a) ev refl h.gives (back (λ S T. Comes S T env (view y) (over ws.items)) a b h.moved g'.gives))) m;
       }
-  value_union_over y' v k vs (halt.Over ws) halt.NoMemory r a b c ey ev e h g m = record { moved = moved_then a b c h.moved g.moved; gives = subst (Gives (Comes a.types a.values env (view t))) (sym m) tt }
+  value_union_over y' v k vs (halt.Over ws) halt.NoMemory r a b c ey ev e h g m = record { moved = moved_then a b c h.moved g.moved; gives = subst (Gives (Comes (types_of a) (values_of a) env (view t)) a c) (sym m) tt }
+  value_union_over y' v k vs (halt.Over ws) (halt.Driver l f) r a b c ey ev e h g m = absurd e
+  value_union_over y' v k vs (halt.Driver l f) q r a b c ey ev e h g m =
+      record {
+        moved = moved_then a b c h.moved g.moved;
+        gives = subst (Gives (Comes (types_of a) (values_of a) env (view t)) a c) (sym (subst (λ z. Gathers k (Err z) r) e m)) (stopped_then l f a b c h.moved g.gives);
+      }
   value_union_over y' v k vs halt.NoMemory (halt.Over us) r a b c ey ev e h g m = absurd e
-  value_union_over y' v k vs halt.NoMemory halt.NoMemory r a b c ey ev e h g m = record { moved = moved_then a b c h.moved g.moved; gives = subst (Gives (Comes a.types a.values env (view t))) (sym m) tt }
+  value_union_over y' v k vs halt.NoMemory (halt.Driver l f) r a b c ey ev e h g m = absurd e
+  value_union_over y' v k vs halt.NoMemory halt.NoMemory r a b c ey ev e h g m = record { moved = moved_then a b c h.moved g.moved; gives = subst (Gives (Comes (types_of a) (values_of a) env (view t)) a c) (sym m) tt }
 
   pub value_union_first : (e : Halt) (a b : World) → Evals (view x') env (Err e) a b → Evals (view t) env (Err e) a b
-  value_union_first (halt.Over vs) a b h = record { moved = h.moved; gives = subst (λ z. Comes a.types a.values env z (over vs.items)) (sym at_Union) (over vs.items, h.gives, refl) }
+  value_union_first (halt.Over vs) a b h = record { moved = h.moved; gives = subst (λ z. Comes (types_of a) (values_of a) env z (over vs.items)) (sym at_Union) (over vs.items, h.gives, refl) }
+  value_union_first (halt.Driver l e) a b h = record { moved = h.moved; gives = h.gives }
   value_union_first halt.NoMemory a b h = record { moved = h.moved; gives = tt }
 
 -- ---- a record
@@ -593,15 +639,18 @@ module _ (t : Term) (ps qs : List (Name × Term)) (env : List Value) (et : t ≡
   at_Rec = ap view et ∙ view_Rec ps ∙ ap (λ q. rec (parts_view q)) (sym eq)
 
   pub sense_rec : (a : World) → Sense (view t) env a → SenseParts (parts_view qs) env a
-  sense_rec a s = let s' = subst (λ q. Sense q env a) at_Rec s in (s'.0, s'.3.0, s'.2, s'.3.3)
+  sense_rec a s = let s' = subst (λ q. Sense q env a) at_Rec s in (s'.0, s'.3.0, s'.2, s'.3.3, s'.4)
 
   pub value_rec : (fs : Vec (Name × Value) Global) (gs : List (Name × Value)) (a b : World) → gs ≡ fs.items → EvalsFields (parts_view qs) env (Ok fs) a b → Evals (view t) env (Ok (value.Rec gs)) a b
-  value_rec fs gs a b eg h = record { moved = h.moved; gives = subst (λ z. Comes a.types a.values env z (done (value.Rec gs))) (sym at_Rec) (subst (λ z. PartsCome a.types a.values env (parts_view qs) (λ fs. done (value.Rec fs)) (done (value.Rec z))) (sym eg) (h.gives (λ fs. done (value.Rec fs)))) }
+  value_rec fs gs a b eg h = record { moved = h.moved; gives = subst (λ z. Comes (types_of a) (values_of a) env z (done (value.Rec gs))) (sym at_Rec) (subst (λ z. PartsCome (types_of a) (values_of a) env (parts_view qs) (λ fs. done (value.Rec fs)) (done (value.Rec z))) (sym eg) (h.gives (λ fs. done (value.Rec fs)))) }
 
   pub value_rec_stop : (e : EvalStop) (h : Halt) (a b : World) → EvalsFields (parts_view qs) env (Err e) a b → Outside e h → Evals (view t) env (Err h) a b
-  value_rec_stop eval_stop.Overflow (halt.Over ws) a b p o = record { moved = p.moved; gives = subst (λ z. Comes a.types a.values env (view t) (over z)) (sym o) (subst (λ z. Comes a.types a.values env z (over [])) (sym at_Rec) (p.gives (λ fs. done (value.Rec fs)))) }
+  value_rec_stop eval_stop.Overflow (halt.Over ws) a b p o = record { moved = p.moved; gives = subst (λ z. Comes (types_of a) (values_of a) env (view t) (over z)) (sym o) (subst (λ z. Comes (types_of a) (values_of a) env z (over [])) (sym at_Rec) (p.gives (λ fs. done (value.Rec fs)))) }
+  value_rec_stop eval_stop.Overflow (halt.Driver l e) a b p o = absurd o
   value_rec_stop eval_stop.Overflow halt.NoMemory a b p o = absurd o
+  value_rec_stop (eval_stop.Driver l e) h a b p o = subst (λ q. Evals (view t) env (Err q) a b) (sym o) (record { moved = p.moved; gives = p.gives })
   value_rec_stop eval_stop.NoMemory (halt.Over ws) a b p o = absurd o
+  value_rec_stop eval_stop.NoMemory (halt.Driver l e) a b p o = absurd o
   value_rec_stop eval_stop.NoMemory halt.NoMemory a b p o = record { moved = p.moved; gives = tt }
 
 -- ---- a source
@@ -610,16 +659,21 @@ module _ (t : Term) (i : ℕ) (env : List Value) (et : t ≡ term.Source i) wher
   at_Source : view t ≡ source i
   at_Source = ap view et ∙ view_Source i
 
-  source_there : (a : World) → Sense (view t) env a → IsSome (a.types i)
+  pub source_there : (a : World) → Sense (view t) env a → IsSome (types_of a i)
   source_there a s = let s' = subst (λ q. Sense q env a) at_Source s in rw s'.3 refl
 
-  pub value_source : (v : Value) (a b : World) → Sense (view t) env a → Tabled i (Ok v) a b → Evals (view t) env (Ok v) a b
-  value_source v a b s h = record { moved = h.moved; gives = subst (λ z. Comes a.types a.values env z (done v)) (sym at_Source) (v, h.gives (source_there a s), refl) }
+  pub source_ready : (a : World) → Sense (view t) env a → IsReady a
+  source_ready a s = s.4
 
-  pub value_source_stop : (e : EvalStop) (h : Halt) (a b : World) → Sense (view t) env a → Tabled i (Err e) a b → Outside e h → Evals (view t) env (Err h) a b
-  value_source_stop eval_stop.Overflow h a b s p o = absurd (p.gives (source_there a s))
-  value_source_stop eval_stop.NoMemory (halt.Over ws) a b s p o = absurd o
-  value_source_stop eval_stop.NoMemory halt.NoMemory a b s p o = record { moved = p.moved; gives = tt }
+  pub value_source : (v : Value) (a b : World) → Tabled i (Ok v) a b → Evals (view t) env (Ok v) a b
+  value_source v a b h = record { moved = h.moved; gives = subst (λ z. Comes (types_of a) (values_of a) env z (done v)) (sym at_Source) (v, h.gives, refl) }
+
+  pub value_source_stop : (e : EvalStop) (h : Halt) (a b : World) → Tabled i (Err e) a b → Outside e h → Evals (view t) env (Err h) a b
+  value_source_stop eval_stop.Overflow h a b p o = absurd p.gives
+  value_source_stop (eval_stop.Driver l e) h a b p o = subst (λ q. Evals (view t) env (Err q) a b) (sym o) (record { moved = p.moved; gives = p.gives })
+  value_source_stop eval_stop.NoMemory (halt.Over ws) a b p o = absurd o
+  value_source_stop eval_stop.NoMemory (halt.Driver l e) a b p o = absurd o
+  value_source_stop eval_stop.NoMemory halt.NoMemory a b p o = record { moved = p.moved; gives = tt }
 
 -- ---- a primitive
 
@@ -628,21 +682,24 @@ module _ (t : Term) (c : ℕ) (ts us : List Term) (env : List Value) (et : t ≡
   at_Prim = ap view et ∙ view_Prim c ts ∙ ap (λ q. prim c (trees_view q)) (sym eu)
 
   pub sense_prim : (a : World) → Sense (view t) env a → SenseCall c (trees_view us) env a
-  sense_prim a s = let s' = subst (λ q. Sense q env a) at_Prim s in (s'.0, s'.3.0, s'.1, s'.2, s'.3.1, s'.3.2)
+  sense_prim a s = let s' = subst (λ q. Sense q env a) at_Prim s in (s'.0, s'.3.0, s'.1, s'.2, s'.3.1, s'.3.2, s'.4)
 
   pub value_prim : (v : Value) (a b : World) → EvalsCall c (trees_view us) env (Ok v) a b → Evals (view t) env (Ok v) a b
-  value_prim v a b h = record { moved = h.moved; gives = subst (λ z. Comes a.types a.values env z (done v)) (sym at_Prim) h.gives }
+  value_prim v a b h = record { moved = h.moved; gives = subst (λ z. Comes (types_of a) (values_of a) env z (done v)) (sym at_Prim) h.gives }
 
   pub value_prim_stop : (e : EvalStop) (h : Halt) (a b : World) → EvalsCall c (trees_view us) env (Err e) a b → Outside e h → Evals (view t) env (Err h) a b
-  value_prim_stop eval_stop.Overflow (halt.Over ws) a b p o = record { moved = p.moved; gives = subst (λ z. Comes a.types a.values env (view t) (over z)) (sym o) (subst (λ z. Comes a.types a.values env z (over [])) (sym at_Prim) p.gives) }
+  value_prim_stop eval_stop.Overflow (halt.Over ws) a b p o = record { moved = p.moved; gives = subst (λ z. Comes (types_of a) (values_of a) env (view t) (over z)) (sym o) (subst (λ z. Comes (types_of a) (values_of a) env z (over [])) (sym at_Prim) p.gives) }
+  value_prim_stop eval_stop.Overflow (halt.Driver l e) a b p o = absurd o
   value_prim_stop eval_stop.Overflow halt.NoMemory a b p o = absurd o
+  value_prim_stop (eval_stop.Driver l e) h a b p o = subst (λ q. Evals (view t) env (Err q) a b) (sym o) (record { moved = p.moved; gives = p.gives })
   value_prim_stop eval_stop.NoMemory (halt.Over ws) a b p o = absurd o
+  value_prim_stop eval_stop.NoMemory (halt.Driver l e) a b p o = absurd o
   value_prim_stop eval_stop.NoMemory halt.NoMemory a b p o = record { moved = p.moved; gives = tt }
 
 -- ---- the value of a part
 
 pub look_lent : (t : Tree) (env : List Value) (v : Value) (a : World) → ((S : SourceTypes) (T : Tables) → Comes S T env t (done v)) → EvalsPart t env (Ok v) a a
-look_lent t env v a f = record { moved = moved_none a; gives = f a.types a.values }
+look_lent t env v a f = record { moved = moved_none a; gives = f (types_of a) (values_of a) }
 
 -- ---- the arguments of a call
 
@@ -680,7 +737,7 @@ as_many S G (t ∷ ts) ss h = ap length h.2 ∙ ap suc (as_many S G ts h.1 h.4)
 
 pub call_arity : (c : ℕ) (ts : List Term) (env : List Value) (a : World) → SenseCall c (trees_view ts) env a → (length ts ≡ 1 → ⊥) → (length ts ≡ 2 → ⊥) → ⊥
 call_arity c ts env a s no_one no_two =
-    let same = as_many a.types s.0 ts s.1 s.4 in
+    let same = as_many (types_of a) s.0 ts s.1 s.4 in
     ⊎_elim (λ e. no_one (sym same ∙ e)) (λ e. no_two (sym same ∙ e)) (prim_arity c s.1 s.2 s.5)
 
 pub alone : (ts : List Term) (x : Term) → length ts ≡ 1 → x ≡ get_or ts 0 x → ts ≡ x ∷ []
@@ -703,14 +760,16 @@ types_canonical ss vs h = All-from_recursion IsCanonical vs (go ss vs h)
     go [] (v ∷ vs) h = absurd h
     go (s ∷ ss) [] h = absurd h
 
-prim_gives : (P : Outcome → Type 0) (m : Answer) (r : Result Value EvalStop) → ((o : Outcome) → o ≡ answered m → P o) → AnswersPrim m r → CallGives P r
-prim_gives P m (Ok v) f a = f (done v) (sym (ap answered a))
-prim_gives P m (Err eval_stop.Overflow) f a = f (over []) (sym (ap answered a))
-prim_gives P m (Err eval_stop.NoMemory) f a = tt
+prim_gives : (P : Outcome → Type 0) (a b : World) (m : Answer) (r : Result Value EvalStop) → ((o : Outcome) → o ≡ answered m → P o) → AnswersPrim m r → CallGives P a b r
+prim_gives P a b m (Ok v) f k = f (done v) (sym (ap answered k))
+prim_gives P a b m (Err eval_stop.Overflow) f k = f (over []) (sym (ap answered k))
+prim_gives P a b m (Err (eval_stop.Driver l e)) f k = absurd k
+prim_gives P a b m (Err eval_stop.NoMemory) f k = tt
 
-call_stop : (P Q : Outcome → Type 0) (e : EvalStop) → PartGives P (Err e) → ((vs : List Value) → P (over vs) → Q (over [])) → CallGives Q (Err e)
-call_stop P Q eval_stop.Overflow h f = f h.0 h.1
-call_stop P Q eval_stop.NoMemory h f = tt
+call_stop : (P Q : Outcome → Type 0) (a b : World) (e : EvalStop) → PartGives P a b (Err e) → ((vs : List Value) → P (over vs) → Q (over [])) → CallGives Q a b (Err e)
+call_stop P Q a b eval_stop.Overflow h f = f h.0 h.1
+call_stop P Q a b (eval_stop.Driver l e) h f = h
+call_stop P Q a b eval_stop.NoMemory h f = tt
 
 -- one argument
 module _ (c : ℕ) (ts : List Term) (x : Term) (env : List Value) (a : World) (n : length ts ≡ 1) (is : x ≡ get_or ts 0 x) where
@@ -721,30 +780,30 @@ module _ (c : ℕ) (ts : List Term) (x : Term) (env : List Value) (a : World) (n
   only = ap trees_view (alone ts x n is)
 
   pub sense_only : SenseCall c (trees_view ts) env a → Sense (view x) env a
-  sense_only s = let s' = subst (λ q. SenseCall c q env a) only s in (s'.0, s'.4.0, s'.3, s'.4.3)
+  sense_only s = let s' = subst (λ q. SenseCall c q env a) only s in (s'.0, s'.4.0, s'.3, s'.4.3, s'.6)
 
   pub fits_only : (v : Value) (b : World) → SenseCall c (trees_view ts) env a → EvalsPart (view x) env (Ok v) a b → Fits c (v ∷ []) × All IsCanonical (v ∷ [])
   fits_only v b s h =
       let s' = subst (λ q. SenseCall c q env a) only s in
       let ty = s'.4 in
-      let i : Inhabits ty.0 v = comes_typed a.types a.values (view x) s'.0 env ty.0 (done v) s'.3 ty.3 h.gives in
+      let i : Inhabits ty.0 v = comes_typed (types_of a) (values_of a) (view x) s'.0 env ty.0 (done v) s'.3 ty.3 h.gives in
       let have : HaveTypes s'.1 (v ∷ []) = subst (λ q. HaveTypes q (v ∷ [])) (sym (ty.2 ∙ ap (λ q. ty.0 ∷ q) ty.4)) (i, tt) in
       (prim_fits c s'.1 s'.2 (v ∷ []) s'.5 have, types_canonical s'.1 (v ∷ []) have)
 
   pub call_only : (v : Value) (r : Result Value EvalStop) (b : World) → EvalsPart (view x) env (Ok v) a b → AnswersPrim (meaning c (v ∷ [])) r → EvalsCall c (trees_view ts) env r a b
   call_only v r b h m =
       subst (λ q. EvalsCall c q env r a b) (sym only)
-      (record { moved = h.moved; gives = prim_gives (ArgsCome a.types a.values env Only (λ vs. answered (meaning c vs))) (meaning c (v ∷ [])) r (λ o e. (done v, h.gives, e)) m })
+      (record { moved = h.moved; gives = prim_gives (ArgsCome (types_of a) (values_of a) env Only (λ vs. answered (meaning c vs))) a b (meaning c (v ∷ [])) r (λ o e. (done v, h.gives, e)) m })
 
   pub call_only_stop : (e : EvalStop) (b : World) → EvalsPart (view x) env (Err e) a b → EvalsCall c (trees_view ts) env (Err e) a b
   call_only_stop e b h =
       subst (λ q. EvalsCall c q env (Err e) a b) (sym only)
-      (record { moved = h.moved; gives = call_stop (Comes a.types a.values env (view x)) (ArgsCome a.types a.values env Only (λ vs. answered (meaning c vs))) e h.gives (λ vs d. (over vs, d, refl)) })
+      (record { moved = h.moved; gives = call_stop (Comes (types_of a) (values_of a) env (view x)) (ArgsCome (types_of a) (values_of a) env Only (λ vs. answered (meaning c vs))) a b e h.gives (λ vs d. (over vs, d, refl)) })
 
 -- two arguments
 pub sense_former : (c : ℕ) (ts : List Term) (x : Term) (env : List Value) (a : World) → length ts ≡ 2 → x ≡ get_or ts 0 x → SenseCall c (trees_view ts) env a → Sense (view x) env a
 sense_former c [] x env a n is s = cc
-sense_former c (u ∷ ts) x env a n is s = subst (λ q. Sense (view q) env a) (sym is) (s.0, s.4.0, s.3, s.4.3)
+sense_former c (u ∷ ts) x env a n is s = subst (λ q. Sense (view q) env a) (sym is) (s.0, s.4.0, s.3, s.4.3, s.6)
 
 module _ (c : ℕ) (ts : List Term) (x y : Term) (env : List Value) (a : World) (n : length ts ≡ 2) (is : x ≡ get_or ts 0 x) (also : y ≡ get_or ts 1 y) where
   abbrev Both : Trees
@@ -756,25 +815,25 @@ module _ (c : ℕ) (ts : List Term) (x y : Term) (env : List Value) (a : World) 
   pub sense_latter : (b : World) → Moved a b → SenseCall c (trees_view ts) env a → Sense (view y) env b
   sense_latter b m s =
       let s' = subst (λ q. SenseCall c q env a) both s in
-      onto (λ S. SenseIn S (view y) env) a b m (s'.0, s'.4.4.0, s'.3, s'.4.4.3)
+      sense_on (view y) env a b m (s'.0, s'.4.4.0, s'.3, s'.4.4.3, s'.6)
 
   pub fits_both : (v w : Value) (b d : World) → SenseCall c (trees_view ts) env a → EvalsPart (view x) env (Ok v) a b → EvalsPart (view y) env (Ok w) b d → Fits c (v ∷ w ∷ []) × All IsCanonical (v ∷ w ∷ [])
   fits_both v w b d s h g =
       let s' = subst (λ q. SenseCall c q env a) both s in
       let ty = s'.4 in
-      let i : Inhabits ty.0 v = comes_typed a.types a.values (view x) s'.0 env ty.0 (done v) s'.3 ty.3 h.gives in
-      let g' : Comes a.types a.values env (view y) (done w) = back (λ S T. Comes S T env (view y) (done w)) a b h.moved g.gives in
-      let j : Inhabits ty.4.0 w = comes_typed a.types a.values (view y) s'.0 env ty.4.0 (done w) s'.3 ty.4.3 g' in
+      let i : Inhabits ty.0 v = comes_typed (types_of a) (values_of a) (view x) s'.0 env ty.0 (done v) s'.3 ty.3 h.gives in
+      let g' : Comes (types_of a) (values_of a) env (view y) (done w) = back (λ S T. Comes S T env (view y) (done w)) a b h.moved g.gives in
+      let j : Inhabits ty.4.0 w = comes_typed (types_of a) (values_of a) (view y) s'.0 env ty.4.0 (done w) s'.3 ty.4.3 g' in
       let have : HaveTypes s'.1 (v ∷ w ∷ []) = subst (λ q. HaveTypes q (v ∷ w ∷ [])) (sym (ty.2 ∙ ap (λ q. ty.0 ∷ q) (ty.4.2 ∙ ap (λ q. ty.4.0 ∷ q) ty.4.4))) (i, (j, tt)) in
       (prim_fits c s'.1 s'.2 (v ∷ w ∷ []) s'.5 have, types_canonical s'.1 (v ∷ w ∷ []) have)
 
   pub call_both : (v w : Value) (r : Result Value EvalStop) (b d : World) → EvalsPart (view x) env (Ok v) a b → EvalsPart (view y) env (Ok w) b d → AnswersPrim (meaning c (v ∷ w ∷ [])) r → EvalsCall c (trees_view ts) env r a d
   call_both v w r b d h g m =
-      let g' : Comes a.types a.values env (view y) (done w) = back (λ S T. Comes S T env (view y) (done w)) a b h.moved g.gives in
+      let g' : Comes (types_of a) (values_of a) env (view y) (done w) = back (λ S T. Comes S T env (view y) (done w)) a b h.moved g.gives in
       subst (λ q. EvalsCall c q env r a d) (sym both)
       (record {
         moved = moved_then a b d h.moved g.moved;
-        gives = prim_gives (ArgsCome a.types a.values env Both (λ vs. answered (meaning c vs))) (meaning c (v ∷ w ∷ [])) r (λ o e. (done v, h.gives, (done w, g', e))) m;
+        gives = prim_gives (ArgsCome (types_of a) (values_of a) env Both (λ vs. answered (meaning c vs))) a d (meaning c (v ∷ w ∷ [])) r (λ o e. (done v, h.gives, (done w, g', e))) m;
       })
 
   pub call_latter_stop : (v : Value) (e : EvalStop) (b d : World) → EvalsPart (view x) env (Ok v) a b → EvalsPart (view y) env (Err e) b d → EvalsCall c (trees_view ts) env (Err e) a d
@@ -782,14 +841,14 @@ module _ (c : ℕ) (ts : List Term) (x y : Term) (env : List Value) (a : World) 
       subst (λ q. EvalsCall c q env (Err e) a d) (sym both)
       (record {
         moved = moved_then a b d h.moved g.moved;
-        gives = call_stop (Comes a.types a.values env (view y)) (ArgsCome a.types a.values env Both (λ vs. answered (meaning c vs))) e (back (λ S T. PartGives (Comes S T env (view y)) (Err e)) a b h.moved g.gives) (λ vs k. (done v, h.gives, (over vs, k, refl)));
+        gives = call_stop (Comes (types_of a) (values_of a) env (view y)) (ArgsCome (types_of a) (values_of a) env Both (λ vs. answered (meaning c vs))) a d e (part_from a b d h.moved (Comes (types_of a) (values_of a) env (view y)) (Err e) (back (λ S T. PartGives (Comes S T env (view y)) b d (Err e)) a b h.moved g.gives)) (λ vs k. (done v, h.gives, (over vs, k, refl)));
       })
 
 pub call_former_stop : (c : ℕ) (ts : List Term) (x : Term) (env : List Value) (a b : World) (e : EvalStop) → length ts ≡ 2 → x ≡ get_or ts 0 x → EvalsPart (view x) env (Err e) a b → EvalsCall c (trees_view ts) env (Err e) a b
 call_former_stop c [] x env a b e n is h = cc
 call_former_stop c (u ∷ ts) x env a b e n is h =
     let h' = subst (λ q. EvalsPart (view q) env (Err e) a b) is h in
-    record { moved = h'.moved; gives = call_stop (Comes a.types a.values env (view u)) (ArgsCome a.types a.values env (trees_view (u ∷ ts)) (λ vs. answered (meaning c vs))) e h'.gives (λ vs d. (over vs, d, refl)) }
+    record { moved = h'.moved; gives = call_stop (Comes (types_of a) (values_of a) env (view u)) (ArgsCome (types_of a) (values_of a) env (trees_view (u ∷ ts)) (λ vs. answered (meaning c vs))) a b e h'.gives (λ vs d. (over vs, d, refl)) }
 
 -- ---- loops
 
@@ -819,15 +878,15 @@ module _ (terms : List Term) (i : ℕ) (t : Term) (whole : Trees) (env now : Lis
   at_item = subst (λ q. OnEach whole q env now a b) (rest_is terms i t lt is) inv
 
   pub each_sense : Sense (view t) env b
-  each_sense = let s = at_item.sense in (s.0, s.1, s.2, s.3.0)
+  each_sense = let s = at_item.sense in (s.0, s.1, s.2, s.3.0, s.4)
 
   pub each_goes : (v : Value) (now' : List Value) (c : World) → Evals (view t) env (Ok v) b c → now' ≡ now ++ v ∷ [] → OnEach whole Later env now' a c
   each_goes v now' c h e =
       let k = at_item in
       record {
         moved = moved_then a b c k.moved h.moved;
-        sense = onto (λ S. (G : List Ground) × (s : Ground) × HaveTypes G env × EachType S G Later s) b c h.moved (k.sense.0, k.sense.1, k.sense.2, k.sense.3.1);
-        onward = λ f d. subst (λ q. ItemsCome a.types a.values env whole q) (sym (ap (λ q. before q f) e ∙ before_then now (v ∷ []) f))
+        sense = (k.sense.0, k.sense.1, k.sense.2, onto (λ S. EachType S k.sense.0 Later k.sense.1) b c h.moved k.sense.3.1, ready_on b c h.moved k.sense.4);
+        onward = λ f d. subst (λ q. ItemsCome (types_of a) (values_of a) env whole q) (sym (ap (λ q. before q f) e ∙ before_then now (v ∷ []) f))
             (k.onward (more v f) (done v, back (λ S T. Comes S T env (view t) (done v)) a b k.moved h.gives, (f, d, refl)));
       }
 
@@ -837,21 +896,27 @@ module _ (terms : List Term) (i : ℕ) (t : Term) (whole : Trees) (env now : Lis
       let k = at_item in
       record {
         moved = moved_then a b c k.moved h.moved;
-        gives = subst (ItemsCome a.types a.values env whole) (before_end now overflow ∙ ap (λ q. flow q overflow) e)
+        gives = subst (ItemsCome (types_of a) (values_of a) env whole) (before_end now overflow ∙ ap (λ q. flow q overflow) e)
             (k.onward (stop overflow) (over vs.items, back (λ S T. Comes S T env (view t) (over vs.items)) a b k.moved h.gives, refl));
       }
 
   pub each_lost : (v : Value) (now' : List Value) (q : Halt) (c : World) → Evals (view t) env (Ok v) b c → Adds (v ∷ []) (Err q) now now' → EvalsEach whole env (Err q) a c
   each_lost v now' (halt.Over ws) c h add = absurd add
+  each_lost v now' (halt.Driver l e) c h add = absurd add
   each_lost v now' halt.NoMemory c h add = record { moved = moved_then a b c (at_item).moved h.moved; gives = tt }
 
   pub each_none : (q : Halt) (c : World) → Evals (view t) env (Err q) b c → EvalsEach whole env (Err halt.NoMemory) a c
   each_none q c h = record { moved = moved_then a b c (at_item).moved h.moved; gives = tt }
 
+  pub each_refused : (q : Halt) (l : Name) (e : DriverError) (c : World) → q ≡ halt.Driver l e → Evals (view t) env (Err q) b c → EvalsEach whole env (Err (halt.Driver l e)) a c
+  each_refused q l e c eq h' =
+      let h = subst (λ z. Evals (view t) env (Err z) b c) eq h' in
+      record { moved = moved_then a b c (at_item).moved h.moved; gives = stopped_then l e a b c (at_item).moved h.gives }
+
 pub each_ends : (terms : List Term) (i : ℕ) (whole : Trees) (env : List Value) (ws : Vec Value Global) (a b : World) → length terms ≤ i → OnEach whole (trees_view (drop i terms)) env ws.items a b → EvalsEach whole env (Ok ws) a b
 each_ends terms i whole env ws a b le inv =
     let k = subst (λ q. OnEach whole (trees_view q) env ws.items a b) (drop_all terms i le) inv in
-    record { moved = k.moved; gives = subst (ItemsCome a.types a.values env whole) (before_end ws.items fine) (k.onward (stop fine) refl) }
+    record { moved = k.moved; gives = subst (ItemsCome (types_of a) (values_of a) env whole) (before_end ws.items fine) (k.onward (stop fine) refl) }
 
 -- a body at each of some values
 pub body_starts : (t : Tree) (vs : List Value) (e : End) (env none : List Value) (a : World) → none ≡ [] → SenseBody t vs env a → OnBody t (flow vs e) (flow vs e) vs env none a a
@@ -873,12 +938,12 @@ module _ (t : Tree) (vs : List Value) (i : ℕ) (v : Value) (whole : Flow) (e : 
   at_value = subst (λ q. OnBody t whole (flow q e) q env now a b) left_is inv
 
   pub body_sense : Sense t (v ∷ env) b
-  body_sense = let s = at_value.sense in (s.1 ∷ s.0, coll s.2 s.3, (s.5.0, s.4), s.6)
+  body_sense = let s = at_value.sense in (s.1 ∷ s.0, coll s.2 s.3, (s.5.0, s.4), s.6, s.7)
 
   pub body_whole : (u : Value) (c : World) → Evals t (v ∷ env) (Ok u) b c → IsCollection u
   body_whole u c h =
       let s = at_value.sense in
-      let i : OfType (coll s.2 s.3) (done u) = comes_typed b.types b.values t (s.1 ∷ s.0) (v ∷ env) (coll s.2 s.3) (done u) (s.5.0, s.4) s.6 h.gives in
+      let i : OfType (coll s.2 s.3) (done u) = comes_typed (types_of b) (values_of b) t (s.1 ∷ s.0) (v ∷ env) (coll s.2 s.3) (done u) (s.5.0, s.4) s.6 h.gives in
       let d = items_inhabit s.2 s.3 u i in
       rw d.1 refl
 
@@ -889,18 +954,18 @@ module _ (t : Tree) (vs : List Value) (i : ℕ) (v : Value) (whole : Flow) (e : 
       let items : items_of (done u) ≡ flow ws fine = ap items_at_all (ap as_collection add.2 ∙ collection_is add.0 ws) in
       record {
         moved = moved_then a b c k.moved h.moved;
-        sense = onto (λ S. (G : List Ground) × (u : Ground) × (k : Kind) × (s : Ground) × HaveTypes G env × AllByRecursion (Inhabits u) (drop (i + 1) vs) × CoreTypes S (u ∷ G) t (coll k s)) b c h.moved
-            (k.sense.0, k.sense.1, k.sense.2, k.sense.3, k.sense.4, k.sense.5.1, k.sense.6);
-        onward = λ f d. subst (Draws (λ v. Comes a.types a.values (v ∷ env) t) whole) (sym (ap (λ q. before q f) add.3 ∙ before_then now ws f))
+        sense = (k.sense.0, k.sense.1, k.sense.2, k.sense.3, k.sense.4, k.sense.5.1, onto (λ S. CoreTypes S (k.sense.1 ∷ k.sense.0) t (coll k.sense.2 k.sense.3)) b c h.moved k.sense.6, ready_on b c h.moved k.sense.7);
+        onward = λ f d. subst (Draws (λ v. Comes (types_of a) (values_of a) (v ∷ env) t) whole) (sym (ap (λ q. before q f) add.3 ∙ before_then now ws f))
             (k.onward (before ws f) (
               done u,
               back (λ S T. Comes S T (v ∷ env) t (done u)) a b k.moved h.gives,
-              subst (λ q. Follows q (Draws (λ v. Comes a.types a.values (v ∷ env) t) (flow (drop (i + 1) vs) e)) (before ws f)) (sym items) (follows_flow ws _ f d),
+              subst (λ q. Follows q (Draws (λ v. Comes (types_of a) (values_of a) (v ∷ env) t) (flow (drop (i + 1) vs) e)) (before ws f)) (sym items) (follows_flow ws _ f d),
             ));
       }
 
   pub body_lost : (u : Value) (now' : List Value) (q : Halt) (c : World) → Evals t (v ∷ env) (Ok u) b c → AddsItems u (Err q) now now' → EvalsBody t whole env (Err q) a c
   body_lost u now' (halt.Over ws) c h add = absurd add.3
+  body_lost u now' (halt.Driver l e) c h add = absurd add.3
   body_lost u now' halt.NoMemory c h add = record { moved = moved_then a b c (at_value).moved h.moved; gives = tt }
 
   pub body_over : (q r : Halt) (items : List Value) (c : World) → now ≡ items → Evals t (v ∷ env) (Err q) b c → Behind items q r → EvalsBody t whole env (Err r) a c
@@ -908,29 +973,34 @@ module _ (t : Tree) (vs : List Value) (i : ℕ) (v : Value) (whole : Flow) (e : 
       let k = at_value in
       record {
         moved = moved_then a b c k.moved h.moved;
-        gives = subst (Draws (λ v. Comes a.types a.values (v ∷ env) t) whole)
+        gives = subst (Draws (λ v. Comes (types_of a) (values_of a) (v ∷ env) t) whole)
             (sym (before_then now ws.items (stop overflow)) ∙ before_end (now ++ ws.items) overflow ∙ ap (λ q. flow q overflow) (ap (λ q. q ++ ws.items) en ∙ sym m))
             (k.onward (before ws.items (stop overflow)) (over ws.items, back (λ S T. Comes S T (v ∷ env) t (over ws.items)) a b k.moved h.gives, follows_over ws.items _));
       }
   body_over (halt.Over ws) halt.NoMemory items c en h m = record { moved = moved_then a b c (at_value).moved h.moved; gives = tt }
+  body_over (halt.Over ws) (halt.Driver l e) items c en h m = absurd m
+  body_over (halt.Driver l e) q items c en h m =
+      subst (λ z. EvalsBody t whole env (Err z) a c) (sym m)
+      (record { moved = moved_then a b c (at_value).moved h.moved; gives = stopped_then l e a b c (at_value).moved h.gives })
   body_over halt.NoMemory (halt.Over us) items c en h m = absurd m
+  body_over halt.NoMemory (halt.Driver l e) items c en h m = absurd m
   body_over halt.NoMemory halt.NoMemory items c en h m = record { moved = moved_then a b c (at_value).moved h.moved; gives = tt }
 
 pub body_ends : (t : Tree) (vs : List Value) (i : ℕ) (whole : Flow) (e : End) (env : List Value) (ws : List Value) (a b : World) → length vs ≤ i → OnBody t whole (flow (drop i vs) e) (drop i vs) env ws a b
-    → Moved a b × Draws (λ v. Comes a.types a.values (v ∷ env) t) whole (flow ws e)
+    → Moved a b × Draws (λ v. Comes (types_of a) (values_of a) (v ∷ env) t) whole (flow ws e)
 body_ends t vs i whole e env ws a b le inv =
     let k = subst (λ q. OnBody t whole (flow q e) q env ws a b) (drop_all vs i le) inv in
-    (k.moved, subst (Draws (λ v. Comes a.types a.values (v ∷ env) t) whole) (before_end ws e) (k.onward (stop e) refl))
+    (k.moved, subst (Draws (λ v. Comes (types_of a) (values_of a) (v ∷ env) t) whole) (before_end ws e) (k.onward (stop e) refl))
 
 pub body_fine : (t : Tree) (vs : List Value) (i : ℕ) (whole : Flow) (past : Bool) (env : List Value) (ws : Vec Value Global) (a b : World) → length vs ≤ i → past ≡ false → OnBody t whole (flow (drop i vs) (end_of past)) (drop i vs) env ws.items a b → EvalsBody t whole env (Ok ws) a b
 body_fine t vs i whole past env ws a b le ep inv =
     let d = body_ends t vs i whole (end_of past) env ws.items a b le inv in
-    record { moved = d.0; gives = subst (λ q. Draws (λ v. Comes a.types a.values (v ∷ env) t) whole (flow ws.items (end_of q))) ep d.1 }
+    record { moved = d.0; gives = subst (λ q. Draws (λ v. Comes (types_of a) (values_of a) (v ∷ env) t) whole (flow ws.items (end_of q))) ep d.1 }
 
 pub body_past : (t : Tree) (vs : List Value) (i : ℕ) (whole : Flow) (past : Bool) (env : List Value) (ws : Vec Value Global) (a b : World) → length vs ≤ i → past ≡ true → OnBody t whole (flow (drop i vs) (end_of past)) (drop i vs) env ws.items a b → EvalsBody t whole env (Err (halt.Over ws)) a b
 body_past t vs i whole past env ws a b le ep inv =
     let d = body_ends t vs i whole (end_of past) env ws.items a b le inv in
-    record { moved = d.0; gives = subst (λ q. Draws (λ v. Comes a.types a.values (v ∷ env) t) whole (flow ws.items (end_of q))) ep d.1 }
+    record { moved = d.0; gives = subst (λ q. Draws (λ v. Comes (types_of a) (values_of a) (v ∷ env) t) whole (flow ws.items (end_of q))) ep d.1 }
 
 -- the fields of a record
 pub fields_starts : (ps : Parts) (env : List Value) (none : List (Name × Value)) (a : World) → none ≡ [] → SenseParts ps env a → OnFields ps ps env none a a
@@ -944,23 +1014,24 @@ module _ (fields : List (Name × Term)) (i : ℕ) (p : Name × Term) (whole : Pa
   at_field = subst (λ q. OnFields whole q env now a b) (at_drop_more parts_view fields i p lt ∙ ap (λ q. parts q.0 (view q.1) Rest) (sym is)) inv
 
   pub fields_sense : Sense (view p.1) env b
-  fields_sense = let s = at_field.sense in (s.0, s.3.0, s.2, s.3.3)
+  fields_sense = let s = at_field.sense in (s.0, s.3.0, s.2, s.3.3, s.4)
 
   pub fields_goes : (v : Value) (now' : List (Name × Value)) (c : World) → EvalsPart (view p.1) env (Ok v) b c → AddsField p.0 v (Ok tt) now now' → OnFields whole Rest env now' a c
   fields_goes v now' c h e =
       let k = at_field in
       record {
         moved = moved_then a b c k.moved h.moved;
-        sense = onto (λ S. (G : List Ground) × (r : Row) × HaveTypes G env × PartTypes S G Rest r) b c h.moved (k.sense.0, k.sense.3.1, k.sense.2, k.sense.3.4);
+        sense = (k.sense.0, k.sense.3.1, k.sense.2, onto (λ S. PartTypes S k.sense.0 Rest k.sense.3.1) b c h.moved k.sense.3.4, ready_on b c h.moved k.sense.4);
         onward = λ go o d. k.onward go o (
           done v,
           back (λ S T. Comes S T env (view p.1) (done v)) a b k.moved h.gives,
-          subst (λ q. PartsCome a.types a.values env Rest q o) (fun_ext (λ fs. ap go (ap (λ q. q ++ fs) e ∙ append_assoc now ((p.0, v) ∷ []) fs))) d,
+          subst (λ q. PartsCome (types_of a) (values_of a) env Rest q o) (fun_ext (λ fs. ap go (ap (λ q. q ++ fs) e ∙ append_assoc now ((p.0, v) ∷ []) fs))) d,
         );
       }
 
   pub fields_lost : (v : Value) (now' : List (Name × Value)) (e : EvalStop) (c : World) → EvalsPart (view p.1) env (Ok v) b c → AddsField p.0 v (Err e) now now' → EvalsFields whole env (Err e) a c
   fields_lost v now' eval_stop.Overflow c h add = absurd add
+  fields_lost v now' (eval_stop.Driver l e) c h add = absurd add
   fields_lost v now' eval_stop.NoMemory c h add = record { moved = moved_then a b c (at_field).moved h.moved; gives = tt }
 
   pub fields_stops : (e : EvalStop) (c : World) → EvalsPart (view p.1) env (Err e) b c → EvalsFields whole env (Err e) a c
@@ -970,6 +1041,7 @@ module _ (fields : List (Name × Term)) (i : ℕ) (p : Name × Term) (whole : Pa
         moved = moved_then a b c k.moved h.moved;
         gives = λ go. k.onward go (over []) (over h.gives.0, back (λ S T. Comes S T env (view p.1) (over h.gives.0)) a b k.moved h.gives.1, refl);
       }
+  fields_stops (eval_stop.Driver l e) c h = record { moved = moved_then a b c (at_field).moved h.moved; gives = stopped_then l e a b c (at_field).moved h.gives }
   fields_stops eval_stop.NoMemory c h = record { moved = moved_then a b c (at_field).moved h.moved; gives = tt }
 
 pub fields_ends : (fields : List (Name × Term)) (i : ℕ) (whole : Parts) (env : List Value) (fs : Vec (Name × Value) Global) (a b : World) → length fields ≤ i → OnFields whole (parts_view (drop i fields)) env fs.items a b → EvalsFields whole env (Ok fs) a b

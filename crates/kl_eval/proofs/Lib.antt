@@ -1,4 +1,9 @@
 pub mod Forms
 pub mod Laws
 pub mod PublicLemmas
+pub mod Pulling
+pub mod Reading
+pub mod Scanning
 pub mod Shapes
+pub mod Stops
+pub mod Types

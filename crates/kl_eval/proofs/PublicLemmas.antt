@@ -18,7 +18,9 @@ use Rattle.kl_eval.specs.declared.stop.EvalStop.{EvalStop}
 use Rattle.kl_eval.specs.declared.stop.EvalStop.TheVariants as eval_stop
 use Rattle.kl_eval.specs.declared.stop.Halt.{Halt}
 use Rattle.kl_eval.specs.declared.stop.Halt.TheVariants as halt
-use Rattle.kl_eval.specs.World.{World}
+use Rattle.kl_ask.specs.World.{World, IsReady, types_of, values_of}
+use Rattle.kl_ask.specs.declared.DriverError.{DriverError}
+use Rattle.kl_outcome.specs.Outcome.{Name}
 use Rattle.kl_eval.specs.Comes.{Comes}
 use Rattle.kl_eval.specs.Steps.{inside_of, AddsList}
 use Rattle.kl_eval.specs.Evals.{Sense, SenseIn, SenseList, Evals, Tells, Evaluates, Lists, Added, EvaluatesList}
@@ -39,37 +41,45 @@ tells_none (done v) = tt
 tells_none (over vs) = tt
 tells_none stuck = tt
 
-makes_sense : (t : Tree) (env : List Value) (a : World) → Sense t env a → HaveSources a.types a.values → core a.values t env ≢ stuck
-makes_sense t env a s told = never_stuck a.types a.values told t s.0 env s.1 s.2 s.3
+tells_driver : (o : Outcome) (l : Name) (e : DriverError) → Tells o (Err (eval_stop.Driver l e))
+tells_driver (done v) l e = tt
+tells_driver (over vs) l e = tt
+tells_driver stuck l e = tt
+
+makes_sense : (t : Tree) (env : List Value) (a : World) → Sense t env a → HaveSources (types_of a) (values_of a) → core (values_of a) t env ≢ stuck
+makes_sense t env a s told = never_stuck (types_of a) (values_of a) told t s.0 env s.1 s.2 s.3
 
 evaluated : (t : Tree) (env : List Value) (r : Result Value Halt) (a b : World) → Sense t env a → Evals t env r a b → Evaluates t env (inside_of r) a b
 evaluated t env (Ok v) a b s h = record {
   moved = h.moved;
-  tells = tells_done (core a.values t env) v (comes_below a.types a.values t env (done v) h.gives);
-  typed = λ G u have ty. comes_typed a.types a.values t G env u (done v) have ty h.gives;
+  cause = tt;
+  tells = tells_done (core (values_of a) t env) v (comes_below (types_of a) (values_of a) t env (done v) h.gives);
+  typed = λ G u have ty. comes_typed (types_of a) (values_of a) t G env u (done v) have ty h.gives;
   sense = makes_sense t env a s;
 }
 evaluated t env (Err (halt.Over vs)) a b s h = record {
   moved = h.moved;
-  tells = tells_over (core a.values t env) vs.items (comes_below a.types a.values t env (over vs.items) h.gives);
+  cause = tt;
+  tells = tells_over (core (values_of a) t env) vs.items (comes_below (types_of a) (values_of a) t env (over vs.items) h.gives);
   typed = λ G u have ty. tt;
   sense = makes_sense t env a s;
 }
-evaluated t env (Err halt.NoMemory) a b s h = record { moved = h.moved; tells = tells_none (core a.values t env); typed = λ G u have ty. tt; sense = makes_sense t env a s }
+evaluated t env (Err (halt.Driver l e)) a b s h = record { moved = h.moved; cause = h.gives; tells = tells_driver (core (values_of a) t env) l e; typed = λ G u have ty. tt; sense = makes_sense t env a s }
+evaluated t env (Err halt.NoMemory) a b s h = record { moved = h.moved; cause = tt; tells = tells_none (core (values_of a) t env); typed = λ G u have ty. tt; sense = makes_sense t env a s }
 
 pub evaluates : (t : Tree) (es xs : List Value) (r : Result Value Halt) (q : Result Value EvalStop) (a b : World) → xs ≡ es → Sense t (reverse es) a → Evals t (reverse xs) r a b → q ≡ inside_of r → Evaluates t (reverse es) q a b
 evaluates t es xs r q a b e s h is = subst (λ q. Evaluates t (reverse es) q a b) (sym is) (evaluated t (reverse es) r a b s (subst (λ z. Evals t (reverse z) r a b) e h))
 
-pub sense_at : (t : Tree) (es xs : List Value) (S : SourceTypes) → xs ≡ es → SenseIn S t (reverse es) → SenseIn S t (reverse xs)
-sense_at t es xs S e s = subst (λ z. SenseIn S t (reverse z)) (sym e) s
+pub sense_at : (t : Tree) (es xs : List Value) (w : World) → xs ≡ es → Sense t (reverse es) w → Sense t (reverse xs) w
+sense_at t es xs w e s = subst (λ z. Sense t (reverse z) w) (sym e) s
 
 -- ---- lists
 
 of_list : (t : Tree) (env : List Value) (a : World) → SenseList t env a → Sense t env a
-of_list t env a s = (s.0, coll kind.List s.1, s.2, s.3)
+of_list t env a s = (s.0, coll kind.List s.1, s.2, s.3, s.4)
 
-pub list_sense : (t : Tree) (es xs : List Value) (S : SourceTypes) → xs ≡ es → (G : List Ground) × (s : Ground) × HaveTypes G (reverse es) × CoreTypes S G t (coll kind.List s) → SenseIn S t (reverse xs)
-list_sense t es xs S e s = sense_at t es xs S e (s.0, coll kind.List s.1, s.2, s.3)
+pub list_sense : (t : Tree) (es xs : List Value) (w : World) → xs ≡ es → SenseList t (reverse es) w → Sense t (reverse xs) w
+list_sense t es xs w e s = sense_at t es xs w e (of_list t (reverse es) w s)
 
 list_there : (v : Value) (s : Ground) → Inhabits (coll kind.List s) v → IsSome (items_at kind.List v)
 list_there v s i = rw (i.0.1, value.outs-List i.0.0) refl
@@ -77,7 +87,7 @@ list_there v s i = rw (i.0.1, value.outs-List i.0.0) refl
 pub lists_there : (t : Tree) (es xs : List Value) (r : Result Value Halt) (a b : World) → xs ≡ es → SenseList t (reverse es) a → Evals t (reverse xs) r a b → IfOk r (λ v. IsSome (items_at kind.List v))
 lists_there t es xs (Ok v) a b e s h =
     let h' = subst (λ z. Evals t (reverse z) (Ok v) a b) e h in
-    list_there v s.1 (comes_typed a.types a.values t s.0 (reverse es) (coll kind.List s.1) (done v) s.2 s.3 h'.gives)
+    list_there v s.1 (comes_typed (types_of a) (values_of a) t s.0 (reverse es) (coll kind.List s.1) (done v) s.2 s.3 h'.gives)
 lists_there t es xs (Err f) a b e s h = tt
 
 lists_done : (o : Outcome) (w : Value) (vs old new : List Value) → Below o (done w) → w ≡ value.List vs → new ≡ old ++ vs → Lists o (Ok tt) old new
@@ -95,6 +105,11 @@ lists_none (done v) old new = tt
 lists_none (over vs) old new = tt
 lists_none stuck old new = tt
 
+lists_driver : (o : Outcome) (l : Name) (e : DriverError) (old new : List Value) → Lists o (Err (eval_stop.Driver l e)) old new
+lists_driver (done v) l e old new = tt
+lists_driver (over vs) l e old new = tt
+lists_driver stuck l e old new = tt
+
 some_collection : (c d : Collection) → Some c ≡ Some d → c ≡ d
 some_collection c d e = cc
 
@@ -109,19 +124,29 @@ items_of_list s v vs e i =
 listed : (t : Tree) (env : List Value) (r : Result Value Halt) (q : Result (Unit {0}) EvalStop) (old new : List Value) (a b : World) → SenseList t env a → Evals t env r a b → AddsList r q old new → EvaluatesList t env q old new a b
 listed t env (Ok v) (Ok x) old new a b s h k = record {
   moved = h.moved;
-  tells = lists_done (core a.values t env) v k.0 old new (comes_below a.types a.values t env (done v) h.gives) k.1 k.2;
-  typed = λ G u have ty. (k.0, k.2, items_of_list u v k.0 k.1 (comes_typed a.types a.values t G env (coll kind.List u) (done v) have ty h.gives));
+  cause = tt;
+  tells = lists_done (core (values_of a) t env) v k.0 old new (comes_below (types_of a) (values_of a) t env (done v) h.gives) k.1 k.2;
+  typed = λ G u have ty. (k.0, k.2, items_of_list u v k.0 k.1 (comes_typed (types_of a) (values_of a) t G env (coll kind.List u) (done v) have ty h.gives));
   sense = makes_sense t env a (of_list t env a s);
 }
 listed t env (Err (halt.Over vs)) (Err eval_stop.Overflow) old new a b s h k = record {
   moved = h.moved;
-  tells = lists_over (core a.values t env) vs.items old new (comes_below a.types a.values t env (over vs.items) h.gives) k;
-  typed = λ G u have ty. (vs.items, k, comes_typed a.types a.values t G env (coll kind.List u) (over vs.items) have ty h.gives);
+  cause = tt;
+  tells = lists_over (core (values_of a) t env) vs.items old new (comes_below (types_of a) (values_of a) t env (over vs.items) h.gives) k;
+  typed = λ G u have ty. (vs.items, k, comes_typed (types_of a) (values_of a) t G env (coll kind.List u) (over vs.items) have ty h.gives);
   sense = makes_sense t env a (of_list t env a s);
 }
+listed t env (Err (halt.Driver l e)) q old new a b s h k = subst (λ z. EvaluatesList t env z old new a b) (sym k.0) (record {
+  moved = h.moved;
+  cause = h.gives;
+  tells = lists_driver (core (values_of a) t env) l e old new;
+  typed = λ G u have ty. k.1;
+  sense = makes_sense t env a (of_list t env a s);
+})
 listed t env r (Err eval_stop.NoMemory) old new a b s h k = record {
   moved = h.moved;
-  tells = lists_none (core a.values t env) old new;
+  cause = tt;
+  tells = lists_none (core (values_of a) t env) old new;
   typed = λ G u have ty. left r k;
   sense = makes_sense t env a (of_list t env a s);
 }
@@ -129,8 +154,12 @@ listed t env r (Err eval_stop.NoMemory) old new a b s h k = record {
     left : (r : Result Value Halt) → AddsList r (Err eval_stop.NoMemory) old new → new ≡ old
     left (Ok v) k = k
     left (Err (halt.Over vs)) k = k
+    left (Err (halt.Driver l e)) k = k.1
     left (Err halt.NoMemory) k = k
 listed t env (Ok v) (Err eval_stop.Overflow) old new a b s h k = absurd k
+listed t env (Ok v) (Err (eval_stop.Driver l e)) old new a b s h k = absurd k
+listed t env (Err (halt.Over vs)) (Err (eval_stop.Driver l e)) old new a b s h k = absurd k
+listed t env (Err halt.NoMemory) (Err (eval_stop.Driver l e)) old new a b s h k = absurd k
 listed t env (Err (halt.Over vs)) (Ok x) old new a b s h k = absurd k
 listed t env (Err halt.NoMemory) (Ok x) old new a b s h k = absurd k
 listed t env (Err halt.NoMemory) (Err eval_stop.Overflow) old new a b s h k = absurd k

@@ -1,5 +1,6 @@
 pub mod Comes
 pub mod Evals
+pub mod Scans
 pub mod Steps
 pub mod Values
 pub mod World

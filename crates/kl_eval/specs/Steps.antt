@@ -23,23 +23,26 @@ Answers (done v) (Err (halt.Over ws)) = ⊥
 Answers (over vs) (Ok w) = ⊥
 Answers (over vs) (Err (halt.Over ws)) = ws.items ≡ vs
 Answers stuck r = ⊥
+Answers o (Err (halt.Driver l e)) = ⊥
 Answers o (Err halt.NoMemory) = ⊤
 
 abbrev pub inside_of : Result Value Halt → Result Value EvalStop
 inside_of (Ok v) = Ok v
 inside_of (Err (halt.Over vs)) = Err stop.Overflow
+inside_of (Err (halt.Driver l e)) = Err (stop.Driver l e)
 inside_of (Err halt.NoMemory) = Err stop.NoMemory
 
 abbrev pub Outside : EvalStop → Halt → Type 0
 Outside stop.Overflow (halt.Over vs) = vs.items ≡ []
-Outside stop.Overflow halt.NoMemory = ⊥
-Outside stop.NoMemory (halt.Over vs) = ⊥
+Outside (stop.Driver l e) h = h ≡ halt.Driver l e
 Outside stop.NoMemory halt.NoMemory = ⊤
+Outside _ _ = ⊥
 
 -- these at the end of a list, unless memory ran out
 abbrev pub Adds : List Value → Result (Unit {0}) Halt → List Value → List Value → Type 0
 Adds vs (Ok _) old new = new ≡ old ++ vs
 Adds vs (Err (halt.Over ws)) old new = ⊥
+Adds vs (Err (halt.Driver l e)) old new = ⊥
 Adds vs (Err halt.NoMemory) old new = ⊤
 
 abbrev pub AddsItems : Value → Result (Unit {0}) Halt → List Value → List Value → Type 0
@@ -48,34 +51,37 @@ AddsItems v r old new = (k : Kind) × (vs : List Value) × (v ≡ collection k v
 abbrev pub AddsField : Name → Value → Result (Unit {0}) EvalStop → List (Name × Value) → List (Name × Value) → Type 0
 AddsField l v (Ok _) old new = new ≡ old ++ (l, v) ∷ []
 AddsField l v (Err stop.Overflow) old new = ⊥
+AddsField l v (Err (stop.Driver m e)) old new = ⊥
 AddsField l v (Err stop.NoMemory) old new = ⊤
 
 -- an overflow behind some items
 abbrev pub Behind : List Value → Halt → Halt → Type 0
 Behind vs (halt.Over ws) (halt.Over us) = us.items ≡ vs ++ ws.items
-Behind vs halt.NoMemory (halt.Over us) = ⊥
-Behind vs h halt.NoMemory = ⊤
+Behind vs (halt.Driver l e) h = h ≡ halt.Driver l e
+Behind vs (halt.Over ws) halt.NoMemory = ⊤
+Behind vs halt.NoMemory halt.NoMemory = ⊤
+Behind vs _ _ = ⊥
 
 -- a collection of what was drawn
 abbrev pub Gathers : Kind → Result (Vec Value Global) Halt → Result Value Halt → Type 0
 Gathers k (Ok vs) r = Answers (done (canonical k vs.items)) r
 Gathers k (Err (halt.Over vs)) r = Answers (over (kept k vs.items)) r
+Gathers k (Err (halt.Driver l e)) r = r ≡ Err (halt.Driver l e)
 Gathers k (Err halt.NoMemory) r = r ≡ Err halt.NoMemory
 
--- what an outcome has as a list at the end of another; want of memory leaves that as it was
+-- what an outcome has as a list at the end of another; a stop that is no overflow leaves that as it was
 abbrev pub AddsList : Result Value Halt → Result (Unit {0}) EvalStop → List Value → List Value → Type 0
 AddsList (Ok v) (Ok _) old new = (vs : List Value) × (v ≡ value.List vs) × (new ≡ old ++ vs)
-AddsList (Ok v) (Err stop.Overflow) old new = ⊥
-AddsList (Err (halt.Over vs)) (Ok _) old new = ⊥
 AddsList (Err (halt.Over vs)) (Err stop.Overflow) old new = new ≡ old ++ vs.items
-AddsList (Err halt.NoMemory) (Ok _) old new = ⊥
-AddsList (Err halt.NoMemory) (Err stop.Overflow) old new = ⊥
+AddsList (Err (halt.Driver l e)) r old new = (r ≡ Err (stop.Driver l e)) × (new ≡ old)
 AddsList r (Err stop.NoMemory) old new = new ≡ old
+AddsList _ _ old new = ⊥
 
 -- what a primitive answers
 abbrev pub AnswersPrim : Answer → Result Value EvalStop → Type 0
 AnswersPrim a (Ok v) = a ≡ gives v
 AnswersPrim a (Err stop.Overflow) = a ≡ overflows
+AnswersPrim a (Err (stop.Driver l e)) = ⊥
 AnswersPrim a (Err stop.NoMemory) = ⊤
 
 -- the place of the first one with a label

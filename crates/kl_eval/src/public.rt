@@ -7,44 +7,51 @@ use crate::env::Env;
 use crate::evaluator::value;
 use crate::steps::{add_list, inside};
 use crate::stop::EvalStop;
-use crate::tables::Tables;
+use kl_ask::{Seen, Session};
 use kl_core::Term;
 use kl_value::Value;
 use std::alloc::Global;
 
-/// The value of a term that makes sense, where the last value of `env` is the nearest. Each source is read as often as
-/// the meaning comes to it, and a part that the meaning does not come to is not evaluated.
+/// The value of a term that makes sense under the types of the session's attached sources, where the last value of `env`
+/// is the nearest. Each source is read as often as the meaning comes to it, and a part that the meaning does not come to
+/// is not evaluated.
+///
+/// Afterwards, also after a stop, the session has the same sources and settings, and its drivers have the same sources
+/// attached and the same cursors open.
 ///
 /// # Errors
-/// `Overflow` exactly where the outcome of the term is an overflow; `NoMemory`.
-pub fn eval<T: Tables>(
+/// `Overflow` exactly where the outcome of the term is an overflow; `Driver` where the driver of that source refused to go
+/// on, for a fault that it counted, or for a drift of contents that it does not tell; `NoMemory`. The last two come first.
+pub fn eval(
     alloc: Global,
     term: &Term,
     env: &mut Vec<Value>,
-    tables: &mut T,
+    session: &mut Session,
 ) -> Result<Value, EvalStop>
-    requires { Sense (view term.now) (reverse env.old.items) (T.world tables.old) }
+    requires { Sense (view term.now) (reverse env.old.items) (⟦<Session as Seen>⟧.world session.old) }
     ensures env { env.new.items ≡ env.old.items }
-    ensures value { Evaluates (view term.now) (reverse env.old.items) result (T.world tables.old) (T.world tables.new) }
+    ensures value { Evaluates (view term.now) (reverse env.old.items) result (⟦<Session as Seen>⟧.world session.old) (⟦<Session as Seen>⟧.world session.new) }
 {
-    inside(value(alloc, term, &Env::Base(env.as_slice()), tables))
+    inside(value(alloc, term, &Env::Base(env.as_slice()), session))
 }
 
-/// Adds the items of a term that makes sense as a list.
+/// Adds the items of a term that makes sense as a list. Of the session the same holds as with `eval`.
 ///
 /// # Errors
-/// `Overflow` exactly where the outcome of the term is an overflow: the items before it are added then. `NoMemory`: the
-/// list is as before then.
-pub fn eval_list<T: Tables>(
+/// Those of `eval`. After `Overflow` the items before it are added; after the others the list is as before.
+pub fn eval_list(
     alloc: Global,
     term: &Term,
     env: &mut Vec<Value>,
-    tables: &mut T,
+    session: &mut Session,
     into: &mut Vec<Value>,
 ) -> Result<(), EvalStop>
-    requires { SenseList (view term.now) (reverse env.old.items) (T.world tables.old) }
+    requires { SenseList (view term.now) (reverse env.old.items) (⟦<Session as Seen>⟧.world session.old) }
     ensures env { env.new.items ≡ env.old.items }
-    ensures items { EvaluatesList (view term.now) (reverse env.old.items) result into.old.items into.new.items (T.world tables.old) (T.world tables.new) }
+    ensures items { EvaluatesList (view term.now) (reverse env.old.items) result into.old.items into.new.items (⟦<Session as Seen>⟧.world session.old) (⟦<Session as Seen>⟧.world session.new) }
 {
-    add_list(value(alloc, term, &Env::Base(env.as_slice()), tables), into)
+    add_list(
+        value(alloc, term, &Env::Base(env.as_slice()), session),
+        into,
+    )
 }

@@ -44,6 +44,7 @@ pub fn inside(outcome: Result<Value, Halt>) -> Result<Value, EvalStop>
     match outcome {
         Ok(value) => Ok(value),
         Err(Halt::Over(_)) => Err(EvalStop::Overflow),
+        Err(Halt::Driver { source, error }) => Err(EvalStop::Driver { source, error }),
         Err(Halt::NoMemory) => Err(EvalStop::NoMemory),
     }
 }
@@ -54,6 +55,7 @@ pub fn outside(alloc: Global, stop: EvalStop) -> Halt
 {
     match stop {
         EvalStop::Overflow => Halt::Over(Vec::new(alloc)),
+        EvalStop::Driver { source, error } => Halt::Driver { source, error },
         EvalStop::NoMemory => Halt::NoMemory,
     }
 }
@@ -117,6 +119,7 @@ pub fn behind(items: Vec<Value>, halt: Halt) -> Halt
                 Err(_) => Halt::NoMemory,
             }
         }
+        Halt::Driver { source, error } => Halt::Driver { source, error },
         Halt::NoMemory => Halt::NoMemory,
     }
 }
@@ -138,11 +141,12 @@ pub fn gather(kind: Kind, drawn: Result<Vec<Value>, Halt>) -> Result<Value, Halt
                 Err(Halt::Over(items))
             }
         },
+        Err(Halt::Driver { source, error }) => Err(Halt::Driver { source, error }),
         Err(Halt::NoMemory) => Err(Halt::NoMemory),
     }
 }
 
-/// Adds the items of a list, or those before an overflow. Want of memory leaves the list as it was.
+/// Adds the items of a list, or those before an overflow. Any other stop leaves the list as it was.
 pub fn add_list(outcome: Result<Value, Halt>, into: &mut Vec<Value>) -> Result<(), EvalStop>
     requires { IfOk outcome (λ v. IsSome (items_at kind.List v)) }
     ensures { AddsList outcome result into.old.items into.new.items }
@@ -163,6 +167,7 @@ pub fn add_list(outcome: Result<Value, Halt>, into: &mut Vec<Value>) -> Result<(
                 Err(_) => Err(EvalStop::NoMemory),
             }
         }
+        Err(Halt::Driver { source, error }) => Err(EvalStop::Driver { source, error }),
         Err(Halt::NoMemory) => Err(EvalStop::NoMemory),
     }
 }

@@ -1,32 +1,38 @@
 //! Where an evaluation has the values of sources from.
-ghost use Rattle.kl_eval.specs.World.{World, Tabled, no_sources};
+ghost use Rattle.std.specs.Prelude.{IsSome};
+ghost use Rattle.kl_ask.specs.World.{IsReady, types_of};
+ghost use Rattle.kl_eval.specs.World.{Tabled};
 
+use crate::scans::{no_rows, scan_attached};
 use crate::stop::EvalStop;
+use kl_ask::{Driver, Seen, Session};
 use kl_value::Value;
 use std::alloc::Global;
 
 /// What gives the value of each source, each time anew.
-pub trait Tables {
-    /// The types of the sources, and their values where they are told.
-    ghost world: { Self → World };
-
-    /// The value of a source, by its number. Of a number that no source has nothing is said; a term that makes sense
-    /// names none.
+pub trait Tables: Seen {
+    /// The value of a source, by its number. One that no driver has attached is empty.
     ///
     /// # Errors
-    /// Want of memory, and never an overflow.
+    /// `Driver` where the source's driver refused to go on; want of memory; and never an overflow.
     fn table(&mut self, alloc: Global, source: u32) -> Result<Value, EvalStop>
-        ensures { Tabled source result (world self.old) (world self.new) };
+        requires ready { IsReady (Self.world self.old) }
+        requires there { IsSome (types_of (Self.world self.old) source) }
+        ensures { Tabled source result (Self.world self.old) (Self.world self.new) };
 }
 
-/// No sources, so that no term that makes sense names one.
-#[derive(Clone, Copy, Debug, Drop)]
-pub struct NoTables;
-
-impl Tables for NoTables {
-    ghost world = { λ _. no_sources };
-
-    fn table(&mut self, _alloc: Global, _source: u32) -> Result<Value, EvalStop> {
-        Err(EvalStop::NoMemory)
+impl Tables for Session {
+    fn table(&mut self, alloc: Global, source: u32) -> Result<Value, EvalStop> {
+        let attached = &self.sources.slice()[source as usize];
+        match attached.driver {
+            Some(place) => scan_attached(
+                alloc,
+                &mut self.drivers,
+                place as usize,
+                attached,
+                self.settings.fetch,
+            ),
+            None => no_rows(alloc, attached),
+        }
     }
 }

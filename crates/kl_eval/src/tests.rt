@@ -1,24 +1,45 @@
 ghost use Rattle.std.specs.Prelude.{◌≡◌, List, []};
 ghost use Rattle.kl_value.specs.declared.value.Value.{Value};
 ghost use Rattle.kl_core.specs.Trees.{view};
-ghost use Rattle.kl_eval.specs.World.{World};
+ghost use Rattle.kl_ask.specs.World.{World, IsReady};
 ghost use Rattle.kl_eval.specs.Evals.{Sense, SenseList};
 
-use crate::{NoTables, eval, eval_list};
+use crate::{eval, eval_list};
+use kl_ask::{JoinHow, Seen, Session, Settings, Trace};
 use kl_base::Seq;
 use kl_core::Term;
 use kl_value::{Kind, Value};
+use std::alloc::Global;
 use std::test::Fail;
 
+// A session without sources.
+fn session(alloc: Global) -> Session
+    ensures { IsReady (⟦<Session as Seen>⟧.world result) }
+{
+    Session {
+        drivers: Vec::new(alloc),
+        sources: Seq::of(Vec::new(alloc)),
+        settings: Settings {
+            block: 256,
+            fetch: 64,
+            cache: 64,
+            join: JoinHow::Index,
+            rewrite: true,
+            delegate: true,
+        },
+        trace: Trace::new(alloc),
+    }
+}
+
 fn four() -> Term
-    ensures { (env : List Value) (w : World) → env ≡ [] → Sense (view result) env w }
+    ensures { (env : List Value) (w : World) → env ≡ [] → IsReady w → Sense (view result) env w }
 {
     Term::Const(Value::Int(4))
 }
 
 fn nothing(items: Vec<Term>) -> Term
     requires { items.items ≡ [] }
-    ensures { (env : List Value) (w : World) → env ≡ [] → SenseList (view result) env w }
+    ensures { (env : List Value) (w : World) → env ≡ [] → IsReady w → SenseList (view result) env w }
 {
     Term::Make(Kind::List, Seq::of(items))
 }
@@ -26,7 +47,8 @@ fn nothing(items: Vec<Term>) -> Term
 #[test]
 fn a_term_has_a_value(rt: HostRuntime) {
     let mut env = Vec::new(rt.alloc());
-    let result = eval(rt.alloc(), &four(), &mut env, &mut NoTables);
+    let mut session = session(rt.alloc());
+    let result = eval(rt.alloc(), &four(), &mut env, &mut session);
     assert!(rt; result == Ok(Value::Int(4)));
 }
 
@@ -35,7 +57,8 @@ fn a_list_is_added(rt: HostRuntime) -> Result<(), Fail> {
     let mut env = Vec::new(rt.alloc());
     let mut into = vec![in rt.alloc(); Value::Int(1)]?;
     let term = nothing(Vec::new(rt.alloc()));
-    let result = eval_list(rt.alloc(), &term, &mut env, &mut NoTables, &mut into);
+    let mut session = session(rt.alloc());
+    let result = eval_list(rt.alloc(), &term, &mut env, &mut session, &mut into);
     assert!(rt; result == Ok(()));
     assert_eq!(rt; into.len(), 1);
     Ok(())

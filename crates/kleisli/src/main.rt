@@ -1,10 +1,13 @@
-//! The program `kleisli`: the top call over the system's words, files and streams.
+//! The program `kleisli`: the top call over the system's words, files and streams, and the driver of flat files.
 //!
 //! It ends with the status that the top call answers. A word that is not UTF-8 is told as words that name no command.
-//! Before that call the program can end with 9, where there is no memory for the words, and with 12, where the system
-//! gives no words.
+//! Before that call the program can end with 9, where there is no memory for the words or the drivers, and with 12, where
+//! the system gives no words.
 #![tactic(auto)]
 
+mod drivers;
+
+use drivers::flat_driver;
 use kl_engine::kleisli;
 use kl_outside::{HostFiles, HostSink};
 use std::io::ErrorKind;
@@ -36,8 +39,14 @@ fn read_words(rt: HostRuntime) -> io::Result<Vec<String>> {
 }
 
 fn run(rt: HostRuntime, words: &[String]) -> u8 {
-    let mut files = HostFiles::new(rt);
-    let mut out = HostSink::new(rt.stdout());
-    let mut err = HostSink::new(rt.stderr());
-    kleisli(rt.alloc(), words, &mut files, &mut out, &mut err).status
+    match flat_driver(rt.alloc(), HostFiles::new(rt)) {
+        Ok(mut drivers) => {
+            let mut files = HostFiles::new(rt);
+            let mut out = HostSink::new(rt.stdout());
+            let mut err = HostSink::new(rt.stderr());
+            let answer = kleisli(rt.alloc(), words, &mut files, &mut drivers, &mut out, &mut err);
+            answer.status
+        }
+        Err(_) => NO_MEMORY,
+    }
 }

@@ -1,8 +1,8 @@
-use Rattle.kl_engine.proofs.PageLemmas.{cut_took, cut_stopped}
+use Rattle.kl_engine.proofs.PageLemmas.{printed_enough, printed_short}
 use Rattle.kl_engine.proofs.page.print_cut_list.Goals as goal
 
-pub returns-in-Ok : goal.returns-in-Ok
-returns-in-Ok g c = cut_took _ _ _ c.in-Ok.field-0 c.in-Ok.ensures
+pub returns-then-suffice : goal.returns-then-suffice
+returns-then-suffice g c = printed_enough _ _ _ _ _ c.if-suffice.true c.print_value.ensures
 
-pub returns-in-Err : goal.returns-in-Err
-returns-in-Err g c = rw c.write_fault.ensures (cut_stopped _ _ _ c.in-Err.error c.in-Err.ensures)
+pub returns : goal.returns
+returns g c = printed_short _ _ _ _ _ c.if-suffice.false c.print_overflow.ensures

@@ -3,23 +3,24 @@ use Rattle.std.proofs.lemmas.Grind.{common_steps}
 use Rattle.kl_core.specs.declared.term.Term.{the_lemmas}
 use Rattle.kl_outcome.specs.Outcome.{done, over, fine, overflow, flow}
 use Rattle.kl_eval.specs.declared.stop.Halt.TheVariants as halt
-use Rattle.kl_eval.proofs.Forms.{body_fine, body_goes, body_lost, body_over, body_past, body_sense, body_starts, body_whole, call_arity, call_both, call_former_stop, call_latter_stop, call_only, call_only_stop, each_ends, each_goes, each_lost, each_none, each_over, each_sense, each_starts, evals_lent, evals_lost, evals_part, fields_ends, fields_goes, fields_lost, fields_sense, fields_starts, fields_stops, first_there, fits_both, fits_only, found, items_done, missing, moved_none, no_branch, over_gives, second_there, sense_body, sense_bound, sense_branch, sense_first, sense_former, sense_inj, sense_items, sense_latter, sense_make, sense_only, sense_other_at, sense_picked, sense_prim, sense_proj, sense_rec, sense_second, sense_source, sense_subject, sense_test, sense_var, source_whole, there_field, truth_there, value_branch, value_case_stop, value_if, value_if_stop, value_inj, value_inj_stop, value_let, value_let_stop, value_loop, value_make, value_other_at, value_prim, value_proj, value_proj_stop, value_rec, value_rec_stop, value_source, value_source_stop, value_union, value_union_first, value_union_lost, value_union_over, value_var, variant_there}
+use Rattle.kl_eval.proofs.Forms.{body_fine, body_goes, body_lost, body_over, body_past, body_sense, body_starts, body_whole, call_arity, call_both, call_former_stop, call_latter_stop, call_only, call_only_stop, each_ends, each_goes, each_lost, each_none, each_over, each_refused, each_sense, each_starts, evals_lent, evals_lost, evals_part, evals_refused, fields_ends, fields_goes, fields_lost, fields_sense, fields_starts, fields_stops, first_there, fits_both, fits_only, found, items_done, missing, no_branch, over_gives, second_there, sense_body, sense_bound, sense_branch, sense_first, sense_former, sense_inj, sense_items, sense_latter, sense_make, sense_only, sense_other_at, sense_picked, sense_prim, sense_proj, sense_rec, sense_second, sense_source, sense_subject, sense_test, sense_var, source_ready, source_there, source_whole, there_field, truth_there, value_branch, value_case_stop, value_if, value_if_stop, value_inj, value_inj_stop, value_let, value_let_stop, value_loop, value_make, value_other_at, value_prim, value_proj, value_proj_stop, value_rec, value_rec_stop, value_source, value_source_stop, value_union, value_union_first, value_union_lost, value_union_over, value_var, variant_there}
+use Rattle.kl_ask.proofs.Worlds.{moved_none}
 use Rattle.kl_eval.proofs.evaluator.+eval.Goals as goal
 
 pub value-variable-requires : goal.value-variable-requires
-value-variable-requires g t c = sense_var _ _ _ _ c.in-Var.is c.requires
+value-variable-requires g t c = sense_var _ _ _ _ c.in-Var.is (c.requires.0, c.requires.1, c.requires.2, c.requires.3)
 
 pub value-returns-in-Var : goal.value-returns-in-Var
 value-returns-in-Var g t c = value_var _ _ _ _ _ _ c.in-Var.is c.variable.ensures c.copy.ensures
 
 pub value-returns-in-Ok : goal.value-returns-in-Ok
-value-returns-in-Ok g t c = value_source _ _ _ c.in-Source.is _ (g.T.Tables.world c.args.tables.now) _ c.requires c.in-Ok.ensures
+value-returns-in-Ok g t c = value_source _ _ _ c.in-Source.is _ (g.T.Seen.world c.args.tables.now) _ c.in-Ok.ensures
 
 pub value-returns-in-Source : goal.value-returns-in-Source
-value-returns-in-Source g t c = value_source_stop _ _ _ c.in-Source.is _ _ (g.T.Tables.world c.args.tables.now) _ c.requires c.in-Err.ensures c.outside.ensures
+value-returns-in-Source g t c = value_source_stop _ _ _ c.in-Source.is _ _ (g.T.Seen.world c.args.tables.now) _ c.in-Err.ensures c.outside.ensures
 
 pub value-each_field-requires : goal.value-each_field-requires
-value-each_field-requires g t c κs within = (search (rules, the_lemmas, arith), (within, sense_rec _ _ _ _ c.in-Rec.is c.slice.ensures (g.T.Tables.world c.args.tables.now) c.requires))
+value-each_field-requires g t c κs within = (search (rules, the_lemmas, arith), (within, sense_rec _ _ _ _ c.in-Rec.is c.slice.ensures (g.T.Seen.world c.args.tables.now) c.requires))
 
 pub value-returns-in-Ok-each_field : goal.value-returns-in-Ok-each_field
 value-returns-in-Ok-each_field g t c = value_rec _ _ _ _ c.in-Rec.is c.slice.ensures _ _ _ _ c.of.ensures c.in-Ok-each_field.ensures
@@ -28,7 +29,7 @@ pub value-returns-in-Rec : goal.value-returns-in-Rec
 value-returns-in-Rec g t c = value_rec_stop _ _ _ _ c.in-Rec.is c.slice.ensures _ _ _ _ c.in-Err-each_field.ensures c.outside-in-Err-each_field.ensures
 
 pub value-look-requires : goal.value-look-requires
-value-look-requires g t c κs within = (search (rules, the_lemmas, arith), (within, sense_proj _ _ _ _ _ (g.T.Tables.world c.args.tables.now) c.in-Proj.is c.get.ensures c.requires))
+value-look-requires g t c κs within = (search (rules, the_lemmas, arith), (within, sense_proj _ _ _ _ _ (g.T.Seen.world c.args.tables.now) c.in-Proj.is c.get.ensures c.requires))
 
 pub value-field-requires : goal.value-field-requires
 value-field-requires g t c = there_field _ _ _ _ _ _ _ _ _ _ c.in-Proj.is refl c.get.ensures c.get-in-Ok-look.ensures c.requires c.in-Ok-look.ensures
@@ -40,7 +41,7 @@ pub value-returns-in-Proj : goal.value-returns-in-Proj
 value-returns-in-Proj g t c = value_proj_stop _ _ _ _ _ _ _ _ _ _ c.in-Proj.is refl c.get.ensures c.in-Err-look.ensures c.outside-in-Err-look.ensures
 
 pub value-value-requires : goal.value-value-requires
-value-value-requires g t c κs within = (search (rules, the_lemmas, arith), (within, sense_inj _ _ _ _ _ _ c.in-Inj.is refl c.get-in-Inj.ensures (g.T.Tables.world c.args.tables.now) c.requires))
+value-value-requires g t c κs within = (search (rules, the_lemmas, arith), (within, sense_inj _ _ _ _ _ _ c.in-Inj.is refl c.get-in-Inj.ensures (g.T.Seen.world c.args.tables.now) c.requires))
 
 pub value-returns-in-Ok-inside : goal.value-returns-in-Ok-inside
 value-returns-in-Ok-inside g t c = value_inj _ _ _ _ _ _ c.in-Inj.is refl c.get-in-Inj.ensures _ _ _ _ (evals_part _ _ _ _ _ _ c.value.ensures c.in-Ok-inside.ensures) c.tag.ensures
@@ -49,7 +50,7 @@ pub value-returns-in-Inj : goal.value-returns-in-Inj
 value-returns-in-Inj g t c = value_inj_stop _ _ _ _ _ _ c.in-Inj.is refl c.get-in-Inj.ensures _ _ _ _ (evals_part _ _ _ _ _ _ c.value.ensures c.in-Err-inside.ensures) c.outside-in-Err-inside.ensures
 
 pub value-look-requires-in-Case : goal.value-look-requires-in-Case
-value-look-requires-in-Case g t c κs within = (search (rules, the_lemmas, arith), (within, sense_subject _ _ _ _ _ _ _ c.in-Case.is c.get-in-Case.ensures refl (g.T.Tables.world c.args.tables.now) c.requires))
+value-look-requires-in-Case g t c κs within = (search (rules, the_lemmas, arith), (within, sense_subject _ _ _ _ _ _ _ c.in-Case.is c.get-in-Case.ensures refl (g.T.Seen.world c.args.tables.now) c.requires))
 
 pub value-variant-requires : goal.value-variant-requires
 value-variant-requires g t c = variant_there _ _ _ _ _ _ _ c.in-Case.is c.get-in-Case.ensures refl _ _ _ _ c.get-in-Ok-look-2.ensures c.requires c.in-Ok-look-2.ensures
@@ -70,13 +71,13 @@ pub value-returns-in-Case : goal.value-returns-in-Case
 value-returns-in-Case g t c = value_case_stop _ _ _ _ _ _ _ c.in-Case.is c.get-in-Case.ensures refl _ _ _ _ c.in-Err-look-2.ensures c.outside-in-Err-look-2.ensures
 
 pub value-each-requires : goal.value-each-requires
-value-each-requires g t c κs within = (search (rules, the_lemmas, arith), (within, sense_make _ _ _ _ _ c.in-Make.is c.slice-in-Make.ensures (g.T.Tables.world c.args.tables.now) c.requires))
+value-each-requires g t c κs within = (search (rules, the_lemmas, arith), (within, sense_make _ _ _ _ _ c.in-Make.is c.slice-in-Make.ensures (g.T.Seen.world c.args.tables.now) c.requires))
 
 pub value-returns-in-Make : goal.value-returns-in-Make
 value-returns-in-Make g t c = value_make _ _ _ _ _ c.in-Make.is c.slice-in-Make.ensures _ _ _ _ c.each.ensures c.gather.ensures
 
 pub value-value-requires-in-Union : goal.value-value-requires-in-Union
-value-value-requires-in-Union g t c κs within = (search (rules, the_lemmas, arith), (within, sense_first _ _ _ _ _ c.in-Union.is c.get-in-Union.ensures (g.T.Tables.world c.args.tables.now) c.requires))
+value-value-requires-in-Union g t c κs within = (search (rules, the_lemmas, arith), (within, sense_first _ _ _ _ _ c.in-Union.is c.get-in-Union.ensures (g.T.Seen.world c.args.tables.now) c.requires))
 
 pub value-value-requires-in-Ok-value : goal.value-value-requires-in-Ok-value
 value-value-requires-in-Ok-value g t c κs within = (search (rules, the_lemmas, arith), (within, sense_second _ _ _ _ _ c.in-Union.is c.get-in-Union.ensures _ _ _ c.get-in-Ok-value.ensures c.in-Ok-value.ensures.moved c.requires))
@@ -94,19 +95,19 @@ pub value-returns-in-Union : goal.value-returns-in-Union
 value-returns-in-Union g t c = value_union_first _ _ _ _ _ c.in-Union.is c.get-in-Union.ensures _ _ _ c.in-Err-value.ensures
 
 pub value-lent-requires : goal.value-lent-requires
-value-lent-requires g t c = (_, sense_source _ _ _ _ _ _ _ c.in-Ext.is refl c.get-in-Ext.ensures (g.T.Tables.world c.args.tables.now) c.requires)
+value-lent-requires g t c = let s = sense_source _ _ _ _ _ _ _ c.in-Ext.is refl c.get-in-Ext.ensures (g.T.Seen.world c.args.tables.now) c.requires in (_, (s.0, s.1, s.2, s.3))
 
 pub value-parts_of-requires : goal.value-parts_of-requires
-value-parts_of-requires g t c = source_whole _ _ _ _ _ _ _ c.in-Ext.is refl c.get-in-Ext.ensures _ (g.T.Tables.world c.args.tables.now) c.requires (c.in-Some-lent.ensures _ _)
+value-parts_of-requires g t c = source_whole _ _ _ _ _ _ _ c.in-Ext.is refl c.get-in-Ext.ensures _ (g.T.Seen.world c.args.tables.now) c.requires (c.in-Some-lent.ensures _ _)
 
 pub value-draw-requires : goal.value-draw-requires
-value-draw-requires g t c κs within = (search (rules, the_lemmas, arith), (within, sense_items _ _ _ _ _ _ _ c.in-Ext.is c.get-in-Some-lent.ensures c.get-in-Ext.ensures (done _) _ fine (g.T.Tables.world c.args.tables.now) _ (moved_none _) (items_done _ _ _ c.parts_of.ensures.reads) c.requires (c.in-Some-lent.ensures _ _)))
+value-draw-requires g t c κs within = (search (rules, the_lemmas, arith), (within, sense_items _ _ _ _ _ _ _ c.in-Ext.is c.get-in-Some-lent.ensures c.get-in-Ext.ensures (done _) _ fine (g.T.Seen.world c.args.tables.now) _ (moved_none _) (items_done _ _ _ c.parts_of.ensures.reads) c.requires (c.in-Some-lent.ensures _ _)))
 
 pub value-returns-in-Some-lent : goal.value-returns-in-Some-lent
 value-returns-in-Some-lent g t c = value_loop _ _ _ _ _ _ _ c.in-Ext.is c.get-in-Some-lent.ensures c.get-in-Ext.ensures (done _) _ fine _ _ _ _ _ (moved_none _) (items_done _ _ _ c.parts_of.ensures.reads) (c.in-Some-lent.ensures _ _) c.draw.ensures c.gather-in-Some-lent.ensures
 
 pub value-value-requires-in-None-lent : goal.value-value-requires-in-None-lent
-value-value-requires-in-None-lent g t c κs within = (search (rules, the_lemmas, arith), (within, sense_source _ _ _ _ _ _ _ c.in-Ext.is refl c.get-in-None-lent.ensures (g.T.Tables.world c.args.tables.now) c.requires))
+value-value-requires-in-None-lent g t c κs within = (search (rules, the_lemmas, arith), (within, sense_source _ _ _ _ _ _ _ c.in-Ext.is refl c.get-in-None-lent.ensures (g.T.Seen.world c.args.tables.now) c.requires))
 
 pub value-parts_of-requires-in-Ok-value-3 : goal.value-parts_of-requires-in-Ok-value-3
 value-parts_of-requires-in-Ok-value-3 g t c = source_whole _ _ _ _ _ _ _ c.in-Ext.is refl c.get-in-None-lent.ensures _ _ c.requires c.in-Ok-value-3.ensures.gives
@@ -118,7 +119,7 @@ pub value-returns-in-Ok-value-3 : goal.value-returns-in-Ok-value-3
 value-returns-in-Ok-value-3 g t c = value_loop _ _ _ _ _ _ _ c.in-Ext.is c.get-in-Ok-value-3.ensures c.get-in-None-lent.ensures (done _) _ fine _ _ _ _ _ c.in-Ok-value-3.ensures.moved (items_done _ _ _ c.parts_of-in-Ok-value-3.ensures.reads) c.in-Ok-value-3.ensures.gives c.draw-in-Ok-value-3.ensures c.gather-in-Ok-value-3.ensures
 
 pub value-look-requires-in-If : goal.value-look-requires-in-If
-value-look-requires-in-If g t c κs within = (search (rules, the_lemmas, arith), (within, sense_test _ _ _ _ _ _ c.in-If.is c.get-in-If.ensures (g.T.Tables.world c.args.tables.now) c.requires))
+value-look-requires-in-If g t c κs within = (search (rules, the_lemmas, arith), (within, sense_test _ _ _ _ _ _ c.in-If.is c.get-in-If.ensures (g.T.Seen.world c.args.tables.now) c.requires))
 
 pub value-bool_of-requires : goal.value-bool_of-requires
 value-bool_of-requires g t c = truth_there _ _ _ _ _ _ c.in-If.is c.get-in-If.ensures _ _ _ _ c.get-in-Ok-look-3.ensures c.requires c.in-Ok-look-3.ensures
@@ -139,7 +140,7 @@ pub value-returns-in-If : goal.value-returns-in-If
 value-returns-in-If g t c = value_if_stop _ _ _ _ _ _ c.in-If.is c.get-in-If.ensures _ _ _ _ c.in-Err-look-3.ensures c.outside-in-Err-look-3.ensures
 
 pub value-look-requires-in-Let : goal.value-look-requires-in-Let
-value-look-requires-in-Let g t c κs within = (search (rules, the_lemmas, arith), (within, sense_bound _ _ _ _ _ c.in-Let.is c.get-in-Let.ensures (g.T.Tables.world c.args.tables.now) c.requires))
+value-look-requires-in-Let g t c κs within = (search (rules, the_lemmas, arith), (within, sense_bound _ _ _ _ _ c.in-Let.is c.get-in-Let.ensures (g.T.Seen.world c.args.tables.now) c.requires))
 
 pub value-value-requires-in-Ok-look-4 : goal.value-value-requires-in-Ok-look-4
 value-value-requires-in-Ok-look-4 g t c κs within = (search (rules, the_lemmas, arith), (within, sense_body _ _ _ _ _ c.in-Let.is c.get-in-Let.ensures _ _ _ _ _ c.get-in-Ok-look-4.ensures c.get-in-Ok-look-4-2.ensures c.requires c.in-Ok-look-4.ensures))
@@ -151,13 +152,13 @@ pub value-returns-in-Let : goal.value-returns-in-Let
 value-returns-in-Let g t c = value_let_stop _ _ _ _ _ c.in-Let.is c.get-in-Let.ensures _ _ _ _ c.in-Err-look-4.ensures c.outside-in-Err-look-4.ensures
 
 pub value-call-requires : goal.value-call-requires
-value-call-requires g t c κs within = (search (rules, the_lemmas, arith), (within, sense_prim _ _ _ _ _ c.in-Prim.is c.slice-in-Prim.ensures (g.T.Tables.world c.args.tables.now) c.requires))
+value-call-requires g t c κs within = (search (rules, the_lemmas, arith), (within, sense_prim _ _ _ _ _ c.in-Prim.is c.slice-in-Prim.ensures (g.T.Seen.world c.args.tables.now) c.requires))
 
 pub value-returns-in-Ok-call : goal.value-returns-in-Ok-call
 value-returns-in-Ok-call g t c = value_prim _ _ _ _ _ c.in-Prim.is c.slice-in-Prim.ensures _ _ _ c.in-Ok-call.ensures
 
 pub look-lent-requires : goal.look-lent-requires
-look-lent-requires g t c = (_, c.requires)
+look-lent-requires g t c = (_, (c.requires.0, c.requires.1, c.requires.2, c.requires.3))
 
 pub look-returns-in-Some : goal.look-returns-in-Some
 look-returns-in-Some g t c = evals_lent _ _ _ _ (λ S T. c.in-Some.ensures S T)
@@ -250,7 +251,7 @@ pub value-unreachable-requires : goal.value-unreachable-requires
 value-unreachable-requires g t c = no_branch _ _ _ _ _ _ _ c.in-Case.is c.get-in-Case.ensures refl _ _ _ _ _ _ c.get-in-Ok-look-2.ensures c.variant.ensures c.requires c.in-Ok-look-2.ensures (missing _ _ _ c.slice-in-Ok-look-2.ensures c.in-None.ensures.place) c.in-None-other.is
 
 pub call-look-requires : goal.call-look-requires
-call-look-requires g t c κs within = (search (rules, the_lemmas, arith), (within, sense_only _ _ _ _ (g.T.Tables.world c.args.tables.now) c.if-terms-eq1.true c.index-terms-0.is c.requires))
+call-look-requires g t c κs within = (search (rules, the_lemmas, arith), (within, sense_only _ _ _ _ (g.T.Seen.world c.args.tables.now) c.if-terms-eq1.true c.index-terms-0.is c.requires))
 
 pub call-apply-requires-clause-fits : goal.call-apply-requires-clause-fits
 call-apply-requires-clause-fits g t c = (fits_only _ _ _ _ _ c.if-terms-eq1.true c.index-terms-0.is _ _ c.requires c.in-Ok.ensures).0
@@ -265,25 +266,37 @@ pub call-returns-in-Err : goal.call-returns-in-Err
 call-returns-in-Err g t c = call_only_stop _ _ _ _ _ c.if-terms-eq1.true c.index-terms-0.is _ _ c.in-Err.ensures
 
 pub call-look-requires-then-terms-eq2 : goal.call-look-requires-then-terms-eq2
-call-look-requires-then-terms-eq2 g t c κs within = (search (rules, the_lemmas, arith), (within, sense_former _ _ _ _ (g.T.Tables.world c.args.tables.now) c.if-terms-eq2.true c.index-terms-0-then-terms-eq2.is c.requires))
+call-look-requires-then-terms-eq2 g t c κs within = (search (rules, the_lemmas, arith), (within, sense_former _ _ _ _ (g.T.Seen.world c.args.tables.now) c.if-terms-eq2.true c.index-terms-0-then-terms-eq2.is c.requires))
 
 pub call-look-requires-in-Ok-look : goal.call-look-requires-in-Ok-look
-call-look-requires-in-Ok-look g t c κs within = (search (rules, the_lemmas, arith), (within, sense_latter _ _ _ _ _ (g.T.Tables.world c.args.tables.now) c.if-terms-eq2.true c.index-terms-0-then-terms-eq2.is c.index-terms-1.is _ c.in-Ok-look.ensures.moved c.requires))
+call-look-requires-in-Ok-look g t c κs within = (search (rules, the_lemmas, arith), (within, sense_latter _ _ _ _ _ (g.T.Seen.world c.args.tables.now) c.if-terms-eq2.true c.index-terms-0-then-terms-eq2.is c.index-terms-1.is _ c.in-Ok-look.ensures.moved c.requires))
 
 pub call-apply-requires-in-Ok-look-2-clause-fits : goal.call-apply-requires-in-Ok-look-2-clause-fits
-call-apply-requires-in-Ok-look-2-clause-fits g t c = (fits_both _ _ _ _ _ (g.T.Tables.world c.args.tables.now) c.if-terms-eq2.true c.index-terms-0-then-terms-eq2.is c.index-terms-1.is _ _ _ _ c.requires c.in-Ok-look.ensures c.in-Ok-look-2.ensures).0
+call-apply-requires-in-Ok-look-2-clause-fits g t c = (fits_both _ _ _ _ _ (g.T.Seen.world c.args.tables.now) c.if-terms-eq2.true c.index-terms-0-then-terms-eq2.is c.index-terms-1.is _ _ _ _ c.requires c.in-Ok-look.ensures c.in-Ok-look-2.ensures).0
 
 pub call-apply-requires-in-Ok-look-2-clause-canonical : goal.call-apply-requires-in-Ok-look-2-clause-canonical
-call-apply-requires-in-Ok-look-2-clause-canonical g t c = (fits_both _ _ _ _ _ (g.T.Tables.world c.args.tables.now) c.if-terms-eq2.true c.index-terms-0-then-terms-eq2.is c.index-terms-1.is _ _ _ _ c.requires c.in-Ok-look.ensures c.in-Ok-look-2.ensures).1
+call-apply-requires-in-Ok-look-2-clause-canonical g t c = (fits_both _ _ _ _ _ (g.T.Seen.world c.args.tables.now) c.if-terms-eq2.true c.index-terms-0-then-terms-eq2.is c.index-terms-1.is _ _ _ _ c.requires c.in-Ok-look.ensures c.in-Ok-look-2.ensures).1
 
 pub call-returns-in-Ok-look-2 : goal.call-returns-in-Ok-look-2
-call-returns-in-Ok-look-2 g t c = call_both _ _ _ _ _ (g.T.Tables.world c.args.tables.now) c.if-terms-eq2.true c.index-terms-0-then-terms-eq2.is c.index-terms-1.is _ _ _ _ _ c.in-Ok-look.ensures c.in-Ok-look-2.ensures c.apply-in-Ok-look-2.ensures
+call-returns-in-Ok-look-2 g t c = call_both _ _ _ _ _ (g.T.Seen.world c.args.tables.now) c.if-terms-eq2.true c.index-terms-0-then-terms-eq2.is c.index-terms-1.is _ _ _ _ _ c.in-Ok-look.ensures c.in-Ok-look-2.ensures c.apply-in-Ok-look-2.ensures
 
 pub call-returns-in-Err-look-2 : goal.call-returns-in-Err-look-2
-call-returns-in-Err-look-2 g t c = call_latter_stop _ _ _ _ _ (g.T.Tables.world c.args.tables.now) c.if-terms-eq2.true c.index-terms-0-then-terms-eq2.is c.index-terms-1.is _ _ _ _ c.in-Ok-look.ensures c.in-Err-look-2.ensures
+call-returns-in-Err-look-2 g t c = call_latter_stop _ _ _ _ _ (g.T.Seen.world c.args.tables.now) c.if-terms-eq2.true c.index-terms-0-then-terms-eq2.is c.index-terms-1.is _ _ _ _ c.in-Ok-look.ensures c.in-Err-look-2.ensures
 
 pub call-returns-in-Err-look : goal.call-returns-in-Err-look
 call-returns-in-Err-look g t c = call_former_stop _ _ _ _ _ _ _ c.if-terms-eq2.true c.index-terms-0-then-terms-eq2.is c.in-Err-look.ensures
 
 pub call-unreachable-requires : goal.call-unreachable-requires
-call-unreachable-requires g t c = call_arity _ _ _ (g.T.Tables.world c.args.tables.now) c.requires c.if-terms-eq1.false c.if-terms-eq2.false
+call-unreachable-requires g t c = call_arity _ _ _ (g.T.Seen.world c.args.tables.now) c.requires c.if-terms-eq1.false c.if-terms-eq2.false
+
+pub value-table-requires-clause-ready : goal.value-table-requires-clause-ready
+value-table-requires-clause-ready g t c = source_ready _ _ _ c.in-Source.is (g.T.Seen.world c.args.tables.now) c.requires
+
+pub value-table-requires-clause-there : goal.value-table-requires-clause-there
+value-table-requires-clause-there g t c = source_there _ _ _ c.in-Source.is (g.T.Seen.world c.args.tables.now) c.requires
+
+pub value-returns-in-Driver : goal.value-returns-in-Driver
+value-returns-in-Driver g t c = evals_refused _ _ _ _ _ _ _ _ c.in-Driver.is c.in-Err-value-3.ensures
+
+pub each-returns-in-Driver : goal.each-returns-in-Driver
+each-returns-in-Driver g t c = each_refused _ _ _ _ _ _ _ _ c.terms-test.true c.term-item.is c.terms.invariant _ _ _ _ c.in-Driver.is c.in-Err.ensures

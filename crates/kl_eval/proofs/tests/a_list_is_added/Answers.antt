@@ -1,6 +1,5 @@
 use Rattle.std.proofs.Common.{ap, reverse}
-use Rattle.kl_eval.specs.World.{no_sources}
 use Rattle.kl_eval.proofs.tests.a_list_is_added.Goals as goal
 
 pub eval_list-result-requires : goal.eval_list-result-requires
-eval_list-result-requires g c = c.nothing-term.ensures _ no_sources (ap reverse c.new-env.ensures.items)
+eval_list-result-requires g c = c.nothing-term.ensures _ _ (ap reverse c.new-env.ensures.items) c.session-session.ensures

@@ -1,6 +1,5 @@
 use Rattle.std.proofs.Common.{ap, reverse}
-use Rattle.kl_eval.specs.World.{no_sources}
 use Rattle.kl_eval.proofs.tests.a_term_has_a_value.Goals as goal
 
 pub eval-result-requires : goal.eval-result-requires
-eval-result-requires g c = c.four.ensures _ no_sources (ap reverse c.new-env.ensures.items)
+eval-result-requires g c = c.four.ensures _ _ (ap reverse c.new-env.ensures.items) c.session-session.ensures

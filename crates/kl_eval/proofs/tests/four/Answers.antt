@@ -8,6 +8,7 @@ use Rattle.kl_outcome.specs.Typed.{HaveTypes, Has}
 use Rattle.kl_value.specs.declared.Value.{Value}
 use Rattle.kl_value.specs.declared.Value.TheVariants as value
 use Rattle.kl_value.proofs.IsCanonicalLemmas.{int_made}
+use Rattle.kl_ask.specs.World.{types_of}
 use Rattle.kl_eval.proofs.tests.four.Goals as goal
 
 view_Const : (v : Value) → view (term.Const v) ≡ con v
@@ -17,4 +18,4 @@ is_int : (n : ℤ) → Has int (value.Int n)
 is_int n = rw (value.outs-Int n) refl
 
 pub returns : goal.returns
-returns c env w is = ([], int, subst (HaveTypes []) (sym is) tt, subst (λ t. CoreTypes w.types [] t int) (sym (view_Const (value.Int (pos 4)))) (is_int (pos 4), int_made (pos 4)))
+returns c env w is ready = ([], int, subst (HaveTypes []) (sym is) tt, subst (λ t. CoreTypes (types_of w) [] t int) (sym (view_Const (value.Int (pos 4)))) (is_int (pos 4), int_made (pos 4)), ready)

@@ -1,0 +1,142 @@
+-- Two verdicts on one text are alike.
+use Rattle.std.proofs.Common.{◌≡◌, ◌⊎◌, inl, inr, ℕ, suc, ◌+◌, ◌<◌, Bool, true, false, List, [], ◌∷◌, length, map, Option, Some, None, refl, sym, ap, ap₂, subst, ◌∙◌, arith}
+use Rattle.std.specs.Prelude.{IsTrue}
+use Rattle.std.proofs.lemmas.List.{length-map}
+use Rattle.kl_value.specs.declared.Value.{Value}
+use Rattle.kl_type.specs.Ground.{Ground}
+use Rattle.kl_outcome.specs.Outcome.{Name, Outcome, done, over, stuck}
+use Rattle.kl_syntax.specs.Syntax.{Exp, Decls, no_decls, constant, function}
+use Rattle.kl_syntax.specs.declared.tree.Program.{Program}
+use Rattle.kl_scope.specs.Sizes.{declared}
+use Rattle.kl_meaning.specs.Run.{meaning_of_program}
+use Rattle.kl_meaning.specs.Typing.{Known, Types as TypesOf, FunctionTypes, HasTyping, with_sort, value_of, function_of, types_at_first}
+use Rattle.kl_infer.specs.Inferred.{FailsAt}
+use Rattle.kl_ask.specs.Driver.{DriverKind, Stored, Rows}
+use Rattle.kl_sources.specs.Sources.{names_of, grounds_of, contents, value_of as source_value, IsValueAt, HaveValues, IsReadable, FirstWithout}
+use Rattle.kl_sources.specs.declared.source.Source.{Source}
+use Rattle.kl_engine.specs.Answering.{Alike, one, retyped}
+use Rattle.kl_engine.specs.Reading.{definitions, last}
+use Rattle.kl_engine.specs.Verdict.{Verdict, refused, size_fault, AfterSizes, IsUntyped, IsListing, stored_fault, IsOutcome, IsMeant, IsDone, AreMarks, IsText}
+use Rattle.kl_engine.specs.declared.fault.Fault.{Fault}
+use Rattle.kl_engine.specs.declared.fault.Fault.TheVariants as fault
+use Rattle.kl_engine.specs.declared.top.Purpose.{Purpose}
+use Rattle.kl_engine.specs.declared.top.Purpose.TheVariants as purpose
+use Rattle.kl_engine.proofs.ReadLemmas.{faults_alike, no_fault, one_program}
+
+one_failing : (ds : Decls) (e : Exp) (known : Known) (n m : ℕ) → FailsAt ds e known n → FailsAt ds e known m → n ≡ m
+one_failing no_decls e known n m this that = this.0 ∙ sym that.0
+one_failing (constant d b ds) e known n m (inl (none, is)) (inl (also, it)) = none ∙ sym also
+one_failing (constant d b ds) e known n m (inl (zero_is, none)) (inr (k, is, typed, rest)) = absurd (none typed.0 typed.1)
+one_failing (constant d b ds) e known n m (inr (k, is, typed, rest)) (inl (zero_is, none)) = absurd (none typed.0 typed.1)
+one_failing (constant d b ds) e known n m (inr (k, is, typed, rest)) (inr (j, it, also, more)) = is ∙ (ap suc (one_failing ds e (with_sort d.text (value_of (TypesOf b known [])) known) k j rest more) ∙ sym it)
+one_failing (function d p b ds) e known n m (inl (none, is)) (inl (also, it)) = none ∙ sym also
+one_failing (function d p b ds) e known n m (inl (zero_is, none)) (inr (k, is, typed, rest)) = absurd (none typed.0 typed.1 typed.2)
+one_failing (function d p b ds) e known n m (inr (k, is, typed, rest)) (inl (zero_is, none)) = absurd (none typed.0 typed.1 typed.2)
+one_failing (function d p b ds) e known n m (inr (k, is, typed, rest)) (inr (j, it, also, more)) = is ∙ (ap suc (one_failing ds e (with_sort d.text (function_of (FunctionTypes known p b)) known) k j rest more) ∙ sym it)
+
+module _ (grounds : List (Name × Ground)) (ds : Decls) (e : Exp) where
+  untyped_alike : (v w : Verdict) → IsUntyped grounds ds e v → IsUntyped grounds ds e w → Alike v w
+  untyped_alike v w (n, ill, is) (m, also, it) = one (is ∙ (ap (λ k. refused (fault.IllTyped k)) (one_failing ds e (types_at_first grounds) n m ill.fails also.fails) ∙ sym it))
+
+  outcome_one : (first : Option ℕ) (o : Outcome) (v w : Verdict) → IsOutcome grounds first ds e o v → IsOutcome grounds first ds e o w → v ≡ w
+  outcome_one first (done x) v w this that = this ∙ sym that
+  outcome_one first (over xs) v w (inl (list, is)) (inl (also, it)) = is ∙ sym it
+  outcome_one first (over xs) v w (inl (list, is)) (inr (none, it)) = absurd (none list)
+  outcome_one first (over xs) v w (inr (none, is)) (inl (list, it)) = absurd (none list)
+  outcome_one first (over xs) v w (inr (none, is)) (inr (also, it)) = is ∙ sym it
+  outcome_one first stuck v w this that = absurd this
+
+  listing_alike : (v w : Verdict) → IsUntyped grounds ds e v ⊎ IsListing grounds ds e v → IsUntyped grounds ds e w ⊎ IsListing grounds ds e w → Alike v w
+  listing_alike v w (inl this) (inl that) = untyped_alike v w this that
+  listing_alike v w (inl (n, ill, is)) (inr (typed, infers, it)) = absurd (ill.none infers.has_typing)
+  listing_alike v w (inr (typed, infers, is)) (inl (n, ill, it)) = absurd (ill.none infers.has_typing)
+  listing_alike v w (inr this) (inr that) = retyped grounds ds e this that
+
+-- ---- the values of sources
+
+same_rows : (ks : List DriverKind) (s : Source) (rows others : List Value) → contents ks s ≡ Some (Rows rows) → contents ks s ≡ Some (Rows others) → rows ≡ others
+same_rows ks s rows others at there = let both : Some (Rows rows) ≡ Some (Rows others) = sym at ∙ there in cc
+
+value_one : (ks : List DriverKind) (m : Bool) (s : Source) (v w : Value) → IsValueAt ks m s v → IsValueAt ks m s w → v ≡ w
+value_one ks true s v w (rows, at, is) (others, there, it) = is ∙ (ap (source_value s) (same_rows ks s rows others at there) ∙ sym it)
+value_one ks false s v w this that = this ∙ sym that
+
+true_again : (a b : Bool) → a ≡ b → a ≡ true → b ≡ true
+true_again a b same is = sym same ∙ is
+
+module _ (ks : List DriverKind) (marks others : ℕ → Bool) where
+  values_one : (n : ℕ) (ss : List Source) (vs ws : List (Name × Value)) → ((i : ℕ) → i < n + length ss → marks i ≡ others i) → HaveValues ks marks n ss vs → HaveValues ks others n ss ws → vs ≡ ws
+  values_one n [] vs ws same this that = this ∙ sym that
+  values_one n (s ∷ ss) vs ws same (v, rest, is, at, more) (w, left, it, there, again) =
+      let one_value : v ≡ w = value_one ks (marks n) s v w at (subst (λ m. IsValueAt ks m s w) (sym (same n (omega arith))) there) in
+      let others_too : rest ≡ left = values_one (suc n) ss rest left (λ i less. same i (omega (arith, less))) more again in
+      is ∙ (ap₂ (λ x xs. (s.name, x) ∷ xs) one_value others_too ∙ sym it)
+
+  first_one : (n : ℕ) (ss : List Source) (s t : Source) (w x : Stored) → ((i : ℕ) → i < n + length ss → marks i ≡ others i) → FirstWithout ks marks n ss s w → FirstWithout ks others n ss t x → (s ≡ t) × (w ≡ x)
+  first_one n [] s t w x same this that = absurd this
+  first_one n (u ∷ us) s t w x same (inl (marked, is, at, none)) (inl (also, it, there, never)) = (is ∙ sym it, let both : Some w ≡ Some x = sym at ∙ there in cc)
+  first_one n (u ∷ us) s t w x same (inl (marked, is, at, none)) (inr (readable, rest)) = absurd (none (subst (λ m. IsReadable ks m u) (true_again (marks n) (others n) (same n (omega arith)) marked) readable))
+  first_one n (u ∷ us) s t w x same (inr (readable, rest)) (inl (also, it, there, never)) = absurd (never (subst (λ m. IsReadable ks m u) (true_again (others n) (marks n) (sym (same n (omega arith))) also) readable))
+  first_one n (u ∷ us) s t w x same (inr (readable, rest)) (inr (again, left)) = first_one (suc n) us s t w x (λ i less. same i (omega (arith, less))) rest left
+
+  none_without : (n : ℕ) (ss : List Source) (s : Source) (w : Stored) (vs : List (Name × Value)) → ((i : ℕ) → i < n + length ss → marks i ≡ others i) → FirstWithout ks marks n ss s w → HaveValues ks others n ss vs → ⊥
+  none_without n [] s w vs same this that = this
+  none_without n (u ∷ us) s w vs same (inl (marked, is, at, none)) (v, rest, eq, has, more) =
+      let value : IsValueAt ks true u v = subst (λ m. IsValueAt ks m u v) (true_again (marks n) (others n) (same n (omega arith)) marked) has in
+      none (value.0, value.1)
+  none_without n (u ∷ us) s w vs same (inr (readable, left)) (v, rest, eq, has, more) = none_without (suc n) us s w rest (λ i less. same i (omega (arith, less))) left more
+
+same_fault : (f g : Fault) (a b : Option Fault) → a ≡ b → a ≡ Some f → b ≡ Some g → f ≡ g
+same_fault f g a b same this that = let both : Some f ≡ Some g = sym this ∙ (same ∙ that) in cc
+
+-- ---- verdicts on one program
+
+module _ (ks : List DriverKind) (ss : List Source) (marks others : ℕ → Bool) (same : (i : ℕ) → i < length ss → marks i ≡ others i) (ds : Decls) (e : Exp) where
+  meant_one : (first : Option ℕ) (v w : Verdict) → IsMeant ks ss marks first ds e v → IsMeant ks ss others first ds e w → v ≡ w
+  meant_one first v w (inl (s, x, f, at, is, eq)) (inl (t, y, g, there, it, eq2)) =
+      let both = first_one ks marks others 0 ss s t x y same at there in
+      eq ∙ (ap refused (same_fault f g (stored_fault s.name x) (stored_fault t.name y) (ap₂ (λ u z. stored_fault u.name z) both.0 both.1) is it) ∙ sym eq2)
+  meant_one first v w (inl (s, x, f, at, is, eq)) (inr (vs, values, it)) = absurd (none_without ks marks others 0 ss s x vs same at values)
+  meant_one first v w (inr (vs, values, is)) (inl (t, y, g, there, it, eq)) = absurd (none_without ks others marks 0 ss t y vs (λ i less. sym (same i less)) there values)
+  meant_one first v w (inr (vs, values, is)) (inr (ws, again, it)) =
+      let both : vs ≡ ws = values_one ks marks others 0 ss vs ws same values again in
+      outcome_one (grounds_of ss) ds e first (meaning_of_program ds e ws) v w (subst (λ xs. IsOutcome (grounds_of ss) first ds e (meaning_of_program ds e xs) v) both is) it
+
+  meant_alike : (first : Option ℕ) (v w : Verdict) → IsUntyped (grounds_of ss) ds e v ⊎ (HasTyping ds e (grounds_of ss) × IsMeant ks ss marks first ds e v) → IsUntyped (grounds_of ss) ds e w ⊎ (HasTyping ds e (grounds_of ss) × IsMeant ks ss others first ds e w) → Alike v w
+  meant_alike first v w (inl this) (inl that) = untyped_alike (grounds_of ss) ds e v w this that
+  meant_alike first v w (inl (n, ill, is)) (inr (typing, it)) = absurd (ill.none typing)
+  meant_alike first v w (inr (typing, is)) (inl (n, ill, it)) = absurd (ill.none typing)
+  meant_alike first v w (inr (typing, is)) (inr (also, it)) = one (meant_one first v w is it)
+
+  sized_alike : (size : Option Fault) (This That : Verdict → Type 0) → ((v w : Verdict) → This v → That w → Alike v w) → (v w : Verdict) → AfterSizes size This v → AfterSizes size That w → Alike v w
+  sized_alike (Some f) This That alike v w this that = one (this ∙ sym that)
+  sized_alike None This That alike v w this that = alike v w this that
+
+  pub done_alike : (p : Purpose) (v w : Verdict) → IsDone ks ss marks p ds e v → IsDone ks ss others p ds e w → Alike v w
+  done_alike purpose.Check v w this that = one (this ∙ sym that)
+  done_alike purpose.Types v w this that = sized_alike (size_fault (declared ds e [])) (λ u. IsUntyped (grounds_of ss) ds e u ⊎ IsListing (grounds_of ss) ds e u) (λ u. IsUntyped (grounds_of ss) ds e u ⊎ IsListing (grounds_of ss) ds e u) (listing_alike (grounds_of ss) ds e) v w this that
+  done_alike (purpose.Run first) v w this that =
+      sized_alike (size_fault (declared ds e []))
+      (λ u. IsUntyped (grounds_of ss) ds e u ⊎ (HasTyping ds e (grounds_of ss) × IsMeant ks ss marks first ds e u))
+      (λ u. IsUntyped (grounds_of ss) ds e u ⊎ (HasTyping ds e (grounds_of ss) × IsMeant ks ss others first ds e u)) (meant_alike first) v w this that
+
+both_true : (a b : Bool) → (IsTrue a → IsTrue b) → (IsTrue b → IsTrue a) → a ≡ b
+both_true true true there back = refl
+both_true true false there back = absurd (there tt)
+both_true false true there back = absurd (back tt)
+both_true false false there back = refl
+
+pub marks_one : (q : Program) (ss : List Source) (marks others : ℕ → Bool) → AreMarks q (names_of ss) marks → AreMarks q (names_of ss) others → (i : ℕ) → i < length ss → marks i ≡ others i
+marks_one q ss marks others this that i less =
+    let within : i < length (names_of ss) = subst (λ n. i < n) (sym (length-map (λ s. s.name) ss)) less in
+    both_true (marks i) (others i) (λ is. (that i within).1 ((this i within).0 is)) (λ is. (this i within).1 ((that i within).0 is))
+
+module _ (ks : List DriverKind) (ss : List Source) (p : Purpose) (bytes : List ℕ) where
+  pub text_alike : (v w : Verdict) → IsText ks ss p bytes v → IsText ks ss p bytes w → Alike v w
+  text_alike v w (inl (f, this, is)) (inl (g, that, it)) = subst (λ u. Alike u w) (sym is) (subst (Alike (refused f)) (sym it) (faults_alike (names_of ss) bytes f g this that))
+  text_alike v w (inl (f, this, is)) (inr (q, marks, whole, told, it)) = absurd (no_fault (names_of ss) bytes f q whole this)
+  text_alike v w (inr (q, marks, whole, told, is)) (inl (f, that, it)) = absurd (no_fault (names_of ss) bytes f q whole that)
+  text_alike v w (inr (q, marks, whole, told, is)) (inr (r, others, also, again, it)) =
+      let same : q ≡ r = one_program (names_of ss) bytes q r whole also in
+      let told_too : AreMarks r (names_of ss) marks = subst (λ s. AreMarks s (names_of ss) marks) same told in
+      done_alike ks ss marks others (marks_one r ss marks others told_too again) (definitions (names_of ss) r) (last (names_of ss) r) p v w (subst (λ s. IsDone ks ss marks p (definitions (names_of ss) s) (last (names_of ss) s) v) same is) it

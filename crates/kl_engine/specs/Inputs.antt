@@ -1,0 +1,60 @@
+-- What reading a command's files answers. No public contract cites this.
+use Rattle.std.specs.Prelude.{◌≡◌, ◌⊎◌, ℕ, ◌≤◌, List, length, Option, Some, None, Result, Vec, IfOk, IfErr, ⊤}
+use Rattle.std.specs.declared.alloc.Global.{Global}
+use Rattle.kl_outside.specs.Counts.{Rose}
+use Rattle.kl_outside.specs.Files.{FilesState, IsMissing}
+use Rattle.kl_ask.specs.Driver.{DriverKind}
+use Rattle.kl_sources.specs.Placing.{ArePlaced}
+use Rattle.kl_sources.specs.declared.source.Source.{Source}
+use Rattle.kl_engine.specs.Catalogues.{IsCatalogueFault, IsCatalogueOf}
+use Rattle.kl_engine.specs.Verdict.{most_bytes, IsSourcesFault, HasSources, IsInputsFault, HasInputs}
+use Rattle.kl_engine.specs.declared.inputs.Inputs.{Inputs}
+use Rattle.kl_engine.specs.declared.fault.Fault.{Fault}
+use Rattle.kl_engine.specs.declared.fault.Fault.TheVariants as fault
+
+-- the faults of a catalogue's text
+abbrev pub IsCatalogueEnd : Fault → Type 0
+IsCatalogueEnd fault.NoMemory = ⊤
+IsCatalogueEnd (fault.Catalogue byte) = ⊤
+IsCatalogueEnd fault.Nesting = ⊤
+IsCatalogueEnd (fault.NameTwice name) = ⊤
+IsCatalogueEnd (fault.NoDriver name) = ⊤
+IsCatalogueEnd (fault.Unsuited name) = ⊤
+IsCatalogueEnd f = ⊥
+
+-- and those of its file
+abbrev pub IsSourcesEnd : Fault → Type 0
+IsSourcesEnd fault.Read = ⊤
+IsSourcesEnd fault.CatalogueBytes = ⊤
+IsSourcesEnd f = IsCatalogueEnd f
+
+pub record ReadsCatalogue (ks : List DriverKind) (text : List ℕ) (result : Result (Vec Source Global) Fault) : Type 0 where
+  pub sources : IfOk result (λ ss. IsCatalogueOf ks text ss.items)
+  pub placed : IfOk result (λ ss. ArePlaced ks ss.items)
+  pub refused : IfErr result (λ f. (f ≡ fault.NoMemory) ⊎ IsCatalogueFault ks text f)
+  pub no_other : IfErr result IsCatalogueEnd
+
+pub record ReadsSources (catalogue : Option (List ℕ)) (ks : List DriverKind) (result : Result (Vec Source Global) Fault) (files files' : FilesState) : Type 0 where
+  pub left : files'.left ≡ files.left
+  pub told : files'.told ≡ files.told
+  pub later : files.faults ≤ files'.faults
+  pub placed : IfOk result (λ ss. ArePlaced ks ss.items)
+  pub sources : (told : _) → files.told ≡ Some told → IfOk result (λ ss. HasSources told ks catalogue ss.items)
+  pub refused : (told : _) → files.told ≡ Some told → IfErr result (λ f. (f ≡ fault.NoMemory) ⊎ ((f ≡ fault.Read) × Rose files.faults files'.faults) ⊎ IsSourcesFault told ks catalogue f)
+  pub no_other : IfErr result IsSourcesEnd
+  pub read : (files.told ≡ None) → IfErr result (λ f. f ≡ fault.Read → Rose files.faults files'.faults)
+
+-- the faults of both files
+abbrev pub IsInputsEnd : Fault → Type 0
+IsInputsEnd fault.ProgramBytes = ⊤
+IsInputsEnd f = IsSourcesEnd f
+
+pub record ReadsInputs (path : List ℕ) (catalogue : Option (List ℕ)) (ks : List DriverKind) (result : Result Inputs Fault) (files files' : FilesState) : Type 0 where
+  pub left : files'.left ≡ files.left
+  pub told : files'.told ≡ files.told
+  pub few : IfOk result (λ i. length i.text ≤ most_bytes)
+  pub placed : IfOk result (λ i. ArePlaced ks i.sources)
+  pub inputs : (told : _) → files.told ≡ Some told → IfOk result (λ i. HasInputs told ks path catalogue i.text i.sources)
+  pub refused : (told : _) → files.told ≡ Some told → IfErr result (λ f. (f ≡ fault.NoMemory) ⊎ ((f ≡ fault.Read) × Rose files.faults files'.faults) ⊎ IsInputsFault told ks path catalogue f)
+  pub no_other : IfErr result IsInputsEnd
+  pub read : files.told ≡ None → IfErr result (λ f. f ≡ fault.Read → Rose files.faults files'.faults)
