@@ -163,7 +163,7 @@ module _ (t x t' : Tree) (env env' : List Value) (v : Value) where
 evals_made : (t x : Tree) (env : List Value) (v u : Value) (r : Result Value Halt) (a b : World) → EvalsPart x env (Ok v) a b → Answers (done u) r → ((S : SourceTypes) (T : Tables) → Comes S T env x (done v) → Comes S T env t (done u)) → Evals t env r a b
 evals_made t x env v u r a b h k f = record { moved = h.moved; gives = gives_made (Comes (types_of a) (values_of a) env t) a b u r (f (types_of a) (values_of a) h.gives) k }
 
-evals_stop : (t x : Tree) (env : List Value) (e : EvalStop) (h : Halt) (a b : World) → EvalsPart x env (Err e) a b → Outside e h → ((S : SourceTypes) (T : Tables) (vs : List Value) → Comes S T env x (over vs) → Comes S T env t (over [])) → Evals t env (Err h) a b
+pub evals_stop : (t x : Tree) (env : List Value) (e : EvalStop) (h : Halt) (a b : World) → EvalsPart x env (Err e) a b → Outside e h → ((S : SourceTypes) (T : Tables) (vs : List Value) → Comes S T env x (over vs) → Comes S T env t (over [])) → Evals t env (Err h) a b
 evals_stop t x env e h a b p o f = record { moved = p.moved; gives = gives_stop (Comes (types_of a) (values_of a) env x) (Comes (types_of a) (values_of a) env t) a b e h p.gives o (f (types_of a) (values_of a)) }
 
 -- ---- variables, constants and sources
@@ -263,7 +263,7 @@ picked true y z = y
 picked false y z = z
 
 module _ (t x y z x' : Term) (env : List Value) (et : t ≡ term.If x y z) (ex : x' ≡ x) where
-  at_If : view t ≡ choice (view x') (view y) (view z)
+  pub at_If : view t ≡ choice (view x') (view y) (view z)
   at_If = ap view et ∙ view_If x y z ∙ ap (λ q. choice (view q) (view y) (view z)) (sym ex)
 
   pub sense_test : (a : World) → Sense (view t) env a → Sense (view x') env a
@@ -489,7 +489,7 @@ module _ (P : Flow → Type 0) (Q : Outcome → Type 0) (k : Kind) (a b : World)
 
 -- a literal
 module _ (t : Term) (k : Kind) (ts us : List Term) (env : List Value) (et : t ≡ term.Make k ts) (eu : us ≡ ts) where
-  at_Make : view t ≡ make k (trees_view us)
+  pub at_Make : view t ≡ make k (trees_view us)
   at_Make = ap view et ∙ view_Make k ts ∙ ap (λ q. make k (trees_view q)) (sym eu)
 
   pub sense_make : (a : World) → Sense (view t) env a → SenseEach (trees_view us) env a
@@ -678,7 +678,7 @@ module _ (t : Term) (i : ℕ) (env : List Value) (et : t ≡ term.Source i) wher
 -- ---- a primitive
 
 module _ (t : Term) (c : ℕ) (ts us : List Term) (env : List Value) (et : t ≡ term.Prim c ts) (eu : us ≡ ts) where
-  at_Prim : view t ≡ prim c (trees_view us)
+  pub at_Prim : view t ≡ prim c (trees_view us)
   at_Prim = ap view et ∙ view_Prim c ts ∙ ap (λ q. prim c (trees_view q)) (sym eu)
 
   pub sense_prim : (a : World) → Sense (view t) env a → SenseCall c (trees_view us) env a
@@ -934,7 +934,7 @@ module _ (t : Tree) (vs : List Value) (i : ℕ) (v : Value) (whole : Flow) (e : 
   left_is : drop i vs ≡ v ∷ drop (i + 1) vs
   left_is = at_drop_more (λ x. x) vs i v lt ∙ ap (λ q. q ∷ drop (i + 1) vs) (sym is)
 
-  at_value : OnBody t whole (more v (flow (drop (i + 1) vs) e)) (v ∷ drop (i + 1) vs) env now a b
+  pub at_value : OnBody t whole (more v (flow (drop (i + 1) vs) e)) (v ∷ drop (i + 1) vs) env now a b
   at_value = subst (λ q. OnBody t whole (flow q e) q env now a b) left_is inv
 
   pub body_sense : Sense t (v ∷ env) b

@@ -1,3 +1,4 @@
+pub mod Emitting
 pub mod Forms
 pub mod Laws
 pub mod PublicLemmas

@@ -15,6 +15,7 @@ use Rattle.kl_core.specs.Trees.{Tree, Trees, Parts}
 use Rattle.kl_core.specs.Typing.{SourceTypes, CoreTypes, EachType, AllTypes, PartTypes, HaveSources}
 use Rattle.kl_ask.specs.World.{World, IsReady, Moved, types_of, values_of}
 use Rattle.kl_eval.specs.World.{StoppedBy}
+use Rattle.kl_eval.specs.Steps.{AddsItems}
 use Rattle.kl_eval.specs.Comes.{Comes, ItemsCome, ArgsCome, PartsCome, Draws}
 use Rattle.kl_eval.specs.declared.stop.EvalStop.{EvalStop}
 use Rattle.kl_eval.specs.declared.stop.EvalStop.TheVariants as stop
@@ -45,6 +46,10 @@ SenseCall c ts env w = (G : List Ground) × (ss : List Ground) × (s : Ground) �
 -- a body makes sense at each of some values, and gives a collection there
 abbrev pub SenseBody : Tree → List Value → List Value → World → Type 0
 SenseBody b vs env w = (G : List Ground) × (u : Ground) × (k : Kind) × (s : Ground) × HaveTypes G env × AllByRecursion (Inhabits u) vs × CoreTypes (types_of w) (u ∷ G) b (coll k s) × IsReady w
+
+-- a term makes sense as a collection
+abbrev pub SenseWhole : Tree → List Value → World → Type 0
+SenseWhole t env w = (G : List Ground) × (k : Kind) × (s : Ground) × HaveTypes G env × CoreTypes (types_of w) G t (coll k s) × IsReady w
 
 -- a term makes sense as a list
 abbrev pub SenseList : Tree → List Value → World → Type 0
@@ -101,6 +106,17 @@ pub record EvalsEach (ts : Trees) (env : List Value) (r : Result (Vec Value Glob
 pub record EvalsBody (t : Tree) (drawn : Flow) (env : List Value) (r : Result (Vec Value Global) Halt) (a b : World) : Type 0 where
   pub moved : Moved a b
   pub gives : FlowGives (Draws (λ v. Comes (types_of a) (values_of a) (v ∷ env) t) drawn) a b r
+
+-- the items of a collection at the end of a list; a stop leaves that as it was
+abbrev pub AddsAll : Result Value Halt → Result (Unit {0}) Halt → List Value → List Value → Type 0
+AddsAll (Ok v) r old new = AddsItems v r old new
+AddsAll (Err h) (Err q) old new = (q ≡ h) × (new ≡ old)
+AddsAll (Err h) (Ok _) old new = ⊥
+
+pub record EvalsInto (t : Tree) (env : List Value) (r : Result (Unit {0}) Halt) (old new : List Value) (a b : World) : Type 0 where
+  pub whole : Result Value Halt
+  pub evals : Evals t env whole a b
+  pub adds : AddsAll whole r old new
 
 pub record EvalsFields (ps : Parts) (env : List Value) (r : Result (Vec (Name × Value) Global) EvalStop) (a b : World) : Type 0 where
   pub moved : Moved a b

@@ -4,6 +4,7 @@ use Rattle.kl_core.specs.declared.term.Term.{the_lemmas}
 use Rattle.kl_outcome.specs.Outcome.{done, over, fine, overflow, flow}
 use Rattle.kl_eval.specs.declared.stop.Halt.TheVariants as halt
 use Rattle.kl_eval.proofs.Forms.{body_fine, body_goes, body_lost, body_over, body_past, body_sense, body_starts, body_whole, call_arity, call_both, call_former_stop, call_latter_stop, call_only, call_only_stop, each_ends, each_goes, each_lost, each_none, each_over, each_refused, each_sense, each_starts, evals_lent, evals_lost, evals_part, evals_refused, fields_ends, fields_goes, fields_lost, fields_sense, fields_starts, fields_stops, first_there, fits_both, fits_only, found, items_done, missing, no_branch, over_gives, second_there, sense_body, sense_bound, sense_branch, sense_first, sense_former, sense_inj, sense_items, sense_latter, sense_make, sense_only, sense_other_at, sense_picked, sense_prim, sense_proj, sense_rec, sense_second, sense_source, sense_subject, sense_test, sense_var, source_ready, source_there, source_whole, there_field, truth_there, value_branch, value_case_stop, value_if, value_if_stop, value_inj, value_inj_stop, value_let, value_let_stop, value_loop, value_make, value_other_at, value_prim, value_proj, value_proj_stop, value_rec, value_rec_stop, value_source, value_source_stop, value_union, value_union_first, value_union_lost, value_union_over, value_var, variant_there}
+use Rattle.kl_eval.proofs.Emitting.{body_sense_whole, body_added, body_stops, into_whole, into_stop, into_if, into_if_stop, into_none, into_one, into_one_stop, look_prim, sense_of, sense_one, whole_there, whole_picked}
 use Rattle.kl_ask.proofs.Worlds.{moved_none}
 use Rattle.kl_eval.proofs.evaluator.+eval.Goals as goal
 
@@ -193,21 +194,6 @@ each_field-returns-in-Err g t c = fields_stops _ _ _ _ _ _ _ _ c.parts-test.true
 pub each_field-returns : goal.each_field-returns
 each_field-returns g t c = fields_ends _ _ _ _ _ _ _ c.parts-test.false c.parts.invariant
 
-pub draw-value-requires : goal.draw-value-requires
-draw-value-requires g t c κs within = (search (rules, the_lemmas, arith), (within, body_sense _ _ _ _ _ _ _ _ _ _ c.drawn-test.true c.item-item.is c.drawn.invariant))
-
-pub draw-append-requires : goal.draw-append-requires
-draw-append-requires g t c = body_whole _ _ _ _ _ _ _ _ _ _ c.drawn-test.true c.item-item.is c.drawn.invariant _ _ c.in-Ok.ensures
-
-pub draw-returns-in-Err-append : goal.draw-returns-in-Err-append
-draw-returns-in-Err-append g t c = body_lost _ _ _ _ _ _ _ _ _ _ c.drawn-test.true c.item-item.is c.drawn.invariant _ _ _ _ c.in-Ok.ensures c.in-Err-append.ensures
-
-pub draw-drawn-preserved : goal.draw-drawn-preserved
-draw-drawn-preserved g t c = body_goes _ _ _ _ _ _ _ _ _ _ c.drawn-test.true c.item-item.is c.drawn.invariant _ _ _ c.in-Ok.ensures c.in-Ok-append.ensures
-
-pub draw-returns-in-Err : goal.draw-returns-in-Err
-draw-returns-in-Err g t c = body_over _ _ _ _ _ _ _ _ _ _ c.drawn-test.true c.item-item.is c.drawn.invariant _ _ _ _ refl c.in-Err.ensures c.behind.ensures
-
 pub draw-returns-then-past : goal.draw-returns-then-past
 draw-returns-then-past g t c = body_past _ _ _ _ _ _ _ _ _ c.drawn-test.false c.if-past.true c.drawn.invariant
 
@@ -300,3 +286,18 @@ value-returns-in-Driver g t c = evals_refused _ _ _ _ _ _ _ _ c.in-Driver.is c.i
 
 pub each-returns-in-Driver : goal.each-returns-in-Driver
 each-returns-in-Driver g t c = each_refused _ _ _ _ _ _ _ _ c.terms-test.true c.term-item.is c.terms.invariant _ _ _ _ c.in-Driver.is c.in-Err.ensures
+
+pub draw-emit-requires : goal.draw-emit-requires
+draw-emit-requires g t c κs within = (search (rules, the_lemmas, arith), (within, body_sense_whole _ _ _ _ _ _ _ _ _ _ c.drawn-test.true c.item-item.is c.drawn.invariant))
+
+pub draw-drawn-preserved : goal.draw-drawn-preserved
+draw-drawn-preserved g t c = body_added _ _ _ _ _ _ _ _ _ _ c.drawn-test.true c.item-item.is c.drawn.invariant _ _ c.in-Ok.ensures
+
+pub draw-returns-in-Err : goal.draw-returns-in-Err
+draw-returns-in-Err g t c = body_stops _ _ _ _ _ _ _ _ _ _ c.drawn-test.true c.item-item.is c.drawn.invariant _ _ _ _ c.in-Err.ensures c.behind.ensures
+
+pub emit-look-requires : goal.emit-look-requires
+emit-look-requires g t c = ?
+
+pub emit-bool_of-requires : goal.emit-bool_of-requires
+emit-bool_of-requires g t c = ?
