@@ -1,5 +1,5 @@
 -- Items of a body, added to those that were drawn before.
-use Rattle.std.proofs.Common.{◌≡◌, ℕ, ◌<◌, Bool, true, false, List, [], ◌∷◌, ◌++◌, ◌+◌, length, drop, get_or, Result, Ok, Err, refl, sym, ◌∙◌, ap, subst, append-nil, arith}
+use Rattle.std.proofs.Common.{◌≡◌, ℕ, ◌<◌, Bool, true, false, List, [], ◌∷◌, ◌++◌, ◌+◌, length, drop, get_or, Some, Result, Ok, Err, refl, sym, ◌∙◌, ap, subst, append-nil, arith}
 use Rattle.kl_value.specs.Canon.{canonical}
 use Rattle.kl_value.specs.Views.{collection, as_bool, IsBool, IsCollection}
 use Rattle.kl_value.specs.declared.Kind.{Kind}

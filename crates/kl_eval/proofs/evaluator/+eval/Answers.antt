@@ -1,4 +1,4 @@
-use Rattle.std.proofs.Common.{◌≡◌, Some, true, false, Ok, Err, All, refl, sym, ap, ◌∙◌, subst, rules, arith}
+use Rattle.std.proofs.Common.{◌≡◌, length, Some, true, false, Ok, Err, All, refl, sym, ap, ◌∙◌, subst, rules, arith}
 use Rattle.std.proofs.lemmas.Grind.{common_steps}
 use Rattle.kl_core.specs.declared.term.Term.{the_lemmas}
 use Rattle.kl_outcome.specs.Outcome.{done, over, fine, overflow, flow}
@@ -164,9 +164,6 @@ look-lent-requires g t c = (_, (c.requires.0, c.requires.1, c.requires.2, c.requ
 pub look-returns-in-Some : goal.look-returns-in-Some
 look-returns-in-Some g t c = evals_lent _ _ _ _ (λ S T. c.in-Some.ensures S T)
 
-pub look-returns-in-Ok : goal.look-returns-in-Ok
-look-returns-in-Ok g t c = evals_part _ _ _ _ _ _ c.value.ensures c.in-Ok.ensures
-
 pub each-value-requires : goal.each-value-requires
 each-value-requires g t c κs within = (search (rules, the_lemmas, arith), (within, each_sense _ _ _ _ _ _ _ _ c.terms-test.true c.term-item.is c.terms.invariant))
 
@@ -217,9 +214,6 @@ value-into_parts-kind-requires g t c = first_there _ _ _ _ _ c.in-Union.is c.get
 
 pub value-returns-in-Ok-value-2 : goal.value-returns-in-Ok-value-2
 value-returns-in-Ok-value-2 g t c = value_union_lost _ _ _ _ _ c.in-Union.is c.get-in-Union.ensures _ _ _ _ _ _ _ _ _ c.in-Ok-value.ensures c.in-Ok-value-2.ensures c.in-Err-append.ensures
-
-pub look-returns-in-Err : goal.look-returns-in-Err
-look-returns-in-Err g t c = evals_part _ _ _ _ _ _ c.value.ensures c.in-Err.ensures
 
 pub each-terms-init : goal.each-terms-init
 each-terms-init g t c = each_starts _ _ _ _ c.new-items.ensures.items c.requires
@@ -297,7 +291,42 @@ pub draw-returns-in-Err : goal.draw-returns-in-Err
 draw-returns-in-Err g t c = body_stops _ _ _ _ _ _ _ _ _ _ c.drawn-test.true c.item-item.is c.drawn.invariant _ _ _ _ c.in-Err.ensures c.behind.ensures
 
 pub emit-look-requires : goal.emit-look-requires
-emit-look-requires g t c = ?
+emit-look-requires g t c κs within = (search (rules, the_lemmas, arith), (within, sense_test _ _ _ _ _ _ c.in-If.is c.get.ensures (g.T.Seen.world c.args.tables.now) (sense_of _ _ _ c.requires)))
 
 pub emit-bool_of-requires : goal.emit-bool_of-requires
-emit-bool_of-requires g t c = ?
+emit-bool_of-requires g t c = truth_there _ _ _ _ _ _ c.in-If.is c.get.ensures _ _ _ _ c.get-in-Ok.ensures (sense_of _ _ _ c.requires) c.in-Ok.ensures
+
+pub emit-emit-requires : goal.emit-emit-requires
+emit-emit-requires g t c κs within = (search (rules, the_lemmas, arith), (within, whole_picked _ _ _ _ _ _ c.in-If.is c.get.ensures _ true _ _ c.get-then-bool_of.ensures c.in-Ok.ensures.moved c.requires))
+
+pub emit-returns-then-bool_of : goal.emit-returns-then-bool_of
+emit-returns-then-bool_of g t c = into_if _ _ _ _ _ _ c.in-If.is c.get.ensures _ _ _ true _ _ _ _ _ _ c.get-then-bool_of.ensures c.get-in-Ok.ensures (c.bool_of.ensures ∙ ap Some c.if-bool_of.true) c.in-Ok.ensures c.emit.ensures
+
+pub emit-emit-requires-else-bool_of : goal.emit-emit-requires-else-bool_of
+emit-emit-requires-else-bool_of g t c κs within = (search (rules, the_lemmas, arith), (within, whole_picked _ _ _ _ _ _ c.in-If.is c.get.ensures _ false _ _ c.get-else-bool_of.ensures c.in-Ok.ensures.moved c.requires))
+
+pub emit-returns-in-Ok : goal.emit-returns-in-Ok
+emit-returns-in-Ok g t c = into_if _ _ _ _ _ _ c.in-If.is c.get.ensures _ _ _ false _ _ _ _ _ _ c.get-else-bool_of.ensures c.get-in-Ok.ensures (c.bool_of.ensures ∙ ap Some c.if-bool_of.false) c.in-Ok.ensures c.emit-else-bool_of.ensures
+
+pub emit-returns-in-If : goal.emit-returns-in-If
+emit-returns-in-If g t c = into_if_stop _ _ _ _ _ _ c.in-If.is c.get.ensures _ _ _ _ _ _ c.in-Err.ensures c.outside.ensures refl
+
+pub emit-returns-then-is_empty : goal.emit-returns-then-is_empty
+emit-returns-then-is_empty g t c =
+    let none : length c.slice-terms.result.now ≡ 0 = search rules in
+    into_none _ _ _ _ _ c.in-Make.is c.slice-terms.ensures _ _ _ none refl
+
+pub emit-returns-in-Ok-inside : goal.emit-returns-in-Ok-inside
+emit-returns-in-Ok-inside g t c = into_one _ _ _ _ _ c.in-Make.is c.slice-terms.ensures _ c.if-terms-eq1.true c.index-terms-0.is _ _ _ _ _ _ (evals_part _ _ _ _ _ _ c.value.ensures c.in-Ok-inside.ensures) c.push.ensures
+
+pub emit-returns-then-terms-eq1 : goal.emit-returns-then-terms-eq1
+emit-returns-then-terms-eq1 g t c = into_one_stop _ _ _ _ _ c.in-Make.is c.slice-terms.ensures _ c.if-terms-eq1.true c.index-terms-0.is _ _ _ _ _ _ (evals_part _ _ _ _ _ _ c.value.ensures c.in-Err-inside.ensures) c.outside-in-Err-inside.ensures refl
+
+pub emit_whole-append-requires : goal.emit_whole-append-requires
+emit_whole-append-requires g t c = whole_there _ _ _ _ _ c.requires c.in-Ok.ensures
+
+pub look-returns-in-Ok : goal.look-returns-in-Ok
+look-returns-in-Ok g t c = look_prim _ _ _ _ _ c.in-Prim.is c.slice.ensures _ _ _ c.in-Ok.ensures
+
+pub look-returns-in-Err : goal.look-returns-in-Err
+look-returns-in-Err g t c = look_prim _ _ _ _ _ c.in-Prim.is c.slice.ensures _ _ _ c.in-Err.ensures
