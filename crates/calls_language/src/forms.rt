@@ -1,0 +1,40 @@
+ghost use Rattle.std.specs.Prelude.{◌≡◌, []};
+
+use crate::programs::label;
+use kl_base::Label;
+use kl_forms::{applied, field_of, items_of, operated, value};
+use kl_rows::Unifier;
+use kl_syntax::Op;
+use kl_value::{Kind, Value};
+use std::test::Fail;
+
+// Whether a record can have sets at a label, whose items are added and which are counted, and whether no sum is true.
+fn asks(types: &mut Unifier, vols: &Label, yes: &Value, seven: &Value) -> Result<bool, Fail>
+    requires { types.old.cells.items ≡ [] }
+{
+    let record = types.fresh_type()?;
+    let Some(vols) = field_of(types, vols, record)? else {
+        return Ok(false);
+    };
+    let Some(vol) = items_of(types, Kind::Set, vols)? else {
+        return Ok(false);
+    };
+    if !value(types, seven, vol)? {
+        return Ok(false);
+    }
+    let Some(sum) = operated(types, Op::Add, vol, vol)? else {
+        return Ok(false);
+    };
+    let count = [vols];
+    let counts = applied(types, 14, &count, sum)?;
+    let is_true = value(types, yes, sum)?;
+    Ok(counts && !is_true)
+}
+
+#[test]
+fn forms_ask_of_types(rt: HostRuntime) -> Result<(), Fail> {
+    let mut types = Unifier::new(rt.alloc());
+    let vols = label(rt.alloc(), b"vols")?;
+    assert!(rt; asks(&mut types, &vols, &Value::Bool(true), &Value::Int(7))?);
+    Ok(())
+}
