@@ -136,13 +136,13 @@ tabled w es i a place r at is_at h ready steps =
     go (Err (stop.Driver n e)) end =
         let k = held w i a place at is_at h in
         let y = there es place (omega (arith, slice_get_within w.drivers place k.0 k.2, steps.size)) in
-        record { number = i; listed = a; at = at; named = end.0; before = k.0; then = y.0; place = place; held = is_at; was = k.2; is = y.1; cause = end.2; want = end.1 }
+        record { number = i; listed = a; at = at; named = end.0; before = k.0; then = y.0; place = place; held = is_at; was = k.2; is = y.1; cause = end.2; drifted = λ d is s has. end.3 d is s (k.3 ∙ sym k.4 ∙ has); want = end.1 }
     go (Err stop.NoMemory) end = tt
 
 -- a source that no driver has
 module _ (w : World) (i : ℕ) (a : Attached) (at : slice_get w.sources i ≡ Some a) (none : a.driver ≡ None) (ready : IsReady w) where
   bare : Source
-  bare = record { ty = a.ty; rows = Some [] }
+  bare = record { ty = a.ty; rows = Some []; count = 0; kept = None }
 
   bare_there : source_at w i ≡ Some bare
   bare_there = placed w i a None at none
