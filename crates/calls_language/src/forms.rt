@@ -2,7 +2,9 @@ ghost use Rattle.std.specs.Prelude.{◌≡◌, []};
 
 use crate::programs::label;
 use kl_base::Label;
-use kl_forms::{applied, field_of, items_of, operated, value};
+use kl_forms::{
+    any_items_of, applied, field_of, fresh_types, items_of, operated, value, variant_of,
+};
 use kl_rows::Unifier;
 use kl_syntax::Op;
 use kl_value::{Kind, Value};
@@ -36,5 +38,26 @@ fn forms_ask_of_types(rt: HostRuntime) -> Result<(), Fail> {
     let mut types = Unifier::new(rt.alloc());
     let vols = label(rt.alloc(), b"vols")?;
     assert!(rt; asks(&mut types, &vols, &Value::Bool(true), &Value::Int(7))?);
+    Ok(())
+}
+
+// Whether a variant can have collections of any kind at a label, with items of some type, beside two further types.
+fn asks_of_variants(types: &mut Unifier, vols: &Label) -> Result<bool, Fail>
+    requires { types.old.cells.items ≡ [] }
+{
+    let variant = types.fresh_type()?;
+    let Some(vols) = variant_of(types, vols, variant)? else {
+        return Ok(false);
+    };
+    let found = any_items_of(types, vols)?;
+    let more = fresh_types(types, 2)?;
+    Ok(found.is_some() && more.len() == 2)
+}
+
+#[test]
+fn forms_ask_of_open_types(rt: HostRuntime) -> Result<(), Fail> {
+    let mut types = Unifier::new(rt.alloc());
+    let vols = label(rt.alloc(), b"vols")?;
+    assert!(rt; asks_of_variants(&mut types, &vols)?);
     Ok(())
 }
