@@ -9,4 +9,6 @@ mod asks;
 #[cfg(test)]
 mod catalogues;
 #[cfg(test)]
+mod placing;
+#[cfg(test)]
 mod words;
