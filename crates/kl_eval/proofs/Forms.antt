@@ -356,7 +356,7 @@ module _ (S : SourceTypes) (T : Tables) (env : List Value) (last : Arms) (l : Na
 -- no source stands in them
 none_at : (last : Arms) (ps : List (Name × Term)) (i : ℕ) (p : Name × Term) → slice_get ps i ≡ Some p → NoSourceInArms (arms_of (map view_part ps) last) → NoSource (view p.1)
 none_at last [] i p e n = cc
-none_at last (q ∷ ps) zero p e n = let same : q ≡ p = cc in subst (λ z. NoSource (view z.1)) same n.0
+none_at last (q ∷ ps) zero p e n = let at_p : Some q ≡ Some p = e in let same : q ≡ p = cc in subst (λ z. NoSource (view z.1)) same n.0
 none_at last (q ∷ ps) (suc i) p e n = none_at last ps i p e n.1
 
 none_last : (last : Arms) (ps : List (Name × Term)) → NoSourceInArms (arms_of (map view_part ps) last) → NoSourceInArms last
