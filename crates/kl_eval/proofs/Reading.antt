@@ -141,7 +141,7 @@ tabled w es i a place r at is_at h ready steps =
 
 -- a source that no driver has
 module _ (w : World) (i : ℕ) (a : Attached) (at : slice_get w.sources i ≡ Some a) (none : a.driver ≡ None) (ready : IsReady w) where
-  bare : Source
+  abbrev bare : Source
   bare = record { ty = a.ty; rows = Some []; count = 0; kept = None }
 
   bare_there : source_at w i ≡ Some bare

@@ -89,7 +89,7 @@ gather_end t (Ok rows) (Ok v) a b g s = (rows.items, g, s.end)
 gather_end t (Ok rows) (Err e) a b g s = subst (λ e. ScanEnd t (Err e) a b) (sym g) tt
 gather_end t (Err e) (Ok v) a b g s = absurd g
 gather_end t (Err e) (Err stop.Overflow) a b g s = absurd g
-gather_end t (Err e) (Err (stop.Driver name f)) a b g s = (g.0, (λ w. g.2 (sym g.1 ∙ w)), subst (λ q. Cause q a b × Drifted q (a.attached t.source)) (sym g.1) s.end)
+gather_end t (Err e) (Err (stop.Driver name f)) a b g s = (g.0, (λ w. g.2 (sym g.1 ∙ w)), subst (λ q. Cause q a b) (sym g.1) s.end.0, subst (λ q. Drifted q (a.attached t.source)) (sym g.1) s.end.1)
 gather_end t (Err e) (Err stop.NoMemory) a b g s = tt
 
 pub gathered : (t : Attached) (place : ℕ) (ask : Ask) (k : Kind) (r : Result (Vec Value Global) DriverError) (q : Result Value EvalStop) (xs ys : List State) → ask ≡ whole_ask t → k ≡ kind_of (ground_of t.ty)
@@ -111,8 +111,8 @@ at_box f P xs i x lt is can = can (f x) (mapped (slice_get_read xs (length xs) i
 
 -- no rows, as a collection
 pub emptied : (t : Attached) (k : Kind) (rows : Vec Value Global) (q : Result Value EvalStop) → k ≡ kind_of (ground_of t.ty) → rows.items ≡ [] → Scanned k t.source (Ok rows) q → IsEmptyOf t q
-emptied t k rows (Ok v) ek no g = g ∙ ap (λ j. canonical j rows.items) ek ∙ ap (canonical (kind_of (ground_of t.ty))) no
-emptied t k rows (Err e) ek no g = g
+emptied t k rows (Ok v) ek none g = g ∙ ap (λ j. canonical j rows.items) ek ∙ ap (canonical (kind_of (ground_of t.ty))) none
+emptied t k rows (Err e) ek none g = g
 
 -- nothing was scanned
 pub unscanned : (t : Attached) (place : ℕ) (xs : List State) → StepsAt place (λ a b. ScansTo t (Err stop.NoMemory) a b) xs xs
