@@ -1,5 +1,5 @@
 -- Each form of a term, from its parts.
-use Rattle.std.proofs.Common.{◌≡◌, ℕ, ◌<◌, ◌≤◌, ◌+◌, ◌⊎◌, inl, inr, ⊎_elim, Bool, true, false, zero, suc, cond, nat_eq, List, [], ◌∷◌, ◌++◌, map, length, drop, get_or, Option, Result, Vec, Some, None, Ok, Err, IsSome, IfOk, All, refl, sym, ◌∙◌, ap, subst, append_assoc, append-nil, rules, arith, slice_get}
+use Rattle.std.proofs.Common.{◌≡◌, ℕ, ◌<◌, ◌≤◌, ◌+◌, ◌⊎◌, inl, inr, ⊎_elim, Bool, true, false, zero, suc, cond, nat_eq, List, [], ◌∷◌, ◌++◌, map, length, drop, get_or, Option, Result, Vec, Some, None, Ok, Err, IsSome, All, refl, sym, ◌∙◌, ap, subst, append_assoc, append-nil, rules, arith, slice_get}
 use Rattle.std.specs.Cmp.Lexicographic.{pointwise, same_text}
 use Rattle.std.proofs.lemmas.Cmp.{nat_list_eq_equiv}
 use Rattle.std.specs.List.{AllByRecursion}
@@ -8,26 +8,25 @@ use Rattle.std.specs.declared.alloc.Global.{Global}
 use Rattle.std.proofs.lemmas.List.{at_drop_more}
 use Rattle.std.proofs.lemmas.Grind.{common_steps}
 use Rattle.std.proofs.lemmas.Option.{slice_get_read}
-use Rattle.std.proofs.lemmas.List.Elements.{recursion_from_All, All-from_recursion}
+use Rattle.std.proofs.lemmas.List.Elements.{All-from_recursion}
 use Rattle.kl_value.specs.Canon.{canonical}
 use Rattle.kl_value.specs.IsCanonical.{IsCanonical}
-use Rattle.kl_value.specs.Views.{Collection, as_bool, as_collection, collection, field_at, IsCollection, IsBool}
-use Rattle.kl_value.proofs.ViewLemmas.{collection_is, collection_form}
+use Rattle.kl_value.specs.Views.{as_bool, as_collection, collection, field_at, IsCollection, IsBool}
+use Rattle.kl_value.proofs.ViewLemmas.{collection_is}
 use Rattle.kl_value.specs.declared.Kind.{Kind}
-use Rattle.kl_value.specs.declared.Kind.TheVariants as kind
 use Rattle.kl_value.specs.declared.Value.{Value}
 use Rattle.kl_value.specs.declared.Value.TheVariants as value
 use Rattle.kl_type.specs.Ground.{Ground, Row, at, bool, rec as rec_type, var as var_type, coll}
-use Rattle.kl_prim.specs.Meaning.{Answer, gives, overflows}
+use Rattle.kl_prim.specs.Meaning.{Answer}
 use Rattle.kl_prim.specs.Table.{Fits, meaning, row_at, Row as Primitive}
 use Rattle.kl_prim.specs.declared.rows.Shape.{Shape}
 use Rattle.kl_prim.specs.declared.rows.Shape.TheVariants as shape
-use Rattle.kl_outcome.specs.Outcome.{Name, Outcome, done, over, stuck, End, Flow, more, stop, fine, overflow, broken, flow, items_in, end_in, outcome_of, answered, field_in, as_record, part, tagged, as_variant, items_of, items_at_all, followed, kept, gathered, collected, joined_to, union_of}
-use Rattle.kl_outcome.specs.Typed.{Has, Inhabits, HaveTypes, OfType, ShapeTypes, RowTypes, PrimTypes}
+use Rattle.kl_outcome.specs.Outcome.{Name, Outcome, done, over, End, Flow, more, stop, fine, overflow, flow, items_in, end_in, outcome_of, answered, as_variant, items_of, items_at_all, followed, kept, gathered, collected, joined_to, union_of}
+use Rattle.kl_outcome.specs.Typed.{Inhabits, HaveTypes, OfType, ShapeTypes, RowTypes, PrimTypes}
 use Rattle.kl_core.specs.declared.term.Term.{Term, the_lemmas}
 use Rattle.kl_core.specs.declared.term.Term.TheVariants as term
 use Rattle.kl_core.specs.Core.{Tables}
-use Rattle.kl_core.specs.Trees.{Tree, var, con, source, rec, proj, inj, case_of, make, union, ext, choice, bind, prim, Trees, no_trees, trees, Parts, no_parts, parts, Arms, no_arms, rest, arm, trees_of, parts_of, arms_of, rest_of, view, view_part, trees_view, parts_view}
+use Rattle.kl_core.specs.Trees.{Tree, source, rec, proj, inj, case_of, make, union, ext, choice, bind, prim, Trees, no_trees, trees, Parts, parts, Arms, arms_of, rest_of, view, view_part, trees_view, parts_view}
 use Rattle.kl_core.specs.Typing.{SourceTypes, CoreTypes, EachType, AllTypes, PartTypes, ArmTypes, HasArm, Covers}
 use Rattle.kl_core.proofs.Views.{view_Var, view_Rec, view_Make, view_Prim, view_option, arms_view, view_Case}
 use Rattle.kl_outcome.proofs.OutcomeTypes.{part_typed, part_is, items_inhabit, FlowOf, items_typed}
@@ -39,10 +38,10 @@ use Rattle.kl_ask.specs.World.{World, IsReady, Moved, types_of, values_of}
 use Rattle.kl_ask.proofs.Worlds.{moved_none, moved_then, types_stay, values_stay, ready_on}
 use Rattle.kl_ask.specs.declared.DriverError.{DriverError}
 use Rattle.kl_eval.specs.Sources.{NoSource, NoSourceInTrees, NoSourceInParts, NoSourceInArms}
-use Rattle.kl_eval.specs.World.{Reads, StoppedBy, Tabled}
+use Rattle.kl_eval.specs.World.{Tabled}
 use Rattle.kl_eval.proofs.Stops.{stopped_then}
-use Rattle.kl_eval.specs.Comes.{Then, Picks, Opens, Unites, Leads, Follows, Draws, Comes, ItemsCome, ArgsCome, PartsCome, ArmsCome}
-use Rattle.kl_eval.specs.Evals.{Sense, SenseIn, SenseEach, SenseParts, SenseCall, SenseBody, HasSense, Gives, PartGives, CallGives, FlowGives, FieldsGive, Evals, EvalsPart, EvalsEach, EvalsBody, EvalsFields, EvalsCall, end_of, before, OnEach, OnBody, OnFields}
+use Rattle.kl_eval.specs.Comes.{Picks, Opens, Follows, Draws, Comes, ItemsCome, ArgsCome, PartsCome, ArmsCome}
+use Rattle.kl_eval.specs.Evals.{Sense, SenseIn, SenseEach, SenseParts, SenseCall, SenseBody, HasSense, Gives, PartGives, CallGives, FlowGives, Evals, EvalsPart, EvalsEach, EvalsBody, EvalsFields, EvalsCall, end_of, before, OnEach, OnBody, OnFields}
 use Rattle.kl_eval.specs.Steps.{Answers, inside_of, Outside, Adds, AddsItems, AddsField, Behind, Gathers, AnswersPrim, place_of}
 use Rattle.kl_eval.proofs.Laws.{comes_typed}
 use Rattle.kl_outcome.proofs.PrimLemmas.{prim_fits}

@@ -1,29 +1,28 @@
 -- The public calls, from what a term may come to.
-use Rattle.std.proofs.Common.{◌≡◌, ◌≢◌, ℕ, List, [], ◌∷◌, ◌++◌, reverse, Option, Result, Some, None, Ok, Err, IsSome, IfOk, refl, sym, ◌∙◌, ap, subst}
+use Rattle.std.proofs.Common.{◌≡◌, ◌≢◌, List, ◌++◌, reverse, Result, Some, Ok, Err, IsSome, IfOk, refl, sym, ◌∙◌, ap, subst}
 use Rattle.std.specs.List.{AllByRecursion}
-use Rattle.kl_value.specs.Views.{Collection, as_collection, items_at, items_layer, collection}
+use Rattle.kl_value.specs.Views.{Collection, as_collection, items_at}
 use Rattle.kl_value.proofs.ViewLemmas.{collection_is}
 use Rattle.kl_value.specs.declared.Kind.TheVariants as kind
-use Rattle.kl_value.specs.declared.Value.{Value, Value-F, out-Value}
+use Rattle.kl_value.specs.declared.Value.{Value}
 use Rattle.kl_value.specs.declared.Value.TheVariants as value
 use Rattle.kl_type.specs.Ground.{Ground, coll}
 use Rattle.kl_outcome.specs.Outcome.{Outcome, done, over, stuck}
-use Rattle.kl_outcome.specs.Typed.{Inhabits, HaveTypes, OfType}
+use Rattle.kl_outcome.specs.Typed.{Inhabits}
 use Rattle.kl_core.specs.Core.{core}
 use Rattle.kl_core.specs.Trees.{Tree}
-use Rattle.kl_core.specs.Typing.{SourceTypes, CoreTypes, HaveSources}
+use Rattle.kl_core.specs.Typing.{HaveSources}
 use Rattle.kl_outcome.proofs.OutcomeTypes.{items_inhabit}
 use Rattle.kl_core.proofs.Safety.{never_stuck}
 use Rattle.kl_eval.specs.declared.stop.EvalStop.{EvalStop}
 use Rattle.kl_eval.specs.declared.stop.EvalStop.TheVariants as eval_stop
 use Rattle.kl_eval.specs.declared.stop.Halt.{Halt}
 use Rattle.kl_eval.specs.declared.stop.Halt.TheVariants as halt
-use Rattle.kl_ask.specs.World.{World, IsReady, types_of, values_of}
+use Rattle.kl_ask.specs.World.{World, types_of, values_of}
 use Rattle.kl_ask.specs.declared.DriverError.{DriverError}
 use Rattle.kl_outcome.specs.Outcome.{Name}
-use Rattle.kl_eval.specs.Comes.{Comes}
 use Rattle.kl_eval.specs.Steps.{inside_of, AddsList}
-use Rattle.kl_eval.specs.Evals.{Sense, SenseIn, SenseList, Evals, Tells, Evaluates, Lists, Added, EvaluatesList}
+use Rattle.kl_eval.specs.Evals.{Sense, SenseList, Evals, Tells, Evaluates, Lists, EvaluatesList}
 use Rattle.kl_eval.proofs.Laws.{Below, comes_typed, comes_below}
 
 tells_done : (o : Outcome) (w : Value) → Below o (done w) → Tells o (Ok w)

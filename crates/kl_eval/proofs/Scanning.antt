@@ -1,5 +1,5 @@
 -- A whole scan, from its parts.
-use Rattle.std.proofs.Common.{◌≡◌, ◌≢◌, ◌⊎◌, ◌<◌, ℕ, List, [], ◌++◌, length, map, get_or, slice_get, Option, Result, Some, None, Ok, Err, IsSome, IsErrOf, Vec, refl, sym, ◌∙◌, ap, subst, arith, rules, inl, inr, ⊎_elim}
+use Rattle.std.proofs.Common.{◌≡◌, ◌<◌, ℕ, List, [], ◌++◌, length, map, get_or, slice_get, Result, Some, None, Ok, Err, IsSome, IsErrOf, Vec, refl, sym, ◌∙◌, ap, subst, arith, ⊎_elim}
 use Rattle.std.proofs.lemmas.Bool.{cases_eq}
 use Rattle.std.proofs.lemmas.Grind.{common_steps}
 use Rattle.std.proofs.lemmas.Option.{gets, slice_get_read}
@@ -9,10 +9,9 @@ use Rattle.kl_value.specs.Canon.{canonical}
 use Rattle.kl_value.specs.declared.Kind.{Kind}
 use Rattle.kl_value.specs.declared.Value.{Value}
 use Rattle.kl_type.specs.Ground.{ground_of}
-use Rattle.kl_outcome.specs.Outcome.{Name}
 use Rattle.kl_outcome.specs.Typed.{Inhabits}
 use Rattle.kl_ask.specs.Asks.{kind_of}
-use Rattle.kl_ask.specs.Driver.{State, OtherCursors, CanStart, Starts, Finishes, Cause, source_of}
+use Rattle.kl_ask.specs.Driver.{State, OtherCursors, Starts, Finishes, Cause, source_of}
 use Rattle.kl_ask.specs.declared.ask.Drift.{Drift}
 use Rattle.kl_ask.specs.Lists.{AtIndex, StepsAt}
 use Rattle.kl_ask.specs.World.{Quiet}
@@ -23,7 +22,7 @@ use Rattle.kl_ask.specs.declared.DriverError.TheVariants as error
 use Rattle.kl_ask.proofs.Worlds.{fun_ext, keeps_then, quiet_none}
 use Rattle.kl_eval.specs.declared.stop.EvalStop.{EvalStop}
 use Rattle.kl_eval.specs.declared.stop.EvalStop.TheVariants as stop
-use Rattle.kl_eval.specs.Scans.{Draining, Drained, IsEmptyOf, Stopped, Scans, ScansAll, ScansTo, ScanEnd, Scanned, whole_ask}
+use Rattle.kl_eval.specs.Scans.{Drained, IsEmptyOf, Stopped, Scans, ScansTo, ScanEnd, Scanned, whole_ask}
 use Rattle.kl_eval.specs.World.{Drifted}
 use Rattle.kl_eval.proofs.Pulling.{same_source}
 use Rattle.kl_eval.proofs.Stops.{cause_then}
