@@ -1,8 +1,8 @@
 -- The items and the columns of types, shape by shape.
-use Rattle.std.proofs.Common.{◌≡◌, ◌==◌, rules, arith, ℕ, List, [], ◌∷◌, length, refl, ap, ◌∙◌}
+use Rattle.std.proofs.Common.{◌≡◌, ◌==◌, rules, arith, List, [], ◌∷◌, length, refl, ap, ◌∙◌}
 use Rattle.kl_base.specs.Fields.{labels_of}
 use Rattle.kl_value.specs.declared.Kind.{Kind}
-use Rattle.kl_type.specs.Ground.{Ground, ground_of, row_by}
+use Rattle.kl_type.specs.Ground.{ground_of, row_by}
 use Rattle.kl_type.proofs.GroundLemmas.{ground-Bool, ground-Int, ground-Str, ground-Rec, ground-Var, ground-Coll}
 use Rattle.kl_type.specs.declared.Ty.{Ty}
 use Rattle.kl_type.specs.declared.Ty.TheVariants as ty

@@ -1,17 +1,15 @@
 -- Asks for whole rows without tests.
-use Rattle.std.proofs.Common.{◌≡◌, ◌≢◌, ◌⊎◌, inl, inr, ⊎_elim, ℕ, Bool, true, false, ◌||◌, cond, nat_eq, List, [], ◌∷◌, map, Option, Some, None, IsSome, refl, sym, ap, subst, ◌∙◌}
+use Rattle.std.proofs.Common.{◌≡◌, ⊎_elim, Bool, true, false, ◌||◌, cond, nat_eq, List, [], ◌∷◌, Option, Some, None, IsSome, refl, sym, ap, subst, ◌∙◌}
 use Rattle.std.specs.Prelude.{filter}
-use Rattle.std.specs.List.{AllByRecursion, list_any, Contains}
+use Rattle.std.specs.List.{AllByRecursion}
 use Rattle.std.specs.List.Sorted.{IsStrictlySortedBy, IsPermutation}
 use Rattle.std.specs.Cmp.Lexicographic.{pointwise}
 use Rattle.std.specs.declared.cmp.Ordering.TheVariants.{Less}
 use Rattle.std.proofs.lemmas.Cmp.{nat_list_eq_equiv}
 use Rattle.std.proofs.lemmas.List.Sorted.{Contains-permutation, IsPermutation-sym, sum_by-IsPermutation}
 use Rattle.kl_base.specs.Fields.{bytes_cmp, labels_of}
-use Rattle.kl_base.specs.Sorted.{count_of}
-use Rattle.kl_value.specs.Canon.{canonical, IsCanonicalOf}
-use Rattle.kl_value.specs.Order.{compare}
-use Rattle.kl_value.specs.Views.{as_bool, as_int, as_text, bool_layer, int_layer, bytes_layer, collection}
+use Rattle.kl_value.specs.Canon.{canonical}
+use Rattle.kl_value.specs.Views.{bool_layer, int_layer, bytes_layer, collection}
 use Rattle.kl_value.specs.declared.Kind.{Kind}
 use Rattle.kl_value.specs.declared.Kind.TheVariants as kind
 use Rattle.kl_value.specs.declared.Value.{Value, Value-F, out-Value}
@@ -22,7 +20,7 @@ use Rattle.kl_type.proofs.RowLemmas.{told, at_here, at_there, never_less}
 use Rattle.kl_type.specs.declared.Ty.{Ty}
 use Rattle.kl_outcome.specs.Outcome.{Name, as_record, record_layer}
 use Rattle.kl_outcome.specs.Typed.{Has, HasFields, Inhabits}
-use Rattle.kl_ask.specs.Asks.{item_of, kind_of, row_labels, columns, column, is_kept, shown_fields, shown, answers, shown_row, shown_type, same_names, is_allowed, AskFits}
+use Rattle.kl_ask.specs.Asks.{item_of, kind_of, row_labels, columns, column, is_kept, shown_fields, shown, answers, shown_row, shown_type, same_names}
 use Rattle.kl_ask.specs.Driver.{State, Source, IsColl, CanStart, InOrder}
 use Rattle.kl_ask.specs.declared.ask.Ask.TheVariants as asks
 

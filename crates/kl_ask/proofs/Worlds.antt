@@ -1,11 +1,11 @@
 -- What stays of a session.
-use Rattle.std.proofs.Common.{◌≡◌, ◌≢◌, ◌⊎◌, inl, inr, ⊎_elim, ◌<◌, ◌≤◌, ℕ, List, length, Option, Some, None, IsSome, slice_get, refl, sym, ◌∙◌, ap, subst, arith}
+use Rattle.std.proofs.Common.{◌≡◌, ⊎_elim, ◌<◌, ℕ, List, length, Option, Some, None, IsSome, slice_get, refl, sym, ◌∙◌, ap, subst, arith}
 use Rattle.std.proofs.lemmas.Bool.{cases_eq}
 use Rattle.std.proofs.lemmas.Grind.{common_steps}
 use Rattle.std.proofs.lemmas.Option.{gets, slice_get_within}
-use Rattle.kl_ask.specs.Driver.{State, Source, Keeps}
+use Rattle.kl_ask.specs.Driver.{State, Keeps}
 use Rattle.kl_ask.specs.Lists.{StepsAt, EachSteps}
-use Rattle.kl_ask.specs.World.{World, IsListed, IsReady, Moved, Quiet, at_driver, at_place, at_source, source_at, type_in, value_in, types_of, values_of}
+use Rattle.kl_ask.specs.World.{World, IsReady, Moved, Quiet, at_driver, at_place, at_source, source_at, type_in, value_in, types_of, values_of}
 use Rattle.kl_ask.specs.declared.session.Attached.{Attached}
 
 pub fun_ext : {A B : Type 0} {f g : A → B} → ((x : A) → f x ≡ g x) → f ≡ g

@@ -1,5 +1,5 @@
 -- How often each ask was asked.
-use Rattle.std.specs.Prelude.{◌≡◌, ℕ, ◌+◌, ◌-◌, ◌^◌, min, Bool, List, [], ◌∷◌, cond}
+use Rattle.std.specs.Prelude.{ℕ, ◌+◌, ◌-◌, ◌^◌, min, Bool, List, [], ◌∷◌, cond}
 use Rattle.kl_ask.specs.contracts.ask.AskPartialEq.TheImpl as equality
 use Rattle.kl_ask.specs.declared.ask.Ask.{Ask}
 

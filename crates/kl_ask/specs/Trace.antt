@@ -1,5 +1,5 @@
 -- What is counted while a program runs.
-use Rattle.std.specs.Prelude.{◌≡◌, ℕ, []}
+use Rattle.std.specs.Prelude.{◌≡◌, []}
 use Rattle.kl_ask.specs.declared.settings.Trace.{Trace}
 
 -- nothing is counted

@@ -15,7 +15,7 @@ pub struct Abilities {
     pub project: bool,
     /// It joins its sources, by a statement of SQL.
     pub join: bool,
-    /// A set source of it repeats no row. No clause of `Driver` says so yet.
+    /// A set source of it repeats no row, which `Driver::attach` says where contents are told.
     pub unique: bool,
 }
 

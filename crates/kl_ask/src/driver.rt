@@ -13,7 +13,8 @@ use kl_value::Value;
 ///
 /// What it means is one `State`: what it is, its attached sources, its open cursors, what it was asked, and counts that
 /// never fall, of rows handed, of faults, of drifts and of sources that it could not read. Where it tells its contents,
-/// what comes of each call is exact; where it does not, only types, causes and frames are.
+/// what comes of each call is exact. Where it does not, types, causes and frames are, and how many rows come: each cursor
+/// has a number of rows that it may still hand, which falls with each row.
 ///
 /// No call changes what the driver is, contents that are told, or anything that its entry does not name.
 pub trait Driver: Drop {
@@ -35,18 +36,22 @@ pub trait Driver: Drop {
         ensures only { result ≡ true → Suits (state self.now).kind.abilities (ground_of ty.now) };
 
     /// Attaches the source at a locator under a name that has none, and answers the number of rows that a whole scan
-    /// hands.
+    /// hands, also where contents are not told. Told rows have the type's items, and where the driver has `unique`, those
+    /// of a set differ.
     ///
     /// # Errors
-    /// `Failed` where the file is missing, or on a fault; `BadSource`, `TooLong` and `TooDeep` where it is unreadable as
-    /// this type; `NoMemory`. Nothing is attached then.
+    /// `Failed` where the file is told to be missing, or on a fault; `BadSource`, `TooLong` and `TooDeep` where what is
+    /// told is unreadable as this type, or, where nothing is told, where the count of unreadable sources rose; `NoMemory`.
+    /// Nothing is attached then.
     fn attach(&mut self, source: &Label, locator: &Text, ty: &Ty) -> Result<u64, DriverError>
         requires proper { IsProper ty.now }
         requires suits { (state self.old).kind.suits ty.now ≡ true }
         requires fresh { (state self.old).attached source.now ≡ None }
         ensures { Attaches source.now locator.now ty.now result (state self.old) (state self.new) };
 
-    /// Opens a cursor for an ask, and answers its number, which no open cursor has.
+    /// Opens a cursor for an ask, and answers its number, which no open cursor has. Without tests the cursor may hand as
+    /// many rows as `attach` answered, and with tests at most as many; where contents are told, it has the rows that the
+    /// ask answers, of a list in order.
     ///
     /// # Errors
     /// `Failed` on a fault; `NoMemory`. Nothing is opened or counted then.
@@ -54,11 +59,14 @@ pub trait Driver: Drop {
         requires { CanStart (state self.old) ask.now }
         ensures { Starts ask.now result (state self.old) (state self.new) };
 
-    /// Appends the next rows of an open cursor, at least one and at most `most`, or answers false: no row is left.
+    /// Appends the next rows of an open cursor, at least one and at most `most`, or answers false: no row is left. Where
+    /// contents are told, it appends `most` rows, or all that are left. Where they are not, an ask with tests may answer
+    /// false while more rows were possible, and none is left from then on.
     ///
     /// # Errors
-    /// `Failed` on a fault; `Changed` where the source is not what it was when it was attached; `NoMemory`. The cursor is
-    /// closed then, and `into` is as before.
+    /// `Failed` on a fault; `Changed`, with what differs from what was kept at attaching, or where the source no longer
+    /// reads, where contents are not told and the count of drifts rose; `NoMemory`. The cursor is closed then, and `into`
+    /// is as before.
     fn pull(&mut self, cursor: u64, most: u32, into: &mut Vec<Value>) -> Result<bool, DriverError>
         requires is_open { IsSome ((state self.old).cursors cursor) }
         requires room { 0 < most }

@@ -1,4 +1,4 @@
-use Rattle.std.proofs.Common.{◌≡◌, rules, subst}
+use Rattle.std.proofs.Common.{rules, subst}
 use mathlib.Core.List.{mem-append_right}
 use Rattle.kl_ask.specs.Driver.{CanStart}
 use Rattle.kl_ask.proofs.boxed.start_boxed.Goals as goal
