@@ -229,7 +229,7 @@ module _ (IsOut : Verdict → Type 0) (told : Type 0) (ds ds' : List State) (kee
 
 -- ---- what an outcome comes to
 
-cut_end : (first : Option ℕ) (enough : Bool) (vs : List Value) → IsRunEnd (if enough then value_page (value.List (first_of first vs)) else overflowing vs).ending
+pub cut_end : (first : Option ℕ) (enough : Bool) (vs : List Value) → IsRunEnd (if enough then value_page (value.List (first_of first vs)) else overflowing vs).ending
 cut_end first true vs = tt
 cut_end first false vs = tt
 

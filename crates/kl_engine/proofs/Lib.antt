@@ -10,6 +10,8 @@ pub mod FairLemmas
 pub mod DoneLemmas
 pub mod InputLemmas
 pub mod AnswerLemmas
+pub mod TermLemmas
+pub mod MeaningLemmas
 pub mod ProgramLemmas
 pub mod ShowLemmas
 pub mod TopLemmas
