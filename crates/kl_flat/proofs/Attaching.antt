@@ -105,6 +105,7 @@ refused e source path ty f f' sources cursors asked handed unread unread' told f
       others = λ name ne. refl;
       attached = tt;
       count = tt;
+      unique = λ is_unique is_set. tt;
       typed = tt;
       refused = refl;
       missing = λ is. (tt, (missing is).0, (missing is).1);
@@ -210,8 +211,8 @@ good_rows path ty f bytes rows are good stand = by f.told refl stand
         let all : at_path (Some files) path ty ≡ Some (Rows rows) = found.1 ∙ ap Some (rw short (ap (stored_rows found.0 ty) fine ∙ ap Rows same)) in
         (sym (ap told_rows all), λ xs is. rows_same (sym is ∙ all), λ is. let e : Some (Rows rows) ≡ Some Missing = sym all ∙ is in cc, λ place is. let e : Some (Rows rows) ≡ Some (Bad place) = sym all ∙ is in cc, λ most is. let e : Some (Rows rows) ≡ Some (Long most) = sym all ∙ is in cc, λ place is. let e : Some (Rows rows) ≡ Some (Deep place) = sym all ∙ is in cc)
 
-abbrev mk : Ty → Option (List Value) → Attached
-mk t r = record { ty = t; rows = r }
+abbrev mk : Ty → Option (List Value) → ℕ → Attached
+mk t r n = record { ty = t; rows = r; count = n; kept = None }
 
 -- a table that was read and attached
 pub attach_done : (source path bytes : List ℕ) (ty : Ty) (count : ℕ) (s : Source) (f f' : FilesState) (sources sources' : List Source) (cursors : List (Option Open)) (asked : List (Ask × ℕ)) (handed unread : ℕ)
@@ -221,15 +222,16 @@ pub attach_done : (source path bytes : List ℕ) (ty : Ty) (count : ℕ) (s : So
 attach_done source path bytes ty count s f f' sources sources' cursors asked handed unread reads fine rows name type size typed fresh grown =
     let facts = good_rows path ty f bytes s.rows rows fine (stands path ty (Bytes bytes) f f' reads) in
     let here : source_at (sources ++ s ∷ []) source ≡ Some s = subst (λ n. source_at (sources ++ s ∷ []) n ≡ Some s) name (this_source sources s (subst (λ n. source_at sources n ≡ None) (sym name) (map_none (attached_of f.told) (source_at sources source) fresh))) in
-    let kept : attached_of f.told s ≡ record { ty = ty; rows = told_rows (at_path f.told path ty) } = ap (λ t. mk t (told_only f.told s.rows)) type ∙ ap (λ r. mk ty r) facts.0 in
+    let kept : attached_of f.told s ≡ mk ty (told_rows (at_path f.told path ty)) count = λ i. mk (type i) (facts.0 i) (sym size i) in
     subst (λ t. Attaches source path ty (Ok count) (flat_state f sources cursors asked handed unread) (flat_state (record { told = t; left = f'.left; faults = f'.faults }) sources' cursors asked handed unread)) (sym reads.told) (record {
       keeps = record { kind = refl; handed = omega arith; faults = reads.later; drifts = omega arith; no_drift = λ is. refl; unread = omega arith };
       cursors = refl;
       asked = refl;
       handed = refl;
       others = λ n ne. ap (option_map (attached_of f.told)) (ap (λ xs. source_at xs n) grown ∙ other_source sources s n (λ is. ne (is ∙ name)));
-      attached = ap (option_map (attached_of f.told)) (ap (λ xs. source_at xs source) grown ∙ here) ∙ ap Some kept;
+      attached = (None, ap (option_map (attached_of f.told)) (ap (λ xs. source_at xs source) grown ∙ here) ∙ ap Some kept);
       count = λ all is. size ∙ ap length (sym (facts.1 all is));
+      unique = λ is_unique is_set. absurd cc;
       typed = λ all is. subst (AllByRecursion (Inhabits (item_of (ground_of ty)))) (sym (facts.1 all is)) typed;
       refused = tt;
       missing = λ is. absurd (facts.2 is);

@@ -27,7 +27,7 @@ use Rattle.kl_flat.specs.declared.parts.Source.{Source}
 use Rattle.kl_flat.specs.declared.parts.Open.{Open}
 use Rattle.kl_flat.proofs.Suiting.{item_flat}
 use Rattle.kl_flat.proofs.Typing.{rows_suit, rows_typed}
-use Rattle.kl_flat.proofs.Shown.{all_drop, all_front, answers_typed, answers-few}
+use Rattle.kl_flat.proofs.Shown.{all_drop, all_front, answers_typed, answers-all, answers-few}
 
 some_same : {T : Type 0} {x y : T} → Some x ≡ Some y → x ≡ y
 some_same h = cc
@@ -62,6 +62,10 @@ shows : {A : Type 0} (told : Option A) (k : Kind) (keep : List Name) (tests : Li
 shows None k keep tests rows = refl
 shows (Some t) k keep tests rows = (answers rows keep tests, refl, in_order k (answers rows keep tests))
 
+told_size : {A : Type 0} (told : Option A) (rows shown : List Value) → told_only told rows ≡ Some shown → length rows ≡ length shown
+told_size None rows shown is = absurd cc
+told_size (Some t) rows shown is = ap length (some_same is)
+
 opens_at : (ask : Ask) (s : Source) (o : Open) (f : FilesState) (sources : List Source) (cursors : List (Option Open)) (asked : List (Ask × ℕ)) (handed unread : ℕ)
     → CanStart (flat_state f sources cursors asked handed unread) ask → asked_source sources ask ≡ Some s
     → o.ask ≡ ask → o.ty ≡ s.ty → o.rows ≡ s.rows → o.at ≡ 0 → length o.rows < 2 ^ 64
@@ -76,6 +80,9 @@ opens_at (asks.Rows source keep tests) s o f sources cursors asked handed unread
     subst (λ a. IsFresh keep tests a (cursor_of f.told o)) same (record {
       ty = λ i. shown_type (keep_is i) (item_of (ground_of (ty_is i)));
       left = subst (λ rows. Shows (kind_of (ground_of s.ty)) keep tests (told_only f.told s.rows) (told_only f.told rows)) (sym left_is) (shows f.told (kind_of (ground_of s.ty)) keep tests s.rows);
+      most = omega (arith, few, ap length left_is);
+      whole = λ none. ap length left_is ∙ answers-all keep tests s.rows none;
+      told = λ shown is. told_size f.told (left_of o) shown is;
       bound = omega (arith, few, ap length left_is, ap length rows_is, small);
     })
 
@@ -261,6 +268,7 @@ pull_refused cursor most into f sources cursors cursors' asked handed unread wit
     closed = ap (λ x. seen_as f.told (option_flatten x)) (ap (λ xs. slice_get xs cursor) made ∙ get-set_same cursors cursor None within);
     handed = refl;
     cause = tt;
+    drifted = λ d drift. absurd cc;
   };
 }
 

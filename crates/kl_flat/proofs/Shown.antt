@@ -91,6 +91,12 @@ module _ (keep : List Name) where
       by true is less = rw is (omega (arith, less))
       by false is less = rw is (omega (arith, less))
 
+  -- without tests each row answers
+  pub answers-all : (tests : List ColTest) (rows : List Value) → tests ≡ [] → length (answers rows keep tests) ≡ length rows
+  answers-all [] [] none = refl
+  answers-all [] (v ∷ rows) none = ap suc (answers-all [] rows refl)
+  answers-all (t ∷ tests) rows none = absurd cc
+
 pub all_drop : {X : Type 0} (P : X → Type 0) (n : ℕ) (xs : List X) → AllByRecursion P xs → AllByRecursion P (drop n xs)
 all_drop P zero xs h = h
 all_drop P (suc n) [] h = tt

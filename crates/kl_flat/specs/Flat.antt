@@ -57,7 +57,7 @@ asked_source sources (asks.Rows source keep tests) = source_at sources source
 asked_source sources (asks.Sql text) = None
 
 abbrev pub attached_of : {A : Type 0} → Option A → Source → Attached
-attached_of told source = record { ty = source.ty; rows = told_only told source.rows }
+attached_of told source = record { ty = source.ty; rows = told_only told source.rows; count = length source.rows; kept = None }
 
 abbrev pub keep_of : Ask → List Name
 keep_of (asks.Rows source keep tests) = keep

@@ -7,10 +7,11 @@ use Rattle.kl_value.specs.declared.Kind.{Kind}
 use Rattle.kl_value.specs.declared.Kind.TheVariants as kind
 use Rattle.kl_value.specs.declared.Value.{Value}
 use Rattle.kl_type.specs.Ground.{IsProper, ground_of}
+use Rattle.kl_type.specs.declared.Ty.{Ty}
 use Rattle.kl_outcome.specs.Outcome.{Name}
 use Rattle.kl_outcome.specs.Typed.{Inhabits}
 use Rattle.kl_ask.specs.Asks.{item_of, kind_of}
-use Rattle.kl_ask.specs.Driver.{Source as AttachedSource, DriverKind, State, Stored, Missing, Bad, Long, Deep, Rows, told_rows}
+use Rattle.kl_ask.specs.Driver.{Source as AttachedSource, DriverKind, State, Stored, Missing, Bad, Long, Deep, Rows, IsColl, told_rows}
 use Rattle.kl_ask.specs.World.{IsListed, at_driver, at_source, source_at, type_in, types_of, value_in, value_of_rows, values_of}
 use Rattle.kl_ask.specs.declared.session.Attached.{Attached}
 use Rattle.kl_ask.specs.declared.settings.Settings.{Settings}
@@ -40,6 +41,10 @@ listed_none marks n (x ∷ ss) (suc i) is = listed_none marks (suc n) ss i is
 abbrev rows_at : Bool → List DriverKind → Source → Option (List Value)
 rows_at true ks s = told_rows (contents ks s)
 rows_at false ks s = Some []
+
+-- and what is attached then
+abbrev IsPlacedAs : Bool → List DriverKind → Source → Option AttachedSource → Type 0
+IsPlacedAs b ks s o = (t : AttachedSource) × (o ≡ Some t) × (t.ty ≡ s.ty) × (t.rows ≡ rows_at b ks s)
 
 listed_name : (b : Bool) (s : Source) → (listed b s).ty ≡ s.ty
 listed_name true s = refl
@@ -98,12 +103,12 @@ module _ (ks : List DriverKind) (marks : ℕ → Bool) (ss : List Source) (place
   stands_in : (i : ℕ) (s : Source) → slice_get ss i ≡ Some s → slice_get list i ≡ Some (listed (marks i) s)
   stands_in i s is = ap (λ (l : List Attached). slice_get l i) list_is ∙ listed_at marks 0 ss i s is ∙ ap (λ k. Some (listed (marks k) s)) (zero-add i)
 
-  placed_at : (i : ℕ) (s : Source) → slice_get ss i ≡ Some s → (b : Bool) → marks i ≡ b → at_source (Some (listed b s)) ds ≡ Some (record { ty = s.ty; rows = rows_at b ks s })
-  placed_at i s is true mk = let st = stand i s is mk in ap (at_driver (listed true s)) st.there ∙ st.attached
-  placed_at i s is false mk = refl
+  placed_at : (i : ℕ) (s : Source) → slice_get ss i ≡ Some s → (b : Bool) → marks i ≡ b → IsPlacedAs b ks s (at_source (Some (listed b s)) ds)
+  placed_at i s is true mk = let st = stand i s is mk in (record { ty = s.ty; rows = told_rows (contents ks s); count = st.count; kept = st.kept }, ap (at_driver (listed true s)) st.there ∙ st.attached, refl, refl)
+  placed_at i s is false mk = (record { ty = s.ty; rows = Some []; count = 0; kept = None }, refl, refl, refl)
 
-  source_is : (i : ℕ) (s : Source) → slice_get ss i ≡ Some s → source_at (world_of ds list settings trace) i ≡ Some (record { ty = s.ty; rows = rows_at (marks i) ks s })
-  source_is i s is = ap (λ o. at_source o ds) (stands_in i s is) ∙ placed_at i s is (marks i) refl
+  source_is : (i : ℕ) (s : Source) → slice_get ss i ≡ Some s → IsPlacedAs (marks i) ks s (source_at (world_of ds list settings trace) i)
+  source_is i s is = let p = placed_at i s is (marks i) refl in (p.0, ap (λ o. at_source o ds) (stands_in i s is) ∙ p.1, p.2, p.3)
 
   source_none : (i : ℕ) → slice_get ss i ≡ None → source_at (world_of ds list settings trace) i ≡ None
   source_none i is = ap (λ o. at_source o ds) (ap (λ (l : List Attached). slice_get l i) list_is ∙ listed_none marks 0 ss i is)
@@ -112,27 +117,32 @@ module _ (ks : List DriverKind) (marks : ℕ → Bool) (ss : List Source) (place
   typed_at i s is true mk rows e = typed_told s (contents ks s) rows (stand i s is mk).typed e
   typed_at i s is false mk rows e = subst (AllByRecursion (Inhabits (item_of (ground_of s.ty)))) (some_same e) tt
 
-  listed_as : (i : ℕ) (s : Source) → slice_get ss i ≡ Some s → (a : Attached) (t : AttachedSource) → listed (marks i) s ≡ a → record { ty = s.ty; rows = rows_at (marks i) ks s } ≡ t → IsListed a t
-  listed_as i s is a t same_entry same_source = subst (λ (q : Attached). IsListed q t) same_entry (subst (IsListed (listed (marks i) s)) same_source (record {
-    ty = sym (listed_name (marks i) s);
-    proper = of_all (λ (s : Source). IsProper s.ty) ss i s placed.proper is;
-    collection = (of_all (IsFit ks) ss i s placed.fit is).2.collection;
-    typed = typed_at i s is (marks i) refl;
-  }))
+  listed_as : (i : ℕ) (s : Source) → slice_get ss i ≡ Some s → (a : Attached) (t : AttachedSource) → listed (marks i) s ≡ a → t.ty ≡ s.ty → t.rows ≡ rows_at (marks i) ks s → IsListed a t
+  listed_as i s is a t same_entry same_type same_rows = subst (λ (q : Attached). IsListed q t) same_entry (record {
+    ty = same_type ∙ sym (listed_name (marks i) s);
+    proper = subst IsProper (sym same_type) (of_all (λ (s : Source). IsProper s.ty) ss i s placed.proper is);
+    collection = subst (λ (u : Ty). IsColl (ground_of u)) (sym same_type) (of_all (IsFit ks) ss i s placed.fit is).2.collection;
+    typed = λ rows e. subst (λ (u : Ty). AllByRecursion (Inhabits (item_of (ground_of u))) rows) (sym same_type) (typed_at i s is (marks i) refl rows (sym same_rows ∙ e));
+  })
 
   listed_in : (i : ℕ) (o : Option Source) → slice_get ss i ≡ o → (a : Attached) (t : AttachedSource) → slice_get list i ≡ Some a → source_at (world_of ds list settings trace) i ≡ Some t → IsListed a t
   listed_in i None is a t entry source = absurd (let n = source_none i is in cc)
-  listed_in i (Some s) is a t entry source = listed_as i s is a t (some_same (sym (stands_in i s is) ∙ entry)) (some_same (sym (source_is i s is) ∙ source))
+  listed_in i (Some s) is a t entry source =
+      let p = source_is i s is in
+      let same : p.0 ≡ t = some_same (sym p.1 ∙ source) in
+      listed_as i s is a t (some_same (sym (stands_in i s is) ∙ entry)) (ap (λ (q : AttachedSource). q.ty) (sym same) ∙ p.2) (ap (λ (q : AttachedSource). q.rows) (sym same) ∙ p.3)
 
   types_in : (i : ℕ) (o : Option Source) → slice_get ss i ≡ o → types_of (world_of ds list settings trace) i ≡ slice_get (map (λ p. p.1) (grounds_of ss)) i
   unfolding types_of
   types_in i None is = ap type_in (source_none i is) ∙ sym (grounds_none ss i is)
-  types_in i (Some s) is = ap type_in (source_is i s is) ∙ sym (grounds_at ss i s is)
+  types_in i (Some s) is = let p = source_is i s is in ap type_in p.1 ∙ ap (λ u. Some (ground_of u)) p.2 ∙ sym (grounds_at ss i s is)
 
   values_in : (vs : List (Name × Value)) → HaveValues ks marks 0 ss vs → (i : ℕ) (o : Option Source) → slice_get ss i ≡ o → values_of (world_of ds list settings trace) i ≡ slice_get (map (λ p. p.1) vs) i
   unfolding values_of
   values_in vs h i None is = ap value_in (source_none i is) ∙ values_none ks marks 0 ss vs h i is
-  values_in vs h i (Some s) is = ap value_in (source_is i s is) ∙ ap (λ k. value_of_rows (ground_of s.ty) (rows_at (marks k) ks s)) (sym (zero-add i)) ∙ values_at ks marks 0 ss vs h i s is
+  values_in vs h i (Some s) is =
+      let p = source_is i s is in
+      ap value_in p.1 ∙ (λ k. value_of_rows (ground_of (p.2 k)) (p.3 k)) ∙ ap (λ k. value_of_rows (ground_of s.ty) (rows_at (marks k) ks s)) (sym (zero-add i)) ∙ values_at ks marks 0 ss vs h i s is
 
   pub serves : 0 < settings.fetch → Serves ks marks ss (world_of ds list settings trace)
   serves fetch = record {

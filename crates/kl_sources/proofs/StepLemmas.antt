@@ -7,7 +7,7 @@ use Rattle.kl_base.specs.Counts.{Rose}
 use Rattle.kl_type.specs.Ground.{IsProper}
 use Rattle.kl_type.specs.declared.Ty.{Ty}
 use Rattle.kl_outcome.specs.Outcome.{Name}
-use Rattle.kl_ask.specs.Driver.{Source as AttachedSource, DriverKind, State, Stored, Missing, Bad, Long, Deep, Rows, Keeps, Attaches, IsTold, Unreadable, stored_by, stored_at, told_rows}
+use Rattle.kl_ask.specs.Driver.{Source as AttachedSource, DriverKind, State, Stored, Missing, Bad, Long, Deep, Rows, Attaches, IsTold, Unreadable, stored_by, stored_at, told_rows}
 use Rattle.kl_ask.specs.Lists.{AtIndex, StepsAt, EachSteps}
 use Rattle.kl_ask.specs.declared.ask.DriverError.{DriverError}
 use Rattle.kl_ask.specs.declared.ask.DriverError.TheVariants as error
@@ -159,6 +159,9 @@ module _ (old : List State) (ss : List Source) (placed : ArePlaced (kinds_of old
                   | inl e ↦ under st.driver c.0 (step.here st.driver c.0 (ap (slice_get mid) (sym e) ∙ st.there) (ap (slice_get new) (sym e) ∙ c.1)) t.name ne
                   | inr away ↦ ap (λ (d : State). d.attached t.name) (some_same (sym c.1 ∙ step.others t.driver away ∙ st.there))
                 ]) ∙ st.attached;
+                count = st.count;
+                kept = st.kept;
+                counted = st.counted;
                 typed = st.typed;
               }
 
@@ -183,10 +186,14 @@ module _ (old : List State) (ss : List Source) (placed : ArePlaced (kinds_of old
           stands_now : Stands (kinds_of old) new s
           stands_now =
               let f = after (Ok count) step in
+              let at = f.2.attached in
               record {
                 driver = f.0;
                 there = f.1;
-                attached = f.2.attached ∙ ap (λ (o : Option Stored). Some (record { ty = s.ty; rows = told_rows o })) said;
+                count = count;
+                kept = at.0;
+                attached = at.1 ∙ ap (λ (o : Option Stored). Some (record { ty = s.ty; rows = told_rows o; count = count; kept = at.0 })) said;
+                counted = λ rows is_told. f.2.count rows (said ∙ is_told);
                 typed = subst (HasTyped s) said (typed_for f.0 f.2 (stored_at now.1 s.locator s.ty) refl);
               }
 

@@ -1,5 +1,5 @@
 -- What comes of attaching the sources that a program mentions.
-use Rattle.std.specs.Prelude.{◌≡◌, ◌≢◌, ◌⊎◌, ℕ, suc, ◌<◌, Bool, true, false, List, [], ◌∷◌, map, Option, Some, None, Result, IfOk, IfErr, OnOk, MatchResult, slice_get, ⊤}
+use Rattle.std.specs.Prelude.{◌≡◌, ◌≢◌, ◌⊎◌, ℕ, suc, ◌<◌, Bool, true, false, List, [], ◌∷◌, length, map, Option, Some, None, Result, IfOk, IfErr, OnOk, MatchResult, slice_get, ⊤}
 use Rattle.std.specs.List.{AllByRecursion}
 use Rattle.kl_base.specs.Counts.{Rose}
 use Rattle.kl_value.specs.declared.Value.{Value}
@@ -77,7 +77,10 @@ HasTyped s None = ⊤
 pub record Stands (ks : List DriverKind) (ds : List State) (s : Source) : Type 0 where
   pub driver : State
   pub there : slice_get ds s.driver ≡ Some driver
-  pub attached : driver.attached s.name ≡ Some (record { ty = s.ty; rows = told_rows (contents ks s) })
+  pub count : ℕ
+  pub kept : Option ℕ
+  pub attached : driver.attached s.name ≡ Some (record { ty = s.ty; rows = told_rows (contents ks s); count = count; kept = kept })
+  pub counted : (rows : List Value) → contents ks s ≡ Some (Rows rows) → count ≡ length rows
   pub typed : HasTyped s (contents ks s)
 
 -- ---- refusals
