@@ -4,11 +4,13 @@ pub mod PageLemmas
 pub mod ReadLemmas
 pub mod LineLemmas
 pub mod SizeLemmas
+pub mod StatsLemmas
 pub mod DriverLemmas
 pub mod AlikeLemmas
 pub mod FairLemmas
 pub mod DoneLemmas
 pub mod InputLemmas
+pub mod FileAnswers
 pub mod AnswerLemmas
 pub mod TermLemmas
 pub mod MeaningLemmas

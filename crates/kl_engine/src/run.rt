@@ -55,8 +55,8 @@ pub fn run<S: Sink>(
     requires few { length text.now ≤ 65536 }
     requires placed { ArePlaced (kinds_of (map (λ d. (Driver-box d).state d.value) drivers.old.items)) sources.items }
     requires idle { All IsIdle (map (λ d. (Driver-box d).state d.value) drivers.old.items) }
-    requires fetch { 0 < how.now.settings.fetch }
-    ensures { DoesText sources.items (Run how.now.first) text.now (ending result) (map (λ d. (Driver-box d).state d.value) drivers.old.items) (map (λ d. (Driver-box d).state d.value) drivers.new.items) (S.state out.old) (S.state out.new) }
+    requires fetch { 0 < how.settings.fetch }
+    ensures { DoesText sources.items (Run how.first) text.now (ending result) (map (λ d. (Driver-box d).state d.value) drivers.old.items) (map (λ d. (Driver-box d).state d.value) drivers.new.items) (S.state out.old) (S.state out.new) }
 {
     match names_of(alloc, &sources) {
         Ok(names) => match read_program(alloc, text, &names) {
@@ -79,8 +79,8 @@ fn run_program<S: Sink>(
     requires scope { WasInScope (names_of sources.items) scoped.now }
     requires placed { ArePlaced (kinds_of (map (λ d. (Driver-box d).state d.value) drivers.old.items)) sources.items }
     requires idle { All IsIdle (map (λ d. (Driver-box d).state d.value) drivers.old.items) }
-    requires fetch { 0 < how.now.settings.fetch }
-    ensures { DoneWith sources.items (is_marked scoped.now) (Run how.now.first) (decls_of scoped.now.program.defs) (view scoped.now.program.last) (ending result) (map (λ d. (Driver-box d).state d.value) drivers.old.items) (map (λ d. (Driver-box d).state d.value) drivers.new.items) (S.state out.old) (S.state out.new) }
+    requires fetch { 0 < how.settings.fetch }
+    ensures { DoneWith sources.items (is_marked scoped.now) (Run how.first) (decls_of scoped.now.program.defs) (view scoped.now.program.last) (ending result) (map (λ d. (Driver-box d).state d.value) drivers.old.items) (map (λ d. (Driver-box d).state d.value) drivers.new.items) (S.state out.old) (S.state out.new) }
 {
     match infer_over(alloc, scoped, &sources) {
         Ok(typed) => answer(alloc, scoped, &typed, sources, how, drivers, out),
@@ -102,8 +102,8 @@ fn answer<S: Sink>(
     requires types { Infers (grounds_of sources.items) (decls_of scoped.now.program.defs) (view scoped.now.program.last) typed.now }
     requires placed { ArePlaced (kinds_of (map (λ d. (Driver-box d).state d.value) drivers.old.items)) sources.items }
     requires idle { All IsIdle (map (λ d. (Driver-box d).state d.value) drivers.old.items) }
-    requires fetch { 0 < how.now.settings.fetch }
-    ensures { DoneMeaning sources.items (is_marked scoped.now) how.now.first (decls_of scoped.now.program.defs) (view scoped.now.program.last) (ending result) (map (λ d. (Driver-box d).state d.value) drivers.old.items) (map (λ d. (Driver-box d).state d.value) drivers.new.items) (S.state out.old) (S.state out.new) }
+    requires fetch { 0 < how.settings.fetch }
+    ensures { DoneMeaning sources.items (is_marked scoped.now) how.first (decls_of scoped.now.program.defs) (view scoped.now.program.last) (ending result) (map (λ d. (Driver-box d).state d.value) drivers.old.items) (map (λ d. (Driver-box d).state d.value) drivers.new.items) (S.state out.old) (S.state out.new) }
 {
     let is_list = gives_list(typed);
     match translate(alloc, scoped) {
@@ -137,7 +137,7 @@ fn answer_term<S: Sink>(
 ) -> Result<(), Fault>
     requires sense { Sense (term_view term.now) [] (⟦<Session as Seen>⟧.world session.old) }
     requires list { is_list ≡ true → SenseList (term_view term.now) [] (⟦<Session as Seen>⟧.world session.old) }
-    ensures prints { AnswersTerm (IsOutcome is_list first.now (core (values_of (⟦<Session as Seen>⟧.world session.old)) (term_view term.now) [])) (HaveSources (types_of (⟦<Session as Seen>⟧.world session.old)) (values_of (⟦<Session as Seen>⟧.world session.old))) (ending result) (map (λ d. (Driver-box d).state d.value) session.old.drivers.items) (map (λ d. (Driver-box d).state d.value) session.new.drivers.items) (S.state out.old) (S.state out.new) }
+    ensures prints { AnswersTerm (IsOutcome is_list first (core (values_of (⟦<Session as Seen>⟧.world session.old)) (term_view term.now) [])) (HaveSources (types_of (⟦<Session as Seen>⟧.world session.old)) (values_of (⟦<Session as Seen>⟧.world session.old))) (ending result) (map (λ d. (Driver-box d).state d.value) session.old.drivers.items) (map (λ d. (Driver-box d).state d.value) session.new.drivers.items) (S.state out.old) (S.state out.new) }
     ensures rest { Moved (⟦<Session as Seen>⟧.world session.old) (⟦<Session as Seen>⟧.world session.new) }
 {
     if is_list {
@@ -185,7 +185,7 @@ fn answer_list<S: Sink>(
     out: &mut S,
 ) -> Result<(), Fault>
     requires { SenseList (term_view term.now) [] (⟦<Session as Seen>⟧.world session.old) }
-    ensures prints { AnswersTerm (IsListOutcome first.now (core (values_of (⟦<Session as Seen>⟧.world session.old)) (term_view term.now) [])) (HaveSources (types_of (⟦<Session as Seen>⟧.world session.old)) (values_of (⟦<Session as Seen>⟧.world session.old))) (ending result) (map (λ d. (Driver-box d).state d.value) session.old.drivers.items) (map (λ d. (Driver-box d).state d.value) session.new.drivers.items) (S.state out.old) (S.state out.new) }
+    ensures prints { AnswersTerm (IsListOutcome first (core (values_of (⟦<Session as Seen>⟧.world session.old)) (term_view term.now) [])) (HaveSources (types_of (⟦<Session as Seen>⟧.world session.old)) (values_of (⟦<Session as Seen>⟧.world session.old))) (ending result) (map (λ d. (Driver-box d).state d.value) session.old.drivers.items) (map (λ d. (Driver-box d).state d.value) session.new.drivers.items) (S.state out.old) (S.state out.new) }
     ensures rest { Moved (⟦<Session as Seen>⟧.world session.old) (⟦<Session as Seen>⟧.world session.new) }
 {
     let mut env = Vec::new(alloc);
@@ -207,7 +207,7 @@ fn answer_value<S: Sink>(
     out: &mut S,
 ) -> Result<(), Fault>
     requires { Sense (term_view term.now) [] (⟦<Session as Seen>⟧.world session.old) }
-    ensures prints { AnswersTerm (IsValueOutcome first.now (core (values_of (⟦<Session as Seen>⟧.world session.old)) (term_view term.now) [])) (HaveSources (types_of (⟦<Session as Seen>⟧.world session.old)) (values_of (⟦<Session as Seen>⟧.world session.old))) (ending result) (map (λ d. (Driver-box d).state d.value) session.old.drivers.items) (map (λ d. (Driver-box d).state d.value) session.new.drivers.items) (S.state out.old) (S.state out.new) }
+    ensures prints { AnswersTerm (IsValueOutcome first (core (values_of (⟦<Session as Seen>⟧.world session.old)) (term_view term.now) [])) (HaveSources (types_of (⟦<Session as Seen>⟧.world session.old)) (values_of (⟦<Session as Seen>⟧.world session.old))) (ending result) (map (λ d. (Driver-box d).state d.value) session.old.drivers.items) (map (λ d. (Driver-box d).state d.value) session.new.drivers.items) (S.state out.old) (S.state out.new) }
     ensures rest { Moved (⟦<Session as Seen>⟧.world session.old) (⟦<Session as Seen>⟧.world session.new) }
 {
     let mut env = Vec::new(alloc);

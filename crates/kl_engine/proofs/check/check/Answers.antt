@@ -1,9 +1,0 @@
-use Rattle.kl_engine.specs.declared.top.Purpose.TheVariants as purpose
-use Rattle.kl_engine.proofs.DoneLemmas.{checked, unread}
-use Rattle.kl_engine.proofs.check.check.Goals as goal
-
-pub returns-in-Ok : goal.returns-in-Ok
-returns-in-Ok g c = checked _ _ _ _ _ c.in-Ok.ensures c.print_page.ensures
-
-pub returns : goal.returns
-returns g c = unread purpose.Check _ _ _ c.in-Err.ensures
