@@ -1,21 +1,28 @@
 -- Pulls of a cursor, one after another.
-use Rattle.std.proofs.Common.{◌≡◌, ◌≢◌, ◌<◌, ◌≤◌, ◌+◌, ◌-◌, ◌^◌, ℕ, Bool, true, false, List, [], ◌∷◌, ◌++◌, length, Option, Result, Some, None, Ok, Err, IsSome, refl, sym, ◌∙◌, ap, subst, arith, rules, append_assoc, append-nil}
+use Rattle.std.proofs.Common.{◌≡◌, ◌<◌, ℕ, Bool, true, false, List, [], ◌∷◌, ◌++◌, Option, Some, None, Ok, Err, IsSome, refl, sym, ◌∙◌, ap, subst, arith, append_assoc, append-nil}
 use Rattle.std.specs.List.{AllByRecursion}
 use Rattle.kl_value.specs.declared.Value.{Value}
 use Rattle.kl_type.specs.Ground.{Ground}
 use Rattle.kl_outcome.specs.Typed.{Inhabits}
-use Rattle.kl_ask.specs.Driver.{State, Cursor, Keeps, OtherCursors, Pulls, PullsMore, PullsNone, PullRefused, Cause}
+use Rattle.kl_ask.specs.Driver.{State, Cursor, Pulls, source_of}
+use Rattle.kl_ask.specs.declared.ask.Ask.{Ask}
+use Rattle.kl_ask.specs.declared.ask.Ask.TheVariants as asks
 use Rattle.kl_ask.specs.declared.DriverError.{DriverError}
 use Rattle.kl_ask.proofs.Worlds.{keeps_none, keeps_then}
-use Rattle.kl_eval.specs.Scans.{Draining, Handed, Drained, Stopped, bound_of}
+use Rattle.kl_eval.specs.Scans.{Draining, Drained, Stopped, bound_of}
 use Rattle.kl_eval.proofs.Stops.{cause_then}
+
+-- the source that an ask names stays
+pub same_source : (ask : Ask) (a b : State) → b.attached ≡ a.attached → source_of b ask ≡ source_of a ask
+same_source (asks.Rows source keep tests) a b same = ap (λ f. f source) same
+same_source (asks.Sql text) a b same = refl
 
 pub begins : (cursor : ℕ) (into : List Value) (s : State) → Draining cursor into into s s
 begins cursor into s = record {
   keeps = keeps_none s;
   attached = refl;
   others = λ k ne. refl;
-  rows = λ first is. record { then = first; rows = []; now = is; ty = refl; appended = sym (append-nil into); typed = tt; left = λ all has. (all, refl, has) };
+  rows = λ first is. record { then = first; rows = []; now = is; ask = refl; ty = refl; appended = sym (append-nil into); typed = tt; left = λ all has. (all, refl, has) };
 }
 
 pub some_of : {T : Type 0} (o : Option T) → IsSome o → (x : T) × (o ≡ Some x)
@@ -60,6 +67,7 @@ goes_on cursor most into mid into' a b c more is_so is d q =
             then = more.then;
             rows = h.rows ++ more.rows;
             now = more.now;
+            ask = more.hands.ask ∙ h.ask;
             ty = more.hands.ty ∙ h.ty;
             appended = more.appended ∙ ap (λ x. x ++ more.rows) h.appended ∙ append_assoc into h.rows more.rows;
             typed = typed_on first.ty h.then.ty h.rows more.rows h.ty h.typed more.hands.typed;
@@ -81,7 +89,7 @@ ends cursor most into mid into' a b c more is_so is d q =
         rows = λ first has.
             let h = d.rows first has in
             let none = p.answer h.then h.now in
-            record { then = record { ask = h.then.ask; ty = h.then.ty; left = h.then.left; bound = 0 }; rows = h.rows; now = none.now; ty = h.ty; appended = none.same ∙ h.appended; typed = h.typed; left = h.left };
+            record { then = record { ask = h.then.ask; ty = h.then.ty; left = h.then.left; bound = 0 }; rows = h.rows; now = none.now; ask = h.ask; ty = h.ty; appended = none.same ∙ h.appended; typed = h.typed; left = h.left };
       };
       spent = λ first has all is_all.
           let h = d.rows first has in
@@ -101,4 +109,5 @@ stops cursor most e into mid into' a b c is d p =
       others = λ k ne. p.others k ne ∙ d.others k ne;
       closed = step.closed;
       cause = cause_then e a b c d.keeps step.cause;
+      drifted = λ first has x is s at_s. let h = d.rows first has in (p.answer h.then h.now).drifted x is s (ap (source_of b) h.ask ∙ same_source first.ask a b d.attached ∙ at_s);
     }

@@ -9,7 +9,7 @@ use Rattle.kl_type.specs.Ground.{ground_of}
 use Rattle.kl_outcome.specs.Outcome.{Name}
 use Rattle.kl_outcome.specs.Typed.{Inhabits}
 use Rattle.kl_ask.specs.Asks.{columns, item_of, kind_of}
-use Rattle.kl_ask.specs.Driver.{State, Cursor, Keeps, OtherCursors, OpensAt, Cause}
+use Rattle.kl_ask.specs.Driver.{State, Cursor, Keeps, OtherCursors, OpensAt, Cause, source_of}
 use Rattle.kl_ask.specs.World.{Quiet}
 use Rattle.kl_ask.specs.declared.ask.Ask.{Ask}
 use Rattle.kl_ask.specs.declared.ask.Ask.TheVariants as asks
@@ -18,6 +18,7 @@ use Rattle.kl_ask.specs.declared.DriverError.{DriverError}
 use Rattle.kl_ask.specs.declared.DriverError.TheVariants as error
 use Rattle.kl_eval.specs.declared.stop.EvalStop.{EvalStop}
 use Rattle.kl_eval.specs.declared.stop.EvalStop.TheVariants as stop
+use Rattle.kl_eval.specs.World.{Drifted}
 
 -- the ask for all rows of a source, whole
 abbrev pub whole_ask : Attached → Ask
@@ -36,6 +37,7 @@ pub record Handed (cursor : ℕ) (into into' : List Value) (first : Cursor) (new
   pub then : Cursor
   pub rows : List Value
   pub now : new.cursors cursor ≡ Some then
+  pub ask : then.ask ≡ first.ask
   pub ty : then.ty ≡ first.ty
   pub appended : into' ≡ into ++ rows
   pub typed : AllByRecursion (Inhabits first.ty) rows
@@ -60,6 +62,7 @@ pub record Stopped (cursor : ℕ) (e : DriverError) (old new : State) : Type 0 w
   pub others : OtherCursors cursor old new
   pub closed : new.cursors cursor ≡ None
   pub cause : Cause e old new
+  pub drifted : (first : Cursor) → old.cursors cursor ≡ Some first → Drifted e (source_of old first.ask)
 
 abbrev pub Drains : ℕ → List Value → List Value → Result (Unit {0}) DriverError → State → State → Type 0
 Drains cursor into into' (Ok done) old new = Drained cursor into into' old new
@@ -74,7 +77,7 @@ pub record ScansAll (ask : Ask) (shown : List Value) (old : State) : Type 0 wher
 
 abbrev pub ScanResult : Ask → Result (Vec Value Global) DriverError → State → State → Type 0
 ScanResult ask (Ok shown) old new = ScansAll ask shown.items old
-ScanResult ask (Err e) old new = Cause e old new
+ScanResult ask (Err e) old new = Cause e old new × Drifted e (source_of old ask)
 
 -- a whole scan: start, pulls to the end, finish
 pub record Scans (ask : Ask) (result : Result (Vec Value Global) DriverError) (old new : State) : Type 0 where
@@ -99,7 +102,7 @@ IsEmptyOf a (Err e) = e ≡ stop.NoMemory
 abbrev pub ScanEnd : Attached → Result Value EvalStop → State → State → Type 0
 ScanEnd a (Ok v) old new = (shown : List Value) × (v ≡ canonical (kind_of (ground_of a.ty)) shown) × ScansAll (whole_ask a) shown old
 ScanEnd a (Err stop.Overflow) old new = ⊥
-ScanEnd a (Err (stop.Driver name e)) old new = (name ≡ a.source) × (e ≢ error.NoMemory) × Cause e old new
+ScanEnd a (Err (stop.Driver name e)) old new = (name ≡ a.source) × (e ≢ error.NoMemory) × Cause e old new × Drifted e (old.attached a.source)
 ScanEnd a (Err stop.NoMemory) old new = ⊤
 
 pub record ScansTo (a : Attached) (result : Result Value EvalStop) (old new : State) : Type 0 where

@@ -6,8 +6,9 @@ use Rattle.kl_outcome.specs.Outcome.{Name}
 use Rattle.kl_outcome.specs.Typed.{Inhabits}
 use Rattle.kl_core.specs.Core.{Tables}
 use Rattle.kl_core.specs.Typing.{SourceTypes}
-use Rattle.kl_ask.specs.Driver.{State, Cause}
-use Rattle.kl_ask.specs.World.{World, Moved, types_of, values_of}
+use Rattle.kl_ask.specs.Driver.{State, Source, Cause, HasDrifted}
+use Rattle.kl_ask.specs.World.{World, Moved, source_at, types_of, values_of}
+use Rattle.kl_ask.specs.declared.ask.Drift.{Drift}
 use Rattle.kl_ask.specs.declared.session.Attached.{Attached}
 use Rattle.kl_ask.specs.declared.DriverError.{DriverError}
 use Rattle.kl_ask.specs.declared.DriverError.TheVariants as error
@@ -18,6 +19,10 @@ use Rattle.kl_eval.specs.declared.stop.EvalStop.TheVariants as stop
 pub record Reads (S : SourceTypes) (T : Tables) (source : ℕ) (v : Value) : Type 0 where
   pub typed : (t : Ground) → S source ≡ Some t → Inhabits t v
   pub told : (u : Value) → T source ≡ Some u → v ≡ u
+
+-- what a refusal tells of a drift is true of the source
+abbrev pub Drifted : DriverError → Option Source → Type 0
+Drifted e source = (d : Drift) → e ≡ error.Changed d → (s : Source) → source ≡ Some s → HasDrifted s d
 
 -- The driver of the source of this name refused to go on: on a fault, or because contents that it does not tell drifted.
 -- The count rose.
@@ -33,6 +38,7 @@ pub record StoppedBy (source : Name) (e : DriverError) (old new : World) : Type 
   pub was : slice_get old.drivers place ≡ Some before
   pub is : slice_get new.drivers place ≡ Some then
   pub cause : Cause e before then
+  pub drifted : Drifted e (source_at old number)
   pub want : e ≢ error.NoMemory
 
 abbrev pub Read : ℕ → Result Value EvalStop → World → World → Type 0
