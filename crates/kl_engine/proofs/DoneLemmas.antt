@@ -1,7 +1,7 @@
 -- How a call ends that does what is asked for.
-use Rattle.std.proofs.Common.{◌≡◌, ◌⊎◌, inl, inr, ℕ, ◌<◌, nat_lt, if◌then◌else◌, Bool, true, false, List, [], ◌∷◌, codes, length, Option, Some, None, Result, Ok, Err, refl, sym, ap, subst, ◌∙◌, arith, ⊤}
+use Rattle.std.proofs.Common.{◌≡◌, ◌⊎◌, inl, inr, ℕ, ◌<◌, nat_lt, if◌then◌else◌, Bool, true, false, List, [], ◌∷◌, codes, length, Option, Some, None, Result, Ok, Err, refl, sym, ap, subst, ◌∙◌, arith}
 use Rattle.std.proofs.lemmas.Option.{gets}
-use Rattle.std.specs.Prelude.{All, IsTrue, slice_get}
+use Rattle.std.specs.Prelude.{All, IsTrue, slice_get, ⊤}
 use Rattle.std.specs.Io.KnownBytes.{append_known}
 use Rattle.kl_outside.specs.Counts.{Rose}
 use Rattle.kl_outside.specs.Sinks.{SinkState}
@@ -182,29 +182,29 @@ outside_untold v end ds ds' out out' told (wanting is) = subst IsTold is told
 
 -- of a verdict that ends as an end that is not told nothing is printed
 untold_empty : (p : Purpose) (v : Verdict) (end : Ending) → Fair p v → (IsTold end → ⊥) → v.ending ≡ end → v.page ≡ []
-untold_empty p v None fair untold is = absurd (untold tt)
-untold_empty p v (Some fault.Read) fair untold is = fair.empty (subst (PrintsNothing (AProgram p [] None)) (sym is) tt)
-untold_empty p v (Some fault.Write) fair untold is = absurd (subst IsOfVerdict is fair.told)
-untold_empty p v (Some (fault.Changed name)) fair untold is = absurd (subst IsOfVerdict is fair.told)
-untold_empty p v (Some fault.NoMemory) fair untold is = absurd (subst IsOfVerdict is fair.told)
-untold_empty p v (Some fault.Usage) fair untold is = absurd (untold tt)
-untold_empty p v (Some (fault.Text w byte)) fair untold is = absurd (untold tt)
-untold_empty p v (Some (fault.IllTyped decl)) fair untold is = absurd (untold tt)
-untold_empty p v (Some (fault.Catalogue byte)) fair untold is = absurd (untold tt)
-untold_empty p v (Some (fault.NameTwice name)) fair untold is = absurd (untold tt)
-untold_empty p v (Some (fault.NoDriver name)) fair untold is = absurd (untold tt)
-untold_empty p v (Some (fault.Unsuited name)) fair untold is = absurd (untold tt)
-untold_empty p v (Some (fault.BadFile place)) fair untold is = absurd (untold tt)
-untold_empty p v (Some (fault.BadSource name place)) fair untold is = absurd (untold tt)
-untold_empty p v (Some fault.Overflow) fair untold is = absurd (untold tt)
-untold_empty p v (Some fault.ProgramBytes) fair untold is = absurd (untold tt)
-untold_empty p v (Some fault.CatalogueBytes) fair untold is = absurd (untold tt)
-untold_empty p v (Some fault.FileBytes) fair untold is = absurd (untold tt)
-untold_empty p v (Some fault.Nesting) fair untold is = absurd (untold tt)
-untold_empty p v (Some fault.ItemNesting) fair untold is = absurd (untold tt)
-untold_empty p v (Some fault.TermNodes) fair untold is = absurd (untold tt)
-untold_empty p v (Some fault.TermDepth) fair untold is = absurd (untold tt)
-untold_empty p v (Some fault.SchemeBytes) fair untold is = absurd (untold tt)
+untold_empty p v None fair never is = absurd (never tt)
+untold_empty p v (Some fault.Read) fair never is = fair.empty (subst (PrintsNothing (AProgram p [] None)) (sym is) tt)
+untold_empty p v (Some fault.Write) fair never is = absurd (subst IsOfVerdict is fair.told)
+untold_empty p v (Some (fault.Changed name)) fair never is = absurd (subst IsOfVerdict is fair.told)
+untold_empty p v (Some fault.NoMemory) fair never is = absurd (subst IsOfVerdict is fair.told)
+untold_empty p v (Some fault.Usage) fair never is = absurd (never tt)
+untold_empty p v (Some (fault.Text w byte)) fair never is = absurd (never tt)
+untold_empty p v (Some (fault.IllTyped decl)) fair never is = absurd (never tt)
+untold_empty p v (Some (fault.Catalogue byte)) fair never is = absurd (never tt)
+untold_empty p v (Some (fault.NameTwice name)) fair never is = absurd (never tt)
+untold_empty p v (Some (fault.NoDriver name)) fair never is = absurd (never tt)
+untold_empty p v (Some (fault.Unsuited name)) fair never is = absurd (never tt)
+untold_empty p v (Some (fault.BadFile place)) fair never is = absurd (never tt)
+untold_empty p v (Some (fault.BadSource name place)) fair never is = absurd (never tt)
+untold_empty p v (Some fault.Overflow) fair never is = absurd (never tt)
+untold_empty p v (Some fault.ProgramBytes) fair never is = absurd (never tt)
+untold_empty p v (Some fault.CatalogueBytes) fair never is = absurd (never tt)
+untold_empty p v (Some fault.FileBytes) fair never is = absurd (never tt)
+untold_empty p v (Some fault.Nesting) fair never is = absurd (never tt)
+untold_empty p v (Some fault.ItemNesting) fair never is = absurd (never tt)
+untold_empty p v (Some fault.TermNodes) fair never is = absurd (never tt)
+untold_empty p v (Some fault.TermDepth) fair never is = absurd (never tt)
+untold_empty p v (Some fault.SchemeBytes) fair never is = absurd (never tt)
 
 -- a verdict on the text was printed, and no source was asked
 does_text : (ss : List Source) (p : Purpose) (text : List ℕ) (v : Verdict) (end : Ending) (ds : List State) (out out' : SinkState)
@@ -232,7 +232,7 @@ does_text ss p text v end ds out out' of plain prints =
       still = λ is. refl;
     }
 
-text_wanted : (ss : List Source) (p : Purpose) (text : List ℕ) (ds : List State) (out : SinkState) → DoesText ss p text (Some fault.NoMemory) ds ds out out
+pub text_wanted : (ss : List Source) (p : Purpose) (text : List ℕ) (ds : List State) (out : SinkState) → DoesText ss p text (Some fault.NoMemory) ds ds out out
 text_wanted ss p text ds out = record {
   told = λ v of. let fair = fair_text (kinds_of ds) ss p text v of in (v, one refl, follows_outside v (Some fault.NoMemory) ds ds out out p fair refl (untold_empty p v (Some fault.NoMemory) fair (λ is. is)) (wanting refl));
   meant = λ is needs. absurd is;
@@ -267,7 +267,7 @@ module _ (ss : List Source) (p : Purpose) (text : List ℕ) (end : Ending) (ds d
       none others (marks_one q ss (is_marked s) others marks_told again_too) v (subst (λ x. IsDone (kinds_of ds) ss others p (definitions (names_of ss) x) (last (names_of ss) x) v) same is)
 
   named : (name : Name) → IsNamed ss (is_marked s) name → IsMentionedIn ss text name
-  named name (i, at, marked) = (q, whole, i, at, (resolves.marks i (get_within (names_of ss) i name at)).0 (subst IsTrue (sym marked) tt))
+  named name (i, at, marked) = (q, whole, i, at, (resolves.marks i (get_within (names_of ss) i name at)).0 marked)
 
   told_by : Ends (λ others. IsDone (kinds_of ds) ss others p (definitions (names_of ss) q) (last (names_of ss) q)) ss (is_marked s) p end ds ds' out out' → (v : Verdict) → IsText (kinds_of ds) ss p text v → (w : Verdict) × Alike v w × Follows ⊥ w end ds ds' out out'
   told_by (before same none outside) v of = let fair = fair_text (kinds_of ds) ss p text v of in (v, one refl, follows_outside v end ds ds' out out' p fair same (untold_empty p v end fair none) (outside v))

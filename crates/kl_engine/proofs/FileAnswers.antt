@@ -1,6 +1,7 @@
 -- What reading the files of a command answers.
 use Rattle.std.proofs.Common.{◌≡◌, ◌⊎◌, inl, inr, ℕ, ◌<◌, ◌≤◌, List, [], length, Option, Some, None, Result, Ok, Err, Vec, refl, sym, ap, subst, ◌∙◌, arith}
 use Rattle.std.specs.declared.alloc.Global.{Global}
+use Rattle.std.specs.List.{IsDistinct}
 use Rattle.kl_outside.specs.Counts.{Rose}
 use Rattle.kl_outside.specs.Files.{FilesState, IsMissing, ReadsWhole}
 use Rattle.kl_outside.specs.declared.files.Whole.{Whole}
@@ -82,12 +83,16 @@ untold_failed path f f' none reads = elim (reads.failed refl) [ inl missing ↦ 
 
 -- ---- the sources of a catalogue
 
+none_placed : (ks : List DriverKind) → ArePlaced ks []
+unfolding IsDistinct
+none_placed ks = record { suited = tt; fit = tt; proper = tt; differ = tt }
+
 pub no_sources : (ks : List DriverKind) (f : FilesState) (ss : Vec Source Global) → ss.items ≡ [] → ReadsSources None ks (Ok ss) f f
 no_sources ks f ss none = record {
   left = refl;
   told = refl;
   later = omega arith;
-  placed = subst (ArePlaced ks) (sym none) (record { suited = tt; fit = tt; proper = tt; differ = tt });
+  placed = subst (ArePlaced ks) (sym none) (none_placed ks);
   sources = λ told is. none;
   refused = λ told is. tt;
   no_other = tt;

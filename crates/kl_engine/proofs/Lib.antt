@@ -9,6 +9,7 @@ pub mod DriverLemmas
 pub mod AlikeLemmas
 pub mod FairLemmas
 pub mod DoneLemmas
+pub mod CatalogueLemmas
 pub mod InputLemmas
 pub mod FileAnswers
 pub mod AnswerLemmas

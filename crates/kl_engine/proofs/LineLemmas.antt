@@ -132,6 +132,13 @@ module _ (xs : List Named) (out mid new : SinkState) (before : ListsAll xs out m
   lists_stopped d fault.NoMemory others (inl same) = early (d ∷ others) same
   lists_stopped d fault.NoMemory others (inr (fits, writes)) = cut d others stop.NoMemory fits writes
   lists_stopped d fault.Usage others is = absurd is
+  lists_stopped d (fault.Catalogue byte) others is = absurd is
+  lists_stopped d (fault.NameTwice name) others is = absurd is
+  lists_stopped d (fault.NoDriver name) others is = absurd is
+  lists_stopped d (fault.Unsuited name) others is = absurd is
+  lists_stopped d (fault.BadSource name place) others is = absurd is
+  lists_stopped d (fault.Changed name) others is = absurd is
+  lists_stopped d fault.CatalogueBytes others is = absurd is
   lists_stopped d (fault.Text w byte) others is = absurd is
   lists_stopped d (fault.IllTyped n) others is = absurd is
   lists_stopped d (fault.BadFile n) others is = absurd is

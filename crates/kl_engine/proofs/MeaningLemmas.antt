@@ -1,6 +1,6 @@
 -- What a run of a program with a typing comes to: what attaching its sources answers, and then the outcome of its term.
-use Rattle.std.proofs.Common.{◌≡◌, ◌≢◌, ◌⊎◌, inl, inr, ℕ, zero, suc, ◌+◌, ◌<◌, ◌≤◌, Bool, true, false, List, [], ◌∷◌, length, map, Option, Some, None, IsSome, refl, sym, ap, subst, ◌∙◌, arith, slice_get, add-zero, ⊤}
-use Rattle.std.specs.Prelude.{All}
+use Rattle.std.proofs.Common.{◌≡◌, ◌≢◌, ◌⊎◌, inl, inr, ℕ, zero, suc, ◌+◌, ◌<◌, ◌≤◌, Bool, true, false, List, [], ◌∷◌, length, map, Option, Some, None, IsSome, refl, sym, ap, subst, ◌∙◌, arith, slice_get, add-zero, zero-add}
+use Rattle.std.specs.Prelude.{All, ⊤}
 use Rattle.std.specs.List.{AllByRecursion}
 use Rattle.std.proofs.lemmas.List.Elements.{All-head, All-tail}
 use Rattle.std.proofs.lemmas.Option.{slice_get_within}
@@ -13,6 +13,7 @@ use Rattle.kl_value.specs.declared.Kind.{Kind}
 use Rattle.kl_value.specs.declared.Kind.TheVariants as kind
 use Rattle.kl_value.specs.declared.Value.{Value}
 use Rattle.kl_type.specs.Ground.{Ground, ground_of}
+use Rattle.kl_type.specs.declared.Ty.{Ty}
 use Rattle.kl_rows.specs.Schemes.{Instance}
 use Rattle.kl_outcome.specs.Outcome.{Name, Outcome, done, over, stuck}
 use Rattle.kl_outcome.specs.Typed.{Inhabits}
@@ -44,6 +45,7 @@ use Rattle.kl_ask.proofs.Whole.{collection_is}
 use Rattle.kl_ask.proofs.Worlds.{fun_ext, some_same, there, keeps_then}
 use Rattle.kl_eval.specs.Evals.{Sense, SenseList}
 use Rattle.kl_sources.specs.Attaching.{HaveNone, IsErrorOf, IsUnreadable, IsMishap, NoVerdict, MayAttach, IsMarkedName, StandsWithout, Causes, Serves, Stands, HasTyped}
+use Rattle.kl_sources.specs.Attaching as sources
 use Rattle.kl_sources.specs.Sources.{ArePlaced, IsFit, names_of, grounds_of, contents, empty_of, value_of, IsValueAt, HaveValues, IsReadable, FirstWithout}
 use Rattle.kl_sources.specs.declared.attaching.AttachError.{AttachError}
 use Rattle.kl_sources.specs.declared.source.Source.{Source}
@@ -207,15 +209,18 @@ module _ (Named : Name → Type 0) (ds mid last : List State) (this : KeepsDrive
 
 -- ---- a program whose sources are not told has no verdict
 
-module _ (ss : List Source) (marks : ℕ → Bool) (first : Option ℕ) (program : Decls) (e : Exp) (ds : List State) (no : NoVerdict (kinds_of ds) marks ss) where
+module _ (ss : List Source) (marks : ℕ → Bool) (first : Option ℕ) (program : Decls) (e : Exp) (ds : List State) (lacks : NoVerdict (kinds_of ds) marks ss) where
   none_meant : (others : ℕ → Bool) → ((i : ℕ) → i < length ss → marks i ≡ others i) → (v : Verdict) → IsMeant (kinds_of ds) ss others first program e v → ⊥
-  none_meant others same v (inl (s, w, f, at, is, eq)) = no.no_first s w (first_agrees (kinds_of ds) marks others 0 ss s w (λ i less. sym (same i less)) at)
-  none_meant others same v (inr (vs, values, is)) = no.no_values vs (values_agree (kinds_of ds) marks others 0 ss vs (λ i less. sym (same i less)) values)
+  none_meant others same v (inl (s, w, f, at, is, eq)) = lacks.no_first s w (first_agrees (kinds_of ds) marks others 0 ss s w (λ i less. sym (same i (omega (arith, less)))) at)
+  none_meant others same v (inr (vs, values, is)) = lacks.no_values vs (values_agree (kinds_of ds) marks others 0 ss vs (λ i less. sym (same i (omega (arith, less)))) values)
 
   none_told : All IsToldBy ds → ⊥
   none_told all =
-      let at = unmapped (λ (d : State). d.kind) ds no.driver.0 no.driver.1 no.driver.2 in
-      subst IsSome (ap (λ (k : DriverKind). k.stored) at.2 ∙ no.driver.3) (at_all IsToldBy ds no.driver.0 at.0 all at.1)
+      let at = unmapped (λ (d : State). d.kind) ds lacks.driver.0 lacks.driver.1 lacks.driver.2 in
+      let told : IsSome {T = List ℕ → Ty → Stored} None = subst IsSome (ap (λ (k : DriverKind). k.stored) at.2 ∙ lacks.driver.3) (at_all IsToldBy ds lacks.driver.0 at.0 all at.1) in cc
+
+some_rose : (count : State → ℕ) (old new : List State) → sources.SomeRose count old new → SomeRose count old new
+some_rose count old new (i, (a, b, at, then, rose)) = (i, a, b, at, then, rose)
 
 -- ---- attaching was refused
 
@@ -228,12 +233,12 @@ module _ (ss : List Source) (marks : ℕ → Bool) (first : Option ℕ) (program
 
   refused_ends : Ends (λ others. IsMeant (kinds_of ds) ss others first program exp) ss marks (purpose.Run first) (Some (fault_of e.source e.error)) ds mid out out
   refused_ends = elim c.cause [
-    | inl (inl h) ↦ before refl (λ told. subst (λ d. IsTold (Some (fault_of e.source d))) h.0 told) (λ v. reading (ap (λ d. Some (fault_of e.source d)) h.0) (inr h.1))
+    | inl (inl h) ↦ before refl (λ told. subst (λ d. IsTold (Some (fault_of e.source d))) h.0 told) (λ v. reading (ap (λ d. Some (fault_of e.source d)) h.0) (inr (some_rose (λ d. d.faults) ds mid h.1)))
     | inl (inr h) ↦ before refl (λ told. subst (λ d. IsTold (Some (fault_of e.source d))) h told) (λ v. wanting (ap (λ d. Some (fault_of e.source d)) h))
     | inr (marked, inl (w, of, at, inl without)) ↦ followed (refused (fault_of e.source e.error)) (inl (c.refused, w, fault_of e.source e.error, without, refused_by w of, refl))
       (follows_prints (refused (fault_of e.source e.error)) (Some (fault_of e.source e.error)) out out (prints_refused (fault_of e.source e.error) out) ds mid)
-    | inr (marked, inl (w, of, at, inr no)) ↦ untold (none_meant ss marks first program exp ds no) (none_told ss marks first program exp ds no) (needs_drivers e.source first e.error)
-    | inr (marked, inr (unreadable, at, no, rose)) ↦ untold (none_meant ss marks first program exp ds no) (none_told ss marks first program exp ds no) (needs_drivers e.source first e.error)
+    | inr (marked, inl (w, of, at, inr lacks)) ↦ untold (none_meant ss marks first program exp ds lacks) (none_told ss marks first program exp ds lacks) (needs_drivers e.source first e.error)
+    | inr (marked, inr (unreadable, at, lacks, rose)) ↦ untold (none_meant ss marks first program exp ds lacks) (none_told ss marks first program exp ds lacks) (needs_drivers e.source first e.error)
   ]
 
   refused_is : IsRefused (fault_of e.source e.error)
@@ -241,7 +246,7 @@ module _ (ss : List Source) (marks : ℕ → Bool) (first : Option ℕ) (program
     | inl (inl h) ↦ subst (λ d. IsRefused (fault_of e.source d)) (sym h.0) tt
     | inl (inr h) ↦ subst (λ d. IsRefused (fault_of e.source d)) (sym h) tt
     | inr (marked, inl (w, of, at, rest)) ↦ error_refused e.source w e.error of
-    | inr (marked, inr (unreadable, at, no, rose)) ↦ unread_refused (fault_of e.source e.error) (unreadable_unread e.source e.error unreadable)
+    | inr (marked, inr (unreadable, at, lacks, rose)) ↦ unread_refused (fault_of e.source e.error) (unreadable_unread e.source e.error unreadable)
   ]
 
   refused_never : (f : Fault) → Some (fault_of e.source e.error) ≡ Some f → (IsRefused f → ⊥) → ⊥
@@ -249,10 +254,10 @@ module _ (ss : List Source) (marks : ℕ → Bool) (first : Option ℕ) (program
 
   refused_read : Some (fault_of e.source e.error) ≡ Some fault.Read → IsStored (kinds_of ds) fault.Read ⊎ SomeRose (λ d. d.faults) ds mid
   refused_read is = elim c.cause [
-    | inl (inl h) ↦ inr h.1
+    | inl (inl h) ↦ inr (some_rose (λ d. d.faults) ds mid h.1)
     | inl (inr h) ↦ absurd (let two : fault.NoMemory ≡ fault.Read = ap (fault_of e.source) (sym h) ∙ some_same is in cc)
     | inr (marked, inl (w, of, at, rest)) ↦ inl (c.refused, w, at, refused_by w of ∙ is)
-    | inr (marked, inr (unreadable, at, no, rose)) ↦ absurd (subst IsUnread (some_same is) (unreadable_unread e.source e.error unreadable))
+    | inr (marked, inr (unreadable, at, lacks, rose)) ↦ absurd (subst IsUnread (some_same is) (unreadable_unread e.source e.error unreadable))
   ]
 
   refused_unread : (f : Fault) → Some (fault_of e.source e.error) ≡ Some f → IsUnread f → IsStored (kinds_of ds) f ⊎ SomeRose (λ d. d.unread) ds mid
@@ -260,7 +265,7 @@ module _ (ss : List Source) (marks : ℕ → Bool) (first : Option ℕ) (program
     | inl (inl h) ↦ absurd (subst IsUnread (sym (some_same is) ∙ ap (fault_of e.source) h.0) un)
     | inl (inr h) ↦ absurd (subst IsUnread (sym (some_same is) ∙ ap (fault_of e.source) h) un)
     | inr (marked, inl (w, of, at, rest)) ↦ inl (c.refused, w, at, refused_by w of ∙ is)
-    | inr (marked, inr (unreadable, at, no, rose)) ↦ inr (c.refused.driver, rose)
+    | inr (marked, inr (unreadable, at, lacks, rose)) ↦ inr (some_rose (λ d. d.unread) ds mid (c.refused.driver, rose))
   ]
 
   pub attach_refused : EachSteps (MayAttach marks ss) ds mid → DoneMeaning ss marks first program exp (Some (fault_of e.source e.error)) ds mid out out
@@ -465,12 +470,12 @@ module _ (ss : List Source) (program : Decls) (e : Exp) (typed : Typed) (infers 
   answered_ends : ((vs : List (Name × Value)) × HaveValues (kinds_of ds) marks 0 ss vs) ⊎ NoVerdict (kinds_of ds) marks ss → Ends (λ others. IsMeant (kinds_of ds) ss others first program e) ss marks (purpose.Run first) end ds last out out'
   answered_ends (inl (vs, have)) =
       let inhabit : HaveTypesByName (grounds_of ss) vs =
-          values_typed (kinds_of ds) marks 0 ss vs (λ i s at. (of_all (IsFit (kinds_of ds)) ss i s placed.fit at).2.collection) (λ i s at marked. (stand i s at marked).typed) have in
+          values_typed (kinds_of ds) marks 0 ss vs (λ i s at. (of_all (IsFit (kinds_of ds)) ss i s placed.fit at).2.collection) (λ i s at marked. (stand i s at (ap marks (sym (zero-add i)) ∙ marked)).typed) have in
       let found = answers.follows (sources_have ss program e typed infers tidy names kept t is (kinds_of ds) marks w serves means vs have inhabit) in
       let meant : IsOutcome listed first (meaning_of_program program e vs) found.0 = subst (λ o. IsOutcome listed first o found.0) (core_is ss program e typed infers tidy names kept t is (kinds_of ds) marks w serves means vs have inhabit) found.1 in
       followed found.0 (inr (vs, have, outcome_is ss program e typed infers listed of other first (meaning_of_program program e vs) found.0 meant))
       (follows_since (IsNamed ss marks) ds w.drivers last kept_first found.0 end out out' found.2)
-  answered_ends (inr no) = untold (none_meant ss marks first program e ds no) (none_told ss marks first program e ds no) (run_needs first end answers.no_other)
+  answered_ends (inr lacks) = untold (none_meant ss marks first program e ds lacks) (none_told ss marks first program e ds lacks) (run_needs first end answers.no_other)
 
   pub term_done : ((vs : List (Name × Value)) × HaveValues (kinds_of ds) marks 0 ss vs) ⊎ NoVerdict (kinds_of ds) marks ss → DoneMeaning ss marks first program e end ds last out out'
   term_done values = record {

@@ -143,7 +143,7 @@ found_wrong names text ts us vs k byte tokens same also place is =
 pub found_program : (names : List Name) (text : List ℕ) (ts us : List Token) (p : Program) (s : Scoped) → Tokens text ts → us ≡ ts → IsProgram us p → Resolves p names s → Reads names text (Ok s)
 found_program names text ts us p s tokens same reads resolves = (p, record { tokens = ts; lexed = tokens; spelled = subst (λ r. IsProgram r p) same reads; in_scope = resolves.in_scope }, resolves)
 
-found_breach : (text : List ℕ) (ts us vs : List Token) (p : Program) (e : ScopeError) → Tokens text ts → us ≡ ts → vs ≡ ts → IsProgram us p → IsRefusal p names e → Reads names text (Err (scope_fault vs (length text) e))
+found_breach : (names : List Name) (text : List ℕ) (ts us vs : List Token) (p : Program) (e : ScopeError) → Tokens text ts → us ≡ ts → vs ≡ ts → IsProgram us p → IsRefusal p names e → Reads names text (Err (scope_fault vs (length text) e))
 found_breach names text ts us vs p (Unknown name token) tokens same also reads first = inr (inl (ts, tokens, inl (p, Unknown name token, subst (λ r. IsProgram r p) same reads, tt, first, ap (λ r. scope_fault r (length text) (Unknown name token)) also)))
 found_breach names text ts us vs p (Twice name token) tokens same also reads first = inr (inl (ts, tokens, inl (p, Twice name token, subst (λ r. IsProgram r p) same reads, tt, first, ap (λ r. scope_fault r (length text) (Twice name token)) also)))
 found_breach names text ts us vs p (Misapplied name token) tokens same also reads first = inr (inl (ts, tokens, inl (p, Misapplied name token, subst (λ r. IsProgram r p) same reads, tt, first, ap (λ r. scope_fault r (length text) (Misapplied name token)) also)))

@@ -23,4 +23,4 @@ module _ {A : Type 0} (f : A → State) (xs : List A) where
       omega (arith, was, is, whole, single)
 
   pub handed_all : (i now : ℕ) → length xs ≤ i → now ≡ handed_by (map f (take i xs)) → now ≡ handed_by (map f xs)
-  handed_all i now all was = was ∙ ap (λ ys. handed_by (map f ys)) (take_all xs i all)
+  handed_all i now all was = was ∙ ap (λ ys. handed_by (map f ys)) (take_all i xs all)

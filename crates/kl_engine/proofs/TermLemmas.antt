@@ -69,7 +69,7 @@ module _ (t : Tree) (env : List Value) (closed : env ≡ []) (first : Option ℕ
     pub value_driver : (x : Name) (d : DriverError) → e ≡ stop.Driver x d → GivesValue (Some (fault_of x d)) out out
     value_driver x d is =
         term_stopped (IsValueOutcome first (core (values_of a) t [])) (HaveSources (types_of a) (values_of a)) a.drivers b.drivers (quiet_keeps a.drivers b.drivers found.moved.drivers)
-        (fault_of x d) out (cause_stops x d a b (subst (λ r. Caused (Err {X = Value} r) a b) is found.cause)) (λ told. value_verdict first (core (values_of a) t []) (found.sense told))
+        (fault_of x d) out (cause_stops x d a b (subst (λ r. Caused {A = Value} (Err r) a b) is found.cause)) (λ told. value_verdict first (core (values_of a) t []) (found.sense told))
 
     pub value_wanted : GivesValue (Some fault.NoMemory) out out
     value_wanted =
@@ -98,7 +98,7 @@ module _ (t : Tree) (env : List Value) (closed : env ≡ []) (first : Option ℕ
       pub list_driver : (out : SinkState) (x : Name) (d : DriverError) → e ≡ stop.Driver x d → GivesList (Some (fault_of x d)) out out
       list_driver out x d is =
           term_stopped (IsListOutcome first (core (values_of a) t [])) (HaveSources (types_of a) (values_of a)) a.drivers b.drivers (quiet_keeps a.drivers b.drivers found_list.moved.drivers)
-          (fault_of x d) out (cause_stops x d a b (subst (λ r. Caused (Err {X = Unit {0}} r) a b) is found_list.cause)) (λ told. list_verdict first (core (values_of a) t []) (found_list.sense told))
+          (fault_of x d) out (cause_stops x d a b (subst (λ r. Caused {A = Unit {0}} (Err r) a b) is found_list.cause)) (λ told. list_verdict first (core (values_of a) t []) (found_list.sense told))
 
       pub list_wanted : (out : SinkState) → GivesList (Some fault.NoMemory) out out
       list_wanted out =

@@ -137,7 +137,7 @@ fn answer_term<S: Sink>(
 ) -> Result<(), Fault>
     requires sense { Sense (term_view term.now) [] (⟦<Session as Seen>⟧.world session.old) }
     requires list { is_list ≡ true → SenseList (term_view term.now) [] (⟦<Session as Seen>⟧.world session.old) }
-    ensures prints { AnswersTerm (IsOutcome is_list first (core (values_of (⟦<Session as Seen>⟧.world session.old)) (term_view term.now) [])) (HaveSources (types_of (⟦<Session as Seen>⟧.world session.old)) (values_of (⟦<Session as Seen>⟧.world session.old))) (ending result) (map (λ d. (Driver-box d).state d.value) session.old.drivers.items) (map (λ d. (Driver-box d).state d.value) session.new.drivers.items) (S.state out.old) (S.state out.new) }
+    ensures prints { AnswersTerm (IsOutcome is_list first (core (values_of (⟦<Session as Seen>⟧.world session.old)) (term_view term.now) [])) (HaveSources (types_of (⟦<Session as Seen>⟧.world session.old)) (values_of (⟦<Session as Seen>⟧.world session.old))) (ending result) (⟦<Session as Seen>⟧.world session.old).drivers (⟦<Session as Seen>⟧.world session.new).drivers (S.state out.old) (S.state out.new) }
     ensures rest { Moved (⟦<Session as Seen>⟧.world session.old) (⟦<Session as Seen>⟧.world session.new) }
 {
     if is_list {
@@ -185,7 +185,7 @@ fn answer_list<S: Sink>(
     out: &mut S,
 ) -> Result<(), Fault>
     requires { SenseList (term_view term.now) [] (⟦<Session as Seen>⟧.world session.old) }
-    ensures prints { AnswersTerm (IsListOutcome first (core (values_of (⟦<Session as Seen>⟧.world session.old)) (term_view term.now) [])) (HaveSources (types_of (⟦<Session as Seen>⟧.world session.old)) (values_of (⟦<Session as Seen>⟧.world session.old))) (ending result) (map (λ d. (Driver-box d).state d.value) session.old.drivers.items) (map (λ d. (Driver-box d).state d.value) session.new.drivers.items) (S.state out.old) (S.state out.new) }
+    ensures prints { AnswersTerm (IsListOutcome first (core (values_of (⟦<Session as Seen>⟧.world session.old)) (term_view term.now) [])) (HaveSources (types_of (⟦<Session as Seen>⟧.world session.old)) (values_of (⟦<Session as Seen>⟧.world session.old))) (ending result) (⟦<Session as Seen>⟧.world session.old).drivers (⟦<Session as Seen>⟧.world session.new).drivers (S.state out.old) (S.state out.new) }
     ensures rest { Moved (⟦<Session as Seen>⟧.world session.old) (⟦<Session as Seen>⟧.world session.new) }
 {
     let mut env = Vec::new(alloc);
@@ -207,7 +207,7 @@ fn answer_value<S: Sink>(
     out: &mut S,
 ) -> Result<(), Fault>
     requires { Sense (term_view term.now) [] (⟦<Session as Seen>⟧.world session.old) }
-    ensures prints { AnswersTerm (IsValueOutcome first (core (values_of (⟦<Session as Seen>⟧.world session.old)) (term_view term.now) [])) (HaveSources (types_of (⟦<Session as Seen>⟧.world session.old)) (values_of (⟦<Session as Seen>⟧.world session.old))) (ending result) (map (λ d. (Driver-box d).state d.value) session.old.drivers.items) (map (λ d. (Driver-box d).state d.value) session.new.drivers.items) (S.state out.old) (S.state out.new) }
+    ensures prints { AnswersTerm (IsValueOutcome first (core (values_of (⟦<Session as Seen>⟧.world session.old)) (term_view term.now) [])) (HaveSources (types_of (⟦<Session as Seen>⟧.world session.old)) (values_of (⟦<Session as Seen>⟧.world session.old))) (ending result) (⟦<Session as Seen>⟧.world session.old).drivers (⟦<Session as Seen>⟧.world session.new).drivers (S.state out.old) (S.state out.new) }
     ensures rest { Moved (⟦<Session as Seen>⟧.world session.old) (⟦<Session as Seen>⟧.world session.new) }
 {
     let mut env = Vec::new(alloc);
