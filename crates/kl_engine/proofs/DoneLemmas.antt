@@ -246,6 +246,14 @@ text_wanted ss p text ds out = record {
   still = λ is. refl;
 }
 
+-- what was inferred over the same sources
+pub types_sources : (us ss : List Source) (program : Decls) (e : Exp) (r : Result Typed Fault) → us ≡ ss → Types (grounds_of us) program e r → Types (grounds_of ss) program e r
+types_sources us ss program e r same types = subst (λ xs. Types (grounds_of xs) program e r) same types
+
+-- what was read over names that are those of the sources
+pub reads_names : (us names : List Name) (ss : List Source) (text : List ℕ) (r : Result Scoped Fault) → us ≡ names → names ≡ names_of ss → Reads us text r → Reads (names_of ss) text r
+reads_names us names ss text r same is reads = subst (λ ns. Reads ns text r) (same ∙ is) reads
+
 pub unread : (ss : List Source) (p : Purpose) (text : List ℕ) (f : Fault) (ds : List State) (out : SinkState) → Reads (names_of ss) text (Err f) → DoesText ss p text (Some f) ds ds out out
 unread ss p text f ds out (inl is) = subst (λ g. DoesText ss p text (Some g) ds ds out out) (sym is) (text_wanted ss p text ds out)
 unread ss p text f ds out (inr of) = does_text ss p text (refused f) (Some f) ds out out (inl (f, of, refl)) (any_fault IsPlain (λ w byte. tt) tt (names_of ss) text f of) (prints_refused f out)

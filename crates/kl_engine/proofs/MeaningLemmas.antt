@@ -1,5 +1,5 @@
 -- What a run of a program with a typing comes to: what attaching its sources answers, and then the outcome of its term.
-use Rattle.std.proofs.Common.{◌≡◌, ◌≢◌, ◌⊎◌, inl, inr, ℕ, zero, suc, ◌+◌, ◌<◌, ◌≤◌, Bool, true, false, List, [], ◌∷◌, length, map, Option, Some, None, IsSome, refl, sym, ap, subst, ◌∙◌, arith, slice_get, add-zero, zero-add}
+use Rattle.std.proofs.Common.{◌≡◌, ◌≢◌, ◌⊎◌, inl, inr, ℕ, zero, suc, ◌+◌, ◌<◌, ◌≤◌, Bool, true, false, List, [], ◌∷◌, length, map, Option, Some, None, IsSome, Result, Ok, Err, Vec, refl, sym, ap, subst, ◌∙◌, arith, slice_get, add-zero, zero-add}
 use Rattle.std.specs.Prelude.{All, ⊤}
 use Rattle.std.specs.List.{AllByRecursion}
 use Rattle.std.proofs.lemmas.List.Elements.{All-head, All-tail}
@@ -39,12 +39,16 @@ use Rattle.kl_ask.specs.Asks.{item_of, kind_of}
 use Rattle.kl_ask.specs.Driver.{DriverKind, State, Keeps, IsColl, Stored, Missing, Bad, Long, Deep, Rows, IsTold as IsToldBy}
 use Rattle.kl_ask.specs.Lists.{EachSteps}
 use Rattle.kl_ask.specs.World.{World, types_of, values_of}
+use Rattle.std.specs.declared.alloc.Global.{Global}
+use Rattle.kl_ask.specs.declared.session.Attached.{Attached}
+use Rattle.kl_ask.specs.declared.settings.Settings.{Settings}
+use Rattle.kl_ask.specs.declared.settings.Trace.{Trace}
 use Rattle.kl_ask.specs.declared.ask.DriverError.{DriverError}
 use Rattle.kl_ask.specs.declared.ask.DriverError.TheVariants as error
 use Rattle.kl_ask.proofs.Whole.{collection_is}
 use Rattle.kl_ask.proofs.Worlds.{fun_ext, some_same, there, keeps_then}
 use Rattle.kl_eval.specs.Evals.{Sense, SenseList}
-use Rattle.kl_sources.specs.Attaching.{HaveNone, IsErrorOf, IsUnreadable, IsMishap, NoVerdict, MayAttach, IsMarkedName, StandsWithout, Causes, Serves, Stands, HasTyped}
+use Rattle.kl_sources.specs.Attaching.{HaveNone, AttachesAll, world_of, IsErrorOf, IsUnreadable, IsMishap, NoVerdict, MayAttach, IsMarkedName, StandsWithout, Causes, Serves, Stands, HasTyped}
 use Rattle.kl_sources.specs.Attaching as sources
 use Rattle.kl_sources.specs.Sources.{ArePlaced, IsFit, names_of, grounds_of, contents, empty_of, value_of, IsValueAt, HaveValues, IsReadable, FirstWithout}
 use Rattle.kl_sources.specs.declared.attaching.AttachError.{AttachError}
@@ -489,3 +493,33 @@ module _ (ss : List Source) (program : Decls) (e : Exp) (typed : Typed) (infers 
     drivers = keeps_through (IsNamed ss marks) ds w.drivers last kept_first answers.drivers;
     still = λ none. absurd (none tt);
   }
+
+-- ---- a session of the sources
+
+-- drivers that were taken out of a place are those that stood there
+pub attaches_same : {A : Type 0} (f : A → State) (xs ys : Vec A Global) (marks : ℕ → Bool) (ss : List Source) (r : Result (List Attached) AttachError) (ds : List State) → xs ≡ ys → AttachesAll marks ss r ds (map f ys.items) → AttachesAll marks ss r ds (map f xs.items)
+attaches_same f xs ys marks ss r ds same attaches = subst (λ zs. AttachesAll marks ss r ds (map f zs.items)) (sym same) attaches
+
+module _ (ss : List Source) (s : Scoped) (scope : WasInScope (names_of ss) s) (typed : Typed) (infers : Infers (decls_of s.program.defs) (view s.program.last) (grounds_of ss) typed) (t : Tree) (is : t ≡ term_of (decls_of s.program.defs) (view s.program.last) s.sources)
+    (ds mid : List State) (list : List Attached) (attaches : AttachesAll (is_marked s) ss (Ok list) ds mid) (settings : Settings) (trace : Trace) (fetch : 0 < settings.fetch) where
+  session_serves : Serves (kinds_of ds) (is_marked s) ss (world_of mid list settings trace)
+  session_serves = attaches.ready settings trace fetch
+
+  pub session_sense : Sense t [] (world_of mid list settings trace)
+  session_sense = value_sense ss (decls_of s.program.defs) (view s.program.last) typed infers (tidied (names_of ss) s scope) s.sources scope.1.sources_kept t is (kinds_of ds) (is_marked s) (world_of mid list settings trace) session_serves
+
+  module _ (listed : Bool) (of : listed ≡ true → IsListScheme typed.result) where
+    pub session_list : listed ≡ true → SenseList t [] (world_of mid list settings trace)
+    session_list true_is =
+        list_sense ss (decls_of s.program.defs) (view s.program.last) typed infers (tidied (names_of ss) s scope) s.sources scope.1.sources_kept t is (kinds_of ds) (is_marked s) (world_of mid list settings trace) session_serves (of true_is)
+
+    pub session_done : (means : Means (decls_of s.program.defs) (view s.program.last) s.sources t) (placed : ArePlaced (kinds_of ds) ss) (other : listed ≡ false → IsListScheme typed.result → ⊥) (first : Option ℕ) (end : Ending) (last : List State) (out out' : SinkState)
+        → AnswersTerm (IsOutcome listed first (core (values_of (world_of mid list settings trace)) t [])) (HaveSources (types_of (world_of mid list settings trace)) (values_of (world_of mid list settings trace))) end mid last out out'
+        → DoneMeaning ss (is_marked s) first (decls_of s.program.defs) (view s.program.last) end ds last out out'
+    session_done means placed other first end last out out' answers =
+        term_done ss (decls_of s.program.defs) (view s.program.last) typed infers (tidied (names_of ss) s scope) s.sources scope.1.sources_kept t is means ds (is_marked s) (world_of mid list settings trace) session_serves placed attaches.drivers
+        attaches.stand listed of other first end last out out' answers attaches.values
+
+pub attach_failed : (ss : List Source) (marks : ℕ → Bool) (first : Option ℕ) (program : Decls) (exp : Exp) (ds mid : List State) (out : SinkState) (e : AttachError) (f : Fault) → AttachesAll marks ss (Err e) ds mid → f ≡ fault_of e.source e.error → DoneMeaning ss marks first program exp (Some f) ds mid out out
+attach_failed ss marks first program exp ds mid out e f attaches same =
+    subst (λ g. DoneMeaning ss marks first program exp (Some g) ds mid out out) (sym same) (attach_refused ss marks first program exp ds mid out e attaches.cause attaches.drivers)

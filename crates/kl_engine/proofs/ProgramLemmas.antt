@@ -22,6 +22,10 @@ use Rattle.kl_engine.proofs.DriverLemmas.{keeps_same, keeps_wider}
 use Rattle.kl_engine.proofs.FairLemmas.{IsOfVerdict, fair_text}
 use Rattle.kl_engine.proofs.InputLemmas.{inputs_one, inputs_well, inputs_fault_one, inputs_verdict}
 
+-- what is done with a text is done with the same text
+pub does_same : (ss us : List Source) (p : Purpose) (text other : List ℕ) (end : Ending) (ds ds' : List State) (out out' : SinkState) → us ≡ ss → other ≡ text → DoesText us p other end ds ds' out out' → DoesText ss p text end ds ds' out out'
+does_same ss us p text other end ds ds' out out' same also does = subst (λ xs. DoesText xs p text end ds ds' out out') same (subst (λ bs. DoesText us p bs end ds ds' out out') also does)
+
 -- a fault of the outside, where a file failed too
 outside_also : (FilesRose : Type 0) (v : Verdict) (end : Ending) (ds ds' : List State) (out out' : SinkState) → IsOutside ⊥ v end ds ds' out out' → IsOutside FilesRose v end ds ds' out out'
 outside_also FilesRose v end ds ds' out out' (reading is (inl none)) = absurd none

@@ -1,9 +1,9 @@
 -- What the evaluator's answers tell of a term without free positions.
-use Rattle.std.proofs.Common.{◌≡◌, ℕ, List, [], reverse, Option, Some, Result, Ok, Err, ap, subst}
+use Rattle.std.proofs.Common.{◌≡◌, ℕ, List, [], reverse, Option, Some, Bool, true, false, Result, Ok, Err, sym, ap, subst}
 use Rattle.kl_outside.specs.Sinks.{SinkState}
 use Rattle.kl_value.specs.declared.Value.{Value}
 use Rattle.kl_value.specs.declared.Value.TheVariants as value
-use Rattle.kl_outcome.specs.Outcome.{Name}
+use Rattle.kl_outcome.specs.Outcome.{Name, Outcome}
 use Rattle.kl_core.specs.Core.{core}
 use Rattle.kl_core.specs.Trees.{Tree}
 use Rattle.kl_core.specs.Typing.{HaveSources}
@@ -18,8 +18,9 @@ use Rattle.kl_eval.specs.declared.stop.EvalStop.{EvalStop}
 use Rattle.kl_eval.specs.declared.stop.EvalStop.TheVariants as stop
 use Rattle.kl_engine.specs.Answering.{KeepsDrivers, Prints}
 use Rattle.kl_engine.specs.Faults.{Ending}
-use Rattle.kl_engine.specs.Running.{AnswersTerm, IsListOutcome, IsValueOutcome, fault_of}
+use Rattle.kl_engine.specs.Running.{AnswersTerm, IsOutcome, IsListOutcome, IsValueOutcome, fault_of}
 use Rattle.kl_engine.specs.Verdict.{value_page, refused, cut, cut_list, suffice}
+use Rattle.kl_engine.specs.declared.fault.Fault.{Fault}
 use Rattle.kl_engine.specs.declared.fault.Fault.TheVariants as fault
 use Rattle.kl_engine.proofs.AnswerLemmas.{IsStopped, term_stopped, term_printed, cut_end, list_verdict, value_verdict, value_is, value_past, list_is, list_cut}
 use Rattle.kl_engine.proofs.PageLemmas.{prints_refused}
@@ -71,6 +72,9 @@ module _ (t : Tree) (env : List Value) (closed : env ≡ []) (first : Option ℕ
         term_stopped (IsValueOutcome first (core (values_of a) t [])) (HaveSources (types_of a) (values_of a)) a.drivers b.drivers (quiet_keeps a.drivers b.drivers found.moved.drivers)
         (fault_of x d) out (cause_stops x d a b (subst (λ r. Caused {A = Value} (Err r) a b) is found.cause)) (λ told. value_verdict first (core (values_of a) t []) (found.sense told))
 
+    pub value_failed : (x : Name) (d : DriverError) (f : Fault) → e ≡ stop.Driver x d → f ≡ fault_of x d → GivesValue (Some f) out out
+    value_failed x d f is same = subst (λ g. GivesValue (Some g) out out) (sym same) (value_driver x d is)
+
     pub value_wanted : GivesValue (Some fault.NoMemory) out out
     value_wanted =
         term_stopped (IsValueOutcome first (core (values_of a) t [])) (HaveSources (types_of a) (values_of a)) a.drivers b.drivers (quiet_keeps a.drivers b.drivers found.moved.drivers)
@@ -100,7 +104,19 @@ module _ (t : Tree) (env : List Value) (closed : env ≡ []) (first : Option ℕ
           term_stopped (IsListOutcome first (core (values_of a) t [])) (HaveSources (types_of a) (values_of a)) a.drivers b.drivers (quiet_keeps a.drivers b.drivers found_list.moved.drivers)
           (fault_of x d) out (cause_stops x d a b (subst (λ r. Caused {A = Unit {0}} (Err r) a b) is found_list.cause)) (λ told. list_verdict first (core (values_of a) t []) (found_list.sense told))
 
+      pub list_failed : (out : SinkState) (x : Name) (d : DriverError) (f : Fault) → e ≡ stop.Driver x d → f ≡ fault_of x d → GivesList (Some f) out out
+      list_failed out x d f is same = subst (λ g. GivesList (Some g) out out) (sym same) (list_driver out x d is)
+
       pub list_wanted : (out : SinkState) → GivesList (Some fault.NoMemory) out out
       list_wanted out =
           term_stopped (IsListOutcome first (core (values_of a) t [])) (HaveSources (types_of a) (values_of a)) a.drivers b.drivers (quiet_keeps a.drivers b.drivers found_list.moved.drivers)
           fault.NoMemory out tt (λ told. list_verdict first (core (values_of a) t []) (found_list.sense told))
+
+-- ---- either
+
+module _ (listed : Bool) (first : Option ℕ) (o : Outcome) (told : Type 0) (end : Ending) (ds ds' : List State) (out out' : SinkState) where
+  pub as_list : listed ≡ true → AnswersTerm (IsListOutcome first o) told end ds ds' out out' → AnswersTerm (IsOutcome listed first o) told end ds ds' out out'
+  as_list is answers = subst (λ b. AnswersTerm (IsOutcome b first o) told end ds ds' out out') (sym is) answers
+
+  pub as_value : listed ≡ false → AnswersTerm (IsValueOutcome first o) told end ds ds' out out' → AnswersTerm (IsOutcome listed first o) told end ds ds' out out'
+  as_value is answers = subst (λ b. AnswersTerm (IsOutcome b first o) told end ds ds' out out') (sym is) answers

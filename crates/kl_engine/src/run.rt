@@ -99,7 +99,7 @@ fn answer<S: Sink>(
     out: &mut S,
 ) -> Result<(), Fault>
     requires scope { WasInScope (names_of sources.items) scoped.now }
-    requires types { Infers (grounds_of sources.items) (decls_of scoped.now.program.defs) (view scoped.now.program.last) typed.now }
+    requires types { Infers (decls_of scoped.now.program.defs) (view scoped.now.program.last) (grounds_of sources.items) typed.now }
     requires placed { ArePlaced (kinds_of (map (λ d. (Driver-box d).state d.value) drivers.old.items)) sources.items }
     requires idle { All IsIdle (map (λ d. (Driver-box d).state d.value) drivers.old.items) }
     requires fetch { 0 < how.settings.fetch }
