@@ -1,5 +1,5 @@
 -- What the top call does where no program is read: words that name no command, want of memory, and a file that is shown.
-use Rattle.std.proofs.Common.{◌≡◌, ◌⊎◌, inl, inr, ℕ, Bool, true, false, List, [], Option, Some, None, refl, sym, ap, subst, ◌∙◌}
+use Rattle.std.proofs.Common.{◌≡◌, ◌⊎◌, inl, inr, ℕ, List, [], Option, Some, None, refl, sym, ap, subst, ◌∙◌}
 use Rattle.std.specs.Bool.{⊤}
 use Rattle.std.specs.Io.KnownBytes.{append_known}
 use Rattle.kl_exchange.specs.FileItems.{FileEnd, WholeText, BadAt, TooDeepAt, PastLimit}
@@ -9,13 +9,11 @@ use Rattle.kl_outside.specs.Sinks.{SinkState}
 use Rattle.kl_outside.proofs.SinkLemmas.{took_none, append_known-nil}
 use Rattle.kl_outcome.specs.Outcome.{Name}
 use Rattle.kl_ask.specs.Driver.{DriverKind, State}
-use Rattle.kl_ask.specs.declared.settings.Trace.{Trace}
 use Rattle.kl_engine.specs.Answering.{kinds_of, one, IsOutside, reading, writing, wanting, Follows, Does, IsMentioned, UnreadCause, IsUnread, IsOneOf, HasFault}
 use Rattle.kl_words.specs.declared.command.Command.{Command as Read}
-use Rattle.kl_engine.specs.Commands.{Command, Neither, Program, Show, asked, wants_stats, path_of}
-use Rattle.kl_engine.specs.Faults.{Ending, TookLine, fault_line}
+use Rattle.kl_engine.specs.Commands.{Command, Neither, Program, Show, asked}
+use Rattle.kl_engine.specs.Faults.{Ending}
 use Rattle.kl_engine.specs.Showing.{FollowsFile, DoesShow}
-use Rattle.kl_engine.specs.Stats.{told_text}
 use Rattle.kl_engine.specs.Verdict.{Verdict, refused, end_fault, IsShowing, IsFile, IsVerdict}
 use Rattle.kl_engine.specs.declared.fault.Fault.{Fault}
 use Rattle.kl_engine.specs.declared.fault.Fault.TheVariants as fault
@@ -142,32 +140,15 @@ show_does path end f f' ds out out' shows = record {
   closed = record { left = shows.left; told = shows.told; drivers = keeps_same (λ name. ⊤) ds; still = λ is. refl; mentioned = λ told is. keeps_same (IsMentioned told (kinds_of ds) (Show path)) ds };
 }
 
--- where no counts are told, none matters
-pub told_still : (path : List ℕ) (end : Ending) (trace : Trace) (n m : ℕ) → told_text false path end trace n ≡ told_text false path end trace m
-told_still path None trace n m = refl
-told_still path (Some f) trace n m = refl
+-- what is done with a file is done with it under another name of the same path
+pub show_at : (path other : List ℕ) (end : Ending) (f f' : FilesState) (ds : List State) (out out' : SinkState) → other ≡ path → DoesShow other end f f' out out' → Does (Show path) end f f' ds ds out out'
+show_at path other end f f' ds out out' same shows = show_does path end f f' ds out out' (subst (λ p. DoesShow p end f f' out out') same shows)
 
 -- ---- words that name a command
 
 module _ (found : Option Read) (r : Read) (is : found ≡ Some r) where
   pub does_found : (end end' : Ending) (f f' : FilesState) (ds ds' : List State) (out out' : SinkState) → end ≡ end' → Does (asked (Some r)) end' f f' ds ds' out out' → Does (asked found) end f f' ds ds' out out'
   does_found end end' f f' ds ds' out out' same does = subst (λ e. Does (asked found) e f f' ds ds' out out') (sym same) (subst (λ o. Does (asked o) end' f f' ds ds' out out') (sym is) does)
-
-  module _ (path : List ℕ) (end end' : Ending) (trace : Trace) (n m : ℕ) (old new : SinkState) (there : path ≡ path_of (asked (Some r))) (same : end ≡ end') where
-    line_is : TookLine (told_text (wants_stats (Some r)) path end' trace m) old new → TookLine (told_text (wants_stats found) (path_of (asked found)) end trace m) old new
-    line_is took =
-        subst (λ o. TookLine (told_text (wants_stats o) (path_of (asked o)) end trace m) old new) (sym is)
-        (subst (λ e. TookLine (told_text (wants_stats (Some r)) (path_of (asked (Some r))) e trace m) old new) (sym same) (subst (λ p. TookLine (told_text (wants_stats (Some r)) p end' trace m) old new) there took))
-
-    pub line_found : n ≡ m → TookLine (told_text (wants_stats (Some r)) path end' trace n) old new → TookLine (told_text (wants_stats found) (path_of (asked found)) end trace m) old new
-    line_found count took = line_is (subst (λ k. TookLine (told_text (wants_stats (Some r)) path end' trace k) old new) count took)
-
-    -- no counts are told
-    pub line_other : wants_stats (Some r) ≡ false → TookLine (told_text false path end' trace n) old new → TookLine (told_text (wants_stats found) (path_of (asked found)) end trace m) old new
-    line_other none took = line_is (subst (λ b. TookLine (told_text b path end' trace m) old new) (sym none) (subst (λ text. TookLine text old new) (told_still path end' trace n m) took))
-
-  pub not_none : {A : Type 0} → found ≡ None → A
-  not_none none = absurd (let two : None ≡ Some r = sym none ∙ is in cc)
 
 -- words that name none
 module _ (found : Option Read) (is : found ≡ None) where
@@ -177,15 +158,3 @@ module _ (found : Option Read) (is : found ≡ None) where
 -- memory ran out, whatever the words name
 pub does_wanted : (found : Option Read) (end : Ending) (f : FilesState) (ds : List State) (out : SinkState) → end ≡ Some fault.NoMemory → Does (asked found) end f f ds ds out out
 does_wanted found end f ds out same = subst (λ e. Does (asked found) e f f ds ds out out) (sym same) (wanted_does (asked found) f ds out)
-
--- a fault's line does not rest on the path, but for that of a file that is shown
-fault_path : (stats : Bool) (path other : List ℕ) (end : Ending) (f : Fault) (trace : Trace) (n m : ℕ) (old new : SinkState) → ((p q : List ℕ) → fault_line p f ≡ fault_line q f) → end ≡ Some f → TookLine (told_text false path (Some f) trace n) old new → TookLine (told_text stats other end trace m) old new
-fault_path true path other end f trace n m old new free same took = subst (λ e. TookLine (told_text true other e trace m) old new) (sym same) (subst (λ text. TookLine text old new) (free path other) took)
-fault_path false path other end f trace n m old new free same took = subst (λ e. TookLine (told_text false other e trace m) old new) (sym same) (subst (λ text. TookLine text old new) (free path other) took)
-
-module _ (stats : Bool) (path other : List ℕ) (end : Ending) (trace : Trace) (n m : ℕ) (old new : SinkState) where
-  pub usage_line : end ≡ Some fault.Usage → TookLine (told_text false path (Some fault.Usage) trace n) old new → TookLine (told_text stats other end trace m) old new
-  usage_line = fault_path stats path other end fault.Usage trace n m old new (λ p q. refl)
-
-  pub wanted_line : end ≡ Some fault.NoMemory → TookLine (told_text false path (Some fault.NoMemory) trace n) old new → TookLine (told_text stats other end trace m) old new
-  wanted_line = fault_path stats path other end fault.NoMemory trace n m old new (λ p q. refl)

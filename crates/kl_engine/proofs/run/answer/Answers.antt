@@ -1,5 +1,6 @@
 use Rattle.std.proofs.Common.{refl}
 use Rattle.kl_scope.specs.Breaches.{is_marked}
+use Rattle.kl_syntax.specs.View.{view, decls_of}
 use Rattle.kl_engine.proofs.MeaningLemmas.{idle_none, attaches_same, session_sense, session_list, session_done, attach_failed}
 use Rattle.kl_engine.proofs.run.answer.Goals as goal
 
@@ -25,4 +26,4 @@ returns-in-Ok-attach_sources g c =
 
 pub returns-in-Ok : goal.returns-in-Ok
 returns-in-Ok g c =
-    attach_failed c.args.sources.items (is_marked c.args.scoped.now) _ _ _ _ _ _ c.in-Err-attach_sources.field-0 _ (c.in-Err-attach_sources.ensures (is_marked c.args.scoped.now) (λ i less. refl)) c.driver_fault.ensures
+    attach_failed c.args.sources.items (is_marked c.args.scoped.now) _ (decls_of c.args.scoped.now.program.defs) (view c.args.scoped.now.program.last) _ _ _ c.in-Err-attach_sources.field-0 _ (c.in-Err-attach_sources.ensures (is_marked c.args.scoped.now) (λ i less. refl)) c.driver_fault.ensures

@@ -9,7 +9,7 @@ returns-in-Err-Overflow-clause-prints g c = value_over _ _ c.new-env.ensures.ite
 
 pub returns-in-Err-Driver-clause-prints : goal.returns-in-Err-Driver-clause-prints
 returns-in-Err-Driver-clause-prints g c =
-    value_failed _ _ c.new-env.ensures.items _ _ _ _ _ c.in-Err-Driver.ensures.value _ _ _ c.in-Err-Driver.field-0-is c.driver_fault.ensures
+    value_failed _ _ c.new-env.ensures.items _ _ _ _ _ c.in-Err-Driver.ensures.value c.in-Err-Driver.source c.in-Err-Driver.error _ c.in-Err-Driver.field-0-is (rw c.in-Err-Driver.field-0-is at c.driver_fault.ensures)
 
 pub returns-clause-prints : goal.returns-clause-prints
 returns-clause-prints g c = value_wanted _ _ c.new-env.ensures.items _ _ _ _ _ c.in-Err-NoMemory.ensures.value
