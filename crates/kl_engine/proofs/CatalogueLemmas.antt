@@ -6,7 +6,7 @@ use Rattle.kl_lex.specs.Placing.{PlacedTokens, token_of}
 use Rattle.kl_lex.proofs.Placings.{one_list}
 use Rattle.kl_lex.proofs.Sequence.{one_lexing, refused_none}
 use Rattle.kl_type.specs.Reading.{byte_of}
-use Rattle.kl_catalogue.specs.Reading.{IsCatalogue, SpellsCatalogue, IsBadAt, IsDeepAt, AtBad, Refuses}
+use Rattle.kl_catalogue.specs.Reading.{IsCatalogue, SpellsCatalogue, IsBadAt, IsDeepAt, Refuses}
 use Rattle.kl_catalogue.specs.declared.reading.CatalogueError.TheVariants.{Bad, TooDeep}
 use Rattle.kl_catalogue.specs.declared.reading.Entry.{Entry}
 use Rattle.kl_catalogue.proofs.Answer.{unique, one_place}

@@ -1,7 +1,7 @@
 -- How a call ends that does what is asked for.
 use Rattle.std.proofs.Common.{◌≡◌, ◌⊎◌, inl, inr, ℕ, ◌<◌, nat_lt, if◌then◌else◌, Bool, true, false, List, [], ◌∷◌, codes, length, Option, Some, None, Result, Ok, Err, refl, sym, ap, subst, ◌∙◌, arith}
 use Rattle.std.proofs.lemmas.Option.{gets}
-use Rattle.std.specs.Prelude.{All, IsTrue, slice_get, ⊤}
+use Rattle.std.specs.Prelude.{All, slice_get, ⊤}
 use Rattle.std.specs.Io.KnownBytes.{append_known}
 use Rattle.kl_outside.specs.Counts.{Rose}
 use Rattle.kl_outside.specs.Sinks.{SinkState}
@@ -11,7 +11,7 @@ use Rattle.kl_outcome.specs.Outcome.{Name}
 use Rattle.kl_syntax.specs.Syntax.{Exp, Decls}
 use Rattle.kl_syntax.specs.View.{view, decls_of}
 use Rattle.kl_syntax.specs.declared.tree.Program.{Program}
-use Rattle.kl_scope.specs.Breaches.{Mentions, Resolves, is_marked}
+use Rattle.kl_scope.specs.Breaches.{Resolves, is_marked}
 use Rattle.kl_scope.specs.Limits.{Tells}
 use Rattle.kl_scope.specs.Sizes.{declared}
 use Rattle.kl_scope.specs.declared.counting.SizeBreach.{SizeBreach}
@@ -24,16 +24,15 @@ use Rattle.kl_rows.specs.declared.Scheme.{Scheme}
 use Rattle.kl_ask.specs.Driver.{State, IsTold as IsToldBy}
 use Rattle.kl_sources.specs.Sources.{names_of, grounds_of}
 use Rattle.kl_sources.specs.declared.source.Source.{Source}
-use Rattle.kl_engine.specs.Answering.{kinds_of, Alike, one, IsOutside, reading, writing, drifting, wanting, Follows, Prints, DoesText, IsTold, IsRun, IsOneOf, HasTextFault, IsTyping, IsUnread, NeedsDrivers, IsMentionedIn, PrintsNothing, KeepsDrivers}
+use Rattle.kl_engine.specs.Answering.{kinds_of, Alike, one, IsOutside, reading, writing, drifting, wanting, Follows, Prints, DoesText, IsTold, IsOneOf, HasTextFault, IsUnread, NeedsDrivers, IsMentionedIn, PrintsNothing}
 use Rattle.kl_engine.specs.Commands.{Program as AProgram}
 use Rattle.kl_engine.specs.Faults.{Ending}
-use Rattle.kl_engine.specs.Reading.{IsTextFault, IsProgramOf, definitions, last, Reads}
+use Rattle.kl_engine.specs.Reading.{IsProgramOf, definitions, last, Reads}
 use Rattle.kl_engine.specs.Running.{Ends, before, followed, untold, IsNamed, DoneBy, DoneWith, DoneMeaning}
 use Rattle.kl_engine.specs.Typing.{breach_fault, IsTypingFault, IsTyped, Types, TypesOfAny}
 use Rattle.kl_engine.specs.Verdict.{Verdict, well, refused, size_fault, AfterSizes, IsSized, IsUntyped, named_schemes, behind, scheme_lines, IsListing, IsMeant, IsDone, AreMarks, IsText, scheme_line}
 use Rattle.kl_engine.specs.declared.fault.Fault.{Fault}
 use Rattle.kl_engine.specs.declared.fault.Fault.TheVariants as fault
-use Rattle.kl_engine.specs.declared.fault.Wrong.{Wrong}
 use Rattle.kl_engine.specs.declared.top.Purpose.{Purpose}
 use Rattle.kl_engine.specs.declared.top.Purpose.TheVariants as purpose
 use Rattle.kl_engine.proofs.AlikeLemmas.{text_alike, marks_one}

@@ -1,14 +1,12 @@
 -- What reading the files of a command answers.
-use Rattle.std.proofs.Common.{◌≡◌, ◌⊎◌, inl, inr, ℕ, ◌<◌, ◌≤◌, List, [], length, Option, Some, None, Result, Ok, Err, Vec, refl, sym, ap, subst, ◌∙◌, arith}
+use Rattle.std.proofs.Common.{◌≡◌, ◌⊎◌, inl, inr, ℕ, List, [], Option, Some, None, Result, Ok, Err, Vec, refl, sym, ap, subst, ◌∙◌, arith}
 use Rattle.std.specs.declared.alloc.Global.{Global}
 use Rattle.std.specs.List.{IsDistinct}
 use Rattle.kl_outside.specs.Counts.{Rose}
 use Rattle.kl_outside.specs.Files.{FilesState, IsMissing, ReadsWhole}
-use Rattle.kl_outside.specs.declared.files.Whole.{Whole}
 use Rattle.kl_outside.specs.declared.files.Whole.TheVariants as whole
-use Rattle.kl_outside.specs.declared.stop.Stop.{Stop}
 use Rattle.kl_outside.specs.declared.stop.Stop.TheVariants as stop
-use Rattle.kl_outside.proofs.CountLemmas.{rose_before, rose_after}
+use Rattle.kl_outside.proofs.CountLemmas.{rose_after}
 use Rattle.kl_outside.proofs.FileLemmas.{was_there}
 use Rattle.kl_ask.specs.Driver.{DriverKind}
 use Rattle.kl_catalogue.specs.Reading.{IsCatalogue, Refuses}
@@ -21,10 +19,9 @@ use Rattle.kl_sources.specs.declared.placing.PlaceError.TheVariants as place
 use Rattle.kl_sources.specs.declared.source.Source.{Source}
 use Rattle.kl_engine.specs.Catalogues.{place_fault, IsCatalogueFault}
 use Rattle.kl_engine.specs.Inputs.{IsCatalogueEnd, IsSourcesEnd, IsInputsEnd, ReadsCatalogue, ReadsSources, ReadsInputs}
-use Rattle.kl_engine.specs.Verdict.{most_bytes, IsFileFault, IsSourcesFault, HasSources, IsInputsFault, HasInputs}
+use Rattle.kl_engine.specs.Verdict.{most_bytes, IsFileFault, IsSourcesFault}
 use Rattle.kl_engine.specs.declared.fault.Fault.{Fault}
 use Rattle.kl_engine.specs.declared.fault.Fault.TheVariants as fault
-use Rattle.kl_engine.specs.declared.inputs.Inputs.{Inputs}
 
 -- ---- the text of a catalogue
 

@@ -1,11 +1,10 @@
 -- The files of a command are one text and one list of sources, or go wrong in one way.
-use Rattle.std.proofs.Common.{◌≡◌, ◌⊎◌, inl, inr, ℕ, ◌<◌, ◌≤◌, List, [], ◌∷◌, length, Option, Some, None, Result, Ok, Err, Bool, true, false, cond, refl, sym, ap, subst, ◌∙◌, arith}
+use Rattle.std.proofs.Common.{◌≡◌, inl, inr, ℕ, ◌≤◌, List, [], ◌∷◌, length, Option, Some, None, Result, Ok, Err, Bool, true, false, cond, sym, ap, subst, ◌∙◌, arith}
 use Rattle.kl_outcome.specs.Outcome.{Name}
 use Rattle.kl_ask.specs.Driver.{DriverKind}
 use Rattle.kl_catalogue.specs.declared.reading.Entry.{Entry}
-use Rattle.kl_catalogue.specs.Reading.{IsCatalogue, Refuses}
 use Rattle.kl_engine.proofs.CatalogueLemmas.{one_catalogue, bad_none, deep_none, one_bad, bad_or_deep}
-use Rattle.kl_sources.specs.Sources.{sources_of, placed, in_front, is_taken, at_driver, driver_named}
+use Rattle.kl_sources.specs.Sources.{sources_of, in_front, is_taken, at_driver, driver_named}
 use Rattle.kl_sources.specs.declared.source.Source.{Source}
 use Rattle.kl_sources.specs.declared.placing.PlaceError.{PlaceError}
 use Rattle.kl_sources.specs.declared.placing.PlaceError.TheVariants as place

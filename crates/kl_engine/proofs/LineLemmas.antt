@@ -6,16 +6,15 @@ use Rattle.std.specs.Io.KnownBytes.{append_known}
 use Rattle.std.proofs.lemmas.List.{take_all, take_more, length-map, get_or-map}
 use Rattle.std.proofs.lemmas.List.Elements.{All-nil, All-cons}
 use Rattle.std.proofs.lemmas.Slice.Zip.{length-zip, get_or-zip}
-use Rattle.kl_base.specs.Counts.{Rose}
-use Rattle.kl_outside.specs.Sinks.{SinkState, WritesWhole, TookPart}
+use Rattle.kl_outside.specs.Sinks.{SinkState, WritesWhole}
 use Rattle.kl_outside.specs.declared.stop.Stop.{Stop}
 use Rattle.kl_outside.specs.declared.stop.Stop.TheVariants as stop
-use Rattle.kl_outside.proofs.SinkLemmas.{took_none, took_all, took_front, append_known-nil, writes_nothing, writes_then, writes_stopped}
+use Rattle.kl_outside.proofs.SinkLemmas.{took_all, took_front, writes_nothing, writes_then, writes_stopped}
 use Rattle.kl_rows.specs.Schemes.{IsScheme}
 use Rattle.kl_rows.specs.declared.Scheme.{Scheme}
 use Rattle.kl_outcome.specs.Outcome.{Name}
 use Rattle.kl_syntax.specs.Syntax.{Decls, no_decls, constant, function}
-use Rattle.kl_syntax.specs.View.{decl_of, decls_of, pattern_view}
+use Rattle.kl_syntax.specs.View.{decl_of, decls_of}
 use Rattle.kl_syntax.specs.declared.tree.Decl.{Decl}
 use Rattle.kl_syntax.specs.declared.tree.Pattern.{Pattern}
 use Rattle.kl_infer.specs.Inferred.{HaveSchemes}

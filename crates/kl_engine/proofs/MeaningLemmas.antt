@@ -1,10 +1,9 @@
 -- What a run of a program with a typing comes to: what attaching its sources answers, and then the outcome of its term.
-use Rattle.std.proofs.Common.{◌≡◌, ◌≢◌, ◌⊎◌, inl, inr, ℕ, zero, suc, ◌+◌, ◌<◌, ◌≤◌, Bool, true, false, List, [], ◌∷◌, length, map, Option, Some, None, IsSome, Result, Ok, Err, Vec, refl, sym, ap, subst, ◌∙◌, arith, slice_get, add-zero, zero-add}
+use Rattle.std.proofs.Common.{◌≡◌, ◌⊎◌, inl, inr, ℕ, zero, suc, ◌+◌, ◌<◌, ◌≤◌, Bool, true, false, List, [], ◌∷◌, length, map, Option, Some, None, IsSome, Result, Ok, Err, Vec, refl, sym, ap, subst, ◌∙◌, arith, slice_get, add-zero, zero-add}
 use Rattle.std.specs.Prelude.{All, ⊤}
 use Rattle.std.specs.List.{AllByRecursion}
 use Rattle.std.proofs.lemmas.List.Elements.{All-head, All-tail}
 use Rattle.std.proofs.lemmas.Option.{slice_get_within}
-use Rattle.kl_outside.specs.Counts.{Rose}
 use Rattle.kl_outside.specs.Sinks.{SinkState}
 use Rattle.kl_outside.proofs.CountLemmas.{rose_after}
 use Rattle.kl_value.specs.Canon.{canonical}
@@ -20,7 +19,7 @@ use Rattle.kl_outcome.specs.Typed.{Inhabits}
 use Rattle.kl_outcome.proofs.OutcomeTypes.{canonical_inhabits}
 use Rattle.kl_syntax.specs.Syntax.{Exp, Decls}
 use Rattle.kl_syntax.specs.View.{view, decls_of}
-use Rattle.kl_scope.specs.Breaches.{Resolves, is_marked}
+use Rattle.kl_scope.specs.Breaches.{is_marked}
 use Rattle.kl_scope.specs.declared.scoped.Scoped.{Scoped}
 use Rattle.kl_meaning.specs.Run.{meaning_of_program}
 use Rattle.kl_meaning.specs.Tidy.{IsTidyProgram}
@@ -50,15 +49,15 @@ use Rattle.kl_ask.proofs.Worlds.{fun_ext, some_same, there, keeps_then}
 use Rattle.kl_eval.specs.Evals.{Sense, SenseList}
 use Rattle.kl_sources.specs.Attaching.{HaveNone, AttachesAll, world_of, IsErrorOf, IsUnreadable, IsMishap, NoVerdict, MayAttach, IsMarkedName, StandsWithout, Causes, Serves, Stands, HasTyped}
 use Rattle.kl_sources.specs.Attaching as sources
-use Rattle.kl_sources.specs.Sources.{ArePlaced, IsFit, names_of, grounds_of, contents, empty_of, value_of, IsValueAt, HaveValues, IsReadable, FirstWithout}
+use Rattle.kl_sources.specs.Sources.{ArePlaced, IsFit, names_of, grounds_of, contents, IsValueAt, HaveValues, IsReadable, FirstWithout}
 use Rattle.kl_sources.specs.declared.attaching.AttachError.{AttachError}
 use Rattle.kl_sources.specs.declared.source.Source.{Source}
 use Rattle.kl_sources.proofs.Lists.{of_all, mapped, unmapped}
-use Rattle.kl_engine.specs.Answering.{kinds_of, SomeRose, KeepsDrivers, IsIdle, IsStored, IsOutside, reading, writing, drifting, wanting, Follows, IsTold, IsOneOf, IsRun, HasTextFault, PrintsNothing, IsUnread, NeedsDrivers}
+use Rattle.kl_engine.specs.Answering.{kinds_of, SomeRose, KeepsDrivers, IsIdle, IsStored, IsOutside, reading, writing, drifting, wanting, Follows, IsTold, IsOneOf, HasTextFault, PrintsNothing, IsUnread, NeedsDrivers}
 use Rattle.kl_engine.specs.Commands.{Program}
 use Rattle.kl_engine.specs.Faults.{Ending}
 use Rattle.kl_engine.specs.Reading.{WasInScope}
-use Rattle.kl_engine.specs.Running.{AnswersTerm, HasRunFault, IsListScheme, IsOutcome, fault_of, Ends, before, followed, untold, IsNamed, DoneBy, DoneMeaning}
+use Rattle.kl_engine.specs.Running.{AnswersTerm, HasRunFault, IsListScheme, IsOutcome, fault_of, Ends, before, followed, untold, IsNamed, DoneMeaning}
 use Rattle.kl_engine.specs.Verdict.{Verdict, refused, GivesList, stored_fault, IsMeant}
 use Rattle.kl_engine.specs.Verdict as verdict
 use Rattle.kl_engine.specs.declared.fault.Fault.{Fault}
@@ -240,7 +239,7 @@ module _ (ss : List Source) (marks : ℕ → Bool) (first : Option ℕ) (program
     | inl (inl h) ↦ before refl (λ told. subst (λ d. IsTold (Some (fault_of e.source d))) h.0 told) (λ v. reading (ap (λ d. Some (fault_of e.source d)) h.0) (inr (some_rose (λ d. d.faults) ds mid h.1)))
     | inl (inr h) ↦ before refl (λ told. subst (λ d. IsTold (Some (fault_of e.source d))) h told) (λ v. wanting (ap (λ d. Some (fault_of e.source d)) h))
     | inr (marked, inl (w, of, at, inl without)) ↦ followed (refused (fault_of e.source e.error)) (inl (c.refused, w, fault_of e.source e.error, without, refused_by w of, refl))
-      (follows_prints (refused (fault_of e.source e.error)) (Some (fault_of e.source e.error)) out out (prints_refused (fault_of e.source e.error) out) ds mid)
+        (follows_prints (refused (fault_of e.source e.error)) (Some (fault_of e.source e.error)) out out (prints_refused (fault_of e.source e.error) out) ds mid)
     | inr (marked, inl (w, of, at, inr lacks)) ↦ untold (none_meant ss marks first program exp ds lacks) (none_told ss marks first program exp ds lacks) (needs_drivers e.source first e.error)
     | inr (marked, inr (unreadable, at, lacks, rose)) ↦ untold (none_meant ss marks first program exp ds lacks) (none_told ss marks first program exp ds lacks) (needs_drivers e.source first e.error)
   ]
@@ -474,7 +473,7 @@ module _ (ss : List Source) (program : Decls) (e : Exp) (typed : Typed) (infers 
   answered_ends : ((vs : List (Name × Value)) × HaveValues (kinds_of ds) marks 0 ss vs) ⊎ NoVerdict (kinds_of ds) marks ss → Ends (λ others. IsMeant (kinds_of ds) ss others first program e) ss marks (purpose.Run first) end ds last out out'
   answered_ends (inl (vs, have)) =
       let inhabit : HaveTypesByName (grounds_of ss) vs =
-          values_typed (kinds_of ds) marks 0 ss vs (λ i s at. (of_all (IsFit (kinds_of ds)) ss i s placed.fit at).2.collection) (λ i s at marked. (stand i s at (ap marks (sym (zero-add i)) ∙ marked)).typed) have in
+      values_typed (kinds_of ds) marks 0 ss vs (λ i s at. (of_all (IsFit (kinds_of ds)) ss i s placed.fit at).2.collection) (λ i s at marked. (stand i s at (ap marks (sym (zero-add i)) ∙ marked)).typed) have in
       let found = answers.follows (sources_have ss program e typed infers tidy names kept t is (kinds_of ds) marks w serves means vs have inhabit) in
       let meant : IsOutcome listed first (meaning_of_program program e vs) found.0 = subst (λ o. IsOutcome listed first o found.0) (core_is ss program e typed infers tidy names kept t is (kinds_of ds) marks w serves means vs have inhabit) found.1 in
       followed found.0 (inr (vs, have, outcome_is ss program e typed infers listed of other first (meaning_of_program program e vs) found.0 meant))

@@ -1,5 +1,5 @@
 -- What is printed of a verdict.
-use Rattle.std.proofs.Common.{◌≡◌, ◌≢◌, inl, inr, ℕ, Bool, true, false, if◌then◌else◌, Option, List, [], ◌++◌, codes, length, Some, None, Ok, Err, refl, sym, ap, subst, arith, length-append}
+use Rattle.std.proofs.Common.{◌≡◌, ◌≢◌, inl, inr, ℕ, true, false, if◌then◌else◌, Option, List, [], ◌++◌, codes, length, Some, None, Ok, Err, refl, sym, ap, subst, arith, length-append}
 use Rattle.kl_outside.specs.Sinks.{SinkState, WritesWhole}
 use Rattle.kl_outside.specs.declared.stop.Stop.{Stop}
 use Rattle.kl_outside.specs.declared.stop.Stop.TheVariants as stop

@@ -1,11 +1,11 @@
 -- What is read of the text of a program, and that this is all that can be told of it.
-use Rattle.std.proofs.Common.{◌≡◌, inl, inr, ℕ, ◌+◌, ◌≤◌, ◌==◌, if◌then◌else◌, List, [], ◌∷◌, length, Some, None, Ok, Err, refl, sym, ap, subst, ◌∙◌, arith}
+use Rattle.std.proofs.Common.{◌≡◌, inl, inr, ℕ, ◌+◌, ◌≤◌, ◌==◌, if◌then◌else◌, List, [], ◌∷◌, length, Ok, Err, refl, sym, ap, subst, ◌∙◌, arith}
 use Rattle.std.proofs.lemmas.Bool.{cases_order}
 use Rattle.kl_lex.specs.declared.token.Token.{Token}
-use Rattle.kl_lex.specs.Lexing.{Tokens, Refused, PlacesRise}
+use Rattle.kl_lex.specs.Lexing.{Tokens, PlacesRise}
 use Rattle.kl_lex.proofs.Sequence.{one_lexing, refused_none}
 use Rattle.kl_parse.specs.Parsing.{IsProgram, Refuses}
-use Rattle.kl_parse.specs.declared.program.ParseError.TheVariants.{Syntax, TooDeep}
+use Rattle.kl_parse.specs.declared.program.ParseError.TheVariants.{Syntax}
 use Rattle.kl_parse.proofs.Answer.{unique}
 use Rattle.kl_syntax.specs.declared.tree.Program.{Program}
 use Rattle.kl_scope.specs.Breaches.{NotAfter, InScope, IsFirstBreach, IsRefusal, Resolves}

@@ -17,7 +17,6 @@ use Rattle.kl_exchange.specs.declared.reader.Item.{Item}
 use Rattle.kl_exchange.specs.declared.reader.Item.TheVariants as item
 use Rattle.kl_exchange.proofs.FileItems.{one_showing}
 use Rattle.kl_exchange.proofs.FileReading.{begins_so, first_shown}
-use Rattle.kl_exchange.proofs.Printed.{then}
 use Rattle.kl_outside.specs.Files.{FilesState, Opens, Closes, OtherFiles, left_at_first}
 use Rattle.kl_outside.specs.Sinks.{SinkState, TookPart}
 use Rattle.kl_outside.specs.declared.stop.Stop.{Stop}

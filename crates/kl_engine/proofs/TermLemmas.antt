@@ -1,5 +1,5 @@
 -- What the evaluator's answers tell of a term without free positions.
-use Rattle.std.proofs.Common.{◌≡◌, ℕ, List, [], reverse, Option, Some, Bool, true, false, Result, Ok, Err, sym, ap, subst}
+use Rattle.std.proofs.Common.{◌≡◌, ℕ, List, [], reverse, Option, Some, Bool, true, false, Ok, Err, sym, ap, subst}
 use Rattle.kl_outside.specs.Sinks.{SinkState}
 use Rattle.kl_value.specs.declared.Value.{Value}
 use Rattle.kl_value.specs.declared.Value.TheVariants as value

@@ -1,21 +1,19 @@
 -- What the top call does where no program is read: words that name no command, want of memory, and a file that is shown.
-use Rattle.std.proofs.Common.{◌≡◌, ◌⊎◌, inl, inr, ℕ, List, [], Option, Some, None, refl, sym, ap, subst, ◌∙◌}
+use Rattle.std.proofs.Common.{◌≡◌, inl, inr, ℕ, List, Option, Some, None, refl, sym, ap, subst, ◌∙◌}
 use Rattle.std.specs.Bool.{⊤}
 use Rattle.std.specs.Io.KnownBytes.{append_known}
 use Rattle.kl_exchange.specs.FileItems.{FileEnd, WholeText, BadAt, TooDeepAt, PastLimit}
-use Rattle.kl_outside.specs.Counts.{Rose}
 use Rattle.kl_outside.specs.Files.{FilesState}
 use Rattle.kl_outside.specs.Sinks.{SinkState}
 use Rattle.kl_outside.proofs.SinkLemmas.{took_none, append_known-nil}
 use Rattle.kl_outcome.specs.Outcome.{Name}
 use Rattle.kl_ask.specs.Driver.{DriverKind, State}
-use Rattle.kl_engine.specs.Answering.{kinds_of, one, IsOutside, reading, writing, wanting, Follows, Does, IsMentioned, UnreadCause, IsUnread, IsOneOf, HasFault}
+use Rattle.kl_engine.specs.Answering.{kinds_of, one, reading, writing, wanting, Does, IsMentioned, UnreadCause, IsUnread, IsOneOf, HasFault}
 use Rattle.kl_words.specs.declared.command.Command.{Command as Read}
 use Rattle.kl_engine.specs.Commands.{Command, Neither, Program, Show, asked}
 use Rattle.kl_engine.specs.Faults.{Ending}
-use Rattle.kl_engine.specs.Showing.{FollowsFile, DoesShow}
+use Rattle.kl_engine.specs.Showing.{DoesShow}
 use Rattle.kl_engine.specs.Verdict.{Verdict, refused, end_fault, IsShowing, IsFile, IsVerdict}
-use Rattle.kl_engine.specs.declared.fault.Fault.{Fault}
 use Rattle.kl_engine.specs.declared.fault.Fault.TheVariants as fault
 use Rattle.kl_engine.proofs.DriverLemmas.{keeps_same}
 use Rattle.kl_engine.proofs.FairLemmas.{IsOfVerdict, fair_text}

@@ -1,5 +1,5 @@
 -- What the private functions of `run` and `types` answer. No public contract cites this.
-use Rattle.std.specs.Prelude.{◌≡◌, ◌⊎◌, ℕ, ◌<◌, codes, nat_lt, Bool, true, false, List, [], ◌++◌, length, Option, Some, None, Result, Ok, Err, slice_get, All, ⊤}
+use Rattle.std.specs.Prelude.{◌≡◌, ◌⊎◌, ℕ, ◌<◌, nat_lt, Bool, true, false, List, [], ◌++◌, length, Option, Some, None, Result, Ok, Err, slice_get, All, ⊤}
 use Rattle.kl_outside.specs.Counts.{Rose}
 use Rattle.kl_outside.specs.Sinks.{SinkState, WritesWhole}
 use Rattle.kl_outside.specs.declared.stop.Stop.TheVariants as stop

@@ -19,8 +19,8 @@ ghost use Rattle.kl_engine.specs.Reading.{WasInScope};
 ghost use Rattle.kl_engine.specs.Running.{AnswersTerm, DoneWith, DoneMeaning, IsOutcome, IsListScheme, IsListOutcome, IsValueOutcome, fault_of};
 ghost use Rattle.kl_engine.specs.declared.top.Purpose.TheVariants.{Run};
 
-use crate::fault::Fault;
 use crate::cut::cut;
+use crate::fault::Fault;
 use crate::page::{print_cut_list, print_value};
 use crate::read::{infer_over, read_program};
 use kl_ask::{Driver, DriverError, Seen, Session, Settings, Trace};

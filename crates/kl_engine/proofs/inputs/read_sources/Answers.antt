@@ -1,4 +1,4 @@
-use Rattle.kl_engine.proofs.FileAnswers.{no_sources, sources_failed, sources_wanted, sources_long, sources_read}
+use Rattle.kl_engine.proofs.FileAnswers.{no_sources, sources_long, sources_read}
 use Rattle.kl_engine.proofs.inputs.read_sources.Goals as goal
 
 pub returns-in-None : goal.returns-in-None

@@ -1,4 +1,3 @@
-use Rattle.std.proofs.Common.{Ok, Err}
 use Rattle.std.specs.List.{flat_map}
 use Rattle.kl_outside.proofs.SinkLemmas.{writes_then, writes_stopped}
 use Rattle.kl_engine.specs.Stats.{totals_text, scan_line}
