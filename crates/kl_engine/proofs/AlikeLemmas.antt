@@ -1,5 +1,5 @@
 -- Two verdicts on one text are alike.
-use Rattle.std.proofs.Common.{◌≡◌, ◌⊎◌, inl, inr, ℕ, suc, ◌+◌, ◌<◌, Bool, true, false, List, [], ◌∷◌, length, map, Option, Some, None, refl, sym, ap, ap₂, subst, ◌∙◌, arith}
+use Rattle.std.proofs.Common.{◌≡◌, ◌⊎◌, inl, inr, ℕ, suc, ◌+◌, ◌<◌, Bool, true, false, List, [], ◌∷◌, length, Option, Some, None, refl, sym, ap, ap₂, subst, ◌∙◌, arith}
 use Rattle.std.specs.Prelude.{IsTrue}
 use Rattle.std.proofs.lemmas.List.{length-map}
 use Rattle.kl_value.specs.declared.Value.{Value}
@@ -94,12 +94,12 @@ same_fault f g a b same this that = let both : Some f ≡ Some g = sym this ∙ 
 module _ (ks : List DriverKind) (ss : List Source) (marks others : ℕ → Bool) (same : (i : ℕ) → i < length ss → marks i ≡ others i) (ds : Decls) (e : Exp) where
   meant_one : (first : Option ℕ) (v w : Verdict) → IsMeant ks ss marks first ds e v → IsMeant ks ss others first ds e w → v ≡ w
   meant_one first v w (inl (s, x, f, at, is, eq)) (inl (t, y, g, there, it, eq2)) =
-      let both = first_one ks marks others 0 ss s t x y same at there in
+      let both = first_one ks marks others 0 ss s t x y (λ i less. same i (omega (arith, less))) at there in
       eq ∙ (ap refused (same_fault f g (stored_fault s.name x) (stored_fault t.name y) (ap₂ (λ u z. stored_fault u.name z) both.0 both.1) is it) ∙ sym eq2)
-  meant_one first v w (inl (s, x, f, at, is, eq)) (inr (vs, values, it)) = absurd (none_without ks marks others 0 ss s x vs same at values)
-  meant_one first v w (inr (vs, values, is)) (inl (t, y, g, there, it, eq)) = absurd (none_without ks others marks 0 ss t y vs (λ i less. sym (same i less)) there values)
+  meant_one first v w (inl (s, x, f, at, is, eq)) (inr (vs, values, it)) = absurd (none_without ks marks others 0 ss s x vs (λ i less. same i (omega (arith, less))) at values)
+  meant_one first v w (inr (vs, values, is)) (inl (t, y, g, there, it, eq)) = absurd (none_without ks others marks 0 ss t y vs (λ i less. sym (same i (omega (arith, less)))) there values)
   meant_one first v w (inr (vs, values, is)) (inr (ws, again, it)) =
-      let both : vs ≡ ws = values_one ks marks others 0 ss vs ws same values again in
+      let both : vs ≡ ws = values_one ks marks others 0 ss vs ws (λ i less. same i (omega (arith, less))) values again in
       outcome_one (grounds_of ss) ds e first (meaning_of_program ds e ws) v w (subst (λ xs. IsOutcome (grounds_of ss) first ds e (meaning_of_program ds e xs) v) both is) it
 
   meant_alike : (first : Option ℕ) (v w : Verdict) → IsUntyped (grounds_of ss) ds e v ⊎ (HasTyping ds e (grounds_of ss) × IsMeant ks ss marks first ds e v) → IsUntyped (grounds_of ss) ds e w ⊎ (HasTyping ds e (grounds_of ss) × IsMeant ks ss others first ds e w) → Alike v w
@@ -122,13 +122,13 @@ module _ (ks : List DriverKind) (ss : List Source) (marks others : ℕ → Bool)
 
 both_true : (a b : Bool) → (IsTrue a → IsTrue b) → (IsTrue b → IsTrue a) → a ≡ b
 both_true true true there back = refl
-both_true true false there back = absurd (there tt)
-both_true false true there back = absurd (back tt)
+both_true true false there back = let is = there refl in cc
+both_true false true there back = let is = back refl in cc
 both_true false false there back = refl
 
 pub marks_one : (q : Program) (ss : List Source) (marks others : ℕ → Bool) → AreMarks q (names_of ss) marks → AreMarks q (names_of ss) others → (i : ℕ) → i < length ss → marks i ≡ others i
 marks_one q ss marks others this that i less =
-    let within : i < length (names_of ss) = subst (λ n. i < n) (sym (length-map (λ s. s.name) ss)) less in
+    let within : i < length (names_of ss) = subst (λ n. i < n) (sym (length-map ss (λ s. s.name))) less in
     both_true (marks i) (others i) (λ is. (that i within).1 ((this i within).0 is)) (λ is. (this i within).1 ((that i within).0 is))
 
 module _ (ks : List DriverKind) (ss : List Source) (p : Purpose) (bytes : List ℕ) where

@@ -1,24 +1,21 @@
 -- What the outcome of a program's term tells of the program.
-use Rattle.std.proofs.Common.{◌≡◌, ◌≢◌, ◌⊎◌, inl, inr, ℕ, Bool, true, false, List, [], ◌++◌, codes, reverse, Option, Some, None, Ok, Err, refl, sym, ap, subst, ◌∙◌, ⊤}
-use Rattle.std.specs.Io.KnownBytes.{append_known}
-use Rattle.kl_outside.specs.Counts.{Rose}
+use Rattle.std.proofs.Common.{◌≡◌, ◌≢◌, inl, inr, ℕ, Bool, true, false, if◌then◌else◌, List, [], ◌++◌, Option, Some, None, Ok, Err, refl, sym, ap, subst, ◌∙◌}
+use Rattle.std.specs.Bool.{⊤}
 use Rattle.kl_outside.specs.Sinks.{SinkState}
-use Rattle.kl_outside.proofs.SinkLemmas.{took_none, append_known-nil}
+use Rattle.kl_outside.proofs.SinkLemmas.{took_none}
 use Rattle.kl_value.specs.declared.Value.{Value}
 use Rattle.kl_value.specs.declared.Value.TheVariants as value
 use Rattle.kl_value.specs.declared.Kind.{Kind}
 use Rattle.kl_value.specs.declared.Kind.TheVariants as kind
-use Rattle.kl_type.specs.Ground.{Ground, coll}
+use Rattle.kl_type.specs.Ground.{Ground}
 use Rattle.kl_rows.specs.declared.Scheme.{Scheme}
 use Rattle.kl_rows.specs.Schemes.{IsScheme, Instance}
-use Rattle.kl_outcome.specs.Outcome.{Name, Outcome, done, over, stuck}
-use Rattle.kl_syntax.specs.Syntax.{Exp, Decls}
+use Rattle.kl_outcome.specs.Outcome.{Outcome, done, over, stuck}
 use Rattle.kl_ask.specs.Driver.{State}
 use Rattle.kl_eval.specs.Evals.{Tells, Lists}
-use Rattle.kl_eval.specs.declared.stop.EvalStop.{EvalStop}
 use Rattle.kl_eval.specs.declared.stop.EvalStop.TheVariants as stop
 use Rattle.kl_infer.specs.Kinds.{HasOther}
-use Rattle.kl_engine.specs.Answering.{SomeRose, KeepsDrivers, IsOutside, reading, drifting, wanting, Follows, Prints, IsTold, IsOneOf, PrintsNothing}
+use Rattle.kl_engine.specs.Answering.{SomeRose, KeepsDrivers, IsOutside, reading, drifting, wanting, Prints, IsOneOf, PrintsNothing}
 use Rattle.kl_engine.specs.Commands.{Program}
 use Rattle.kl_engine.specs.Faults.{Ending}
 use Rattle.kl_engine.specs.Running.{AnswersTerm, HasRunFault, IsListScheme, IsListOutcome, IsValueOutcome}
@@ -229,7 +226,7 @@ module _ (IsOut : Verdict → Type 0) (told : Type 0) (ds ds' : List State) (kee
 
 -- ---- what an outcome comes to
 
-cut_end : (first : Option ℕ) (enough : Bool) (vs : List Value) → IsRunEnd (if enough then value_page (value.List (first_of first vs)) else overflowing vs).ending
+pub cut_end : (first : Option ℕ) (enough : Bool) (vs : List Value) → IsRunEnd (if enough then value_page (value.List (first_of first vs)) else overflowing vs).ending
 cut_end first true vs = tt
 cut_end first false vs = tt
 

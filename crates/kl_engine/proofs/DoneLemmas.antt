@@ -1,7 +1,7 @@
 -- How a call ends that does what is asked for.
-use Rattle.std.proofs.Common.{◌≡◌, ◌⊎◌, inl, inr, ℕ, ◌<◌, nat_lt, if◌then◌else◌, Bool, true, false, List, [], ◌∷◌, codes, length, Option, Some, None, Result, Ok, Err, refl, sym, ap, subst, ◌∙◌, arith, ⊤}
+use Rattle.std.proofs.Common.{◌≡◌, ◌⊎◌, inl, inr, ℕ, ◌<◌, nat_lt, if◌then◌else◌, Bool, true, false, List, [], ◌∷◌, codes, length, Option, Some, None, Result, Ok, Err, refl, sym, ap, subst, ◌∙◌, arith}
 use Rattle.std.proofs.lemmas.Option.{gets}
-use Rattle.std.specs.Prelude.{All, IsTrue, slice_get}
+use Rattle.std.specs.Prelude.{All, slice_get, ⊤}
 use Rattle.std.specs.Io.KnownBytes.{append_known}
 use Rattle.kl_outside.specs.Counts.{Rose}
 use Rattle.kl_outside.specs.Sinks.{SinkState}
@@ -11,7 +11,7 @@ use Rattle.kl_outcome.specs.Outcome.{Name}
 use Rattle.kl_syntax.specs.Syntax.{Exp, Decls}
 use Rattle.kl_syntax.specs.View.{view, decls_of}
 use Rattle.kl_syntax.specs.declared.tree.Program.{Program}
-use Rattle.kl_scope.specs.Breaches.{Mentions, Resolves, is_marked}
+use Rattle.kl_scope.specs.Breaches.{Resolves, is_marked}
 use Rattle.kl_scope.specs.Limits.{Tells}
 use Rattle.kl_scope.specs.Sizes.{declared}
 use Rattle.kl_scope.specs.declared.counting.SizeBreach.{SizeBreach}
@@ -24,16 +24,15 @@ use Rattle.kl_rows.specs.declared.Scheme.{Scheme}
 use Rattle.kl_ask.specs.Driver.{State, IsTold as IsToldBy}
 use Rattle.kl_sources.specs.Sources.{names_of, grounds_of}
 use Rattle.kl_sources.specs.declared.source.Source.{Source}
-use Rattle.kl_engine.specs.Answering.{kinds_of, Alike, one, IsOutside, reading, writing, drifting, wanting, Follows, Prints, DoesText, IsTold, IsRun, IsOneOf, HasTextFault, IsTyping, IsUnread, NeedsDrivers, IsMentionedIn, PrintsNothing, KeepsDrivers}
+use Rattle.kl_engine.specs.Answering.{kinds_of, Alike, one, IsOutside, reading, writing, drifting, wanting, Follows, Prints, DoesText, IsTold, IsOneOf, HasTextFault, IsUnread, NeedsDrivers, IsMentionedIn, PrintsNothing}
 use Rattle.kl_engine.specs.Commands.{Program as AProgram}
 use Rattle.kl_engine.specs.Faults.{Ending}
-use Rattle.kl_engine.specs.Reading.{IsTextFault, IsProgramOf, definitions, last, Reads}
+use Rattle.kl_engine.specs.Reading.{IsProgramOf, definitions, last, Reads}
 use Rattle.kl_engine.specs.Running.{Ends, before, followed, untold, IsNamed, DoneBy, DoneWith, DoneMeaning}
 use Rattle.kl_engine.specs.Typing.{breach_fault, IsTypingFault, IsTyped, Types, TypesOfAny}
 use Rattle.kl_engine.specs.Verdict.{Verdict, well, refused, size_fault, AfterSizes, IsSized, IsUntyped, named_schemes, behind, scheme_lines, IsListing, IsMeant, IsDone, AreMarks, IsText, scheme_line}
 use Rattle.kl_engine.specs.declared.fault.Fault.{Fault}
 use Rattle.kl_engine.specs.declared.fault.Fault.TheVariants as fault
-use Rattle.kl_engine.specs.declared.fault.Wrong.{Wrong}
 use Rattle.kl_engine.specs.declared.top.Purpose.{Purpose}
 use Rattle.kl_engine.specs.declared.top.Purpose.TheVariants as purpose
 use Rattle.kl_engine.proofs.AlikeLemmas.{text_alike, marks_one}
@@ -182,29 +181,29 @@ outside_untold v end ds ds' out out' told (wanting is) = subst IsTold is told
 
 -- of a verdict that ends as an end that is not told nothing is printed
 untold_empty : (p : Purpose) (v : Verdict) (end : Ending) → Fair p v → (IsTold end → ⊥) → v.ending ≡ end → v.page ≡ []
-untold_empty p v None fair untold is = absurd (untold tt)
-untold_empty p v (Some fault.Read) fair untold is = fair.empty (subst (PrintsNothing (AProgram p [] None)) (sym is) tt)
-untold_empty p v (Some fault.Write) fair untold is = absurd (subst IsOfVerdict is fair.told)
-untold_empty p v (Some (fault.Changed name)) fair untold is = absurd (subst IsOfVerdict is fair.told)
-untold_empty p v (Some fault.NoMemory) fair untold is = absurd (subst IsOfVerdict is fair.told)
-untold_empty p v (Some fault.Usage) fair untold is = absurd (untold tt)
-untold_empty p v (Some (fault.Text w byte)) fair untold is = absurd (untold tt)
-untold_empty p v (Some (fault.IllTyped decl)) fair untold is = absurd (untold tt)
-untold_empty p v (Some (fault.Catalogue byte)) fair untold is = absurd (untold tt)
-untold_empty p v (Some (fault.NameTwice name)) fair untold is = absurd (untold tt)
-untold_empty p v (Some (fault.NoDriver name)) fair untold is = absurd (untold tt)
-untold_empty p v (Some (fault.Unsuited name)) fair untold is = absurd (untold tt)
-untold_empty p v (Some (fault.BadFile place)) fair untold is = absurd (untold tt)
-untold_empty p v (Some (fault.BadSource name place)) fair untold is = absurd (untold tt)
-untold_empty p v (Some fault.Overflow) fair untold is = absurd (untold tt)
-untold_empty p v (Some fault.ProgramBytes) fair untold is = absurd (untold tt)
-untold_empty p v (Some fault.CatalogueBytes) fair untold is = absurd (untold tt)
-untold_empty p v (Some fault.FileBytes) fair untold is = absurd (untold tt)
-untold_empty p v (Some fault.Nesting) fair untold is = absurd (untold tt)
-untold_empty p v (Some fault.ItemNesting) fair untold is = absurd (untold tt)
-untold_empty p v (Some fault.TermNodes) fair untold is = absurd (untold tt)
-untold_empty p v (Some fault.TermDepth) fair untold is = absurd (untold tt)
-untold_empty p v (Some fault.SchemeBytes) fair untold is = absurd (untold tt)
+untold_empty p v None fair never is = absurd (never tt)
+untold_empty p v (Some fault.Read) fair never is = fair.empty (subst (PrintsNothing (AProgram p [] None)) (sym is) tt)
+untold_empty p v (Some fault.Write) fair never is = absurd (subst IsOfVerdict is fair.told)
+untold_empty p v (Some (fault.Changed name)) fair never is = absurd (subst IsOfVerdict is fair.told)
+untold_empty p v (Some fault.NoMemory) fair never is = absurd (subst IsOfVerdict is fair.told)
+untold_empty p v (Some fault.Usage) fair never is = absurd (never tt)
+untold_empty p v (Some (fault.Text w byte)) fair never is = absurd (never tt)
+untold_empty p v (Some (fault.IllTyped decl)) fair never is = absurd (never tt)
+untold_empty p v (Some (fault.Catalogue byte)) fair never is = absurd (never tt)
+untold_empty p v (Some (fault.NameTwice name)) fair never is = absurd (never tt)
+untold_empty p v (Some (fault.NoDriver name)) fair never is = absurd (never tt)
+untold_empty p v (Some (fault.Unsuited name)) fair never is = absurd (never tt)
+untold_empty p v (Some (fault.BadFile place)) fair never is = absurd (never tt)
+untold_empty p v (Some (fault.BadSource name place)) fair never is = absurd (never tt)
+untold_empty p v (Some fault.Overflow) fair never is = absurd (never tt)
+untold_empty p v (Some fault.ProgramBytes) fair never is = absurd (never tt)
+untold_empty p v (Some fault.CatalogueBytes) fair never is = absurd (never tt)
+untold_empty p v (Some fault.FileBytes) fair never is = absurd (never tt)
+untold_empty p v (Some fault.Nesting) fair never is = absurd (never tt)
+untold_empty p v (Some fault.ItemNesting) fair never is = absurd (never tt)
+untold_empty p v (Some fault.TermNodes) fair never is = absurd (never tt)
+untold_empty p v (Some fault.TermDepth) fair never is = absurd (never tt)
+untold_empty p v (Some fault.SchemeBytes) fair never is = absurd (never tt)
 
 -- a verdict on the text was printed, and no source was asked
 does_text : (ss : List Source) (p : Purpose) (text : List ℕ) (v : Verdict) (end : Ending) (ds : List State) (out out' : SinkState)
@@ -232,7 +231,7 @@ does_text ss p text v end ds out out' of plain prints =
       still = λ is. refl;
     }
 
-text_wanted : (ss : List Source) (p : Purpose) (text : List ℕ) (ds : List State) (out : SinkState) → DoesText ss p text (Some fault.NoMemory) ds ds out out
+pub text_wanted : (ss : List Source) (p : Purpose) (text : List ℕ) (ds : List State) (out : SinkState) → DoesText ss p text (Some fault.NoMemory) ds ds out out
 text_wanted ss p text ds out = record {
   told = λ v of. let fair = fair_text (kinds_of ds) ss p text v of in (v, one refl, follows_outside v (Some fault.NoMemory) ds ds out out p fair refl (untold_empty p v (Some fault.NoMemory) fair (λ is. is)) (wanting refl));
   meant = λ is needs. absurd is;
@@ -245,6 +244,14 @@ text_wanted ss p text ds out = record {
   drivers = keeps_same (IsMentionedIn ss text) ds;
   still = λ is. refl;
 }
+
+-- what was inferred over the same sources
+pub types_sources : (us ss : List Source) (program : Decls) (e : Exp) (r : Result Typed Fault) → us ≡ ss → Types (grounds_of us) program e r → Types (grounds_of ss) program e r
+types_sources us ss program e r same types = subst (λ xs. Types (grounds_of xs) program e r) same types
+
+-- what was read over names that are those of the sources
+pub reads_names : (us names : List Name) (ss : List Source) (text : List ℕ) (r : Result Scoped Fault) → us ≡ names → names ≡ names_of ss → Reads us text r → Reads (names_of ss) text r
+reads_names us names ss text r same is reads = subst (λ ns. Reads ns text r) (same ∙ is) reads
 
 pub unread : (ss : List Source) (p : Purpose) (text : List ℕ) (f : Fault) (ds : List State) (out : SinkState) → Reads (names_of ss) text (Err f) → DoesText ss p text (Some f) ds ds out out
 unread ss p text f ds out (inl is) = subst (λ g. DoesText ss p text (Some g) ds ds out out) (sym is) (text_wanted ss p text ds out)
@@ -267,7 +274,7 @@ module _ (ss : List Source) (p : Purpose) (text : List ℕ) (end : Ending) (ds d
       none others (marks_one q ss (is_marked s) others marks_told again_too) v (subst (λ x. IsDone (kinds_of ds) ss others p (definitions (names_of ss) x) (last (names_of ss) x) v) same is)
 
   named : (name : Name) → IsNamed ss (is_marked s) name → IsMentionedIn ss text name
-  named name (i, at, marked) = (q, whole, i, at, (resolves.marks i (get_within (names_of ss) i name at)).0 (subst IsTrue (sym marked) tt))
+  named name (i, at, marked) = (q, whole, i, at, (resolves.marks i (get_within (names_of ss) i name at)).0 marked)
 
   told_by : Ends (λ others. IsDone (kinds_of ds) ss others p (definitions (names_of ss) q) (last (names_of ss) q)) ss (is_marked s) p end ds ds' out out' → (v : Verdict) → IsText (kinds_of ds) ss p text v → (w : Verdict) × Alike v w × Follows ⊥ w end ds ds' out out'
   told_by (before same none outside) v of = let fair = fair_text (kinds_of ds) ss p text v of in (v, one refl, follows_outside v end ds ds' out out' p fair same (untold_empty p v end fair none) (outside v))

@@ -1,8 +1,7 @@
 -- Drivers that stay as they were.
-use Rattle.std.proofs.Common.{◌≡◌, ℕ, ◌≤◌, List, Some, refl, sym, subst, ◌∙◌, slice_get, arith}
+use Rattle.std.proofs.Common.{◌≡◌, ℕ, List, Some, refl, sym, subst, ◌∙◌, slice_get, arith}
 use Rattle.kl_outcome.specs.Outcome.{Name}
 use Rattle.kl_ask.specs.Driver.{State, Keeps}
-use Rattle.kl_ask.specs.Lists.{EachSteps}
 use Rattle.kl_engine.specs.Answering.{KeepsDriver, KeepsDrivers}
 
 keeps_itself : (d : State) → Keeps d d

@@ -1,11 +1,10 @@
 -- The files of a command are one text and one list of sources, or go wrong in one way.
-use Rattle.std.proofs.Common.{◌≡◌, ◌⊎◌, inl, inr, ℕ, ◌<◌, ◌≤◌, List, [], ◌∷◌, length, Option, Some, None, Result, Ok, Err, Bool, true, false, cond, refl, sym, ap, subst, ◌∙◌, arith}
+use Rattle.std.proofs.Common.{◌≡◌, inl, inr, ℕ, ◌≤◌, List, [], ◌∷◌, length, Option, Some, None, Result, Ok, Err, Bool, true, false, cond, sym, ap, subst, ◌∙◌, arith}
 use Rattle.kl_outcome.specs.Outcome.{Name}
 use Rattle.kl_ask.specs.Driver.{DriverKind}
 use Rattle.kl_catalogue.specs.declared.reading.Entry.{Entry}
-use Rattle.kl_catalogue.specs.Reading.{IsCatalogue, Refuses}
-use Rattle.kl_catalogue.proofs.OneReading.{one_catalogue, bad_none, deep_none, one_bad, bad_or_deep}
-use Rattle.kl_sources.specs.Sources.{sources_of, placed, in_front, is_taken, at_driver, driver_named}
+use Rattle.kl_engine.proofs.CatalogueLemmas.{one_catalogue, bad_none, deep_none, one_bad, bad_or_deep}
+use Rattle.kl_sources.specs.Sources.{sources_of, in_front, is_taken, at_driver, driver_named}
 use Rattle.kl_sources.specs.declared.source.Source.{Source}
 use Rattle.kl_sources.specs.declared.placing.PlaceError.{PlaceError}
 use Rattle.kl_sources.specs.declared.placing.PlaceError.TheVariants as place
@@ -17,19 +16,19 @@ use Rattle.kl_engine.specs.declared.fault.Fault.TheVariants as fault
 -- ---- catalogues
 
 same_err : (e d : PlaceError) (ss : Result (List Source) PlaceError) → ss ≡ Err e → ss ≡ Err d → e ≡ d
-same_err e d ss this that = let both : Err {Y = List Source} e ≡ Err d = sym this ∙ that in cc
+same_err e d ss this that = let both : Path (Result (List Source) PlaceError) (Err e) (Err d) = sym this ∙ that in cc
 
 pub catalogue_well : (ks : List DriverKind) (bytes : List ℕ) (ss : List Source) (f : Fault) → IsCatalogueOf ks bytes ss → IsCatalogueFault ks bytes f → ⊥
 catalogue_well ks bytes ss f (es, reads, is) (inl (byte, refused, eq)) = bad_none bytes es byte reads refused
 catalogue_well ks bytes ss f (es, reads, is) (inr (inl (byte, refused, eq))) = deep_none bytes es byte reads refused
 catalogue_well ks bytes ss f (es, reads, is) (inr (inr (ds, e, again, wrong, eq))) =
     let same : es ≡ ds = one_catalogue bytes es ds reads again in
-    let both : Ok ss ≡ Err e = sym is ∙ (ap (sources_of ks []) same ∙ wrong) in cc
+    let both : Path (Result (List Source) PlaceError) (Ok ss) (Err e) = sym is ∙ (ap (sources_of ks []) same ∙ wrong) in cc
 
 pub catalogue_one : (ks : List DriverKind) (bytes : List ℕ) (ss ts : List Source) → IsCatalogueOf ks bytes ss → IsCatalogueOf ks bytes ts → ss ≡ ts
 catalogue_one ks bytes ss ts (es, reads, is) (ds, again, it) =
     let same : es ≡ ds = one_catalogue bytes es ds reads again in
-    let both : Ok {X = PlaceError} ss ≡ Ok ts = sym is ∙ (ap (sources_of ks []) same ∙ it) in cc
+    let both : Path (Result (List Source) PlaceError) (Ok ss) (Ok ts) = sym is ∙ (ap (sources_of ks []) same ∙ it) in cc
 
 pub catalogue_fault_one : (ks : List DriverKind) (bytes : List ℕ) (f g : Fault) → IsCatalogueFault ks bytes f → IsCatalogueFault ks bytes g → f ≡ g
 catalogue_fault_one ks bytes f g (inl (b, this, is)) (inl (d, that, it)) = is ∙ (ap fault.Catalogue (one_bad bytes b d this that) ∙ sym it)
@@ -45,7 +44,7 @@ catalogue_fault_one ks bytes f g (inr (inr (es, e, reads, wrong, is))) (inr (inr
     is ∙ (ap place_fault (same_err e d (sources_of ks [] ds) (ap (sources_of ks []) (sym same) ∙ wrong) also) ∙ sym it)
 
 -- want of memory is none of them
-IsReason : Result (List Source) PlaceError → Type 0
+abbrev IsReason : Result (List Source) PlaceError → Type 0
 IsReason (Err place.NoMemory) = ⊥
 IsReason r = Unit {0}
 
@@ -54,11 +53,11 @@ at_reason e None r rest = tt
 at_reason e (Some (i, k)) r rest = suits_reason (k.suits e.ty)
   where
     suits_reason : (b : Bool) → IsReason (in_front (cond b (Ok (record { name = e.name; ty = e.ty; driver = i; locator = e.locator })) (Err (place.Unsuited e.name))) r)
-    suits_reason true = front_reason r rest
+    suits_reason true = front_reason (record { name = e.name; ty = e.ty; driver = i; locator = e.locator }) r rest
       where
-        front_reason : {s : Source} (q : Result (List Source) PlaceError) → IsReason q → IsReason (in_front (Ok s) q)
-        front_reason (Ok ss) is = tt
-        front_reason (Err x) is = is
+        front_reason : (s : Source) (q : Result (List Source) PlaceError) → IsReason q → IsReason (in_front (Ok s) q)
+        front_reason s (Ok ss) is = tt
+        front_reason s (Err x) is = is
     suits_reason false = tt
 
 taken_reason : (taken : Bool) (e : Entry) (found : Option (ℕ × DriverKind)) (r : Result (List Source) PlaceError) → IsReason r → IsReason (in_front (cond taken (Err (place.Twice e.name)) (at_driver e found)) r)

@@ -4,12 +4,17 @@ pub mod PageLemmas
 pub mod ReadLemmas
 pub mod LineLemmas
 pub mod SizeLemmas
+pub mod StatsLemmas
 pub mod DriverLemmas
 pub mod AlikeLemmas
 pub mod FairLemmas
 pub mod DoneLemmas
+pub mod CatalogueLemmas
 pub mod InputLemmas
+pub mod FileAnswers
 pub mod AnswerLemmas
+pub mod TermLemmas
+pub mod MeaningLemmas
 pub mod ProgramLemmas
 pub mod ShowLemmas
 pub mod TopLemmas

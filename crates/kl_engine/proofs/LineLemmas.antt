@@ -6,16 +6,15 @@ use Rattle.std.specs.Io.KnownBytes.{append_known}
 use Rattle.std.proofs.lemmas.List.{take_all, take_more, length-map, get_or-map}
 use Rattle.std.proofs.lemmas.List.Elements.{All-nil, All-cons}
 use Rattle.std.proofs.lemmas.Slice.Zip.{length-zip, get_or-zip}
-use Rattle.kl_base.specs.Counts.{Rose}
-use Rattle.kl_outside.specs.Sinks.{SinkState, WritesWhole, TookPart}
+use Rattle.kl_outside.specs.Sinks.{SinkState, WritesWhole}
 use Rattle.kl_outside.specs.declared.stop.Stop.{Stop}
 use Rattle.kl_outside.specs.declared.stop.Stop.TheVariants as stop
-use Rattle.kl_outside.proofs.SinkLemmas.{took_none, took_all, took_front, append_known-nil, writes_nothing, writes_then, writes_stopped}
+use Rattle.kl_outside.proofs.SinkLemmas.{took_all, took_front, writes_nothing, writes_then, writes_stopped}
 use Rattle.kl_rows.specs.Schemes.{IsScheme}
 use Rattle.kl_rows.specs.declared.Scheme.{Scheme}
 use Rattle.kl_outcome.specs.Outcome.{Name}
 use Rattle.kl_syntax.specs.Syntax.{Decls, no_decls, constant, function}
-use Rattle.kl_syntax.specs.View.{decl_of, decls_of, pattern_view}
+use Rattle.kl_syntax.specs.View.{decl_of, decls_of}
 use Rattle.kl_syntax.specs.declared.tree.Decl.{Decl}
 use Rattle.kl_syntax.specs.declared.tree.Pattern.{Pattern}
 use Rattle.kl_infer.specs.Inferred.{HaveSchemes}
@@ -132,6 +131,13 @@ module _ (xs : List Named) (out mid new : SinkState) (before : ListsAll xs out m
   lists_stopped d fault.NoMemory others (inl same) = early (d ∷ others) same
   lists_stopped d fault.NoMemory others (inr (fits, writes)) = cut d others stop.NoMemory fits writes
   lists_stopped d fault.Usage others is = absurd is
+  lists_stopped d (fault.Catalogue byte) others is = absurd is
+  lists_stopped d (fault.NameTwice name) others is = absurd is
+  lists_stopped d (fault.NoDriver name) others is = absurd is
+  lists_stopped d (fault.Unsuited name) others is = absurd is
+  lists_stopped d (fault.BadSource name place) others is = absurd is
+  lists_stopped d (fault.Changed name) others is = absurd is
+  lists_stopped d fault.CatalogueBytes others is = absurd is
   lists_stopped d (fault.Text w byte) others is = absurd is
   lists_stopped d (fault.IllTyped n) others is = absurd is
   lists_stopped d (fault.BadFile n) others is = absurd is

@@ -1,5 +1,5 @@
 -- What is printed of a verdict.
-use Rattle.std.proofs.Common.{◌≡◌, ◌≢◌, inl, inr, ℕ, Bool, true, false, if◌then◌else◌, Option, List, [], ◌++◌, codes, length, Some, None, Ok, Err, refl, sym, ap, subst, arith, length-append}
+use Rattle.std.proofs.Common.{◌≡◌, ◌≢◌, inl, inr, ℕ, true, false, if◌then◌else◌, Option, List, [], ◌++◌, codes, length, Some, None, Ok, Err, refl, sym, ap, subst, arith, length-append}
 use Rattle.kl_outside.specs.Sinks.{SinkState, WritesWhole}
 use Rattle.kl_outside.specs.declared.stop.Stop.{Stop}
 use Rattle.kl_outside.specs.declared.stop.Stop.TheVariants as stop
@@ -7,11 +7,11 @@ use Rattle.kl_outside.proofs.SinkLemmas.{took_none, append_known-nil}
 use Rattle.kl_exchange.specs.Printing.{as_stop}
 use Rattle.kl_exchange.specs.declared.error.PrintError.{PrintError}
 use Rattle.kl_exchange.specs.declared.error.PrintError.TheVariants as print
-use Rattle.kl_value.specs.declared.value.Value.{Value}
-use Rattle.kl_value.specs.declared.value.Value.TheVariants as value
+use Rattle.kl_value.specs.declared.Value.{Value}
+use Rattle.kl_value.specs.declared.Value.TheVariants as value
 use Rattle.kl_engine.specs.Answering.{Prints, IsTold}
 use Rattle.kl_engine.specs.Showing.{write_fault}
-use Rattle.kl_engine.specs.Verdict.{Verdict, well, refused, list_front, overflowing, cut_list, cut, first_of, suffice, value_page}
+use Rattle.kl_engine.specs.Verdict.{Verdict, well, refused, list_front, overflowing, cut_list, cut, cut_layer, first_of, suffice, value_page}
 use Rattle.kl_engine.specs.Faults.{Ending}
 use Rattle.kl_engine.specs.declared.fault.Fault.{Fault}
 use Rattle.kl_engine.specs.declared.fault.Fault.TheVariants as fault
@@ -69,8 +69,12 @@ prints_wanted v out told = record {
 }
 
 -- items of a list that are all that are wanted, and those that are not
+cut_is : (first : Option ℕ) (vs : List Value) → cut first (value.List vs) ≡ value.List (first_of first vs)
+cut_is first vs = ap (λ x. cut_layer first x (value.List vs)) (value.outs-List vs)
+
 pub printed_enough : (first : Option ℕ) (vs : List Value) (end : Ending) (out out' : SinkState) → suffice first vs ≡ true → Prints (value_page (cut first (value.List vs))) end out out' → Prints (cut_list first vs) end out out'
-printed_enough first vs end out out' is prints = subst (λ b. Prints (if b then value_page (value.List (first_of first vs)) else overflowing vs) end out out') (sym is) prints
+printed_enough first vs end out out' is prints =
+    subst (λ b. Prints (if b then value_page (value.List (first_of first vs)) else overflowing vs) end out out') (sym is) (subst (λ v. Prints (value_page v) end out out') (cut_is first vs) prints)
 
 pub printed_short : (first : Option ℕ) (vs : List Value) (end : Ending) (out out' : SinkState) → suffice first vs ≡ false → Prints (overflowing vs) end out out' → Prints (cut_list first vs) end out out'
 printed_short first vs end out out' is prints = subst (λ b. Prints (if b then value_page (value.List (first_of first vs)) else overflowing vs) end out out') (sym is) prints

@@ -1,19 +1,19 @@
 -- What is done with a program, by what is done with its text.
-use Rattle.std.proofs.Common.{◌≡◌, ◌⊎◌, inl, inr, ℕ, List, [], length, Option, Some, None, Ok, Err, refl, sym, ◌∙◌, ap, ap₂, subst, arith, ⊤}
-use Rattle.std.specs.Prelude.{All}
+use Rattle.std.proofs.Common.{◌≡◌, ◌⊎◌, inl, inr, ℕ, List, [], Option, Some, None, Ok, Err, refl, sym, ◌∙◌, ap, subst}
+use Rattle.std.specs.Prelude.{⊤}
 use Rattle.std.specs.Io.KnownBytes.{append_known}
 use Rattle.kl_outside.specs.Counts.{Rose}
 use Rattle.kl_outside.specs.Files.{FilesState}
 use Rattle.kl_outside.specs.Sinks.{SinkState}
 use Rattle.kl_outside.proofs.SinkLemmas.{took_none, append_known-nil}
 use Rattle.kl_outcome.specs.Outcome.{Name}
-use Rattle.kl_ask.specs.Driver.{DriverKind, State, IsTold as IsToldBy}
+use Rattle.kl_ask.specs.Driver.{State}
 use Rattle.kl_sources.specs.declared.source.Source.{Source}
-use Rattle.kl_engine.specs.Answering.{kinds_of, Alike, one, nested, unnested, renamed, retyped, IsOutside, reading, writing, drifting, wanting, Follows, Prints, DoesText, Does, IsTold, IsRun, IsOneOf, HasTextFault, HasFault, IsMentionedIn, IsMentioned, PrintsNothing, IsUnread, LacksFile, IsStored, SomeRose}
+use Rattle.kl_engine.specs.Answering.{kinds_of, one, IsOutside, reading, writing, drifting, wanting, Follows, DoesText, Does, IsTold, IsOneOf, HasTextFault, HasFault, IsMentionedIn, IsMentioned, PrintsNothing, IsUnread, LacksFile, IsStored, SomeRose}
 use Rattle.kl_engine.specs.Commands.{Program}
 use Rattle.kl_engine.specs.Faults.{Ending}
 use Rattle.kl_engine.specs.Inputs.{IsInputsEnd, ReadsInputs}
-use Rattle.kl_engine.specs.Verdict.{Verdict, refused, most_bytes, IsText, IsInputsFault, HasInputs, IsProgram}
+use Rattle.kl_engine.specs.Verdict.{Verdict, refused, IsText, IsInputsFault, IsProgram}
 use Rattle.kl_engine.specs.declared.fault.Fault.{Fault}
 use Rattle.kl_engine.specs.declared.fault.Fault.TheVariants as fault
 use Rattle.kl_engine.specs.declared.inputs.Inputs.{Inputs}
@@ -21,6 +21,10 @@ use Rattle.kl_engine.specs.declared.top.Purpose.{Purpose}
 use Rattle.kl_engine.proofs.DriverLemmas.{keeps_same, keeps_wider}
 use Rattle.kl_engine.proofs.FairLemmas.{IsOfVerdict, fair_text}
 use Rattle.kl_engine.proofs.InputLemmas.{inputs_one, inputs_well, inputs_fault_one, inputs_verdict}
+
+-- what is done with a text is done with the same text
+pub does_same : (ss us : List Source) (p : Purpose) (text other : List ℕ) (end : Ending) (ds ds' : List State) (out out' : SinkState) → us ≡ ss → other ≡ text → DoesText us p other end ds ds' out out' → DoesText ss p text end ds ds' out out'
+does_same ss us p text other end ds ds' out out' same also does = subst (λ xs. DoesText xs p text end ds ds' out out') same (subst (λ bs. DoesText us p bs end ds ds' out out') also does)
 
 -- a fault of the outside, where a file failed too
 outside_also : (FilesRose : Type 0) (v : Verdict) (end : Ending) (ds ds' : List State) (out out' : SinkState) → IsOutside ⊥ v end ds ds' out out' → IsOutside FilesRose v end ds ds' out out'
@@ -72,9 +76,9 @@ module _ (p : Purpose) (path : List ℕ) (catalogue : Option (List ℕ)) (f f' :
     told = λ told is v of. elim of [
       | inl h ↦ absurd (inputs_well told (kinds_of ds) path catalogue i.text i.sources h.0 (reads.inputs told is) h.1)
       | inr h ↦
-        let same = inputs_one told (kinds_of ds) path catalogue h.0 i.text h.1 i.sources h.2 (reads.inputs told is) in
-        let found = does.told v (subst (λ ss. IsText (kinds_of ds) ss p i.text v) same.1 (subst (λ text. IsText (kinds_of ds) h.1 p text v) same.0 h.3)) in
-        (found.0, found.1, follows_also (Rose f.faults f'.faults) found.0 end ds ds' out out' found.2)
+          let same = inputs_one told (kinds_of ds) path catalogue h.0 i.text h.1 i.sources h.2 (reads.inputs told is) in
+          let found = does.told v (subst (λ ss. IsText (kinds_of ds) ss p i.text v) same.1 (subst (λ text. IsText (kinds_of ds) h.1 p text v) same.0 h.3)) in
+          (found.0, found.1, follows_also (Rose f.faults f'.faults) found.0 end ds ds' out out' found.2)
     ];
     meant = λ told is well needs. let found = does.meant well needs in (found.0, inr (i.text, i.sources, reads.inputs told is, found.1), found.2);
     caused = record {
@@ -170,8 +174,8 @@ module _ (p : Purpose) (path : List ℕ) (catalogue : Option (List ℕ)) (f f' :
       | inr (inl failed) ↦ follows_none v (λ same. read_empty v told of (same ∙ ap Some failed.0)) (inr (reading (ap Some failed.0) (inl failed.1)))
       | inr (inr wrong) ↦ elim of [
         | inl h ↦
-          let same : v ≡ refused g = h.2 ∙ ap refused (inputs_fault_one told (kinds_of ds) path catalogue h.0 g h.1 wrong) in
-          follows_none v (λ ends. ap (λ w. w.page) same) (inl (sym (ap (λ w. w.ending) same)))
+            let same : v ≡ refused g = h.2 ∙ ap refused (inputs_fault_one told (kinds_of ds) path catalogue h.0 g h.1 wrong) in
+            follows_none v (λ ends. ap (λ w. w.page) same) (inl (sym (ap (λ w. w.ending) same)))
         | inr h ↦ absurd (inputs_well told (kinds_of ds) path catalogue h.0 h.1 g h.2 wrong)
       ]
     ]

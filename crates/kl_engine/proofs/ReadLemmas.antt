@@ -1,11 +1,11 @@
 -- What is read of the text of a program, and that this is all that can be told of it.
-use Rattle.std.proofs.Common.{◌≡◌, inl, inr, ℕ, ◌+◌, ◌≤◌, ◌==◌, if◌then◌else◌, List, [], ◌∷◌, length, Some, None, Ok, Err, refl, sym, ap, subst, ◌∙◌, arith}
+use Rattle.std.proofs.Common.{◌≡◌, inl, inr, ℕ, ◌+◌, ◌≤◌, ◌==◌, if◌then◌else◌, List, [], ◌∷◌, length, Ok, Err, refl, sym, ap, subst, ◌∙◌, arith}
 use Rattle.std.proofs.lemmas.Bool.{cases_order}
 use Rattle.kl_lex.specs.declared.token.Token.{Token}
-use Rattle.kl_lex.specs.Lexing.{Tokens, Refused, PlacesRise}
+use Rattle.kl_lex.specs.Lexing.{Tokens, PlacesRise}
 use Rattle.kl_lex.proofs.Sequence.{one_lexing, refused_none}
 use Rattle.kl_parse.specs.Parsing.{IsProgram, Refuses}
-use Rattle.kl_parse.specs.declared.program.ParseError.TheVariants.{Syntax, TooDeep}
+use Rattle.kl_parse.specs.declared.program.ParseError.TheVariants.{Syntax}
 use Rattle.kl_parse.proofs.Answer.{unique}
 use Rattle.kl_syntax.specs.declared.tree.Program.{Program}
 use Rattle.kl_scope.specs.Breaches.{NotAfter, InScope, IsFirstBreach, IsRefusal, Resolves}
@@ -143,7 +143,7 @@ found_wrong names text ts us vs k byte tokens same also place is =
 pub found_program : (names : List Name) (text : List ℕ) (ts us : List Token) (p : Program) (s : Scoped) → Tokens text ts → us ≡ ts → IsProgram us p → Resolves p names s → Reads names text (Ok s)
 found_program names text ts us p s tokens same reads resolves = (p, record { tokens = ts; lexed = tokens; spelled = subst (λ r. IsProgram r p) same reads; in_scope = resolves.in_scope }, resolves)
 
-found_breach : (text : List ℕ) (ts us vs : List Token) (p : Program) (e : ScopeError) → Tokens text ts → us ≡ ts → vs ≡ ts → IsProgram us p → IsRefusal p names e → Reads names text (Err (scope_fault vs (length text) e))
+found_breach : (names : List Name) (text : List ℕ) (ts us vs : List Token) (p : Program) (e : ScopeError) → Tokens text ts → us ≡ ts → vs ≡ ts → IsProgram us p → IsRefusal p names e → Reads names text (Err (scope_fault vs (length text) e))
 found_breach names text ts us vs p (Unknown name token) tokens same also reads first = inr (inl (ts, tokens, inl (p, Unknown name token, subst (λ r. IsProgram r p) same reads, tt, first, ap (λ r. scope_fault r (length text) (Unknown name token)) also)))
 found_breach names text ts us vs p (Twice name token) tokens same also reads first = inr (inl (ts, tokens, inl (p, Twice name token, subst (λ r. IsProgram r p) same reads, tt, first, ap (λ r. scope_fault r (length text) (Twice name token)) also)))
 found_breach names text ts us vs p (Misapplied name token) tokens same also reads first = inr (inl (ts, tokens, inl (p, Misapplied name token, subst (λ r. IsProgram r p) same reads, tt, first, ap (λ r. scope_fault r (length text) (Misapplied name token)) also)))

@@ -17,7 +17,6 @@ use Rattle.kl_exchange.specs.declared.reader.Item.{Item}
 use Rattle.kl_exchange.specs.declared.reader.Item.TheVariants as item
 use Rattle.kl_exchange.proofs.FileItems.{one_showing}
 use Rattle.kl_exchange.proofs.FileReading.{begins_so, first_shown}
-use Rattle.kl_exchange.proofs.Printed.{then}
 use Rattle.kl_outside.specs.Files.{FilesState, Opens, Closes, OtherFiles, left_at_first}
 use Rattle.kl_outside.specs.Sinks.{SinkState, TookPart}
 use Rattle.kl_outside.specs.declared.stop.Stop.{Stop}
@@ -83,6 +82,13 @@ as_path path (Some fault.Usage) has = has
 as_path path (Some (fault.Text w byte)) has = has
 as_path path (Some (fault.IllTyped decl)) has = has
 as_path path (Some (fault.BadFile place)) has = has
+as_path path (Some (fault.Catalogue byte)) has = has
+as_path path (Some (fault.NameTwice name)) has = has
+as_path path (Some (fault.NoDriver name)) has = has
+as_path path (Some (fault.Unsuited name)) has = has
+as_path path (Some (fault.BadSource name place)) has = has
+as_path path (Some (fault.Changed name)) has = has
+as_path path (Some fault.CatalogueBytes) has = has
 as_path path (Some fault.Overflow) has = has
 as_path path (Some fault.Read) has = has
 as_path path (Some fault.Write) has = has

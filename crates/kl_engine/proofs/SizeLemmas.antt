@@ -51,4 +51,3 @@ module _ (P : Fault → Type 0) (nodes : P fault.TermNodes) (depth : P fault.Ter
   pub sized_faults : (ss : List Size) (f : Fault) → size_fault ss ≡ Some f → P f
   sized_faults [] f is = absurd cc
   sized_faults (s ∷ ss) f is = one_size (nat_lt 4096 s.nodes) (nat_lt 512 s.depth) (size_fault ss) f (sized_faults ss f) is
-

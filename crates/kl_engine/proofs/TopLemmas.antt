@@ -1,21 +1,19 @@
 -- What the top call does where no program is read: words that name no command, want of memory, and a file that is shown.
-use Rattle.std.proofs.Common.{◌≡◌, ◌⊎◌, inl, inr, ℕ, false, List, [], Option, Some, None, refl, sym, ap, subst, ◌∙◌, ⊤}
+use Rattle.std.proofs.Common.{◌≡◌, inl, inr, ℕ, List, Option, Some, None, refl, sym, ap, subst, ◌∙◌}
+use Rattle.std.specs.Bool.{⊤}
 use Rattle.std.specs.Io.KnownBytes.{append_known}
 use Rattle.kl_exchange.specs.FileItems.{FileEnd, WholeText, BadAt, TooDeepAt, PastLimit}
-use Rattle.kl_outside.specs.Counts.{Rose}
 use Rattle.kl_outside.specs.Files.{FilesState}
 use Rattle.kl_outside.specs.Sinks.{SinkState}
 use Rattle.kl_outside.proofs.SinkLemmas.{took_none, append_known-nil}
 use Rattle.kl_outcome.specs.Outcome.{Name}
 use Rattle.kl_ask.specs.Driver.{DriverKind, State}
-use Rattle.kl_ask.specs.declared.settings.Trace.{Trace}
-use Rattle.kl_engine.specs.Answering.{kinds_of, one, IsOutside, reading, writing, wanting, Follows, Does, IsMentioned, UnreadCause, IsUnread, IsOneOf, HasFault}
-use Rattle.kl_engine.specs.Commands.{Command, Neither, Program, Show}
+use Rattle.kl_engine.specs.Answering.{kinds_of, one, reading, writing, wanting, Does, IsMentioned, UnreadCause, IsUnread, IsOneOf, HasFault}
+use Rattle.kl_words.specs.declared.command.Command.{Command as Read}
+use Rattle.kl_engine.specs.Commands.{Command, Neither, Program, Show, asked}
 use Rattle.kl_engine.specs.Faults.{Ending}
-use Rattle.kl_engine.specs.Showing.{FollowsFile, DoesShow}
-use Rattle.kl_engine.specs.Stats.{told_text}
+use Rattle.kl_engine.specs.Showing.{DoesShow}
 use Rattle.kl_engine.specs.Verdict.{Verdict, refused, end_fault, IsShowing, IsFile, IsVerdict}
-use Rattle.kl_engine.specs.declared.fault.Fault.{Fault}
 use Rattle.kl_engine.specs.declared.fault.Fault.TheVariants as fault
 use Rattle.kl_engine.proofs.DriverLemmas.{keeps_same}
 use Rattle.kl_engine.proofs.FairLemmas.{IsOfVerdict, fair_text}
@@ -140,7 +138,21 @@ show_does path end f f' ds out out' shows = record {
   closed = record { left = shows.left; told = shows.told; drivers = keeps_same (λ name. ⊤) ds; still = λ is. refl; mentioned = λ told is. keeps_same (IsMentioned told (kinds_of ds) (Show path)) ds };
 }
 
--- where no counts are told, none matters
-pub told_still : (path : List ℕ) (end : Ending) (trace : Trace) (n m : ℕ) → told_text false path end trace n ≡ told_text false path end trace m
-told_still path None trace n m = refl
-told_still path (Some f) trace n m = refl
+-- what is done with a file is done with it under another name of the same path
+pub show_at : (path other : List ℕ) (end : Ending) (f f' : FilesState) (ds : List State) (out out' : SinkState) → other ≡ path → DoesShow other end f f' out out' → Does (Show path) end f f' ds ds out out'
+show_at path other end f f' ds out out' same shows = show_does path end f f' ds out out' (subst (λ p. DoesShow p end f f' out out') same shows)
+
+-- ---- words that name a command
+
+module _ (found : Option Read) (r : Read) (is : found ≡ Some r) where
+  pub does_found : (end end' : Ending) (f f' : FilesState) (ds ds' : List State) (out out' : SinkState) → end ≡ end' → Does (asked (Some r)) end' f f' ds ds' out out' → Does (asked found) end f f' ds ds' out out'
+  does_found end end' f f' ds ds' out out' same does = subst (λ e. Does (asked found) e f f' ds ds' out out') (sym same) (subst (λ o. Does (asked o) end' f f' ds ds' out out') (sym is) does)
+
+-- words that name none
+module _ (found : Option Read) (is : found ≡ None) where
+  pub does_none : (end : Ending) (f : FilesState) (ds : List State) (out : SinkState) → end ≡ Some fault.Usage → Does (asked found) end f f ds ds out out
+  does_none end f ds out same = subst (λ e. Does (asked found) e f f ds ds out out) (sym same) (subst (λ o. Does (asked o) (Some fault.Usage) f f ds ds out out) (sym is) (neither_does f ds out))
+
+-- memory ran out, whatever the words name
+pub does_wanted : (found : Option Read) (end : Ending) (f : FilesState) (ds : List State) (out : SinkState) → end ≡ Some fault.NoMemory → Does (asked found) end f f ds ds out out
+does_wanted found end f ds out same = subst (λ e. Does (asked found) e f f ds ds out out) (sym same) (wanted_does (asked found) f ds out)

@@ -1,5 +1,5 @@
 -- What the bytes of a catalogue come to: sources at their drivers, or a fault.
-use Rattle.std.specs.Prelude.{◌≡◌, ◌⊎◌, ℕ, List, [], Result, Ok, Err}
+use Rattle.std.specs.Prelude.{◌≡◌, ◌⊎◌, ℕ, List, [], Ok, Err}
 use Rattle.kl_ask.specs.Driver.{DriverKind}
 use Rattle.kl_catalogue.specs.Reading.{IsCatalogue, Refuses}
 use Rattle.kl_catalogue.specs.declared.reading.CatalogueError.TheVariants.{Bad, TooDeep}

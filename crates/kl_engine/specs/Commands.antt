@@ -1,5 +1,5 @@
 -- What the words ask for.
-use Rattle.std.specs.Prelude.{ℕ, Bool, true, false, List, [], Option, Some, None}
+use Rattle.std.specs.Prelude.{ℕ, Bool, false, List, [], Option, Some, None}
 use Rattle.kl_words.specs.declared.command.Command.{Command as Read}
 use Rattle.kl_words.specs.declared.command.Command.TheVariants as read
 use Rattle.kl_engine.specs.declared.top.Purpose.{Purpose}

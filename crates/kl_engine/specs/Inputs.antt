@@ -2,9 +2,9 @@
 use Rattle.std.specs.Prelude.{◌≡◌, ◌⊎◌, ℕ, ◌≤◌, List, length, Option, Some, None, Result, Vec, IfOk, IfErr, ⊤}
 use Rattle.std.specs.declared.alloc.Global.{Global}
 use Rattle.kl_outside.specs.Counts.{Rose}
-use Rattle.kl_outside.specs.Files.{FilesState, IsMissing}
+use Rattle.kl_outside.specs.Files.{FilesState}
 use Rattle.kl_ask.specs.Driver.{DriverKind}
-use Rattle.kl_sources.specs.Placing.{ArePlaced}
+use Rattle.kl_sources.specs.Sources.{ArePlaced}
 use Rattle.kl_sources.specs.declared.source.Source.{Source}
 use Rattle.kl_engine.specs.Catalogues.{IsCatalogueFault, IsCatalogueOf}
 use Rattle.kl_engine.specs.Verdict.{most_bytes, IsSourcesFault, HasSources, IsInputsFault, HasInputs}

@@ -3,6 +3,8 @@ pub mod Commands
 pub mod Reading
 pub mod Catalogues
 pub mod Verdict
+pub mod Inputs
+pub mod Stats
 pub mod Typing
 pub mod Answering
 pub mod Running

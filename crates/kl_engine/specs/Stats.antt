@@ -1,5 +1,5 @@
 -- What was counted while a program ran, and the lines that tell it.
-use Rattle.std.specs.Prelude.{ℕ, ◌+◌, ◌-◌, ◌^◌, min, Bool, true, false, List, [], ◌∷◌, ◌++◌, codes, decimal, Option, Some, None, sum, map}
+use Rattle.std.specs.Prelude.{ℕ, ◌-◌, ◌^◌, min, Bool, true, false, List, [], ◌∷◌, ◌++◌, codes, decimal, Some, None, sum, map}
 use Rattle.std.specs.List.{flat_map}
 use Rattle.kl_ask.specs.Driver.{State}
 use Rattle.kl_ask.specs.declared.settings.Trace.{Trace}

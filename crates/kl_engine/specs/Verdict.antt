@@ -4,8 +4,8 @@ use Rattle.std.specs.List.{flat_map, zip}
 use Rattle.kl_exchange.specs.FileItems.{FileEnd, WholeText, BadAt, TooDeepAt, PastLimit, Shows, most_read}
 use Rattle.kl_value.specs.Written.{text_of, with_commas}
 use Rattle.kl_value.specs.declared.value.Kind.TheVariants as kind
-use Rattle.kl_value.specs.declared.value.Value.{Value}
-use Rattle.kl_value.specs.declared.value.Value.TheVariants as value
+use Rattle.kl_value.specs.declared.Value.{Value, Value-F, out-Value}
+use Rattle.kl_value.specs.declared.Value.TheVariants as value
 use Rattle.kl_type.specs.Ground.{Ground, coll}
 use Rattle.kl_rows.specs.declared.Scheme.{Scheme}
 use Rattle.kl_outcome.specs.Outcome.{Name, Outcome, done, over, stuck}
@@ -109,11 +109,14 @@ first_of None vs = vs
 first_of (Some n) vs = take n vs
 
 -- a collection is cut to its first items
+abbrev pub cut_layer : Option ℕ → Value-F Value → Value → Value
+cut_layer first (Value-F.Set vs) v = value.Set (first_of first vs)
+cut_layer first (Value-F.Bag vs) v = value.Bag (first_of first vs)
+cut_layer first (Value-F.List vs) v = value.List (first_of first vs)
+cut_layer first _ v = v
+
 abbrev pub cut : Option ℕ → Value → Value
-cut first (value.Set vs) = value.Set (first_of first vs)
-cut first (value.Bag vs) = value.Bag (first_of first vs)
-cut first (value.List vs) = value.List (first_of first vs)
-cut first v = v
+cut first v = cut_layer first (out-Value v) v
 
 -- whether so many items are wanted that these are enough
 abbrev pub suffice : Option ℕ → List Value → Bool

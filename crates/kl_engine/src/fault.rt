@@ -83,10 +83,7 @@ pub fn status(fault: &Fault) -> u8
         Fault::Usage => 1,
         Fault::Text(_, _) => 2,
         Fault::IllTyped(_) => 3,
-        Fault::Catalogue(_)
-        | Fault::NameTwice(_)
-        | Fault::NoDriver(_)
-        | Fault::Unsuited(_) => 4,
+        Fault::Catalogue(_) | Fault::NameTwice(_) | Fault::NoDriver(_) | Fault::Unsuited(_) => 4,
         Fault::BadFile(_) | Fault::BadSource(_, _) => 5,
         Fault::Overflow => 6,
         Fault::Read => 7,
@@ -136,10 +133,7 @@ fn write_line<E: Sink>(fault: &Fault, path: &[u8], err: &mut E) -> Result<(), St
             err,
             &[b"catalogue: name ", name.slice(), b" twice\n"],
         ),
-        Fault::NoDriver(name) => write_parts(
-            err,
-            &[b"catalogue: no driver ", name.slice(), b"\n"],
-        ),
+        Fault::NoDriver(name) => write_parts(err, &[b"catalogue: no driver ", name.slice(), b"\n"]),
         Fault::Unsuited(name) => write_parts(
             err,
             &[

@@ -36,7 +36,7 @@ pub fn read_inputs<F: Files>(
     files: &mut F,
 ) -> Result<Inputs, Fault>
     requires { length drivers.now.items < 2 ^ 32 }
-    ensures { ReadsInputs program.now catalogue.now (kinds_of (map (λ d. state d) drivers.now.items)) result (F.state files.old) (F.state files.new) }
+    ensures { ReadsInputs program.now catalogue.now (kinds_of (map (λ d. (Driver-box d).state d.value) drivers.now.items)) result (F.state files.old) (F.state files.new) }
 {
     match read_whole(alloc, files, program.slice(), MOST) {
         Ok(Whole::Bytes(text)) => match read_sources(alloc, catalogue, drivers, files) {
@@ -61,7 +61,7 @@ fn read_sources<F: Files>(
     files: &mut F,
 ) -> Result<Vec<Source>, Fault>
     requires { length drivers.now.items < 2 ^ 32 }
-    ensures { ReadsSources catalogue.now (kinds_of (map (λ d. state d) drivers.now.items)) result (F.state files.old) (F.state files.new) }
+    ensures { ReadsSources catalogue.now (kinds_of (map (λ d. (Driver-box d).state d.value) drivers.now.items)) result (F.state files.old) (F.state files.new) }
 {
     match catalogue {
         None => Ok(Vec::new(alloc)),

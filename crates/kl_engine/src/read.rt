@@ -64,11 +64,7 @@ pub fn infer_over(alloc: Global, scoped: &Scoped, sources: &[Source]) -> Result<
 ///
 /// # Errors
 /// The first declaration whose term is too large; then the first that has no type. Want of memory.
-pub fn infer_types(
-    alloc: Global,
-    scoped: &Scoped,
-    sources: &[(Label, Ty)],
-) -> Result<Typed, Fault>
+pub fn infer_types(alloc: Global, scoped: &Scoped, sources: &[(Label, Ty)]) -> Result<Typed, Fault>
     requires { All (λ s. IsProper s.1) sources.now }
     ensures { Types (types_of sources.now) (decls_of scoped.now.program.defs) (view scoped.now.program.last) result }
 {
@@ -81,11 +77,7 @@ pub fn infer_types(
 }
 
 // The same of whatever size.
-fn infer_any_size(
-    alloc: Global,
-    scoped: &Scoped,
-    sources: &[(Label, Ty)],
-) -> Result<Typed, Fault>
+fn infer_any_size(alloc: Global, scoped: &Scoped, sources: &[(Label, Ty)]) -> Result<Typed, Fault>
     requires { All (λ s. IsProper s.1) sources.now }
     ensures { TypesOfAny (types_of sources.now) (decls_of scoped.now.program.defs) (view scoped.now.program.last) result }
 {

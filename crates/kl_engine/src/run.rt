@@ -19,11 +19,11 @@ ghost use Rattle.kl_engine.specs.Reading.{WasInScope};
 ghost use Rattle.kl_engine.specs.Running.{AnswersTerm, DoneWith, DoneMeaning, IsOutcome, IsListScheme, IsListOutcome, IsValueOutcome, fault_of};
 ghost use Rattle.kl_engine.specs.declared.top.Purpose.TheVariants.{Run};
 
-use crate::fault::Fault;
 use crate::cut::cut;
+use crate::fault::Fault;
 use crate::page::{print_cut_list, print_value};
 use crate::read::{infer_over, read_program};
-use kl_ask::{Driver, DriverError, Session, Settings, Trace};
+use kl_ask::{Driver, DriverError, Seen, Session, Settings, Trace};
 use kl_base::{Label, Seq};
 use kl_core::Term;
 use kl_desugar::translate;
@@ -53,10 +53,10 @@ pub fn run<S: Sink>(
     out: &mut S,
 ) -> Result<(), Fault>
     requires few { length text.now ≤ 65536 }
-    requires placed { ArePlaced (kinds_of (map (λ d. state d) drivers.old.items)) sources.items }
-    requires idle { All IsIdle (map (λ d. state d) drivers.old.items) }
-    requires fetch { 0 < how.now.settings.fetch }
-    ensures { DoesText sources.items (Run how.now.first) text.now (ending result) (map (λ d. state d) drivers.old.items) (map (λ d. state d) drivers.new.items) (S.state out.old) (S.state out.new) }
+    requires placed { ArePlaced (kinds_of (map (λ d. (Driver-box d).state d.value) drivers.old.items)) sources.items }
+    requires idle { All IsIdle (map (λ d. (Driver-box d).state d.value) drivers.old.items) }
+    requires fetch { 0 < how.settings.fetch }
+    ensures { DoesText sources.items (Run how.first) text.now (ending result) (map (λ d. (Driver-box d).state d.value) drivers.old.items) (map (λ d. (Driver-box d).state d.value) drivers.new.items) (S.state out.old) (S.state out.new) }
 {
     match names_of(alloc, &sources) {
         Ok(names) => match read_program(alloc, text, &names) {
@@ -77,10 +77,10 @@ fn run_program<S: Sink>(
     out: &mut S,
 ) -> Result<(), Fault>
     requires scope { WasInScope (names_of sources.items) scoped.now }
-    requires placed { ArePlaced (kinds_of (map (λ d. state d) drivers.old.items)) sources.items }
-    requires idle { All IsIdle (map (λ d. state d) drivers.old.items) }
-    requires fetch { 0 < how.now.settings.fetch }
-    ensures { DoneWith sources.items (is_marked scoped.now) (Run how.now.first) (decls_of scoped.now.program.defs) (view scoped.now.program.last) (ending result) (map (λ d. state d) drivers.old.items) (map (λ d. state d) drivers.new.items) (S.state out.old) (S.state out.new) }
+    requires placed { ArePlaced (kinds_of (map (λ d. (Driver-box d).state d.value) drivers.old.items)) sources.items }
+    requires idle { All IsIdle (map (λ d. (Driver-box d).state d.value) drivers.old.items) }
+    requires fetch { 0 < how.settings.fetch }
+    ensures { DoneWith sources.items (is_marked scoped.now) (Run how.first) (decls_of scoped.now.program.defs) (view scoped.now.program.last) (ending result) (map (λ d. (Driver-box d).state d.value) drivers.old.items) (map (λ d. (Driver-box d).state d.value) drivers.new.items) (S.state out.old) (S.state out.new) }
 {
     match infer_over(alloc, scoped, &sources) {
         Ok(typed) => answer(alloc, scoped, &typed, sources, how, drivers, out),
@@ -99,11 +99,11 @@ fn answer<S: Sink>(
     out: &mut S,
 ) -> Result<(), Fault>
     requires scope { WasInScope (names_of sources.items) scoped.now }
-    requires types { Infers (grounds_of sources.items) (decls_of scoped.now.program.defs) (view scoped.now.program.last) typed.now }
-    requires placed { ArePlaced (kinds_of (map (λ d. state d) drivers.old.items)) sources.items }
-    requires idle { All IsIdle (map (λ d. state d) drivers.old.items) }
-    requires fetch { 0 < how.now.settings.fetch }
-    ensures { DoneMeaning sources.items (is_marked scoped.now) how.now.first (decls_of scoped.now.program.defs) (view scoped.now.program.last) (ending result) (map (λ d. state d) drivers.old.items) (map (λ d. state d) drivers.new.items) (S.state out.old) (S.state out.new) }
+    requires types { Infers (decls_of scoped.now.program.defs) (view scoped.now.program.last) (grounds_of sources.items) typed.now }
+    requires placed { ArePlaced (kinds_of (map (λ d. (Driver-box d).state d.value) drivers.old.items)) sources.items }
+    requires idle { All IsIdle (map (λ d. (Driver-box d).state d.value) drivers.old.items) }
+    requires fetch { 0 < how.settings.fetch }
+    ensures { DoneMeaning sources.items (is_marked scoped.now) how.first (decls_of scoped.now.program.defs) (view scoped.now.program.last) (ending result) (map (λ d. (Driver-box d).state d.value) drivers.old.items) (map (λ d. (Driver-box d).state d.value) drivers.new.items) (S.state out.old) (S.state out.new) }
 {
     let is_list = gives_list(typed);
     match translate(alloc, scoped) {
@@ -135,10 +135,10 @@ fn answer_term<S: Sink>(
     session: &mut Session,
     out: &mut S,
 ) -> Result<(), Fault>
-    requires sense { Sense (term_view term.now) [] (world session.old) }
-    requires list { is_list ≡ true → SenseList (term_view term.now) [] (world session.old) }
-    ensures prints { AnswersTerm (IsOutcome is_list first.now (core (values_of (world session.old)) (term_view term.now) [])) (HaveSources (types_of (world session.old)) (values_of (world session.old))) (ending result) (map (λ d. state d) session.old.drivers.items) (map (λ d. state d) session.new.drivers.items) (S.state out.old) (S.state out.new) }
-    ensures rest { Moved (world session.old) (world session.new) }
+    requires sense { Sense (term_view term.now) [] (⟦<Session as Seen>⟧.world session.old) }
+    requires list { is_list ≡ true → SenseList (term_view term.now) [] (⟦<Session as Seen>⟧.world session.old) }
+    ensures prints { AnswersTerm (IsOutcome is_list first (core (values_of (⟦<Session as Seen>⟧.world session.old)) (term_view term.now) [])) (HaveSources (types_of (⟦<Session as Seen>⟧.world session.old)) (values_of (⟦<Session as Seen>⟧.world session.old))) (ending result) (⟦<Session as Seen>⟧.world session.old).drivers (⟦<Session as Seen>⟧.world session.new).drivers (S.state out.old) (S.state out.new) }
+    ensures rest { Moved (⟦<Session as Seen>⟧.world session.old) (⟦<Session as Seen>⟧.world session.new) }
 {
     if is_list {
         answer_list(alloc, term, first, session, out)
@@ -184,9 +184,9 @@ fn answer_list<S: Sink>(
     session: &mut Session,
     out: &mut S,
 ) -> Result<(), Fault>
-    requires { SenseList (term_view term.now) [] (world session.old) }
-    ensures prints { AnswersTerm (IsListOutcome first.now (core (values_of (world session.old)) (term_view term.now) [])) (HaveSources (types_of (world session.old)) (values_of (world session.old))) (ending result) (map (λ d. state d) session.old.drivers.items) (map (λ d. state d) session.new.drivers.items) (S.state out.old) (S.state out.new) }
-    ensures rest { Moved (world session.old) (world session.new) }
+    requires { SenseList (term_view term.now) [] (⟦<Session as Seen>⟧.world session.old) }
+    ensures prints { AnswersTerm (IsListOutcome first (core (values_of (⟦<Session as Seen>⟧.world session.old)) (term_view term.now) [])) (HaveSources (types_of (⟦<Session as Seen>⟧.world session.old)) (values_of (⟦<Session as Seen>⟧.world session.old))) (ending result) (⟦<Session as Seen>⟧.world session.old).drivers (⟦<Session as Seen>⟧.world session.new).drivers (S.state out.old) (S.state out.new) }
+    ensures rest { Moved (⟦<Session as Seen>⟧.world session.old) (⟦<Session as Seen>⟧.world session.new) }
 {
     let mut env = Vec::new(alloc);
     let mut items = Vec::new(alloc);
@@ -206,9 +206,9 @@ fn answer_value<S: Sink>(
     session: &mut Session,
     out: &mut S,
 ) -> Result<(), Fault>
-    requires { Sense (term_view term.now) [] (world session.old) }
-    ensures prints { AnswersTerm (IsValueOutcome first.now (core (values_of (world session.old)) (term_view term.now) [])) (HaveSources (types_of (world session.old)) (values_of (world session.old))) (ending result) (map (λ d. state d) session.old.drivers.items) (map (λ d. state d) session.new.drivers.items) (S.state out.old) (S.state out.new) }
-    ensures rest { Moved (world session.old) (world session.new) }
+    requires { Sense (term_view term.now) [] (⟦<Session as Seen>⟧.world session.old) }
+    ensures prints { AnswersTerm (IsValueOutcome first (core (values_of (⟦<Session as Seen>⟧.world session.old)) (term_view term.now) [])) (HaveSources (types_of (⟦<Session as Seen>⟧.world session.old)) (values_of (⟦<Session as Seen>⟧.world session.old))) (ending result) (⟦<Session as Seen>⟧.world session.old).drivers (⟦<Session as Seen>⟧.world session.new).drivers (S.state out.old) (S.state out.new) }
+    ensures rest { Moved (⟦<Session as Seen>⟧.world session.old) (⟦<Session as Seen>⟧.world session.new) }
 {
     let mut env = Vec::new(alloc);
     match eval(alloc, term, &mut env, session) {

@@ -73,13 +73,13 @@ pub fn kleisli<F: Files, S: Sink, E: Sink>(
     out: &mut S,
     err: &mut E,
 ) -> Answer
-    requires idle { All IsIdle (map (λ d. state d) drivers.old.items) }
+    requires idle { All IsIdle (map (λ d. (Driver-box d).state d.value) drivers.old.items) }
     requires few { length drivers.old.items < 2 ^ 32 }
-    ensures does { Does (asked (command_of (map (λ w. string_bytes w) words.now))) result.fault (F.state files.old) (F.state files.new) (map (λ d. state d) drivers.old.items) (map (λ d. state d) drivers.new.items) (S.state out.old) (S.state out.new) }
+    ensures does { Does (asked (command_of (map (λ w. string_bytes w) words.now))) result.fault (F.state files.old) (F.state files.new) (map (λ d. (Driver-box d).state d.value) drivers.old.items) (map (λ d. (Driver-box d).state d.value) drivers.new.items) (S.state out.old) (S.state out.new) }
     ensures status { result.status ≡ status_of result.fault }
-    ensures line { TookLine (told_text (wants_stats (command_of (map (λ w. string_bytes w) words.now))) (path_of (asked (command_of (map (λ w. string_bytes w) words.now)))) result.fault result.trace (handed_by (map (λ d. state d) drivers.new.items) - handed_by (map (λ d. state d) drivers.old.items))) (E.state err.old) (E.state err.new) }
+    ensures line { TookLine (told_text (wants_stats (command_of (map (λ w. string_bytes w) words.now))) (path_of (asked (command_of (map (λ w. string_bytes w) words.now)))) result.fault result.trace (handed_by (map (λ d. (Driver-box d).state d.value) drivers.new.items) - handed_by (map (λ d. (Driver-box d).state d.value) drivers.old.items))) (E.state err.old) (E.state err.new) }
     ensures trace { IsBlank result.trace }
-    ensures words_first { command_of (map (λ w. string_bytes w) words.now) ≡ None → (files.new ≡ files.old) × (map (λ d. state d) drivers.new.items ≡ map (λ d. state d) drivers.old.items) × (out.new ≡ out.old) }
+    ensures words_first { command_of (map (λ w. string_bytes w) words.now) ≡ None → (files.new ≡ files.old) × (map (λ d. (Driver-box d).state d.value) drivers.new.items ≡ map (λ d. (Driver-box d).state d.value) drivers.old.items) × (out.new ≡ out.old) }
 {
     let before = rows_handed(drivers);
     match read_words(alloc, words) {
@@ -161,10 +161,10 @@ fn do_run<F: Files, S: Sink>(
     drivers: &mut Vec<Box<dyn Driver>>,
     out: &mut S,
 ) -> Result<(), Fault>
-    requires idle { All IsIdle (map (λ d. state d) drivers.old.items) }
+    requires idle { All IsIdle (map (λ d. (Driver-box d).state d.value) drivers.old.items) }
     requires few { length drivers.old.items < 2 ^ 32 }
     requires fetch { 0 < job.now.settings.fetch }
-    ensures { Does (Program (Run job.now.first) job.now.program job.now.catalogue) (ending result) (F.state files.old) (F.state files.new) (map (λ d. state d) drivers.old.items) (map (λ d. state d) drivers.new.items) (S.state out.old) (S.state out.new) }
+    ensures { Does (Program (Run job.now.first) job.now.program job.now.catalogue) (ending result) (F.state files.old) (F.state files.new) (map (λ d. (Driver-box d).state d.value) drivers.old.items) (map (λ d. (Driver-box d).state d.value) drivers.new.items) (S.state out.old) (S.state out.new) }
 {
     match read_inputs(alloc, &job.program, &job.catalogue, drivers, files) {
         Ok(Inputs { text, sources }) => {
@@ -188,7 +188,7 @@ fn do_types<F: Files, S: Sink>(
     out: &mut S,
 ) -> Result<(), Fault>
     requires { length drivers.now.items < 2 ^ 32 }
-    ensures { Does (Program Types program.now catalogue.now) (ending result) (F.state files.old) (F.state files.new) (map (λ d. state d) drivers.now.items) (map (λ d. state d) drivers.now.items) (S.state out.old) (S.state out.new) }
+    ensures { Does (Program Types program.now catalogue.now) (ending result) (F.state files.old) (F.state files.new) (map (λ d. (Driver-box d).state d.value) drivers.now.items) (map (λ d. (Driver-box d).state d.value) drivers.now.items) (S.state out.old) (S.state out.new) }
 {
     match read_inputs(alloc, program, catalogue, drivers, files) {
         Ok(inputs) => types(alloc, inputs.text.slice(), inputs.sources.slice(), out),
@@ -206,7 +206,7 @@ fn do_check<F: Files, S: Sink>(
     out: &mut S,
 ) -> Result<(), Fault>
     requires { length drivers.now.items < 2 ^ 32 }
-    ensures { Does (Program Check program.now catalogue.now) (ending result) (F.state files.old) (F.state files.new) (map (λ d. state d) drivers.now.items) (map (λ d. state d) drivers.now.items) (S.state out.old) (S.state out.new) }
+    ensures { Does (Program Check program.now catalogue.now) (ending result) (F.state files.old) (F.state files.new) (map (λ d. (Driver-box d).state d.value) drivers.now.items) (map (λ d. (Driver-box d).state d.value) drivers.now.items) (S.state out.old) (S.state out.new) }
 {
     match read_inputs(alloc, program, catalogue, drivers, files) {
         Ok(inputs) => check(alloc, inputs.text.slice(), inputs.sources.slice(), out),

@@ -20,6 +20,7 @@ use Rattle.kl_eval.specs.declared.stop.Halt.TheVariants as halt
 use Rattle.kl_ask.specs.World.{World, Moved, types_of, values_of}
 use Rattle.kl_ask.proofs.Worlds.{moved_none, moved_then, ready_on}
 use Rattle.kl_eval.specs.Comes.{Comes, ItemsCome}
+use Rattle.kl_eval.specs.Sources.{NoSource}
 use Rattle.kl_eval.specs.Evals.{Sense, SenseEach, SenseWhole, PartGives, CallGives, Evals, EvalsPart, EvalsBody, EvalsCall, EvalsInto, AddsAll, OnBody}
 use Rattle.kl_eval.specs.Steps.{Adds, AddsItems, Behind, Outside}
 use Rattle.kl_eval.proofs.Laws.{comes_typed}
@@ -90,7 +91,7 @@ module _ (t : Term) (k : Kind) (ts us : List Term) (env : List Value) (et : t �
           (stop fine, subst (λ q. ItemsCome (types_of a) (values_of a) env (trees_view q) (stop fine)) (sym empty) refl, ap done (sym (canon_none k))) in
       record {
         whole = Ok (collection k []);
-        evals = record { moved = moved_none a; gives = subst (λ q. Comes (types_of a) (values_of a) env q (done (collection k []))) (sym (at_Make t k ts us env et eu)) c };
+        evals = record { moved = moved_none a; still = λ n. refl; gives = subst (λ q. Comes (types_of a) (values_of a) env q (done (collection k []))) (sym (at_Make t k ts us env et eu)) c };
         adds = (k, [], refl, s ∙ sym (append-nil old));
       }
     where
@@ -111,19 +112,19 @@ module _ (t : Term) (k : Kind) (ts us : List Term) (env : List Value) (et : t �
             (more v (stop fine), (done v, h.gives, (stop fine, refl, refl)), ap done (sym (canon_one k v))) in
         record {
           whole = Ok (collection k (v ∷ []));
-          evals = record { moved = h.moved; gives = subst (λ q. Comes (types_of a) (values_of a) env q (done (collection k (v ∷ [])))) (sym one) c };
+          evals = record { moved = h.moved; still = λ n. h.still (subst NoSource one n).0; gives = subst (λ q. Comes (types_of a) (values_of a) env q (done (collection k (v ∷ [])))) (sym one) c };
           adds = (k, v ∷ [], refl, add);
         }
 
     pub into_one_stop : (e : EvalStop) (h : Halt) (old new : List Value) (a b : World) → EvalsPart (view x) env (Err e) a b → Outside e h → new ≡ old → EvalsInto (view t) env (Err h) old new a b
     into_one_stop e h old new a b p o s = into_stop (view t) env h old new a b
-        (evals_stop (view t) (view x) env e h a b p o (λ S T vs c. subst (λ q. Comes S T env q (over [])) (sym one) (stop overflow, (over vs, c, refl), none_over k))) s
+        (evals_stop (view t) (view x) env e h a b p o (λ S T vs c. subst (λ q. Comes S T env q (over [])) (sym one) (stop overflow, (over vs, c, refl), none_over k)) (λ n. (subst NoSource one n).0)) s
 
 -- ---- a primitive that is looked at
 
 module _ (t : Term) (c : ℕ) (ts us : List Term) (env : List Value) (et : t ≡ term.Prim c ts) (eu : us ≡ ts) where
   pub look_prim : (r : Result Value EvalStop) (a b : World) → EvalsCall c (trees_view us) env r a b → EvalsPart (view t) env r a b
-  look_prim r a b h = subst (λ q. EvalsPart q env r a b) (sym (at_Prim t c ts us env et eu)) (record { moved = h.moved; gives = go r h.gives })
+  look_prim r a b h = subst (λ q. EvalsPart q env r a b) (sym (at_Prim t c ts us env et eu)) (record { moved = h.moved; still = h.still; gives = go r h.gives })
     where
       go : (r : Result Value EvalStop) → CallGives (Comes (types_of a) (values_of a) env (prim c (trees_view us))) a b r → PartGives (Comes (types_of a) (values_of a) env (prim c (trees_view us))) a b r
       go (Ok v) h = h

@@ -1,5 +1,5 @@
 -- Each form of a term, from its parts.
-use Rattle.std.proofs.Common.{◌≡◌, ℕ, ◌<◌, ◌≤◌, ◌+◌, ◌⊎◌, inl, inr, ⊎_elim, Bool, true, false, zero, suc, cond, nat_eq, List, [], ◌∷◌, ◌++◌, map, length, drop, get_or, Option, Result, Vec, Some, None, Ok, Err, IsSome, IfOk, All, refl, sym, ◌∙◌, ap, subst, append_assoc, append-nil, rules, arith, slice_get}
+use Rattle.std.proofs.Common.{◌≡◌, ℕ, ◌<◌, ◌≤◌, ◌+◌, ◌⊎◌, inl, inr, ⊎_elim, Bool, true, false, zero, suc, cond, nat_eq, List, [], ◌∷◌, ◌++◌, map, length, drop, get_or, Option, Result, Vec, Some, None, Ok, Err, IsSome, All, refl, sym, ◌∙◌, ap, subst, append_assoc, append-nil, rules, arith, slice_get}
 use Rattle.std.specs.Cmp.Lexicographic.{pointwise, same_text}
 use Rattle.std.proofs.lemmas.Cmp.{nat_list_eq_equiv}
 use Rattle.std.specs.List.{AllByRecursion}
@@ -8,26 +8,25 @@ use Rattle.std.specs.declared.alloc.Global.{Global}
 use Rattle.std.proofs.lemmas.List.{at_drop_more}
 use Rattle.std.proofs.lemmas.Grind.{common_steps}
 use Rattle.std.proofs.lemmas.Option.{slice_get_read}
-use Rattle.std.proofs.lemmas.List.Elements.{recursion_from_All, All-from_recursion}
+use Rattle.std.proofs.lemmas.List.Elements.{All-from_recursion}
 use Rattle.kl_value.specs.Canon.{canonical}
 use Rattle.kl_value.specs.IsCanonical.{IsCanonical}
-use Rattle.kl_value.specs.Views.{Collection, as_bool, as_collection, collection, field_at, IsCollection, IsBool}
-use Rattle.kl_value.proofs.ViewLemmas.{collection_is, collection_form}
+use Rattle.kl_value.specs.Views.{as_bool, as_collection, collection, field_at, IsCollection, IsBool}
+use Rattle.kl_value.proofs.ViewLemmas.{collection_is}
 use Rattle.kl_value.specs.declared.Kind.{Kind}
-use Rattle.kl_value.specs.declared.Kind.TheVariants as kind
 use Rattle.kl_value.specs.declared.Value.{Value}
 use Rattle.kl_value.specs.declared.Value.TheVariants as value
 use Rattle.kl_type.specs.Ground.{Ground, Row, at, bool, rec as rec_type, var as var_type, coll}
-use Rattle.kl_prim.specs.Meaning.{Answer, gives, overflows}
+use Rattle.kl_prim.specs.Meaning.{Answer}
 use Rattle.kl_prim.specs.Table.{Fits, meaning, row_at, Row as Primitive}
 use Rattle.kl_prim.specs.declared.rows.Shape.{Shape}
 use Rattle.kl_prim.specs.declared.rows.Shape.TheVariants as shape
-use Rattle.kl_outcome.specs.Outcome.{Name, Outcome, done, over, stuck, End, Flow, more, stop, fine, overflow, broken, flow, items_in, end_in, outcome_of, answered, field_in, as_record, part, tagged, as_variant, items_of, items_at_all, followed, kept, gathered, collected, joined_to, union_of}
-use Rattle.kl_outcome.specs.Typed.{Has, Inhabits, HaveTypes, OfType, ShapeTypes, RowTypes, PrimTypes}
+use Rattle.kl_outcome.specs.Outcome.{Name, Outcome, done, over, End, Flow, more, stop, fine, overflow, flow, items_in, end_in, outcome_of, answered, as_variant, items_of, items_at_all, followed, kept, gathered, collected, joined_to, union_of}
+use Rattle.kl_outcome.specs.Typed.{Inhabits, HaveTypes, OfType, ShapeTypes, RowTypes, PrimTypes}
 use Rattle.kl_core.specs.declared.term.Term.{Term, the_lemmas}
 use Rattle.kl_core.specs.declared.term.Term.TheVariants as term
 use Rattle.kl_core.specs.Core.{Tables}
-use Rattle.kl_core.specs.Trees.{Tree, var, con, source, rec, proj, inj, case_of, make, union, ext, choice, bind, prim, Trees, no_trees, trees, Parts, no_parts, parts, Arms, no_arms, rest, arm, trees_of, parts_of, arms_of, rest_of, view, view_part, trees_view, parts_view}
+use Rattle.kl_core.specs.Trees.{Tree, source, rec, proj, inj, case_of, make, union, ext, choice, bind, prim, Trees, no_trees, trees, Parts, parts, Arms, arms_of, rest_of, view, view_part, trees_view, parts_view}
 use Rattle.kl_core.specs.Typing.{SourceTypes, CoreTypes, EachType, AllTypes, PartTypes, ArmTypes, HasArm, Covers}
 use Rattle.kl_core.proofs.Views.{view_Var, view_Rec, view_Make, view_Prim, view_option, arms_view, view_Case}
 use Rattle.kl_outcome.proofs.OutcomeTypes.{part_typed, part_is, items_inhabit, FlowOf, items_typed}
@@ -38,10 +37,11 @@ use Rattle.kl_eval.specs.declared.stop.Halt.TheVariants as halt
 use Rattle.kl_ask.specs.World.{World, IsReady, Moved, types_of, values_of}
 use Rattle.kl_ask.proofs.Worlds.{moved_none, moved_then, types_stay, values_stay, ready_on}
 use Rattle.kl_ask.specs.declared.DriverError.{DriverError}
-use Rattle.kl_eval.specs.World.{Reads, StoppedBy, Tabled}
+use Rattle.kl_eval.specs.Sources.{NoSource, NoSourceInTrees, NoSourceInParts, NoSourceInArms}
+use Rattle.kl_eval.specs.World.{Tabled}
 use Rattle.kl_eval.proofs.Stops.{stopped_then}
-use Rattle.kl_eval.specs.Comes.{Then, Picks, Opens, Unites, Leads, Follows, Draws, Comes, ItemsCome, ArgsCome, PartsCome, ArmsCome}
-use Rattle.kl_eval.specs.Evals.{Sense, SenseIn, SenseEach, SenseParts, SenseCall, SenseBody, HasSense, Gives, PartGives, CallGives, FlowGives, FieldsGive, Evals, EvalsPart, EvalsEach, EvalsBody, EvalsFields, EvalsCall, end_of, before, OnEach, OnBody, OnFields}
+use Rattle.kl_eval.specs.Comes.{Picks, Opens, Follows, Draws, Comes, ItemsCome, ArgsCome, PartsCome, ArmsCome}
+use Rattle.kl_eval.specs.Evals.{Sense, SenseIn, SenseEach, SenseParts, SenseCall, SenseBody, HasSense, Gives, PartGives, CallGives, FlowGives, Evals, EvalsPart, EvalsEach, EvalsBody, EvalsFields, EvalsCall, end_of, before, OnEach, OnBody, OnFields}
 use Rattle.kl_eval.specs.Steps.{Answers, inside_of, Outside, Adds, AddsItems, AddsField, Behind, Gathers, AnswersPrim, place_of}
 use Rattle.kl_eval.proofs.Laws.{comes_typed}
 use Rattle.kl_outcome.proofs.PrimLemmas.{prim_fits}
@@ -146,25 +146,26 @@ module _ (a b c : World) (m : Moved a b) where
   flow_from P (Err halt.NoMemory) h = tt
 
 pub evals_part : (t : Tree) (env : List Value) (r : Result Value Halt) (q : Result Value EvalStop) (a b : World) → Evals t env r a b → q ≡ inside_of r → EvalsPart t env q a b
-evals_part t env r q a b h e = record { moved = h.moved; gives = gives_inside (Comes (types_of a) (values_of a) env t) a b r q e h.gives }
+evals_part t env r q a b h e = record { moved = h.moved; still = h.still; gives = gives_inside (Comes (types_of a) (values_of a) env t) a b r q e h.gives }
 
 -- a part, and then a term
 module _ (t x t' : Tree) (env env' : List Value) (v : Value) where
   abbrev Step : Type 0
   Step = (S : SourceTypes) (T : Tables) (o : Outcome) → Comes S T env x (done v) → Comes S T env' t' o → Comes S T env t o
 
-  evals_then : (r : Result Value Halt) (a b c : World) → EvalsPart x env (Ok v) a b → Evals t' env' r b c → Step → Evals t env r a c
-  evals_then r a b c h k f = record {
+  evals_then : (r : Result Value Halt) (a b c : World) → EvalsPart x env (Ok v) a b → Evals t' env' r b c → Step → (NoSource t → NoSource x × NoSource t') → Evals t env r a c
+  evals_then r a b c h k f none = record {
     moved = moved_then a b c h.moved k.moved;
+    still = λ n. k.still (none n).1 ∙ h.still (none n).0;
     gives = gives_map (Comes (types_of a) (values_of a) env' t') (Comes (types_of a) (values_of a) env t) a c r (λ o d. f (types_of a) (values_of a) o h.gives d)
         (gives_from a b c h.moved (Comes (types_of a) (values_of a) env' t') r (back (λ S T. Gives (Comes S T env' t') b c r) a b h.moved k.gives));
   }
 
-evals_made : (t x : Tree) (env : List Value) (v u : Value) (r : Result Value Halt) (a b : World) → EvalsPart x env (Ok v) a b → Answers (done u) r → ((S : SourceTypes) (T : Tables) → Comes S T env x (done v) → Comes S T env t (done u)) → Evals t env r a b
-evals_made t x env v u r a b h k f = record { moved = h.moved; gives = gives_made (Comes (types_of a) (values_of a) env t) a b u r (f (types_of a) (values_of a) h.gives) k }
+evals_made : (t x : Tree) (env : List Value) (v u : Value) (r : Result Value Halt) (a b : World) → EvalsPart x env (Ok v) a b → Answers (done u) r → ((S : SourceTypes) (T : Tables) → Comes S T env x (done v) → Comes S T env t (done u)) → (NoSource t → NoSource x) → Evals t env r a b
+evals_made t x env v u r a b h k f none = record { moved = h.moved; still = λ n. h.still (none n); gives = gives_made (Comes (types_of a) (values_of a) env t) a b u r (f (types_of a) (values_of a) h.gives) k }
 
-pub evals_stop : (t x : Tree) (env : List Value) (e : EvalStop) (h : Halt) (a b : World) → EvalsPart x env (Err e) a b → Outside e h → ((S : SourceTypes) (T : Tables) (vs : List Value) → Comes S T env x (over vs) → Comes S T env t (over [])) → Evals t env (Err h) a b
-evals_stop t x env e h a b p o f = record { moved = p.moved; gives = gives_stop (Comes (types_of a) (values_of a) env x) (Comes (types_of a) (values_of a) env t) a b e h p.gives o (f (types_of a) (values_of a)) }
+pub evals_stop : (t x : Tree) (env : List Value) (e : EvalStop) (h : Halt) (a b : World) → EvalsPart x env (Err e) a b → Outside e h → ((S : SourceTypes) (T : Tables) (vs : List Value) → Comes S T env x (over vs) → Comes S T env t (over [])) → (NoSource t → NoSource x) → Evals t env (Err h) a b
+evals_stop t x env e h a b p o f none = record { moved = p.moved; still = λ n. p.still (none n); gives = gives_stop (Comes (types_of a) (values_of a) env x) (Comes (types_of a) (values_of a) env t) a b e h p.gives o (f (types_of a) (values_of a)) }
 
 -- ---- variables, constants and sources
 
@@ -182,7 +183,7 @@ pub come_var : (t : Term) (x : ℕ) (v : Value) (env : List Value) → t ≡ ter
 come_var t x v env e g S T = subst (λ q. Comes S T env q (done v)) (sym (ap view e ∙ view_Var x)) (sym (ap outcome_of g))
 
 pub value_var : (t : Term) (x : ℕ) (env : List Value) (v : Value) (r : Result Value Halt) (a : World) → t ≡ term.Var x → slice_get env x ≡ Some v → Answers (done v) r → Evals (view t) env r a a
-value_var t x env v r a e g k = record { moved = moved_none a; gives = gives_made (Comes (types_of a) (values_of a) env (view t)) a a v r (come_var t x v env e g (types_of a) (values_of a)) k }
+value_var t x env v r a e g k = record { moved = moved_none a; still = λ n. refl; gives = gives_made (Comes (types_of a) (values_of a) env (view t)) a a v r (come_var t x v env e g (types_of a) (values_of a)) k }
 
 -- ---- fields
 
@@ -223,10 +224,10 @@ there_field t l m x x' env v w a b et em ex ew s h = subst (λ q. IsSome (field_
 
 pub value_proj : (t : Term) (l m : Name) (x x' : Term) (env : List Value) (v w u : Value) (r : Result Value Halt) (a b : World) → t ≡ term.Proj l x → m ≡ l → x' ≡ x → w ≡ v → field_at m w ≡ Some u → EvalsPart (view x') env (Ok v) a b → Answers (done u) r → Evals (view t) env r a b
 value_proj t l m x x' env v w u r a b et em ex ew ef h k =
-    evals_made (view t) (view x') env v u r a b h k (λ S T c. come_proj S T t l m x x' env et em ex v u (ap (field_at m) (sym ew) ∙ ef) c)
+    evals_made (view t) (view x') env v u r a b h k (λ S T c. come_proj S T t l m x x' env et em ex v u (ap (field_at m) (sym ew) ∙ ef) c) (subst NoSource (at_Proj (types_of a) (values_of a) t l m x x' env et em ex))
 
 pub value_proj_stop : (t : Term) (l m : Name) (x x' : Term) (env : List Value) (e : EvalStop) (h : Halt) (a b : World) → t ≡ term.Proj l x → m ≡ l → x' ≡ x → EvalsPart (view x') env (Err e) a b → Outside e h → Evals (view t) env (Err h) a b
-value_proj_stop t l m x x' env e h a b et em ex p o = evals_stop (view t) (view x') env e h a b p o (λ S T vs c. come_proj_over S T t l m x x' env et em ex vs c)
+value_proj_stop t l m x x' env e h a b et em ex p o = evals_stop (view t) (view x') env e h a b p o (λ S T vs c. come_proj_over S T t l m x x' env et em ex vs c) (subst NoSource (at_Proj (types_of a) (values_of a) t l m x x' env et em ex))
 
 -- ---- variants
 
@@ -238,25 +239,18 @@ module _ (t : Term) (l m : Name) (x x' : Term) (env : List Value) (et : t ≡ te
   sense_inj a s = let s' = subst (λ q. Sense q env a) at_Inj s in (s'.0, s'.3.1, s'.2, s'.3.4, s'.4)
 
   pub value_inj : (v : Value) (r : Result Value Halt) (a b : World) → EvalsPart (view x') env (Ok v) a b → Answers (done (value.Inj m v)) r → Evals (view t) env r a b
-  value_inj v r a b h k = evals_made (view t) (view x') env v (value.Inj m v) r a b h k (λ S T c. subst (λ q. Comes S T env q (done (value.Inj m v))) (sym at_Inj) (done v, c, refl))
+  value_inj v r a b h k = evals_made (view t) (view x') env v (value.Inj m v) r a b h k (λ S T c. subst (λ q. Comes S T env q (done (value.Inj m v))) (sym at_Inj) (done v, c, refl)) (subst NoSource at_Inj)
 
   pub value_inj_stop : (e : EvalStop) (h : Halt) (a b : World) → EvalsPart (view x') env (Err e) a b → Outside e h → Evals (view t) env (Err h) a b
-  value_inj_stop e h a b p o = evals_stop (view t) (view x') env e h a b p o (λ S T vs c. subst (λ q. Comes S T env q (over [])) (sym at_Inj) (over vs, c, refl))
+  value_inj_stop e h a b p o = evals_stop (view t) (view x') env e h a b p o (λ S T vs c. subst (λ q. Comes S T env q (over [])) (sym at_Inj) (over vs, c, refl)) (subst NoSource at_Inj)
 
 -- ---- `If`
 
 pub evals_lent : (t : Tree) (env : List Value) (v : Value) (a : World) → ((S : SourceTypes) (T : Tables) → Comes S T env t (done v)) → EvalsPart t env (Ok v) a a
-evals_lent t env v a f = record { moved = moved_none a; gives = f (types_of a) (values_of a) }
+evals_lent t env v a f = record { moved = moved_none a; still = λ n. refl; gives = f (types_of a) (values_of a) }
 
 pub over_gives : (t : Tree) (env : List Value) (f : Halt) (vs : Vec Value Global) (a b : World) → f ≡ halt.Over vs → Evals t env (Err f) a b → Comes (types_of a) (values_of a) env t (over vs.items)
 over_gives t env f vs a b e h = (subst (λ q. Evals t env (Err q) a b) e h).gives
-
-pub evals_lost : (t : Tree) (env : List Value) (a b : World) → Moved a b → Evals t env (Err halt.NoMemory) a b
-evals_lost t env a b m = record { moved = m; gives = tt }
-
--- what stopped a part by a driver stops the whole
-pub evals_refused : (t x : Tree) (env : List Value) (q : Halt) (l : Name) (e : DriverError) (a b : World) → q ≡ halt.Driver l e → Evals x env (Err q) a b → Evals t env (Err (halt.Driver l e)) a b
-evals_refused t x env q l e a b eq h = let h' = subst (λ z. Evals x env (Err z) a b) eq h in record { moved = h'.moved; gives = h'.gives }
 
 abbrev pub picked : Bool → Term → Term → Term
 picked true y z = y
@@ -287,13 +281,18 @@ module _ (t x y z x' : Term) (env : List Value) (et : t ≡ term.If x y z) (ex :
   value_if p v w bit r a b c ep ew eb h k =
       evals_then (view t) (view x') (view (picked bit y z)) env env v r a b c h (subst (λ q. Evals (view q) env r b c) ep k)
       (λ S T o d e. subst (λ q. Comes S T env q o) (sym at_If) (done v, d, subst (λ q. Picks q (Comes S T env (view y)) (Comes S T env (view z)) o) (sym (ap as_bool (sym ew) ∙ eb)) (by_bit bit S T o e)))
+      (λ n. let m = subst NoSource at_If n in (m.0, none_picked bit m))
     where
+      none_picked : (bit : Bool) → NoSource (choice (view x') (view y) (view z)) → NoSource (view (picked bit y z))
+      none_picked true n = n.1
+      none_picked false n = n.2
+
       by_bit : (bit : Bool) (S : SourceTypes) (T : Tables) (o : Outcome) → Comes S T env (view (picked bit y z)) o → Picks (Some bit) (Comes S T env (view y)) (Comes S T env (view z)) o
       by_bit true S T o h = h
       by_bit false S T o h = h
 
   pub value_if_stop : (e : EvalStop) (h : Halt) (a b : World) → EvalsPart (view x') env (Err e) a b → Outside e h → Evals (view t) env (Err h) a b
-  value_if_stop e h a b p o = evals_stop (view t) (view x') env e h a b p o (λ S T vs c. subst (λ q. Comes S T env q (over [])) (sym at_If) (over vs, c, refl))
+  value_if_stop e h a b p o = evals_stop (view t) (view x') env e h a b p o (λ S T vs c. subst (λ q. Comes S T env q (over [])) (sym at_If) (over vs, c, refl)) (λ n. (subst NoSource at_If n).0)
 
 -- ---- `Let`
 
@@ -315,9 +314,10 @@ module _ (t x y x' : Term) (env : List Value) (et : t ≡ term.Let x y) (ex : x'
   value_let y' v w r a b c ey ew h k =
       evals_then (view t) (view x') (view y) env (v ∷ env) v r a b c h (subst (λ q. Evals (view y) (q ∷ env) r b c) ew (subst (λ q. Evals (view q) (w ∷ env) r b c) ey k))
       (λ S T o d e. subst (λ q. Comes S T env q o) (sym at_Let) (done v, d, e))
+      (subst NoSource at_Let)
 
   pub value_let_stop : (e : EvalStop) (h : Halt) (a b : World) → EvalsPart (view x') env (Err e) a b → Outside e h → Evals (view t) env (Err h) a b
-  value_let_stop e h a b p o = evals_stop (view t) (view x') env e h a b p o (λ S T vs c. subst (λ q. Comes S T env q (over [])) (sym at_Let) (over vs, c, refl))
+  value_let_stop e h a b p o = evals_stop (view t) (view x') env e h a b p o (λ S T vs c. subst (λ q. Comes S T env q (over [])) (sym at_Let) (over vs, c, refl)) (λ n. (subst NoSource at_Let n).0)
 
 -- ---- `Case`
 
@@ -351,6 +351,16 @@ module _ (S : SourceTypes) (T : Tables) (env : List Value) (last : Arms) (l : Na
       by_label : (place_of l ps ≡ None → ArmsCome S T env (arms_of (map view_part ps) last) l v o) → (b : Bool) → pointwise nat_eq l q.0 ≡ b → cond (pointwise nat_eq l q.0) (Comes S T (v ∷ env) (view q.1) o) (ArmsCome S T env (arms_of (map view_part ps) last) l v o)
       by_label again true is = let z : Some 0 ≡ None = rw is at e in cc
       by_label again false is = rw is (later again (place_of l ps) refl (rw is at e))
+
+-- no source stands in them
+none_at : (last : Arms) (ps : List (Name × Term)) (i : ℕ) (p : Name × Term) → slice_get ps i ≡ Some p → NoSourceInArms (arms_of (map view_part ps) last) → NoSource (view p.1)
+none_at last [] i p e n = cc
+none_at last (q ∷ ps) zero p e n = let at_p : Some q ≡ Some p = e in let same : q ≡ p = cc in subst (λ z. NoSource (view z.1)) same n.0
+none_at last (q ∷ ps) (suc i) p e n = none_at last ps i p e n.1
+
+none_last : (last : Arms) (ps : List (Name × Term)) → NoSourceInArms (arms_of (map view_part ps) last) → NoSourceInArms last
+none_last last [] n = n
+none_last last (q ∷ ps) n = none_last last ps n.1
 
 -- their types
 module _ (S : SourceTypes) (G : List Ground) (last : Arms) (r : Row) (s : Ground) (l : Name) (u : Ground) (there : at l r ≡ Some u) where
@@ -453,19 +463,21 @@ module _ (t x x' : Term) (ps qs : List (Name × Term)) (c : Option Term) (env : 
       → EvalsPart (view x') env (Ok v) a b → Evals (view p.1) (u ∷ env) r b d → Evals (view t) env r a d
   value_branch v w l u i p r a b d ew ev e g h k =
       evals_then (view t) (view x') (view p.1) env (u ∷ env) v r a b d h k (λ S T o f z. opens v w l u S T o ew ev f (arm_at S T env (rest_of (view_option c)) l u o qs i p e g z))
+      (λ n. let m = subst NoSource at_Case n in (m.0, none_at (rest_of (view_option c)) qs i p g m.1))
 
   pub value_other : (v w : Value) (l : Name) (u : Value) (y : Term) (r : Result Value Halt) (a b d : World) → w ≡ v → as_variant w ≡ Some (l, u) → place_of l qs ≡ None → c ≡ Some y
       → EvalsPart (view x') env (Ok v) a b → Evals (view y) env r b d → Evals (view t) env r a d
   value_other v w l u y r a b d ew ev e ec h k =
       evals_then (view t) (view x') (view y) env env v r a b d h k
       (λ S T o f z. opens v w l u S T o ew ev f (arm_none S T env (rest_of (view_option c)) l u o qs e (subst (λ q. ArmsCome S T env (rest_of (view_option q)) l u o) (sym ec) z)))
+      (λ n. let m = subst NoSource at_Case n in (m.0, subst (λ q. NoSourceInArms (rest_of (view_option q))) ec (none_last (rest_of (view_option c)) qs m.1)))
 
   pub value_other_at : (v w : Value) (l : Name) (u : Value) (y y' : Term) (r : Result Value Halt) (a b d : World) → w ≡ v → as_variant w ≡ Some (l, u) → place_of l qs ≡ None → c ≡ Some y → y' ≡ y
       → EvalsPart (view x') env (Ok v) a b → Evals (view y') env r b d → Evals (view t) env r a d
   value_other_at v w l u y y' r a b d ew ev e ec ey h k = value_other v w l u y r a b d ew ev e ec h (subst (λ q. Evals (view q) env r b d) ey k)
 
   pub value_case_stop : (e : EvalStop) (h : Halt) (a b : World) → EvalsPart (view x') env (Err e) a b → Outside e h → Evals (view t) env (Err h) a b
-  value_case_stop e h a b p o = evals_stop (view t) (view x') env e h a b p o (λ S T vs c. subst (λ q. Comes S T env q (over [])) (sym at_Case) (over vs, c, refl))
+  value_case_stop e h a b p o = evals_stop (view t) (view x') env e h a b p o (λ S T vs c. subst (λ q. Comes S T env q (over [])) (sym at_Case) (over vs, c, refl)) (λ n. (subst NoSource at_Case n).0)
 
 -- ---- what is drawn
 
@@ -498,7 +510,7 @@ module _ (t : Term) (k : Kind) (ts us : List Term) (env : List Value) (et : t �
   pub value_make : (d : Result (Vec Value Global) Halt) (r : Result Value Halt) (a b : World) → EvalsEach (trees_view us) env d a b → Gathers k d r → Evals (view t) env r a b
   value_make d r a b h g =
       subst (λ q. Evals q env r a b) (sym at_Make)
-      (record { moved = h.moved; gives = gathers (ItemsCome (types_of a) (values_of a) env (trees_view us)) (Comes (types_of a) (values_of a) env (make k (trees_view us))) k a b d r (λ f c. (f, c, refl)) h.gives g })
+      (record { moved = h.moved; still = h.still; gives = gathers (ItemsCome (types_of a) (values_of a) env (trees_view us)) (Comes (types_of a) (values_of a) env (make k (trees_view us))) k a b d r (λ f c. (f, c, refl)) h.gives g })
 
 -- ---- a loop
 
@@ -529,16 +541,24 @@ module _ (t : Term) (k : Kind) (x y x' y' : Term) (env : List Value) (et : t ≡
       front u [] h = tt
       front u (v ∷ vs) h = (h.0, front u vs h.1)
 
-  pub value_loop : (p : Outcome) (vs : List Value) (e : End) (d : Result (Vec Value Global) Halt) (r : Result Value Halt) (a b c : World) → Moved a b → items_of p ≡ flow vs e → Comes (types_of a) (values_of a) env (view y') p
+  pub value_loop : (p : Outcome) (vs : List Value) (e : End) (d : Result (Vec Value Global) Halt) (r : Result Value Halt) (a b c : World) → Moved a b → (NoSource (view y') → b ≡ a) → items_of p ≡ flow vs e → Comes (types_of a) (values_of a) env (view y') p
       → EvalsBody (view x') (flow vs e) env d b c → Gathers k d r → Evals (view t) env r a c
-  value_loop p vs e d r a b c m is h i g =
+  value_loop p vs e d r a b c m calm is h i g =
       subst (λ q. Evals q env r a c) (sym at_Ext)
       (record {
         moved = moved_then a b c m i.moved;
+        still = λ n. i.still n.0 ∙ calm n.1;
         gives = gathers (Draws (λ v. Comes (types_of a) (values_of a) (v ∷ env) (view x')) (flow vs e)) (Comes (types_of a) (values_of a) env (ext k (view x') (view y'))) k a c d r
             (λ f q. (p, f, h, subst (λ z. Draws (λ v. Comes (types_of a) (values_of a) (v ∷ env) (view x')) z f) (sym is) q, refl))
             (flow_from a b c m (Draws (λ v. Comes (types_of a) (values_of a) (v ∷ env) (view x')) (flow vs e)) d (back (λ S T. FlowGives (Draws (λ v. Comes S T (v ∷ env) (view x')) (flow vs e)) b c d) a b m i.gives)) g;
       })
+
+  -- want of memory in its source, and what a driver stopped there
+  pub loop_lost : (q : Halt) (a b : World) → Evals (view y') env (Err q) a b → Evals (view t) env (Err halt.NoMemory) a b
+  loop_lost q a b h = record { moved = h.moved; still = λ n. h.still (subst NoSource at_Ext n).1; gives = tt }
+
+  pub loop_refused : (q : Halt) (l : Name) (e : DriverError) (a b : World) → q ≡ halt.Driver l e → Evals (view y') env (Err q) a b → Evals (view t) env (Err (halt.Driver l e)) a b
+  loop_refused q l e a b eq h = let h' = subst (λ z. Evals (view y') env (Err z) a b) eq h in record { moved = h'.moved; still = λ n. h'.still (subst NoSource at_Ext n).1; gives = h'.gives }
 
 -- the items of a collection, or before an overflow
 pub items_done : (v : Value) (k : Kind) (vs : List Value) → as_collection v ≡ Some (record { kind = k; items = vs }) → items_of (done v) ≡ flow vs fine
@@ -588,6 +608,9 @@ module _ (t : Term) (x y x' : Term) (env : List Value) (et : t ≡ term.Union x 
       ∙ ap (λ z. collected k (followed (flow vs fine) z)) eq ∙ ap (collected k) (flow_more vs ws e) ∙ collected_flow k (vs ++ ws) e) in
       subst (λ z. Comes S T env z (gathered k e (vs ++ ws))) (sym at_Union) (done v, c, (q, d, is))
 
+  both_still : (y' : Term) (a b c : World) → y' ≡ y → (NoSource (view x') → b ≡ a) → (NoSource (view y') → c ≡ b) → NoSource (view t) → c ≡ a
+  both_still y' a b c ey h g n = let m = subst NoSource at_Union n in g (subst (λ z. NoSource (view z)) (sym ey) m.1) ∙ h m.0
+
   pub value_union : (y' : Term) (v w : Value) (k : Kind) (vs both : List Value) (r : Result Value Halt) (a b c : World) → y' ≡ y → v ≡ collection k vs → AddsItems w (Ok tt) vs both
       → Evals (view x') env (Ok v) a b → Evals (view y') env (Ok w) b c → Answers (done (canonical k both)) r → Evals (view t) env r a c
   value_union y' v w k vs both r a b c ey ev add h g m =
@@ -596,15 +619,16 @@ module _ (t : Term) (x y x' : Term) (env : List Value) (et : t ≡ term.Union x 
       let is : items_of (done w) ≡ flow ws fine = ap items_at_all (ap as_collection add.2 ∙ collection_is add.0 ws) in
       record {
         moved = moved_then a b c h.moved g'.moved;
+        still = both_still y' a b c ey h.still g.still;
         gives = gives_made (Comes (types_of a) (values_of a) env (view t)) a c (canonical k both) r
             (subst (λ z. Comes (types_of a) (values_of a) env (view t) (done (canonical k z))) (sym add.3)
             (unites v k vs (done w) ws fine (types_of a) (values_of a) ev is h.gives (back (λ S T. Comes S T env (view y) (done w)) a b h.moved g'.gives))) m;
       }
 
-  pub value_union_lost : (y' : Term) (v w : Value) (vs both : List Value) (e : Halt) (a b c : World) → Evals (view x') env (Ok v) a b → Evals (view y') env (Ok w) b c → AddsItems w (Err e) vs both → Evals (view t) env (Err e) a c
-  value_union_lost y' v w vs both (halt.Over us) a b c h g add = absurd add.3
-  value_union_lost y' v w vs both (halt.Driver l e) a b c h g add = absurd add.3
-  value_union_lost y' v w vs both halt.NoMemory a b c h g add = record { moved = moved_then a b c h.moved g.moved; gives = tt }
+  pub value_union_lost : (y' : Term) (v w : Value) (vs both : List Value) (e : Halt) (a b c : World) → y' ≡ y → Evals (view x') env (Ok v) a b → Evals (view y') env (Ok w) b c → AddsItems w (Err e) vs both → Evals (view t) env (Err e) a c
+  value_union_lost y' v w vs both (halt.Over us) a b c ey h g add = absurd add.3
+  value_union_lost y' v w vs both (halt.Driver l e) a b c ey h g add = absurd add.3
+  value_union_lost y' v w vs both halt.NoMemory a b c ey h g add = record { moved = moved_then a b c h.moved g.moved; still = both_still y' a b c ey h.still g.still; gives = tt }
 
   pub value_union_over : (y' : Term) (v : Value) (k : Kind) (vs : List Value) (e f : Halt) (r : Result Value Halt) (a b c : World) → y' ≡ y → v ≡ collection k vs → Behind vs e f
       → Evals (view x') env (Ok v) a b → Evals (view y') env (Err e) b c → Gathers k (Err f) r → Evals (view t) env r a c
@@ -612,25 +636,27 @@ module _ (t : Term) (x y x' : Term) (env : List Value) (et : t ≡ term.Union x 
       let g' = subst (λ q. Evals (view q) env (Err (halt.Over ws)) b c) ey g in
       record {
         moved = moved_then a b c h.moved g'.moved;
+        still = both_still y' a b c ey h.still g.still;
         gives = gives_over (Comes (types_of a) (values_of a) env (view t)) a c (kept k us.items) r
             (subst (λ z. Comes (types_of a) (values_of a) env (view t) (over (kept k z))) (sym e)
             (unites v k vs (over ws.items) ws.items overflow (types_of a) (values_of a) ev refl h.gives (back (λ S T. Comes S T env (view y) (over ws.items)) a b h.moved g'.gives))) m;
       }
-  value_union_over y' v k vs (halt.Over ws) halt.NoMemory r a b c ey ev e h g m = record { moved = moved_then a b c h.moved g.moved; gives = subst (Gives (Comes (types_of a) (values_of a) env (view t)) a c) (sym m) tt }
+  value_union_over y' v k vs (halt.Over ws) halt.NoMemory r a b c ey ev e h g m = record { moved = moved_then a b c h.moved g.moved; still = both_still y' a b c ey h.still g.still; gives = subst (Gives (Comes (types_of a) (values_of a) env (view t)) a c) (sym m) tt }
   value_union_over y' v k vs (halt.Over ws) (halt.Driver l f) r a b c ey ev e h g m = absurd e
   value_union_over y' v k vs (halt.Driver l f) q r a b c ey ev e h g m =
       record {
         moved = moved_then a b c h.moved g.moved;
+        still = both_still y' a b c ey h.still g.still;
         gives = subst (Gives (Comes (types_of a) (values_of a) env (view t)) a c) (sym (subst (λ z. Gathers k (Err z) r) e m)) (stopped_then l f a b c h.moved g.gives);
       }
   value_union_over y' v k vs halt.NoMemory (halt.Over us) r a b c ey ev e h g m = absurd e
   value_union_over y' v k vs halt.NoMemory (halt.Driver l f) r a b c ey ev e h g m = absurd e
-  value_union_over y' v k vs halt.NoMemory halt.NoMemory r a b c ey ev e h g m = record { moved = moved_then a b c h.moved g.moved; gives = subst (Gives (Comes (types_of a) (values_of a) env (view t)) a c) (sym m) tt }
+  value_union_over y' v k vs halt.NoMemory halt.NoMemory r a b c ey ev e h g m = record { moved = moved_then a b c h.moved g.moved; still = both_still y' a b c ey h.still g.still; gives = subst (Gives (Comes (types_of a) (values_of a) env (view t)) a c) (sym m) tt }
 
   pub value_union_first : (e : Halt) (a b : World) → Evals (view x') env (Err e) a b → Evals (view t) env (Err e) a b
-  value_union_first (halt.Over vs) a b h = record { moved = h.moved; gives = subst (λ z. Comes (types_of a) (values_of a) env z (over vs.items)) (sym at_Union) (over vs.items, h.gives, refl) }
-  value_union_first (halt.Driver l e) a b h = record { moved = h.moved; gives = h.gives }
-  value_union_first halt.NoMemory a b h = record { moved = h.moved; gives = tt }
+  value_union_first (halt.Over vs) a b h = record { moved = h.moved; still = λ n. h.still (subst NoSource at_Union n).0; gives = subst (λ z. Comes (types_of a) (values_of a) env z (over vs.items)) (sym at_Union) (over vs.items, h.gives, refl) }
+  value_union_first (halt.Driver l e) a b h = record { moved = h.moved; still = λ n. h.still (subst NoSource at_Union n).0; gives = h.gives }
+  value_union_first halt.NoMemory a b h = record { moved = h.moved; still = λ n. h.still (subst NoSource at_Union n).0; gives = tt }
 
 -- ---- a record
 
@@ -642,16 +668,16 @@ module _ (t : Term) (ps qs : List (Name × Term)) (env : List Value) (et : t ≡
   sense_rec a s = let s' = subst (λ q. Sense q env a) at_Rec s in (s'.0, s'.3.0, s'.2, s'.3.3, s'.4)
 
   pub value_rec : (fs : Vec (Name × Value) Global) (gs : List (Name × Value)) (a b : World) → gs ≡ fs.items → EvalsFields (parts_view qs) env (Ok fs) a b → Evals (view t) env (Ok (value.Rec gs)) a b
-  value_rec fs gs a b eg h = record { moved = h.moved; gives = subst (λ z. Comes (types_of a) (values_of a) env z (done (value.Rec gs))) (sym at_Rec) (subst (λ z. PartsCome (types_of a) (values_of a) env (parts_view qs) (λ fs. done (value.Rec fs)) (done (value.Rec z))) (sym eg) (h.gives (λ fs. done (value.Rec fs)))) }
+  value_rec fs gs a b eg h = record { moved = h.moved; still = λ n. h.still (subst NoSource at_Rec n); gives = subst (λ z. Comes (types_of a) (values_of a) env z (done (value.Rec gs))) (sym at_Rec) (subst (λ z. PartsCome (types_of a) (values_of a) env (parts_view qs) (λ fs. done (value.Rec fs)) (done (value.Rec z))) (sym eg) (h.gives (λ fs. done (value.Rec fs)))) }
 
   pub value_rec_stop : (e : EvalStop) (h : Halt) (a b : World) → EvalsFields (parts_view qs) env (Err e) a b → Outside e h → Evals (view t) env (Err h) a b
-  value_rec_stop eval_stop.Overflow (halt.Over ws) a b p o = record { moved = p.moved; gives = subst (λ z. Comes (types_of a) (values_of a) env (view t) (over z)) (sym o) (subst (λ z. Comes (types_of a) (values_of a) env z (over [])) (sym at_Rec) (p.gives (λ fs. done (value.Rec fs)))) }
+  value_rec_stop eval_stop.Overflow (halt.Over ws) a b p o = record { moved = p.moved; still = λ n. p.still (subst NoSource at_Rec n); gives = subst (λ z. Comes (types_of a) (values_of a) env (view t) (over z)) (sym o) (subst (λ z. Comes (types_of a) (values_of a) env z (over [])) (sym at_Rec) (p.gives (λ fs. done (value.Rec fs)))) }
   value_rec_stop eval_stop.Overflow (halt.Driver l e) a b p o = absurd o
   value_rec_stop eval_stop.Overflow halt.NoMemory a b p o = absurd o
-  value_rec_stop (eval_stop.Driver l e) h a b p o = subst (λ q. Evals (view t) env (Err q) a b) (sym o) (record { moved = p.moved; gives = p.gives })
+  value_rec_stop (eval_stop.Driver l e) h a b p o = subst (λ q. Evals (view t) env (Err q) a b) (sym o) (record { moved = p.moved; still = λ n. p.still (subst NoSource at_Rec n); gives = p.gives })
   value_rec_stop eval_stop.NoMemory (halt.Over ws) a b p o = absurd o
   value_rec_stop eval_stop.NoMemory (halt.Driver l e) a b p o = absurd o
-  value_rec_stop eval_stop.NoMemory halt.NoMemory a b p o = record { moved = p.moved; gives = tt }
+  value_rec_stop eval_stop.NoMemory halt.NoMemory a b p o = record { moved = p.moved; still = λ n. p.still (subst NoSource at_Rec n); gives = tt }
 
 -- ---- a source
 
@@ -666,14 +692,14 @@ module _ (t : Term) (i : ℕ) (env : List Value) (et : t ≡ term.Source i) wher
   source_ready a s = s.4
 
   pub value_source : (v : Value) (a b : World) → Tabled i (Ok v) a b → Evals (view t) env (Ok v) a b
-  value_source v a b h = record { moved = h.moved; gives = subst (λ z. Comes (types_of a) (values_of a) env z (done v)) (sym at_Source) (v, h.gives, refl) }
+  value_source v a b h = record { moved = h.moved; still = λ n. absurd (subst NoSource at_Source n); gives = subst (λ z. Comes (types_of a) (values_of a) env z (done v)) (sym at_Source) (v, h.gives, refl) }
 
   pub value_source_stop : (e : EvalStop) (h : Halt) (a b : World) → Tabled i (Err e) a b → Outside e h → Evals (view t) env (Err h) a b
   value_source_stop eval_stop.Overflow h a b p o = absurd p.gives
-  value_source_stop (eval_stop.Driver l e) h a b p o = subst (λ q. Evals (view t) env (Err q) a b) (sym o) (record { moved = p.moved; gives = p.gives })
+  value_source_stop (eval_stop.Driver l e) h a b p o = subst (λ q. Evals (view t) env (Err q) a b) (sym o) (record { moved = p.moved; still = λ n. absurd (subst NoSource at_Source n); gives = p.gives })
   value_source_stop eval_stop.NoMemory (halt.Over ws) a b p o = absurd o
   value_source_stop eval_stop.NoMemory (halt.Driver l e) a b p o = absurd o
-  value_source_stop eval_stop.NoMemory halt.NoMemory a b p o = record { moved = p.moved; gives = tt }
+  value_source_stop eval_stop.NoMemory halt.NoMemory a b p o = record { moved = p.moved; still = λ n. absurd (subst NoSource at_Source n); gives = tt }
 
 -- ---- a primitive
 
@@ -685,21 +711,21 @@ module _ (t : Term) (c : ℕ) (ts us : List Term) (env : List Value) (et : t ≡
   sense_prim a s = let s' = subst (λ q. Sense q env a) at_Prim s in (s'.0, s'.3.0, s'.1, s'.2, s'.3.1, s'.3.2, s'.4)
 
   pub value_prim : (v : Value) (a b : World) → EvalsCall c (trees_view us) env (Ok v) a b → Evals (view t) env (Ok v) a b
-  value_prim v a b h = record { moved = h.moved; gives = subst (λ z. Comes (types_of a) (values_of a) env z (done v)) (sym at_Prim) h.gives }
+  value_prim v a b h = record { moved = h.moved; still = λ n. h.still (subst NoSource at_Prim n); gives = subst (λ z. Comes (types_of a) (values_of a) env z (done v)) (sym at_Prim) h.gives }
 
   pub value_prim_stop : (e : EvalStop) (h : Halt) (a b : World) → EvalsCall c (trees_view us) env (Err e) a b → Outside e h → Evals (view t) env (Err h) a b
-  value_prim_stop eval_stop.Overflow (halt.Over ws) a b p o = record { moved = p.moved; gives = subst (λ z. Comes (types_of a) (values_of a) env (view t) (over z)) (sym o) (subst (λ z. Comes (types_of a) (values_of a) env z (over [])) (sym at_Prim) p.gives) }
+  value_prim_stop eval_stop.Overflow (halt.Over ws) a b p o = record { moved = p.moved; still = λ n. p.still (subst NoSource at_Prim n); gives = subst (λ z. Comes (types_of a) (values_of a) env (view t) (over z)) (sym o) (subst (λ z. Comes (types_of a) (values_of a) env z (over [])) (sym at_Prim) p.gives) }
   value_prim_stop eval_stop.Overflow (halt.Driver l e) a b p o = absurd o
   value_prim_stop eval_stop.Overflow halt.NoMemory a b p o = absurd o
-  value_prim_stop (eval_stop.Driver l e) h a b p o = subst (λ q. Evals (view t) env (Err q) a b) (sym o) (record { moved = p.moved; gives = p.gives })
+  value_prim_stop (eval_stop.Driver l e) h a b p o = subst (λ q. Evals (view t) env (Err q) a b) (sym o) (record { moved = p.moved; still = λ n. p.still (subst NoSource at_Prim n); gives = p.gives })
   value_prim_stop eval_stop.NoMemory (halt.Over ws) a b p o = absurd o
   value_prim_stop eval_stop.NoMemory (halt.Driver l e) a b p o = absurd o
-  value_prim_stop eval_stop.NoMemory halt.NoMemory a b p o = record { moved = p.moved; gives = tt }
+  value_prim_stop eval_stop.NoMemory halt.NoMemory a b p o = record { moved = p.moved; still = λ n. p.still (subst NoSource at_Prim n); gives = tt }
 
 -- ---- the value of a part
 
 pub look_lent : (t : Tree) (env : List Value) (v : Value) (a : World) → ((S : SourceTypes) (T : Tables) → Comes S T env t (done v)) → EvalsPart t env (Ok v) a a
-look_lent t env v a f = record { moved = moved_none a; gives = f (types_of a) (values_of a) }
+look_lent t env v a f = record { moved = moved_none a; still = λ n. refl; gives = f (types_of a) (values_of a) }
 
 -- ---- the arguments of a call
 
@@ -793,12 +819,12 @@ module _ (c : ℕ) (ts : List Term) (x : Term) (env : List Value) (a : World) (n
   pub call_only : (v : Value) (r : Result Value EvalStop) (b : World) → EvalsPart (view x) env (Ok v) a b → AnswersPrim (meaning c (v ∷ [])) r → EvalsCall c (trees_view ts) env r a b
   call_only v r b h m =
       subst (λ q. EvalsCall c q env r a b) (sym only)
-      (record { moved = h.moved; gives = prim_gives (ArgsCome (types_of a) (values_of a) env Only (λ vs. answered (meaning c vs))) a b (meaning c (v ∷ [])) r (λ o e. (done v, h.gives, e)) m })
+      (record { moved = h.moved; still = λ n. h.still n.0; gives = prim_gives (ArgsCome (types_of a) (values_of a) env Only (λ vs. answered (meaning c vs))) a b (meaning c (v ∷ [])) r (λ o e. (done v, h.gives, e)) m })
 
   pub call_only_stop : (e : EvalStop) (b : World) → EvalsPart (view x) env (Err e) a b → EvalsCall c (trees_view ts) env (Err e) a b
   call_only_stop e b h =
       subst (λ q. EvalsCall c q env (Err e) a b) (sym only)
-      (record { moved = h.moved; gives = call_stop (Comes (types_of a) (values_of a) env (view x)) (ArgsCome (types_of a) (values_of a) env Only (λ vs. answered (meaning c vs))) a b e h.gives (λ vs d. (over vs, d, refl)) })
+      (record { moved = h.moved; still = λ n. h.still n.0; gives = call_stop (Comes (types_of a) (values_of a) env (view x)) (ArgsCome (types_of a) (values_of a) env Only (λ vs. answered (meaning c vs))) a b e h.gives (λ vs d. (over vs, d, refl)) })
 
 -- two arguments
 pub sense_former : (c : ℕ) (ts : List Term) (x : Term) (env : List Value) (a : World) → length ts ≡ 2 → x ≡ get_or ts 0 x → SenseCall c (trees_view ts) env a → Sense (view x) env a
@@ -833,6 +859,7 @@ module _ (c : ℕ) (ts : List Term) (x y : Term) (env : List Value) (a : World) 
       subst (λ q. EvalsCall c q env r a d) (sym both)
       (record {
         moved = moved_then a b d h.moved g.moved;
+        still = λ n. g.still n.1.0 ∙ h.still n.0;
         gives = prim_gives (ArgsCome (types_of a) (values_of a) env Both (λ vs. answered (meaning c vs))) a d (meaning c (v ∷ w ∷ [])) r (λ o e. (done v, h.gives, (done w, g', e))) m;
       })
 
@@ -841,6 +868,7 @@ module _ (c : ℕ) (ts : List Term) (x y : Term) (env : List Value) (a : World) 
       subst (λ q. EvalsCall c q env (Err e) a d) (sym both)
       (record {
         moved = moved_then a b d h.moved g.moved;
+        still = λ n. g.still n.1.0 ∙ h.still n.0;
         gives = call_stop (Comes (types_of a) (values_of a) env (view y)) (ArgsCome (types_of a) (values_of a) env Both (λ vs. answered (meaning c vs))) a d e (part_from a b d h.moved (Comes (types_of a) (values_of a) env (view y)) (Err e) (back (λ S T. PartGives (Comes S T env (view y)) b d (Err e)) a b h.moved g.gives)) (λ vs k. (done v, h.gives, (over vs, k, refl)));
       })
 
@@ -848,7 +876,7 @@ pub call_former_stop : (c : ℕ) (ts : List Term) (x : Term) (env : List Value) 
 call_former_stop c [] x env a b e n is h = cc
 call_former_stop c (u ∷ ts) x env a b e n is h =
     let h' = subst (λ q. EvalsPart (view q) env (Err e) a b) is h in
-    record { moved = h'.moved; gives = call_stop (Comes (types_of a) (values_of a) env (view u)) (ArgsCome (types_of a) (values_of a) env (trees_view (u ∷ ts)) (λ vs. answered (meaning c vs))) a b e h'.gives (λ vs d. (over vs, d, refl)) }
+    record { moved = h'.moved; still = λ n. h'.still n.0; gives = call_stop (Comes (types_of a) (values_of a) env (view u)) (ArgsCome (types_of a) (values_of a) env (trees_view (u ∷ ts)) (λ vs. answered (meaning c vs))) a b e h'.gives (λ vs d. (over vs, d, refl)) }
 
 -- ---- loops
 
@@ -868,7 +896,7 @@ before_end (v ∷ vs) e = ap (more v) (before_end vs e)
 
 -- the items of a literal
 pub each_starts : (ts : List Term) (env : List Value) (none : List Value) (a : World) → none ≡ [] → SenseEach (trees_view ts) env a → OnEach (trees_view ts) (trees_view ts) env none a a
-each_starts ts env none a e s = subst (λ q. OnEach (trees_view ts) (trees_view ts) env q a a) (sym e) (record { moved = moved_none a; sense = s; onward = λ f c. c })
+each_starts ts env none a e s = subst (λ q. OnEach (trees_view ts) (trees_view ts) env q a a) (sym e) (record { moved = moved_none a; still = λ n. (refl, n); sense = s; onward = λ f c. c })
 
 module _ (terms : List Term) (i : ℕ) (t : Term) (whole : Trees) (env now : List Value) (a b : World) (lt : i < length terms) (is : t ≡ get_or terms i t) (inv : OnEach whole (trees_view (drop i terms)) env now a b) where
   abbrev Later : Trees
@@ -876,6 +904,9 @@ module _ (terms : List Term) (i : ℕ) (t : Term) (whole : Trees) (env now : Lis
 
   at_item : OnEach whole (trees (view t) Later) env now a b
   at_item = subst (λ q. OnEach whole q env now a b) (rest_is terms i t lt is) inv
+
+  item_still : (c : World) → (NoSource (view t) → c ≡ b) → NoSourceInTrees whole → c ≡ a
+  item_still c calm n = let m = at_item.still n in calm m.1.0 ∙ m.0
 
   pub each_sense : Sense (view t) env b
   each_sense = let s = at_item.sense in (s.0, s.1, s.2, s.3.0, s.4)
@@ -885,6 +916,7 @@ module _ (terms : List Term) (i : ℕ) (t : Term) (whole : Trees) (env now : Lis
       let k = at_item in
       record {
         moved = moved_then a b c k.moved h.moved;
+        still = λ n. (item_still c h.still n, (k.still n).1.1);
         sense = (k.sense.0, k.sense.1, k.sense.2, onto (λ S. EachType S k.sense.0 Later k.sense.1) b c h.moved k.sense.3.1, ready_on b c h.moved k.sense.4);
         onward = λ f d. subst (λ q. ItemsCome (types_of a) (values_of a) env whole q) (sym (ap (λ q. before q f) e ∙ before_then now (v ∷ []) f))
             (k.onward (more v f) (done v, back (λ S T. Comes S T env (view t) (done v)) a b k.moved h.gives, (f, d, refl)));
@@ -896,6 +928,7 @@ module _ (terms : List Term) (i : ℕ) (t : Term) (whole : Trees) (env now : Lis
       let k = at_item in
       record {
         moved = moved_then a b c k.moved h.moved;
+        still = item_still c h.still;
         gives = subst (ItemsCome (types_of a) (values_of a) env whole) (before_end now overflow ∙ ap (λ q. flow q overflow) e)
             (k.onward (stop overflow) (over vs.items, back (λ S T. Comes S T env (view t) (over vs.items)) a b k.moved h.gives, refl));
       }
@@ -903,24 +936,24 @@ module _ (terms : List Term) (i : ℕ) (t : Term) (whole : Trees) (env now : Lis
   pub each_lost : (v : Value) (now' : List Value) (q : Halt) (c : World) → Evals (view t) env (Ok v) b c → Adds (v ∷ []) (Err q) now now' → EvalsEach whole env (Err q) a c
   each_lost v now' (halt.Over ws) c h add = absurd add
   each_lost v now' (halt.Driver l e) c h add = absurd add
-  each_lost v now' halt.NoMemory c h add = record { moved = moved_then a b c (at_item).moved h.moved; gives = tt }
+  each_lost v now' halt.NoMemory c h add = record { moved = moved_then a b c (at_item).moved h.moved; still = item_still c h.still; gives = tt }
 
   pub each_none : (q : Halt) (c : World) → Evals (view t) env (Err q) b c → EvalsEach whole env (Err halt.NoMemory) a c
-  each_none q c h = record { moved = moved_then a b c (at_item).moved h.moved; gives = tt }
+  each_none q c h = record { moved = moved_then a b c (at_item).moved h.moved; still = item_still c h.still; gives = tt }
 
   pub each_refused : (q : Halt) (l : Name) (e : DriverError) (c : World) → q ≡ halt.Driver l e → Evals (view t) env (Err q) b c → EvalsEach whole env (Err (halt.Driver l e)) a c
   each_refused q l e c eq h' =
       let h = subst (λ z. Evals (view t) env (Err z) b c) eq h' in
-      record { moved = moved_then a b c (at_item).moved h.moved; gives = stopped_then l e a b c (at_item).moved h.gives }
+      record { moved = moved_then a b c (at_item).moved h.moved; still = item_still c h.still; gives = stopped_then l e a b c (at_item).moved h.gives }
 
 pub each_ends : (terms : List Term) (i : ℕ) (whole : Trees) (env : List Value) (ws : Vec Value Global) (a b : World) → length terms ≤ i → OnEach whole (trees_view (drop i terms)) env ws.items a b → EvalsEach whole env (Ok ws) a b
 each_ends terms i whole env ws a b le inv =
     let k = subst (λ q. OnEach whole (trees_view q) env ws.items a b) (drop_all terms i le) inv in
-    record { moved = k.moved; gives = subst (ItemsCome (types_of a) (values_of a) env whole) (before_end ws.items fine) (k.onward (stop fine) refl) }
+    record { moved = k.moved; still = λ n. (k.still n).0; gives = subst (ItemsCome (types_of a) (values_of a) env whole) (before_end ws.items fine) (k.onward (stop fine) refl) }
 
 -- a body at each of some values
 pub body_starts : (t : Tree) (vs : List Value) (e : End) (env none : List Value) (a : World) → none ≡ [] → SenseBody t vs env a → OnBody t (flow vs e) (flow vs e) vs env none a a
-body_starts t vs e env none a en s = subst (λ q. OnBody t (flow vs e) (flow vs e) vs env q a a) (sym en) (record { moved = moved_none a; sense = s; onward = λ f c. c })
+body_starts t vs e env none a en s = subst (λ q. OnBody t (flow vs e) (flow vs e) vs env q a a) (sym en) (record { moved = moved_none a; still = λ n. refl; sense = s; onward = λ f c. c })
 
 follows_flow : (vs : List Value) (P : Flow → Type 0) (g : Flow) → P g → Follows (flow vs fine) P (before vs g)
 follows_flow [] P g h = h
@@ -954,6 +987,7 @@ module _ (t : Tree) (vs : List Value) (i : ℕ) (v : Value) (whole : Flow) (e : 
       let items : items_of (done u) ≡ flow ws fine = ap items_at_all (ap as_collection add.2 ∙ collection_is add.0 ws) in
       record {
         moved = moved_then a b c k.moved h.moved;
+        still = λ n. h.still n ∙ k.still n;
         sense = (k.sense.0, k.sense.1, k.sense.2, k.sense.3, k.sense.4, k.sense.5.1, onto (λ S. CoreTypes S (k.sense.1 ∷ k.sense.0) t (coll k.sense.2 k.sense.3)) b c h.moved k.sense.6, ready_on b c h.moved k.sense.7);
         onward = λ f d. subst (Draws (λ v. Comes (types_of a) (values_of a) (v ∷ env) t) whole) (sym (ap (λ q. before q f) add.3 ∙ before_then now ws f))
             (k.onward (before ws f) (
@@ -966,25 +1000,26 @@ module _ (t : Tree) (vs : List Value) (i : ℕ) (v : Value) (whole : Flow) (e : 
   pub body_lost : (u : Value) (now' : List Value) (q : Halt) (c : World) → Evals t (v ∷ env) (Ok u) b c → AddsItems u (Err q) now now' → EvalsBody t whole env (Err q) a c
   body_lost u now' (halt.Over ws) c h add = absurd add.3
   body_lost u now' (halt.Driver l e) c h add = absurd add.3
-  body_lost u now' halt.NoMemory c h add = record { moved = moved_then a b c (at_value).moved h.moved; gives = tt }
+  body_lost u now' halt.NoMemory c h add = record { moved = moved_then a b c (at_value).moved h.moved; still = λ n. h.still n ∙ inv.still n; gives = tt }
 
   pub body_over : (q r : Halt) (items : List Value) (c : World) → now ≡ items → Evals t (v ∷ env) (Err q) b c → Behind items q r → EvalsBody t whole env (Err r) a c
   body_over (halt.Over ws) (halt.Over us) items c en h m =
       let k = at_value in
       record {
         moved = moved_then a b c k.moved h.moved;
+        still = λ n. h.still n ∙ k.still n;
         gives = subst (Draws (λ v. Comes (types_of a) (values_of a) (v ∷ env) t) whole)
             (sym (before_then now ws.items (stop overflow)) ∙ before_end (now ++ ws.items) overflow ∙ ap (λ q. flow q overflow) (ap (λ q. q ++ ws.items) en ∙ sym m))
             (k.onward (before ws.items (stop overflow)) (over ws.items, back (λ S T. Comes S T (v ∷ env) t (over ws.items)) a b k.moved h.gives, follows_over ws.items _));
       }
-  body_over (halt.Over ws) halt.NoMemory items c en h m = record { moved = moved_then a b c (at_value).moved h.moved; gives = tt }
+  body_over (halt.Over ws) halt.NoMemory items c en h m = record { moved = moved_then a b c (at_value).moved h.moved; still = λ n. h.still n ∙ inv.still n; gives = tt }
   body_over (halt.Over ws) (halt.Driver l e) items c en h m = absurd m
   body_over (halt.Driver l e) q items c en h m =
       subst (λ z. EvalsBody t whole env (Err z) a c) (sym m)
-      (record { moved = moved_then a b c (at_value).moved h.moved; gives = stopped_then l e a b c (at_value).moved h.gives })
+      (record { moved = moved_then a b c (at_value).moved h.moved; still = λ n. h.still n ∙ inv.still n; gives = stopped_then l e a b c (at_value).moved h.gives })
   body_over halt.NoMemory (halt.Over us) items c en h m = absurd m
   body_over halt.NoMemory (halt.Driver l e) items c en h m = absurd m
-  body_over halt.NoMemory halt.NoMemory items c en h m = record { moved = moved_then a b c (at_value).moved h.moved; gives = tt }
+  body_over halt.NoMemory halt.NoMemory items c en h m = record { moved = moved_then a b c (at_value).moved h.moved; still = λ n. h.still n ∙ inv.still n; gives = tt }
 
 pub body_ends : (t : Tree) (vs : List Value) (i : ℕ) (whole : Flow) (e : End) (env : List Value) (ws : List Value) (a b : World) → length vs ≤ i → OnBody t whole (flow (drop i vs) e) (drop i vs) env ws a b
     → Moved a b × Draws (λ v. Comes (types_of a) (values_of a) (v ∷ env) t) whole (flow ws e)
@@ -995,16 +1030,16 @@ body_ends t vs i whole e env ws a b le inv =
 pub body_fine : (t : Tree) (vs : List Value) (i : ℕ) (whole : Flow) (past : Bool) (env : List Value) (ws : Vec Value Global) (a b : World) → length vs ≤ i → past ≡ false → OnBody t whole (flow (drop i vs) (end_of past)) (drop i vs) env ws.items a b → EvalsBody t whole env (Ok ws) a b
 body_fine t vs i whole past env ws a b le ep inv =
     let d = body_ends t vs i whole (end_of past) env ws.items a b le inv in
-    record { moved = d.0; gives = subst (λ q. Draws (λ v. Comes (types_of a) (values_of a) (v ∷ env) t) whole (flow ws.items (end_of q))) ep d.1 }
+    record { moved = d.0; still = inv.still; gives = subst (λ q. Draws (λ v. Comes (types_of a) (values_of a) (v ∷ env) t) whole (flow ws.items (end_of q))) ep d.1 }
 
 pub body_past : (t : Tree) (vs : List Value) (i : ℕ) (whole : Flow) (past : Bool) (env : List Value) (ws : Vec Value Global) (a b : World) → length vs ≤ i → past ≡ true → OnBody t whole (flow (drop i vs) (end_of past)) (drop i vs) env ws.items a b → EvalsBody t whole env (Err (halt.Over ws)) a b
 body_past t vs i whole past env ws a b le ep inv =
     let d = body_ends t vs i whole (end_of past) env ws.items a b le inv in
-    record { moved = d.0; gives = subst (λ q. Draws (λ v. Comes (types_of a) (values_of a) (v ∷ env) t) whole (flow ws.items (end_of q))) ep d.1 }
+    record { moved = d.0; still = inv.still; gives = subst (λ q. Draws (λ v. Comes (types_of a) (values_of a) (v ∷ env) t) whole (flow ws.items (end_of q))) ep d.1 }
 
 -- the fields of a record
 pub fields_starts : (ps : Parts) (env : List Value) (none : List (Name × Value)) (a : World) → none ≡ [] → SenseParts ps env a → OnFields ps ps env none a a
-fields_starts ps env none a e s = subst (λ q. OnFields ps ps env q a a) (sym e) (record { moved = moved_none a; sense = s; onward = λ go o c. c })
+fields_starts ps env none a e s = subst (λ q. OnFields ps ps env q a a) (sym e) (record { moved = moved_none a; still = λ n. (refl, n); sense = s; onward = λ go o c. c })
 
 module _ (fields : List (Name × Term)) (i : ℕ) (p : Name × Term) (whole : Parts) (env : List Value) (now : List (Name × Value)) (a b : World) (lt : i < length fields) (is : p ≡ get_or fields i p) (inv : OnFields whole (parts_view (drop i fields)) env now a b) where
   abbrev Rest : Parts
@@ -1012,6 +1047,9 @@ module _ (fields : List (Name × Term)) (i : ℕ) (p : Name × Term) (whole : Pa
 
   at_field : OnFields whole (parts p.0 (view p.1) Rest) env now a b
   at_field = subst (λ q. OnFields whole q env now a b) (at_drop_more parts_view fields i p lt ∙ ap (λ q. parts q.0 (view q.1) Rest) (sym is)) inv
+
+  field_still : (c : World) → (NoSource (view p.1) → c ≡ b) → NoSourceInParts whole → c ≡ a
+  field_still c calm n = let m = at_field.still n in calm m.1.0 ∙ m.0
 
   pub fields_sense : Sense (view p.1) env b
   fields_sense = let s = at_field.sense in (s.0, s.3.0, s.2, s.3.3, s.4)
@@ -1021,6 +1059,7 @@ module _ (fields : List (Name × Term)) (i : ℕ) (p : Name × Term) (whole : Pa
       let k = at_field in
       record {
         moved = moved_then a b c k.moved h.moved;
+        still = λ n. (field_still c h.still n, (k.still n).1.1);
         sense = (k.sense.0, k.sense.3.1, k.sense.2, onto (λ S. PartTypes S k.sense.0 Rest k.sense.3.1) b c h.moved k.sense.3.4, ready_on b c h.moved k.sense.4);
         onward = λ go o d. k.onward go o (
           done v,
@@ -1032,22 +1071,23 @@ module _ (fields : List (Name × Term)) (i : ℕ) (p : Name × Term) (whole : Pa
   pub fields_lost : (v : Value) (now' : List (Name × Value)) (e : EvalStop) (c : World) → EvalsPart (view p.1) env (Ok v) b c → AddsField p.0 v (Err e) now now' → EvalsFields whole env (Err e) a c
   fields_lost v now' eval_stop.Overflow c h add = absurd add
   fields_lost v now' (eval_stop.Driver l e) c h add = absurd add
-  fields_lost v now' eval_stop.NoMemory c h add = record { moved = moved_then a b c (at_field).moved h.moved; gives = tt }
+  fields_lost v now' eval_stop.NoMemory c h add = record { moved = moved_then a b c (at_field).moved h.moved; still = field_still c h.still; gives = tt }
 
   pub fields_stops : (e : EvalStop) (c : World) → EvalsPart (view p.1) env (Err e) b c → EvalsFields whole env (Err e) a c
   fields_stops eval_stop.Overflow c h =
       let k = at_field in
       record {
         moved = moved_then a b c k.moved h.moved;
+        still = field_still c h.still;
         gives = λ go. k.onward go (over []) (over h.gives.0, back (λ S T. Comes S T env (view p.1) (over h.gives.0)) a b k.moved h.gives.1, refl);
       }
-  fields_stops (eval_stop.Driver l e) c h = record { moved = moved_then a b c (at_field).moved h.moved; gives = stopped_then l e a b c (at_field).moved h.gives }
-  fields_stops eval_stop.NoMemory c h = record { moved = moved_then a b c (at_field).moved h.moved; gives = tt }
+  fields_stops (eval_stop.Driver l e) c h = record { moved = moved_then a b c (at_field).moved h.moved; still = field_still c h.still; gives = stopped_then l e a b c (at_field).moved h.gives }
+  fields_stops eval_stop.NoMemory c h = record { moved = moved_then a b c (at_field).moved h.moved; still = field_still c h.still; gives = tt }
 
 pub fields_ends : (fields : List (Name × Term)) (i : ℕ) (whole : Parts) (env : List Value) (fs : Vec (Name × Value) Global) (a b : World) → length fields ≤ i → OnFields whole (parts_view (drop i fields)) env fs.items a b → EvalsFields whole env (Ok fs) a b
 fields_ends fields i whole env fs a b le inv =
     let k = subst (λ q. OnFields whole (parts_view q) env fs.items a b) (drop_all fields i le) inv in
-    record { moved = k.moved; gives = λ go. k.onward go (go fs.items) (sym (ap go (append-nil fs.items))) }
+    record { moved = k.moved; still = λ n. (k.still n).0; gives = λ go. k.onward go (go fs.items) (sym (ap go (append-nil fs.items))) }
 
 -- ---- the place of a label
 

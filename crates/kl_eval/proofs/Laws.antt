@@ -1,26 +1,23 @@
 -- What a term may come to has its type, and is its outcome as far as sources are told.
 use Rattle.std.proofs.Common.{◌≡◌, ⊎_elim, ℕ, zero, suc, inl, inr, ◌⊎◌, Bool, true, false, cond, nat_eq, List, [], ◌∷◌, Option, Some, None, IsSome, slice_get, refl, sym, ap, ◌∙◌, subst}
 use Rattle.std.specs.List.{AllByRecursion}
-use Rattle.std.specs.List.Sorted.{IsStrictlySortedBy}
 use Rattle.std.specs.Cmp.Lexicographic.{pointwise, same_text}
 use Rattle.std.proofs.lemmas.Cmp.{nat_list_eq_equiv}
-use Rattle.kl_base.specs.Fields.{bytes_cmp}
 use Rattle.kl_value.specs.Views.{as_bool, Collection, as_collection}
 use Rattle.kl_value.specs.IsCanonical.{IsCanonical}
 use Rattle.kl_value.specs.declared.Kind.{Kind}
 use Rattle.kl_value.specs.declared.Value.{Value}
 use Rattle.kl_value.specs.declared.Value.TheVariants as value
-use Rattle.kl_type.specs.Ground.{Ground, Row, no_row, row, at, bool, rec as rec_type, var as var_type, coll}
+use Rattle.kl_type.specs.Ground.{Ground, Row, at, bool, rec as rec_type, var as var_type, coll}
 use Rattle.kl_prim.specs.Table.{meaning}
-use Rattle.kl_outcome.specs.Outcome.{Name, Outcome, done, over, stuck, End, Flow, more, stop, fine, overflow, broken, items_in, end_in, flow, field_in, as_record, outcome_of, answered, after, args_then, parts_then, recorded, applied, cases, opened, chosen, part, tagged, as_variant, items_of, item_then, followed, drawn, gathered, collected, joined_to, union_of}
-use Rattle.kl_outcome.specs.Typed.{Has, HasFields, Inhabits, HaveTypes, HasItems, OfType, PrimTypes}
+use Rattle.kl_outcome.specs.Outcome.{Name, Outcome, done, over, stuck, Flow, more, stop, fine, overflow, broken, items_in, end_in, flow, field_in, as_record, outcome_of, answered, after, args_then, parts_then, opened, chosen, as_variant, items_of, item_then, followed, drawn, gathered, collected, joined_to, union_of}
+use Rattle.kl_outcome.specs.Typed.{HasFields, Inhabits, HaveTypes, OfType}
 use Rattle.kl_core.specs.Core.{Tables, core, core_all, core_items, core_parts, core_arms}
 use Rattle.kl_core.specs.Trees.{Tree, var, con, source, rec, proj, inj, case_of, make, union, ext, choice, bind, prim, Trees, no_trees, trees, Parts, no_parts, parts, Arms, no_arms, rest, arm}
-use Rattle.kl_core.specs.Typing.{SourceTypes, CoreTypes, EachType, AllTypes, PartTypes, ArmTypes, HasArm, labels_in}
+use Rattle.kl_core.specs.Typing.{SourceTypes, CoreTypes, EachType, AllTypes, PartTypes, ArmTypes, HasArm}
 use Rattle.kl_outcome.proofs.OutcomeTypes.{over_nil, part_typed, tagged_typed, FlowOf, items_typed, collected_typed, union_typed}
 use Rattle.kl_outcome.proofs.PrimLemmas.{prim_typed}
 use Rattle.kl_eval.proofs.Shapes.{record_typed, variant_typed}
-use Rattle.kl_eval.specs.World.{Reads}
 use Rattle.kl_eval.specs.Comes.{Then, Picks, Opens, Unites, Leads, Follows, Draws, Comes, ItemsCome, ArgsCome, PartsCome, ArmsCome}
 
 some_same : {A : Type 0} (a b : A) → Some a ≡ Some b → a ≡ b

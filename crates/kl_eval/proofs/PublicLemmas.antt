@@ -1,29 +1,28 @@
 -- The public calls, from what a term may come to.
-use Rattle.std.proofs.Common.{◌≡◌, ◌≢◌, ℕ, List, [], ◌∷◌, ◌++◌, reverse, Option, Result, Some, None, Ok, Err, IsSome, IfOk, refl, sym, ◌∙◌, ap, subst}
+use Rattle.std.proofs.Common.{◌≡◌, ◌≢◌, List, ◌++◌, reverse, Result, Some, Ok, Err, IsSome, IfOk, refl, sym, ◌∙◌, ap, subst}
 use Rattle.std.specs.List.{AllByRecursion}
-use Rattle.kl_value.specs.Views.{Collection, as_collection, items_at, items_layer, collection}
+use Rattle.kl_value.specs.Views.{Collection, as_collection, items_at}
 use Rattle.kl_value.proofs.ViewLemmas.{collection_is}
 use Rattle.kl_value.specs.declared.Kind.TheVariants as kind
-use Rattle.kl_value.specs.declared.Value.{Value, Value-F, out-Value}
+use Rattle.kl_value.specs.declared.Value.{Value}
 use Rattle.kl_value.specs.declared.Value.TheVariants as value
 use Rattle.kl_type.specs.Ground.{Ground, coll}
 use Rattle.kl_outcome.specs.Outcome.{Outcome, done, over, stuck}
-use Rattle.kl_outcome.specs.Typed.{Inhabits, HaveTypes, OfType}
+use Rattle.kl_outcome.specs.Typed.{Inhabits}
 use Rattle.kl_core.specs.Core.{core}
 use Rattle.kl_core.specs.Trees.{Tree}
-use Rattle.kl_core.specs.Typing.{SourceTypes, CoreTypes, HaveSources}
+use Rattle.kl_core.specs.Typing.{HaveSources}
 use Rattle.kl_outcome.proofs.OutcomeTypes.{items_inhabit}
 use Rattle.kl_core.proofs.Safety.{never_stuck}
 use Rattle.kl_eval.specs.declared.stop.EvalStop.{EvalStop}
 use Rattle.kl_eval.specs.declared.stop.EvalStop.TheVariants as eval_stop
 use Rattle.kl_eval.specs.declared.stop.Halt.{Halt}
 use Rattle.kl_eval.specs.declared.stop.Halt.TheVariants as halt
-use Rattle.kl_ask.specs.World.{World, IsReady, types_of, values_of}
+use Rattle.kl_ask.specs.World.{World, types_of, values_of}
 use Rattle.kl_ask.specs.declared.DriverError.{DriverError}
 use Rattle.kl_outcome.specs.Outcome.{Name}
-use Rattle.kl_eval.specs.Comes.{Comes}
 use Rattle.kl_eval.specs.Steps.{inside_of, AddsList}
-use Rattle.kl_eval.specs.Evals.{Sense, SenseIn, SenseList, Evals, Tells, Evaluates, Lists, Added, EvaluatesList}
+use Rattle.kl_eval.specs.Evals.{Sense, SenseList, Evals, Tells, Evaluates, Lists, EvaluatesList}
 use Rattle.kl_eval.proofs.Laws.{Below, comes_typed, comes_below}
 
 tells_done : (o : Outcome) (w : Value) → Below o (done w) → Tells o (Ok w)
@@ -52,6 +51,7 @@ makes_sense t env a s told = never_stuck (types_of a) (values_of a) told t s.0 e
 evaluated : (t : Tree) (env : List Value) (r : Result Value Halt) (a b : World) → Sense t env a → Evals t env r a b → Evaluates t env (inside_of r) a b
 evaluated t env (Ok v) a b s h = record {
   moved = h.moved;
+  still = h.still;
   cause = tt;
   tells = tells_done (core (values_of a) t env) v (comes_below (types_of a) (values_of a) t env (done v) h.gives);
   typed = λ G u have ty. comes_typed (types_of a) (values_of a) t G env u (done v) have ty h.gives;
@@ -59,13 +59,14 @@ evaluated t env (Ok v) a b s h = record {
 }
 evaluated t env (Err (halt.Over vs)) a b s h = record {
   moved = h.moved;
+  still = h.still;
   cause = tt;
   tells = tells_over (core (values_of a) t env) vs.items (comes_below (types_of a) (values_of a) t env (over vs.items) h.gives);
   typed = λ G u have ty. tt;
   sense = makes_sense t env a s;
 }
-evaluated t env (Err (halt.Driver l e)) a b s h = record { moved = h.moved; cause = h.gives; tells = tells_driver (core (values_of a) t env) l e; typed = λ G u have ty. tt; sense = makes_sense t env a s }
-evaluated t env (Err halt.NoMemory) a b s h = record { moved = h.moved; cause = tt; tells = tells_none (core (values_of a) t env); typed = λ G u have ty. tt; sense = makes_sense t env a s }
+evaluated t env (Err (halt.Driver l e)) a b s h = record { moved = h.moved; still = h.still; cause = h.gives; tells = tells_driver (core (values_of a) t env) l e; typed = λ G u have ty. tt; sense = makes_sense t env a s }
+evaluated t env (Err halt.NoMemory) a b s h = record { moved = h.moved; still = h.still; cause = tt; tells = tells_none (core (values_of a) t env); typed = λ G u have ty. tt; sense = makes_sense t env a s }
 
 pub evaluates : (t : Tree) (es xs : List Value) (r : Result Value Halt) (q : Result Value EvalStop) (a b : World) → xs ≡ es → Sense t (reverse es) a → Evals t (reverse xs) r a b → q ≡ inside_of r → Evaluates t (reverse es) q a b
 evaluates t es xs r q a b e s h is = subst (λ q. Evaluates t (reverse es) q a b) (sym is) (evaluated t (reverse es) r a b s (subst (λ z. Evals t (reverse z) r a b) e h))
@@ -124,6 +125,7 @@ items_of_list s v vs e i =
 listed : (t : Tree) (env : List Value) (r : Result Value Halt) (q : Result (Unit {0}) EvalStop) (old new : List Value) (a b : World) → SenseList t env a → Evals t env r a b → AddsList r q old new → EvaluatesList t env q old new a b
 listed t env (Ok v) (Ok x) old new a b s h k = record {
   moved = h.moved;
+  still = h.still;
   cause = tt;
   tells = lists_done (core (values_of a) t env) v k.0 old new (comes_below (types_of a) (values_of a) t env (done v) h.gives) k.1 k.2;
   typed = λ G u have ty. (k.0, k.2, items_of_list u v k.0 k.1 (comes_typed (types_of a) (values_of a) t G env (coll kind.List u) (done v) have ty h.gives));
@@ -131,6 +133,7 @@ listed t env (Ok v) (Ok x) old new a b s h k = record {
 }
 listed t env (Err (halt.Over vs)) (Err eval_stop.Overflow) old new a b s h k = record {
   moved = h.moved;
+  still = h.still;
   cause = tt;
   tells = lists_over (core (values_of a) t env) vs.items old new (comes_below (types_of a) (values_of a) t env (over vs.items) h.gives) k;
   typed = λ G u have ty. (vs.items, k, comes_typed (types_of a) (values_of a) t G env (coll kind.List u) (over vs.items) have ty h.gives);
@@ -138,6 +141,7 @@ listed t env (Err (halt.Over vs)) (Err eval_stop.Overflow) old new a b s h k = r
 }
 listed t env (Err (halt.Driver l e)) q old new a b s h k = subst (λ z. EvaluatesList t env z old new a b) (sym k.0) (record {
   moved = h.moved;
+  still = h.still;
   cause = h.gives;
   tells = lists_driver (core (values_of a) t env) l e old new;
   typed = λ G u have ty. k.1;
@@ -145,6 +149,7 @@ listed t env (Err (halt.Driver l e)) q old new a b s h k = subst (λ z. Evaluate
 })
 listed t env r (Err eval_stop.NoMemory) old new a b s h k = record {
   moved = h.moved;
+  still = h.still;
   cause = tt;
   tells = lists_none (core (values_of a) t env) old new;
   typed = λ G u have ty. left r k;

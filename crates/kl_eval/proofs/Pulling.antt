@@ -1,15 +1,15 @@
 -- Pulls of a cursor, one after another.
-use Rattle.std.proofs.Common.{◌≡◌, ◌≢◌, ◌<◌, ◌≤◌, ◌+◌, ◌-◌, ◌^◌, ℕ, Bool, true, false, List, [], ◌∷◌, ◌++◌, length, Option, Result, Some, None, Ok, Err, IsSome, refl, sym, ◌∙◌, ap, subst, arith, rules, append_assoc, append-nil}
+use Rattle.std.proofs.Common.{◌≡◌, ◌<◌, ℕ, Bool, true, false, List, [], ◌∷◌, ◌++◌, Option, Some, None, Ok, Err, IsSome, refl, sym, ◌∙◌, ap, subst, arith, append_assoc, append-nil}
 use Rattle.std.specs.List.{AllByRecursion}
 use Rattle.kl_value.specs.declared.Value.{Value}
 use Rattle.kl_type.specs.Ground.{Ground}
 use Rattle.kl_outcome.specs.Typed.{Inhabits}
-use Rattle.kl_ask.specs.Driver.{State, Cursor, Keeps, OtherCursors, Pulls, PullsMore, PullsNone, PullRefused, Cause, source_of}
+use Rattle.kl_ask.specs.Driver.{State, Cursor, Pulls, source_of}
 use Rattle.kl_ask.specs.declared.ask.Ask.{Ask}
 use Rattle.kl_ask.specs.declared.ask.Ask.TheVariants as asks
 use Rattle.kl_ask.specs.declared.DriverError.{DriverError}
 use Rattle.kl_ask.proofs.Worlds.{keeps_none, keeps_then}
-use Rattle.kl_eval.specs.Scans.{Draining, Handed, Drained, Stopped, bound_of}
+use Rattle.kl_eval.specs.Scans.{Draining, Drained, Stopped, bound_of}
 use Rattle.kl_eval.proofs.Stops.{cause_then}
 
 -- the source that an ask names stays

@@ -1,18 +1,16 @@
 -- What a session reads of a source.
-use Rattle.std.proofs.Common.{◌≡◌, ◌<◌, ℕ, List, [], length, map, Option, Result, Some, None, Ok, Err, IsSome, refl, sym, ◌∙◌, ap, subst, arith, get_or, slice_get}
+use Rattle.std.proofs.Common.{◌≡◌, ◌<◌, ℕ, List, [], length, Option, Result, Some, None, Ok, Err, IsSome, refl, sym, ◌∙◌, ap, subst, arith, get_or, slice_get}
 use Rattle.std.specs.List.{AllByRecursion}
-use Rattle.std.proofs.lemmas.Grind.{common_steps}
 use Rattle.std.proofs.lemmas.Option.{slice_get_within, slice_get_read}
 use Rattle.kl_value.specs.Canon.{canonical}
 use Rattle.kl_value.specs.declared.Value.{Value}
-use Rattle.kl_type.specs.Ground.{Ground, coll, ground_of}
-use Rattle.kl_outcome.specs.Outcome.{Name}
+use Rattle.kl_type.specs.Ground.{Ground, ground_of}
 use Rattle.kl_outcome.specs.Typed.{Inhabits}
 use Rattle.kl_outcome.proofs.OutcomeTypes.{canonical_inhabits}
 use Rattle.kl_ask.specs.Asks.{columns, item_of, kind_of, answers, shown_type}
 use Rattle.kl_ask.specs.Driver.{State, Source, Cursor, IsFresh, Shows, IsColl, CanStart}
 use Rattle.kl_ask.specs.Lists.{AtIndex, StepsAt}
-use Rattle.kl_ask.specs.World.{World, IsListed, IsReady, Moved, Quiet, at_driver, at_place, at_source, source_at, type_in, value_of_rows, value_in, types_of, values_of}
+use Rattle.kl_ask.specs.World.{World, IsListed, IsReady, at_driver, at_place, at_source, source_at, type_in, value_of_rows, value_in, types_of, values_of}
 use Rattle.kl_ask.specs.declared.session.Attached.{Attached}
 use Rattle.kl_ask.proofs.Whole.{whole_type, whole_rows, can_start_whole, collection_is, in_order_canonical}
 use Rattle.kl_ask.proofs.Worlds.{moved_none, some_same, there, quiet_steps}
@@ -141,7 +139,7 @@ tabled w es i a place r at is_at h ready steps =
 
 -- a source that no driver has
 module _ (w : World) (i : ℕ) (a : Attached) (at : slice_get w.sources i ≡ Some a) (none : a.driver ≡ None) (ready : IsReady w) where
-  bare : Source
+  abbrev bare : Source
   bare = record { ty = a.ty; rows = Some []; count = 0; kept = None }
 
   bare_there : source_at w i ≡ Some bare

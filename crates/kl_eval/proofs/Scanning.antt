@@ -1,5 +1,5 @@
 -- A whole scan, from its parts.
-use Rattle.std.proofs.Common.{◌≡◌, ◌≢◌, ◌⊎◌, ◌<◌, ℕ, List, [], ◌++◌, length, map, get_or, slice_get, Option, Result, Some, None, Ok, Err, IsSome, IsErrOf, Vec, refl, sym, ◌∙◌, ap, subst, arith, rules, inl, inr, ⊎_elim}
+use Rattle.std.proofs.Common.{◌≡◌, ◌<◌, ℕ, List, [], ◌++◌, length, map, get_or, slice_get, Result, Some, None, Ok, Err, IsSome, IsErrOf, Vec, refl, sym, ◌∙◌, ap, subst, arith, ⊎_elim}
 use Rattle.std.proofs.lemmas.Bool.{cases_eq}
 use Rattle.std.proofs.lemmas.Grind.{common_steps}
 use Rattle.std.proofs.lemmas.Option.{gets, slice_get_read}
@@ -9,10 +9,9 @@ use Rattle.kl_value.specs.Canon.{canonical}
 use Rattle.kl_value.specs.declared.Kind.{Kind}
 use Rattle.kl_value.specs.declared.Value.{Value}
 use Rattle.kl_type.specs.Ground.{ground_of}
-use Rattle.kl_outcome.specs.Outcome.{Name}
 use Rattle.kl_outcome.specs.Typed.{Inhabits}
 use Rattle.kl_ask.specs.Asks.{kind_of}
-use Rattle.kl_ask.specs.Driver.{State, OtherCursors, CanStart, Starts, Finishes, Cause, source_of}
+use Rattle.kl_ask.specs.Driver.{State, OtherCursors, Starts, Finishes, Cause, source_of}
 use Rattle.kl_ask.specs.declared.ask.Drift.{Drift}
 use Rattle.kl_ask.specs.Lists.{AtIndex, StepsAt}
 use Rattle.kl_ask.specs.World.{Quiet}
@@ -23,7 +22,7 @@ use Rattle.kl_ask.specs.declared.DriverError.TheVariants as error
 use Rattle.kl_ask.proofs.Worlds.{fun_ext, keeps_then, quiet_none}
 use Rattle.kl_eval.specs.declared.stop.EvalStop.{EvalStop}
 use Rattle.kl_eval.specs.declared.stop.EvalStop.TheVariants as stop
-use Rattle.kl_eval.specs.Scans.{Draining, Drained, IsEmptyOf, Stopped, Scans, ScansAll, ScansTo, ScanEnd, Scanned, whole_ask}
+use Rattle.kl_eval.specs.Scans.{Drained, IsEmptyOf, Stopped, Scans, ScansTo, ScanEnd, Scanned, whole_ask}
 use Rattle.kl_eval.specs.World.{Drifted}
 use Rattle.kl_eval.proofs.Pulling.{same_source}
 use Rattle.kl_eval.proofs.Stops.{cause_then}
@@ -89,7 +88,7 @@ gather_end t (Ok rows) (Ok v) a b g s = (rows.items, g, s.end)
 gather_end t (Ok rows) (Err e) a b g s = subst (λ e. ScanEnd t (Err e) a b) (sym g) tt
 gather_end t (Err e) (Ok v) a b g s = absurd g
 gather_end t (Err e) (Err stop.Overflow) a b g s = absurd g
-gather_end t (Err e) (Err (stop.Driver name f)) a b g s = (g.0, (λ w. g.2 (sym g.1 ∙ w)), subst (λ q. Cause q a b × Drifted q (a.attached t.source)) (sym g.1) s.end)
+gather_end t (Err e) (Err (stop.Driver name f)) a b g s = (g.0, (λ w. g.2 (sym g.1 ∙ w)), subst (λ q. Cause q a b) (sym g.1) s.end.0, subst (λ q. Drifted q (a.attached t.source)) (sym g.1) s.end.1)
 gather_end t (Err e) (Err stop.NoMemory) a b g s = tt
 
 pub gathered : (t : Attached) (place : ℕ) (ask : Ask) (k : Kind) (r : Result (Vec Value Global) DriverError) (q : Result Value EvalStop) (xs ys : List State) → ask ≡ whole_ask t → k ≡ kind_of (ground_of t.ty)
@@ -111,8 +110,8 @@ at_box f P xs i x lt is can = can (f x) (mapped (slice_get_read xs (length xs) i
 
 -- no rows, as a collection
 pub emptied : (t : Attached) (k : Kind) (rows : Vec Value Global) (q : Result Value EvalStop) → k ≡ kind_of (ground_of t.ty) → rows.items ≡ [] → Scanned k t.source (Ok rows) q → IsEmptyOf t q
-emptied t k rows (Ok v) ek no g = g ∙ ap (λ j. canonical j rows.items) ek ∙ ap (canonical (kind_of (ground_of t.ty))) no
-emptied t k rows (Err e) ek no g = g
+emptied t k rows (Ok v) ek none g = g ∙ ap (λ j. canonical j rows.items) ek ∙ ap (canonical (kind_of (ground_of t.ty))) none
+emptied t k rows (Err e) ek none g = g
 
 -- nothing was scanned
 pub unscanned : (t : Attached) (place : ℕ) (xs : List State) → StepsAt place (λ a b. ScansTo t (Err stop.NoMemory) a b) xs xs

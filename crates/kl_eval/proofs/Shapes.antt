@@ -1,11 +1,11 @@
 -- Canonical records and variants of a type.
-use Rattle.std.proofs.Common.{◌≡◌, Bool, true, false, List, [], ◌∷◌, map, Option, Some, None, nat_eq, refl, sym, ap, ◌∙◌, subst}
+use Rattle.std.proofs.Common.{◌≡◌, Bool, true, false, List, ◌∷◌, Some, nat_eq, refl, sym, ap, ◌∙◌, subst}
 use Rattle.std.specs.Cmp.Lexicographic.{pointwise}
 use Rattle.std.specs.List.{AllByRecursion}
 use Rattle.std.specs.List.Sorted.{IsStrictlySortedBy}
 use Rattle.kl_base.specs.Fields.{bytes_cmp, labels_of}
 use Rattle.kl_value.specs.IsCanonical.{IsCanonical, IsCanonicalLayer}
-use Rattle.kl_value.specs.declared.Value.{Value, Value-F, out-Value, map-Value, every-Value, every_held-Value}
+use Rattle.kl_value.specs.declared.Value.{Value, Value-F, map-Value, every-Value, every_held-Value}
 use Rattle.kl_value.specs.declared.Value.TheVariants as value
 use Rattle.kl_value.proofs.IsCanonicalLemmas.{record_made}
 use Rattle.kl_type.specs.Ground.{Ground, Row, rec as rec_type, var as var_type, no_row, row, at}

@@ -1,5 +1,5 @@
 -- Stops by drivers.
-use Rattle.std.proofs.Common.{◌≡◌, ℕ, ◌<◌, ◌≤◌, ◌+◌, ◌-◌, ◌^◌, min, length, IsSome, slice_get, sym, ◌∙◌, ap, subst, arith}
+use Rattle.std.proofs.Common.{IsSome, slice_get, sym, ◌∙◌, ap, subst, arith}
 use Rattle.std.proofs.lemmas.Option.{slice_get_within}
 use Rattle.kl_outcome.specs.Outcome.{Name}
 use Rattle.kl_ask.specs.Driver.{State, Keeps, Cause}

@@ -1,5 +1,5 @@
 -- The kinds of types, shape by shape.
-use Rattle.std.proofs.Common.{◌≡◌, ℕ, List, ap}
+use Rattle.std.proofs.Common.{◌≡◌, List, ap}
 use Rattle.kl_value.specs.declared.Kind.{Kind}
 use Rattle.kl_value.specs.declared.Kind.TheVariants as kind
 use Rattle.kl_type.specs.Ground.{ground_of}

@@ -1,5 +1,5 @@
 -- What a term may come to, where a source that is not told may give another value at each reading.
-use Rattle.std.specs.Prelude.{◌≡◌, ℕ, Bool, true, false, List, [], ◌∷◌, Option, Some, None, cond, slice_get, nat_eq}
+use Rattle.std.specs.Prelude.{◌≡◌, Bool, true, false, List, [], ◌∷◌, Option, Some, None, cond, slice_get, nat_eq}
 use Rattle.std.specs.Cmp.Lexicographic.{pointwise}
 use Rattle.kl_value.specs.Views.{as_bool}
 use Rattle.kl_value.specs.declared.Value.{Value}

@@ -17,6 +17,7 @@ use Rattle.kl_ask.specs.World.{World, IsReady, Moved, types_of, values_of}
 use Rattle.kl_eval.specs.World.{StoppedBy}
 use Rattle.kl_eval.specs.Steps.{AddsItems}
 use Rattle.kl_eval.specs.Comes.{Comes, ItemsCome, ArgsCome, PartsCome, Draws}
+use Rattle.kl_eval.specs.Sources.{NoSource, NoSourceInTrees, NoSourceInParts}
 use Rattle.kl_eval.specs.declared.stop.EvalStop.{EvalStop}
 use Rattle.kl_eval.specs.declared.stop.EvalStop.TheVariants as stop
 use Rattle.kl_eval.specs.declared.stop.Halt.{Halt}
@@ -89,22 +90,26 @@ FieldsGive ps env a b (Err stop.Overflow) = (go : List (Name × Value) → Outco
 FieldsGive ps env a b (Err (stop.Driver l e)) = StoppedBy l e a b
 FieldsGive ps env a b (Err stop.NoMemory) = ⊤
 
--- ---- evaluations
+-- ---- evaluations, which leave a session as it is where no source stands in what is evaluated
 
 pub record Evals (t : Tree) (env : List Value) (r : Result Value Halt) (a b : World) : Type 0 where
   pub moved : Moved a b
+  pub still : NoSource t → b ≡ a
   pub gives : Gives (Comes (types_of a) (values_of a) env t) a b r
 
 pub record EvalsPart (t : Tree) (env : List Value) (r : Result Value EvalStop) (a b : World) : Type 0 where
   pub moved : Moved a b
+  pub still : NoSource t → b ≡ a
   pub gives : PartGives (Comes (types_of a) (values_of a) env t) a b r
 
 pub record EvalsEach (ts : Trees) (env : List Value) (r : Result (Vec Value Global) Halt) (a b : World) : Type 0 where
   pub moved : Moved a b
+  pub still : NoSourceInTrees ts → b ≡ a
   pub gives : FlowGives (ItemsCome (types_of a) (values_of a) env ts) a b r
 
 pub record EvalsBody (t : Tree) (drawn : Flow) (env : List Value) (r : Result (Vec Value Global) Halt) (a b : World) : Type 0 where
   pub moved : Moved a b
+  pub still : NoSource t → b ≡ a
   pub gives : FlowGives (Draws (λ v. Comes (types_of a) (values_of a) (v ∷ env) t) drawn) a b r
 
 -- the items of a collection at the end of a list; a stop leaves that as it was
@@ -120,10 +125,12 @@ pub record EvalsInto (t : Tree) (env : List Value) (r : Result (Unit {0}) Halt) 
 
 pub record EvalsFields (ps : Parts) (env : List Value) (r : Result (Vec (Name × Value) Global) EvalStop) (a b : World) : Type 0 where
   pub moved : Moved a b
+  pub still : NoSourceInParts ps → b ≡ a
   pub gives : FieldsGive ps env a b r
 
 pub record EvalsCall (c : ℕ) (ts : Trees) (env : List Value) (r : Result Value EvalStop) (a b : World) : Type 0 where
   pub moved : Moved a b
+  pub still : NoSourceInTrees ts → b ≡ a
   pub gives : CallGives (ArgsCome (types_of a) (values_of a) env ts (λ vs. answered (meaning c vs))) a b r
 
 -- the end of a source
@@ -152,6 +159,7 @@ Caused _ a b = ⊤
 -- the value of a term
 pub record Evaluates (t : Tree) (env : List Value) (r : Result Value EvalStop) (a b : World) : Type 0 where
   pub moved : Moved a b
+  pub still : NoSource t → b ≡ a
   pub cause : Caused r a b
   pub tells : Tells (core (values_of a) t env) r
   pub typed : (G : List Ground) (s : Ground) → HaveTypes G env → CoreTypes (types_of a) G t s → IfOk r (Inhabits s)
@@ -175,6 +183,7 @@ Added s _ old new = (vs : List Value) × (new ≡ old ++ vs) × AllByRecursion (
 
 pub record EvaluatesList (t : Tree) (env : List Value) (r : Result (Unit {0}) EvalStop) (old new : List Value) (a b : World) : Type 0 where
   pub moved : Moved a b
+  pub still : NoSource t → b ≡ a
   pub cause : Caused r a b
   pub tells : Lists (core (values_of a) t env) r old new
   pub typed : (G : List Ground) (s : Ground) → HaveTypes G env → CoreTypes (types_of a) G t (coll kind.List s) → Added s r old new
@@ -189,15 +198,18 @@ before (v ∷ vs) f = more v (before vs f)
 
 pub record OnEach (whole rest : Trees) (env drawn : List Value) (a b : World) : Type 0 where
   pub moved : Moved a b
+  pub still : NoSourceInTrees whole → (b ≡ a) × NoSourceInTrees rest
   pub sense : SenseEach rest env b
   pub onward : (f : Flow) → ItemsCome (types_of a) (values_of a) env rest f → ItemsCome (types_of a) (values_of a) env whole (before drawn f)
 
 pub record OnBody (t : Tree) (whole rest : Flow) (left env drawn : List Value) (a b : World) : Type 0 where
   pub moved : Moved a b
+  pub still : NoSource t → b ≡ a
   pub sense : SenseBody t left env b
   pub onward : (f : Flow) → Draws (λ v. Comes (types_of a) (values_of a) (v ∷ env) t) rest f → Draws (λ v. Comes (types_of a) (values_of a) (v ∷ env) t) whole (before drawn f)
 
 pub record OnFields (whole rest : Parts) (env : List Value) (drawn : List (Name × Value)) (a b : World) : Type 0 where
   pub moved : Moved a b
+  pub still : NoSourceInParts whole → (b ≡ a) × NoSourceInParts rest
   pub sense : SenseParts rest env b
   pub onward : (go : List (Name × Value) → Outcome) (o : Outcome) → PartsCome (types_of a) (values_of a) env rest (λ fs. go (drawn ++ fs)) o → PartsCome (types_of a) (values_of a) env whole go o

@@ -1,6 +1,7 @@
 pub mod Comes
 pub mod Evals
 pub mod Scans
+pub mod Sources
 pub mod Steps
 pub mod Values
 pub mod World

@@ -17,7 +17,7 @@ use std::alloc::Global;
 /// is not evaluated.
 ///
 /// Afterwards, also after a stop, the session has the same sources and settings, and its drivers have the same sources
-/// attached and the same cursors open.
+/// attached and the same cursors open. A term in which no source stands leaves the session as it was.
 ///
 /// # Errors
 /// `Overflow` exactly where the outcome of the term is an overflow; `Driver` where the driver of that source refused to go

@@ -156,11 +156,7 @@ fn gather(
 pub fn no_rows(alloc: Global, attached: &Attached) -> Result<Value, EvalStop>
     ensures { IsEmptyOf attached.now result }
 {
-    gather(
-        kind_in(&attached.ty),
-        &attached.source,
-        Ok(Vec::new(alloc)),
-    )
+    gather(kind_in(&attached.ty), &attached.source, Ok(Vec::new(alloc)))
 }
 
 // The value of an attached source, by a whole scan of the driver at a place.

@@ -73,7 +73,8 @@ HasTyped s (Some (Rows rows)) = AllByRecursion (Inhabits (item_of (ground_of s.t
 HasTyped s (Some _) = ⊥
 HasTyped s None = ⊤
 
--- a source is attached at its driver under its name, with its type and, where they are told, its rows
+-- A source is attached at its driver under its name, with its type, the number of its rows and, where they are told, these
+-- rows.
 pub record Stands (ks : List DriverKind) (ds : List State) (s : Source) : Type 0 where
   pub driver : State
   pub there : slice_get ds s.driver ≡ Some driver

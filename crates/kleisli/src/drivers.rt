@@ -9,8 +9,11 @@ use kl_outside::Files;
 use std::alloc::{AllocError, Global};
 
 /// The driver of flat files over these files, alone in a list.
-pub fn flat_driver<F: Files + Drop>(alloc: Global, files: F) -> Result<Vec<Box<dyn Driver>>, AllocError>
-    ensures idle { IfOk result (λ drivers. All IsIdle (map (λ d. state d) drivers.items)) }
+pub fn flat_driver<F: Files + Drop + 'static>(
+    alloc: Global,
+    files: F,
+) -> Result<Vec<Box<dyn Driver>>, AllocError>
+    ensures idle { IfOk result (λ drivers. All IsIdle (map (λ d. (Driver-box d).state d.value) drivers.items)) }
     ensures few { IfOk result (λ drivers. length drivers.items < 2 ^ 32) }
 {
     alone(alloc, Box::new(alloc, FlatDriver::new(alloc, files))?)

@@ -44,7 +44,14 @@ fn run(rt: HostRuntime, words: &[String]) -> u8 {
             let mut files = HostFiles::new(rt);
             let mut out = HostSink::new(rt.stdout());
             let mut err = HostSink::new(rt.stderr());
-            let answer = kleisli(rt.alloc(), words, &mut files, &mut drivers, &mut out, &mut err);
+            let answer = kleisli(
+                rt.alloc(),
+                words,
+                &mut files,
+                &mut drivers,
+                &mut out,
+                &mut err,
+            );
             answer.status
         }
         Err(_) => NO_MEMORY,

@@ -32,3 +32,18 @@ returns-in-SchemeBytes g c = rw c.in-SchemeBytes.is c.write_whole-in-SchemeBytes
 
 pub returns-in-IllTyped : goal.returns-in-IllTyped
 returns-in-IllTyped g c = rw c.in-IllTyped.is c.write_untyped.ensures
+
+pub returns-in-CatalogueBytes : goal.returns-in-CatalogueBytes
+returns-in-CatalogueBytes g c = rw c.in-CatalogueBytes.is c.write_whole-in-CatalogueBytes.ensures
+
+pub returns-in-Catalogue : goal.returns-in-Catalogue
+returns-in-Catalogue g c = rw c.in-Catalogue.is (rw c.format.ensures.text at (rw c.as_bytes.ensures.value at c.write_parts.ensures))
+
+pub returns-in-NameTwice : goal.returns-in-NameTwice
+returns-in-NameTwice g c = rw c.in-NameTwice.is (rw c.slice.ensures at c.write_parts-in-NameTwice.ensures)
+
+pub returns-in-NoDriver : goal.returns-in-NoDriver
+returns-in-NoDriver g c = rw c.in-NoDriver.is (rw c.slice-in-NoDriver.ensures at c.write_parts-in-NoDriver.ensures)
+
+pub returns-in-Unsuited : goal.returns-in-Unsuited
+returns-in-Unsuited g c = rw c.in-Unsuited.is (rw c.slice-in-Unsuited.ensures at c.write_parts-in-Unsuited.ensures)

@@ -1,9 +1,7 @@
-use Rattle.std.proofs.Common.{◌≡◌, length, Some, true, false, Ok, Err, All, refl, sym, ap, ◌∙◌, subst, rules, arith}
-use Rattle.std.proofs.lemmas.Grind.{common_steps}
+use Rattle.std.proofs.Common.{◌≡◌, length, Some, true, false, refl, sym, ap, ◌∙◌, rules, arith}
 use Rattle.kl_core.specs.declared.term.Term.{the_lemmas}
 use Rattle.kl_outcome.specs.Outcome.{done, over, fine, overflow, flow}
-use Rattle.kl_eval.specs.declared.stop.Halt.TheVariants as halt
-use Rattle.kl_eval.proofs.Forms.{body_fine, body_goes, body_lost, body_over, body_past, body_sense, body_starts, body_whole, call_arity, call_both, call_former_stop, call_latter_stop, call_only, call_only_stop, each_ends, each_goes, each_lost, each_none, each_over, each_refused, each_sense, each_starts, evals_lent, evals_lost, evals_part, evals_refused, fields_ends, fields_goes, fields_lost, fields_sense, fields_starts, fields_stops, first_there, fits_both, fits_only, found, items_done, missing, no_branch, over_gives, second_there, sense_body, sense_bound, sense_branch, sense_first, sense_former, sense_inj, sense_items, sense_latter, sense_make, sense_only, sense_other_at, sense_picked, sense_prim, sense_proj, sense_rec, sense_second, sense_source, sense_subject, sense_test, sense_var, source_ready, source_there, source_whole, there_field, truth_there, value_branch, value_case_stop, value_if, value_if_stop, value_inj, value_inj_stop, value_let, value_let_stop, value_loop, value_make, value_other_at, value_prim, value_proj, value_proj_stop, value_rec, value_rec_stop, value_source, value_source_stop, value_union, value_union_first, value_union_lost, value_union_over, value_var, variant_there}
+use Rattle.kl_eval.proofs.Forms.{body_fine, body_goes, body_lost, body_over, body_past, body_sense, body_starts, body_whole, call_arity, call_both, call_former_stop, call_latter_stop, call_only, call_only_stop, each_ends, each_goes, each_lost, each_none, each_over, each_refused, each_sense, each_starts, evals_lent, evals_part, fields_ends, fields_goes, fields_lost, fields_sense, fields_starts, fields_stops, first_there, fits_both, fits_only, found, items_done, loop_lost, loop_refused, missing, no_branch, over_gives, second_there, sense_body, sense_bound, sense_branch, sense_first, sense_former, sense_inj, sense_items, sense_latter, sense_make, sense_only, sense_other_at, sense_picked, sense_prim, sense_proj, sense_rec, sense_second, sense_source, sense_subject, sense_test, sense_var, source_ready, source_there, source_whole, there_field, truth_there, value_branch, value_case_stop, value_if, value_if_stop, value_inj, value_inj_stop, value_let, value_let_stop, value_loop, value_make, value_other_at, value_prim, value_proj, value_proj_stop, value_rec, value_rec_stop, value_source, value_source_stop, value_union, value_union_first, value_union_lost, value_union_over, value_var, variant_there}
 use Rattle.kl_eval.proofs.Emitting.{body_sense_whole, body_added, body_stops, into_whole, into_stop, into_if, into_if_stop, into_none, into_one, into_one_stop, look_prim, sense_of, sense_one, whole_there, whole_picked}
 use Rattle.kl_ask.proofs.Worlds.{moved_none}
 use Rattle.kl_eval.proofs.evaluator.+eval.Goals as goal
@@ -105,7 +103,7 @@ pub value-draw-requires : goal.value-draw-requires
 value-draw-requires g t c κs within = (search (rules, the_lemmas, arith), (within, sense_items _ _ _ _ _ _ _ c.in-Ext.is c.get-in-Some-lent.ensures c.get-in-Ext.ensures (done _) _ fine (g.T.Seen.world c.args.tables.now) _ (moved_none _) (items_done _ _ _ c.parts_of.ensures.reads) c.requires (c.in-Some-lent.ensures _ _)))
 
 pub value-returns-in-Some-lent : goal.value-returns-in-Some-lent
-value-returns-in-Some-lent g t c = value_loop _ _ _ _ _ _ _ c.in-Ext.is c.get-in-Some-lent.ensures c.get-in-Ext.ensures (done _) _ fine _ _ _ _ _ (moved_none _) (items_done _ _ _ c.parts_of.ensures.reads) (c.in-Some-lent.ensures _ _) c.draw.ensures c.gather-in-Some-lent.ensures
+value-returns-in-Some-lent g t c = value_loop _ _ _ _ _ _ _ c.in-Ext.is c.get-in-Some-lent.ensures c.get-in-Ext.ensures (done _) _ fine _ _ _ _ _ (moved_none _) (λ n. refl) (items_done _ _ _ c.parts_of.ensures.reads) (c.in-Some-lent.ensures _ _) c.draw.ensures c.gather-in-Some-lent.ensures
 
 pub value-value-requires-in-None-lent : goal.value-value-requires-in-None-lent
 value-value-requires-in-None-lent g t c κs within = (search (rules, the_lemmas, arith), (within, sense_source _ _ _ _ _ _ _ c.in-Ext.is refl c.get-in-None-lent.ensures (g.T.Seen.world c.args.tables.now) c.requires))
@@ -117,7 +115,7 @@ pub value-draw-requires-in-Ok-value-3 : goal.value-draw-requires-in-Ok-value-3
 value-draw-requires-in-Ok-value-3 g t c κs within = (search (rules, the_lemmas, arith), (within, sense_items _ _ _ _ _ _ _ c.in-Ext.is c.get-in-Ok-value-3.ensures c.get-in-None-lent.ensures (done _) _ fine _ _ c.in-Ok-value-3.ensures.moved (items_done _ _ _ c.parts_of-in-Ok-value-3.ensures.reads) c.requires c.in-Ok-value-3.ensures.gives))
 
 pub value-returns-in-Ok-value-3 : goal.value-returns-in-Ok-value-3
-value-returns-in-Ok-value-3 g t c = value_loop _ _ _ _ _ _ _ c.in-Ext.is c.get-in-Ok-value-3.ensures c.get-in-None-lent.ensures (done _) _ fine _ _ _ _ _ c.in-Ok-value-3.ensures.moved (items_done _ _ _ c.parts_of-in-Ok-value-3.ensures.reads) c.in-Ok-value-3.ensures.gives c.draw-in-Ok-value-3.ensures c.gather-in-Ok-value-3.ensures
+value-returns-in-Ok-value-3 g t c = value_loop _ _ _ _ _ _ _ c.in-Ext.is c.get-in-Ok-value-3.ensures c.get-in-None-lent.ensures (done _) _ fine _ _ _ _ _ c.in-Ok-value-3.ensures.moved c.in-Ok-value-3.ensures.still (items_done _ _ _ c.parts_of-in-Ok-value-3.ensures.reads) c.in-Ok-value-3.ensures.gives c.draw-in-Ok-value-3.ensures c.gather-in-Ok-value-3.ensures
 
 pub value-look-requires-in-If : goal.value-look-requires-in-If
 value-look-requires-in-If g t c κs within = (search (rules, the_lemmas, arith), (within, sense_test _ _ _ _ _ _ c.in-If.is c.get-in-If.ensures (g.T.Seen.world c.args.tables.now) c.requires))
@@ -201,7 +199,7 @@ pub value-draw-requires-in-Over : goal.value-draw-requires-in-Over
 value-draw-requires-in-Over g t c κs within = (search (rules, the_lemmas, arith), (within, sense_items _ _ _ _ _ _ _ c.in-Ext.is c.get-in-Over.ensures c.get-in-None-lent.ensures (over _) _ overflow _ _ c.in-Err-value-3.ensures.moved (ap (λ q. flow q overflow) (sym c.deref.ensures.value)) c.requires (over_gives _ _ _ _ _ _ c.in-Over.is c.in-Err-value-3.ensures)))
 
 pub value-returns-in-Over : goal.value-returns-in-Over
-value-returns-in-Over g t c = value_loop _ _ _ _ _ _ _ c.in-Ext.is c.get-in-Over.ensures c.get-in-None-lent.ensures (over _) _ overflow _ _ _ _ _ c.in-Err-value-3.ensures.moved (ap (λ q. flow q overflow) (sym c.deref.ensures.value)) (over_gives _ _ _ _ _ _ c.in-Over.is c.in-Err-value-3.ensures) c.draw-in-Over.ensures c.gather-in-Over.ensures
+value-returns-in-Over g t c = value_loop _ _ _ _ _ _ _ c.in-Ext.is c.get-in-Over.ensures c.get-in-None-lent.ensures (over _) _ overflow _ _ _ _ _ c.in-Err-value-3.ensures.moved c.in-Err-value-3.ensures.still (ap (λ q. flow q overflow) (sym c.deref.ensures.value)) (over_gives _ _ _ _ _ _ c.in-Over.is c.in-Err-value-3.ensures) c.draw-in-Over.ensures c.gather-in-Over.ensures
 
 pub each-returns-in-Over : goal.each-returns-in-Over
 each-returns-in-Over g t c = each_over _ _ _ _ _ _ _ _ c.terms-test.true c.term-item.is c.terms.invariant _ _ _ _ c.in-Over.is c.in-Err.ensures refl
@@ -213,7 +211,7 @@ pub value-into_parts-kind-requires : goal.value-into_parts-kind-requires
 value-into_parts-kind-requires g t c = first_there _ _ _ _ _ c.in-Union.is c.get-in-Union.ensures _ _ _ c.requires c.in-Ok-value.ensures
 
 pub value-returns-in-Ok-value-2 : goal.value-returns-in-Ok-value-2
-value-returns-in-Ok-value-2 g t c = value_union_lost _ _ _ _ _ c.in-Union.is c.get-in-Union.ensures _ _ _ _ _ _ _ _ _ c.in-Ok-value.ensures c.in-Ok-value-2.ensures c.in-Err-append.ensures
+value-returns-in-Ok-value-2 g t c = value_union_lost _ _ _ _ _ c.in-Union.is c.get-in-Union.ensures _ _ _ _ _ _ _ _ _ c.get-in-Ok-value.ensures c.in-Ok-value.ensures c.in-Ok-value-2.ensures c.in-Err-append.ensures
 
 pub each-terms-init : goal.each-terms-init
 each-terms-init g t c = each_starts _ _ _ _ c.new-items.ensures.items c.requires
@@ -225,7 +223,7 @@ pub draw-drawn-init : goal.draw-drawn-init
 draw-drawn-init g t c = body_starts _ _ _ _ _ _ c.new-items.ensures.items c.requires
 
 pub value-returns-in-Ext : goal.value-returns-in-Ext
-value-returns-in-Ext g t c = evals_lost _ _ _ _ c.in-Err-value-3.ensures.moved
+value-returns-in-Ext g t c = loop_lost _ _ _ _ _ _ _ c.in-Ext.is refl c.get-in-None-lent.ensures _ _ _ c.in-Err-value-3.ensures
 
 pub value-unreachable-requires : goal.value-unreachable-requires
 value-unreachable-requires g t c = no_branch _ _ _ _ _ _ _ c.in-Case.is c.get-in-Case.ensures refl _ _ _ _ _ _ c.get-in-Ok-look-2.ensures c.variant.ensures c.requires c.in-Ok-look-2.ensures (missing _ _ _ c.slice-in-Ok-look-2.ensures c.in-None.ensures.place) c.in-None-other.is
@@ -276,7 +274,7 @@ pub value-table-requires-clause-there : goal.value-table-requires-clause-there
 value-table-requires-clause-there g t c = source_there _ _ _ c.in-Source.is (g.T.Seen.world c.args.tables.now) c.requires
 
 pub value-returns-in-Driver : goal.value-returns-in-Driver
-value-returns-in-Driver g t c = evals_refused _ _ _ _ _ _ _ _ c.in-Driver.is c.in-Err-value-3.ensures
+value-returns-in-Driver g t c = loop_refused _ _ _ _ _ _ _ c.in-Ext.is refl c.get-in-None-lent.ensures _ _ _ _ _ c.in-Driver.is c.in-Err-value-3.ensures
 
 pub each-returns-in-Driver : goal.each-returns-in-Driver
 each-returns-in-Driver g t c = each_refused _ _ _ _ _ _ _ _ c.terms-test.true c.term-item.is c.terms.invariant _ _ _ _ c.in-Driver.is c.in-Err.ensures

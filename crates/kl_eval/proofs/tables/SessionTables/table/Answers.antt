@@ -16,4 +16,4 @@ pub returns-in-Some : goal.returns-in-Some
 returns-in-Some g c = tabled _ _ _ _ _ _ (entry _ _ _ _ c.slice.ensures c.index-slice-source.is c.requires.there) c.in-Some.is c.requires.there c.requires.ready c.scan_attached.ensures
 
 pub returns-in-None : goal.returns-in-None
-returns-in-None g c = bare_tabled _ _ _ (entry _ _ _ _ c.slice.ensures c.index-slice-source.is c.requires.there) c.in-None c.requires.ready _ c.no_rows.ensures
+returns-in-None g c = bare_tabled _ _ _ (entry _ _ _ _ c.slice.ensures c.index-slice-source.is c.requires.there) c.in-None.is c.requires.ready _ c.no_rows.ensures

@@ -1,9 +1,0 @@
-use Rattle.kl_rows.specs.Places.{a_kind}
-use Rattle.calls.proofs.unifier.a_collection_of_open_kind.Goals as goal
-
-pub merge-requires-clause-sorts : goal.merge-requires-clause-sorts
-merge-requires-clause-sorts g c = record {
-  sort = a_kind;
-  first = c.in_ok-unify.ensures.keeps.sorts c.in_ok-kind.kind a_kind (c.in_ok-bag.ensures.keeps.sorts c.in_ok-kind.kind a_kind (c.in_ok-set.ensures.keeps.sorts c.in_ok-kind.kind a_kind c.in_ok-kind.ensures.sort));
-  second = c.in_ok-unify.ensures.keeps.sorts c.in_ok-bag.bag a_kind c.in_ok-bag.ensures.sort;
-}

@@ -1,0 +1,14 @@
+//! Tests: the calls of the layers of sources and of the command line that take memory, each once on its happy path.
+//!
+//! That a call with ample memory does not answer want of memory is in no contract; these tests show it. They stand
+//! together, as a crate that has tests is proved twice.
+#![tactic(auto)]
+
+#[cfg(test)]
+mod asks;
+#[cfg(test)]
+mod catalogues;
+#[cfg(test)]
+mod placing;
+#[cfg(test)]
+mod words;

@@ -1,0 +1,524 @@
+-- What a run of a program with a typing comes to: what attaching its sources answers, and then the outcome of its term.
+use Rattle.std.proofs.Common.{◌≡◌, ◌⊎◌, inl, inr, ℕ, zero, suc, ◌+◌, ◌<◌, ◌≤◌, Bool, true, false, List, [], ◌∷◌, length, map, Option, Some, None, IsSome, Result, Ok, Err, Vec, refl, sym, ap, subst, ◌∙◌, arith, slice_get, add-zero, zero-add}
+use Rattle.std.specs.Prelude.{All, ⊤}
+use Rattle.std.specs.List.{AllByRecursion}
+use Rattle.std.proofs.lemmas.List.Elements.{All-head, All-tail}
+use Rattle.std.proofs.lemmas.Option.{slice_get_within}
+use Rattle.kl_outside.specs.Sinks.{SinkState}
+use Rattle.kl_outside.proofs.CountLemmas.{rose_after}
+use Rattle.kl_value.specs.Canon.{canonical}
+use Rattle.kl_value.specs.Views.{collection}
+use Rattle.kl_value.specs.declared.Kind.{Kind}
+use Rattle.kl_value.specs.declared.Kind.TheVariants as kind
+use Rattle.kl_value.specs.declared.Value.{Value}
+use Rattle.kl_type.specs.Ground.{Ground, ground_of}
+use Rattle.kl_type.specs.declared.Ty.{Ty}
+use Rattle.kl_rows.specs.Schemes.{Instance}
+use Rattle.kl_outcome.specs.Outcome.{Name, Outcome, done, over, stuck}
+use Rattle.kl_outcome.specs.Typed.{Inhabits}
+use Rattle.kl_outcome.proofs.OutcomeTypes.{canonical_inhabits}
+use Rattle.kl_syntax.specs.Syntax.{Exp, Decls}
+use Rattle.kl_syntax.specs.View.{view, decls_of}
+use Rattle.kl_scope.specs.Breaches.{is_marked}
+use Rattle.kl_scope.specs.declared.scoped.Scoped.{Scoped}
+use Rattle.kl_meaning.specs.Run.{meaning_of_program}
+use Rattle.kl_meaning.specs.Tidy.{IsTidyProgram}
+use Rattle.kl_meaning.specs.Typing.{HaveTypesByName, ProgramTypes}
+use Rattle.kl_meaning.proofs.Safety.{never_stuck}
+use Rattle.kl_core.specs.Core.{core}
+use Rattle.kl_core.specs.Trees.{Tree}
+use Rattle.kl_core.specs.Typing.{CoreTypes, HaveSources}
+use Rattle.kl_desugar.specs.Sense.{types_of as program_types}
+use Rattle.kl_desugar.specs.Translation.{Means, term_of, tables_of}
+use Rattle.kl_desugar.proofs.Sense.{makes_sense}
+use Rattle.kl_desugar.proofs.Tidying.{resolved_tidy}
+use Rattle.kl_infer.specs.Inferred.{Infers}
+use Rattle.kl_infer.specs.declared.Typed.{Typed}
+use Rattle.kl_ask.specs.Asks.{item_of, kind_of}
+use Rattle.kl_ask.specs.Driver.{DriverKind, State, Keeps, IsColl, Stored, Missing, Bad, Long, Deep, Rows, IsTold as IsToldBy}
+use Rattle.kl_ask.specs.Lists.{EachSteps}
+use Rattle.kl_ask.specs.World.{World, types_of, values_of}
+use Rattle.std.specs.declared.alloc.Global.{Global}
+use Rattle.kl_ask.specs.declared.session.Attached.{Attached}
+use Rattle.kl_ask.specs.declared.settings.Settings.{Settings}
+use Rattle.kl_ask.specs.declared.settings.Trace.{Trace}
+use Rattle.kl_ask.specs.declared.ask.DriverError.{DriverError}
+use Rattle.kl_ask.specs.declared.ask.DriverError.TheVariants as error
+use Rattle.kl_ask.proofs.Whole.{collection_is}
+use Rattle.kl_ask.proofs.Worlds.{fun_ext, some_same, there, keeps_then}
+use Rattle.kl_eval.specs.Evals.{Sense, SenseList}
+use Rattle.kl_sources.specs.Attaching.{HaveNone, AttachesAll, world_of, IsErrorOf, IsUnreadable, IsMishap, NoVerdict, MayAttach, IsMarkedName, StandsWithout, Causes, Serves, Stands, HasTyped}
+use Rattle.kl_sources.specs.Attaching as sources
+use Rattle.kl_sources.specs.Sources.{ArePlaced, IsFit, names_of, grounds_of, contents, IsValueAt, HaveValues, IsReadable, FirstWithout}
+use Rattle.kl_sources.specs.declared.attaching.AttachError.{AttachError}
+use Rattle.kl_sources.specs.declared.source.Source.{Source}
+use Rattle.kl_sources.proofs.Lists.{of_all, mapped, unmapped}
+use Rattle.kl_engine.specs.Answering.{kinds_of, SomeRose, KeepsDrivers, IsIdle, IsStored, IsOutside, reading, writing, drifting, wanting, Follows, IsTold, IsOneOf, HasTextFault, PrintsNothing, IsUnread, NeedsDrivers}
+use Rattle.kl_engine.specs.Commands.{Program}
+use Rattle.kl_engine.specs.Faults.{Ending}
+use Rattle.kl_engine.specs.Reading.{WasInScope}
+use Rattle.kl_engine.specs.Running.{AnswersTerm, HasRunFault, IsListScheme, IsOutcome, fault_of, Ends, before, followed, untold, IsNamed, DoneMeaning}
+use Rattle.kl_engine.specs.Verdict.{Verdict, refused, GivesList, stored_fault, IsMeant}
+use Rattle.kl_engine.specs.Verdict as verdict
+use Rattle.kl_engine.specs.declared.fault.Fault.{Fault}
+use Rattle.kl_engine.specs.declared.fault.Fault.TheVariants as fault
+use Rattle.kl_engine.specs.declared.top.Purpose.TheVariants as purpose
+use Rattle.kl_engine.proofs.DoneLemmas.{follows_prints, wanted_done}
+use Rattle.kl_engine.proofs.PageLemmas.{prints_refused}
+
+-- ---- lists
+
+at_all : {T : Type 0} (P : T → Type 0) (xs : List T) (i : ℕ) (x : T) → All P xs → slice_get xs i ≡ Some x → P x
+at_all P [] i x all is = absurd cc
+at_all P (y ∷ ys) zero x all is = subst P (some_same is) (All-head P y ys all)
+at_all P (y ∷ ys) (suc i) x all is = at_all P ys i x (All-tail P y ys all) is
+
+pub idle_none : (ds : List State) → All IsIdle ds → HaveNone ds
+idle_none ds idle = λ i d at x. (at_all IsIdle ds i d idle at).0 x
+
+-- ---- the same marks
+
+module _ (ks : List DriverKind) (marks others : ℕ → Bool) where
+  values_agree : (n : ℕ) (ss : List Source) (vs : List (Name × Value)) → ((i : ℕ) → i < n + length ss → others i ≡ marks i) → HaveValues ks others n ss vs → HaveValues ks marks n ss vs
+  values_agree n [] vs same have = have
+  values_agree n (s ∷ ss) vs same (v, rest, is, at, more) =
+      (v, rest, is, subst (λ m. IsValueAt ks m s v) (same n (omega arith)) at, values_agree (suc n) ss rest (λ i less. same i (omega (arith, less))) more)
+
+  first_agrees : (n : ℕ) (ss : List Source) (s : Source) (w : Stored) → ((i : ℕ) → i < n + length ss → others i ≡ marks i) → FirstWithout ks others n ss s w → FirstWithout ks marks n ss s w
+  first_agrees n [] s w same first = first
+  first_agrees n (t ∷ ts) s w same (inl (marked, is, at, none)) = inl (sym (same n (omega arith)) ∙ marked, is, at, none)
+  first_agrees n (t ∷ ts) s w same (inr (readable, rest)) = inr (subst (λ m. IsReadable ks m t) (same n (omega arith)) readable, first_agrees (suc n) ts s w (λ i less. same i (omega (arith, less))) rest)
+
+-- ---- faults of sources
+
+refusal_fault : (x : Name) (w : Stored) (e : DriverError) → IsErrorOf w e → stored_fault x w ≡ Some (fault_of x e)
+refusal_fault x Missing e is = ap (λ d. Some (fault_of x d)) (sym is)
+refusal_fault x (Bad place) e is = ap (λ d. Some (fault_of x d)) (sym is)
+refusal_fault x (Long most) e is = ap (λ d. Some (fault_of x d)) (sym is)
+refusal_fault x (Deep place) e is = ap (λ d. Some (fault_of x d)) (sym is)
+refusal_fault x (Rows rows) e is = absurd is
+
+unreadable_unread : (x : Name) (e : DriverError) → IsUnreadable e → IsUnread (fault_of x e)
+unreadable_unread x (error.BadSource place) is = tt
+unreadable_unread x (error.TooLong most) is = tt
+unreadable_unread x (error.TooDeep place) is = tt
+unreadable_unread x error.Failed is = absurd is
+unreadable_unread x (error.Changed d) is = absurd is
+unreadable_unread x error.NoMemory is = absurd is
+
+run_fault : (x : Name) (first : Option ℕ) (e : DriverError) → HasTextFault (purpose.Run first) (fault_of x e)
+run_fault x first error.Failed = tt
+run_fault x first (error.BadSource place) = tt
+run_fault x first (error.TooLong most) = tt
+run_fault x first (error.TooDeep place) = tt
+run_fault x first (error.Changed d) = tt
+run_fault x first error.NoMemory = tt
+
+needs_drivers : (x : Name) (first : Option ℕ) (e : DriverError) → IsTold (Some (fault_of x e)) → NeedsDrivers (purpose.Run first) (Some (fault_of x e))
+needs_drivers x first (error.BadSource place) told = tt
+needs_drivers x first (error.TooLong most) told = tt
+needs_drivers x first (error.TooDeep place) told = tt
+needs_drivers x first error.Failed told = absurd told
+needs_drivers x first (error.Changed d) told = absurd told
+needs_drivers x first error.NoMemory told = absurd told
+
+-- the faults with which attaching ends
+abbrev IsRefused : Fault → Type 0
+IsRefused fault.Read = ⊤
+IsRefused fault.NoMemory = ⊤
+IsRefused f = IsUnread f
+
+unread_refused : (f : Fault) → IsUnread f → IsRefused f
+unread_refused (fault.BadSource name place) is = tt
+unread_refused fault.FileBytes is = tt
+unread_refused fault.ItemNesting is = tt
+unread_refused fault.Read is = tt
+unread_refused fault.NoMemory is = tt
+unread_refused fault.Usage is = is
+unread_refused (fault.Text w byte) is = is
+unread_refused (fault.IllTyped decl) is = is
+unread_refused (fault.Catalogue byte) is = is
+unread_refused (fault.NameTwice name) is = is
+unread_refused (fault.NoDriver name) is = is
+unread_refused (fault.Unsuited name) is = is
+unread_refused (fault.BadFile place) is = is
+unread_refused fault.Overflow is = is
+unread_refused fault.Write is = is
+unread_refused (fault.Changed name) is = is
+unread_refused fault.ProgramBytes is = is
+unread_refused fault.CatalogueBytes is = is
+unread_refused fault.Nesting is = is
+unread_refused fault.TermNodes is = is
+unread_refused fault.TermDepth is = is
+unread_refused fault.SchemeBytes is = is
+
+error_refused : (x : Name) (w : Stored) (e : DriverError) → IsErrorOf w e → IsRefused (fault_of x e)
+error_refused x Missing e is = subst (λ d. IsRefused (fault_of x d)) (sym is) tt
+error_refused x (Bad place) e is = subst (λ d. IsRefused (fault_of x d)) (sym is) tt
+error_refused x (Long most) e is = subst (λ d. IsRefused (fault_of x d)) (sym is) tt
+error_refused x (Deep place) e is = subst (λ d. IsRefused (fault_of x d)) (sym is) tt
+error_refused x (Rows rows) e is = absurd is
+
+some_fault : (f g : Fault) → Some f ≡ Some g → f ≡ g
+some_fault f g is = some_same is
+
+-- ---- what drivers keep
+
+attach_keeps : (ss : List Source) (marks : ℕ → Bool) (ds mid : List State) → EachSteps (MayAttach marks ss) ds mid → KeepsDrivers (IsNamed ss marks) ds mid
+attach_keeps ss marks ds mid steps = record {
+  size = steps.size;
+  each = λ i a b this that. let may = steps.each i a b this that in record {
+    keeps = may.keeps;
+    cursors = may.cursors;
+    attached = λ name none. may.others name (λ marked. none (marked.0, mapped (λ (s : Source). s.name) ss marked.0 marked.1 marked.2 ∙ ap Some marked.4, marked.3));
+  };
+}
+
+module _ (Named : Name → Type 0) (ds mid last : List State) (this : KeepsDrivers Named ds mid) where
+  at_first : (i : ℕ) (b : State) → slice_get mid i ≡ Some b → (a : State) × (slice_get ds i ≡ Some a)
+  at_first i b at = there ds i (let size = this.size in let less = slice_get_within mid i b at in omega (arith, size, less))
+
+  at_mid : (i : ℕ) (a : State) → slice_get ds i ≡ Some a → (b : State) × (slice_get mid i ≡ Some b)
+  at_mid i a at = there mid i (let size = this.size in let less = slice_get_within ds i a at in omega (arith, size, less))
+
+  keeps_through : KeepsDrivers (λ name. ⊥) mid last → KeepsDrivers Named ds last
+  keeps_through that = record {
+    size = that.size ∙ this.size;
+    each = λ i a c here then. let b = at_mid i a here in let m = this.each i a b.0 here b.1 in let n = that.each i b.0 c b.1 then in record {
+      keeps = keeps_then a b.0 c m.keeps n.keeps;
+      cursors = n.cursors ∙ m.cursors;
+      attached = λ name none. n.attached name (λ h. h) ∙ m.attached name none;
+    };
+  }
+
+  rose_since : (count : State → ℕ) → ((a b : State) → Keeps a b → count a ≤ count b) → SomeRose count mid last → SomeRose count ds last
+  rose_since count later (i, b, c, at, then, rose) =
+      let a = at_first i b at in
+      (i, a.0, c, a.1, then, rose_after (count a.0) (count b) (count c) (later a.0 b (this.each i a.0 b a.1 at).keeps) rose)
+
+  outside_since : (v : Verdict) (end : Ending) (out out' : SinkState) → IsOutside ⊥ v end mid last out out' → IsOutside ⊥ v end ds last out out'
+  outside_since v end out out' (reading is (inl none)) = absurd none
+  outside_since v end out out' (reading is (inr rose)) = reading is (inr (rose_since (λ d. d.faults) (λ a b keeps. keeps.faults) rose))
+  outside_since v end out out' (writing is rose page) = writing is rose page
+  outside_since v end out out' (drifting name is rose) = drifting name is (rose_since (λ d. d.drifts) (λ a b keeps. keeps.drifts) rose)
+  outside_since v end out out' (wanting is) = wanting is
+
+  follows_since : (v : Verdict) (end : Ending) (out out' : SinkState) → Follows ⊥ v end mid last out out' → Follows ⊥ v end ds last out out'
+  follows_since v end out out' follows = record {
+    ends = elim follows.ends [ inl h ↦ inl h | inr h ↦ inr (outside_since v end out out' h) ];
+    whole = follows.whole;
+    part = follows.part;
+  }
+
+-- ---- a program whose sources are not told has no verdict
+
+module _ (ss : List Source) (marks : ℕ → Bool) (first : Option ℕ) (program : Decls) (e : Exp) (ds : List State) (lacks : NoVerdict (kinds_of ds) marks ss) where
+  none_meant : (others : ℕ → Bool) → ((i : ℕ) → i < length ss → marks i ≡ others i) → (v : Verdict) → IsMeant (kinds_of ds) ss others first program e v → ⊥
+  none_meant others same v (inl (s, w, f, at, is, eq)) = lacks.no_first s w (first_agrees (kinds_of ds) marks others 0 ss s w (λ i less. sym (same i (omega (arith, less)))) at)
+  none_meant others same v (inr (vs, values, is)) = lacks.no_values vs (values_agree (kinds_of ds) marks others 0 ss vs (λ i less. sym (same i (omega (arith, less)))) values)
+
+  none_told : All IsToldBy ds → ⊥
+  none_told all =
+      let at = unmapped (λ (d : State). d.kind) ds lacks.driver.0 lacks.driver.1 lacks.driver.2 in
+      let told : IsSome {T = List ℕ → Ty → Stored} None = subst IsSome (ap (λ (k : DriverKind). k.stored) at.2 ∙ lacks.driver.3) (at_all IsToldBy ds lacks.driver.0 at.0 all at.1) in cc
+
+some_rose : (count : State → ℕ) (old new : List State) → sources.SomeRose count old new → SomeRose count old new
+some_rose count old new (i, (a, b, at, then, rose)) = (i, a, b, at, then, rose)
+
+-- ---- attaching was refused
+
+module _ (ss : List Source) (marks : ℕ → Bool) (first : Option ℕ) (program : Decls) (exp : Exp) (ds mid : List State) (out : SinkState) (e : AttachError) (c : Causes marks ss ds mid e) where
+  refusal : Fault
+  refusal = fault_of e.source e.error
+
+  refused_by : (w : Stored) → IsErrorOf w e.error → stored_fault c.refused.name w ≡ Some (fault_of e.source e.error)
+  refused_by w of = refusal_fault c.refused.name w e.error of ∙ ap (λ x. Some (fault_of x e.error)) c.named
+
+  refused_ends : Ends (λ others. IsMeant (kinds_of ds) ss others first program exp) ss marks (purpose.Run first) (Some (fault_of e.source e.error)) ds mid out out
+  refused_ends = elim c.cause [
+    | inl (inl h) ↦ before refl (λ told. subst (λ d. IsTold (Some (fault_of e.source d))) h.0 told) (λ v. reading (ap (λ d. Some (fault_of e.source d)) h.0) (inr (some_rose (λ d. d.faults) ds mid h.1)))
+    | inl (inr h) ↦ before refl (λ told. subst (λ d. IsTold (Some (fault_of e.source d))) h told) (λ v. wanting (ap (λ d. Some (fault_of e.source d)) h))
+    | inr (marked, inl (w, of, at, inl without)) ↦ followed (refused (fault_of e.source e.error)) (inl (c.refused, w, fault_of e.source e.error, without, refused_by w of, refl))
+        (follows_prints (refused (fault_of e.source e.error)) (Some (fault_of e.source e.error)) out out (prints_refused (fault_of e.source e.error) out) ds mid)
+    | inr (marked, inl (w, of, at, inr lacks)) ↦ untold (none_meant ss marks first program exp ds lacks) (none_told ss marks first program exp ds lacks) (needs_drivers e.source first e.error)
+    | inr (marked, inr (unreadable, at, lacks, rose)) ↦ untold (none_meant ss marks first program exp ds lacks) (none_told ss marks first program exp ds lacks) (needs_drivers e.source first e.error)
+  ]
+
+  refused_is : IsRefused (fault_of e.source e.error)
+  refused_is = elim c.cause [
+    | inl (inl h) ↦ subst (λ d. IsRefused (fault_of e.source d)) (sym h.0) tt
+    | inl (inr h) ↦ subst (λ d. IsRefused (fault_of e.source d)) (sym h) tt
+    | inr (marked, inl (w, of, at, rest)) ↦ error_refused e.source w e.error of
+    | inr (marked, inr (unreadable, at, lacks, rose)) ↦ unread_refused (fault_of e.source e.error) (unreadable_unread e.source e.error unreadable)
+  ]
+
+  refused_never : (f : Fault) → Some (fault_of e.source e.error) ≡ Some f → (IsRefused f → ⊥) → ⊥
+  refused_never f is none = none (subst IsRefused (some_same is) refused_is)
+
+  refused_read : Some (fault_of e.source e.error) ≡ Some fault.Read → IsStored (kinds_of ds) fault.Read ⊎ SomeRose (λ d. d.faults) ds mid
+  refused_read is = elim c.cause [
+    | inl (inl h) ↦ inr (some_rose (λ d. d.faults) ds mid h.1)
+    | inl (inr h) ↦ absurd (let two : fault.NoMemory ≡ fault.Read = ap (fault_of e.source) (sym h) ∙ some_same is in cc)
+    | inr (marked, inl (w, of, at, rest)) ↦ inl (c.refused, w, at, refused_by w of ∙ is)
+    | inr (marked, inr (unreadable, at, lacks, rose)) ↦ absurd (subst IsUnread (some_same is) (unreadable_unread e.source e.error unreadable))
+  ]
+
+  refused_unread : (f : Fault) → Some (fault_of e.source e.error) ≡ Some f → IsUnread f → IsStored (kinds_of ds) f ⊎ SomeRose (λ d. d.unread) ds mid
+  refused_unread f is un = elim c.cause [
+    | inl (inl h) ↦ absurd (subst IsUnread (sym (some_same is) ∙ ap (fault_of e.source) h.0) un)
+    | inl (inr h) ↦ absurd (subst IsUnread (sym (some_same is) ∙ ap (fault_of e.source) h) un)
+    | inr (marked, inl (w, of, at, rest)) ↦ inl (c.refused, w, at, refused_by w of ∙ is)
+    | inr (marked, inr (unreadable, at, lacks, rose)) ↦ inr (some_rose (λ d. d.unread) ds mid (c.refused.driver, rose))
+  ]
+
+  pub attach_refused : EachSteps (MayAttach marks ss) ds mid → DoneMeaning ss marks first program exp (Some (fault_of e.source e.error)) ds mid out out
+  attach_refused steps = record {
+    ends = refused_ends;
+    read = refused_read;
+    write = λ is. absurd (refused_never fault.Write is (λ h. h));
+    unread = refused_unread;
+    changed = λ name is. absurd (refused_never (fault.Changed name) is (λ h. h));
+    no_other = run_fault e.source first e.error;
+    nothing = λ is. refl;
+    drivers = attach_keeps ss marks ds mid steps;
+    still = λ none. absurd (none tt);
+  }
+
+-- ---- memory ran out before sources were attached
+
+pub meaning_wanted : (ss : List Source) (marks : ℕ → Bool) (first : Option ℕ) (program : Decls) (e : Exp) (ds : List State) (out : SinkState) → DoneMeaning ss marks first program e (Some fault.NoMemory) ds ds out out
+meaning_wanted ss marks first program e ds out = wanted_done (λ others. IsMeant (kinds_of ds) ss others first program e) ss marks (purpose.Run first) ds out
+
+-- ---- values of sources
+
+empty_is : (k : Kind) → canonical k [] ≡ collection k []
+unfolding canonical
+empty_is kind.Set = refl
+empty_is kind.Bag = refl
+empty_is kind.List = refl
+
+rows_inhabit : (t : Ground) (rows : List Value) → IsColl t → AllByRecursion (Inhabits (item_of t)) rows → Inhabits t (canonical (kind_of t) rows)
+rows_inhabit t rows coll typed = subst (λ q. Inhabits q (canonical (kind_of t) rows)) (sym (collection_is t coll)) (canonical_inhabits (kind_of t) (item_of t) rows typed)
+
+module _ (ks : List DriverKind) (marks : ℕ → Bool) where
+  value_inhabits : (b : Bool) (s : Source) (v : Value) → IsColl (ground_of s.ty) → (b ≡ true → HasTyped s (contents ks s)) → IsValueAt ks b s v → Inhabits (ground_of s.ty) v
+  value_inhabits true s v coll typed (rows, at, is) = subst (Inhabits (ground_of s.ty)) (sym is) (rows_inhabit (ground_of s.ty) rows coll (subst (HasTyped s) at (typed refl)))
+  value_inhabits false s v coll typed is = subst (Inhabits (ground_of s.ty)) (empty_is (kind_of (ground_of s.ty)) ∙ sym is) (rows_inhabit (ground_of s.ty) [] coll tt)
+
+  values_typed : (n : ℕ) (ss : List Source) (vs : List (Name × Value)) → ((i : ℕ) (s : Source) → slice_get ss i ≡ Some s → IsColl (ground_of s.ty)) → ((i : ℕ) (s : Source) → slice_get ss i ≡ Some s → marks (n + i) ≡ true → HasTyped s (contents ks s))
+      → HaveValues ks marks n ss vs → HaveTypesByName (grounds_of ss) vs
+  values_typed n [] vs colls typed none = subst (HaveTypesByName []) (sym none) tt
+  values_typed n (s ∷ ss) vs colls typed (v, rest, is, at, more) =
+      subst (HaveTypesByName (grounds_of (s ∷ ss))) (sym is) (
+        refl,
+        value_inhabits (marks n) s v (colls 0 s refl) (λ marked. typed 0 s refl (ap marks (add-zero n) ∙ marked)) at,
+        values_typed (suc n) ss rest (λ i x here. colls (suc i) x here) (λ i x here marked. typed (suc i) x here (ap marks (omega arith) ∙ marked)) more,
+      )
+
+  values_names : (n : ℕ) (ss : List Source) (vs : List (Name × Value)) → HaveValues ks marks n ss vs → map (λ s. s.0) vs ≡ names_of ss
+  values_names n [] vs none = ap (map (λ s. s.0)) none
+  values_names n (s ∷ ss) vs (v, rest, is, at, more) = ap (map (λ s. s.0)) is ∙ ap (λ names. s.name ∷ names) (values_names (suc n) ss rest more)
+
+grounds_names : (ss : List Source) → map (λ s. s.0) (grounds_of ss) ≡ names_of ss
+grounds_names [] = refl
+grounds_names (s ∷ ss) = ap (λ names. s.name ∷ names) (grounds_names ss)
+
+by_place : (G : List (Name × Ground)) (vs : List (Name × Value)) → HaveTypesByName G vs → (i : ℕ) (t : Ground) → slice_get (map (λ p. p.1) G) i ≡ Some t → (v : Value) × (slice_get (map (λ p. p.1) vs) i ≡ Some v) × Inhabits t v
+by_place [] [] have i t is = absurd cc
+by_place [] (c ∷ vs) have i t is = absurd have
+by_place (b ∷ G) [] have i t is = absurd have
+by_place (b ∷ G) (c ∷ vs) have zero t is = (c.1, refl, subst (λ u. Inhabits u c.1) (some_same is) have.1)
+by_place (b ∷ G) (c ∷ vs) have (suc i) t is = by_place G vs have.2 i t is
+
+-- ---- a program that has types
+
+pub tidied : (names : List Name) (s : Scoped) → WasInScope names s → IsTidyProgram (decls_of s.program.defs) (view s.program.last)
+tidied names s scope = resolved_tidy scope.0 names s scope.1
+
+before_any : (p q : List ℕ) (first : Option ℕ) (end : Ending) → PrintsNothing (Program (purpose.Run first) p None) end → PrintsNothing (Program (purpose.Run None) q None) end
+before_any p q first None is = is
+before_any p q first (Some f) is = is
+
+run_has : (first : Option ℕ) (end : Ending) → IsOneOf HasRunFault end → IsOneOf (HasTextFault (purpose.Run first)) end
+run_has first None has = tt
+run_has first (Some fault.Overflow) has = tt
+run_has first (Some fault.Read) has = tt
+run_has first (Some (fault.Changed name)) has = tt
+run_has first (Some fault.Write) has = tt
+run_has first (Some fault.NoMemory) has = tt
+run_has first (Some fault.Usage) has = has
+run_has first (Some (fault.Text w byte)) has = tt
+run_has first (Some (fault.IllTyped decl)) has = tt
+run_has first (Some (fault.Catalogue byte)) has = has
+run_has first (Some (fault.NameTwice name)) has = has
+run_has first (Some (fault.NoDriver name)) has = has
+run_has first (Some (fault.Unsuited name)) has = has
+run_has first (Some (fault.BadFile place)) has = has
+run_has first (Some (fault.BadSource name place)) has = tt
+run_has first (Some fault.ProgramBytes) has = has
+run_has first (Some fault.CatalogueBytes) has = has
+run_has first (Some fault.FileBytes) has = tt
+run_has first (Some fault.Nesting) has = tt
+run_has first (Some fault.ItemNesting) has = tt
+run_has first (Some fault.TermNodes) has = tt
+run_has first (Some fault.TermDepth) has = tt
+run_has first (Some fault.SchemeBytes) has = absurd has
+
+run_unread : (f : Fault) → HasRunFault f → IsUnread f → ⊥
+run_unread (fault.BadSource name place) has is = has
+run_unread fault.FileBytes has is = has
+run_unread fault.ItemNesting has is = has
+run_unread fault.Usage has is = is
+run_unread (fault.Text w byte) has is = is
+run_unread (fault.IllTyped decl) has is = is
+run_unread (fault.Catalogue byte) has is = is
+run_unread (fault.NameTwice name) has is = is
+run_unread (fault.NoDriver name) has is = is
+run_unread (fault.Unsuited name) has is = is
+run_unread (fault.BadFile place) has is = is
+run_unread fault.Overflow has is = is
+run_unread fault.Read has is = is
+run_unread fault.Write has is = is
+run_unread fault.NoMemory has is = is
+run_unread (fault.Changed name) has is = is
+run_unread fault.ProgramBytes has is = is
+run_unread fault.CatalogueBytes has is = is
+run_unread fault.Nesting has is = is
+run_unread fault.TermNodes has is = is
+run_unread fault.TermDepth has is = is
+run_unread fault.SchemeBytes has is = is
+
+run_needs : (first : Option ℕ) (end : Ending) → IsOneOf HasRunFault end → IsTold end → NeedsDrivers (purpose.Run first) end
+run_needs first None has told = tt
+run_needs first (Some fault.Overflow) has told = tt
+run_needs first (Some fault.Read) has told = absurd told
+run_needs first (Some fault.Write) has told = absurd told
+run_needs first (Some fault.NoMemory) has told = absurd told
+run_needs first (Some (fault.Changed name)) has told = absurd told
+run_needs first (Some fault.Usage) has told = absurd has
+run_needs first (Some (fault.Text w byte)) has told = absurd has
+run_needs first (Some (fault.IllTyped decl)) has told = absurd has
+run_needs first (Some (fault.Catalogue byte)) has told = absurd has
+run_needs first (Some (fault.NameTwice name)) has told = absurd has
+run_needs first (Some (fault.NoDriver name)) has told = absurd has
+run_needs first (Some (fault.Unsuited name)) has told = absurd has
+run_needs first (Some (fault.BadFile place)) has told = absurd has
+run_needs first (Some (fault.BadSource name place)) has told = absurd has
+run_needs first (Some fault.ProgramBytes) has told = absurd has
+run_needs first (Some fault.CatalogueBytes) has told = absurd has
+run_needs first (Some fault.FileBytes) has told = absurd has
+run_needs first (Some fault.Nesting) has told = absurd has
+run_needs first (Some fault.ItemNesting) has told = absurd has
+run_needs first (Some fault.TermNodes) has told = absurd has
+run_needs first (Some fault.TermDepth) has told = absurd has
+run_needs first (Some fault.SchemeBytes) has told = absurd has
+
+module _ (ss : List Source) (program : Decls) (e : Exp) (typed : Typed) (infers : Infers program e (grounds_of ss) typed) where
+  pub has_instance : (u : Ground) × Instance typed.result u
+  has_instance = (infers.result.has_one.0, (infers.result.instances infers.result.has_one.0).1 infers.result.has_one.1)
+
+  gives : IsListScheme typed.result → GivesList (grounds_of ss) program e
+  gives lists u of = lists u ((infers.result.instances u).1 of)
+
+  lists : GivesList (grounds_of ss) program e → IsListScheme typed.result
+  lists of u is = of u ((infers.result.instances u).0 is)
+
+  outcome_is : (listed : Bool) → (listed ≡ true → IsListScheme typed.result) → (listed ≡ false → IsListScheme typed.result → ⊥) → (first : Option ℕ) (o : Outcome) (v : Verdict) → IsOutcome listed first o v → verdict.IsOutcome (grounds_of ss) first program e o v
+  outcome_is true of other first (done x) v is = is
+  outcome_is true of other first (over xs) v is = inl (gives (of refl), is)
+  outcome_is true of other first stuck v is = is
+  outcome_is false of other first (done x) v is = is
+  outcome_is false of other first (over xs) v is = inr (λ given. other refl (lists given), is)
+  outcome_is false of other first stuck v is = is
+
+  -- the term, over a session of the sources
+  module _ (tidy : IsTidyProgram program e) (names : List Name) (kept : names ≡ names_of ss) (t : Tree) (is : t ≡ term_of program e names) (ks : List DriverKind) (marks : ℕ → Bool) (w : World) (serves : Serves ks marks ss w) where
+    types_same : types_of w ≡ program_types (grounds_of ss)
+    types_same = fun_ext serves.types
+
+    sense : (u : Ground) → ProgramTypes program e (grounds_of ss) u → CoreTypes (types_of w) [] t u
+    sense u of =
+        subst (λ S. CoreTypes S [] t u) (sym types_same)
+        (subst (λ x. CoreTypes (program_types (grounds_of ss)) [] x u) (sym (is ∙ ap (term_of program e) (kept ∙ sym (grounds_names ss)))) (makes_sense program e (grounds_of ss) u tidy of))
+
+    pub value_sense : Sense t [] w
+    value_sense = ([], infers.result.has_one.0, tt, sense infers.result.has_one.0 infers.result.has_one.1, serves.ready)
+
+    pub list_sense : IsListScheme typed.result → SenseList t [] w
+    list_sense of =
+        let list = gives of infers.result.has_one.0 infers.result.has_one.1 in
+        ([], list.0, tt, subst (CoreTypes (types_of w) [] t) list.1 (sense infers.result.has_one.0 infers.result.has_one.1), serves.ready)
+
+    -- its sources have values
+    module _ (means : Means program e names t) (vs : List (Name × Value)) (have : HaveValues ks marks 0 ss vs) (inhabit : HaveTypesByName (grounds_of ss) vs) where
+      sources_have : HaveSources (types_of w) (values_of w)
+      sources_have i u at =
+          let found = by_place (grounds_of ss) vs inhabit i u (sym (serves.types i) ∙ at) in
+          (found.0, serves.values vs have i ∙ found.1, found.2)
+
+      core_is : core (values_of w) t [] ≡ meaning_of_program program e vs
+      core_is =
+          let values_same : values_of w ≡ tables_of vs = fun_ext (serves.values vs have) in
+          ap (λ T. core T t []) values_same
+          ∙ means vs (values_names ks marks 0 ss vs have ∙ sym kept) (never_stuck program e (grounds_of ss) vs infers.result.has_one.0 tidy inhabit infers.result.has_one.1)
+
+-- What a term came to whose sources are attached is what the program comes to.
+module _ (ss : List Source) (program : Decls) (e : Exp) (typed : Typed) (infers : Infers program e (grounds_of ss) typed) (tidy : IsTidyProgram program e) (names : List Name) (kept : names ≡ names_of ss) (t : Tree) (is : t ≡ term_of program e names)
+    (means : Means program e names t) (ds : List State) (marks : ℕ → Bool) (w : World) (serves : Serves (kinds_of ds) marks ss w) (placed : ArePlaced (kinds_of ds) ss) (steps : EachSteps (MayAttach marks ss) ds w.drivers)
+    (stand : (i : ℕ) (s : Source) → slice_get ss i ≡ Some s → marks i ≡ true → Stands (kinds_of ds) w.drivers s) (listed : Bool) (of : listed ≡ true → IsListScheme typed.result) (other : listed ≡ false → IsListScheme typed.result → ⊥)
+    (first : Option ℕ) (end : Ending) (last : List State) (out out' : SinkState) (answers : AnswersTerm (IsOutcome listed first (core (values_of w) t [])) (HaveSources (types_of w) (values_of w)) end w.drivers last out out') where
+  kept_first : KeepsDrivers (IsNamed ss marks) ds w.drivers
+  kept_first = attach_keeps ss marks ds w.drivers steps
+
+  answered_ends : ((vs : List (Name × Value)) × HaveValues (kinds_of ds) marks 0 ss vs) ⊎ NoVerdict (kinds_of ds) marks ss → Ends (λ others. IsMeant (kinds_of ds) ss others first program e) ss marks (purpose.Run first) end ds last out out'
+  answered_ends (inl (vs, have)) =
+      let inhabit : HaveTypesByName (grounds_of ss) vs =
+      values_typed (kinds_of ds) marks 0 ss vs (λ i s at. (of_all (IsFit (kinds_of ds)) ss i s placed.fit at).2.collection) (λ i s at marked. (stand i s at (ap marks (sym (zero-add i)) ∙ marked)).typed) have in
+      let found = answers.follows (sources_have ss program e typed infers tidy names kept t is (kinds_of ds) marks w serves means vs have inhabit) in
+      let meant : IsOutcome listed first (meaning_of_program program e vs) found.0 = subst (λ o. IsOutcome listed first o found.0) (core_is ss program e typed infers tidy names kept t is (kinds_of ds) marks w serves means vs have inhabit) found.1 in
+      followed found.0 (inr (vs, have, outcome_is ss program e typed infers listed of other first (meaning_of_program program e vs) found.0 meant))
+      (follows_since (IsNamed ss marks) ds w.drivers last kept_first found.0 end out out' found.2)
+  answered_ends (inr lacks) = untold (none_meant ss marks first program e ds lacks) (none_told ss marks first program e ds lacks) (run_needs first end answers.no_other)
+
+  pub term_done : ((vs : List (Name × Value)) × HaveValues (kinds_of ds) marks 0 ss vs) ⊎ NoVerdict (kinds_of ds) marks ss → DoneMeaning ss marks first program e end ds last out out'
+  term_done values = record {
+    ends = answered_ends values;
+    read = λ is. inr (rose_since (IsNamed ss marks) ds w.drivers last kept_first (λ d. d.faults) (λ a b keeps. keeps.faults) (answers.read is));
+    write = answers.write;
+    unread = λ f is un. absurd (run_unread f (subst (IsOneOf HasRunFault) is answers.no_other) un);
+    changed = λ name is. rose_since (IsNamed ss marks) ds w.drivers last kept_first (λ d. d.drifts) (λ a b keeps. keeps.drifts) (answers.changed name is);
+    no_other = run_has first end answers.no_other;
+    nothing = λ is. answers.nothing (before_any [] [] first end is);
+    drivers = keeps_through (IsNamed ss marks) ds w.drivers last kept_first answers.drivers;
+    still = λ none. absurd (none tt);
+  }
+
+-- ---- a session of the sources
+
+-- drivers that were taken out of a place are those that stood there
+pub attaches_same : {A : Type 0} (f : A → State) (xs ys : Vec A Global) (marks : ℕ → Bool) (ss : List Source) (r : Result (List Attached) AttachError) (ds : List State) → xs ≡ ys → AttachesAll marks ss r ds (map f ys.items) → AttachesAll marks ss r ds (map f xs.items)
+attaches_same f xs ys marks ss r ds same attaches = subst (λ zs. AttachesAll marks ss r ds (map f zs.items)) (sym same) attaches
+
+module _ (ss : List Source) (s : Scoped) (scope : WasInScope (names_of ss) s) (typed : Typed) (infers : Infers (decls_of s.program.defs) (view s.program.last) (grounds_of ss) typed) (t : Tree) (is : t ≡ term_of (decls_of s.program.defs) (view s.program.last) s.sources)
+    (ds mid : List State) (list : List Attached) (attaches : AttachesAll (is_marked s) ss (Ok list) ds mid) (settings : Settings) (trace : Trace) (fetch : 0 < settings.fetch) where
+  session_serves : Serves (kinds_of ds) (is_marked s) ss (world_of mid list settings trace)
+  session_serves = attaches.ready settings trace fetch
+
+  pub session_sense : Sense t [] (world_of mid list settings trace)
+  session_sense = value_sense ss (decls_of s.program.defs) (view s.program.last) typed infers (tidied (names_of ss) s scope) s.sources scope.1.sources_kept t is (kinds_of ds) (is_marked s) (world_of mid list settings trace) session_serves
+
+  module _ (listed : Bool) (of : listed ≡ true → IsListScheme typed.result) where
+    pub session_list : listed ≡ true → SenseList t [] (world_of mid list settings trace)
+    session_list true_is =
+        list_sense ss (decls_of s.program.defs) (view s.program.last) typed infers (tidied (names_of ss) s scope) s.sources scope.1.sources_kept t is (kinds_of ds) (is_marked s) (world_of mid list settings trace) session_serves (of true_is)
+
+    pub session_done : (means : Means (decls_of s.program.defs) (view s.program.last) s.sources t) (placed : ArePlaced (kinds_of ds) ss) (other : listed ≡ false → IsListScheme typed.result → ⊥) (first : Option ℕ) (end : Ending) (last : List State) (out out' : SinkState)
+        → AnswersTerm (IsOutcome listed first (core (values_of (world_of mid list settings trace)) t [])) (HaveSources (types_of (world_of mid list settings trace)) (values_of (world_of mid list settings trace))) end mid last out out'
+        → DoneMeaning ss (is_marked s) first (decls_of s.program.defs) (view s.program.last) end ds last out out'
+    session_done means placed other first end last out out' answers =
+        term_done ss (decls_of s.program.defs) (view s.program.last) typed infers (tidied (names_of ss) s scope) s.sources scope.1.sources_kept t is means ds (is_marked s) (world_of mid list settings trace) session_serves placed attaches.drivers
+        attaches.stand listed of other first end last out out' answers attaches.values
+
+pub attach_failed : (ss : List Source) (marks : ℕ → Bool) (first : Option ℕ) (program : Decls) (exp : Exp) (ds mid : List State) (out : SinkState) (e : AttachError) (f : Fault) → AttachesAll marks ss (Err e) ds mid → f ≡ fault_of e.source e.error → DoneMeaning ss marks first program exp (Some f) ds mid out out
+attach_failed ss marks first program exp ds mid out e f attaches same =
+    subst (λ g. DoneMeaning ss marks first program exp (Some g) ds mid out out) (sym same) (attach_refused ss marks first program exp ds mid out e attaches.cause attaches.drivers)
