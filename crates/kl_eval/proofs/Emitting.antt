@@ -1,27 +1,27 @@
 -- Items of a body, added to those that were drawn before.
-use Rattle.std.proofs.Common.{◌≡◌, ℕ, ◌<◌, Bool, true, false, List, [], ◌∷◌, ◌++◌, ◌+◌, length, drop, get_or, Some, Result, Ok, Err, refl, sym, ◌∙◌, ap, subst, append-nil, arith}
+use Rattle.std.proofs.Common.{◌≡◌, ℕ, ◌<◌, Bool, true, false, List, [], ◌∷◌, ◌+◌, length, drop, get_or, Some, Result, Ok, Err, refl, sym, ◌∙◌, ap, subst, append-nil}
 use Rattle.kl_value.specs.Canon.{canonical}
-use Rattle.kl_value.specs.Views.{collection, as_bool, IsBool, IsCollection}
+use Rattle.kl_value.specs.Views.{collection, as_bool, IsCollection}
 use Rattle.kl_value.specs.declared.Kind.{Kind}
 use Rattle.kl_value.specs.declared.Kind.TheVariants as kind
 use Rattle.kl_value.specs.declared.Value.{Value}
 use Rattle.kl_type.specs.Ground.{Ground, coll}
-use Rattle.kl_outcome.specs.Outcome.{Outcome, done, over, End, Flow, more, stop, fine, overflow, flow, collected}
+use Rattle.kl_outcome.specs.Outcome.{done, over, End, Flow, more, stop, fine, overflow, flow, collected}
 use Rattle.kl_outcome.specs.Typed.{OfType}
 use Rattle.kl_outcome.proofs.OutcomeTypes.{items_inhabit}
 use Rattle.kl_core.specs.declared.term.Term.{Term}
 use Rattle.kl_core.specs.declared.term.Term.TheVariants as term
-use Rattle.kl_core.specs.Trees.{Tree, make, choice, prim, Trees, no_trees, trees, view, trees_view}
+use Rattle.kl_core.specs.Trees.{Tree, make, choice, prim, no_trees, trees, view, trees_view}
 use Rattle.kl_core.specs.Typing.{SourceTypes, CoreTypes}
 use Rattle.kl_eval.specs.declared.stop.EvalStop.{EvalStop}
 use Rattle.kl_eval.specs.declared.stop.EvalStop.TheVariants as eval_stop
 use Rattle.kl_eval.specs.declared.stop.Halt.{Halt}
 use Rattle.kl_eval.specs.declared.stop.Halt.TheVariants as halt
 use Rattle.kl_ask.specs.World.{World, Moved, types_of, values_of}
-use Rattle.kl_ask.proofs.Worlds.{moved_none, moved_then, ready_on}
+use Rattle.kl_ask.proofs.Worlds.{moved_none, ready_on}
 use Rattle.kl_eval.specs.Comes.{Comes, ItemsCome}
 use Rattle.kl_eval.specs.Sources.{NoSource}
-use Rattle.kl_eval.specs.Evals.{Sense, SenseEach, SenseWhole, PartGives, CallGives, Evals, EvalsPart, EvalsBody, EvalsCall, EvalsInto, AddsAll, OnBody}
+use Rattle.kl_eval.specs.Evals.{Sense, SenseWhole, PartGives, CallGives, Evals, EvalsPart, EvalsBody, EvalsCall, EvalsInto, AddsAll, OnBody}
 use Rattle.kl_eval.specs.Steps.{Adds, AddsItems, Behind, Outside}
 use Rattle.kl_eval.proofs.Laws.{comes_typed}
 use Rattle.kl_eval.proofs.Forms.{alone, evals_stop, onto, picked, body_goes, body_over, body_lost, value_if, value_if_stop, at_If, at_Make, at_Prim, at_value}
@@ -88,7 +88,7 @@ module _ (t : Term) (k : Kind) (ts us : List Term) (env : List Value) (et : t �
   into_none old new a n s =
       let empty : us ≡ [] = nil_of us n in
       let c : Comes (types_of a) (values_of a) env (make k (trees_view us)) (done (collection k [])) =
-          (stop fine, subst (λ q. ItemsCome (types_of a) (values_of a) env (trees_view q) (stop fine)) (sym empty) refl, ap done (sym (canon_none k))) in
+      (stop fine, subst (λ q. ItemsCome (types_of a) (values_of a) env (trees_view q) (stop fine)) (sym empty) refl, ap done (sym (canon_none k))) in
       record {
         whole = Ok (collection k []);
         evals = record { moved = moved_none a; still = λ n. refl; gives = subst (λ q. Comes (types_of a) (values_of a) env q (done (collection k []))) (sym (at_Make t k ts us env et eu)) c };
@@ -109,7 +109,7 @@ module _ (t : Term) (k : Kind) (ts us : List Term) (env : List Value) (et : t �
     pub into_one : (v : Value) (r : Result (Unit {0}) Halt) (old new : List Value) (a b : World) → EvalsPart (view x) env (Ok v) a b → Adds (v ∷ []) r old new → EvalsInto (view t) env r old new a b
     into_one v r old new a b h add =
         let c : Comes (types_of a) (values_of a) env (make k (trees (view x) no_trees)) (done (collection k (v ∷ []))) =
-            (more v (stop fine), (done v, h.gives, (stop fine, refl, refl)), ap done (sym (canon_one k v))) in
+        (more v (stop fine), (done v, h.gives, (stop fine, refl, refl)), ap done (sym (canon_one k v))) in
         record {
           whole = Ok (collection k (v ∷ []));
           evals = record { moved = h.moved; still = λ n. h.still (subst NoSource one n).0; gives = subst (λ q. Comes (types_of a) (values_of a) env q (done (collection k (v ∷ [])))) (sym one) c };
@@ -158,6 +158,7 @@ module _ (t : Tree) (vs : List Value) (i : ℕ) (v : Value) (whole : Flow) (e : 
       lost halt.NoMemory (halt.Over us) u h add m = absurd m
       lost halt.NoMemory (halt.Driver l e) u h add m = absurd m
       lost halt.NoMemory halt.NoMemory u h add m = body_lost t vs i v whole e env now a b lt is inv u items halt.NoMemory c h add
+
       go : (w : Result Value Halt) → Evals t (v ∷ env) w b c → AddsAll w (Err q) now items → EvalsBody t whole env (Err r) a c
       go (Ok u) h add = lost q r u h add m
       go (Err h') h add = body_over t vs i v whole e env now a b lt is inv q r items c (sym add.1) (subst (λ z. Evals t (v ∷ env) (Err z) b c) (sym add.0) h) m
