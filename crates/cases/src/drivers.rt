@@ -4,23 +4,10 @@ ghost use Rattle.kl_ask.specs.Driver.{State};
 ghost use Rattle.kl_engine.specs.Answering.{IsIdle};
 
 use kl_ask::Driver;
-use kl_flat::FlatDriver;
-use kl_outside::Files;
 use std::alloc::{AllocError, Global};
 
-/// The driver of flat files over these files, alone in a list.
-pub fn flat_driver<F: Files + Drop + 'static>(
-    alloc: Global,
-    files: F,
-) -> Result<Vec<Box<dyn Driver>>, AllocError>
-    ensures idle { IfOk result (λ drivers. All IsIdle (map (λ d. (Driver-box d).state d.value) drivers.items)) }
-    ensures few { IfOk result (λ drivers. length drivers.items < 2 ^ 32) }
-{
-    alone(alloc, Box::new(alloc, FlatDriver::new(alloc, files))?)
-}
-
-// A driver alone in a list.
-fn alone(alloc: Global, driver: Box<dyn Driver>) -> Result<Vec<Box<dyn Driver>>, AllocError>
+/// A driver alone in a list.
+pub fn alone(alloc: Global, driver: Box<dyn Driver>) -> Result<Vec<Box<dyn Driver>>, AllocError>
     requires { IsIdle (state driver) }
     ensures idle { IfOk result (λ drivers. All IsIdle (map (λ d. state d) drivers.items)) }
     ensures few { IfOk result (λ drivers. length drivers.items < 2 ^ 32) }

@@ -1,11 +1,12 @@
 //! Running a case.
 
 use crate::case::{Case, Side, read_case};
-use crate::drivers::flat_driver;
+use crate::drivers::alone;
 use crate::pieces::Pieces;
 use anyhow::{Context, Result};
 use kl_engine::kleisli;
 use kl_exchange::print;
+use kl_flat::FlatDriver;
 use kl_outside::{MemFiles, MemSink, write_whole};
 use kl_value::{Text, Value};
 use std::alloc::Global;
@@ -41,7 +42,8 @@ fn try_turn(alloc: Global, case: &Case, call: u64) -> Result<Option<Vec<u8>>> {
         Side::Out => out.sink.fail_at(call)?,
         Side::Err => err.sink.fail_at(call)?,
     }
-    let mut drivers = flat_driver(alloc, tables)?;
+    let driver = Box::new(alloc, FlatDriver::new(alloc, tables))?;
+    let mut drivers = alone(alloc, driver)?;
     let answer = kleisli(
         alloc,
         &case.given.words,

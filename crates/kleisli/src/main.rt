@@ -7,9 +7,11 @@
 
 mod drivers;
 
-use drivers::flat_driver;
+use drivers::alone;
 use kl_engine::kleisli;
+use kl_flat::FlatDriver;
 use kl_outside::{HostFiles, HostSink};
+use std::alloc::AllocError;
 use std::io::ErrorKind;
 use std::process::ExitCode;
 use std::{env, io};
@@ -39,21 +41,27 @@ fn read_words(rt: HostRuntime) -> io::Result<Vec<String>> {
 }
 
 fn run(rt: HostRuntime, words: &[String]) -> u8 {
-    match flat_driver(rt.alloc(), HostFiles::new(rt)) {
-        Ok(mut drivers) => {
-            let mut files = HostFiles::new(rt);
-            let mut out = HostSink::new(rt.stdout());
-            let mut err = HostSink::new(rt.stderr());
-            let answer = kleisli(
-                rt.alloc(),
-                words,
-                &mut files,
-                &mut drivers,
-                &mut out,
-                &mut err,
-            );
-            answer.status
-        }
+    match answer(rt, words) {
+        Ok(status) => status,
         Err(_) => NO_MEMORY,
     }
+}
+
+// The status that the top call answers, over the driver of flat files.
+fn answer(rt: HostRuntime, words: &[String]) -> Result<u8, AllocError> {
+    let files = HostFiles::new(rt);
+    let driver = Box::new(rt.alloc(), FlatDriver::new(rt.alloc(), files))?;
+    let mut drivers = alone(rt.alloc(), driver)?;
+    let mut files = HostFiles::new(rt);
+    let mut out = HostSink::new(rt.stdout());
+    let mut err = HostSink::new(rt.stderr());
+    let answer = kleisli(
+        rt.alloc(),
+        words,
+        &mut files,
+        &mut drivers,
+        &mut out,
+        &mut err,
+    );
+    Ok(answer.status)
 }
