@@ -7,7 +7,7 @@ use Rattle.kl_value.specs.declared.Kind.TheVariants as kind
 use Rattle.kl_value.specs.declared.Value.{Value}
 use Rattle.kl_type.specs.Ground.{Ground, coll}
 use Rattle.kl_outcome.specs.Outcome.{done, over, End, Flow, more, stop, fine, overflow, flow, collected}
-use Rattle.kl_outcome.specs.Typed.{OfType}
+use Rattle.kl_outcome.specs.Typed.{OfType, Inhabits}
 use Rattle.kl_outcome.proofs.OutcomeTypes.{items_inhabit}
 use Rattle.kl_core.specs.declared.term.Term.{Term}
 use Rattle.kl_core.specs.declared.term.Term.TheVariants as term
@@ -24,7 +24,7 @@ use Rattle.kl_eval.specs.Sources.{NoSource}
 use Rattle.kl_eval.specs.Evals.{Sense, SenseWhole, PartGives, CallGives, Evals, EvalsPart, EvalsBody, EvalsCall, EvalsInto, AddsAll, OnBody}
 use Rattle.kl_eval.specs.Steps.{Adds, AddsItems, Behind, Outside}
 use Rattle.kl_eval.proofs.Laws.{comes_typed}
-use Rattle.kl_eval.proofs.Forms.{alone, evals_stop, onto, picked, body_goes, body_over, body_lost, value_if, value_if_stop, at_If, at_Make, at_Prim, at_value}
+use Rattle.kl_eval.proofs.Forms.{alone, evals_stop, onto, picked, body_goes, body_over, body_lost, value_if, value_if_stop, at_If, at_Make, at_Prim, at_value, value_let, value_let_stop, at_Let}
 
 canon_none : (k : Kind) → canonical k [] ≡ collection k []
 unfolding canonical
@@ -80,6 +80,23 @@ module _ (t x y z x' : Term) (env : List Value) (et : t ≡ term.If x y z) (ex :
 
   pub into_if_stop : (e : EvalStop) (h : Halt) (old new : List Value) (a b : World) → EvalsPart (view x') env (Err e) a b → Outside e h → new ≡ old → EvalsInto (view t) env (Err h) old new a b
   into_if_stop e h old new a b p o s = into_stop (view t) env h old new a b (value_if_stop t x y z x' env et ex e h a b p o) s
+
+-- ---- what is bound
+
+module _ (t x y x' : Term) (env : List Value) (et : t ≡ term.Let x y) (ex : x' ≡ x) where
+  pub whole_bound : (y' : Term) (v w : Value) (a b : World) → y' ≡ y → w ≡ v → SenseWhole (view t) env a → EvalsPart (view x') env (Ok v) a b → SenseWhole (view y') (w ∷ env) b
+  whole_bound y' v w a b ey ew s h =
+      let s' = subst (λ q. SenseWhole q env a) (at_Let t x y x' env et ex) s in
+      let i : Inhabits s'.4.0 v = comes_typed (types_of a) (values_of a) (view x') s'.0 env s'.4.0 (done v) s'.3 s'.4.1 h.gives in
+      subst (λ q. SenseWhole (view q) (w ∷ env) b) (sym ey)
+      (subst (λ q. SenseWhole (view y) (q ∷ env) b) (sym ew)
+      (s'.4.0 ∷ s'.0, s'.1, s'.2, (i, s'.3), onto (λ S. CoreTypes S (s'.4.0 ∷ s'.0) (view y) (coll s'.1 s'.2)) a b h.moved s'.4.2, ready_on a b h.moved s'.5))
+
+  pub into_let : (y' : Term) (v w : Value) (r : Result (Unit {0}) Halt) (old new : List Value) (a b c : World) → y' ≡ y → w ≡ v → EvalsPart (view x') env (Ok v) a b → EvalsInto (view y') (w ∷ env) r old new b c → EvalsInto (view t) env r old new a c
+  into_let y' v w r old new a b c ey ew h k = record { whole = k.whole; evals = value_let t x y x' env et ex y' v w k.whole a b c ey ew h k.evals; adds = k.adds }
+
+  pub into_let_stop : (e : EvalStop) (h : Halt) (old new : List Value) (a b : World) → EvalsPart (view x') env (Err e) a b → Outside e h → new ≡ old → EvalsInto (view t) env (Err h) old new a b
+  into_let_stop e h old new a b p o s = into_stop (view t) env h old new a b (value_let_stop t x y x' env et ex e h a b p o) s
 
 -- ---- a literal of no item, and of one
 

@@ -297,7 +297,7 @@ module _ (t x y z x' : Term) (env : List Value) (et : t ≡ term.If x y z) (ex :
 -- ---- `Let`
 
 module _ (t x y x' : Term) (env : List Value) (et : t ≡ term.Let x y) (ex : x' ≡ x) where
-  at_Let : view t ≡ bind (view x') (view y)
+  pub at_Let : view t ≡ bind (view x') (view y)
   at_Let = ap view et ∙ view_Let x y ∙ ap (λ q. bind (view q) (view y)) (sym ex)
 
   pub sense_bound : (a : World) → Sense (view t) env a → Sense (view x') env a

@@ -2,7 +2,7 @@ use Rattle.std.proofs.Common.{◌≡◌, length, Some, true, false, refl, sym, a
 use Rattle.kl_core.specs.declared.term.Term.{the_lemmas}
 use Rattle.kl_outcome.specs.Outcome.{done, over, fine, overflow, flow}
 use Rattle.kl_eval.proofs.Forms.{body_fine, body_past, body_starts, call_arity, call_both, call_former_stop, call_latter_stop, call_only, call_only_stop, each_ends, each_goes, each_lost, each_none, each_over, each_refused, each_sense, each_starts, evals_lent, evals_part, fields_ends, fields_goes, fields_lost, fields_sense, fields_starts, fields_stops, first_there, fits_both, fits_only, found, items_done, loop_lost, loop_refused, missing, no_branch, over_gives, second_there, sense_body, sense_bound, sense_branch, sense_first, sense_former, sense_inj, sense_items, sense_latter, sense_make, sense_only, sense_other_at, sense_picked, sense_prim, sense_proj, sense_rec, sense_second, sense_source, sense_subject, sense_test, sense_var, source_ready, source_there, source_whole, there_field, truth_there, value_branch, value_case_stop, value_if, value_if_stop, value_inj, value_inj_stop, value_let, value_let_stop, value_loop, value_make, value_other_at, value_prim, value_proj, value_proj_stop, value_rec, value_rec_stop, value_source, value_source_stop, value_union, value_union_first, value_union_lost, value_union_over, value_var, variant_there}
-use Rattle.kl_eval.proofs.Emitting.{body_sense_whole, body_added, body_stops, into_if, into_if_stop, into_none, into_one, into_one_stop, look_prim, sense_of, whole_there, whole_picked}
+use Rattle.kl_eval.proofs.Emitting.{body_sense_whole, body_added, body_stops, into_if, into_if_stop, into_none, into_one, into_one_stop, look_prim, sense_of, whole_there, whole_picked, whole_bound, into_let, into_let_stop}
 use Rattle.kl_ask.proofs.Worlds.{moved_none}
 use Rattle.kl_eval.proofs.evaluator.+eval.Goals as goal
 
@@ -328,3 +328,15 @@ look-returns-in-Ok g t c = look_prim _ _ _ _ _ c.in-Prim.is c.slice.ensures _ _ 
 
 pub look-returns-in-Err : goal.look-returns-in-Err
 look-returns-in-Err g t c = look_prim _ _ _ _ _ c.in-Prim.is c.slice.ensures _ _ _ c.in-Err.ensures
+
+pub emit-look-requires-in-Let : goal.emit-look-requires-in-Let
+emit-look-requires-in-Let g t c κs within = (search (rules, the_lemmas, arith), (within, sense_bound _ _ _ _ _ c.in-Let.is c.get-in-Let.ensures (g.T.Seen.world c.args.tables.now) (sense_of _ _ _ c.requires)))
+
+pub emit-emit-requires-in-Ok-look : goal.emit-emit-requires-in-Ok-look
+emit-emit-requires-in-Ok-look g t c κs within = (search (rules, the_lemmas, arith), (within, whole_bound _ _ _ _ _ c.in-Let.is c.get-in-Let.ensures _ _ _ _ _ c.get-in-Ok-look.ensures c.get-in-Ok-look-2.ensures c.requires c.in-Ok-look.ensures))
+
+pub emit-returns-in-Ok-look : goal.emit-returns-in-Ok-look
+emit-returns-in-Ok-look g t c = into_let _ _ _ _ _ c.in-Let.is c.get-in-Let.ensures _ _ _ _ _ _ _ _ _ c.get-in-Ok-look.ensures c.get-in-Ok-look-2.ensures c.in-Ok-look.ensures c.emit-in-Ok-look.ensures
+
+pub emit-returns-in-Let : goal.emit-returns-in-Let
+emit-returns-in-Let g t c = into_let_stop _ _ _ _ _ c.in-Let.is c.get-in-Let.ensures _ _ _ _ _ _ c.in-Err-look.ensures c.outside-in-Err-look.ensures refl
