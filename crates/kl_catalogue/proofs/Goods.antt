@@ -11,13 +11,13 @@ use Rattle.kl_phrase.proofs.Kept.{Keeps, Takes, Rests, keeps_one, keeps_made, ke
 use Rattle.kl_phrase.proofs.Exact.{IsBad, Nested, Each, Exactly}
 use Rattle.kl_type.specs.declared.ground.Ty.{Ty}
 use Rattle.kl_type.specs.Grammar.{Symbol, Reads}
-use Rattle.kl_type.specs.Reading.{is_bracket}
+use Rattle.kl_type.specs.Texts.{is_bracket}
 use Rattle.kl_type.specs.Descent.{a_symbol, mark, reads}
 use Rattle.kl_type.proofs.TokenLemmas.{good_symbol, has_symbol}
 use Rattle.kl_type.proofs.FieldGoods.{Free}
 use Rattle.kl_type.proofs.Goods.{has_reads, good_reads}
 use Rattle.kl_type.proofs.Kepts.{same_reads, more_reads}
-use Rattle.kl_type.proofs.FirstPlaces.{Flattens, Firstly, flat_one, flat_nothing, flat_chain, flat_made, flat_both, flat_behind, flat_before, flat_pick}
+use Rattle.kl_phrase.proofs.FirstPlaces.{Flattens, Firstly, flat_one, flat_nothing, flat_chain, flat_made, flat_both, flat_behind, flat_before, flat_pick}
 use Rattle.kl_type.proofs.Flats.{flat_reads, flattens, good_flat}
 use Rattle.kl_catalogue.specs.declared.reading.Entry.{Entry}
 use Rattle.kl_catalogue.specs.Grammar.{IsSource, IsName, IsText, entry_of, Described, AnEntry, ReadsCatalogue}

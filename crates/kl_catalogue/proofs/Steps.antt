@@ -10,10 +10,10 @@ use Rattle.kl_phrase.specs.Words.{heads}
 use Rattle.kl_phrase.specs.Readers.{Why, bad, deep, Out, ok, fail, Reader, after, behind, before, one}
 use Rattle.kl_phrase.proofs.Kept.{Rests}
 use Rattle.kl_phrase.proofs.Gathered.{Progress, goes_on, breaks}
-use Rattle.kl_type.specs.declared.fault.Fault.{Fault}
-use Rattle.kl_type.specs.declared.fault.Fault.TheVariants as fault
-use Rattle.kl_type.specs.Gives.{Fails}
-use Rattle.kl_type.specs.Reading.{byte_of}
+use Rattle.kl_phrase.specs.declared.fault.Fault.{Fault}
+use Rattle.kl_phrase.specs.declared.fault.Fault.TheVariants as fault
+use Rattle.kl_phrase.specs.Gives.{Fails}
+use Rattle.kl_type.specs.Texts.{byte_of}
 use Rattle.kl_type.specs.Descent.{is_word, is_word_at, mark, reads}
 use Rattle.kl_catalogue.specs.declared.reading.Entry.{Entry}
 use Rattle.kl_catalogue.specs.Keywords.{is_keyword}
@@ -73,7 +73,7 @@ entry_less rest more r a (t, e, h) i = go (subst (λ (o : Out Placed Entry). Res
 pub entry_on : (list : Out Placed (List Entry)) (found : List Entry) (rest more r : List Placed) (a : Entry) → AheadSource rest more → d.entry_rest (reads 256) more ≡ ok a r → Progress is_source AnEntry list found rest → Progress is_source AnEntry list (found ++ a ∷ []) r
 entry_on list found rest more r a ahead e so = goes_on is_source AnEntry list found rest r a (heads_source rest more ahead) (entry_at rest more ahead ∙ e) (entry_less rest more r a ahead e) so
 
-pub entry_fails : (list : Out Placed (List Entry)) (found : List Entry) (rest more : List Placed) (f : Fault) → AheadSource rest more → Fails f (d.entry_rest (reads 256) more) → Progress is_source AnEntry list found rest → Fails f list
+pub entry_fails : (list : Out Placed (List Entry)) (found : List Entry) (rest more : List Placed) (f : Fault Placed) → AheadSource rest more → Fails f (d.entry_rest (reads 256) more) → Progress is_source AnEntry list found rest → Fails f list
 entry_fails list found rest more fault.Memory ahead h so = tt
 entry_fails list found rest more (fault.Bad r) ahead h so = breaks is_source AnEntry list found rest bad r.now (heads_source rest more ahead) (entry_at rest more ahead ∙ h) so
 entry_fails list found rest more (fault.Deep r) ahead h so = breaks is_source AnEntry list found rest deep r.now (heads_source rest more ahead) (entry_at rest more ahead ∙ h) so

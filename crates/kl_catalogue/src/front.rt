@@ -4,13 +4,14 @@ ghost use Rattle.std.specs.Prelude.{◌≡◌, ◌∷◌, MatchOption, true, fal
 ghost use Rattle.kl_lex.specs.declared.token.Placed.{Placed as APlaced};
 ghost use Rattle.kl_phrase.specs.Words.{heads};
 ghost use Rattle.kl_phrase.specs.Readers.{one};
-ghost use Rattle.kl_type.specs.Gives.{Gives};
+ghost use Rattle.kl_phrase.specs.Gives.{Gives};
 ghost use Rattle.kl_catalogue.specs.Descent.{is_source, a_name, a_text};
 
 use crate::keyword::is_keyword;
 use kl_base::{Label, Text};
 use kl_lex::{Placed, Tok};
-use kl_type::{Fault, word_at};
+use kl_phrase::Fault;
+use kl_type::word_at;
 use std::alloc::Global;
 
 /// What stands behind `source`, if the tokens begin with it.
@@ -30,7 +31,7 @@ pub fn source(tokens: &[Placed]) -> Option<&[Placed]>
 }
 
 /// A word that is no keyword.
-pub fn name(tokens: &[Placed]) -> Result<(Label, &[Placed]), Fault<'_>>
+pub fn name(tokens: &[Placed]) -> Result<(Label, &[Placed]), Fault<'_, Placed>>
     ensures { Gives (λ x. x.0) (λ x. x.1.now) result (one a_name tokens.now) }
 {
     match word_at(tokens) {
@@ -45,7 +46,7 @@ pub fn name(tokens: &[Placed]) -> Result<(Label, &[Placed]), Fault<'_>>
 }
 
 /// A text.
-pub fn text(alloc: Global, tokens: &[Placed]) -> Result<(Text, &[Placed]), Fault<'_>>
+pub fn text(alloc: Global, tokens: &[Placed]) -> Result<(Text, &[Placed]), Fault<'_, Placed>>
     ensures { Gives (λ x. x.0) (λ x. x.1.now) result (one a_text tokens.now) }
 {
     match tokens {

@@ -4,11 +4,11 @@ ghost use Rattle.std.specs.Prelude.{◌≡◌, ◌≤◌, ◌<◌, ◌^◌, [], 
 ghost use Rattle.kl_lex.specs.Lexing.{PlacesRise};
 ghost use Rattle.kl_lex.specs.Placing.{token_of};
 ghost use Rattle.kl_lex.specs.declared.token.Placed.{Placed as APlaced};
-ghost use Rattle.kl_type.specs.Gives.{Gives};
+ghost use Rattle.kl_phrase.specs.Gives.{Gives};
 ghost use Rattle.kl_type.specs.Descent.{reads};
 ghost use Rattle.kl_type.specs.Ground.{IsProper};
-ghost use Rattle.kl_type.specs.Places.{OnePlace};
-ghost use Rattle.kl_type.specs.Reading.{byte_of, is_bracket};
+ghost use Rattle.kl_phrase.specs.FirstPlaces.{OnePlace};
+ghost use Rattle.kl_type.specs.Texts.{byte_of, is_bracket};
 ghost use Rattle.kl_catalogue.specs.declared.reading.Entry.{Entry as AnEntry};
 ghost use Rattle.kl_catalogue.specs.declared.reading.CatalogueError.TheVariants.{NoMemory as WantOfMemory};
 ghost use Rattle.kl_catalogue.specs.Grammar.{ReadsCatalogue};
@@ -18,7 +18,8 @@ ghost use Rattle.kl_catalogue.specs.Reading.{IsCatalogue, SpellsCatalogue, IsTol
 use crate::front::{name, source, text};
 use kl_base::{Label, NoMemory, Seq, Text};
 use kl_lex::{Lexed, Placed, Sym, lex_all};
-use kl_type::{Fault, Ty, byte_of, read_front, want};
+use kl_phrase::Fault;
+use kl_type::{Ty, byte_of, read_front, want};
 use std::alloc::Global;
 use thiserror::Error;
 
@@ -62,7 +63,7 @@ impl From<NoMemory> for CatalogueError {
 }
 
 /// What stands behind `source`: `NAME ":" type "=" NAME TEXT ";"`
-fn entry_rest(alloc: Global, tokens: &[Placed]) -> Result<(Entry, &[Placed]), Fault<'_>>
+fn entry_rest(alloc: Global, tokens: &[Placed]) -> Result<(Entry, &[Placed]), Fault<'_, Placed>>
     ensures { Gives (λ x. x.0) (λ x. x.1.now) result (entry_rest (reads 256) tokens.now) }
 {
     let (called, rest) = name(tokens)?;
@@ -84,7 +85,7 @@ fn entry_rest(alloc: Global, tokens: &[Placed]) -> Result<(Entry, &[Placed]), Fa
 }
 
 /// `{ "source" .. }`
-fn entries(alloc: Global, tokens: &[Placed]) -> Result<(Vec<Entry>, &[Placed]), Fault<'_>>
+fn entries(alloc: Global, tokens: &[Placed]) -> Result<(Vec<Entry>, &[Placed]), Fault<'_, Placed>>
     ensures { Gives (λ x. x.0.items) (λ x. x.1.now) result (catalogue 256 tokens.now) }
 {
     let mut found = Vec::new(alloc);

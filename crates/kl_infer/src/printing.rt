@@ -2,7 +2,6 @@
 ghost use Rattle.std.specs.Prelude.{◌≡◌, ◌<◌, ◌≤◌, ◌++◌, ◌∷◌, [], length, take, drop, IfOk, OnOk, MatchOption};
 ghost use Rattle.std.specs.Option.{option_map};
 ghost use Rattle.kl_base.specs.Sorted.{put_in, sorted};
-ghost use Rattle.kl_type.specs.Written.{separator, opening, closing};
 ghost use Rattle.kl_rows.specs.Schemes.{IsScheme};
 ghost use Rattle.kl_infer.specs.Numbers.{Writes, limit};
 ghost use Rattle.kl_infer.specs.Printed.{by_label, opening_text, closing_text, kind_variables, rest_variables, row_variables, row_text, tree_at, text, variables, scheme_text};
@@ -11,7 +10,7 @@ ghost use Rattle.kl_infer.specs.Rows.{CanPrint, IsEnd, IsRowOf, front_of, is_ope
 use crate::page::Page;
 use kl_base::{Label, NoMemory, Text};
 use kl_rows::{Node, Part, Scheme};
-use kl_type::print_type;
+use kl_type::{closing, opening, print_type, separator};
 use kl_value::Kind;
 use std::alloc::Global;
 
@@ -168,13 +167,6 @@ fn place_for(fields: &[(Label, usize)], field: &(Label, usize)) -> usize
     fields.len()
 }
 
-// What stands before the field at a place.
-fn separator(place: usize) -> &'static [u8]
-    ensures { result.now ≡ separator place }
-{
-    if place == 0 { b"" } else { b", " }
-}
-
 // The mark of an open row behind so many fields.
 fn write_rest(parts: &[Part], end: usize, count: usize, page: &mut Page) -> Result<(), NoMemory>
     requires can { CanPrint parts.now end }
@@ -230,25 +222,5 @@ fn kind_of(part: &Part) -> Option<Kind>
     match part {
         Part::Is(Node::Fixed(kind)) => Some(*kind),
         _ => None,
-    }
-}
-
-fn opening(kind: Kind) -> &'static [u8]
-    ensures { result.now ≡ opening kind }
-{
-    match kind {
-        Kind::Set => b"{",
-        Kind::Bag => b"{|",
-        Kind::List => b"[|",
-    }
-}
-
-fn closing(kind: Kind) -> &'static [u8]
-    ensures { result.now ≡ closing kind }
-{
-    match kind {
-        Kind::Set => b"}",
-        Kind::Bag => b"|}",
-        Kind::List => b"|]",
     }
 }

@@ -10,8 +10,8 @@ use Rattle.kl_parse.specs.declared.keyword.Keyword.{Keyword}
 use Rattle.kl_parse.specs.declared.keyword.Keyword.TheVariants as key
 use Rattle.kl_parse.specs.declared.operator.Level.{Level}
 use Rattle.kl_parse.specs.declared.operator.Level.TheVariants as level
-use Rattle.kl_parse.specs.declared.fault.Fault.{Fault}
-use Rattle.kl_parse.specs.declared.fault.Fault.TheVariants as fault
+use Rattle.kl_phrase.specs.declared.fault.Fault.{Fault}
+use Rattle.kl_phrase.specs.declared.fault.Fault.TheVariants as fault
 use Rattle.kl_syntax.specs.declared.tree.Word.{Word}
 use Rattle.kl_syntax.specs.declared.tree.Op.{Op}
 use Rattle.kl_syntax.specs.declared.tree.Pattern.{Pattern}
@@ -20,23 +20,20 @@ use Rattle.kl_syntax.specs.declared.tree.Expr.TheVariants as expr
 use Rattle.kl_syntax.specs.declared.tree.Qual.{Qual}
 use Rattle.kl_syntax.specs.declared.tree.Qual.TheVariants as qual
 use Rattle.kl_syntax.specs.declared.tree.Branch.{Branch}
-use Rattle.kl_parse.specs.Gives.{Fails}
+use Rattle.kl_phrase.specs.Gives.{Fails}
 use Rattle.kl_parse.specs.Grammar.{name_of, inject_of, gen_of, comp_of, case_of, path_of, chain_of, compare_of, let_of, if_of, branch_of, function_of, constant_of, opener, closer, Sort, whole, negated, signed, added, opens}
 use Rattle.kl_parse.specs.Kinds.{among, is_symbol, is_key, constant_kinds, big_kinds, op_kinds, a_constant, an_op, a_symbol}
 use Rattle.kl_parse.specs.Descent as d
 use Rattle.kl_parse.specs.Descent.{mark, word_mark}
 use Rattle.kl_parse.proofs.Kepts.{same_reads, same_pat, same_branch, same_qual, keeps_operand, keeps_field, no, minus_nests, keeps_labels}
-use Rattle.kl_parse.proofs.Steps.{Ahead, AheadKey, behind_mark, behind_key, heads_mark, heads_key, fails_after, fails_so}
+use Rattle.kl_parse.proofs.Steps.{Ahead, AheadKey, behind_mark, behind_key, heads_mark, heads_key}
+use Rattle.kl_phrase.proofs.Failures.{fails_after, fails_so, err_by}
 use Rattle.kl_parse.specs.Parsing.{nests}
 use Rattle.kl_phrase.specs.Words.{heads}
 use Rattle.kl_phrase.specs.Readers.{Why, bad, deep, Out, ok, fail, Reader, after, one, behind, before, both, made, chain, many, followed, instead, turns, pick, nothing, parted, others}
 use Rattle.kl_phrase.proofs.Kept.{Keeps, Rests, Takes, takes_both, takes_one}
 use Rattle.kl_phrase.proofs.Gathered.{Progress, goes_on, breaks, stops, parted_on}
 use Rattle.kl_phrase.proofs.Exact.{Nested}
-
--- a failure of a part is one of the whole
-pub err_by : {A B : Type 0} (f : Fault) (o : Out Token B) (i : Out Token A) (k : A → Reader Token B) → o ≡ after i k → Fails f i → Fails f o
-err_by f o i k e h = fails_so f o (after i k) e (fails_after f i k h)
 
 ext : {A B : Type 0} {f g : A → B} → ((x : A) → f x ≡ g x) → f ≡ g
 ext h = λ i x. h x i
@@ -85,7 +82,7 @@ chain_of_two a (fail w r) = refl
 pub chain_first : (N n : ℕ) (l : Level) (ts rest : List Token) (a : Expr) → d.operand_at N n l ts ≡ ok a rest → d.chain_at N n l ts ≡ after (Others N n l rest) (λ more s. ok (chain_of (a, more)) s)
 chain_first N n l ts rest a e = rw e (chain_of_two a (turns (pick (among (op_kinds l)) (made inl (Step N n l)) (made inr (nothing (tt {0})))) (suc (length rest)) rest))
 
-pub chain_fails : (N n : ℕ) (l : Level) (ts : List Token) (f : Fault) → Fails f (d.operand_at N n l ts) → Fails f (d.chain_at N n l ts)
+pub chain_fails : (N n : ℕ) (l : Level) (ts : List Token) (f : Fault Token) → Fails f (d.operand_at N n l ts) → Fails f (d.chain_at N n l ts)
 chain_fails N n l ts fault.Memory h = tt
 chain_fails N n l ts (fault.Bad r) h = rw h refl
 chain_fails N n l ts (fault.Deep r) h = rw h refl
@@ -101,7 +98,7 @@ chain_more N n l ts rest r a (x ∷ more) e h z = chain_first N n l ts rest a e 
 pub step_on : (N n : ℕ) (l : Level) (ts more r : List Token) (o : Op) (a : Expr) → one (an_op l) ts ≡ ok o more → d.operand_at N n l more ≡ ok a r → Step N n l ts ≡ ok (o, a) r
 step_on N n l ts more r o a e h = rw (e, h) refl
 
-pub step_fails : (N n : ℕ) (l : Level) (whole_list : Out Token (List (Op × Expr))) (found : List (Op × Expr)) (ts more : List Token) (o : Op) (f : Fault) → heads (among (op_kinds l)) ts ≡ true → one (an_op l) ts ≡ ok o more → Fails f (d.operand_at N n l more) → Progress (among (op_kinds l)) (Step N n l) whole_list found ts → Fails f whole_list
+pub step_fails : (N n : ℕ) (l : Level) (whole_list : Out Token (List (Op × Expr))) (found : List (Op × Expr)) (ts more : List Token) (o : Op) (f : Fault Token) → heads (among (op_kinds l)) ts ≡ true → one (an_op l) ts ≡ ok o more → Fails f (d.operand_at N n l more) → Progress (among (op_kinds l)) (Step N n l) whole_list found ts → Fails f whole_list
 step_fails N n l whole_list found ts more o fault.Memory hd e h so = tt
 step_fails N n l whole_list found ts more o (fault.Bad r) hd e h so = breaks (among (op_kinds l)) (Step N n l) whole_list found ts bad r.now hd (rw (e, h) refl) so
 step_fails N n l whole_list found ts more o (fault.Deep r) hd e h so = breaks (among (op_kinds l)) (Step N n l) whole_list found ts deep r.now hd (rw (e, h) refl) so
@@ -160,7 +157,7 @@ pub not_none : (N n : ℕ) (ts : List Token) → heads (is_key key.Not) ts ≡ f
 unfolding d.negation
 not_none N n ts h = rw h refl
 
-pub compare_fails : (N n : ℕ) (ts : List Token) (f : Fault) → Fails f (d.operand_at N n level.Compare ts) → Fails f (d.compare_at N n ts)
+pub compare_fails : (N n : ℕ) (ts : List Token) (f : Fault Token) → Fails f (d.operand_at N n level.Compare ts) → Fails f (d.compare_at N n ts)
 unfolding d.compare
 compare_fails N n ts fault.Memory h = tt
 compare_fails N n ts (fault.Bad r) h = rw h refl
@@ -197,7 +194,7 @@ pub minus_none : (N n : ℕ) (ts : List Token) → d.is_least ts ≡ false → h
 unfolding d.un
 minus_none N n ts l h = rw (l, h) refl
 
-pub path_fails : (N n : ℕ) (ts : List Token) (f : Fault) → Fails f (d.prim_at N n ts) → Fails f (d.post_at N n ts)
+pub path_fails : (N n : ℕ) (ts : List Token) (f : Fault Token) → Fails f (d.prim_at N n ts) → Fails f (d.post_at N n ts)
 unfolding d.post
 path_fails N n ts fault.Memory h = tt
 path_fails N n ts (fault.Bad r) h = rw h refl
@@ -309,7 +306,7 @@ name_at N n ts (c, p, q, v) (x, y, w) h = rw (c, p, q, v, x, y, w, h) refl
 
 -- ---- a name, and arguments if they come
 
-pub named_fails : (N n : ℕ) (ts : List Token) (f : Fault) → Fails f (d.name N ts) → Fails f (d.named_at N n ts)
+pub named_fails : (N n : ℕ) (ts : List Token) (f : Fault Token) → Fails f (d.name N ts) → Fails f (d.named_at N n ts)
 unfolding d.named
 named_fails N n ts fault.Memory h = tt
 named_fails N n ts (fault.Bad r) h = rw h refl
@@ -362,7 +359,7 @@ module _ (p : Reader Token Pattern) (e : Reader Token Expr) where
   pub quals_first : (ts rest : List Token) (a : Qual) → d.qualifier p e ts ≡ ok a rest → d.quals p e ts ≡ others (is_symbol sy.Comma) (behind (mark sy.Comma) (d.qualifier p e)) (a ∷ []) rest
   quals_first ts rest a h = parted_on (is_symbol sy.Comma) (mark sy.Comma) (d.qualifier p e) ts rest a h
 
-  pub quals_fail : (ts : List Token) (f : Fault) → Fails f (d.qualifier p e ts) → Fails f (d.quals p e ts)
+  pub quals_fail : (ts : List Token) (f : Fault Token) → Fails f (d.qualifier p e ts) → Fails f (d.quals p e ts)
   quals_fail ts fault.Memory h = tt
   quals_fail ts (fault.Bad r) h = rw h refl
   quals_fail ts (fault.Deep r) h = rw h refl
@@ -413,7 +410,7 @@ followed_yes test e ts rest a h i = rw (h, i) refl
 
 -- ---- branches
 
-pub branch_bad : (N n : ℕ) (ts : List Token) (f : Fault) → Fails f (mark sy.Lt ts) → Fails f (d.branch_at N n ts)
+pub branch_bad : (N n : ℕ) (ts : List Token) (f : Fault Token) → Fails f (mark sy.Lt ts) → Fails f (d.branch_at N n ts)
 unfolding d.branch
 branch_bad N n ts fault.Memory h = tt
 branch_bad N n [] (fault.Bad r) h = let z : Path (Out Token (Unit {0})) (fail bad []) (fail bad r.now) = h in let y : [] ≡ r.now = cc in ap (fail bad) y
@@ -461,13 +458,13 @@ module _ (N n k : ℕ) (ts more rest : List Token) (a : Word × Pattern) (z : n 
   pub branch_arrow : d.branch_at N n ts ≡ after (behind (mark sy.Arrow) (d.reads N n whole) rest) (λ b s. ok (branch_of (a, b)) s)
   branch_arrow = branch_here N n k ts more z h ∙ rw v refl
 
-  pub branch_arrow_fails : (f : Fault) → Fails f (mark sy.Arrow rest) → Fails f (d.branch_at N n ts)
+  pub branch_arrow_fails : (f : Fault Token) → Fails f (mark sy.Arrow rest) → Fails f (d.branch_at N n ts)
   branch_arrow_fails f i = err_by f (d.branch_at N n ts) (behind (mark sy.Arrow) (d.reads N n whole) rest) (λ b s. ok (branch_of (a, b)) s) branch_arrow (fails_after f (mark sy.Arrow rest) (λ _ r. d.reads N n whole r) i)
 
   pub branch_body : (last : List Token) → mark sy.Arrow rest ≡ ok tt last → d.branch_at N n ts ≡ after (d.reads N n whole last) (λ b s. ok (branch_of (a, b)) s)
   branch_body last i = branch_arrow ∙ rw i refl
 
-pub variant_in_branch_fails : (N n k : ℕ) (ts more : List Token) (f : Fault) → n ≡ suc k → mark sy.Lt ts ≡ ok tt more → Fails f (d.in_variant N (d.read_pat N k) more) → Fails f (d.branch_at N n ts)
+pub variant_in_branch_fails : (N n k : ℕ) (ts more : List Token) (f : Fault Token) → n ≡ suc k → mark sy.Lt ts ≡ ok tt more → Fails f (d.in_variant N (d.read_pat N k) more) → Fails f (d.branch_at N n ts)
 variant_in_branch_fails N n k ts more f z h i = err_by f (d.branch_at N n ts) (d.in_variant N (d.read_pat N k) more) (λ a r. after (behind (mark sy.Arrow) (d.reads N n whole) r) (λ b s. ok (branch_of (a, b)) s)) (branch_here N n k ts more z h) i
 
 -- ---- a collection, step by step
@@ -480,32 +477,25 @@ module _ (p : Reader Token Pattern) (e : Reader Token Expr) (k : Kind) (ts : Lis
     opened_coll : d.in_coll p e k ts ≡ after (e ts) (λ x r. after (d.beyond p e k x r) (λ a s. after (mark (closer k) s) (λ _ z. ok a z)))
     opened_coll = coll_some p e k ts (subst (λ (r : Sym). heads (is_symbol r) ts ≡ false) is miss)
 
-    pub coll_first_fails : (f : Fault) → Fails f (e ts) → Fails f (d.in_coll p e k ts)
+    pub coll_first_fails : (f : Fault Token) → Fails f (e ts) → Fails f (d.in_coll p e k ts)
     coll_first_fails f h = err_by f (d.in_coll p e k ts) (e ts) (λ x r. after (d.beyond p e k x r) (λ a s. after (mark (closer k) s) (λ _ z. ok a z))) opened_coll h
 
     module _ (a : Expr) (rest : List Token) (first : e ts ≡ ok a rest) where
       coll_beyond : d.in_coll p e k ts ≡ after (d.beyond p e k a rest) (λ a s. after (mark (closer k) s) (λ _ z. ok a z))
       coll_beyond = opened_coll ∙ rw first refl
 
-      pub coll_beyond_fails : (f : Fault) → Fails f (d.beyond p e k a rest) → Fails f (d.in_coll p e k ts)
+      pub coll_beyond_fails : (f : Fault Token) → Fails f (d.beyond p e k a rest) → Fails f (d.in_coll p e k ts)
       coll_beyond_fails f h = err_by f (d.in_coll p e k ts) (d.beyond p e k a rest) (λ a s. after (mark (closer k) s) (λ _ z. ok a z)) coll_beyond h
 
       module _ (b : Expr) (more : List Token) (found : d.beyond p e k a rest ≡ ok b more) (r : Sym) (also : r ≡ closer k) where
         coll_close : d.in_coll p e k ts ≡ after (mark (closer k) more) (λ _ z. ok b z)
         coll_close = coll_beyond ∙ rw found refl
 
-        pub coll_close_fails : (f : Fault) → Fails f (mark r more) → Fails f (d.in_coll p e k ts)
+        pub coll_close_fails : (f : Fault Token) → Fails f (mark r more) → Fails f (d.in_coll p e k ts)
         coll_close_fails f h = err_by f (d.in_coll p e k ts) (mark (closer k) more) (λ _ z. ok b z) coll_close (subst (λ (q : Sym). Fails f (mark q more)) also h)
 
         pub coll_ok : (last : List Token) → mark r more ≡ ok tt last → d.in_coll p e k ts ≡ ok b last
         coll_ok last h = coll_close ∙ rw (subst (λ (q : Sym). mark q more ≡ ok tt last) also h) refl
-
--- the fault of an arm
-pub is_bad : {A : Type 0} (f : Fault) (r : _) (o : Out Token A) → f ≡ fault.Bad r → Fails f o → Fails (fault.Bad r) o
-is_bad {A} f r o e h = subst (λ (g : Fault). Fails g o) e h
-
-pub is_deep : {A : Type 0} (f : Fault) (r : _) (o : Out Token A) → f ≡ fault.Deep r → Fails f o → Fails (fault.Deep r) o
-is_deep {A} f r o e h = subst (λ (g : Fault). Fails g o) e h
 
 -- ---- what is left is a rest
 

@@ -3,13 +3,13 @@ use Rattle.std.proofs.Common.{◌≡◌, ℕ, ◌<◌, List, [], ◌∷◌, ◌+
 use Rattle.kl_lex.specs.declared.token.Sym.TheVariants as sy
 use Rattle.kl_lex.specs.declared.token.Token.{Token}
 use Rattle.kl_parse.specs.declared.keyword.Keyword.TheVariants as key
-use Rattle.kl_parse.specs.declared.fault.Fault.{Fault}
-use Rattle.kl_parse.specs.declared.fault.Fault.TheVariants as fault
+use Rattle.kl_phrase.specs.declared.fault.Fault.{Fault}
+use Rattle.kl_phrase.specs.declared.fault.Fault.TheVariants as fault
 use Rattle.kl_syntax.specs.declared.tree.Word.{Word}
 use Rattle.kl_syntax.specs.declared.tree.Pattern.{Pattern}
 use Rattle.kl_syntax.specs.declared.tree.Expr.{Expr}
 use Rattle.kl_syntax.specs.declared.tree.Decl.{Decl}
-use Rattle.kl_parse.specs.Gives.{Fails}
+use Rattle.kl_phrase.specs.Gives.{Fails}
 use Rattle.kl_parse.specs.Grammar.{decl_of, whole}
 use Rattle.kl_parse.specs.Kinds.{is_key}
 use Rattle.kl_parse.specs.Parsing.{nests}
@@ -37,7 +37,7 @@ decl_less N rest more r a (t, e, h) i = rest_less t rest more r a (d.decl_rest N
 pub decl_on : (N : ℕ) (list : Out Token (List Decl)) (found : List Decl) (rest more r : List Token) (a : Decl) → AheadKey key.Define rest more → d.decl_rest N 256 more ≡ ok a r → Progress (is_key key.Define) (ADecl N) list found rest → Progress (is_key key.Define) (ADecl N) list (found ++ a ∷ []) r
 decl_on N list found rest more r a ahead e so = goes_on (is_key key.Define) (ADecl N) list found rest r a (heads_key key.Define rest more ahead) (decl_at N rest more ahead ∙ e) (decl_less N rest more r a ahead e) so
 
-pub decl_fails : (N : ℕ) (list : Out Token (List Decl)) (found : List Decl) (rest more : List Token) (f : Fault) → AheadKey key.Define rest more → Fails f (d.decl_rest N 256 more) → Progress (is_key key.Define) (ADecl N) list found rest → Fails f list
+pub decl_fails : (N : ℕ) (list : Out Token (List Decl)) (found : List Decl) (rest more : List Token) (f : Fault Token) → AheadKey key.Define rest more → Fails f (d.decl_rest N 256 more) → Progress (is_key key.Define) (ADecl N) list found rest → Fails f list
 decl_fails N list found rest more fault.Memory ahead h so = tt
 decl_fails N list found rest more (fault.Bad r) ahead h so = breaks (is_key key.Define) (ADecl N) list found rest bad r.now (heads_key key.Define rest more ahead) (decl_at N rest more ahead ∙ h) so
 decl_fails N list found rest more (fault.Deep r) ahead h so = breaks (is_key key.Define) (ADecl N) list found rest deep r.now (heads_key key.Define rest more ahead) (decl_at N rest more ahead ∙ h) so

@@ -5,12 +5,12 @@ use Rattle.kl_lex.specs.declared.token.Sym.TheVariants as sy
 use Rattle.kl_lex.specs.declared.token.Tok.{Tok}
 use Rattle.kl_lex.specs.declared.token.Token.{Token}
 use Rattle.kl_parse.specs.declared.keyword.Keyword.{Keyword}
-use Rattle.kl_parse.specs.declared.fault.Fault.{Fault}
-use Rattle.kl_parse.specs.declared.fault.Fault.TheVariants as fault
+use Rattle.kl_phrase.specs.declared.fault.Fault.{Fault}
+use Rattle.kl_phrase.specs.declared.fault.Fault.TheVariants as fault
 use Rattle.kl_syntax.specs.declared.tree.Word.{Word}
 use Rattle.kl_syntax.specs.declared.tree.Pattern.{Pattern}
 use Rattle.kl_syntax.specs.declared.tree.Pattern.TheVariants as pattern
-use Rattle.kl_parse.specs.Gives.{Fails}
+use Rattle.kl_phrase.specs.Gives.{Fails}
 use Rattle.kl_parse.specs.Grammar.{variant_of, shape_of, opens}
 use Rattle.kl_parse.specs.Kinds.{among, is_symbol, is_key, label_kinds, a_symbol}
 use Rattle.kl_parse.specs.Descent as d
@@ -18,6 +18,7 @@ use Rattle.kl_parse.specs.Descent.{mark, word_mark}
 use Rattle.kl_phrase.specs.Words.{heads}
 use Rattle.kl_phrase.specs.Readers.{Why, bad, deep, Out, ok, fail, Reader, after, behind, both, made, turns, tails, loop, others}
 use Rattle.kl_phrase.proofs.Kept.{Rests}
+use Rattle.kl_phrase.proofs.Failures.{fails_after, fails_so}
 use Rattle.kl_phrase.proofs.Gathered.{Progress, goes_on, breaks, stops}
 use Rattle.kl_phrase.proofs.Tails.{Going, goes_further, ends_at, fails_at}
 use Rattle.kl_parse.proofs.Kepts.{same_pat, keeps_pat_field, keeps_label}
@@ -42,15 +43,6 @@ heads_mark s rest more (t, e, h) = rw e h
 pub heads_key : (k : Keyword) (rest more : List Token) → AheadKey k rest more → heads (is_key k) rest ≡ true
 heads_key k rest more (t, e, h) = rw e h
 
-pub fails_after : {A B : Type 0} (f : Fault) (o : Out Token A) (k : A → Reader Token B) → Fails f o → Fails f (after o k)
-fails_after fault.Memory o k h = tt
-fails_after (fault.Bad r) o k h = rw h refl
-fails_after (fault.Deep r) o k h = rw h refl
-
--- the failure of an equal outcome
-pub fails_so : {A : Type 0} (f : Fault) (o o' : Out Token A) → o ≡ o' → Fails f o' → Fails f o
-fails_so {A} f o o' e h = subst (λ (z : Out Token A). Fails f z) (sym e) h
-
 pub rest_less : {A : Type 0} (t : Token) (rest more r : List Token) (a : A) (o : Out Token A) → rest ≡ t ∷ more → Rests more o → o ≡ ok a r → length r < length rest
 rest_less {A} t rest more r a o e rests eq = go (subst (λ (o : Out Token A). Rests more o) eq rests)
   where
@@ -66,7 +58,7 @@ pub onward : {A : Type 0} (s : Sym) (p : Reader Token A) → ((ts : List Token) 
     → Progress (is_symbol s) (behind (mark s) p) whole found rest → Progress (is_symbol s) (behind (mark s) p) whole (found ++ a ∷ []) r
 onward s p rests whole found rest more r a ahead e = goes_on (is_symbol s) (behind (mark s) p) whole found rest r a (heads_mark s rest more ahead) (behind_mark s p rest more ahead ∙ e) (less s p rest more r a rests ahead e)
 
-pub fails_on : {A : Type 0} (s : Sym) (p : Reader Token A) (whole : Out Token (List A)) (found : List A) (rest more : List Token) (f : Fault) → Ahead s rest more → Fails f (p more) → Progress (is_symbol s) (behind (mark s) p) whole found rest → Fails f whole
+pub fails_on : {A : Type 0} (s : Sym) (p : Reader Token A) (whole : Out Token (List A)) (found : List A) (rest more : List Token) (f : Fault Token) → Ahead s rest more → Fails f (p more) → Progress (is_symbol s) (behind (mark s) p) whole found rest → Fails f whole
 fails_on s p whole found rest more fault.Memory ahead e so = tt
 fails_on s p whole found rest more (fault.Bad r) ahead e so = breaks (is_symbol s) (behind (mark s) p) whole found rest bad r.now (heads_mark s rest more ahead) (behind_mark s p rest more ahead ∙ e) so
 fails_on s p whole found rest more (fault.Deep r) ahead e so = breaks (is_symbol s) (behind (mark s) p) whole found rest deep r.now (heads_mark s rest more ahead) (behind_mark s p rest more ahead ∙ e) so
@@ -94,7 +86,7 @@ variant_at : (N n k : ℕ) (ts more : List Token) → n ≡ suc k → Ahead sy.L
 unfolding d.pat
 variant_at N n k ts more z a = pat_suc N n k ts z ∙ rw (heads_mark sy.Lt ts more a) (ap (λ (o : Out Token (Word × Pattern)). after {B = Pattern} o (λ x s. ok (variant_of x) s)) (behind_mark sy.Lt (d.in_variant N (d.read_pat N k)) ts more a))
 
-pub variant_fails : (N n k : ℕ) (ts more : List Token) (f : Fault) → n ≡ suc k → Ahead sy.Lt ts more → Fails f (d.in_variant N (d.read_pat N k) more) → Fails f (d.read_pat N n ts)
+pub variant_fails : (N n k : ℕ) (ts more : List Token) (f : Fault Token) → n ≡ suc k → Ahead sy.Lt ts more → Fails f (d.in_variant N (d.read_pat N k) more) → Fails f (d.read_pat N n ts)
 variant_fails N n k ts more f z a h = fails_so f (d.read_pat N n ts) (after (d.in_variant N (d.read_pat N k) more) (λ x s. ok (variant_of x) s)) (variant_at N n k ts more z a) (fails_after f (d.in_variant N (d.read_pat N k) more) (λ x s. ok (variant_of x) s) h)
 
 pub variant_ok : (N n k : ℕ) (ts more r : List Token) (w : Word) (p : Pattern) → n ≡ suc k → Ahead sy.Lt ts more → d.in_variant N (d.read_pat N k) more ≡ ok (w, p) r → d.read_pat N n ts ≡ ok (pattern.Inj w p) r
@@ -120,7 +112,7 @@ tails_shape a (fail w r) = refl
 pub fields_at : (N : ℕ) (p : Reader Token Pattern) (ts rest : List Token) (a : Word × Pattern) → heads (among label_kinds) ts ≡ true → d.pat_field N p ts ≡ ok a rest → d.shape N p ts ≡ after (tails (d.pat_turn N p) (a ∷ []) rest) (λ x s. ok (pattern.Rec x.0 x.1) s)
 fields_at N p ts rest a h e = rw (h, e) (tails_shape a (turns (d.pat_turn N p) (suc (length rest)) rest))
 
-pub fields_fail : (N : ℕ) (p : Reader Token Pattern) (ts rest : List Token) (a : Word × Pattern) (f : Fault) → heads (among label_kinds) ts ≡ true → d.pat_field N p ts ≡ ok a rest → Fails f (tails (d.pat_turn N p) (a ∷ []) rest) → Fails f (d.shape N p ts)
+pub fields_fail : (N : ℕ) (p : Reader Token Pattern) (ts rest : List Token) (a : Word × Pattern) (f : Fault Token) → heads (among label_kinds) ts ≡ true → d.pat_field N p ts ≡ ok a rest → Fails f (tails (d.pat_turn N p) (a ∷ []) rest) → Fails f (d.shape N p ts)
 fields_fail N p ts rest a f h e i = fails_so f (d.shape N p ts) (after (tails (d.pat_turn N p) (a ∷ []) rest) (λ x s. ok (pattern.Rec x.0 x.1) s)) (fields_at N p ts rest a h e) (fails_after f (tails (d.pat_turn N p) (a ∷ []) rest) (λ x s. ok (pattern.Rec x.0 x.1) s) i)
 
 pub fields_ok : (N : ℕ) (p : Reader Token Pattern) (ts rest r : List Token) (a : Word × Pattern) (l : List (Word × Pattern)) (b : Bool) → heads (among label_kinds) ts ≡ true → d.pat_field N p ts ≡ ok a rest → tails (d.pat_turn N p) (a ∷ []) rest ≡ ok (l, b) r → d.shape N p ts ≡ ok (pattern.Rec l b) r
@@ -148,7 +140,7 @@ field_less N n rest more r a ahead e = less sy.Comma (d.pat_field N (d.read_pat 
 pub field_on : (N n : ℕ) (whole : Out Token (List (Word × Pattern) × Bool)) (found : List (Word × Pattern)) (rest more r : List Token) (a : Word × Pattern) → Ahead sy.Comma rest more → heads (is_symbol sy.Dots) more ≡ false → d.pat_field N (d.read_pat N n) more ≡ ok a r → Going (d.pat_turn N (d.read_pat N n)) whole found rest → Going (d.pat_turn N (d.read_pat N n)) whole (found ++ a ∷ []) r
 field_on N n whole found rest more r a ahead miss e so = goes_further (d.pat_turn N (d.read_pat N n)) whole found rest r a (turn_item N (d.read_pat N n) rest more r a ahead miss e) (field_less N n rest more r a ahead e) so
 
-pub field_breaks : (N n : ℕ) (whole : Out Token (List (Word × Pattern) × Bool)) (found : List (Word × Pattern)) (rest more : List Token) (f : Fault) → Ahead sy.Comma rest more → heads (is_symbol sy.Dots) more ≡ false → Fails f (d.pat_field N (d.read_pat N n) more) → Going (d.pat_turn N (d.read_pat N n)) whole found rest → Fails f whole
+pub field_breaks : (N n : ℕ) (whole : Out Token (List (Word × Pattern) × Bool)) (found : List (Word × Pattern)) (rest more : List Token) (f : Fault Token) → Ahead sy.Comma rest more → heads (is_symbol sy.Dots) more ≡ false → Fails f (d.pat_field N (d.read_pat N n) more) → Going (d.pat_turn N (d.read_pat N n)) whole found rest → Fails f whole
 field_breaks N n whole found rest more fault.Memory ahead miss h so = tt
 field_breaks N n whole found rest more (fault.Bad r) ahead miss h so = fails_at (d.pat_turn N (d.read_pat N n)) whole found rest r.now bad (turn_fails N (d.read_pat N n) rest more bad r.now ahead miss h) so
 field_breaks N n whole found rest more (fault.Deep r) ahead miss h so = fails_at (d.pat_turn N (d.read_pat N n)) whole found rest r.now deep (turn_fails N (d.read_pat N n) rest more deep r.now ahead miss h) so

@@ -3,5 +3,5 @@ pub mod Lexemes
 pub mod Grammar
 pub mod Parsing
 pub mod Kinds
-pub mod Gives
+pub mod Instead
 pub mod Descent

@@ -8,12 +8,11 @@ ghost use Rattle.kl_lex.specs.declared.token.Sym.TheVariants as symbols;
 ghost use Rattle.kl_phrase.specs.Words.{heads};
 ghost use Rattle.kl_phrase.specs.Readers.{behind, both, made, one, others, parted};
 ghost use Rattle.kl_parse.specs.declared.operator.Level.TheVariants as levels;
-ghost use Rattle.kl_parse.specs.Gives.{Gives};
+ghost use Rattle.kl_phrase.specs.Gives.{Gives};
 ghost use Rattle.kl_parse.specs.Grammar.{opener, let_of, if_of, inject_of, case_of, whole, negated, signed};
 ghost use Rattle.kl_parse.specs.Kinds.{among, is_symbol, op_kinds, an_op};
 ghost use Rattle.kl_parse.specs.Descent.{mark, read_pat, labels, reads, chain_at, operand_at, sort_at, compare_at, post_at, prim_at, named_at, branch_at, exprs, in_args, in_group, in_rec, in_inject, in_coll, in_let, in_if, in_case, case_end, expr_before, field, condition, qualifier, quals, beyond, otherwise};
 
-use crate::fault::Fault;
 use crate::front::{
     constant, eat, eat_word, is_word, label, least, name, or_bad, or_deep, want, want_word,
 };
@@ -22,6 +21,7 @@ use crate::operator::{Level, operator};
 use crate::patterns::{pattern_before, variant_rest};
 use kl_base::{Box, NoMemory, Seq};
 use kl_lex::{Sym, Token};
+use kl_phrase::Fault;
 use kl_syntax::{
     Branch, Branches, Expr, ExprFields, Exprs, Op, Pattern, Qual, Quals, Steps, Word, Words,
 };
@@ -29,7 +29,11 @@ use kl_value::Kind;
 use std::alloc::Global;
 
 /// `{ "." LABEL }`
-fn labels(alloc: Global, total: u32, tokens: &[Token]) -> Result<(Vec<Word>, &[Token]), Fault<'_>>
+fn labels(
+    alloc: Global,
+    total: u32,
+    tokens: &[Token],
+) -> Result<(Vec<Word>, &[Token]), Fault<'_, Token>>
     ensures { Gives (λ x. x.0.items) (λ x. x.1.now) result (labels total tokens.now) }
 {
     let mut found = Vec::new(alloc);
@@ -102,7 +106,7 @@ pub fn expr(
     total: u32,
     depth: u32,
     tokens: &[Token],
-) -> Result<(Expr, &[Token]), Fault<'_>>
+) -> Result<(Expr, &[Token]), Fault<'_, Token>>
     ensures { Gives (λ x. x.0) (λ x. x.1.now) result (reads total depth whole tokens.now) }
 {
     if let Some(rest) = eat_word(tokens, Keyword::Let) {
@@ -128,7 +132,7 @@ fn expr_before(
     depth: u32,
     keyword: Keyword,
     tokens: &[Token],
-) -> Result<(Expr, &[Token]), Fault<'_>>
+) -> Result<(Expr, &[Token]), Fault<'_, Token>>
     ensures { Gives (λ x. x.0) (λ x. x.1.now) result (expr_before (reads total depth whole) keyword tokens.now) }
 {
     let (found, rest) = expr(alloc, total, depth, tokens)?;
@@ -143,7 +147,7 @@ fn let_rest(
     total: u32,
     depth: u32,
     tokens: &[Token],
-) -> Result<(Expr, &[Token]), Fault<'_>>
+) -> Result<(Expr, &[Token]), Fault<'_, Token>>
     ensures { Gives (λ x. x.0) (λ x. x.1.now) result (made let_of (in_let (read_pat total depth) (reads total depth whole)) tokens.now) }
 {
     let (bound, rest) = pattern_before(alloc, total, depth, Sym::Equals, tokens)?;
@@ -159,7 +163,7 @@ fn if_rest(
     total: u32,
     depth: u32,
     tokens: &[Token],
-) -> Result<(Expr, &[Token]), Fault<'_>>
+) -> Result<(Expr, &[Token]), Fault<'_, Token>>
     ensures { Gives (λ x. x.0) (λ x. x.1.now) result (made if_of (in_if (reads total depth whole)) tokens.now) }
 {
     let (test, rest) = expr_before(alloc, total, depth, Keyword::Then, tokens)?;
@@ -176,7 +180,7 @@ fn chain(
     depth: u32,
     level: Level,
     tokens: &[Token],
-) -> Result<(Expr, &[Token]), Fault<'_>>
+) -> Result<(Expr, &[Token]), Fault<'_, Token>>
     ensures { Gives (λ x. x.0) (λ x. x.1.now) result (chain_at total depth level tokens.now) }
 {
     let (first, rest) = operand(alloc, total, depth, level, tokens)?;
@@ -194,7 +198,7 @@ fn more_steps(
     depth: u32,
     level: Level,
     tokens: &[Token],
-) -> Result<(Vec<(Op, Expr)>, &[Token]), Fault<'_>>
+) -> Result<(Vec<(Op, Expr)>, &[Token]), Fault<'_, Token>>
     ensures { Gives (λ x. x.0.items) (λ x. x.1.now) result (others (among (op_kinds level)) (both (one (an_op level)) (operand_at total depth level)) [] tokens.now) }
 {
     let mut found = Vec::new(alloc);
@@ -215,7 +219,7 @@ fn operand(
     depth: u32,
     level: Level,
     tokens: &[Token],
-) -> Result<(Expr, &[Token]), Fault<'_>>
+) -> Result<(Expr, &[Token]), Fault<'_, Token>>
     ensures { Gives (λ x. x.0) (λ x. x.1.now) result (operand_at total depth level tokens.now) }
 {
     match level {
@@ -234,7 +238,7 @@ fn negation(
     total: u32,
     depth: u32,
     tokens: &[Token],
-) -> Result<(Expr, &[Token]), Fault<'_>>
+) -> Result<(Expr, &[Token]), Fault<'_, Token>>
     ensures { Gives (λ x. x.0) (λ x. x.1.now) result (sort_at total depth negated tokens.now) }
 {
     if let Some(rest) = eat_word(tokens, Keyword::Not) {
@@ -254,7 +258,7 @@ fn comparison(
     total: u32,
     depth: u32,
     tokens: &[Token],
-) -> Result<(Expr, &[Token]), Fault<'_>>
+) -> Result<(Expr, &[Token]), Fault<'_, Token>>
     ensures { Gives (λ x. x.0) (λ x. x.1.now) result (compare_at total depth tokens.now) }
 {
     let (first, rest) = operand(alloc, total, depth, Level::Compare, tokens)?;
@@ -276,7 +280,7 @@ fn signed(
     total: u32,
     depth: u32,
     tokens: &[Token],
-) -> Result<(Expr, &[Token]), Fault<'_>>
+) -> Result<(Expr, &[Token]), Fault<'_, Token>>
     ensures { Gives (λ x. x.0) (λ x. x.1.now) result (sort_at total depth signed tokens.now) }
 {
     if let Some(found) = least(tokens) {
@@ -299,7 +303,7 @@ fn path(
     total: u32,
     depth: u32,
     tokens: &[Token],
-) -> Result<(Expr, &[Token]), Fault<'_>>
+) -> Result<(Expr, &[Token]), Fault<'_, Token>>
     ensures { Gives (λ x. x.0) (λ x. x.1.now) result (post_at total depth tokens.now) }
 {
     let (first, rest) = primary(alloc, total, depth, tokens)?;
@@ -316,7 +320,7 @@ fn primary(
     total: u32,
     depth: u32,
     tokens: &[Token],
-) -> Result<(Expr, &[Token]), Fault<'_>>
+) -> Result<(Expr, &[Token]), Fault<'_, Token>>
     ensures { Gives (λ x. x.0) (λ x. x.1.now) result (prim_at total depth tokens.now) }
 {
     if let Some((value, rest)) = constant(alloc, tokens)? {
@@ -363,7 +367,7 @@ fn named(
     total: u32,
     depth: u32,
     tokens: &[Token],
-) -> Result<(Expr, &[Token]), Fault<'_>>
+) -> Result<(Expr, &[Token]), Fault<'_, Token>>
     ensures { Gives (λ x. x.0) (λ x. x.1.now) result (named_at total depth tokens.now) }
 {
     let (word, rest) = name(total, tokens)?;
@@ -386,7 +390,7 @@ fn args_rest(
     total: u32,
     depth: u32,
     tokens: &[Token],
-) -> Result<(Exprs, &[Token]), Fault<'_>>
+) -> Result<(Exprs, &[Token]), Fault<'_, Token>>
     ensures { Gives (λ x. x.0) (λ x. x.1.now) result (in_args (reads total depth whole) tokens.now) }
 {
     let (first, rest) = expr(alloc, total, depth, tokens)?;
@@ -403,7 +407,7 @@ fn more_exprs(
     depth: u32,
     first: Expr,
     tokens: &[Token],
-) -> Result<(Exprs, &[Token]), Fault<'_>>
+) -> Result<(Exprs, &[Token]), Fault<'_, Token>>
     ensures { Gives (λ x. x.0) (λ x. x.1.now) result (others (is_symbol symbols.Comma) (behind (mark symbols.Comma) (reads total depth whole)) (first ∷ []) tokens.now) }
 {
     let mut found = Vec::new(alloc);
@@ -424,7 +428,7 @@ fn group_rest(
     total: u32,
     depth: u32,
     tokens: &[Token],
-) -> Result<(Expr, &[Token]), Fault<'_>>
+) -> Result<(Expr, &[Token]), Fault<'_, Token>>
     ensures { Gives (λ x. x.0) (λ x. x.1.now) result (in_group (reads total depth whole) tokens.now) }
 {
     let (inner, rest) = expr(alloc, total, depth, tokens)?;
@@ -439,7 +443,7 @@ fn rec_rest(
     total: u32,
     depth: u32,
     tokens: &[Token],
-) -> Result<(ExprFields, &[Token]), Fault<'_>>
+) -> Result<(ExprFields, &[Token]), Fault<'_, Token>>
     ensures { Gives (λ x. x.0) (λ x. x.1.now) result (in_rec total (reads total depth whole) tokens.now) }
 {
     if !is_word(tokens) {
@@ -458,7 +462,7 @@ fn field(
     total: u32,
     depth: u32,
     tokens: &[Token],
-) -> Result<((Word, Expr), &[Token]), Fault<'_>>
+) -> Result<((Word, Expr), &[Token]), Fault<'_, Token>>
     ensures { Gives (λ x. x.0) (λ x. x.1.now) result (field total (reads total depth whole) tokens.now) }
 {
     let (word, rest) = label(total, tokens)?;
@@ -475,7 +479,7 @@ fn more_fields(
     depth: u32,
     first: (Word, Expr),
     tokens: &[Token],
-) -> Result<(ExprFields, &[Token]), Fault<'_>>
+) -> Result<(ExprFields, &[Token]), Fault<'_, Token>>
     ensures { Gives (λ x. x.0) (λ x. x.1.now) result (others (is_symbol symbols.Comma) (behind (mark symbols.Comma) (field total (reads total depth whole))) (first ∷ []) tokens.now) }
 {
     let mut found = Vec::new(alloc);
@@ -496,7 +500,7 @@ fn inject_rest(
     total: u32,
     depth: u32,
     tokens: &[Token],
-) -> Result<(Expr, &[Token]), Fault<'_>>
+) -> Result<(Expr, &[Token]), Fault<'_, Token>>
     ensures { Gives (λ x. x.0) (λ x. x.1.now) result (made inject_of (in_inject total (chain_at total depth levels.Add)) tokens.now) }
 {
     let (word, rest) = label(total, tokens)?;
@@ -514,7 +518,7 @@ fn coll_rest(
     depth: u32,
     kind: Kind,
     tokens: &[Token],
-) -> Result<(Expr, &[Token]), Fault<'_>>
+) -> Result<(Expr, &[Token]), Fault<'_, Token>>
     ensures { Gives (λ x. x.0) (λ x. x.1.now) result (in_coll (read_pat total depth) (reads total depth whole) kind tokens.now) }
 {
     if let Some(rest) = eat(tokens, closer(kind)) {
@@ -535,7 +539,7 @@ fn beyond(
     kind: Kind,
     first: Expr,
     tokens: &[Token],
-) -> Result<(Expr, &[Token]), Fault<'_>>
+) -> Result<(Expr, &[Token]), Fault<'_, Token>>
     ensures { Gives (λ x. x.0) (λ x. x.1.now) result (beyond (read_pat total depth) (reads total depth whole) kind first tokens.now) }
 {
     match eat(tokens, Sym::Bar) {
@@ -557,7 +561,7 @@ fn qualifiers(
     total: u32,
     depth: u32,
     tokens: &[Token],
-) -> Result<(Quals, &[Token]), Fault<'_>>
+) -> Result<(Quals, &[Token]), Fault<'_, Token>>
     ensures { Gives (λ x. x.0) (λ x. x.1.now) result (quals (read_pat total depth) (reads total depth whole) tokens.now) }
 {
     let (first, rest) = qualifier(alloc, total, depth, tokens)?;
@@ -572,7 +576,7 @@ fn more_qualifiers(
     depth: u32,
     first: Qual,
     tokens: &[Token],
-) -> Result<(Quals, &[Token]), Fault<'_>>
+) -> Result<(Quals, &[Token]), Fault<'_, Token>>
     ensures { Gives (λ x. x.0) (λ x. x.1.now) result (others (is_symbol symbols.Comma) (behind (mark symbols.Comma) (qualifier (read_pat total depth) (reads total depth whole))) (first ∷ []) tokens.now) }
 {
     let mut found = Vec::new(alloc);
@@ -593,7 +597,7 @@ fn qualifier(
     total: u32,
     depth: u32,
     tokens: &[Token],
-) -> Result<(Qual, &[Token]), Fault<'_>>
+) -> Result<(Qual, &[Token]), Fault<'_, Token>>
     ensures { Gives (λ x. x.0) (λ x. x.1.now) result (qualifier (read_pat total depth) (reads total depth whole) tokens.now) }
 {
     match pattern_before(alloc, total, depth, Sym::Draw, tokens) {
@@ -620,7 +624,7 @@ fn condition(
     total: u32,
     depth: u32,
     tokens: &[Token],
-) -> Result<(Expr, &[Token]), Fault<'_>>
+) -> Result<(Expr, &[Token]), Fault<'_, Token>>
     ensures { Gives (λ x. x.0) (λ x. x.1.now) result (condition (reads total depth whole) tokens.now) }
 {
     let (found, rest) = expr(alloc, total, depth, tokens)?;
@@ -637,7 +641,7 @@ fn case_rest(
     total: u32,
     depth: u32,
     tokens: &[Token],
-) -> Result<(Expr, &[Token]), Fault<'_>>
+) -> Result<(Expr, &[Token]), Fault<'_, Token>>
     ensures { Gives (λ x. x.0) (λ x. x.1.now) result (made case_of (in_case (reads total depth whole) (branch_at total depth)) tokens.now) }
 {
     let (subject, rest) = expr_before(alloc, total, depth, Keyword::Of, tokens)?;
@@ -653,7 +657,7 @@ fn branches(
     total: u32,
     depth: u32,
     tokens: &[Token],
-) -> Result<(Branches, &[Token]), Fault<'_>>
+) -> Result<(Branches, &[Token]), Fault<'_, Token>>
     ensures { Gives (λ x. x.0) (λ x. x.1.now) result (parted (is_symbol symbols.Comma) (mark symbols.Comma) (branch_at total depth) tokens.now) }
 {
     let (first, rest) = branch(alloc, total, depth, tokens)?;
@@ -667,7 +671,7 @@ fn case_end(
     total: u32,
     depth: u32,
     tokens: &[Token],
-) -> Result<(Option<Box<Expr>>, &[Token]), Fault<'_>>
+) -> Result<(Option<Box<Expr>>, &[Token]), Fault<'_, Token>>
     ensures { Gives (λ x. x.0) (λ x. x.1.now) result (case_end (reads total depth whole) tokens.now) }
 {
     let (found, rest) = otherwise(alloc, total, depth, tokens)?;
@@ -682,7 +686,7 @@ fn branch(
     total: u32,
     depth: u32,
     tokens: &[Token],
-) -> Result<(Branch, &[Token]), Fault<'_>>
+) -> Result<(Branch, &[Token]), Fault<'_, Token>>
     ensures { Gives (λ x. x.0) (λ x. x.1.now) result (branch_at total depth tokens.now) }
 {
     let inner = want(tokens, Sym::Lt)?;
@@ -703,7 +707,7 @@ fn more_branches(
     depth: u32,
     first: Branch,
     tokens: &[Token],
-) -> Result<(Branches, &[Token]), Fault<'_>>
+) -> Result<(Branches, &[Token]), Fault<'_, Token>>
     ensures { Gives (λ x. x.0) (λ x. x.1.now) result (others (is_symbol symbols.Comma) (behind (mark symbols.Comma) (branch_at total depth)) (first ∷ []) tokens.now) }
 {
     let mut found = Vec::new(alloc);
@@ -724,7 +728,7 @@ fn otherwise(
     total: u32,
     depth: u32,
     tokens: &[Token],
-) -> Result<(Option<Box<Expr>>, &[Token]), Fault<'_>>
+) -> Result<(Option<Box<Expr>>, &[Token]), Fault<'_, Token>>
     ensures { Gives (λ x. x.0) (λ x. x.1.now) result (otherwise (reads total depth whole) tokens.now) }
 {
     match eat_word(tokens, Keyword::Otherwise) {

@@ -5,13 +5,14 @@ ghost use Rattle.kl_lex.specs.declared.token.Token.{Token as AToken};
 ghost use Rattle.kl_phrase.specs.Words.{heads};
 ghost use Rattle.kl_phrase.specs.Readers.{one, ok, bad, deep, farther};
 ghost use Rattle.kl_parse.specs.Kinds.{is_symbol, is_key, among, label_kinds, constant_kinds, a_constant, a_negative};
-ghost use Rattle.kl_parse.specs.Gives.{Gives, Instead};
+ghost use Rattle.kl_phrase.specs.Gives.{Gives};
+ghost use Rattle.kl_parse.specs.Instead.{Instead};
 ghost use Rattle.kl_parse.specs.Descent.{mark, word_mark, name, label, least_at, is_least};
 
-use crate::fault::Fault;
 use crate::keyword::{Keyword, keyword_of};
 use kl_base::NoMemory;
 use kl_lex::{Sym, Tok, Token};
+use kl_phrase::Fault;
 use kl_syntax::{Expr, Meaning, Word};
 use kl_value::Value;
 use std::alloc::Global;
@@ -50,7 +51,7 @@ pub fn eat_word(tokens: &[Token], keyword: Keyword) -> Option<&[Token]>
 }
 
 /// What stands behind this symbol, which has to come.
-pub fn want(tokens: &[Token], symbol: Sym) -> Result<&[Token], Fault<'_>>
+pub fn want(tokens: &[Token], symbol: Sym) -> Result<&[Token], Fault<'_, Token>>
     ensures { Gives (λ x. tt) (λ x. x.now) result (mark symbol tokens.now) }
 {
     match eat(tokens, symbol) {
@@ -60,7 +61,7 @@ pub fn want(tokens: &[Token], symbol: Sym) -> Result<&[Token], Fault<'_>>
 }
 
 /// What stands behind this keyword, which has to come.
-pub fn want_word(tokens: &[Token], keyword: Keyword) -> Result<&[Token], Fault<'_>>
+pub fn want_word(tokens: &[Token], keyword: Keyword) -> Result<&[Token], Fault<'_, Token>>
     ensures { Gives (λ x. tt) (λ x. x.now) result (word_mark keyword tokens.now) }
 {
     match eat_word(tokens, keyword) {
@@ -77,7 +78,7 @@ pub fn number(total: u32, tokens: &[Token]) -> u32
 }
 
 /// A word that is no keyword.
-pub fn name(total: u32, tokens: &[Token]) -> Result<(Word, &[Token]), Fault<'_>>
+pub fn name(total: u32, tokens: &[Token]) -> Result<(Word, &[Token]), Fault<'_, Token>>
     ensures { Gives (λ x. x.0) (λ x. x.1.now) result (name total tokens.now) }
 {
     match tokens {
@@ -103,7 +104,7 @@ pub fn name(total: u32, tokens: &[Token]) -> Result<(Word, &[Token]), Fault<'_>>
 }
 
 /// Any word.
-pub fn label(total: u32, tokens: &[Token]) -> Result<(Word, &[Token]), Fault<'_>>
+pub fn label(total: u32, tokens: &[Token]) -> Result<(Word, &[Token]), Fault<'_, Token>>
     ensures { Gives (λ x. x.0) (λ x. x.1.now) result (label total tokens.now) }
 {
     match tokens {
@@ -158,7 +159,7 @@ pub fn constant(alloc: Global, tokens: &[Token]) -> Result<Option<(Value, &[Toke
 }
 
 /// The digits behind the minus of a pattern, as the negative number.
-pub fn negative(tokens: &[Token]) -> Result<(Value, &[Token]), Fault<'_>>
+pub fn negative(tokens: &[Token]) -> Result<(Value, &[Token]), Fault<'_, Token>>
     ensures { Gives (λ x. x.0) (λ x. x.1.now) result (one a_negative tokens.now) }
 {
     match tokens {
@@ -201,8 +202,8 @@ pub fn farther<'a>(one: &'a [Token], other: &'a [Token]) -> &'a [Token]
 /// What a second reader answers after the first, which no text goes on with from this place.
 pub fn or_bad<'a>(
     place: &'a [Token],
-    second: Result<(Expr, &'a [Token]), Fault<'a>>,
-) -> Result<(Expr, &'a [Token]), Fault<'a>>
+    second: Result<(Expr, &'a [Token]), Fault<'a, Token>>,
+) -> Result<(Expr, &'a [Token]), Fault<'a, Token>>
     ensures { Instead (λ x. x.0) (λ x. x.1.now) bad place.now second.entry result }
 {
     match second {
@@ -216,8 +217,8 @@ pub fn or_bad<'a>(
 /// What a second reader answers after the first, which nests too deep at this place.
 pub fn or_deep<'a>(
     place: &'a [Token],
-    second: Result<(Expr, &'a [Token]), Fault<'a>>,
-) -> Result<(Expr, &'a [Token]), Fault<'a>>
+    second: Result<(Expr, &'a [Token]), Fault<'a, Token>>,
+) -> Result<(Expr, &'a [Token]), Fault<'a, Token>>
     ensures { Instead (λ x. x.0) (λ x. x.1.now) deep place.now second.entry result }
 {
     match second {

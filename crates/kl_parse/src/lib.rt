@@ -4,7 +4,6 @@
 #![tactic(auto)]
 
 mod exprs;
-mod fault;
 mod front;
 mod keyword;
 mod operator;

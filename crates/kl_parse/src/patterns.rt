@@ -2,19 +2,23 @@
 
 ghost use Rattle.std.specs.Prelude.{◌≡◌, ◌∷◌, []};
 ghost use Rattle.kl_phrase.specs.Readers.{tails};
-ghost use Rattle.kl_parse.specs.Gives.{Gives};
+ghost use Rattle.kl_phrase.specs.Gives.{Gives};
 ghost use Rattle.kl_parse.specs.Descent.{simple, pat_before, pat_field, pat_turn, shape, in_shape, in_variant, read_pat};
 
-use crate::fault::Fault;
 use crate::front::{constant, eat, is_word, label, name, negative, number, want};
 use kl_base::{Box, Seq};
 use kl_lex::{Sym, Token};
+use kl_phrase::Fault;
 use kl_syntax::{PatFields, Pattern, Word};
 use std::alloc::Global;
 
 /// A pattern that has no other inside.
 #[tactic(auto, unfolding(crate::specs::Descent::simple))]
-fn simple(alloc: Global, total: u32, tokens: &[Token]) -> Result<(Pattern, &[Token]), Fault<'_>>
+fn simple(
+    alloc: Global,
+    total: u32,
+    tokens: &[Token],
+) -> Result<(Pattern, &[Token]), Fault<'_, Token>>
     ensures { Gives (λ x. x.0) (λ x. x.1.now) result (simple total tokens.now) }
 {
     if let Some(rest) = eat(tokens, Sym::Bind) {
@@ -42,7 +46,7 @@ pub fn pattern(
     total: u32,
     depth: u32,
     tokens: &[Token],
-) -> Result<(Pattern, &[Token]), Fault<'_>>
+) -> Result<(Pattern, &[Token]), Fault<'_, Token>>
     ensures { Gives (λ x. x.0) (λ x. x.1.now) result (read_pat total depth tokens.now) }
 {
     if let Some(rest) = eat(tokens, Sym::Lt) {
@@ -68,7 +72,7 @@ pub fn variant_rest(
     total: u32,
     depth: u32,
     tokens: &[Token],
-) -> Result<((Word, Pattern), &[Token]), Fault<'_>>
+) -> Result<((Word, Pattern), &[Token]), Fault<'_, Token>>
     ensures { Gives (λ x. x.0) (λ x. x.1.now) result (in_variant total (read_pat total depth) tokens.now) }
 {
     let (found, rest) = pat_field(alloc, total, depth, tokens)?;
@@ -83,7 +87,7 @@ fn shape_rest(
     total: u32,
     depth: u32,
     tokens: &[Token],
-) -> Result<(Pattern, &[Token]), Fault<'_>>
+) -> Result<(Pattern, &[Token]), Fault<'_, Token>>
     ensures { Gives (λ x. x.0) (λ x. x.1.now) result (in_shape total (read_pat total depth) tokens.now) }
 {
     let (found, rest) = shape(alloc, total, depth, tokens)?;
@@ -98,7 +102,7 @@ fn shape(
     total: u32,
     depth: u32,
     tokens: &[Token],
-) -> Result<(Pattern, &[Token]), Fault<'_>>
+) -> Result<(Pattern, &[Token]), Fault<'_, Token>>
     ensures { Gives (λ x. x.0) (λ x. x.1.now) result (shape total (read_pat total depth) tokens.now) }
 {
     if is_word(tokens) {
@@ -118,7 +122,7 @@ fn pat_field(
     total: u32,
     depth: u32,
     tokens: &[Token],
-) -> Result<((Word, Pattern), &[Token]), Fault<'_>>
+) -> Result<((Word, Pattern), &[Token]), Fault<'_, Token>>
     ensures { Gives (λ x. x.0) (λ x. x.1.now) result (pat_field total (read_pat total depth) tokens.now) }
 {
     let (word, rest) = label(total, tokens)?;
@@ -135,7 +139,7 @@ fn more_fields(
     depth: u32,
     first: (Word, Pattern),
     tokens: &[Token],
-) -> Result<((PatFields, bool), &[Token]), Fault<'_>>
+) -> Result<((PatFields, bool), &[Token]), Fault<'_, Token>>
     ensures { Gives (λ x. x.0) (λ x. x.1.now) result (tails (pat_turn total (read_pat total depth)) (first ∷ []) tokens.now) }
 {
     let mut found = Vec::new(alloc);
@@ -159,7 +163,7 @@ pub fn pattern_before(
     depth: u32,
     symbol: Sym,
     tokens: &[Token],
-) -> Result<(Pattern, &[Token]), Fault<'_>>
+) -> Result<(Pattern, &[Token]), Fault<'_, Token>>
     ensures { Gives (λ x. x.0) (λ x. x.1.now) result (pat_before (read_pat total depth) symbol tokens.now) }
 {
     let (found, rest) = pattern(alloc, total, depth, tokens)?;

@@ -3,18 +3,18 @@
 ghost use Rattle.std.specs.Prelude.{◌≡◌, ◌<◌, ◌^◌, ℕ, List, length, IfOk};
 ghost use Rattle.kl_lex.specs.declared.token.Token.{Token as AToken};
 ghost use Rattle.kl_syntax.specs.declared.tree.Program.{Program as AProgram};
-ghost use Rattle.kl_parse.specs.Gives.{Gives};
+ghost use Rattle.kl_phrase.specs.Gives.{Gives};
 ghost use Rattle.kl_parse.specs.Grammar.{whole};
 ghost use Rattle.kl_parse.specs.Descent.{read_pat, reads, plain_body, body, decl_rest, decls, program};
 ghost use Rattle.kl_parse.specs.Parsing.{IsProgram, IsToldOf, NestsBehind, OnePlace, OrMemory, Refuses, Shallow};
 
 use crate::exprs::expr;
-use crate::fault::Fault;
 use crate::front::{eat, eat_word, name, number, or_bad, or_deep, want};
 use crate::keyword::Keyword;
 use crate::patterns::pattern_before;
 use kl_base::Seq;
 use kl_lex::{Sym, Token};
+use kl_phrase::Fault;
 use kl_syntax::{Decl, Expr, Pattern, Program};
 use std::alloc::Global;
 use thiserror::Error;
@@ -37,7 +37,11 @@ pub enum ParseError {
 const MOST_NESTED: u32 = 256;
 
 /// An expression before a `;`.
-fn plain_body(alloc: Global, total: u32, tokens: &[Token]) -> Result<(Expr, &[Token]), Fault<'_>>
+fn plain_body(
+    alloc: Global,
+    total: u32,
+    tokens: &[Token],
+) -> Result<(Expr, &[Token]), Fault<'_, Token>>
     ensures { Gives (λ x. x.0) (λ x. x.1.now) result (plain_body (reads total 256 whole) tokens.now) }
 {
     let (found, rest) = expr(alloc, total, MOST_NESTED, tokens)?;
@@ -52,7 +56,7 @@ fn body(
     alloc: Global,
     total: u32,
     tokens: &[Token],
-) -> Result<((Option<Pattern>, Expr), &[Token]), Fault<'_>>
+) -> Result<((Option<Pattern>, Expr), &[Token]), Fault<'_, Token>>
     ensures { Gives (λ x. x.0) (λ x. x.1.now) result (body (read_pat total 256) (reads total 256 whole) tokens.now) }
 {
     match pattern_before(alloc, total, MOST_NESTED, Sym::Arrow, tokens) {
@@ -73,7 +77,11 @@ fn body(
 }
 
 /// What stands behind `define`: `NAME "==" body ";"`
-fn decl_rest(alloc: Global, total: u32, tokens: &[Token]) -> Result<(Decl, &[Token]), Fault<'_>>
+fn decl_rest(
+    alloc: Global,
+    total: u32,
+    tokens: &[Token],
+) -> Result<(Decl, &[Token]), Fault<'_, Token>>
     ensures { Gives (λ x. x.0) (λ x. x.1.now) result (decl_rest total 256 tokens.now) }
 {
     let (name, rest) = name(total, tokens)?;
@@ -84,7 +92,11 @@ fn decl_rest(alloc: Global, total: u32, tokens: &[Token]) -> Result<(Decl, &[Tok
 }
 
 /// `{ "define" .. }`
-fn decls(alloc: Global, total: u32, tokens: &[Token]) -> Result<(Vec<Decl>, &[Token]), Fault<'_>>
+fn decls(
+    alloc: Global,
+    total: u32,
+    tokens: &[Token],
+) -> Result<(Vec<Decl>, &[Token]), Fault<'_, Token>>
     ensures { Gives (λ x. x.0.items) (λ x. x.1.now) result (decls total 256 tokens.now) }
 {
     let mut found = Vec::new(alloc);
@@ -99,7 +111,11 @@ fn decls(alloc: Global, total: u32, tokens: &[Token]) -> Result<(Vec<Decl>, &[To
 
 /// `{ define } expr ";"`
 #[tactic(auto, unfolding(crate::specs::Descent::read_program))]
-fn program(alloc: Global, total: u32, tokens: &[Token]) -> Result<(Program, &[Token]), Fault<'_>>
+fn program(
+    alloc: Global,
+    total: u32,
+    tokens: &[Token],
+) -> Result<(Program, &[Token]), Fault<'_, Token>>
     ensures { Gives (λ x. x.0) (λ x. x.1.now) result (program total 256 tokens.now) }
 {
     let (defs, rest) = decls(alloc, total, tokens)?;

@@ -14,12 +14,12 @@ use Rattle.kl_phrase.proofs.Firsts.{Within, on_opened, off_on}
 use Rattle.kl_type.specs.declared.ground.Ty.{Ty}
 use Rattle.kl_type.specs.declared.ground.Ty.TheVariants as ty
 use Rattle.kl_type.specs.Grammar.{opener, closer, put, Coll, Rec, Var, AType, Reads}
-use Rattle.kl_type.specs.Reading.{is_bracket, is_bracket_at}
+use Rattle.kl_type.specs.Texts.{is_bracket, is_bracket_at}
 use Rattle.kl_type.specs.Descent as d
 use Rattle.kl_type.specs.Descent.{is_symbol, is_word, a_symbol, a_base, a_label}
 use Rattle.kl_type.proofs.TokenLemmas.{symbol_of, word_no_symbol, decides_base, on_base}
 use Rattle.kl_type.proofs.FieldGoods.{Free, FieldList}
-use Rattle.kl_type.proofs.FirstPlaces.{Flattens, Firstly, stays, good_stays, flat_one, flat_nothing, flat_chain, flat_made, flat_both, flat_behind, flat_before, flat_pick, flat_opening}
+use Rattle.kl_phrase.proofs.FirstPlaces.{Flattens, Firstly, stays, good_stays, flat_one, flat_nothing, flat_chain, flat_made, flat_both, flat_behind, flat_before, flat_pick, flat_opening}
 use Rattle.kl_type.proofs.Goods.{on_coll, on_rec, on_var, off_variant, off_record, off_list, off_bag, good_coll, good_rec, good_var, has_reads}
 
 abbrev flat_type : Reader Placed Ty → Bool → Reader Placed Ty

@@ -1,6 +1,5 @@
 pub mod Answer
 pub mod FieldGoods
-pub mod FirstPlaces
 pub mod Flats
 pub mod Goods
 pub mod GroundLemmas
@@ -9,5 +8,6 @@ pub mod Kepts
 pub mod Proper
 pub mod RowLemmas
 pub mod Steps
+pub mod TextLemmas
 pub mod TokenLemmas
 pub mod WrittenLemmas

@@ -17,9 +17,10 @@ use Rattle.kl_phrase.specs.Words.{heads}
 use Rattle.kl_phrase.specs.Readers.{Why, bad, deep, Out, ok, fail, Reader, after, behind, one}
 use Rattle.kl_type.specs.declared.ground.Ty.{Ty}
 use Rattle.kl_type.specs.declared.ground.Ty.TheVariants as ty
-use Rattle.kl_type.specs.declared.fault.Fault.{Fault}
-use Rattle.kl_type.specs.declared.fault.Fault.TheVariants as fault
-use Rattle.kl_type.specs.Gives.{Fails}
+use Rattle.kl_phrase.specs.declared.fault.Fault.{Fault}
+use Rattle.kl_phrase.specs.declared.fault.Fault.TheVariants as fault
+use Rattle.kl_phrase.specs.Gives.{Fails}
+use Rattle.kl_phrase.proofs.Failures.{fails_after, err_by}
 use Rattle.kl_type.specs.Grammar.{put, opener}
 use Rattle.kl_type.specs.Descent as d
 use Rattle.kl_type.specs.Descent.{is_symbol, is_word, is_word_at, a_label, a_label_at, a_base, a_base_at, base_of, unless}
@@ -39,15 +40,6 @@ heads_mark s rest more (t, e, h) = rw e h
 
 heads_apart : (s r : Sym) → d.same_symbol s r ≡ false → (rest more : List Placed) → Ahead s rest more → heads (is_symbol r) rest ≡ false
 heads_apart s r ne rest more (t, e, h) = rw e (apart s r ne t h)
-
-pub fails_after : {A B : Type 0} (f : Fault) (o : Out Placed A) (k : A → Reader Placed B) → Fails f o → Fails f (after o k)
-fails_after fault.Memory o k h = tt
-fails_after (fault.Bad r) o k h = rw h refl
-fails_after (fault.Deep r) o k h = rw h refl
-
--- the failure of a part is one of the whole
-pub err_by : {A B : Type 0} (f : Fault) (o : Out Placed B) (i : Out Placed A) (k : A → Reader Placed B) → o ≡ after i k → Fails f i → Fails f o
-err_by {A} {B} f o i k e h = subst (λ (z : Out Placed B). Fails f z) (sym e) (fails_after f i k h)
 
 -- ---- words
 
@@ -126,7 +118,7 @@ module _ (e : Reader Placed Ty) where
       let one : d.more e (suc k) found rest ≡ fail w r = rw (heads_mark sy.Comma rest more a, behind_mark sy.Comma (d.field e found) rest more a, h) refl in
       sym so_far ∙ one
 
-  pub fails_on : (whole : Out Placed FieldList) (found : FieldList) (rest more : List Placed) (f : Fault) → Ahead sy.Comma rest more → Fails f (d.field e found more) → Progress e whole found rest → Fails f whole
+  pub fails_on : (whole : Out Placed FieldList) (found : FieldList) (rest more : List Placed) (f : Fault Placed) → Ahead sy.Comma rest more → Fails f (d.field e found more) → Progress e whole found rest → Fails f whole
   fails_on whole found rest more fault.Memory a h so = tt
   fails_on whole found rest more (fault.Bad r) a h so = breaks whole found rest more r.now bad a h so
   fails_on whole found rest more (fault.Deep r) a h so = breaks whole found rest more r.now deep a h so
@@ -141,10 +133,10 @@ module _ (e : Reader Placed Ty) where
   pub goes_on_at : (whole : Out Placed FieldList) (found next : FieldList) (rest more r : List Placed) (f : List ℕ × Ty) → Ahead sy.Comma rest more → d.field e found more ≡ ok f r → length r < length rest → next ≡ put found f → Progress e whole found rest → Progress e whole next r
   goes_on_at whole found next rest more r f a h lt n so = subst (λ (y : FieldList). Progress e whole y r) (sym n) (goes_on whole found rest more r f a h lt so)
 
-  pub fields_fail_at : (ts : List Placed) (found : FieldList) (f : Fault) → found ≡ [] → Fails f (d.field e found ts) → Fails f (d.fields e ts)
+  pub fields_fail_at : (ts : List Placed) (found : FieldList) (f : Fault Placed) → found ≡ [] → Fails f (d.field e found ts) → Fails f (d.fields e ts)
   fields_fail_at ts found f z h = fails_after f (d.field e [] ts) (λ x. d.others e (put [] x)) (subst (λ (y : FieldList). Fails f (d.field e y ts)) z h)
 
-  pub fields_fail : (ts : List Placed) (f : Fault) → Fails f (d.field e [] ts) → Fails f (d.fields e ts)
+  pub fields_fail : (ts : List Placed) (f : Fault Placed) → Fails f (d.field e [] ts) → Fails f (d.fields e ts)
   fields_fail ts f h = fails_after f (d.field e [] ts) (λ x. d.others e (put [] x)) h
 
 pub less : (n : ℕ) (found : FieldList) (rest more r : List Placed) (f : List ℕ × Ty) → Ahead sy.Comma rest more → d.field (d.reads n) found more ≡ ok f r → length r < length rest
@@ -198,11 +190,3 @@ var_at n m ts more z (s, b, l) r a = at_depth n (suc m) ts z ∙ rw (s, b, l, r,
 pub base_at : (n : ℕ) (ts : List Placed) → NoColl ts → heads (is_symbol sy.OpenRec) ts ≡ false → heads (is_symbol sy.Lt) ts ≡ false → d.reads n ts ≡ one a_base ts
 unfolding d.a_type
 base_at n ts (s, b, l) r v = reads_is n ts ∙ rw (s, b, l, r, v) refl
-
--- ---- what a failure says
-
-pub is_bad : {A : Type 0} (f : Fault) (r : Bor (List Placed)) (o : Out Placed A) → f ≡ fault.Bad r → Fails f o → o ≡ fail bad r.now
-is_bad {A} f r o e h = subst (λ (z : Fault). Fails z o) e h
-
-pub is_deep : {A : Type 0} (f : Fault) (r : Bor (List Placed)) (o : Out Placed A) → f ≡ fault.Deep r → Fails f o → o ≡ fail deep r.now
-is_deep {A} f r o e h = subst (λ (z : Fault). Fails z o) e h

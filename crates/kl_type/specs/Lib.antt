@@ -1,9 +1,8 @@
 pub mod Descent
-pub mod Gives
 pub mod Grammar
 pub mod Ground
 pub mod Has
 pub mod Parts
-pub mod Places
 pub mod Reading
+pub mod Texts
 pub mod Written

@@ -4,13 +4,13 @@ ghost use Rattle.std.specs.Prelude.{◌≡◌, ◌∷◌, MatchOption, true, fal
 ghost use Rattle.kl_lex.specs.declared.token.Placed.{Placed as APlaced};
 ghost use Rattle.kl_lex.specs.declared.token.Tok.TheVariants.{Word};
 ghost use Rattle.kl_phrase.specs.Words.{heads};
-ghost use Rattle.kl_type.specs.Gives.{Gives};
+ghost use Rattle.kl_phrase.specs.Gives.{Gives};
 ghost use Rattle.kl_type.specs.Descent.{is_symbol, is_word, mark};
-ghost use Rattle.kl_type.specs.Reading.{byte_of};
+ghost use Rattle.kl_type.specs.Texts.{byte_of};
 
-use crate::fault::Fault;
 use kl_base::Label;
 use kl_lex::{Placed, Sym, Tok};
+use kl_phrase::Fault;
 
 /// What stands behind this symbol, if the tokens begin with it.
 pub fn eat(tokens: &[Placed], symbol: Sym) -> Option<&[Placed]>
@@ -32,7 +32,7 @@ pub fn eat(tokens: &[Placed], symbol: Sym) -> Option<&[Placed]>
 ///
 /// # Errors
 /// `Fault::Bad` with these tokens, where it does not come.
-pub fn want(tokens: &[Placed], symbol: Sym) -> Result<&[Placed], Fault<'_>>
+pub fn want(tokens: &[Placed], symbol: Sym) -> Result<&[Placed], Fault<'_, Placed>>
     ensures { Gives (λ x. tt) (λ x. x.now) result (mark symbol tokens.now) }
 {
     match eat(tokens, symbol) {

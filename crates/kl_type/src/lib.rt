@@ -8,16 +8,14 @@
 #![tactic(auto)]
 
 mod copying;
-mod fault;
 mod front;
 mod ground;
 mod printing;
 mod reading;
 mod typed;
 
-pub use fault::Fault;
 pub use front::{byte_of, eat, want, word_at};
 pub use ground::{Ty, TyFields};
-pub use printing::print_type;
+pub use printing::{closing, opening, print_type, separator};
 pub use reading::{TypeError, read_front, read_type, type_laws};
 pub use typed::has;

@@ -70,14 +70,15 @@ fn put(piece: &[u8], out: &mut Vec<u8>) -> Result<(), NoMemory>
     Ok(())
 }
 
-// What stands before the field at a place.
-fn separator(place: usize) -> &'static [u8]
+/// What stands before the field at a place: nothing, or a comma and a space.
+pub fn separator(place: usize) -> &'static [u8]
     ensures { result.now ≡ separator place }
 {
     if place == 0 { b"" } else { b", " }
 }
 
-fn opening(kind: Kind) -> &'static [u8]
+/// The brackets that open a collection type: `{`, `{|`, `[|`.
+pub fn opening(kind: Kind) -> &'static [u8]
     ensures { result.now ≡ opening kind }
 {
     match kind {
@@ -87,7 +88,8 @@ fn opening(kind: Kind) -> &'static [u8]
     }
 }
 
-fn closing(kind: Kind) -> &'static [u8]
+/// The brackets that close a collection type: `}`, `|}`, `|]`.
+pub fn closing(kind: Kind) -> &'static [u8]
     ensures { result.now ≡ closing kind }
 {
     match kind {

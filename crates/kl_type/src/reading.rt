@@ -6,18 +6,19 @@ ghost use Rattle.kl_lex.specs.declared.token.Placed.{Placed as APlaced};
 ghost use Rattle.kl_lex.specs.declared.token.Sym.TheVariants as symbols;
 ghost use Rattle.kl_type.specs.declared.ground.Ty.{Ty as AType};
 ghost use Rattle.kl_type.specs.declared.reading.TypeError.TheVariants.{NoMemory as WantOfMemory};
-ghost use Rattle.kl_type.specs.Gives.{Gives};
+ghost use Rattle.kl_phrase.specs.Gives.{Gives};
 ghost use Rattle.kl_type.specs.Grammar.{Reads, opener, closer as closer_of};
 ghost use Rattle.kl_type.specs.Ground.{IsProper};
 ghost use Rattle.kl_type.specs.Descent.{is_symbol, is_word, a_base, base_of, a_label, field, fields, in_coll, in_rec, in_var, reads};
-ghost use Rattle.kl_type.specs.Places.{OnePlace};
-ghost use Rattle.kl_type.specs.Reading.{ReadsType, SpellsType, OrMemory, Refuses, RefusesTokens, is_bracket};
+ghost use Rattle.kl_phrase.specs.FirstPlaces.{OnePlace};
+ghost use Rattle.kl_type.specs.Reading.{ReadsType, SpellsType, OrMemory, Refuses, RefusesTokens};
+ghost use Rattle.kl_type.specs.Texts.{is_bracket};
 
-use crate::fault::Fault;
 use crate::front::{byte_of, eat, want, word_at};
 use crate::ground::{Ty, TyFields};
 use kl_base::{Box, Label, NoMemory, Seq};
 use kl_lex::{Lexed, Placed, Sym, Tok, lex_all};
+use kl_phrase::Fault;
 use kl_value::Kind;
 use std::alloc::{AllocFailed, Global};
 use std::collections::BTreeMap;
@@ -75,7 +76,7 @@ fn base_of(word: &[u8]) -> Option<Ty>
 }
 
 /// `"bool" | "int" | "string"`
-fn base(tokens: &[Placed]) -> Result<(Ty, &[Placed]), Fault<'_>>
+fn base(tokens: &[Placed]) -> Result<(Ty, &[Placed]), Fault<'_, Placed>>
     ensures { Gives (λ x. x.0) (λ x. x.1.now) result (one a_base tokens.now) }
 {
     match word_at(tokens) {
@@ -91,7 +92,7 @@ fn base(tokens: &[Placed]) -> Result<(Ty, &[Placed]), Fault<'_>>
 fn label<'a>(
     found: &BTreeMap<Label, Ty>,
     tokens: &'a [Placed],
-) -> Result<(Label, &'a [Placed]), Fault<'a>>
+) -> Result<(Label, &'a [Placed]), Fault<'a, Placed>>
     ensures { Gives (λ x. x.0) (λ x. x.1.now) result (one (a_label found.now.entries) tokens.now) }
 {
     match word_at(tokens) {
@@ -138,7 +139,7 @@ fn in_order(alloc: Global, found: BTreeMap<Label, Ty>) -> Result<TyFields, NoMem
 
 /// `"{" type "}" | "{|" type "|}" | "[|" type "|]" | "[" [ fields ] "]" | "<" fields ">" | "bool" | "int" | "string"`
 #[cycle(ty)]
-fn read(alloc: Global, depth: u32, tokens: &[Placed]) -> Result<(Ty, &[Placed]), Fault<'_>>
+fn read(alloc: Global, depth: u32, tokens: &[Placed]) -> Result<(Ty, &[Placed]), Fault<'_, Placed>>
     ensures { Gives (λ x. x.0) (λ x. x.1.now) result (reads depth tokens.now) }
 {
     if let Some((kind, rest)) = opened(tokens) {
@@ -172,7 +173,7 @@ fn coll_rest(
     depth: u32,
     kind: Kind,
     tokens: &[Placed],
-) -> Result<(Ty, &[Placed]), Fault<'_>>
+) -> Result<(Ty, &[Placed]), Fault<'_, Placed>>
     ensures { Gives (λ x. x.0) (λ x. x.1.now) result (in_coll (reads depth) kind tokens.now) }
 {
     let (item, rest) = read(alloc, depth, tokens)?;
@@ -186,7 +187,7 @@ fn rec_rest(
     alloc: Global,
     depth: u32,
     tokens: &[Placed],
-) -> Result<(TyFields, &[Placed]), Fault<'_>>
+) -> Result<(TyFields, &[Placed]), Fault<'_, Placed>>
     ensures { Gives (λ x. x.0) (λ x. x.1.now) result (in_rec (reads depth) tokens.now) }
 {
     if !comes_word(tokens) {
@@ -204,7 +205,7 @@ fn var_rest(
     alloc: Global,
     depth: u32,
     tokens: &[Placed],
-) -> Result<(TyFields, &[Placed]), Fault<'_>>
+) -> Result<(TyFields, &[Placed]), Fault<'_, Placed>>
     ensures { Gives (λ x. x.0) (λ x. x.1.now) result (in_var (reads depth) tokens.now) }
 {
     let (found, rest) = fields(alloc, depth, tokens)?;
@@ -214,7 +215,11 @@ fn var_rest(
 
 /// `LABEL ":" type { "," LABEL ":" type }`, where no label repeats.
 #[cycle(ty)]
-fn fields(alloc: Global, depth: u32, tokens: &[Placed]) -> Result<(TyFields, &[Placed]), Fault<'_>>
+fn fields(
+    alloc: Global,
+    depth: u32,
+    tokens: &[Placed],
+) -> Result<(TyFields, &[Placed]), Fault<'_, Placed>>
     ensures { Gives (λ x. x.0) (λ x. x.1.now) result (fields (reads depth) tokens.now) }
 {
     let mut found = BTreeMap::new(alloc);
@@ -239,7 +244,7 @@ fn field<'a>(
     depth: u32,
     found: &BTreeMap<Label, Ty>,
     tokens: &'a [Placed],
-) -> Result<((Label, Ty), &'a [Placed]), Fault<'a>>
+) -> Result<((Label, Ty), &'a [Placed]), Fault<'a, Placed>>
     ensures { Gives (λ x. x.0) (λ x. x.1.now) result (field (reads depth) found.now.entries tokens.now) }
 {
     let (name, rest) = label(found, tokens)?;
@@ -253,7 +258,7 @@ fn field<'a>(
 /// # Errors
 /// As the descent over the grammar of types tells (`reads` in `specs/Descent.antt`): the tokens from the first one with
 /// which no type goes on, or from the bracket that opens inside 256 others. Want of memory.
-pub fn read_front(alloc: Global, tokens: &[Placed]) -> Result<(Ty, &[Placed]), Fault<'_>>
+pub fn read_front(alloc: Global, tokens: &[Placed]) -> Result<(Ty, &[Placed]), Fault<'_, Placed>>
     ensures { Gives (λ x. x.0) (λ x. x.1.now) result (reads 256 tokens.now) }
 {
     read(alloc, MOST_NESTED, tokens)

@@ -10,7 +10,8 @@ use Rattle.kl_parse.specs.Grammar.{whole, negated, signed, path_of, branch_of}
 use Rattle.kl_parse.specs.Kinds.{is_symbol}
 use Rattle.kl_parse.specs.Descent.{mark, read_pat, reads, labels, field, qualifier, branch_at, operand_at, sort_at, compare_at, post_at, prim_at, named_at, in_rec, in_args, drawn, condition}
 use Rattle.kl_parse.proofs.Steps.{less, onward, fails_on}
-use Rattle.kl_parse.proofs.ExprSteps.{err_by, let_deep, let_at, if_deep, if_at, ors_at, Others, step_fails, step_less, step_onward, step_stops, operand_or, operand_compare, operand_add, not_deep, not_at, not_none, compare_fails, compare_one, compare_two, compare_ok, gen_at, cond_at, is_bad, is_deep, least_found, minus_deep, minus_at, minus_none, path_fails, path_first, path_one, path_more, const_found, group_deep, group_at, rec_deep, rec_at, inject_deep, inject_at, coll_deep, coll_at, case_deep, case_at, name_at, named_fails, named_alone, named_deep, named_args, branch_bad, branch_deep, variant_in_branch_fails, branch_arrow_fails, branch_body, coll_empty, coll_first_fails, coll_beyond_fails, coll_close_fails, coll_ok, rests_whole, rests_field, rests_qual, rests_branch}
+use Rattle.kl_phrase.proofs.Failures.{err_by, is_bad, is_deep}
+use Rattle.kl_parse.proofs.ExprSteps.{let_deep, let_at, if_deep, if_at, ors_at, Others, step_fails, step_less, step_onward, step_stops, operand_or, operand_compare, operand_add, not_deep, not_at, not_none, compare_fails, compare_one, compare_two, compare_ok, gen_at, cond_at, least_found, minus_deep, minus_at, minus_none, path_fails, path_first, path_one, path_more, const_found, group_deep, group_at, rec_deep, rec_at, inject_deep, inject_at, coll_deep, coll_at, case_deep, case_at, name_at, named_fails, named_alone, named_deep, named_args, branch_bad, branch_deep, variant_in_branch_fails, branch_arrow_fails, branch_body, coll_empty, coll_first_fails, coll_beyond_fails, coll_close_fails, coll_ok, rests_whole, rests_field, rests_qual, rests_branch}
 use Rattle.kl_parse.proofs.exprs.+expr.Goals as goal
 
 pub branch-returns-in_err-inner : goal.branch-returns-in_err-inner

@@ -3,7 +3,8 @@ use Rattle.std.proofs.lemmas.Result.{err_from_is_err_and}
 use Rattle.kl_phrase.specs.Readers.{ok, bad, deep, instead}
 use Rattle.kl_parse.specs.Grammar.{whole}
 use Rattle.kl_parse.specs.Descent.{read_pat, reads, body, parameter, plain_body}
-use Rattle.kl_parse.proofs.ExprSteps.{err_by, function_at, plain_at, is_bad, is_deep}
+use Rattle.kl_parse.proofs.ExprSteps.{function_at, plain_at}
+use Rattle.kl_phrase.proofs.Failures.{err_by, is_bad, is_deep}
 use Rattle.kl_parse.proofs.program.body.Goals as goal
 
 pub returns-in_err-found-in-Ok : goal.returns-in_err-found-in-Ok

@@ -1,6 +1,6 @@
 use Rattle.std.proofs.Common.{rules}
 use Rattle.kl_parse.proofs.Answer.{whole_program, same_program_read, rest_place, rest_none, bad_place, bad_none, deep_place, deep_none, rest_before, bad_before, deep_before, deep_behind}
-use Rattle.kl_parse.proofs.ExprSteps.{is_bad, is_deep}
+use Rattle.kl_phrase.proofs.Failures.{is_bad, is_deep}
 use Rattle.kl_parse.proofs.program.parse.Goals as goal
 
 pub returns-in-Ok-default-empty-clause-program : goal.returns-in-Ok-default-empty-clause-program

@@ -3,7 +3,8 @@ use Rattle.std.proofs.lemmas.Result.{err_from_is_err_and}
 use Rattle.kl_phrase.specs.Readers.{ok}
 use Rattle.kl_type.specs.declared.ground.Ty.TheVariants as ty
 use Rattle.kl_type.specs.Descent.{reads, fields, in_coll, in_rec, in_var}
-use Rattle.kl_type.proofs.Steps.{err_by, starts_at, goes_on_at, fails_on, stops, fields_fail_at, less, coll_deep, coll_at, rec_deep, rec_at, var_deep, var_at, base_at}
+use Rattle.kl_phrase.proofs.Failures.{err_by}
+use Rattle.kl_type.proofs.Steps.{starts_at, goes_on_at, fails_on, stops, fields_fail_at, less, coll_deep, coll_at, rec_deep, rec_at, var_deep, var_at, base_at}
 use Rattle.kl_type.proofs.reading.+ty.Goals as goal
 
 pub read-returns-then-depth-eq0 : goal.read-returns-then-depth-eq0
