@@ -3,3 +3,4 @@ pub mod Goods
 pub mod Lexemes
 pub mod Proper
 pub mod Steps
+pub mod OneCatalogue

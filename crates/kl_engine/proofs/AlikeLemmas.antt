@@ -1,18 +1,18 @@
 -- Two verdicts on one text are alike.
-use Rattle.std.proofs.Common.{◌≡◌, ◌⊎◌, inl, inr, ℕ, suc, ◌+◌, ◌<◌, Bool, true, false, List, [], ◌∷◌, length, Option, Some, None, refl, sym, ap, ap₂, subst, ◌∙◌, arith}
+use Rattle.std.proofs.Common.{◌≡◌, ◌⊎◌, inl, inr, ℕ, ◌<◌, Bool, true, false, List, [], ◌∷◌, length, Option, Some, None, refl, sym, ap, ap₂, subst, ◌∙◌, arith}
 use Rattle.std.specs.Prelude.{IsTrue}
 use Rattle.std.proofs.lemmas.List.{length-map}
-use Rattle.kl_value.specs.declared.Value.{Value}
 use Rattle.kl_type.specs.Ground.{Ground}
 use Rattle.kl_outcome.specs.Outcome.{Name, Outcome, done, over, stuck}
-use Rattle.kl_syntax.specs.Syntax.{Exp, Decls, no_decls, constant, function}
+use Rattle.kl_syntax.specs.Syntax.{Exp, Decls}
 use Rattle.kl_syntax.specs.declared.tree.Program.{Program}
 use Rattle.kl_scope.specs.Sizes.{declared}
 use Rattle.kl_meaning.specs.Run.{meaning_of_program}
-use Rattle.kl_meaning.specs.Typing.{Known, Types as TypesOf, FunctionTypes, HasTyping, with_sort, value_of, function_of, types_at_first}
-use Rattle.kl_infer.specs.Inferred.{FailsAt}
-use Rattle.kl_ask.specs.Driver.{DriverKind, Stored, Rows}
-use Rattle.kl_sources.specs.Sources.{names_of, grounds_of, contents, value_of as source_value, IsValueAt, HaveValues, IsReadable, FirstWithout}
+use Rattle.kl_meaning.specs.Typing.{HasTyping, types_at_first}
+use Rattle.kl_infer.proofs.Principal.{one_failing}
+use Rattle.kl_ask.specs.Driver.{DriverKind}
+use Rattle.kl_sources.specs.Sources.{names_of, grounds_of}
+use Rattle.kl_sources.proofs.Agreement.{values_one, first_one, none_without}
 use Rattle.kl_sources.specs.declared.source.Source.{Source}
 use Rattle.kl_engine.specs.Answering.{Alike, one, retyped}
 use Rattle.kl_engine.specs.Reading.{definitions, last}
@@ -22,17 +22,6 @@ use Rattle.kl_engine.specs.declared.fault.Fault.TheVariants as fault
 use Rattle.kl_engine.specs.declared.top.Purpose.{Purpose}
 use Rattle.kl_engine.specs.declared.top.Purpose.TheVariants as purpose
 use Rattle.kl_engine.proofs.ReadLemmas.{faults_alike, no_fault, one_program}
-
-one_failing : (ds : Decls) (e : Exp) (known : Known) (n m : ℕ) → FailsAt ds e known n → FailsAt ds e known m → n ≡ m
-one_failing no_decls e known n m this that = this.0 ∙ sym that.0
-one_failing (constant d b ds) e known n m (inl (none, is)) (inl (also, it)) = none ∙ sym also
-one_failing (constant d b ds) e known n m (inl (zero_is, none)) (inr (k, is, typed, rest)) = absurd (none typed.0 typed.1)
-one_failing (constant d b ds) e known n m (inr (k, is, typed, rest)) (inl (zero_is, none)) = absurd (none typed.0 typed.1)
-one_failing (constant d b ds) e known n m (inr (k, is, typed, rest)) (inr (j, it, also, more)) = is ∙ (ap suc (one_failing ds e (with_sort d.text (value_of (TypesOf b known [])) known) k j rest more) ∙ sym it)
-one_failing (function d p b ds) e known n m (inl (none, is)) (inl (also, it)) = none ∙ sym also
-one_failing (function d p b ds) e known n m (inl (zero_is, none)) (inr (k, is, typed, rest)) = absurd (none typed.0 typed.1 typed.2)
-one_failing (function d p b ds) e known n m (inr (k, is, typed, rest)) (inl (zero_is, none)) = absurd (none typed.0 typed.1 typed.2)
-one_failing (function d p b ds) e known n m (inr (k, is, typed, rest)) (inr (j, it, also, more)) = is ∙ (ap suc (one_failing ds e (with_sort d.text (function_of (FunctionTypes known p b)) known) k j rest more) ∙ sym it)
 
 module _ (grounds : List (Name × Ground)) (ds : Decls) (e : Exp) where
   untyped_alike : (v w : Verdict) → IsUntyped grounds ds e v → IsUntyped grounds ds e w → Alike v w
@@ -53,38 +42,6 @@ module _ (grounds : List (Name × Ground)) (ds : Decls) (e : Exp) where
   listing_alike v w (inr this) (inr that) = retyped grounds ds e this that
 
 -- ---- the values of sources
-
-same_rows : (ks : List DriverKind) (s : Source) (rows others : List Value) → contents ks s ≡ Some (Rows rows) → contents ks s ≡ Some (Rows others) → rows ≡ others
-same_rows ks s rows others at there = let both : Some (Rows rows) ≡ Some (Rows others) = sym at ∙ there in cc
-
-value_one : (ks : List DriverKind) (m : Bool) (s : Source) (v w : Value) → IsValueAt ks m s v → IsValueAt ks m s w → v ≡ w
-value_one ks true s v w (rows, at, is) (others, there, it) = is ∙ (ap (source_value s) (same_rows ks s rows others at there) ∙ sym it)
-value_one ks false s v w this that = this ∙ sym that
-
-true_again : (a b : Bool) → a ≡ b → a ≡ true → b ≡ true
-true_again a b same is = sym same ∙ is
-
-module _ (ks : List DriverKind) (marks others : ℕ → Bool) where
-  values_one : (n : ℕ) (ss : List Source) (vs ws : List (Name × Value)) → ((i : ℕ) → i < n + length ss → marks i ≡ others i) → HaveValues ks marks n ss vs → HaveValues ks others n ss ws → vs ≡ ws
-  values_one n [] vs ws same this that = this ∙ sym that
-  values_one n (s ∷ ss) vs ws same (v, rest, is, at, more) (w, left, it, there, again) =
-      let one_value : v ≡ w = value_one ks (marks n) s v w at (subst (λ m. IsValueAt ks m s w) (sym (same n (omega arith))) there) in
-      let others_too : rest ≡ left = values_one (suc n) ss rest left (λ i less. same i (omega (arith, less))) more again in
-      is ∙ (ap₂ (λ x xs. (s.name, x) ∷ xs) one_value others_too ∙ sym it)
-
-  first_one : (n : ℕ) (ss : List Source) (s t : Source) (w x : Stored) → ((i : ℕ) → i < n + length ss → marks i ≡ others i) → FirstWithout ks marks n ss s w → FirstWithout ks others n ss t x → (s ≡ t) × (w ≡ x)
-  first_one n [] s t w x same this that = absurd this
-  first_one n (u ∷ us) s t w x same (inl (marked, is, at, none)) (inl (also, it, there, never)) = (is ∙ sym it, let both : Some w ≡ Some x = sym at ∙ there in cc)
-  first_one n (u ∷ us) s t w x same (inl (marked, is, at, none)) (inr (readable, rest)) = absurd (none (subst (λ m. IsReadable ks m u) (true_again (marks n) (others n) (same n (omega arith)) marked) readable))
-  first_one n (u ∷ us) s t w x same (inr (readable, rest)) (inl (also, it, there, never)) = absurd (never (subst (λ m. IsReadable ks m u) (true_again (others n) (marks n) (sym (same n (omega arith))) also) readable))
-  first_one n (u ∷ us) s t w x same (inr (readable, rest)) (inr (again, left)) = first_one (suc n) us s t w x (λ i less. same i (omega (arith, less))) rest left
-
-  none_without : (n : ℕ) (ss : List Source) (s : Source) (w : Stored) (vs : List (Name × Value)) → ((i : ℕ) → i < n + length ss → marks i ≡ others i) → FirstWithout ks marks n ss s w → HaveValues ks others n ss vs → ⊥
-  none_without n [] s w vs same this that = this
-  none_without n (u ∷ us) s w vs same (inl (marked, is, at, none)) (v, rest, eq, has, more) =
-      let value : IsValueAt ks true u v = subst (λ m. IsValueAt ks m u v) (true_again (marks n) (others n) (same n (omega arith)) marked) has in
-      none (value.0, value.1)
-  none_without n (u ∷ us) s w vs same (inr (readable, left)) (v, rest, eq, has, more) = none_without (suc n) us s w rest (λ i less. same i (omega (arith, less))) left more
 
 same_fault : (f g : Fault) (a b : Option Fault) → a ≡ b → a ≡ Some f → b ≡ Some g → f ≡ g
 same_fault f g a b same this that = let both : Some f ≡ Some g = sym this ∙ (same ∙ that) in cc

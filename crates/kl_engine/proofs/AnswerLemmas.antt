@@ -12,13 +12,15 @@ use Rattle.kl_rows.specs.declared.Scheme.{Scheme}
 use Rattle.kl_rows.specs.Schemes.{IsScheme, Instance}
 use Rattle.kl_outcome.specs.Outcome.{Outcome, done, over, stuck}
 use Rattle.kl_ask.specs.Driver.{State}
+use Rattle.kl_ask.specs.declared.session.Attached.{Attached}
 use Rattle.kl_eval.specs.Evals.{Tells, Lists}
 use Rattle.kl_eval.specs.declared.stop.EvalStop.TheVariants as stop
 use Rattle.kl_infer.specs.Kinds.{HasOther}
-use Rattle.kl_engine.specs.Answering.{SomeRose, KeepsDrivers, IsOutside, reading, drifting, wanting, Prints, IsOneOf, PrintsNothing}
+use Rattle.kl_sources.specs.Attaching.{SomeRose}
+use Rattle.kl_engine.specs.Answering.{KeepsDrivers, IsOutside, reading, drifting, wanting, Prints, IsOneOf, PrintsNothing}
 use Rattle.kl_engine.specs.Commands.{Program}
 use Rattle.kl_engine.specs.Faults.{Ending}
-use Rattle.kl_engine.specs.Running.{AnswersTerm, HasRunFault, IsListScheme, IsListOutcome, IsValueOutcome}
+use Rattle.kl_engine.specs.Running.{AnswersTerm, DriftsAt, HasRunFault, IsListScheme, IsListOutcome, IsValueOutcome}
 use Rattle.kl_engine.specs.Verdict.{Verdict, value_page, refused, cut, cut_list, suffice, first_of, overflowing}
 use Rattle.kl_engine.specs.declared.fault.Fault.{Fault}
 use Rattle.kl_engine.specs.declared.fault.Fault.TheVariants as fault
@@ -34,16 +36,16 @@ IsRunEnd (Some fault.Overflow) = ⊤
 IsRunEnd (Some f) = ⊥
 
 -- an end before which nothing is printed and that no outcome has
-abbrev pub IsStopped : Fault → List State → List State → Type 0
-IsStopped fault.Read ds ds' = SomeRose (λ d. d.faults) ds ds'
-IsStopped (fault.Changed name) ds ds' = SomeRose (λ d. d.drifts) ds ds'
-IsStopped fault.NoMemory ds ds' = ⊤
-IsStopped f ds ds' = ⊥
+abbrev pub IsStopped : List Attached → Fault → List State → List State → Type 0
+IsStopped list fault.Read ds ds' = SomeRose (λ d. d.faults) ds ds'
+IsStopped list (fault.Changed name) ds ds' = DriftsAt list name ds ds'
+IsStopped list fault.NoMemory ds ds' = ⊤
+IsStopped list f ds ds' = ⊥
 
-module _ (ds ds' : List State) (out out' : SinkState) where
-  stopped_outside : (v : Verdict) (f : Fault) → IsStopped f ds ds' → IsOutside ⊥ v (Some f) ds ds' out out'
+module _ (list : List Attached) (ds ds' : List State) (out out' : SinkState) where
+  stopped_outside : (v : Verdict) (f : Fault) → IsStopped list f ds ds' → IsOutside ⊥ v (Some f) ds ds' out out'
   stopped_outside v fault.Read rose = reading refl (inr rose)
-  stopped_outside v (fault.Changed name) rose = drifting name refl rose
+  stopped_outside v (fault.Changed name) (i, a, place, at, named, held, rose) = drifting name refl (place, rose)
   stopped_outside v fault.NoMemory rose = wanting refl
   stopped_outside v fault.Usage rose = absurd rose
   stopped_outside v (fault.Text w byte) rose = absurd rose
@@ -65,7 +67,7 @@ module _ (ds ds' : List State) (out out' : SinkState) where
   stopped_outside v fault.TermDepth rose = absurd rose
   stopped_outside v fault.SchemeBytes rose = absurd rose
 
-  stopped_end : (f : Fault) → IsStopped f ds ds' → IsRunEnd (Some f) → ⊥
+  stopped_end : (f : Fault) → IsStopped list f ds ds' → IsRunEnd (Some f) → ⊥
   stopped_end fault.Overflow rose is = rose
   stopped_end fault.Read rose is = is
   stopped_end (fault.Changed name) rose is = is
@@ -89,7 +91,7 @@ module _ (ds ds' : List State) (out out' : SinkState) where
   stopped_end fault.TermDepth rose is = is
   stopped_end fault.SchemeBytes rose is = is
 
-  stopped_fault : (f : Fault) → IsStopped f ds ds' → HasRunFault f
+  stopped_fault : (f : Fault) → IsStopped list f ds ds' → HasRunFault f
   stopped_fault fault.Read rose = tt
   stopped_fault (fault.Changed name) rose = tt
   stopped_fault fault.NoMemory rose = tt
@@ -118,23 +120,23 @@ some_fault f g is = cc
 
 -- ---- a term's outcome, where it is printed or something came before
 
-module _ (IsOut : Verdict → Type 0) (told : Type 0) (ds ds' : List State) (keeps : KeepsDrivers (λ name. ⊥) ds ds') where
+module _ (IsOut : Verdict → Type 0) (told : Type 0) (list : List Attached) (ds ds' : List State) (keeps : KeepsDrivers (λ name. ⊥) ds ds') where
   -- a fault of the outside came, and nothing was printed
-  pub term_stopped : (f : Fault) (out : SinkState) → IsStopped f ds ds' → (told → (v : Verdict) × IsOut v × IsRunEnd v.ending) → AnswersTerm IsOut told (Some f) ds ds' out out
+  pub term_stopped : (f : Fault) (out : SinkState) → IsStopped list f ds ds' → (told → (v : Verdict) × IsOut v × IsRunEnd v.ending) → AnswersTerm IsOut told (Some f) list ds ds' out out
   term_stopped f out rose some = record {
     follows = λ is. let found = some is in (
       found.0,
       found.1,
       record {
-        ends = inr (stopped_outside ds ds' out out found.0 f rose);
-        whole = λ same. absurd (stopped_end ds ds' out out f rose (subst IsRunEnd (sym same) found.2));
+        ends = inr (stopped_outside list ds ds' out out found.0 f rose);
+        whole = λ same. absurd (stopped_end list ds ds' out out f rose (subst IsRunEnd (sym same) found.2));
         part = took_none found.0.page out out refl;
       },
     );
-    read = λ is. subst (λ g. IsStopped g ds ds') (some_fault f fault.Read is) rose;
-    write = λ is. absurd (subst (λ g. IsStopped g ds ds') (some_fault f fault.Write is) rose);
-    changed = λ name is. subst (λ g. IsStopped g ds ds') (some_fault f (fault.Changed name) is) rose;
-    no_other = stopped_fault ds ds' out out f rose;
+    read = λ is. subst (λ g. IsStopped list g ds ds') (some_fault f fault.Read is) rose;
+    write = λ is. absurd (subst (λ g. IsStopped list g ds ds') (some_fault f fault.Write is) rose);
+    changed = λ name is. subst (λ g. IsStopped list g ds ds') (some_fault f (fault.Changed name) is) rose;
+    no_other = stopped_fault list ds ds' out out f rose;
     nothing = λ is. refl;
     drivers = keeps;
   }
@@ -193,7 +195,7 @@ module _ (IsOut : Verdict → Type 0) (told : Type 0) (ds ds' : List State) (kee
   never_before (Some fault.SchemeBytes) is nothing = is
 
   -- the outcome is printed
-  pub term_printed : (v : Verdict) (end : Ending) (out out' : SinkState) → IsRunEnd v.ending → (told → IsOut v) → Prints v end out out' → AnswersTerm IsOut told end ds ds' out out'
+  pub term_printed : (v : Verdict) (end : Ending) (out out' : SinkState) → IsRunEnd v.ending → (told → IsOut v) → Prints v end out out' → AnswersTerm IsOut told end list ds ds' out out'
   term_printed v end out out' ended of prints = record {
     follows = λ is. (v, of is, follows_prints v end out out' prints ds ds');
     read = λ is. absurd (elim prints.ends [

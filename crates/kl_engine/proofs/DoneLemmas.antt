@@ -24,7 +24,8 @@ use Rattle.kl_rows.specs.declared.Scheme.{Scheme}
 use Rattle.kl_ask.specs.Driver.{State, IsTold as IsToldBy}
 use Rattle.kl_sources.specs.Sources.{names_of, grounds_of}
 use Rattle.kl_sources.specs.declared.source.Source.{Source}
-use Rattle.kl_engine.specs.Answering.{kinds_of, Alike, one, IsOutside, reading, writing, drifting, wanting, Follows, Prints, DoesText, IsTold, IsOneOf, HasTextFault, IsUnread, NeedsDrivers, IsMentionedIn, PrintsNothing}
+use Rattle.kl_sources.specs.Sources.{kinds_of}
+use Rattle.kl_engine.specs.Answering.{IsStored, IsUnreadBy, HasDrifted, Alike, one, IsOutside, reading, writing, drifting, wanting, Follows, Prints, DoesText, IsTold, IsOneOf, HasTextFault, IsUnread, NeedsDrivers, IsMentionedIn, PrintsNothing}
 use Rattle.kl_engine.specs.Commands.{Program as AProgram}
 use Rattle.kl_engine.specs.Faults.{Ending}
 use Rattle.kl_engine.specs.Reading.{IsProgramOf, definitions, last, Reads}
@@ -211,7 +212,7 @@ does_text : (ss : List Source) (p : Purpose) (text : List ℕ) (v : Verdict) (en
 does_text ss p text v end ds out out' of plain prints =
     let fair = fair_text (kinds_of ds) ss p text v of in
     let plain_too = plain_end v end out out' prints plain in record {
-      told = λ w is. (v, text_alike (kinds_of ds) ss p text w v is of, follows_prints v end out out' prints ds ds);
+      told = λ w is. (v, of, text_alike (kinds_of ds) ss p text w v is of, follows_prints v end out out' prints ds ds);
       meant = λ told needs. (
         v,
         of,
@@ -233,7 +234,7 @@ does_text ss p text v end ds out out' of plain prints =
 
 pub text_wanted : (ss : List Source) (p : Purpose) (text : List ℕ) (ds : List State) (out : SinkState) → DoesText ss p text (Some fault.NoMemory) ds ds out out
 text_wanted ss p text ds out = record {
-  told = λ v of. let fair = fair_text (kinds_of ds) ss p text v of in (v, one refl, follows_outside v (Some fault.NoMemory) ds ds out out p fair refl (untold_empty p v (Some fault.NoMemory) fair (λ is. is)) (wanting refl));
+  told = λ v of. let fair = fair_text (kinds_of ds) ss p text v of in (v, of, one refl, follows_outside v (Some fault.NoMemory) ds ds out out p fair refl (untold_empty p v (Some fault.NoMemory) fair (λ is. is)) (wanting refl));
   meant = λ is needs. absurd is;
   read = λ is. absurd cc;
   write = λ is. absurd cc;
@@ -276,9 +277,9 @@ module _ (ss : List Source) (p : Purpose) (text : List ℕ) (end : Ending) (ds d
   named : (name : Name) → IsNamed ss (is_marked s) name → IsMentionedIn ss text name
   named name (i, at, marked) = (q, whole, i, at, (resolves.marks i (get_within (names_of ss) i name at)).0 marked)
 
-  told_by : Ends (λ others. IsDone (kinds_of ds) ss others p (definitions (names_of ss) q) (last (names_of ss) q)) ss (is_marked s) p end ds ds' out out' → (v : Verdict) → IsText (kinds_of ds) ss p text v → (w : Verdict) × Alike v w × Follows ⊥ w end ds ds' out out'
-  told_by (before same none outside) v of = let fair = fair_text (kinds_of ds) ss p text v of in (v, one refl, follows_outside v end ds ds' out out' p fair same (untold_empty p v end fair none) (outside v))
-  told_by (followed w is follows) v of = (w, text_alike (kinds_of ds) ss p text v w of (as_text w is), follows)
+  told_by : Ends (λ others. IsDone (kinds_of ds) ss others p (definitions (names_of ss) q) (last (names_of ss) q)) ss (is_marked s) p end ds ds' out out' → (v : Verdict) → IsText (kinds_of ds) ss p text v → (w : Verdict) × IsText (kinds_of ds) ss p text w × Alike v w × Follows ⊥ w end ds ds' out out'
+  told_by (before same none outside) v of = let fair = fair_text (kinds_of ds) ss p text v of in (v, of, one refl, follows_outside v end ds ds' out out' p fair same (untold_empty p v end fair none) (outside v))
+  told_by (followed w is follows) v of = (w, as_text w is, text_alike (kinds_of ds) ss p text v w of (as_text w is), follows)
   told_by (untold none all needs) v of = absurd (no_verdict none v of)
 
   meant_by : Ends (λ others. IsDone (kinds_of ds) ss others p (definitions (names_of ss) q) (last (names_of ss) q)) ss (is_marked s) p end ds ds' out out' → IsTold end → (NeedsDrivers p end → All IsToldBy ds) → (v : Verdict) × IsText (kinds_of ds) ss p text v × (v.ending ≡ end)
@@ -286,14 +287,25 @@ module _ (ss : List Source) (p : Purpose) (text : List ℕ) (end : Ending) (ds d
   meant_by (followed w is follows) told needs = (w, as_text w is, elim follows.ends [ inl h ↦ sym h | inr h ↦ absurd (outside_untold w end ds ds' out out' told h) ])
   meant_by (untold none all must) told needs = absurd (all (needs (must told)))
 
+  -- what holds of marked sources holds of mentioned ones
+  stored_wider : (f : Fault) → IsStored (kinds_of ds) ss (IsNamed ss (is_marked s)) f → IsStored (kinds_of ds) ss (IsMentionedIn ss text) f
+  stored_wider f (i, x, w, at, of, rest) = (i, x, w, at, named x.name of, rest)
+
+  unread_wider : (f : Fault) → IsUnreadBy ss (IsNamed ss (is_marked s)) f ds ds' → IsUnreadBy ss (IsMentionedIn ss text) f ds ds'
+  unread_wider f (inl stored) = inl (stored_wider f stored)
+  unread_wider f (inr (i, x, at, of, rest)) = inr (i, x, at, (named x.name of.0, of.1), rest)
+
+  drifted_wider : (name : Name) → HasDrifted ss (λ x. IsNamed ss (is_marked s) x × (x ≡ name)) ds ds' → HasDrifted ss (λ x. IsMentionedIn ss text x × (x ≡ name)) ds ds'
+  drifted_wider name (i, x, at, of, rose) = (i, x, at, (named x.name of.0, of.1), rose)
+
   pub program_done : DoesText ss p text end ds ds' out out'
   program_done = record {
     told = told_by does.ends;
     meant = meant_by does.ends;
-    read = does.read;
+    read = λ is. elim (does.read is) [ inl h ↦ inl (stored_wider fault.Read h) | inr h ↦ inr h ];
     write = does.write;
-    unread = does.unread;
-    changed = does.changed;
+    unread = λ f is un. unread_wider f (does.unread f is un);
+    changed = λ name is. drifted_wider name (does.changed name is);
     no_other = does.no_other;
     nothing = does.nothing;
     drivers = keeps_wider (IsNamed ss (is_marked s)) (IsMentionedIn ss text) ds ds' named does.drivers;

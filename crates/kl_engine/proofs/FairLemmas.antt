@@ -84,9 +84,6 @@ fair_lines : (ds : List (Name × Scheme)) → Fair purpose.Types (scheme_lines d
 fair_lines [] = fair_well purpose.Types []
 fair_lines (d ∷ ds) = fair_line (nat_lt limit (length (scheme_text d.1))) d (scheme_lines ds) (line_ends ds) (fair_lines ds)
 
-pub listing_told : (grounds : List (Name × Ground)) (ds : Decls) (e : Exp) (v : Verdict) → IsListing grounds ds e v → IsOfVerdict v.ending
-listing_told grounds ds e v (typed, infers, is) = subst (λ w. IsOfVerdict w.ending) (sym is) (fair_lines (named_schemes ds typed)).told
-
 pub fair_cut : (first : Option ℕ) (enough : Bool) (xs : List Value) → Fair (purpose.Run first) (if enough then value_page (value.List (first_of first xs)) else overflowing xs)
 fair_cut first true xs = fair_well (purpose.Run first) _
 fair_cut first false xs = record { told = tt; has = tt; empty = λ before. absurd before }

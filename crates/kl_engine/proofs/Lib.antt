@@ -9,7 +9,6 @@ pub mod DriverLemmas
 pub mod AlikeLemmas
 pub mod FairLemmas
 pub mod DoneLemmas
-pub mod CatalogueLemmas
 pub mod InputLemmas
 pub mod FileAnswers
 pub mod AnswerLemmas

@@ -233,12 +233,3 @@ pub list_stopped : (defs given : List Decl) (schemes : List Scheme) (typed : Typ
     → ListsFront (pairs given schemes) (Err f) out new → Prints (scheme_lines (named_schemes (decls_of defs) typed)) (Some f) out new
 list_stopped defs given schemes typed f out new defs_are schemes_are front =
     subst (λ ds. Prints (scheme_lines ds) (Some f) out new) (sym (named_as defs given schemes typed defs_are schemes_are)) (front ((codes "it", typed.result) ∷ []))
-
--- ---- principal schemes are schemes
-
-pub good_schemes : (ds : Decls) (known : Known) (schemes : List Scheme) → HaveSchemes ds known schemes → All IsScheme schemes
-good_schemes no_decls known schemes have = subst (All IsScheme) (sym have) (All-nil IsScheme)
-good_schemes (constant d e ds) known schemes (first, rest, is, principal, more) =
-    subst (All IsScheme) (sym is) (All-cons IsScheme first rest principal.good (good_schemes ds (with_sort d.text (value_of (Types e known [])) known) rest more))
-good_schemes (function d p e ds) known schemes (first, rest, is, principal, more) =
-    subst (All IsScheme) (sym is) (All-cons IsScheme first rest principal.good (good_schemes ds (with_sort d.text (function_of (FunctionTypes known p e)) known) rest more))

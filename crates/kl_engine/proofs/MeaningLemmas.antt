@@ -47,17 +47,20 @@ use Rattle.kl_ask.specs.declared.ask.DriverError.TheVariants as error
 use Rattle.kl_ask.proofs.Whole.{collection_is}
 use Rattle.kl_ask.proofs.Worlds.{fun_ext, some_same, there, keeps_then}
 use Rattle.kl_eval.specs.Evals.{Sense, SenseList}
-use Rattle.kl_sources.specs.Attaching.{HaveNone, AttachesAll, world_of, IsErrorOf, IsUnreadable, IsMishap, NoVerdict, MayAttach, IsMarkedName, StandsWithout, Causes, Serves, Stands, HasTyped}
-use Rattle.kl_sources.specs.Attaching as sources
+use Rattle.kl_sources.specs.Attaching.{RoseAt, list_of, HaveNone, AttachesAll, world_of, IsErrorOf, IsUnreadable, IsMishap, NoVerdict, MayAttach, IsMarkedName, StandsWithout, Causes, Serves, Stands, HasTyped}
 use Rattle.kl_sources.specs.Sources.{ArePlaced, IsFit, names_of, grounds_of, contents, IsValueAt, HaveValues, IsReadable, FirstWithout}
 use Rattle.kl_sources.specs.declared.attaching.AttachError.{AttachError}
 use Rattle.kl_sources.specs.declared.source.Source.{Source}
+use Rattle.kl_sources.proofs.Agreement.{values_agree, first_agrees}
+use Rattle.kl_sources.proofs.ListedSources.{listed_source}
 use Rattle.kl_sources.proofs.Lists.{of_all, mapped, unmapped}
-use Rattle.kl_engine.specs.Answering.{kinds_of, SomeRose, KeepsDrivers, IsIdle, IsStored, IsOutside, reading, writing, drifting, wanting, Follows, IsTold, IsOneOf, HasTextFault, PrintsNothing, IsUnread, NeedsDrivers}
+use Rattle.kl_sources.specs.Attaching.{SomeRose}
+use Rattle.kl_sources.specs.Sources.{kinds_of}
+use Rattle.kl_engine.specs.Answering.{KeepsDrivers, IsIdle, IsStored, IsCounted, IsUnreadBy, HasDrifted, IsOf, IsOutside, reading, writing, drifting, wanting, Follows, IsTold, IsOneOf, HasTextFault, PrintsNothing, IsUnread, NeedsDrivers}
 use Rattle.kl_engine.specs.Commands.{Program}
 use Rattle.kl_engine.specs.Faults.{Ending}
 use Rattle.kl_engine.specs.Reading.{WasInScope}
-use Rattle.kl_engine.specs.Running.{AnswersTerm, HasRunFault, IsListScheme, IsOutcome, fault_of, Ends, before, followed, untold, IsNamed, DoneMeaning}
+use Rattle.kl_engine.specs.Running.{AnswersTerm, DriftsAt, HasRunFault, IsListScheme, IsOutcome, fault_of, Ends, before, followed, untold, IsNamed, DoneMeaning}
 use Rattle.kl_engine.specs.Verdict.{Verdict, refused, GivesList, stored_fault, IsMeant}
 use Rattle.kl_engine.specs.Verdict as verdict
 use Rattle.kl_engine.specs.declared.fault.Fault.{Fault}
@@ -75,19 +78,6 @@ at_all P (y ∷ ys) (suc i) x all is = at_all P ys i x (All-tail P y ys all) is
 
 pub idle_none : (ds : List State) → All IsIdle ds → HaveNone ds
 idle_none ds idle = λ i d at x. (at_all IsIdle ds i d idle at).0 x
-
--- ---- the same marks
-
-module _ (ks : List DriverKind) (marks others : ℕ → Bool) where
-  values_agree : (n : ℕ) (ss : List Source) (vs : List (Name × Value)) → ((i : ℕ) → i < n + length ss → others i ≡ marks i) → HaveValues ks others n ss vs → HaveValues ks marks n ss vs
-  values_agree n [] vs same have = have
-  values_agree n (s ∷ ss) vs same (v, rest, is, at, more) =
-      (v, rest, is, subst (λ m. IsValueAt ks m s v) (same n (omega arith)) at, values_agree (suc n) ss rest (λ i less. same i (omega (arith, less))) more)
-
-  first_agrees : (n : ℕ) (ss : List Source) (s : Source) (w : Stored) → ((i : ℕ) → i < n + length ss → others i ≡ marks i) → FirstWithout ks others n ss s w → FirstWithout ks marks n ss s w
-  first_agrees n [] s w same first = first
-  first_agrees n (t ∷ ts) s w same (inl (marked, is, at, none)) = inl (sym (same n (omega arith)) ∙ marked, is, at, none)
-  first_agrees n (t ∷ ts) s w same (inr (readable, rest)) = inr (subst (λ m. IsReadable ks m t) (same n (omega arith)) readable, first_agrees (suc n) ts s w (λ i less. same i (omega (arith, less))) rest)
 
 -- ---- faults of sources
 
@@ -191,10 +181,13 @@ module _ (Named : Name → Type 0) (ds mid last : List State) (this : KeepsDrive
     };
   }
 
-  rose_since : (count : State → ℕ) → ((a b : State) → Keeps a b → count a ≤ count b) → SomeRose count mid last → SomeRose count ds last
-  rose_since count later (i, b, c, at, then, rose) =
+  rose_at_since : (count : State → ℕ) → ((a b : State) → Keeps a b → count a ≤ count b) → (i : ℕ) → RoseAt i count mid last → RoseAt i count ds last
+  rose_at_since count later i (b, c, at, then, rose) =
       let a = at_first i b at in
-      (i, a.0, c, a.1, then, rose_after (count a.0) (count b) (count c) (later a.0 b (this.each i a.0 b a.1 at).keeps) rose)
+      (a.0, c, a.1, then, rose_after (count a.0) (count b) (count c) (later a.0 b (this.each i a.0 b a.1 at).keeps) rose)
+
+  rose_since : (count : State → ℕ) → ((a b : State) → Keeps a b → count a ≤ count b) → SomeRose count mid last → SomeRose count ds last
+  rose_since count later (i, rose) = (i, rose_at_since count later i rose)
 
   outside_since : (v : Verdict) (end : Ending) (out out' : SinkState) → IsOutside ⊥ v end mid last out out' → IsOutside ⊥ v end ds last out out'
   outside_since v end out out' (reading is (inl none)) = absurd none
@@ -222,9 +215,6 @@ module _ (ss : List Source) (marks : ℕ → Bool) (first : Option ℕ) (program
       let at = unmapped (λ (d : State). d.kind) ds lacks.driver.0 lacks.driver.1 lacks.driver.2 in
       let told : IsSome {T = List ℕ → Ty → Stored} None = subst IsSome (ap (λ (k : DriverKind). k.stored) at.2 ∙ lacks.driver.3) (at_all IsToldBy ds lacks.driver.0 at.0 all at.1) in cc
 
-some_rose : (count : State → ℕ) (old new : List State) → sources.SomeRose count old new → SomeRose count old new
-some_rose count old new (i, (a, b, at, then, rose)) = (i, a, b, at, then, rose)
-
 -- ---- attaching was refused
 
 module _ (ss : List Source) (marks : ℕ → Bool) (first : Option ℕ) (program : Decls) (exp : Exp) (ds mid : List State) (out : SinkState) (e : AttachError) (c : Causes marks ss ds mid e) where
@@ -234,9 +224,20 @@ module _ (ss : List Source) (marks : ℕ → Bool) (first : Option ℕ) (program
   refused_by : (w : Stored) → IsErrorOf w e.error → stored_fault c.refused.name w ≡ Some (fault_of e.source e.error)
   refused_by w of = refusal_fault c.refused.name w e.error of ∙ ap (λ x. Some (fault_of x e.error)) c.named
 
+  refused_named : marks c.place ≡ true → IsNamed ss marks c.refused.name
+  refused_named marked = (c.place, mapped (λ (s : Source). s.name) ss c.place c.refused c.there, marked)
+
+  refused_of : (d : DriverError) → IsOf (fault_of e.source d) c.refused.name
+  refused_of error.Failed = tt
+  refused_of (error.BadSource place) = c.named
+  refused_of (error.TooLong most) = tt
+  refused_of (error.TooDeep place) = tt
+  refused_of (error.Changed drift) = c.named
+  refused_of error.NoMemory = tt
+
   refused_ends : Ends (λ others. IsMeant (kinds_of ds) ss others first program exp) ss marks (purpose.Run first) (Some (fault_of e.source e.error)) ds mid out out
   refused_ends = elim c.cause [
-    | inl (inl h) ↦ before refl (λ told. subst (λ d. IsTold (Some (fault_of e.source d))) h.0 told) (λ v. reading (ap (λ d. Some (fault_of e.source d)) h.0) (inr (some_rose (λ d. d.faults) ds mid h.1)))
+    | inl (inl h) ↦ before refl (λ told. subst (λ d. IsTold (Some (fault_of e.source d))) h.0 told) (λ v. reading (ap (λ d. Some (fault_of e.source d)) h.0) (inr h.1))
     | inl (inr h) ↦ before refl (λ told. subst (λ d. IsTold (Some (fault_of e.source d))) h told) (λ v. wanting (ap (λ d. Some (fault_of e.source d)) h))
     | inr (marked, inl (w, of, at, inl without)) ↦ followed (refused (fault_of e.source e.error)) (inl (c.refused, w, fault_of e.source e.error, without, refused_by w of, refl))
         (follows_prints (refused (fault_of e.source e.error)) (Some (fault_of e.source e.error)) out out (prints_refused (fault_of e.source e.error) out) ds mid)
@@ -255,20 +256,20 @@ module _ (ss : List Source) (marks : ℕ → Bool) (first : Option ℕ) (program
   refused_never : (f : Fault) → Some (fault_of e.source e.error) ≡ Some f → (IsRefused f → ⊥) → ⊥
   refused_never f is none = none (subst IsRefused (some_same is) refused_is)
 
-  refused_read : Some (fault_of e.source e.error) ≡ Some fault.Read → IsStored (kinds_of ds) fault.Read ⊎ SomeRose (λ d. d.faults) ds mid
+  refused_read : Some (fault_of e.source e.error) ≡ Some fault.Read → IsStored (kinds_of ds) ss (IsNamed ss marks) fault.Read ⊎ SomeRose (λ d. d.faults) ds mid
   refused_read is = elim c.cause [
-    | inl (inl h) ↦ inr (some_rose (λ d. d.faults) ds mid h.1)
+    | inl (inl h) ↦ inr h.1
     | inl (inr h) ↦ absurd (let two : fault.NoMemory ≡ fault.Read = ap (fault_of e.source) (sym h) ∙ some_same is in cc)
-    | inr (marked, inl (w, of, at, rest)) ↦ inl (c.refused, w, at, refused_by w of ∙ is)
+    | inr (marked, inl (w, of, at, rest)) ↦ inl (c.place, c.refused, w, c.there, refused_named marked, at, refused_by w of ∙ is)
     | inr (marked, inr (unreadable, at, lacks, rose)) ↦ absurd (subst IsUnread (some_same is) (unreadable_unread e.source e.error unreadable))
   ]
 
-  refused_unread : (f : Fault) → Some (fault_of e.source e.error) ≡ Some f → IsUnread f → IsStored (kinds_of ds) f ⊎ SomeRose (λ d. d.unread) ds mid
+  refused_unread : (f : Fault) → Some (fault_of e.source e.error) ≡ Some f → IsUnread f → IsUnreadBy ss (IsNamed ss marks) f ds mid
   refused_unread f is un = elim c.cause [
     | inl (inl h) ↦ absurd (subst IsUnread (sym (some_same is) ∙ ap (fault_of e.source) h.0) un)
     | inl (inr h) ↦ absurd (subst IsUnread (sym (some_same is) ∙ ap (fault_of e.source) h) un)
-    | inr (marked, inl (w, of, at, rest)) ↦ inl (c.refused, w, at, refused_by w of ∙ is)
-    | inr (marked, inr (unreadable, at, lacks, rose)) ↦ inr (some_rose (λ d. d.unread) ds mid (c.refused.driver, rose))
+    | inr (marked, inl (w, of, at, rest)) ↦ inl (c.place, c.refused, w, c.there, refused_named marked, at, refused_by w of ∙ is)
+    | inr (marked, inr (unreadable, at, lacks, rose)) ↦ inr (c.place, c.refused, c.there, (refused_named marked, subst (λ g. IsOf g c.refused.name) (some_same is) (refused_of e.error)), at, rose)
   ]
 
   pub attach_refused : EachSteps (MayAttach marks ss) ds mid → DoneMeaning ss marks first program exp (Some (fault_of e.source e.error)) ds mid out out
@@ -466,7 +467,7 @@ module _ (ss : List Source) (program : Decls) (e : Exp) (typed : Typed) (infers 
 module _ (ss : List Source) (program : Decls) (e : Exp) (typed : Typed) (infers : Infers program e (grounds_of ss) typed) (tidy : IsTidyProgram program e) (names : List Name) (kept : names ≡ names_of ss) (t : Tree) (is : t ≡ term_of program e names)
     (means : Means program e names t) (ds : List State) (marks : ℕ → Bool) (w : World) (serves : Serves (kinds_of ds) marks ss w) (placed : ArePlaced (kinds_of ds) ss) (steps : EachSteps (MayAttach marks ss) ds w.drivers)
     (stand : (i : ℕ) (s : Source) → slice_get ss i ≡ Some s → marks i ≡ true → Stands (kinds_of ds) w.drivers s) (listed : Bool) (of : listed ≡ true → IsListScheme typed.result) (other : listed ≡ false → IsListScheme typed.result → ⊥)
-    (first : Option ℕ) (end : Ending) (last : List State) (out out' : SinkState) (answers : AnswersTerm (IsOutcome listed first (core (values_of w) t [])) (HaveSources (types_of w) (values_of w)) end w.drivers last out out') where
+    (first : Option ℕ) (end : Ending) (last : List State) (out out' : SinkState) (answers : AnswersTerm (IsOutcome listed first (core (values_of w) t [])) (HaveSources (types_of w) (values_of w)) end w.sources w.drivers last out out') (list_is : w.sources ≡ list_of marks 0 ss) where
   kept_first : KeepsDrivers (IsNamed ss marks) ds w.drivers
   kept_first = attach_keeps ss marks ds w.drivers steps
 
@@ -480,13 +481,20 @@ module _ (ss : List Source) (program : Decls) (e : Exp) (typed : Typed) (infers 
       (follows_since (IsNamed ss marks) ds w.drivers last kept_first found.0 end out out' found.2)
   answered_ends (inr lacks) = untold (none_meant ss marks first program e ds lacks) (none_told ss marks first program e ds lacks) (run_needs first end answers.no_other)
 
+  drifted : (name : Name) → DriftsAt w.sources name w.drivers last → HasDrifted ss (λ x. IsNamed ss marks x × (x ≡ name)) ds last
+  drifted name (i, a, place, at, named, held, rose) =
+      let s = listed_source marks 0 ss i a place (ap (λ l. slice_get l i) (sym list_is) ∙ at) held in
+      let of : IsNamed ss marks s.0.name = (i, mapped (λ (s : Source). s.name) ss i s.0 s.1, ap marks (sym (zero-add i)) ∙ s.2) in
+      let since : RoseAt place (λ d. d.drifts) ds last = rose_at_since (IsNamed ss marks) ds w.drivers last kept_first (λ d. d.drifts) (λ a b keeps. keeps.drifts) place rose in
+      (i, s.0, s.1, (of, s.3 ∙ named), subst (λ p. RoseAt p (λ d. d.drifts) ds last) (sym s.4) since)
+
   pub term_done : ((vs : List (Name × Value)) × HaveValues (kinds_of ds) marks 0 ss vs) ⊎ NoVerdict (kinds_of ds) marks ss → DoneMeaning ss marks first program e end ds last out out'
   term_done values = record {
     ends = answered_ends values;
     read = λ is. inr (rose_since (IsNamed ss marks) ds w.drivers last kept_first (λ d. d.faults) (λ a b keeps. keeps.faults) (answers.read is));
     write = answers.write;
     unread = λ f is un. absurd (run_unread f (subst (IsOneOf HasRunFault) is answers.no_other) un);
-    changed = λ name is. rose_since (IsNamed ss marks) ds w.drivers last kept_first (λ d. d.drifts) (λ a b keeps. keeps.drifts) (answers.changed name is);
+    changed = λ name is. drifted name (answers.changed name is);
     no_other = run_has first end answers.no_other;
     nothing = λ is. answers.nothing (before_any [] [] first end is);
     drivers = keeps_through (IsNamed ss marks) ds w.drivers last kept_first answers.drivers;
@@ -513,11 +521,11 @@ module _ (ss : List Source) (s : Scoped) (scope : WasInScope (names_of ss) s) (t
         list_sense ss (decls_of s.program.defs) (view s.program.last) typed infers (tidied (names_of ss) s scope) s.sources scope.1.sources_kept t is (kinds_of ds) (is_marked s) (world_of mid list settings trace) session_serves (of true_is)
 
     pub session_done : (means : Means (decls_of s.program.defs) (view s.program.last) s.sources t) (placed : ArePlaced (kinds_of ds) ss) (other : listed ≡ false → IsListScheme typed.result → ⊥) (first : Option ℕ) (end : Ending) (last : List State) (out out' : SinkState)
-        → AnswersTerm (IsOutcome listed first (core (values_of (world_of mid list settings trace)) t [])) (HaveSources (types_of (world_of mid list settings trace)) (values_of (world_of mid list settings trace))) end mid last out out'
+        → AnswersTerm (IsOutcome listed first (core (values_of (world_of mid list settings trace)) t [])) (HaveSources (types_of (world_of mid list settings trace)) (values_of (world_of mid list settings trace))) end list mid last out out'
         → DoneMeaning ss (is_marked s) first (decls_of s.program.defs) (view s.program.last) end ds last out out'
     session_done means placed other first end last out out' answers =
         term_done ss (decls_of s.program.defs) (view s.program.last) typed infers (tidied (names_of ss) s scope) s.sources scope.1.sources_kept t is means ds (is_marked s) (world_of mid list settings trace) session_serves placed attaches.drivers
-        attaches.stand listed of other first end last out out' answers attaches.values
+        attaches.stand listed of other first end last out out' answers attaches.list attaches.values
 
 pub attach_failed : (ss : List Source) (marks : ℕ → Bool) (first : Option ℕ) (program : Decls) (exp : Exp) (ds mid : List State) (out : SinkState) (e : AttachError) (f : Fault) → AttachesAll marks ss (Err e) ds mid → f ≡ fault_of e.source e.error → DoneMeaning ss marks first program exp (Some f) ds mid out out
 attach_failed ss marks first program exp ds mid out e f attaches same =

@@ -59,15 +59,6 @@ module _ (vs : List Value) (out out' : SinkState) where
 pub prints_refused : (f : Fault) (out : SinkState) → Prints (refused f) (Some f) out out
 prints_refused f out = record { ends = inl refl; whole = λ is. sym (append_known-nil out.taken); part = took_none [] out out refl; nothing = λ none. refl }
 
--- before a page was begun memory ran out
-pub prints_wanted : (v : Verdict) (out : SinkState) → IsTold v.ending → Prints v (Some fault.NoMemory) out out
-prints_wanted v out told = record {
-  ends = inr (inr refl);
-  whole = λ is. absurd (subst IsTold (sym is) told);
-  part = took_none v.page out out refl;
-  nothing = λ none. refl;
-}
-
 -- items of a list that are all that are wanted, and those that are not
 cut_is : (first : Option ℕ) (vs : List Value) → cut first (value.List vs) ≡ value.List (first_of first vs)
 cut_is first vs = ap (λ x. cut_layer first x (value.List vs)) (value.outs-List vs)

@@ -7,17 +7,20 @@ use Rattle.kl_outside.specs.Files.{FilesState}
 use Rattle.kl_outside.specs.Sinks.{SinkState}
 use Rattle.kl_outside.proofs.SinkLemmas.{took_none, append_known-nil}
 use Rattle.kl_outcome.specs.Outcome.{Name}
-use Rattle.kl_ask.specs.Driver.{State}
+use Rattle.kl_ask.specs.Driver.{DriverKind, State}
 use Rattle.kl_sources.specs.declared.source.Source.{Source}
-use Rattle.kl_engine.specs.Answering.{kinds_of, one, IsOutside, reading, writing, drifting, wanting, Follows, DoesText, Does, IsTold, IsOneOf, HasTextFault, HasFault, IsMentionedIn, IsMentioned, PrintsNothing, IsUnread, LacksFile, IsStored, SomeRose}
+use Rattle.kl_sources.specs.Attaching.{SomeRose}
+use Rattle.kl_sources.specs.Sources.{kinds_of}
+use Rattle.kl_engine.specs.Answering.{one, IsOutside, reading, writing, drifting, wanting, Follows, DoesText, Does, IsTold, IsOneOf, HasTextFault, HasFault, IsMentionedIn, IsMentioned, PrintsNothing, IsRun, IsUnread, IsUnreadBy, HasDrifted, OfRun, LacksFile, IsStored}
 use Rattle.kl_engine.specs.Commands.{Program}
 use Rattle.kl_engine.specs.Faults.{Ending}
 use Rattle.kl_engine.specs.Inputs.{IsInputsEnd, ReadsInputs}
-use Rattle.kl_engine.specs.Verdict.{Verdict, refused, IsText, IsInputsFault, IsProgram}
+use Rattle.kl_engine.specs.Verdict.{Verdict, refused, HasInputs, IsText, IsInputsFault, IsProgram}
 use Rattle.kl_engine.specs.declared.fault.Fault.{Fault}
 use Rattle.kl_engine.specs.declared.fault.Fault.TheVariants as fault
 use Rattle.kl_engine.specs.declared.inputs.Inputs.{Inputs}
 use Rattle.kl_engine.specs.declared.top.Purpose.{Purpose}
+use Rattle.kl_engine.specs.declared.top.Purpose.TheVariants as purpose
 use Rattle.kl_engine.proofs.DriverLemmas.{keeps_same, keeps_wider}
 use Rattle.kl_engine.proofs.FairLemmas.{IsOfVerdict, fair_text}
 use Rattle.kl_engine.proofs.InputLemmas.{inputs_one, inputs_well, inputs_fault_one, inputs_verdict}
@@ -70,6 +73,36 @@ of_program p path catalogue (Some fault.SchemeBytes) has = has
 none_misuses : (p : Purpose) (end : Ending) → IsOneOf (HasTextFault p) end → end ≡ Some fault.Usage → ⊥
 none_misuses p end has is = subst (IsOneOf (HasTextFault p)) is has
 
+-- what holds of the inputs of a run
+of_run : (p : Purpose) (path : List ℕ) (catalogue : Option (List ℕ)) (f : FilesState) (ks : List DriverKind) (P : List ℕ → List Source → Type 0) → IsRun p → (text : List ℕ) (ss : List Source) → ((told : _) → f.told ≡ Some told → HasInputs told ks path catalogue text ss) → P text ss → OfRun (Program p path catalogue) f ks P
+of_run (purpose.Run first) path catalogue f ks P is text ss inputs holds = (text, ss, inputs, holds)
+of_run purpose.Check path catalogue f ks P is text ss inputs holds = absurd is
+of_run purpose.Types path catalogue f ks P is text ss inputs holds = absurd is
+
+unread_run : (p : Purpose) (f : Fault) → IsUnread f → HasTextFault p f → IsRun p
+unread_run p (fault.BadSource name place) is has = has
+unread_run p fault.FileBytes is has = has
+unread_run p fault.ItemNesting is has = has
+unread_run p fault.Usage is has = absurd is
+unread_run p (fault.Text w byte) is has = absurd is
+unread_run p (fault.IllTyped decl) is has = absurd is
+unread_run p (fault.Catalogue byte) is has = absurd is
+unread_run p (fault.NameTwice name) is has = absurd is
+unread_run p (fault.NoDriver name) is has = absurd is
+unread_run p (fault.Unsuited name) is has = absurd is
+unread_run p (fault.BadFile place) is has = absurd is
+unread_run p fault.Overflow is has = absurd is
+unread_run p fault.Read is has = absurd is
+unread_run p fault.Write is has = absurd is
+unread_run p fault.NoMemory is has = absurd is
+unread_run p (fault.Changed name) is has = absurd is
+unread_run p fault.ProgramBytes is has = absurd is
+unread_run p fault.CatalogueBytes is has = absurd is
+unread_run p fault.Nesting is has = absurd is
+unread_run p fault.TermNodes is has = absurd is
+unread_run p fault.TermDepth is has = absurd is
+unread_run p fault.SchemeBytes is has = absurd is
+
 module _ (p : Purpose) (path : List ℕ) (catalogue : Option (List ℕ)) (f f' : FilesState) where
   pub program_does : (i : Inputs) (end : Ending) (ds ds' : List State) (out out' : SinkState) → ReadsInputs path catalogue (kinds_of ds) (Ok i) f f' → DoesText i.sources p i.text end ds ds' out out' → Does (Program p path catalogue) end f f' ds ds' out out'
   program_does i end ds ds' out out' reads does = record {
@@ -78,19 +111,22 @@ module _ (p : Purpose) (path : List ℕ) (catalogue : Option (List ℕ)) (f f' :
       | inr h ↦
           let same = inputs_one told (kinds_of ds) path catalogue h.0 i.text h.1 i.sources h.2 (reads.inputs told is) in
           let found = does.told v (subst (λ ss. IsText (kinds_of ds) ss p i.text v) same.1 (subst (λ text. IsText (kinds_of ds) h.1 p text v) same.0 h.3)) in
-          (found.0, found.1, follows_also (Rose f.faults f'.faults) found.0 end ds ds' out out' found.2)
+          (found.0, inr (i.text, i.sources, reads.inputs told is, found.1), found.2, follows_also (Rose f.faults f'.faults) found.0 end ds ds' out out' found.3)
     ];
     meant = λ told is well needs. let found = does.meant well needs in (found.0, inr (i.text, i.sources, reads.inputs told is, found.1), found.2);
     caused = record {
       usage = λ is. absurd (none_misuses p end does.no_other is);
       no_usage = λ is. absurd cc;
-      read = λ is. elim (does.read is) [ inl h ↦ inr (inl h) | inr h ↦ inr (inr (inr h)) ];
+      read = λ is. elim (does.read is) [
+        | inl h ↦ inr (inl (of_run p path catalogue f (kinds_of ds) (λ text ss. IsStored (kinds_of ds) ss (IsMentionedIn ss text) fault.Read) (subst (IsOneOf (HasTextFault p)) is does.no_other) i.text i.sources reads.inputs h))
+        | inr h ↦ inr (inr (inr h))
+      ];
       write = does.write;
-      changed = does.changed;
+      changed = λ name is. of_run p path catalogue f (kinds_of ds) (λ text ss. HasDrifted ss (λ x. IsMentionedIn ss text x × (x ≡ name)) ds ds') (subst (IsOneOf (HasTextFault p)) is does.no_other) i.text i.sources reads.inputs (does.changed name is);
       no_other = of_program p path catalogue end does.no_other;
       nothing = does.nothing;
     };
-    unread = does.unread;
+    unread = λ g is un. of_run p path catalogue f (kinds_of ds) (λ text ss. IsUnreadBy ss (IsMentionedIn ss text) g ds ds') (unread_run p g un (subst (IsOneOf (HasTextFault p)) is does.no_other)) i.text i.sources reads.inputs (does.unread g is un);
     closed = record {
       left = reads.left;
       told = reads.told;
@@ -190,7 +226,7 @@ module _ (p : Purpose) (path : List ℕ) (catalogue : Option (List ℕ)) (f f' :
 
     pub program_refused : Does (Program p path catalogue) (Some g) f f' ds ds out out
     program_refused = record {
-      told = λ told is v of. (v, one refl, told_refused told is v of);
+      told = λ told is v of. (v, of, one refl, told_refused told is v of);
       meant = λ told is well needs. elim (reads.refused told is) [
         | inl none ↦ absurd (subst (λ h. IsTold (Some h)) none well)
         | inr (inl failed) ↦ absurd (subst (λ h. IsTold (Some h)) failed.0 well)
@@ -218,10 +254,13 @@ module _ (p : Purpose) (path : List ℕ) (catalogue : Option (List ℕ)) (f f' :
         some_one : {x y : Fault} → Some x ≡ Some y → x ≡ y
         some_one is = cc
 
-        read_cause : g ≡ fault.Read → LacksFile (Program p path catalogue) f (kinds_of ds) ⊎ IsStored (kinds_of ds) fault.Read ⊎ Rose f.faults f'.faults ⊎ SomeRose (λ d. d.faults) ds ds
+        abbrev ReadCause : Type 0
+        ReadCause = LacksFile (Program p path catalogue) f (kinds_of ds) ⊎ OfRun (Program p path catalogue) f (kinds_of ds) (λ text ss. IsStored (kinds_of ds) ss (IsMentionedIn ss text) fault.Read) ⊎ Rose f.faults f'.faults ⊎ SomeRose (λ d. d.faults) ds ds
+
+        read_cause : g ≡ fault.Read → ReadCause
         read_cause is = pick f.told refl
           where
-            pick : (found : Option (List ℕ → Option (List ℕ))) → f.told ≡ found → LacksFile (Program p path catalogue) f (kinds_of ds) ⊎ IsStored (kinds_of ds) fault.Read ⊎ Rose f.faults f'.faults ⊎ SomeRose (λ d. d.faults) ds ds
+            pick : (found : Option (List ℕ → Option (List ℕ))) → f.told ≡ found → ReadCause
             pick None at = inr (inr (inl (reads.read at is)))
             pick (Some told) at = elim (reads.refused told at) [
               | inl none ↦ absurd (let two : fault.Read ≡ fault.NoMemory = sym is ∙ none in cc)

@@ -66,7 +66,6 @@ follows_end bytes vs end s0 s out0 out shows took v of =
       ends = inl refl;
       whole = λ is. took;
       part = took_all (lines vs) out0 out took;
-      missing = λ is. absurd (subst IsTold (ap (λ w. w.ending) is) (end_told end));
     })
 
 end_other : (end : FileEnd) → IsOneOf (HasFault (Show [])) (end_fault end)
@@ -136,7 +135,6 @@ follows_front bytes vs us f s0 s out0 out cause part v of is =
       ];
       whole = λ same. absurd (unlike f vs s0 s out0 out cause (subst IsTold (sym same) (showing_told bytes v of)));
       part = subst (λ bs. TookPart bs out0 out) (sym page) (took_front (lines vs) (lines us) out0 out part);
-      missing = λ same. absurd (subst (λ w. IsTold w.ending) same (showing_told bytes v of));
     }
 
 -- The file is read on, and nothing else is.
@@ -380,7 +378,6 @@ missing_follows v f f' out is = record {
   ends = inl (sym (ap (λ w. w.ending) is));
   whole = λ end. sym (ap (λ w. append_known out.taken w.page) is ∙ append_known-nil out.taken);
   part = took_none v.page out out refl;
-  missing = λ same. (refl, refl);
 }
 
 module _ (path : List ℕ) where
@@ -456,7 +453,6 @@ module _ (path : List ℕ) where
             ends = elim follows.ends [ inl h ↦ inl h | inr (inl h) ↦ inr (inl (h.0, rose h.1)) | inr (inr h) ↦ inr (inr h) ];
             whole = follows.whole;
             part = follows.part;
-            missing = follows.missing;
           }
 
       file_meant : (told : List ℕ → Option (List ℕ)) → s0.told ≡ Some told → (found : Option (List ℕ)) → told path ≡ found → IsTold end → (v : Verdict) × IsFile IsShowing (told path) v × (v.ending ≡ end)

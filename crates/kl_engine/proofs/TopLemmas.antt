@@ -8,7 +8,8 @@ use Rattle.kl_outside.specs.Sinks.{SinkState}
 use Rattle.kl_outside.proofs.SinkLemmas.{took_none, append_known-nil}
 use Rattle.kl_outcome.specs.Outcome.{Name}
 use Rattle.kl_ask.specs.Driver.{DriverKind, State}
-use Rattle.kl_engine.specs.Answering.{kinds_of, one, reading, writing, wanting, Does, IsMentioned, UnreadCause, IsUnread, IsOneOf, HasFault}
+use Rattle.kl_sources.specs.Sources.{kinds_of}
+use Rattle.kl_engine.specs.Answering.{one, reading, writing, wanting, Does, IsMentioned, UnreadCause, IsUnread, IsOneOf, HasFault}
 use Rattle.kl_words.specs.declared.command.Command.{Command as Read}
 use Rattle.kl_engine.specs.Commands.{Command, Neither, Program, Show, asked}
 use Rattle.kl_engine.specs.Faults.{Ending}
@@ -41,15 +42,16 @@ wants_fault Neither = tt
 wants_fault (Program p path catalogue) = tt
 wants_fault (Show path) = tt
 
-unread_wanted : (command : Command) (ds : List State) → UnreadCause command (Some fault.NoMemory) ds ds
-unread_wanted Neither ds = tt
-unread_wanted (Program p path catalogue) ds = λ f is un. absurd (let same : fault.NoMemory ≡ f = cc in subst IsUnread (sym same) un)
-unread_wanted (Show path) ds = tt
+unread_wanted : (command : Command) (files : FilesState) (ds : List State) → UnreadCause command (Some fault.NoMemory) files ds ds
+unread_wanted Neither files ds = tt
+unread_wanted (Program p path catalogue) files ds = λ f is un. absurd (let same : fault.NoMemory ≡ f = cc in subst IsUnread (sym same) un)
+unread_wanted (Show path) files ds = tt
 
 pub wanted_does : (command : Command) (f : FilesState) (ds : List State) (out : SinkState) → Does command (Some fault.NoMemory) f f ds ds out out
 wanted_does command f ds out = record {
   told = λ told is v of. (
     v,
+    of,
     one refl,
     record {
       ends = inr (wanting refl);
@@ -67,7 +69,7 @@ wanted_does command f ds out = record {
     no_other = wants_fault command;
     nothing = λ is. refl;
   };
-  unread = unread_wanted command ds;
+  unread = unread_wanted command f ds;
   closed = record { left = refl; told = refl; drivers = keeps_same (λ name. ⊤) ds; still = λ is. refl; mentioned = λ told is. keeps_same (IsMentioned told (kinds_of ds) command) ds };
 }
 
@@ -75,6 +77,7 @@ pub neither_does : (f : FilesState) (ds : List State) (out : SinkState) → Does
 neither_does f ds out = record {
   told = λ told is v of. (
     v,
+    of,
     one refl,
     record {
       ends = inl (sym (ap (λ w. w.ending) of));
@@ -109,6 +112,7 @@ show_does path end f f' ds out out' shows = record {
   told = λ told is v of.
       let follows = shows.follows told is v of in (
         v,
+        of,
         one refl,
         record {
           ends = elim follows.ends [

@@ -11,7 +11,8 @@ use Rattle.kl_syntax.specs.declared.tree.Program.{Program as AProgram}
 use Rattle.kl_scope.specs.Breaches.{Mentions}
 use Rattle.kl_ask.specs.Driver.{DriverKind, State, Stored, Keeps, IsTold as IsToldBy}
 use Rattle.kl_ask.specs.Lists.{EachSteps}
-use Rattle.kl_sources.specs.Sources.{names_of, contents}
+use Rattle.kl_sources.specs.Attaching.{RoseAt, SomeRose}
+use Rattle.kl_sources.specs.Sources.{kinds_of, names_of, contents}
 use Rattle.kl_sources.specs.declared.source.Source.{Source}
 use Rattle.kl_engine.specs.Commands.{Command, Neither, Program, Show}
 use Rattle.kl_engine.specs.Faults.{Ending}
@@ -26,13 +27,6 @@ use Rattle.kl_engine.specs.declared.top.Purpose.TheVariants as purpose
 
 -- ---- drivers
 
-abbrev pub kinds_of : List State → List DriverKind
-kinds_of ds = map (λ d. d.kind) ds
-
--- a count of some driver rose
-abbrev pub SomeRose : (State → ℕ) → List State → List State → Type 0
-SomeRose count old new = (i : ℕ) × (a : State) × (b : State) × (slice_get old i ≡ Some a) × (slice_get new i ≡ Some b) × Rose (count a) (count b)
-
 -- A driver is what it was, has no cursor open that it had not, and has nothing new attached but under names like these.
 pub record KeepsDriver (Named : Name → Type 0) (old new : State) : Type 0 where
   pub keeps : Keeps old new
@@ -46,9 +40,29 @@ KeepsDrivers Named old new = EachSteps (KeepsDriver Named) old new
 abbrev pub IsIdle : State → Type 0
 IsIdle d = ((name : Name) → d.attached name ≡ None) × ((k : ℕ) → d.cursors k ≡ None)
 
--- what some driver tells to stand at some source is this fault
-abbrev pub IsStored : List DriverKind → Fault → Type 0
-IsStored ks f = (s : Source) × (w : Stored) × (contents ks s ≡ Some w) × (stored_fault s.name w ≡ Some f)
+-- ---- sources, where Named is what holds of their names
+
+-- what the driver of a source tells of it is this fault
+abbrev pub IsStored : List DriverKind → List Source → (Name → Type 0) → Fault → Type 0
+IsStored ks ss Named f = (i : ℕ) × (s : Source) × (w : Stored) × (slice_get ss i ≡ Some s) × Named s.name × (contents ks s ≡ Some w) × (stored_fault s.name w ≡ Some f)
+
+-- the driver of a source tells nothing of it, and counted one that it could not read
+abbrev pub IsCounted : List Source → (Name → Type 0) → List State → List State → Type 0
+IsCounted ss Named old new = (i : ℕ) × (s : Source) × (slice_get ss i ≡ Some s) × Named s.name × (contents (kinds_of old) s ≡ None) × RoseAt s.driver (λ d. d.unread) old new
+
+-- the driver of a source counted a drift
+abbrev pub HasDrifted : List Source → (Name → Type 0) → List State → List State → Type 0
+HasDrifted ss Named old new = (i : ℕ) × (s : Source) × (slice_get ss i ≡ Some s) × Named s.name × RoseAt s.driver (λ d. d.drifts) old new
+
+-- the source of this name is what the fault is of, where it tells a name
+abbrev pub IsOf : Fault → Name → Type 0
+IsOf (fault.BadSource name place) x = x ≡ name
+IsOf (fault.Changed name) x = x ≡ name
+IsOf f x = ⊤
+
+-- a source is unreadable, too long or nested too deep: its driver tells so, or tells nothing of it and counted one
+abbrev pub IsUnreadBy : List Source → (Name → Type 0) → Fault → List State → List State → Type 0
+IsUnreadBy ss Named f old new = IsStored (kinds_of old) ss Named f ⊎ IsCounted ss (λ x. Named x × IsOf f x) old new
 
 -- ---- the end of a command
 
@@ -192,12 +206,12 @@ abbrev pub IsMentionedIn : List Source → List ℕ → Name → Type 0
 IsMentionedIn ss text name = (q : AProgram) × IsProgramOf (names_of ss) text q × (i : ℕ) × (slice_get (names_of ss) i ≡ Some name) × Mentions q (names_of ss) i
 
 pub record DoesText (ss : List Source) (p : Purpose) (text : List ℕ) (end : Ending) (ds ds' : List State) (out out' : SinkState) : Type 0 where
-  pub told : (v : Verdict) → IsText (kinds_of ds) ss p text v → (w : Verdict) × Alike v w × Follows ⊥ w end ds ds' out out'
+  pub told : (v : Verdict) → IsText (kinds_of ds) ss p text v → (w : Verdict) × IsText (kinds_of ds) ss p text w × Alike v w × Follows ⊥ w end ds ds' out out'
   pub meant : IsTold end → (NeedsDrivers p end → All IsToldBy ds) → (v : Verdict) × IsText (kinds_of ds) ss p text v × (v.ending ≡ end)
-  pub read : end ≡ Some fault.Read → IsStored (kinds_of ds) fault.Read ⊎ SomeRose (λ d. d.faults) ds ds'
+  pub read : end ≡ Some fault.Read → IsStored (kinds_of ds) ss (IsMentionedIn ss text) fault.Read ⊎ SomeRose (λ d. d.faults) ds ds'
   pub write : end ≡ Some fault.Write → Rose out.faults out'.faults
-  pub unread : (f : Fault) → end ≡ Some f → IsUnread f → IsStored (kinds_of ds) f ⊎ SomeRose (λ d. d.unread) ds ds'
-  pub changed : (name : Name) → end ≡ Some (fault.Changed name) → SomeRose (λ d. d.drifts) ds ds'
+  pub unread : (f : Fault) → end ≡ Some f → IsUnread f → IsUnreadBy ss (IsMentionedIn ss text) f ds ds'
+  pub changed : (name : Name) → end ≡ Some (fault.Changed name) → HasDrifted ss (λ x. IsMentionedIn ss text x × (x ≡ name)) ds ds'
   pub no_other : IsOneOf (HasTextFault p) end
   pub nothing : PrintsNothing (Program p [] None) end → out' ≡ out
   pub drivers : KeepsDrivers (IsMentionedIn ss text) ds ds'
@@ -209,20 +223,25 @@ pub record DoesText (ss : List Source) (p : Purpose) (text : List ℕ) (end : En
 abbrev pub LacksFile : Command → FilesState → List DriverKind → Type 0
 LacksFile command files ks = (told : _) × (files.told ≡ Some told) × IsVerdict told ks command (refused fault.Read)
 
+-- P holds of a run's text and its sources, which are those of its files where these are told
+abbrev pub OfRun : Command → FilesState → List DriverKind → (List ℕ → List Source → Type 0) → Type 0
+OfRun (Program (purpose.Run first) path catalogue) files ks P = (text : List ℕ) × (ss : List Source) × ((told : _) → files.told ≡ Some told → HasInputs told ks path catalogue text ss) × P text ss
+OfRun command files ks P = ⊥
+
 -- Whether files and drivers tell their bytes or not, each ending has its cause.
 pub record IsCaused (command : Command) (end : Ending) (files files' : FilesState) (ds ds' : List State) (out out' : SinkState) : Type 0 where
   pub usage : end ≡ Some fault.Usage → command ≡ Neither
   pub no_usage : command ≡ Neither → (end ≡ Some fault.Usage) ⊎ (end ≡ Some fault.NoMemory)
-  pub read : end ≡ Some fault.Read → LacksFile command files (kinds_of ds) ⊎ IsStored (kinds_of ds) fault.Read ⊎ Rose files.faults files'.faults ⊎ SomeRose (λ d. d.faults) ds ds'
+  pub read : end ≡ Some fault.Read → LacksFile command files (kinds_of ds) ⊎ OfRun command files (kinds_of ds) (λ text ss. IsStored (kinds_of ds) ss (IsMentionedIn ss text) fault.Read) ⊎ Rose files.faults files'.faults ⊎ SomeRose (λ d. d.faults) ds ds'
   pub write : end ≡ Some fault.Write → Rose out.faults out'.faults
-  pub changed : (name : Name) → end ≡ Some (fault.Changed name) → SomeRose (λ d. d.drifts) ds ds'
+  pub changed : (name : Name) → end ≡ Some (fault.Changed name) → OfRun command files (kinds_of ds) (λ text ss. HasDrifted ss (λ x. IsMentionedIn ss text x × (x ≡ name)) ds ds')
   pub no_other : IsOneOf (HasFault command) end
   pub nothing : PrintsNothing command end → out' ≡ out
 
--- The same of a source that is unreadable, too long or nested too deep: some driver tells so, or its count rose.
-abbrev pub UnreadCause : Command → Ending → List State → List State → Type 0
-UnreadCause (Program p path catalogue) end ds ds' = (f : Fault) → end ≡ Some f → IsUnread f → IsStored (kinds_of ds) f ⊎ SomeRose (λ d. d.unread) ds ds'
-UnreadCause command end ds ds' = ⊤
+-- The same of a source of a program that is unreadable, too long or nested too deep.
+abbrev pub UnreadCause : Command → Ending → FilesState → List State → List State → Type 0
+UnreadCause (Program p path catalogue) end files ds ds' = (f : Fault) → end ≡ Some f → IsUnread f → OfRun (Program p path catalogue) files (kinds_of ds) (λ text ss. IsUnreadBy ss (IsMentionedIn ss text) f ds ds')
+UnreadCause command end files ds ds' = ⊤
 
 -- a name that the program of a command mentions
 abbrev pub IsMentioned : (List ℕ → Option (List ℕ)) → List DriverKind → Command → Name → Type 0
@@ -244,9 +263,9 @@ pub record IsClosed (command : Command) (files files' : FilesState) (ds ds' : Li
 
 -- what a command does
 pub record Does (command : Command) (end : Ending) (files files' : FilesState) (ds ds' : List State) (out out' : SinkState) : Type 0 where
-  pub told : (told : _) → files.told ≡ Some told → (v : Verdict) → IsVerdict told (kinds_of ds) command v → (w : Verdict) × Alike v w × Follows (Rose files.faults files'.faults) w end ds ds' out out'
+  pub told : (told : _) → files.told ≡ Some told → (v : Verdict) → IsVerdict told (kinds_of ds) command v → (w : Verdict) × IsVerdict told (kinds_of ds) command w × Alike v w × Follows (Rose files.faults files'.faults) w end ds ds' out out'
   -- the way back
   pub meant : (told : _) → files.told ≡ Some told → IsTold end → (CommandNeedsDrivers command end → All IsToldBy ds) → (v : Verdict) × IsVerdict told (kinds_of ds) command v × (v.ending ≡ end)
   pub caused : IsCaused command end files files' ds ds' out out'
-  pub unread : UnreadCause command end ds ds'
+  pub unread : UnreadCause command end files ds ds'
   pub closed : IsClosed command files files' ds ds'

@@ -94,7 +94,3 @@ fault_line path fault.SchemeBytes = codes "limit: scheme bytes\n"
 pub record TookLine (line : List ℕ) (old new : SinkState) : Type 0 where
   pub part : TookPart line old new
   pub whole : (new.taken ≡ append_known old.taken line) ⊎ Rose old.faults new.faults ⊎ Rose old.wants new.wants
-
-abbrev pub line_of : List ℕ → Ending → List ℕ
-line_of path None = []
-line_of path (Some f) = fault_line path f

@@ -10,11 +10,13 @@ use Rattle.kl_outcome.specs.Outcome.{Name, Outcome, done, over, stuck}
 use Rattle.kl_rows.specs.declared.Scheme.{Scheme}
 use Rattle.kl_syntax.specs.Syntax.{Decls, Exp}
 use Rattle.kl_ask.specs.Driver.{State, IsTold as IsToldBy}
+use Rattle.kl_ask.specs.declared.session.Attached.{Attached}
 use Rattle.kl_ask.specs.declared.ask.DriverError.{DriverError}
 use Rattle.kl_ask.specs.declared.ask.DriverError.TheVariants as error
-use Rattle.kl_sources.specs.Sources.{names_of}
+use Rattle.kl_sources.specs.Attaching.{RoseAt, SomeRose}
+use Rattle.kl_sources.specs.Sources.{kinds_of, names_of}
 use Rattle.kl_sources.specs.declared.source.Source.{Source}
-use Rattle.kl_engine.specs.Answering.{kinds_of, SomeRose, KeepsDrivers, IsStored, Follows, Prints, IsOutside, IsTold, IsRun, HasTextFault, IsOneOf, PrintsNothing, IsUnread, NeedsDrivers}
+use Rattle.kl_engine.specs.Answering.{KeepsDrivers, IsStored, IsUnreadBy, HasDrifted, Follows, Prints, IsOutside, IsTold, IsRun, HasTextFault, IsOneOf, PrintsNothing, IsUnread, NeedsDrivers}
 use Rattle.kl_engine.specs.Commands.{Program}
 use Rattle.kl_engine.specs.Faults.{Ending}
 use Rattle.kl_infer.specs.Numbers.{limit}
@@ -62,12 +64,16 @@ HasRunFault fault.Write = ⊤
 HasRunFault fault.NoMemory = ⊤
 HasRunFault f = ⊥
 
+-- a source of a session is attached at a driver that counted a drift
+abbrev pub DriftsAt : List Attached → Name → List State → List State → Type 0
+DriftsAt list name old new = (i : ℕ) × (a : Attached) × (place : ℕ) × (slice_get list i ≡ Some a) × (a.source ≡ name) × (a.driver ≡ Some place) × RoseAt place (λ d. d.drifts) old new
+
 -- An outcome is printed. Where the sources are told it is that of the term, and in any case each fault has its cause.
-pub record AnswersTerm (IsOutcome : Verdict → Type 0) (told : Type 0) (end : Ending) (ds ds' : List State) (out out' : SinkState) : Type 0 where
+pub record AnswersTerm (IsOutcome : Verdict → Type 0) (told : Type 0) (end : Ending) (list : List Attached) (ds ds' : List State) (out out' : SinkState) : Type 0 where
   pub follows : told → (v : Verdict) × IsOutcome v × Follows ⊥ v end ds ds' out out'
   pub read : end ≡ Some fault.Read → SomeRose (λ d. d.faults) ds ds'
   pub write : end ≡ Some fault.Write → Rose out.faults out'.faults
-  pub changed : (name : Name) → end ≡ Some (fault.Changed name) → SomeRose (λ d. d.drifts) ds ds'
+  pub changed : (name : Name) → end ≡ Some (fault.Changed name) → DriftsAt list name ds ds'
   pub no_other : IsOneOf HasRunFault end
   pub nothing : PrintsNothing (Program (purpose.Run None) [] None) end → out' ≡ out
   pub drivers : KeepsDrivers (λ name. ⊥) ds ds'
@@ -85,10 +91,10 @@ IsNamed ss marks name = (i : ℕ) × (slice_get (names_of ss) i ≡ Some name) �
 
 pub record DoneBy (IsVerdict : (ℕ → Bool) → Verdict → Type 0) (ss : List Source) (marks : ℕ → Bool) (p : Purpose) (end : Ending) (ds ds' : List State) (out out' : SinkState) : Type 0 where
   pub ends : Ends IsVerdict ss marks p end ds ds' out out'
-  pub read : end ≡ Some fault.Read → IsStored (kinds_of ds) fault.Read ⊎ SomeRose (λ d. d.faults) ds ds'
+  pub read : end ≡ Some fault.Read → IsStored (kinds_of ds) ss (IsNamed ss marks) fault.Read ⊎ SomeRose (λ d. d.faults) ds ds'
   pub write : end ≡ Some fault.Write → Rose out.faults out'.faults
-  pub unread : (f : Fault) → end ≡ Some f → IsUnread f → IsStored (kinds_of ds) f ⊎ SomeRose (λ d. d.unread) ds ds'
-  pub changed : (name : Name) → end ≡ Some (fault.Changed name) → SomeRose (λ d. d.drifts) ds ds'
+  pub unread : (f : Fault) → end ≡ Some f → IsUnread f → IsUnreadBy ss (IsNamed ss marks) f ds ds'
+  pub changed : (name : Name) → end ≡ Some (fault.Changed name) → HasDrifted ss (λ x. IsNamed ss marks x × (x ≡ name)) ds ds'
   pub no_other : IsOneOf (HasTextFault p) end
   pub nothing : PrintsNothing (Program p [] None) end → out' ≡ out
   pub drivers : KeepsDrivers (IsNamed ss marks) ds ds'

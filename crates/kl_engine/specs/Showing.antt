@@ -45,7 +45,6 @@ pub record FollowsFile (v : Verdict) (end : Ending) (files files' : FilesState) 
   pub ends : (end ≡ v.ending) ⊎ ((end ≡ Some fault.Read) × Rose files.faults files'.faults) ⊎ ((end ≡ Some fault.Write) × Rose out.faults out'.faults × (v.page ≢ [])) ⊎ (end ≡ Some fault.NoMemory)
   pub whole : end ≡ v.ending → out'.taken ≡ append_known out.taken v.page
   pub part : TookPart v.page out out'
-  pub missing : v ≡ refused fault.Read → (end ≡ Some fault.Read) × (out' ≡ out)
 
 -- the file at a path is shown
 pub record DoesShow (path : List ℕ) (end : Ending) (files files' : FilesState) (out out' : SinkState) : Type 0 where

@@ -1,7 +1,7 @@
 //! The files that a command names: the text of its program, and the sources of its catalogue.
 ghost use Rattle.std.specs.Prelude.{◌≡◌, ◌<◌, ◌≤◌, ◌^◌, length, map};
 ghost use Rattle.kl_ask.specs.Driver.{State};
-ghost use Rattle.kl_engine.specs.Answering.{kinds_of};
+ghost use Rattle.kl_sources.specs.Sources.{kinds_of};
 ghost use Rattle.kl_engine.specs.Catalogues.{place_fault};
 ghost use Rattle.kl_engine.specs.Inputs.{ReadsInputs, ReadsSources, ReadsCatalogue};
 

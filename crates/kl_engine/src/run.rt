@@ -13,7 +13,8 @@ ghost use Rattle.kl_scope.specs.Breaches.{is_marked};
 ghost use Rattle.kl_sources.specs.Sources.{ArePlaced, names_of, grounds_of};
 ghost use Rattle.kl_syntax.specs.View.{view, decls_of};
 ghost use Rattle.kl_type.specs.Ground.{Ground, IsProper};
-ghost use Rattle.kl_engine.specs.Answering.{DoesText, IsIdle, kinds_of};
+ghost use Rattle.kl_sources.specs.Sources.{kinds_of};
+ghost use Rattle.kl_engine.specs.Answering.{DoesText, IsIdle};
 ghost use Rattle.kl_engine.specs.Faults.{ending};
 ghost use Rattle.kl_engine.specs.Reading.{WasInScope};
 ghost use Rattle.kl_engine.specs.Running.{AnswersTerm, DoneWith, DoneMeaning, IsOutcome, IsListScheme, IsListOutcome, IsValueOutcome, fault_of};
@@ -137,7 +138,7 @@ fn answer_term<S: Sink>(
 ) -> Result<(), Fault>
     requires sense { Sense (term_view term.now) [] (⟦<Session as Seen>⟧.world session.old) }
     requires list { is_list ≡ true → SenseList (term_view term.now) [] (⟦<Session as Seen>⟧.world session.old) }
-    ensures prints { AnswersTerm (IsOutcome is_list first (core (values_of (⟦<Session as Seen>⟧.world session.old)) (term_view term.now) [])) (HaveSources (types_of (⟦<Session as Seen>⟧.world session.old)) (values_of (⟦<Session as Seen>⟧.world session.old))) (ending result) (⟦<Session as Seen>⟧.world session.old).drivers (⟦<Session as Seen>⟧.world session.new).drivers (S.state out.old) (S.state out.new) }
+    ensures prints { AnswersTerm (IsOutcome is_list first (core (values_of (⟦<Session as Seen>⟧.world session.old)) (term_view term.now) [])) (HaveSources (types_of (⟦<Session as Seen>⟧.world session.old)) (values_of (⟦<Session as Seen>⟧.world session.old))) (ending result) (⟦<Session as Seen>⟧.world session.old).sources (⟦<Session as Seen>⟧.world session.old).drivers (⟦<Session as Seen>⟧.world session.new).drivers (S.state out.old) (S.state out.new) }
     ensures rest { Moved (⟦<Session as Seen>⟧.world session.old) (⟦<Session as Seen>⟧.world session.new) }
 {
     if is_list {
@@ -185,7 +186,7 @@ fn answer_list<S: Sink>(
     out: &mut S,
 ) -> Result<(), Fault>
     requires { SenseList (term_view term.now) [] (⟦<Session as Seen>⟧.world session.old) }
-    ensures prints { AnswersTerm (IsListOutcome first (core (values_of (⟦<Session as Seen>⟧.world session.old)) (term_view term.now) [])) (HaveSources (types_of (⟦<Session as Seen>⟧.world session.old)) (values_of (⟦<Session as Seen>⟧.world session.old))) (ending result) (⟦<Session as Seen>⟧.world session.old).drivers (⟦<Session as Seen>⟧.world session.new).drivers (S.state out.old) (S.state out.new) }
+    ensures prints { AnswersTerm (IsListOutcome first (core (values_of (⟦<Session as Seen>⟧.world session.old)) (term_view term.now) [])) (HaveSources (types_of (⟦<Session as Seen>⟧.world session.old)) (values_of (⟦<Session as Seen>⟧.world session.old))) (ending result) (⟦<Session as Seen>⟧.world session.old).sources (⟦<Session as Seen>⟧.world session.old).drivers (⟦<Session as Seen>⟧.world session.new).drivers (S.state out.old) (S.state out.new) }
     ensures rest { Moved (⟦<Session as Seen>⟧.world session.old) (⟦<Session as Seen>⟧.world session.new) }
 {
     let mut env = Vec::new(alloc);
@@ -207,7 +208,7 @@ fn answer_value<S: Sink>(
     out: &mut S,
 ) -> Result<(), Fault>
     requires { Sense (term_view term.now) [] (⟦<Session as Seen>⟧.world session.old) }
-    ensures prints { AnswersTerm (IsValueOutcome first (core (values_of (⟦<Session as Seen>⟧.world session.old)) (term_view term.now) [])) (HaveSources (types_of (⟦<Session as Seen>⟧.world session.old)) (values_of (⟦<Session as Seen>⟧.world session.old))) (ending result) (⟦<Session as Seen>⟧.world session.old).drivers (⟦<Session as Seen>⟧.world session.new).drivers (S.state out.old) (S.state out.new) }
+    ensures prints { AnswersTerm (IsValueOutcome first (core (values_of (⟦<Session as Seen>⟧.world session.old)) (term_view term.now) [])) (HaveSources (types_of (⟦<Session as Seen>⟧.world session.old)) (values_of (⟦<Session as Seen>⟧.world session.old))) (ending result) (⟦<Session as Seen>⟧.world session.old).sources (⟦<Session as Seen>⟧.world session.old).drivers (⟦<Session as Seen>⟧.world session.new).drivers (S.state out.old) (S.state out.new) }
     ensures rest { Moved (⟦<Session as Seen>⟧.world session.old) (⟦<Session as Seen>⟧.world session.new) }
 {
     let mut env = Vec::new(alloc);

@@ -16,3 +16,4 @@ pub mod Taking
 pub mod Concluding
 pub mod Alike
 pub mod Programs
+pub mod Principal

@@ -4,3 +4,6 @@ pub mod PlacingLemmas
 pub mod StepLemmas
 pub mod SessionLemmas
 pub mod EndLemmas
+pub mod Agreement
+pub mod ListedSources
+pub mod Reasons

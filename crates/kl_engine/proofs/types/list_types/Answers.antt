@@ -1,5 +1,5 @@
 use Rattle.kl_engine.proofs.DoneLemmas.{listed, untyped_types}
-use Rattle.kl_engine.proofs.LineLemmas.{good_schemes}
+use Rattle.kl_infer.proofs.Principal.{good_schemes}
 use Rattle.kl_engine.proofs.types.list_types.Goals as goal
 
 pub list-requires-clause-schemes : goal.list-requires-clause-schemes

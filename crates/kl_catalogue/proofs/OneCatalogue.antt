@@ -5,10 +5,9 @@ use Rattle.kl_lex.specs.Lexing.{Refused}
 use Rattle.kl_lex.specs.Placing.{PlacedTokens, token_of}
 use Rattle.kl_lex.proofs.Placings.{one_list}
 use Rattle.kl_lex.proofs.Sequence.{one_lexing, refused_none}
-use Rattle.kl_type.specs.Texts.{byte_of}
 use Rattle.kl_catalogue.specs.Grammar.{ReadsCatalogue}
 use Rattle.kl_catalogue.specs.Reading.{IsCatalogue, SpellsCatalogue, Refuses}
-use Rattle.kl_type.specs.Texts.{IsBadAt, IsDeepAt}
+use Rattle.kl_type.specs.Texts.{byte_of, IsBadAt, IsDeepAt}
 use Rattle.kl_catalogue.specs.declared.reading.CatalogueError.TheVariants.{Bad, TooDeep}
 use Rattle.kl_catalogue.specs.declared.reading.Entry.{Entry}
 use Rattle.kl_catalogue.proofs.Answer.{unique, one_place}
