@@ -25,7 +25,7 @@ use Rattle.kl_ask.specs.Driver.{State, IsTold as IsToldBy}
 use Rattle.kl_sources.specs.Sources.{names_of, grounds_of}
 use Rattle.kl_sources.specs.declared.source.Source.{Source}
 use Rattle.kl_sources.specs.Sources.{kinds_of}
-use Rattle.kl_engine.specs.Answering.{IsStored, IsUnreadBy, HasDrifted, Alike, one, IsOutside, reading, writing, drifting, wanting, Follows, Prints, DoesText, IsTold, IsOneOf, HasTextFault, IsUnread, NeedsDrivers, IsMentionedIn, PrintsNothing}
+use Rattle.kl_engine.specs.Answering.{IsStored, IsUnreadBy, HasDrifted, Alike, one, IsOutside, reading, writing, drifting, wanting, Follows, Prints, DoesText, IsDetermined, IsOneOf, HasTextFault, IsUnread, NeedsDrivers, IsMentionedIn, PrintsNothing}
 use Rattle.kl_engine.specs.Commands.{Program as AProgram}
 use Rattle.kl_engine.specs.Faults.{Ending}
 use Rattle.kl_engine.specs.Reading.{IsProgramOf, definitions, last, Reads}
@@ -174,14 +174,14 @@ wanted_done IsVerdict ss marks p ds out = record {
 -- ---- texts
 
 -- an end that is told is none of the outside
-outside_untold : (v : Verdict) (end : Ending) (ds ds' : List State) (out out' : SinkState) → IsTold end → IsOutside ⊥ v end ds ds' out out' → ⊥
-outside_untold v end ds ds' out out' told (reading is rose) = subst IsTold is told
-outside_untold v end ds ds' out out' told (writing is rose page) = subst IsTold is told
-outside_untold v end ds ds' out out' told (drifting name is rose) = subst IsTold is told
-outside_untold v end ds ds' out out' told (wanting is) = subst IsTold is told
+outside_untold : (v : Verdict) (end : Ending) (ds ds' : List State) (out out' : SinkState) → IsDetermined end → IsOutside ⊥ v end ds ds' out out' → ⊥
+outside_untold v end ds ds' out out' told (reading is rose) = subst IsDetermined is told
+outside_untold v end ds ds' out out' told (writing is rose page) = subst IsDetermined is told
+outside_untold v end ds ds' out out' told (drifting name is rose) = subst IsDetermined is told
+outside_untold v end ds ds' out out' told (wanting is) = subst IsDetermined is told
 
 -- of a verdict that ends as an end that is not told nothing is printed
-untold_empty : (p : Purpose) (v : Verdict) (end : Ending) → Fair p v → (IsTold end → ⊥) → v.ending ≡ end → v.page ≡ []
+untold_empty : (p : Purpose) (v : Verdict) (end : Ending) → Fair p v → (IsDetermined end → ⊥) → v.ending ≡ end → v.page ≡ []
 untold_empty p v None fair never is = absurd (never tt)
 untold_empty p v (Some fault.Read) fair never is = fair.empty (subst (PrintsNothing (AProgram p [] None)) (sym is) tt)
 untold_empty p v (Some fault.Write) fair never is = absurd (subst IsOfVerdict is fair.told)
@@ -218,8 +218,8 @@ does_text ss p text v end ds out out' of plain prints =
         of,
         elim prints.ends [
           | inl h ↦ sym h
-          | inr (inl h) ↦ absurd (subst IsTold h.0 told)
-          | inr (inr h) ↦ absurd (subst IsTold h told)
+          | inr (inl h) ↦ absurd (subst IsDetermined h.0 told)
+          | inr (inr h) ↦ absurd (subst IsDetermined h told)
         ],
       );
       read = λ is. absurd (plain_no end fault.Read plain_too is (λ h. h));
@@ -282,7 +282,7 @@ module _ (ss : List Source) (p : Purpose) (text : List ℕ) (end : Ending) (ds d
   told_by (followed w is follows) v of = (w, as_text w is, text_alike (kinds_of ds) ss p text v w of (as_text w is), follows)
   told_by (untold none all needs) v of = absurd (no_verdict none v of)
 
-  meant_by : Ends (λ others. IsDone (kinds_of ds) ss others p (definitions (names_of ss) q) (last (names_of ss) q)) ss (is_marked s) p end ds ds' out out' → IsTold end → (NeedsDrivers p end → All IsToldBy ds) → (v : Verdict) × IsText (kinds_of ds) ss p text v × (v.ending ≡ end)
+  meant_by : Ends (λ others. IsDone (kinds_of ds) ss others p (definitions (names_of ss) q) (last (names_of ss) q)) ss (is_marked s) p end ds ds' out out' → IsDetermined end → (NeedsDrivers p end → All IsToldBy ds) → (v : Verdict) × IsText (kinds_of ds) ss p text v × (v.ending ≡ end)
   meant_by (before same none outside) told needs = absurd (none told)
   meant_by (followed w is follows) told needs = (w, as_text w is, elim follows.ends [ inl h ↦ sym h | inr h ↦ absurd (outside_untold w end ds ds' out out' told h) ])
   meant_by (untold none all must) told needs = absurd (all (needs (must told)))

@@ -22,7 +22,7 @@ use Rattle.kl_infer.specs.Numbers.{limit}
 use Rattle.kl_infer.specs.Printed.{scheme_text}
 use Rattle.kl_infer.specs.declared.Typed.{Typed}
 use Rattle.kl_meaning.specs.Typing.{Known, Types, FunctionTypes, with_sort, value_of, function_of}
-use Rattle.kl_engine.specs.Answering.{Prints, IsTold}
+use Rattle.kl_engine.specs.Answering.{Prints, IsDetermined}
 use Rattle.kl_engine.specs.Faults.{ending}
 use Rattle.kl_engine.specs.Running.{ListsLine, ListsAll, ListsFront}
 use Rattle.kl_engine.specs.Verdict.{Verdict, well, refused, behind, names_in, named_schemes, scheme_line, scheme_lines}
@@ -55,11 +55,11 @@ lines_then : (xs ys : List Named) → (scheme_lines xs).ending ≡ None → sche
 lines_then [] ys fine = refl
 lines_then (d ∷ xs) ys fine = then_at (nat_lt limit (length (scheme_text d.1))) d xs ys (lines_then xs ys) fine
 
-told_at : (long : Bool) (d : Named) (v : Verdict) → IsTold v.ending → IsTold (if long then refused fault.SchemeBytes else behind (scheme_line d) v).ending
+told_at : (long : Bool) (d : Named) (v : Verdict) → IsDetermined v.ending → IsDetermined (if long then refused fault.SchemeBytes else behind (scheme_line d) v).ending
 told_at true d v told = tt
 told_at false d v told = told
 
-ends_told : (xs : List Named) → IsTold (scheme_lines xs).ending
+ends_told : (xs : List Named) → IsDetermined (scheme_lines xs).ending
 ends_told [] = tt
 ends_told (d ∷ xs) = told_at (nat_lt limit (length (scheme_text d.1))) d (scheme_lines xs) (ends_told xs)
 
@@ -111,7 +111,7 @@ module _ (xs : List Named) (out mid new : SinkState) (before : ListsAll xs out m
   early : (ys : List Named) → new ≡ mid → Prints (scheme_lines (xs ++ ys)) (Some fault.NoMemory) out new
   early ys same = subst (λ v. Prints v (Some fault.NoMemory) out new) (sym (with_more ys)) (record {
     ends = inr (inr refl);
-    whole = λ end. absurd (subst IsTold (sym end) (ends_told ys));
+    whole = λ end. absurd (subst IsDetermined (sym end) (ends_told ys));
     part = took_front (scheme_lines xs).page (scheme_lines ys).page out new (took_all (scheme_lines xs).page out new (ap (λ s. s.taken) same ∙ before.writes.took));
     nothing = λ none. same ∙ before.still (front_empty (scheme_lines xs).page (scheme_lines ys).page none);
   })

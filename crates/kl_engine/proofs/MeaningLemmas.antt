@@ -56,11 +56,11 @@ use Rattle.kl_sources.proofs.ListedSources.{listed_source}
 use Rattle.kl_sources.proofs.Lists.{of_all, mapped, unmapped}
 use Rattle.kl_sources.specs.Attaching.{SomeRose}
 use Rattle.kl_sources.specs.Sources.{kinds_of}
-use Rattle.kl_engine.specs.Answering.{KeepsDrivers, IsIdle, IsStored, IsCounted, IsUnreadBy, HasDrifted, IsOf, IsOutside, reading, writing, drifting, wanting, Follows, IsTold, IsOneOf, HasTextFault, PrintsNothing, IsUnread, NeedsDrivers}
+use Rattle.kl_engine.specs.Answering.{KeepsDrivers, IsIdle, IsStored, IsCounted, IsUnreadBy, HasDrifted, IsOf, IsOutside, reading, writing, drifting, wanting, Follows, IsDetermined, IsOneOf, HasTextFault, PrintsNothing, IsUnread, NeedsDrivers}
 use Rattle.kl_engine.specs.Commands.{Program}
 use Rattle.kl_engine.specs.Faults.{Ending}
 use Rattle.kl_engine.specs.Reading.{WasInScope}
-use Rattle.kl_engine.specs.Running.{AnswersTerm, DriftsAt, HasRunFault, IsListScheme, IsOutcome, fault_of, Ends, before, followed, untold, IsNamed, DoneMeaning}
+use Rattle.kl_engine.specs.Running.{AnswersTerm, DriftsAt, HasRunFault, IsListScheme, IsTermOutcome, fault_of, Ends, before, followed, untold, IsNamed, DoneMeaning}
 use Rattle.kl_engine.specs.Verdict.{Verdict, refused, GivesList, stored_fault, IsMeant}
 use Rattle.kl_engine.specs.Verdict as verdict
 use Rattle.kl_engine.specs.declared.fault.Fault.{Fault}
@@ -104,7 +104,7 @@ run_fault x first (error.TooDeep place) = tt
 run_fault x first (error.Changed d) = tt
 run_fault x first error.NoMemory = tt
 
-needs_drivers : (x : Name) (first : Option ℕ) (e : DriverError) → IsTold (Some (fault_of x e)) → NeedsDrivers (purpose.Run first) (Some (fault_of x e))
+needs_drivers : (x : Name) (first : Option ℕ) (e : DriverError) → IsDetermined (Some (fault_of x e)) → NeedsDrivers (purpose.Run first) (Some (fault_of x e))
 needs_drivers x first (error.BadSource place) told = tt
 needs_drivers x first (error.TooLong most) told = tt
 needs_drivers x first (error.TooDeep place) told = tt
@@ -237,8 +237,8 @@ module _ (ss : List Source) (marks : ℕ → Bool) (first : Option ℕ) (program
 
   refused_ends : Ends (λ others. IsMeant (kinds_of ds) ss others first program exp) ss marks (purpose.Run first) (Some (fault_of e.source e.error)) ds mid out out
   refused_ends = elim c.cause [
-    | inl (inl h) ↦ before refl (λ told. subst (λ d. IsTold (Some (fault_of e.source d))) h.0 told) (λ v. reading (ap (λ d. Some (fault_of e.source d)) h.0) (inr h.1))
-    | inl (inr h) ↦ before refl (λ told. subst (λ d. IsTold (Some (fault_of e.source d))) h told) (λ v. wanting (ap (λ d. Some (fault_of e.source d)) h))
+    | inl (inl h) ↦ before refl (λ told. subst (λ d. IsDetermined (Some (fault_of e.source d))) h.0 told) (λ v. reading (ap (λ d. Some (fault_of e.source d)) h.0) (inr h.1))
+    | inl (inr h) ↦ before refl (λ told. subst (λ d. IsDetermined (Some (fault_of e.source d))) h told) (λ v. wanting (ap (λ d. Some (fault_of e.source d)) h))
     | inr (marked, inl (w, of, at, inl without)) ↦ followed (refused (fault_of e.source e.error)) (inl (c.refused, w, fault_of e.source e.error, without, refused_by w of, refl))
         (follows_prints (refused (fault_of e.source e.error)) (Some (fault_of e.source e.error)) out out (prints_refused (fault_of e.source e.error) out) ds mid)
     | inr (marked, inl (w, of, at, inr lacks)) ↦ untold (none_meant ss marks first program exp ds lacks) (none_told ss marks first program exp ds lacks) (needs_drivers e.source first e.error)
@@ -389,7 +389,7 @@ run_unread fault.TermNodes has is = is
 run_unread fault.TermDepth has is = is
 run_unread fault.SchemeBytes has is = is
 
-run_needs : (first : Option ℕ) (end : Ending) → IsOneOf HasRunFault end → IsTold end → NeedsDrivers (purpose.Run first) end
+run_needs : (first : Option ℕ) (end : Ending) → IsOneOf HasRunFault end → IsDetermined end → NeedsDrivers (purpose.Run first) end
 run_needs first None has told = tt
 run_needs first (Some fault.Overflow) has told = tt
 run_needs first (Some fault.Read) has told = absurd told
@@ -424,7 +424,7 @@ module _ (ss : List Source) (program : Decls) (e : Exp) (typed : Typed) (infers 
   lists : GivesList (grounds_of ss) program e → IsListScheme typed.result
   lists of u is = of u ((infers.result.instances u).0 is)
 
-  outcome_is : (listed : Bool) → (listed ≡ true → IsListScheme typed.result) → (listed ≡ false → IsListScheme typed.result → ⊥) → (first : Option ℕ) (o : Outcome) (v : Verdict) → IsOutcome listed first o v → verdict.IsOutcome (grounds_of ss) first program e o v
+  outcome_is : (listed : Bool) → (listed ≡ true → IsListScheme typed.result) → (listed ≡ false → IsListScheme typed.result → ⊥) → (first : Option ℕ) (o : Outcome) (v : Verdict) → IsTermOutcome listed first o v → verdict.IsOutcome (grounds_of ss) first program e o v
   outcome_is true of other first (done x) v is = is
   outcome_is true of other first (over xs) v is = inl (gives (of refl), is)
   outcome_is true of other first stuck v is = is
@@ -467,7 +467,7 @@ module _ (ss : List Source) (program : Decls) (e : Exp) (typed : Typed) (infers 
 module _ (ss : List Source) (program : Decls) (e : Exp) (typed : Typed) (infers : Infers program e (grounds_of ss) typed) (tidy : IsTidyProgram program e) (names : List Name) (kept : names ≡ names_of ss) (t : Tree) (is : t ≡ term_of program e names)
     (means : Means program e names t) (ds : List State) (marks : ℕ → Bool) (w : World) (serves : Serves (kinds_of ds) marks ss w) (placed : ArePlaced (kinds_of ds) ss) (steps : EachSteps (MayAttach marks ss) ds w.drivers)
     (stand : (i : ℕ) (s : Source) → slice_get ss i ≡ Some s → marks i ≡ true → Stands (kinds_of ds) w.drivers s) (listed : Bool) (of : listed ≡ true → IsListScheme typed.result) (other : listed ≡ false → IsListScheme typed.result → ⊥)
-    (first : Option ℕ) (end : Ending) (last : List State) (out out' : SinkState) (answers : AnswersTerm (IsOutcome listed first (core (values_of w) t [])) (HaveSources (types_of w) (values_of w)) end w.sources w.drivers last out out') (list_is : w.sources ≡ list_of marks 0 ss) where
+    (first : Option ℕ) (end : Ending) (last : List State) (out out' : SinkState) (answers : AnswersTerm (IsTermOutcome listed first (core (values_of w) t [])) (HaveSources (types_of w) (values_of w)) end w.sources w.drivers last out out') (list_is : w.sources ≡ list_of marks 0 ss) where
   kept_first : KeepsDrivers (IsNamed ss marks) ds w.drivers
   kept_first = attach_keeps ss marks ds w.drivers steps
 
@@ -476,7 +476,7 @@ module _ (ss : List Source) (program : Decls) (e : Exp) (typed : Typed) (infers 
       let inhabit : HaveTypesByName (grounds_of ss) vs =
       values_typed (kinds_of ds) marks 0 ss vs (λ i s at. (of_all (IsFit (kinds_of ds)) ss i s placed.fit at).2.collection) (λ i s at marked. (stand i s at (ap marks (sym (zero-add i)) ∙ marked)).typed) have in
       let found = answers.follows (sources_have ss program e typed infers tidy names kept t is (kinds_of ds) marks w serves means vs have inhabit) in
-      let meant : IsOutcome listed first (meaning_of_program program e vs) found.0 = subst (λ o. IsOutcome listed first o found.0) (core_is ss program e typed infers tidy names kept t is (kinds_of ds) marks w serves means vs have inhabit) found.1 in
+      let meant : IsTermOutcome listed first (meaning_of_program program e vs) found.0 = subst (λ o. IsTermOutcome listed first o found.0) (core_is ss program e typed infers tidy names kept t is (kinds_of ds) marks w serves means vs have inhabit) found.1 in
       followed found.0 (inr (vs, have, outcome_is ss program e typed infers listed of other first (meaning_of_program program e vs) found.0 meant))
       (follows_since (IsNamed ss marks) ds w.drivers last kept_first found.0 end out out' found.2)
   answered_ends (inr lacks) = untold (none_meant ss marks first program e ds lacks) (none_told ss marks first program e ds lacks) (run_needs first end answers.no_other)
@@ -521,7 +521,7 @@ module _ (ss : List Source) (s : Scoped) (scope : WasInScope (names_of ss) s) (t
         list_sense ss (decls_of s.program.defs) (view s.program.last) typed infers (tidied (names_of ss) s scope) s.sources scope.1.sources_kept t is (kinds_of ds) (is_marked s) (world_of mid list settings trace) session_serves (of true_is)
 
     pub session_done : (means : Means (decls_of s.program.defs) (view s.program.last) s.sources t) (placed : ArePlaced (kinds_of ds) ss) (other : listed ≡ false → IsListScheme typed.result → ⊥) (first : Option ℕ) (end : Ending) (last : List State) (out out' : SinkState)
-        → AnswersTerm (IsOutcome listed first (core (values_of (world_of mid list settings trace)) t [])) (HaveSources (types_of (world_of mid list settings trace)) (values_of (world_of mid list settings trace))) end list mid last out out'
+        → AnswersTerm (IsTermOutcome listed first (core (values_of (world_of mid list settings trace)) t [])) (HaveSources (types_of (world_of mid list settings trace)) (values_of (world_of mid list settings trace))) end list mid last out out'
         → DoneMeaning ss (is_marked s) first (decls_of s.program.defs) (view s.program.last) end ds last out out'
     session_done means placed other first end last out out' answers =
         term_done ss (decls_of s.program.defs) (view s.program.last) typed infers (tidied (names_of ss) s scope) s.sources scope.1.sources_kept t is means ds (is_marked s) (world_of mid list settings trace) session_serves placed attaches.drivers

@@ -9,7 +9,7 @@ use Rattle.kl_exchange.specs.declared.error.PrintError.{PrintError}
 use Rattle.kl_exchange.specs.declared.error.PrintError.TheVariants as print
 use Rattle.kl_value.specs.declared.Value.{Value}
 use Rattle.kl_value.specs.declared.Value.TheVariants as value
-use Rattle.kl_engine.specs.Answering.{Prints, IsTold}
+use Rattle.kl_engine.specs.Answering.{Prints, IsDetermined}
 use Rattle.kl_engine.specs.Showing.{write_fault}
 use Rattle.kl_engine.specs.Verdict.{Verdict, well, refused, list_front, overflowing, cut_list, cut, cut_layer, first_of, suffice, value_page}
 use Rattle.kl_engine.specs.Faults.{Ending}
@@ -39,9 +39,9 @@ stop_fault stop.Failed = fault.Write
 stop_fault stop.NoMemory = fault.NoMemory
 
 -- a page of any verdict was refused
-pub page_cut : (v : Verdict) → IsTold v.ending → v.page ≢ [] → (e : Stop) (out out' : SinkState) → WritesWhole {T = Unit {0}} v.page (Err e) out out' → Prints v (Some (stop_fault e)) out out'
-page_cut v told full stop.Failed out out' writes = record { ends = inr (inl (refl, writes.cause.failed refl, full)); whole = λ is. absurd (subst IsTold (sym is) told); part = writes.part; nothing = λ none. absurd (full none) }
-page_cut v told full stop.NoMemory out out' writes = record { ends = inr (inr refl); whole = λ is. absurd (subst IsTold (sym is) told); part = writes.part; nothing = λ none. absurd (full none) }
+pub page_cut : (v : Verdict) → IsDetermined v.ending → v.page ≢ [] → (e : Stop) (out out' : SinkState) → WritesWhole {T = Unit {0}} v.page (Err e) out out' → Prints v (Some (stop_fault e)) out out'
+page_cut v told full stop.Failed out out' writes = record { ends = inr (inl (refl, writes.cause.failed refl, full)); whole = λ is. absurd (subst IsDetermined (sym is) told); part = writes.part; nothing = λ none. absurd (full none) }
+page_cut v told full stop.NoMemory out out' writes = record { ends = inr (inr refl); whole = λ is. absurd (subst IsDetermined (sym is) told); part = writes.part; nothing = λ none. absurd (full none) }
 
 -- the items of a list up to an overflow
 module _ (vs : List Value) (out out' : SinkState) where

@@ -11,7 +11,7 @@ use Rattle.kl_ask.specs.Driver.{DriverKind, State}
 use Rattle.kl_sources.specs.declared.source.Source.{Source}
 use Rattle.kl_sources.specs.Attaching.{SomeRose}
 use Rattle.kl_sources.specs.Sources.{kinds_of}
-use Rattle.kl_engine.specs.Answering.{one, IsOutside, reading, writing, drifting, wanting, Follows, DoesText, Does, IsTold, IsOneOf, HasTextFault, HasFault, IsMentionedIn, IsMentioned, PrintsNothing, IsRun, IsUnread, IsUnreadBy, HasDrifted, OfRun, LacksFile, IsStored}
+use Rattle.kl_engine.specs.Answering.{one, IsOutside, reading, writing, drifting, wanting, Follows, DoesText, Does, IsDetermined, IsOneOf, HasTextFault, HasFault, IsMentionedIn, IsMentioned, PrintsNothing, IsRun, IsUnread, IsUnreadBy, HasDrifted, OfRun, LacksFile, IsStored}
 use Rattle.kl_engine.specs.Commands.{Program}
 use Rattle.kl_engine.specs.Faults.{Ending}
 use Rattle.kl_engine.specs.Inputs.{IsInputsEnd, ReadsInputs}
@@ -228,8 +228,8 @@ module _ (p : Purpose) (path : List ℕ) (catalogue : Option (List ℕ)) (f f' :
     program_refused = record {
       told = λ told is v of. (v, of, one refl, told_refused told is v of);
       meant = λ told is well needs. elim (reads.refused told is) [
-        | inl none ↦ absurd (subst (λ h. IsTold (Some h)) none well)
-        | inr (inl failed) ↦ absurd (subst (λ h. IsTold (Some h)) failed.0 well)
+        | inl none ↦ absurd (subst (λ h. IsDetermined (Some h)) none well)
+        | inr (inl failed) ↦ absurd (subst (λ h. IsDetermined (Some h)) failed.0 well)
         | inr (inr wrong) ↦ (refused g, inl (g, wrong, refl), refl)
       ];
       caused = record {

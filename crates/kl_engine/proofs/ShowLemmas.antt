@@ -25,7 +25,7 @@ use Rattle.kl_outside.proofs.FileLemmas.{fun_ext}
 use Rattle.kl_outside.proofs.SinkLemmas.{append_known-nil, append_known-append, took_none, took_all, took_front}
 use Rattle.kl_value.specs.Written.{text_of}
 use Rattle.kl_value.specs.declared.value.Value.{Value}
-use Rattle.kl_engine.specs.Answering.{IsTold, IsOneOf, HasFault}
+use Rattle.kl_engine.specs.Answering.{IsDetermined, IsOneOf, HasFault}
 use Rattle.kl_engine.specs.Commands.{Show}
 use Rattle.kl_engine.specs.Faults.{Ending}
 use Rattle.kl_engine.specs.Showing.{FollowsFile, DoesShow, ShowsItems, Flushes, read_fault, fetch_fault, write_fault}
@@ -47,14 +47,14 @@ lines-one vs v = lines-append vs (v ∷ []) ∙ ap (λ bs. lines vs ++ bs) (appe
 abbrev shown : List Value → FileEnd → Verdict
 shown vs end = record { page = lines vs; ending = end_fault end }
 
-end_told : (end : FileEnd) → IsTold (end_fault end)
+end_told : (end : FileEnd) → IsDetermined (end_fault end)
 end_told WholeText = tt
 end_told (BadAt place) = tt
 end_told (TooDeepAt place) = tt
 end_told PastLimit = tt
 
-showing_told : (bytes : List ℕ) (v : Verdict) → IsShowing bytes v → IsTold v.ending
-showing_told bytes v of = subst (λ w. IsTold w.ending) (sym of.3) (end_told of.1)
+showing_told : (bytes : List ℕ) (v : Verdict) → IsShowing bytes v → IsDetermined v.ending
+showing_told bytes v of = subst (λ w. IsDetermined w.ending) (sym of.3) (end_told of.1)
 
 -- all items were printed, and the end was met
 follows_end : (bytes : List ℕ) (vs : List Value) (end : FileEnd) (s0 s : FilesState) (out0 out : SinkState) → Shows most_read bytes vs end → out.taken ≡ append_known out0.taken (lines vs)
@@ -109,11 +109,11 @@ no_front : (xs ys : List ℕ) → xs ≢ [] → xs ++ ys ≢ []
 no_front [] ys full is = full refl
 no_front (x ∷ xs) ys full is = cc
 
-unlike : (f : Fault) (vs : List Value) (s0 s : FilesState) (out0 out : SinkState) → Cause f vs s0 s out0 out → IsTold (Some f) → ⊥
+unlike : (f : Fault) (vs : List Value) (s0 s : FilesState) (out0 out : SinkState) → Cause f vs s0 s out0 out → IsDetermined (Some f) → ⊥
 unlike f vs s0 s out0 out cause told = elim cause [
-  | inl h ↦ subst (λ g. IsTold (Some g)) h.0 told
-  | inr (inl h) ↦ subst (λ g. IsTold (Some g)) h.0 told
-  | inr (inr h) ↦ subst (λ g. IsTold (Some g)) h told
+  | inl h ↦ subst (λ g. IsDetermined (Some g)) h.0 told
+  | inr (inl h) ↦ subst (λ g. IsDetermined (Some g)) h.0 told
+  | inr (inr h) ↦ subst (λ g. IsDetermined (Some g)) h told
 ]
 
 stop_other : (f : Fault) (vs : List Value) (s0 s : FilesState) (out0 out : SinkState) → Cause f vs s0 s out0 out → HasFault (Show []) f
@@ -133,7 +133,7 @@ follows_front bytes vs us f s0 s out0 out cause part v of is =
         | inr (inl h) ↦ inr (inr (inl (ap Some h.0, h.1, λ none. no_front (lines vs) (lines us) h.2 (sym page ∙ none))))
         | inr (inr h) ↦ inr (inr (inr (ap Some h)))
       ];
-      whole = λ same. absurd (unlike f vs s0 s out0 out cause (subst IsTold (sym same) (showing_told bytes v of)));
+      whole = λ same. absurd (unlike f vs s0 s out0 out cause (subst IsDetermined (sym same) (showing_told bytes v of)));
       part = subst (λ bs. TookPart bs out0 out) (sym page) (took_front (lines vs) (lines us) out0 out part);
     }
 
@@ -179,8 +179,8 @@ module _ (file : ℕ) (new : FileReading) (s0 s : FilesState) (out0 out : SinkSt
     others = stays.others;
     is_open = stays.is_open;
     later = stays.later;
-    read = λ is. absurd (subst IsTold is (end_told end));
-    write = λ is. absurd (subst IsTold is (end_told end));
+    read = λ is. absurd (subst IsDetermined is (end_told end));
+    write = λ is. absurd (subst IsDetermined is (end_told end));
     no_other = end_other end;
     follows = λ bytes known v of. follows_end bytes vs end s0 s out0 out (shows bytes known) took v of;
     meant = λ bytes known is. (shown vs end, (vs, end, shows bytes known, refl), refl);
@@ -455,7 +455,7 @@ module _ (path : List ℕ) where
             part = follows.part;
           }
 
-      file_meant : (told : List ℕ → Option (List ℕ)) → s0.told ≡ Some told → (found : Option (List ℕ)) → told path ≡ found → IsTold end → (v : Verdict) × IsFile IsShowing (told path) v × (v.ending ≡ end)
+      file_meant : (told : List ℕ → Option (List ℕ)) → s0.told ≡ Some told → (found : Option (List ℕ)) → told path ≡ found → IsDetermined end → (v : Verdict) × IsFile IsShowing (told path) v × (v.ending ≡ end)
       file_meant told is None has well = absurd (gone told is has)
       file_meant told is (Some bytes) has well =
           let meant = shows.meant bytes (at told is bytes has) well in

@@ -19,7 +19,7 @@ use Rattle.kl_eval.specs.declared.stop.EvalStop.{EvalStop}
 use Rattle.kl_eval.specs.declared.stop.EvalStop.TheVariants as stop
 use Rattle.kl_engine.specs.Answering.{KeepsDrivers, Prints}
 use Rattle.kl_engine.specs.Faults.{Ending}
-use Rattle.kl_engine.specs.Running.{AnswersTerm, IsOutcome, IsListOutcome, IsValueOutcome, fault_of}
+use Rattle.kl_engine.specs.Running.{AnswersTerm, IsTermOutcome, IsListOutcome, IsValueOutcome, fault_of}
 use Rattle.kl_engine.specs.Verdict.{value_page, refused, cut, cut_list, suffice}
 use Rattle.kl_engine.specs.declared.fault.Fault.{Fault}
 use Rattle.kl_engine.specs.declared.fault.Fault.TheVariants as fault
@@ -116,8 +116,8 @@ module _ (t : Tree) (env : List Value) (closed : env ≡ []) (first : Option ℕ
 -- ---- either
 
 module _ (listed : Bool) (first : Option ℕ) (o : Outcome) (told : Type 0) (end : Ending) (list : List Attached) (ds ds' : List State) (out out' : SinkState) where
-  pub as_list : listed ≡ true → AnswersTerm (IsListOutcome first o) told end list ds ds' out out' → AnswersTerm (IsOutcome listed first o) told end list ds ds' out out'
-  as_list is answers = subst (λ b. AnswersTerm (IsOutcome b first o) told end list ds ds' out out') (sym is) answers
+  pub as_list : listed ≡ true → AnswersTerm (IsListOutcome first o) told end list ds ds' out out' → AnswersTerm (IsTermOutcome listed first o) told end list ds ds' out out'
+  as_list is answers = subst (λ b. AnswersTerm (IsTermOutcome b first o) told end list ds ds' out out') (sym is) answers
 
-  pub as_value : listed ≡ false → AnswersTerm (IsValueOutcome first o) told end list ds ds' out out' → AnswersTerm (IsOutcome listed first o) told end list ds ds' out out'
-  as_value is answers = subst (λ b. AnswersTerm (IsOutcome b first o) told end list ds ds' out out') (sym is) answers
+  pub as_value : listed ≡ false → AnswersTerm (IsValueOutcome first o) told end list ds ds' out out' → AnswersTerm (IsTermOutcome listed first o) told end list ds ds' out out'
+  as_value is answers = subst (λ b. AnswersTerm (IsTermOutcome b first o) told end list ds ds' out out') (sym is) answers

@@ -14,7 +14,7 @@ use Rattle.kl_ask.specs.Lists.{EachSteps}
 use Rattle.kl_sources.specs.Attaching.{RoseAt, SomeRose}
 use Rattle.kl_sources.specs.Sources.{kinds_of, names_of, contents}
 use Rattle.kl_sources.specs.declared.source.Source.{Source}
-use Rattle.kl_engine.specs.Commands.{Command, Neither, Program, Show}
+use Rattle.kl_engine.specs.Commands.{Command, NoCommand, Program, Show}
 use Rattle.kl_engine.specs.Faults.{Ending}
 use Rattle.kl_engine.specs.Reading.{IsProgramOf}
 use Rattle.kl_engine.specs.Verdict.{Verdict, refused, stored_fault, IsListing, IsText, HasInputs, IsVerdict}
@@ -97,14 +97,14 @@ pub data Alike (v w : Verdict) : Type 0 where
   renamed : (x y : Wrong) (byte : ℕ) → v ≡ refused (fault.Text x byte) → w ≡ refused (fault.Text y byte) → unnamed x ≡ unnamed y → Alike v w
   retyped : (grounds : List (Name × Ground)) (ds : Decls) (e : Exp) → IsListing grounds ds e v → IsListing grounds ds e w → Alike v w
 
--- none of the faults that can come to any command
-abbrev pub IsTold : Ending → Type 0
-IsTold None = ⊤
-IsTold (Some fault.Read) = ⊥
-IsTold (Some fault.Write) = ⊥
-IsTold (Some (fault.Changed name)) = ⊥
-IsTold (Some fault.NoMemory) = ⊥
-IsTold (Some f) = ⊤
+-- an end that bytes determine: none of the faults that can come to any command
+abbrev pub IsDetermined : Ending → Type 0
+IsDetermined None = ⊤
+IsDetermined (Some fault.Read) = ⊥
+IsDetermined (Some fault.Write) = ⊥
+IsDetermined (Some (fault.Changed name)) = ⊥
+IsDetermined (Some fault.NoMemory) = ⊥
+IsDetermined (Some f) = ⊤
 
 -- ---- which faults come to what
 
@@ -137,9 +137,9 @@ HasTextFault p f = ⊥
 
 -- the faults of each command
 abbrev pub HasFault : Command → Fault → Type 0
-HasFault Neither fault.Usage = ⊤
-HasFault Neither fault.NoMemory = ⊤
-HasFault Neither f = ⊥
+HasFault NoCommand fault.Usage = ⊤
+HasFault NoCommand fault.NoMemory = ⊤
+HasFault NoCommand f = ⊥
 HasFault command fault.Read = ⊤
 HasFault (Program p path catalogue) fault.ProgramBytes = ⊤
 HasFault (Program p path catalogue) fault.CatalogueBytes = ⊤
@@ -207,7 +207,7 @@ IsMentionedIn ss text name = (q : AProgram) × IsProgramOf (names_of ss) text q 
 
 pub record DoesText (ss : List Source) (p : Purpose) (text : List ℕ) (end : Ending) (ds ds' : List State) (out out' : SinkState) : Type 0 where
   pub told : (v : Verdict) → IsText (kinds_of ds) ss p text v → (w : Verdict) × IsText (kinds_of ds) ss p text w × Alike v w × Follows ⊥ w end ds ds' out out'
-  pub meant : IsTold end → (NeedsDrivers p end → All IsToldBy ds) → (v : Verdict) × IsText (kinds_of ds) ss p text v × (v.ending ≡ end)
+  pub meant : IsDetermined end → (NeedsDrivers p end → All IsToldBy ds) → (v : Verdict) × IsText (kinds_of ds) ss p text v × (v.ending ≡ end)
   pub read : end ≡ Some fault.Read → IsStored (kinds_of ds) ss (IsMentionedIn ss text) fault.Read ⊎ SomeRose (λ d. d.faults) ds ds'
   pub write : end ≡ Some fault.Write → Rose out.faults out'.faults
   pub unread : (f : Fault) → end ≡ Some f → IsUnread f → IsUnreadBy ss (IsMentionedIn ss text) f ds ds'
@@ -230,8 +230,8 @@ OfRun command files ks P = ⊥
 
 -- Whether files and drivers tell their bytes or not, each ending has its cause.
 pub record IsCaused (command : Command) (end : Ending) (files files' : FilesState) (ds ds' : List State) (out out' : SinkState) : Type 0 where
-  pub usage : end ≡ Some fault.Usage → command ≡ Neither
-  pub no_usage : command ≡ Neither → (end ≡ Some fault.Usage) ⊎ (end ≡ Some fault.NoMemory)
+  pub usage : end ≡ Some fault.Usage → command ≡ NoCommand
+  pub no_usage : command ≡ NoCommand → (end ≡ Some fault.Usage) ⊎ (end ≡ Some fault.NoMemory)
   pub read : end ≡ Some fault.Read → LacksFile command files (kinds_of ds) ⊎ OfRun command files (kinds_of ds) (λ text ss. IsStored (kinds_of ds) ss (IsMentionedIn ss text) fault.Read) ⊎ Rose files.faults files'.faults ⊎ SomeRose (λ d. d.faults) ds ds'
   pub write : end ≡ Some fault.Write → Rose out.faults out'.faults
   pub changed : (name : Name) → end ≡ Some (fault.Changed name) → OfRun command files (kinds_of ds) (λ text ss. HasDrifted ss (λ x. IsMentionedIn ss text x × (x ≡ name)) ds ds')
@@ -265,7 +265,7 @@ pub record IsClosed (command : Command) (files files' : FilesState) (ds ds' : Li
 pub record Does (command : Command) (end : Ending) (files files' : FilesState) (ds ds' : List State) (out out' : SinkState) : Type 0 where
   pub told : (told : _) → files.told ≡ Some told → (v : Verdict) → IsVerdict told (kinds_of ds) command v → (w : Verdict) × IsVerdict told (kinds_of ds) command w × Alike v w × Follows (Rose files.faults files'.faults) w end ds ds' out out'
   -- the way back
-  pub meant : (told : _) → files.told ≡ Some told → IsTold end → (CommandNeedsDrivers command end → All IsToldBy ds) → (v : Verdict) × IsVerdict told (kinds_of ds) command v × (v.ending ≡ end)
+  pub meant : (told : _) → files.told ≡ Some told → IsDetermined end → (CommandNeedsDrivers command end → All IsToldBy ds) → (v : Verdict) × IsVerdict told (kinds_of ds) command v × (v.ending ≡ end)
   pub caused : IsCaused command end files files' ds ds' out out'
   pub unread : UnreadCause command end files ds ds'
   pub closed : IsClosed command files files' ds ds'

@@ -16,7 +16,7 @@ use Rattle.kl_ask.specs.declared.ask.DriverError.TheVariants as error
 use Rattle.kl_sources.specs.Attaching.{RoseAt, SomeRose}
 use Rattle.kl_sources.specs.Sources.{kinds_of, names_of}
 use Rattle.kl_sources.specs.declared.source.Source.{Source}
-use Rattle.kl_engine.specs.Answering.{KeepsDrivers, IsStored, IsUnreadBy, HasDrifted, Follows, Prints, IsOutside, IsTold, IsRun, HasTextFault, IsOneOf, PrintsNothing, IsUnread, NeedsDrivers}
+use Rattle.kl_engine.specs.Answering.{KeepsDrivers, IsStored, IsUnreadBy, HasDrifted, Follows, Prints, IsOutside, IsDetermined, IsRun, HasTextFault, IsOneOf, PrintsNothing, IsUnread, NeedsDrivers}
 use Rattle.kl_engine.specs.Commands.{Program}
 use Rattle.kl_engine.specs.Faults.{Ending}
 use Rattle.kl_infer.specs.Numbers.{limit}
@@ -42,9 +42,9 @@ IsValueOutcome first (done v) w = w ≡ value_page (cut first v)
 IsValueOutcome first (over vs) w = w ≡ refused fault.Overflow
 IsValueOutcome first stuck w = ⊥
 
-abbrev pub IsOutcome : Bool → Option ℕ → Outcome → Verdict → Type 0
-IsOutcome true first o w = IsListOutcome first o w
-IsOutcome false first o w = IsValueOutcome first o w
+abbrev pub IsTermOutcome : Bool → Option ℕ → Outcome → Verdict → Type 0
+IsTermOutcome true first o w = IsListOutcome first o w
+IsTermOutcome false first o w = IsValueOutcome first o w
 
 -- how it is told that a driver refuses a source
 abbrev pub fault_of : Name → DriverError → Fault
@@ -69,8 +69,8 @@ abbrev pub DriftsAt : List Attached → Name → List State → List State → T
 DriftsAt list name old new = (i : ℕ) × (a : Attached) × (place : ℕ) × (slice_get list i ≡ Some a) × (a.source ≡ name) × (a.driver ≡ Some place) × RoseAt place (λ d. d.drifts) old new
 
 -- An outcome is printed. Where the sources are told it is that of the term, and in any case each fault has its cause.
-pub record AnswersTerm (IsOutcome : Verdict → Type 0) (told : Type 0) (end : Ending) (list : List Attached) (ds ds' : List State) (out out' : SinkState) : Type 0 where
-  pub follows : told → (v : Verdict) × IsOutcome v × Follows ⊥ v end ds ds' out out'
+pub record AnswersTerm (IsOut : Verdict → Type 0) (told : Type 0) (end : Ending) (list : List Attached) (ds ds' : List State) (out out' : SinkState) : Type 0 where
+  pub follows : told → (v : Verdict) × IsOut v × Follows ⊥ v end ds ds' out out'
   pub read : end ≡ Some fault.Read → SomeRose (λ d. d.faults) ds ds'
   pub write : end ≡ Some fault.Write → Rose out.faults out'.faults
   pub changed : (name : Name) → end ≡ Some (fault.Changed name) → DriftsAt list name ds ds'
@@ -81,9 +81,9 @@ pub record AnswersTerm (IsOutcome : Verdict → Type 0) (told : Type 0) (end : E
 -- How what is done with a program ends: a fault of the outside or want of memory came before anything was printed; or a
 -- verdict of the program is followed; or it comes to sources that are not told, and so to no verdict.
 pub data Ends (IsVerdict : (ℕ → Bool) → Verdict → Type 0) (ss : List Source) (marks : ℕ → Bool) (p : Purpose) (end : Ending) (ds ds' : List State) (out out' : SinkState) : Type 0 where
-  before : out' ≡ out → (IsTold end → ⊥) → ((v : Verdict) → IsOutside ⊥ v end ds ds' out out') → Ends IsVerdict ss marks p end ds ds' out out'
+  before : out' ≡ out → (IsDetermined end → ⊥) → ((v : Verdict) → IsOutside ⊥ v end ds ds' out out') → Ends IsVerdict ss marks p end ds ds' out out'
   followed : (v : Verdict) → IsVerdict marks v → Follows ⊥ v end ds ds' out out' → Ends IsVerdict ss marks p end ds ds' out out'
-  untold : ((others : ℕ → Bool) → ((i : ℕ) → i < length ss → marks i ≡ others i) → (v : Verdict) → IsVerdict others v → ⊥) → (All IsToldBy ds → ⊥) → (IsTold end → NeedsDrivers p end) → Ends IsVerdict ss marks p end ds ds' out out'
+  untold : ((others : ℕ → Bool) → ((i : ℕ) → i < length ss → marks i ≡ others i) → (v : Verdict) → IsVerdict others v → ⊥) → (All IsToldBy ds → ⊥) → (IsDetermined end → NeedsDrivers p end) → Ends IsVerdict ss marks p end ds ds' out out'
 
 -- a name of the sources that is mentioned
 abbrev pub IsNamed : List Source → (ℕ → Bool) → Name → Type 0

@@ -11,7 +11,7 @@ use Rattle.std.specs.Io.KnownBytes.{append_known}
 use Rattle.kl_outside.specs.Files.{FilesState, OtherFiles, IsMissing}
 use Rattle.kl_outside.specs.Sinks.{SinkState, WritesWhole, TookPart}
 use Rattle.kl_outside.specs.declared.stop.Stop.{Stop}
-use Rattle.kl_engine.specs.Answering.{IsTold, IsOneOf, HasFault}
+use Rattle.kl_engine.specs.Answering.{IsDetermined, IsOneOf, HasFault}
 use Rattle.kl_engine.specs.Commands.{Show}
 use Rattle.kl_engine.specs.Faults.{Ending}
 use Rattle.kl_engine.specs.Verdict.{Verdict, refused, IsFile, IsShowing}
@@ -49,7 +49,7 @@ pub record FollowsFile (v : Verdict) (end : Ending) (files files' : FilesState) 
 -- the file at a path is shown
 pub record DoesShow (path : List ℕ) (end : Ending) (files files' : FilesState) (out out' : SinkState) : Type 0 where
   pub follows : (told : _) → files.told ≡ Some told → (v : Verdict) → IsFile IsShowing (told path) v → FollowsFile v end files files' out out'
-  pub meant : (told : _) → files.told ≡ Some told → IsTold end → (v : Verdict) × IsFile IsShowing (told path) v × (v.ending ≡ end)
+  pub meant : (told : _) → files.told ≡ Some told → IsDetermined end → (v : Verdict) × IsFile IsShowing (told path) v × (v.ending ≡ end)
   pub read : end ≡ Some fault.Read → IsMissing files path ⊎ Rose files.faults files'.faults
   pub write : end ≡ Some fault.Write → Rose out.faults out'.faults
   pub no_other : IsOneOf (HasFault (Show path)) end
@@ -66,4 +66,4 @@ pub record ShowsItems (file : ℕ) (end : Ending) (files files' : FilesState) (o
   pub write : end ≡ Some fault.Write → Rose out.faults out'.faults
   pub no_other : IsOneOf (HasFault (Show [])) end
   pub follows : (bytes : List ℕ) → files.left file ≡ Some (Some bytes) → (v : Verdict) → IsShowing bytes v → FollowsFile v end files files' out out'
-  pub meant : (bytes : List ℕ) → files.left file ≡ Some (Some bytes) → IsTold end → (v : Verdict) × IsShowing bytes v × (v.ending ≡ end)
+  pub meant : (bytes : List ℕ) → files.left file ≡ Some (Some bytes) → IsDetermined end → (v : Verdict) × IsShowing bytes v × (v.ending ≡ end)

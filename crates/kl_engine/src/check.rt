@@ -13,6 +13,9 @@ use kl_sources::{Source, names_of};
 use std::alloc::Global;
 
 /// Checks the program that a text is, over these sources.
+///
+/// # Errors
+/// The text is no program in scope. `Write`, where the sink refused the line; want of memory.
 pub fn check<S: Sink>(
     alloc: Global,
     text: &[u8],

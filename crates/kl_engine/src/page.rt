@@ -16,6 +16,9 @@ use kl_outside::{Sink, Stop, write_whole};
 use kl_value::Value;
 
 /// Prints a page, which has at least a newline.
+///
+/// # Errors
+/// `Write`, where the sink refused a piece; want of memory.
 pub(crate) fn print_page<S: Sink>(page: &[u8], out: &mut S) -> Result<(), Fault>
     requires { page.now ≢ [] }
     ensures { Prints (well page.now) (ending result) (S.state out.old) (S.state out.new) }
@@ -38,6 +41,9 @@ pub(crate) fn write_fault(error: PrintError) -> Fault
 }
 
 /// Puts a value and a newline on a page.
+///
+/// # Errors
+/// Where the page was full: the sink refused it, or memory ran out.
 pub(crate) fn put_line<S: Sink>(
     value: &Value,
     page: &mut Page,
@@ -52,6 +58,9 @@ pub(crate) fn put_line<S: Sink>(
 }
 
 /// Prints a value and a newline.
+///
+/// # Errors
+/// `Write`, where the sink refused a piece; want of memory.
 pub(crate) fn print_value<S: Sink>(value: &Value, out: &mut S) -> Result<(), Fault>
     ensures { Prints (value_page value.now) (ending result) (S.state out.old) (S.state out.new) }
 {
@@ -73,6 +82,9 @@ fn print_line<S: Sink>(value: &Value, out: &mut S) -> Result<(), PrintError>
 
 /// Prints the items of a list that end in an overflow, which it then answers; or the first of them, where these are all
 /// that are wanted.
+///
+/// # Errors
+/// `Overflow`, where more items are wanted than stand before it. `Write`, where the sink refused a piece; want of memory.
 pub(crate) fn print_cut_list<S: Sink>(
     items: Vec<Value>,
     first: Option<u32>,

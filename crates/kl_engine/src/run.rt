@@ -17,7 +17,7 @@ ghost use Rattle.kl_sources.specs.Sources.{kinds_of};
 ghost use Rattle.kl_engine.specs.Answering.{DoesText, IsIdle};
 ghost use Rattle.kl_engine.specs.Faults.{ending};
 ghost use Rattle.kl_engine.specs.Reading.{WasInScope};
-ghost use Rattle.kl_engine.specs.Running.{AnswersTerm, DoneWith, DoneMeaning, IsOutcome, IsListScheme, IsListOutcome, IsValueOutcome, fault_of};
+ghost use Rattle.kl_engine.specs.Running.{AnswersTerm, DoneWith, DoneMeaning, IsTermOutcome, IsListScheme, IsListOutcome, IsValueOutcome, fault_of};
 ghost use Rattle.kl_engine.specs.declared.top.Purpose.TheVariants.{Run};
 
 use crate::cut::cut;
@@ -45,6 +45,11 @@ pub struct How {
 }
 
 /// Runs the program that a text is, over these sources.
+///
+/// # Errors
+/// The first that is wrong: the text is no program in scope, the term of a declaration is too large, a declaration has no
+/// type, a source that is mentioned is unreadable as its type, the program means an overflow. `Read` and `Changed`, where a
+/// driver failed or a source is no longer what it was; `Write`, where the sink refused a piece; want of memory.
 pub fn run<S: Sink>(
     alloc: Global,
     text: &[u8],
@@ -138,7 +143,7 @@ fn answer_term<S: Sink>(
 ) -> Result<(), Fault>
     requires sense { Sense (term_view term.now) [] (⟦<Session as Seen>⟧.world session.old) }
     requires list { is_list ≡ true → SenseList (term_view term.now) [] (⟦<Session as Seen>⟧.world session.old) }
-    ensures prints { AnswersTerm (IsOutcome is_list first (core (values_of (⟦<Session as Seen>⟧.world session.old)) (term_view term.now) [])) (HaveSources (types_of (⟦<Session as Seen>⟧.world session.old)) (values_of (⟦<Session as Seen>⟧.world session.old))) (ending result) (⟦<Session as Seen>⟧.world session.old).sources (⟦<Session as Seen>⟧.world session.old).drivers (⟦<Session as Seen>⟧.world session.new).drivers (S.state out.old) (S.state out.new) }
+    ensures prints { AnswersTerm (IsTermOutcome is_list first (core (values_of (⟦<Session as Seen>⟧.world session.old)) (term_view term.now) [])) (HaveSources (types_of (⟦<Session as Seen>⟧.world session.old)) (values_of (⟦<Session as Seen>⟧.world session.old))) (ending result) (⟦<Session as Seen>⟧.world session.old).sources (⟦<Session as Seen>⟧.world session.old).drivers (⟦<Session as Seen>⟧.world session.new).drivers (S.state out.old) (S.state out.new) }
     ensures rest { Moved (⟦<Session as Seen>⟧.world session.old) (⟦<Session as Seen>⟧.world session.new) }
 {
     if is_list {

@@ -17,6 +17,10 @@ use std::alloc::Global;
 const PIECE: usize = 4_096;
 
 /// Prints each item of the exchange text at a path, and a newline. What was read is printed before the file is read on.
+///
+/// # Errors
+/// `Read`, where the file is missing or could not be read; what stands first in it: bytes that begin no exchange text, a
+/// bracket that nests too deep, a byte past the limit. `Write`, where the sink refused a piece; want of memory.
 pub fn show<F: Files, S: Sink>(
     alloc: Global,
     path: &[u8],

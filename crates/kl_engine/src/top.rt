@@ -37,7 +37,7 @@ pub struct Answer {
     pub status: u8,
     /// Why the command did not end well, or none where it did.
     pub fault: Option<Fault>,
-    /// What was counted while the program ran.
+    /// What was counted while the program ran: of a plain run nothing, so each count is 0.
     pub trace: Trace,
 }
 
@@ -62,6 +62,9 @@ pub struct Answer {
 /// type of the program is that of a list, and else empty; of a scheme whose text is too long it is the lines before that
 /// one; of a file that is bad, too deep or too long the lines of the items that stand whole before the place; of every
 /// other refusal it is empty. After a fault of reading or writing and after want of memory `out` took a front of the page.
+///
+/// The drivers are handed in with no source attached and no cursor open. They are left with no cursor open; the sources that
+/// a run attached stay attached. No file is left open.
 ///
 /// Each fault is told by a line on `err`; with `--stats` a run that ends well tells what was counted. A write that `err`
 /// refuses changes no status.

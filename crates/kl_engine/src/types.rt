@@ -22,6 +22,10 @@ use kl_syntax::Decl;
 use std::alloc::{AllocError, Global};
 
 /// Lists the types of the program that a text is, over these sources.
+///
+/// # Errors
+/// The first that is wrong: the text is no program in scope, the term of a declaration is too large, a declaration has no
+/// type, the text of a scheme is too long. `Write`, where the sink refused a line; want of memory.
 pub fn types<S: Sink>(
     alloc: Global,
     text: &[u8],
