@@ -1,2 +1,4 @@
+pub mod Flows
 pub mod OutcomeTypes
 pub mod PrimLemmas
+pub mod Refining

@@ -1,5 +1,5 @@
 -- The types of outcomes and of what is drawn, from the types of their parts.
-use Rattle.std.proofs.Common.{◌≡◌, Bool, true, false, List, [], ◌∷◌, map, Option, Some, None, IsSome, All, nat_eq, refl, sym, ap, ◌∙◌, subst}
+use Rattle.std.proofs.Common.{◌≡◌, ◌≢◌, Bool, true, false, List, [], ◌∷◌, map, Option, Some, None, IsSome, All, nat_eq, refl, sym, ap, ◌∙◌, subst}
 use Rattle.std.specs.Cmp.Lexicographic.{pointwise}
 use Rattle.std.specs.List.{AllByRecursion, dedup}
 use Rattle.std.specs.List.Sorted.{IsStrictlySortedBy}
@@ -44,7 +44,7 @@ held_fields : (x : Value-F Such) (fs : List (Name × Value)) → map-Value Such 
 held_fields (Value-F.Rec es) fs e = let same : map (λ e. (e.0, e.1.0)) es ≡ fs = cc in subst AllGood same (firsts es)
 held_fields x fs e = cc
 
-fields_canonical : (fs : List (Name × Value)) → IsCanonical (value.Rec fs) → AllByRecursion (λ f. IsCanonical f.1) fs
+pub fields_canonical : (fs : List (Name × Value)) → IsCanonical (value.Rec fs) → AllByRecursion (λ f. IsCanonical f.1) fs
 unfolding IsCanonical
 fields_canonical fs h = let held = every_held-Value IsCanonicalLayer (value.Rec fs) h in held_fields held.0 fs (held.1 ∙ value.outs-Rec fs)
 
@@ -52,7 +52,7 @@ held_carried : (x : Value-F Such) (l : Name) (v : Value) → map-Value Such Valu
 held_carried (Value-F.Inj m e) l v q = let same : e.0 ≡ v = cc in subst (every-Value IsCanonicalLayer) same e.1
 held_carried x l v q = cc
 
-carried_canonical : (l : Name) (v : Value) → IsCanonical (value.Inj l v) → IsCanonical v
+pub carried_canonical : (l : Name) (v : Value) → IsCanonical (value.Inj l v) → IsCanonical v
 unfolding IsCanonical
 carried_canonical l v h = let held = every_held-Value IsCanonicalLayer (value.Inj l v) h in held_carried held.0 l v (held.1 ∙ value.outs-Inj l v)
 
@@ -93,6 +93,11 @@ items_inhabit k t v h =
     (vs, ap as_collection h.0.1 ∙ collection_is k vs, both (Has t) IsCanonical vs h.0.2 (recursion_from_All IsCanonical vs good))
 
 -- ---- outcomes
+
+pub never_of : (t : Ground) (o : Outcome) → OfType t o → o ≢ stuck
+never_of t (done v) h e = cc
+never_of t (over vs) h e = cc
+never_of t stuck h e = h
 
 pub over_nil : (t : Ground) → HasItems t []
 over_nil bool = refl
@@ -195,7 +200,7 @@ has_at (row m u r) l s v e h = by_bit (pointwise nat_eq l m) refl (λ f. has_at 
 abbrev pub Carries : Row → Name → Value → Type 0
 Carries r l v = (s : Ground) × (at l r ≡ Some s) × Has s v
 
-at_has : (r : Row) (l : Name) (v : Value) → HasAt r l v → Carries r l v
+pub at_has : (r : Row) (l : Name) (v : Value) → HasAt r l v → Carries r l v
 at_has no_row l v h = absurd h
 at_has (row m u r) l v h = by_bit (pointwise nat_eq l m) refl (at_has r l v)
   where

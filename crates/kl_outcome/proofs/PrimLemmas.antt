@@ -154,7 +154,7 @@ extreme_typed test k a v c h e =
 into_typed : (j k : Kind) (a : Ground) (v : Value) (c : Collection) → Has (coll k a) v → as_collection v ≡ Some c → Has (coll j a) (canonical j c.items)
 into_typed j k a v c h e = subst (λ d. Has (coll j a) (canonical j d.items)) (same_items k a v c h e) (canonical_has j a h.0 h.2)
 
-append_typed : (P : Value → Type 0) (vs ws : List Value) → AllByRecursion P vs → AllByRecursion P ws → AllByRecursion P (vs ++ ws)
+pub append_typed : (P : Value → Type 0) (vs ws : List Value) → AllByRecursion P vs → AllByRecursion P ws → AllByRecursion P (vs ++ ws)
 append_typed P [] ws h g = g
 append_typed P (v ∷ vs) ws h g = (h.0, append_typed P vs ws h.1 g)
 
@@ -244,7 +244,7 @@ meaning_typed code ts t vs = go (find (λ r. r.entry.code == code) rows) (found_
     go (Some r) g s h = g ts t vs s h
     go None g s h = absurd s
 
-all_canonical : (ts : List Ground) (vs : List Value) → HaveTypes ts vs → AllByRecursion IsCanonical vs
+pub all_canonical : (ts : List Ground) (vs : List Value) → HaveTypes ts vs → AllByRecursion IsCanonical vs
 all_canonical [] [] h = tt
 all_canonical (t ∷ ts) (v ∷ vs) h = (h.0.1, all_canonical ts vs h.1)
 all_canonical [] (v ∷ vs) h = absurd h
