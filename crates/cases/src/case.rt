@@ -109,6 +109,9 @@ const LABELS: [&[u8]; 13] = [
 ];
 
 /// The case that a record tells.
+///
+/// # Errors
+/// What is wrong with the record: it is none, lacks a field, has one that no case has, or one of another type.
 pub fn read_case(alloc: Global, value: &Value) -> Result<Case> {
     let fields = read_fields(value)?;
     for (label, _) in fields {

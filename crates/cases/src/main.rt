@@ -5,7 +5,6 @@
 #![tactic(auto)]
 
 mod case;
-mod drivers;
 mod pieces;
 mod run;
 mod table;

@@ -1,10 +1,9 @@
 //! Running a case.
 
 use crate::case::{Case, Side, read_case};
-use crate::drivers::alone;
 use crate::pieces::Pieces;
 use anyhow::{Context, Result};
-use kl_engine::kleisli;
+use kl_engine::{kleisli, one_driver};
 use kl_exchange::print;
 use kl_flat::FlatDriver;
 use kl_outside::{MemFiles, MemSink, write_whole};
@@ -12,6 +11,9 @@ use kl_value::{Text, Value};
 use std::alloc::Global;
 
 /// Runs a case, as often as it says, and answers a line on the first run that differs, or none.
+///
+/// # Errors
+/// What is wrong with the case, and want of memory.
 pub fn try_value(alloc: Global, value: &Value) -> Result<Option<Vec<u8>>> {
     let case = read_case(alloc, value)?;
     try_case(alloc, &case)
@@ -43,7 +45,7 @@ fn try_turn(alloc: Global, case: &Case, call: u64) -> Result<Option<Vec<u8>>> {
         Side::Err => err.sink.fail_at(call)?,
     }
     let driver = Box::new(alloc, FlatDriver::new(alloc, tables))?;
-    let mut drivers = alone(alloc, driver)?;
+    let mut drivers = one_driver(alloc, driver)?;
     let answer = kleisli(
         alloc,
         &case.given.words,

@@ -10,6 +10,9 @@ use kl_value::{Text, Value};
 const MOST: u64 = 1 << 30;
 
 /// The values that a file holds.
+///
+/// # Errors
+/// The file is missing, could not be read, has too many bytes, or is no exchange text; want of memory.
 pub fn read_values(rt: HostRuntime, path: &str) -> Result<Vec<Value>> {
     let bytes = read_file(rt, path)?;
     let mut reader = Reader::new(rt.alloc());

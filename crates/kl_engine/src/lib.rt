@@ -6,6 +6,7 @@
 
 mod check;
 mod cut;
+mod drivers;
 mod fault;
 mod inputs;
 mod page;
@@ -16,5 +17,6 @@ mod stats;
 mod top;
 mod types;
 
+pub use drivers::one_driver;
 pub use fault::{Fault, Wrong};
 pub use top::{Answer, Purpose, kleisli};

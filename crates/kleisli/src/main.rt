@@ -5,10 +5,7 @@
 //! the system gives no words.
 #![tactic(auto)]
 
-mod drivers;
-
-use drivers::alone;
-use kl_engine::kleisli;
+use kl_engine::{kleisli, one_driver};
 use kl_flat::FlatDriver;
 use kl_outside::{HostFiles, HostSink};
 use std::alloc::AllocError;
@@ -51,7 +48,7 @@ fn run(rt: HostRuntime, words: &[String]) -> u8 {
 fn answer(rt: HostRuntime, words: &[String]) -> Result<u8, AllocError> {
     let files = HostFiles::new(rt);
     let driver = Box::new(rt.alloc(), FlatDriver::new(rt.alloc(), files))?;
-    let mut drivers = alone(rt.alloc(), driver)?;
+    let mut drivers = one_driver(rt.alloc(), driver)?;
     let mut files = HostFiles::new(rt);
     let mut out = HostSink::new(rt.stdout());
     let mut err = HostSink::new(rt.stderr());
