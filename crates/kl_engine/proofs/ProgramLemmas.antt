@@ -224,6 +224,9 @@ module _ (p : Purpose) (path : List ℕ) (catalogue : Option (List ℕ)) (f f' :
         read_empty v told (inl h) same = ap (λ w. w.page) h.2
         read_empty v told (inr h) same = (fair_text (kinds_of ds) h.1 p h.0 v h.3).empty (subst (PrintsNothing (Program p [] None)) (sym same) tt)
 
+    abbrev ReadCause : Type 0
+    ReadCause = LacksFile (Program p path catalogue) f (kinds_of ds) ⊎ OfRun (Program p path catalogue) f (kinds_of ds) (λ text ss. IsStored (kinds_of ds) ss (IsMentionedIn ss text) fault.Read) ⊎ Rose f.faults f'.faults ⊎ SomeRose (λ d. d.faults) ds ds
+
     pub program_refused : Does (Program p path catalogue) (Some g) f f' ds ds out out
     program_refused = record {
       told = λ told is v of. (v, of, one refl, told_refused told is v of);
@@ -253,9 +256,6 @@ module _ (p : Purpose) (path : List ℕ) (catalogue : Option (List ℕ)) (f f' :
       where
         some_one : {x y : Fault} → Some x ≡ Some y → x ≡ y
         some_one is = cc
-
-        abbrev ReadCause : Type 0
-        ReadCause = LacksFile (Program p path catalogue) f (kinds_of ds) ⊎ OfRun (Program p path catalogue) f (kinds_of ds) (λ text ss. IsStored (kinds_of ds) ss (IsMentionedIn ss text) fault.Read) ⊎ Rose f.faults f'.faults ⊎ SomeRose (λ d. d.faults) ds ds
 
         read_cause : g ≡ fault.Read → ReadCause
         read_cause is = pick f.told refl
