@@ -61,7 +61,8 @@ pub struct Answer {
 /// overflow, and a set or a bag is cut to its first N. Of an overflow the page is `[|` and the items before it where each
 /// type of the program is that of a list, and else empty; of a scheme whose text is too long it is the lines before that
 /// one; of a file that is bad, too deep or too long the lines of the items that stand whole before the place; of every
-/// other refusal it is empty. After a fault of reading or writing and after want of memory `out` took a front of the page.
+/// other refusal it is empty. After a fault of reading or writing, after a
+/// source that changed and after want of memory `out` took a front of the page.
 ///
 /// The drivers are handed in with no source attached and no cursor open. They are left with no cursor open; the sources that
 /// a run attached stay attached. No file is left open.
