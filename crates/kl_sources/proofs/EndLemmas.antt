@@ -16,9 +16,10 @@ use Rattle.kl_sources.specs.declared.attaching.AttachError.{AttachError}
 use Rattle.kl_sources.specs.declared.source.Source.{Source}
 use Rattle.kl_sources.specs.declared.walking.Refused.{Refused}
 use Rattle.kl_sources.specs.Sources.{ArePlaced, IsSuited, kinds_of, contents, contents_at, HasRows, HaveValues, IsValueAt, IsReadable, FirstWithout, value_of, empty_of}
-use Rattle.kl_sources.specs.Attaching.{AgreeBelow, AttachesAll, HasTyped, IsErrorOf, IsMishap, IsRefusalOf, IsUnread, MayAttach, NoVerdict, StandsWithout, list_of, listed}
+use Rattle.kl_sources.specs.Attaching.{AgreeBelow, AttachesAll, HaveNone, HasTyped, IsErrorOf, IsMishap, IsRefusalOf, IsUnread, MayAttach, NoVerdict, StandsWithout, list_of, listed}
 use Rattle.kl_sources.specs.Walking.{AttachesBelow, IsWant, MayAttachBelow, StopsAt, WalksAll, WalksToEnd}
 use Rattle.kl_sources.proofs.Lists.{element, of_all}
+use Rattle.kl_sources.proofs.NameLemmas.{one_of_name}
 use Rattle.kl_sources.proofs.SessionLemmas.{serves}
 use Rattle.kl_sources.proofs.StepLemmas.{begins}
 
@@ -282,18 +283,21 @@ module _ (marks : ℕ → Bool) (ss : List Source) (old new : List State) (place
     typed_before = typed_below stops.count stops.below
 
     -- a first source without rows is the one that is refused
-    refused_first : (s : Source) (w : Stored) → FirstAt (kinds_of old) marks 0 ss s w → IsRefusalOf s w old new e
+    refused_first : (s : Source) (w : Stored) → FirstAt (kinds_of old) marks 0 ss s w → IsRefusalOf ss s w old new e
     refused_first s w f = elim stops.cause [
-      | inl want ↦ inr (inr (with_error ∙ want))
+      | inl want ↦ inr (mishap_here (inr want))
       | inr h ↦ elim h.2 [
-        | inl mishap ↦ inr (subst (λ d. IsMishap d old new) (sym with_error) mishap)
+        | inl mishap ↦ inr (mishap_here mishap)
         | inr (inl g) ↦ at_first h.0 h.1 (λ same. inl (named ∙ ap (λ (q : Source). q.name) same, subst (λ d. IsErrorOf w d) (sym with_error) (subst (λ v. IsErrorOf v r.error) (some_same (sym g.2 ∙ ap (contents (kinds_of old)) same ∙ f.stands)) g.1)))
             (error_rows (kinds_of old) stops.source g.0 r.error g.1 g.2)
         | inr (inr g) ↦ at_first h.0 h.1 (λ same. absurd (let q : contents (kinds_of old) s ≡ None = ap (contents (kinds_of old)) (sym same) ∙ g.1 in let p = f.stands in cc)) (no_rows (kinds_of old) stops.source g.1)
       ]
     ]
       where
-        at_first : stops.count ≡ r.place → marks r.place ≡ true → (stops.source ≡ s → IsRefusalOf s w old new e) → (HasRows (kinds_of old) stops.source → ⊥) → IsRefusalOf s w old new e
+        mishap_here : IsMishap stops.source r.error old new → (i : ℕ) × (t : Source) × (slice_get ss i ≡ Some t) × (e.source ≡ t.name) × IsMishap t e.error old new
+        mishap_here mishap = (r.place, stops.source, stops.there, named, subst (λ d. IsMishap stops.source d old new) (sym with_error) mishap)
+
+        at_first : stops.count ≡ r.place → marks r.place ≡ true → (stops.source ≡ s → IsRefusalOf ss s w old new e) → (HasRows (kinds_of old) stops.source → ⊥) → IsRefusalOf ss s w old new e
         at_first counted mk here never = elim (below_or f.place r.place) [
           | inl lt ↦ absurd (f.without (typed_rows (kinds_of old) s w (typed_before f.place s (omega (arith, lt, counted)) f.there (ap marks (sym (zero-add f.place)) ∙ f.marked)) f.stands))
           | inr le ↦ elim (cases_eq f.place r.place) [
@@ -315,20 +319,27 @@ module _ (marks : ℕ → Bool) (ss : List Source) (old new : List State) (place
     )
 
     abbrev CauseOf : DriverError → Type 0
-    CauseOf d = IsMishap d old new ⊎ ((marks r.place ≡ true) × (StandsWithout (kinds_of old) marks ss stops.source d ⊎ IsUnread (kinds_of old) marks ss stops.source d old new))
+    CauseOf d = IsMishap stops.source d old new ⊎ StandsWithout (kinds_of old) marks ss stops.source d ⊎ IsUnread (kinds_of old) marks ss stops.source d old new
 
     cause_here : CauseOf r.error
     cause_here = elim stops.cause [
       | inl want ↦ inl (inr want)
       | inr h ↦ elim h.2 [
         | inl mishap ↦ inl mishap
-        | inr (inl g) ↦ inr (h.1, inl (stands_without h.0 h.1 g.0 g.1 g.2))
-        | inr (inr g) ↦ inr (h.1, inr (g.0, g.1, no_verdict (kinds_of old) marks ss placed r.place (subst (AllTyped (kinds_of old) marks ss) h.0 typed_before) stops.source stops.there h.1 g.1, g.2))
+        | inr (inl g) ↦ inr (inl (stands_without h.0 h.1 g.0 g.1 g.2))
+        | inr (inr g) ↦ inr (inr (g.0, g.1, no_verdict (kinds_of old) marks ss placed r.place (subst (AllTyped (kinds_of old) marks ss) h.0 typed_before) stops.source stops.there h.1 g.1, g.2))
       ]
     ]
 
-    to_stop : AttachesAll marks ss (Err e) old new
-    to_stop = record {
+    -- what is attached has a name of the sources before
+    not_attached : HaveNone old → (i : ℕ) (s : Source) → stops.count ≤ i → slice_get ss i ≡ Some s → (k : ℕ) (d : State) → slice_get new k ≡ Some d → d.attached s.name ≡ None
+    not_attached clear i s le is k d there =
+        let a = element old k (omega (arith, slice_get_within new k d there, stops.below.drivers.size)) in
+        (stops.below.drivers.each k a.0 d a.1 there).others s.name (λ h. absurd (let same_place : h.0 ≡ i = one_of_name ss h.0 i h.1 s placed.differ h.3 is h.5 in omega (arith, h.2, le, same_place)))
+        ∙ clear k a.0 a.1 s.name
+
+    to_stop : HaveNone old → AttachesAll marks ss (Err e) old new
+    to_stop clear = record {
       drivers = all_steps stops.count stops.below;
       list = tt;
       stand = tt;
@@ -340,10 +351,15 @@ module _ (marks : ℕ → Bool) (ss : List Source) (old new : List State) (place
         refused = stops.source;
         there = stops.there;
         named = sym named;
+        marked = λ enough. elim stops.cause [ inl want ↦ absurd (enough (with_error ∙ want)) | inr h ↦ h.1 ];
         cause = subst CauseOf (sym with_error) cause_here;
         before = λ enough i s lt is mk. elim stops.cause [
           | inl want ↦ absurd (enough (with_error ∙ want))
           | inr h ↦ stops.below.stand i s (omega (arith, lt, h.0)) is mk
+        ];
+        behind = λ enough i s le is. elim stops.cause [
+          | inl want ↦ absurd (enough (with_error ∙ want))
+          | inr h ↦ not_attached clear i s (omega (arith, le, h.0)) is
         ];
       };
     }
@@ -355,10 +371,10 @@ module _ (marks : ℕ → Bool) (ss : List Source) (old new : List State) (place
     list = h.list ∙ list_agrees others marks 0 ss (λ i lt. ap others (zero-add i) ∙ agree i lt ∙ ap marks (sym (zero-add i)));
   })
 
-  pub whole_err : (r : Refused) → StopsAt marks ss old new r → (s : Source) → slice_get ss r.place ≡ Some s → (e : AttachError) → e.source ≡ s.name → e.error ≡ r.error → (others : ℕ → Bool) → AgreeBelow (length ss) others marks → AttachesAll others ss (Err e) old new
-  whole_err r stops s is e named with_error others agree =
+  pub whole_err : HaveNone old → (r : Refused) → StopsAt marks ss old new r → (s : Source) → slice_get ss r.place ≡ Some s → (e : AttachError) → e.source ≡ s.name → e.error ≡ r.error → (others : ℕ → Bool) → AgreeBelow (length ss) others marks → AttachesAll others ss (Err e) old new
+  whole_err clear r stops s is e named with_error others agree =
       let other = stops_agrees marks others ss agree old new r stops in
-      to_stop others ss old new placed r other e (named ∙ ap (λ (q : Source). q.name) (some_same (sym is ∙ other.there))) with_error
+      to_stop others ss old new placed r other e (named ∙ ap (λ (q : Source). q.name) (some_same (sym is ∙ other.there))) with_error clear
 
 -- ---- the calls in between
 
@@ -378,7 +394,7 @@ module _ (marks : ℕ → Bool) (given ss : List Source) (same : given ≡ ss) (
   pub call_ok : (all : List Attached) → WalksAll marks given (Ok all) old new → (others : ℕ → Bool) → AgreeBelow (length ss) others marks → AttachesAll others ss (Ok all) old new
   call_ok all h = whole_ok marks ss old new placed all (subst (λ q. WalksToEnd marks q all old new) same h)
 
-  pub call_err : (r : Refused) → WalksAll marks given (Err r) old new → (s : Source) → s ≡ get_or ss r.place s → (e : AttachError) → e.source ≡ s.name → e.error ≡ r.error → (others : ℕ → Bool) → AgreeBelow (length ss) others marks → AttachesAll others ss (Err e) old new
-  call_err r h s is e named with_error =
+  pub call_err : HaveNone old → (r : Refused) → WalksAll marks given (Err r) old new → (s : Source) → s ≡ get_or ss r.place s → (e : AttachError) → e.source ≡ s.name → e.error ≡ r.error → (others : ℕ → Bool) → AgreeBelow (length ss) others marks → AttachesAll others ss (Err e) old new
+  call_err clear r h s is e named with_error =
       let stops : StopsAt marks ss old new r = subst (λ q. StopsAt marks q old new r) same h in
-      whole_err marks ss old new placed r stops s (slice_get_read ss (length ss) r.place s refl (slice_get_within ss r.place stops.source stops.there) is) e named with_error
+      whole_err marks ss old new placed clear r stops s (slice_get_read ss (length ss) r.place s refl (slice_get_within ss r.place stops.source stops.there) is) e named with_error

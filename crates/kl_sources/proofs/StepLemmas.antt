@@ -217,7 +217,7 @@ module _ (old : List State) (ss : List Source) (placed : ArePlaced (kinds_of old
       refused_for : (e : DriverError) (f : State) → slice_get new s.driver ≡ Some f → Attaches s.name s.locator s.ty (Err e) now.1 f → RefusesFor (kinds_of old) s e old new
       refused_for error.Failed f there g = elim (g.failed refl) [
         | inl missing ↦ inr (inl (Missing, refl, sym said ∙ missing))
-        | inr rose ↦ inl (inl (refl, (s.driver, (now.0, f, now.2, there, rose_since now.0.faults now.1.faults f.faults now.4.keeps.faults rose))))
+        | inr rose ↦ inl (inl (refl, (now.0, f, now.2, there, rose_since now.0.faults now.1.faults f.faults now.4.keeps.faults rose)))
       ]
       refused_for (error.BadSource place) f there g = unread_for (error.BadSource place) (Bad place) f there refl tt (g.bad_source place refl)
       refused_for (error.TooLong most) f there g = unread_for (error.TooLong most) (Long most) f there refl tt (g.too_long most refl)

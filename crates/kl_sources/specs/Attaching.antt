@@ -1,5 +1,5 @@
 -- What comes of attaching the sources that a program mentions.
-use Rattle.std.specs.Prelude.{◌≡◌, ◌≢◌, ◌⊎◌, ℕ, suc, ◌<◌, Bool, true, false, List, [], ◌∷◌, length, map, Option, Some, None, Result, IfOk, IfErr, OnOk, MatchResult, slice_get, ⊤}
+use Rattle.std.specs.Prelude.{◌≡◌, ◌≢◌, ◌⊎◌, ℕ, suc, ◌<◌, ◌≤◌, Bool, true, false, List, [], ◌∷◌, length, map, Option, Some, None, Result, IfOk, IfErr, OnOk, MatchResult, slice_get, ⊤}
 use Rattle.std.specs.List.{AllByRecursion}
 use Rattle.kl_base.specs.Counts.{Rose}
 use Rattle.kl_value.specs.declared.Value.{Value}
@@ -49,12 +49,9 @@ pub record MayAttach (marks : ℕ → Bool) (sources : List Source) (old new : S
   pub handed : new.handed ≡ old.handed
   pub others : (x : Name) → (IsMarkedName marks sources x → ⊥) → new.attached x ≡ old.attached x
 
--- a count of the driver at a place rose; and of some driver
+-- a count of the driver at a place rose
 abbrev pub RoseAt : ℕ → (State → ℕ) → List State → List State → Type 0
 RoseAt place count old new = (a : State) × (b : State) × (slice_get old place ≡ Some a) × (slice_get new place ≡ Some b) × Rose (count a) (count b)
-
-abbrev pub SomeRose : (State → ℕ) → List State → List State → Type 0
-SomeRose count old new = (i : ℕ) × RoseAt i count old new
 
 -- ---- sources that are not told
 
@@ -100,13 +97,15 @@ IsUnreadable (error.TooLong most) = ⊤
 IsUnreadable (error.TooDeep place) = ⊤
 IsUnreadable _ = ⊥
 
--- a fault of some driver, or want of memory
-abbrev pub IsMishap : DriverError → List State → List State → Type 0
-IsMishap e old new = ((e ≡ error.Failed) × SomeRose (λ d. d.faults) old new) ⊎ (e ≡ error.NoMemory)
+-- a fault of a source's driver, or want of memory
+abbrev pub IsMishap : Source → DriverError → List State → List State → Type 0
+IsMishap s e old new = ((e ≡ error.Failed) × RoseAt s.driver (λ d. d.faults) old new) ⊎ (e ≡ error.NoMemory)
 
--- the error of what stands at a source, or a mishap
-abbrev pub IsRefusalOf : Source → Stored → List State → List State → AttachError → Type 0
-IsRefusalOf s w old new e = ((e.source ≡ s.name) × IsErrorOf w e.error) ⊎ IsMishap e.error old new
+-- the error of what stands at a source, or a mishap at one of the sources
+abbrev pub IsRefusalOf : List Source → Source → Stored → List State → List State → AttachError → Type 0
+IsRefusalOf sources s w old new e =
+    ((e.source ≡ s.name) × IsErrorOf w e.error)
+    ⊎ ((i : ℕ) × (t : Source) × (slice_get sources i ≡ Some t) × (e.source ≡ t.name) × IsMishap t e.error old new)
 
 -- contents that are told say that the source is without rows
 abbrev pub StandsWithout : List DriverKind → (ℕ → Bool) → List Source → Source → DriverError → Type 0
@@ -116,15 +115,17 @@ StandsWithout ks marks sources s e = (w : Stored) × IsErrorOf w e × (contents 
 abbrev pub IsUnread : List DriverKind → (ℕ → Bool) → List Source → Source → DriverError → List State → List State → Type 0
 IsUnread ks marks sources s e old new = IsUnreadable e × (contents ks s ≡ None) × NoVerdict ks marks sources × RoseAt s.driver (λ d. d.unread) old new
 
--- The cause of a refusal, which is that of one of the sources. Those that are mentioned before it stand at their drivers,
--- unless memory ran out.
+-- The cause of a refusal, which is that of one of the sources. Unless memory ran out, this source is mentioned, those that
+-- are mentioned before it stand at their drivers, and neither it nor one behind it is attached at any driver.
 pub record Causes (marks : ℕ → Bool) (sources : List Source) (old new : List State) (e : AttachError) : Type 0 where
   pub place : ℕ
   pub refused : Source
   pub there : slice_get sources place ≡ Some refused
   pub named : refused.name ≡ e.source
-  pub cause : IsMishap e.error old new ⊎ ((marks place ≡ true) × (StandsWithout (kinds_of old) marks sources refused e.error ⊎ IsUnread (kinds_of old) marks sources refused e.error old new))
+  pub marked : e.error ≢ error.NoMemory → marks place ≡ true
+  pub cause : IsMishap refused e.error old new ⊎ StandsWithout (kinds_of old) marks sources refused e.error ⊎ IsUnread (kinds_of old) marks sources refused e.error old new
   pub before : e.error ≢ error.NoMemory → (i : ℕ) (s : Source) → i < place → slice_get sources i ≡ Some s → marks i ≡ true → Stands (kinds_of old) new s
+  pub behind : e.error ≢ error.NoMemory → (i : ℕ) (s : Source) → place ≤ i → slice_get sources i ≡ Some s → (k : ℕ) (d : State) → slice_get new k ≡ Some d → d.attached s.name ≡ None
 
 -- ---- the session
 
@@ -149,5 +150,5 @@ pub record AttachesAll (marks : ℕ → Bool) (sources : List Source) (result : 
   -- the sources have values, or some driver does not tell
   pub values : OnOk result (((vs : List (Name × Value)) × HaveValues (kinds_of old) marks 0 sources vs) ⊎ NoVerdict (kinds_of old) marks sources)
   -- where contents that are told say that a source is the first without rows, its error comes, or a mishap
-  pub refused : (s : Source) (w : Stored) → FirstWithout (kinds_of old) marks 0 sources s w → MatchResult result (λ _. ⊥) (IsRefusalOf s w old new)
+  pub refused : (s : Source) (w : Stored) → FirstWithout (kinds_of old) marks 0 sources s w → MatchResult result (λ _. ⊥) (IsRefusalOf sources s w old new)
   pub cause : IfErr result (Causes marks sources old new)

@@ -30,7 +30,7 @@ pub record AttachesBelow (n : ℕ) (marks : ℕ → Bool) (sources : List Source
 -- why a driver refuses a source
 abbrev pub RefusesFor : List DriverKind → Source → DriverError → List State → List State → Type 0
 RefusesFor ks s e old new =
-    IsMishap e old new
+    IsMishap s e old new
     ⊎ ((w : Stored) × IsErrorOf w e × (contents ks s ≡ Some w))
     ⊎ (IsUnreadable e × (contents ks s ≡ None) × RoseAt s.driver (λ d. d.unread) old new)
 

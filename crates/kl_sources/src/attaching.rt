@@ -11,8 +11,8 @@ use kl_base::{Label, Seq};
 use kl_scope::Scoped;
 use std::alloc::Global;
 
-/// Why sources are not attached: a source that is refused, and its driver's answer. A fault and want of memory may be
-/// told of any source.
+/// Why sources are not attached: the source that is refused, and its driver's answer. Want of memory may be told of any
+/// source.
 #[derive(Debug, Drop, PartialEq, Eq)]
 pub struct AttachError {
     pub source: Label,
@@ -24,9 +24,9 @@ pub struct AttachError {
 /// mentions it.
 ///
 /// # Errors
-/// What a driver answers of a source that is refused, with its cause; the mentioned sources before it stay attached. Where
-/// contents are told, it is the first that stands without rows. Want of memory, and more sources than 32 bits can
-/// number, are told of any source.
+/// What its driver answers of a mentioned source that is refused, with its cause; the mentioned sources before it stay
+/// attached, and it and those behind it are attached nowhere. Where contents are told, it is the first that stands without
+/// rows. Want of memory, and more sources than 32 bits can number, are told of any source.
 pub fn attach_sources(
     alloc: Global,
     sources: Vec<Source>,
