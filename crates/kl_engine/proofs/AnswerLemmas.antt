@@ -16,8 +16,7 @@ use Rattle.kl_ask.specs.declared.session.Attached.{Attached}
 use Rattle.kl_eval.specs.Evals.{Tells, Lists}
 use Rattle.kl_eval.specs.declared.stop.EvalStop.TheVariants as stop
 use Rattle.kl_infer.specs.Kinds.{HasOther}
-use Rattle.kl_sources.specs.Attaching.{SomeRose}
-use Rattle.kl_engine.specs.Answering.{KeepsDrivers, IsOutside, reading, drifting, wanting, Prints, IsOneOf, PrintsNothing}
+use Rattle.kl_engine.specs.Answering.{SomeRose, KeepsDrivers, IsOutside, reading, drifting, wanting, Prints, IsOneOf, PrintsNothing}
 use Rattle.kl_engine.specs.Commands.{Program}
 use Rattle.kl_engine.specs.Faults.{Ending}
 use Rattle.kl_engine.specs.Running.{AnswersTerm, DriftsAt, HasRunFault, IsListScheme, IsListOutcome, IsValueOutcome}

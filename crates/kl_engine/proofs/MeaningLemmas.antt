@@ -1,5 +1,5 @@
 -- What a run of a program with a typing comes to: what attaching its sources answers, and then the outcome of its term.
-use Rattle.std.proofs.Common.{◌≡◌, ◌⊎◌, inl, inr, ℕ, zero, suc, ◌+◌, ◌<◌, ◌≤◌, Bool, true, false, List, [], ◌∷◌, length, map, Option, Some, None, IsSome, Result, Ok, Err, Vec, refl, sym, ap, subst, ◌∙◌, arith, slice_get, add-zero, zero-add}
+use Rattle.std.proofs.Common.{◌≡◌, ◌≢◌, ◌⊎◌, inl, inr, ℕ, zero, suc, ◌+◌, ◌<◌, ◌≤◌, Bool, true, false, List, [], ◌∷◌, length, map, Option, Some, None, IsSome, Result, Ok, Err, Vec, refl, sym, ap, subst, ◌∙◌, arith, slice_get, add-zero, zero-add}
 use Rattle.std.specs.Prelude.{All, ⊤}
 use Rattle.std.specs.List.{AllByRecursion}
 use Rattle.std.proofs.lemmas.List.Elements.{All-head, All-tail}
@@ -54,9 +54,8 @@ use Rattle.kl_sources.specs.declared.source.Source.{Source}
 use Rattle.kl_sources.proofs.Agreement.{values_agree, first_agrees}
 use Rattle.kl_sources.proofs.ListedSources.{listed_source}
 use Rattle.kl_sources.proofs.Lists.{of_all, mapped, unmapped}
-use Rattle.kl_sources.specs.Attaching.{SomeRose}
 use Rattle.kl_sources.specs.Sources.{kinds_of}
-use Rattle.kl_engine.specs.Answering.{KeepsDrivers, IsIdle, IsStored, IsCounted, IsUnreadBy, HasDrifted, IsOf, IsOutside, reading, writing, drifting, wanting, Follows, IsDetermined, IsOneOf, HasTextFault, PrintsNothing, IsUnread, NeedsDrivers}
+use Rattle.kl_engine.specs.Answering.{SomeRose, KeepsDrivers, IsIdle, IsStored, IsCounted, IsUnreadBy, HasDrifted, IsOf, IsOutside, reading, writing, drifting, wanting, Follows, IsDetermined, IsOneOf, HasTextFault, PrintsNothing, IsUnread, NeedsDrivers}
 use Rattle.kl_engine.specs.Commands.{Program}
 use Rattle.kl_engine.specs.Faults.{Ending}
 use Rattle.kl_engine.specs.Reading.{WasInScope}
@@ -95,6 +94,16 @@ unreadable_unread x (error.TooDeep place) is = tt
 unreadable_unread x error.Failed is = absurd is
 unreadable_unread x (error.Changed d) is = absurd is
 unreadable_unread x error.NoMemory is = absurd is
+
+error_no_want : (w : Stored) (e : DriverError) → IsErrorOf w e → e ≢ error.NoMemory
+error_no_want Missing e is want = let two : error.Failed ≡ error.NoMemory = sym is ∙ want in cc
+error_no_want (Bad place) e is want = let two : error.BadSource place ≡ error.NoMemory = sym is ∙ want in cc
+error_no_want (Long most) e is want = let two : error.TooLong most ≡ error.NoMemory = sym is ∙ want in cc
+error_no_want (Deep place) e is want = let two : error.TooDeep place ≡ error.NoMemory = sym is ∙ want in cc
+error_no_want (Rows rows) e is want = is
+
+unreadable_no_want : (e : DriverError) → IsUnreadable e → e ≢ error.NoMemory
+unreadable_no_want e is want = subst IsUnreadable want is
 
 run_fault : (x : Name) (first : Option ℕ) (e : DriverError) → HasTextFault (purpose.Run first) (fault_of x e)
 run_fault x first error.Failed = tt
@@ -224,8 +233,8 @@ module _ (ss : List Source) (marks : ℕ → Bool) (first : Option ℕ) (program
   refused_by : (w : Stored) → IsErrorOf w e.error → stored_fault c.refused.name w ≡ Some (fault_of e.source e.error)
   refused_by w of = refusal_fault c.refused.name w e.error of ∙ ap (λ x. Some (fault_of x e.error)) c.named
 
-  refused_named : marks c.place ≡ true → IsNamed ss marks c.refused.name
-  refused_named marked = (c.place, mapped (λ (s : Source). s.name) ss c.place c.refused c.there, marked)
+  refused_named : e.error ≢ error.NoMemory → IsNamed ss marks c.refused.name
+  refused_named other = (c.place, mapped (λ (s : Source). s.name) ss c.place c.refused c.there, c.marked other)
 
   refused_of : (d : DriverError) → IsOf (fault_of e.source d) c.refused.name
   refused_of error.Failed = tt
@@ -237,20 +246,20 @@ module _ (ss : List Source) (marks : ℕ → Bool) (first : Option ℕ) (program
 
   refused_ends : Ends (λ others. IsMeant (kinds_of ds) ss others first program exp) ss marks (purpose.Run first) (Some (fault_of e.source e.error)) ds mid out out
   refused_ends = elim c.cause [
-    | inl (inl h) ↦ before refl (λ told. subst (λ d. IsDetermined (Some (fault_of e.source d))) h.0 told) (λ v. reading (ap (λ d. Some (fault_of e.source d)) h.0) (inr h.1))
+    | inl (inl h) ↦ before refl (λ told. subst (λ d. IsDetermined (Some (fault_of e.source d))) h.0 told) (λ v. reading (ap (λ d. Some (fault_of e.source d)) h.0) (inr (c.refused.driver, h.1)))
     | inl (inr h) ↦ before refl (λ told. subst (λ d. IsDetermined (Some (fault_of e.source d))) h told) (λ v. wanting (ap (λ d. Some (fault_of e.source d)) h))
-    | inr (marked, inl (w, of, at, inl without)) ↦ followed (refused (fault_of e.source e.error)) (inl (c.refused, w, fault_of e.source e.error, without, refused_by w of, refl))
+    | inr (inl (w, of, at, inl without)) ↦ followed (refused (fault_of e.source e.error)) (inl (c.refused, w, fault_of e.source e.error, without, refused_by w of, refl))
         (follows_prints (refused (fault_of e.source e.error)) (Some (fault_of e.source e.error)) out out (prints_refused (fault_of e.source e.error) out) ds mid)
-    | inr (marked, inl (w, of, at, inr lacks)) ↦ untold (none_meant ss marks first program exp ds lacks) (none_told ss marks first program exp ds lacks) (needs_drivers e.source first e.error)
-    | inr (marked, inr (unreadable, at, lacks, rose)) ↦ untold (none_meant ss marks first program exp ds lacks) (none_told ss marks first program exp ds lacks) (needs_drivers e.source first e.error)
+    | inr (inl (w, of, at, inr lacks)) ↦ untold (none_meant ss marks first program exp ds lacks) (none_told ss marks first program exp ds lacks) (needs_drivers e.source first e.error)
+    | inr (inr (unreadable, at, lacks, rose)) ↦ untold (none_meant ss marks first program exp ds lacks) (none_told ss marks first program exp ds lacks) (needs_drivers e.source first e.error)
   ]
 
   refused_is : IsRefused (fault_of e.source e.error)
   refused_is = elim c.cause [
     | inl (inl h) ↦ subst (λ d. IsRefused (fault_of e.source d)) (sym h.0) tt
     | inl (inr h) ↦ subst (λ d. IsRefused (fault_of e.source d)) (sym h) tt
-    | inr (marked, inl (w, of, at, rest)) ↦ error_refused e.source w e.error of
-    | inr (marked, inr (unreadable, at, lacks, rose)) ↦ unread_refused (fault_of e.source e.error) (unreadable_unread e.source e.error unreadable)
+    | inr (inl (w, of, at, rest)) ↦ error_refused e.source w e.error of
+    | inr (inr (unreadable, at, lacks, rose)) ↦ unread_refused (fault_of e.source e.error) (unreadable_unread e.source e.error unreadable)
   ]
 
   refused_never : (f : Fault) → Some (fault_of e.source e.error) ≡ Some f → (IsRefused f → ⊥) → ⊥
@@ -258,18 +267,18 @@ module _ (ss : List Source) (marks : ℕ → Bool) (first : Option ℕ) (program
 
   refused_read : Some (fault_of e.source e.error) ≡ Some fault.Read → IsStored (kinds_of ds) ss (IsNamed ss marks) fault.Read ⊎ SomeRose (λ d. d.faults) ds mid
   refused_read is = elim c.cause [
-    | inl (inl h) ↦ inr h.1
+    | inl (inl h) ↦ inr (c.refused.driver, h.1)
     | inl (inr h) ↦ absurd (let two : fault.NoMemory ≡ fault.Read = ap (fault_of e.source) (sym h) ∙ some_same is in cc)
-    | inr (marked, inl (w, of, at, rest)) ↦ inl (c.place, c.refused, w, c.there, refused_named marked, at, refused_by w of ∙ is)
-    | inr (marked, inr (unreadable, at, lacks, rose)) ↦ absurd (subst IsUnread (some_same is) (unreadable_unread e.source e.error unreadable))
+    | inr (inl (w, of, at, rest)) ↦ inl (c.place, c.refused, w, c.there, refused_named (error_no_want w e.error of), at, refused_by w of ∙ is)
+    | inr (inr (unreadable, at, lacks, rose)) ↦ absurd (subst IsUnread (some_same is) (unreadable_unread e.source e.error unreadable))
   ]
 
   refused_unread : (f : Fault) → Some (fault_of e.source e.error) ≡ Some f → IsUnread f → IsUnreadBy ss (IsNamed ss marks) f ds mid
   refused_unread f is un = elim c.cause [
     | inl (inl h) ↦ absurd (subst IsUnread (sym (some_same is) ∙ ap (fault_of e.source) h.0) un)
     | inl (inr h) ↦ absurd (subst IsUnread (sym (some_same is) ∙ ap (fault_of e.source) h) un)
-    | inr (marked, inl (w, of, at, rest)) ↦ inl (c.place, c.refused, w, c.there, refused_named marked, at, refused_by w of ∙ is)
-    | inr (marked, inr (unreadable, at, lacks, rose)) ↦ inr (c.place, c.refused, c.there, (refused_named marked, subst (λ g. IsOf g c.refused.name) (some_same is) (refused_of e.error)), at, rose)
+    | inr (inl (w, of, at, rest)) ↦ inl (c.place, c.refused, w, c.there, refused_named (error_no_want w e.error of), at, refused_by w of ∙ is)
+    | inr (inr (unreadable, at, lacks, rose)) ↦ inr (c.place, c.refused, c.there, (refused_named (unreadable_no_want e.error unreadable), subst (λ g. IsOf g c.refused.name) (some_same is) (refused_of e.error)), at, rose)
   ]
 
   pub attach_refused : EachSteps (MayAttach marks ss) ds mid → DoneMeaning ss marks first program exp (Some (fault_of e.source e.error)) ds mid out out

@@ -11,7 +11,7 @@ use Rattle.kl_syntax.specs.declared.tree.Program.{Program as AProgram}
 use Rattle.kl_scope.specs.Breaches.{Mentions}
 use Rattle.kl_ask.specs.Driver.{DriverKind, State, Stored, Keeps, IsTold as IsToldBy}
 use Rattle.kl_ask.specs.Lists.{EachSteps}
-use Rattle.kl_sources.specs.Attaching.{RoseAt, SomeRose}
+use Rattle.kl_sources.specs.Attaching.{RoseAt}
 use Rattle.kl_sources.specs.Sources.{kinds_of, names_of, contents}
 use Rattle.kl_sources.specs.declared.source.Source.{Source}
 use Rattle.kl_engine.specs.Commands.{Command, NoCommand, Program, Show}
@@ -26,6 +26,10 @@ use Rattle.kl_engine.specs.declared.top.Purpose.{Purpose}
 use Rattle.kl_engine.specs.declared.top.Purpose.TheVariants as purpose
 
 -- ---- drivers
+
+-- a count of some driver rose
+abbrev pub SomeRose : (State → ℕ) → List State → List State → Type 0
+SomeRose count old new = (i : ℕ) × RoseAt i count old new
 
 -- A driver is what it was, has no cursor open that it had not, and has nothing new attached but under names like these.
 pub record KeepsDriver (Named : Name → Type 0) (old new : State) : Type 0 where

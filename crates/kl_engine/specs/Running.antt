@@ -13,10 +13,10 @@ use Rattle.kl_ask.specs.Driver.{State, IsTold as IsToldBy}
 use Rattle.kl_ask.specs.declared.session.Attached.{Attached}
 use Rattle.kl_ask.specs.declared.ask.DriverError.{DriverError}
 use Rattle.kl_ask.specs.declared.ask.DriverError.TheVariants as error
-use Rattle.kl_sources.specs.Attaching.{RoseAt, SomeRose}
+use Rattle.kl_sources.specs.Attaching.{RoseAt}
 use Rattle.kl_sources.specs.Sources.{kinds_of, names_of}
 use Rattle.kl_sources.specs.declared.source.Source.{Source}
-use Rattle.kl_engine.specs.Answering.{KeepsDrivers, IsStored, IsUnreadBy, HasDrifted, Follows, Prints, IsOutside, IsDetermined, IsRun, HasTextFault, IsOneOf, PrintsNothing, IsUnread, NeedsDrivers}
+use Rattle.kl_engine.specs.Answering.{SomeRose, KeepsDrivers, IsStored, IsUnreadBy, HasDrifted, Follows, Prints, IsOutside, IsDetermined, IsRun, HasTextFault, IsOneOf, PrintsNothing, IsUnread, NeedsDrivers}
 use Rattle.kl_engine.specs.Commands.{Program}
 use Rattle.kl_engine.specs.Faults.{Ending}
 use Rattle.kl_infer.specs.Numbers.{limit}
