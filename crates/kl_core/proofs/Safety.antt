@@ -7,7 +7,7 @@ use Rattle.kl_base.specs.Fields.{bytes_cmp, labels_of}
 use Rattle.kl_value.specs.declared.Value.{Value}
 use Rattle.kl_type.specs.Ground.{Ground, Row, rec as rec_type, at}
 use Rattle.kl_prim.specs.Table.{meaning}
-use Rattle.kl_outcome.specs.Outcome.{Name, Outcome, done, over, stuck, outcome_of, answered, recorded, items_of, drawn}
+use Rattle.kl_outcome.specs.Outcome.{Name, Outcome, stuck, outcome_of, answered, recorded, items_of, drawn}
 use Rattle.kl_outcome.specs.Typed.{Inhabits, HaveTypes, OfType}
 use Rattle.kl_core.specs.Trees.{Tree, var, con, source, rec, proj, inj, case_of, make, union, ext, choice, bind, prim, Trees, no_trees, trees, Parts, no_parts, parts, Arms, no_arms, rest, arm}
 use Rattle.kl_core.specs.Core.{Tables, core, core_all, core_items, core_parts, core_arms}
