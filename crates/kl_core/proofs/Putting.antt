@@ -194,9 +194,6 @@ room_Rec t ps qs n u w e f h = rw f (All-from_recursion _ ps (parts_room ps n u 
 case_room : (t a : Term) (ps : List (Name × Term)) (c : Option Term) (n u : ℕ) (w : Tree) → t ≡ term.Case a ps c → RoomIn (view t) n u w → RoomIn (view a) n u w × RoomArms (arms_view ps c) n u w
 case_room t a ps c n u w e h = along (λ q. RoomIn q n u w) (ap view e ∙ view_Case a ps c) h
 
-pub room_subject : (t a b : Term) (ps : List (Name × Term)) (c : Option Term) (n u : ℕ) (w : Tree) → t ≡ term.Case a ps c → b ≡ a → RoomIn (view t) n u w → RoomIn (view b) n u w
-room_subject t a b ps c n u w e f h = rw f (case_room t a ps c n u w e h).0
-
 pub room_branches : (t a : Term) (ps qs : List (Name × Term)) (c : Option Term) (n u : ℕ) (w : Tree) → t ≡ term.Case a ps c → qs ≡ ps → RoomIn (view t) n u w → All (λ p. RoomUnder (view p.1) n u w) qs
 room_branches t a ps qs c n u w e f h = rw f (All-from_recursion _ ps (arms_room ps (rest_of (view_option c)) n u w (case_room t a ps c n u w e h).1).0)
 

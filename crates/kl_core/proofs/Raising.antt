@@ -44,9 +44,6 @@ fit_Rec t ps qs n m e f h = rw f (All-from_recursion _ ps (parts_fit ps n m (rw 
 case_fit : (t a : Term) (ps : List (Name × Term)) (c : Option Term) (n m : ℕ) → t ≡ term.Case a ps c → InRange (shift_of (view t) n m) → InRange (shift_of (view a) n m) × ArmsInRange (shift_arms (arms_view ps c) n m)
 case_fit t a ps c n m e h = subst (λ q. InRange (shift_of q n m)) (ap view e ∙ view_Case a ps c) h
 
-pub fit_subject : (t a b : Term) (ps : List (Name × Term)) (c : Option Term) (n m : ℕ) → t ≡ term.Case a ps c → b ≡ a → InRange (shift_of (view t) n m) → InRange (shift_of (view b) n m)
-fit_subject t a b ps c n m e f h = rw f (case_fit t a ps c n m e h).0
-
 pub fit_branches : (t a : Term) (ps qs : List (Name × Term)) (c : Option Term) (n m : ℕ) → t ≡ term.Case a ps c → qs ≡ ps → InRange (shift_of (view t) n m) → All (λ p. InRange (shift_of (view p.1) (n + 1) m)) qs
 fit_branches t a ps qs c n m e f h = rw f (All-from_recursion _ ps (arms_fit ps (rest_of (view_option c)) n m (case_fit t a ps c n m e h).1).0)
 

@@ -7,15 +7,15 @@ use Rattle.kl_base.specs.Fields.{bytes_cmp, labels_of}
 use Rattle.kl_value.specs.declared.Value.{Value}
 use Rattle.kl_type.specs.Ground.{Ground, Row, rec as rec_type, at}
 use Rattle.kl_prim.specs.Table.{meaning}
-use Rattle.kl_outcome.specs.Outcome.{Name, Outcome, done, over, stuck, outcome_of, answered, recorded, items_of, drawn}
+use Rattle.kl_outcome.specs.Outcome.{Name, Outcome, stuck, outcome_of, answered, recorded, items_of, drawn}
 use Rattle.kl_outcome.specs.Typed.{Inhabits, HaveTypes, OfType}
 use Rattle.kl_core.specs.Trees.{Tree, var, con, source, rec, proj, inj, case_of, make, union, ext, choice, bind, prim, Trees, no_trees, trees, Parts, no_parts, parts, Arms, no_arms, rest, arm}
 use Rattle.kl_core.specs.Core.{Tables, core, core_all, core_items, core_parts, core_arms}
 use Rattle.kl_core.specs.Typing.{SourceTypes, CoreTypes, EachType, AllTypes, PartTypes, ArmTypes, HasArm, HaveSources, labels_in}
-use Rattle.kl_outcome.proofs.OutcomeTypes.{after_typed, choice_typed, part_typed, recorded_typed, PartsOf, tagged_typed, cases_typed, args_then_typed, ArgsOf, FlowOf, drawn_typed, items_typed, item_typed, collected_typed, union_typed}
+use Rattle.kl_outcome.proofs.OutcomeTypes.{never_of, after_typed, choice_typed, part_typed, recorded_typed, PartsOf, tagged_typed, cases_typed, args_then_typed, ArgsOf, FlowOf, drawn_typed, items_typed, item_typed, collected_typed, union_typed}
 use Rattle.kl_outcome.proofs.PrimLemmas.{prim_typed}
 
-get_typed : (G : List Ground) (env : List Value) (x : ℕ) (t : Ground) → HaveTypes G env → slice_get G x ≡ Some t → OfType t (outcome_of (slice_get env x))
+pub get_typed : (G : List Ground) (env : List Value) (x : ℕ) (t : Ground) → HaveTypes G env → slice_get G x ≡ Some t → OfType t (outcome_of (slice_get env x))
 get_typed [] [] x t h e = cc
 get_typed [] (v ∷ env) x t h e = absurd h
 get_typed (s ∷ G) [] x t h e = absurd h
@@ -82,11 +82,6 @@ module _ (S : SourceTypes) (T : Tables) (told : HaveSources S T) where
           where
             off : l ≡ m → ⊥
             off d = let f : pointwise nat_eq l m ≡ true = subst (λ k. pointwise nat_eq l k ≡ true) d (nat_list_eq_equiv.refl l) in let z : true ≡ false = sym f ∙ q in cc
-
-never_of : (s : Ground) (o : Outcome) → OfType s o → o ≢ stuck
-never_of s (done v) h e = cc
-never_of s (over vs) h e = cc
-never_of s stuck h e = h
 
 pub never_stuck : (S : SourceTypes) (T : Tables) → HaveSources S T → (t : Tree) (G : List Ground) (env : List Value) (s : Ground) → HaveTypes G env → CoreTypes S G t s → core T t env ≢ stuck
 never_stuck S T told t G env s e h = never_of s (core T t env) (safe S T told t G env s e h)

@@ -27,7 +27,8 @@ HasArm l (arm m b bs) = (l ≡ m) ⊎ HasArm l bs
 abbrev pub Covers : Row → Arms → Type 0
 Covers r bs = (l : Name) → IsSome (at l r) → HasArm l bs
 
--- the types of a term, as derivations over ground types
+-- The types of a term, as derivations over ground types. They are wider than those of programs: the types of constants,
+-- variants and empty collections need not be proper, so that a row may have a label twice.
 abbrev mutual
   pub CoreTypes : SourceTypes → List Ground → Tree → Ground → Type 0
   CoreTypes S G (var x) t = slice_get G x ≡ Some t

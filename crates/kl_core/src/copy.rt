@@ -18,6 +18,7 @@ impl Term {
     }
 }
 
+/// An equal term.
 #[cycle(copy)]
 pub fn copy(alloc: Global, term: &Term) -> Result<Term, NoMemory>
     ensures { IfOk result (λ t. t ≡ term.now) }

@@ -9,7 +9,8 @@ ghost use Rattle.kl_core.specs.Core.{Tables, core};
 ghost use Rattle.kl_core.specs.Typing.{SourceTypes, CoreTypes, HaveSources};
 
 /// The laws of typing: over sources and positions whose values have their types, a term that has a type makes sense,
-/// and its outcome is of that type: a canonical value of it, or an overflow, before which items of that type stand.
+/// and its outcome is of that type: a canonical value of it, or an overflow, before which a list alone has items, each of
+/// the type of its items.
 pub fn typing_laws()
     ensures never_stuck { (S : SourceTypes) (T : Tables) (t : Tree) (G : List Ground) (env : List Value) (s : Ground) → HaveSources S T → HaveTypes G env → CoreTypes S G t s → core T t env ≢ stuck }
     ensures keeps_type { (S : SourceTypes) (T : Tables) (t : Tree) (G : List Ground) (env : List Value) (s : Ground) → HaveSources S T → HaveTypes G env → CoreTypes S G t s → OfType s (core T t env) }

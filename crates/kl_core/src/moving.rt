@@ -24,6 +24,7 @@ pub fn shift(alloc: Global, t: &Term, from: u32, by: u32) -> Result<Term, NoMemo
     raise(alloc, t, from, by)
 }
 
+/// Each free position at or above `from` raised by `by`.
 #[cycle(raise)]
 pub fn raise(alloc: Global, term: &Term, from: u32, by: u32) -> Result<Term, NoMemory>
     requires fits { InRange (shift_of (view term.now) from by) }

@@ -1,3 +1,5 @@
+//! Terms of the core language.
+
 use kl_base::{Box, Label, Seq};
 use kl_value::{Kind, Value};
 

@@ -1,5 +1,5 @@
 -- A program of a type comes to an outcome of it.
-use Rattle.std.proofs.Common.{◌≡◌, ◌≢◌, Bool, true, false, ◌||◌, IsTrue, cond, List, [], ◌∷◌, Option, Some, None, IsSome, ℕ, nat_eq, refl, sym, ap, ◌∙◌, subst, true≢false}
+use Rattle.std.proofs.Common.{◌≡◌, ◌≢◌, Bool, true, false, IsTrue, cond, List, [], ◌∷◌, Option, Some, None, IsSome, ℕ, nat_eq, refl, sym, ap, ◌∙◌, subst, true≢false}
 use Rattle.std.specs.Cmp.Lexicographic.{pointwise, same_text}
 use Rattle.std.specs.List.{AllByRecursion}
 use Rattle.kl_base.specs.Fields.{field}
@@ -8,11 +8,10 @@ use Rattle.kl_value.specs.declared.Value.{Value}
 use Rattle.kl_value.specs.declared.Value.TheVariants as value
 use Rattle.kl_value.proofs.IsCanonicalLemmas.{bool_made}
 use Rattle.kl_type.specs.Ground.{Ground, Row, bool, var, coll as colls, at, IsGround}
-use Rattle.kl_type.proofs.RowLemmas.{same_label}
 use Rattle.kl_prim.specs.Table.{meaning}
 use Rattle.kl_outcome.specs.Outcome.{Name, Outcome, done, over, stuck, Flow, stop, fine, answered, applied, part, items_of, item_then}
 use Rattle.kl_outcome.specs.Typed.{Inhabits, OfType, PrimTypes}
-use Rattle.kl_outcome.proofs.OutcomeTypes.{after_typed, choice_typed, part_typed, recorded_typed, tagged_typed, cases_typed, args_then_typed, ArgsOf, FlowOf, drawn_typed, items_typed, item_typed, collected_typed, union_typed}
+use Rattle.kl_outcome.proofs.OutcomeTypes.{never_of, after_typed, choice_typed, part_typed, recorded_typed, tagged_typed, cases_typed, args_then_typed, ArgsOf, FlowOf, drawn_typed, items_typed, item_typed, collected_typed, union_typed}
 use Rattle.kl_outcome.proofs.PrimLemmas.{prim_typed}
 use Rattle.kl_syntax.specs.declared.tree.Op.{Op}
 use Rattle.kl_syntax.specs.declared.tree.Op.TheVariants as op
@@ -25,7 +24,7 @@ use Rattle.kl_meaning.specs.Typing.{Context, Sort, HaveTypesByName, ValueTypes, 
 use Rattle.kl_meaning.specs.Typing as sort
 use Rattle.kl_meaning.specs.Tidy.{IsSurePattern, IsTidy, AreTidy, AreTidyFields, AreTidyQuals, AreTidyBranches, AreTidySteps, IsTidyProgram}
 use Rattle.kl_meaning.proofs.Patterns.{sure_fits, takes, must_fit_typed, if_fits_typed}
-use Rattle.kl_meaning.proofs.Fields.{AllApart, in_order_rises, in_order_all, in_order_found, IsFieldOf, parts_of_row}
+use Rattle.kl_meaning.proofs.Fields.{in_order_rises, in_order_all, in_order_found, IsFieldOf, parts_of_row, has_fields, fields_apart}
 
 -- what a name means is of the types that it has
 abbrev pub Agrees : Sort → Meant → Type 0
@@ -88,7 +87,7 @@ called_typed (sort.value_of P) m os ss t a h c = absurd c
 
 -- ---- parts of forms
 
-truth_typed : (b : Bool) → OfType bool (done (value.Bool b))
+pub truth_typed : (b : Bool) → OfType bool (done (value.Bool b))
 truth_typed b = (rw (value.outs-Bool b) refl, bool_made b)
 
 operated_typed : (c : Op) (s u t : Ground) (o q : Outcome) → OpTypes c s u t → OfType s o → OfType u q → OfType t (operated c o q)
@@ -123,28 +122,6 @@ module _ (K : sort.Known) (M : meant.Known) (agree : (x : Name) → Agrees (K x)
   looked_up : (G : Context) (env : Env) → HaveTypesByName G env → (x : Name) (t : Ground) → NameTypes K G x t → OfType t (look_up M env x)
   looked_up G env h x t n = named_typed (field x G) (field x env) (K x) (M x) t (both_at x G env h) (agree x) n
 
-  has_fields : (fs : Flds) (env : Env) (l : Name) → IsTrue (has_field fs l) → IsSome (field l (run_fields fs M env))
-  has_fields no_flds env l h = absurd (true≢false (sym h))
-  has_fields (flds m e fs) env l h = by_label (same_name l m.text) h (has_fields fs env l)
-    where
-      by_label : (b : Bool) → IsTrue (b || has_field fs l) → (IsTrue (has_field fs l) → IsSome (field l (run_fields fs M env))) → IsSome (cond b (Some (run e M env)) (field l (run_fields fs M env)))
-      by_label true h next = refl
-      by_label false h next = next h
-
-  labels_apart : (fs : Flds) (env : Env) (l : Name) → has_field fs l ≡ false → AllByRecursion (λ p. l ≢ p.0) (run_fields fs M env)
-  labels_apart no_flds env l h = tt
-  labels_apart (flds m e fs) env l h =
-      let both = neither (same_name l m.text) (has_field fs l) h in
-      ((λ d. true≢false (sym (subst (λ k. same_name l k ≡ true) d (same_label l)) ∙ both.0)), labels_apart fs env l both.1)
-    where
-      neither : (a b : Bool) → (a || b) ≡ false → (a ≡ false) × (b ≡ false)
-      neither true b h = absurd (true≢false h)
-      neither false b h = (refl, h)
-
-  fields_apart : (fs : Flds) (env : Env) → AreTidyFields fs → AllApart (run_fields fs M env)
-  fields_apart no_flds env h = tt
-  fields_apart (flds l e fs) env h = (labels_apart fs env l.text h.0, fields_apart fs env h.2)
-
   mutual
     pub safe : (e : Exp) (G : Context) (env : Env) (t : Ground) → IsTidy e → HaveTypesByName G env → Types e K G t → OfType t (run e M env)
     safe (con v) G env t y h i = i.1
@@ -153,11 +130,12 @@ module _ (K : sort.Known) (M : meant.Known) (agree : (x : Name) → Agrees (K x)
     safe (fields fs) G env t y h i =
         let row_is = subst IsGround i.1 i.2.0 in
         let ps = run_fields fs M env in
+        let up = in_order_rises ps (fields_apart (λ e. run e M env) (λ fs. run_fields fs M env) refl (λ l e fs. refl) fs y) in
         subst (λ q. OfType q (run (fields fs) M env)) (sym i.1)
         (recorded_typed (in_order ps) i.0
-        (parts_of_row i.0 (in_order ps) row_is (in_order_rises ps (fields_apart fs env y)) (in_order_all (IsFieldOf i.0) ps (safe_fields fs G env i.0 y h i.4))
-        (λ l s. in_order_found l ps (has_fields fs env l (i.3 l s))))
-        (in_order_rises ps (fields_apart fs env y)))
+        (parts_of_row i.0 (in_order ps) row_is up (in_order_all (IsFieldOf (λ o t. OfType t o) i.0) ps (safe_fields fs G env i.0 y h i.4))
+        (λ l s. in_order_found l ps (has_fields (λ e. run e M env) (λ fs. run_fields fs M env) refl (λ l e fs. refl) fs l (i.3 l s))))
+        up)
     safe (inject l a) G env t y h i =
         subst (λ q. OfType q (run (inject l a) M env)) (sym i.2) (tagged_typed l.text i.0 i.1 (run a M env) i.4 (safe a G env i.1 y h i.5))
     safe (coll k es) G env t y h i =
@@ -190,7 +168,7 @@ module _ (K : sort.Known) (M : meant.Known) (agree : (x : Name) → Agrees (K x)
     safe_items no_exps G env s y h i = tt
     safe_items (exps e es) G env s y h i = item_typed s (run e M env) (run_items es M env) (safe e G env s y.0 h i.0) (safe_items es G env s y.1 h i.1)
 
-    safe_fields : (fs : Flds) (G : Context) (env : Env) (r : Row) → AreTidyFields fs → HaveTypesByName G env → FieldTypes fs K G r → AllByRecursion (IsFieldOf r) (run_fields fs M env)
+    safe_fields : (fs : Flds) (G : Context) (env : Env) (r : Row) → AreTidyFields fs → HaveTypesByName G env → FieldTypes fs K G r → AllByRecursion (IsFieldOf (λ o t. OfType t o) r) (run_fields fs M env)
     safe_fields no_flds G env r y h i = tt
     safe_fields (flds l e fs) G env r y h i = ((i.0, i.1, safe e G env i.0 y.1 h i.2), safe_fields fs G env r y.2 h i.3)
 
@@ -268,11 +246,6 @@ last_typed (function d p a ds) e K M h t y i =
 
 pub program_typed : (ds : Decls) (e : Exp) (types : List (Name × Ground)) (values : List (Name × Value)) (t : Ground) → IsTidyProgram ds e → HaveTypesByName types values → ProgramTypes ds e types t → OfType t (meaning_of_program ds e values)
 program_typed ds e types values t y h i = last_typed ds e (types_at_first types) (at_first values) (first_agrees types values h) t y i
-
-never_of : (t : Ground) (o : Outcome) → OfType t o → o ≢ stuck
-never_of t (done v) h e = cc
-never_of t (over vs) h e = cc
-never_of t stuck h e = h
 
 pub never_stuck : (ds : Decls) (e : Exp) (types : List (Name × Ground)) (values : List (Name × Value)) (t : Ground) → IsTidyProgram ds e → HaveTypesByName types values → ProgramTypes ds e types t → meaning_of_program ds e values ≢ stuck
 never_stuck ds e types values t y h i = never_of t (meaning_of_program ds e values) (program_typed ds e types values t y h i)

@@ -27,7 +27,7 @@ pub fn code_of(op: Op) -> u8
     }
 }
 
-/// The code of the primitive with a name.
+/// The code of the primitive with a name, or none where no primitive has it.
 pub fn code_named(name: &Label) -> Option<u8>
     ensures { result ≡ code_named name.now }
 {
