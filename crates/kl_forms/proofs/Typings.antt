@@ -8,11 +8,12 @@ use Rattle.kl_value.specs.IsCanonical.{IsCanonical, IsCanonicalLayer}
 use Rattle.kl_value.specs.Views.{bool_layer, int_layer, bytes_layer, collection}
 use Rattle.kl_value.specs.declared.value.Kind.{Kind}
 use Rattle.kl_value.specs.declared.value.Kind.TheVariants as kind
-use Rattle.kl_value.specs.declared.value.Value.{Value, Value-F, out-Value, map-Value, every-Value, every_here-Value, every_held-Value}
+use Rattle.kl_value.specs.declared.value.Value.{Value, Value-F, out-Value, every_here-Value}
 use Rattle.kl_value.specs.declared.value.Value.TheVariants as value
 use Rattle.kl_value.proofs.IsCanonicalLemmas.{bool_made, int_made, text_made, variant_made, record_made, items_canonical}
 use Rattle.kl_type.specs.Ground.{Ground, Row, bool, int, str, rec, var, coll, arrow, no_row, row, at, IsGround, IsRow}
 use Rattle.kl_outcome.specs.Typed.{Has, HasFields, HasAt, Inhabits}
+use Rattle.kl_outcome.proofs.OutcomeTypes.{fields_canonical, carried_canonical, at_has}
 use Rattle.kl_forms.specs.Constants.{ValueFields, row_with, EachHas}
 
 false_some : false ≡ true → ⊥
@@ -151,35 +152,9 @@ items_layer_type k (coll j a) vs h = let e = same_layer k j vs h.0 h.1 in (a, ap
 items_layer_type k (arrow x y) vs h = absurd h
 
 -- canonical parts
-abbrev Such : Type 0
-Such = (v : Value) × every-Value IsCanonicalLayer v
-
-abbrev AllGood : ValueFields → Type 0
-AllGood = AllByRecursion (λ f. every-Value IsCanonicalLayer f.1)
-
-firsts : (es : List (List ℕ × Such)) → AllGood (map (λ e. (e.0, e.1.0)) es)
-firsts [] = tt
-firsts (e ∷ es) = (e.1.1, firsts es)
-
-held_fields : (x : Value-F Such) (fs : ValueFields) → map-Value Such Value (λ e. e.0) x ≡ Value-F.Rec fs → AllGood fs
-held_fields (Value-F.Rec es) fs e = let same : map (λ e. (e.0, e.1.0)) es ≡ fs = cc in subst AllGood same (firsts es)
-held_fields x fs e = cc
-
-fields_canonical : (fs : ValueFields) → IsCanonical (value.Rec fs) → AllByRecursion (λ f. IsCanonical f.1) fs
-unfolding IsCanonical
-fields_canonical fs h = let held = every_held-Value IsCanonicalLayer (value.Rec fs) h in held_fields held.0 fs (held.1 ∙ value.outs-Rec fs)
-
 labels_canonical : (fs : ValueFields) → IsCanonical (value.Rec fs) → LabelsRise fs
 unfolding IsCanonical
 labels_canonical fs h = subst IsCanonicalLayer (value.outs-Rec fs) (every_here-Value IsCanonicalLayer (value.Rec fs) h)
-
-held_carried : (x : Value-F Such) (l : List ℕ) (v : Value) → map-Value Such Value (λ e. e.0) x ≡ Value-F.Inj l v → every-Value IsCanonicalLayer v
-held_carried (Value-F.Inj m e) l v q = let same : e.0 ≡ v = cc in subst (every-Value IsCanonicalLayer) same e.1
-held_carried x l v q = cc
-
-carried_canonical : (l : List ℕ) (v : Value) → IsCanonical (value.Inj l v) → IsCanonical v
-unfolding IsCanonical
-carried_canonical l v h = let held = every_held-Value IsCanonicalLayer (value.Inj l v) h in held_carried held.0 l v (held.1 ∙ value.outs-Inj l v)
 
 -- collections
 pub items_type : (k : Kind) (t : Ground) (v : Value) (vs : List Value) → v ≡ collection k vs → Inhabits t v → (a : Ground) × (t ≡ coll k a) × All (Inhabits a) vs
@@ -195,14 +170,6 @@ items_has k t v vs e up a q h =
     (subst (Inhabits (coll k a)) (sym e) ((vs, refl, recursion_from_All (Has a) vs (λ i d lt. (h i d lt).0)), up (recursion_from_All IsCanonical vs (λ i d lt. (h i d lt).1))))
 
 -- variants
-at_has : (r : Row) (l : List ℕ) (w : Value) → HasAt r l w → (a : Ground) × (at l r ≡ Some a) × Has a w
-at_has no_row l w h = absurd h
-at_has (row m t r) l w h = by (pointwise nat_eq l m) (λ k. at_has r l w k) h
-  where
-    by : (b : Bool) → (HasAt r l w → (a : Ground) × (at l r ≡ Some a) × Has a w) → cond b (Has t w) (HasAt r l w) → (a : Ground) × (cond b (Some t) (at l r) ≡ Some a) × Has a w
-    by true go k = (t, refl, k)
-    by false go k = go k
-
 has_at : (r : Row) (l : List ℕ) (w : Value) (a : Ground) → at l r ≡ Some a → Has a w → HasAt r l w
 has_at no_row l w a e h = cc
 has_at (row m t r) l w a e h = by (pointwise nat_eq l m) (λ k. has_at r l w a k h) e
