@@ -22,7 +22,8 @@ use Rattle.kl_ask.specs.declared.ask.ColTest.{ColTest}
 use Rattle.kl_ask.specs.declared.ask.DriverError.{DriverError}
 use Rattle.kl_ask.specs.declared.ask.DriverError.TheVariants as error
 use Rattle.kl_flat.specs.Answering.{Takes}
-use Rattle.kl_flat.specs.Flat.{asked_source, flat_state, told_only, attached_of, cursor_of, keep_of, left_of, open_at, tests_of}
+use Rattle.kl_flat.specs.Asked.{keep_of, tests_of}
+use Rattle.kl_flat.specs.Flat.{asked_source, flat_state, told_only, attached_of, cursor_of, left_of, open_at}
 use Rattle.kl_flat.specs.declared.parts.Source.{Source}
 use Rattle.kl_flat.specs.declared.parts.Open.{Open}
 use Rattle.kl_flat.proofs.Suiting.{item_flat}
@@ -278,11 +279,6 @@ pub pull_stopped : (cursor most : ℕ) (into into' : List Value) (result : Resul
 pull_stopped cursor most into into' result f sources cursors cursors' asked handed unread within made same is =
     subst (λ xs. Pulls cursor most into xs result (flat_state f sources cursors asked handed unread) (flat_state f sources cursors' asked handed unread)) (sym same)
     (subst (λ r. Pulls cursor most into into r (flat_state f sources cursors asked handed unread) (flat_state f sources cursors' asked handed unread)) (sym is) (pull_refused cursor most into f sources cursors cursors' asked handed unread within made))
-
--- what was taken of a cursor's own rows
-pub takes_as : (o : Open) (rows : List Value) (keep : List Name) (tests : List ColTest) (most to : ℕ) (taken : List Value) → rows ≡ o.rows → keep ≡ keep_of o.ask → tests ≡ tests_of o.ask → Takes rows o.at keep tests most taken to → Takes o.rows o.at (keep_of o.ask) (tests_of o.ask) most taken to
-takes_as o rows keep tests most to taken r k t h =
-    subst (λ ts. Takes o.rows o.at (keep_of o.ask) ts most taken to) t (subst (λ ks. Takes o.rows o.at ks tests most taken to) k (subst (λ rs. Takes rs o.at keep tests most taken to) r h))
 
 pub finish_done : (cursor : ℕ) (f : FilesState) (sources : List Source) (cursors closed cursors' : List (Option Open)) (asked : List (Ask × ℕ)) (handed unread : ℕ)
     → cursor < length cursors → closed ≡ set cursors cursor None → ((k : ℕ) → open_at cursors' k ≡ open_at closed k)
