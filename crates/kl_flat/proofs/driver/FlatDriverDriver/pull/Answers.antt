@@ -1,4 +1,4 @@
-use Rattle.std.proofs.Common.{◌≡◌, ◌<◌, Some, arith, rules, refl, ap, ◌∙◌, set, length, slice_get}
+use Rattle.std.proofs.Common.{◌≡◌, ◌<◌, Some, arith, rules, refl, ap, set, length, slice_get}
 use Rattle.std.proofs.lemmas.Option.{slice_get_read}
 use Rattle.kl_flat.proofs.Cursors.{is_within, pull_done, pull_none, pull_stopped}
 use Rattle.kl_flat.proofs.driver.FlatDriverDriver.pull.Goals as goal
