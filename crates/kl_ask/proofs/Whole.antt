@@ -2,7 +2,7 @@
 use Rattle.std.proofs.Common.{◌≡◌, ⊎_elim, Bool, true, false, ◌||◌, cond, nat_eq, List, [], ◌∷◌, Option, Some, None, IsSome, refl, sym, ap, subst, ◌∙◌}
 use Rattle.std.specs.Prelude.{filter}
 use Rattle.std.specs.List.{AllByRecursion}
-use Rattle.std.specs.List.Sorted.{IsStrictlySortedBy, IsPermutation}
+use Rattle.std.specs.List.Sorted.{IsStrictlySortedBy}
 use Rattle.std.specs.Cmp.Lexicographic.{pointwise}
 use Rattle.std.specs.declared.cmp.Ordering.TheVariants.{Less}
 use Rattle.std.proofs.lemmas.Cmp.{nat_list_eq_equiv}
@@ -165,11 +165,6 @@ pub collection_is : (t : Ground) → IsColl t → t ≡ coll (kind_of t) (item_o
 collection_is t h = subst (λ q. q ≡ coll (kind_of q) (item_of q)) (sym h.2) refl
 
 -- ---- rows in another order are the same collection
-
-pub in_order_none : (k : Kind) (rows : List Value) → IsPermutation rows rows → InOrder k rows rows
-in_order_none kind.Set rows h = h
-in_order_none kind.Bag rows h = h
-in_order_none kind.List rows h = refl
 
 pub in_order_canonical : (k : Kind) (rows shown : List Value) → InOrder k rows shown → canonical k shown ≡ canonical k rows
 in_order_canonical kind.Set rows shown h =

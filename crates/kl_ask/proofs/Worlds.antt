@@ -1,5 +1,6 @@
 -- What stays of a session.
 use Rattle.std.proofs.Common.{◌≡◌, ⊎_elim, ◌<◌, ℕ, List, length, Option, Some, None, IsSome, slice_get, refl, sym, ◌∙◌, ap, subst, arith}
+pub use Rattle.std.proofs.Math.Path.{fun_ext}
 use Rattle.std.proofs.lemmas.Bool.{cases_eq}
 use Rattle.std.proofs.lemmas.Grind.{common_steps}
 use Rattle.std.proofs.lemmas.Option.{gets, slice_get_within}
@@ -7,9 +8,6 @@ use Rattle.kl_ask.specs.Driver.{State, Keeps}
 use Rattle.kl_ask.specs.Lists.{StepsAt, EachSteps}
 use Rattle.kl_ask.specs.World.{World, IsReady, Moved, Quiet, at_driver, at_place, at_source, source_at, type_in, value_in, types_of, values_of}
 use Rattle.kl_ask.specs.declared.session.Attached.{Attached}
-
-pub fun_ext : {A B : Type 0} {f g : A → B} → ((x : A) → f x ≡ g x) → f ≡ g
-fun_ext h = λ i x. h x i
 
 pub some_same : {T : Type 0} {x y : T} → Some x ≡ Some y → x ≡ y
 some_same h = grind arith

@@ -2,7 +2,7 @@
 use Rattle.std.proofs.Common.{Result, ◌≡◌, ◌≢◌, ◌⊎◌, ◌<◌, ◌≤◌, ◌+◌, ◌-◌, ◌^◌, min, ℕ, Bool, true, false, List, [], ◌∷◌, ◌++◌, length, Option, Some, None, Ok, Err, IsSome, IsErrOf, refl, sym, ◌∙◌, ap, subst, arith, inl, inr, nat_lt, nat_eq, cond}
 use Rattle.std.proofs.lemmas.Bool.Decides.{nat_tests}
 use Rattle.std.specs.List.{AllByRecursion}
-use Rattle.std.specs.Cmp.Lexicographic.{pointwise, same_text}
+use Rattle.std.specs.Cmp.Lexicographic.{pointwise}
 use Rattle.std.specs.Option.{option_map}
 use Rattle.kl_base.specs.Counts.{Rose}
 use Rattle.kl_value.specs.declared.Value.{Value}
@@ -15,12 +15,13 @@ use Rattle.kl_outside.proofs.FileLemmas.{was_there}
 use Rattle.kl_outside.specs.Files.{FilesState, ReadsWhole, IsWhole, IsMissing}
 use Rattle.kl_outside.specs.declared.files.Whole.{Whole}
 use Rattle.kl_outside.specs.declared.files.Whole.TheVariants.{Bytes, TooLong}
-use Rattle.kl_outside.specs.declared.stop.Stop.TheVariants as stop
 use Rattle.kl_ask.specs.Asks.{item_of}
 use Rattle.kl_ask.specs.Driver.{Stored, Missing, Bad, Long, Deep, Rows, Source as Attached, Attaches, told_rows, stored_by}
 use Rattle.kl_ask.specs.declared.ask.Ask.{Ask}
 use Rattle.kl_ask.specs.declared.ask.DriverError.{DriverError}
 use Rattle.kl_ask.specs.declared.ask.DriverError.TheVariants as error
+use Rattle.kl_ask.proofs.Names.{not_same}
+use Rattle.kl_ask.proofs.Worlds.{some_same}
 use Rattle.kl_flat.specs.Flat.{flat_state, source_at, told_only, attached_of, contents_of, most_bytes, stored_bytes, stored_of, stored_rows}
 use Rattle.kl_flat.specs.Table.{bad_record, table_rows}
 use Rattle.kl_flat.specs.declared.parts.Source.{Source}
@@ -57,9 +58,6 @@ is_missing path ty f is = by f.told refl
     bytes_not bytes true e = cc
     bytes_not bytes false e = rows_not bytes (bad_record bytes ty) e
 
-    some_same : {x y : Stored} → Some x ≡ Some y → x ≡ y
-    some_same h = cc
-
     at : (o : Option (List ℕ)) → Some (stored_of o ty) ≡ Some Missing → o ≡ None
     at None e = refl
     at (Some bytes) e = absurd (bytes_not bytes (nat_lt most_bytes (length bytes)) (some_same e))
@@ -67,9 +65,6 @@ is_missing path ty f is = by f.told refl
     by : (t : Option (List ℕ → Option (List ℕ))) → f.told ≡ t → IsMissing f path
     by None none = let e : at_path f.told path ty ≡ None = ap (λ t. at_path t path ty) none in absurd (some_none (sym is ∙ e))
     by (Some files) told = (files, told, at (files path) (sym (ap (λ t. at_path t path ty) told) ∙ is))
-
-missing_is : (path : List ℕ) (ty : Ty) (f : FilesState) → IsMissing f path → at_path f.told path ty ≡ Some Missing
-missing_is path ty f is = ap (λ t. at_path t path ty) is.1 ∙ ap (λ o. Some (stored_of o ty)) is.2
 
 untold : (t : Option (List ℕ → Option (List ℕ))) → t ≡ None → IsSome (contents_of t) → ⊥
 untold None is told = cc
@@ -120,18 +115,6 @@ refused e source path ty f f' sources cursors asked handed unread unread' told f
     })
 
 module _ (source path : List ℕ) (ty : Ty) (f f' : FilesState) (sources : List Source) (cursors : List (Option Open)) (asked : List (Ask × ℕ)) (handed unread : ℕ) where
-  -- the file could not be read
-  pub unreadable_file : (e : DriverError) → ReadsWhole path most_bytes (Err stop.Failed) f f' → Attaches source path ty (Err error.Failed) (flat_state f sources cursors asked handed unread) (flat_state f' sources cursors asked handed unread)
-  unreadable_file e reads = refused error.Failed source path ty f f' sources cursors asked handed unread unread reads.told reads.later (omega arith)
-      (by (reads.failed refl)) (λ is. ((reads.missing (is_missing path ty f is)).1, refl))
-    where
-      by : IsMissing f path ⊎ Rose f.faults f'.faults → (at_path f.told path ty ≡ Some Missing) ⊎ Rose f.faults f'.faults
-      by (inl is) = inl (missing_is path ty f is)
-      by (inr rose) = inr rose
-
-  pub no_memory_file : ReadsWhole path most_bytes (Err stop.NoMemory) f f' → Attaches source path ty (Err error.NoMemory) (flat_state f sources cursors asked handed unread) (flat_state f' sources cursors asked handed unread)
-  no_memory_file reads = refused error.NoMemory source path ty f f' sources cursors asked handed unread unread reads.told reads.later (omega arith) tt (λ is. ((reads.missing (is_missing path ty f is)).1, refl))
-
   -- the file was read, and memory wanted then
   pub no_memory : (whole : Whole) → ReadsWhole path most_bytes (Ok whole) f f' → Attaches source path ty (Err error.NoMemory) (flat_state f sources cursors asked handed unread) (flat_state f' sources cursors asked handed unread)
   no_memory whole reads = refused error.NoMemory source path ty f f' sources cursors asked handed unread unread reads.told reads.later (omega arith) tt (λ is. ((reads.missing (is_missing path ty f is)).1, refl))
@@ -165,15 +148,8 @@ module _ (source path : List ℕ) (ty : Ty) (f f' : FilesState) (sources : List 
 
 -- ---- the sources with one more
 
-not_same : (l m : List ℕ) → (m ≡ l → ⊥) → pointwise nat_eq l m ≡ false
-not_same l m ne = by (pointwise nat_eq l m) refl
-  where
-    by : (b : Bool) → b ≡ pointwise nat_eq l m → pointwise nat_eq l m ≡ false
-    by true is = absurd (ne (sym (same_text l m is)))
-    by false is = sym is
-
 other_source : (sources : List Source) (s : Source) (name : Name) → name ≢ s.name → source_at (sources ++ s ∷ []) name ≡ source_at sources name
-other_source [] s name ne = let e = not_same s.name name ne in rw e refl
+other_source [] s name ne = let e = not_same s.name name (λ e. ne (sym e)) in rw e refl
 other_source (t ∷ sources) s name ne = ap (λ o. cond (pointwise nat_eq t.name name) (Some t) o) (other_source sources s name ne)
 
 this_source : (sources : List Source) (s : Source) → source_at sources s.name ≡ None → source_at (sources ++ s ∷ []) s.name ≡ Some s

@@ -15,28 +15,22 @@ use Rattle.kl_outcome.specs.Typed.{Inhabits}
 use Rattle.kl_outside.specs.Files.{FilesState}
 use Rattle.kl_ask.specs.Asked.{raised_by, with_ask}
 use Rattle.kl_ask.specs.Asks.{answers, item_of, kind_of, shown_type}
-use Rattle.kl_ask.specs.Driver.{Cursor, CanStart, Starts, OpensAt, IsFresh, InOrder, Shows, Pulls, PullsMore, PullsNone, Hands, Finishes, IsFlat, emptied}
+use Rattle.kl_ask.specs.Driver.{Cursor, CanStart, Starts, OpensAt, IsFresh, InOrder, Shows, Pulls, PullsMore, PullsNone, Hands, IsFlat, emptied}
 use Rattle.kl_ask.specs.declared.ask.Ask.{Ask}
 use Rattle.kl_ask.specs.declared.ask.Ask.TheVariants as asks
 use Rattle.kl_ask.specs.declared.ask.ColTest.{ColTest}
 use Rattle.kl_ask.specs.declared.ask.DriverError.{DriverError}
 use Rattle.kl_ask.specs.declared.ask.DriverError.TheVariants as error
+use Rattle.kl_ask.proofs.Boxes.{get-set_other, get-set_same}
+use Rattle.kl_ask.proofs.Worlds.{some_same}
 use Rattle.kl_flat.specs.Answering.{Takes}
-use Rattle.kl_flat.specs.Flat.{asked_source, flat_state, told_only, attached_of, cursor_of, keep_of, left_of, open_at, tests_of}
+use Rattle.kl_flat.specs.Asked.{keep_of, tests_of}
+use Rattle.kl_flat.specs.Flat.{asked_source, flat_state, told_only, attached_of, cursor_of, left_of, open_at}
 use Rattle.kl_flat.specs.declared.parts.Source.{Source}
 use Rattle.kl_flat.specs.declared.parts.Open.{Open}
 use Rattle.kl_flat.proofs.Suiting.{item_flat}
 use Rattle.kl_flat.proofs.Typing.{rows_suit, rows_typed}
 use Rattle.kl_flat.proofs.Shown.{all_drop, all_front, answers_typed, answers-all, answers-few}
-
-some_same : {T : Type 0} {x y : T} → Some x ≡ Some y → x ≡ y
-some_same h = cc
-
-get-set_other : {T : Type 0} (xs : List T) (i j : ℕ) (y : T) → j ≢ i → slice_get (set xs i y) j ≡ slice_get xs j
-get-set_other xs i j y ne = grind (arith, gets, common_steps)
-
-get-set_same : {T : Type 0} (xs : List T) (i : ℕ) (y : T) → i < length xs → slice_get (set xs i y) i ≡ Some y
-get-set_same xs i y lt = grind (arith, gets, common_steps)
 
 get-push_other : {T : Type 0} (xs : List T) (i : ℕ) (y : T) → i ≢ length xs → slice_get (xs ++ y ∷ []) i ≡ slice_get xs i
 get-push_other xs i y ne = grind (arith, gets, common_steps)
@@ -85,10 +79,6 @@ opens_at (asks.Rows source keep tests) s o f sources cursors asked handed unread
       told = λ shown is. told_size f.told (left_of o) shown is;
       bound = omega (arith, few, ap length left_is, ap length rows_is, small);
     })
-
-pub can_find : (ask : Ask) (f : FilesState) (sources : List Source) (cursors : List (Option Open)) (asked : List (Ask × ℕ)) (handed unread : ℕ) → CanStart (flat_state f sources cursors asked handed unread) ask → asked_source sources ask ≡ None → ⊥
-can_find (asks.Sql text) f sources cursors asked handed unread can none = can.answerable
-can_find (asks.Rows source keep tests) f sources cursors asked handed unread can none = let bad : None ≡ Some can.answerable.0 = sym (ap (option_map (attached_of f.told)) none) ∙ can.answerable.1 in cc
 
 pub start_done : (ask : Ask) (s : Source) (o : Open) (n : ℕ) (f : FilesState) (sources : List Source) (cursors pushed : List (Option Open)) (asked asked' : List (Ask × ℕ)) (handed unread : ℕ)
     → CanStart (flat_state f sources cursors asked handed unread) ask → asked_source sources ask ≡ Some s
@@ -278,23 +268,6 @@ pub pull_stopped : (cursor most : ℕ) (into into' : List Value) (result : Resul
 pull_stopped cursor most into into' result f sources cursors cursors' asked handed unread within made same is =
     subst (λ xs. Pulls cursor most into xs result (flat_state f sources cursors asked handed unread) (flat_state f sources cursors' asked handed unread)) (sym same)
     (subst (λ r. Pulls cursor most into into r (flat_state f sources cursors asked handed unread) (flat_state f sources cursors' asked handed unread)) (sym is) (pull_refused cursor most into f sources cursors cursors' asked handed unread within made))
-
--- what was taken of a cursor's own rows
-pub takes_as : (o : Open) (rows : List Value) (keep : List Name) (tests : List ColTest) (most to : ℕ) (taken : List Value) → rows ≡ o.rows → keep ≡ keep_of o.ask → tests ≡ tests_of o.ask → Takes rows o.at keep tests most taken to → Takes o.rows o.at (keep_of o.ask) (tests_of o.ask) most taken to
-takes_as o rows keep tests most to taken r k t h =
-    subst (λ ts. Takes o.rows o.at (keep_of o.ask) ts most taken to) t (subst (λ ks. Takes o.rows o.at ks tests most taken to) k (subst (λ rs. Takes rs o.at keep tests most taken to) r h))
-
-pub finish_done : (cursor : ℕ) (f : FilesState) (sources : List Source) (cursors closed cursors' : List (Option Open)) (asked : List (Ask × ℕ)) (handed unread : ℕ)
-    → cursor < length cursors → closed ≡ set cursors cursor None → ((k : ℕ) → open_at cursors' k ≡ open_at closed k)
-    → Finishes cursor (flat_state f sources cursors asked handed unread) (flat_state f sources cursors' asked handed unread)
-finish_done cursor f sources cursors closed cursors' asked handed unread within made same = record {
-  keeps = record { kind = refl; handed = omega arith; faults = omega arith; drifts = omega arith; no_drift = λ is. refl; unread = omega arith };
-  attached = refl;
-  asked = refl;
-  handed = refl;
-  closed = ap (seen_as f.told) (same cursor ∙ ap option_flatten (ap (λ xs. slice_get xs cursor) made ∙ get-set_same cursors cursor None within));
-  others = λ k ne. ap (seen_as f.told) (same k ∙ ap option_flatten (ap (λ xs. slice_get xs k) made ∙ get-set_other cursors cursor k None ne));
-}
 
 -- an open cursor is in its place
 pub there : {A : Type 0} (told : Option A) (cursors : List (Option Open)) (k : ℕ) → IsSome (option_map (cursor_of told) (open_at cursors k)) → (o : Open) × (slice_get cursors k ≡ Some (Some o))

@@ -1,6 +1,7 @@
 pub mod Attaching
 pub mod Cursors
 pub mod Fuel
+pub mod Kept
 pub mod OneColumn
 pub mod Options
 pub mod Placing

@@ -1,5 +1,5 @@
 -- The answers of an ask have the type that the ask shows.
-use Rattle.std.proofs.Common.{◌≡◌, ◌≤◌, ℕ, zero, suc, Bool, true, false, List, [], ◌∷◌, ◌++◌, filter, length, drop, Some, refl, sym, ap, ◌∙◌, subst, arith}
+use Rattle.std.proofs.Common.{◌≡◌, ◌≤◌, ℕ, zero, suc, Bool, true, false, List, [], ◌∷◌, ◌++◌, filter, length, drop, refl, sym, ap, ◌∙◌, subst, arith}
 use Rattle.std.specs.List.{AllByRecursion, list_all}
 use Rattle.std.specs.List.Sorted.{IsStrictlySortedBy}
 use Rattle.std.proofs.lemmas.List.Kept.{IsStrictlySortedBy-filter}
@@ -15,9 +15,7 @@ use Rattle.kl_outcome.proofs.OutcomeTypes.{record_is}
 use Rattle.kl_ask.specs.Asks.{answers, is_kept, passes, shown, shown_fields, shown_row, shown_type}
 use Rattle.kl_ask.specs.Driver.{IsFlat}
 use Rattle.kl_ask.specs.declared.ask.ColTest.{ColTest}
-
-some_same : {A : Type 0} {x y : A} → Some x ≡ Some y → x ≡ y
-some_same h = cc
+use Rattle.kl_ask.proofs.Worlds.{some_same}
 
 rising : (fs : List (Name × Value)) → IsCanonical (value.Rec fs) → LabelsRise fs
 unfolding IsCanonical
@@ -76,12 +74,6 @@ module _ (keep : List Name) where
       by : (b : Bool) → list_all (passes v) tests ≡ b → AllByRecursion (Inhabits (shown_type keep t)) (answers rows keep tests) → AllByRecursion (Inhabits (shown_type keep t)) (answers (v ∷ rows) keep tests)
       by true is more = rw is (shown_typed t flat v h.0, more)
       by false is more = rw is more
-
-  pub answers-passed : (tests : List ColTest) (v : Value) (rows : List Value) → list_all (passes v) tests ≡ true → answers (v ∷ rows) keep tests ≡ shown keep v ∷ answers rows keep tests
-  answers-passed tests v rows is = rw is refl
-
-  pub answers-failed : (tests : List ColTest) (v : Value) (rows : List Value) → list_all (passes v) tests ≡ false → answers (v ∷ rows) keep tests ≡ answers rows keep tests
-  answers-failed tests v rows is = rw is refl
 
   pub answers-few : (tests : List ColTest) (rows : List Value) → length (answers rows keep tests) ≤ length rows
   answers-few tests [] = omega arith

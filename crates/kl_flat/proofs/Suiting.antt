@@ -20,7 +20,7 @@ base_by x e = cc
 base_is : (t : Ty) → is_base t ≡ true → IsBase (ground_of t)
 base_is t e = subst (λ u. IsBase (ground_of u)) (roll-out-Ty t) (base_by (out-Ty t) e)
 
-both : (a b : Bool) → (a && b) ≡ true → (a ≡ true) × (b ≡ true)
+pub both : (a b : Bool) → (a && b) ≡ true → (a ≡ true) × (b ≡ true)
 both true b e = (refl, e)
 both false b e = cc
 

@@ -6,7 +6,8 @@ use Rattle.std.specs.List.{AllByRecursion, zip}
 use Rattle.std.specs.List.Sorted.{IsStrictlySortedBy}
 use Rattle.std.specs.Cmp.Lexicographic.{pointwise, same_text}
 use Rattle.kl_ask.specs.Asks.{item_of}
-use Rattle.kl_flat.proofs.Suiting.{item_is}
+use Rattle.kl_ask.proofs.Worlds.{some_same}
+use Rattle.kl_flat.proofs.Suiting.{both, item_is}
 use Rattle.std.specs.declared.cmp.Ordering.TheVariants.{Less}
 use Rattle.std.specs.declared.cmp.Ordering.{Ordering}
 use Rattle.std.specs.Ordering.{is_lt}
@@ -29,27 +30,24 @@ use Rattle.kl_flat.specs.Cells.{cell_layer, cell_value, without_blanks}
 use Rattle.kl_flat.specs.Columns.{columns_of, fields_layer, items_layer, is_table_type}
 use Rattle.kl_flat.specs.Table.{Columns, Record, all_of, front_of, part_in, row_in, rows_in, table_records, table_rows, is_header}
 
-some_same : {A : Type 0} (a b : A) → Some a ≡ Some b → a ≡ b
-some_same a b h = cc
-
 -- ---- the rows of a table fit its columns
 
 value_fits : (v : Value) (y : Value-F Value) (x : Ty-F Ty) → out-Value v ≡ y → fits_base y x ≡ true → (w : Value) → v ≡ w → fits_base (out-Value w) x ≡ true
 value_fits v y x e h w same = ap (λ u. fits_base (out-Value u) x) (sym same) ∙ ap (λ z. fits_base z x) e ∙ h
 
 truth_fits : (x y : Bool) (v : Value) → cond x (Some (value.Bool true)) (cond y (Some (value.Bool false)) None) ≡ Some v → fits_base (out-Value v) Ty-F.Bool ≡ true
-truth_fits true y v e = value_fits (value.Bool true) (Value-F.Bool true) Ty-F.Bool (value.outs-Bool true) refl v (some_same _ v e)
-truth_fits false true v e = value_fits (value.Bool false) (Value-F.Bool false) Ty-F.Bool (value.outs-Bool false) refl v (some_same _ v e)
+truth_fits true y v e = value_fits (value.Bool true) (Value-F.Bool true) Ty-F.Bool (value.outs-Bool true) refl v (some_same e)
+truth_fits false true v e = value_fits (value.Bool false) (Value-F.Bool false) Ty-F.Bool (value.outs-Bool false) refl v (some_same e)
 truth_fits false false v e = cc
 
 number_fits : (o : Option ℤ) (v : Value) → option_map value.Int o ≡ Some v → fits_base (out-Value v) Ty-F.Int ≡ true
-number_fits (Some n) v e = value_fits (value.Int n) (Value-F.Int n) Ty-F.Int (value.outs-Int n) refl v (some_same _ v e)
+number_fits (Some n) v e = value_fits (value.Int n) (Value-F.Int n) Ty-F.Int (value.outs-Int n) refl v (some_same e)
 number_fits None v e = cc
 
 cell_fits : (bs : List ℕ) (x : Ty-F Ty) (v : Value) → cell_layer bs x ≡ Some v → fits_base (out-Value v) x ≡ true
 cell_fits bs Ty-F.Bool v e = truth_fits _ _ v e
 cell_fits bs Ty-F.Int v e = number_fits (number_in (without_blanks bs)) v e
-cell_fits bs Ty-F.Str v e = value_fits (value.Text bs) (Value-F.Text bs) Ty-F.Str (value.outs-Text bs) refl v (some_same _ v e)
+cell_fits bs Ty-F.Str v e = value_fits (value.Text bs) (Value-F.Text bs) Ty-F.Str (value.outs-Text bs) refl v (some_same e)
 cell_fits bs x v e = cc
 
 part_fits : (cells : List (List ℕ × List ℕ)) (c : List ℕ × Ty) (f : List ℕ × Value) → part_in cells c ≡ Some f → (pointwise nat_eq f.0 c.0 ≡ true) × (fits_base (out-Value f.1) (out-Ty c.1) ≡ true)
@@ -57,7 +55,7 @@ part_fits cells c f e = by (field c.0 cells) refl
   where
     found : (bs : List ℕ) (o : Option Value) → cell_value bs c.1 ≡ o → option_map (λ v. (c.0, v)) o ≡ Some f → (pointwise nat_eq f.0 c.0 ≡ true) × (fits_base (out-Value f.1) (out-Ty c.1) ≡ true)
     found bs (Some v) is h =
-        let same : (c.0, v) ≡ f = some_same _ f h in
+        let same : (c.0, v) ≡ f = some_same h in
         (subst (λ (g : List ℕ × Value). pointwise nat_eq g.0 c.0 ≡ true) same (same_label c.0), subst (λ (g : List ℕ × Value). fits_base (out-Value g.1) (out-Ty c.1) ≡ true) same (cell_fits bs (out-Ty c.1) v is))
     found bs None is h = cc
 
@@ -69,14 +67,14 @@ and_true : (a b : Bool) → a ≡ true → b ≡ true → (a && b) ≡ true
 and_true a b p q = rw (p, q) refl
 
 parts_fit : (cells : List (List ℕ × List ℕ)) (columns : Columns) (fs : List (List ℕ × Value)) → all_of (map (part_in cells) columns) ≡ Some fs → fit_fields columns fs ≡ true
-parts_fit cells [] fs e = let none : [] ≡ fs = some_same _ fs e in subst (λ gs. fit_fields [] gs ≡ true) none refl
+parts_fit cells [] fs e = let none : [] ≡ fs = some_same e in subst (λ gs. fit_fields [] gs ≡ true) none refl
 parts_fit cells (c ∷ columns) fs e = by (part_in cells c) refl (λ gs more. parts_fit cells columns gs more)
   where
     rest : ((gs : List (List ℕ × Value)) → all_of (map (part_in cells) columns) ≡ Some gs → fit_fields columns gs ≡ true) → (f : List ℕ × Value) → part_in cells c ≡ Some f → (o : Option (List (List ℕ × Value))) → all_of (map (part_in cells) columns) ≡ o → option_map (λ xs. f ∷ xs) o ≡ Some fs → fit_fields (c ∷ columns) fs ≡ true
     rest later f is None more h = cc
     rest later f is (Some gs) more h =
         let here = part_fits cells c f is in
-        let same : f ∷ gs ≡ fs = some_same _ fs h in
+        let same : f ∷ gs ≡ fs = some_same h in
         subst (λ hs. fit_fields (c ∷ columns) hs ≡ true) same (and_true _ _ (and_true _ _ here.0 here.1) (later gs more))
 
     by : (o : Option (List ℕ × Value)) → part_in cells c ≡ o → ((gs : List (List ℕ × Value)) → all_of (map (part_in cells) columns) ≡ Some gs → fit_fields columns gs ≡ true) → fit_fields (c ∷ columns) fs ≡ true
@@ -89,7 +87,7 @@ row_fits columns header entry v e = by (nat_eq (length entry) (length header)) r
     made : (o : Option (List (List ℕ × Value))) → all_of (map (part_in (zip header entry)) columns) ≡ o → option_map value.Rec o ≡ Some v → fits_layer columns (out-Value v) ≡ true
     made None is h = cc
     made (Some fs) is h =
-        let same : value.Rec fs ≡ v = some_same _ v h in
+        let same : value.Rec fs ≡ v = some_same h in
         subst (λ w. fits_layer columns (out-Value w) ≡ true) same (ap (fits_layer columns) (value.outs-Rec fs) ∙ parts_fit (zip header entry) columns fs is)
 
     by : (b : Bool) → nat_eq (length entry) (length header) ≡ b → fits_layer columns (out-Value v) ≡ true
@@ -122,10 +120,6 @@ base_by _ _ e = cc
 
 base_has : (v : Value) (t : Ty) → fits_base (out-Value v) (out-Ty t) ≡ true → Inhabits (ground_of t) v
 base_has v t e = subst (Inhabits (ground_of t)) (roll-out-Value v) (subst (λ u. Inhabits (ground_of u) (roll-Value (out-Value v))) (roll-out-Ty t) (base_by (out-Value v) (out-Ty t) e))
-
-both : (a b : Bool) → (a && b) ≡ true → (a ≡ true) × (b ≡ true)
-both true b e = (refl, e)
-both false b e = cc
 
 abbrev GoodFields : Columns → List (List ℕ × Value) → Type 0
 GoodFields columns fs = HasFields (row_by ground_of columns) fs × AllByRecursion (λ f. IsCanonical f.1) fs × (labels_of fs ≡ labels_of columns)

@@ -11,7 +11,7 @@ use Rattle.kl_ask.specs.Asks.{answers, item_of, shown_type}
 use Rattle.kl_ask.specs.Driver.{State, DriverKind, Stored, Missing, Bad, Long, Rows, Source as Attached, Cursor}
 use Rattle.kl_ask.specs.declared.ask.Ask.{Ask}
 use Rattle.kl_ask.specs.declared.ask.Ask.TheVariants as asks
-use Rattle.kl_ask.specs.declared.ask.ColTest.{ColTest}
+use Rattle.kl_flat.specs.Asked.{keep_of, tests_of}
 use Rattle.kl_flat.specs.Columns.{is_table_type}
 use Rattle.kl_flat.specs.Table.{bad_record, table_rows}
 use Rattle.kl_flat.specs.declared.parts.Source.{Source}
@@ -58,14 +58,6 @@ asked_source sources (asks.Sql text) = None
 
 abbrev pub attached_of : {A : Type 0} → Option A → Source → Attached
 attached_of told source = record { ty = source.ty; rows = told_only told source.rows; count = length source.rows; kept = None }
-
-abbrev pub keep_of : Ask → List Name
-keep_of (asks.Rows source keep tests) = keep
-keep_of (asks.Sql text) = []
-
-abbrev pub tests_of : Ask → List ColTest
-tests_of (asks.Rows source keep tests) = tests
-tests_of (asks.Sql text) = []
 
 -- the answers that a cursor has left
 abbrev pub left_of : Open → List Value

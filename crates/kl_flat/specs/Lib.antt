@@ -1,4 +1,5 @@
 pub mod Answering
+pub mod Asked
 pub mod Cells
 pub mod Columns
 pub mod Fitting

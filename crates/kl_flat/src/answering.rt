@@ -1,38 +1,43 @@
 //! The rows that answer an ask.
-ghost use Rattle.std.specs.Prelude.{◌≡◌, ◌≤◌, filter, length, IfOk};
+ghost use Rattle.std.specs.Prelude.{◌≡◌, ◌<◌, length, map, slice_get, All, IfOk, Some, true};
 ghost use Rattle.std.specs.List.{list_all};
 ghost use Rattle.std.specs.Option.{option_copied};
 ghost use Rattle.kl_value.specs.Views.{field_at};
-ghost use Rattle.kl_ask.specs.Asks.{holds, is_kept, passes, shown};
+ghost use Rattle.kl_value.specs.declared.Value.{out-Value};
+ghost use Rattle.kl_ask.specs.Asks.{holds, passes, shown};
 ghost use Rattle.kl_flat.specs.Answering.{Takes};
+ghost use Rattle.kl_flat.specs.Asked.{keep_of, tests_of};
+ghost use Rattle.kl_flat.specs.Columns.{columns_of};
+ghost use Rattle.kl_flat.specs.Fitting.{fits_layer};
 
+use crate::parts::Open;
+use crate::sources::tests_of;
 use kl_ask::{Cmp, ColTest, Right};
 use kl_base::{Label, NoMemory, Seq};
 use kl_value::{Value, cmp, dup};
 use std::alloc::Global;
 use std::cmp::Ordering;
 
-/// The next answers among rows, from a place on: at most `most`, and the place behind the last row that was looked at.
+/// The next answers of a cursor: at most `most`, and the place behind the last row that was looked at.
 ///
 /// # Errors
 /// Want of memory.
 pub fn next_answers(
     alloc: Global,
-    rows: &[Value],
-    from: usize,
-    keep: &[Label],
-    tests: &[ColTest],
+    cursor: &Open,
     most: u32,
 ) -> Result<(Vec<Value>, usize), NoMemory>
-    requires { from ≤ length rows.now }
-    ensures { IfOk result (λ r. Takes rows.now from keep.now tests.now most r.0.items r.1) }
+    ensures { IfOk result (λ r. Takes cursor.now.rows cursor.now.at (keep_of cursor.now.ask) (tests_of cursor.now.ask) most r.0.items r.1) }
 {
-    let mut taken = Vec::new(alloc);
-    let mut at = from;
+    let rows = cursor.rows.get().slice();
+    let tests = tests_of(&cursor.ask);
+    let mut at = cursor.at;
+    let room = (rows.len() - at).min(most as usize);
+    let mut taken = Vec::with_capacity(alloc, room)?;
     'rows: while at < rows.len() && taken.len() < most as usize {
         let row = &rows[at];
         if passes_all(row, tests) {
-            let shown = shown(alloc, keep, row)?;
+            let shown = shown(alloc, cursor, row)?;
             taken.push(shown)?;
         }
         at += 1;
@@ -88,43 +93,34 @@ fn holds(op: Cmp, order: Ordering) -> bool
     }
 }
 
-// A copy of a row with the kept columns alone.
-fn shown(alloc: Global, keep: &[Label], row: &Value) -> Result<Value, NoMemory>
-    ensures { IfOk result (λ v. v ≡ shown keep.now row.now) }
+// A copy of a row of the cursor with the kept columns alone.
+fn shown(alloc: Global, cursor: &Open, row: &Value) -> Result<Value, NoMemory>
+    requires { fits_layer (columns_of cursor.now.ty) (out-Value row.now) ≡ true }
+    ensures { IfOk result (λ v. v ≡ shown (keep_of cursor.now.ask) row.now) }
 {
     match row {
         Value::Rec(fields) => {
-            let kept = kept_fields(alloc, keep, fields.slice())?;
+            let kept = fields_at(alloc, cursor.places.slice(), fields.slice())?;
             Ok(Value::Rec(Seq::of(kept)))
         }
         _ => dup(alloc, row),
     }
 }
 
-fn kept_fields(
+// Copies of the fields at these places.
+fn fields_at(
     alloc: Global,
-    keep: &[Label],
+    places: &[usize],
     fields: &[(Label, Value)],
 ) -> Result<Vec<(Label, Value)>, NoMemory>
-    ensures { IfOk result (λ kept. kept.items ≡ filter (λ f. is_kept keep.now f.0) fields.now) }
+    requires { All (λ p. p < length fields.now) places.now }
+    ensures { IfOk result (λ copies. map Some copies.items ≡ map (slice_get fields.now) places.now) }
 {
-    let mut kept = Vec::with_capacity(alloc, keep.len())?;
-    for field in fields {
-        if is_kept(keep, &field.0) {
-            let label = field.0.dup()?;
-            kept.push((label, dup(alloc, &field.1)?))?;
-        }
+    let mut copies = Vec::with_capacity(alloc, places.len())?;
+    for place in places {
+        let field = &fields[*place];
+        let label = field.0.dup()?;
+        copies.push((label, dup(alloc, &field.1)?))?;
     }
-    Ok(kept)
-}
-
-fn is_kept(keep: &[Label], label: &Label) -> bool
-    ensures { result ≡ is_kept keep.now label.now }
-{
-    for kept in keep {
-        if kept == label {
-            return true;
-        }
-    }
-    false
+    Ok(copies)
 }

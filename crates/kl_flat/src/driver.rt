@@ -5,7 +5,7 @@ ghost use Rattle.kl_flat.specs.Flat.{flat_state, open_at};
 use crate::answering::next_answers;
 use crate::columns::is_table_type;
 use crate::parts::{Open, Source};
-use crate::sources::{find_asked, keep_of, opened, tests_of};
+use crate::sources::{find_asked, opened};
 use crate::table::{Table, read_table};
 use kl_ask::{Abilities, Ask, Driver, DriverError, count_ask, sum_asked};
 use kl_base::{Label, Shared, Text};
@@ -111,23 +111,17 @@ impl<F: Files + Drop> Driver for FlatDriver<F> {
         let Some(open) = mem::replace(&mut self.cursors[cursor], None) else {
             unreachable!()
         };
-        let Open { ask, ty, rows, at } = open;
-        let (taken, at) = next_answers(
-            self.alloc,
-            rows.get().slice(),
-            at,
-            keep_of(&ask),
-            tests_of(&ask),
-            most,
-        )?;
+        let (taken, at) = next_answers(self.alloc, &open, most)?;
+        let mut open = open;
+        open.at = at;
         if taken.is_empty() {
-            self.cursors[cursor] = Some(Open { ask, ty, rows, at });
+            self.cursors[cursor] = Some(open);
             return Ok(false);
         }
         let count = taken.len() as u64;
         let mut taken = taken;
         into.append(&mut taken)?;
-        self.cursors[cursor] = Some(Open { ask, ty, rows, at });
+        self.cursors[cursor] = Some(open);
         self.handed = self.handed.saturating_add(count);
         Ok(true)
     }

@@ -11,6 +11,7 @@ mod records;
 mod sources;
 mod table;
 
+pub use columns::is_table_type;
 pub use driver::FlatDriver;
 pub use table::{Table, read_table};
 

@@ -22,7 +22,7 @@ pub fn reader(alloc: Global, bytes: &[u8]) -> Reader<&[u8]>
 /// Reads the next record into `entry`, and says whether there was one.
 ///
 /// # Errors
-/// Want of memory. Nothing else can fail a read of bytes in memory, but no clause says so.
+/// Want of memory. Beside it csv's clauses leave only an error of the input open, which bytes in memory do not have.
 pub fn next_record(reader: &mut Reader<&[u8]>, entry: &mut ByteRecord) -> Result<bool, NoMemory>
     requires { IsPlain reader.old }
     ensures plain { IfOk result (λ found. MatchBool found (IsPlain reader.new) (records_left reader.old ≡ [])) }

@@ -132,6 +132,7 @@ fn read_rows(
         };
         rows.push(row)?;
     }
+    rows.shrink_to_fit();
     Ok(Table {
         rows: Seq::of(rows),
         bad: None,

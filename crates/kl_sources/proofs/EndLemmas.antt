@@ -20,7 +20,7 @@ use Rattle.kl_sources.specs.Attaching.{AgreeBelow, AttachesAll, HaveNone, HasTyp
 use Rattle.kl_sources.specs.Walking.{AttachesBelow, IsWant, MayAttachBelow, StopsAt, WalksAll, WalksToEnd}
 use Rattle.kl_sources.proofs.Lists.{element, of_all}
 use Rattle.kl_sources.proofs.NameLemmas.{one_of_name}
-use Rattle.kl_sources.proofs.SessionLemmas.{serves}
+use Rattle.kl_sources.proofs.SessionLemmas.{serves, shifts}
 use Rattle.kl_sources.proofs.StepLemmas.{begins}
 
 below_or : (a b : ℕ) → (a < b) ⊎ (b ≤ a)
@@ -30,15 +30,12 @@ below_or (suc a) (suc b) = elim (below_or a b) [ inl h ↦ inl (omega (arith, h)
 
 -- ---- the list
 
-list_shifts : (marks : ℕ → Bool) (n i : ℕ) → marks (suc n + i) ≡ marks (n + suc i)
-list_shifts marks n i = ap marks (omega arith)
-
 more_of : (marks : ℕ → Bool) (n i : ℕ) (ss : List Source) (s : Source) → slice_get ss i ≡ Some s → list_of marks n (take (suc i) ss) ≡ list_of marks n (take i ss) ++ listed (marks (n + i)) s ∷ []
 more_of marks n i [] s is = absurd cc
 more_of marks n zero (x ∷ ss) s is = ap (λ (q : Source). listed (marks n) q ∷ []) (some_same is) ∙ ap (λ k. listed (marks k) s ∷ []) (sym (add-zero n))
 more_of marks n (suc i) (x ∷ ss) s is =
     ap (λ l. listed (marks n) x ∷ l) (more_of marks (suc n) i ss s is)
-    ∙ ap (λ b. listed (marks n) x ∷ (list_of marks (suc n) (take i ss) ++ listed b s ∷ [])) (list_shifts marks n i)
+    ∙ ap (λ b. listed (marks n) x ∷ (list_of marks (suc n) (take i ss) ++ listed b s ∷ [])) (shifts marks n i)
 
 pub list_more : (marks : ℕ → Bool) (i : ℕ) (ss : List Source) (s : Source) (m : Bool) (before after : List Attached) → slice_get ss i ≡ Some s → m ≡ marks i → before ≡ list_of marks 0 (take i ss) → after ≡ before ++ listed m s ∷ [] → after ≡ list_of marks 0 (take (i + 1) ss)
 list_more marks i ss s m before after is marked so_far more =
@@ -49,7 +46,7 @@ list_agrees : (marks others : ℕ → Bool) (n : ℕ) (ss : List Source) → ((i
 list_agrees marks others n [] same = refl
 list_agrees marks others n (s ∷ ss) same =
     ap (λ b. listed b s ∷ list_of others (suc n) ss) (ap others (sym (add-zero n)) ∙ sym (same 0 (omega arith)) ∙ ap marks (add-zero n))
-    ∙ ap (λ l. listed (marks n) s ∷ l) (list_agrees marks others (suc n) ss (λ i lt. list_shifts marks n i ∙ same (suc i) (omega (arith, lt)) ∙ sym (list_shifts others n i)))
+    ∙ ap (λ l. listed (marks n) s ∷ l) (list_agrees marks others (suc n) ss (λ i lt. shifts marks n i ∙ same (suc i) (omega (arith, lt)) ∙ sym (shifts others n i)))
 
 -- ---- sources by their place
 
@@ -84,7 +81,7 @@ first_at ks marks n (t ∷ ts) s w (inr h) =
     record {
       place = suc r.place;
       there = r.there;
-      marked = sym (list_shifts marks n r.place) ∙ r.marked;
+      marked = sym (shifts marks n r.place) ∙ r.marked;
       stands = r.stands;
       without = r.without;
       before = before_more r;
@@ -92,7 +89,7 @@ first_at ks marks n (t ∷ ts) s w (inr h) =
   where
     before_more : (r : FirstAt ks marks (suc n) ts s w) (i : ℕ) (u : Source) → i < suc r.place → slice_get (t ∷ ts) i ≡ Some u → marks (n + i) ≡ true → HasRows ks u
     before_more r zero u lt is mk = subst (HasRows ks) (some_same is) (readable_rows ks (marks n) t h.0 (ap marks (sym (add-zero n)) ∙ mk))
-    before_more r (suc i) u lt is mk = r.before i u (omega (arith, lt)) is (list_shifts marks n i ∙ mk)
+    before_more r (suc i) u lt is mk = r.before i u (omega (arith, lt)) is (shifts marks n i ∙ mk)
 
 first_without : (ks : List DriverKind) (marks : ℕ → Bool) (n : ℕ) (ss : List Source) (s : Source) (w : Stored) (p : ℕ) → slice_get ss p ≡ Some s → marks (n + p) ≡ true → contents ks s ≡ Some w → (HasRows ks s → ⊥)
     → ((i : ℕ) (t : Source) → i < p → slice_get ss i ≡ Some t → marks (n + i) ≡ true → HasRows ks t) → FirstWithout ks marks n ss s w
@@ -103,7 +100,7 @@ first_without ks marks n (t ∷ ts) s w zero is mk stands without before =
 first_without ks marks n (t ∷ ts) s w (suc p) is mk stands without before =
     inr (
       rows_readable ks (marks n) t (λ e. before 0 t (omega arith) refl (ap marks (add-zero n) ∙ e)),
-      first_without ks marks (suc n) ts s w p is (list_shifts marks n p ∙ mk) stands without (λ i u lt there m. before (suc i) u (omega (arith, lt)) there (sym (list_shifts marks n i) ∙ m)),
+      first_without ks marks (suc n) ts s w p is (shifts marks n p ∙ mk) stands without (λ i u lt there m. before (suc i) u (omega (arith, lt)) there (sym (shifts marks n i) ∙ m)),
     )
 
 value_rows : (ks : List DriverKind) (b : Bool) (s : Source) (v : Value) → IsValueAt ks b s v → b ≡ true → HasRows ks s
@@ -113,7 +110,7 @@ value_rows ks false s v h e = absurd cc
 values_rows : (ks : List DriverKind) (marks : ℕ → Bool) (n : ℕ) (ss : List Source) (vs : List (Name × Value)) → HaveValues ks marks n ss vs → (i : ℕ) (t : Source) → slice_get ss i ≡ Some t → marks (n + i) ≡ true → HasRows ks t
 values_rows ks marks n [] vs h i t is mk = absurd cc
 values_rows ks marks n (s ∷ ss) vs h zero t is mk = subst (HasRows ks) (some_same is) (value_rows ks (marks n) s h.0 h.3 (ap marks (sym (add-zero n)) ∙ mk))
-values_rows ks marks n (s ∷ ss) vs h (suc i) t is mk = values_rows ks marks (suc n) ss h.1 h.4 i t is (list_shifts marks n i ∙ mk)
+values_rows ks marks n (s ∷ ss) vs h (suc i) t is mk = values_rows ks marks (suc n) ss h.1 h.4 i t is (shifts marks n i ∙ mk)
 
 value_for : (ks : List DriverKind) (b : Bool) (s : Source) → (b ≡ true → HasRows ks s) → (v : Value) × IsValueAt ks b s v
 value_for ks true s f = let r = f refl in (value_of s r.0, (r.0, r.1, refl))
@@ -123,7 +120,7 @@ values_for : (ks : List DriverKind) (marks : ℕ → Bool) (n : ℕ) (ss : List 
 values_for ks marks n [] f = ([], refl)
 values_for ks marks n (s ∷ ss) f =
     let one = value_for ks (marks n) s (λ e. f 0 s refl (ap marks (add-zero n) ∙ e)) in
-    let rest = values_for ks marks (suc n) ss (λ i t is mk. f (suc i) t is (sym (list_shifts marks n i) ∙ mk)) in
+    let rest = values_for ks marks (suc n) ss (λ i t is mk. f (suc i) t is (sym (shifts marks n i) ∙ mk)) in
     ((s.name, one.0) ∷ rest.0, (one.0, rest.0, refl, one.1, rest.1))
 
 -- ---- what is told

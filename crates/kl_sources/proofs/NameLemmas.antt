@@ -5,6 +5,7 @@ use Rattle.std.specs.List.{AllByRecursion, Contains, IsDistinct, list_any}
 use Rattle.kl_prim.specs.declared.rows.PrimRow.{PrimRow}
 use Rattle.kl_prim.specs.Table.{entry_of, rows}
 use Rattle.kl_outcome.specs.Outcome.{Name}
+use Rattle.kl_ask.proofs.Names.{not_same}
 use Rattle.kl_ask.proofs.Worlds.{some_same}
 use Rattle.kl_sources.specs.declared.source.Source.{Source}
 use Rattle.kl_sources.specs.Sources.{same, names_of}
@@ -14,13 +15,6 @@ same_is a b h = (bytes_eq-Decides a b).0 h
 
 pub same_here : (a b : Name) → a ≡ b → same a b ≡ true
 same_here a b h = (bytes_eq-Decides a b).1 h
-
-pub not_same : (a b : Name) → a ≢ b → same a b ≡ false
-not_same a b h = go (same a b) (same_is a b)
-  where
-    go : (t : Bool) → (t ≡ true → a ≡ b) → t ≡ false
-    go true f = absurd (h (f refl))
-    go false f = refl
 
 pub differ_of : (a b : Name) → same a b ≡ false → a ≢ b
 differ_of a b h e = let t : same a b ≡ true = same_here a b e in cc

@@ -15,6 +15,7 @@ use Rattle.kl_prim.specs.Table.{rows}
 use Rattle.kl_outcome.specs.Outcome.{Name}
 use Rattle.kl_ask.specs.Driver.{DriverKind, State, Suits}
 use Rattle.kl_catalogue.specs.declared.reading.Entry.{Entry}
+use Rattle.kl_ask.proofs.Names.{not_same}
 use Rattle.kl_ask.proofs.Worlds.{some_same}
 use Rattle.kl_sources.specs.declared.source.Source.{Source}
 use Rattle.kl_sources.specs.declared.placing.PlaceError.{PlaceError}
@@ -22,7 +23,7 @@ use Rattle.kl_sources.specs.declared.placing.PlaceError.TheVariants.{Twice, NoDr
 use Rattle.kl_sources.specs.Sources.{kinds_of, same, is_taken, driver_named, at_driver, placed, in_front, sources_of, names_of, IsSuited, IsFit, ArePlaced}
 use Rattle.kl_sources.specs.Placing.{IsUnless, Finds, behind}
 use Rattle.kl_sources.proofs.Lists.{mapped, unmapped}
-use Rattle.kl_sources.proofs.NameLemmas.{turned, not_same, same_is, same_here}
+use Rattle.kl_sources.proofs.NameLemmas.{turned, same_is, same_here}
 
 -- ---- the first driver of a name
 

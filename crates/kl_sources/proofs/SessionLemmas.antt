@@ -22,7 +22,7 @@ use Rattle.kl_sources.specs.Sources.{ArePlaced, IsFit, contents, grounds_of, Hav
 use Rattle.kl_sources.specs.Attaching.{HasTyped, Serves, Stands, list_of, listed, world_of}
 use Rattle.kl_sources.proofs.Lists.{of_all}
 
-shifts : (marks : ℕ → Bool) (n i : ℕ) → marks (suc n + i) ≡ marks (n + suc i)
+pub shifts : (marks : ℕ → Bool) (n i : ℕ) → marks (suc n + i) ≡ marks (n + suc i)
 shifts marks n i = ap marks (omega arith)
 
 -- ---- the list

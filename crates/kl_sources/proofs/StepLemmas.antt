@@ -4,7 +4,6 @@ use Rattle.std.proofs.lemmas.Bool.{cases_eq}
 use Rattle.std.proofs.lemmas.Option.{slice_get_within}
 use Rattle.std.specs.Result.{IsOk}
 use Rattle.kl_base.specs.Counts.{Rose}
-use Rattle.kl_type.specs.Ground.{IsProper}
 use Rattle.kl_type.specs.declared.Ty.{Ty}
 use Rattle.kl_outcome.specs.Outcome.{Name}
 use Rattle.kl_ask.specs.Driver.{Source as AttachedSource, DriverKind, State, Stored, Missing, Bad, Long, Deep, Rows, Attaches, IsTold, Unreadable, stored_by, stored_at, told_rows}
@@ -66,9 +65,6 @@ module _ (old : List State) (ss : List Source) (placed : ArePlaced (kinds_of old
       let at = unmapped (λ (d : State). d.kind) old s.driver suited.0 suited.1 in
       (at.0, at.1, subst (λ (k : DriverKind). k.suits s.ty ≡ true) (sym at.2) suited.2)
 
-  is_proper : (n : ℕ) (s : Source) → slice_get ss n ≡ Some s → IsProper s.ty
-  is_proper n s is = of_all (λ (s : Source). IsProper s.ty) ss n s placed.proper is
-
   contents_here : (s : Source) (d : State) → slice_get old s.driver ≡ Some d → contents (kinds_of old) s ≡ stored_by d.kind.stored s.locator s.ty
   contents_here s d is = ap (contents_at s) (mapped (λ (d : State). d.kind) old s.driver d is)
 
@@ -79,12 +75,6 @@ module _ (old : List State) (ss : List Source) (placed : ArePlaced (kinds_of old
         let d = first_driver n s is in
         let e = element mid s.driver (omega (arith, slice_get_within old s.driver d.0 d.1, below.drivers.size)) in
         (d.0, e.0, d.1, e.1, below.drivers.each s.driver d.0 e.0 d.1 e.1)
-
-    pub next_within : s.driver < length mid
-    next_within = slice_get_within mid s.driver now.1 now.3
-
-    pub next_proper : IsProper s.ty
-    next_proper = is_proper n s is
 
     at_now : (P : State → Type 0) → P now.1 → AtIndex s.driver P mid
     at_now P p = λ a there. subst P (some_same (sym now.3 ∙ there)) p

@@ -1,5 +1,5 @@
 //! Attaching the sources that a program mentions.
-ghost use Rattle.std.specs.Prelude.{◌≡◌, ◌<◌, ℕ, Bool, length, map};
+ghost use Rattle.std.specs.Prelude.{◌<◌, ℕ, Bool, length, map};
 ghost use Rattle.kl_scope.specs.Breaches.{is_marked};
 ghost use Rattle.kl_sources.specs.Sources.{ArePlaced, kinds_of};
 ghost use Rattle.kl_sources.specs.Attaching.{AgreeBelow, AttachesAll, HaveNone};

@@ -1,5 +1,5 @@
 //! Which sources a catalogue names.
-ghost use Rattle.std.specs.Prelude.{◌≡◌, ◌<◌, ◌^◌, ◌||◌, ℕ, IfOk, MatchOption, All, length, map, [], None, true};
+ghost use Rattle.std.specs.Prelude.{◌≡◌, ◌<◌, ◌^◌, ◌||◌, IfOk, All, length, map, [], None, true};
 ghost use Rattle.std.specs.BTreeSet.{contains};
 ghost use Rattle.std.specs.List.{list_any};
 ghost use Rattle.kl_base.specs.Fields.{bytes_cmp};

@@ -1,5 +1,5 @@
 //! A source of a catalogue at its driver.
-ghost use Rattle.std.specs.Prelude.{◌≡◌, IfOk, map};
+ghost use Rattle.std.specs.Prelude.{◌≡◌, IfOk};
 ghost use Rattle.kl_sources.specs.Sources.{names_of, types_of};
 
 use kl_base::{Label, NoMemory, Text};

@@ -22,6 +22,9 @@ pub struct Refused {
 }
 
 /// Attaches the sources that the program mentions, up to the first that is refused, and answers the list of all.
+///
+/// # Errors
+/// The first source that its driver refuses, and why. Want of memory, told of any source.
 pub fn attach_listed(
     alloc: Global,
     sources: &[Source],

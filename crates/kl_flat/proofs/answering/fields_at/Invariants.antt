@@ -1,6 +1,5 @@
-use Rattle.std.proofs.Common.{◌≡◌, filter, take}
-use Rattle.kl_ask.specs.Asks.{is_kept}
-use Rattle.kl_flat.proofs.answering.kept_fields.Given as goal
+use Rattle.std.proofs.Common.{◌≡◌, Some, map, slice_get, take}
+use Rattle.kl_flat.proofs.answering.fields_at.Given as goal
 
-abbrev pub invariant-loop-field : goal.invariant-loop-field
-invariant-loop-field l = l.kept.items ≡ filter (λ f. is_kept l.keep f.0) (take l.field-index l.fields)
+abbrev pub invariant-loop-place : goal.invariant-loop-place
+invariant-loop-place l = map Some l.copies.items ≡ map (slice_get l.fields) (take l.place-index l.places)

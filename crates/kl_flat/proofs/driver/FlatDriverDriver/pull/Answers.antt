@@ -1,6 +1,6 @@
-use Rattle.std.proofs.Common.{◌≡◌, ◌<◌, Some, arith, rules, refl, ap, ◌∙◌, set, length, slice_get}
+use Rattle.std.proofs.Common.{◌≡◌, ◌<◌, Some, arith, rules, refl, ap, set, length, slice_get}
 use Rattle.std.proofs.lemmas.Option.{slice_get_read}
-use Rattle.kl_flat.proofs.Cursors.{is_within, pull_done, pull_none, pull_stopped, takes_as}
+use Rattle.kl_flat.proofs.Cursors.{is_within, pull_done, pull_none, pull_stopped}
 use Rattle.kl_flat.proofs.driver.FlatDriverDriver.pull.Goals as goal
 
 pub returns-then-is_empty : goal.returns-then-is_empty
@@ -8,9 +8,8 @@ returns-then-is_empty g c =
     let cursors = c.args.self.now.cursors.items in
     let within : c.args.cursor < length cursors = is_within (g.F.Files.state c.args.self.now.files).told _ _ c.requires.is_open in
     let there : slice_get cursors c.args.cursor ≡ Some (Some c.in-Some.open) = slice_get_read cursors (length cursors) c.args.cursor (Some c.in-Some.open) refl within (search rules) in
-    let takes = takes_as c.in-Some.open _ _ _ _ _ _ (c.slice.ensures ∙ c.get.ensures) c.keep_of.ensures c.tests_of.ensures c.in_ok-taken.ensures in
     let none : length c.in_ok-taken.taken.items ≡ 0 = search rules in
-    pull_none c.args.cursor c.in-Some.open _ c.replace.new.dest (g.F.Files.state c.args.self.now.files) _ cursors _ _ there refl c.args.most c.in_ok-taken.at _ c.in_ok-taken.taken.items _ _ (refl, refl, refl) refl takes none c.requires.room
+    pull_none c.args.cursor c.in-Some.open _ c.replace.new.dest (g.F.Files.state c.args.self.now.files) _ cursors _ _ there refl c.args.most c.in_ok-taken.at _ c.in_ok-taken.taken.items _ _ (refl, refl, refl) refl c.in_ok-taken.ensures none c.requires.room
 
 pub returns-in_err-append : goal.returns-in_err-append
 returns-in_err-append g c =
@@ -28,7 +27,6 @@ returns g c =
     let cursors = c.args.self.now.cursors.items in
     let within : c.args.cursor < length cursors = is_within (g.F.Files.state c.args.self.now.files).told _ _ c.requires.is_open in
     let there : slice_get cursors c.args.cursor ≡ Some (Some c.in-Some.open) = slice_get_read cursors (length cursors) c.args.cursor (Some c.in-Some.open) refl within (search rules) in
-    let takes = takes_as c.in-Some.open _ _ _ _ _ _ (c.slice.ensures ∙ c.get.ensures) c.keep_of.ensures c.tests_of.ensures c.in_ok-taken.ensures in
     let size : c.len-count.result ≡ length c.in_ok-taken.taken.items = search rules in
     let some : 0 < length c.in_ok-taken.taken.items = search rules in
-    pull_done c.args.cursor c.in-Some.open _ c.replace.new.dest (g.F.Files.state c.args.self.now.files) _ cursors _ _ there refl c.args.most c.in_ok-taken.at c.len-count.result _ _ c.in_ok-taken.taken.items _ _ _ (refl, refl, refl) refl takes size some c.in_ok-append.ensures.items c.saturating_add-self.ensures (search rules)
+    pull_done c.args.cursor c.in-Some.open _ c.replace.new.dest (g.F.Files.state c.args.self.now.files) _ cursors _ _ there refl c.args.most c.in_ok-taken.at c.len-count.result _ _ c.in_ok-taken.taken.items _ _ _ (refl, refl, refl) refl c.in_ok-taken.ensures size some c.in_ok-append.ensures.items c.saturating_add-self.ensures (search rules)
