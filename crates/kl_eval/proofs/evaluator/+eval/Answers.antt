@@ -85,7 +85,7 @@ pub value-append-requires : goal.value-append-requires
 value-append-requires g t c = second_there _ _ _ _ _ c.in-Union.is c.get-in-Union.ensures _ _ _ _ _ c.get-in-Ok-value.ensures c.in-Ok-value.ensures.moved c.requires c.in-Ok-value-2.ensures
 
 pub value-returns-in-Ok-append : goal.value-returns-in-Ok-append
-value-returns-in-Ok-append g t c = value_union _ _ _ _ _ c.in-Union.is c.get-in-Union.ensures _ _ _ _ _ _ _ _ _ _ c.get-in-Ok-value.ensures c.into_parts-kind.ensures c.in-Ok-append.ensures c.in-Ok-value.ensures c.in-Ok-value-2.ensures c.gather-in-Ok-append.ensures
+value-returns-in-Ok-append g t c = value_union _ _ _ _ _ c.in-Union.is c.get-in-Union.ensures _ _ _ _ _ _ _ _ _ _ c.get-in-Ok-value.ensures c.into_parts-kind.ensures c.in-Ok-append.ensures c.in-Ok-value.ensures c.in-Ok-value-2.ensures c.unite.ensures
 
 pub value-returns-in-Ok-value : goal.value-returns-in-Ok-value
 value-returns-in-Ok-value g t c = value_union_over _ _ _ _ _ c.in-Union.is c.get-in-Union.ensures _ _ _ _ _ _ _ _ _ _ c.get-in-Ok-value.ensures c.into_parts-kind.ensures c.behind.ensures c.in-Ok-value.ensures c.in-Err-value-2.ensures c.gather-in-Err-value-2.ensures
