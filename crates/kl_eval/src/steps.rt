@@ -17,6 +17,7 @@ use kl_prim::{Args, PrimStop, apply_args};
 use kl_value::{Kind, Value, canon, dup, into_parts};
 use std::alloc::Global;
 
+/// A copy of a value.
 pub fn copy(alloc: Global, value: &Value) -> Result<Value, Halt>
     ensures { Answers (done value.now) result }
 {
@@ -26,6 +27,7 @@ pub fn copy(alloc: Global, value: &Value) -> Result<Value, Halt>
     }
 }
 
+/// The variant that carries a value under a label.
 pub fn tag(alloc: Global, label: &Label, carried: Value) -> Result<Value, Halt>
     ensures { Answers (done (value.Inj label.now carried)) result }
 {
