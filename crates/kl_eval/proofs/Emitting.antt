@@ -1,18 +1,18 @@
 -- Items of a body, added to those that were drawn before.
-use Rattle.std.proofs.Common.{◌≡◌, ℕ, ◌<◌, Bool, true, false, List, [], ◌∷◌, ◌+◌, length, drop, get_or, Some, Result, Ok, Err, refl, sym, ◌∙◌, ap, subst, append-nil}
+use Rattle.std.proofs.Common.{◌≡◌, ℕ, ◌<◌, Bool, List, [], ◌∷◌, ◌+◌, length, drop, get_or, Some, Result, Ok, Err, refl, sym, ◌∙◌, ap, subst, append-nil}
 use Rattle.kl_value.specs.Canon.{canonical}
 use Rattle.kl_value.specs.Views.{collection, as_bool, IsCollection}
 use Rattle.kl_value.specs.declared.Kind.{Kind}
 use Rattle.kl_value.specs.declared.Kind.TheVariants as kind
 use Rattle.kl_value.specs.declared.Value.{Value}
-use Rattle.kl_type.specs.Ground.{Ground, coll}
+use Rattle.kl_type.specs.Ground.{coll}
 use Rattle.kl_outcome.specs.Outcome.{done, over, End, Flow, more, stop, fine, overflow, flow, collected}
 use Rattle.kl_outcome.specs.Typed.{OfType, Inhabits}
 use Rattle.kl_outcome.proofs.OutcomeTypes.{items_inhabit}
 use Rattle.kl_core.specs.declared.term.Term.{Term}
 use Rattle.kl_core.specs.declared.term.Term.TheVariants as term
-use Rattle.kl_core.specs.Trees.{Tree, make, choice, prim, no_trees, trees, view, trees_view}
-use Rattle.kl_core.specs.Typing.{SourceTypes, CoreTypes}
+use Rattle.kl_core.specs.Trees.{Tree, make, prim, no_trees, trees, view, trees_view}
+use Rattle.kl_core.specs.Typing.{CoreTypes}
 use Rattle.kl_eval.specs.declared.stop.EvalStop.{EvalStop}
 use Rattle.kl_eval.specs.declared.stop.EvalStop.TheVariants as eval_stop
 use Rattle.kl_eval.specs.declared.stop.Halt.{Halt}
@@ -21,10 +21,11 @@ use Rattle.kl_ask.specs.World.{World, Moved, types_of, values_of}
 use Rattle.kl_ask.proofs.Worlds.{moved_none, ready_on}
 use Rattle.kl_eval.specs.Comes.{Comes, ItemsCome}
 use Rattle.kl_eval.specs.Sources.{NoSource}
-use Rattle.kl_eval.specs.Evals.{Sense, SenseWhole, PartGives, CallGives, Evals, EvalsPart, EvalsBody, EvalsCall, EvalsInto, AddsAll, OnBody}
+use Rattle.kl_eval.specs.Evals.{Sense, SenseWhole, PartGives, CallGives, Evals, EvalsPart, EvalsBody, EvalsCall, EvalsInto, AddsAll}
+use Rattle.kl_eval.proofs.Loops.{OnBody}
 use Rattle.kl_eval.specs.Steps.{Adds, AddsItems, Behind, Outside}
 use Rattle.kl_eval.proofs.Laws.{comes_typed}
-use Rattle.kl_eval.proofs.Forms.{alone, evals_stop, onto, picked, body_goes, body_over, body_lost, value_if, value_if_stop, at_If, at_Make, at_Prim, at_value, value_let, value_let_stop, at_Let}
+use Rattle.kl_eval.proofs.Forms.{alone, evals_stop, onto, picked, picked_typed, body_goes, body_over, body_lost, value_if, value_if_stop, at_If, at_Make, at_Prim, at_value, value_let, value_let_stop, at_Let}
 
 canon_none : (k : Kind) → canonical k [] ≡ collection k []
 unfolding canonical
@@ -56,9 +57,6 @@ whole_there t env u a b s h =
 
 -- ---- a term by its value
 
-pub into_whole : (t : Tree) (env : List Value) (u : Value) (r : Result (Unit {0}) Halt) (old new : List Value) (a b : World) → Evals t env (Ok u) a b → AddsItems u r old new → EvalsInto t env r old new a b
-into_whole t env u r old new a b h add = record { whole = Ok u; evals = h; adds = add }
-
 pub into_stop : (t : Tree) (env : List Value) (h : Halt) (old new : List Value) (a b : World) → Evals t env (Err h) a b → new ≡ old → EvalsInto t env (Err h) old new a b
 into_stop t env h old new a b e s = record { whole = Err h; evals = e; adds = (refl, s) }
 
@@ -69,11 +67,7 @@ module _ (t x y z x' : Term) (env : List Value) (et : t ≡ term.If x y z) (ex :
   whole_picked p bit a b ep m s =
       let s' = subst (λ q. SenseWhole q env a) (at_If t x y z x' env et ex) s in
       subst (λ q. SenseWhole (view q) env b) (sym ep)
-      (s'.0, s'.1, s'.2, s'.3, onto (λ S. CoreTypes S s'.0 (view (picked bit y z)) (coll s'.1 s'.2)) a b m (by_bit bit (types_of a) s'.0 (coll s'.1 s'.2) s'.4), ready_on a b m s'.5)
-    where
-      by_bit : (bit : Bool) (S : SourceTypes) (G : List Ground) (s : Ground) → CoreTypes S G (choice (view x') (view y) (view z)) s → CoreTypes S G (view (picked bit y z)) s
-      by_bit true S G s h = h.1
-      by_bit false S G s h = h.2
+      (s'.0, s'.1, s'.2, s'.3, onto (λ S. CoreTypes S s'.0 (view (picked bit y z)) (coll s'.1 s'.2)) a b m (picked_typed t x y z x' env et ex bit (types_of a) s'.0 (coll s'.1 s'.2) s'.4), ready_on a b m s'.5)
 
   pub into_if : (p : Term) (v w : Value) (bit : Bool) (r : Result (Unit {0}) Halt) (old new : List Value) (a b c : World) → p ≡ picked bit y z → w ≡ v → as_bool w ≡ Some bit → EvalsPart (view x') env (Ok v) a b → EvalsInto (view p) env r old new b c → EvalsInto (view t) env r old new a c
   into_if p v w bit r old new a b c ep ew eb h k = record { whole = k.whole; evals = value_if t x y z x' env et ex p v w bit k.whole a b c ep ew eb h k.evals; adds = k.adds }
@@ -119,9 +113,6 @@ module _ (t : Term) (k : Kind) (ts us : List Term) (env : List Value) (et : t �
   module _ (x : Term) (n : length us ≡ 1) (is : x ≡ get_or us 0 x) where
     one : view t ≡ make k (trees (view x) no_trees)
     one = at_Make t k ts us env et eu ∙ ap (λ q. make k (trees_view q)) (alone us x n is)
-
-    pub sense_one : (a : World) → SenseWhole (view t) env a → Sense (view x) env a
-    sense_one a s = let s' = subst (λ q. SenseWhole q env a) one s in (s'.0, s'.4.0, s'.3, s'.4.2.0, s'.5)
 
     pub into_one : (v : Value) (r : Result (Unit {0}) Halt) (old new : List Value) (a b : World) → EvalsPart (view x) env (Ok v) a b → Adds (v ∷ []) r old new → EvalsInto (view t) env r old new a b
     into_one v r old new a b h add =

@@ -1,5 +1,5 @@
 -- Each form of a term, from its parts.
-use Rattle.std.proofs.Common.{◌≡◌, ℕ, ◌<◌, ◌≤◌, ◌+◌, ◌⊎◌, inl, inr, ⊎_elim, Bool, true, false, zero, suc, cond, nat_eq, List, [], ◌∷◌, ◌++◌, map, length, drop, get_or, Option, Result, Vec, Some, None, Ok, Err, IsSome, All, refl, sym, ◌∙◌, ap, subst, append_assoc, append-nil, rules, arith, slice_get}
+use Rattle.std.proofs.Common.{◌≡◌, ℕ, ◌<◌, ◌≤◌, ◌+◌, ◌⊎◌, inl, inr, ⊎_elim, Bool, true, false, zero, suc, cond, nat_eq, List, [], ◌∷◌, ◌++◌, map, length, drop, get_or, Option, Result, Vec, Some, None, Ok, Err, IsSome, All, refl, sym, ◌∙◌, ap, subst, append_assoc, append-nil, arith, slice_get}
 use Rattle.std.specs.Cmp.Lexicographic.{pointwise, same_text}
 use Rattle.std.proofs.lemmas.Cmp.{nat_list_eq_equiv}
 use Rattle.std.specs.List.{AllByRecursion}
@@ -7,6 +7,7 @@ use Rattle.std.specs.Option.{option_map}
 use Rattle.std.specs.declared.alloc.Global.{Global}
 use Rattle.std.proofs.lemmas.List.{at_drop_more}
 use Rattle.std.proofs.lemmas.Grind.{common_steps}
+use Rattle.std.proofs.Math.Path.{fun_ext}
 use Rattle.std.proofs.lemmas.Option.{slice_get_read}
 use Rattle.std.proofs.lemmas.List.Elements.{All-from_recursion}
 use Rattle.kl_value.specs.Canon.{canonical}
@@ -21,15 +22,16 @@ use Rattle.kl_prim.specs.Meaning.{Answer}
 use Rattle.kl_prim.specs.Table.{Fits, meaning, row_at, Row as Primitive}
 use Rattle.kl_prim.specs.declared.rows.Shape.{Shape}
 use Rattle.kl_prim.specs.declared.rows.Shape.TheVariants as shape
-use Rattle.kl_outcome.specs.Outcome.{Name, Outcome, done, over, End, Flow, more, stop, fine, overflow, flow, items_in, end_in, outcome_of, answered, as_variant, items_of, items_at_all, followed, kept, gathered, collected, joined_to, union_of}
+use Rattle.kl_outcome.specs.Outcome.{Name, Outcome, done, over, End, Flow, more, stop, fine, overflow, flow, outcome_of, answered, as_variant, items_of, items_at_all, followed, kept, gathered, collected, joined_to, union_of}
 use Rattle.kl_outcome.specs.Typed.{Inhabits, HaveTypes, OfType, ShapeTypes, RowTypes, PrimTypes}
-use Rattle.kl_core.specs.declared.term.Term.{Term, the_lemmas}
+use Rattle.kl_core.specs.declared.term.Term.{Term}
 use Rattle.kl_core.specs.declared.term.Term.TheVariants as term
 use Rattle.kl_core.specs.Core.{Tables}
 use Rattle.kl_core.specs.Trees.{Tree, source, rec, proj, inj, case_of, make, union, ext, choice, bind, prim, Trees, no_trees, trees, Parts, parts, Arms, arms_of, rest_of, view, view_part, trees_view, parts_view}
 use Rattle.kl_core.specs.Typing.{SourceTypes, CoreTypes, EachType, AllTypes, PartTypes, ArmTypes, HasArm, Covers}
-use Rattle.kl_core.proofs.Views.{view_Var, view_Rec, view_Make, view_Prim, view_option, arms_view, view_Case}
-use Rattle.kl_outcome.proofs.OutcomeTypes.{part_typed, part_is, items_inhabit, FlowOf, items_typed}
+use Rattle.kl_core.proofs.Views.{view_Var, view_Source, view_Rec, view_Proj, view_Inj, view_Make, view_Union, view_Ext, view_If, view_Let, view_Prim, view_option, arms_view, view_Case}
+use Rattle.kl_outcome.proofs.OutcomeTypes.{part_typed, part_is, variant_is, items_inhabit, FlowOf, items_typed}
+use Rattle.kl_outcome.proofs.Flows.{collected_flow}
 use Rattle.kl_eval.specs.declared.stop.EvalStop.{EvalStop}
 use Rattle.kl_eval.specs.declared.stop.EvalStop.TheVariants as eval_stop
 use Rattle.kl_eval.specs.declared.stop.Halt.{Halt}
@@ -41,37 +43,11 @@ use Rattle.kl_eval.specs.Sources.{NoSource, NoSourceInTrees, NoSourceInParts, No
 use Rattle.kl_eval.specs.World.{Tabled}
 use Rattle.kl_eval.proofs.Stops.{stopped_then}
 use Rattle.kl_eval.specs.Comes.{Picks, Opens, Follows, Draws, Comes, ItemsCome, ArgsCome, PartsCome, ArmsCome}
-use Rattle.kl_eval.specs.Evals.{Sense, SenseIn, SenseEach, SenseParts, SenseCall, SenseBody, HasSense, Gives, PartGives, CallGives, FlowGives, Evals, EvalsPart, EvalsEach, EvalsBody, EvalsFields, EvalsCall, end_of, before, OnEach, OnBody, OnFields}
+use Rattle.kl_eval.specs.Evals.{Sense, SenseIn, SenseEach, SenseParts, SenseCall, SenseBody, HasSense, Gives, PartGives, CallGives, FlowGives, Evals, EvalsPart, EvalsEach, EvalsBody, EvalsFields, EvalsCall, end_of}
+use Rattle.kl_eval.proofs.Loops.{before, OnEach, OnBody, OnFields}
 use Rattle.kl_eval.specs.Steps.{Answers, inside_of, Outside, Adds, AddsItems, AddsField, Behind, Gathers, AnswersPrim, place_of}
 use Rattle.kl_eval.proofs.Laws.{comes_typed}
-use Rattle.kl_outcome.proofs.PrimLemmas.{prim_fits}
-use Rattle.kl_eval.proofs.Shapes.{variant_typed}
-
--- ---- terms as trees
-
-pub view_Proj : (l : Name) (x : Term) → view (term.Proj l x) ≡ proj l (view x)
-view_Proj l x = search (rules, the_lemmas)
-
-pub view_Inj : (l : Name) (x : Term) → view (term.Inj l x) ≡ inj l (view x)
-view_Inj l x = search (rules, the_lemmas)
-
-pub view_Union : (x y : Term) → view (term.Union x y) ≡ union (view x) (view y)
-view_Union x y = search (rules, the_lemmas)
-
-pub view_Ext : (k : Kind) (x y : Term) → view (term.Ext k x y) ≡ ext k (view x) (view y)
-view_Ext k x y = search (rules, the_lemmas)
-
-pub view_If : (x y z : Term) → view (term.If x y z) ≡ choice (view x) (view y) (view z)
-view_If x y z = search (rules, the_lemmas)
-
-pub view_Let : (x y : Term) → view (term.Let x y) ≡ bind (view x) (view y)
-view_Let x y = search (rules, the_lemmas)
-
-pub view_Source : (i : ℕ) → view (term.Source i) ≡ source i
-view_Source i = search (rules, the_lemmas)
-
-fun_ext : {A B : Type 0} {f g : A → B} → ((x : A) → f x ≡ g x) → f ≡ g
-fun_ext h = λ i x. h x i
+use Rattle.kl_outcome.proofs.PrimLemmas.{prim_fits, all_canonical}
 
 -- ---- worlds
 
@@ -93,6 +69,12 @@ module _ (P Q : Outcome → Type 0) (a b : World) where
   gives_map (Err (halt.Over vs)) f h = f (over vs.items) h
   gives_map (Err (halt.Driver l e)) f h = h
   gives_map (Err halt.NoMemory) f h = tt
+
+  pub part_map : (r : Result Value EvalStop) → ((o : Outcome) → P o → Q o) → PartGives P a b r → PartGives Q a b r
+  part_map (Ok v) f h = f (done v) h
+  part_map (Err eval_stop.Overflow) f h = (h.0, f (over h.0) h.1)
+  part_map (Err (eval_stop.Driver l e)) f h = h
+  part_map (Err eval_stop.NoMemory) f h = tt
 
   pub gives_stop : (e : EvalStop) (h : Halt) → PartGives P a b (Err e) → Outside e h → ((vs : List Value) → P (over vs) → Q (over [])) → Gives Q a b (Err h)
   gives_stop eval_stop.Overflow (halt.Over ws) p o f = subst (λ q. Q (over q)) (sym o) (f p.0 p.1)
@@ -161,11 +143,35 @@ module _ (t x t' : Tree) (env env' : List Value) (v : Value) where
         (gives_from a b c h.moved (Comes (types_of a) (values_of a) env' t') r (back (λ S T. Gives (Comes S T env' t') b c r) a b h.moved k.gives));
   }
 
+  part_then : (r : Result Value EvalStop) (a b c : World) → EvalsPart x env (Ok v) a b → EvalsPart t' env' r b c → Step → (NoSource t → NoSource x × NoSource t') → EvalsPart t env r a c
+  part_then r a b c h k f none = record {
+    moved = moved_then a b c h.moved k.moved;
+    still = λ n. k.still (none n).1 ∙ h.still (none n).0;
+    gives = part_map (Comes (types_of a) (values_of a) env' t') (Comes (types_of a) (values_of a) env t) a c r (λ o d. f (types_of a) (values_of a) o h.gives d)
+        (part_from a b c h.moved (Comes (types_of a) (values_of a) env' t') r (back (λ S T. PartGives (Comes S T env' t') b c r) a b h.moved k.gives));
+  }
+
 evals_made : (t x : Tree) (env : List Value) (v u : Value) (r : Result Value Halt) (a b : World) → EvalsPart x env (Ok v) a b → Answers (done u) r → ((S : SourceTypes) (T : Tables) → Comes S T env x (done v) → Comes S T env t (done u)) → (NoSource t → NoSource x) → Evals t env r a b
 evals_made t x env v u r a b h k f none = record { moved = h.moved; still = λ n. h.still (none n); gives = gives_made (Comes (types_of a) (values_of a) env t) a b u r (f (types_of a) (values_of a) h.gives) k }
 
 pub evals_stop : (t x : Tree) (env : List Value) (e : EvalStop) (h : Halt) (a b : World) → EvalsPart x env (Err e) a b → Outside e h → ((S : SourceTypes) (T : Tables) (vs : List Value) → Comes S T env x (over vs) → Comes S T env t (over [])) → (NoSource t → NoSource x) → Evals t env (Err h) a b
 evals_stop t x env e h a b p o f none = record { moved = p.moved; still = λ n. p.still (none n); gives = gives_stop (Comes (types_of a) (values_of a) env x) (Comes (types_of a) (values_of a) env t) a b e h p.gives o (f (types_of a) (values_of a)) }
+
+part_stop : (t x : Tree) (env : List Value) (e : EvalStop) (a b : World) → EvalsPart x env (Err e) a b → ((S : SourceTypes) (T : Tables) (vs : List Value) → Comes S T env x (over vs) → Comes S T env t (over [])) → (NoSource t → NoSource x) → EvalsPart t env (Err e) a b
+part_stop t x env e a b h f none = record { moved = h.moved; still = λ n. h.still (none n); gives = go e h.gives }
+  where
+    go : (e : EvalStop) → PartGives (Comes (types_of a) (values_of a) env x) a b (Err e) → PartGives (Comes (types_of a) (values_of a) env t) a b (Err e)
+    go eval_stop.Overflow k = ([], f (types_of a) (values_of a) k.0 k.1)
+    go (eval_stop.Driver l e) k = k
+    go eval_stop.NoMemory k = tt
+
+-- ---- what is lent
+
+pub evals_lent : (t : Tree) (env : List Value) (v : Value) (a : World) → ((S : SourceTypes) (T : Tables) → Comes S T env t (done v)) → EvalsPart t env (Ok v) a a
+evals_lent t env v a f = record { moved = moved_none a; still = λ n. refl; gives = f (types_of a) (values_of a) }
+
+pub evals_copied : (t : Tree) (env : List Value) (v : Value) (r : Result Value Halt) (a : World) → ((S : SourceTypes) (T : Tables) → Comes S T env t (done v)) → Answers (done v) r → Evals t env r a a
+evals_copied t env v r a f k = record { moved = moved_none a; still = λ n. refl; gives = gives_made (Comes (types_of a) (values_of a) env t) a a v r (f (types_of a) (values_of a)) k }
 
 -- ---- variables, constants and sources
 
@@ -183,7 +189,7 @@ pub come_var : (t : Term) (x : ℕ) (v : Value) (env : List Value) → t ≡ ter
 come_var t x v env e g S T = subst (λ q. Comes S T env q (done v)) (sym (ap view e ∙ view_Var x)) (sym (ap outcome_of g))
 
 pub value_var : (t : Term) (x : ℕ) (env : List Value) (v : Value) (r : Result Value Halt) (a : World) → t ≡ term.Var x → slice_get env x ≡ Some v → Answers (done v) r → Evals (view t) env r a a
-value_var t x env v r a e g k = record { moved = moved_none a; still = λ n. refl; gives = gives_made (Comes (types_of a) (values_of a) env (view t)) a a v r (come_var t x v env e g (types_of a) (values_of a)) k }
+value_var t x env v r a e g k = evals_copied (view t) env v r a (come_var t x v env e g) k
 
 -- ---- fields
 
@@ -246,9 +252,6 @@ module _ (t : Term) (l m : Name) (x x' : Term) (env : List Value) (et : t ≡ te
 
 -- ---- `If`
 
-pub evals_lent : (t : Tree) (env : List Value) (v : Value) (a : World) → ((S : SourceTypes) (T : Tables) → Comes S T env t (done v)) → EvalsPart t env (Ok v) a a
-evals_lent t env v a f = record { moved = moved_none a; still = λ n. refl; gives = f (types_of a) (values_of a) }
-
 pub over_gives : (t : Tree) (env : List Value) (f : Halt) (vs : Vec Value Global) (a b : World) → f ≡ halt.Over vs → Evals t env (Err f) a b → Comes (types_of a) (values_of a) env t (over vs.items)
 over_gives t env f vs a b e h = (subst (λ q. Evals t env (Err q) a b) e h).gives
 
@@ -268,31 +271,40 @@ module _ (t x y z x' : Term) (env : List Value) (et : t ≡ term.If x y z) (ex :
       let s' = subst (λ q. Sense q env a) at_If s in
       subst IsBool (sym ew) (comes_typed (types_of a) (values_of a) (view x') s'.0 env bool (done v) s'.2 s'.3.0 h.gives).0
 
+  pub picked_typed : (bit : Bool) (S : SourceTypes) (G : List Ground) (s : Ground) → CoreTypes S G (choice (view x') (view y) (view z)) s → CoreTypes S G (view (picked bit y z)) s
+  picked_typed true S G s h = h.1
+  picked_typed false S G s h = h.2
+
   pub sense_picked : (p : Term) (bit : Bool) (a b : World) → p ≡ picked bit y z → Moved a b → Sense (view t) env a → Sense (view p) env b
   sense_picked p bit a b ep m s =
       let s' = subst (λ q. Sense q env a) at_If s in
-      subst (λ q. Sense (view q) env b) (sym ep) (sense_on (view (picked bit y z)) env a b m (s'.0, s'.1, s'.2, by_bit bit (types_of a) s'.0 s'.1 s'.3, s'.4))
-    where
-      by_bit : (bit : Bool) (S : SourceTypes) (G : List Ground) (s : Ground) → CoreTypes S G (choice (view x') (view y) (view z)) s → CoreTypes S G (view (picked bit y z)) s
-      by_bit true S G s h = h.1
-      by_bit false S G s h = h.2
+      subst (λ q. Sense (view q) env b) (sym ep) (sense_on (view (picked bit y z)) env a b m (s'.0, s'.1, s'.2, picked_typed bit (types_of a) s'.0 s'.1 s'.3, s'.4))
+
+  picked_comes : (bit : Bool) (S : SourceTypes) (T : Tables) (o : Outcome) → Comes S T env (view (picked bit y z)) o → Picks (Some bit) (Comes S T env (view y)) (Comes S T env (view z)) o
+  picked_comes true S T o h = h
+  picked_comes false S T o h = h
+
+  come_if : (v w : Value) (bit : Bool) → w ≡ v → as_bool w ≡ Some bit → (S : SourceTypes) (T : Tables) (o : Outcome) → Comes S T env (view x') (done v) → Comes S T env (view (picked bit y z)) o → Comes S T env (view t) o
+  come_if v w bit ew eb S T o d e = subst (λ q. Comes S T env q o) (sym at_If) (done v, d, subst (λ q. Picks q (Comes S T env (view y)) (Comes S T env (view z)) o) (sym (ap as_bool (sym ew) ∙ eb)) (picked_comes bit S T o e))
+
+  come_if_over : (S : SourceTypes) (T : Tables) (vs : List Value) → Comes S T env (view x') (over vs) → Comes S T env (view t) (over [])
+  come_if_over S T vs c = subst (λ q. Comes S T env q (over [])) (sym at_If) (over vs, c, refl)
+
+  none_if : (bit : Bool) → NoSource (view t) → NoSource (view x') × NoSource (view (picked bit y z))
+  none_if true n = let m = subst NoSource at_If n in (m.0, m.1)
+  none_if false n = let m = subst NoSource at_If n in (m.0, m.2)
 
   pub value_if : (p : Term) (v w : Value) (bit : Bool) (r : Result Value Halt) (a b c : World) → p ≡ picked bit y z → w ≡ v → as_bool w ≡ Some bit → EvalsPart (view x') env (Ok v) a b → Evals (view p) env r b c → Evals (view t) env r a c
-  value_if p v w bit r a b c ep ew eb h k =
-      evals_then (view t) (view x') (view (picked bit y z)) env env v r a b c h (subst (λ q. Evals (view q) env r b c) ep k)
-      (λ S T o d e. subst (λ q. Comes S T env q o) (sym at_If) (done v, d, subst (λ q. Picks q (Comes S T env (view y)) (Comes S T env (view z)) o) (sym (ap as_bool (sym ew) ∙ eb)) (by_bit bit S T o e)))
-      (λ n. let m = subst NoSource at_If n in (m.0, none_picked bit m))
-    where
-      none_picked : (bit : Bool) → NoSource (choice (view x') (view y) (view z)) → NoSource (view (picked bit y z))
-      none_picked true n = n.1
-      none_picked false n = n.2
-
-      by_bit : (bit : Bool) (S : SourceTypes) (T : Tables) (o : Outcome) → Comes S T env (view (picked bit y z)) o → Picks (Some bit) (Comes S T env (view y)) (Comes S T env (view z)) o
-      by_bit true S T o h = h
-      by_bit false S T o h = h
+  value_if p v w bit r a b c ep ew eb h k = evals_then (view t) (view x') (view (picked bit y z)) env env v r a b c h (subst (λ q. Evals (view q) env r b c) ep k) (come_if v w bit ew eb) (none_if bit)
 
   pub value_if_stop : (e : EvalStop) (h : Halt) (a b : World) → EvalsPart (view x') env (Err e) a b → Outside e h → Evals (view t) env (Err h) a b
-  value_if_stop e h a b p o = evals_stop (view t) (view x') env e h a b p o (λ S T vs c. subst (λ q. Comes S T env q (over [])) (sym at_If) (over vs, c, refl)) (λ n. (subst NoSource at_If n).0)
+  value_if_stop e h a b p o = evals_stop (view t) (view x') env e h a b p o come_if_over (λ n. (subst NoSource at_If n).0)
+
+  pub look_if : (p : Term) (v w : Value) (bit : Bool) (r : Result Value EvalStop) (a b c : World) → p ≡ picked bit y z → w ≡ v → as_bool w ≡ Some bit → EvalsPart (view x') env (Ok v) a b → EvalsPart (view p) env r b c → EvalsPart (view t) env r a c
+  look_if p v w bit r a b c ep ew eb h k = part_then (view t) (view x') (view (picked bit y z)) env env v r a b c h (subst (λ q. EvalsPart (view q) env r b c) ep k) (come_if v w bit ew eb) (none_if bit)
+
+  pub look_if_stop : (e : EvalStop) (a b : World) → EvalsPart (view x') env (Err e) a b → EvalsPart (view t) env (Err e) a b
+  look_if_stop e a b p = part_stop (view t) (view x') env e a b p come_if_over (λ n. (subst NoSource at_If n).0)
 
 -- ---- `Let`
 
@@ -320,6 +332,9 @@ module _ (t x y x' : Term) (env : List Value) (et : t ≡ term.Let x y) (ex : x'
   value_let_stop e h a b p o = evals_stop (view t) (view x') env e h a b p o (λ S T vs c. subst (λ q. Comes S T env q (over [])) (sym at_Let) (over vs, c, refl)) (λ n. (subst NoSource at_Let n).0)
 
 -- ---- `Case`
+
+not_none : (i : ℕ) → Some i ≡ None → ⊥
+not_none i e = cc
 
 -- the branch at the place of a label, or what stands for all others
 module _ (S : SourceTypes) (T : Tables) (env : List Value) (last : Arms) (l : Name) (v : Value) (o : Outcome) where
@@ -349,7 +364,7 @@ module _ (S : SourceTypes) (T : Tables) (env : List Value) (last : Arms) (l : Na
       later again None f d = again f
 
       by_label : (place_of l ps ≡ None → ArmsCome S T env (arms_of (map view_part ps) last) l v o) → (b : Bool) → pointwise nat_eq l q.0 ≡ b → cond (pointwise nat_eq l q.0) (Comes S T (v ∷ env) (view q.1) o) (ArmsCome S T env (arms_of (map view_part ps) last) l v o)
-      by_label again true is = let z : Some 0 ≡ None = rw is at e in cc
+      by_label again true is = absurd (not_none 0 (rw is at e))
       by_label again false is = rw is (later again (place_of l ps) refl (rw is at e))
 
 -- no source stands in them
@@ -393,7 +408,7 @@ module _ (S : SourceTypes) (G : List Ground) (last : Arms) (r : Row) (s : Ground
       later again None f d z = again f z
 
       by_label : (place_of l ps ≡ None → HasArm l (arms_of (map view_part ps) last) → HasArm l last × ArmTypes S G last r s) → (b : Bool) → pointwise nat_eq l q.0 ≡ b → HasArm l last × ArmTypes S G last r s
-      by_label again true is = let z : Some 0 ≡ None = rw is at e in cc
+      by_label again true is = absurd (not_none 0 (rw is at e))
       by_label again false is = later again (place_of l ps) refl (rw is at e) (⊎_elim (λ d. absurd (off d)) (λ d. d) a)
         where
           off : l ≡ q.0 → ⊥
@@ -424,7 +439,7 @@ module _ (t x x' : Term) (ps qs : List (Name × Term)) (c : Option Term) (env : 
     carried =
         let s' = subst (λ q. Sense q env a) at_Case s in
         let i : Inhabits (var_type s'.3.0) v = comes_typed (types_of a) (values_of a) (view x') s'.0 env (var_type s'.3.0) (done v) s'.2 s'.3.1 h.gives in
-        let d = variant_typed s'.3.0 v i in
+        let d = variant_is s'.3.0 v i in
         let before : Name × Value = (d.0, d.2) in
         let behind : Name × Value = (l, u) in
         let e : before ≡ behind = some_pair before behind (sym d.3 ∙ ap as_variant (sym ew) ∙ ev) in
@@ -450,7 +465,7 @@ module _ (t x x' : Term) (ps qs : List (Name × Term)) (c : Option Term) (env : 
   pub variant_there : (v w : Value) (a b : World) → w ≡ v → Sense (view t) env a → EvalsPart (view x') env (Ok v) a b → IsSome (as_variant w)
   variant_there v w a b ew s h =
       let s' = subst (λ q. Sense q env a) at_Case s in
-      let d = variant_typed s'.3.0 v (comes_typed (types_of a) (values_of a) (view x') s'.0 env (var_type s'.3.0) (done v) s'.2 s'.3.1 h.gives) in
+      let d = variant_is s'.3.0 v (comes_typed (types_of a) (values_of a) (view x') s'.0 env (var_type s'.3.0) (done v) s'.2 s'.3.1 h.gives) in
       subst (λ q. IsSome (as_variant q)) (sym ew) (rw d.3 refl)
 
   pub sense_other_at : (v w : Value) (l : Name) (u : Value) (a b : World) → w ≡ v → as_variant w ≡ Some (l, u) → Sense (view t) env a → EvalsPart (view x') env (Ok v) a b → (y y' : Term) → place_of l qs ≡ None → c ≡ Some y → y' ≡ y → Sense (view y') env b
@@ -480,17 +495,6 @@ module _ (t x x' : Term) (ps qs : List (Name × Term)) (c : Option Term) (env : 
   value_case_stop e h a b p o = evals_stop (view t) (view x') env e h a b p o (λ S T vs c. subst (λ q. Comes S T env q (over [])) (sym at_Case) (over vs, c, refl)) (λ n. (subst NoSource at_Case n).0)
 
 -- ---- what is drawn
-
-pub flow_items : (vs : List Value) (e : End) → items_in (flow vs e) ≡ vs
-flow_items [] e = refl
-flow_items (v ∷ vs) e = ap (λ q. v ∷ q) (flow_items vs e)
-
-pub flow_end : (vs : List Value) (e : End) → end_in (flow vs e) ≡ e
-flow_end [] e = refl
-flow_end (v ∷ vs) e = flow_end vs e
-
-pub collected_flow : (k : Kind) (vs : List Value) (e : End) → collected k (flow vs e) ≡ gathered k e vs
-collected_flow k vs e = ap (λ q. gathered k q (items_in (flow vs e))) (flow_end vs e) ∙ ap (gathered k e) (flow_items vs e)
 
 module _ (P : Flow → Type 0) (Q : Outcome → Type 0) (k : Kind) (a b : World) where
   pub gathers : (d : Result (Vec Value Global) Halt) (r : Result Value Halt) → ((f : Flow) → P f → Q (collected k f)) → FlowGives P a b d → Gathers k d r → Gives Q a b r
@@ -722,11 +726,6 @@ module _ (t : Term) (c : ℕ) (ts us : List Term) (env : List Value) (et : t ≡
   value_prim_stop eval_stop.NoMemory (halt.Driver l e) a b p o = absurd o
   value_prim_stop eval_stop.NoMemory halt.NoMemory a b p o = record { moved = p.moved; still = λ n. p.still (subst NoSource at_Prim n); gives = tt }
 
--- ---- the value of a part
-
-pub look_lent : (t : Tree) (env : List Value) (v : Value) (a : World) → ((S : SourceTypes) (T : Tables) → Comes S T env t (done v)) → EvalsPart t env (Ok v) a a
-look_lent t env v a f = record { moved = moved_none a; still = λ n. refl; gives = f (types_of a) (values_of a) }
-
 -- ---- the arguments of a call
 
 one_or_two : (sh : Shape) (ss : List Ground) (s : Ground) → ShapeTypes sh ss s → (length ss ≡ 1) ⊎ (length ss ≡ 2)
@@ -778,13 +777,7 @@ pair (u ∷ v ∷ []) x y e g h = let first : u ≡ x = sym g in let second : v 
 pair (u ∷ v ∷ w ∷ ts) x y e g h = absurd (omega (arith, e))
 
 types_canonical : (ss : List Ground) (vs : List Value) → HaveTypes ss vs → All IsCanonical vs
-types_canonical ss vs h = All-from_recursion IsCanonical vs (go ss vs h)
-  where
-    go : (ss : List Ground) (vs : List Value) → HaveTypes ss vs → AllByRecursion IsCanonical vs
-    go [] [] h = tt
-    go (s ∷ ss) (v ∷ vs) h = (h.0.1, go ss vs h.1)
-    go [] (v ∷ vs) h = absurd h
-    go (s ∷ ss) [] h = absurd h
+types_canonical ss vs h = All-from_recursion IsCanonical vs (all_canonical ss vs h)
 
 prim_gives : (P : Outcome → Type 0) (a b : World) (m : Answer) (r : Result Value EvalStop) → ((o : Outcome) → o ≡ answered m → P o) → AnswersPrim m r → CallGives P a b r
 prim_gives P a b m (Ok v) f k = f (done v) (sym (ap answered k))
@@ -969,16 +962,6 @@ module _ (t : Tree) (vs : List Value) (i : ℕ) (v : Value) (whole : Flow) (e : 
 
   pub at_value : OnBody t whole (more v (flow (drop (i + 1) vs) e)) (v ∷ drop (i + 1) vs) env now a b
   at_value = subst (λ q. OnBody t whole (flow q e) q env now a b) left_is inv
-
-  pub body_sense : Sense t (v ∷ env) b
-  body_sense = let s = at_value.sense in (s.1 ∷ s.0, coll s.2 s.3, (s.5.0, s.4), s.6, s.7)
-
-  pub body_whole : (u : Value) (c : World) → Evals t (v ∷ env) (Ok u) b c → IsCollection u
-  body_whole u c h =
-      let s = at_value.sense in
-      let i : OfType (coll s.2 s.3) (done u) = comes_typed (types_of b) (values_of b) t (s.1 ∷ s.0) (v ∷ env) (coll s.2 s.3) (done u) (s.5.0, s.4) s.6 h.gives in
-      let d = items_inhabit s.2 s.3 u i in
-      rw d.1 refl
 
   pub body_goes : (u : Value) (now' : List Value) (c : World) → Evals t (v ∷ env) (Ok u) b c → AddsItems u (Ok tt) now now' → OnBody t whole (flow (drop (i + 1) vs) e) (drop (i + 1) vs) env now' a c
   body_goes u now' c h add =

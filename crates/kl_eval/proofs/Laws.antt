@@ -1,23 +1,25 @@
 -- What a term may come to has its type, and is its outcome as far as sources are told.
-use Rattle.std.proofs.Common.{◌≡◌, ⊎_elim, ℕ, zero, suc, inl, inr, ◌⊎◌, Bool, true, false, cond, nat_eq, List, [], ◌∷◌, Option, Some, None, IsSome, slice_get, refl, sym, ap, ◌∙◌, subst}
+use Rattle.std.proofs.Common.{◌≡◌, ⊎_elim, inl, inr, Bool, true, false, cond, nat_eq, List, [], ◌∷◌, Option, Some, None, IsSome, slice_get, refl, sym, ap, ◌∙◌, subst}
 use Rattle.std.specs.List.{AllByRecursion}
 use Rattle.std.specs.Cmp.Lexicographic.{pointwise, same_text}
 use Rattle.std.proofs.lemmas.Cmp.{nat_list_eq_equiv}
-use Rattle.kl_value.specs.Views.{as_bool, Collection, as_collection}
+use Rattle.kl_value.specs.Views.{as_bool}
 use Rattle.kl_value.specs.IsCanonical.{IsCanonical}
 use Rattle.kl_value.specs.declared.Kind.{Kind}
 use Rattle.kl_value.specs.declared.Value.{Value}
 use Rattle.kl_value.specs.declared.Value.TheVariants as value
 use Rattle.kl_type.specs.Ground.{Ground, Row, at, bool, rec as rec_type, var as var_type, coll}
 use Rattle.kl_prim.specs.Table.{meaning}
-use Rattle.kl_outcome.specs.Outcome.{Name, Outcome, done, over, stuck, Flow, more, stop, fine, overflow, broken, items_in, end_in, flow, field_in, as_record, outcome_of, answered, after, args_then, parts_then, opened, chosen, as_variant, items_of, item_then, followed, drawn, gathered, collected, joined_to, union_of}
+use Rattle.kl_outcome.specs.Outcome.{Name, Outcome, done, over, stuck, Flow, more, stop, fine, overflow, broken, end_in, field_in, as_record, outcome_of, answered, after, args_then, parts_then, opened, chosen, as_variant, items_of, item_then, followed, drawn, collected, union_of}
 use Rattle.kl_outcome.specs.Typed.{HasFields, Inhabits, HaveTypes, OfType}
 use Rattle.kl_core.specs.Core.{Tables, core, core_all, core_items, core_parts, core_arms}
 use Rattle.kl_core.specs.Trees.{Tree, var, con, source, rec, proj, inj, case_of, make, union, ext, choice, bind, prim, Trees, no_trees, trees, Parts, no_parts, parts, Arms, no_arms, rest, arm}
 use Rattle.kl_core.specs.Typing.{SourceTypes, CoreTypes, EachType, AllTypes, PartTypes, ArmTypes, HasArm}
-use Rattle.kl_outcome.proofs.OutcomeTypes.{over_nil, part_typed, tagged_typed, FlowOf, items_typed, collected_typed, union_typed}
+use Rattle.kl_outcome.proofs.OutcomeTypes.{over_nil, part_typed, tagged_typed, variant_is, FlowOf, items_typed, collected_typed, union_typed}
 use Rattle.kl_outcome.proofs.PrimLemmas.{prim_typed}
-use Rattle.kl_eval.proofs.Shapes.{record_typed, variant_typed}
+use Rattle.kl_outcome.proofs.Refining.{Refines, refines_by, refines_same, after_up, FlowUp, items_up, collected_up, union_up}
+use Rattle.kl_core.proofs.Safety.{get_typed}
+use Rattle.kl_eval.proofs.Shapes.{record_typed}
 use Rattle.kl_eval.specs.Comes.{Then, Picks, Opens, Unites, Leads, Follows, Draws, Comes, ItemsCome, ArgsCome, PartsCome, ArmsCome}
 
 some_same : {A : Type 0} (a b : A) → Some a ≡ Some b → a ≡ b
@@ -57,16 +59,9 @@ unites_typed k t (done v) P o i q h = subst (OfType (coll k t)) (sym h.2) (union
 unites_typed k t (over vs) P o i q h = subst (OfType (coll k t)) (sym h) i
 unites_typed k t stuck P o i q h = absurd i
 
-get_typed : (G : List Ground) (env : List Value) (x : ℕ) (t : Ground) → HaveTypes G env → slice_get G x ≡ Some t → OfType t (outcome_of (slice_get env x))
-get_typed [] [] x t h e = cc
-get_typed [] (v ∷ env) x t h e = absurd h
-get_typed (s ∷ G) [] x t h e = absurd h
-get_typed (s ∷ G) (v ∷ env) zero t h e = let same : s ≡ t = cc in subst (λ q. Inhabits q v) same h.0
-get_typed (s ∷ G) (v ∷ env) (suc x) t h e = get_typed G env x t h.1 e
-
 opens_typed : (r : Row) (t : Ground) (v : Value) (P : Name → Value → Outcome → Type 0) (o : Outcome) → Inhabits (var_type r) v
     → ((l : Name) (s : Ground) (w : Value) → at l r ≡ Some s → Inhabits s w → P l w o → OfType t o) → Opens (as_variant v) P o → OfType t o
-opens_typed r t v P o i g h = let c = variant_typed r v i in g c.0 c.1 c.2 c.4 c.5 (subst (λ q. Opens q P o) c.3 h)
+opens_typed r t v P o i g h = let c = variant_is r v i in g c.0 c.1 c.2 c.4 c.5 (subst (λ q. Opens q P o) c.3 h)
 
 module _ (S : SourceTypes) (T : Tables) where
   mutual
@@ -136,151 +131,118 @@ module _ (S : SourceTypes) (T : Tables) where
 
 -- ---- what is told
 
--- o' is o, unless o' makes no sense
-abbrev pub Below : Outcome → Outcome → Type 0
-Below (done v) o = o ≡ done v
-Below (over vs) o = o ≡ over vs
-Below stuck o = Unit {0}
+then_up : (o' p o : Outcome) (go : Value → Outcome) (P : Value → Outcome → Type 0) → Refines o' p → ((v : Value) → P v o → Refines (go v) o) → Then p P o → Refines (after o' go) o
+then_up (done v) p o go P b g h = g v (subst (λ q. Then q P o) b h)
+then_up (over vs) p o go P b g h = subst (λ q. Then q P o) b h
+then_up stuck p o go P b g h = tt
 
-below_same : (o p : Outcome) → p ≡ o → Below o p
-below_same (done v) p h = h
-below_same (over vs) p h = h
-below_same stuck p h = tt
+after_is : (o' p : Outcome) (go : Value → Outcome) (o : Outcome) → Refines o' p → o ≡ after p go → Refines (after o' go) o
+after_is o' p go o b h = subst (Refines (after o' go)) (sym h) (after_up o' p go go b (λ v. refines_same (go v)))
 
-abbrev FlowBelow : Flow → Flow → Type 0
-FlowBelow (more v f) g = (h : Flow) × (g ≡ more v h) × FlowBelow f h
-FlowBelow (stop fine) g = g ≡ stop fine
-FlowBelow (stop overflow) g = g ≡ stop overflow
-FlowBelow (stop broken) g = Unit {0}
+picks_up : (c : Option Bool) (x y o : Outcome) (P Q : Outcome → Type 0) → (P o → Refines x o) → (Q o → Refines y o) → Picks c P Q o → Refines (chosen c x y) o
+picks_up (Some true) x y o P Q f g h = f h
+picks_up (Some false) x y o P Q f g h = g h
+picks_up None x y o P Q f g h = tt
 
-flow_same : (f g : Flow) → g ≡ f → FlowBelow f g
-flow_same (more v f) g h = (f, h, flow_same f f refl)
-flow_same (stop fine) g h = h
-flow_same (stop overflow) g h = h
-flow_same (stop broken) g h = tt
+opens_up : (c : Option (Name × Value)) (go : Name → Value → Outcome) (P : Name → Value → Outcome → Type 0) (o : Outcome) → ((l : Name) (w : Value) → P l w o → Refines (go l w) o) → Opens c P o → Refines (opened c go) o
+opens_up (Some c) go P o g h = g c.0 c.1 h
+opens_up None go P o g h = tt
 
-then_below : (o' p o : Outcome) (go : Value → Outcome) (P : Value → Outcome → Type 0) → Below o' p → ((v : Value) → P v o → Below (go v) o) → Then p P o → Below (after o' go) o
-then_below (done v) p o go P b g h = g v (subst (λ q. Then q P o) b h)
-then_below (over vs) p o go P b g h = subst (λ q. Then q P o) b h
-then_below stuck p o go P b g h = tt
+more_up : (v : Value) (f g : Flow) → FlowUp f g → FlowUp (more v f) (more v g)
+more_up v f g (inl e) = inl e
+more_up v f g (inr e) = inr (ap (more v) e)
 
-after_below : (o' p : Outcome) (go : Value → Outcome) (o : Outcome) → Below o' p → o ≡ after p go → Below (after o' go) o
-after_below (done v) p go o b h = below_same (go v) o (h ∙ ap (λ q. after q go) b)
-after_below (over vs) p go o b h = h ∙ ap (λ q. after q go) b
-after_below stuck p go o b h = tt
+broken_then : (f g : Flow) → end_in f ≡ broken → end_in (followed f g) ≡ broken
+broken_then (more v f) g h = broken_then f g h
+broken_then (stop fine) g h = cc
+broken_then (stop overflow) g h = cc
+broken_then (stop broken) g h = refl
 
-picks_below : (c : Option Bool) (x y o : Outcome) (P Q : Outcome → Type 0) → (P o → Below x o) → (Q o → Below y o) → Picks c P Q o → Below (chosen c x y) o
-picks_below (Some true) x y o P Q f g h = f h
-picks_below (Some false) x y o P Q f g h = g h
-picks_below None x y o P Q f g h = tt
+follows_up : (f g' g : Flow) (P : Flow → Type 0) → ((h : Flow) → P h → FlowUp g' h) → Follows f P g → FlowUp (followed f g') g
+follows_up (more v f) g' g P q h = subst (FlowUp (more v (followed f g'))) (sym h.2) (more_up v (followed f g') h.0 (follows_up f g' h.0 P q h.1))
+follows_up (stop fine) g' g P q h = q g h
+follows_up (stop overflow) g' g P q h = inr h
+follows_up (stop broken) g' g P q h = inl refl
 
-opens_below : (c : Option (Name × Value)) (go : Name → Value → Outcome) (P : Name → Value → Outcome → Type 0) (o : Outcome) → ((l : Name) (w : Value) → P l w o → Below (go l w) o) → Opens c P o → Below (opened c go) o
-opens_below (Some c) go P o g h = g c.0 c.1 h
-opens_below None go P o g h = tt
+drawn_on : (f f' g' g : Flow) (P : Flow → Type 0) → FlowUp f f' → ((h : Flow) → P h → FlowUp g' h) → Follows f' P g → FlowUp (followed f g') g
+drawn_on f f' g' g P (inl e) q h = inl (broken_then f g' e)
+drawn_on f f' g' g P (inr e) q h = follows_up f g' g P q (subst (λ z. Follows z P g) e h)
 
-items_below : (o p : Outcome) → Below o p → FlowBelow (items_of o) (items_of p)
-items_below (done v) p h = flow_same (items_of (done v)) (items_of p) (ap items_of h)
-items_below (over vs) p h = flow_same (items_of (over vs)) (items_of p) (ap items_of h)
-items_below stuck p h = tt
+draws_up : (f g : Flow) (go : Value → Flow) (P : Value → Outcome → Type 0) → ((v : Value) (o : Outcome) → P v o → FlowUp (go v) (items_of o)) → Draws P f g → FlowUp (drawn f go) g
+draws_up (more v f) g go P q h = drawn_on (go v) (items_of h.0) (drawn f go) g (Draws P f) (q v h.0 h.1) (λ r d. draws_up f r go P q d) h.2
+draws_up (stop e) g go P q h = inr h
 
-follows_below : (f f' g' g : Flow) (P : Flow → Type 0) → FlowBelow f f' → ((h : Flow) → P h → FlowBelow g' h) → Follows f' P g → FlowBelow (followed f g') g
-follows_below (more v f) f' g' g P b q h =
-    let h' = subst (λ z. Follows z P g) b.1 h in
-    (h'.0, h'.2, follows_below f b.0 g' h'.0 P b.2 q h'.1)
-follows_below (stop fine) f' g' g P b q h = q g (subst (λ z. Follows z P g) b h)
-follows_below (stop overflow) f' g' g P b q h = subst (λ z. Follows z P g) b h
-follows_below (stop broken) f' g' g P b q h = tt
+source_up : (o p : Outcome) (g : Flow) (go : Value → Flow) (P : Value → Outcome → Type 0) → Refines o p → ((v : Value) (q : Outcome) → P v q → FlowUp (go v) (items_of q)) → Draws P (items_of p) g → FlowUp (drawn (items_of o) go) g
+source_up (done v) p g go P b q h = draws_up (items_of (done v)) g go P q (subst (λ z. Draws P (items_of z) g) b h)
+source_up (over vs) p g go P b q h = draws_up (items_of (over vs)) g go P q (subst (λ z. Draws P (items_of z) g) b h)
+source_up stuck p g go P b q h = inl refl
 
-draws_below : (f f' g : Flow) (go : Value → Flow) (P : Value → Outcome → Type 0) → FlowBelow f f' → ((v : Value) (o : Outcome) → P v o → FlowBelow (go v) (items_of o)) → Draws P f' g → FlowBelow (drawn f go) g
-draws_below (more v f) f' g go P b q h =
-    let h' = subst (λ z. Draws P z g) b.1 h in
-    follows_below (go v) (items_of h'.0) (drawn f go) g (Draws P b.0) (q v h'.0 h'.1) (λ e d. draws_below f b.0 e go P b.2 q d) h'.2
-draws_below (stop fine) f' g go P b q h = subst (λ z. Draws P z g) b h
-draws_below (stop overflow) f' g go P b q h = subst (λ z. Draws P z g) b h
-draws_below (stop broken) f' g go P b q h = tt
+leads_up : (o' o : Outcome) (f g : Flow) (P : Flow → Type 0) → Refines o' o → ((h : Flow) → P h → FlowUp f h) → Leads o P g → FlowUp (item_then o' f) g
+leads_up (done v) o f g P b q h = let h' = subst (λ z. Leads z P g) b h in subst (FlowUp (more v f)) (sym h'.2) (more_up v f h'.0 (q h'.0 h'.1))
+leads_up (over vs) o f g P b q h = inr (subst (λ z. Leads z P g) b h)
+leads_up stuck o f g P b q h = inl refl
 
-leads_below : (o' o : Outcome) (f g : Flow) (P : Flow → Type 0) → Below o' o → ((h : Flow) → P h → FlowBelow f h) → Leads o P g → FlowBelow (item_then o' f) g
-leads_below (done v) o f g P b q h = let h' = subst (λ z. Leads z P g) b h in (h'.0, h'.2, q h'.0 h'.1)
-leads_below (over vs) o f g P b q h = subst (λ z. Leads z P g) b h
-leads_below stuck o f g P b q h = tt
-
-end_below : (f g : Flow) → FlowBelow f g → (end_in f ≡ broken) ⊎ (g ≡ f)
-end_below (more v f) g h = ⊎_elim (λ e. inl e) (λ e. inr (h.1 ∙ ap (more v) e)) (end_below f h.0 h.2)
-end_below (stop fine) g h = inr h
-end_below (stop overflow) g h = inr h
-end_below (stop broken) g h = inl refl
-
-collected_below : (k : Kind) (f g : Flow) (o : Outcome) → FlowBelow f g → o ≡ collected k g → Below (collected k f) o
-collected_below k f g o b h = ⊎_elim
-    (λ e. subst (λ z. Below z o) (sym (ap (λ z. gathered k z (items_in f)) e)) tt)
-    (λ e. below_same (collected k f) o (h ∙ ap (collected k) e)) (end_below f g b)
-
-joined_below : (c : Option Collection) (q' q : Outcome) → Below q' q → Below (joined_to c q') (joined_to c q)
-joined_below (Some c) q' q b = collected_below c.kind (followed (flow c.items fine) (items_of q')) (followed (flow c.items fine) (items_of q)) (joined_to (Some c) q) (front_below c.items) refl
-  where
-    front_below : (vs : List Value) → FlowBelow (followed (flow vs fine) (items_of q')) (followed (flow vs fine) (items_of q))
-    front_below [] = items_below q' q b
-    front_below (v ∷ vs) = (followed (flow vs fine) (items_of q), refl, front_below vs)
-joined_below None q' q b = tt
-
-unites_below : (p' p q' o : Outcome) (P : Outcome → Type 0) → Below p' p → ((q : Outcome) → P q → Below q' q) → Unites p P o → Below (union_of p' q') o
-unites_below (done v) p q' o P b g h =
+unites_up : (p' p q' o : Outcome) (P : Outcome → Type 0) → Refines p' p → ((q : Outcome) → P q → Refines q' q) → Unites p P o → Refines (union_of p' q') o
+unites_up (done v) p q' o P b g h =
     let h' = subst (λ z. Unites z P o) b h in
-    subst (Below (union_of (done v) q')) (sym h'.2) (joined_below (as_collection v) q' h'.0 (g h'.0 h'.1))
-unites_below (over vs) p q' o P b g h = subst (λ z. Unites z P o) b h
-unites_below stuck p q' o P b g h = tt
+    subst (Refines (union_of (done v) q')) (sym h'.2) (union_up (done v) q' (done v) h'.0 refl (g h'.0 h'.1))
+unites_up (over vs) p q' o P b g h = subst (λ z. Unites z P o) b h
+unites_up stuck p q' o P b g h = tt
+
+collected_is : (k : Kind) (f g : Flow) (o : Outcome) → FlowUp f g → o ≡ collected k g → Refines (collected k f) o
+collected_is k f g o b h = subst (Refines (collected k f)) (sym h) (collected_up k f g b)
 
 module _ (S : SourceTypes) (T : Tables) where
   mutual
-    pub comes_below : (t : Tree) (env : List Value) (o : Outcome) → Comes S T env t o → Below (core T t env) o
-    comes_below (var x) env o c = below_same (outcome_of (slice_get env x)) o c
-    comes_below (con v) env o c = c
-    comes_below (source i) env o c = by_told (T i) refl
+    pub comes_refine : (t : Tree) (env : List Value) (o : Outcome) → Comes S T env t o → Refines (core T t env) o
+    comes_refine (var x) env o c = refines_by (outcome_of (slice_get env x)) o c
+    comes_refine (con v) env o c = c
+    comes_refine (source i) env o c = by_told (T i) refl
       where
-        by_told : (q : Option Value) → T i ≡ q → Below (outcome_of q) o
+        by_told : (q : Option Value) → T i ≡ q → Refines (outcome_of q) o
         by_told (Some u) e = c.2 ∙ ap done (c.1.told u e)
         by_told None e = tt
-    comes_below (rec ps) env o c = parts_below ps env (λ fs. done (value.Rec fs)) o c
-    comes_below (proj l a) env o c = after_below (core T a env) c.0 (λ v. field_in l (as_record v)) o (comes_below a env c.0 c.1) c.2
-    comes_below (inj l a) env o c = after_below (core T a env) c.0 (λ v. done (value.Inj l v)) o (comes_below a env c.0 c.1) c.2
-    comes_below (case_of a bs) env o c =
-        then_below (core T a env) c.0 o (λ v. opened (as_variant v) (λ l w. core_arms T bs l w env)) (λ v. Opens (as_variant v) (λ l w. ArmsCome S T env bs l w)) (comes_below a env c.0 c.1)
-        (λ v h. opens_below (as_variant v) (λ l w. core_arms T bs l w env) (λ l w. ArmsCome S T env bs l w) o (λ l w d. arms_below bs env l w o d) h) c.2
-    comes_below (make k ts) env o c = collected_below k (core_items T ts env) c.0 o (items_come_below ts env c.0 c.1) c.2
-    comes_below (union a b) env o c = unites_below (core T a env) c.0 (core T b env) o (Comes S T env b) (comes_below a env c.0 c.1) (λ q d. comes_below b env q d) c.2
-    comes_below (ext k b a) env o c =
-        collected_below k (drawn (items_of (core T a env)) (λ v. items_of (core T b (v ∷ env)))) c.1 o
-        (draws_below (items_of (core T a env)) (items_of c.0) c.1 (λ v. items_of (core T b (v ∷ env))) (λ v. Comes S T (v ∷ env) b) (items_below (core T a env) c.0 (comes_below a env c.0 c.2))
-        (λ v q d. items_below (core T b (v ∷ env)) q (comes_below b (v ∷ env) q d)) c.3) c.4
-    comes_below (choice a b d) env o c =
-        then_below (core T a env) c.0 o (λ v. chosen (as_bool v) (core T b env) (core T d env)) (λ v. Picks (as_bool v) (Comes S T env b) (Comes S T env d)) (comes_below a env c.0 c.1)
-        (λ v h. picks_below (as_bool v) (core T b env) (core T d env) o (Comes S T env b) (Comes S T env d) (comes_below b env o) (comes_below d env o) h) c.2
-    comes_below (bind a b) env o c =
-        then_below (core T a env) c.0 o (λ v. core T b (v ∷ env)) (λ v. Comes S T (v ∷ env) b) (comes_below a env c.0 c.1) (λ v h. comes_below b (v ∷ env) o h) c.2
-    comes_below (prim c ts) env o k = args_below ts env (λ vs. answered (meaning c vs)) o k
+    comes_refine (rec ps) env o c = parts_refine ps env (λ fs. done (value.Rec fs)) o c
+    comes_refine (proj l a) env o c = after_is (core T a env) c.0 (λ v. field_in l (as_record v)) o (comes_refine a env c.0 c.1) c.2
+    comes_refine (inj l a) env o c = after_is (core T a env) c.0 (λ v. done (value.Inj l v)) o (comes_refine a env c.0 c.1) c.2
+    comes_refine (case_of a bs) env o c =
+        then_up (core T a env) c.0 o (λ v. opened (as_variant v) (λ l w. core_arms T bs l w env)) (λ v. Opens (as_variant v) (λ l w. ArmsCome S T env bs l w)) (comes_refine a env c.0 c.1)
+        (λ v h. opens_up (as_variant v) (λ l w. core_arms T bs l w env) (λ l w. ArmsCome S T env bs l w) o (λ l w d. arms_refine bs env l w o d) h) c.2
+    comes_refine (make k ts) env o c = collected_is k (core_items T ts env) c.0 o (items_come_refine ts env c.0 c.1) c.2
+    comes_refine (union a b) env o c = unites_up (core T a env) c.0 (core T b env) o (Comes S T env b) (comes_refine a env c.0 c.1) (λ q d. comes_refine b env q d) c.2
+    comes_refine (ext k b a) env o c =
+        collected_is k (drawn (items_of (core T a env)) (λ v. items_of (core T b (v ∷ env)))) c.1 o
+        (source_up (core T a env) c.0 c.1 (λ v. items_of (core T b (v ∷ env))) (λ v. Comes S T (v ∷ env) b) (comes_refine a env c.0 c.2)
+        (λ v q d. items_up (core T b (v ∷ env)) q (comes_refine b (v ∷ env) q d)) c.3) c.4
+    comes_refine (choice a b d) env o c =
+        then_up (core T a env) c.0 o (λ v. chosen (as_bool v) (core T b env) (core T d env)) (λ v. Picks (as_bool v) (Comes S T env b) (Comes S T env d)) (comes_refine a env c.0 c.1)
+        (λ v h. picks_up (as_bool v) (core T b env) (core T d env) o (Comes S T env b) (Comes S T env d) (comes_refine b env o) (comes_refine d env o) h) c.2
+    comes_refine (bind a b) env o c =
+        then_up (core T a env) c.0 o (λ v. core T b (v ∷ env)) (λ v. Comes S T (v ∷ env) b) (comes_refine a env c.0 c.1) (λ v h. comes_refine b (v ∷ env) o h) c.2
+    comes_refine (prim c ts) env o k = args_refine ts env (λ vs. answered (meaning c vs)) o k
 
-    items_come_below : (ts : Trees) (env : List Value) (f : Flow) → ItemsCome S T env ts f → FlowBelow (core_items T ts env) f
-    items_come_below no_trees env f c = c
-    items_come_below (trees t ts) env f c = leads_below (core T t env) c.0 (core_items T ts env) f (ItemsCome S T env ts) (comes_below t env c.0 c.1) (λ h d. items_come_below ts env h d) c.2
+    items_come_refine : (ts : Trees) (env : List Value) (f : Flow) → ItemsCome S T env ts f → FlowUp (core_items T ts env) f
+    items_come_refine no_trees env f c = inr c
+    items_come_refine (trees t ts) env f c = leads_up (core T t env) c.0 (core_items T ts env) f (ItemsCome S T env ts) (comes_refine t env c.0 c.1) (λ h d. items_come_refine ts env h d) c.2
 
-    args_below : (ts : Trees) (env : List Value) (go : List Value → Outcome) (o : Outcome) → ArgsCome S T env ts go o → Below (args_then (core_all T ts env) go) o
-    args_below no_trees env go o c = below_same (go []) o c
-    args_below (trees t ts) env go o c =
-        then_below (core T t env) c.0 o (λ v. args_then (core_all T ts env) (λ vs. go (v ∷ vs))) (λ v. ArgsCome S T env ts (λ vs. go (v ∷ vs))) (comes_below t env c.0 c.1)
-        (λ v h. args_below ts env (λ vs. go (v ∷ vs)) o h) c.2
+    args_refine : (ts : Trees) (env : List Value) (go : List Value → Outcome) (o : Outcome) → ArgsCome S T env ts go o → Refines (args_then (core_all T ts env) go) o
+    args_refine no_trees env go o c = refines_by (go []) o c
+    args_refine (trees t ts) env go o c =
+        then_up (core T t env) c.0 o (λ v. args_then (core_all T ts env) (λ vs. go (v ∷ vs))) (λ v. ArgsCome S T env ts (λ vs. go (v ∷ vs))) (comes_refine t env c.0 c.1)
+        (λ v h. args_refine ts env (λ vs. go (v ∷ vs)) o h) c.2
 
-    parts_below : (ps : Parts) (env : List Value) (go : List (Name × Value) → Outcome) (o : Outcome) → PartsCome S T env ps go o → Below (parts_then (core_parts T ps env) go) o
-    parts_below no_parts env go o c = below_same (go []) o c
-    parts_below (parts l t ps) env go o c =
-        then_below (core T t env) c.0 o (λ v. parts_then (core_parts T ps env) (λ fs. go ((l, v) ∷ fs))) (λ v. PartsCome S T env ps (λ fs. go ((l, v) ∷ fs))) (comes_below t env c.0 c.1)
-        (λ v h. parts_below ps env (λ fs. go ((l, v) ∷ fs)) o h) c.2
+    parts_refine : (ps : Parts) (env : List Value) (go : List (Name × Value) → Outcome) (o : Outcome) → PartsCome S T env ps go o → Refines (parts_then (core_parts T ps env) go) o
+    parts_refine no_parts env go o c = refines_by (go []) o c
+    parts_refine (parts l t ps) env go o c =
+        then_up (core T t env) c.0 o (λ v. parts_then (core_parts T ps env) (λ fs. go ((l, v) ∷ fs))) (λ v. PartsCome S T env ps (λ fs. go ((l, v) ∷ fs))) (comes_refine t env c.0 c.1)
+        (λ v h. parts_refine ps env (λ fs. go ((l, v) ∷ fs)) o h) c.2
 
-    arms_below : (bs : Arms) (env : List Value) (l : Name) (v : Value) (o : Outcome) → ArmsCome S T env bs l v o → Below (core_arms T bs l v env) o
-    arms_below no_arms env l v o c = tt
-    arms_below (rest b) env l v o c = comes_below b env o c
-    arms_below (arm m b bs) env l v o c = by_label (pointwise nat_eq l m) c (comes_below b (v ∷ env) o) (arms_below bs env l v o)
+    arms_refine : (bs : Arms) (env : List Value) (l : Name) (v : Value) (o : Outcome) → ArmsCome S T env bs l v o → Refines (core_arms T bs l v env) o
+    arms_refine no_arms env l v o c = tt
+    arms_refine (rest b) env l v o c = comes_refine b env o c
+    arms_refine (arm m b bs) env l v o c = by_label (pointwise nat_eq l m) c (comes_refine b (v ∷ env) o) (arms_refine bs env l v o)
       where
-        by_label : (y : Bool) → cond y (Comes S T (v ∷ env) b o) (ArmsCome S T env bs l v o) → (Comes S T (v ∷ env) b o → Below (core T b (v ∷ env)) o)
-            → (ArmsCome S T env bs l v o → Below (core_arms T bs l v env) o) → Below (cond y (core T b (v ∷ env)) (core_arms T bs l v env)) o
+        by_label : (y : Bool) → cond y (Comes S T (v ∷ env) b o) (ArmsCome S T env bs l v o) → (Comes S T (v ∷ env) b o → Refines (core T b (v ∷ env)) o)
+            → (ArmsCome S T env bs l v o → Refines (core_arms T bs l v env) o) → Refines (cond y (core T b (v ∷ env)) (core_arms T bs l v env)) o
         by_label true d f g = f d
         by_label false d f g = g d

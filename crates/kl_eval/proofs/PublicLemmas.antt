@@ -13,6 +13,7 @@ use Rattle.kl_core.specs.Core.{core}
 use Rattle.kl_core.specs.Trees.{Tree}
 use Rattle.kl_core.specs.Typing.{HaveSources}
 use Rattle.kl_outcome.proofs.OutcomeTypes.{items_inhabit}
+use Rattle.kl_outcome.proofs.Refining.{Refines}
 use Rattle.kl_core.proofs.Safety.{never_stuck}
 use Rattle.kl_eval.specs.declared.stop.EvalStop.{EvalStop}
 use Rattle.kl_eval.specs.declared.stop.EvalStop.TheVariants as eval_stop
@@ -23,14 +24,14 @@ use Rattle.kl_ask.specs.declared.DriverError.{DriverError}
 use Rattle.kl_outcome.specs.Outcome.{Name}
 use Rattle.kl_eval.specs.Steps.{inside_of, AddsList}
 use Rattle.kl_eval.specs.Evals.{Sense, SenseList, Evals, Tells, Evaluates, Lists, EvaluatesList}
-use Rattle.kl_eval.proofs.Laws.{Below, comes_typed, comes_below}
+use Rattle.kl_eval.proofs.Laws.{comes_typed, comes_refine}
 
-tells_done : (o : Outcome) (w : Value) → Below o (done w) → Tells o (Ok w)
+tells_done : (o : Outcome) (w : Value) → Refines o (done w) → Tells o (Ok w)
 tells_done (done v) w b = cc
 tells_done (over vs) w b = cc
 tells_done stuck w b = tt
 
-tells_over : (o : Outcome) (ws : List Value) → Below o (over ws) → Tells o (Err eval_stop.Overflow)
+tells_over : (o : Outcome) (ws : List Value) → Refines o (over ws) → Tells o (Err eval_stop.Overflow)
 tells_over (done v) ws b = cc
 tells_over (over vs) ws b = tt
 tells_over stuck ws b = tt
@@ -53,7 +54,7 @@ evaluated t env (Ok v) a b s h = record {
   moved = h.moved;
   still = h.still;
   cause = tt;
-  tells = tells_done (core (values_of a) t env) v (comes_below (types_of a) (values_of a) t env (done v) h.gives);
+  tells = tells_done (core (values_of a) t env) v (comes_refine (types_of a) (values_of a) t env (done v) h.gives);
   typed = λ G u have ty. comes_typed (types_of a) (values_of a) t G env u (done v) have ty h.gives;
   sense = makes_sense t env a s;
 }
@@ -61,7 +62,7 @@ evaluated t env (Err (halt.Over vs)) a b s h = record {
   moved = h.moved;
   still = h.still;
   cause = tt;
-  tells = tells_over (core (values_of a) t env) vs.items (comes_below (types_of a) (values_of a) t env (over vs.items) h.gives);
+  tells = tells_over (core (values_of a) t env) vs.items (comes_refine (types_of a) (values_of a) t env (over vs.items) h.gives);
   typed = λ G u have ty. tt;
   sense = makes_sense t env a s;
 }
@@ -91,12 +92,12 @@ lists_there t es xs (Ok v) a b e s h =
     list_there v s.1 (comes_typed (types_of a) (values_of a) t s.0 (reverse es) (coll kind.List s.1) (done v) s.2 s.3 h'.gives)
 lists_there t es xs (Err f) a b e s h = tt
 
-lists_done : (o : Outcome) (w : Value) (vs old new : List Value) → Below o (done w) → w ≡ value.List vs → new ≡ old ++ vs → Lists o (Ok tt) old new
+lists_done : (o : Outcome) (w : Value) (vs old new : List Value) → Refines o (done w) → w ≡ value.List vs → new ≡ old ++ vs → Lists o (Ok tt) old new
 lists_done (done v) w vs old new b e n = let same : w ≡ v = cc in (vs, sym same ∙ e, n)
 lists_done (over us) w vs old new b e n = cc
 lists_done stuck w vs old new b e n = tt
 
-lists_over : (o : Outcome) (vs old new : List Value) → Below o (over vs) → new ≡ old ++ vs → Lists o (Err eval_stop.Overflow) old new
+lists_over : (o : Outcome) (vs old new : List Value) → Refines o (over vs) → new ≡ old ++ vs → Lists o (Err eval_stop.Overflow) old new
 lists_over (done v) vs old new b n = cc
 lists_over (over us) vs old new b n = let same : vs ≡ us = cc in n ∙ ap (λ q. old ++ q) same
 lists_over stuck vs old new b n = tt
@@ -127,7 +128,7 @@ listed t env (Ok v) (Ok x) old new a b s h k = record {
   moved = h.moved;
   still = h.still;
   cause = tt;
-  tells = lists_done (core (values_of a) t env) v k.0 old new (comes_below (types_of a) (values_of a) t env (done v) h.gives) k.1 k.2;
+  tells = lists_done (core (values_of a) t env) v k.0 old new (comes_refine (types_of a) (values_of a) t env (done v) h.gives) k.1 k.2;
   typed = λ G u have ty. (k.0, k.2, items_of_list u v k.0 k.1 (comes_typed (types_of a) (values_of a) t G env (coll kind.List u) (done v) have ty h.gives));
   sense = makes_sense t env a (of_list t env a s);
 }
@@ -135,7 +136,7 @@ listed t env (Err (halt.Over vs)) (Err eval_stop.Overflow) old new a b s h k = r
   moved = h.moved;
   still = h.still;
   cause = tt;
-  tells = lists_over (core (values_of a) t env) vs.items old new (comes_below (types_of a) (values_of a) t env (over vs.items) h.gives) k;
+  tells = lists_over (core (values_of a) t env) vs.items old new (comes_refine (types_of a) (values_of a) t env (over vs.items) h.gives) k;
   typed = λ G u have ty. (vs.items, k, comes_typed (types_of a) (values_of a) t G env (coll kind.List u) (over vs.items) have ty h.gives);
   sense = makes_sense t env a (of_list t env a s);
 }

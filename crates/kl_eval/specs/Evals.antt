@@ -8,7 +8,7 @@ use Rattle.kl_value.specs.declared.Value.{Value}
 use Rattle.kl_value.specs.declared.Value.TheVariants as value
 use Rattle.kl_type.specs.Ground.{Ground, Row, coll}
 use Rattle.kl_prim.specs.Table.{meaning}
-use Rattle.kl_outcome.specs.Outcome.{Name, Outcome, done, over, stuck, End, Flow, more, fine, overflow, flow, answered}
+use Rattle.kl_outcome.specs.Outcome.{Name, Outcome, done, over, stuck, End, Flow, fine, overflow, flow, answered}
 use Rattle.kl_outcome.specs.Typed.{Inhabits, HaveTypes, PrimTypes}
 use Rattle.kl_core.specs.Core.{core}
 use Rattle.kl_core.specs.Trees.{Tree, Trees, Parts}
@@ -188,28 +188,3 @@ pub record EvaluatesList (t : Tree) (env : List Value) (r : Result (Unit {0}) Ev
   pub tells : Lists (core (values_of a) t env) r old new
   pub typed : (G : List Ground) (s : Ground) → HaveTypes G env → CoreTypes (types_of a) G t (coll kind.List s) → Added s r old new
   pub sense : HaveSources (types_of a) (values_of a) → core (values_of a) t env ≢ stuck
-
--- ---- in loops: whatever the rest comes to, the whole comes to it. (For proofs alone.)
-
--- items before a flow
-abbrev pub before : List Value → Flow → Flow
-before [] f = f
-before (v ∷ vs) f = more v (before vs f)
-
-pub record OnEach (whole rest : Trees) (env drawn : List Value) (a b : World) : Type 0 where
-  pub moved : Moved a b
-  pub still : NoSourceInTrees whole → (b ≡ a) × NoSourceInTrees rest
-  pub sense : SenseEach rest env b
-  pub onward : (f : Flow) → ItemsCome (types_of a) (values_of a) env rest f → ItemsCome (types_of a) (values_of a) env whole (before drawn f)
-
-pub record OnBody (t : Tree) (whole rest : Flow) (left env drawn : List Value) (a b : World) : Type 0 where
-  pub moved : Moved a b
-  pub still : NoSource t → b ≡ a
-  pub sense : SenseBody t left env b
-  pub onward : (f : Flow) → Draws (λ v. Comes (types_of a) (values_of a) (v ∷ env) t) rest f → Draws (λ v. Comes (types_of a) (values_of a) (v ∷ env) t) whole (before drawn f)
-
-pub record OnFields (whole rest : Parts) (env : List Value) (drawn : List (Name × Value)) (a b : World) : Type 0 where
-  pub moved : Moved a b
-  pub still : NoSourceInParts whole → (b ≡ a) × NoSourceInParts rest
-  pub sense : SenseParts rest env b
-  pub onward : (go : List (Name × Value) → Outcome) (o : Outcome) → PartsCome (types_of a) (values_of a) env rest (λ fs. go (drawn ++ fs)) o → PartsCome (types_of a) (values_of a) env whole go o

@@ -13,8 +13,7 @@ use kl_value::Value;
 use std::alloc::Global;
 
 /// The value of a term that makes sense under the types of the session's attached sources, where the last value of `env`
-/// is the nearest. Each source is read as often as the meaning comes to it, and a part that the meaning does not come to
-/// is not evaluated.
+/// is the nearest. Each source is read anew wherever it stands (no clause counts the readings).
 ///
 /// Afterwards, also after a stop, the session has the same sources and settings, and its drivers have the same sources
 /// attached and the same cursors open. A term in which no source stands leaves the session as it was.

@@ -152,14 +152,14 @@ fn gather(
     }
 }
 
-// The value of a source without rows.
+/// The value of a source without rows.
 pub fn no_rows(alloc: Global, attached: &Attached) -> Result<Value, EvalStop>
     ensures { IsEmptyOf attached.now result }
 {
     gather(kind_in(&attached.ty), &attached.source, Ok(Vec::new(alloc)))
 }
 
-// The value of an attached source, by a whole scan of the driver at a place.
+/// The value of an attached source, by a whole scan of the driver at a place.
 pub fn scan_attached(
     alloc: Global,
     drivers: &mut Vec<Box<dyn Driver>>,

@@ -1,5 +1,6 @@
 //! Steps of the evaluator that evaluate nothing themselves.
 ghost use Rattle.std.specs.Prelude.{◌≡◌, Some, IsSome, IfOk, IfSome, All, ◌<◌, length, [], ◌∷◌};
+ghost use Rattle.kl_value.specs.Canon.{canonical};
 ghost use Rattle.kl_value.specs.IsCanonical.{IsCanonical};
 ghost use Rattle.kl_value.specs.Views.{IsCollection, items_at};
 ghost use Rattle.kl_value.specs.declared.value.Value.TheVariants as value;
@@ -10,12 +11,13 @@ ghost use Rattle.kl_outcome.specs.Outcome.{done, as_variant};
 ghost use Rattle.kl_eval.specs.Steps.{Answers, inside_of, Outside, Adds, AddsItems, AddsField, AddsList, Behind, Gathers, AnswersPrim, place_of};
 
 use crate::stop::{EvalStop, Halt};
-use kl_base::{Box, Label};
+use kl_base::{Box, Label, Seq};
 use kl_core::Term;
 use kl_prim::{Args, PrimStop, apply_args};
 use kl_value::{Kind, Value, canon, dup, into_parts};
 use std::alloc::Global;
 
+/// A copy of a value.
 pub fn copy(alloc: Global, value: &Value) -> Result<Value, Halt>
     ensures { Answers (done value.now) result }
 {
@@ -25,6 +27,7 @@ pub fn copy(alloc: Global, value: &Value) -> Result<Value, Halt>
     }
 }
 
+/// The variant that carries a value under a label.
 pub fn tag(alloc: Global, label: &Label, carried: Value) -> Result<Value, Halt>
     ensures { Answers (done (value.Inj label.now carried)) result }
 {
@@ -169,6 +172,28 @@ pub fn add_list(outcome: Result<Value, Halt>, into: &mut Vec<Value>) -> Result<(
         }
         Err(Halt::Driver { source, error }) => Err(EvalStop::Driver { source, error }),
         Err(Halt::NoMemory) => Err(EvalStop::NoMemory),
+    }
+}
+
+/// The union of two collections whose items stand one behind the other. Those of a set or a bag rise already: the stable
+/// sort finds the two runs and merges them in one pass.
+pub fn unite(kind: Kind, both: Vec<Value>) -> Result<Value, Halt>
+    ensures { Answers (done (canonical kind both.items)) result }
+{
+    let mut both = both;
+    match kind {
+        Kind::Set => match both.sort() {
+            Ok(()) => {
+                both.dedup();
+                Ok(Value::Set(Seq::of(both)))
+            }
+            Err(_) => Err(Halt::NoMemory),
+        },
+        Kind::Bag => match both.sort() {
+            Ok(()) => Ok(Value::Bag(Seq::of(both))),
+            Err(_) => Err(Halt::NoMemory),
+        },
+        Kind::List => Ok(Value::List(Seq::of(both))),
     }
 }
 

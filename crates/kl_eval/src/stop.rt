@@ -1,3 +1,4 @@
+//! The ways in which an evaluation ends without a value.
 use kl_ask::DriverError;
 use kl_base::Label;
 use kl_value::Value;

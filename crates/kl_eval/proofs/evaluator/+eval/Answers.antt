@@ -1,7 +1,7 @@
 use Rattle.std.proofs.Common.{◌≡◌, length, Some, true, false, refl, sym, ap, ◌∙◌, rules, arith}
 use Rattle.kl_core.specs.declared.term.Term.{the_lemmas}
 use Rattle.kl_outcome.specs.Outcome.{done, over, fine, overflow, flow}
-use Rattle.kl_eval.proofs.Forms.{body_fine, body_past, body_starts, call_arity, call_both, call_former_stop, call_latter_stop, call_only, call_only_stop, each_ends, each_goes, each_lost, each_none, each_over, each_refused, each_sense, each_starts, evals_lent, evals_part, fields_ends, fields_goes, fields_lost, fields_sense, fields_starts, fields_stops, first_there, fits_both, fits_only, found, items_done, loop_lost, loop_refused, missing, no_branch, over_gives, second_there, sense_body, sense_bound, sense_branch, sense_first, sense_former, sense_inj, sense_items, sense_latter, sense_make, sense_only, sense_other_at, sense_picked, sense_prim, sense_proj, sense_rec, sense_second, sense_source, sense_subject, sense_test, sense_var, source_ready, source_there, source_whole, there_field, truth_there, value_branch, value_case_stop, value_if, value_if_stop, value_inj, value_inj_stop, value_let, value_let_stop, value_loop, value_make, value_other_at, value_prim, value_proj, value_proj_stop, value_rec, value_rec_stop, value_source, value_source_stop, value_union, value_union_first, value_union_lost, value_union_over, value_var, variant_there}
+use Rattle.kl_eval.proofs.Forms.{body_fine, body_past, body_starts, call_arity, call_both, call_former_stop, call_latter_stop, call_only, call_only_stop, each_ends, each_goes, each_lost, each_none, each_over, each_refused, each_sense, each_starts, evals_copied, evals_lent, evals_part, fields_ends, fields_goes, fields_lost, fields_sense, fields_starts, fields_stops, first_there, fits_both, fits_only, found, items_done, look_if, look_if_stop, loop_lost, loop_refused, missing, no_branch, over_gives, second_there, sense_body, sense_bound, sense_branch, sense_first, sense_former, sense_inj, sense_items, sense_latter, sense_make, sense_only, sense_other_at, sense_picked, sense_prim, sense_proj, sense_rec, sense_second, sense_source, sense_subject, sense_test, sense_var, source_ready, source_there, source_whole, there_field, truth_there, value_branch, value_case_stop, value_if, value_if_stop, value_inj, value_inj_stop, value_let, value_let_stop, value_loop, value_make, value_other_at, value_prim, value_proj, value_proj_stop, value_rec, value_rec_stop, value_source, value_source_stop, value_union, value_union_first, value_union_lost, value_union_over, value_var, variant_there}
 use Rattle.kl_eval.proofs.Emitting.{body_sense_whole, body_added, body_stops, into_if, into_if_stop, into_none, into_one, into_one_stop, look_prim, sense_of, whole_there, whole_picked, whole_bound, into_let, into_let_stop}
 use Rattle.kl_ask.proofs.Worlds.{moved_none}
 use Rattle.kl_eval.proofs.evaluator.+eval.Goals as goal
@@ -39,14 +39,14 @@ value-returns-in-Ok-look g t c = value_proj _ _ _ _ _ _ _ _ _ _ _ _ c.in-Proj.is
 pub value-returns-in-Proj : goal.value-returns-in-Proj
 value-returns-in-Proj g t c = value_proj_stop _ _ _ _ _ _ _ _ _ _ c.in-Proj.is refl c.get.ensures c.in-Err-look.ensures c.outside-in-Err-look.ensures
 
-pub value-value-requires : goal.value-value-requires
-value-value-requires g t c κs within = (search (rules, the_lemmas, arith), (within, sense_inj _ _ _ _ _ _ c.in-Inj.is refl c.get-in-Inj.ensures (g.T.Seen.world c.args.tables.now) c.requires))
+pub value-owned-requires : goal.value-owned-requires
+value-owned-requires g t c κs within = (search (rules, the_lemmas, arith), (within, sense_inj _ _ _ _ _ _ c.in-Inj.is refl c.get-in-Inj.ensures (g.T.Seen.world c.args.tables.now) c.requires))
 
 pub value-returns-in-Ok-inside : goal.value-returns-in-Ok-inside
-value-returns-in-Ok-inside g t c = value_inj _ _ _ _ _ _ c.in-Inj.is refl c.get-in-Inj.ensures _ _ _ _ (evals_part _ _ _ _ _ _ c.value.ensures c.in-Ok-inside.ensures) c.tag.ensures
+value-returns-in-Ok-inside g t c = value_inj _ _ _ _ _ _ c.in-Inj.is refl c.get-in-Inj.ensures _ _ _ _ (evals_part _ _ _ _ _ _ c.owned.ensures c.in-Ok-inside.ensures) c.tag.ensures
 
 pub value-returns-in-Inj : goal.value-returns-in-Inj
-value-returns-in-Inj g t c = value_inj_stop _ _ _ _ _ _ c.in-Inj.is refl c.get-in-Inj.ensures _ _ _ _ (evals_part _ _ _ _ _ _ c.value.ensures c.in-Err-inside.ensures) c.outside-in-Err-inside.ensures
+value-returns-in-Inj g t c = value_inj_stop _ _ _ _ _ _ c.in-Inj.is refl c.get-in-Inj.ensures _ _ _ _ (evals_part _ _ _ _ _ _ c.owned.ensures c.in-Err-inside.ensures) c.outside-in-Err-inside.ensures
 
 pub value-look-requires-in-Case : goal.value-look-requires-in-Case
 value-look-requires-in-Case g t c κs within = (search (rules, the_lemmas, arith), (within, sense_subject _ _ _ _ _ _ _ c.in-Case.is c.get-in-Case.ensures refl (g.T.Seen.world c.args.tables.now) c.requires))
@@ -54,11 +54,11 @@ value-look-requires-in-Case g t c κs within = (search (rules, the_lemmas, arith
 pub value-variant-requires : goal.value-variant-requires
 value-variant-requires g t c = variant_there _ _ _ _ _ _ _ c.in-Case.is c.get-in-Case.ensures refl _ _ _ _ c.get-in-Ok-look-2.ensures c.requires c.in-Ok-look-2.ensures
 
-pub value-value-requires-in-Some : goal.value-value-requires-in-Some
-value-value-requires-in-Some g t c κs within = (search (rules, the_lemmas, arith), (within, let f = found _ _ _ _ _ _ c.slice-in-Ok-look-2.ensures c.slice-in-Some.ensures c.in-Some.ensures.place c.in-Some.ensures.within c.index-slice-at.is in sense_branch _ _ _ _ _ _ _ c.in-Case.is c.get-in-Case.ensures refl _ _ _ _ _ _ c.get-in-Ok-look-2.ensures c.variant.ensures c.requires c.in-Ok-look-2.ensures _ _ f.0 f.1))
+pub value-value-requires : goal.value-value-requires
+value-value-requires g t c κs within = (search (rules, the_lemmas, arith), (within, let f = found _ _ _ _ _ _ c.slice-in-Ok-look-2.ensures c.slice-in-Some.ensures c.in-Some.ensures.place c.in-Some.ensures.within c.index-slice-at.is in sense_branch _ _ _ _ _ _ _ c.in-Case.is c.get-in-Case.ensures refl _ _ _ _ _ _ c.get-in-Ok-look-2.ensures c.variant.ensures c.requires c.in-Ok-look-2.ensures _ _ f.0 f.1))
 
 pub value-returns-in-Some : goal.value-returns-in-Some
-value-returns-in-Some g t c = let f = found _ _ _ _ _ _ c.slice-in-Ok-look-2.ensures c.slice-in-Some.ensures c.in-Some.ensures.place c.in-Some.ensures.within c.index-slice-at.is in value_branch _ _ _ _ _ _ _ c.in-Case.is c.get-in-Case.ensures refl _ _ _ _ _ _ _ _ _ _ c.get-in-Ok-look-2.ensures c.variant.ensures f.0 f.1 c.in-Ok-look-2.ensures c.value-in-Some.ensures
+value-returns-in-Some g t c = let f = found _ _ _ _ _ _ c.slice-in-Ok-look-2.ensures c.slice-in-Some.ensures c.in-Some.ensures.place c.in-Some.ensures.within c.index-slice-at.is in value_branch _ _ _ _ _ _ _ c.in-Case.is c.get-in-Case.ensures refl _ _ _ _ _ _ _ _ _ _ c.get-in-Ok-look-2.ensures c.variant.ensures f.0 f.1 c.in-Ok-look-2.ensures c.value.ensures
 
 pub value-value-requires-in-Some-other : goal.value-value-requires-in-Some-other
 value-value-requires-in-Some-other g t c κs within = (search (rules, the_lemmas, arith), (within, sense_other_at _ _ _ _ _ _ _ c.in-Case.is c.get-in-Case.ensures refl _ _ _ _ _ _ c.get-in-Ok-look-2.ensures c.variant.ensures c.requires c.in-Ok-look-2.ensures _ _ (missing _ _ _ c.slice-in-Ok-look-2.ensures c.in-None.ensures.place) c.in-Some-other.is c.get-in-Some-other.ensures))
@@ -85,7 +85,7 @@ pub value-append-requires : goal.value-append-requires
 value-append-requires g t c = second_there _ _ _ _ _ c.in-Union.is c.get-in-Union.ensures _ _ _ _ _ c.get-in-Ok-value.ensures c.in-Ok-value.ensures.moved c.requires c.in-Ok-value-2.ensures
 
 pub value-returns-in-Ok-append : goal.value-returns-in-Ok-append
-value-returns-in-Ok-append g t c = value_union _ _ _ _ _ c.in-Union.is c.get-in-Union.ensures _ _ _ _ _ _ _ _ _ _ c.get-in-Ok-value.ensures c.into_parts-kind.ensures c.in-Ok-append.ensures c.in-Ok-value.ensures c.in-Ok-value-2.ensures c.gather-in-Ok-append.ensures
+value-returns-in-Ok-append g t c = value_union _ _ _ _ _ c.in-Union.is c.get-in-Union.ensures _ _ _ _ _ _ _ _ _ _ c.get-in-Ok-value.ensures c.into_parts-kind.ensures c.in-Ok-append.ensures c.in-Ok-value.ensures c.in-Ok-value-2.ensures c.unite.ensures
 
 pub value-returns-in-Ok-value : goal.value-returns-in-Ok-value
 value-returns-in-Ok-value g t c = value_union_over _ _ _ _ _ c.in-Union.is c.get-in-Union.ensures _ _ _ _ _ _ _ _ _ _ c.get-in-Ok-value.ensures c.into_parts-kind.ensures c.behind.ensures c.in-Ok-value.ensures c.in-Err-value-2.ensures c.gather-in-Err-value-2.ensures
@@ -162,8 +162,8 @@ look-lent-requires g t c = (_, (c.requires.0, c.requires.1, c.requires.2, c.requ
 pub look-returns-in-Some : goal.look-returns-in-Some
 look-returns-in-Some g t c = evals_lent _ _ _ _ (λ S T. c.in-Some.ensures S T)
 
-pub each-value-requires : goal.each-value-requires
-each-value-requires g t c κs within = (search (rules, the_lemmas, arith), (within, each_sense _ _ _ _ _ _ _ _ c.terms-test.true c.term-item.is c.terms.invariant))
+pub each-owned-requires : goal.each-owned-requires
+each-owned-requires g t c κs within = (search (rules, the_lemmas, arith), (within, each_sense _ _ _ _ _ _ _ _ c.terms-test.true c.term-item.is c.terms.invariant))
 
 pub each-returns-in-Err-push : goal.each-returns-in-Err-push
 each-returns-in-Err-push g t c = each_lost _ _ _ _ _ _ _ _ c.terms-test.true c.term-item.is c.terms.invariant _ _ _ _ c.in-Ok.ensures c.in-Err-push.ensures
@@ -174,17 +174,17 @@ each-terms-preserved g t c = each_goes _ _ _ _ _ _ _ _ c.terms-test.true c.term-
 pub each-returns : goal.each-returns
 each-returns g t c = each_ends _ _ _ _ _ _ _ c.terms-test.false c.terms.invariant
 
-pub each_field-value-requires : goal.each_field-value-requires
-each_field-value-requires g t c κs within = (search (rules, the_lemmas, arith), (within, fields_sense _ _ _ _ _ _ _ _ c.parts-test.true c.part-item.is c.parts.invariant))
+pub each_field-owned-requires : goal.each_field-owned-requires
+each_field-owned-requires g t c κs within = (search (rules, the_lemmas, arith), (within, fields_sense _ _ _ _ _ _ _ _ c.parts-test.true c.part-item.is c.parts.invariant))
 
 pub each_field-returns-in-Err-push_field : goal.each_field-returns-in-Err-push_field
-each_field-returns-in-Err-push_field g t c = fields_lost _ _ _ _ _ _ _ _ c.parts-test.true c.part-item.is c.parts.invariant _ _ _ _ (evals_part _ _ _ _ _ _ c.value.ensures c.in-Ok.ensures) c.in-Err-push_field.ensures
+each_field-returns-in-Err-push_field g t c = fields_lost _ _ _ _ _ _ _ _ c.parts-test.true c.part-item.is c.parts.invariant _ _ _ _ (evals_part _ _ _ _ _ _ c.owned.ensures c.in-Ok.ensures) c.in-Err-push_field.ensures
 
 pub each_field-parts-preserved : goal.each_field-parts-preserved
-each_field-parts-preserved g t c = fields_goes _ _ _ _ _ _ _ _ c.parts-test.true c.part-item.is c.parts.invariant _ _ _ (evals_part _ _ _ _ _ _ c.value.ensures c.in-Ok.ensures) c.in-Ok-push_field.ensures
+each_field-parts-preserved g t c = fields_goes _ _ _ _ _ _ _ _ c.parts-test.true c.part-item.is c.parts.invariant _ _ _ (evals_part _ _ _ _ _ _ c.owned.ensures c.in-Ok.ensures) c.in-Ok-push_field.ensures
 
 pub each_field-returns-in-Err : goal.each_field-returns-in-Err
-each_field-returns-in-Err g t c = fields_stops _ _ _ _ _ _ _ _ c.parts-test.true c.part-item.is c.parts.invariant _ _ (evals_part _ _ _ _ _ _ c.value.ensures c.in-Err.ensures)
+each_field-returns-in-Err g t c = fields_stops _ _ _ _ _ _ _ _ c.parts-test.true c.part-item.is c.parts.invariant _ _ (evals_part _ _ _ _ _ _ c.owned.ensures c.in-Err.ensures)
 
 pub each_field-returns : goal.each_field-returns
 each_field-returns g t c = fields_ends _ _ _ _ _ _ _ c.parts-test.false c.parts.invariant
@@ -315,10 +315,10 @@ emit-returns-then-is_empty g t c =
     into_none _ _ _ _ _ c.in-Make.is c.slice-terms.ensures _ _ _ none refl
 
 pub emit-returns-in-Ok-inside : goal.emit-returns-in-Ok-inside
-emit-returns-in-Ok-inside g t c = into_one _ _ _ _ _ c.in-Make.is c.slice-terms.ensures _ c.if-terms-eq1.true c.index-terms-0.is _ _ _ _ _ _ (evals_part _ _ _ _ _ _ c.value.ensures c.in-Ok-inside.ensures) c.push.ensures
+emit-returns-in-Ok-inside g t c = into_one _ _ _ _ _ c.in-Make.is c.slice-terms.ensures _ c.if-terms-eq1.true c.index-terms-0.is _ _ _ _ _ _ (evals_part _ _ _ _ _ _ c.owned.ensures c.in-Ok-inside.ensures) c.push.ensures
 
 pub emit-returns-then-terms-eq1 : goal.emit-returns-then-terms-eq1
-emit-returns-then-terms-eq1 g t c = into_one_stop _ _ _ _ _ c.in-Make.is c.slice-terms.ensures _ c.if-terms-eq1.true c.index-terms-0.is _ _ _ _ _ _ (evals_part _ _ _ _ _ _ c.value.ensures c.in-Err-inside.ensures) c.outside-in-Err-inside.ensures refl
+emit-returns-then-terms-eq1 g t c = into_one_stop _ _ _ _ _ c.in-Make.is c.slice-terms.ensures _ c.if-terms-eq1.true c.index-terms-0.is _ _ _ _ _ _ (evals_part _ _ _ _ _ _ c.owned.ensures c.in-Err-inside.ensures) c.outside-in-Err-inside.ensures refl
 
 pub emit_whole-append-requires : goal.emit_whole-append-requires
 emit_whole-append-requires g t c = whole_there _ _ _ _ _ c.requires c.in-Ok.ensures
@@ -326,8 +326,8 @@ emit_whole-append-requires g t c = whole_there _ _ _ _ _ c.requires c.in-Ok.ensu
 pub look-returns-in-Ok : goal.look-returns-in-Ok
 look-returns-in-Ok g t c = look_prim _ _ _ _ _ c.in-Prim.is c.slice.ensures _ _ _ c.in-Ok.ensures
 
-pub look-returns-in-Err : goal.look-returns-in-Err
-look-returns-in-Err g t c = look_prim _ _ _ _ _ c.in-Prim.is c.slice.ensures _ _ _ c.in-Err.ensures
+pub look-returns-in-Prim : goal.look-returns-in-Prim
+look-returns-in-Prim g t c = look_prim _ _ _ _ _ c.in-Prim.is c.slice.ensures _ _ _ c.in-Err.ensures
 
 pub emit-look-requires-in-Let : goal.emit-look-requires-in-Let
 emit-look-requires-in-Let g t c κs within = (search (rules, the_lemmas, arith), (within, sense_bound _ _ _ _ _ c.in-Let.is c.get-in-Let.ensures (g.T.Seen.world c.args.tables.now) (sense_of _ _ _ c.requires)))
@@ -340,3 +340,30 @@ emit-returns-in-Ok-look g t c = into_let _ _ _ _ _ c.in-Let.is c.get-in-Let.ensu
 
 pub emit-returns-in-Let : goal.emit-returns-in-Let
 emit-returns-in-Let g t c = into_let_stop _ _ _ _ _ c.in-Let.is c.get-in-Let.ensures _ _ _ _ _ _ c.in-Err-look.ensures c.outside-in-Err-look.ensures refl
+
+pub owned-lent-requires : goal.owned-lent-requires
+owned-lent-requires g t c = (_, (c.requires.0, c.requires.1, c.requires.2, c.requires.3))
+
+pub owned-returns-in-Some : goal.owned-returns-in-Some
+owned-returns-in-Some g t c = evals_copied _ _ _ _ _ (λ S T. c.in-Some.ensures S T) c.copy.ensures
+
+pub look-look-requires : goal.look-look-requires
+look-look-requires g t c κs within = (search (rules, the_lemmas, arith), (within, sense_test _ _ _ _ _ _ c.in-If.is c.get.ensures (g.T.Seen.world c.args.tables.now) c.requires))
+
+pub look-bool_of-requires : goal.look-bool_of-requires
+look-bool_of-requires g t c = truth_there _ _ _ _ _ _ c.in-If.is c.get.ensures _ _ _ _ c.get-in-Ok-look.ensures c.requires c.in-Ok-look.ensures
+
+pub look-look-requires-then-bool_of : goal.look-look-requires-then-bool_of
+look-look-requires-then-bool_of g t c κs within = (search (rules, the_lemmas, arith), (within, sense_picked _ _ _ _ _ _ c.in-If.is c.get.ensures _ true _ _ c.get-then-bool_of.ensures c.in-Ok-look.ensures.moved c.requires))
+
+pub look-look-requires-else-bool_of : goal.look-look-requires-else-bool_of
+look-look-requires-else-bool_of g t c κs within = (search (rules, the_lemmas, arith), (within, sense_picked _ _ _ _ _ _ c.in-If.is c.get.ensures _ false _ _ c.get-else-bool_of.ensures c.in-Ok-look.ensures.moved c.requires))
+
+pub look-returns-then-bool_of : goal.look-returns-then-bool_of
+look-returns-then-bool_of g t c = look_if _ _ _ _ _ _ c.in-If.is c.get.ensures _ _ _ true _ _ _ _ c.get-then-bool_of.ensures c.get-in-Ok-look.ensures (c.bool_of.ensures ∙ ap Some c.if-bool_of.true) c.in-Ok-look.ensures c.look-then-bool_of.ensures
+
+pub look-returns-in-Ok-look : goal.look-returns-in-Ok-look
+look-returns-in-Ok-look g t c = look_if _ _ _ _ _ _ c.in-If.is c.get.ensures _ _ _ false _ _ _ _ c.get-else-bool_of.ensures c.get-in-Ok-look.ensures (c.bool_of.ensures ∙ ap Some c.if-bool_of.false) c.in-Ok-look.ensures c.look-else-bool_of.ensures
+
+pub look-returns-in-If : goal.look-returns-in-If
+look-returns-in-If g t c = look_if_stop _ _ _ _ _ _ c.in-If.is c.get.ensures _ _ _ c.in-Err-look.ensures

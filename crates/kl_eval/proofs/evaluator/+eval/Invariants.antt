@@ -2,7 +2,8 @@ use Rattle.std.proofs.Common.{drop}
 use Rattle.kl_core.specs.Trees.{view, trees_view, parts_view}
 use Rattle.kl_outcome.specs.Outcome.{flow}
 use Rattle.kl_eval.specs.Values.{values}
-use Rattle.kl_eval.specs.Evals.{OnEach, OnBody, OnFields, end_of}
+use Rattle.kl_eval.specs.Evals.{end_of}
+use Rattle.kl_eval.proofs.Loops.{OnEach, OnBody, OnFields}
 use Rattle.kl_eval.proofs.evaluator.+eval.Given as goal
 
 abbrev pub invariant-each-terms : goal.invariant-each-terms
