@@ -13,16 +13,15 @@ use Rattle.kl_syntax.specs.declared.tree.Decl.{Decl}
 use Rattle.kl_syntax.specs.Syntax.{name, coll, comp, bind, invert, minus, call, inject, path, chain, fields, select, Branches, branch, Decls, no_decls}
 use Rattle.kl_syntax.specs.View.{view, exps_of, quals_view, pattern_view, steps_view, fields_view, branch_view, branches_of, branches_view, rest_of, decl_of}
 use Rattle.kl_core.specs.declared.Term.{Term}
-use Rattle.kl_core.specs.declared.term.Term.{the_lemmas as code_lemmas}
 use Rattle.kl_core.specs.declared.term.Term.TheVariants as code
 use Rattle.kl_core.specs.Trees as term
 use Rattle.kl_core.specs.Trees.{Tree, view_part}
+use Rattle.kl_core.proofs.Views as core
 use Rattle.kl_meaning.specs.Run.{in_order}
 use Rattle.kl_desugar.specs.Translation.{Scope, Codes, here, tree, tree_all, tree_fields, tree_branches, tree_steps, called_tree, projected, matched_here, no_sense, codes_after}
 use Rattle.kl_desugar.specs.Layers.{Layered, missed, wrapped}
 use Rattle.kl_desugar.specs.Opening.{Opens}
 use Rattle.kl_desugar.specs.States.{Asks, field_of, arm_of}
-use Rattle.kl_desugar.proofs.Views.{view_make, view_case}
 use Rattle.kl_desugar.proofs.Wrapping.{matched_is, quals_are}
 
 pub view_Name : (x : Word) → view (expr.Name x) ≡ name x
@@ -47,7 +46,7 @@ trees_are (e ∷ es) codes S = ap (term.trees (tree (view e) codes S)) (trees_ar
 pub coll_is : (e : Expr) (k : Kind) (es fs : List Expr) (ts us : List Term) (codes : Codes) (S : Scope) → e ≡ expr.Coll k es → fs ≡ es → us ≡ ts
     → map term.view ts ≡ map (λ e. tree (view e) codes S) fs → term.view (code.Make k us) ≡ tree (view e) codes S
 coll_is e k es fs ts us codes S p q r h =
-    rw (p, view_Coll, view_make, r, h, q) (ap (term.make k) (sym (trees_are es codes S)))
+    rw (p, view_Coll, core.view_Make, r, h, q) (ap (term.make k) (sym (trees_are es codes S)))
 
 pub comp_is : (e : Expr) (k : Kind) (a b : Expr) (qs rs : List Qual) (t u : Term) (codes : Codes) (S R : Scope) (ls : List Layered) → e ≡ expr.Comp k a qs → b ≡ a → rs ≡ qs
     → Opens (quals_view rs) k codes S R [] ls → term.view t ≡ tree (view b) codes R
@@ -55,15 +54,9 @@ pub comp_is : (e : Expr) (k : Kind) (a b : Expr) (qs rs : List Qual) (t u : Term
 comp_is e k a b qs rs t u codes S R ls p q r o h w =
     rw (p, view_Comp, w, h, q, o.layers, o.scope, r) (sym (quals_are (quals_view qs) k _ codes S))
 
-view_let : (a b : Term) → term.view (code.Let a b) ≡ term.bind (term.view a) (term.view b)
-view_let a b = search (rules, code_lemmas)
-
-view_inj : (l : List ℕ) (a : Term) → term.view (code.Inj l a) ≡ term.inj l (term.view a)
-view_inj l a = search (rules, code_lemmas)
-
 pub let_is : (e : Expr) (p : Pattern) (a b c d : Expr) (q : Pattern) (t u w : Term) (codes : Codes) (S : Scope) → e ≡ expr.Let p a b → q ≡ p → c ≡ a → d ≡ b → w ≡ u
     → term.view t ≡ tree (view c) codes S → term.view u ≡ matched_here (pattern_view q) codes S no_sense (λ R. tree (view d) codes R) → term.view (code.Let t w) ≡ tree (view e) codes S
-let_is e p a b c d q t u w codes S i j k l m n h = rw (i, view_Let, view_let, n, m, h, j, k, l) refl
+let_is e p a b c d q t u w codes S i j k l m n h = rw (i, view_Let, core.view_Let, n, m, h, j, k, l) refl
 
 pub within_is : (p : Pattern) (e : Expr) (codes : Codes) (S R Q : Scope) (ls : List Layered) (t u : Term) → Q ≡ R → Asks (pattern_view p) (here (length S)) codes S (None ∷ S) R [] ls
     → term.view t ≡ tree (view e) codes Q → term.view u ≡ wrapped (missed None) ls (term.view t) → term.view u ≡ matched_here (pattern_view p) codes S no_sense (λ R. tree (view e) codes R)
@@ -103,7 +96,7 @@ pub case_is : (e a b : Expr) (bs cs : List Branch) (c d : Option Expr) (t : Term
     → map view_part ts ≡ map (arm_of codes S) cs → term.rest_of (option_map term.view u) ≡ tree_branches (rest_of (option_map view d)) codes S → term.view t ≡ tree (view b) codes S
     → term.view (code.Case t us u) ≡ tree (view e) codes S
 case_is e a b bs cs c d t ts us u codes S i j k l m h g f =
-    rw (i, view_Case, view_case, f, j, m, h, k, g, l) (ap (term.case_of (tree (view a) codes S)) (sym (branches_are bs (rest_of (option_map view c)) codes S)))
+    rw (i, view_Case, core.view_Case, f, j, m, h, k, g, l) (ap (term.case_of (tree (view a) codes S)) (sym (branches_are bs (rest_of (option_map view c)) codes S)))
 
 pub decl_then : (p : Option Pattern) (d : Decl) (ds : Decls) (codes : Codes) → codes_after (decl_of p d ds) codes ≡ codes_after ds (codes_after (decl_of p d no_decls) codes)
 decl_then (Some p) d ds codes = refl
@@ -129,7 +122,7 @@ pub call_is : (e : Expr) (f : Word) (es fs : List Expr) (ts : List Term) (u : Tr
 call_is e f es fs ts u codes S p q h w = rw (p, view_Call, w, h, q) (ap (called_tree (codes f.text)) (sym (trees_are es codes S)))
 
 pub inj_is : (e : Expr) (l : Word) (a b : Expr) (m : List ℕ) (t : Term) (codes : Codes) (S : Scope) → e ≡ expr.Inj l a → b ≡ a → m ≡ l.text → term.view t ≡ tree (view b) codes S → term.view (code.Inj m t) ≡ tree (view e) codes S
-inj_is e l a b m t codes S p q r h = rw (p, view_Inj, view_inj, h, q, r) refl
+inj_is e l a b m t codes S p q r h = rw (p, view_Inj, core.view_Inj, h, q, r) refl
 
 pub path_is : (e : Expr) (a b : Expr) (ws vs : List Word) (t u : Tree) (codes : Codes) (S : Scope) → e ≡ expr.Path a ws → b ≡ a → vs ≡ ws → t ≡ tree (view b) codes S → u ≡ projected vs t → u ≡ tree (view e) codes S
 path_is e a b ws vs t u codes S p q r h w = rw (p, view_Path, w, h, q, r) refl

@@ -16,7 +16,8 @@ use Rattle.kl_value.specs.declared.Value.{Value}
 use Rattle.kl_value.specs.declared.Value.TheVariants as value
 use Rattle.kl_value.specs.Views.{as_collection, Collection}
 use Rattle.kl_outcome.specs.Outcome.{Outcome, done, over, stuck, End, fine, overflow, broken, Flow, more, stop, flow, items_in, end_in, at_end, followed, drawn, items_at_all, items_of, kept, gathered, collected}
-use Rattle.kl_desugar.proofs.Refine.{Refines, refines_same}
+use Rattle.kl_outcome.proofs.Flows.{flow_is, collected_flow}
+use Rattle.kl_outcome.proofs.Refining.{Refines, refines_same}
 
 -- the items of a collection in canonical form
 abbrev members : Kind → List Value → List Value
@@ -87,18 +88,6 @@ canonical_both kind.Bag vs ws ws' e =
 canonical_both kind.List vs ws ws' e = ap (λ xs. canonical kind.List (vs ++ xs)) (same_members kind.List ws' ws e)
 
 -- flows of a list and an end
-pub flow_items : (vs : List Value) (e : End) → items_in (flow vs e) ≡ vs
-flow_items [] e = refl
-flow_items (v ∷ vs) e = ap (λ xs. v ∷ xs) (flow_items vs e)
-
-pub flow_end : (vs : List Value) (e : End) → end_in (flow vs e) ≡ e
-flow_end [] e = refl
-flow_end (v ∷ vs) e = flow_end vs e
-
-flow_is : (f : Flow) → f ≡ flow (items_in f) (end_in f)
-flow_is (more v f) = ap (more v) (flow_is f)
-flow_is (stop e) = refl
-
 cut_short : (vs : List Value) (e : End) (g : Flow) → at_end e g ≡ stop e → followed (flow vs e) g ≡ flow vs e
 cut_short [] e g h = h
 cut_short (v ∷ vs) e g h = ap (more v) (cut_short vs e g h)
@@ -137,9 +126,6 @@ gathered_both k overflow fine vs ws ws' h = let n : ⊥ = cc in absurd n
 gathered_both k overflow overflow vs ws ws' h = ap over (kept_both k vs ws ws' (ap items_past h))
 gathered_both k overflow broken vs ws ws' h = let n : ⊥ = cc in absurd n
 gathered_both k broken e' vs ws ws' h = tt
-
-collected_flow : (k : Kind) (vs : List Value) (e : End) → collected k (flow vs e) ≡ gathered k e vs
-collected_flow k vs e = rw (flow_items vs e, flow_end vs e) refl
 
 collected_both : (k : Kind) (vs : List Value) (g : Flow) → collected k (followed (flow vs fine) g) ≡ gathered k (end_in g) (vs ++ items_in g)
 collected_both k vs g = rw (both_items vs g, both_end vs g) refl

@@ -7,6 +7,7 @@ use Rattle.kl_value.specs.declared.Value.TheVariants as value
 use Rattle.kl_prim.specs.Table.{meaning}
 use Rattle.kl_value.specs.Views.{as_bool}
 use Rattle.kl_outcome.specs.Outcome.{Outcome, done, over, stuck, Flow, stop, fine, Name, answered, if_then, chosen, applied, outcome_of, as_record, as_variant, field_in, part, collected, item_then}
+use Rattle.kl_outcome.proofs.Refining.{Refines, refines_same, refines_is, after_up, if_up, opened_up, RefinesAll, args_up, Pairs, parts_up, FlowUp, item_up, collected_up, union_up}
 use Rattle.kl_syntax.specs.declared.tree.Op.{Op}
 use Rattle.kl_syntax.specs.declared.tree.Word.{Word}
 use Rattle.kl_syntax.specs.declared.tree.Op.TheVariants as op
@@ -19,7 +20,7 @@ use Rattle.kl_core.specs.Trees.{Tree, Trees, no_trees, trees}
 use Rattle.kl_desugar.specs.Translation.{Scope, Code, value_by, function_by, primitive_by, Codes, empty, called_tree, operated_tree, projected, matched_here, tree, tree_all, tree_fields, tree_quals, tree_branches, tree_steps, no_sense, number_of, code_by, code_at, codes_first, with_code, codes_after, function_tree, term_of, tables_of, Means}
 use Rattle.kl_desugar.specs.Translation as translation
 use Rattle.kl_desugar.proofs.Positions.{Held, scope, values, names, grows_none}
-use Rattle.kl_desugar.proofs.Refine.{Refines, refines_same, refines_is, after_up, if_up, opened_up, RefinesAll, args_up, Pairs, parts_up, order_up, FlowUp, item_up, collected_up, union_up}
+use Rattle.kl_desugar.proofs.Ordered.{order_up}
 use Rattle.kl_desugar.proofs.Drawing.{draw_from_up}
 use Rattle.kl_desugar.proofs.Matching.{must_is, if_is, kept_none, Meets, AllMeet, name_up, here_up}
 

@@ -6,7 +6,6 @@ pub mod Law
 pub mod Matching
 pub mod Ordered
 pub mod Positions
-pub mod Refine
 pub mod Sense
 pub mod Tidying
 pub mod Views

@@ -18,7 +18,7 @@ use Rattle.kl_core.specs.Trees.{Tree}
 use Rattle.kl_desugar.specs.Translation.{Scope, level_of, Place, here, inside, place_tree, Code, value_by, function_by, primitive_by, Codes, code_tree, level_tree, name_tree, matched, matched_fields, matched_here, empty}
 use Rattle.kl_desugar.specs.Translation as translation
 use Rattle.kl_desugar.proofs.Positions.{Held, scope, values, names, Grows, grows_none, grows_one, grows_both, nearest, level_is, At, name_at, Stands, stands_more, place_is}
-use Rattle.kl_desugar.proofs.Refine.{Refines}
+use Rattle.kl_outcome.proofs.Refining.{Refines}
 
 -- what comes of a fit, where `miss` comes of none
 abbrev pub fit_to : Outcome → Fit → (Env → Outcome) → Outcome
@@ -52,7 +52,7 @@ equal_is : (v w : Value) → answered (meaning 1 (v ∷ w ∷ [])) ≡ done (val
 unfolding meaning row_at rows
 equal_is v w = refl
 
-pub bool_is : (b : Bool) → as_bool (value.Bool b) ≡ Some b
+bool_is : (b : Bool) → as_bool (value.Bool b) ≡ Some b
 bool_is b = rw value.outs-Bool refl
 
 -- a name that is no variable stands for what it means

@@ -1,4 +1,4 @@
--- A stable sort by label leaves the fields of a record in their order.
+-- A stable sort by label leaves the fields of a record in their order, and those of equal labels alike.
 use Rattle.std.proofs.Common.{◌≡◌, Bool, true, false, not, ◌&&◌, cond, List, [], ◌∷◌, map, refl, sym, ap, ap₂, subst, ◌∙◌, true≢false, Ordering, Less, Equal, Greater, is_lt, is_gt, is_eq}
 use Rattle.std.specs.Cmp.{IsTotalOrder, IsStrictWeakOrder}
 use Rattle.std.specs.List.{AllByRecursion, filter}
@@ -10,6 +10,7 @@ use Rattle.kl_base.specs.Fields.{bytes_cmp}
 use Rattle.kl_base.specs.Sorted.{IsRising, put_in, sorted}
 use Rattle.kl_base.proofs.SortedLemmas.{IsRising-from_sorted, IsRising-sorted}
 use Rattle.kl_outcome.specs.Outcome.{Name}
+use Rattle.kl_outcome.proofs.Refining.{Pairs}
 use Rattle.kl_meaning.specs.Run.{by_label, in_order}
 use Rattle.kl_core.specs.declared.term.Term.{Term}
 use Rattle.kl_core.specs.Trees.{view_part}
@@ -152,3 +153,23 @@ order_view (f ∷ fs) = put_view f (in_order fs) ∙ ap (put_in by_label (view_p
 -- the fields that a stable sort by label leaves
 pub sorted_view : (fs gs : List (Name × Term)) → IsSortedBy below gs → IsStableBy below fs gs → map view_part gs ≡ in_order (map view_part fs)
 sorted_view fs gs up stable = ap (map view_part) (stable_is by_name label_total fs gs up stable) ∙ order_view fs
+
+-- pairs of the same labels are ordered alike
+module _ {A B : Type 0} (R : A → B → Type 0) where
+  put_by : (b c : Bool) (x y : Name × A) (x' y' : Name × B) (xs ys : List (Name × A)) (xs' ys' : List (Name × B)) → b ≡ c → (x.0 ≡ x'.0) → R x.1 x'.1 → (y.0 ≡ y'.0) → R y.1 y'.1 → Pairs R xs xs' → Pairs R ys ys'
+      → Pairs R (cond b (y ∷ xs) (x ∷ y ∷ ys)) (cond c (y' ∷ xs') (x' ∷ y' ∷ ys'))
+  put_by true c x y x' y' xs ys xs' ys' e p q r s h k = rw (sym e) (r, s, h)
+  put_by false c x y x' y' xs ys xs' ys' e p q r s h k = rw (sym e) (p, q, (r, s, k))
+
+  put_up : (x : Name × A) (x' : Name × B) (ys : List (Name × A)) (ys' : List (Name × B)) → (x.0 ≡ x'.0) → R x.1 x'.1 → Pairs R ys ys' → Pairs R (put_in by_label x ys) (put_in by_label x' ys')
+  put_up x x' [] [] p q h = (p, q, tt)
+  put_up x x' [] (y' ∷ ys') p q h = absurd h
+  put_up x x' (y ∷ ys) [] p q h = absurd h
+  put_up x x' (y ∷ ys) (y' ∷ ys') p q (r, s, h) =
+      put_by (is_gt (by_label x y)) (is_gt (by_label x' y')) x y x' y' _ ys _ ys' (rw (p, r) refl) p q r s (put_up x x' ys ys' p q h) h
+
+  pub order_up : (xs : List (Name × A)) (ys : List (Name × B)) → Pairs R xs ys → Pairs R (in_order xs) (in_order ys)
+  order_up [] [] h = tt
+  order_up [] (y ∷ ys) h = absurd h
+  order_up (x ∷ xs) [] h = absurd h
+  order_up (x ∷ xs) (y ∷ ys) (p, q, h) = put_up x y (in_order xs) (in_order ys) p q (order_up xs ys h)

@@ -4,10 +4,8 @@ use Rattle.std.specs.Cmp.Lexicographic.{same_text, other_text}
 use Rattle.std.specs.List.{AllByRecursion}
 use Rattle.kl_value.specs.declared.Kind.{Kind}
 use Rattle.kl_value.specs.declared.Value.TheVariants as value
-use Rattle.kl_value.proofs.IsCanonicalLemmas.{bool_made}
 use Rattle.kl_type.specs.Ground.{Ground, Row, bool, rec, coll as colls, IsRow, IsGround}
 use Rattle.kl_outcome.specs.Outcome.{Name}
-use Rattle.kl_outcome.specs.Typed.{Inhabits}
 use Rattle.kl_syntax.specs.declared.tree.Op.{Op}
 use Rattle.kl_syntax.specs.declared.tree.Op.TheVariants as op
 use Rattle.kl_syntax.specs.declared.tree.Word.{Word}
@@ -16,6 +14,8 @@ use Rattle.kl_meaning.specs.Match.{same_name}
 use Rattle.kl_meaning.specs.Run.{code_named}
 use Rattle.kl_meaning.specs.Tidy.{IsTidy, AreTidy, AreTidyFields, AreTidyQuals, AreTidyBranches, AreTidySteps, IsTidyProgram}
 use Rattle.kl_meaning.specs.Typing.{Context, Sort, nothing, value_of, function_of, primitive, Known, CallTypes, OpTypes, PathTypes, has_field, has_branch, Types, AllTypes, EachType, FieldTypes, QualTypes, BranchTypes, StepTypes, sort_at, types_at_first, sort_if, FunctionTypes, types_after, ProgramTypes}
+use Rattle.kl_meaning.proofs.Fields.{IsFieldOf, in_order_all, in_order_rises, in_order_found, has_fields, fields_apart}
+use Rattle.kl_meaning.proofs.Safety.{truth_typed}
 use Rattle.kl_core.specs.Trees as term
 use Rattle.kl_core.specs.Trees.{Tree, Trees, no_trees, trees}
 use Rattle.kl_core.specs.Typing.{SourceTypes, CoreTypes, ArmTypes, HasArm}
@@ -24,32 +24,11 @@ use Rattle.kl_desugar.specs.Sense.{types_of}
 use Rattle.kl_desugar.specs.Translation.{Scope, Code, value_by, function_by, primitive_by, Codes, empty, called_tree, operated_tree, projected, tree, tree_all, tree_fields, tree_quals, tree_branches, tree_steps, no_sense, number_of, code_at, codes_first, codes_after, function_tree, term_of}
 use Rattle.kl_desugar.specs.Translation as translation
 use Rattle.kl_desugar.proofs.Positions.{Standing, scope, values, names, grows_none}
-use Rattle.kl_desugar.proofs.Fielding.{Holds, Differ, IsFieldIn, order_all, order_rises, order_holds, labels_rise, parts_typed}
+use Rattle.kl_desugar.proofs.Fielding.{labels_rise, parts_typed}
 use Rattle.kl_desugar.proofs.Fitting.{Agrees, AllAgree, name_typed, here_typed}
 use Rattle.kl_desugar.proofs.Law.{SourceAt, source_at}
-use Rattle.kl_desugar.proofs.Matching.{bool_is}
 
 -- ---- labels
-
-field_held : (fs : Flds) (codes : Codes) (R : Scope) (l : Name) → IsTrue (has_field fs l) → Holds l (tree_fields fs codes R)
-field_held no_flds codes R l h = let n : ⊥ = cc in absurd n
-field_held (flds m e fs) codes R l h = here (same_name l m.text) refl h (field_held fs codes R l)
-  where
-    here : (b : Bool) → b ≡ same_name l m.text → IsTrue (b || has_field fs l) → (IsTrue (has_field fs l) → Holds l (tree_fields fs codes R)) → Holds l (tree_fields (flds m e fs) codes R)
-    here true is k next = inl (same_text l m.text is)
-    here false is k next = inr (next k)
-
-field_other : (fs : Flds) (codes : Codes) (R : Scope) (l : Name) → has_field fs l ≡ false → AllByRecursion (λ p. l ≢ p.0) (tree_fields fs codes R)
-field_other no_flds codes R l h = tt
-field_other (flds m e fs) codes R l h = here (same_name l m.text) refl h (field_other fs codes R l)
-  where
-    here : (b : Bool) → b ≡ same_name l m.text → (b || has_field fs l) ≡ false → (has_field fs l ≡ false → AllByRecursion (λ p. l ≢ p.0) (tree_fields fs codes R)) → AllByRecursion (λ p. l ≢ p.0) (tree_fields (flds m e fs) codes R)
-    here true is k next = let n : ⊥ = cc in absurd n
-    here false is k next = (other_text l m.text is, next k)
-
-fields_differ : (fs : Flds) (codes : Codes) (R : Scope) → AreTidyFields fs → Differ (tree_fields fs codes R)
-fields_differ no_flds codes R tidy = tt
-fields_differ (flds l e fs) codes R tidy = (field_other fs codes R l.text tidy.0, fields_differ fs codes R tidy.2)
 
 arm_held : (bs : Branches) (codes : Codes) (R : Scope) (l : Name) → IsTrue (has_branch bs l) → HasArm l (tree_branches bs codes R)
 arm_held no_branches codes R l h = let n : ⊥ = cc in absurd n
@@ -62,16 +41,13 @@ arm_held (branch m p b bs) codes R l h = here (same_name l m.text) refl h (arm_h
 
 -- ---- steps
 
-bool_typed : (b : Bool) → Inhabits bool (value.Bool b)
-bool_typed b = (rw (bool_is b) refl, bool_made b)
-
 module _ (S : SourceTypes) (G : List Ground) where
   two_typed : (s u : Ground) (a b : Tree) → CoreTypes S G a s → CoreTypes S G b u → core.AllTypes S G (translation.pair a b) (s ∷ u ∷ [])
   two_typed s u a b h k = (s, u ∷ [], refl, h, (u, [], refl, k, refl))
 
   operated_typed : (c : Op) (s u t : Ground) (a b : Tree) → OpTypes c s u t → CoreTypes S G a s → CoreTypes S G b u → CoreTypes S G (operated_tree c a b) t
-  operated_typed op.And s u t a b h p q = (subst (CoreTypes S G a) h.0 p, subst (CoreTypes S G b) (h.1 ∙ sym h.2) q, subst (CoreTypes S G (term.con (value.Bool false))) (sym h.2) (bool_typed false))
-  operated_typed op.Or s u t a b h p q = (subst (CoreTypes S G a) h.0 p, subst (CoreTypes S G (term.con (value.Bool true))) (sym h.2) (bool_typed true), subst (CoreTypes S G b) (h.1 ∙ sym h.2) q)
+  operated_typed op.And s u t a b h p q = (subst (CoreTypes S G a) h.0 p, subst (CoreTypes S G b) (h.1 ∙ sym h.2) q, subst (CoreTypes S G (term.con (value.Bool false))) (sym h.2) (truth_typed false))
+  operated_typed op.Or s u t a b h p q = (subst (CoreTypes S G a) h.0 p, subst (CoreTypes S G (term.con (value.Bool true))) (sym h.2) (truth_typed true), subst (CoreTypes S G b) (h.1 ∙ sym h.2) q)
   operated_typed op.Append s u t a b h p q = (h.0, h.1, h.4 ∙ h.2, subst (CoreTypes S G a) (sym h.4) p, subst (CoreTypes S G b) (h.3 ∙ sym h.4) q)
   operated_typed op.Eq s u t a b h p q = (s ∷ u ∷ [], two_typed s u a b p q, h)
   operated_typed op.Ne s u t a b h p q = (s ∷ u ∷ [], two_typed s u a b p q, h)
@@ -124,8 +100,9 @@ module _ (S : SourceTypes) (known : Known) (codes : Codes) (rest : List Ground) 
           h.0,
           h.1,
           labels_rise h.0 good,
-          parts_typed S _ _ h.0 (order_rises _ (fields_differ fs codes (scope P) d)) good (order_all (IsFieldIn S (values P ++ rest) h.0) _ (fields_typed fs P h.0 d h.4))
-              (λ l there. order_holds l _ (field_held fs codes (scope P) l (h.3 l there))),
+          parts_typed S _ h.0 _ good (in_order_rises _ (fields_apart (λ e. tree e codes (scope P)) (λ fs. tree_fields fs codes (scope P)) refl (λ l e fs. refl) fs d))
+              (in_order_all (IsFieldOf (CoreTypes S (values P ++ rest)) h.0) _ (fields_typed fs P h.0 d h.4))
+              (λ l there. in_order_found l _ (has_fields (λ e. tree e codes (scope P)) (λ fs. tree_fields fs codes (scope P)) refl (λ l e fs. refl) fs l (h.3 l there))),
         )
     tree_typed (inject l a) P t d h = (h.0, h.1, h.2, h.4, tree_typed a P h.1 d h.5)
     tree_typed (coll k es) P t d h = (h.0, h.1, each_typed es P h.0 d h.3)
@@ -153,7 +130,7 @@ module _ (S : SourceTypes) (known : Known) (codes : Codes) (rest : List Ground) 
     each_typed no_exps P s d h = tt
     each_typed (exps e es) P s d h = (tree_typed e P s d.0 h.0, each_typed es P s d.1 h.1)
 
-    fields_typed : (fs : Flds) (P : Standing Ground) (r : Row) → AreTidyFields fs → FieldTypes fs known (names P) r → AllByRecursion (IsFieldIn S (values P ++ rest) r) (tree_fields fs codes (scope P))
+    fields_typed : (fs : Flds) (P : Standing Ground) (r : Row) → AreTidyFields fs → FieldTypes fs known (names P) r → AllByRecursion (IsFieldOf (CoreTypes S (values P ++ rest)) r) (tree_fields fs codes (scope P))
     fields_typed no_flds P r d h = tt
     fields_typed (flds l e fs) P r d h = ((h.0, h.1, tree_typed e P h.0 d.1 h.2), fields_typed fs P r d.2 h.3)
 

@@ -22,16 +22,16 @@ use Rattle.kl_meaning.specs.Tidy.{IsSurePattern, AreSurePatterns, IsTidy, AreTid
 use Rattle.kl_meaning.specs.Typing.{has_field}
 
 -- no breach is among the findings
-abbrev Clean : List Finding → Type 0
+abbrev pub Clean : List Finding → Type 0
 Clean fs = (e : ScopeError) → Contains fs (breach e) → ⊥
 
-first_clean : (fs gs : List Finding) → Clean (fs ++ gs) → Clean fs
+pub first_clean : (fs gs : List Finding) → Clean (fs ++ gs) → Clean fs
 first_clean fs gs h e c = h e (Contains-append_left fs gs (breach e) c)
 
-last_clean : (fs gs : List Finding) → Clean (fs ++ gs) → Clean gs
+pub last_clean : (fs gs : List Finding) → Clean (fs ++ gs) → Clean gs
 last_clean fs gs h e c = h e (Contains-append_right fs gs (breach e) c)
 
-never_breach : (e : ScopeError) (fs : List Finding) → Clean (breach e ∷ fs) → ⊥
+pub never_breach : (e : ScopeError) (fs : List Finding) → Clean (breach e ∷ fs) → ⊥
 never_breach e fs h = h e (0, omega arith, refl)
 
 -- ---- patterns

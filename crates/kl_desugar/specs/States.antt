@@ -14,7 +14,7 @@ use Rattle.kl_desugar.specs.declared.layers.Layer.{Layer}
 use Rattle.kl_desugar.specs.declared.layers.Layer.TheVariants as layer
 use Rattle.kl_desugar.specs.declared.scope.Place.{Place as PlaceNow}
 use Rattle.kl_desugar.specs.declared.scope.Place.TheVariants.{Here, Inside'}
-use Rattle.kl_desugar.specs.declared.codes.Def.{Def}
+use Rattle.kl_desugar.specs.declared.codes.Definition.{Definition}
 use Rattle.kl_desugar.specs.declared.codes.Codes.{Codes as CodesNow}
 use Rattle.kl_desugar.specs.declared.codes.Found.{Found}
 use Rattle.kl_desugar.specs.declared.codes.Found.TheVariants as found
@@ -32,15 +32,15 @@ abbrev pub place_view : PlaceNow → Place
 place_view (Here m) = here m
 place_view (Inside' l p t) = inside l.now (place_view t)
 
-abbrev pub def_code : Bool → Tree → Code
-def_code b t = cond b (function_by t) (value_by t)
+abbrev pub definition_code : Bool → Tree → Code
+definition_code b t = cond b (function_by t) (value_by t)
 
-abbrev pub codes_over : List Def → Codes → Codes
+abbrev pub codes_over : List Definition → Codes → Codes
 codes_over [] codes = codes
-codes_over (d ∷ ds) codes = with_code d.name (def_code d.function (view d.term)) (codes_over ds codes)
+codes_over (d ∷ ds) codes = with_code d.name (definition_code d.function (view d.term)) (codes_over ds codes)
 
 abbrev pub codes_of : CodesNow → Codes
-codes_of c = codes_over c.defs.items (codes_first c.sources.now)
+codes_of c = codes_over c.definitions.items (codes_first c.sources.now)
 
 abbrev pub found_code : Found → Code
 found_code found.Nothing = nothing

@@ -51,7 +51,7 @@ pub data Code : Type 0 where
 abbrev pub Codes : Type 0
 Codes = Name → Code
 
--- a term that stands where no program in scope comes to
+-- what stands where a program in scope never comes
 abbrev pub no_sense : Tree
 no_sense = term.rec term.no_parts
 

@@ -1,23 +1,17 @@
 //! Calls, operators, fields: terms of terms.
 ghost use Rattle.std.specs.Prelude.{◌≡◌, true, false, map, IfOk};
 ghost use Rattle.kl_core.specs.Trees as term;
-ghost use Rattle.kl_desugar.specs.Translation.{pair, function_by, called_tree, operated_tree, projected};
+ghost use Rattle.kl_desugar.specs.Translation.{function_by, called_tree, operated_tree, projected};
 ghost use Rattle.kl_desugar.specs.States.{codes_of};
 
 use crate::codes::{Codes, Found, find};
+use crate::terms::{no_sense, two};
 use kl_base::{Box, Label, NoMemory, Seq};
 use kl_core::Term;
 use kl_meaning::code_of;
 use kl_syntax::{Op, Word};
 use kl_value::Value;
 use std::alloc::Global;
-
-#[tactic(auto, using(crate::proofs::Views::view_rec))]
-fn no_sense(alloc: Global) -> Term
-    ensures { term.view result ≡ term.rec term.no_parts }
-{
-    Term::Rec(Seq::of(Vec::new(alloc)))
-}
 
 #[tactic(auto, using(crate::proofs::Views::apply_one, crate::proofs::Views::apply_other))]
 fn apply_to(alloc: Global, body: &Term, args: Vec<Term>) -> Result<Term, NoMemory>
@@ -38,7 +32,7 @@ fn apply_to(alloc: Global, body: &Term, args: Vec<Term>) -> Result<Term, NoMemor
 }
 
 /// A call of what a name stands for.
-#[tactic(auto, using(crate::proofs::Views::view_prim))]
+#[tactic(auto, using(kl_core::proofs::Views::view_Prim))]
 pub(crate) fn call(
     alloc: Global,
     codes: &Codes,
@@ -81,16 +75,6 @@ fn union(alloc: Global, a: Term, b: Term) -> Result<Term, NoMemory>
 {
     let a = Box::new(alloc, a)?;
     Ok(Term::Union(a, Box::new(alloc, b)?))
-}
-
-#[tactic(auto, using(crate::proofs::Views::view_prim))]
-fn two(alloc: Global, code: u8, a: Term, b: Term) -> Result<Term, NoMemory>
-    ensures { IfOk result (λ t. term.view t ≡ term.prim code (pair (term.view a) (term.view b))) }
-{
-    let mut args = Vec::new(alloc);
-    args.push(a)?;
-    args.push(b)?;
-    Ok(Term::Prim(code, Seq::of(args)))
 }
 
 /// A step of a chain.

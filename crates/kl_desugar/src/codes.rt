@@ -6,14 +6,15 @@ ghost use Rattle.kl_desugar.specs.Translation.{codes_first, name_tree, number_of
 ghost use Rattle.kl_desugar.specs.States.{codes_of, found_code};
 
 use crate::scope::{Slot, at_level, level};
-use kl_base::{Label, NoMemory, Seq};
+use crate::terms::no_sense;
+use kl_base::{Label, NoMemory};
 use kl_core::Term;
 use kl_meaning::code_named;
 use std::alloc::Global;
 
 /// A definition: a value, or a function of position 0.
 #[derive(Drop)]
-pub(crate) struct Def {
+pub(crate) struct Definition {
     pub(crate) name: Label,
     pub(crate) function: bool,
     pub(crate) term: Term,
@@ -23,10 +24,11 @@ pub(crate) struct Def {
 #[derive(Drop)]
 pub(crate) struct Codes<'a> {
     pub(crate) sources: &'a [Label],
-    pub(crate) defs: Vec<Def>,
+    pub(crate) definitions: Vec<Definition>,
 }
 
-/// What a name that is no variable stands for.
+/// What a name that is no variable stands for: nothing, the value of a term, a function whose argument is at position 0
+/// of a term, a source by its number, or a primitive by its code.
 #[derive(Drop)]
 pub(crate) enum Found<'a> {
     Nothing,
@@ -48,16 +50,16 @@ pub(crate) fn number_of(name: &Label, sources: &[Label]) -> Option<usize>
     None
 }
 
-/// What a name that is no variable stands for.
+/// Looks a name up among the definitions, the last first, then the sources, then the primitives.
 pub(crate) fn find<'a>(codes: &'a Codes, name: &Label) -> Result<Found<'a>, NoMemory>
     ensures { IfOk result (λ f. found_code f ≡ codes_of codes.now name.now) }
 {
-    'defs: for def in codes.defs.as_slice() {
-        if *name == def.name {
-            return Ok(if def.function {
-                Found::Function(&def.term)
+    'definitions: for definition in codes.definitions.as_slice() {
+        if *name == definition.name {
+            return Ok(if definition.function {
+                Found::Function(&definition.term)
             } else {
-                Found::Value(&def.term)
+                Found::Value(&definition.term)
             });
         }
     }
@@ -95,6 +97,6 @@ pub(crate) fn name_term(
     match find(codes, name)? {
         Found::Value(term) => term.dup(alloc),
         Found::Source(number) => Ok(Term::Source(number)),
-        _ => Ok(Term::Rec(Seq::of(Vec::new(alloc)))),
+        _ => Ok(no_sense(alloc)),
     }
 }

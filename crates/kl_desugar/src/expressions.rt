@@ -21,7 +21,7 @@ use kl_syntax::{Branch, Expr, Op, Pattern, Qual, Word};
 use kl_value::{Kind, dup as dup_value};
 use std::alloc::Global;
 
-#[tactic(auto, using(crate::proofs::Views::view_make))]
+#[tactic(auto, using(kl_core::proofs::Views::view_Make))]
 fn made(alloc: Global, kind: Kind, head: Term) -> Result<Term, NoMemory>
     ensures { IfOk result (λ t. term.view t ≡ term.make kind (term.trees (term.view head) term.no_trees)) }
 {
@@ -37,7 +37,7 @@ fn comprehended(alloc: Global, kind: Kind, layers: Vec<Layer>, head: Term) -> Re
     wrap(alloc, layers, Some(kind), head)
 }
 
-#[tactic(auto, using(crate::proofs::Views::view_prim))]
+#[tactic(auto, using(kl_core::proofs::Views::view_Prim))]
 fn one(alloc: Global, code: u8, a: Term) -> Result<Term, NoMemory>
     ensures { IfOk result (λ t. term.view t ≡ term.prim code (term.trees (term.view a) term.no_trees)) }
 {

@@ -11,7 +11,7 @@ ghost use Rattle.kl_meaning.specs.Tidy.{IsTidyProgram};
 ghost use Rattle.kl_desugar.specs.Sense.{MakesSense};
 ghost use Rattle.kl_desugar.specs.Translation.{term_of, Means};
 
-/// The law of translation: the term of a program means what the program means.
+/// The law of translation: wherever the program makes sense, its term means what the program means.
 pub fn translation_laws()
     ensures { (ds : Decls) (e : Exp) (sources : List Name) → Means ds e sources (term_of ds e sources) }
 {}

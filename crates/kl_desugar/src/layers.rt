@@ -9,6 +9,7 @@ ghost use Rattle.kl_desugar.specs.States.{layer_view, layers_view, place_view, c
 
 use crate::codes::{Codes, name_term};
 use crate::scope::{Place, Slot, copy, place_term};
+use crate::terms::{no_sense, two};
 use kl_base::{Box, Label, NoMemory, Seq};
 use kl_core::Term;
 use kl_syntax::{Pattern, Word};
@@ -34,7 +35,7 @@ fn missed(alloc: Global, at: Option<Kind>) -> Result<Term, NoMemory>
 {
     match at {
         Some(kind) => Ok(Term::Make(kind, Seq::of(Vec::new(alloc)))),
-        None => Ok(Term::Rec(Seq::of(Vec::new(alloc)))),
+        None => Ok(no_sense(alloc)),
     }
 }
 
@@ -121,10 +122,7 @@ pub(crate) fn wrap(
 fn equals(alloc: Global, a: Term, b: Term) -> Result<Layer, NoMemory>
     ensures { IfOk result (λ l. layer_view l ≡ equals (view a) (view b)) }
 {
-    let mut args = Vec::new(alloc);
-    args.push(a)?;
-    args.push(b)?;
-    Ok(Layer::Guard(Term::Prim(1, Seq::of(args))))
+    Ok(Layer::Guard(two(alloc, 1, a, b)?))
 }
 
 /// Adds what a pattern asks of a place, and what it binds.

@@ -1,7 +1,7 @@
 //! The translation of programs to terms.
 //!
 //! `term_of` of `specs/Translation.antt` is the term of a program, and `translation_laws` says that it means what the
-//! program means. `translate` makes it. `specs/Layers.antt` says the same of a pattern and of qualifiers without
+//! program means, wherever the program makes sense. `translate` makes it. `specs/Layers.antt` says the same of a pattern and of qualifiers without
 //! functions, as layers round what they go on with, which is how the code makes them.
 //!
 //! `sense_laws` says that the term makes sense: where a program is in scope and has a type, its term has that type over
@@ -15,6 +15,7 @@ mod laws;
 mod layers;
 mod program;
 mod scope;
+mod terms;
 
 pub use laws::{sense_laws, translation_laws};
 pub use program::translate;

@@ -4,9 +4,9 @@ ghost use Rattle.kl_syntax.specs.Syntax.{no_decls};
 ghost use Rattle.kl_syntax.specs.View.{view, decl_of, decls_of};
 ghost use Rattle.kl_core.specs.Trees as term;
 ghost use Rattle.kl_desugar.specs.Translation.{with_code, codes_after, codes_first, term_of, Means};
-ghost use Rattle.kl_desugar.specs.States.{codes_of, def_code};
+ghost use Rattle.kl_desugar.specs.States.{codes_of, definition_code};
 
-use crate::codes::{Codes, Def};
+use crate::codes::{Codes, Definition};
 use crate::expressions::{tree, tree_within};
 use kl_base::{Label, NoMemory};
 use kl_core::Term;
@@ -15,18 +15,18 @@ use kl_syntax::Decl;
 use std::alloc::Global;
 
 // What a definition stands for, over those before it.
-fn define(alloc: Global, def: &Decl, codes: &Codes) -> Result<Def, NoMemory>
-    ensures { IfOk result (λ d. with_code d.name (def_code d.function (term.view d.term)) (codes_of codes.now) ≡ codes_after (decl_of def.now.param def.now no_decls) (codes_of codes.now)) }
+fn define(alloc: Global, def: &Decl, codes: &Codes) -> Result<Definition, NoMemory>
+    ensures { IfOk result (λ d. with_code d.name (definition_code d.function (term.view d.term)) (codes_of codes.now) ≡ codes_after (decl_of def.now.param def.now no_decls) (codes_of codes.now)) }
 {
     let name = def.name.text.dup()?;
     let scope = Vec::new(alloc);
     match &def.param {
-        Some(param) => Ok(Def {
+        Some(param) => Ok(Definition {
             name,
             function: true,
             term: tree_within(alloc, &def.body, param, codes, &scope)?,
         }),
-        None => Ok(Def {
+        None => Ok(Definition {
             name,
             function: false,
             term: tree(alloc, &def.body, codes, &scope)?,
@@ -41,17 +41,17 @@ fn define_all<'a>(alloc: Global, defs: &[Decl], sources: &'a [Label]) -> Result<
 {
     let mut codes = Codes {
         sources,
-        defs: Vec::new(alloc),
+        definitions: Vec::new(alloc),
     };
     'defs: for def in defs {
-        let def = define(alloc, def, &codes)?;
-        codes.defs.insert(0, def)?;
+        let definition = define(alloc, def, &codes)?;
+        codes.definitions.insert(0, definition)?;
     }
     Ok(codes)
 }
 
-/// The term of a program: what it means, over the values of the program's sources by their numbers, the program means
-/// over these values. The term of a definition stands at each of its uses, so that the term of a short program can be
+/// The term of a program: over values of the program's sources, by their numbers, with which the program makes sense, the
+/// term means what the program means. The term of a definition stands at each of its uses, so that the term of a short program can be
 /// too large for any memory: whoever must not wait for that counts its nodes first.
 ///
 /// # Errors
