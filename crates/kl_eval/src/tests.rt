@@ -1,4 +1,4 @@
-ghost use Rattle.std.specs.Prelude.{◌≡◌, List, []};
+ghost use Rattle.std.specs.Prelude.{◌≡◌, List, [], IfOk};
 ghost use Rattle.kl_value.specs.declared.value.Value.{Value};
 ghost use Rattle.kl_core.specs.Trees.{view};
 ghost use Rattle.kl_ask.specs.World.{World, IsReady};
@@ -9,7 +9,7 @@ use kl_ask::{JoinHow, Seen, Session, Settings, Trace};
 use kl_base::Seq;
 use kl_core::Term;
 use kl_value::{Kind, Value};
-use std::alloc::Global;
+use std::alloc::{AllocError, Global};
 use std::test::Fail;
 
 // A session without sources.
@@ -37,11 +37,12 @@ fn four() -> Term
     Term::Const(Value::Int(4))
 }
 
-fn nothing(items: Vec<Term>) -> Term
-    requires { items.items ≡ [] }
-    ensures { (env : List Value) (w : World) → env ≡ [] → IsReady w → SenseList (view result) env w }
+fn list_of(alloc: Global, item: Term) -> Result<Term, AllocError>
+    requires { (env : List Value) (w : World) → env ≡ [] → IsReady w → Sense (view item) env w }
+    ensures { IfOk result (λ whole. (env : List Value) (w : World) → env ≡ [] → IsReady w → SenseList (view whole) env w) }
 {
-    Term::Make(Kind::List, Seq::of(items))
+    let items = vec![in alloc; item]?;
+    Ok(Term::Make(Kind::List, Seq::of(items)))
 }
 
 #[test]
@@ -56,10 +57,10 @@ fn a_term_has_a_value(rt: HostRuntime) {
 fn a_list_is_added(rt: HostRuntime) -> Result<(), Fail> {
     let mut env = Vec::new(rt.alloc());
     let mut into = vec![in rt.alloc(); Value::Int(1)]?;
-    let term = nothing(Vec::new(rt.alloc()));
+    let term = list_of(rt.alloc(), four())?;
     let mut session = session(rt.alloc());
     let result = eval_list(rt.alloc(), &term, &mut env, &mut session, &mut into);
     assert!(rt; result == Ok(()));
-    assert_eq!(rt; into.len(), 1);
+    assert_eq!(rt; into.len(), 2);
     Ok(())
 }
