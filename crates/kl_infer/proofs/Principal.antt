@@ -1,5 +1,5 @@
 -- The first declaration that has no type is one, and principal schemes are schemes.
-use Rattle.std.proofs.Common.{◌≡◌, inl, inr, ℕ, suc, List, ap, sym, subst, ◌∙◌}
+use Rattle.std.proofs.Common.{◌≡◌, inl, inr, ℕ, suc, List, [], ap, sym, subst, ◌∙◌}
 use Rattle.std.specs.Prelude.{All}
 use Rattle.std.proofs.lemmas.List.Elements.{All-nil, All-cons}
 use Rattle.kl_rows.specs.Schemes.{IsScheme}
