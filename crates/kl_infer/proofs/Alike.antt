@@ -1,5 +1,5 @@
 -- Names with the same types give the same derivations.
-use Rattle.std.proofs.Common.{◌≡◌, ◌↔◌, ℕ, Bool, true, false, IsTrue, List, [], ◌∷◌, Option, Some, None, refl, sym, ap, ◌∙◌, subst}
+use Rattle.std.proofs.Common.{◌≡◌, List, [], Option, Some, None, subst}
 use Rattle.kl_base.specs.Fields.{field}
 use Rattle.kl_type.specs.Ground.{Ground, Row, bool, var, coll as colls}
 use Rattle.kl_outcome.specs.Outcome.{Name}

@@ -1,14 +1,14 @@
 -- The forms of expressions as the code checks them.
-use Rattle.std.proofs.Common.{◌≡◌, ℕ, Bool, true, false, IsTrue, List, [], ◌∷◌, ◌++◌, length, map, drop, get_or, slice_index_or, zero, suc, ◌+◌, ◌<◌, ◌≤◌, arith, Option, Some, None, Result, Ok, Err, IfOk, refl, sym, ap, ◌∙◌, subst}
+use Rattle.std.proofs.Common.{◌≡◌, ℕ, Bool, true, false, IsTrue, List, [], ◌∷◌, ◌++◌, length, map, drop, get_or, slice_index_or, zero, suc, ◌+◌, ◌<◌, ◌≤◌, arith, Option, Some, None, Result, IfOk, refl, sym, ap, ◌∙◌, subst}
 use Rattle.std.specs.Option.{option_map}
 use Rattle.std.proofs.lemmas.List.{drop_all}
 use Rattle.std.specs.List.{AllByRecursion}
 use Rattle.kl_base.specs.declared.NoMemory.{NoMemory}
 use Rattle.kl_value.specs.declared.Kind.{Kind}
 use Rattle.kl_value.specs.declared.Value.{Value}
-use Rattle.kl_type.specs.Ground.{Ground, bool}
+use Rattle.kl_type.specs.Ground.{bool}
 use Rattle.kl_rows.specs.Lists.{Fields}
-use Rattle.kl_rows.specs.Solutions.{Assignment, Solves}
+use Rattle.kl_rows.specs.Solutions.{Assignment}
 use Rattle.kl_rows.proofs.Advancing.{Fact}
 use Rattle.kl_forms.specs.Forms.{ItemsOf, DrawnFrom, VariantOf, IsRecord, IsVariant, IsOfType, Applies, Operates}
 use Rattle.kl_outcome.specs.Outcome.{Name}
@@ -17,23 +17,22 @@ use Rattle.kl_syntax.specs.declared.tree.Expr.{Expr}
 use Rattle.kl_syntax.specs.declared.tree.Expr.TheVariants as expr
 use Rattle.kl_syntax.specs.declared.tree.Op.{Op}
 use Rattle.kl_syntax.specs.declared.tree.Pattern.{Pattern}
-use Rattle.kl_syntax.specs.declared.tree.Pattern.TheVariants as code
 use Rattle.kl_syntax.specs.declared.tree.Qual.{Qual}
 use Rattle.kl_syntax.specs.declared.tree.Qual.TheVariants as quals
 use Rattle.kl_syntax.specs.declared.tree.Word.{Word}
-use Rattle.kl_syntax.specs.Syntax.{Exp, Exps, Steps, Branches, no_branches, otherwise, Quals, no_quals, draw, test, call, fields, select}
-use Rattle.kl_syntax.specs.View.{view, qual_view, branch_view, branches_of, rest_of, exps_of, flds_of, exps_view, fields_view, field_view, quals_view, steps_view, pattern_view, patterns_view}
+use Rattle.kl_syntax.specs.Syntax.{Exp, Exps, Steps, Branches, no_branches, otherwise, Quals, no_quals, draw, test, select}
+use Rattle.kl_syntax.specs.View.{view, qual_view, branch_view, branches_of, rest_of, exps_of, exps_view, field_view, quals_view, steps_view, pattern_view}
 use Rattle.kl_meaning.specs.Typing.{Context, NameTypes, CallTypes, Takes, PathTypes, Types, AllTypes, EachType, QualTypes, StepTypes}
 use Rattle.kl_infer.specs.Asking.{cells, Follows, Leaves, Asks, Gets, GetsMany, Binds, Binding, context, onto}
-use Rattle.kl_infer.specs.Names.{Ready, sorts, ArmsTake, TakesAll, labelled}
+use Rattle.kl_infer.specs.Names.{Ready, sorts, ArmsTake, labelled}
 use Rattle.kl_infer.specs.declared.scope.Known.{Known}
 use Rattle.kl_infer.specs.declared.typing.Typing.{Typing}
 use Rattle.kl_rows.specs.Places.{IsFine, IsType, AreTypes}
-use Rattle.kl_infer.proofs.Leaving.{when, in_words, begins, binds, goes_on, said, two_steps, ready_on, ready_for, ready_in, ready_head, ready_tail, ready_both}
+use Rattle.kl_infer.proofs.Leaving.{when, begins, binds, goes_on, said, two_steps, ready_on, ready_for, ready_in, ready_head, ready_tail, ready_both}
 use Rattle.kl_infer.proofs.Loops.{at_item, at_number, ends, all_next, each_next, arms_next, steps_next, quals_next, binding_begins, bound_all, draw_split, draw_join, test_split, test_join, draw_form, test_form}
 use Rattle.kl_infer.proofs.PatternForms.{leaves_told, ready_out, bound_so_far}
 use Rattle.kl_infer.proofs.Forms.{T, second, con_form, inject_form, coll_form, comp_form, path_form, chain_form, invert_form, minus_form, choice_form, bind_form}
-use Rattle.kl_infer.proofs.Lists.{Arms, with_arms, LastTypes, IsLast, none_last, rest_last, is_rest, count, names_of, bodies, call_form, record_form, select_form}
+use Rattle.kl_infer.proofs.Lists.{with_arms, LastTypes, IsLast, none_last, rest_last, is_rest, names_of, bodies, call_form, record_form, select_form}
 use Rattle.kl_infer.proofs.Views.{arm, view_con, view_name, view_call, view_rec, view_inj, view_coll, view_comp, view_if, view_let, view_case, view_path, view_not, view_neg, view_chain, count_view, names_seen, bodies_seen, length_seen, arm_names, arm_length, arms_seen, branch_seen, view_gen, view_cond}
 
 module _ (k : Known) (ns : Fields) (w : ℕ) (e : Expr) where

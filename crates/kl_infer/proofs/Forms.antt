@@ -1,35 +1,29 @@
 -- What the forms of expressions ask, put together from what was asked of their parts.
-use Rattle.std.proofs.Common.{◌≡◌, ℕ, zero, suc, Bool, true, false, ◌||◌, IsTrue, List, [], ◌∷◌, length, map, Option, Some, None, IsSome, refl, sym, ap, ◌∙◌, subst}
+use Rattle.std.proofs.Common.{◌≡◌, ℕ, IsTrue, List, [], ◌∷◌, refl, sym, ap, ◌∙◌, subst}
 use Rattle.std.specs.List.{AllByRecursion}
-use Rattle.kl_base.specs.Fields.{field}
 use Rattle.kl_value.specs.declared.Kind.{Kind}
 use Rattle.kl_value.specs.declared.Value.{Value}
-use Rattle.kl_type.specs.Ground.{Ground, Row, bool, rec, var, coll as colls, arrow, at, IsGround, IsRow, ground_of}
+use Rattle.kl_type.specs.Ground.{Ground, bool, arrow, IsGround}
 use Rattle.kl_rows.specs.Lists.{Fields}
-use Rattle.kl_rows.specs.Places.{a_type, a_function, sort_at, IsFine, IsType, AreTypes, IsFunction}
+use Rattle.kl_rows.specs.Places.{a_function, IsType}
 use Rattle.kl_rows.specs.Solutions.{Assignment, Says, Solves}
-use Rattle.kl_rows.specs.Schemes.{Instance, IsScheme, cells_of, given}
-use Rattle.kl_rows.specs.declared.Scheme.{Scheme}
+use Rattle.kl_rows.specs.Schemes.{cells_of, given}
 use Rattle.kl_rows.specs.declared.cell.Cell.{Cell}
 use Rattle.kl_rows.specs.declared.cell.Cell.TheVariants.{OfType, OfFunction, OfRow, OfKind}
 use Rattle.kl_rows.specs.Places.{sort_of as cell_sort}
 use Rattle.kl_rows.proofs.CellLists.{stands}
 use Rattle.kl_rows.proofs.Advancing.{Fact}
-use Rattle.kl_outcome.specs.Outcome.{Name}
-use Rattle.kl_outcome.specs.Typed.{Inhabits, PrimTypes}
-use Rattle.kl_forms.specs.Forms.{ItemsOf, DrawnFrom, FieldOf, VariantOf, HasFields, IsWithin, IsRecord, IsVariant, IsOfType, Applies, Operates}
-use Rattle.kl_forms.proofs.Steps.{Stable}
-use Rattle.kl_syntax.specs.declared.tree.Op.{Op}
+use Rattle.kl_outcome.specs.Typed.{PrimTypes}
+use Rattle.kl_forms.specs.Forms.{ItemsOf, VariantOf, IsOfType, Applies}
 use Rattle.kl_syntax.specs.declared.tree.Word.{Word}
-use Rattle.kl_syntax.specs.Syntax.{Pat, Pats, no_pats, pats, Exp, con, name, call, fields, inject, coll, comp, choice, bind, select, path, invert, minus, chain, Exps, no_exps, exps, Flds, no_flds, flds, Quals, no_quals, draw, test, Branches, no_branches, otherwise, branch, Steps, no_steps, step}
-use Rattle.kl_meaning.specs.Match.{same_name}
-use Rattle.kl_meaning.specs.Typing.{Context, NameTypes, Takes, TakesFields, OpTypes, PathTypes, CallTypes, ValueTypes, Types, AllTypes, EachType, FieldTypes, QualTypes, BranchTypes, StepTypes, has_branch, has_field}
-use Rattle.kl_infer.specs.Asking.{cells, Follows, Leaves, Asks, Gets, GetsMany, Binds, context, onto}
-use Rattle.kl_infer.specs.Names.{Meant, no_sense, by_value, by_function, by_source, by_code, IsGood, Ready, meant, sort_of, sorts, ArmsTake, TakesAll, labelled}
+use Rattle.kl_syntax.specs.Syntax.{Pat, Exp, con, inject, coll, comp, choice, bind, path, invert, minus, chain, Exps, Quals, Steps}
+use Rattle.kl_meaning.specs.Typing.{Context, NameTypes, Takes, PathTypes, Types, AllTypes, EachType, QualTypes, StepTypes}
+use Rattle.kl_infer.specs.Asking.{cells, Follows, Leaves, Asks, Gets, Binds, context, onto}
+use Rattle.kl_infer.specs.Names.{Meant, no_sense, by_value, by_function, by_source, by_code, IsGood, Ready, meant, sort_of, sorts}
 use Rattle.kl_infer.specs.declared.scope.Known.{Known}
 use Rattle.kl_infer.specs.declared.typing.Typing.{Typing}
-use Rattle.kl_infer.proofs.Grounds.{is_type, at_ground, AreGround, IsGroundSort, types_ground, all_ground, op_ground, quals_ground}
-use Rattle.kl_infer.proofs.Leaving.{told, in_words, beside, opens, opens_many, binds, goes_on, ready_on, ready_for, ready_in, said}
+use Rattle.kl_infer.proofs.Grounds.{is_type, AreGround, IsGroundSort, types_ground, all_ground}
+use Rattle.kl_infer.proofs.Leaving.{told, in_words, beside, opens, binds, goes_on, ready_on, ready_for, said}
 
 -- ---- what is known is ground
 

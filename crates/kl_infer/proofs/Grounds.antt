@@ -1,10 +1,9 @@
 -- Derivations give ground types.
-use Rattle.std.proofs.Common.{◌≡◌, ℕ, Bool, true, false, IsTrue, List, [], ◌∷◌, cond, Option, Some, None, IsSome, refl, sym, ap, ◌∙◌, subst, rules}
+use Rattle.std.proofs.Common.{◌≡◌, ℕ, Bool, true, false, IsTrue, List, [], ◌∷◌, cond, Option, Some, None, IsSome, refl, sym, ap, subst, rules}
 use Rattle.std.specs.List.{AllByRecursion}
 use Rattle.std.specs.Cmp.Lexicographic.{pointwise}
 use Rattle.std.specs.Prelude.{nat_eq}
 use Rattle.kl_base.specs.Fields.{field}
-use Rattle.kl_value.specs.declared.Kind.{Kind}
 use Rattle.kl_type.specs.Ground.{Ground, Row, bool, int, str, rec, var, coll as colls, arrow, no_row, row, at, IsGround, IsRow}
 use Rattle.kl_type.proofs.RowLemmas.{same_label}
 use Rattle.kl_outcome.specs.Outcome.{Name}
@@ -15,9 +14,8 @@ use Rattle.kl_prim.specs.declared.rows.Shape.TheVariants as shape
 use Rattle.kl_syntax.specs.declared.tree.Op.{Op}
 use Rattle.kl_syntax.specs.declared.tree.Op.TheVariants as op
 use Rattle.kl_syntax.specs.declared.tree.Word.{Word}
-use Rattle.kl_syntax.specs.Syntax.{Pat, catch, any, same, is, shape as record_of, variant, Pats, no_pats, pats, Exp, con, name, call, fields, inject, coll, comp, choice, bind, select, path, invert, minus, chain, Exps, no_exps, exps, Flds, no_flds, flds, Quals, no_quals, draw, test, Branches, no_branches, otherwise, branch, Steps, no_steps, step}
-use Rattle.kl_meaning.specs.Run.{code_of}
-use Rattle.kl_meaning.specs.Typing.{IsFirstOrder, IsFirstOrderRow, IsType, Context, Sort, nothing, value_of, function_of, primitive, Known, ValueTypes, CallTypes, VariableOr, NameTypes, Takes, TakesFields, OpTypes, PathTypes, Types, AllTypes, EachType, FieldTypes, QualTypes, BranchTypes, StepTypes, has_branch}
+use Rattle.kl_syntax.specs.Syntax.{Pat, catch, any, same, is, shape as record_of, variant, Pats, no_pats, pats, Exp, con, name, call, fields, inject, coll, comp, choice, bind, select, path, invert, minus, chain, Exps, no_exps, exps, Quals, no_quals, draw, test, Branches, no_branches, otherwise, branch, Steps, no_steps, step}
+use Rattle.kl_meaning.specs.Typing.{IsFirstOrder, IsFirstOrderRow, IsType, Context, Sort, nothing, value_of, function_of, primitive, ValueTypes, CallTypes, VariableOr, NameTypes, Takes, TakesFields, OpTypes, PathTypes, Types, AllTypes, QualTypes, BranchTypes, StepTypes, has_branch}
 
 mutual
   pub first_order : (t : Ground) → IsGround t → IsFirstOrder t

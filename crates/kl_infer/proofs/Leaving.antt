@@ -1,5 +1,5 @@
 -- What is asked, one thing after another.
-use Rattle.std.proofs.Common.{◌≡◌, ℕ, suc, ◌+◌, ◌<◌, ◌≤◌, slice_index_or, Bool, true, false, IsTrue, List, [], ◌∷◌, length, map, Option, Some, None, cond, option_map, Result, Ok, Err, IfOk, MatchOption, refl, sym, ap, ◌∙◌, subst, arith}
+use Rattle.std.proofs.Common.{◌≡◌, ℕ, suc, ◌≤◌, slice_index_or, Bool, true, false, IsTrue, List, [], ◌∷◌, length, map, Option, Some, None, cond, option_map, Result, Ok, Err, IfOk, MatchOption, refl, sym, ap, ◌∙◌, subst, arith}
 use Rattle.std.specs.List.{AllByRecursion}
 use Rattle.kl_type.specs.Ground.{Ground, bool, arrow, IsGround}
 use Rattle.kl_rows.specs.declared.cell.Cell.{Cell}
@@ -17,7 +17,7 @@ use Rattle.kl_rows.specs.Schemes.{Instance}
 use Rattle.kl_rows.proofs.Growing.{grown_map, grown_type}
 use Rattle.kl_outcome.specs.Outcome.{Name}
 use Rattle.kl_rows.proofs.CellLists.{sort_within}
-use Rattle.kl_rows.proofs.Advancing.{Fact, agrees_refl, agrees_on, keeps_refl, keeps_on, types_keep, absurd_true}
+use Rattle.kl_rows.proofs.Advancing.{Fact, agrees_refl, agrees_on, keeps_refl, keeps_on, types_keep}
 use Rattle.kl_forms.specs.Checks.{Checks, Opens, Refuses, Finds, OpensMany}
 use Rattle.kl_forms.specs.Forms.{Calls, Applies}
 use Rattle.kl_forms.proofs.Steps.{Stable, merges, told as say}

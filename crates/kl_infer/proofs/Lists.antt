@@ -1,30 +1,25 @@
 -- What forms with many parts ask: calls, records, branches, and lists one part after another.
-use Rattle.std.proofs.Common.{◌≡◌, ℕ, suc, Bool, true, false, ◌||◌, IsTrue, List, [], ◌∷◌, ◌++◌, length, map, cond, Option, Some, None, IsSome, refl, sym, ap, ◌∙◌, subst, rules}
-use Rattle.std.specs.Prelude.{nat_eq, ⊤}
+use Rattle.std.proofs.Common.{◌≡◌, ℕ, suc, Bool, true, false, ◌||◌, IsTrue, List, [], ◌∷◌, length, map, cond, Option, Some, None, IsSome, refl, sym, ap, ◌∙◌, subst, rules}
+use Rattle.std.specs.Prelude.{⊤}
 use Rattle.std.specs.List.{AllByRecursion}
-use Rattle.std.specs.Cmp.Lexicographic.{pointwise}
 use Rattle.kl_base.specs.Fields.{field}
-use Rattle.kl_type.specs.Ground.{Ground, Row, bool, rec, var, at, IsGround, IsRow}
+use Rattle.kl_type.specs.Ground.{Ground, Row, rec, var, at, IsGround, IsRow}
 use Rattle.kl_rows.specs.Lists.{Fields}
-use Rattle.kl_rows.specs.Places.{IsType, AreTypes}
-use Rattle.kl_rows.specs.Solutions.{Assignment, Solves}
-use Rattle.kl_rows.proofs.Advancing.{Fact}
+use Rattle.kl_rows.specs.Solutions.{Assignment}
 use Rattle.kl_outcome.specs.Outcome.{Name}
-use Rattle.kl_forms.specs.Forms.{FieldOf, IsWithin, HasFields, IsRecord, IsVariant, Operates}
-use Rattle.kl_forms.proofs.Steps.{Stable}
-use Rattle.kl_syntax.specs.declared.tree.Op.{Op}
+use Rattle.kl_forms.specs.Forms.{IsWithin, IsRecord, IsVariant}
 use Rattle.kl_syntax.specs.declared.tree.Word.{Word}
-use Rattle.kl_syntax.specs.Syntax.{Pat, Pats, no_pats, pats, Exp, call, fields, select, Exps, no_exps, exps, Flds, no_flds, flds, Branches, no_branches, otherwise, branch, Steps, no_steps, step}
-use Rattle.kl_syntax.specs.View.{exps_of, flds_of, pats_of}
-use Rattle.kl_meaning.specs.Match.{same_name, has_label}
-use Rattle.kl_meaning.specs.Typing.{Sort, Context, NameTypes, IsWhole, Takes, TakesFields, OpTypes, PathTypes, CallTypes, Types, AllTypes, EachType, FieldTypes, BranchTypes, StepTypes, has_branch, has_field}
-use Rattle.kl_infer.specs.Asking.{cells, Follows, Leaves, Asks, Gets, GetsMany, Binds, context, onto}
-use Rattle.kl_infer.specs.Names.{Ready, meant, sorts, ArmsTake, TakesAll, labelled}
+use Rattle.kl_syntax.specs.Syntax.{Pat, Exp, call, fields, select, Exps, no_exps, exps, Branches, no_branches, otherwise, branch}
+use Rattle.kl_syntax.specs.View.{exps_of, flds_of}
+use Rattle.kl_meaning.specs.Match.{same_name}
+use Rattle.kl_meaning.specs.Typing.{Sort, Context, CallTypes, Types, AllTypes, FieldTypes, BranchTypes, has_branch, has_field}
+use Rattle.kl_infer.specs.Asking.{Asks, Gets, GetsMany, context}
+use Rattle.kl_infer.specs.Names.{Ready, sorts, ArmsTake, labelled}
 use Rattle.kl_infer.specs.declared.scope.Known.{Known}
 use Rattle.kl_infer.specs.declared.typing.Typing.{Typing}
-use Rattle.kl_infer.proofs.Grounds.{is_type, at_ground, op_ground, path_ground}
-use Rattle.kl_infer.proofs.Leaving.{told, in_words, beside, opens, opens_many, binds, goes_on, ready_on, ready_for, said}
-use Rattle.kl_infer.proofs.Forms.{T, steps, first, second, ground_of_type, ground_of_all, ready_after, context_ground}
+use Rattle.kl_infer.proofs.Grounds.{is_type, at_ground}
+use Rattle.kl_infer.proofs.Leaving.{in_words, beside, opens, opens_many, goes_on, ready_on, ready_for, said}
+use Rattle.kl_infer.proofs.Forms.{T, steps, first, second, ground_of_type, ground_of_all, ready_after}
 
 -- ---- labels with types
 

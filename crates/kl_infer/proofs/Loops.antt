@@ -1,30 +1,28 @@
 -- One part of a list after another.
-use Rattle.std.proofs.Common.{◌≡◌, ℕ, suc, ◌+◌, ◌<◌, ◌≤◌, Bool, true, false, IsTrue, List, [], ◌∷◌, ◌++◌, length, map, drop, get_or, slice_index_or, Option, Some, None, refl, sym, ap, ◌∙◌, subst, arith, add-one}
+use Rattle.std.proofs.Common.{◌≡◌, ℕ, suc, ◌+◌, ◌<◌, ◌≤◌, IsTrue, List, [], ◌∷◌, ◌++◌, length, map, drop, get_or, slice_index_or, refl, sym, ap, ◌∙◌, subst, add-one}
 use Rattle.std.proofs.Math.Seq.{drop-cons}
 use Rattle.std.proofs.lemmas.List.{drop_all}
-use Rattle.std.specs.List.{AllByRecursion}
 use Rattle.kl_value.specs.declared.Kind.{Kind}
-use Rattle.kl_type.specs.Ground.{Ground, Row, bool, rec, var, coll as colls, at, IsGround, IsRow}
+use Rattle.kl_type.specs.Ground.{Ground, bool, coll as colls, IsGround}
 use Rattle.kl_rows.specs.Lists.{Fields}
-use Rattle.kl_rows.specs.Places.{a_type, IsFine, IsType, AreTypes}
+use Rattle.kl_rows.specs.Places.{a_type, IsFine, IsType}
 use Rattle.kl_rows.proofs.CellLists.{sort_within}
 use Rattle.kl_rows.specs.Solutions.{Assignment, Solves}
 use Rattle.kl_rows.proofs.Advancing.{Fact, types_keep}
 use Rattle.kl_forms.specs.Forms.{DrawnFrom, FieldOf, Operates}
-use Rattle.kl_forms.proofs.Steps.{Stable}
 use Rattle.kl_outcome.specs.Outcome.{Name}
 use Rattle.kl_syntax.specs.declared.tree.Op.{Op}
 use Rattle.kl_syntax.specs.declared.tree.Word.{Word}
-use Rattle.kl_syntax.specs.Syntax.{Pat, Pats, no_pats, pats, Exp, Exps, no_exps, exps, Quals, no_quals, draw, test, Branches, no_branches, otherwise, branch, Steps, no_steps, step}
+use Rattle.kl_syntax.specs.Syntax.{Pat, Pats, pats, Exp, Exps, exps, Quals, no_quals, draw, test, Branches, no_branches, branch, Steps, step}
 use Rattle.kl_meaning.specs.Typing.{Sort, Context, NameTypes, Takes, OpTypes, PathTypes, Types, AllTypes, EachType, QualTypes, StepTypes}
-use Rattle.kl_infer.specs.Asking.{cells, Follows, Leaves, Asks, Gets, Binds, Binding, context, onto}
+use Rattle.kl_infer.specs.Asking.{cells, Leaves, Asks, Gets, Binds, Binding, context, onto}
 use Rattle.kl_infer.specs.Names.{Ready, sorts, ArmsTake, TakesAll}
 use Rattle.kl_infer.specs.declared.scope.Known.{Known}
 use Rattle.kl_infer.specs.declared.typing.Typing.{Typing}
 use Rattle.kl_infer.proofs.Grounds.{at_ground, op_ground}
-use Rattle.kl_infer.proofs.Leaving.{told, in_words, beside, opens, binds, goes_on, ready_on, ready_for, ready_in, said, follows_refl, follows_on, begins, same_context}
+use Rattle.kl_infer.proofs.Leaving.{told, beside, opens, binds, goes_on, ready_on, ready_for, said, follows_refl, follows_on, begins, same_context}
 use Rattle.kl_infer.proofs.Forms.{T, first, second, third, ground_of_type, ready_after}
-use Rattle.kl_infer.proofs.PatternForms.{Outside, leaves_told, binds_at, binds_by, onto_append, types_append, ready_out, bound_so_far}
+use Rattle.kl_infer.proofs.PatternForms.{Outside, leaves_told, binds_at, binds_by, onto_append, types_append}
 
 -- an item of a list, and those behind it
 pub at_item : {A : Type 0} (xs : List A) (i : ℕ) (x : A) → i < length xs → x ≡ get_or xs i x → drop i xs ≡ x ∷ drop (i + 1) xs

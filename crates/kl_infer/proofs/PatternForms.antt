@@ -1,30 +1,27 @@
 -- What patterns and qualifiers ask, and the variables that they bind.
-use Rattle.std.proofs.Common.{◌≡◌, ℕ, suc, Bool, true, false, ◌||◌, IsTrue, List, [], ◌∷◌, ◌++◌, length, map, Option, Some, None, IsSome, refl, sym, ap, ◌∙◌, subst}
-use Rattle.std.specs.List.{AllByRecursion}
-use Rattle.kl_value.specs.declared.Kind.{Kind}
+use Rattle.std.proofs.Common.{◌≡◌, ℕ, Bool, true, false, ◌||◌, IsTrue, List, [], ◌∷◌, ◌++◌, length, map, refl, sym, ap, ◌∙◌, subst}
 use Rattle.kl_value.specs.declared.Value.{Value}
-use Rattle.kl_type.specs.Ground.{Ground, Row, bool, rec, var, coll as colls, at, IsGround, IsRow}
+use Rattle.kl_type.specs.Ground.{Ground, Row, IsGround}
 use Rattle.kl_rows.specs.declared.cell.Cell.{Cell}
 use Rattle.kl_rows.specs.Lists.{Fields}
-use Rattle.kl_rows.specs.Places.{IsFine, IsType, AreTypes}
+use Rattle.kl_rows.specs.Places.{IsType, AreTypes}
 use Rattle.kl_rows.specs.Solutions.{Assignment, Solves}
 use Rattle.kl_rows.proofs.Advancing.{Fact, agrees_refl, types_keep}
 use Rattle.kl_outcome.specs.Outcome.{Name}
-use Rattle.kl_outcome.specs.Typed.{Inhabits}
-use Rattle.kl_forms.specs.Forms.{DrawnFrom, VariantOf, IsRecord, IsOfType}
+use Rattle.kl_forms.specs.Forms.{VariantOf, IsRecord, IsOfType}
 use Rattle.kl_forms.proofs.Steps.{Stable}
 use Rattle.kl_syntax.specs.declared.tree.Word.{Word}
-use Rattle.kl_syntax.specs.Syntax.{Pat, catch, any, same, is, shape, variant, Pats, no_pats, pats, Exp, Quals, no_quals, draw, test}
+use Rattle.kl_syntax.specs.Syntax.{Pat, catch, any, same, is, shape, variant}
 use Rattle.kl_syntax.specs.View.{pats_of}
 use Rattle.kl_meaning.specs.Match.{same_name, has_label}
-use Rattle.kl_meaning.specs.Typing.{Sort, Context, NameTypes, IsWhole, Takes, TakesFields, Types, QualTypes}
-use Rattle.kl_infer.specs.Asking.{cells, Follows, Leaves, Asks, Gets, GetsMany, Binds, Binding, context, onto}
-use Rattle.kl_infer.specs.Names.{Ready, meant, sorts, TakesAll, labelled}
+use Rattle.kl_meaning.specs.Typing.{Context, NameTypes, IsWhole, Takes, TakesFields}
+use Rattle.kl_infer.specs.Asking.{cells, Leaves, Asks, Gets, GetsMany, Binds, context, onto}
+use Rattle.kl_infer.specs.Names.{Ready, sorts, TakesAll, labelled}
 use Rattle.kl_infer.specs.declared.scope.Known.{Known}
 use Rattle.kl_infer.specs.declared.typing.Typing.{Typing}
 use Rattle.kl_infer.proofs.Grounds.{at_ground}
-use Rattle.kl_infer.proofs.Leaving.{told, in_words, beside, opens, opens_many, binds, goes_on, ready_on, ready_for, said, follows_refl, follows_on, begins, same_context}
-use Rattle.kl_infer.proofs.Forms.{T, steps, first, second, ground_of_type, ready_after}
+use Rattle.kl_infer.proofs.Leaving.{told, beside, opens, opens_many, goes_on, ready_on, ready_for, said, follows_refl, begins, same_context}
+use Rattle.kl_infer.proofs.Forms.{first}
 use Rattle.kl_infer.proofs.Lists.{AtEach, Within, RecordAt, each_ground, each_length, has_name, names_of, length_names, record_at}
 
 -- ---- variables more

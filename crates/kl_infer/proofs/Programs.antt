@@ -1,5 +1,5 @@
 -- One declaration after another.
-use Rattle.std.proofs.Common.{◌≡◌, ◌⊎◌, inl, inr, ◌↔◌, ℕ, zero, suc, ◌+◌, ◌<◌, ◌≤◌, Bool, true, false, IsTrue, List, [], ◌∷◌, ◌++◌, cond, length, map, take, drop, get_or, Option, Some, None, MatchOption, option_map, refl, sym, ap, ◌∙◌, subst, arith}
+use Rattle.std.proofs.Common.{◌≡◌, inl, inr, ℕ, suc, ◌+◌, ◌<◌, ◌≤◌, Bool, true, false, List, [], ◌∷◌, ◌++◌, cond, length, take, drop, get_or, Option, Some, None, MatchOption, option_map, refl, sym, ap, ◌∙◌, subst, arith}
 use Rattle.std.specs.Prelude.{nat_eq, All}
 use Rattle.std.proofs.lemmas.List.Elements.{All-head, All-tail}
 use Rattle.std.proofs.lemmas.List.{take-append-drop, length-take, take_more, take_all}
@@ -9,11 +9,10 @@ use Rattle.kl_type.specs.Ground.{Ground, arrow, ground_of, IsProper}
 use Rattle.kl_type.specs.declared.Ty.{Ty}
 use Rattle.kl_rows.specs.declared.Scheme.{Scheme}
 use Rattle.kl_rows.specs.Places.{Sort as CellSort, a_type, a_function}
-use Rattle.kl_rows.specs.Schemes.{Instance}
 use Rattle.kl_outcome.specs.Outcome.{Name}
 use Rattle.kl_syntax.specs.declared.tree.Decl.{Decl}
 use Rattle.kl_syntax.specs.declared.tree.Pattern.{Pattern}
-use Rattle.kl_syntax.specs.Syntax.{Pat, Exp, Decls, no_decls, constant, function}
+use Rattle.kl_syntax.specs.Syntax.{Exp, Decls, no_decls}
 use Rattle.kl_syntax.specs.View.{view, pattern_view, decls_of, decl_of}
 use Rattle.kl_meaning.specs.Match.{same_name}
 use Rattle.kl_meaning.specs.Run.{code_named}
@@ -26,8 +25,8 @@ use Rattle.kl_infer.specs.declared.inference.InferError.{InferError}
 use Rattle.kl_infer.specs.declared.inference.InferError.TheVariants.{IllTyped, NoMemory}
 use Rattle.kl_infer.specs.declared.scope.Known.{Known}
 use Rattle.kl_infer.proofs.Loops.{at_item}
-use Rattle.kl_infer.specs.Names.{Meant, meant, sorts, no_sense, by_value, by_function, by_source, by_code, meant_over, meant_first, by_maybe_code, by_maybe_source, defined, sort_of, IsGood}
-use Rattle.kl_infer.proofs.Alike.{AreAlike, IsWithin, types_within, function_within}
+use Rattle.kl_infer.specs.Names.{Meant, meant, sorts, by_value, by_function, by_source, meant_over, meant_first, by_maybe_code, by_maybe_source, defined, sort_of, IsGood}
+use Rattle.kl_infer.proofs.Alike.{AreAlike, types_within, function_within}
 
 -- ---- the definitions so far
 

@@ -1,11 +1,11 @@
 -- Patterns as the code takes them.
-use Rattle.std.proofs.Common.{◌≡◌, ℕ, zero, suc, ◌+◌, ◌<◌, ◌≤◌, Bool, true, false, IsTrue, List, [], ◌∷◌, ◌++◌, length, map, drop, get_or, slice_index_or, Option, Some, None, Result, Ok, Err, IfOk, refl, sym, ap, ◌∙◌, subst, arith}
+use Rattle.std.proofs.Common.{◌≡◌, ℕ, ◌+◌, ◌<◌, ◌≤◌, Bool, IsTrue, List, [], ◌∷◌, ◌++◌, length, map, drop, get_or, slice_index_or, Result, IfOk, sym, ap, ◌∙◌, subst, arith}
 use Rattle.std.proofs.lemmas.List.{drop_all}
 use Rattle.kl_base.specs.declared.NoMemory.{NoMemory}
 use Rattle.kl_value.specs.declared.Value.{Value}
 use Rattle.kl_rows.specs.Lists.{Fields}
-use Rattle.kl_rows.specs.Places.{IsFine, IsType, AreTypes}
-use Rattle.kl_rows.specs.Solutions.{Assignment, Solves}
+use Rattle.kl_rows.specs.Places.{IsFine}
+use Rattle.kl_rows.specs.Solutions.{Assignment}
 use Rattle.kl_forms.specs.Forms.{VariantOf, IsRecord, IsOfType}
 use Rattle.kl_outcome.specs.Outcome.{Name}
 use Rattle.kl_syntax.specs.declared.tree.Pattern.{Pattern}
@@ -14,14 +14,14 @@ use Rattle.kl_syntax.specs.declared.tree.Word.{Word}
 use Rattle.kl_syntax.specs.Syntax.{Pat, catch}
 use Rattle.kl_syntax.specs.View.{pattern_view, patterns_view, pattern_pair}
 use Rattle.kl_meaning.specs.Typing.{Context, NameTypes, Takes}
-use Rattle.kl_infer.specs.Asking.{cells, Follows, Leaves, Asks, Gets, GetsMany, Binds, Binding, context, onto}
+use Rattle.kl_infer.specs.Asking.{cells, Asks, Gets, GetsMany, Binds, Binding, context, onto}
 use Rattle.kl_infer.specs.Names.{Ready, sorts, TakesAll, labelled}
 use Rattle.kl_infer.specs.declared.scope.Known.{Known}
 use Rattle.kl_infer.specs.declared.typing.Typing.{Typing}
-use Rattle.kl_infer.proofs.Leaving.{when, ready_on, ready_in, ready_for}
+use Rattle.kl_infer.proofs.Leaving.{when, ready_in, ready_for}
 use Rattle.kl_infer.proofs.Lists.{names_of}
 use Rattle.kl_infer.proofs.Loops.{at_item, at_number, takes_next, bound_all, binding_begins}
-use Rattle.kl_infer.proofs.PatternForms.{Outside, any_pattern, same_pattern, is_pattern, catch_pattern, variant_pattern, record_pattern, ready_out, bound_so_far}
+use Rattle.kl_infer.proofs.PatternForms.{any_pattern, same_pattern, is_pattern, catch_pattern, variant_pattern, record_pattern, ready_out, bound_so_far}
 use Rattle.kl_infer.proofs.Answering.{next_ready}
 use Rattle.kl_infer.proofs.Views.{view_catch, view_any, view_same, view_is, view_shape, view_variant, pattern_names, pattern_length}
 

@@ -1,5 +1,5 @@
 -- Expressions and patterns of the code, and their trees.
-use Rattle.std.proofs.Common.{◌≡◌, ℕ, suc, Bool, List, [], ◌∷◌, length, map, Option, Some, None, refl, sym, ap, ◌∙◌, rules}
+use Rattle.std.proofs.Common.{◌≡◌, ℕ, suc, Bool, List, [], ◌∷◌, length, map, Option, refl, sym, ap, ◌∙◌, rules}
 use Rattle.std.specs.Option.{option_map}
 use Rattle.kl_outcome.specs.Outcome.{Name}
 use Rattle.kl_value.specs.declared.value.Kind.{Kind}
@@ -14,8 +14,8 @@ use Rattle.kl_syntax.specs.declared.tree.Qual.{Qual, the_lemmas as qual_lemmas}
 use Rattle.kl_syntax.specs.declared.tree.Qual.TheVariants as quals
 use Rattle.kl_syntax.specs.declared.tree.Word.{Word}
 use Rattle.kl_syntax.specs.Syntax.{Pat, catch, any, same, is, shape, variant, Exp, exps, con, name, call, fields, inject, coll, comp, choice, bind, select, path, invert, minus, chain, Quals, draw, test, Branches, branch}
-use Rattle.kl_syntax.specs.View.{view, qual_view, branch_view, branches_view, branches_of, rest_of, exps_of, flds_of, pats_of, exps_view, fields_view, field_view, quals_view, steps_view, pattern_view, patterns_view, pattern_pair}
-use Rattle.kl_infer.proofs.Lists.{Arms, with_arms, count, names_of, bodies}
+use Rattle.kl_syntax.specs.View.{view, qual_view, branch_view, branches_view, branches_of, rest_of, exps_of, exps_view, fields_view, field_view, quals_view, steps_view, pattern_view, patterns_view, pattern_pair}
+use Rattle.kl_infer.proofs.Lists.{with_arms, count, names_of, bodies}
 
 pub view_con : (e : Expr) (v : Value) → e ≡ expr.Const v → view e ≡ con v
 view_con e v h = ap view h ∙ search (rules, the_lemmas)

@@ -1,5 +1,5 @@
 -- What is asked of numbers, one thing after another.
-use Rattle.std.specs.Prelude.{◌≡◌, ℕ, Bool, IsTrue, List, [], ◌∷◌, ◌++◌, length, map, Option, Some, None}
+use Rattle.std.specs.Prelude.{◌≡◌, ℕ, IsTrue, List, [], ◌∷◌, length, map, Option, Some, None}
 use Rattle.std.specs.List.{AllByRecursion}
 use Rattle.kl_type.specs.Ground.{Ground, arrow, IsGround}
 use Rattle.kl_rows.specs.declared.cell.Cell.{Cell}
@@ -9,7 +9,6 @@ use Rattle.kl_rows.specs.Schemes.{IsScheme, Instance, cells_of, given}
 use Rattle.kl_rows.specs.declared.Scheme.{Scheme}
 use Rattle.kl_rows.specs.Solutions.{Assignment, Solves}
 use Rattle.kl_rows.specs.Steps.{Grown, Keeps}
-use Rattle.kl_outcome.specs.Outcome.{Name}
 use Rattle.kl_meaning.specs.Typing.{Context}
 use Rattle.kl_infer.specs.declared.typing.Typing.{Typing}
 

@@ -1,11 +1,11 @@
 -- What names stand for.
-use Rattle.std.specs.Prelude.{◌≡◌, ℕ, Bool, true, false, IsTrue, List, [], ◌∷◌, cond, map, Option, Some, None, ⊤}
+use Rattle.std.specs.Prelude.{◌≡◌, ℕ, IsTrue, List, [], ◌∷◌, cond, Option, Some, None, ⊤}
 use Rattle.std.specs.List.{AllByRecursion}
 use Rattle.kl_base.specs.Fields.{field}
 use Rattle.kl_type.specs.Ground.{Ground, IsProper, arrow, ground_of}
 use Rattle.kl_type.specs.declared.Ty.{Ty}
 use Rattle.kl_rows.specs.Lists.{Fields}
-use Rattle.kl_rows.specs.Places.{Sort as CellSort, a_type, a_function, sort_at, IsFine, IsType, AreTypes}
+use Rattle.kl_rows.specs.Places.{a_type, a_function, sort_at, IsFine, IsType, AreTypes}
 use Rattle.kl_rows.specs.Schemes.{IsScheme, Instance, cells_of}
 use Rattle.kl_rows.specs.declared.Scheme.{Scheme}
 use Rattle.kl_outcome.specs.Outcome.{Name}
@@ -13,7 +13,7 @@ use Rattle.kl_syntax.specs.declared.tree.Decl.{Decl}
 use Rattle.kl_syntax.specs.declared.tree.Pattern.{Pattern}
 use Rattle.kl_meaning.specs.Match.{same_name}
 use Rattle.kl_meaning.specs.Run.{code_named}
-use Rattle.kl_syntax.specs.Syntax.{Pats, no_pats, pats, Branches, no_branches, otherwise, branch}
+use Rattle.kl_syntax.specs.Syntax.{Pats, no_pats, pats, Branches, no_branches, branch}
 use Rattle.kl_meaning.specs.Typing.{Sort, nothing, value_of, function_of, primitive, Context, NameTypes, Takes, Types}
 use Rattle.kl_infer.specs.Asking.{cells, onto}
 use Rattle.kl_infer.specs.declared.typing.Typing.{Typing}

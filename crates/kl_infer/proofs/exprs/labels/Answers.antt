@@ -1,4 +1,3 @@
-use Rattle.std.proofs.Common.{arith}
 use Rattle.kl_syntax.specs.declared.tree.Branch.{out-Branch}
 use Rattle.kl_infer.proofs.Naming.{labels_start, labels_more, labels_done}
 use Rattle.kl_infer.proofs.exprs.labels.Goals as goal

@@ -1,4 +1,4 @@
-use Rattle.kl_infer.proofs.Leaving.{when, ready_on, ready_new}
+use Rattle.kl_infer.proofs.Leaving.{when, ready_new}
 use Rattle.kl_infer.proofs.Concluding.{constant_answer, ready_first, typed_there}
 use Rattle.kl_infer.proofs.inference.constant.Goals as goal
 

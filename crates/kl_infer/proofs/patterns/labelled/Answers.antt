@@ -1,4 +1,3 @@
-use Rattle.std.proofs.Common.{arith}
 use Rattle.kl_infer.proofs.Naming.{labels_start, labels_more, labels_done}
 use Rattle.kl_infer.proofs.patterns.labelled.Goals as goal
 

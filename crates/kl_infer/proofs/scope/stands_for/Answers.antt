@@ -1,4 +1,4 @@
-use Rattle.std.proofs.Common.{arith, inl, inr, ⊎_elim, ◌≤◌, ◌⊎◌, length}
+use Rattle.std.proofs.Common.{arith}
 use Rattle.kl_infer.proofs.Naming.{meant_step, meant_end, least_of}
 use Rattle.kl_infer.proofs.scope.stands_for.Goals as goal
 

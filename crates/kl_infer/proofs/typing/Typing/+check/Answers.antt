@@ -1,4 +1,4 @@
-use Rattle.std.proofs.Common.{rules, arith, refl, sym, ap, ◌∙◌, [], ◌∷◌, subst}
+use Rattle.std.proofs.Common.{rules, arith, ap, ◌∙◌, []}
 use Rattle.std.specs.Prelude.{is_some}
 use Rattle.kl_syntax.specs.declared.tree.Expr.{the_lemmas}
 use Rattle.kl_syntax.specs.declared.tree.Qual.{the_lemmas as qual_lemmas}

@@ -1,4 +1,4 @@
-use Rattle.std.proofs.Common.{◌≡◌, IsTrue, drop, map}
+use Rattle.std.proofs.Common.{IsTrue, drop, map}
 use Rattle.kl_rows.specs.Places.{IsType}
 use Rattle.kl_syntax.specs.Syntax.{no_branches}
 use Rattle.kl_syntax.specs.View.{view, branch_view, exps_of, exps_view, quals_view, branches_of, steps_view}

@@ -1,7 +1,7 @@
-use Rattle.std.proofs.Common.{rules, arith, refl, sym, ap, ◌∙◌, [], ◌∷◌, subst}
+use Rattle.std.proofs.Common.{rules, arith}
 use Rattle.kl_syntax.specs.declared.tree.Pattern.{the_lemmas}
 use Rattle.kl_infer.specs.Names.{names}
-use Rattle.kl_infer.proofs.Leaving.{when, ready_at, ready_on, ready_new, ready_many, labelled_there}
+use Rattle.kl_infer.proofs.Leaving.{ready_at, ready_on, ready_new, ready_many, labelled_there}
 use Rattle.kl_infer.proofs.PatternForms.{ready_out}
 use Rattle.kl_infer.proofs.Answering.{size_at}
 use Rattle.kl_infer.proofs.Taking.{catch_ok, any_ok, same_ok, is_ok, variant_ok, shape_ok, wants_one, takes_starts, takes_more, takes_done}

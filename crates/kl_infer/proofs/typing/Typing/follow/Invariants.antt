@@ -1,4 +1,4 @@
-use Rattle.std.proofs.Common.{◌≡◌, IsTrue, drop}
+use Rattle.std.proofs.Common.{IsTrue, drop}
 use Rattle.kl_rows.specs.Places.{IsType}
 use Rattle.kl_meaning.specs.Typing.{PathTypes}
 use Rattle.kl_infer.specs.Asking.{Leaves}

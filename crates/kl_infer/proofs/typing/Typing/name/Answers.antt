@@ -1,4 +1,4 @@
-use Rattle.std.proofs.Common.{sym, ap, ◌∙◌, Some, None}
+use Rattle.std.proofs.Common.{sym, ◌∙◌}
 use Rattle.kl_infer.specs.Names.{names}
 use Rattle.kl_infer.proofs.Leaving.{when, name_there, name_in, name_out}
 use Rattle.kl_infer.proofs.typing.Typing.name.Goals as goal
