@@ -9,7 +9,7 @@ use Rattle.kl_syntax.specs.declared.tree.Op.TheVariants as op
 use Rattle.kl_syntax.specs.declared.tree.Word.{Word}
 use Rattle.kl_syntax.specs.Syntax.{Pat, catch, any, same, is, shape, variant, Pats, no_pats, pats, Exp, con, name, call, fields, inject, coll, comp, choice, bind, select, path, invert, minus, chain, Exps, no_exps, exps, Flds, no_flds, flds, Quals, no_quals, draw, test, Branches, no_branches, otherwise, branch, Steps, no_steps, step, Decls, no_decls, constant, function}
 use Rattle.kl_meaning.specs.Match.{same_name}
-use Rattle.kl_meaning.specs.Run.{code_named, in_order}
+use Rattle.kl_meaning.specs.Run.{code_named}
 use Rattle.kl_meaning.proofs.Fields.{in_order_all}
 use Rattle.kl_core.specs.Positions.{occurs_in, occurs_trees, occurs_parts, occurs_arms}
 use Rattle.kl_core.specs.Trees as term
@@ -102,8 +102,8 @@ module _ (codes : Codes) (closed : CodesBelow codes) where
       matched_below : (p : Pat) (t : Place) (R : Scope) (A : Scope → Tree) → length S ≤ length R → PlaceIn t (length R) → ((Q : Scope) → length R ≤ length Q → Below (length Q) (A Q)) → Below (length R) (matched p t codes S e A R)
       matched_below (catch x) t R A le at h = λ m g. neither _ _ (place_below t (length R) at m g) (h (Some x.text ∷ R) (omega arith) (m + 1) (under (length R) m g))
       matched_below any t R A le at h = h R (omega arith)
-      matched_below (same x) t R A le at h = tested_below _ _ (A R) e (length R) (place_below t (length R) at) (name_below codes S x.text (length R) closed le) (h R (omega arith)) missed
-      matched_below (is v n) t R A le at h = tested_below _ _ (A R) e (length R) (place_below t (length R) at) (λ m g. refl) (h R (omega arith)) missed
+      matched_below (same x) t R A le at h = tested_below (place_tree t (length R)) (name_tree codes S x.text (length R)) (A R) e (length R) (place_below t (length R) at) (name_below codes S x.text (length R) closed le) (h R (omega arith)) missed
+      matched_below (is v n) t R A le at h = tested_below (place_tree t (length R)) (term.con v) (A R) e (length R) (place_below t (length R) at) (λ m g. refl) (h R (omega arith)) missed
       matched_below (shape ps dots) t R A le at h = pats_below ps t R A le at h
       matched_below (variant l p) t R A le at h =
           let inner : Below (suc (length R)) (matched p (here (length R)) codes S e A (None ∷ R)) = matched_below p (here (length R)) (None ∷ R) A (omega (arith, le)) (omega arith) (λ Q g. h Q (omega (arith, g))) in
@@ -219,4 +219,4 @@ after_below (function d p e ds) codes h =
     after_below ds _ (λ x. with_below (same_name x d.text) (function_by (function_tree p e codes)) (codes x) (here_below codes h p [] no_sense (λ R. tree e codes R) (λ m g. refl) (λ Q. tree_below codes h e Q)) (h x))
 
 pub closed_by : (ds : Decls) (e : Exp) (sources : List Name) (t : Tree) → t ≡ term_of ds e sources → (n : ℕ) → occurs_in n t ≡ false
-closed_by ds e sources t is n = rw is (tree_below _ (after_below ds _ (λ x. first_below (number_of x sources 0) (code_named x))) e [] n (omega arith))
+closed_by ds e sources t told n = rw told (tree_below _ (after_below ds _ (λ x. first_below (number_of x sources 0) (code_named x))) e [] n (omega arith))

@@ -1,5 +1,5 @@
 -- A row whose labels rise, and a record of fields of its types.
-use Rattle.std.proofs.Common.{◌≡◌, ⊎_elim, List, [], ◌∷◌, refl, sym, subst, ◌∙◌, Less}
+use Rattle.std.proofs.Common.{◌≡◌, ⊎_elim, List, refl, sym, subst, ◌∙◌, Less}
 use Rattle.std.specs.List.{AllByRecursion}
 use Rattle.std.specs.List.Sorted.{IsStrictlySortedBy}
 use Rattle.kl_base.specs.Fields.{bytes_cmp, LabelsRise}

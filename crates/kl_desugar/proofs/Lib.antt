@@ -1,4 +1,6 @@
 pub mod Arms
+pub mod Closing
+pub mod Counting
 pub mod Drawing
 pub mod Fielding
 pub mod Fitting

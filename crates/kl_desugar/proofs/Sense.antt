@@ -1,6 +1,6 @@
 -- The term of a tidy program has the types that the program has.
-use Rattle.std.proofs.Common.{◌≡◌, ◌≢◌, inl, inr, ℕ, ◌+◌, Bool, true, false, ◌||◌, List, [], ◌∷◌, ◌++◌, cond, map, Option, Some, None, IsTrue, refl, sym, ap, subst, ◌∙◌, arith}
-use Rattle.std.specs.Cmp.Lexicographic.{same_text, other_text}
+use Rattle.std.proofs.Common.{◌≡◌, inl, inr, ℕ, ◌+◌, Bool, true, false, ◌||◌, List, [], ◌∷◌, ◌++◌, cond, map, Option, Some, None, IsTrue, refl, sym, ap, subst, ◌∙◌, arith}
+use Rattle.std.specs.Cmp.Lexicographic.{same_text}
 use Rattle.std.specs.List.{AllByRecursion}
 use Rattle.kl_value.specs.declared.Kind.{Kind}
 use Rattle.kl_value.specs.declared.Value.TheVariants as value
@@ -13,14 +13,14 @@ use Rattle.kl_syntax.specs.Syntax.{Exp, con, name, call, fields, inject, coll, c
 use Rattle.kl_meaning.specs.Match.{same_name}
 use Rattle.kl_meaning.specs.Run.{code_named}
 use Rattle.kl_meaning.specs.Tidy.{IsTidy, AreTidy, AreTidyFields, AreTidyQuals, AreTidyBranches, AreTidySteps, IsTidyProgram}
-use Rattle.kl_meaning.specs.Typing.{Context, Sort, nothing, value_of, function_of, primitive, Known, CallTypes, OpTypes, PathTypes, has_field, has_branch, Types, AllTypes, EachType, FieldTypes, QualTypes, BranchTypes, StepTypes, sort_at, types_at_first, sort_if, FunctionTypes, types_after, ProgramTypes}
+use Rattle.kl_meaning.specs.Typing.{Context, Sort, nothing, value_of, function_of, primitive, Known, CallTypes, OpTypes, PathTypes, has_branch, Types, AllTypes, EachType, FieldTypes, QualTypes, BranchTypes, StepTypes, sort_at, types_at_first, sort_if, FunctionTypes, types_after, ProgramTypes}
 use Rattle.kl_meaning.proofs.Fields.{IsFieldOf, in_order_all, in_order_rises, in_order_found, has_fields, fields_apart}
 use Rattle.kl_meaning.proofs.Safety.{truth_typed}
 use Rattle.kl_core.specs.Trees as term
 use Rattle.kl_core.specs.Trees.{Tree, Trees, no_trees, trees}
 use Rattle.kl_core.specs.Typing.{SourceTypes, CoreTypes, ArmTypes, HasArm}
 use Rattle.kl_core.specs.Typing as core
-use Rattle.kl_desugar.specs.Sense.{types_of}
+use Rattle.kl_desugar.specs.Sense.{types_of, HasSense}
 use Rattle.kl_desugar.specs.Translation.{Scope, Code, value_by, function_by, primitive_by, Codes, empty, called_tree, operated_tree, projected, tree, tree_all, tree_fields, tree_quals, tree_branches, tree_steps, no_sense, number_of, code_at, codes_first, codes_after, function_tree, term_of}
 use Rattle.kl_desugar.specs.Translation as translation
 use Rattle.kl_desugar.proofs.Positions.{Standing, scope, values, names, grows_none}
@@ -193,3 +193,6 @@ program_typed S (function x p a ds) e known codes t d g h =
 
 pub makes_sense : (ds : Decls) (e : Exp) (ss : List (Name × Ground)) (t : Ground) → IsTidyProgram ds e → ProgramTypes ds e ss t → CoreTypes (types_of ss) [] (term_of ds e (map (λ s. s.0) ss)) t
 makes_sense ds e ss t d h = program_typed (types_of ss) ds e _ _ t d (all_first ss) h
+
+pub sense_by : (ds : Decls) (e : Exp) (names : List Name) (t : Tree) → t ≡ term_of ds e names → HasSense ds e names t
+sense_by ds e names t is sources s same d h = subst (λ u. CoreTypes (types_of sources) [] u s) (sym (is ∙ ap (term_of ds e) (sym same))) (makes_sense ds e sources s d h)

@@ -3,3 +3,4 @@ pub mod Layers
 pub mod Opening
 pub mod States
 pub mod Sense
+pub mod Small

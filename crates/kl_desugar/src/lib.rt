@@ -1,8 +1,8 @@
 //! The translation of programs to terms.
 //!
 //! `term_of` of `specs/Translation.antt` is the term of a program, and `translation_laws` says that it means what the
-//! program means, wherever the program makes sense. `translate` makes it. `specs/Layers.antt` says the same of a pattern and of qualifiers without
-//! functions, as layers round what they go on with, which is how the code makes them.
+//! program means, wherever the program makes sense. `translate` makes it. `specs/Layers.antt` says the same of a pattern
+//! and of qualifiers without functions, as layers round what they go on with, which is how the code makes them.
 //!
 //! `sense_laws` says that the term makes sense: where a program is in scope and has a type, its term has that type over
 //! the types of its sources.

@@ -1,8 +1,11 @@
 //! Programs as terms.
-ghost use Rattle.std.specs.Prelude.{◌≡◌, IfOk};
+ghost use Rattle.std.specs.Prelude.{◌≡◌, ℕ, false, IfOk};
 ghost use Rattle.kl_syntax.specs.Syntax.{no_decls};
 ghost use Rattle.kl_syntax.specs.View.{view, decl_of, decls_of};
+ghost use Rattle.kl_core.specs.Positions.{occurs_in};
 ghost use Rattle.kl_core.specs.Trees as term;
+ghost use Rattle.kl_desugar.specs.Sense.{HasSense};
+ghost use Rattle.kl_desugar.specs.Small.{StaysSmall};
 ghost use Rattle.kl_desugar.specs.Translation.{with_code, codes_after, codes_first, term_of, Means};
 ghost use Rattle.kl_desugar.specs.States.{codes_of, definition_code};
 
@@ -51,15 +54,19 @@ fn define_all<'a>(alloc: Global, defs: &[Decl], sources: &'a [Label]) -> Result<
 }
 
 /// The term of a program: over values of the program's sources, by their numbers, with which the program makes sense, the
-/// term means what the program means. The term of a definition stands at each of its uses, so that the term of a short program can be
-/// too large for any memory: whoever must not wait for that counts its nodes first.
+/// term means what the program means. It has each type that the program has, and no position is free in it. The term of a
+/// definition stands at each of its uses, so that the term of a short program can be too large for any memory: whoever
+/// must not wait for that asks `kl_scope::sizes` first. Where it tells of no declaration, the term is within its limits.
 ///
 /// # Errors
 /// Want of memory, and more positions or sources than 32 bits can number.
-#[tactic(auto, using(crate::proofs::Law::means_by))]
+#[tactic(auto, using(crate::proofs::Law::means_by, crate::proofs::Sense::sense_by, crate::proofs::Closing::closed_by, crate::proofs::Counting::small_ok))]
 pub fn translate(alloc: Global, scoped: &Scoped) -> Result<Term, NoMemory>
     ensures term { IfOk result (λ t. term.view t ≡ term_of (decls_of scoped.now.program.defs) (view scoped.now.program.last) scoped.now.sources) }
     ensures means { IfOk result (λ t. Means (decls_of scoped.now.program.defs) (view scoped.now.program.last) scoped.now.sources (term.view t)) }
+    ensures sense { IfOk result (λ t. HasSense (decls_of scoped.now.program.defs) (view scoped.now.program.last) scoped.now.sources (term.view t)) }
+    ensures closed { IfOk result (λ t. (n : ℕ) → occurs_in n (term.view t) ≡ false) }
+    ensures small { IfOk result (λ t. StaysSmall scoped.now (term.view t)) }
 {
     let program = scoped.program();
     let codes = define_all(alloc, program.defs.slice(), scoped.sources())?;
