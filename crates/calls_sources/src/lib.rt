@@ -7,6 +7,8 @@
 #[cfg(test)]
 mod asks;
 #[cfg(test)]
+mod attaching;
+#[cfg(test)]
 mod catalogues;
 #[cfg(test)]
 mod placing;

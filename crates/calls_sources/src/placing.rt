@@ -1,6 +1,7 @@
 ghost use Rattle.std.specs.Prelude.{◌<◌, ◌^◌, length};
 
 use kl_ask::Driver;
+use kl_base::Label;
 use kl_catalogue::read_catalogue;
 use kl_flat::FlatDriver;
 use kl_outside::MemFiles;
@@ -17,12 +18,22 @@ fn is_placed(alloc: Global, drivers: &Vec<Box<dyn Driver>>) -> Result<bool, Fail
     Ok(is_first(&placed) && is_listed(alloc, &placed)?)
 }
 
+fn has_name(names: &[Label]) -> bool {
+    matches!(names, [name] if name.slice() == b"pubs".as_slice())
+}
+
 fn is_listed(alloc: Global, sources: &[Source]) -> Result<bool, Fail> {
-    Ok(names_of(alloc, sources)?.len() == 1 && types_of(alloc, sources)?.len() == 1)
+    Ok(has_name(&names_of(alloc, sources)?) && types_of(alloc, sources)?.len() == 1)
+}
+
+fn is_pubs(source: &Source) -> bool {
+    source.name.slice() == b"pubs".as_slice()
+        && source.locator.slice() == b"pubs.csv".as_slice()
+        && source.driver == 0
 }
 
 fn is_first(sources: &Vec<Source>) -> bool {
-    matches!(sources.as_slice(), [source] if source.driver == 0)
+    matches!(sources.as_slice(), [source] if is_pubs(source))
 }
 
 fn places(alloc: Global, driver: Box<dyn Driver>) -> Result<bool, Fail> {
