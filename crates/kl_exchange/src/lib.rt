@@ -15,7 +15,7 @@
 //! the bytes of the item that is not whole, and what they have come to.
 //!
 //! The contracts let through bodies that answer want of memory, which no contract of this project ties to a refused
-//! growth, and other words in `Display`. `rt plant` has not run to its end on this crate yet.
+//! growth, and other words in `Display`.
 #![tactic(auto)]
 
 mod error;

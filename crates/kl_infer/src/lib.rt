@@ -13,8 +13,8 @@
 //! `specs/Printed.antt`. Each variable has a number there, from 1 in the order of first appearance: `number` in
 //! `specs/Numbers.antt`. The tree is never built, and what is past the limit of a text is not gone through.
 //!
-//! `rt plant` has not run on this crate yet. A test with ample memory calls each public function but `infer`, which the
-//! cases of the top call run.
+//! The contracts let through bodies that answer want of memory, which no contract of this project ties to a refused
+//! growth. A test with ample memory calls each public function.
 #![tactic(auto)]
 
 mod exprs;
