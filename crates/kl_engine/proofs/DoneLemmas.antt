@@ -289,11 +289,11 @@ module _ (ss : List Source) (p : Purpose) (text : List ℕ) (end : Ending) (ds d
 
   -- what holds of marked sources holds of mentioned ones
   stored_wider : (f : Fault) → IsStored (kinds_of ds) ss (IsNamed ss (is_marked s)) f → IsStored (kinds_of ds) ss (IsMentionedIn ss text) f
-  stored_wider f (i, x, w, at, of, rest) = (i, x, w, at, named x.name of, rest)
+  stored_wider f (i, x, w, at, of, told, is) = (i, x, w, at, named x.name of, told, is)
 
   unread_wider : (f : Fault) → IsUnreadBy ss (IsNamed ss (is_marked s)) f ds ds' → IsUnreadBy ss (IsMentionedIn ss text) f ds ds'
   unread_wider f (inl stored) = inl (stored_wider f stored)
-  unread_wider f (inr (i, x, at, of, rest)) = inr (i, x, at, (named x.name of.0, of.1), rest)
+  unread_wider f (inr (i, x, at, of, untold, rose)) = inr (i, x, at, (named x.name of.0, of.1), untold, rose)
 
   drifted_wider : (name : Name) → HasDrifted ss (λ x. IsNamed ss (is_marked s) x × (x ≡ name)) ds ds' → HasDrifted ss (λ x. IsMentionedIn ss text x × (x ≡ name)) ds ds'
   drifted_wider name (i, x, at, of, rose) = (i, x, at, (named x.name of.0, of.1), rose)

@@ -34,8 +34,8 @@ quiet_keeps ds ds' steps = record {
 }
 
 cause_stops : (x : Name) (e : DriverError) (old new : World) → StoppedBy x e old new → IsStopped old.sources (fault_of x e) old.drivers new.drivers
-cause_stops x error.Failed old new s = (s.place, s.before, s.then, s.was, s.is, s.cause)
-cause_stops x (error.Changed d) old new s = (s.number, s.listed, s.place, s.at, sym s.named, s.held, s.before, s.then, s.was, s.is, s.cause.1)
+cause_stops x error.Failed old new s = (s.place, (s.before, s.then, s.was, s.is, s.cause))
+cause_stops x (error.Changed d) old new s = (s.number, s.listed, s.place, s.at, sym s.named, s.held, (s.before, s.then, s.was, s.is, s.cause.1))
 cause_stops x error.NoMemory old new s = tt
 cause_stops x (error.BadSource place) old new s = absurd s.cause
 cause_stops x (error.TooLong most) old new s = absurd s.cause

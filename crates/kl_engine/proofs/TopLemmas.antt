@@ -11,7 +11,7 @@ use Rattle.kl_ask.specs.Driver.{DriverKind, State}
 use Rattle.kl_sources.specs.Sources.{kinds_of}
 use Rattle.kl_engine.specs.Answering.{one, reading, writing, wanting, Does, IsMentioned, UnreadCause, IsUnread, IsOneOf, HasFault}
 use Rattle.kl_words.specs.declared.command.Command.{Command as Read}
-use Rattle.kl_engine.specs.Commands.{Command, NoCommand, Program, Show, asked}
+use Rattle.kl_engine.specs.Commands.{Command, NoneNamed, Program, Show, asked}
 use Rattle.kl_engine.specs.Faults.{Ending}
 use Rattle.kl_engine.specs.Showing.{DoesShow}
 use Rattle.kl_engine.specs.Verdict.{Verdict, refused, end_fault, IsShowing, IsFile, IsVerdict}
@@ -32,18 +32,18 @@ file_is None v of is = let both : Some fault.Read ≡ Some fault.NoMemory = ap (
 file_is (Some bytes) v of is = end_is of.1 (ap (λ w. w.ending) (sym of.3) ∙ is)
 
 never_wanted : (told : List ℕ → Option (List ℕ)) (ks : List DriverKind) (command : Command) (v : Verdict) → IsVerdict told ks command v → v.ending ≡ Some fault.NoMemory → ⊥
-never_wanted told ks NoCommand v of is = let both : Some fault.Usage ≡ Some fault.NoMemory = ap (λ w. w.ending) (sym of) ∙ is in cc
+never_wanted told ks NoneNamed v of is = let both : Some fault.Usage ≡ Some fault.NoMemory = ap (λ w. w.ending) (sym of) ∙ is in cc
 never_wanted told ks (Program p path catalogue) v (inl h) is = inputs_verdict told ks path catalogue h.0 h.1 (let both : Some h.0 ≡ Some fault.NoMemory = ap (λ w. w.ending) (sym h.2) ∙ is in cc)
 never_wanted told ks (Program p path catalogue) v (inr h) is = subst IsOfVerdict is (fair_text ks h.1 p h.0 v h.3).told
 never_wanted told ks (Show path) v of is = file_is (told path) v of is
 
 wants_fault : (command : Command) → HasFault command fault.NoMemory
-wants_fault NoCommand = tt
+wants_fault NoneNamed = tt
 wants_fault (Program p path catalogue) = tt
 wants_fault (Show path) = tt
 
 unread_wanted : (command : Command) (files : FilesState) (ds : List State) → UnreadCause command (Some fault.NoMemory) files ds ds
-unread_wanted NoCommand files ds = tt
+unread_wanted NoneNamed files ds = tt
 unread_wanted (Program p path catalogue) files ds = λ f is un. absurd (let same : fault.NoMemory ≡ f = cc in subst IsUnread (sym same) un)
 unread_wanted (Show path) files ds = tt
 
@@ -73,7 +73,7 @@ wanted_does command f ds out = record {
   closed = record { left = refl; told = refl; drivers = keeps_same (λ name. ⊤) ds; still = λ is. refl; mentioned = λ told is. keeps_same (IsMentioned told (kinds_of ds) command) ds };
 }
 
-pub neither_does : (f : FilesState) (ds : List State) (out : SinkState) → Does NoCommand (Some fault.Usage) f f ds ds out out
+pub neither_does : (f : FilesState) (ds : List State) (out : SinkState) → Does NoneNamed (Some fault.Usage) f f ds ds out out
 neither_does f ds out = record {
   told = λ told is v of. (
     v,
@@ -96,7 +96,7 @@ neither_does f ds out = record {
     nothing = λ is. refl;
   };
   unread = tt;
-  closed = record { left = refl; told = refl; drivers = keeps_same (λ name. ⊤) ds; still = λ is. refl; mentioned = λ told is. keeps_same (IsMentioned told (kinds_of ds) NoCommand) ds };
+  closed = record { left = refl; told = refl; drivers = keeps_same (λ name. ⊤) ds; still = λ is. refl; mentioned = λ told is. keeps_same (IsMentioned told (kinds_of ds) NoneNamed) ds };
 }
 
 -- ---- a file that is shown

@@ -14,7 +14,7 @@ use Rattle.kl_ask.specs.Lists.{EachSteps}
 use Rattle.kl_sources.specs.Attaching.{RoseAt}
 use Rattle.kl_sources.specs.Sources.{kinds_of, names_of, contents}
 use Rattle.kl_sources.specs.declared.source.Source.{Source}
-use Rattle.kl_engine.specs.Commands.{Command, NoCommand, Program, Show}
+use Rattle.kl_engine.specs.Commands.{Command, NoneNamed, Program, Show}
 use Rattle.kl_engine.specs.Faults.{Ending}
 use Rattle.kl_engine.specs.Reading.{IsProgramOf}
 use Rattle.kl_engine.specs.Verdict.{Verdict, refused, stored_fault, IsListing, IsText, HasInputs, IsVerdict}
@@ -141,9 +141,9 @@ HasTextFault p f = ⊥
 
 -- the faults of each command
 abbrev pub HasFault : Command → Fault → Type 0
-HasFault NoCommand fault.Usage = ⊤
-HasFault NoCommand fault.NoMemory = ⊤
-HasFault NoCommand f = ⊥
+HasFault NoneNamed fault.Usage = ⊤
+HasFault NoneNamed fault.NoMemory = ⊤
+HasFault NoneNamed f = ⊥
 HasFault command fault.Read = ⊤
 HasFault (Program p path catalogue) fault.ProgramBytes = ⊤
 HasFault (Program p path catalogue) fault.CatalogueBytes = ⊤
@@ -234,8 +234,8 @@ OfRun command files ks P = ⊥
 
 -- Whether files and drivers tell their bytes or not, each ending has its cause.
 pub record IsCaused (command : Command) (end : Ending) (files files' : FilesState) (ds ds' : List State) (out out' : SinkState) : Type 0 where
-  pub usage : end ≡ Some fault.Usage → command ≡ NoCommand
-  pub no_usage : command ≡ NoCommand → (end ≡ Some fault.Usage) ⊎ (end ≡ Some fault.NoMemory)
+  pub usage : end ≡ Some fault.Usage → command ≡ NoneNamed
+  pub no_usage : command ≡ NoneNamed → (end ≡ Some fault.Usage) ⊎ (end ≡ Some fault.NoMemory)
   pub read : end ≡ Some fault.Read → LacksFile command files (kinds_of ds) ⊎ OfRun command files (kinds_of ds) (λ text ss. IsStored (kinds_of ds) ss (IsMentionedIn ss text) fault.Read) ⊎ Rose files.faults files'.faults ⊎ SomeRose (λ d. d.faults) ds ds'
   pub write : end ≡ Some fault.Write → Rose out.faults out'.faults
   pub changed : (name : Name) → end ≡ Some (fault.Changed name) → OfRun command files (kinds_of ds) (λ text ss. HasDrifted ss (λ x. IsMentionedIn ss text x × (x ≡ name)) ds ds')

@@ -25,7 +25,7 @@ use Rattle.kl_sources.specs.Sources.{names_of, grounds_of, HaveValues, FirstWith
 use Rattle.kl_sources.specs.declared.source.Source.{Source}
 use Rattle.kl_engine.specs.Catalogues.{IsCatalogueFault, IsCatalogueOf}
 use Rattle.kl_engine.specs.Reading.{IsTextFault, IsProgramOf, definitions, last}
-use Rattle.kl_engine.specs.Commands.{Command, NoCommand, Program as AProgram, Show}
+use Rattle.kl_engine.specs.Commands.{Command, NoneNamed, Program as AProgram, Show}
 use Rattle.kl_engine.specs.Faults.{Ending}
 use Rattle.kl_engine.specs.declared.fault.Fault.{Fault}
 use Rattle.kl_engine.specs.declared.fault.Fault.TheVariants as fault
@@ -231,6 +231,6 @@ IsFile AreBytes (Some bytes) v = AreBytes bytes v
 
 -- the verdict on a command, over files with these bytes and drivers of these kinds
 abbrev pub IsVerdict : (List ℕ → Option (List ℕ)) → List DriverKind → Command → Verdict → Type 0
-IsVerdict told ks NoCommand v = v ≡ refused fault.Usage
+IsVerdict told ks NoneNamed v = v ≡ refused fault.Usage
 IsVerdict told ks (AProgram p path catalogue) v = IsProgram told ks p path catalogue v
 IsVerdict told ks (Show path) v = IsFile IsShowing (told path) v
