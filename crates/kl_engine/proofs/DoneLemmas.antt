@@ -293,7 +293,7 @@ module _ (ss : List Source) (p : Purpose) (text : List ℕ) (end : Ending) (ds d
 
   unread_wider : (f : Fault) → IsUnreadBy ss (IsNamed ss (is_marked s)) f ds ds' → IsUnreadBy ss (IsMentionedIn ss text) f ds ds'
   unread_wider f (inl stored) = inl (stored_wider f stored)
-  unread_wider f (inr (i, x, at, of, untold, rose)) = inr (i, x, at, (named x.name of.0, of.1), untold, rose)
+  unread_wider f (inr (i, x, at, of, none, rose)) = inr (i, x, at, (named x.name of.0, of.1), none, rose)
 
   drifted_wider : (name : Name) → HasDrifted ss (λ x. IsNamed ss (is_marked s) x × (x ≡ name)) ds ds' → HasDrifted ss (λ x. IsMentionedIn ss text x × (x ≡ name)) ds ds'
   drifted_wider name (i, x, at, of, rose) = (i, x, at, (named x.name of.0, of.1), rose)

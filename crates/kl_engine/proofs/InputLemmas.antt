@@ -1,8 +1,6 @@
 -- The files of a command are one text and one list of sources, or go wrong in one way.
-use Rattle.std.proofs.Common.{◌≡◌, inl, inr, ℕ, ◌≤◌, List, [], ◌∷◌, length, Option, Some, None, Result, Ok, Err, Bool, true, false, cond, sym, ap, subst, ◌∙◌, arith}
-use Rattle.kl_outcome.specs.Outcome.{Name}
+use Rattle.std.proofs.Common.{◌≡◌, inl, inr, ℕ, ◌≤◌, List, [], length, Option, Some, None, Result, Ok, Err, sym, ap, subst, ◌∙◌, arith}
 use Rattle.kl_ask.specs.Driver.{DriverKind}
-use Rattle.kl_catalogue.specs.declared.reading.Entry.{Entry}
 use Rattle.kl_catalogue.proofs.OneCatalogue.{one_catalogue, bad_none, deep_none, one_bad, bad_or_deep}
 use Rattle.kl_sources.specs.Sources.{sources_of}
 use Rattle.kl_sources.proofs.Reasons.{IsReason, sources_reason}

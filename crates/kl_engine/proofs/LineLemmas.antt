@@ -1,27 +1,22 @@
 -- The lines of declarations, one after the other.
 use Rattle.std.proofs.Common.{◌≡◌, ◌≢◌, inl, inr, ℕ, ◌+◌, ◌<◌, ◌≤◌, nat_lt, Bool, true, false, if◌then◌else◌, List, [], ◌∷◌, ◌++◌, codes, length, map, take, drop, get_or, min, Option, Some, None, Result, Ok, Err, refl, sym, ap, ap₂, subst, ◌∙◌, arith, append_assoc, append-nil, take-append-drop}
-use Rattle.std.specs.Prelude.{All}
 use Rattle.std.specs.List.{zip}
 use Rattle.std.specs.Io.KnownBytes.{append_known}
 use Rattle.std.proofs.lemmas.List.{take_all, take_more, length-map, get_or-map}
-use Rattle.std.proofs.lemmas.List.Elements.{All-nil, All-cons}
 use Rattle.std.proofs.lemmas.Slice.Zip.{length-zip, get_or-zip}
 use Rattle.kl_outside.specs.Sinks.{SinkState, WritesWhole}
 use Rattle.kl_outside.specs.declared.stop.Stop.{Stop}
 use Rattle.kl_outside.specs.declared.stop.Stop.TheVariants as stop
 use Rattle.kl_outside.proofs.SinkLemmas.{took_all, took_front, writes_nothing, writes_then, writes_stopped}
-use Rattle.kl_rows.specs.Schemes.{IsScheme}
 use Rattle.kl_rows.specs.declared.Scheme.{Scheme}
 use Rattle.kl_outcome.specs.Outcome.{Name}
-use Rattle.kl_syntax.specs.Syntax.{Decls, no_decls, constant, function}
+use Rattle.kl_syntax.specs.Syntax.{Decls}
 use Rattle.kl_syntax.specs.View.{decl_of, decls_of}
 use Rattle.kl_syntax.specs.declared.tree.Decl.{Decl}
 use Rattle.kl_syntax.specs.declared.tree.Pattern.{Pattern}
-use Rattle.kl_infer.specs.Inferred.{HaveSchemes}
 use Rattle.kl_infer.specs.Numbers.{limit}
 use Rattle.kl_infer.specs.Printed.{scheme_text}
 use Rattle.kl_infer.specs.declared.Typed.{Typed}
-use Rattle.kl_meaning.specs.Typing.{Known, Types, FunctionTypes, with_sort, value_of, function_of}
 use Rattle.kl_engine.specs.Answering.{Prints, IsDetermined}
 use Rattle.kl_engine.specs.Faults.{ending}
 use Rattle.kl_engine.specs.Running.{ListsLine, ListsAll, ListsFront}

@@ -47,15 +47,15 @@ use Rattle.kl_ask.specs.declared.ask.DriverError.TheVariants as error
 use Rattle.kl_ask.proofs.Whole.{collection_is}
 use Rattle.kl_ask.proofs.Worlds.{fun_ext, some_same, there, keeps_then}
 use Rattle.kl_eval.specs.Evals.{Sense, SenseList}
-use Rattle.kl_sources.specs.Attaching.{RoseAt, list_of, HaveNone, AttachesAll, world_of, IsErrorOf, IsUnreadable, IsMishap, NoVerdict, MayAttach, IsMarkedName, StandsWithout, Causes, Serves, Stands, HasTyped}
-use Rattle.kl_sources.specs.Sources.{ArePlaced, IsFit, names_of, grounds_of, contents, IsValueAt, HaveValues, IsReadable, FirstWithout}
+use Rattle.kl_sources.specs.Attaching.{RoseAt, list_of, HaveNone, AttachesAll, world_of, IsErrorOf, IsUnreadable, NoVerdict, MayAttach, Causes, Serves, Stands, HasTyped}
+use Rattle.kl_sources.specs.Sources.{ArePlaced, IsFit, names_of, grounds_of, contents, IsValueAt, HaveValues}
 use Rattle.kl_sources.specs.declared.attaching.AttachError.{AttachError}
 use Rattle.kl_sources.specs.declared.source.Source.{Source}
 use Rattle.kl_sources.proofs.Agreement.{values_agree, first_agrees}
 use Rattle.kl_sources.proofs.ListedSources.{listed_source}
 use Rattle.kl_sources.proofs.Lists.{of_all, mapped, unmapped}
 use Rattle.kl_sources.specs.Sources.{kinds_of}
-use Rattle.kl_engine.specs.Answering.{SomeRose, KeepsDrivers, IsIdle, IsStored, IsCounted, IsUnreadBy, HasDrifted, IsOf, IsOutside, reading, writing, drifting, wanting, Follows, IsDetermined, IsOneOf, HasTextFault, PrintsNothing, IsUnread, NeedsDrivers}
+use Rattle.kl_engine.specs.Answering.{SomeRose, KeepsDrivers, IsIdle, IsStored, IsUnreadBy, HasDrifted, IsOf, IsOutside, reading, writing, drifting, wanting, Follows, IsDetermined, IsOneOf, HasTextFault, PrintsNothing, IsUnread, NeedsDrivers}
 use Rattle.kl_engine.specs.Commands.{Program}
 use Rattle.kl_engine.specs.Faults.{Ending}
 use Rattle.kl_engine.specs.Reading.{WasInScope}

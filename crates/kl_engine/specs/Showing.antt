@@ -14,7 +14,7 @@ use Rattle.kl_outside.specs.declared.stop.Stop.{Stop}
 use Rattle.kl_engine.specs.Answering.{IsDetermined, IsOneOf, HasFault}
 use Rattle.kl_engine.specs.Commands.{Show}
 use Rattle.kl_engine.specs.Faults.{Ending}
-use Rattle.kl_engine.specs.Verdict.{Verdict, refused, IsFile, IsShowing}
+use Rattle.kl_engine.specs.Verdict.{Verdict, IsFile, IsShowing}
 use Rattle.kl_engine.specs.declared.fault.Fault.{Fault}
 use Rattle.kl_engine.specs.declared.fault.Fault.TheVariants as fault
 

@@ -1,7 +1,7 @@
 //! The top call: what the program does, from the bytes that come in to the bytes that go out.
 //!
-//! What `rt plant` lets through here, in a pass of six minutes that did not try every plant: bodies that answer want of
-//! memory, which is tied to nothing. A top call that always answers 9 is refused by the program `cases`.
+//! What `rt plant` lets through here: bodies that answer want of memory, which is tied to nothing. A top call that always
+//! answers 9 is refused by the program `cases`.
 #![tactic(auto)]
 
 mod check;
