@@ -1,5 +1,5 @@
 //! The drivers that are handed in.
-ghost use Rattle.std.specs.Prelude.{IfOk, All, ◌<◌, ◌^◌, length, map};
+ghost use Rattle.std.specs.Prelude.{◌≡◌, IfOk, All, ◌<◌, ◌^◌, [], ◌∷◌, length, map};
 ghost use Rattle.kl_ask.specs.Driver.{State};
 ghost use Rattle.kl_engine.specs.Answering.{IsIdle};
 
@@ -15,6 +15,7 @@ pub fn one_driver(
     driver: Box<dyn Driver>,
 ) -> Result<Vec<Box<dyn Driver>>, AllocError>
     requires { IsIdle (state driver) }
+    ensures alone { IfOk result (λ drivers. map (λ d. state d) drivers.items ≡ state driver ∷ []) }
     ensures idle { IfOk result (λ drivers. All IsIdle (map (λ d. state d) drivers.items)) }
     ensures few { IfOk result (λ drivers. length drivers.items < 2 ^ 32) }
 {
