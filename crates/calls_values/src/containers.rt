@@ -1,4 +1,4 @@
-use kl_base::{Box, Label, Seq, Shared, Text};
+use kl_base::{Box, Label, Seq, Shared, Text, labels_of};
 use std::alloc::Global;
 use std::test::Fail;
 
@@ -52,6 +52,17 @@ fn no_field_stands_at_another_label(rt: HostRuntime) -> Result<(), Fail> {
     let fields = fields(rt.alloc())?;
     let vol = label(rt.alloc(), b"vol")?;
     assert!(rt; fields.get(&vol).is_none());
+    Ok(())
+}
+
+#[test]
+fn labels_are_listed(rt: HostRuntime) -> Result<(), Fail> {
+    let fields = fields(rt.alloc())?;
+    let labels = labels_of(rt.alloc(), fields.slice())?;
+    let first = labels
+        .first()
+        .is_some_and(|label| label.slice() == b"id_2".as_slice());
+    assert!(rt; labels.len() == 2 && first);
     Ok(())
 }
 

@@ -2,14 +2,14 @@
 use Rattle.std.proofs.Common.{◌≡◌, ◌==◌, rules, arith, List, [], ◌∷◌, length, refl, ap, ◌∙◌}
 use Rattle.kl_base.specs.Fields.{labels_of}
 use Rattle.kl_value.specs.declared.Kind.{Kind}
-use Rattle.kl_type.specs.Ground.{ground_of, row_by}
+use Rattle.kl_type.specs.Ground.{ground_of, row_by, labels_in}
 use Rattle.kl_type.proofs.GroundLemmas.{ground-Bool, ground-Int, ground-Str, ground-Rec, ground-Var, ground-Coll}
 use Rattle.kl_type.specs.declared.Ty.{Ty}
 use Rattle.kl_type.specs.declared.Ty.TheVariants as ty
 use Rattle.kl_outcome.specs.Outcome.{Name}
-use Rattle.kl_ask.specs.Asks.{item_of, columns, row_labels, same_names}
+use Rattle.kl_ask.specs.Asks.{item_of, columns, same_names}
 
-labels_by : (fs : List (Name × Ty)) → row_labels (row_by ground_of fs) ≡ labels_of fs
+labels_by : (fs : List (Name × Ty)) → labels_in (row_by ground_of fs) ≡ labels_of fs
 labels_by [] = refl
 labels_by (f ∷ fs) = ap (λ ls. f.0 ∷ ls) (labels_by fs)
 

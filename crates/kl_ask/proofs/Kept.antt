@@ -5,7 +5,6 @@ use Rattle.std.proofs.lemmas.List.{take-append-drop, take-set, drop-set-lt}
 use Rattle.std.proofs.lemmas.Option.{gets, slice_get_read}
 use Rattle.kl_ask.specs.Asked.{same_ask, raised_by, with_ask, all_times}
 use Rattle.kl_ask.specs.declared.ask.Ask.{Ask}
-use Rattle.kl_ask.proofs.Worlds.{some_same}
 
 put_at : {T : Type 0} (xs : List T) (i : ℕ) (y : T) → i < length xs → set xs i y ≡ take i xs ++ y ∷ drop (i + 1) xs
 put_at xs i y lt =
@@ -24,6 +23,3 @@ counted_at asked whole i n kept ask same lt is eq more rest =
 
 pub none_left : (asked : List (Ask × ℕ)) (i : ℕ) → length asked ≤ i → all_times (drop i asked) ≡ 0
 none_left asked i is = let none : drop i asked ≡ [] = grind (arith, common_steps) in rw none refl
-
-pub same_get : {T : Type 0} (xs : List T) (i : ℕ) (a b : T) → i < length xs → a ≡ get_or xs i a → b ≡ get_or xs i b → a ≡ b
-same_get xs i a b lt is also = some_same (sym (slice_get_read xs (length xs) i a refl lt is) ∙ slice_get_read xs (length xs) i b refl lt also)

@@ -1,10 +1,9 @@
 -- Asks for whole rows without tests.
-use Rattle.std.proofs.Common.{◌≡◌, ⊎_elim, Bool, true, false, ◌||◌, cond, nat_eq, List, [], ◌∷◌, Option, Some, None, IsSome, refl, sym, ap, subst, ◌∙◌}
+use Rattle.std.proofs.Common.{◌≡◌, Bool, true, false, ◌||◌, cond, nat_eq, List, [], ◌∷◌, Option, Some, None, IsSome, refl, sym, ap, subst, ◌∙◌}
 use Rattle.std.specs.Prelude.{filter}
 use Rattle.std.specs.List.{AllByRecursion}
 use Rattle.std.specs.List.Sorted.{IsStrictlySortedBy}
 use Rattle.std.specs.Cmp.Lexicographic.{pointwise}
-use Rattle.std.specs.declared.cmp.Ordering.TheVariants.{Less}
 use Rattle.std.proofs.lemmas.Cmp.{nat_list_eq_equiv}
 use Rattle.std.proofs.lemmas.List.Sorted.{Contains-permutation, IsPermutation-sym, sum_by-IsPermutation}
 use Rattle.kl_base.specs.Fields.{bytes_cmp, labels_of}
@@ -15,18 +14,16 @@ use Rattle.kl_value.specs.declared.Kind.TheVariants as kind
 use Rattle.kl_value.specs.declared.Value.{Value, Value-F, out-Value}
 use Rattle.kl_value.specs.declared.Value.TheVariants as value
 use Rattle.kl_value.proofs.CanonLemmas.{canonical_is, canonical_only}
-use Rattle.kl_type.specs.Ground.{Ground, Row, bool, int, str, rec, var, coll, arrow, no_row, row, at, IsBefore, IsRow, IsGround, IsProper, ground_of}
-use Rattle.kl_type.proofs.RowLemmas.{told, at_here, at_there, never_less}
+use Rattle.kl_type.specs.Ground.{Ground, Row, bool, int, str, rec, var, coll, arrow, no_row, row, at, IsGround, IsProper, ground_of, labels_in}
+use Rattle.kl_type.proofs.RowLemmas.{labels_rise}
 use Rattle.kl_type.specs.declared.Ty.{Ty}
 use Rattle.kl_outcome.specs.Outcome.{Name, as_record, record_layer}
-use Rattle.kl_outcome.specs.Typed.{Has, HasFields, Inhabits}
-use Rattle.kl_ask.specs.Asks.{item_of, kind_of, row_labels, columns, column, is_kept, shown_fields, shown, answers, shown_row, shown_type, same_names}
+use Rattle.kl_outcome.specs.Typed.{Has, Inhabits}
+use Rattle.kl_ask.specs.Asks.{item_of, kind_of, columns, column, is_kept, shown_fields, shown, answers, shown_row, shown_type, same_names}
 use Rattle.kl_ask.specs.Driver.{State, Source, IsColl, CanStart, InOrder}
 use Rattle.kl_ask.specs.declared.ask.Ask.TheVariants as asks
-
-all_on : {X : Type 0} (P Q : X → Type 0) (xs : List X) → ((x : X) → P x → Q x) → AllByRecursion P xs → AllByRecursion Q xs
-all_on P Q [] f h = tt
-all_on P Q (x ∷ xs) f h = (f x h.0, all_on P Q xs f h.1)
+use Rattle.kl_outcome.proofs.OutcomeTypes.{labels_same}
+use Rattle.kl_base.proofs.Each.{all_map}
 
 or_true : (b c : Bool) → c ≡ true → (b || c) ≡ true
 or_true true c h = refl
@@ -36,24 +33,20 @@ or_true false c h = h
 
 all_kept : (ls : List Name) → AllByRecursion (λ l. is_kept ls l ≡ true) ls
 all_kept [] = tt
-all_kept (l ∷ ls) = (rw (nat_list_eq_equiv.refl l) refl, all_on (λ m. is_kept ls m ≡ true) (λ m. is_kept (l ∷ ls) m ≡ true) ls (λ m h. or_true (pointwise nat_eq l m) (is_kept ls m) h) (all_kept ls))
+all_kept (l ∷ ls) = (rw (nat_list_eq_equiv.refl l) refl, all_map (λ m. is_kept ls m ≡ true) (λ m. is_kept (l ∷ ls) m ≡ true) ls (λ m h. or_true (pointwise nat_eq l m) (is_kept ls m) h) (all_kept ls))
 
-row_kept : (keep : List Name) (r : Row) → AllByRecursion (λ l. is_kept keep l ≡ true) (row_labels r) → shown_row keep r ≡ r
+row_kept : (keep : List Name) (r : Row) → AllByRecursion (λ l. is_kept keep l ≡ true) (labels_in r) → shown_row keep r ≡ r
 row_kept keep no_row h = refl
 row_kept keep (row l t r) h = rw h.0 (ap (row l t) (row_kept keep r h.1))
 
 pub whole_type : (t : Ground) → shown_type (columns t) t ≡ t
-whole_type (rec r) = ap rec (row_kept (row_labels r) r (all_kept (row_labels r)))
+whole_type (rec r) = ap rec (row_kept (labels_in r) r (all_kept (labels_in r)))
 whole_type bool = refl
 whole_type int = refl
 whole_type str = refl
 whole_type (var r) = refl
 whole_type (coll k t) = refl
 whole_type (arrow a b) = refl
-
-labels_same : (r : Row) (fs : List (Name × Value)) → HasFields r fs → labels_of fs ≡ row_labels r
-labels_same no_row fs h = ap labels_of h
-labels_same (row l s r) fs h = ap labels_of h.2 ∙ ap (λ ls. l ∷ ls) (labels_same r h.1 h.4)
 
 fields_kept : (keep : List Name) (fs : List (Name × Value)) → AllByRecursion (λ l. is_kept keep l ≡ true) (labels_of fs) → filter (λ f. is_kept keep f.0) fs ≡ fs
 fields_kept keep [] h = refl
@@ -79,7 +72,7 @@ no_collection kind.List vs = ap record_layer (value.outs-List vs)
 pub whole_row : (t : Ground) (v : Value) → Has t v → shown (columns t) v ≡ v
 whole_row (rec r) v h =
     let fs : List (Name × Value) = h.0 in
-    let keep = row_labels r in
+    let keep = labels_in r in
     let is : as_record v ≡ Some fs = ap as_record h.1 ∙ ap record_layer (value.outs-Rec fs) in
     let all : AllByRecursion (λ l. is_kept keep l ≡ true) (labels_of fs) = subst (AllByRecursion (λ l. is_kept keep l ≡ true)) (sym (labels_same r fs h.2)) (all_kept keep) in
     ap (shown_fields v keep) is ∙ ap value.Rec (fields_kept keep fs all) ∙ sym h.1
@@ -96,21 +89,6 @@ whole_rows t [] h = refl
 whole_rows t (v ∷ vs) h = ap (λ w. w ∷ answers vs (columns t) []) (whole_row t v h.0.0) ∙ ap (λ ws. v ∷ ws) (whole_rows t vs h.1)
 
 -- ---- they may be started
-
-before_rest : (l m : Name) (t : Ground) (r : Row) → IsBefore m r → IsBefore l (row m t r) → IsBefore l r
-before_rest l m t r b h n u e = ⊎_elim
-    (λ p. absurd (never_less n (subst (λ k. bytes_cmp k n ≡ Less) (sym p.1) (b n u e))))
-    (λ d. h n u (at_there n m t r d.1 ∙ e))
-    (told n m)
-
-labels_after : (l : Name) (r : Row) → IsRow r → IsBefore l r → AllByRecursion (λ m. bytes_cmp l m ≡ Less) (row_labels r)
-labels_after l no_row good h = tt
-labels_after l (row m t r) good h = (h m t (at_here m m t r refl), labels_after l r good.2 (before_rest l m t r good.0 h))
-
-labels_rise : (r : Row) → IsRow r → IsStrictlySortedBy bytes_cmp (row_labels r)
-unfolding IsStrictlySortedBy
-labels_rise no_row good = tt
-labels_rise (row l t r) good = (labels_after l r good.2 good.0, labels_rise r good.2)
 
 none_rise : IsStrictlySortedBy bytes_cmp []
 unfolding IsStrictlySortedBy
@@ -138,9 +116,9 @@ some_cond : {X : Type 0} (b : Bool) (x : X) (o : Option X) → IsSome o → IsSo
 some_cond true x o h = refl
 some_cond false x o h = h
 
-labels_there : (r : Row) → AllByRecursion (λ l. IsSome (at l r)) (row_labels r)
+labels_there : (r : Row) → AllByRecursion (λ l. IsSome (at l r)) (labels_in r)
 labels_there no_row = tt
-labels_there (row l t r) = (rw (nat_list_eq_equiv.refl l) refl, all_on (λ m. IsSome (at m r)) (λ m. IsSome (at m (row l t r))) (row_labels r) (λ m h. some_cond (pointwise nat_eq m l) t (at m r) h) (labels_there r))
+labels_there (row l t r) = (rw (nat_list_eq_equiv.refl l) refl, all_map (λ m. IsSome (at m r)) (λ m. IsSome (at m (row l t r))) (labels_in r) (λ m h. some_cond (pointwise nat_eq m l) t (at m r) h) (labels_there r))
 
 columns_there : (t : Ground) → AllByRecursion (λ l. IsSome (column l t)) (columns t)
 columns_there (rec r) = labels_there r

@@ -1,16 +1,17 @@
 -- What stays of a session.
-use Rattle.std.proofs.Common.{◌≡◌, ⊎_elim, ◌<◌, ℕ, List, length, Option, Some, None, IsSome, slice_get, refl, sym, ◌∙◌, ap, subst, arith}
-pub use Rattle.std.proofs.Math.Path.{fun_ext}
+use Rattle.std.proofs.Common.{◌≡◌, ⊎_elim, ◌<◌, ℕ, List, length, Option, Some, None, IsSome, slice_get, refl, sym, ◌∙◌, ap, subst, arith, Err, IsErrOf}
+use Rattle.std.proofs.Math.Path.{fun_ext}
 use Rattle.std.proofs.lemmas.Bool.{cases_eq}
 use Rattle.std.proofs.lemmas.Grind.{common_steps}
-use Rattle.std.proofs.lemmas.Option.{gets, slice_get_within}
+use Rattle.std.proofs.lemmas.Option.{gets, same_Some, slice_get_within}
 use Rattle.kl_ask.specs.Driver.{State, Keeps}
 use Rattle.kl_ask.specs.Lists.{StepsAt, EachSteps}
 use Rattle.kl_ask.specs.World.{World, IsReady, Moved, Quiet, at_driver, at_place, at_source, source_at, type_in, value_in, types_of, values_of}
 use Rattle.kl_ask.specs.declared.session.Attached.{Attached}
+use Rattle.kl_ask.specs.declared.ask.DriverError.{DriverError}
 
-pub some_same : {T : Type 0} {x y : T} → Some x ≡ Some y → x ≡ y
-some_same h = grind arith
+pub error_is : {x y : DriverError} → IsErrOf {T = ℕ} {E = DriverError} (Err x) y → x ≡ y
+error_is h = cc
 
 pub keeps_none : (s : State) → Keeps s s
 keeps_none s = record { kind = refl; handed = omega arith; faults = omega arith; drifts = omega arith; no_drift = λ told. refl; unread = omega arith }
@@ -43,7 +44,7 @@ moved_none a = record {
   sources = refl;
   settings = refl;
   trace = refl;
-  drivers = record { size = refl; each = λ i x y hx hy. subst (λ s. Quiet x s) (some_same (sym hx ∙ hy)) (quiet_none x) };
+  drivers = record { size = refl; each = λ i x y hx hy. subst (λ s. Quiet x s) (same_Some _ _ (sym hx ∙ hy)) (quiet_none x) };
 }
 
 pub moved_then : (a b c : World) → Moved a b → Moved b c → Moved a c
@@ -107,6 +108,6 @@ quiet_steps i ds es P calm s = record {
   size = s.size;
   each = λ j x y hx hy. ⊎_elim
       (λ is. calm x y (s.here x y (ap (slice_get ds) (sym is) ∙ hx) (ap (slice_get es) (sym is) ∙ hy)))
-      (λ ne. subst (λ q. Quiet x q) (some_same (sym hx ∙ sym (s.others j ne) ∙ hy)) (quiet_none x))
+      (λ ne. subst (λ q. Quiet x q) (same_Some _ _ (sym hx ∙ sym (s.others j ne) ∙ hy)) (quiet_none x))
       (cases_eq j i);
 }

@@ -1,5 +1,5 @@
 -- Asks: which of them a driver can be asked, and what they answer.
-use Rattle.std.specs.Prelude.{◌≡◌, ◌==◌, Bool, false, ◌&&◌, ◌||◌, List, [], ◌∷◌, length, map, filter, cond, nat_eq, Option, Some, None, IsSome}
+use Rattle.std.specs.Prelude.{◌≡◌, ◌==◌, Bool, false, ◌&&◌, ◌||◌, List, [], length, map, filter, cond, nat_eq, Option, Some, None, IsSome}
 use Rattle.std.specs.List.{AllByRecursion, list_all, list_any}
 use Rattle.std.specs.List.Sorted.{IsStrictlySortedBy}
 use Rattle.std.specs.Cmp.Lexicographic.{pointwise}
@@ -12,7 +12,7 @@ use Rattle.kl_value.specs.declared.Kind.{Kind}
 use Rattle.kl_value.specs.declared.Kind.TheVariants as kind
 use Rattle.kl_value.specs.declared.Value.{Value}
 use Rattle.kl_value.specs.declared.Value.TheVariants as value
-use Rattle.kl_type.specs.Ground.{Ground, Row, rec, coll, no_row, row, at}
+use Rattle.kl_type.specs.Ground.{Ground, Row, rec, coll, no_row, row, at, labels_in}
 use Rattle.kl_outcome.specs.Outcome.{Name, as_record}
 use Rattle.kl_outcome.specs.Typed.{Inhabits}
 use Rattle.kl_ask.specs.declared.ask.Abilities.{Abilities}
@@ -34,13 +34,9 @@ abbrev pub kind_of : Ground → Kind
 kind_of (coll k t) = k
 kind_of t = kind.List
 
-abbrev pub row_labels : Row → List Name
-row_labels no_row = []
-row_labels (row l t r) = l ∷ row_labels r
-
 -- the columns of rows of a type, which has none where it is no record type, and the type of one of them
 abbrev pub columns : Ground → List Name
-columns (rec r) = row_labels r
+columns (rec r) = labels_in r
 columns t = []
 
 abbrev pub column : Name → Ground → Option Ground

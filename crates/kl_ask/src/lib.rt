@@ -1,4 +1,7 @@
 //! Asks, the drivers that answer them, and the session that owns the drivers while a program runs.
+//!
+//! What `rt plant` lets through here: bodies that answer want of memory, which no contract of this project ties to a
+//! refused growth. A test with ample memory calls each public function.
 #![tactic(auto)]
 
 mod ask;

@@ -5,8 +5,8 @@ use Rattle.kl_lex.specs.declared.token.Sym.TheVariants as sy
 use Rattle.kl_lex.specs.declared.token.Placed.{Placed}
 use Rattle.kl_phrase.specs.Words.{Phrase, One, Then, Behind, Before, Many}
 use Rattle.kl_phrase.specs.Readers.{Why, Reader, one, behind, before, both, goes, turns, loop, many}
-use Rattle.kl_phrase.proofs.Theory.{Good, On, Has, good_one, good_made, good_both, good_behind, good_before, good_many}
-use Rattle.kl_phrase.proofs.Firsts.{Stops, on_made, on_behind, has_then, has_behind, has_before, has_many}
+use Rattle.kl_phrase.proofs.Theory.{Good, On, Has, good_one, good_made, good_both, good_behind, good_before, good_many, on_behind, has_behind}
+use Rattle.kl_phrase.proofs.Firsts.{Stops, on_made, has_then, has_before, has_many}
 use Rattle.kl_phrase.proofs.Kept.{Keeps, Takes, Rests, keeps_one, keeps_made, keeps_both, keeps_behind, keeps_before, keeps_many, takes_one, takes_made, takes_behind}
 use Rattle.kl_phrase.proofs.Exact.{IsBad, Nested, Each, Exactly}
 use Rattle.kl_type.specs.declared.ground.Ty.{Ty}

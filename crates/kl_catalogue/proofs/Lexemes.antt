@@ -3,17 +3,14 @@ use Rattle.std.proofs.Common.{◌≡◌, ℕ, Bool, true, false, List, Some, cod
 use Rattle.std.proofs.lemmas.Slice.Eq.{bytes_eq-Decides}
 use Rattle.kl_lex.specs.declared.token.Tok.{Tok}
 use Rattle.kl_lex.specs.declared.token.Tok.TheVariants as tok
-use Rattle.kl_lex.specs.declared.token.Placed.{Placed}
 use Rattle.kl_phrase.specs.Words.{One}
-use Rattle.kl_phrase.proofs.Theory.{Decides, On, Has}
+use Rattle.kl_phrase.proofs.Theory.{Decides, On, Has, only_true}
 use Rattle.kl_phrase.proofs.Firsts.{on_one, has_one}
-use Rattle.kl_type.specs.Descent.{only_of}
-use Rattle.kl_catalogue.specs.Keywords.{is_keyword}
+use Rattle.kl_type.proofs.TokenLemmas.{a_token, word_is}
+use Rattle.kl_phrase.specs.Readers.{only}
+use Rattle.kl_lex.specs.Keywords.{is_keyword}
 use Rattle.kl_catalogue.specs.Grammar.{IsSource, IsName, IsText}
 use Rattle.kl_catalogue.specs.Descent.{is_source_at, is_source, a_source, unless_keyword, a_name_at, a_name, a_text_at, a_text}
-
-abbrev a_token : Tok → Placed
-a_token w = record { what = w; from = 0; to = 0 }
 
 -- ---- "source"
 
@@ -27,12 +24,8 @@ source_at (tok.Text w) h = absurd cc
 at_source : (w : Tok) → w ≡ tok.Word (codes "source") → is_source_at w ≡ true
 at_source w e = subst (λ (z : Tok). is_source_at z ≡ true) (sym e) refl
 
-marked : (b : Bool) (x : Unit {0}) → only_of b ≡ Some x → b ≡ true
-marked true x h = refl
-marked false x h = absurd cc
-
 pub decides_source : Decides IsSource a_source
-decides_source = (λ t x h. source_at t.what (marked (is_source t) x h), λ t x h. ap only_of (at_source t.what h))
+decides_source = (λ t x h. source_at t.what (only_true (is_source t) x h), λ t x h. ap only (at_source t.what h))
 
 pub on_source : On is_source (One IsSource)
 on_source = on_one (λ t x h. at_source t.what h)
@@ -44,11 +37,10 @@ named true w x h = absurd cc
 named false w x h = let k : w ≡ x = cc in (k, refl)
 
 name_at : (w : Tok) (x : List ℕ) → a_name_at w ≡ Some x → (w ≡ tok.Word x) × (is_keyword x ≡ false)
-name_at (tok.Sym s) x h = absurd cc
-name_at (tok.Word w) x h = let k = named (is_keyword w) w x h in (ap tok.Word k.0, subst (λ (z : List ℕ). is_keyword z ≡ false) k.0 k.1)
-name_at (tok.Int n) x h = absurd cc
-name_at tok.Big x h = absurd cc
-name_at (tok.Text w) x h = absurd cc
+name_at w x h =
+    let (v, is, free) = word_is (λ word. unless_keyword (is_keyword word) word) w x h in
+    let k = named (is_keyword v) v x free in
+    (is ∙ ap tok.Word k.0, subst (λ (z : List ℕ). is_keyword z ≡ false) k.0 k.1)
 
 pub decides_name : Decides IsName a_name
 decides_name = (λ t x h. name_at t.what x h, λ t x h. ap a_name_at h.0 ∙ ap (λ (b : Bool). unless_keyword b x) h.1)

@@ -1,42 +1,30 @@
 -- What the code's steps say of the descent.
-use Rattle.std.proofs.Common.{◌≡◌, ℕ, ◌+◌, ◌≤◌, ◌<◌, ◌^◌, Bool, true, false, List, [], ◌∷◌, ◌++◌, map, length, Some, None, refl, ap, subst, ◌∙◌, length-append, arith}
+use Rattle.std.proofs.Common.{◌≡◌, ℕ, ◌≤◌, ◌<◌, ◌^◌, Bool, true, false, List, [], ◌∷◌, ◌++◌, map, length, Some, None, refl, ap, subst, ◌∙◌, arith}
 use Rattle.kl_lex.specs.declared.token.Sym.TheVariants as sy
-use Rattle.kl_lex.specs.declared.token.Tok.{Tok}
-use Rattle.kl_lex.specs.declared.token.Tok.TheVariants as tok
 use Rattle.kl_lex.specs.declared.token.Placed.{Placed}
 use Rattle.kl_lex.specs.Lexing.{PlacesRise}
 use Rattle.kl_lex.specs.Placing.{token_of}
 use Rattle.kl_phrase.specs.Words.{heads}
-use Rattle.kl_phrase.specs.Readers.{Why, bad, deep, Out, ok, fail, Reader, after, behind, before, one}
-use Rattle.kl_phrase.proofs.Kept.{Rests}
-use Rattle.kl_phrase.proofs.Gathered.{Progress, goes_on, breaks}
+use Rattle.kl_phrase.specs.Readers.{Why, bad, Out, ok, fail, Reader, after, behind, before, one}
+use Rattle.kl_phrase.proofs.Kept.{Rests, rest_less}
+use Rattle.kl_phrase.proofs.Gathered.{Progress, goes_on, part_fails}
 use Rattle.kl_phrase.specs.declared.fault.Fault.{Fault}
-use Rattle.kl_phrase.specs.declared.fault.Fault.TheVariants as fault
 use Rattle.kl_phrase.specs.Gives.{Fails}
 use Rattle.kl_type.specs.Texts.{byte_of}
-use Rattle.kl_type.specs.Descent.{is_word, is_word_at, mark, reads}
+use Rattle.kl_type.specs.Descent.{is_word, mark, reads}
+use Rattle.kl_type.proofs.Steps.{AheadWord}
 use Rattle.kl_catalogue.specs.declared.reading.Entry.{Entry}
-use Rattle.kl_catalogue.specs.Keywords.{is_keyword}
+use Rattle.kl_lex.specs.Keywords.{is_keyword}
 use Rattle.kl_catalogue.specs.Grammar.{Parts, entry_of}
 use Rattle.kl_catalogue.specs.Descent as d
 use Rattle.kl_catalogue.specs.Descent.{is_source, a_source, unless_keyword, a_name, a_name_at}
 use Rattle.kl_catalogue.proofs.Goods.{rests_entry, rests_catalogue}
+use Rattle.kl_type.proofs.TokenLemmas.{no_word}
 
 -- ---- names
 
-abbrev pub AheadWord : List ℕ → List Placed → List Placed → Type 0
-AheadWord w rest more = (t : Placed) × (rest ≡ t ∷ more) × (t.what ≡ tok.Word w)
-
 pub no_name : (ts : List Placed) → heads is_word ts ≡ false → one a_name ts ≡ fail bad ts
-no_name [] h = refl
-no_name (t ∷ ts) h = rw (at t.what h) refl
-  where
-    at : (w : Tok) → is_word_at w ≡ false → a_name_at w ≡ None
-    at (tok.Sym found) h = refl
-    at (tok.Word w) h = absurd cc
-    at (tok.Int n) h = refl
-    at tok.Big h = refl
-    at (tok.Text w) h = refl
+no_name = no_word (λ word. unless_keyword (is_keyword word) word)
 
 pub name_taken : (ts more : List Placed) (w : List ℕ) → AheadWord w ts more → is_keyword w ≡ true → one a_name ts ≡ fail bad ts
 name_taken ts more w (t, e, h) k = let z : a_name t ≡ None = ap a_name_at h ∙ ap (λ (b : Bool). unless_keyword b w) k in rw (e, z) refl
@@ -65,18 +53,13 @@ entry_at : (rest more : List Placed) → AheadSource rest more → AnEntry rest 
 entry_at rest more a = ap (λ (o : Out Placed Parts). after {B = Entry} o (λ x s. ok (entry_of x) s)) (behind_source rest more a)
 
 pub entry_less : (rest more r : List Placed) (a : Entry) → AheadSource rest more → d.entry_rest (reads 256) more ≡ ok a r → length r < length rest
-entry_less rest more r a (t, e, h) i = go (subst (λ (o : Out Placed Entry). Rests more o) i (rests_entry 256 more))
-  where
-    go : Rests {A = Entry} more (ok a r) → length r < length rest
-    go (u, eu) = let k : length rest ≡ length (t ∷ more) = ap length e in let l : length more ≡ length u + length r = ap length eu ∙ length-append u r in omega arith
+entry_less rest more r a (t, e, h) i = rest_less t rest more r a (d.entry_rest (reads 256) more) e (rests_entry 256 more) i
 
 pub entry_on : (list : Out Placed (List Entry)) (found : List Entry) (rest more r : List Placed) (a : Entry) → AheadSource rest more → d.entry_rest (reads 256) more ≡ ok a r → Progress is_source AnEntry list found rest → Progress is_source AnEntry list (found ++ a ∷ []) r
 entry_on list found rest more r a ahead e so = goes_on is_source AnEntry list found rest r a (heads_source rest more ahead) (entry_at rest more ahead ∙ e) (entry_less rest more r a ahead e) so
 
 pub entry_fails : (list : Out Placed (List Entry)) (found : List Entry) (rest more : List Placed) (f : Fault Placed) → AheadSource rest more → Fails f (d.entry_rest (reads 256) more) → Progress is_source AnEntry list found rest → Fails f list
-entry_fails list found rest more fault.Memory ahead h so = tt
-entry_fails list found rest more (fault.Bad r) ahead h so = breaks is_source AnEntry list found rest bad r.now (heads_source rest more ahead) (entry_at rest more ahead ∙ h) so
-entry_fails list found rest more (fault.Deep r) ahead h so = breaks is_source AnEntry list found rest deep r.now (heads_source rest more ahead) (entry_at rest more ahead ∙ h) so
+entry_fails list found rest more f ahead = part_fails is_source AnEntry (d.entry_rest (reads 256) more) list found rest f (heads_source rest more ahead) (λ w s e. entry_at rest more ahead ∙ e)
 
 -- ---- places take no more than 32 bits
 

@@ -6,11 +6,11 @@ use Rattle.kl_lex.specs.declared.token.Sym.TheVariants as sym
 use Rattle.kl_lex.specs.declared.token.Tok.{Tok}
 use Rattle.kl_lex.specs.declared.token.Tok.TheVariants as tok
 use Rattle.kl_lex.specs.declared.token.Placed.{Placed}
-use Rattle.kl_phrase.specs.Readers.{Reader, one, both, behind, before, made, many}
+use Rattle.kl_phrase.specs.Readers.{Reader, one, both, behind, before, made, many, only}
 use Rattle.kl_type.specs.declared.ground.Ty.{Ty}
-use Rattle.kl_type.specs.Descent.{mark, only_of, reads}
+use Rattle.kl_type.specs.Descent.{mark, reads, of_word}
 use Rattle.kl_catalogue.specs.declared.reading.Entry.{Entry}
-use Rattle.kl_catalogue.specs.Keywords.{is_keyword}
+use Rattle.kl_lex.specs.Keywords.{is_keyword}
 use Rattle.kl_catalogue.specs.Grammar.{Parts, entry_of}
 
 -- ---- one token
@@ -23,15 +23,14 @@ abbrev pub is_source : Placed → Bool
 is_source t = is_source_at t.what
 
 abbrev pub a_source : Placed → Option (Unit {0})
-a_source t = only_of (is_source t)
+a_source t = only (is_source t)
 
 abbrev pub unless_keyword : Bool → List ℕ → Option (List ℕ)
 unless_keyword true word = None
 unless_keyword false word = Some word
 
 abbrev pub a_name_at : Tok → Option (List ℕ)
-a_name_at (tok.Word word) = unless_keyword (is_keyword word) word
-a_name_at _ = None
+a_name_at = of_word (λ word. unless_keyword (is_keyword word) word)
 
 abbrev pub a_name : Placed → Option (List ℕ)
 a_name t = a_name_at t.what

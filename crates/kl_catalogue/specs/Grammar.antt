@@ -7,7 +7,7 @@ use Rattle.kl_phrase.specs.Words.{Phrase, One, Then, Behind, Before, Many, Made}
 use Rattle.kl_type.specs.declared.ground.Ty.{Ty}
 use Rattle.kl_type.specs.Grammar.{Symbol, Reads}
 use Rattle.kl_catalogue.specs.declared.reading.Entry.{Entry}
-use Rattle.kl_catalogue.specs.Keywords.{is_keyword}
+use Rattle.kl_lex.specs.Keywords.{is_keyword}
 
 -- ---- one token
 

@@ -1,4 +1,3 @@
 pub mod Descent
 pub mod Grammar
-pub mod Keywords
 pub mod Reading

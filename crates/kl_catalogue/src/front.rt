@@ -7,9 +7,8 @@ ghost use Rattle.kl_phrase.specs.Readers.{one};
 ghost use Rattle.kl_phrase.specs.Gives.{Gives};
 ghost use Rattle.kl_catalogue.specs.Descent.{is_source, a_name, a_text};
 
-use crate::keyword::is_keyword;
 use kl_base::{Label, Text};
-use kl_lex::{Placed, Tok};
+use kl_lex::{Placed, Tok, is_keyword};
 use kl_phrase::Fault;
 use kl_type::word_at;
 use std::alloc::Global;
@@ -31,6 +30,9 @@ pub fn source(tokens: &[Placed]) -> Option<&[Placed]>
 }
 
 /// A word that is no keyword.
+///
+/// # Errors
+/// `Fault::Bad` with these tokens, where none comes. `Fault::Memory`.
 pub fn name(tokens: &[Placed]) -> Result<(Label, &[Placed]), Fault<'_, Placed>>
     ensures { Gives (λ x. x.0) (λ x. x.1.now) result (one a_name tokens.now) }
 {
@@ -46,6 +48,9 @@ pub fn name(tokens: &[Placed]) -> Result<(Label, &[Placed]), Fault<'_, Placed>>
 }
 
 /// A text.
+///
+/// # Errors
+/// `Fault::Bad` with these tokens, where none comes. `Fault::Memory`.
 pub fn text(alloc: Global, tokens: &[Placed]) -> Result<(Text, &[Placed]), Fault<'_, Placed>>
     ensures { Gives (λ x. x.0) (λ x. x.1.now) result (one a_text tokens.now) }
 {

@@ -9,7 +9,6 @@
 #![tactic(auto)]
 
 mod front;
-mod keyword;
 mod reading;
 
 pub use reading::{Catalogue, CatalogueError, Entry, catalogue_laws, read_catalogue};

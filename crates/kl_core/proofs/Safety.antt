@@ -5,13 +5,13 @@ use Rattle.std.specs.List.Sorted.{IsStrictlySortedBy}
 use Rattle.std.proofs.lemmas.Cmp.{nat_list_eq_equiv}
 use Rattle.kl_base.specs.Fields.{bytes_cmp, labels_of}
 use Rattle.kl_value.specs.declared.Value.{Value}
-use Rattle.kl_type.specs.Ground.{Ground, Row, rec as rec_type, at}
+use Rattle.kl_type.specs.Ground.{Ground, Row, rec as rec_type, at, labels_in}
 use Rattle.kl_prim.specs.Table.{meaning}
 use Rattle.kl_outcome.specs.Outcome.{Name, Outcome, stuck, outcome_of, answered, recorded, items_of, drawn}
 use Rattle.kl_outcome.specs.Typed.{Inhabits, HaveTypes, OfType}
 use Rattle.kl_core.specs.Trees.{Tree, var, con, source, rec, proj, inj, case_of, make, union, ext, choice, bind, prim, Trees, no_trees, trees, Parts, no_parts, parts, Arms, no_arms, rest, arm}
 use Rattle.kl_core.specs.Core.{Tables, core, core_all, core_items, core_parts, core_arms}
-use Rattle.kl_core.specs.Typing.{SourceTypes, CoreTypes, EachType, AllTypes, PartTypes, ArmTypes, HasArm, HaveSources, labels_in}
+use Rattle.kl_core.specs.Typing.{SourceTypes, CoreTypes, EachType, AllTypes, PartTypes, ArmTypes, HasArm, HaveSources}
 use Rattle.kl_outcome.proofs.OutcomeTypes.{never_of, after_typed, choice_typed, part_typed, recorded_typed, PartsOf, tagged_typed, cases_typed, args_then_typed, ArgsOf, FlowOf, drawn_typed, items_typed, item_typed, collected_typed, union_typed}
 use Rattle.kl_outcome.proofs.PrimLemmas.{prim_typed}
 

@@ -1,6 +1,7 @@
 -- Free positions, moved and replaced (de Bruijn).
 use Rattle.std.specs.Prelude.{ℕ, ◌+◌, ◌-◌, ◌<◌, ◌^◌, max, Bool, false, ◌||◌, cond, nat_eq, nat_lt, ⊤}
 use Rattle.kl_core.specs.Trees.{Tree, var, con, source, rec, proj, inj, case_of, make, union, ext, choice, bind, prim, Trees, no_trees, trees, Parts, no_parts, parts, Arms, no_arms, rest, arm}
+use Rattle.kl_core.specs.Leaves.{Leaves, LeavesOfTrees, LeavesOfParts, LeavesOfArms}
 
 -- a position at or above `from` is raised
 abbrev pub raised : ℕ → ℕ → ℕ → ℕ
@@ -100,34 +101,23 @@ abbrev mutual
   binders_arms (arm l b bs) = max (binders b + 1) (binders_arms bs)
 
 -- no position passes 32 bits
-abbrev mutual
-  pub InRange : Tree → Type 0
-  InRange (var x) = x < 2 ^ 32
-  InRange (con v) = ⊤
-  InRange (source i) = ⊤
-  InRange (rec ps) = PartsInRange ps
-  InRange (proj l a) = InRange a
-  InRange (inj l a) = InRange a
-  InRange (case_of a bs) = InRange a × ArmsInRange bs
-  InRange (make k ts) = TreesInRange ts
-  InRange (union a b) = InRange a × InRange b
-  InRange (ext k b s) = InRange b × InRange s
-  InRange (choice a b c) = InRange a × InRange b × InRange c
-  InRange (bind a b) = InRange a × InRange b
-  InRange (prim c ts) = TreesInRange ts
+abbrev pub FitsWord : ℕ → Type 0
+FitsWord x = x < 2 ^ 32
 
-  pub TreesInRange : Trees → Type 0
-  TreesInRange no_trees = ⊤
-  TreesInRange (trees t ts) = InRange t × TreesInRange ts
+abbrev pub AnySource : ℕ → Type 0
+AnySource i = ⊤
 
-  pub PartsInRange : Parts → Type 0
-  PartsInRange no_parts = ⊤
-  PartsInRange (parts l t ps) = InRange t × PartsInRange ps
+abbrev pub InRange : Tree → Type 0
+InRange = Leaves FitsWord AnySource
 
-  pub ArmsInRange : Arms → Type 0
-  ArmsInRange no_arms = ⊤
-  ArmsInRange (rest c) = InRange c
-  ArmsInRange (arm l b bs) = InRange b × ArmsInRange bs
+abbrev pub TreesInRange : Trees → Type 0
+TreesInRange = LeavesOfTrees FitsWord AnySource
+
+abbrev pub PartsInRange : Parts → Type 0
+PartsInRange = LeavesOfParts FitsWord AnySource
+
+abbrev pub ArmsInRange : Arms → Type 0
+ArmsInRange = LeavesOfArms FitsWord AnySource
 
 -- whether a free position stands in it
 abbrev mutual

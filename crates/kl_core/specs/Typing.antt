@@ -4,7 +4,7 @@ use Rattle.std.specs.List.Sorted.{IsStrictlySortedBy}
 use Rattle.kl_base.specs.Fields.{bytes_cmp}
 use Rattle.kl_value.specs.declared.Kind.{Kind}
 use Rattle.kl_value.specs.declared.Value.{Value}
-use Rattle.kl_type.specs.Ground.{Ground, Row, bool, rec as rec_type, var as var_type, coll, no_row, row, at}
+use Rattle.kl_type.specs.Ground.{Ground, Row, bool, rec as rec_type, var as var_type, coll, no_row, row, at, labels_in}
 use Rattle.kl_outcome.specs.Outcome.{Name}
 use Rattle.kl_outcome.specs.Typed.{Inhabits, PrimTypes}
 use Rattle.kl_core.specs.Trees.{Tree, var, con, source, rec, proj, inj, case_of, make, union, ext, choice, bind, prim, Trees, no_trees, trees, Parts, no_parts, parts, Arms, no_arms, rest, arm}
@@ -12,10 +12,6 @@ use Rattle.kl_core.specs.Trees.{Tree, var, con, source, rec, proj, inj, case_of,
 -- the type of each source, where there is one
 abbrev pub SourceTypes : Type 0
 SourceTypes = ℕ → Option Ground
-
-abbrev pub labels_in : Row → List Name
-labels_in no_row = []
-labels_in (row l t r) = l ∷ labels_in r
 
 -- a branch for the label, or one for all that are left
 abbrev pub HasArm : Name → Arms → Type 0

@@ -23,21 +23,7 @@ use Rattle.kl_desugar.specs.Layers.{Layered, missed, wrapped}
 use Rattle.kl_desugar.specs.Opening.{Opens}
 use Rattle.kl_desugar.specs.States.{Asks, field_of, arm_of}
 use Rattle.kl_desugar.proofs.Wrapping.{matched_is, quals_are}
-
-pub view_Name : (x : Word) → view (expr.Name x) ≡ name x
-view_Name x = search (rules, the_lemmas)
-
-pub view_Not : (a : Expr) → view (expr.Not a) ≡ invert (view a)
-view_Not a = search (rules, the_lemmas)
-
-pub view_Coll : (k : Kind) (es : List Expr) → view (expr.Coll k es) ≡ coll k (exps_of (map view es))
-view_Coll k es = search (rules, the_lemmas)
-
-pub view_Comp : (k : Kind) (e : Expr) (qs : List Qual) → view (expr.Comp k e qs) ≡ comp k (view e) (quals_view qs)
-view_Comp k e qs = search (rules, the_lemmas)
-
-pub view_Let : (p : Pattern) (a b : Expr) → view (expr.Let p a b) ≡ bind (pattern_view p) (view a) (view b)
-view_Let p a b = search (rules, the_lemmas)
+use Rattle.kl_syntax.proofs.Views.{view_Coll, view_Comp, view_Let, view_Rec, view_Case, branch_seen, view_Call, view_Inj, view_Path, view_Chain}
 
 trees_are : (es : List Expr) (codes : Codes) (S : Scope) → tree_all (exps_of (map view es)) codes S ≡ term.trees_of (map (λ e. tree (view e) codes S) es)
 trees_are [] codes S = refl
@@ -68,9 +54,6 @@ pub within_ok : {X : Type 0} (r : Result Term X) (p : Pattern) (e : Expr) (codes
 within_ok (Ok u) p e codes S R Q ls t m o h f = within_is p e codes S R Q ls t u m o h f
 within_ok (Err x) p e codes S R Q ls t m o h f = tt
 
-view_Rec : (fs : List (Word × Expr)) → view (expr.Rec fs) ≡ fields (fields_view fs)
-view_Rec fs = search (rules, the_lemmas)
-
 fields_are : (fs : List (Word × Expr)) (codes : Codes) (S : Scope) → tree_fields (fields_view fs) codes S ≡ map (field_of codes S) fs
 fields_are [] codes S = refl
 fields_are (f ∷ fs) codes S = ap (λ z. field_of codes S f ∷ z) (fields_are fs codes S)
@@ -79,12 +62,6 @@ pub rec_ok : {X : Type 0} (r : Result Term X) (e : Expr) (fs gs : List (Word × 
     → map view_part ts ≡ map (field_of codes S) gs → IfOk r (λ t. term.view t ≡ term.rec (term.parts_of (in_order (map view_part ts)))) → IfOk r (λ t. term.view t ≡ tree (view e) codes S)
 rec_ok (Ok t) e fs gs ts codes S p q h w = rw (p, view_Rec, w, h, q) (ap (λ z. term.rec (term.parts_of (in_order z))) (sym (fields_are fs codes S)))
 rec_ok (Err x) e fs gs ts codes S p q h w = tt
-
-view_Case : (a : Expr) (bs : List Branch) (c : Option Expr) → view (expr.Case a bs c) ≡ select (view a) (branches_view bs c)
-view_Case a bs c = search (rules, the_lemmas)
-
-branch_seen : (b : Branch) (last : Branches) → branch_view b last ≡ branch (out-Branch b).label (pattern_view (out-Branch b).pat) (view (out-Branch b).body) last
-branch_seen b last = search (rules, branch_lemmas)
 
 branches_are : (bs : List Branch) (last : Branches) (codes : Codes) (S : Scope) → tree_branches (branches_of (map branch_view bs) last) codes S ≡ term.arms_of (map (arm_of codes S) bs) (tree_branches last codes S)
 branches_are [] last codes S = refl
@@ -101,21 +78,6 @@ case_is e a b bs cs c d t ts us u codes S i j k l m h g f =
 pub decl_then : (p : Option Pattern) (d : Decl) (ds : Decls) (codes : Codes) → codes_after (decl_of p d ds) codes ≡ codes_after ds (codes_after (decl_of p d no_decls) codes)
 decl_then (Some p) d ds codes = refl
 decl_then None d ds codes = refl
-
-pub view_Neg : (a : Expr) → view (expr.Neg a) ≡ minus (view a)
-view_Neg a = search (rules, the_lemmas)
-
-view_Call : (f : Word) (es : List Expr) → view (expr.Call f es) ≡ call f (exps_of (map view es))
-view_Call f es = search (rules, the_lemmas)
-
-view_Inj : (l : Word) (a : Expr) → view (expr.Inj l a) ≡ inject l (view a)
-view_Inj l a = search (rules, the_lemmas)
-
-view_Path : (a : Expr) (ws : List Word) → view (expr.Path a ws) ≡ path (view a) ws
-view_Path a ws = search (rules, the_lemmas)
-
-view_Chain : (a : Expr) (ss : List (Op × Expr)) → view (expr.Chain a ss) ≡ chain (view a) (steps_view ss)
-view_Chain a ss = search (rules, the_lemmas)
 
 pub call_is : (e : Expr) (f : Word) (es fs : List Expr) (ts : List Term) (u : Tree) (codes : Codes) (S : Scope) → e ≡ expr.Call f es → fs ≡ es
     → map term.view ts ≡ map (λ e. tree (view e) codes S) fs → u ≡ called_tree (codes f.text) (term.trees_of (map term.view ts)) → u ≡ tree (view e) codes S

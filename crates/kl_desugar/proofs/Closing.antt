@@ -1,7 +1,7 @@
 -- No position is free in the term of a program.
 use Rattle.std.proofs.Common.{◌≡◌, ℕ, suc, ◌+◌, ◌-◌, ◌<◌, ◌≤◌, Bool, true, false, ◌||◌, cond, List, [], ◌∷◌, length, Option, Some, None, refl, arith}
 use Rattle.std.specs.List.{AllByRecursion}
-use Rattle.std.proofs.lemmas.Bool.{ne_eqb}
+use Rattle.std.proofs.lemmas.Bool.{ne_eqb, or_from}
 use Rattle.kl_value.specs.declared.Kind.{Kind}
 use Rattle.kl_outcome.specs.Outcome.{Name}
 use Rattle.kl_syntax.specs.declared.tree.Op.{Op}
@@ -26,9 +26,6 @@ AllBelow n ts = (m : ℕ) → n ≤ m → occurs_trees m ts ≡ false
 
 abbrev ArmsBelow : ℕ → Arms → Type 0
 ArmsBelow n bs = (m : ℕ) → n ≤ m → occurs_arms m bs ≡ false
-
-neither : (a b : Bool) → a ≡ false → b ≡ false → (a || b) ≡ false
-neither a b h k = rw (h, k) refl
 
 under : (n m : ℕ) → n ≤ m → suc n ≤ m + 1
 under n m h = omega (arith, h)
@@ -92,7 +89,7 @@ place_below (here m) n h = at_below m n h
 place_below (inside l t) n h = place_below t n h
 
 tested_below : (t u a e : Tree) (n : ℕ) → Below n t → Below n u → Below n a → Below 0 e → Below n (tested t u a e)
-tested_below t u a e n h k g z = λ m le. neither _ _ (neither _ _ (h m le) (neither _ _ (k m le) refl)) (neither _ _ (g m le) (z m (omega arith)))
+tested_below t u a e n h k g z = λ m le. or_from _ _ (or_from _ _ (h m le) (or_from _ _ (k m le) refl)) (or_from _ _ (g m le) (z m (omega arith)))
 
 -- ---- patterns
 
@@ -100,14 +97,14 @@ module _ (codes : Codes) (closed : CodesBelow codes) where
   module _ (S : Scope) (e : Tree) (missed : Below 0 e) where
     mutual
       matched_below : (p : Pat) (t : Place) (R : Scope) (A : Scope → Tree) → length S ≤ length R → PlaceIn t (length R) → ((Q : Scope) → length R ≤ length Q → Below (length Q) (A Q)) → Below (length R) (matched p t codes S e A R)
-      matched_below (catch x) t R A le at h = λ m g. neither _ _ (place_below t (length R) at m g) (h (Some x.text ∷ R) (omega arith) (m + 1) (under (length R) m g))
+      matched_below (catch x) t R A le at h = λ m g. or_from _ _ (place_below t (length R) at m g) (h (Some x.text ∷ R) (omega arith) (m + 1) (under (length R) m g))
       matched_below any t R A le at h = h R (omega arith)
       matched_below (same x) t R A le at h = tested_below (place_tree t (length R)) (name_tree codes S x.text (length R)) (A R) e (length R) (place_below t (length R) at) (name_below codes S x.text (length R) closed le) (h R (omega arith)) missed
       matched_below (is v n) t R A le at h = tested_below (place_tree t (length R)) (term.con v) (A R) e (length R) (place_below t (length R) at) (λ m g. refl) (h R (omega arith)) missed
       matched_below (shape ps dots) t R A le at h = pats_below ps t R A le at h
       matched_below (variant l p) t R A le at h =
           let inner : Below (suc (length R)) (matched p (here (length R)) codes S e A (None ∷ R)) = matched_below p (here (length R)) (None ∷ R) A (omega (arith, le)) (omega arith) (λ Q g. h Q (omega (arith, g))) in
-          λ m g. neither _ _ (place_below t (length R) at m g) (neither _ _ (inner (m + 1) (under (length R) m g)) (missed m (omega arith)))
+          λ m g. or_from _ _ (place_below t (length R) at m g) (or_from _ _ (inner (m + 1) (under (length R) m g)) (missed m (omega arith)))
 
       pats_below : (ps : Pats) (t : Place) (R : Scope) (A : Scope → Tree) → length S ≤ length R → PlaceIn t (length R) → ((Q : Scope) → length R ≤ length Q → Below (length Q) (A Q)) → Below (length R) (matched_fields ps t codes S e A R)
       pats_below no_pats t R A le at h = h R (omega arith)
@@ -121,7 +118,7 @@ module _ (codes : Codes) (closed : CodesBelow codes) where
   -- ---- expressions
 
   call_below : (c : Code) (ts : Trees) (n : ℕ) → CodeBelow c → AllBelow n ts → Below n (called_tree c ts)
-  call_below (function_by t) (trees a no_trees) n h k = λ m g. neither _ _ (first (occurs_in m a) (k m g)) (h (m + 1) (omega arith))
+  call_below (function_by t) (trees a no_trees) n h k = λ m g. or_from _ _ (first (occurs_in m a) (k m g)) (h (m + 1) (omega arith))
     where
       first : (b : Bool) → (b || false) ≡ false → b ≡ false
       first true h = h
@@ -133,19 +130,19 @@ module _ (codes : Codes) (closed : CodesBelow codes) where
   call_below translation.nothing ts n h k = λ m g. refl
 
   operated_below : (c : Op) (a b : Tree) (n : ℕ) → Below n a → Below n b → Below n (operated_tree c a b)
-  operated_below op.And a b n h k = λ m g. neither _ _ (h m g) (neither _ _ (k m g) refl)
-  operated_below op.Or a b n h k = λ m g. neither _ _ (h m g) (k m g)
-  operated_below op.Append a b n h k = λ m g. neither _ _ (h m g) (k m g)
-  operated_below op.Eq a b n h k = λ m g. neither _ _ (h m g) (neither _ _ (k m g) refl)
-  operated_below op.Ne a b n h k = λ m g. neither _ _ (h m g) (neither _ _ (k m g) refl)
-  operated_below op.Lt a b n h k = λ m g. neither _ _ (h m g) (neither _ _ (k m g) refl)
-  operated_below op.Le a b n h k = λ m g. neither _ _ (h m g) (neither _ _ (k m g) refl)
-  operated_below op.Gt a b n h k = λ m g. neither _ _ (h m g) (neither _ _ (k m g) refl)
-  operated_below op.Ge a b n h k = λ m g. neither _ _ (h m g) (neither _ _ (k m g) refl)
-  operated_below op.Add a b n h k = λ m g. neither _ _ (h m g) (neither _ _ (k m g) refl)
-  operated_below op.Sub a b n h k = λ m g. neither _ _ (h m g) (neither _ _ (k m g) refl)
-  operated_below op.Mul a b n h k = λ m g. neither _ _ (h m g) (neither _ _ (k m g) refl)
-  operated_below op.Cat a b n h k = λ m g. neither _ _ (h m g) (neither _ _ (k m g) refl)
+  operated_below op.And a b n h k = λ m g. or_from _ _ (h m g) (or_from _ _ (k m g) refl)
+  operated_below op.Or a b n h k = λ m g. or_from _ _ (h m g) (k m g)
+  operated_below op.Append a b n h k = λ m g. or_from _ _ (h m g) (k m g)
+  operated_below op.Eq a b n h k = λ m g. or_from _ _ (h m g) (or_from _ _ (k m g) refl)
+  operated_below op.Ne a b n h k = λ m g. or_from _ _ (h m g) (or_from _ _ (k m g) refl)
+  operated_below op.Lt a b n h k = λ m g. or_from _ _ (h m g) (or_from _ _ (k m g) refl)
+  operated_below op.Le a b n h k = λ m g. or_from _ _ (h m g) (or_from _ _ (k m g) refl)
+  operated_below op.Gt a b n h k = λ m g. or_from _ _ (h m g) (or_from _ _ (k m g) refl)
+  operated_below op.Ge a b n h k = λ m g. or_from _ _ (h m g) (or_from _ _ (k m g) refl)
+  operated_below op.Add a b n h k = λ m g. or_from _ _ (h m g) (or_from _ _ (k m g) refl)
+  operated_below op.Sub a b n h k = λ m g. or_from _ _ (h m g) (or_from _ _ (k m g) refl)
+  operated_below op.Mul a b n h k = λ m g. or_from _ _ (h m g) (or_from _ _ (k m g) refl)
+  operated_below op.Cat a b n h k = λ m g. or_from _ _ (h m g) (or_from _ _ (k m g) refl)
 
   path_below : (ls : List Word) (t : Tree) (n : ℕ) → Below n t → Below n (projected ls t)
   path_below [] t n h = h
@@ -153,7 +150,7 @@ module _ (codes : Codes) (closed : CodesBelow codes) where
 
   parts_below : (ps : List (Name × Tree)) (n : ℕ) → AllByRecursion (λ p. Below n p.1) ps → (m : ℕ) → n ≤ m → occurs_parts m (term.parts_of ps) ≡ false
   parts_below [] n h m g = refl
-  parts_below (p ∷ ps) n h m g = neither _ _ (h.0 m g) (parts_below ps n h.1 m g)
+  parts_below (p ∷ ps) n h m g = or_from _ _ (h.0 m g) (parts_below ps n h.1 m g)
 
   mutual
     tree_below : (e : Exp) (S : Scope) → Below (length S) (tree e codes S)
@@ -163,20 +160,20 @@ module _ (codes : Codes) (closed : CodesBelow codes) where
     tree_below (fields fs) S = parts_below _ (length S) (in_order_all (λ p. Below (length S) p.1) _ (fields_below fs S))
     tree_below (inject l a) S = tree_below a S
     tree_below (coll k es) S = all_below es S
-    tree_below (comp k e qs) S = quals_below qs k (λ R. term.make k (trees (tree e codes R) no_trees)) S (λ Q m g. neither _ _ (tree_below e Q m g) refl)
-    tree_below (choice a b c) S = λ m g. neither _ _ (tree_below a S m g) (neither _ _ (tree_below b S m g) (tree_below c S m g))
+    tree_below (comp k e qs) S = quals_below qs k (λ R. term.make k (trees (tree e codes R) no_trees)) S (λ Q m g. or_from _ _ (tree_below e Q m g) refl)
+    tree_below (choice a b c) S = λ m g. or_from _ _ (tree_below a S m g) (or_from _ _ (tree_below b S m g) (tree_below c S m g))
     tree_below (bind p a b) S =
         let inner = here_below p S no_sense (λ R. tree b codes R) (λ m g. refl) (λ Q. tree_below b Q) in
-        λ m g. neither _ _ (tree_below a S m g) (inner (m + 1) (under (length S) m g))
-    tree_below (select a bs) S = λ m g. neither _ _ (tree_below a S m g) (branches_below bs S m g)
+        λ m g. or_from _ _ (tree_below a S m g) (inner (m + 1) (under (length S) m g))
+    tree_below (select a bs) S = λ m g. or_from _ _ (tree_below a S m g) (branches_below bs S m g)
     tree_below (path a ls) S = path_below ls _ (length S) (tree_below a S)
-    tree_below (invert a) S = λ m g. neither _ _ (tree_below a S m g) refl
-    tree_below (minus a) S = λ m g. neither _ _ (tree_below a S m g) refl
+    tree_below (invert a) S = λ m g. or_from _ _ (tree_below a S m g) refl
+    tree_below (minus a) S = λ m g. or_from _ _ (tree_below a S m g) refl
     tree_below (chain a ss) S = steps_below ss _ S (tree_below a S)
 
     all_below : (es : Exps) (S : Scope) → AllBelow (length S) (tree_all es codes S)
     all_below no_exps S = λ m g. refl
-    all_below (exps e es) S = λ m g. neither _ _ (tree_below e S m g) (all_below es S m g)
+    all_below (exps e es) S = λ m g. or_from _ _ (tree_below e S m g) (all_below es S m g)
 
     fields_below : (fs : Flds) (S : Scope) → AllByRecursion (λ p. Below (length S) p.1) (tree_fields fs codes S)
     fields_below no_flds S = tt
@@ -186,15 +183,15 @@ module _ (codes : Codes) (closed : CodesBelow codes) where
     quals_below no_quals k A S h = h S
     quals_below (draw p s qs) k A S h =
         let inner = here_below p S (empty k) (λ R. tree_quals qs k A codes R) (λ m g. refl) (λ Q. quals_below qs k A Q h) in
-        λ m g. neither _ _ (inner (m + 1) (under (length S) m g)) (tree_below s S m g)
-    quals_below (test c qs) k A S h = λ m g. neither _ _ (tree_below c S m g) (neither _ _ (quals_below qs k A S h m g) refl)
+        λ m g. or_from _ _ (inner (m + 1) (under (length S) m g)) (tree_below s S m g)
+    quals_below (test c qs) k A S h = λ m g. or_from _ _ (tree_below c S m g) (or_from _ _ (quals_below qs k A S h m g) refl)
 
     branches_below : (bs : Branches) (S : Scope) → ArmsBelow (length S) (tree_branches bs codes S)
     branches_below no_branches S = λ m g. refl
     branches_below (otherwise c) S = tree_below c S
     branches_below (branch l p b bs) S =
         let inner = here_below p S no_sense (λ R. tree b codes R) (λ m g. refl) (λ Q. tree_below b Q) in
-        λ m g. neither _ _ (inner (m + 1) (under (length S) m g)) (branches_below bs S m g)
+        λ m g. or_from _ _ (inner (m + 1) (under (length S) m g)) (branches_below bs S m g)
 
     steps_below : (ss : Steps) (a : Tree) (S : Scope) → Below (length S) a → Below (length S) (tree_steps ss a codes S)
     steps_below no_steps a S h = h

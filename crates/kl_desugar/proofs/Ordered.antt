@@ -14,11 +14,7 @@ use Rattle.kl_outcome.proofs.Refining.{Pairs}
 use Rattle.kl_meaning.specs.Run.{by_label, in_order}
 use Rattle.kl_core.specs.declared.term.Term.{Term}
 use Rattle.kl_core.specs.Trees.{view_part}
-
-equal_is : (o : Ordering) → is_eq o ≡ true → o ≡ Equal
-equal_is Less h = absurd (true≢false (sym h))
-equal_is Equal h = refl
-equal_is Greater h = absurd (true≢false (sym h))
+use Rattle.kl_base.proofs.Orders.{tied}
 
 neither : (o : Ordering) → is_gt o ≡ false → is_gt (ordering_reverse o) ≡ false → is_eq o ≡ true
 neither Less h k = absurd (true≢false k)
@@ -58,8 +54,8 @@ module _ {K : Type 0} (R : K → K → Ordering) (total : IsTotalOrder R) where
 
   apart : (q x y : K) → is_gt (R x y) ≡ true → is_eq (R q x) ≡ true → is_eq (R q y) ≡ true → ⊥
   apart q x y above a b =
-      let back : R y q ≡ Equal = total.antisymm y q ∙ ap ordering_reverse (equal_is _ b) in
-      let near : R y x ≡ Equal = sym (alike_right total q x y (equal_is _ a)) ∙ back in
+      let back : R y q ≡ Equal = total.antisymm y q ∙ ap ordering_reverse (tied _ b) in
+      let near : R y x ≡ Equal = sym (alike_right total q x y (tied _ a)) ∙ back in
       let flat : R x y ≡ Equal = total.antisymm x y ∙ ap ordering_reverse near in
       true≢false (sym above ∙ ap is_gt flat)
 

@@ -24,7 +24,8 @@ use Rattle.kl_desugar.specs.Sense.{types_of, HasSense}
 use Rattle.kl_desugar.specs.Translation.{Scope, Code, value_by, function_by, primitive_by, Codes, empty, called_tree, operated_tree, projected, tree, tree_all, tree_fields, tree_quals, tree_branches, tree_steps, no_sense, number_of, code_at, codes_first, codes_after, function_tree, term_of}
 use Rattle.kl_desugar.specs.Translation as translation
 use Rattle.kl_desugar.proofs.Positions.{Standing, scope, values, names, grows_none}
-use Rattle.kl_desugar.proofs.Fielding.{labels_rise, parts_typed}
+use Rattle.kl_type.proofs.RowLemmas.{labels_rise}
+use Rattle.kl_desugar.proofs.Fielding.{parts_typed}
 use Rattle.kl_desugar.proofs.Fitting.{Agrees, AllAgree, name_typed, here_typed}
 use Rattle.kl_desugar.proofs.Law.{SourceAt, source_at}
 

@@ -1,5 +1,5 @@
 -- A program in scope is tidy.
-use Rattle.std.proofs.Common.{◌≡◌, Bool, true, false, ◌||◌, List, [], ◌∷◌, ◌++◌, map, refl, sym, subst, arith, bytes_eq}
+use Rattle.std.proofs.Common.{◌≡◌, ◌∙◌, ap, Bool, true, false, ◌||◌, List, [], ◌∷◌, ◌++◌, map, refl, sym, subst, arith, bytes_eq}
 use Rattle.std.specs.Cmp.Lexicographic.{same_text}
 use Rattle.std.specs.List.{Contains}
 use Rattle.std.proofs.lemmas.List.{map-append}
@@ -20,6 +20,7 @@ use Rattle.kl_scope.specs.Senses.{Scope, at_first, called, defined}
 use Rattle.kl_meaning.specs.Match.{same_name}
 use Rattle.kl_meaning.specs.Tidy.{IsSurePattern, AreSurePatterns, IsTidy, AreTidy, AreTidyFields, AreTidyQuals, AreTidyBranches, AreTidySteps, IsTidyProgram}
 use Rattle.kl_meaning.specs.Typing.{has_field}
+use Rattle.std.proofs.Math.Bool.{or-true}
 
 -- no breach is among the findings
 abbrev pub Clean : List Finding → Type 0
@@ -56,10 +57,6 @@ must_match p s h = sure p s (first_clean (map may_fail (tests p)) (drawn_finding
 
 -- ---- labels
 
-among_more : (b c : Bool) → c ≡ true → (b || c) ≡ true
-among_more true c h = refl
-among_more false c h = h
-
 among_itself : (x : Name) (before : List Name) → is_among x (x ∷ before) ≡ true
 among_itself x before = let e : bytes_eq x x ≡ true = (bytes_eq-Decides x x).1 refl in rw e refl
 
@@ -68,7 +65,7 @@ not_again : (fs : Flds) (x : Name) (before : List Name) (s : Scope) → is_among
 not_again no_flds x before s h clean = refl
 not_again (flds l e fs) x before s h clean =
     here (same_name x l.text) refl
-    (not_again fs x (l.text ∷ before) s (among_more (bytes_eq l.text x) (is_among x before) h) (last_clean (only_if (is_among l.text before) (breach (Twice l.text l.token))) (repeated (l.text ∷ before) (field_labels fs)) clean))
+    (not_again fs x (l.text ∷ before) s (ap (λ b. bytes_eq l.text x || b) h ∙ or-true (bytes_eq l.text x)) (last_clean (only_if (is_among l.text before) (breach (Twice l.text l.token))) (repeated (l.text ∷ before) (field_labels fs)) clean))
   where
     here : (b : Bool) → b ≡ same_name x l.text → has_field (resolved_fields fs s) x ≡ false → (b || has_field (resolved_fields fs s) x) ≡ false
     here true told later =

@@ -57,7 +57,7 @@ fn record(fields: Vec<(Label, Term)>) -> Result<Term, NoMemory>
 
 /// The term of an expression.
 #[cycle(tree)]
-#[tactic(auto, using(crate::proofs::Arms::coll_is, crate::proofs::Arms::comp_is, crate::proofs::Arms::let_is, crate::proofs::Arms::view_Name, crate::proofs::Arms::view_Not, crate::proofs::Arms::view_Neg, crate::proofs::Arms::call_is, crate::proofs::Arms::inj_is, crate::proofs::Arms::path_is, crate::proofs::Arms::chain_is, crate::proofs::Arms::case_is, crate::proofs::Arms::within_is))]
+#[tactic(auto, using(crate::proofs::Arms::coll_is, crate::proofs::Arms::comp_is, crate::proofs::Arms::let_is, kl_syntax::proofs::Views::view_Name, kl_syntax::proofs::Views::view_Not, kl_syntax::proofs::Views::view_Neg, crate::proofs::Arms::call_is, crate::proofs::Arms::inj_is, crate::proofs::Arms::path_is, crate::proofs::Arms::chain_is, crate::proofs::Arms::case_is, crate::proofs::Arms::within_is))]
 pub(crate) fn tree(alloc: Global, e: &Expr, codes: &Codes, scope: &[Slot]) -> Result<Term, NoMemory>
     ensures { IfOk result (λ t. term.view t ≡ tree (view e.now) (codes_of codes.now) scope.now) }
 {

@@ -6,6 +6,9 @@
 //!
 //! `sense_laws` says that the term makes sense: where a program is in scope and has a type, its term has that type over
 //! the types of its sources.
+//!
+//! What `rt plant` lets through here: bodies that answer want of memory, which no contract of this project ties to a
+//! refused growth. A test with ample memory calls each public function.
 #![tactic(auto)]
 
 mod calls;

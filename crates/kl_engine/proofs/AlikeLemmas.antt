@@ -16,7 +16,7 @@ use Rattle.kl_sources.proofs.Agreement.{values_one, first_one, none_without}
 use Rattle.kl_sources.specs.declared.source.Source.{Source}
 use Rattle.kl_engine.specs.Answering.{Alike, one, retyped}
 use Rattle.kl_engine.specs.Reading.{definitions, last}
-use Rattle.kl_engine.specs.Verdict.{Verdict, refused, size_fault, AfterSizes, IsUntyped, IsListing, stored_fault, IsOutcome, IsMeant, IsDone, AreMarks, IsText}
+use Rattle.kl_engine.specs.Verdict.{Verdict, refused, size_fault, AfterSizes, IsUntyped, IsListing, stored_fault, IsOutcome, IsMeant, IsDone, AreMarks, IsTextVerdict}
 use Rattle.kl_engine.specs.declared.fault.Fault.{Fault}
 use Rattle.kl_engine.specs.declared.fault.Fault.TheVariants as fault
 use Rattle.kl_engine.specs.declared.top.Purpose.{Purpose}
@@ -89,7 +89,7 @@ marks_one q ss marks others this that i less =
     both_true (marks i) (others i) (λ is. (that i within).1 ((this i within).0 is)) (λ is. (this i within).1 ((that i within).0 is))
 
 module _ (ks : List DriverKind) (ss : List Source) (p : Purpose) (bytes : List ℕ) where
-  pub text_alike : (v w : Verdict) → IsText ks ss p bytes v → IsText ks ss p bytes w → Alike v w
+  pub text_alike : (v w : Verdict) → IsTextVerdict ks ss p bytes v → IsTextVerdict ks ss p bytes w → Alike v w
   text_alike v w (inl (f, this, is)) (inl (g, that, it)) = subst (λ u. Alike u w) (sym is) (subst (Alike (refused f)) (sym it) (faults_alike (names_of ss) bytes f g this that))
   text_alike v w (inl (f, this, is)) (inr (q, marks, whole, told, it)) = absurd (no_fault (names_of ss) bytes f q whole this)
   text_alike v w (inr (q, marks, whole, told, is)) (inl (f, that, it)) = absurd (no_fault (names_of ss) bytes f q whole that)

@@ -1,6 +1,7 @@
 -- What the outcome of a program's term tells of the program.
 use Rattle.std.proofs.Common.{◌≡◌, ◌≢◌, inl, inr, ℕ, Bool, true, false, if◌then◌else◌, List, [], ◌++◌, Option, Some, None, Ok, Err, refl, sym, ap, subst, ◌∙◌}
 use Rattle.std.specs.Bool.{⊤}
+use Rattle.std.proofs.lemmas.Option.{same_Some}
 use Rattle.kl_outside.specs.Sinks.{SinkState}
 use Rattle.kl_outside.proofs.SinkLemmas.{took_none}
 use Rattle.kl_value.specs.declared.Value.{Value}
@@ -16,7 +17,7 @@ use Rattle.kl_ask.specs.declared.session.Attached.{Attached}
 use Rattle.kl_eval.specs.Evals.{Tells, Lists}
 use Rattle.kl_eval.specs.declared.stop.EvalStop.TheVariants as stop
 use Rattle.kl_infer.specs.Kinds.{HasOther}
-use Rattle.kl_engine.specs.Answering.{SomeRose, KeepsDrivers, IsOutside, reading, drifting, wanting, Prints, IsOneOf, PrintsNothing}
+use Rattle.kl_engine.specs.Answering.{SomeRose, KeepsDrivers, IsOutside, reading, drifting, wanting, PrintsPage, IsOneOf, PrintsNothing}
 use Rattle.kl_engine.specs.Commands.{Program}
 use Rattle.kl_engine.specs.Faults.{Ending}
 use Rattle.kl_engine.specs.Running.{AnswersTerm, DriftsAt, HasRunFault, IsListScheme, IsListOutcome, IsValueOutcome}
@@ -114,9 +115,6 @@ module _ (list : List Attached) (ds ds' : List State) (out out' : SinkState) whe
   stopped_fault fault.TermDepth rose = rose
   stopped_fault fault.SchemeBytes rose = rose
 
-some_fault : (f g : Fault) → Some f ≡ Some g → f ≡ g
-some_fault f g is = cc
-
 -- ---- a term's outcome, where it is printed or something came before
 
 module _ (IsOut : Verdict → Type 0) (told : Type 0) (list : List Attached) (ds ds' : List State) (keeps : KeepsDrivers (λ name. ⊥) ds ds') where
@@ -132,9 +130,9 @@ module _ (IsOut : Verdict → Type 0) (told : Type 0) (list : List Attached) (ds
         part = took_none found.0.page out out refl;
       },
     );
-    read = λ is. subst (λ g. IsStopped list g ds ds') (some_fault f fault.Read is) rose;
-    write = λ is. absurd (subst (λ g. IsStopped list g ds ds') (some_fault f fault.Write is) rose);
-    changed = λ name is. subst (λ g. IsStopped list g ds ds') (some_fault f (fault.Changed name) is) rose;
+    read = λ is. subst (λ g. IsStopped list g ds ds') (same_Some f fault.Read is) rose;
+    write = λ is. absurd (subst (λ g. IsStopped list g ds ds') (same_Some f fault.Write is) rose);
+    changed = λ name is. subst (λ g. IsStopped list g ds ds') (same_Some f (fault.Changed name) is) rose;
     no_other = stopped_fault list ds ds' out out f rose;
     nothing = λ is. refl;
     drivers = keeps;
@@ -194,7 +192,7 @@ module _ (IsOut : Verdict → Type 0) (told : Type 0) (list : List Attached) (ds
   never_before (Some fault.SchemeBytes) is nothing = is
 
   -- the outcome is printed
-  pub term_printed : (v : Verdict) (end : Ending) (out out' : SinkState) → IsRunEnd v.ending → (told → IsOut v) → Prints v end out out' → AnswersTerm IsOut told end list ds ds' out out'
+  pub term_printed : (v : Verdict) (end : Ending) (out out' : SinkState) → IsRunEnd v.ending → (told → IsOut v) → PrintsPage v end out out' → AnswersTerm IsOut told end list ds ds' out out'
   term_printed v end out out' ended of prints = record {
     follows = λ is. (v, of is, follows_prints v end out out' prints ds ds');
     read = λ is. absurd (elim prints.ends [

@@ -1,6 +1,6 @@
 -- How a call ends that does what is asked for.
 use Rattle.std.proofs.Common.{◌≡◌, ◌⊎◌, inl, inr, ℕ, ◌<◌, nat_lt, if◌then◌else◌, Bool, true, false, List, [], ◌∷◌, codes, length, Option, Some, None, Result, Ok, Err, refl, sym, ap, subst, ◌∙◌, arith}
-use Rattle.std.proofs.lemmas.Option.{gets}
+use Rattle.std.proofs.lemmas.Option.{gets, slice_get_within}
 use Rattle.std.specs.Prelude.{All, slice_get, ⊤}
 use Rattle.std.specs.Io.KnownBytes.{append_known}
 use Rattle.kl_outside.specs.Counts.{Rose}
@@ -25,13 +25,13 @@ use Rattle.kl_ask.specs.Driver.{State, IsTold as IsToldBy}
 use Rattle.kl_sources.specs.Sources.{names_of, grounds_of}
 use Rattle.kl_sources.specs.declared.source.Source.{Source}
 use Rattle.kl_sources.specs.Sources.{kinds_of}
-use Rattle.kl_engine.specs.Answering.{IsStored, IsUnreadBy, HasDrifted, Alike, one, IsOutside, reading, writing, drifting, wanting, Follows, Prints, DoesText, IsDetermined, IsOneOf, HasTextFault, IsUnread, NeedsDrivers, IsMentionedIn, PrintsNothing}
+use Rattle.kl_engine.specs.Answering.{IsStoredFault, IsUnreadBy, SomeDrifted, Alike, one, IsOutside, reading, writing, drifting, wanting, Follows, PrintsPage, DoesText, IsDetermined, IsOneOf, HasTextFault, IsUnreadFault, NeedsDrivers, IsMentionedIn, PrintsNothing}
 use Rattle.kl_engine.specs.Commands.{Program as AProgram}
 use Rattle.kl_engine.specs.Faults.{Ending}
-use Rattle.kl_engine.specs.Reading.{IsProgramOf, definitions, last, Reads}
+use Rattle.kl_engine.specs.Reading.{IsProgramOf, definitions, last, ReadsText}
 use Rattle.kl_engine.specs.Running.{Ends, before, followed, untold, IsNamed, DoneBy, DoneWith, DoneMeaning}
-use Rattle.kl_engine.specs.Typing.{breach_fault, IsTypingFault, IsTyped, Types, TypesOfAny}
-use Rattle.kl_engine.specs.Verdict.{Verdict, well, refused, size_fault, AfterSizes, IsSized, IsUntyped, named_schemes, behind, scheme_lines, IsListing, IsMeant, IsDone, AreMarks, IsText, scheme_line}
+use Rattle.kl_engine.specs.Typing.{breach_fault, IsTypingFault, IsTyped, AnswersTypes, TypesOfAny}
+use Rattle.kl_engine.specs.Verdict.{Verdict, well, refused, size_fault, AfterSizes, IsSized, IsUntyped, named_schemes, behind, scheme_lines, IsListing, IsMeant, IsDone, AreMarks, IsTextVerdict, scheme_line}
 use Rattle.kl_engine.specs.declared.fault.Fault.{Fault}
 use Rattle.kl_engine.specs.declared.fault.Fault.TheVariants as fault
 use Rattle.kl_engine.specs.declared.top.Purpose.{Purpose}
@@ -42,6 +42,7 @@ use Rattle.kl_engine.proofs.FairLemmas.{Fair, IsOfVerdict, fair_done, fair_text}
 use Rattle.kl_engine.proofs.PageLemmas.{prints_refused}
 use Rattle.kl_engine.proofs.ReadLemmas.{any_fault, no_fault, one_program}
 use Rattle.kl_engine.proofs.SizeLemmas.{told_size, sized_faults}
+use Rattle.kl_engine.proofs.UnreadLemmas.{unread_cases}
 
 -- ---- faults that no source has
 
@@ -53,38 +54,13 @@ IsPlain fault.FileBytes = ⊥
 IsPlain fault.ItemNesting = ⊥
 IsPlain f = ⊤
 
-unread_plain : (f : Fault) → IsPlain f → IsUnread f → ⊥
-unread_plain (fault.BadSource name place) plain is = plain
-unread_plain fault.FileBytes plain is = plain
-unread_plain fault.ItemNesting plain is = plain
-unread_plain fault.Usage plain is = is
-unread_plain (fault.Text w byte) plain is = is
-unread_plain (fault.IllTyped decl) plain is = is
-unread_plain (fault.Catalogue byte) plain is = is
-unread_plain (fault.NameTwice name) plain is = is
-unread_plain (fault.NoDriver name) plain is = is
-unread_plain (fault.Unsuited name) plain is = is
-unread_plain (fault.BadFile place) plain is = is
-unread_plain fault.Overflow plain is = is
-unread_plain fault.Read plain is = is
-unread_plain fault.Write plain is = is
-unread_plain fault.NoMemory plain is = is
-unread_plain (fault.Changed name) plain is = is
-unread_plain fault.ProgramBytes plain is = is
-unread_plain fault.CatalogueBytes plain is = is
-unread_plain fault.Nesting plain is = is
-unread_plain fault.TermNodes plain is = is
-unread_plain fault.TermDepth plain is = is
-unread_plain fault.SchemeBytes plain is = is
-
--- a place where something stands is one of a list
-get_within : {T : Type 0} (xs : List T) (i : ℕ) (x : T) → slice_get xs i ≡ Some x → i < length xs
-get_within xs i x is = grind (arith, gets, is)
+unread_plain : (f : Fault) → IsPlain f → IsUnreadFault f → ⊥
+unread_plain f plain is = unread_cases (λ g. IsPlain g → ⊥) (λ name place h. h) (λ h. h) (λ h. h) f is plain
 
 -- ---- what was printed of a verdict
 
 -- the ends of a page that is printed
-module _ (v : Verdict) (end : Ending) (out out' : SinkState) (prints : Prints v end out out') where
+module _ (v : Verdict) (end : Ending) (out out' : SinkState) (prints : PrintsPage v end out out') where
   pub follows_prints : (ds ds' : List State) → Follows ⊥ v end ds ds' out out'
   follows_prints ds ds' = record {
     ends = elim prints.ends [ inl h ↦ inl h | inr (inl h) ↦ inr (writing h.0 h.1 h.2) | inr (inr h) ↦ inr (wanting h) ];
@@ -134,7 +110,7 @@ plain_lines (d ∷ ds) = plain_line (nat_lt limit (length (scheme_text d.1))) d 
 
 -- a verdict of a program was printed, and no source was asked
 pub printed_done : (ss : List Source) (marks : ℕ → Bool) (p : Purpose) (program : Decls) (e : Exp) (v : Verdict) (end : Ending) (ds : List State) (out out' : SinkState)
-    → IsDone (kinds_of ds) ss marks p program e v → IsOneOf IsPlain v.ending → Prints v end out out' → DoneWith ss marks p program e end ds ds out out'
+    → IsDone (kinds_of ds) ss marks p program e v → IsOneOf IsPlain v.ending → PrintsPage v end out out' → DoneWith ss marks p program e end ds ds out out'
 printed_done ss marks p program e v end ds out out' of plain prints =
     let fair = fair_done (kinds_of ds) ss marks program e p v of in
     let plain_too = plain_end v end out out' prints plain in record {
@@ -208,7 +184,7 @@ untold_empty p v (Some fault.SchemeBytes) fair never is = absurd (never tt)
 
 -- a verdict on the text was printed, and no source was asked
 does_text : (ss : List Source) (p : Purpose) (text : List ℕ) (v : Verdict) (end : Ending) (ds : List State) (out out' : SinkState)
-    → IsText (kinds_of ds) ss p text v → IsOneOf IsPlain v.ending → Prints v end out out' → DoesText ss p text end ds ds out out'
+    → IsTextVerdict (kinds_of ds) ss p text v → IsOneOf IsPlain v.ending → PrintsPage v end out out' → DoesText ss p text end ds ds out out'
 does_text ss p text v end ds out out' of plain prints =
     let fair = fair_text (kinds_of ds) ss p text v of in
     let plain_too = plain_end v end out out' prints plain in record {
@@ -247,14 +223,14 @@ text_wanted ss p text ds out = record {
 }
 
 -- what was inferred over the same sources
-pub types_sources : (us ss : List Source) (program : Decls) (e : Exp) (r : Result Typed Fault) → us ≡ ss → Types (grounds_of us) program e r → Types (grounds_of ss) program e r
-types_sources us ss program e r same types = subst (λ xs. Types (grounds_of xs) program e r) same types
+pub types_sources : (us ss : List Source) (program : Decls) (e : Exp) (r : Result Typed Fault) → us ≡ ss → AnswersTypes (grounds_of us) program e r → AnswersTypes (grounds_of ss) program e r
+types_sources us ss program e r same types = subst (λ xs. AnswersTypes (grounds_of xs) program e r) same types
 
 -- what was read over names that are those of the sources
-pub reads_names : (us names : List Name) (ss : List Source) (text : List ℕ) (r : Result Scoped Fault) → us ≡ names → names ≡ names_of ss → Reads us text r → Reads (names_of ss) text r
-reads_names us names ss text r same is reads = subst (λ ns. Reads ns text r) (same ∙ is) reads
+pub reads_names : (us names : List Name) (ss : List Source) (text : List ℕ) (r : Result Scoped Fault) → us ≡ names → names ≡ names_of ss → ReadsText us text r → ReadsText (names_of ss) text r
+reads_names us names ss text r same is reads = subst (λ ns. ReadsText ns text r) (same ∙ is) reads
 
-pub unread : (ss : List Source) (p : Purpose) (text : List ℕ) (f : Fault) (ds : List State) (out : SinkState) → Reads (names_of ss) text (Err f) → DoesText ss p text (Some f) ds ds out out
+pub unread : (ss : List Source) (p : Purpose) (text : List ℕ) (f : Fault) (ds : List State) (out : SinkState) → ReadsText (names_of ss) text (Err f) → DoesText ss p text (Some f) ds ds out out
 unread ss p text f ds out (inl is) = subst (λ g. DoesText ss p text (Some g) ds ds out out) (sym is) (text_wanted ss p text ds out)
 unread ss p text f ds out (inr of) = does_text ss p text (refused f) (Some f) ds out out (inl (f, of, refl)) (any_fault IsPlain (λ w byte. tt) tt (names_of ss) text f of) (prints_refused f out)
 
@@ -264,10 +240,10 @@ module _ (ss : List Source) (p : Purpose) (text : List ℕ) (end : Ending) (ds d
   marks_told : AreMarks q (names_of ss) (is_marked s)
   marks_told = resolves.marks
 
-  as_text : (v : Verdict) → IsDone (kinds_of ds) ss (is_marked s) p (definitions (names_of ss) q) (last (names_of ss) q) v → IsText (kinds_of ds) ss p text v
+  as_text : (v : Verdict) → IsDone (kinds_of ds) ss (is_marked s) p (definitions (names_of ss) q) (last (names_of ss) q) v → IsTextVerdict (kinds_of ds) ss p text v
   as_text v of = inr (q, is_marked s, whole, marks_told, of)
 
-  no_verdict : ((others : ℕ → Bool) → ((i : ℕ) → i < length ss → is_marked s i ≡ others i) → (v : Verdict) → IsDone (kinds_of ds) ss others p (definitions (names_of ss) q) (last (names_of ss) q) v → ⊥) → (v : Verdict) → IsText (kinds_of ds) ss p text v → ⊥
+  no_verdict : ((others : ℕ → Bool) → ((i : ℕ) → i < length ss → is_marked s i ≡ others i) → (v : Verdict) → IsDone (kinds_of ds) ss others p (definitions (names_of ss) q) (last (names_of ss) q) v → ⊥) → (v : Verdict) → IsTextVerdict (kinds_of ds) ss p text v → ⊥
   no_verdict none v (inl (f, of, is)) = no_fault (names_of ss) text f q whole of
   no_verdict none v (inr (r, others, also, again, is)) =
       let same : r ≡ q = one_program (names_of ss) text r q also whole in
@@ -275,27 +251,27 @@ module _ (ss : List Source) (p : Purpose) (text : List ℕ) (end : Ending) (ds d
       none others (marks_one q ss (is_marked s) others marks_told again_too) v (subst (λ x. IsDone (kinds_of ds) ss others p (definitions (names_of ss) x) (last (names_of ss) x) v) same is)
 
   named : (name : Name) → IsNamed ss (is_marked s) name → IsMentionedIn ss text name
-  named name (i, at, marked) = (q, whole, i, at, (resolves.marks i (get_within (names_of ss) i name at)).0 marked)
+  named name (i, at, marked) = (q, whole, i, at, (resolves.marks i (slice_get_within (names_of ss) i name at)).0 marked)
 
-  told_by : Ends (λ others. IsDone (kinds_of ds) ss others p (definitions (names_of ss) q) (last (names_of ss) q)) ss (is_marked s) p end ds ds' out out' → (v : Verdict) → IsText (kinds_of ds) ss p text v → (w : Verdict) × IsText (kinds_of ds) ss p text w × Alike v w × Follows ⊥ w end ds ds' out out'
+  told_by : Ends (λ others. IsDone (kinds_of ds) ss others p (definitions (names_of ss) q) (last (names_of ss) q)) ss (is_marked s) p end ds ds' out out' → (v : Verdict) → IsTextVerdict (kinds_of ds) ss p text v → (w : Verdict) × IsTextVerdict (kinds_of ds) ss p text w × Alike v w × Follows ⊥ w end ds ds' out out'
   told_by (before same none outside) v of = let fair = fair_text (kinds_of ds) ss p text v of in (v, of, one refl, follows_outside v end ds ds' out out' p fair same (untold_empty p v end fair none) (outside v))
   told_by (followed w is follows) v of = (w, as_text w is, text_alike (kinds_of ds) ss p text v w of (as_text w is), follows)
   told_by (untold none all needs) v of = absurd (no_verdict none v of)
 
-  meant_by : Ends (λ others. IsDone (kinds_of ds) ss others p (definitions (names_of ss) q) (last (names_of ss) q)) ss (is_marked s) p end ds ds' out out' → IsDetermined end → (NeedsDrivers p end → All IsToldBy ds) → (v : Verdict) × IsText (kinds_of ds) ss p text v × (v.ending ≡ end)
+  meant_by : Ends (λ others. IsDone (kinds_of ds) ss others p (definitions (names_of ss) q) (last (names_of ss) q)) ss (is_marked s) p end ds ds' out out' → IsDetermined end → (NeedsDrivers p end → All IsToldBy ds) → (v : Verdict) × IsTextVerdict (kinds_of ds) ss p text v × (v.ending ≡ end)
   meant_by (before same none outside) told needs = absurd (none told)
   meant_by (followed w is follows) told needs = (w, as_text w is, elim follows.ends [ inl h ↦ sym h | inr h ↦ absurd (outside_untold w end ds ds' out out' told h) ])
   meant_by (untold none all must) told needs = absurd (all (needs (must told)))
 
   -- what holds of marked sources holds of mentioned ones
-  stored_wider : (f : Fault) → IsStored (kinds_of ds) ss (IsNamed ss (is_marked s)) f → IsStored (kinds_of ds) ss (IsMentionedIn ss text) f
+  stored_wider : (f : Fault) → IsStoredFault (kinds_of ds) ss (IsNamed ss (is_marked s)) f → IsStoredFault (kinds_of ds) ss (IsMentionedIn ss text) f
   stored_wider f (i, x, w, at, of, told, is) = (i, x, w, at, named x.name of, told, is)
 
   unread_wider : (f : Fault) → IsUnreadBy ss (IsNamed ss (is_marked s)) f ds ds' → IsUnreadBy ss (IsMentionedIn ss text) f ds ds'
   unread_wider f (inl stored) = inl (stored_wider f stored)
   unread_wider f (inr (i, x, at, of, none, rose)) = inr (i, x, at, (named x.name of.0, of.1), none, rose)
 
-  drifted_wider : (name : Name) → HasDrifted ss (λ x. IsNamed ss (is_marked s) x × (x ≡ name)) ds ds' → HasDrifted ss (λ x. IsMentionedIn ss text x × (x ≡ name)) ds ds'
+  drifted_wider : (name : Name) → SomeDrifted ss (λ x. IsNamed ss (is_marked s) x × (x ≡ name)) ds ds' → SomeDrifted ss (λ x. IsMentionedIn ss text x × (x ≡ name)) ds ds'
   drifted_wider name (i, x, at, of, rose) = (i, x, at, (named x.name of.0, of.1), rose)
 
   pub program_done : DoesText ss p text end ds ds' out out'
@@ -330,24 +306,24 @@ module _ (P : Decls → Exp → Type 0) (names : List Name) (p : Program) (s : S
   pub as_resolved : P (decls_of s.program.defs) (view s.program.last) → P (definitions names p) (last names p)
   as_resolved h = subst (λ ds. P ds (last names p)) resolves.defs (subst (P (decls_of s.program.defs)) resolves.last h)
 
-pub done_program : (ss : List Source) (p : Purpose) (text : List ℕ) (s : Scoped) (end : Ending) (ds ds' : List State) (out out' : SinkState) → Reads (names_of ss) text (Ok s)
+pub done_program : (ss : List Source) (p : Purpose) (text : List ℕ) (s : Scoped) (end : Ending) (ds ds' : List State) (out out' : SinkState) → ReadsText (names_of ss) text (Ok s)
     → DoneWith ss (is_marked s) p (decls_of s.program.defs) (view s.program.last) end ds ds' out out' → DoesText ss p text end ds ds' out out'
 done_program ss p text s end ds ds' out out' (q, whole, resolves) does =
     program_done ss p text end ds ds' out out' q s whole resolves (as_resolved (λ program e. DoneWith ss (is_marked s) p program e end ds ds' out out') (names_of ss) q s resolves does)
 
-pub checked : (ss : List Source) (text : List ℕ) (s : Scoped) (end : Ending) (ds : List State) (out out' : SinkState) → Reads (names_of ss) text (Ok s) → Prints (well (codes "ok\n")) end out out' → DoesText ss purpose.Check text end ds ds out out'
+pub checked : (ss : List Source) (text : List ℕ) (s : Scoped) (end : Ending) (ds : List State) (out out' : SinkState) → ReadsText (names_of ss) text (Ok s) → PrintsPage (well (codes "ok\n")) end out out' → DoesText ss purpose.Check text end ds ds out out'
 checked ss text s end ds out out' (q, whole, resolves) prints = does_text ss purpose.Check text (well (codes "ok\n")) end ds out out' (inr (q, is_marked s, whole, resolves.marks, refl)) tt prints
 
 module _ (ss : List Source) (marks : ℕ → Bool) (program : Decls) (e : Exp) (ds : List State) where
-  pub untyped_types : (f : Fault) (out : SinkState) → Types (grounds_of ss) program e (Err f) → DoneWith ss marks purpose.Types program e (Some f) ds ds out out
+  pub untyped_types : (f : Fault) (out : SinkState) → AnswersTypes (grounds_of ss) program e (Err f) → DoneWith ss marks purpose.Types program e (Some f) ds ds out out
   untyped_types f out (inl is) = subst (λ g. DoneWith ss marks purpose.Types program e (Some g) ds ds out out) (sym is) (wanted_done (λ others. IsDone (kinds_of ds) ss others purpose.Types program e) ss marks purpose.Types ds out)
   untyped_types f out (inr of) = printed_done ss marks purpose.Types program e (refused f) (Some f) ds out out (typing_fault (grounds_of ss) program e f (IsListing (grounds_of ss) program e) of) (plain_typing (grounds_of ss) program e f of) (prints_refused f out)
 
-  pub untyped_run : (first : Option ℕ) (f : Fault) (out : SinkState) → Types (grounds_of ss) program e (Err f) → DoneWith ss marks (purpose.Run first) program e (Some f) ds ds out out
+  pub untyped_run : (first : Option ℕ) (f : Fault) (out : SinkState) → AnswersTypes (grounds_of ss) program e (Err f) → DoneWith ss marks (purpose.Run first) program e (Some f) ds ds out out
   untyped_run first f out (inl is) = subst (λ g. DoneWith ss marks (purpose.Run first) program e (Some g) ds ds out out) (sym is) (wanted_done (λ others. IsDone (kinds_of ds) ss others (purpose.Run first) program e) ss marks (purpose.Run first) ds out)
   untyped_run first f out (inr of) = printed_done ss marks (purpose.Run first) program e (refused f) (Some f) ds out out (typing_fault (grounds_of ss) program e f (λ w. HasTyping program e (grounds_of ss) × IsMeant (kinds_of ds) ss marks first program e w) of) (plain_typing (grounds_of ss) program e f of) (prints_refused f out)
 
-  pub listed : (typed : Typed) (end : Ending) (out out' : SinkState) → IsTyped (grounds_of ss) program e typed → Prints (scheme_lines (named_schemes program typed)) end out out' → DoneWith ss marks purpose.Types program e end ds ds out out'
+  pub listed : (typed : Typed) (end : Ending) (out out' : SinkState) → IsTyped (grounds_of ss) program e typed → PrintsPage (scheme_lines (named_schemes program typed)) end out out' → DoneWith ss marks purpose.Types program e end ds ds out out'
   listed typed end out out' types prints =
       printed_done ss marks purpose.Types program e (scheme_lines (named_schemes program typed)) end ds out out'
       (after_none (size_fault (declared program e [])) (λ w. IsUntyped (grounds_of ss) program e w ⊎ IsListing (grounds_of ss) program e w) (scheme_lines (named_schemes program typed)) types.fits (inr (typed, types.infers, refl)))
@@ -381,10 +357,10 @@ module _ (ss : List Source) (marks : ℕ → Bool) (program : Decls) (e : Exp) (
 module _ (grounds : List (Name × Ground)) (program : Decls) (e : Exp) where
   -- ---- what inferring types answers
 
-  pub sized_types : (result : Result Typed Fault) → Tells None (declared program e []) → TypesOfAny grounds program e result → Types grounds program e result
+  pub sized_types : (result : Result Typed Fault) → Tells None (declared program e []) → TypesOfAny grounds program e result → AnswersTypes grounds program e result
   sized_types (Ok typed) tells infers = record { fits = told_size None (declared program e []) tells; infers = infers }
   sized_types (Err f) tells (inl is) = inl is
   sized_types (Err f) tells (inr (n, ill, is)) = inr (inr (told_size None (declared program e []) tells, n, ill, is))
 
-  pub past_types : (found : SizeBreach) → Tells (Some found) (declared program e []) → Types grounds program e (Err (breach_fault found))
+  pub past_types : (found : SizeBreach) → Tells (Some found) (declared program e []) → AnswersTypes grounds program e (Err (breach_fault found))
   past_types found tells = inr (inl (told_size (Some found) (declared program e []) tells))

@@ -19,7 +19,7 @@ use Rattle.kl_engine.specs.Answering.{IsOneOf, HasTextFault, IsTyping, PrintsNot
 use Rattle.kl_engine.specs.Commands.{Program as AProgram}
 use Rattle.kl_engine.specs.Faults.{Ending}
 use Rattle.kl_engine.specs.Reading.{definitions, last}
-use Rattle.kl_engine.specs.Verdict.{Verdict, well, refused, size_fault, AfterSizes, IsSized, IsUntyped, behind, named_schemes, scheme_line, scheme_lines, IsListing, first_of, suffice, value_page, overflowing, cut_list, stored_fault, IsOutcome, IsMeant, IsDone, IsText}
+use Rattle.kl_engine.specs.Verdict.{Verdict, well, refused, size_fault, AfterSizes, IsSized, IsUntyped, behind, named_schemes, scheme_line, scheme_lines, IsListing, first_of, suffice, value_page, overflowing, cut_list, stored_fault, IsOutcome, IsMeant, IsDone, IsTextVerdict}
 use Rattle.kl_engine.specs.declared.fault.Fault.{Fault}
 use Rattle.kl_engine.specs.declared.fault.Fault.TheVariants as fault
 use Rattle.kl_engine.specs.declared.top.Purpose.{Purpose}
@@ -115,6 +115,6 @@ module _ (ks : List DriverKind) (ss : List Source) (marks : ℕ → Bool) (ds : 
       fair_after (purpose.Run first) tt ds e (λ w. IsUntyped (grounds_of ss) ds e w ⊎ (HasTyping ds e (grounds_of ss) × IsMeant ks ss marks first ds e w))
       (λ w goes. elim goes [ inl h ↦ fair_untyped (purpose.Run first) tt ds e (grounds_of ss) w h | inr h ↦ fair_meant first w h.1 ]) v is
 
-pub fair_text : (ks : List DriverKind) (ss : List Source) (p : Purpose) (bytes : List ℕ) (v : Verdict) → IsText ks ss p bytes v → Fair p v
+pub fair_text : (ks : List DriverKind) (ss : List Source) (p : Purpose) (bytes : List ℕ) (v : Verdict) → IsTextVerdict ks ss p bytes v → Fair p v
 fair_text ks ss p bytes v (inl (f, of, is)) = fair_at p v (refused f) is (any_fault (λ g. Fair p (refused g)) (λ w byte. fair_fault p (fault.Text w byte) tt tt) (fair_fault p fault.Nesting tt tt) (names_of ss) bytes f of)
 fair_text ks ss p bytes v (inr (q, marks, whole, told, is)) = fair_done ks ss marks (definitions (names_of ss) q) (last (names_of ss) q) p v is

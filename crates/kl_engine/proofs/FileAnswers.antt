@@ -18,7 +18,7 @@ use Rattle.kl_sources.specs.declared.placing.PlaceError.{PlaceError}
 use Rattle.kl_sources.specs.declared.placing.PlaceError.TheVariants as place
 use Rattle.kl_sources.specs.declared.source.Source.{Source}
 use Rattle.kl_engine.specs.Catalogues.{place_fault, IsCatalogueFault}
-use Rattle.kl_engine.specs.Inputs.{IsCatalogueEnd, IsSourcesEnd, IsInputsEnd, ReadsCatalogue, ReadsSources, ReadsInputs}
+use Rattle.kl_engine.specs.Inputs.{IsCatalogueEnd, IsSourcesEnd, IsInputsEnd, PlacesCatalogue, ReadsSources, ReadsInputs}
 use Rattle.kl_engine.specs.Verdict.{most_bytes, IsFileFault, IsSourcesFault}
 use Rattle.kl_engine.specs.declared.fault.Fault.{Fault}
 use Rattle.kl_engine.specs.declared.fault.Fault.TheVariants as fault
@@ -26,24 +26,24 @@ use Rattle.kl_engine.specs.declared.fault.Fault.TheVariants as fault
 -- ---- the text of a catalogue
 
 module _ (ks : List DriverKind) (text : List ℕ) where
-  pub bad_catalogue : (byte : ℕ) → Refuses text (Err (Bad byte)) → ReadsCatalogue ks text (Err (fault.Catalogue byte))
+  pub bad_catalogue : (byte : ℕ) → Refuses text (Err (Bad byte)) → PlacesCatalogue ks text (Err (fault.Catalogue byte))
   bad_catalogue byte refuses = record { sources = tt; placed = tt; refused = inr (inl (byte, refuses, refl)); no_other = tt }
 
-  pub deep_catalogue : (byte : ℕ) → Refuses text (Err (TooDeep byte)) → ReadsCatalogue ks text (Err fault.Nesting)
+  pub deep_catalogue : (byte : ℕ) → Refuses text (Err (TooDeep byte)) → PlacesCatalogue ks text (Err fault.Nesting)
   deep_catalogue byte refuses = record { sources = tt; placed = tt; refused = inr (inr (inl (byte, refuses, refl))); no_other = tt }
 
-  pub catalogue_wanted : ReadsCatalogue ks text (Err fault.NoMemory)
+  pub catalogue_wanted : PlacesCatalogue ks text (Err fault.NoMemory)
   catalogue_wanted = record { sources = tt; placed = tt; refused = inl refl; no_other = tt }
 
   -- entries that were read, and that the layer below saw under another name
   module _ (es us : List Entry) (reads : IsCatalogue text es) (same : us ≡ es) where
-    pub catalogue_placed : (ss : Vec Source Global) → AnswersList (sources_of ks [] us) (Ok ss) → ArePlaced ks ss.items → ReadsCatalogue ks text (Ok ss)
+    pub catalogue_placed : (ss : Vec Source Global) → AnswersList (sources_of ks [] us) (Ok ss) → ArePlaced ks ss.items → PlacesCatalogue ks text (Ok ss)
     catalogue_placed ss answers placed = record { sources = (es, reads, ap (sources_of ks []) (sym same) ∙ answers); placed = placed; refused = tt; no_other = tt }
 
     wrong_entry : (e : PlaceError) → sources_of ks [] us ≡ Err e → IsCatalogueFault ks text (place_fault e)
     wrong_entry e is = inr (inr (es, e, reads, ap (sources_of ks []) (sym same) ∙ is, refl))
 
-    pub catalogue_misplaced : (e : PlaceError) → AnswersList (sources_of ks [] us) (Err e) → ReadsCatalogue ks text (Err (place_fault e))
+    pub catalogue_misplaced : (e : PlaceError) → AnswersList (sources_of ks [] us) (Err e) → PlacesCatalogue ks text (Err (place_fault e))
     catalogue_misplaced (place.Twice name) answers = record { sources = tt; placed = tt; refused = inr (wrong_entry (place.Twice name) answers); no_other = tt }
     catalogue_misplaced (place.NoDriver name) answers = record { sources = tt; placed = tt; refused = inr (wrong_entry (place.NoDriver name) answers); no_other = tt }
     catalogue_misplaced (place.Unsuited name) answers = record { sources = tt; placed = tt; refused = inr (wrong_entry (place.Unsuited name) answers); no_other = tt }
@@ -175,7 +175,7 @@ module _ (path : List ℕ) (ks : List DriverKind) (f f' : FilesState) where
   }
 
   module _ (text us : List ℕ) (reads : ReadsWhole path most_bytes (Ok (whole.Bytes text)) f f') (same : us ≡ text) where
-    sources_of_text : (result : Result (Vec Source Global) Fault) → ReadsCatalogue ks text result → ReadsSources (Some path) ks result f f'
+    sources_of_text : (result : Result (Vec Source Global) Fault) → PlacesCatalogue ks text result → ReadsSources (Some path) ks result f f'
     sources_of_text (Ok ss) found = record {
       left = reads.left;
       told = reads.told;
@@ -197,8 +197,8 @@ module _ (path : List ℕ) (ks : List DriverKind) (f f' : FilesState) where
       read = λ none is. absurd (subst IsCatalogueEnd is found.no_other);
     }
 
-    pub sources_read : (result : Result (Vec Source Global) Fault) → ReadsCatalogue ks us result → ReadsSources (Some path) ks result f f'
-    sources_read result found = sources_of_text result (subst (λ bs. ReadsCatalogue ks bs result) same found)
+    pub sources_read : (result : Result (Vec Source Global) Fault) → PlacesCatalogue ks us result → ReadsSources (Some path) ks result f f'
+    sources_read result found = sources_of_text result (subst (λ bs. PlacesCatalogue ks bs result) same found)
 
 -- ---- both files
 

@@ -17,3 +17,4 @@ pub mod MeaningLemmas
 pub mod ProgramLemmas
 pub mod ShowLemmas
 pub mod TopLemmas
+pub mod UnreadLemmas

@@ -17,7 +17,7 @@ use Rattle.kl_syntax.specs.declared.tree.Pattern.{Pattern}
 use Rattle.kl_infer.specs.Numbers.{limit}
 use Rattle.kl_infer.specs.Printed.{scheme_text}
 use Rattle.kl_infer.specs.declared.Typed.{Typed}
-use Rattle.kl_engine.specs.Answering.{Prints, IsDetermined}
+use Rattle.kl_engine.specs.Answering.{PrintsPage, IsDetermined}
 use Rattle.kl_engine.specs.Faults.{ending}
 use Rattle.kl_engine.specs.Running.{ListsLine, ListsAll, ListsFront}
 use Rattle.kl_engine.specs.Verdict.{Verdict, well, refused, behind, names_in, named_schemes, scheme_line, scheme_lines}
@@ -95,16 +95,16 @@ module _ (xs : List Named) (out mid new : SinkState) (before : ListsAll xs out m
   with_line d others fits = with_more (d ∷ others) ∙ (ap (behind (scheme_lines xs).page) (lines_fit d others fits) ∙ behind_twice (scheme_lines xs).page (scheme_line d) (scheme_lines others))
 
   -- a line was begun
-  cut : (d : Named) (others : List Named) (e : Stop) → Fits d → WritesWhole {T = Unit {0}} (scheme_line d) (Err e) mid new → Prints (scheme_lines (xs ++ d ∷ others)) (Some (stop_fault e)) out new
+  cut : (d : Named) (others : List Named) (e : Stop) → Fits d → WritesWhole {T = Unit {0}} (scheme_line d) (Err e) mid new → PrintsPage (scheme_lines (xs ++ d ∷ others)) (Some (stop_fault e)) out new
   cut d others e fits writes =
       let front = writes_then {T = Unit {0}} {U = Unit {0}} (scheme_lines xs).page (scheme_line d) tt (Err e) out mid new before.writes writes in
       let page = writes_stopped {T = Unit {0}} {U = Unit {0}} ((scheme_lines xs).page ++ scheme_line d) (scheme_lines others).page e out new front in
-      subst (λ v. Prints v (Some (stop_fault e)) out new) (sym (with_line d others fits))
+      subst (λ v. PrintsPage v (Some (stop_fault e)) out new) (sym (with_line d others fits))
       (page_cut (behind ((scheme_lines xs).page ++ scheme_line d) (scheme_lines others)) (ends_told others) (λ is. behind_full (scheme_lines xs).page d (front_empty ((scheme_lines xs).page ++ scheme_line d) (scheme_lines others).page is)) e out new page)
 
   -- before a line was begun
-  early : (ys : List Named) → new ≡ mid → Prints (scheme_lines (xs ++ ys)) (Some fault.NoMemory) out new
-  early ys same = subst (λ v. Prints v (Some fault.NoMemory) out new) (sym (with_more ys)) (record {
+  early : (ys : List Named) → new ≡ mid → PrintsPage (scheme_lines (xs ++ ys)) (Some fault.NoMemory) out new
+  early ys same = subst (λ v. PrintsPage v (Some fault.NoMemory) out new) (sym (with_more ys)) (record {
     ends = inr (inr refl);
     whole = λ end. absurd (subst IsDetermined (sym end) (ends_told ys));
     part = took_front (scheme_lines xs).page (scheme_lines ys).page out new (took_all (scheme_lines xs).page out new (ap (λ s. s.taken) same ∙ before.writes.took));
@@ -112,10 +112,10 @@ module _ (xs : List Named) (out mid new : SinkState) (before : ListsAll xs out m
   })
 
   -- a line was refused
-  pub lists_stopped : (d : Named) (f : Fault) (others : List Named) → ListsLine d (Err f) mid new → Prints (scheme_lines (xs ++ d ∷ others)) (Some f) out new
+  pub lists_stopped : (d : Named) (f : Fault) (others : List Named) → ListsLine d (Err f) mid new → PrintsPage (scheme_lines (xs ++ d ∷ others)) (Some f) out new
   lists_stopped d fault.SchemeBytes others (long, same) =
       let took : new.taken ≡ append_known out.taken ((scheme_lines xs).page ++ []) = ap (λ s. s.taken) same ∙ (before.writes.took ∙ ap (append_known out.taken) (sym (append-nil (scheme_lines xs).page))) in
-      subst (λ v. Prints v (Some fault.SchemeBytes) out new) (sym (with_more (d ∷ others) ∙ ap (behind (scheme_lines xs).page) (lines_long d others long)))
+      subst (λ v. PrintsPage v (Some fault.SchemeBytes) out new) (sym (with_more (d ∷ others) ∙ ap (behind (scheme_lines xs).page) (lines_long d others long)))
       (record {
         ends = inl refl;
         whole = λ end. took;
@@ -146,10 +146,10 @@ module _ (xs : List Named) (out mid new : SinkState) (before : ListsAll xs out m
   lists_stopped d fault.TermDepth others is = absurd is
 
 -- the last line ends it
-pub lists_ended : (xs : List Named) (d : Named) (result : Result (Unit {0}) Fault) (out mid new : SinkState) → ListsAll xs out mid → ListsLine d result mid new → Prints (scheme_lines (xs ++ d ∷ [])) (ending result) out new
+pub lists_ended : (xs : List Named) (d : Named) (result : Result (Unit {0}) Fault) (out mid new : SinkState) → ListsAll xs out mid → ListsLine d result mid new → PrintsPage (scheme_lines (xs ++ d ∷ [])) (ending result) out new
 lists_ended xs d (Ok x) out mid new before line =
     let all = lists_more xs out mid new before d x line in
-    subst (λ end. Prints (scheme_lines (xs ++ d ∷ [])) end out new) all.fine
+    subst (λ end. PrintsPage (scheme_lines (xs ++ d ∷ [])) end out new) all.fine
     (record { ends = inl refl; whole = λ end. all.writes.took; part = all.writes.part; nothing = all.still })
 lists_ended xs d (Err f) out mid new before line = lists_stopped xs out mid new before d f [] line
 
@@ -204,8 +204,8 @@ module _ (defs : List Decl) (schemes : List Scheme) (end i : ℕ) (d : Decl) (sc
 
   pub stop_lists : (f : Fault) (out mid new : SinkState) → ListsAll (take i (pairs defs schemes)) out mid → ListsLine (name, scheme) (Err f) mid new → ListsFront (pairs defs schemes) (Err f) out new
   stop_lists f out mid new before line others =
-      subst (λ ds. Prints (scheme_lines (ds ++ others)) (Some f) out new) (sym split_at)
-      (subst (λ ds. Prints (scheme_lines ds) (Some f) out new) (sym (append_assoc (take i (pairs defs schemes)) ((name, scheme) ∷ drop (i + 1) (pairs defs schemes)) others))
+      subst (λ ds. PrintsPage (scheme_lines (ds ++ others)) (Some f) out new) (sym split_at)
+      (subst (λ ds. PrintsPage (scheme_lines ds) (Some f) out new) (sym (append_assoc (take i (pairs defs schemes)) ((name, scheme) ∷ drop (i + 1) (pairs defs schemes)) others))
       (lists_stopped (take i (pairs defs schemes)) out mid new before (name, scheme) f (drop (i + 1) (pairs defs schemes) ++ others) line))
 
 -- all are through
@@ -219,12 +219,12 @@ named_as defs given schemes typed defs_are schemes_are =
     (ap (λ ns. zip ns typed.schemes) (names_are defs ∙ ap (map name_of) (sym defs_are)) ∙ ap (zip (map name_of given)) (sym schemes_are))
 
 pub list_ended : (defs given : List Decl) (schemes : List Scheme) (typed : Typed) (result : Result (Unit {0}) Fault) (out mid new : SinkState) → given ≡ defs → schemes ≡ typed.schemes
-    → ListsAll (pairs given schemes) out mid → ListsLine (codes "it", typed.result) result mid new → Prints (scheme_lines (named_schemes (decls_of defs) typed)) (ending result) out new
+    → ListsAll (pairs given schemes) out mid → ListsLine (codes "it", typed.result) result mid new → PrintsPage (scheme_lines (named_schemes (decls_of defs) typed)) (ending result) out new
 list_ended defs given schemes typed result out mid new defs_are schemes_are before line =
-    subst (λ ds. Prints (scheme_lines ds) (ending result) out new) (sym (named_as defs given schemes typed defs_are schemes_are))
+    subst (λ ds. PrintsPage (scheme_lines ds) (ending result) out new) (sym (named_as defs given schemes typed defs_are schemes_are))
     (lists_ended (pairs given schemes) (codes "it", typed.result) result out mid new before line)
 
 pub list_stopped : (defs given : List Decl) (schemes : List Scheme) (typed : Typed) (f : Fault) (out new : SinkState) → given ≡ defs → schemes ≡ typed.schemes
-    → ListsFront (pairs given schemes) (Err f) out new → Prints (scheme_lines (named_schemes (decls_of defs) typed)) (Some f) out new
+    → ListsFront (pairs given schemes) (Err f) out new → PrintsPage (scheme_lines (named_schemes (decls_of defs) typed)) (Some f) out new
 list_stopped defs given schemes typed f out new defs_are schemes_are front =
-    subst (λ ds. Prints (scheme_lines ds) (Some f) out new) (sym (named_as defs given schemes typed defs_are schemes_are)) (front ((codes "it", typed.result) ∷ []))
+    subst (λ ds. PrintsPage (scheme_lines ds) (Some f) out new) (sym (named_as defs given schemes typed defs_are schemes_are)) (front ((codes "it", typed.result) ∷ []))

@@ -3,7 +3,7 @@ use Rattle.std.proofs.Common.{◌≡◌, ◌≢◌, ◌⊎◌, inl, inr, ℕ, ze
 use Rattle.std.specs.Prelude.{All, ⊤}
 use Rattle.std.specs.List.{AllByRecursion}
 use Rattle.std.proofs.lemmas.List.Elements.{All-head, All-tail}
-use Rattle.std.proofs.lemmas.Option.{slice_get_within}
+use Rattle.std.proofs.lemmas.Option.{slice_get_within, same_Some}
 use Rattle.kl_outside.specs.Sinks.{SinkState}
 use Rattle.kl_outside.proofs.CountLemmas.{rose_after}
 use Rattle.kl_value.specs.Canon.{canonical}
@@ -39,13 +39,15 @@ use Rattle.kl_ask.specs.Driver.{DriverKind, State, Keeps, IsColl, Stored, Missin
 use Rattle.kl_ask.specs.Lists.{EachSteps}
 use Rattle.kl_ask.specs.World.{World, types_of, values_of}
 use Rattle.std.specs.declared.alloc.Global.{Global}
+use Rattle.std.proofs.Math.Path.{fun_ext}
+use Rattle.kl_value.proofs.CanonLemmas.{canonical-nil}
 use Rattle.kl_ask.specs.declared.session.Attached.{Attached}
 use Rattle.kl_ask.specs.declared.settings.Settings.{Settings}
 use Rattle.kl_ask.specs.declared.settings.Trace.{Trace}
 use Rattle.kl_ask.specs.declared.ask.DriverError.{DriverError}
 use Rattle.kl_ask.specs.declared.ask.DriverError.TheVariants as error
 use Rattle.kl_ask.proofs.Whole.{collection_is}
-use Rattle.kl_ask.proofs.Worlds.{fun_ext, some_same, there, keeps_then}
+use Rattle.kl_ask.proofs.Worlds.{there, keeps_then}
 use Rattle.kl_eval.specs.Evals.{Sense, SenseList}
 use Rattle.kl_sources.specs.Attaching.{RoseAt, list_of, HaveNone, AttachesAll, world_of, IsErrorOf, IsUnreadable, NoVerdict, MayAttach, Causes, Serves, Stands, HasTyped}
 use Rattle.kl_sources.specs.Sources.{ArePlaced, IsFit, names_of, grounds_of, contents, IsValueAt, HaveValues}
@@ -53,9 +55,9 @@ use Rattle.kl_sources.specs.declared.attaching.AttachError.{AttachError}
 use Rattle.kl_sources.specs.declared.source.Source.{Source}
 use Rattle.kl_sources.proofs.Agreement.{values_agree, first_agrees}
 use Rattle.kl_sources.proofs.ListedSources.{listed_source}
-use Rattle.kl_sources.proofs.Lists.{of_all, mapped, unmapped}
+use Rattle.kl_sources.proofs.Lists.{of_all, unmapped}
 use Rattle.kl_sources.specs.Sources.{kinds_of}
-use Rattle.kl_engine.specs.Answering.{SomeRose, KeepsDrivers, IsIdle, IsStored, IsUnreadBy, HasDrifted, IsOf, IsOutside, reading, writing, drifting, wanting, Follows, IsDetermined, IsOneOf, HasTextFault, PrintsNothing, IsUnread, NeedsDrivers}
+use Rattle.kl_engine.specs.Answering.{SomeRose, KeepsDrivers, IsIdle, IsStoredFault, IsUnreadBy, SomeDrifted, IsOf, IsOutside, reading, writing, drifting, wanting, Follows, IsDetermined, IsOneOf, HasTextFault, PrintsNothing, IsUnreadFault, NeedsDrivers}
 use Rattle.kl_engine.specs.Commands.{Program}
 use Rattle.kl_engine.specs.Faults.{Ending}
 use Rattle.kl_engine.specs.Reading.{WasInScope}
@@ -67,12 +69,14 @@ use Rattle.kl_engine.specs.declared.fault.Fault.TheVariants as fault
 use Rattle.kl_engine.specs.declared.top.Purpose.TheVariants as purpose
 use Rattle.kl_engine.proofs.DoneLemmas.{follows_prints, wanted_done}
 use Rattle.kl_engine.proofs.PageLemmas.{prints_refused}
+use Rattle.kl_base.proofs.Places.{get-map}
+use Rattle.kl_engine.proofs.UnreadLemmas.{unread_cases}
 
 -- ---- lists
 
 at_all : {T : Type 0} (P : T → Type 0) (xs : List T) (i : ℕ) (x : T) → All P xs → slice_get xs i ≡ Some x → P x
 at_all P [] i x all is = absurd cc
-at_all P (y ∷ ys) zero x all is = subst P (some_same is) (All-head P y ys all)
+at_all P (y ∷ ys) zero x all is = subst P (same_Some _ _ is) (All-head P y ys all)
 at_all P (y ∷ ys) (suc i) x all is = at_all P ys i x (All-tail P y ys all) is
 
 pub idle_none : (ds : List State) → All IsIdle ds → HaveNone ds
@@ -87,7 +91,7 @@ refusal_fault x (Long most) e is = ap (λ d. Some (fault_of x d)) (sym is)
 refusal_fault x (Deep place) e is = ap (λ d. Some (fault_of x d)) (sym is)
 refusal_fault x (Rows rows) e is = absurd is
 
-unreadable_unread : (x : Name) (e : DriverError) → IsUnreadable e → IsUnread (fault_of x e)
+unreadable_unread : (x : Name) (e : DriverError) → IsUnreadable e → IsUnreadFault (fault_of x e)
 unreadable_unread x (error.BadSource place) is = tt
 unreadable_unread x (error.TooLong most) is = tt
 unreadable_unread x (error.TooDeep place) is = tt
@@ -125,31 +129,10 @@ needs_drivers x first error.NoMemory told = absurd told
 abbrev IsRefused : Fault → Type 0
 IsRefused fault.Read = ⊤
 IsRefused fault.NoMemory = ⊤
-IsRefused f = IsUnread f
+IsRefused f = IsUnreadFault f
 
-unread_refused : (f : Fault) → IsUnread f → IsRefused f
-unread_refused (fault.BadSource name place) is = tt
-unread_refused fault.FileBytes is = tt
-unread_refused fault.ItemNesting is = tt
-unread_refused fault.Read is = tt
-unread_refused fault.NoMemory is = tt
-unread_refused fault.Usage is = is
-unread_refused (fault.Text w byte) is = is
-unread_refused (fault.IllTyped decl) is = is
-unread_refused (fault.Catalogue byte) is = is
-unread_refused (fault.NameTwice name) is = is
-unread_refused (fault.NoDriver name) is = is
-unread_refused (fault.Unsuited name) is = is
-unread_refused (fault.BadFile place) is = is
-unread_refused fault.Overflow is = is
-unread_refused fault.Write is = is
-unread_refused (fault.Changed name) is = is
-unread_refused fault.ProgramBytes is = is
-unread_refused fault.CatalogueBytes is = is
-unread_refused fault.Nesting is = is
-unread_refused fault.TermNodes is = is
-unread_refused fault.TermDepth is = is
-unread_refused fault.SchemeBytes is = is
+unread_refused : (f : Fault) → IsUnreadFault f → IsRefused f
+unread_refused = unread_cases IsRefused (λ name place. tt) tt tt
 
 error_refused : (x : Name) (w : Stored) (e : DriverError) → IsErrorOf w e → IsRefused (fault_of x e)
 error_refused x Missing e is = subst (λ d. IsRefused (fault_of x d)) (sym is) tt
@@ -157,9 +140,6 @@ error_refused x (Bad place) e is = subst (λ d. IsRefused (fault_of x d)) (sym i
 error_refused x (Long most) e is = subst (λ d. IsRefused (fault_of x d)) (sym is) tt
 error_refused x (Deep place) e is = subst (λ d. IsRefused (fault_of x d)) (sym is) tt
 error_refused x (Rows rows) e is = absurd is
-
-some_fault : (f g : Fault) → Some f ≡ Some g → f ≡ g
-some_fault f g is = some_same is
 
 -- ---- what drivers keep
 
@@ -169,7 +149,7 @@ attach_keeps ss marks ds mid steps = record {
   each = λ i a b this that. let may = steps.each i a b this that in record {
     keeps = may.keeps;
     cursors = may.cursors;
-    attached = λ name none. may.others name (λ marked. none (marked.0, mapped (λ (s : Source). s.name) ss marked.0 marked.1 marked.2 ∙ ap Some marked.4, marked.3));
+    attached = λ name none. may.others name (λ marked. none (marked.0, get-map (λ (s : Source). s.name) ss marked.0 marked.1 marked.2 ∙ ap Some marked.4, marked.3));
   };
 }
 
@@ -234,7 +214,7 @@ module _ (ss : List Source) (marks : ℕ → Bool) (first : Option ℕ) (program
   refused_by w of = refusal_fault c.refused.name w e.error of ∙ ap (λ x. Some (fault_of x e.error)) c.named
 
   refused_named : e.error ≢ error.NoMemory → IsNamed ss marks c.refused.name
-  refused_named other = (c.place, mapped (λ (s : Source). s.name) ss c.place c.refused c.there, c.marked other)
+  refused_named other = (c.place, get-map (λ (s : Source). s.name) ss c.place c.refused c.there, c.marked other)
 
   refused_of : (d : DriverError) → IsOf (fault_of e.source d) c.refused.name
   refused_of error.Failed = tt
@@ -263,22 +243,22 @@ module _ (ss : List Source) (marks : ℕ → Bool) (first : Option ℕ) (program
   ]
 
   refused_never : (f : Fault) → Some (fault_of e.source e.error) ≡ Some f → (IsRefused f → ⊥) → ⊥
-  refused_never f is none = none (subst IsRefused (some_same is) refused_is)
+  refused_never f is none = none (subst IsRefused (same_Some _ _ is) refused_is)
 
-  refused_read : Some (fault_of e.source e.error) ≡ Some fault.Read → IsStored (kinds_of ds) ss (IsNamed ss marks) fault.Read ⊎ SomeRose (λ d. d.faults) ds mid
+  refused_read : Some (fault_of e.source e.error) ≡ Some fault.Read → IsStoredFault (kinds_of ds) ss (IsNamed ss marks) fault.Read ⊎ SomeRose (λ d. d.faults) ds mid
   refused_read is = elim c.cause [
     | inl (inl h) ↦ inr (c.refused.driver, h.1)
-    | inl (inr h) ↦ absurd (let two : fault.NoMemory ≡ fault.Read = ap (fault_of e.source) (sym h) ∙ some_same is in cc)
+    | inl (inr h) ↦ absurd (let two : fault.NoMemory ≡ fault.Read = ap (fault_of e.source) (sym h) ∙ same_Some _ _ is in cc)
     | inr (inl (w, of, at, rest)) ↦ inl (c.place, c.refused, w, c.there, refused_named (error_no_want w e.error of), at, refused_by w of ∙ is)
-    | inr (inr (unreadable, at, lacks, rose)) ↦ absurd (subst IsUnread (some_same is) (unreadable_unread e.source e.error unreadable))
+    | inr (inr (unreadable, at, lacks, rose)) ↦ absurd (subst IsUnreadFault (same_Some _ _ is) (unreadable_unread e.source e.error unreadable))
   ]
 
-  refused_unread : (f : Fault) → Some (fault_of e.source e.error) ≡ Some f → IsUnread f → IsUnreadBy ss (IsNamed ss marks) f ds mid
+  refused_unread : (f : Fault) → Some (fault_of e.source e.error) ≡ Some f → IsUnreadFault f → IsUnreadBy ss (IsNamed ss marks) f ds mid
   refused_unread f is un = elim c.cause [
-    | inl (inl h) ↦ absurd (subst IsUnread (sym (some_same is) ∙ ap (fault_of e.source) h.0) un)
-    | inl (inr h) ↦ absurd (subst IsUnread (sym (some_same is) ∙ ap (fault_of e.source) h) un)
+    | inl (inl h) ↦ absurd (subst IsUnreadFault (sym (same_Some _ _ is) ∙ ap (fault_of e.source) h.0) un)
+    | inl (inr h) ↦ absurd (subst IsUnreadFault (sym (same_Some _ _ is) ∙ ap (fault_of e.source) h) un)
     | inr (inl (w, of, at, rest)) ↦ inl (c.place, c.refused, w, c.there, refused_named (error_no_want w e.error of), at, refused_by w of ∙ is)
-    | inr (inr (unreadable, at, lacks, rose)) ↦ inr (c.place, c.refused, c.there, (refused_named (unreadable_no_want e.error unreadable), subst (λ g. IsOf g c.refused.name) (some_same is) (refused_of e.error)), at, rose)
+    | inr (inr (unreadable, at, lacks, rose)) ↦ inr (c.place, c.refused, c.there, (refused_named (unreadable_no_want e.error unreadable), subst (λ g. IsOf g c.refused.name) (same_Some _ _ is) (refused_of e.error)), at, rose)
   ]
 
   pub attach_refused : EachSteps (MayAttach marks ss) ds mid → DoneMeaning ss marks first program exp (Some (fault_of e.source e.error)) ds mid out out
@@ -301,19 +281,13 @@ meaning_wanted ss marks first program e ds out = wanted_done (λ others. IsMeant
 
 -- ---- values of sources
 
-empty_is : (k : Kind) → canonical k [] ≡ collection k []
-unfolding canonical
-empty_is kind.Set = refl
-empty_is kind.Bag = refl
-empty_is kind.List = refl
-
 rows_inhabit : (t : Ground) (rows : List Value) → IsColl t → AllByRecursion (Inhabits (item_of t)) rows → Inhabits t (canonical (kind_of t) rows)
 rows_inhabit t rows coll typed = subst (λ q. Inhabits q (canonical (kind_of t) rows)) (sym (collection_is t coll)) (canonical_inhabits (kind_of t) (item_of t) rows typed)
 
 module _ (ks : List DriverKind) (marks : ℕ → Bool) where
   value_inhabits : (b : Bool) (s : Source) (v : Value) → IsColl (ground_of s.ty) → (b ≡ true → HasTyped s (contents ks s)) → IsValueAt ks b s v → Inhabits (ground_of s.ty) v
   value_inhabits true s v coll typed (rows, at, is) = subst (Inhabits (ground_of s.ty)) (sym is) (rows_inhabit (ground_of s.ty) rows coll (subst (HasTyped s) at (typed refl)))
-  value_inhabits false s v coll typed is = subst (Inhabits (ground_of s.ty)) (empty_is (kind_of (ground_of s.ty)) ∙ sym is) (rows_inhabit (ground_of s.ty) [] coll tt)
+  value_inhabits false s v coll typed is = subst (Inhabits (ground_of s.ty)) (canonical-nil (kind_of (ground_of s.ty)) ∙ sym is) (rows_inhabit (ground_of s.ty) [] coll tt)
 
   values_typed : (n : ℕ) (ss : List Source) (vs : List (Name × Value)) → ((i : ℕ) (s : Source) → slice_get ss i ≡ Some s → IsColl (ground_of s.ty)) → ((i : ℕ) (s : Source) → slice_get ss i ≡ Some s → marks (n + i) ≡ true → HasTyped s (contents ks s))
       → HaveValues ks marks n ss vs → HaveTypesByName (grounds_of ss) vs
@@ -337,7 +311,7 @@ by_place : (G : List (Name × Ground)) (vs : List (Name × Value)) → HaveTypes
 by_place [] [] have i t is = absurd cc
 by_place [] (c ∷ vs) have i t is = absurd have
 by_place (b ∷ G) [] have i t is = absurd have
-by_place (b ∷ G) (c ∷ vs) have zero t is = (c.1, refl, subst (λ u. Inhabits u c.1) (some_same is) have.1)
+by_place (b ∷ G) (c ∷ vs) have zero t is = (c.1, refl, subst (λ u. Inhabits u c.1) (same_Some _ _ is) have.1)
 by_place (b ∷ G) (c ∷ vs) have (suc i) t is = by_place G vs have.2 i t is
 
 -- ---- a program that has types
@@ -374,29 +348,8 @@ run_has first (Some fault.TermNodes) has = tt
 run_has first (Some fault.TermDepth) has = tt
 run_has first (Some fault.SchemeBytes) has = absurd has
 
-run_unread : (f : Fault) → HasRunFault f → IsUnread f → ⊥
-run_unread (fault.BadSource name place) has is = has
-run_unread fault.FileBytes has is = has
-run_unread fault.ItemNesting has is = has
-run_unread fault.Usage has is = is
-run_unread (fault.Text w byte) has is = is
-run_unread (fault.IllTyped decl) has is = is
-run_unread (fault.Catalogue byte) has is = is
-run_unread (fault.NameTwice name) has is = is
-run_unread (fault.NoDriver name) has is = is
-run_unread (fault.Unsuited name) has is = is
-run_unread (fault.BadFile place) has is = is
-run_unread fault.Overflow has is = is
-run_unread fault.Read has is = is
-run_unread fault.Write has is = is
-run_unread fault.NoMemory has is = is
-run_unread (fault.Changed name) has is = is
-run_unread fault.ProgramBytes has is = is
-run_unread fault.CatalogueBytes has is = is
-run_unread fault.Nesting has is = is
-run_unread fault.TermNodes has is = is
-run_unread fault.TermDepth has is = is
-run_unread fault.SchemeBytes has is = is
+run_unread : (f : Fault) → HasRunFault f → IsUnreadFault f → ⊥
+run_unread f has is = unread_cases (λ g. HasRunFault g → ⊥) (λ name place h. h) (λ h. h) (λ h. h) f is has
 
 run_needs : (first : Option ℕ) (end : Ending) → IsOneOf HasRunFault end → IsDetermined end → NeedsDrivers (purpose.Run first) end
 run_needs first None has told = tt
@@ -490,10 +443,10 @@ module _ (ss : List Source) (program : Decls) (e : Exp) (typed : Typed) (infers 
       (follows_since (IsNamed ss marks) ds w.drivers last kept_first found.0 end out out' found.2)
   answered_ends (inr lacks) = untold (none_meant ss marks first program e ds lacks) (none_told ss marks first program e ds lacks) (run_needs first end answers.no_other)
 
-  drifted : (name : Name) → DriftsAt w.sources name w.drivers last → HasDrifted ss (λ x. IsNamed ss marks x × (x ≡ name)) ds last
+  drifted : (name : Name) → DriftsAt w.sources name w.drivers last → SomeDrifted ss (λ x. IsNamed ss marks x × (x ≡ name)) ds last
   drifted name (i, a, place, at, named, held, rose) =
       let s = listed_source marks 0 ss i a place (ap (λ l. slice_get l i) (sym list_is) ∙ at) held in
-      let of : IsNamed ss marks s.0.name = (i, mapped (λ (s : Source). s.name) ss i s.0 s.1, ap marks (sym (zero-add i)) ∙ s.2) in
+      let of : IsNamed ss marks s.0.name = (i, get-map (λ (s : Source). s.name) ss i s.0 s.1, ap marks (sym (zero-add i)) ∙ s.2) in
       let since : RoseAt place (λ d. d.drifts) ds last = rose_at_since (IsNamed ss marks) ds w.drivers last kept_first (λ d. d.drifts) (λ a b keeps. keeps.drifts) place rose in
       (i, s.0, s.1, (of, s.3 ∙ named), subst (λ p. RoseAt p (λ d. d.drifts) ds last) (sym s.4) since)
 

@@ -9,7 +9,7 @@ use Rattle.kl_exchange.specs.declared.error.PrintError.{PrintError}
 use Rattle.kl_exchange.specs.declared.error.PrintError.TheVariants as print
 use Rattle.kl_value.specs.declared.Value.{Value}
 use Rattle.kl_value.specs.declared.Value.TheVariants as value
-use Rattle.kl_engine.specs.Answering.{Prints, IsDetermined}
+use Rattle.kl_engine.specs.Answering.{PrintsPage, IsDetermined}
 use Rattle.kl_engine.specs.Showing.{write_fault}
 use Rattle.kl_engine.specs.Verdict.{Verdict, well, refused, list_front, overflowing, cut_list, cut, cut_layer, first_of, suffice, value_page}
 use Rattle.kl_engine.specs.Faults.{Ending}
@@ -21,16 +21,16 @@ pub line_full : (text : List ℕ) → text ++ codes "\n" ≢ []
 line_full text is = let same = ap length is in omega (arith, length-append text (codes "\n"), same)
 
 module _ (page : List ℕ) (full : page ≢ []) (out out' : SinkState) where
-  pub page_took : {T : Type 0} (done : T) → WritesWhole page (Ok done) out out' → Prints (well page) None out out'
+  pub page_took : {T : Type 0} (done : T) → WritesWhole page (Ok done) out out' → PrintsPage (well page) None out out'
   page_took done writes = record { ends = inl refl; whole = λ is. writes.took; part = writes.part; nothing = λ none. absurd (full none) }
 
-  pub page_failed : {T : Type 0} → WritesWhole {T = T} page (Err stop.Failed) out out' → Prints (well page) (Some fault.Write) out out'
+  pub page_failed : {T : Type 0} → WritesWhole {T = T} page (Err stop.Failed) out out' → PrintsPage (well page) (Some fault.Write) out out'
   page_failed writes = record { ends = inr (inl (refl, writes.cause.failed refl, full)); whole = λ is. absurd cc; part = writes.part; nothing = λ none. absurd (full none) }
 
-  pub page_wanted : {T : Type 0} → WritesWhole {T = T} page (Err stop.NoMemory) out out' → Prints (well page) (Some fault.NoMemory) out out'
+  pub page_wanted : {T : Type 0} → WritesWhole {T = T} page (Err stop.NoMemory) out out' → PrintsPage (well page) (Some fault.NoMemory) out out'
   page_wanted writes = record { ends = inr (inr refl); whole = λ is. absurd cc; part = writes.part; nothing = λ none. absurd (full none) }
 
-  pub page_stopped : (e : PrintError) → WritesWhole {T = Unit {0}} page (as_stop (Err e)) out out' → Prints (well page) (Some (write_fault e)) out out'
+  pub page_stopped : (e : PrintError) → WritesWhole {T = Unit {0}} page (as_stop (Err e)) out out' → PrintsPage (well page) (Some (write_fault e)) out out'
   page_stopped print.Failed writes = page_failed writes
   page_stopped print.NoMemory writes = page_wanted writes
 
@@ -39,7 +39,7 @@ stop_fault stop.Failed = fault.Write
 stop_fault stop.NoMemory = fault.NoMemory
 
 -- a page of any verdict was refused
-pub page_cut : (v : Verdict) → IsDetermined v.ending → v.page ≢ [] → (e : Stop) (out out' : SinkState) → WritesWhole {T = Unit {0}} v.page (Err e) out out' → Prints v (Some (stop_fault e)) out out'
+pub page_cut : (v : Verdict) → IsDetermined v.ending → v.page ≢ [] → (e : Stop) (out out' : SinkState) → WritesWhole {T = Unit {0}} v.page (Err e) out out' → PrintsPage v (Some (stop_fault e)) out out'
 page_cut v told full stop.Failed out out' writes = record { ends = inr (inl (refl, writes.cause.failed refl, full)); whole = λ is. absurd (subst IsDetermined (sym is) told); part = writes.part; nothing = λ none. absurd (full none) }
 page_cut v told full stop.NoMemory out out' writes = record { ends = inr (inr refl); whole = λ is. absurd (subst IsDetermined (sym is) told); part = writes.part; nothing = λ none. absurd (full none) }
 
@@ -48,24 +48,24 @@ module _ (vs : List Value) (out out' : SinkState) where
   front_full : list_front vs ≢ []
   front_full is = cc
 
-  pub cut_took : {T : Type 0} (done : T) → WritesWhole (list_front vs) (Ok done) out out' → Prints (overflowing vs) (Some fault.Overflow) out out'
+  pub cut_took : {T : Type 0} (done : T) → WritesWhole (list_front vs) (Ok done) out out' → PrintsPage (overflowing vs) (Some fault.Overflow) out out'
   cut_took done writes = record { ends = inl refl; whole = λ is. writes.took; part = writes.part; nothing = λ none. absurd (front_full none) }
 
-  pub cut_stopped : (e : PrintError) → WritesWhole {T = Unit {0}} (list_front vs) (as_stop (Err e)) out out' → Prints (overflowing vs) (Some (write_fault e)) out out'
+  pub cut_stopped : (e : PrintError) → WritesWhole {T = Unit {0}} (list_front vs) (as_stop (Err e)) out out' → PrintsPage (overflowing vs) (Some (write_fault e)) out out'
   cut_stopped print.Failed writes = record { ends = inr (inl (refl, writes.cause.failed refl, front_full)); whole = λ is. absurd cc; part = writes.part; nothing = λ none. absurd (front_full none) }
   cut_stopped print.NoMemory writes = record { ends = inr (inr refl); whole = λ is. absurd cc; part = writes.part; nothing = λ none. absurd (front_full none) }
 
 -- nothing is printed
-pub prints_refused : (f : Fault) (out : SinkState) → Prints (refused f) (Some f) out out
+pub prints_refused : (f : Fault) (out : SinkState) → PrintsPage (refused f) (Some f) out out
 prints_refused f out = record { ends = inl refl; whole = λ is. sym (append_known-nil out.taken); part = took_none [] out out refl; nothing = λ none. refl }
 
 -- items of a list that are all that are wanted, and those that are not
 cut_is : (first : Option ℕ) (vs : List Value) → cut first (value.List vs) ≡ value.List (first_of first vs)
 cut_is first vs = ap (λ x. cut_layer first x (value.List vs)) (value.outs-List vs)
 
-pub printed_enough : (first : Option ℕ) (vs : List Value) (end : Ending) (out out' : SinkState) → suffice first vs ≡ true → Prints (value_page (cut first (value.List vs))) end out out' → Prints (cut_list first vs) end out out'
+pub printed_enough : (first : Option ℕ) (vs : List Value) (end : Ending) (out out' : SinkState) → suffice first vs ≡ true → PrintsPage (value_page (cut first (value.List vs))) end out out' → PrintsPage (cut_list first vs) end out out'
 printed_enough first vs end out out' is prints =
-    subst (λ b. Prints (if b then value_page (value.List (first_of first vs)) else overflowing vs) end out out') (sym is) (subst (λ v. Prints (value_page v) end out out') (cut_is first vs) prints)
+    subst (λ b. PrintsPage (if b then value_page (value.List (first_of first vs)) else overflowing vs) end out out') (sym is) (subst (λ v. PrintsPage (value_page v) end out out') (cut_is first vs) prints)
 
-pub printed_short : (first : Option ℕ) (vs : List Value) (end : Ending) (out out' : SinkState) → suffice first vs ≡ false → Prints (overflowing vs) end out out' → Prints (cut_list first vs) end out out'
-printed_short first vs end out out' is prints = subst (λ b. Prints (if b then value_page (value.List (first_of first vs)) else overflowing vs) end out out') (sym is) prints
+pub printed_short : (first : Option ℕ) (vs : List Value) (end : Ending) (out out' : SinkState) → suffice first vs ≡ false → PrintsPage (overflowing vs) end out out' → PrintsPage (cut_list first vs) end out out'
+printed_short first vs end out out' is prints = subst (λ b. PrintsPage (if b then value_page (value.List (first_of first vs)) else overflowing vs) end out out') (sym is) prints

@@ -10,11 +10,11 @@ use Rattle.kl_outcome.specs.Outcome.{Name}
 use Rattle.kl_ask.specs.Driver.{DriverKind, State}
 use Rattle.kl_sources.specs.declared.source.Source.{Source}
 use Rattle.kl_sources.specs.Sources.{kinds_of}
-use Rattle.kl_engine.specs.Answering.{SomeRose, one, IsOutside, reading, writing, drifting, wanting, Follows, DoesText, Does, IsDetermined, IsOneOf, HasTextFault, HasFault, IsMentionedIn, IsMentioned, PrintsNothing, IsRun, IsUnread, IsUnreadBy, HasDrifted, OfRun, LacksFile, IsStored}
+use Rattle.kl_engine.specs.Answering.{SomeRose, one, IsOutside, reading, writing, drifting, wanting, Follows, DoesText, Does, IsDetermined, IsOneOf, HasTextFault, HasFault, IsMentionedIn, IsMentioned, PrintsNothing, IsRun, IsUnreadFault, IsUnreadBy, SomeDrifted, OfRun, LacksFile, IsStoredFault}
 use Rattle.kl_engine.specs.Commands.{Program}
 use Rattle.kl_engine.specs.Faults.{Ending}
 use Rattle.kl_engine.specs.Inputs.{IsInputsEnd, ReadsInputs}
-use Rattle.kl_engine.specs.Verdict.{Verdict, refused, HasInputs, IsText, IsInputsFault, IsProgram}
+use Rattle.kl_engine.specs.Verdict.{Verdict, refused, HasInputs, IsTextVerdict, IsInputsFault, IsProgramVerdict}
 use Rattle.kl_engine.specs.declared.fault.Fault.{Fault}
 use Rattle.kl_engine.specs.declared.fault.Fault.TheVariants as fault
 use Rattle.kl_engine.specs.declared.inputs.Inputs.{Inputs}
@@ -23,6 +23,7 @@ use Rattle.kl_engine.specs.declared.top.Purpose.TheVariants as purpose
 use Rattle.kl_engine.proofs.DriverLemmas.{keeps_same, keeps_wider}
 use Rattle.kl_engine.proofs.FairLemmas.{IsOfVerdict, fair_text}
 use Rattle.kl_engine.proofs.InputLemmas.{inputs_one, inputs_well, inputs_fault_one, inputs_verdict}
+use Rattle.kl_engine.proofs.UnreadLemmas.{unread_cases}
 
 -- what is done with a text is done with the same text
 pub does_same : (ss us : List Source) (p : Purpose) (text other : List ℕ) (end : Ending) (ds ds' : List State) (out out' : SinkState) → us ≡ ss → other ≡ text → DoesText us p other end ds ds' out out' → DoesText ss p text end ds ds' out out'
@@ -78,7 +79,7 @@ of_run (purpose.Run first) path catalogue f ks P is text ss inputs holds = (text
 of_run purpose.Check path catalogue f ks P is text ss inputs holds = absurd is
 of_run purpose.Types path catalogue f ks P is text ss inputs holds = absurd is
 
-unread_run : (p : Purpose) (f : Fault) → IsUnread f → HasTextFault p f → IsRun p
+unread_run : (p : Purpose) (f : Fault) → IsUnreadFault f → HasTextFault p f → IsRun p
 unread_run p (fault.BadSource name place) is has = has
 unread_run p fault.FileBytes is has = has
 unread_run p fault.ItemNesting is has = has
@@ -109,7 +110,7 @@ module _ (p : Purpose) (path : List ℕ) (catalogue : Option (List ℕ)) (f f' :
       | inl h ↦ absurd (inputs_well told (kinds_of ds) path catalogue i.text i.sources h.0 (reads.inputs told is) h.1)
       | inr h ↦
           let same = inputs_one told (kinds_of ds) path catalogue h.0 i.text h.1 i.sources h.2 (reads.inputs told is) in
-          let found = does.told v (subst (λ ss. IsText (kinds_of ds) ss p i.text v) same.1 (subst (λ text. IsText (kinds_of ds) h.1 p text v) same.0 h.3)) in
+          let found = does.told v (subst (λ ss. IsTextVerdict (kinds_of ds) ss p i.text v) same.1 (subst (λ text. IsTextVerdict (kinds_of ds) h.1 p text v) same.0 h.3)) in
           (found.0, inr (i.text, i.sources, reads.inputs told is, found.1), found.2, follows_also (Rose f.faults f'.faults) found.0 end ds ds' out out' found.3)
     ];
     meant = λ told is well needs. let found = does.meant well needs in (found.0, inr (i.text, i.sources, reads.inputs told is, found.1), found.2);
@@ -117,11 +118,11 @@ module _ (p : Purpose) (path : List ℕ) (catalogue : Option (List ℕ)) (f f' :
       usage = λ is. absurd (none_misuses p end does.no_other is);
       no_usage = λ is. absurd cc;
       read = λ is. elim (does.read is) [
-        | inl h ↦ inr (inl (of_run p path catalogue f (kinds_of ds) (λ text ss. IsStored (kinds_of ds) ss (IsMentionedIn ss text) fault.Read) (subst (IsOneOf (HasTextFault p)) is does.no_other) i.text i.sources reads.inputs h))
+        | inl h ↦ inr (inl (of_run p path catalogue f (kinds_of ds) (λ text ss. IsStoredFault (kinds_of ds) ss (IsMentionedIn ss text) fault.Read) (subst (IsOneOf (HasTextFault p)) is does.no_other) i.text i.sources reads.inputs h))
         | inr h ↦ inr (inr (inr h))
       ];
       write = does.write;
-      changed = λ name is. of_run p path catalogue f (kinds_of ds) (λ text ss. HasDrifted ss (λ x. IsMentionedIn ss text x × (x ≡ name)) ds ds') (subst (IsOneOf (HasTextFault p)) is does.no_other) i.text i.sources reads.inputs (does.changed name is);
+      changed = λ name is. of_run p path catalogue f (kinds_of ds) (λ text ss. SomeDrifted ss (λ x. IsMentionedIn ss text x × (x ≡ name)) ds ds') (subst (IsOneOf (HasTextFault p)) is does.no_other) i.text i.sources reads.inputs (does.changed name is);
       no_other = of_program p path catalogue end does.no_other;
       nothing = does.nothing;
     };
@@ -171,29 +172,8 @@ module _ (p : Purpose) (path : List ℕ) (catalogue : Option (List ℕ)) (f f' :
     not_changed : (name : Name) → g ≡ fault.Changed name → ⊥
     not_changed name is = subst IsInputsEnd is reads.no_other
 
-    not_unread : (h : Fault) → g ≡ h → IsUnread h → ⊥
-    not_unread (fault.BadSource name place) is un = subst IsInputsEnd is reads.no_other
-    not_unread fault.FileBytes is un = subst IsInputsEnd is reads.no_other
-    not_unread fault.ItemNesting is un = subst IsInputsEnd is reads.no_other
-    not_unread fault.Usage is un = un
-    not_unread (fault.Text w byte) is un = un
-    not_unread (fault.IllTyped decl) is un = un
-    not_unread (fault.Catalogue byte) is un = un
-    not_unread (fault.NameTwice name) is un = un
-    not_unread (fault.NoDriver name) is un = un
-    not_unread (fault.Unsuited name) is un = un
-    not_unread (fault.BadFile place) is un = un
-    not_unread fault.Overflow is un = un
-    not_unread fault.Read is un = un
-    not_unread fault.Write is un = un
-    not_unread fault.NoMemory is un = un
-    not_unread (fault.Changed name) is un = un
-    not_unread fault.ProgramBytes is un = un
-    not_unread fault.CatalogueBytes is un = un
-    not_unread fault.Nesting is un = un
-    not_unread fault.TermNodes is un = un
-    not_unread fault.TermDepth is un = un
-    not_unread fault.SchemeBytes is un = un
+    not_unread : (h : Fault) → g ≡ h → IsUnreadFault h → ⊥
+    not_unread h is un = unread_cases (λ k. IsInputsEnd k → ⊥) (λ name place e. e) (λ e. e) (λ e. e) h un (subst IsInputsEnd is reads.no_other)
 
     -- nothing is printed of a verdict that ends as this
     follows_none : (v : Verdict) → (v.ending ≡ Some g → v.page ≡ []) → (Some g ≡ v.ending) ⊎ IsOutside (Rose f.faults f'.faults) v (Some g) ds ds out out → Follows (Rose f.faults f'.faults) v (Some g) ds ds out out
@@ -203,7 +183,7 @@ module _ (p : Purpose) (path : List ℕ) (catalogue : Option (List ℕ)) (f f' :
       part = took_none v.page out out refl;
     }
 
-    told_refused : (told : List ℕ → Option (List ℕ)) → f.told ≡ Some told → (v : Verdict) → IsProgram told (kinds_of ds) p path catalogue v → Follows (Rose f.faults f'.faults) v (Some g) ds ds out out
+    told_refused : (told : List ℕ → Option (List ℕ)) → f.told ≡ Some told → (v : Verdict) → IsProgramVerdict told (kinds_of ds) p path catalogue v → Follows (Rose f.faults f'.faults) v (Some g) ds ds out out
     told_refused told is v of = elim (reads.refused told is) [
       | inl none ↦ follows_none v (λ same. absurd (of_verdict v told of (same ∙ ap Some none))) (inr (wanting (ap Some none)))
       | inr (inl failed) ↦ follows_none v (λ same. read_empty v told of (same ∙ ap Some failed.0)) (inr (reading (ap Some failed.0) (inl failed.1)))
@@ -215,16 +195,16 @@ module _ (p : Purpose) (path : List ℕ) (catalogue : Option (List ℕ)) (f f' :
       ]
     ]
       where
-        of_verdict : (v : Verdict) (told : List ℕ → Option (List ℕ)) → IsProgram told (kinds_of ds) p path catalogue v → v.ending ≡ Some fault.NoMemory → ⊥
+        of_verdict : (v : Verdict) (told : List ℕ → Option (List ℕ)) → IsProgramVerdict told (kinds_of ds) p path catalogue v → v.ending ≡ Some fault.NoMemory → ⊥
         of_verdict v told (inl h) same = inputs_verdict told (kinds_of ds) path catalogue h.0 h.1 (let both : Some h.0 ≡ Some fault.NoMemory = ap (λ w. w.ending) (sym h.2) ∙ same in cc)
         of_verdict v told (inr h) same = subst IsOfVerdict same (fair_text (kinds_of ds) h.1 p h.0 v h.3).told
 
-        read_empty : (v : Verdict) (told : List ℕ → Option (List ℕ)) → IsProgram told (kinds_of ds) p path catalogue v → v.ending ≡ Some fault.Read → v.page ≡ []
+        read_empty : (v : Verdict) (told : List ℕ → Option (List ℕ)) → IsProgramVerdict told (kinds_of ds) p path catalogue v → v.ending ≡ Some fault.Read → v.page ≡ []
         read_empty v told (inl h) same = ap (λ w. w.page) h.2
         read_empty v told (inr h) same = (fair_text (kinds_of ds) h.1 p h.0 v h.3).empty (subst (PrintsNothing (Program p [] None)) (sym same) tt)
 
     abbrev ReadCause : Type 0
-    ReadCause = LacksFile (Program p path catalogue) f (kinds_of ds) ⊎ OfRun (Program p path catalogue) f (kinds_of ds) (λ text ss. IsStored (kinds_of ds) ss (IsMentionedIn ss text) fault.Read) ⊎ Rose f.faults f'.faults ⊎ SomeRose (λ d. d.faults) ds ds
+    ReadCause = LacksFile (Program p path catalogue) f (kinds_of ds) ⊎ OfRun (Program p path catalogue) f (kinds_of ds) (λ text ss. IsStoredFault (kinds_of ds) ss (IsMentionedIn ss text) fault.Read) ⊎ Rose f.faults f'.faults ⊎ SomeRose (λ d. d.faults) ds ds
 
     pub program_refused : Does (Program p path catalogue) (Some g) f f' ds ds out out
     program_refused = record {

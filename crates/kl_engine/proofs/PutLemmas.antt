@@ -1,14 +1,14 @@
 -- What is put on a page, one after the other.
 use Rattle.std.proofs.Common.{◌≡◌, ℕ, ◌+◌, ◌<◌, List, [], ◌∷◌, ◌++◌, codes, length, map, take, drop, get_or, Some, None, Result, Ok, Err, refl, sym, ap, subst, ◌∙◌, append_assoc, append-nil, take-append-drop}
 use Rattle.std.proofs.lemmas.List.{map-append}
-use Rattle.kl_exchange.specs.Printing.{Puts, as_stop, separator}
+use Rattle.kl_exchange.specs.Printing.{Puts, as_stop}
 use Rattle.kl_exchange.specs.declared.error.PrintError.{PrintError}
 use Rattle.kl_exchange.specs.declared.error.PrintError.TheVariants as print
 use Rattle.kl_exchange.proofs.Printed.{then}
 use Rattle.kl_exchange.proofs.TextLemmas.{commas_more}
 use Rattle.kl_outside.specs.Sinks.{SinkState}
 use Rattle.kl_outside.specs.declared.stop.Stop.TheVariants as stop
-use Rattle.kl_value.specs.Written.{text_of, with_commas}
+use Rattle.kl_value.specs.Written.{text_of, with_commas, separator}
 use Rattle.kl_value.specs.declared.value.Value.{Value}
 
 -- A line is put by its text and then its end.

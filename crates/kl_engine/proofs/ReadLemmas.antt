@@ -15,7 +15,7 @@ use Rattle.kl_scope.specs.declared.refusal.ScopeError.{ScopeError}
 use Rattle.kl_scope.specs.declared.refusal.ScopeError.TheVariants.{Unknown, Twice, Misapplied, Refutable, NoMemory}
 use Rattle.kl_scope.specs.declared.scoped.Scoped.{Scoped}
 use Rattle.kl_engine.specs.Answering.{unnamed, Alike, one, nested, unnested, renamed}
-use Rattle.kl_engine.specs.Reading.{byte_of, scope_fault, IsBreach, IsWrongAt, IsDeepAt, IsScopeFault, IsTokensFault, IsTextFault, IsProgramOf, Reads}
+use Rattle.kl_engine.specs.Reading.{byte_of, scope_fault, IsBreach, IsWrongAt, NestsTooDeepAt, IsScopeFault, IsTokensFault, IsTextFault, IsProgramOf, ReadsText}
 use Rattle.kl_engine.specs.Verdict.{refused}
 use Rattle.kl_engine.specs.declared.fault.Fault.{Fault}
 use Rattle.kl_engine.specs.declared.fault.Fault.TheVariants as fault
@@ -133,22 +133,22 @@ few_tokens place total (t ∷ ts) (after, full, more) = let rest = few_tokens t.
 -- ---- what is found
 
 -- what is found of these tokens, which the layers saw under other names
-pub found_deep : (names : List Name) (text : List ℕ) (ts us : List Token) (k : ℕ) → Tokens text ts → us ≡ ts → IsDeepAt us k → Reads names text (Err fault.Nesting)
-found_deep names text ts us k tokens same place = inr (inl (ts, tokens, inr (inr (k, subst (λ r. IsDeepAt r k) same place, refl))))
+pub found_deep : (names : List Name) (text : List ℕ) (ts us : List Token) (k : ℕ) → Tokens text ts → us ≡ ts → NestsTooDeepAt us k → ReadsText names text (Err fault.Nesting)
+found_deep names text ts us k tokens same place = inr (inl (ts, tokens, inr (inr (k, subst (λ r. NestsTooDeepAt r k) same place, refl))))
 
-pub found_wrong : (names : List Name) (text : List ℕ) (ts us vs : List Token) (k byte : ℕ) → Tokens text ts → us ≡ ts → vs ≡ ts → IsWrongAt us k → byte ≡ byte_of vs k (length text) → Reads names text (Err (fault.Text wrong.Syntax byte))
+pub found_wrong : (names : List Name) (text : List ℕ) (ts us vs : List Token) (k byte : ℕ) → Tokens text ts → us ≡ ts → vs ≡ ts → IsWrongAt us k → byte ≡ byte_of vs k (length text) → ReadsText names text (Err (fault.Text wrong.Syntax byte))
 found_wrong names text ts us vs k byte tokens same also place is =
     inr (inl (ts, tokens, inr (inl (k, subst (λ r. IsWrongAt r k) same place, ap (fault.Text wrong.Syntax) (is ∙ ap (λ r. byte_of r k (length text)) also)))))
 
-pub found_program : (names : List Name) (text : List ℕ) (ts us : List Token) (p : Program) (s : Scoped) → Tokens text ts → us ≡ ts → IsProgram us p → Resolves p names s → Reads names text (Ok s)
+pub found_program : (names : List Name) (text : List ℕ) (ts us : List Token) (p : Program) (s : Scoped) → Tokens text ts → us ≡ ts → IsProgram us p → Resolves p names s → ReadsText names text (Ok s)
 found_program names text ts us p s tokens same reads resolves = (p, record { tokens = ts; lexed = tokens; spelled = subst (λ r. IsProgram r p) same reads; in_scope = resolves.in_scope }, resolves)
 
-found_breach : (names : List Name) (text : List ℕ) (ts us vs : List Token) (p : Program) (e : ScopeError) → Tokens text ts → us ≡ ts → vs ≡ ts → IsProgram us p → IsRefusal p names e → Reads names text (Err (scope_fault vs (length text) e))
+found_breach : (names : List Name) (text : List ℕ) (ts us vs : List Token) (p : Program) (e : ScopeError) → Tokens text ts → us ≡ ts → vs ≡ ts → IsProgram us p → IsRefusal p names e → ReadsText names text (Err (scope_fault vs (length text) e))
 found_breach names text ts us vs p (Unknown name token) tokens same also reads first = inr (inl (ts, tokens, inl (p, Unknown name token, subst (λ r. IsProgram r p) same reads, tt, first, ap (λ r. scope_fault r (length text) (Unknown name token)) also)))
 found_breach names text ts us vs p (Twice name token) tokens same also reads first = inr (inl (ts, tokens, inl (p, Twice name token, subst (λ r. IsProgram r p) same reads, tt, first, ap (λ r. scope_fault r (length text) (Twice name token)) also)))
 found_breach names text ts us vs p (Misapplied name token) tokens same also reads first = inr (inl (ts, tokens, inl (p, Misapplied name token, subst (λ r. IsProgram r p) same reads, tt, first, ap (λ r. scope_fault r (length text) (Misapplied name token)) also)))
 found_breach names text ts us vs p (Refutable token) tokens same also reads first = inr (inl (ts, tokens, inl (p, Refutable token, subst (λ r. IsProgram r p) same reads, tt, first, ap (λ r. scope_fault r (length text) (Refutable token)) also)))
 found_breach names text ts us vs p NoMemory tokens same also reads first = inl refl
 
-pub found_fault : (names : List Name) (text : List ℕ) (ts us vs : List Token) (p : Program) (e : ScopeError) (f : Fault) → Tokens text ts → us ≡ ts → vs ≡ ts → IsProgram us p → IsRefusal p names e → f ≡ scope_fault vs (length text) e → Reads names text (Err f)
-found_fault names text ts us vs p e f tokens same also reads first is = subst (λ g. Reads names text (Err g)) (sym is) (found_breach names text ts us vs p e tokens same also reads first)
+pub found_fault : (names : List Name) (text : List ℕ) (ts us vs : List Token) (p : Program) (e : ScopeError) (f : Fault) → Tokens text ts → us ≡ ts → vs ≡ ts → IsProgram us p → IsRefusal p names e → f ≡ scope_fault vs (length text) e → ReadsText names text (Err f)
+found_fault names text ts us vs p e f tokens same also reads first is = subst (λ g. ReadsText names text (Err g)) (sym is) (found_breach names text ts us vs p e tokens same also reads first)

@@ -3,6 +3,7 @@ use Rattle.std.proofs.Common.{◌≡◌, ◌≢◌, ◌⊎◌, ◌≤◌, inl, i
 use Rattle.std.specs.Io.KnownBytes.{append_known}
 use Rattle.std.proofs.lemmas.Bool.{cases_eq}
 use Rattle.std.proofs.lemmas.Grind.{flat_map-append}
+use Rattle.std.proofs.Math.Path.{fun_ext}
 use Rattle.kl_base.specs.Counts.{Rose}
 use Rattle.kl_exchange.specs.FileItems.{FileEnd, WholeText, BadAt, TooDeepAt, PastLimit, Shows, most_read, reading}
 use Rattle.kl_exchange.specs.FileReading.{FileReading, Left, HasRead, EndsSo, HeldOut, HandsOut, Fetched, Fetches}
@@ -21,7 +22,6 @@ use Rattle.kl_outside.specs.Files.{FilesState, Opens, Closes, OtherFiles, left_a
 use Rattle.kl_outside.specs.Sinks.{SinkState, TookPart}
 use Rattle.kl_outside.specs.declared.stop.Stop.{Stop}
 use Rattle.kl_outside.specs.declared.stop.Stop.TheVariants as stop
-use Rattle.kl_outside.proofs.FileLemmas.{fun_ext}
 use Rattle.kl_outside.proofs.SinkLemmas.{append_known-nil, append_known-append, took_none, took_all, took_front}
 use Rattle.kl_value.specs.Written.{text_of}
 use Rattle.kl_value.specs.declared.value.Value.{Value}
@@ -33,6 +33,7 @@ use Rattle.kl_engine.specs.Verdict.{Verdict, refused, end_fault, lines, IsFile, 
 use Rattle.kl_engine.specs.declared.fault.Fault.{Fault}
 use Rattle.kl_engine.specs.declared.fault.Fault.TheVariants as fault
 use Rattle.kl_engine.proofs.PageLemmas.{line_full}
+use Rattle.kl_outside.proofs.FileLemmas.{same_left}
 
 abbrev line : Value → List ℕ
 line v = text_of v ++ codes "\n"
@@ -422,8 +423,6 @@ module _ (path : List ℕ) where
       file_wanted told is (Some bytes) at v of = unread bytes fault.NoMemory f f' out (inr (inr refl)) v of
 
   -- what is open in the end is what was open at first
-  same_left : (file : ℕ) (s0 s1 s2 s3 : FilesState) → s0.left file ≡ None → OtherFiles file s0 s1 → OtherFiles file s1 s2 → OtherFiles file s2 s3 → s3.left file ≡ None → (k : ℕ) → s3.left k ≡ s0.left k
-  same_left file s0 s1 s2 s3 fresh a b d closed k = elim (cases_eq k file) [ inl is ↦ ap s3.left is ∙ (closed ∙ (sym fresh ∙ sym (ap s0.left is))) | inr ne ↦ d k ne ∙ (b k ne ∙ a k ne) ]
 
   pub show_done : (file : ℕ) (end : Ending) (s0 s1 s2 s3 : FilesState) (out out' : SinkState) → Opens path (Ok file) s0 s1 → ShowsItems file end s1 s2 out out' → Closes file s2 s3 → DoesShow path end s0 s3 out out'
   show_done file end s0 s1 s2 s3 out out' opens shows closes = record {

@@ -17,7 +17,7 @@ use Rattle.kl_eval.specs.Evals.{Tells, Lists, Caused, Evaluates, EvaluatesList}
 use Rattle.kl_eval.specs.World.{StoppedBy}
 use Rattle.kl_eval.specs.declared.stop.EvalStop.{EvalStop}
 use Rattle.kl_eval.specs.declared.stop.EvalStop.TheVariants as stop
-use Rattle.kl_engine.specs.Answering.{KeepsDrivers, Prints}
+use Rattle.kl_engine.specs.Answering.{KeepsDrivers, PrintsPage}
 use Rattle.kl_engine.specs.Faults.{Ending}
 use Rattle.kl_engine.specs.Running.{AnswersTerm, IsTermOutcome, IsListOutcome, IsValueOutcome, fault_of}
 use Rattle.kl_engine.specs.Verdict.{value_page, refused, cut, cut_list, suffice}
@@ -53,7 +53,7 @@ module _ (t : Tree) (env : List Value) (closed : env ≡ []) (first : Option ℕ
 
   -- ---- values
 
-  pub value_given : (w : Value) (end : Ending) (out out' : SinkState) → Evaluates t (reverse env) (Ok w) a b → Prints (value_page (cut first w)) end out out' → GivesValue end out out'
+  pub value_given : (w : Value) (end : Ending) (out out' : SinkState) → Evaluates t (reverse env) (Ok w) a b → PrintsPage (value_page (cut first w)) end out out' → GivesValue end out out'
   value_given w end out out' evaluates prints =
       let found : Evaluates t [] (Ok w) a b = at_none (λ xs. Evaluates t xs (Ok w) a b) evaluates in
       term_printed (IsValueOutcome first (core (values_of a) t [])) (HaveSources (types_of a) (values_of a)) a.sources a.drivers b.drivers (quiet_keeps a.drivers b.drivers found.moved.drivers)
@@ -84,7 +84,7 @@ module _ (t : Tree) (env : List Value) (closed : env ≡ []) (first : Option ℕ
   -- ---- lists
 
   module _ (old new : List Value) (none : old ≡ []) where
-    pub list_given : (x : Unit {0}) (end : Ending) (out out' : SinkState) → EvaluatesList t (reverse env) (Ok x) old new a b → Prints (value_page (cut first (value.List new))) end out out' → GivesList end out out'
+    pub list_given : (x : Unit {0}) (end : Ending) (out out' : SinkState) → EvaluatesList t (reverse env) (Ok x) old new a b → PrintsPage (value_page (cut first (value.List new))) end out out' → GivesList end out out'
     list_given x end out out' evaluates prints =
         let found : EvaluatesList t [] (Ok x) old new a b = at_none (λ xs. EvaluatesList t xs (Ok x) old new a b) evaluates in
         term_printed (IsListOutcome first (core (values_of a) t [])) (HaveSources (types_of a) (values_of a)) a.sources a.drivers b.drivers (quiet_keeps a.drivers b.drivers found.moved.drivers)
@@ -94,7 +94,7 @@ module _ (t : Tree) (env : List Value) (closed : env ≡ []) (first : Option ℕ
       found_list : EvaluatesList t [] (Err e) old new a b
       found_list = at_none (λ xs. EvaluatesList t xs (Err e) old new a b) evaluates
 
-      pub list_over : (end : Ending) (out out' : SinkState) → e ≡ stop.Overflow → Prints (cut_list first new) end out out' → GivesList end out out'
+      pub list_over : (end : Ending) (out out' : SinkState) → e ≡ stop.Overflow → PrintsPage (cut_list first new) end out out' → GivesList end out out'
       list_over end out out' is prints =
           term_printed (IsListOutcome first (core (values_of a) t [])) (HaveSources (types_of a) (values_of a)) a.sources a.drivers b.drivers (quiet_keeps a.drivers b.drivers found_list.moved.drivers)
           (cut_list first new) end out out' (cut_end first (suffice first new) new)

@@ -9,7 +9,7 @@ use Rattle.kl_outside.proofs.SinkLemmas.{took_none, append_known-nil}
 use Rattle.kl_outcome.specs.Outcome.{Name}
 use Rattle.kl_ask.specs.Driver.{DriverKind, State}
 use Rattle.kl_sources.specs.Sources.{kinds_of}
-use Rattle.kl_engine.specs.Answering.{one, reading, writing, wanting, Does, IsMentioned, UnreadCause, IsUnread, IsOneOf, HasFault}
+use Rattle.kl_engine.specs.Answering.{one, reading, writing, wanting, Does, IsMentioned, UnreadCause, IsUnreadFault, IsOneOf, HasFault}
 use Rattle.kl_words.specs.declared.command.Command.{Command as Read}
 use Rattle.kl_engine.specs.Commands.{Command, NoneNamed, Program, Show, asked}
 use Rattle.kl_engine.specs.Faults.{Ending}
@@ -44,7 +44,7 @@ wants_fault (Show path) = tt
 
 unread_wanted : (command : Command) (files : FilesState) (ds : List State) → UnreadCause command (Some fault.NoMemory) files ds ds
 unread_wanted NoneNamed files ds = tt
-unread_wanted (Program p path catalogue) files ds = λ f is un. absurd (let same : fault.NoMemory ≡ f = cc in subst IsUnread (sym same) un)
+unread_wanted (Program p path catalogue) files ds = λ f is un. absurd (let same : fault.NoMemory ≡ f = cc in subst IsUnreadFault (sym same) un)
 unread_wanted (Show path) files ds = tt
 
 pub wanted_does : (command : Command) (f : FilesState) (ds : List State) (out : SinkState) → Does command (Some fault.NoMemory) f f ds ds out out

@@ -17,7 +17,7 @@ use Rattle.kl_sources.specs.declared.source.Source.{Source}
 use Rattle.kl_engine.specs.Commands.{Command, NoneNamed, Program, Show}
 use Rattle.kl_engine.specs.Faults.{Ending}
 use Rattle.kl_engine.specs.Reading.{IsProgramOf}
-use Rattle.kl_engine.specs.Verdict.{Verdict, refused, stored_fault, IsListing, IsText, HasInputs, IsVerdict}
+use Rattle.kl_engine.specs.Verdict.{Verdict, refused, stored_fault, IsListing, IsTextVerdict, HasInputs, IsVerdict}
 use Rattle.kl_engine.specs.declared.fault.Fault.{Fault}
 use Rattle.kl_engine.specs.declared.fault.Fault.TheVariants as fault
 use Rattle.kl_engine.specs.declared.fault.Wrong.{Wrong}
@@ -47,16 +47,16 @@ IsIdle d = ((name : Name) → d.attached name ≡ None) × ((k : ℕ) → d.curs
 -- ---- sources, where Named is what holds of their names
 
 -- what the driver of a source tells of it is this fault
-abbrev pub IsStored : List DriverKind → List Source → (Name → Type 0) → Fault → Type 0
-IsStored ks ss Named f = (i : ℕ) × (s : Source) × (w : Stored) × (slice_get ss i ≡ Some s) × Named s.name × (contents ks s ≡ Some w) × (stored_fault s.name w ≡ Some f)
+abbrev pub IsStoredFault : List DriverKind → List Source → (Name → Type 0) → Fault → Type 0
+IsStoredFault ks ss Named f = (i : ℕ) × (s : Source) × (w : Stored) × (slice_get ss i ≡ Some s) × Named s.name × (contents ks s ≡ Some w) × (stored_fault s.name w ≡ Some f)
 
 -- the driver of a source tells nothing of it, and counted one that it could not read
 abbrev pub IsCounted : List Source → (Name → Type 0) → List State → List State → Type 0
 IsCounted ss Named old new = (i : ℕ) × (s : Source) × (slice_get ss i ≡ Some s) × Named s.name × (contents (kinds_of old) s ≡ None) × RoseAt s.driver (λ d. d.unread) old new
 
 -- the driver of a source counted a drift
-abbrev pub HasDrifted : List Source → (Name → Type 0) → List State → List State → Type 0
-HasDrifted ss Named old new = (i : ℕ) × (s : Source) × (slice_get ss i ≡ Some s) × Named s.name × RoseAt s.driver (λ d. d.drifts) old new
+abbrev pub SomeDrifted : List Source → (Name → Type 0) → List State → List State → Type 0
+SomeDrifted ss Named old new = (i : ℕ) × (s : Source) × (slice_get ss i ≡ Some s) × Named s.name × RoseAt s.driver (λ d. d.drifts) old new
 
 -- the source of this name is what the fault is of, where it tells a name
 abbrev pub IsOf : Fault → Name → Type 0
@@ -66,7 +66,7 @@ IsOf f x = ⊤
 
 -- a source is unreadable, too long or nested too deep: its driver tells so, or tells nothing of it and counted one
 abbrev pub IsUnreadBy : List Source → (Name → Type 0) → Fault → List State → List State → Type 0
-IsUnreadBy ss Named f old new = IsStored (kinds_of old) ss Named f ⊎ IsCounted ss (λ x. Named x × IsOf f x) old new
+IsUnreadBy ss Named f old new = IsStoredFault (kinds_of old) ss Named f ⊎ IsCounted ss (λ x. Named x × IsOf f x) old new
 
 -- ---- the end of a command
 
@@ -166,30 +166,30 @@ IsOneOf Has (Some f) = Has f
 
 -- The faults before which a program prints nothing. Before an overflow items of a list may have been printed, and before
 -- a scheme that is too long the lines of others.
-abbrev pub IsBefore : Fault → Type 0
-IsBefore fault.Write = ⊥
-IsBefore fault.NoMemory = ⊥
-IsBefore fault.Overflow = ⊥
-IsBefore fault.SchemeBytes = ⊥
-IsBefore f = ⊤
+abbrev pub IsSilent : Fault → Type 0
+IsSilent fault.Write = ⊥
+IsSilent fault.NoMemory = ⊥
+IsSilent fault.Overflow = ⊥
+IsSilent fault.SchemeBytes = ⊥
+IsSilent f = ⊤
 
 abbrev pub PrintsNothing : Command → Ending → Type 0
 PrintsNothing (Show path) end = ⊥
 PrintsNothing command None = ⊥
-PrintsNothing command (Some f) = IsBefore f
+PrintsNothing command (Some f) = IsSilent f
 
 -- a source was found unreadable, too long or nested too deep
-abbrev pub IsUnread : Fault → Type 0
-IsUnread (fault.BadSource name place) = ⊤
-IsUnread fault.FileBytes = ⊤
-IsUnread fault.ItemNesting = ⊤
-IsUnread f = ⊥
+abbrev pub IsUnreadFault : Fault → Type 0
+IsUnreadFault (fault.BadSource name place) = ⊤
+IsUnreadFault fault.FileBytes = ⊤
+IsUnreadFault fault.ItemNesting = ⊤
+IsUnreadFault f = ⊥
 
 -- an end that rests on what drivers tell
 abbrev pub NeedsDrivers : Purpose → Ending → Type 0
 NeedsDrivers (purpose.Run first) None = ⊤
 NeedsDrivers (purpose.Run first) (Some fault.Overflow) = ⊤
-NeedsDrivers (purpose.Run first) (Some f) = IsUnread f
+NeedsDrivers (purpose.Run first) (Some f) = IsUnreadFault f
 NeedsDrivers p end = ⊥
 
 abbrev pub CommandNeedsDrivers : Command → Ending → Type 0
@@ -199,7 +199,7 @@ CommandNeedsDrivers command end = ⊥
 -- ---- what is done with a program's text
 
 -- a page is printed, or a front of it
-pub record Prints (v : Verdict) (end : Ending) (out out' : SinkState) : Type 0 where
+pub record PrintsPage (v : Verdict) (end : Ending) (out out' : SinkState) : Type 0 where
   pub ends : (end ≡ v.ending) ⊎ ((end ≡ Some fault.Write) × Rose out.faults out'.faults × (v.page ≢ [])) ⊎ (end ≡ Some fault.NoMemory)
   pub whole : end ≡ v.ending → out'.taken ≡ append_known out.taken v.page
   pub part : TookPart v.page out out'
@@ -210,12 +210,12 @@ abbrev pub IsMentionedIn : List Source → List ℕ → Name → Type 0
 IsMentionedIn ss text name = (q : AProgram) × IsProgramOf (names_of ss) text q × (i : ℕ) × (slice_get (names_of ss) i ≡ Some name) × Mentions q (names_of ss) i
 
 pub record DoesText (ss : List Source) (p : Purpose) (text : List ℕ) (end : Ending) (ds ds' : List State) (out out' : SinkState) : Type 0 where
-  pub told : (v : Verdict) → IsText (kinds_of ds) ss p text v → (w : Verdict) × IsText (kinds_of ds) ss p text w × Alike v w × Follows ⊥ w end ds ds' out out'
-  pub meant : IsDetermined end → (NeedsDrivers p end → All IsToldBy ds) → (v : Verdict) × IsText (kinds_of ds) ss p text v × (v.ending ≡ end)
-  pub read : end ≡ Some fault.Read → IsStored (kinds_of ds) ss (IsMentionedIn ss text) fault.Read ⊎ SomeRose (λ d. d.faults) ds ds'
+  pub told : (v : Verdict) → IsTextVerdict (kinds_of ds) ss p text v → (w : Verdict) × IsTextVerdict (kinds_of ds) ss p text w × Alike v w × Follows ⊥ w end ds ds' out out'
+  pub meant : IsDetermined end → (NeedsDrivers p end → All IsToldBy ds) → (v : Verdict) × IsTextVerdict (kinds_of ds) ss p text v × (v.ending ≡ end)
+  pub read : end ≡ Some fault.Read → IsStoredFault (kinds_of ds) ss (IsMentionedIn ss text) fault.Read ⊎ SomeRose (λ d. d.faults) ds ds'
   pub write : end ≡ Some fault.Write → Rose out.faults out'.faults
-  pub unread : (f : Fault) → end ≡ Some f → IsUnread f → IsUnreadBy ss (IsMentionedIn ss text) f ds ds'
-  pub changed : (name : Name) → end ≡ Some (fault.Changed name) → HasDrifted ss (λ x. IsMentionedIn ss text x × (x ≡ name)) ds ds'
+  pub unread : (f : Fault) → end ≡ Some f → IsUnreadFault f → IsUnreadBy ss (IsMentionedIn ss text) f ds ds'
+  pub changed : (name : Name) → end ≡ Some (fault.Changed name) → SomeDrifted ss (λ x. IsMentionedIn ss text x × (x ≡ name)) ds ds'
   pub no_other : IsOneOf (HasTextFault p) end
   pub nothing : PrintsNothing (Program p [] None) end → out' ≡ out
   pub drivers : KeepsDrivers (IsMentionedIn ss text) ds ds'
@@ -236,15 +236,15 @@ OfRun command files ks P = ⊥
 pub record IsCaused (command : Command) (end : Ending) (files files' : FilesState) (ds ds' : List State) (out out' : SinkState) : Type 0 where
   pub usage : end ≡ Some fault.Usage → command ≡ NoneNamed
   pub no_usage : command ≡ NoneNamed → (end ≡ Some fault.Usage) ⊎ (end ≡ Some fault.NoMemory)
-  pub read : end ≡ Some fault.Read → LacksFile command files (kinds_of ds) ⊎ OfRun command files (kinds_of ds) (λ text ss. IsStored (kinds_of ds) ss (IsMentionedIn ss text) fault.Read) ⊎ Rose files.faults files'.faults ⊎ SomeRose (λ d. d.faults) ds ds'
+  pub read : end ≡ Some fault.Read → LacksFile command files (kinds_of ds) ⊎ OfRun command files (kinds_of ds) (λ text ss. IsStoredFault (kinds_of ds) ss (IsMentionedIn ss text) fault.Read) ⊎ Rose files.faults files'.faults ⊎ SomeRose (λ d. d.faults) ds ds'
   pub write : end ≡ Some fault.Write → Rose out.faults out'.faults
-  pub changed : (name : Name) → end ≡ Some (fault.Changed name) → OfRun command files (kinds_of ds) (λ text ss. HasDrifted ss (λ x. IsMentionedIn ss text x × (x ≡ name)) ds ds')
+  pub changed : (name : Name) → end ≡ Some (fault.Changed name) → OfRun command files (kinds_of ds) (λ text ss. SomeDrifted ss (λ x. IsMentionedIn ss text x × (x ≡ name)) ds ds')
   pub no_other : IsOneOf (HasFault command) end
   pub nothing : PrintsNothing command end → out' ≡ out
 
 -- The same of a source of a program that is unreadable, too long or nested too deep.
 abbrev pub UnreadCause : Command → Ending → FilesState → List State → List State → Type 0
-UnreadCause (Program p path catalogue) end files ds ds' = (f : Fault) → end ≡ Some f → IsUnread f → OfRun (Program p path catalogue) files (kinds_of ds) (λ text ss. IsUnreadBy ss (IsMentionedIn ss text) f ds ds')
+UnreadCause (Program p path catalogue) end files ds ds' = (f : Fault) → end ≡ Some f → IsUnreadFault f → OfRun (Program p path catalogue) files (kinds_of ds) (λ text ss. IsUnreadBy ss (IsMentionedIn ss text) f ds ds')
 UnreadCause command end files ds ds' = ⊤
 
 -- a name that the program of a command mentions

@@ -28,7 +28,7 @@ IsSourcesEnd fault.Read = ⊤
 IsSourcesEnd fault.CatalogueBytes = ⊤
 IsSourcesEnd f = IsCatalogueEnd f
 
-pub record ReadsCatalogue (ks : List DriverKind) (text : List ℕ) (result : Result (Vec Source Global) Fault) : Type 0 where
+pub record PlacesCatalogue (ks : List DriverKind) (text : List ℕ) (result : Result (Vec Source Global) Fault) : Type 0 where
   pub sources : IfOk result (λ ss. IsCatalogueOf ks text ss.items)
   pub placed : IfOk result (λ ss. ArePlaced ks ss.items)
   pub refused : IfErr result (λ f. (f ≡ fault.NoMemory) ⊎ IsCatalogueFault ks text f)

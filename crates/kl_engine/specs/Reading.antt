@@ -42,8 +42,8 @@ abbrev pub IsWrongAt : List Token → ℕ → Type 0
 IsWrongAt ts k = Refuses ts (Err (Syntax k)) × Shallow ts (Err (Syntax k))
 
 -- this token nests too deep: 256 that can nest stand before it
-abbrev pub IsDeepAt : List Token → ℕ → Type 0
-IsDeepAt ts k = Refuses ts (Err (TooDeep k)) × NestsBehind ts (Err (TooDeep k)) × Shallow ts (Err (TooDeep k))
+abbrev pub NestsTooDeepAt : List Token → ℕ → Type 0
+NestsTooDeepAt ts k = Refuses ts (Err (TooDeep k)) × NestsBehind ts (Err (TooDeep k)) × Shallow ts (Err (TooDeep k))
 
 -- the tokens are a program that breaks a rule of scope, and this is its first breach
 abbrev pub IsScopeFault : List Name → List Token → ℕ → Fault → Type 0
@@ -51,7 +51,7 @@ IsScopeFault names ts size f = (p : Program) × (e : ScopeError) × IsProgram ts
 
 -- the tokens break a rule of scope; or at a place no program goes on; or they nest too deep
 abbrev pub IsTokensFault : List Name → List Token → ℕ → Fault → Type 0
-IsTokensFault names ts size f = IsScopeFault names ts size f ⊎ ((k : ℕ) × IsWrongAt ts k × (f ≡ fault.Text wrong.Syntax (byte_of ts k size))) ⊎ ((k : ℕ) × IsDeepAt ts k × (f ≡ fault.Nesting))
+IsTokensFault names ts size f = IsScopeFault names ts size f ⊎ ((k : ℕ) × IsWrongAt ts k × (f ≡ fault.Text wrong.Syntax (byte_of ts k size))) ⊎ ((k : ℕ) × NestsTooDeepAt ts k × (f ≡ fault.Nesting))
 
 -- the bytes are no program in scope, and this is what is told of them
 abbrev pub IsTextFault : List Name → List ℕ → Fault → Type 0
@@ -72,9 +72,9 @@ abbrev pub last : List Name → Program → Exp
 last names p = resolved (view p.last) (behind_decls (decls_of p.defs) (at_first names))
 
 -- what reading answers: the program in scope with what its names mean, a fault of the text, or want of memory
-abbrev pub Reads : List Name → List ℕ → Result Scoped Fault → Type 0
-Reads names bytes (Ok s) = (p : Program) × IsProgramOf names bytes p × Resolves p names s
-Reads names bytes (Err f) = (f ≡ fault.NoMemory) ⊎ IsTextFault names bytes f
+abbrev pub ReadsText : List Name → List ℕ → Result Scoped Fault → Type 0
+ReadsText names bytes (Ok s) = (p : Program) × IsProgramOf names bytes p × Resolves p names s
+ReadsText names bytes (Err f) = (f ≡ fault.NoMemory) ⊎ IsTextFault names bytes f
 
 -- the program was in scope before its names carried what they mean
 abbrev pub WasInScope : List Name → Scoped → Type 0

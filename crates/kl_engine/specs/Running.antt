@@ -16,7 +16,7 @@ use Rattle.kl_ask.specs.declared.ask.DriverError.TheVariants as error
 use Rattle.kl_sources.specs.Attaching.{RoseAt}
 use Rattle.kl_sources.specs.Sources.{kinds_of, names_of}
 use Rattle.kl_sources.specs.declared.source.Source.{Source}
-use Rattle.kl_engine.specs.Answering.{SomeRose, KeepsDrivers, IsStored, IsUnreadBy, HasDrifted, Follows, Prints, IsOutside, IsDetermined, IsRun, HasTextFault, IsOneOf, PrintsNothing, IsUnread, NeedsDrivers}
+use Rattle.kl_engine.specs.Answering.{SomeRose, KeepsDrivers, IsStoredFault, IsUnreadBy, SomeDrifted, Follows, PrintsPage, IsOutside, IsDetermined, IsRun, HasTextFault, IsOneOf, PrintsNothing, IsUnreadFault, NeedsDrivers}
 use Rattle.kl_engine.specs.Commands.{Program}
 use Rattle.kl_engine.specs.Faults.{Ending}
 use Rattle.kl_infer.specs.Numbers.{limit}
@@ -91,10 +91,10 @@ IsNamed ss marks name = (i : ℕ) × (slice_get (names_of ss) i ≡ Some name) �
 
 pub record DoneBy (IsVerdict : (ℕ → Bool) → Verdict → Type 0) (ss : List Source) (marks : ℕ → Bool) (p : Purpose) (end : Ending) (ds ds' : List State) (out out' : SinkState) : Type 0 where
   pub ends : Ends IsVerdict ss marks p end ds ds' out out'
-  pub read : end ≡ Some fault.Read → IsStored (kinds_of ds) ss (IsNamed ss marks) fault.Read ⊎ SomeRose (λ d. d.faults) ds ds'
+  pub read : end ≡ Some fault.Read → IsStoredFault (kinds_of ds) ss (IsNamed ss marks) fault.Read ⊎ SomeRose (λ d. d.faults) ds ds'
   pub write : end ≡ Some fault.Write → Rose out.faults out'.faults
-  pub unread : (f : Fault) → end ≡ Some f → IsUnread f → IsUnreadBy ss (IsNamed ss marks) f ds ds'
-  pub changed : (name : Name) → end ≡ Some (fault.Changed name) → HasDrifted ss (λ x. IsNamed ss marks x × (x ≡ name)) ds ds'
+  pub unread : (f : Fault) → end ≡ Some f → IsUnreadFault f → IsUnreadBy ss (IsNamed ss marks) f ds ds'
+  pub changed : (name : Name) → end ≡ Some (fault.Changed name) → SomeDrifted ss (λ x. IsNamed ss marks x × (x ≡ name)) ds ds'
   pub no_other : IsOneOf (HasTextFault p) end
   pub nothing : PrintsNothing (Program p [] None) end → out' ≡ out
   pub drivers : KeepsDrivers (IsNamed ss marks) ds ds'
@@ -125,4 +125,4 @@ pub record ListsAll (ds : List (Name × Scheme)) (old new : SinkState) : Type 0 
 -- The lines of some declarations are written; after a fault that is a front of what is printed of these and any others.
 abbrev pub ListsFront : List (Name × Scheme) → Result (Unit {0}) Fault → SinkState → SinkState → Type 0
 ListsFront ds (Ok x) old new = ListsAll ds old new
-ListsFront ds (Err f) old new = (others : List (Name × Scheme)) → Prints (scheme_lines (ds ++ others)) (Some f) old new
+ListsFront ds (Err f) old new = (others : List (Name × Scheme)) → PrintsPage (scheme_lines (ds ++ others)) (Some f) old new

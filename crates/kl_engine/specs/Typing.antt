@@ -30,9 +30,9 @@ pub record IsTyped (grounds : List (Name × Ground)) (ds : Decls) (e : Exp) (typ
   pub infers : Infers ds e grounds typed
 
 -- what inferring the types of a program answers
-abbrev pub Types : List (Name × Ground) → Decls → Exp → Result Typed Fault → Type 0
-Types grounds ds e (Ok typed) = IsTyped grounds ds e typed
-Types grounds ds e (Err f) = (f ≡ fault.NoMemory) ⊎ IsTypingFault grounds ds e f
+abbrev pub AnswersTypes : List (Name × Ground) → Decls → Exp → Result Typed Fault → Type 0
+AnswersTypes grounds ds e (Ok typed) = IsTyped grounds ds e typed
+AnswersTypes grounds ds e (Err f) = (f ≡ fault.NoMemory) ⊎ IsTypingFault grounds ds e f
 
 -- the same of terms of any size
 abbrev pub TypesOfAny : List (Name × Ground) → Decls → Exp → Result Typed Fault → Type 0

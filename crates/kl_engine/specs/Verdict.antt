@@ -187,8 +187,8 @@ abbrev pub AreMarks : Program → List Name → (ℕ → Bool) → Type 0
 AreMarks q names marks = (i : ℕ) → i < length names → IsTrue (marks i) ↔ Mentions q names i
 
 -- what the text of a program comes to, over some drivers and sources
-abbrev pub IsText : List DriverKind → List Source → Purpose → List ℕ → Verdict → Type 0
-IsText ks ss p bytes v =
+abbrev pub IsTextVerdict : List DriverKind → List Source → Purpose → List ℕ → Verdict → Type 0
+IsTextVerdict ks ss p bytes v =
     ((f : Fault) × IsTextFault (names_of ss) bytes f × (v ≡ refused f))
     ⊎ ((q : Program) × (marks : ℕ → Bool) × IsProgramOf (names_of ss) bytes q × AreMarks q (names_of ss) marks × IsDone ks ss marks p (definitions (names_of ss) q) (last (names_of ss) q) v)
 
@@ -220,10 +220,10 @@ pub record HasInputs (told : List ℕ → Option (List ℕ)) (ks : List DriverKi
   pub sources : HasSources told ks catalogue ss
 
 -- what is wrong with its files is told first, and then what its text comes to
-abbrev pub IsProgram : (List ℕ → Option (List ℕ)) → List DriverKind → Purpose → List ℕ → Option (List ℕ) → Verdict → Type 0
-IsProgram told ks p path catalogue v =
+abbrev pub IsProgramVerdict : (List ℕ → Option (List ℕ)) → List DriverKind → Purpose → List ℕ → Option (List ℕ) → Verdict → Type 0
+IsProgramVerdict told ks p path catalogue v =
     ((f : Fault) × IsInputsFault told ks path catalogue f × (v ≡ refused f))
-    ⊎ ((text : List ℕ) × (ss : List Source) × HasInputs told ks path catalogue text ss × IsText ks ss p text v)
+    ⊎ ((text : List ℕ) × (ss : List Source) × HasInputs told ks path catalogue text ss × IsTextVerdict ks ss p text v)
 
 abbrev pub IsFile : (List ℕ → Verdict → Type 0) → Option (List ℕ) → Verdict → Type 0
 IsFile AreBytes None v = v ≡ refused fault.Read
@@ -232,5 +232,5 @@ IsFile AreBytes (Some bytes) v = AreBytes bytes v
 -- the verdict on a command, over files with these bytes and drivers of these kinds
 abbrev pub IsVerdict : (List ℕ → Option (List ℕ)) → List DriverKind → Command → Verdict → Type 0
 IsVerdict told ks NoneNamed v = v ≡ refused fault.Usage
-IsVerdict told ks (AProgram p path catalogue) v = IsProgram told ks p path catalogue v
+IsVerdict told ks (AProgram p path catalogue) v = IsProgramVerdict told ks p path catalogue v
 IsVerdict told ks (Show path) v = IsFile IsShowing (told path) v

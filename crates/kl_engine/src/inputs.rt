@@ -3,7 +3,7 @@ ghost use Rattle.std.specs.Prelude.{◌≡◌, ◌<◌, ◌≤◌, ◌^◌, leng
 ghost use Rattle.kl_ask.specs.Driver.{State};
 ghost use Rattle.kl_sources.specs.Sources.{kinds_of};
 ghost use Rattle.kl_engine.specs.Catalogues.{place_fault};
-ghost use Rattle.kl_engine.specs.Inputs.{ReadsInputs, ReadsSources, ReadsCatalogue};
+ghost use Rattle.kl_engine.specs.Inputs.{ReadsInputs, ReadsSources, PlacesCatalogue};
 
 use crate::fault::Fault;
 use kl_ask::Driver;
@@ -82,7 +82,7 @@ fn catalogue_of(
 ) -> Result<Vec<Source>, Fault>
     requires few { length text.now ≤ 65536 }
     requires drivers { length drivers.now.items < 2 ^ 32 }
-    ensures { ReadsCatalogue (kinds_of (map (λ d. state d) drivers.now.items)) text.now result }
+    ensures { PlacesCatalogue (kinds_of (map (λ d. state d) drivers.now.items)) text.now result }
 {
     match read_catalogue(alloc, text) {
         Ok(entries) => match place_sources(alloc, entries.slice(), drivers) {

@@ -1,9 +1,9 @@
 //! What is printed.
 ghost use Rattle.std.specs.Prelude.{◌≡◌, ◌≢◌, [], ◌++◌, codes, map};
-ghost use Rattle.kl_exchange.specs.Printing.{Puts, as_stop, separator};
+ghost use Rattle.kl_exchange.specs.Printing.{Puts, as_stop};
 ghost use Rattle.kl_outside.specs.Sinks.{WritesWhole};
-ghost use Rattle.kl_value.specs.Written.{text_of, with_commas};
-ghost use Rattle.kl_engine.specs.Answering.{Prints};
+ghost use Rattle.kl_value.specs.Written.{text_of, with_commas, separator};
+ghost use Rattle.kl_engine.specs.Answering.{PrintsPage};
 ghost use Rattle.kl_engine.specs.Faults.{ending};
 ghost use Rattle.kl_engine.specs.Showing.{write_fault};
 ghost use Rattle.kl_engine.specs.Verdict.{value_page, cut_list, suffice, overflowing, list_front, well};
@@ -13,7 +13,7 @@ use crate::fault::Fault;
 use kl_base::Seq;
 use kl_exchange::{Page, PrintError};
 use kl_outside::{Sink, Stop, write_whole};
-use kl_value::Value;
+use kl_value::{Value, separator};
 
 /// Prints a page, which has at least a newline.
 ///
@@ -21,7 +21,7 @@ use kl_value::Value;
 /// `Write`, where the sink refused a piece; want of memory.
 pub(crate) fn print_page<S: Sink>(page: &[u8], out: &mut S) -> Result<(), Fault>
     requires { page.now ≢ [] }
-    ensures { Prints (well page.now) (ending result) (S.state out.old) (S.state out.new) }
+    ensures { PrintsPage (well page.now) (ending result) (S.state out.old) (S.state out.new) }
 {
     match write_whole(out, page) {
         Ok(()) => Ok(()),
@@ -62,7 +62,7 @@ pub(crate) fn put_line<S: Sink>(
 /// # Errors
 /// `Write`, where the sink refused a piece; want of memory.
 pub(crate) fn print_value<S: Sink>(value: &Value, out: &mut S) -> Result<(), Fault>
-    ensures { Prints (value_page value.now) (ending result) (S.state out.old) (S.state out.new) }
+    ensures { PrintsPage (value_page value.now) (ending result) (S.state out.old) (S.state out.new) }
 {
     match print_line(value, out) {
         Ok(()) => Ok(()),
@@ -90,7 +90,7 @@ pub(crate) fn print_cut_list<S: Sink>(
     first: Option<u32>,
     out: &mut S,
 ) -> Result<(), Fault>
-    ensures { Prints (cut_list first items.items) (ending result) (S.state out.old) (S.state out.new) }
+    ensures { PrintsPage (cut_list first items.items) (ending result) (S.state out.old) (S.state out.new) }
 {
     if suffice(&items, first) {
         print_value(&cut(Value::List(Seq::of(items)), first), out)
@@ -110,7 +110,7 @@ fn suffice(items: &[Value], first: Option<u32>) -> bool
 }
 
 fn print_overflow<S: Sink>(items: &[Value], out: &mut S) -> Result<(), Fault>
-    ensures { Prints (overflowing items.now) (ending result) (S.state out.old) (S.state out.new) }
+    ensures { PrintsPage (overflowing items.now) (ending result) (S.state out.old) (S.state out.new) }
 {
     match print_front(items, out) {
         Ok(()) => Err(Fault::Overflow),
@@ -159,14 +159,8 @@ fn put_item<S: Sink>(
 ) -> Result<(), PrintError>
     ensures { Puts (separator place ++ text_of item.now) (as_stop result) (S.state out.old) page.old (S.state out.new) page.new }
 {
-    match page.put(between(place), out) {
+    match page.put(separator(place), out) {
         Ok(()) => page.print(item, out),
         Err(error) => Err(error),
     }
-}
-
-fn between(place: usize) -> &'static [u8]
-    ensures { result.now ≡ separator place }
-{
-    if place == 0 { b"" } else { b", " }
 }

@@ -3,9 +3,9 @@ ghost use Rattle.std.specs.Prelude.{◌≡◌, ◌≤◌, All, length};
 ghost use Rattle.kl_infer.specs.Inferred.{types_of};
 ghost use Rattle.kl_sources.specs.Sources.{grounds_of};
 ghost use Rattle.kl_type.specs.Ground.{IsProper};
-ghost use Rattle.kl_engine.specs.Reading.{byte_of, scope_fault, Reads};
+ghost use Rattle.kl_engine.specs.Reading.{byte_of, scope_fault, ReadsText};
 ghost use Rattle.kl_syntax.specs.View.{view, decls_of};
-ghost use Rattle.kl_engine.specs.Typing.{Types, TypesOfAny};
+ghost use Rattle.kl_engine.specs.Typing.{AnswersTypes, TypesOfAny};
 
 use crate::fault::{Fault, Wrong};
 use kl_base::Label;
@@ -24,7 +24,7 @@ use std::alloc::Global;
 /// program or nest too deep, and rules of scope. Want of memory.
 pub fn read_program(alloc: Global, text: &[u8], names: &[Label]) -> Result<Scoped, Fault>
     requires { length text.now ≤ 65536 }
-    ensures { Reads names.now text.now result }
+    ensures { ReadsText names.now text.now result }
 {
     let tokens = match lex(alloc, text) {
         Ok(tokens) => tokens,
@@ -52,7 +52,7 @@ pub fn read_program(alloc: Global, text: &[u8], names: &[Label]) -> Result<Scope
 /// As `infer_types`.
 pub fn infer_over(alloc: Global, scoped: &Scoped, sources: &[Source]) -> Result<Typed, Fault>
     requires { All (λ s. IsProper s.ty) sources.now }
-    ensures { Types (grounds_of sources.now) (decls_of scoped.now.program.defs) (view scoped.now.program.last) result }
+    ensures { AnswersTypes (grounds_of sources.now) (decls_of scoped.now.program.defs) (view scoped.now.program.last) result }
 {
     match types_of(alloc, sources) {
         Ok(types) => infer_types(alloc, scoped, &types),
@@ -66,7 +66,7 @@ pub fn infer_over(alloc: Global, scoped: &Scoped, sources: &[Source]) -> Result<
 /// The first declaration whose term is too large; then the first that has no type. Want of memory.
 pub fn infer_types(alloc: Global, scoped: &Scoped, sources: &[(Label, Ty)]) -> Result<Typed, Fault>
     requires { All (λ s. IsProper s.1) sources.now }
-    ensures { Types (types_of sources.now) (decls_of scoped.now.program.defs) (view scoped.now.program.last) result }
+    ensures { AnswersTypes (types_of sources.now) (decls_of scoped.now.program.defs) (view scoped.now.program.last) result }
 {
     match sizes(alloc, scoped) {
         Ok(None) => infer_any_size(alloc, scoped, sources),

@@ -5,7 +5,7 @@ ghost use Rattle.kl_rows.specs.Schemes.{IsScheme};
 ghost use Rattle.kl_syntax.specs.View.{view, decls_of};
 ghost use Rattle.kl_ask.specs.Driver.{State};
 ghost use Rattle.kl_type.specs.Ground.{IsProper};
-ghost use Rattle.kl_engine.specs.Answering.{DoesText, Prints};
+ghost use Rattle.kl_engine.specs.Answering.{DoesText, PrintsPage};
 ghost use Rattle.kl_engine.specs.Faults.{ending};
 ghost use Rattle.kl_engine.specs.Running.{DoneWith, ListsLine, ListsFront};
 ghost use Rattle.kl_engine.specs.Verdict.{named_schemes, scheme_lines};
@@ -65,7 +65,7 @@ fn list_types<S: Sink>(
 fn list<S: Sink>(alloc: Global, scoped: &Scoped, typed: &Typed, out: &mut S) -> Result<(), Fault>
     requires schemes { All IsScheme typed.now.schemes }
     requires result { IsScheme typed.now.result }
-    ensures { Prints (scheme_lines (named_schemes (decls_of scoped.now.program.defs) typed.now)) (ending result) (S.state out.old) (S.state out.new) }
+    ensures { PrintsPage (scheme_lines (named_schemes (decls_of scoped.now.program.defs) typed.now)) (ending result) (S.state out.old) (S.state out.new) }
 {
     let defs = scoped.program().defs.slice();
     match list_definitions(alloc, defs, typed.schemes.slice(), out) {

@@ -1,5 +1,6 @@
 -- Items of a body, added to those that were drawn before.
 use Rattle.std.proofs.Common.{◌≡◌, ℕ, ◌<◌, Bool, List, [], ◌∷◌, ◌+◌, length, drop, get_or, Some, Result, Ok, Err, refl, sym, ◌∙◌, ap, subst, append-nil}
+use Rattle.kl_value.proofs.CanonLemmas.{canonical-nil, canonical-one}
 use Rattle.kl_value.specs.Canon.{canonical}
 use Rattle.kl_value.specs.Views.{collection, as_bool, IsCollection}
 use Rattle.kl_value.specs.declared.Kind.{Kind}
@@ -26,18 +27,6 @@ use Rattle.kl_eval.proofs.Loops.{OnBody}
 use Rattle.kl_eval.specs.Steps.{Adds, AddsItems, Behind, Outside}
 use Rattle.kl_eval.proofs.Laws.{comes_typed}
 use Rattle.kl_eval.proofs.Forms.{alone, evals_stop, onto, picked, picked_typed, body_goes, body_over, body_lost, value_if, value_if_stop, at_If, at_Make, at_Prim, at_value, value_let, value_let_stop, at_Let}
-
-canon_none : (k : Kind) → canonical k [] ≡ collection k []
-unfolding canonical
-canon_none kind.Set = refl
-canon_none kind.Bag = refl
-canon_none kind.List = refl
-
-canon_one : (k : Kind) (v : Value) → canonical k (v ∷ []) ≡ collection k (v ∷ [])
-unfolding canonical
-canon_one kind.Set v = refl
-canon_one kind.Bag v = refl
-canon_one kind.List v = refl
 
 none_over : (k : Kind) → over [] ≡ collected k (stop overflow)
 none_over kind.Set = refl
@@ -99,7 +88,7 @@ module _ (t : Term) (k : Kind) (ts us : List Term) (env : List Value) (et : t �
   into_none old new a n s =
       let empty : us ≡ [] = nil_of us n in
       let c : Comes (types_of a) (values_of a) env (make k (trees_view us)) (done (collection k [])) =
-      (stop fine, subst (λ q. ItemsCome (types_of a) (values_of a) env (trees_view q) (stop fine)) (sym empty) refl, ap done (sym (canon_none k))) in
+      (stop fine, subst (λ q. ItemsCome (types_of a) (values_of a) env (trees_view q) (stop fine)) (sym empty) refl, ap done (sym (canonical-nil k))) in
       record {
         whole = Ok (collection k []);
         evals = record { moved = moved_none a; still = λ n. refl; gives = subst (λ q. Comes (types_of a) (values_of a) env q (done (collection k []))) (sym (at_Make t k ts us env et eu)) c };
@@ -117,7 +106,7 @@ module _ (t : Term) (k : Kind) (ts us : List Term) (env : List Value) (et : t �
     pub into_one : (v : Value) (r : Result (Unit {0}) Halt) (old new : List Value) (a b : World) → EvalsPart (view x) env (Ok v) a b → Adds (v ∷ []) r old new → EvalsInto (view t) env r old new a b
     into_one v r old new a b h add =
         let c : Comes (types_of a) (values_of a) env (make k (trees (view x) no_trees)) (done (collection k (v ∷ []))) =
-        (more v (stop fine), (done v, h.gives, (stop fine, refl, refl)), ap done (sym (canon_one k v))) in
+        (more v (stop fine), (done v, h.gives, (stop fine, refl, refl)), ap done (sym (canonical-one k v))) in
         record {
           whole = Ok (collection k (v ∷ []));
           evals = record { moved = h.moved; still = λ n. h.still (subst NoSource one n).0; gives = subst (λ q. Comes (types_of a) (values_of a) env q (done (collection k (v ∷ [])))) (sym one) c };

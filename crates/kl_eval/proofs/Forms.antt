@@ -8,7 +8,7 @@ use Rattle.std.specs.declared.alloc.Global.{Global}
 use Rattle.std.proofs.lemmas.List.{at_drop_more}
 use Rattle.std.proofs.lemmas.Grind.{common_steps}
 use Rattle.std.proofs.Math.Path.{fun_ext}
-use Rattle.std.proofs.lemmas.Option.{slice_get_read}
+use Rattle.std.proofs.lemmas.Option.{slice_get_read, same_Some}
 use Rattle.std.proofs.lemmas.List.Elements.{All-from_recursion}
 use Rattle.kl_value.specs.Canon.{canonical}
 use Rattle.kl_value.specs.IsCanonical.{IsCanonical}
@@ -43,11 +43,11 @@ use Rattle.kl_eval.specs.Sources.{NoSource, NoSourceInTrees, NoSourceInParts, No
 use Rattle.kl_eval.specs.World.{Tabled}
 use Rattle.kl_eval.proofs.Stops.{stopped_then}
 use Rattle.kl_eval.specs.Comes.{Picks, Opens, Follows, Draws, Comes, ItemsCome, ArgsCome, PartsCome, ArmsCome}
-use Rattle.kl_eval.specs.Evals.{Sense, SenseIn, SenseEach, SenseParts, SenseCall, SenseBody, HasSense, Gives, PartGives, CallGives, FlowGives, Evals, EvalsPart, EvalsEach, EvalsBody, EvalsFields, EvalsCall, end_of}
+use Rattle.kl_eval.specs.Evals.{Sense, SenseIn, SenseEach, SenseParts, SenseCall, SenseBody, HasSense, ResultGives, PartGives, CallGives, FlowGives, Evals, EvalsPart, EvalsEach, EvalsBody, EvalsFields, EvalsCall, end_of}
 use Rattle.kl_eval.proofs.Loops.{before, OnEach, OnBody, OnFields}
 use Rattle.kl_eval.specs.Steps.{Answers, inside_of, Outside, Adds, AddsItems, AddsField, Behind, Gathers, AnswersPrim, place_of}
 use Rattle.kl_eval.proofs.Laws.{comes_typed}
-use Rattle.kl_outcome.proofs.PrimLemmas.{prim_fits, all_canonical}
+use Rattle.kl_outcome.proofs.PrimLemmas.{prim_fits, all_canonical, one_or_two}
 
 -- ---- worlds
 
@@ -64,7 +64,7 @@ sense_on t env a b m s = (s.0, s.1, s.2, onto (λ S. CoreTypes S s.0 t s.1) a b 
 -- ---- results
 
 module _ (P Q : Outcome → Type 0) (a b : World) where
-  pub gives_map : (r : Result Value Halt) → ((o : Outcome) → P o → Q o) → Gives P a b r → Gives Q a b r
+  pub gives_map : (r : Result Value Halt) → ((o : Outcome) → P o → Q o) → ResultGives P a b r → ResultGives Q a b r
   gives_map (Ok v) f h = f (done v) h
   gives_map (Err (halt.Over vs)) f h = f (over vs.items) h
   gives_map (Err (halt.Driver l e)) f h = h
@@ -76,32 +76,32 @@ module _ (P Q : Outcome → Type 0) (a b : World) where
   part_map (Err (eval_stop.Driver l e)) f h = h
   part_map (Err eval_stop.NoMemory) f h = tt
 
-  pub gives_stop : (e : EvalStop) (h : Halt) → PartGives P a b (Err e) → Outside e h → ((vs : List Value) → P (over vs) → Q (over [])) → Gives Q a b (Err h)
+  pub gives_stop : (e : EvalStop) (h : Halt) → PartGives P a b (Err e) → Outside e h → ((vs : List Value) → P (over vs) → Q (over [])) → ResultGives Q a b (Err h)
   gives_stop eval_stop.Overflow (halt.Over ws) p o f = subst (λ q. Q (over q)) (sym o) (f p.0 p.1)
   gives_stop eval_stop.Overflow (halt.Driver l e) p o f = absurd o
   gives_stop eval_stop.Overflow halt.NoMemory p o f = absurd o
-  gives_stop (eval_stop.Driver l e) h p o f = subst (λ q. Gives Q a b (Err q)) (sym o) p
+  gives_stop (eval_stop.Driver l e) h p o f = subst (λ q. ResultGives Q a b (Err q)) (sym o) p
   gives_stop eval_stop.NoMemory (halt.Over ws) p o f = absurd o
   gives_stop eval_stop.NoMemory (halt.Driver l e) p o f = absurd o
   gives_stop eval_stop.NoMemory halt.NoMemory p o f = tt
 
 module _ (P : Outcome → Type 0) (a b : World) where
-  pub gives_made : (v : Value) (r : Result Value Halt) → P (done v) → Answers (done v) r → Gives P a b r
+  pub gives_made : (v : Value) (r : Result Value Halt) → P (done v) → Answers (done v) r → ResultGives P a b r
   gives_made v (Ok w) h k = subst (λ q. P (done q)) (sym k) h
   gives_made v (Err (halt.Over ws)) h k = absurd k
   gives_made v (Err (halt.Driver l e)) h k = absurd k
   gives_made v (Err halt.NoMemory) h k = tt
 
-  pub gives_over : (vs : List Value) (r : Result Value Halt) → P (over vs) → Answers (over vs) r → Gives P a b r
+  pub gives_over : (vs : List Value) (r : Result Value Halt) → P (over vs) → Answers (over vs) r → ResultGives P a b r
   gives_over vs (Ok w) h k = absurd k
   gives_over vs (Err (halt.Over ws)) h k = subst (λ q. P (over q)) (sym k) h
   gives_over vs (Err (halt.Driver l e)) h k = absurd k
   gives_over vs (Err halt.NoMemory) h k = tt
 
-  pub gives_inside : (r : Result Value Halt) (q : Result Value EvalStop) → q ≡ inside_of r → Gives P a b r → PartGives P a b q
+  pub gives_inside : (r : Result Value Halt) (q : Result Value EvalStop) → q ≡ inside_of r → ResultGives P a b r → PartGives P a b q
   gives_inside r q e h = subst (PartGives P a b) (sym e) (go r h)
     where
-      go : (r : Result Value Halt) → Gives P a b r → PartGives P a b (inside_of r)
+      go : (r : Result Value Halt) → ResultGives P a b r → PartGives P a b (inside_of r)
       go (Ok v) h = h
       go (Err (halt.Over vs)) h = (vs.items, h)
       go (Err (halt.Driver l e)) h = h
@@ -109,7 +109,7 @@ module _ (P : Outcome → Type 0) (a b : World) where
 
 -- a later result, seen from before
 module _ (a b c : World) (m : Moved a b) where
-  pub gives_from : (P : Outcome → Type 0) (r : Result Value Halt) → Gives P b c r → Gives P a c r
+  pub gives_from : (P : Outcome → Type 0) (r : Result Value Halt) → ResultGives P b c r → ResultGives P a c r
   gives_from P (Ok v) h = h
   gives_from P (Err (halt.Over vs)) h = h
   gives_from P (Err (halt.Driver l e)) h = stopped_then l e a b c m h
@@ -140,7 +140,7 @@ module _ (t x t' : Tree) (env env' : List Value) (v : Value) where
     moved = moved_then a b c h.moved k.moved;
     still = λ n. k.still (none n).1 ∙ h.still (none n).0;
     gives = gives_map (Comes (types_of a) (values_of a) env' t') (Comes (types_of a) (values_of a) env t) a c r (λ o d. f (types_of a) (values_of a) o h.gives d)
-        (gives_from a b c h.moved (Comes (types_of a) (values_of a) env' t') r (back (λ S T. Gives (Comes S T env' t') b c r) a b h.moved k.gives));
+        (gives_from a b c h.moved (Comes (types_of a) (values_of a) env' t') r (back (λ S T. ResultGives (Comes S T env' t') b c r) a b h.moved k.gives));
   }
 
   part_then : (r : Result Value EvalStop) (a b c : World) → EvalsPart x env (Ok v) a b → EvalsPart t' env' r b c → Step → (NoSource t → NoSource x × NoSource t') → EvalsPart t env r a c
@@ -421,9 +421,6 @@ found l ps qs rs i p eq er e lt is =
 pub missing : (l : Name) (ps qs : List (Name × Term)) → qs ≡ ps → None ≡ place_of l qs → place_of l ps ≡ None
 missing l ps qs eq e = sym (e ∙ ap (place_of l) eq)
 
-some_pair : (p q : Name × Value) → Some p ≡ Some q → p ≡ q
-some_pair p q e = cc
-
 module _ (t x x' : Term) (ps qs : List (Name × Term)) (c : Option Term) (env : List Value) (et : t ≡ term.Case x ps c) (ex : x' ≡ x) (eq : qs ≡ ps) where
   at_Case : view t ≡ case_of (view x') (arms_view qs c)
   at_Case = ap view et ∙ view_Case x ps c ∙ ap (λ q. case_of (view q) (arms_view ps c)) (sym ex) ∙ ap (λ q. case_of (view x') (arms_view q c)) (sym eq)
@@ -442,7 +439,7 @@ module _ (t x x' : Term) (ps qs : List (Name × Term)) (c : Option Term) (env : 
         let d = variant_is s'.3.0 v i in
         let before : Name × Value = (d.0, d.2) in
         let behind : Name × Value = (l, u) in
-        let e : before ≡ behind = some_pair before behind (sym d.3 ∙ ap as_variant (sym ew) ∙ ev) in
+        let e : before ≡ behind = same_Some before behind (sym d.3 ∙ ap as_variant (sym ew) ∙ ev) in
         let el : d.0 ≡ l = ap (λ z. z.0) e in
         let eu : d.2 ≡ u = ap (λ z. z.1) e in
         (s'.0, s'.1, s'.3.0, d.1, s'.2, s'.3.2, s'.3.3, subst (λ k. at k s'.3.0 ≡ Some d.1) el d.4, subst (Inhabits d.1) eu d.5)
@@ -497,11 +494,11 @@ module _ (t x x' : Term) (ps qs : List (Name × Term)) (c : Option Term) (env : 
 -- ---- what is drawn
 
 module _ (P : Flow → Type 0) (Q : Outcome → Type 0) (k : Kind) (a b : World) where
-  pub gathers : (d : Result (Vec Value Global) Halt) (r : Result Value Halt) → ((f : Flow) → P f → Q (collected k f)) → FlowGives P a b d → Gathers k d r → Gives Q a b r
+  pub gathers : (d : Result (Vec Value Global) Halt) (r : Result Value Halt) → ((f : Flow) → P f → Q (collected k f)) → FlowGives P a b d → Gathers k d r → ResultGives Q a b r
   gathers (Ok vs) r f h g = gives_made Q a b (canonical k vs.items) r (subst Q (collected_flow k vs.items fine) (f (flow vs.items fine) h)) g
   gathers (Err (halt.Over vs)) r f h g = gives_over Q a b (kept k vs.items) r (subst Q (collected_flow k vs.items overflow) (f (flow vs.items overflow) h)) g
-  gathers (Err (halt.Driver l e)) r f h g = subst (Gives Q a b) (sym g) h
-  gathers (Err halt.NoMemory) r f h g = subst (Gives Q a b) (sym g) tt
+  gathers (Err (halt.Driver l e)) r f h g = subst (ResultGives Q a b) (sym g) h
+  gathers (Err halt.NoMemory) r f h g = subst (ResultGives Q a b) (sym g) tt
 
 -- a literal
 module _ (t : Term) (k : Kind) (ts us : List Term) (env : List Value) (et : t ≡ term.Make k ts) (eu : us ≡ ts) where
@@ -645,17 +642,17 @@ module _ (t : Term) (x y x' : Term) (env : List Value) (et : t ≡ term.Union x 
             (subst (λ z. Comes (types_of a) (values_of a) env (view t) (over (kept k z))) (sym e)
             (unites v k vs (over ws.items) ws.items overflow (types_of a) (values_of a) ev refl h.gives (back (λ S T. Comes S T env (view y) (over ws.items)) a b h.moved g'.gives))) m;
       }
-  value_union_over y' v k vs (halt.Over ws) halt.NoMemory r a b c ey ev e h g m = record { moved = moved_then a b c h.moved g.moved; still = both_still y' a b c ey h.still g.still; gives = subst (Gives (Comes (types_of a) (values_of a) env (view t)) a c) (sym m) tt }
+  value_union_over y' v k vs (halt.Over ws) halt.NoMemory r a b c ey ev e h g m = record { moved = moved_then a b c h.moved g.moved; still = both_still y' a b c ey h.still g.still; gives = subst (ResultGives (Comes (types_of a) (values_of a) env (view t)) a c) (sym m) tt }
   value_union_over y' v k vs (halt.Over ws) (halt.Driver l f) r a b c ey ev e h g m = absurd e
   value_union_over y' v k vs (halt.Driver l f) q r a b c ey ev e h g m =
       record {
         moved = moved_then a b c h.moved g.moved;
         still = both_still y' a b c ey h.still g.still;
-        gives = subst (Gives (Comes (types_of a) (values_of a) env (view t)) a c) (sym (subst (λ z. Gathers k (Err z) r) e m)) (stopped_then l f a b c h.moved g.gives);
+        gives = subst (ResultGives (Comes (types_of a) (values_of a) env (view t)) a c) (sym (subst (λ z. Gathers k (Err z) r) e m)) (stopped_then l f a b c h.moved g.gives);
       }
   value_union_over y' v k vs halt.NoMemory (halt.Over us) r a b c ey ev e h g m = absurd e
   value_union_over y' v k vs halt.NoMemory (halt.Driver l f) r a b c ey ev e h g m = absurd e
-  value_union_over y' v k vs halt.NoMemory halt.NoMemory r a b c ey ev e h g m = record { moved = moved_then a b c h.moved g.moved; still = both_still y' a b c ey h.still g.still; gives = subst (Gives (Comes (types_of a) (values_of a) env (view t)) a c) (sym m) tt }
+  value_union_over y' v k vs halt.NoMemory halt.NoMemory r a b c ey ev e h g m = record { moved = moved_then a b c h.moved g.moved; still = both_still y' a b c ey h.still g.still; gives = subst (ResultGives (Comes (types_of a) (values_of a) env (view t)) a c) (sym m) tt }
 
   pub value_union_first : (e : Halt) (a b : World) → Evals (view x') env (Err e) a b → Evals (view t) env (Err e) a b
   value_union_first (halt.Over vs) a b h = record { moved = h.moved; still = λ n. h.still (subst NoSource at_Union n).0; gives = subst (λ z. Comes (types_of a) (values_of a) env z (over vs.items)) (sym at_Union) (over vs.items, h.gives, refl) }
@@ -727,26 +724,6 @@ module _ (t : Term) (c : ℕ) (ts us : List Term) (env : List Value) (et : t ≡
   value_prim_stop eval_stop.NoMemory halt.NoMemory a b p o = record { moved = p.moved; still = λ n. p.still (subst NoSource at_Prim n); gives = tt }
 
 -- ---- the arguments of a call
-
-one_or_two : (sh : Shape) (ss : List Ground) (s : Ground) → ShapeTypes sh ss s → (length ss ≡ 1) ⊎ (length ss ≡ 2)
-one_or_two shape.Compare ss s h = inr (ap length h.1)
-one_or_two shape.IntOp ss s h = inr (ap length h.0)
-one_or_two shape.IntFn ss s h = inl (ap length h.0)
-one_or_two shape.BoolFn ss s h = inl (ap length h.0)
-one_or_two shape.TextJoin ss s h = inr (ap length h.0)
-one_or_two shape.CollTest ss s h = inl (ap length h.2)
-one_or_two shape.CollCount ss s h = inl (ap length h.2)
-one_or_two shape.CollSum ss s h = inl (ap length h.1)
-one_or_two shape.Member ss s h = inr (ap length h.2)
-one_or_two shape.CollSame ss s h = inl (ap length h.2)
-one_or_two shape.Flatten ss s h = inl (ap length h.2)
-one_or_two shape.ToSet ss s h = inl (ap length h.2)
-one_or_two shape.ToBag ss s h = inl (ap length h.2)
-one_or_two shape.ToList ss s h = inl (ap length h.2)
-one_or_two shape.TextLen ss s h = inl (ap length h.0)
-one_or_two shape.TextTest ss s h = inr (ap length h.0)
-one_or_two shape.TextInts ss s h = inl (ap length h.0)
-one_or_two shape.IntText ss s h = inl (ap length h.0)
 
 by_row : (r : Option Primitive) (ss : List Ground) (s : Ground) → RowTypes r ss s → (length ss ≡ 1) ⊎ (length ss ≡ 2)
 by_row (Some p) ss s h = one_or_two p.entry.shape ss s h

@@ -22,9 +22,6 @@ use Rattle.kl_core.proofs.Safety.{get_typed}
 use Rattle.kl_eval.proofs.Shapes.{record_typed}
 use Rattle.kl_eval.specs.Comes.{Then, Picks, Opens, Unites, Leads, Follows, Draws, Comes, ItemsCome, ArgsCome, PartsCome, ArmsCome}
 
-some_same : {A : Type 0} (a b : A) → Some a ≡ Some b → a ≡ b
-some_same a b h = cc
-
 -- ---- types
 
 then_typed : (t u : Ground) (p : Outcome) (P : Value → Outcome → Type 0) (o : Outcome) → OfType u p → ((v : Value) → Inhabits u v → P v o → OfType t o) → Then p P o → OfType t o

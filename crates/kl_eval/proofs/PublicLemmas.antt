@@ -1,6 +1,7 @@
 -- The public calls, from what a term may come to.
 use Rattle.std.proofs.Common.{◌≡◌, ◌≢◌, List, ◌++◌, reverse, Result, Some, Ok, Err, IsSome, IfOk, refl, sym, ◌∙◌, ap, subst}
 use Rattle.std.specs.List.{AllByRecursion}
+use Rattle.std.proofs.lemmas.Option.{same_Some}
 use Rattle.kl_value.specs.Views.{Collection, as_collection, items_at}
 use Rattle.kl_value.proofs.ViewLemmas.{collection_is}
 use Rattle.kl_value.specs.declared.Kind.TheVariants as kind
@@ -112,15 +113,12 @@ lists_driver (done v) l e old new = tt
 lists_driver (over vs) l e old new = tt
 lists_driver stuck l e old new = tt
 
-some_collection : (c d : Collection) → Some c ≡ Some d → c ≡ d
-some_collection c d e = cc
-
 items_of_list : (s : Ground) (v : Value) (vs : List Value) → v ≡ value.List vs → Inhabits (coll kind.List s) v → AllByRecursion (Inhabits s) vs
 items_of_list s v vs e i =
     let d = items_inhabit kind.List s v i in
     let c : Collection = record { kind = kind.List; items = d.0 } in
     let k : Collection = record { kind = kind.List; items = vs } in
-    let same : c ≡ k = some_collection c k (sym d.1 ∙ ap as_collection e ∙ collection_is kind.List vs) in
+    let same : c ≡ k = same_Some c k (sym d.1 ∙ ap as_collection e ∙ collection_is kind.List vs) in
     subst (AllByRecursion (Inhabits s)) (ap (λ z. z.items) same) d.2
 
 listed : (t : Tree) (env : List Value) (r : Result Value Halt) (q : Result (Unit {0}) EvalStop) (old new : List Value) (a b : World) → SenseList t env a → Evals t env r a b → AddsList r q old new → EvaluatesList t env q old new a b

@@ -4,7 +4,7 @@ use Rattle.std.specs.List.{AllByRecursion}
 use Rattle.kl_value.specs.declared.Value.{Value}
 use Rattle.kl_type.specs.Ground.{Ground}
 use Rattle.kl_outcome.specs.Typed.{Inhabits}
-use Rattle.kl_outcome.proofs.PrimLemmas.{append_typed}
+use Rattle.kl_base.proofs.Each.{all_append}
 use Rattle.kl_ask.specs.Driver.{State, Cursor, Pulls, source_of}
 use Rattle.kl_ask.specs.declared.ask.Ask.{Ask}
 use Rattle.kl_ask.specs.declared.ask.Ask.TheVariants as asks
@@ -31,7 +31,7 @@ some_of None h = absurd cc
 some_of (Some x) h = (x, refl)
 
 typed_on : (t u : Ground) (xs ys : List Value) → u ≡ t → AllByRecursion (Inhabits t) xs → AllByRecursion (Inhabits u) ys → AllByRecursion (Inhabits t) (xs ++ ys)
-typed_on t u xs ys same all more = append_typed (Inhabits t) xs ys all (subst (λ ty. AllByRecursion (Inhabits ty) ys) same more)
+typed_on t u xs ys same all more = all_append (Inhabits t) xs ys all (subst (λ ty. AllByRecursion (Inhabits ty) ys) same more)
 
 -- the cursor as it stands
 pub now_at : (cursor : ℕ) (into mid : List Value) (a b : State) → IsSome (a.cursors cursor) → Draining cursor into mid a b → (c : Cursor) × (b.cursors cursor ≡ Some c)

@@ -1,7 +1,7 @@
 -- What a session reads of a source.
 use Rattle.std.proofs.Common.{◌≡◌, ◌<◌, ℕ, List, [], length, Option, Result, Some, None, Ok, Err, IsSome, refl, sym, ◌∙◌, ap, subst, arith, get_or, slice_get}
 use Rattle.std.specs.List.{AllByRecursion}
-use Rattle.std.proofs.lemmas.Option.{slice_get_within, slice_get_read}
+use Rattle.std.proofs.lemmas.Option.{slice_get_within, slice_get_read, same_Some}
 use Rattle.kl_value.specs.Canon.{canonical}
 use Rattle.kl_value.specs.declared.Value.{Value}
 use Rattle.kl_type.specs.Ground.{Ground, ground_of}
@@ -13,11 +13,11 @@ use Rattle.kl_ask.specs.Lists.{AtIndex, StepsAt}
 use Rattle.kl_ask.specs.World.{World, IsListed, IsReady, at_driver, at_place, at_source, source_at, type_in, value_of_rows, value_in, types_of, values_of}
 use Rattle.kl_ask.specs.declared.session.Attached.{Attached}
 use Rattle.kl_ask.proofs.Whole.{whole_type, whole_rows, can_start_whole, collection_is, in_order_canonical}
-use Rattle.kl_ask.proofs.Worlds.{moved_none, some_same, there, quiet_steps}
+use Rattle.kl_ask.proofs.Worlds.{moved_none, there, quiet_steps}
 use Rattle.kl_eval.specs.declared.stop.EvalStop.{EvalStop}
 use Rattle.kl_eval.specs.declared.stop.EvalStop.TheVariants as stop
 use Rattle.kl_eval.specs.Scans.{IsEmptyOf, ScansAll, ScansTo, ScanEnd, whole_ask}
-use Rattle.kl_eval.specs.World.{Reads, Read, Tabled}
+use Rattle.kl_eval.specs.World.{ReadsSource, Read, Tabled}
 
 -- the driver of a source at a place, and what it has attached
 abbrev pub Held : World → ℕ → Attached → ℕ → Type 0
@@ -77,7 +77,7 @@ module _ (w : World) (i : ℕ) (a : Attached) (place : ℕ) (at : slice_get w.so
   pub can_scan : AtIndex place (λ s. CanStart s (whole_ask a)) w.drivers
   can_scan = λ s is.
       let k = held w i a place at is_at h in
-      let same : k.0 ≡ s = some_same (sym k.2 ∙ is) in
+      let same : k.0 ≡ s = same_Some _ _ (sym k.2 ∙ is) in
       subst (λ z. CanStart z (whole_ask a)) same (can_start_whole k.0 a.source a.ty k.1 k.3 listed.ty listed.proper)
 
 -- what was shown is the source's value
@@ -98,10 +98,10 @@ module _ (t : Ground) (rows : Option (List Value)) (shown : List Value) (cursor 
       go None q l good e = cc
       go (Some all) q l good e =
           ap (canonical (kind_of t)) (all_shown l.0 l.1) ∙ in_order_canonical (kind_of t) (answers all (columns (item_of t)) []) l.0 l.2
-          ∙ ap (canonical (kind_of t)) (whole_rows (item_of t) all (good all refl)) ∙ some_same e
+          ∙ ap (canonical (kind_of t)) (whole_rows (item_of t) all (good all refl)) ∙ same_Some _ _ e
 
 reads : (w : World) (i : ℕ) (a : Attached) (d : State) (s : Source) (v : Value) → d.attached a.source ≡ Some s → source_at w i ≡ Some s → IsListed a s → (shown : List Value) → v ≡ canonical (kind_of (ground_of a.ty)) shown → ScansAll (whole_ask a) shown d
-    → Reads (types_of w) (values_of w) i v
+    → ReadsSource (types_of w) (values_of w) i v
 unfolding types_of values_of
 reads w i a d s v has at l shown ev sc =
     let fresh : IsFresh (columns (item_of (ground_of s.ty))) [] s sc.cursor = subst (λ y. IsFresh (columns (item_of (ground_of y))) [] s sc.cursor) (sym l.ty) (sc.fresh s has) in
@@ -109,7 +109,7 @@ reads w i a d s v has at l shown ev sc =
     let is : v ≡ canonical (kind_of t) shown = ev ∙ ap (λ y. canonical (kind_of (ground_of y)) shown) (sym l.ty) in
     record {
       typed = λ u e.
-          let same : t ≡ u = some_same (sym (ap type_in at) ∙ e) in
+          let same : t ≡ u = same_Some _ _ (sym (ap type_in at) ∙ e) in
           subst (λ q. Inhabits q v) same (subst (Inhabits t) (sym is) (shown_value t s.rows shown sc.cursor l.collection l.typed fresh.ty fresh.left sc.rows sc.typed));
       told = λ u e. is ∙ told_value t s.rows shown sc.cursor l.collection l.typed fresh.ty fresh.left sc.rows sc.typed u (sym (ap value_in at) ∙ e);
     }
@@ -145,15 +145,15 @@ module _ (w : World) (i : ℕ) (a : Attached) (at : slice_get w.sources i ≡ So
   bare_there : source_at w i ≡ Some bare
   bare_there = placed w i a None at none
 
-  empty_reads : (v : Value) → v ≡ canonical (kind_of (ground_of a.ty)) [] → Reads (types_of w) (values_of w) i v
+  empty_reads : (v : Value) → v ≡ canonical (kind_of (ground_of a.ty)) [] → ReadsSource (types_of w) (values_of w) i v
   unfolding types_of values_of
   empty_reads v is =
       let l = ready.listed i a bare at bare_there in
       let t = ground_of a.ty in
       let fine : Inhabits t (canonical (kind_of t) []) = subst (λ q. Inhabits q (canonical (kind_of t) [])) (sym (collection_is t l.collection)) (canonical_inhabits (kind_of t) (item_of t) [] tt) in
       record {
-        typed = λ u e. subst (λ q. Inhabits q v) (some_same (sym (ap type_in bare_there) ∙ e)) (subst (Inhabits t) (sym is) fine);
-        told = λ u e. is ∙ some_same (sym (ap value_in bare_there) ∙ e);
+        typed = λ u e. subst (λ q. Inhabits q v) (same_Some _ _ (sym (ap type_in bare_there) ∙ e)) (subst (Inhabits t) (sym is) fine);
+        told = λ u e. is ∙ same_Some _ _ (sym (ap value_in bare_there) ∙ e);
       }
 
   empty_read : (r : Result Value EvalStop) → IsEmptyOf a r → Read i r w w

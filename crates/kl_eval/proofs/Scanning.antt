@@ -20,7 +20,7 @@ use Rattle.kl_ask.specs.declared.ask.Ask.{Ask}
 use Rattle.kl_ask.specs.declared.session.Attached.{Attached}
 use Rattle.kl_ask.specs.declared.DriverError.{DriverError}
 use Rattle.kl_ask.specs.declared.DriverError.TheVariants as error
-use Rattle.kl_ask.proofs.Worlds.{keeps_then, quiet_none}
+use Rattle.kl_ask.proofs.Worlds.{keeps_then, quiet_none, error_is}
 use Rattle.kl_eval.specs.declared.stop.EvalStop.{EvalStop}
 use Rattle.kl_eval.specs.declared.stop.EvalStop.TheVariants as stop
 use Rattle.kl_eval.specs.Scans.{Drained, IsEmptyOf, Stopped, Scans, ScansTo, ScanEnd, Scanned, whole_ask}
@@ -30,9 +30,6 @@ use Rattle.kl_eval.proofs.Stops.{cause_then}
 
 pub started : (ask : Ask) (cursor : ℕ) (a b : State) → Starts ask (Ok cursor) a b → IsSome (b.cursors cursor)
 started ask cursor a b s = rw s.opens.now refl
-
-err_is : {x y : DriverError} → IsErrOf {T = ℕ} {E = DriverError} (Err x) y → x ≡ y
-err_is h = grind arith
 
 not_failed : (d : Drift) → error.Failed ≡ error.Changed d → ⊥
 not_failed d h = cc
@@ -44,8 +41,8 @@ pub not_started : (ask : Ask) (e : DriverError) (a b : State) → Starts ask (Er
 not_started ask e a b s = record {
   quiet = record { keeps = s.keeps; attached = s.attached; cursors = s.refused.0 };
   end = ⊎_elim
-      (λ h. (subst (λ q. Cause q a b) (sym (err_is h)) (s.failed h), λ d is. absurd (not_failed d (sym (err_is h) ∙ is))))
-      (λ h. (subst (λ q. Cause q a b) (sym (err_is h)) tt, λ d is. absurd (not_wanting d (sym (err_is h) ∙ is))))
+      (λ h. (subst (λ q. Cause q a b) (sym (error_is h)) (s.failed h), λ d is. absurd (not_failed d (sym (error_is h) ∙ is))))
+      (λ h. (subst (λ q. Cause q a b) (sym (error_is h)) tt, λ d is. absurd (not_wanting d (sym (error_is h) ∙ is))))
       s.no_other;
 }
 

@@ -7,14 +7,10 @@ use Rattle.kl_value.specs.IsCanonical.{IsCanonical}
 use Rattle.kl_value.specs.declared.Value.{Value}
 use Rattle.kl_value.specs.declared.Value.TheVariants as value
 use Rattle.kl_value.proofs.IsCanonicalLemmas.{record_made}
-use Rattle.kl_type.specs.Ground.{Row, rec as rec_type, no_row, row}
+use Rattle.kl_type.specs.Ground.{Row, rec as rec_type, no_row, row, labels_in}
 use Rattle.kl_outcome.specs.Outcome.{Name, done}
 use Rattle.kl_outcome.specs.Typed.{HasFields, OfType}
-use Rattle.kl_core.specs.Typing.{labels_in}
-
-labels_same : (r : Row) (fs : List (Name × Value)) → HasFields r fs → labels_of fs ≡ labels_in r
-labels_same no_row fs h = ap labels_of h
-labels_same (row l s r) fs h = ap labels_of h.2 ∙ ap (λ ls. l ∷ ls) (labels_same r h.1 h.4)
+use Rattle.kl_outcome.proofs.OutcomeTypes.{labels_same}
 
 pub record_typed : (r : Row) (fs : List (Name × Value)) → IsStrictlySortedBy bytes_cmp (labels_in r) → HasFields r fs → AllByRecursion (λ f. IsCanonical f.1) fs → OfType (rec_type r) (done (value.Rec fs))
 record_typed r fs up has good = ((fs, refl, has), record_made fs good (subst (IsStrictlySortedBy bytes_cmp) (sym (labels_same r fs has)) up))

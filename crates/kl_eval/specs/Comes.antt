@@ -9,7 +9,7 @@ use Rattle.kl_outcome.specs.Outcome.{Name, Outcome, done, over, stuck, Flow, mor
 use Rattle.kl_core.specs.Core.{Tables}
 use Rattle.kl_core.specs.Trees.{Tree, var, con, source, rec, proj, inj, case_of, make, union, ext, choice, bind, prim, Trees, no_trees, trees, Parts, no_parts, parts, Arms, no_arms, rest, arm}
 use Rattle.kl_core.specs.Typing.{SourceTypes}
-use Rattle.kl_eval.specs.World.{Reads}
+use Rattle.kl_eval.specs.World.{ReadsSource}
 
 -- what is made of the value of a part; an overflow in it leaves no items
 abbrev pub Then : Outcome → (Value → Outcome → Type 0) → Outcome → Type 0
@@ -54,7 +54,7 @@ abbrev mutual
   pub Comes : SourceTypes → Tables → List Value → Tree → Outcome → Type 0
   Comes S T env (var x) o = o ≡ outcome_of (slice_get env x)
   Comes S T env (con v) o = o ≡ done v
-  Comes S T env (source i) o = (v : Value) × Reads S T i v × (o ≡ done v)
+  Comes S T env (source i) o = (v : Value) × ReadsSource S T i v × (o ≡ done v)
   Comes S T env (rec ps) o = PartsCome S T env ps (λ fs. done (value.Rec fs)) o
   Comes S T env (proj l a) o = (p : Outcome) × Comes S T env a p × (o ≡ part l p)
   Comes S T env (inj l a) o = (p : Outcome) × Comes S T env a p × (o ≡ tagged l p)

@@ -59,11 +59,11 @@ SenseList t env w = (G : List Ground) × (s : Ground) × HaveTypes G env × Core
 -- ---- results
 
 -- P holds of the outcome that a result tells; a stop by a driver has its cause
-abbrev pub Gives : (Outcome → Type 0) → World → World → Result Value Halt → Type 0
-Gives P a b (Ok v) = P (done v)
-Gives P a b (Err (halt.Over vs)) = P (over vs.items)
-Gives P a b (Err (halt.Driver l e)) = StoppedBy l e a b
-Gives P a b (Err halt.NoMemory) = ⊤
+abbrev pub ResultGives : (Outcome → Type 0) → World → World → Result Value Halt → Type 0
+ResultGives P a b (Ok v) = P (done v)
+ResultGives P a b (Err (halt.Over vs)) = P (over vs.items)
+ResultGives P a b (Err (halt.Driver l e)) = StoppedBy l e a b
+ResultGives P a b (Err halt.NoMemory) = ⊤
 
 abbrev pub PartGives : (Outcome → Type 0) → World → World → Result Value EvalStop → Type 0
 PartGives P a b (Ok v) = P (done v)
@@ -95,7 +95,7 @@ FieldsGive ps env a b (Err stop.NoMemory) = ⊤
 pub record Evals (t : Tree) (env : List Value) (r : Result Value Halt) (a b : World) : Type 0 where
   pub moved : Moved a b
   pub still : NoSource t → b ≡ a
-  pub gives : Gives (Comes (types_of a) (values_of a) env t) a b r
+  pub gives : ResultGives (Comes (types_of a) (values_of a) env t) a b r
 
 pub record EvalsPart (t : Tree) (env : List Value) (r : Result Value EvalStop) (a b : World) : Type 0 where
   pub moved : Moved a b

@@ -1,32 +1,22 @@
--- Terms in which no source stands.
-use Rattle.std.specs.Prelude.{⊤}
-use Rattle.kl_core.specs.Trees.{Tree, var, con, source, rec, proj, inj, case_of, make, union, ext, choice, bind, prim, Trees, no_trees, trees, Parts, no_parts, parts, Arms, no_arms, rest, arm}
+-- Terms in which variables stand anywhere, and no source does.
+use Rattle.std.specs.Prelude.{ℕ, ⊤}
+use Rattle.kl_core.specs.Leaves.{Leaves, LeavesOfTrees, LeavesOfParts, LeavesOfArms}
+use Rattle.kl_core.specs.Trees.{Tree, Trees, Parts, Arms}
 
-abbrev mutual
-  pub NoSource : Tree → Type 0
-  NoSource (var x) = ⊤
-  NoSource (con v) = ⊤
-  NoSource (source i) = ⊥
-  NoSource (rec ps) = NoSourceInParts ps
-  NoSource (proj l a) = NoSource a
-  NoSource (inj l a) = NoSource a
-  NoSource (case_of a bs) = NoSource a × NoSourceInArms bs
-  NoSource (make k ts) = NoSourceInTrees ts
-  NoSource (union a b) = NoSource a × NoSource b
-  NoSource (ext k b a) = NoSource b × NoSource a
-  NoSource (choice a b c) = NoSource a × NoSource b × NoSource c
-  NoSource (bind a b) = NoSource a × NoSource b
-  NoSource (prim c ts) = NoSourceInTrees ts
+abbrev pub Anywhere : ℕ → Type 0
+Anywhere x = ⊤
 
-  pub NoSourceInTrees : Trees → Type 0
-  NoSourceInTrees no_trees = ⊤
-  NoSourceInTrees (trees t ts) = NoSource t × NoSourceInTrees ts
+abbrev pub Nowhere : ℕ → Type 0
+Nowhere i = ⊥
 
-  pub NoSourceInParts : Parts → Type 0
-  NoSourceInParts no_parts = ⊤
-  NoSourceInParts (parts l t ps) = NoSource t × NoSourceInParts ps
+abbrev pub NoSource : Tree → Type 0
+NoSource = Leaves Anywhere Nowhere
 
-  pub NoSourceInArms : Arms → Type 0
-  NoSourceInArms no_arms = ⊤
-  NoSourceInArms (rest c) = NoSource c
-  NoSourceInArms (arm l b bs) = NoSource b × NoSourceInArms bs
+abbrev pub NoSourceInTrees : Trees → Type 0
+NoSourceInTrees = LeavesOfTrees Anywhere Nowhere
+
+abbrev pub NoSourceInParts : Parts → Type 0
+NoSourceInParts = LeavesOfParts Anywhere Nowhere
+
+abbrev pub NoSourceInArms : Arms → Type 0
+NoSourceInArms = LeavesOfArms Anywhere Nowhere

@@ -16,7 +16,7 @@ use Rattle.kl_eval.specs.declared.stop.EvalStop.{EvalStop}
 use Rattle.kl_eval.specs.declared.stop.EvalStop.TheVariants as stop
 
 -- a reading of a source gives a value of its type, and the one that is told
-pub record Reads (S : SourceTypes) (T : Tables) (source : ℕ) (v : Value) : Type 0 where
+pub record ReadsSource (S : SourceTypes) (T : Tables) (source : ℕ) (v : Value) : Type 0 where
   pub typed : (t : Ground) → S source ≡ Some t → Inhabits t v
   pub told : (u : Value) → T source ≡ Some u → v ≡ u
 
@@ -42,7 +42,7 @@ pub record StoppedBy (source : Name) (e : DriverError) (old new : World) : Type 
   pub want : e ≢ error.NoMemory
 
 abbrev pub Read : ℕ → Result Value EvalStop → World → World → Type 0
-Read source (Ok v) old new = Reads (types_of old) (values_of old) source v
+Read source (Ok v) old new = ReadsSource (types_of old) (values_of old) source v
 Read source (Err stop.Overflow) old new = ⊥
 Read source (Err (stop.Driver name e)) old new = StoppedBy name e old new
 Read source (Err stop.NoMemory) old new = ⊤

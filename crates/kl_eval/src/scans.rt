@@ -1,6 +1,5 @@
 //! Whole scans of sources.
 ghost use Rattle.std.specs.Prelude.{◌≡◌, ◌<◌, [], IsSome, IfOk, length, map};
-ghost use Rattle.kl_base.specs.Fields.{labels_of};
 ghost use Rattle.kl_type.specs.Ground.{ground_of};
 ghost use Rattle.kl_ask.specs.Asks.{columns, item_of, kind_of};
 ghost use Rattle.kl_ask.specs.Driver.{CanStart};
@@ -10,7 +9,7 @@ ghost use Rattle.kl_eval.specs.Scans.{Drains, IsEmptyOf, Scans, ScansTo, Scanned
 
 use crate::stop::EvalStop;
 use kl_ask::{Ask, Attached, Driver, DriverError, finish_boxed, pull_boxed, start_boxed};
-use kl_base::{Label, NoMemory, Seq};
+use kl_base::{Label, NoMemory, Seq, labels_of};
 use kl_type::Ty;
 use kl_value::{Kind, Value, canon};
 use std::alloc::Global;
@@ -26,23 +25,13 @@ fn kind_in(ty: &Ty) -> Kind
     }
 }
 
-fn labels_in(alloc: Global, fields: &[(Label, Ty)]) -> Result<Vec<Label>, NoMemory>
-    ensures { IfOk result (λ labels. labels.items ≡ labels_of fields.now) }
-{
-    let mut labels = Vec::with_capacity(alloc, fields.len())?;
-    for field in fields {
-        labels.push(field.0.dup()?)?;
-    }
-    Ok(labels)
-}
-
 // The columns of rows, which are none where they are no records.
 #[tactic(auto, using(kl_ask::proofs::Columns::column_rules))]
 fn columns_in(alloc: Global, item: &Ty) -> Result<Vec<Label>, NoMemory>
     ensures { IfOk result (λ labels. labels.items ≡ columns (ground_of item.now)) }
 {
     match item {
-        Ty::Rec(fields) => labels_in(alloc, fields.slice()),
+        Ty::Rec(fields) => labels_of(alloc, fields.slice()),
         Ty::Bool | Ty::Int | Ty::Str | Ty::Var(_) | Ty::Coll(_, _) => Ok(Vec::new(alloc)),
     }
 }

@@ -177,6 +177,9 @@ pub fn add_list(outcome: Result<Value, Halt>, into: &mut Vec<Value>) -> Result<(
 
 /// The union of two collections whose items stand one behind the other. Those of a set or a bag rise already: the stable
 /// sort finds the two runs and merges them in one pass.
+///
+/// # Errors
+/// Want of memory.
 pub fn unite(kind: Kind, both: Vec<Value>) -> Result<Value, Halt>
     ensures { Answers (done (canonical kind both.items)) result }
 {

@@ -1,13 +1,15 @@
 -- Which bytes are of which kind.
-use Rattle.std.proofs.Common.{◌≡◌, ◌≢◌, ℕ, ◌+◌, ◌*◌, ◌<◌, ◌≤◌, suc, zero, Bool, true, false, ◌&&◌, List, [], ◌∷◌, ◌++◌, refl, sym, subst, arith, ◌==◌, nat_le, nat_lt, ◌⊎◌, inl, inr, true≢false, Some}
+use Rattle.std.proofs.Common.{◌≡◌, ◌≢◌, ℕ, ◌+◌, ◌*◌, ◌<◌, ◌≤◌, suc, zero, Bool, true, false, List, [], ◌∷◌, ◌++◌, refl, sym, subst, arith, ◌==◌, nat_le, nat_lt, ◌⊎◌, inl, inr, true≢false, Some}
 use Rattle.std.proofs.lemmas.Bool.Decides.{nat_tests}
-use Rattle.std.specs.Char.{is_ascii_digit, is_ascii_alphabetic, is_ascii_hexdigit, digit_value}
+use Rattle.std.specs.Char.{is_ascii_digit, is_ascii_alphabetic, digit_value}
 use Rattle.std.specs.Int.{w64}
 use Rattle.std.specs.Prelude.{FitsSigned}
 use Rattle.std.specs.List.{list_all}
 use Rattle.std.specs.Str.Parse.{digits_value_after}
+use Rattle.std.proofs.lemmas.Bool.{and_parts}
 use Rattle.kl_base.specs.Word.{is_word, is_word_byte}
-use Rattle.kl_exchange.specs.Grammar.{is_blank, signed, escape_of}
+use Rattle.kl_value.specs.Quoted.{escape_of}
+use Rattle.kl_exchange.specs.Grammar.{is_blank, signed}
 use Rattle.kl_exchange.specs.Machine.{greatest_magnitude}
 
 pub digit_is : (b : ℕ) → digit_value b < 10 → is_ascii_digit b ≡ true
@@ -78,17 +80,14 @@ magnitude_fits true (suc n) most = record { sfits = omega arith }
 magnitude_fits false n most = record { sfits = omega arith }
 
 -- words
-pub both_true : (a b : Bool) → (a && b) ≡ true → (a ≡ true) × (b ≡ true)
-both_true true b h = (refl, h)
-both_true false b h = absurd (true≢false (sym h))
 
 pub all_push : (t : ℕ → Bool) (bs : List ℕ) (b : ℕ) → list_all t bs ≡ true → t b ≡ true → list_all t (bs ++ b ∷ []) ≡ true
 all_push t [] b all one = rw one
-all_push t (c ∷ bs) b all one = let both = both_true (t c) (list_all t bs) all in rw (both.0, all_push t bs b both.1 one)
+all_push t (c ∷ bs) b all one = let both = and_parts (t c) (list_all t bs) all in rw (both.0, all_push t bs b both.1 one)
 
 pub word_push : (l : List ℕ) (b : ℕ) → is_word l ≡ true → is_word_byte b ≡ true → is_word (l ++ b ∷ []) ≡ true
 word_push [] b word one = absurd (true≢false (sym word))
-word_push (c ∷ l) b word one = let both = both_true (is_ascii_alphabetic c) (list_all is_word_byte l) word in rw (both.0, all_push is_word_byte l b both.1 one)
+word_push (c ∷ l) b word one = let both = and_parts (is_ascii_alphabetic c) (list_all is_word_byte l) word in rw (both.0, all_push is_word_byte l b both.1 one)
 
 pub escape_not_x : (b c : ℕ) → escape_of b ≡ Some c → (b == 120) ≡ false
 escape_not_x b c e = is_x (b == 120) refl
@@ -117,6 +116,3 @@ at_most_from a b h = grind (arith, nat_tests)
 
 pub unequal : (b c : ℕ) → (b == c) ≡ false → b ≢ c
 unequal b c h = grind (arith, nat_tests)
-
-pub hex_below : (b : ℕ) → is_ascii_hexdigit b ≡ true → digit_value b < 16
-hex_below b h = grind (arith, nat_tests)

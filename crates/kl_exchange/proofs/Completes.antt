@@ -5,6 +5,7 @@ use Rattle.std.specs.Prelude.{⊤, codes}
 use Rattle.std.specs.Char.{is_ascii_digit, is_ascii_alphabetic, is_ascii_hexdigit, digit_value}
 use Rattle.std.specs.List.{AllByRecursion, IsDistinct}
 use Rattle.std.specs.Str.Parse.{AllDigits, digits_value_after, digits_value}
+use Rattle.std.proofs.lemmas.Bool.{and_parts}
 use Rattle.kl_base.specs.Word.{is_word, is_word_byte}
 use Rattle.kl_base.specs.Fields.{LabelsDiffer}
 use Rattle.kl_value.specs.Canon.{canonical}
@@ -12,8 +13,10 @@ use Rattle.kl_value.specs.declared.Kind.{Kind}
 use Rattle.kl_value.specs.declared.Kind.TheVariants as kind
 use Rattle.kl_value.specs.declared.Value.{Value}
 use Rattle.kl_value.specs.declared.Value.TheVariants as value
+use Rattle.kl_value.specs.Quoted.{Part, Parts, escape_of}
 use Rattle.kl_exchange.specs.Fields.{fields_of}
-use Rattle.kl_exchange.specs.Grammar.{is_blank, Blank, Padded, More, word_of, sign_of, signed, SpellsByte, SpellsBytes, SpellsPlain, opening, closing, SpellsField, SpellsBracket, Spells, IsItem, escape_of}
+use Rattle.kl_value.specs.Written.{opening, closing}
+use Rattle.kl_exchange.specs.Grammar.{is_blank, Blank, Padded, More, word_of, sign_of, signed, SpellsPlain, SpellsField, SpellsBracket, Spells, IsItem}
 use Rattle.kl_exchange.specs.Machine.{Brackets, IsSound, IsSoundFrame, IsSoundHolder, IsSoundPhase, pending, goes, bad, run, Run, more, ends, fails, deep, followed, advanced, value_due, opens, opened, closes, ends_closing, behind_brace, behind_bracket, label_due, record_opened, named, in_name, in_word, behind_minus, after_item, after_field, after_value, in_digits, in_text, behind_escape, hex_due, low_hex_due, or_bad, with_digit, greatest_magnitude, hex_of, has_named, frame_of, first_of_close, last_of_close}
 use Rattle.kl_exchange.specs.declared.machine.Frame.TheVariants as frame
 use Rattle.kl_exchange.specs.declared.machine.Holder.{Holder}
@@ -24,7 +27,8 @@ use Rattle.kl_exchange.specs.declared.machine.Phase.TheVariants as phase
 use Rattle.kl_exchange.specs.Machine.{Step}
 use Rattle.kl_exchange.specs.declared.machine.Stop.{Stop}
 use Rattle.kl_exchange.specs.declared.machine.Stop.TheVariants as stop
-use Rattle.kl_exchange.proofs.Bytes.{digit_below, equal, magnitude_fits, both_true, word_push, lt_from, le_from, at_most_from, unequal, hex_below}
+use Rattle.kl_exchange.proofs.Bytes.{digit_below, equal, magnitude_fits, word_push, lt_from, le_from, at_most_from, unequal}
+use Rattle.kl_value.proofs.QuotedLemmas.{hex_below}
 use Rattle.kl_exchange.proofs.Pairs.{Pair, fields_of_is, differ_push, letters, room, letters_word, letters_bytes, length-letters, word_goes_on, longer_fresh}
 
 -- Behind a value v with these brackets round it, u completes the item to w. The values of the innermost bracket nest at
@@ -68,7 +72,7 @@ InDigits n st negative m u w = (ds : List ℕ) × (behind : List ℕ) × (u ≡ 
     × (digits_value_after 10 m ds ≤ greatest_magnitude negative) × After n st (value.Int (signed negative (digits_value_after 10 m ds))) behind w
 
 abbrev pub InText : ℕ → Brackets → List ℕ → List ℕ → Value → Type 0
-InText n st t u w = (inside : List ℕ) × (others : List ℕ) × (behind : List ℕ) × (u ≡ inside ++ 34 ∷ behind) × SpellsBytes inside others
+InText n st t u w = (inside : List ℕ) × (others : List ℕ) × (behind : List ℕ) × (u ≡ inside ++ 34 ∷ behind) × Parts others inside
     × After n st (value.Text (t ++ others)) behind w
 
 abbrev pub LowDue : ℕ → Brackets → List ℕ → ℕ → List ℕ → Value → Type 0
@@ -477,7 +481,7 @@ module _ (L : ℕ) where
       let letters : List ℕ = word_of word in
       choose P (nat_lt count (length letters) && (get_or letters count 0 == b)) _ _
       (λ e.
-      let both = both_true (nat_lt count (length letters)) (get_or letters count 0 == b) e in
+      let both = and_parts (nat_lt count (length letters)) (get_or letters count 0 == b) e in
       let within : count < length letters = lt_from count (length letters) both.0 in
       let here : drop count letters ≡ b ∷ drop (count + 1) letters =
       drop-cons letters count 0 within ∙ (ap (λ a. a ∷ drop (suc count) letters) (equal (get_or letters count 0) b both.1) ∙ ap (λ k. b ∷ drop k letters) (sym (add-one count))) in
@@ -586,7 +590,7 @@ module _ (L : ℕ) where
       (λ _. through L st st (phase.Digits negative m) (phase.After (value.Int (signed negative m))) b _ (omega arith)
       (λ u w c. (c.0, c.1, ([], u, refl, tt, most, c.2))) (right_after st (value.Int (signed negative m)) b frames room))
 
-  more_text : (n : ℕ) (st : Brackets) (t part : List ℕ) (c : ℕ) (u : List ℕ) (w : Value) → SpellsByte part c → InText n st (t ++ c ∷ []) u w → InText n st t (part ++ u) w
+  more_text : (n : ℕ) (st : Brackets) (t part : List ℕ) (c : ℕ) (u : List ℕ) (w : Value) → Part c part → InText n st (t ++ c ∷ []) u w → InText n st t (part ++ u) w
   more_text n st t part c u w spells a = (
     part ++ a.0,
     c ∷ a.1,
@@ -609,17 +613,17 @@ module _ (L : ℕ) where
       (λ e. (record { frames = frames; at = tt; nesting = omega arith }, λ u w c. (c.0, c.1, at_byte c.0 st (phase.Text t) b 92 u w e (escaped c.0 u w c.2))))
       (λ s. (
         record { frames = frames; at = tt; nesting = omega arith },
-        λ u w c. (c.0, c.1, more_text c.0 st t (b ∷ []) b u w (SpellsByte.itself refl (unequal b 34 q) (unequal b 92 s)) c.2),
+        λ u w c. (c.0, c.1, more_text c.0 st t (b ∷ []) b u w (Part.plain (unequal b 34 q) (unequal b 92 s)) c.2),
       )))
     where
       escaped : (n : ℕ) (u : List ℕ) (w : Value) → EscapeDue n st t u w → InText n st t (92 ∷ u) w
       escaped n u w (inl c) =
-          subst (λ bs. InText n st t (92 ∷ bs) w) (sym c.3) (more_text n st t (92 ∷ c.0 ∷ []) c.1 c.2 w (SpellsByte.escaped c.0 refl c.4) c.5)
+          subst (λ bs. InText n st t (92 ∷ bs) w) (sym c.3) (more_text n st t (92 ∷ c.0 ∷ []) c.1 c.2 w (Part.escaped c.4) c.5)
       escaped n u w (inr c) =
           let h = c.2 in
           let l = h.4 in
           subst (λ bs. InText n st t (92 ∷ bs) w) (sym (c.1 ∙ (ap (λ bs. 120 ∷ bs) h.2 ∙ ap (λ bs. 120 ∷ h.0 ∷ bs) l.2)))
-          (more_text n st t (92 ∷ 120 ∷ h.0 ∷ l.0 ∷ []) (digit_value h.0 * 16 + digit_value l.0) l.1 w (SpellsByte.hexadecimal h.0 l.0 refl h.3 l.3 refl) l.4)
+          (more_text n st t (92 ∷ 120 ∷ h.0 ∷ l.0 ∷ []) (digit_value h.0 * 16 + digit_value l.0) l.1 w (Part.hex h.3 l.3) l.4)
 
   right_escape : (st : Brackets) (t : List ℕ) (b : ℕ) → AllByRecursion IsSoundFrame st → length st ≤ L → Right L st (phase.Escape t) b (behind_escape st t b)
   unfolding behind_escape

@@ -4,7 +4,7 @@ use Rattle.std.proofs.Math.Seq.{take-append-add}
 use Rattle.std.proofs.lemmas.List.{take-append-le}
 use Rattle.kl_exchange.specs.Fetching.{FetchesBehind}
 use Rattle.kl_exchange.specs.FileReading.{Left}
-use Rattle.kl_outside.specs.Files.{FilesState, Consumed, Reads as ReadsFile}
+use Rattle.kl_outside.specs.Files.{FilesState, Consumed, ReadsPiece}
 
 pub still_open : (left left' : Left) (piece : List ℕ) → Consumed left left' piece → IsSome left'
 still_open (Some (Some old)) (Some (Some new)) piece is = refl
@@ -37,7 +37,7 @@ pub filled_front : (old filling : List ℕ) (n before : ℕ) → before ≡ leng
 filled_front old filling n before size fits =
     ap (λ bs. take before (bs ++ filling)) (take_all n old (omega arith)) ∙ (take-append-le before old filling (omega arith) ∙ take_all before old (omega arith))
 
-pub fetched_behind : (file most count : ℕ) (into old new : List ℕ) (s t : FilesState) → ReadsFile file into (Ok count) s t → new ≡ old ++ take count into → length into ≡ most
+pub fetched_behind : (file most count : ℕ) (into old new : List ℕ) (s t : FilesState) → ReadsPiece file into (Ok count) s t → new ≡ old ++ take count into → length into ≡ most
     → FetchesBehind file most (Ok count) old new s t
 fetched_behind file most count into old new s t reads is size =
     let within = reads.within in

@@ -37,7 +37,7 @@ end_has_none place left finished (TooDeepAt p) h = h.2.no_item
 end_has_none place left finished PastLimit h = begun_has_none left h.1
 
 -- What begins an exchange text begins one also without its last bytes.
-begins_front : (n : ℕ) (bytes behind : List ℕ) → Begins n (bytes ++ behind) → Begins n bytes
+pub begins_front : (n : ℕ) (bytes behind : List ℕ) → Begins n (bytes ++ behind) → Begins n bytes
 begins_front n bytes behind b = record {
   more = behind ++ b.more;
   values = b.values;

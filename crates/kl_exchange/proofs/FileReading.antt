@@ -2,6 +2,7 @@
 use Rattle.std.proofs.Common.{◌≡◌, inl, inr, ℕ, zero, suc, ◌+◌, ◌-◌, ◌<◌, ◌≤◌, nat_le, Bool, true, false, List, [], ◌∷◌, ◌++◌, length, take, min, Option, Some, None, Result, Ok, Err, IsErrOf, IsSome, refl, sym, ap, subst, ◌∙◌, arith, append_assoc, append-nil, length-append, length-take}
 use Rattle.std.proofs.Math.Seq.{take-append-add}
 use Rattle.std.proofs.lemmas.Bool.{le-leb, lt-leb, false≢true}
+use Rattle.std.proofs.lemmas.List.{nil_from_length}
 use Rattle.kl_exchange.specs.FileItems.{Items, FileEnd, WholeText, BadAt, TooDeepAt, PastLimit, BeginsItem, reading, EndsIn, Shows}
 use Rattle.kl_exchange.specs.FileReading.{FileReading, Left, Remains, IsRefusalOf, HasRead, EndsSo, HeldOut, HandsOut, Leaves, Fetches, NextItem, Stands, end_to_come, to_come}
 use Rattle.kl_exchange.specs.Fetching.{FetchesBehind}
@@ -16,7 +17,7 @@ use Rattle.kl_exchange.specs.declared.reader.Item.{Item}
 use Rattle.kl_exchange.specs.declared.reader.Item.TheVariants as item
 use Rattle.kl_exchange.proofs.FileItems.{bad_grows, deep_grows, first_items, end_has_none}
 use Rattle.kl_exchange.proofs.Fetching.{still_open}
-use Rattle.kl_outside.specs.Files.{FilesState, OtherFiles, Consumed, IsAtEnd, Reads as ReadsFile}
+use Rattle.kl_outside.specs.Files.{FilesState, OtherFiles, Consumed, IsAtEnd, ReadsPiece}
 use Rattle.kl_value.specs.declared.Value.{Value}
 
 pub items-append : (read more : List ℕ) (vs ws : List Value) → Items read vs → Items more ws → Items (read ++ more) (vs ++ ws)
@@ -433,14 +434,10 @@ pub end_came : (old : FileReading) (most count : ℕ) (left : List ℕ) (s t : F
     → Waits old.text old.text → old.past ≡ false → Fetches (Ok tt) old (record old { text = record old.text { left = left; finished = true } }) s t
 end_came old most count left s t b none waits unpast =
     let came = b.came in
-    let empty : came.0 ≡ [] = nothing came.0 (came.2 ∙ none) in
+    let empty : came.0 ≡ [] = nil_from_length came.0 (came.2 ∙ none) in
     let same : left ≡ old.text.left = came.1 ∙ (ap (λ bs. old.text.left ++ bs) empty ∙ append-nil old.text.left) in
     subst (λ l. Fetches (Ok tt) old (record old { text = record old.text { left = l; finished = true } }) s t) (sym same)
     (fetches_end old s t b.told b.others b.later waits unpast (subst (λ bs. Consumed (s.left old.file) (t.left old.file) bs) empty came.4) (came.5 none))
-  where
-    nothing : (xs : List ℕ) → length xs ≡ 0 → xs ≡ []
-    nothing [] is = refl
-    nothing (x ∷ xs) is = absurd (omega arith)
 
 -- the same, where a reader is known by what it is made of
 module _ (old view : FileReading) (same : view ≡ old) (s t : FilesState) (waits : Waits old.text old.text) (unpast : view.past ≡ false) where
@@ -461,7 +458,7 @@ module _ (old view : FileReading) (same : view ≡ old) (s t : FilesState) (wait
       (subst (λ x. Fetches (Ok tt) view (record view { text = x }) s t) (sym is)
       (piece_came view most count text.left s t behind some few waiting unpast))
 
-  module _ (into : List ℕ) (count : ℕ) (reads : ReadsFile view.file into (Ok count) s t) where
+  module _ (into : List ℕ) (count : ℕ) (reads : ReadsPiece view.file into (Ok count) s t) where
     pub looked_end : (text : State) → text ≡ record view.text { finished = true } → count ≡ 0 → Fetches (Ok tt) old (record view { text = text }) s t
     looked_end text ends none =
         subst (λ r. Fetches (Ok tt) r (record view { text = text }) s t) same

@@ -29,7 +29,7 @@ or_again false false = refl
 abbrev at : List ℕ → List ℕ → Bool
 at l k = is_at (bytes_cmp l) k
 
-tied : (k l : ℕ) → (k == l) ≡ true → nat_cmp k l ≡ Equal
+pub tied : (k l : ℕ) → (k == l) ≡ true → nat_cmp k l ≡ Equal
 tied k l e = grind (arith, nat_tests)
 
 not_tied : (k l : ℕ) → (k == l) ≡ false → is_eq (nat_cmp k l) ≡ false

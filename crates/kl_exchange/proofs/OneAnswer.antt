@@ -1,8 +1,10 @@
 -- One item at the front, and one answer for each state.
-use Rattle.std.proofs.Common.{◌≡◌, ◌≢◌, ℕ, ◌+◌, ◌-◌, ◌<◌, ◌≤◌, suc, zero, Bool, true, false, cond, List, [], ◌∷◌, ◌++◌, length, take, drop, refl, sym, ap, subst, ◌∙◌, arith, ◌⊎◌, inl, inr, Option, Some, None, Result, Ok, Err, append_assoc, append-nil, length-append, take_at, take_all, take-append-drop, true≢false, nat_lt}
+use Rattle.std.proofs.Common.{◌≡◌, ◌≢◌, ℕ, ◌+◌, ◌-◌, ◌<◌, ◌≤◌, suc, zero, Bool, true, false, cond, List, [], ◌∷◌, ◌++◌, length, take, drop, refl, sym, ap, subst, ◌∙◌, arith, inl, inr, Option, Some, None, Result, Ok, Err, append-nil, length-append, take_at, take_all, take-append-drop, true≢false}
 use Rattle.std.specs.List.{list_all}
+use Rattle.std.proofs.lemmas.Option.{same_Some}
+use Rattle.std.proofs.lemmas.Bool.{cases_lt}
 use Rattle.kl_value.specs.declared.Value.{Value}
-use Rattle.kl_exchange.specs.Grammar.{is_blank, Blank, IsItem, IsExchange, Begins}
+use Rattle.kl_exchange.specs.Grammar.{is_blank, Blank, IsItem, Begins}
 use Rattle.kl_exchange.specs.Machine.{run, Run, more, ends, fails, deep, start, advanced}
 use Rattle.kl_exchange.specs.Reading.{GivesItem, Waits, EndsText, IsBad, IsDeep, ReadsNext}
 use Rattle.kl_exchange.specs.State.{State}
@@ -12,9 +14,9 @@ use Rattle.kl_exchange.specs.declared.error.ReadError.{ReadError}
 use Rattle.kl_exchange.specs.declared.error.ReadError.TheVariants as error
 use Rattle.kl_exchange.specs.declared.reader.Item.{Item}
 use Rattle.kl_exchange.specs.declared.reader.Item.TheVariants as item
-use Rattle.kl_exchange.proofs.Bytes.{lt_from, le_from}
 use Rattle.kl_exchange.proofs.Runs.{extended, run_append, run_item, run_blank}
-use Rattle.kl_exchange.proofs.Reading.{begins, begins_more, ends_item, one_item, blank_from, Stuck, dead, more_taken, front_taken, fails_begun, deep_begun, bad_there, deep_there}
+use Rattle.kl_exchange.proofs.Reading.{begins, begins_more, ends_item, one_item, blank_from, Stuck, dead, more_taken, front_taken, fails_begun, deep_begun, bad_there, deep_there, all_blank}
+use Rattle.kl_exchange.proofs.FileItems.{begins_front}
 
 -- cutting what follows
 same_front : (a b x : List ℕ) → a ++ x ≡ b ++ x → a ≡ b
@@ -55,16 +57,6 @@ answer old (deep rest) = deep_answer old (length old.left - length rest)
 same_state : (s t : State) → s.place ≡ t.place → s.left ≡ t.left → s.finished ≡ t.finished → s.refused ≡ t.refused → s ≡ t
 same_state s t p l f r = λ i. record { place = p i; left = l i; finished = f i; refused = r i }
 
-order : (a b : ℕ) → (a < b) ⊎ (b ≤ a)
-order a b = ordered (nat_lt a b) refl
-  where
-    ordered : (t : Bool) → nat_lt a b ≡ t → (a < b) ⊎ (b ≤ a)
-    ordered true e = inl (lt_from a b e)
-    ordered false e = inr (le_from a b e)
-
-begins_front : (n : ℕ) (xs ys : List ℕ) → Begins n (xs ++ ys) → Begins n xs
-begins_front n xs ys b = record { more = ys ++ b.more; values = b.values; whole = subst (λ bs. IsExchange n bs b.values) (append_assoc xs ys b.more) b.whole }
-
 less_taken : (front rest : List ℕ) (j : ℕ) → j ≤ length front → (zs : List ℕ) × (front ≡ take j (front ++ rest) ++ zs)
 less_taken front rest zero small = (front, refl)
 less_taken [] rest (suc j) small = absurd (omega arith)
@@ -72,9 +64,6 @@ less_taken (a ∷ front) rest (suc j) small = let c = less_taken front rest j (o
 
 abbrev Same : Result Item ReadError × State → Result Item ReadError × State → Type 0
 Same a b = a ≡ b
-
-some_error : {d : ReadError} (e : ReadError) → Some d ≡ Some e → d ≡ e
-some_error e same = cc
 
 module _ (old : State) where
   abbrev Answered : Result Item ReadError → State → Type 0
@@ -101,10 +90,6 @@ module _ (old : State) where
       ap (λ bs. run 256 bs start) (sym (append-nil (old.left ++ w.more))) ∙ run_item 256 256 (old.left ++ w.more) w.v [] w.begun (omega arith) in
       let c = still_more (run 256 old.left start) w.more w.v w.proper (sym (run_append 256 old.left w.more start) ∙ whole) in
       ap (λ s. (Ok item.NeedMore, s)) w.same ∙ sym (ap (answer old) c.1 ∙ ap (λ b. cond b (cond (list_all is_blank old.left) (Ok item.End, old) (bad_answer old (length old.left))) (Ok item.NeedMore, old)) w.unfinished)
-
-  all_blank : (bs : List ℕ) → Blank bs → list_all is_blank bs ≡ true
-  all_blank [] blank = refl
-  all_blank (b ∷ bs) blank = rw (blank.0, all_blank bs blank.1)
 
   ends_answer : (new : State) → EndsText old new → Answered (Ok item.End) new
   ends_answer new w =
@@ -154,7 +139,7 @@ module _ (old : State) where
           absurd (bad.in_none 256 d.0 (d.1 ∷ []) (λ t. absurd (true≢false (sym t ∙ f))) (one_item 256 (old.left ++ d.0) d.1 d.2))
       at_end true true f g = absurd (bad.in_none 0 [] [] (λ _. refl) (subst Blank (sym (append-nil old.left)) (blank_from old.left g)))
       at_end true false f g =
-          elim (order k (length old.left)) [
+          elim (cases_lt k (length old.left)) [
             | inl less ↦ absurd (bad.longest (length old.left) 256 less (omega arith) (subst (Begins 256) (sym (take_all (length old.left) old.left (omega arith))) (begun_all m e)))
             | inr past_end ↦ (let within = bad.within in let same : k ≡ length old.left = omega arith in ap (bad_answer old) same)
           ]
@@ -162,9 +147,9 @@ module _ (old : State) where
       let c = fails_begun old.left rest e in
       let size = front_within c.0 rest c.4 in
       let is : old.left ≡ c.0 ++ c.1 ∷ c.2 = c.4 ∙ ap (λ bs. c.0 ++ bs) c.5 in
-      elim (order k (length c.0)) [
+      elim (cases_lt k (length c.0)) [
         | inl less ↦ absurd (bad.longest (length c.0) 256 less (omega arith) (subst (Begins 256) (sym (front_taken old.left c.0 rest c.4)) (begun_front c.0 c.3 c.6)))
-        | inr high ↦ elim (order (length c.0) k) [
+        | inr high ↦ elim (cases_lt (length c.0) k) [
           | inl less ↦ absurd (past c.0 c.1 c.2 c.3 k is c.6 (fails_stuck c.1 c.3 c.7) less bad.begins)
           | inr low ↦ (let same : k ≡ length old.left - length rest = omega arith in ap (bad_answer old) same)
         ]
@@ -173,7 +158,7 @@ module _ (old : State) where
       let c = deep_begun old.left rest e in
       let is : old.left ≡ c.0 ++ c.1 ∷ c.2 = c.4 ∙ ap (λ bs. c.0 ++ bs) c.5 in
       let there = deep_there old c.0 c.1 c.2 c.3 is c.6 c.7 c.8 in
-      elim (order (length c.0) k) [
+      elim (cases_lt (length c.0) k) [
         | inl less ↦ absurd (past c.0 c.1 c.2 c.3 k is c.6 (deep_stuck c.1 c.3 c.8) less bad.begins)
         | inr low ↦ (let within = there.within in absurd (bad.longest (length c.0 + 1) there.deeper.0 (omega arith) (omega arith) there.deeper.1))
       ]
@@ -186,7 +171,7 @@ module _ (old : State) where
       let c = fails_begun old.left rest e in
       let is : old.left ≡ c.0 ++ c.1 ∷ c.2 = c.4 ∙ ap (λ bs. c.0 ++ bs) c.5 in
       let there = bad_there old c.0 c.1 c.2 c.3 is c.6 c.7 in
-      elim (order k (length c.0)) [
+      elim (cases_lt k (length c.0)) [
         | inl less ↦ absurd (d.too_deep (before c.0 rest c.3 (k + 1) c.4 c.6 (omega arith)))
         | inr high ↦ (let within = d.within in absurd (there.longest (k + 1) d.deeper.0 (omega arith) (omega arith) d.deeper.1))
       ]
@@ -194,9 +179,9 @@ module _ (old : State) where
       let c = deep_begun old.left rest e in
       let size = front_within c.0 rest c.4 in
       let is : old.left ≡ c.0 ++ c.1 ∷ c.2 = c.4 ∙ ap (λ bs. c.0 ++ bs) c.5 in
-      elim (order k (length c.0)) [
+      elim (cases_lt k (length c.0)) [
         | inl less ↦ absurd (d.too_deep (before c.0 rest c.3 (k + 1) c.4 c.6 (omega arith)))
-        | inr high ↦ elim (order (length c.0) k) [
+        | inr high ↦ elim (cases_lt (length c.0) k) [
           | inl less ↦ absurd (past c.0 c.1 c.2 c.3 k is c.6 (deep_stuck c.1 c.3 c.8) less d.begins)
           | inr low ↦ (let same : k ≡ length old.left - length rest = omega arith in ap (deep_answer old) same)
         ]
@@ -228,9 +213,9 @@ module _ (old : State) where
   kept e (Ok (item.Value v)) new refused reads other = absurd (let fresh = reads.fresh in let clash : None ≡ Some e = sym fresh ∙ refused in cc)
   kept e (Ok item.NeedMore) new refused reads other = absurd (let fresh = reads.fresh in let clash : None ≡ Some e = sym fresh ∙ refused in cc)
   kept e (Ok item.End) new refused reads other = absurd (let fresh = reads.fresh in let clash : None ≡ Some e = sym fresh ∙ refused in cc)
-  kept e (Err (error.Bad place)) new refused (inl c) other = λ i. (Err (some_error e (sym c.0 ∙ refused) i), c.1 i)
+  kept e (Err (error.Bad place)) new refused (inl c) other = λ i. (Err (same_Some _ e (sym c.0 ∙ refused) i), c.1 i)
   kept e (Err (error.Bad place)) new refused (inr c) other = absurd (let clash : None ≡ Some e = sym c.0 ∙ refused in cc)
-  kept e (Err (error.TooDeep place)) new refused (inl c) other = λ i. (Err (some_error e (sym c.0 ∙ refused) i), c.1 i)
+  kept e (Err (error.TooDeep place)) new refused (inl c) other = λ i. (Err (same_Some _ e (sym c.0 ∙ refused) i), c.1 i)
   kept e (Err (error.TooDeep place)) new refused (inr c) other = absurd (let clash : None ≡ Some e = sym c.0 ∙ refused in cc)
   kept e (Err error.NoMemory) new refused reads other = absurd (other refl)
 

@@ -1,18 +1,18 @@
 -- The fields of pairs whose labels differ: the pairs in rising order.
-use Rattle.std.proofs.Common.{◌≡◌, ◌⊎◌, inl, inr, ◌+◌, ◌<◌, zero, suc, length, length-append, ℕ, Bool, true, false, cond, List, [], ◌∷◌, ◌++◌, Some, refl, sym, ap, subst, ◌∙◌, Ordering, Less, Equal, Greater, is_gt, IsPermutation, true≢false, nat_eq, ◌||◌, ◌&&◌, ◌==◌, arith}
-use Rattle.std.specs.Ordering.{ordering_then, nat_cmp}
+use Rattle.std.proofs.Common.{◌≡◌, ◌⊎◌, inl, inr, ◌+◌, ◌<◌, zero, suc, length, length-append, ℕ, Bool, true, false, cond, List, [], ◌∷◌, ◌++◌, Some, refl, sym, ap, subst, ◌∙◌, Ordering, Less, Equal, Greater, is_gt, IsPermutation, nat_eq, ◌&&◌, ◌==◌, arith}
+use Rattle.std.specs.Ordering.{ordering_then}
 use Rattle.std.specs.Cmp.{IsTotalOrder}
 use Rattle.std.specs.FinMap.{IsAntisymmetric}
 use Rattle.std.specs.List.{AllByRecursion, IsDistinct, list_all}
 use Rattle.std.specs.Char.{is_ascii_alphabetic}
 use Rattle.kl_base.specs.Word.{is_word, is_word_byte}
-use Rattle.kl_exchange.proofs.Bytes.{both_true}
 use Rattle.std.specs.List.Sorted.{IsStrictlySortedBy}
 use Rattle.std.specs.Cmp.Lexicographic.{pointwise}
-use Rattle.std.proofs.lemmas.Bool.Decides.{nat_tests}
 use Rattle.std.proofs.lemmas.Cmp.{then_total, on_total, nat_list_cmp_total, nat_list_eq_equiv}
 use Rattle.std.proofs.lemmas.List.Sorted.{IsPermutation-refl, IsPermutation-sym, IsPermutation-cons, IsPermutation-trans, IsPermutation-middle, IsPermutation-map, sum_by-IsPermutation}
 use Rattle.std.proofs.lemmas.Map.Keys.{IsDistinct-IsPermutation}
+use Rattle.std.proofs.lemmas.Bool.{and_parts, or_parts}
+use Rattle.std.proofs.Math.Bool.{and-false}
 use Rattle.kl_base.specs.Fields.{bytes_cmp, labels_of, rises, LabelsRise, LabelsDiffer, IsFieldsOf}
 use Rattle.kl_base.specs.Sorted.{IsRising, put_in, sorted}
 use Rattle.kl_base.proofs.SortedLemmas.{IsRising-sorted, count-sorted, same_from_counts}
@@ -22,6 +22,7 @@ use Rattle.kl_value.specs.declared.Value.{Value}
 use Rattle.kl_value.proofs.OrderLemmas.{both_Equal, same_bytes, compare_total, compare_exact}
 use Rattle.kl_exchange.specs.Fields.{pair_cmp, fields_of}
 use Rattle.kl_exchange.specs.Gathered.{has_label}
+use Rattle.kl_exchange.proofs.LabelSets.{tied}
 
 abbrev pub Pair : Type 0
 Pair = List ℕ × Value
@@ -87,8 +88,6 @@ fields_of_is pairs differ = (
 )
 
 -- Labels that differ.
-tied : (k l : ℕ) → (k == l) ≡ true → nat_cmp k l ≡ Equal
-tied k l e = grind (arith, nat_tests)
 
 less_differs : (k l : List ℕ) → bytes_cmp k l ≡ Less → pointwise nat_eq k l ≡ false
 less_differs [] [] less = cc
@@ -109,12 +108,9 @@ unfolding IsStrictlySortedBy IsDistinct
 distinct_from_strict [] up = tt
 distinct_from_strict (l ∷ ls) up = (all_differ l ls up.0, distinct_from_strict ls up.1)
 
-flips : (x y : List ℕ) → pointwise nat_eq x y ≡ pointwise nat_eq y x
-flips x y = nat_list_eq_equiv.symm x y
-
 pub differ_from_fields : (pairs fs : List Pair) → IsFieldsOf pairs (Some fs) → LabelsDiffer pairs
 differ_from_fields pairs fs is =
-    IsDistinct-IsPermutation (pointwise nat_eq) flips (labels_of fs) (labels_of pairs)
+    IsDistinct-IsPermutation (pointwise nat_eq) (λ x y. nat_list_eq_equiv.symm x y) (labels_of fs) (labels_of pairs)
     (IsPermutation-map (λ (f : Pair). f.0) fs pairs (IsPermutation-sym pairs fs is.0)) (distinct_from_strict (labels_of fs) is.1)
 
 -- a label behind others that it differs from
@@ -125,22 +121,18 @@ last_differs k l v (f ∷ fs) gs all = last_differs k l v fs gs all.1
 pub fresh_label : (fs : List Pair) (l : List ℕ) (v : Value) (gs : List Pair) → LabelsDiffer (fs ++ (l, v) ∷ gs) → has_label fs l ≡ false
 unfolding IsDistinct
 fresh_label [] l v gs differ = refl
-fresh_label (f ∷ fs) l v gs differ = rw (flips l f.0 ∙ last_differs f.0 l v fs gs differ.0, fresh_label fs l v gs differ.1)
+fresh_label (f ∷ fs) l v gs differ = rw (nat_list_eq_equiv.symm l f.0 ∙ last_differs f.0 l v fs gs differ.0, fresh_label fs l v gs differ.1)
 
 all_push : (P : List ℕ → Type 0) (fs : List Pair) (l : List ℕ) (v : Value) → AllByRecursion P (labels_of fs) → P l → AllByRecursion P (labels_of (fs ++ (l, v) ∷ []))
 all_push P [] l v all p = (p, tt)
 all_push P (f ∷ fs) l v all p = (all.0, all_push P fs l v all.1 p)
 
-neither : (a b : Bool) → (a || b) ≡ false → (a ≡ false) × (b ≡ false)
-neither true b h = absurd (true≢false h)
-neither false b h = (refl, h)
-
 pub differ_push : (fs : List Pair) (l : List ℕ) (v : Value) → LabelsDiffer fs → has_label fs l ≡ false → LabelsDiffer (fs ++ (l, v) ∷ [])
 unfolding IsDistinct
 differ_push [] l v differ fresh = (tt, tt)
 differ_push (f ∷ fs) l v differ fresh =
-    let both = neither (pointwise nat_eq l f.0) (has_label fs l) fresh in
-    (all_push (λ m. pointwise nat_eq f.0 m ≡ false) fs l v differ.0 (flips f.0 l ∙ both.0), differ_push fs l v differ.1 both.1)
+    let both = or_parts (pointwise nat_eq l f.0) (has_label fs l) fresh in
+    (all_push (λ m. pointwise nat_eq f.0 m ≡ false) fs l v differ.0 (nat_list_eq_equiv.symm f.0 l ∙ both.0), differ_push fs l v differ.1 both.1)
 
 -- A label that no field has: a long one.
 pub letters : ℕ → List ℕ
@@ -163,13 +155,13 @@ letters_word n = letters_bytes n
 
 all_append : (ks ls : List ℕ) → list_all is_word_byte ks ≡ true → list_all is_word_byte ls ≡ true → list_all is_word_byte (ks ++ ls) ≡ true
 all_append [] ls all others = others
-all_append (k ∷ ks) ls all others = let both = both_true (is_word_byte k) (list_all is_word_byte ks) all in rw (both.0, all_append ks ls both.1 others)
+all_append (k ∷ ks) ls all others = let both = and_parts (is_word_byte k) (list_all is_word_byte ks) all in rw (both.0, all_append ks ls both.1 others)
 
 pub word_goes_on : (name tail : List ℕ) → (name ≡ []) ⊎ (is_word name ≡ true) → is_word tail ≡ true → list_all is_word_byte tail ≡ true → is_word (name ++ tail) ≡ true
 word_goes_on name tail (inl none) word all = rw none word
 word_goes_on [] tail (inr is) word all = word
 word_goes_on (b ∷ name) tail (inr is) word all =
-    let both = both_true (is_ascii_alphabetic b) (list_all is_word_byte name) is in rw (both.0, all_append name tail both.1 all)
+    let both = and_parts (is_ascii_alphabetic b) (list_all is_word_byte name) is in rw (both.0, all_append name tail both.1 all)
 
 -- the bytes of all labels
 pub room : List Pair → ℕ
@@ -179,11 +171,7 @@ room (f ∷ fs) = length f.0 + room fs
 shorter_differs : (k l : List ℕ) → length l < length k → pointwise nat_eq k l ≡ false
 shorter_differs [] l short = absurd (omega arith)
 shorter_differs (k ∷ ks) [] short = refl
-shorter_differs (k ∷ ks) (l ∷ ls) short = rw (shorter_differs ks ls (omega arith)) (and_false (k == l))
-  where
-    and_false : (b : Bool) → (b && false) ≡ false
-    and_false true = refl
-    and_false false = refl
+shorter_differs (k ∷ ks) (l ∷ ls) short = rw (shorter_differs ks ls (omega arith)) (and-false (k == l))
 
 pub longer_fresh : (fs : List Pair) (name tail : List ℕ) → room fs < length tail → has_label fs (name ++ tail) ≡ false
 unfolding room

@@ -4,16 +4,13 @@ use Rattle.std.specs.Prelude.{OnOk, OnErr}
 use Rattle.std.specs.Io.KnownBytes.{append_known}
 use Rattle.kl_outside.specs.Sinks.{SinkState, HasCause, WritesWhole}
 use Rattle.kl_outside.specs.declared.Stop.{Stop}
-use Rattle.kl_value.specs.Written.{with_commas}
-use Rattle.kl_exchange.specs.Printing.{Puts, Prints, Adds, as_stop, error_of, outcome, separator}
+use Rattle.kl_value.specs.Written.{with_commas, separator}
+use Rattle.kl_exchange.specs.Printing.{Puts, Prints, Adds, as_stop, error_of, outcome}
 use Rattle.kl_exchange.specs.declared.error.PrintError.{PrintError}
 use Rattle.kl_exchange.specs.declared.error.PrintError.TheVariants as error
 use Rattle.kl_outside.specs.declared.Stop.TheVariants as stop
 use Rattle.kl_exchange.proofs.TextLemmas.{commas_more}
-
-append_known_twice : (known : Option (List ℕ)) (xs ys : List ℕ) → append_known (append_known known xs) ys ≡ append_known known (xs ++ ys)
-append_known_twice None xs ys = refl
-append_known_twice (Some ks) xs ys = ap Some (append_assoc ks xs ys)
+use Rattle.kl_outside.proofs.SinkLemmas.{append_known-append}
 
 module _ {T U : Type 0} where
   -- a cause behind a call that was not refused
@@ -31,7 +28,7 @@ module _ {T U : Type 0} where
     done = p.done ++ q.done;
     rest = q.rest;
     all = sym (append_assoc h us bs) ∙ (ap (λ xs. xs ++ bs) p.all ∙ (append_assoc p.done p.rest bs ∙ (ap (λ xs. p.done ++ (xs ++ bs)) p.holds ∙ (ap (λ xs. p.done ++ xs) q.all ∙ sym (append_assoc p.done q.done q.rest)))));
-    took = q.took ∙ (ap (λ known. append_known known q.done) p.took ∙ append_known_twice s.taken p.done q.done);
+    took = q.took ∙ (ap (λ known. append_known known q.done) p.took ∙ append_known-append s.taken p.done q.done);
     holds = q.holds;
     cause = cause_then u r s t v p.cause q.cause;
   }
@@ -82,7 +79,7 @@ wrote_both held piece u (Ok w) s t v p q = record {
   done = held ++ piece;
   rest = [];
   all = sym (append-nil (held ++ piece));
-  took = q.took ∙ (ap (λ known. append_known known piece) p.took ∙ append_known_twice s.taken held piece);
+  took = q.took ∙ (ap (λ known. append_known known piece) p.took ∙ append_known-append s.taken held piece);
   holds = refl;
   cause = cause_then u (Ok w) s t v p.cause q.cause;
 }
@@ -90,7 +87,7 @@ wrote_both held piece u (Err e) s t v p q = record {
   done = held ++ q.part.done;
   rest = q.part.rest;
   all = ap (λ xs. held ++ xs) q.part.all ∙ sym (append_assoc held q.part.done q.part.rest);
-  took = q.part.took ∙ (ap (λ known. append_known known q.part.done) p.took ∙ append_known_twice s.taken held q.part.done);
+  took = q.part.took ∙ (ap (λ known. append_known known q.part.done) p.took ∙ append_known-append s.taken held q.part.done);
   holds = tt;
   cause = cause_then u (Err e) s t v p.cause q.cause;
 }
@@ -148,7 +145,7 @@ last_write bytes held after slice stopped r s t v none fine same p q =
         done = puts.done ++ q.part.done;
         rest = q.part.rest;
         all = all ∙ (ap (λ xs. puts.done ++ xs) q.part.all ∙ sym (append_assoc puts.done q.part.done q.part.rest));
-        took = q.part.took ∙ (ap (λ known. append_known known q.part.done) puts.took ∙ append_known_twice s.taken puts.done q.part.done);
+        took = q.part.took ∙ (ap (λ known. append_known known q.part.done) puts.took ∙ append_known-append s.taken puts.done q.part.done);
       };
       cause = cause_then tt r s t v puts.cause q.cause;
     }
@@ -156,7 +153,7 @@ last_write bytes held after slice stopped r s t v none fine same p q =
     took : (front : List ℕ) → bytes ≡ front ++ slice → t.taken ≡ append_known s.taken front → (o : Result (Unit {0}) Stop) → OnOk o (v.taken ≡ append_known t.taken slice)
         → OnOk o (v.taken ≡ append_known s.taken bytes)
     took front all before (Ok x) e =
-        e ∙ (ap (λ known. append_known known slice) before ∙ (append_known_twice s.taken front slice ∙ ap (append_known s.taken) (sym all)))
+        e ∙ (ap (λ known. append_known known slice) before ∙ (append_known-append s.taken front slice ∙ ap (append_known s.taken) (sym all)))
     took front all before (Err x) e = tt
 
 -- Nothing is held at first, and in the end all that is held is written.

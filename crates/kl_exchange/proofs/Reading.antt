@@ -8,7 +8,6 @@ use Rattle.kl_exchange.specs.Reading.{NoItem, GivesItem, Waits, IsBad, IsDeep, R
 use Rattle.kl_exchange.specs.State.{State}
 use Rattle.kl_exchange.specs.declared.error.ReadError.{ReadError}
 use Rattle.kl_exchange.specs.declared.error.ReadError.TheVariants as error
-use Rattle.kl_exchange.proofs.Bytes.{both_true}
 use Rattle.std.specs.List.{list_all}
 use Rattle.kl_exchange.specs.Scan.{Keeps, IsBegun}
 use Rattle.kl_exchange.specs.declared.machine.Machine.{Machine}
@@ -17,8 +16,13 @@ use Rattle.kl_exchange.specs.declared.machine.Stop.{Stop}
 use Rattle.kl_exchange.specs.declared.machine.Stop.TheVariants as stop
 use Rattle.kl_exchange.proofs.Completes.{Completes, Right, right, Lifts, lifts, can_complete, start_item, RunLifts, run_lifts}
 use Rattle.std.proofs.Math.Nat.{suc-add}
+use Rattle.std.proofs.lemmas.Bool.{and_parts}
 use Rattle.kl_exchange.proofs.Canonical.{item_canonical}
 use Rattle.kl_exchange.proofs.Runs.{extended, run_append, run_item, run_blank}
+
+pub all_blank : (bs : List ℕ) → Blank bs → list_all is_blank bs ≡ true
+all_blank [] blank = refl
+all_blank (b ∷ bs) blank = rw (blank.0, all_blank bs blank.1)
 
 abbrev pub CompletesAt : ℕ → Machine → List ℕ → Value → Type 0
 CompletesAt L m u w = Completes L m.stack m.phase u w
@@ -205,14 +209,10 @@ module _ (left : List ℕ) (m : Machine) (met : run 256 left start ≡ more m) w
         no_item = no_item_yet;
       })
     where
-      not_blank : (bs : List ℕ) → Blank bs → list_all is_blank bs ≡ true
-      not_blank [] blank = refl
-      not_blank (b ∷ bs) blank = rw (blank.0, not_blank bs blank.1)
-
       none : (n : ℕ) (u : List ℕ) (vs : List Value) → (IsTrue old.finished → u ≡ []) → IsExchange n (left ++ u) vs → ⊥
       none n u [] alone whole =
           let blank : Blank left = subst Blank (ap (λ bs. left ++ bs) (alone finished) ∙ append-nil left) whole in
-          true≢false (sym (not_blank left blank) ∙ text)
+          true≢false (sym (all_blank left blank) ∙ text)
       none n u (v ∷ vs) alone whole =
           no_item_yet n whole.0 whole.1 v (sym (ap (λ bs. left ++ bs) (alone finished) ∙ append-nil left) ∙ whole.2) whole.3
 
@@ -334,7 +334,7 @@ rest_is xs buffer i same = take_all (length xs - i) (drop i xs) (omega (arith, l
 
 pub blank_from : (bs : List ℕ) → list_all is_blank bs ≡ true → Blank bs
 blank_from [] all = tt
-blank_from (b ∷ bs) all = let both = both_true (is_blank b) (list_all is_blank bs) all in (both.0, blank_from bs both.1)
+blank_from (b ∷ bs) all = let both = and_parts (is_blank b) (list_all is_blank bs) all in (both.0, blank_from bs both.1)
 
 -- what a scan that fails leads from
 pub fails_begun : (bytes rest : List ℕ) → run 256 bytes start ≡ fails rest

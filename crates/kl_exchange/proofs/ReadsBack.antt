@@ -17,7 +17,8 @@ use Rattle.kl_value.proofs.ShapeLemmas.{depth-out}
 use Rattle.kl_value.specs.declared.Kind.TheVariants as kind
 use Rattle.kl_value.specs.declared.Value.{Value, Value-F, out-Value, roll-Value, roll-out-Value, every_here-Value}
 use Rattle.kl_value.specs.declared.Value.TheVariants as value
-use Rattle.kl_exchange.specs.Grammar.{Padded, More, Listed, SpellsInt, SpellsByte, SpellsBytes, SpellsPlain, SpellsLabel, SpellsField, SpellsBracket, Spells, IsItem, escape_of}
+use Rattle.kl_value.specs.Quoted.{Part, Parts, escape_of}
+use Rattle.kl_exchange.specs.Grammar.{Padded, More, Listed, SpellsInt, SpellsPlain, SpellsLabel, SpellsField, SpellsBracket, Spells, IsItem}
 use Rattle.kl_exchange.proofs.Bytes.{equal, unequal}
 use Rattle.kl_exchange.specs.Printing.{field_text}
 use Rattle.kl_exchange.specs.Stored.{IsStored, IsStoredLayer}
@@ -40,34 +41,34 @@ number_back (negsuc n) fits =
 hex_is : (n : ℕ) → n < 16 → (is_ascii_hexdigit (hex_digit n) ≡ true) × (digit_value (hex_digit n) ≡ n)
 hex_is n small = (grind (arith, nat_tests), grind (arith, nat_tests))
 
-hex_back : (b : ℕ) → b < 128 → SpellsByte (92 ∷ 120 ∷ hex_digit (b / 16) ∷ hex_digit (b % 16) ∷ []) b
+hex_back : (b : ℕ) → b < 128 → Part b (92 ∷ 120 ∷ hex_digit (b / 16) ∷ hex_digit (b % 16) ∷ [])
 hex_back b small =
     let high = hex_is (b / 16) (omega arith) in
     let low = hex_is (b % 16) (omega arith) in
-    SpellsByte.hexadecimal (hex_digit (b / 16)) (hex_digit (b % 16)) refl high.0 low.0
-    (rw (high.1, low.1) (let parts_of : b / 16 * 16 + b % 16 ≡ b = omega arith in sym parts_of))
+    let same : digit_value (hex_digit (b / 16)) * 16 + digit_value (hex_digit (b % 16)) ≡ b = rw (high.1, low.1) (omega arith) in
+    subst (λ n. Part n (92 ∷ 120 ∷ hex_digit (b / 16) ∷ hex_digit (b % 16) ∷ [])) same (Part.hex high.0 low.0)
 
-split : (b : ℕ) (c : Bool) (x y : List ℕ) → (c ≡ true → SpellsByte x b) → (c ≡ false → SpellsByte y b) → SpellsByte (cond c x y) b
+split : (b : ℕ) (c : Bool) (x y : List ℕ) → (c ≡ true → Part b x) → (c ≡ false → Part b y) → Part b (cond c x y)
 split b true x y p q = p refl
 split b false x y p q = q refl
 
 below_128 : (b : ℕ) → ((nat_le 32 b && nat_lt b 127) || nat_le 128 b) ≡ false → b < 128
 below_128 b h = grind (arith, nat_tests)
 
-escaped : (b c e : ℕ) → (b == c) ≡ true → escape_of e ≡ Some c → SpellsByte (92 ∷ e ∷ []) b
-escaped b c e is of = SpellsByte.escaped e refl (of ∙ ap Some (sym (equal b c is)))
+escaped : (b c e : ℕ) → (b == c) ≡ true → escape_of e ≡ Some c → Part b (92 ∷ e ∷ [])
+escaped b c e is of = Part.escaped (of ∙ ap Some (sym (equal b c is)))
 
-byte_back : (b : ℕ) → SpellsByte (byte_text b) b
+byte_back : (b : ℕ) → Part b (byte_text b)
 byte_back b =
     split b (b == 34) _ _ (λ e. escaped b 34 34 e refl)
     (λ quote. split b (b == 92) _ _ (λ e. escaped b 92 92 e refl)
     (λ slash. split b (b == 10) _ _ (λ e. escaped b 10 110 e refl)
     (λ _. split b (b == 13) _ _ (λ e. escaped b 13 114 e refl)
     (λ _. split b (b == 9) _ _ (λ e. escaped b 9 116 e refl)
-    (λ _. split b ((nat_le 32 b && nat_lt b 127) || nat_le 128 b) _ _ (λ _. SpellsByte.itself refl (unequal b 34 quote) (unequal b 92 slash))
+    (λ _. split b ((nat_le 32 b && nat_lt b 127) || nat_le 128 b) _ _ (λ _. Part.plain (unequal b 34 quote) (unequal b 92 slash))
     (λ e. hex_back b (below_128 b e)))))))
 
-bytes_back : (t : List ℕ) → SpellsBytes (flat_map byte_text t) t
+bytes_back : (t : List ℕ) → Parts t (flat_map byte_text t)
 bytes_back [] = refl
 bytes_back (b ∷ bs) = (byte_text b, flat_map byte_text bs, refl, byte_back b, bytes_back bs)
 

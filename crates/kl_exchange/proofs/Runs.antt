@@ -5,6 +5,7 @@ use Rattle.std.specs.Int.{w64}
 use Rattle.std.specs.Prelude.{FitsSigned}
 use Rattle.std.specs.List.{list_all}
 use Rattle.std.specs.Str.Parse.{AllDigits, digits_value_after, digits_value}
+use Rattle.std.proofs.lemmas.Bool.{and_parts}
 use Rattle.kl_base.specs.Word.{is_word, is_word_byte}
 use Rattle.kl_value.specs.declared.Value.{Value}
 use Rattle.kl_value.specs.declared.Value.TheVariants as value
@@ -12,10 +13,12 @@ use Rattle.kl_value.specs.declared.Kind.{Kind}
 use Rattle.kl_value.specs.declared.Kind.TheVariants as kind
 use Rattle.kl_value.specs.Canon.{canonical}
 use Rattle.kl_base.specs.Fields.{LabelsDiffer}
+use Rattle.kl_value.specs.Quoted.{Part, Parts}
 use Rattle.kl_exchange.proofs.Pairs.{Pair, fields_are, differ_from_fields, fresh_label}
 use Rattle.kl_exchange.specs.Fields.{fields_of}
-use Rattle.kl_exchange.proofs.Bytes.{digit_is, digit_not_blank, blank_not_digit, blank_not_word, blank_not_bar, letter_not_blank, letter_not_bar, letter_not_close, not_equal, at_most, below, after_ge, fits_magnitude, both_true, escape_not_x, IsFirst, first_digit_is}
-use Rattle.kl_exchange.specs.Grammar.{is_blank, Blank, Padded, More, Listed, word_of, sign_of, signed, SpellsInt, SpellsByte, SpellsBytes, SpellsPlain, opening, closing, SpellsLabel, SpellsField, SpellsBracket, Spells, IsItem}
+use Rattle.kl_exchange.proofs.Bytes.{digit_is, digit_not_blank, blank_not_digit, blank_not_word, blank_not_bar, letter_not_blank, letter_not_bar, letter_not_close, not_equal, at_most, below, after_ge, fits_magnitude, escape_not_x, IsFirst, first_digit_is}
+use Rattle.kl_value.specs.Written.{opening, closing}
+use Rattle.kl_exchange.specs.Grammar.{is_blank, Blank, Padded, More, Listed, word_of, sign_of, signed, SpellsInt, SpellsPlain, SpellsLabel, SpellsField, SpellsBracket, Spells, IsItem}
 use Rattle.kl_exchange.specs.Machine.{Brackets, goes, run, Run, more, ends, fails, deep, followed, advanced, value_due, opens, opened, closes, ends_closing, behind_brace, behind_bracket, label_due, record_opened, named, in_name, in_word, behind_minus, after_item, after_field, after_value, in_digits, in_text, behind_escape, hex_due, low_hex_due, greatest_magnitude, has_named, frame_of}
 use Rattle.kl_exchange.specs.declared.machine.Machine.{Machine}
 use Rattle.kl_exchange.specs.declared.machine.Frame.TheVariants as frame
@@ -174,14 +177,14 @@ module _ (L : ℕ) where
       (fits_magnitude spells.negative (digits_value 10 spells.digits) (subst (FitsSigned w64) spells.value spells.fits)) stops)
 
   -- texts
-  text_byte : (st : Brackets) (t part : List ℕ) (c : ℕ) (rest : List ℕ) → SpellsByte part c
+  text_byte : (st : Brackets) (t part : List ℕ) (c : ℕ) (rest : List ℕ) → Part c part
       → run L (part ++ rest) (at st (phase.Text t)) ≡ run L rest (at st (phase.Text (t ++ c ∷ [])))
   unfolding in_text behind_escape hex_due low_hex_due
-  text_byte st t part c rest (SpellsByte.itself is quote slash) = rw (is, not_equal c 34 quote, not_equal c 92 slash)
-  text_byte st t part c rest (SpellsByte.escaped b is e) = rw (is, escape_not_x b c e, e)
-  text_byte st t part c rest (SpellsByte.hexadecimal high low is h l e) = rw (is, h, l, e)
+  text_byte st t part c rest (Part.plain quote slash) = rw (not_equal c 34 quote, not_equal c 92 slash)
+  text_byte st t part c rest (Part.escaped {c = b} e) = rw (escape_not_x b c e, e)
+  text_byte st t part c rest (Part.hex h l) = rw (h, l)
 
-  run_text : (st : Brackets) (t inside u : List ℕ) (rest : List ℕ) → SpellsBytes inside u
+  run_text : (st : Brackets) (t inside u : List ℕ) (rest : List ℕ) → Parts u inside
       → run L (inside ++ 34 ∷ rest) (at st (phase.Text t)) ≡ run L rest (at st (phase.After (value.Text (t ++ u))))
   unfolding in_text
   run_text st t inside [] rest spells = rw (spells, append-nil t)
@@ -237,7 +240,7 @@ module _ (L : ℕ) where
   unfolding in_name
   run_letters st h name [] rest all = rw append-nil
   run_letters st h name (b ∷ ls) rest all =
-      let both = both_true (is_word_byte b) (list_all is_word_byte ls) all in
+      let both = and_parts (is_word_byte b) (list_all is_word_byte ls) all in
       go st (phase.Name h name) b (ls ++ rest) st (phase.Name h (name ++ b ∷ [])) (rw both.0)
       ∙ (run_letters st h (name ++ b ∷ []) ls rest both.1
       ∙ ap (λ l. run L rest (at st (phase.Name h l))) (append_assoc name (b ∷ []) ls))
@@ -271,7 +274,7 @@ module _ (L : ℕ) where
       → run L (l ++ (bs ++ 61 ∷ rest)) (at st (phase.Label h)) ≡ run L rest (at (frame_of h l ∷ st) phase.Value)
   run_label st h [] bs rest word fresh blank = cc
   run_label st h (b ∷ l) bs rest word fresh blank =
-      let both = both_true (is_ascii_alphabetic b) (list_all is_word_byte l) word in
+      let both = and_parts (is_ascii_alphabetic b) (list_all is_word_byte l) word in
       go st (phase.Label h) b (l ++ (bs ++ 61 ∷ rest)) st (phase.Name h (b ∷ [])) (label_first st h b both.0)
       ∙ (run_letters st h (b ∷ []) l (bs ++ 61 ∷ rest) both.1
       ∙ (name_ends st h (b ∷ l) (bs ++ 61 ∷ rest) word fresh (ends_name bs rest blank)
@@ -295,7 +298,7 @@ module _ (L : ℕ) where
   record_word st [] rest word = cc
   record_word st (b ∷ l) rest word =
       same_step st st phase.RecordOpened (phase.Label (holder.Record [])) b (l ++ rest)
-      (record_letter st b (both_true (is_ascii_alphabetic b) (list_all is_word_byte l) word).0)
+      (record_letter st b (and_parts (is_ascii_alphabetic b) (list_all is_word_byte l) word).0)
 
   -- the same, at the beginning of a record
   record_name : (st : Brackets) (name l rest : List ℕ) → Padded SpellsLabel name l
@@ -418,7 +421,7 @@ module _ (L : ℕ) where
 
     no_bar_word : (l rest : List ℕ) → is_word l ≡ true → NoBar (l ++ rest)
     no_bar_word [] rest word = cc
-    no_bar_word (b ∷ l) rest word = record { first = b; others = l ++ rest; is = refl; no_bar = letter_not_bar b (both_true (is_ascii_alphabetic b) (list_all is_word_byte l) word).0 }
+    no_bar_word (b ∷ l) rest word = record { first = b; others = l ++ rest; is = refl; no_bar = letter_not_bar b (and_parts (is_ascii_alphabetic b) (list_all is_word_byte l) word).0 }
 
     no_bar_items : (inside : List ℕ) (items : List Value) (rest : List ℕ) → Listed (Padded S) inside items → NoBar (inside ++ 125 ∷ rest)
     no_bar_items inside [] rest spells = no_bar_blanks inside (125 ∷ rest) spells (record { first = 125; others = rest; is = refl; no_bar = refl })

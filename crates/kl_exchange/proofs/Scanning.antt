@@ -1,13 +1,13 @@
 -- One byte of a scan.
-use Rattle.std.proofs.Common.{◌≡◌, ℕ, ◌+◌, ◌-◌, ◌<◌, ◌==◌, Bool, true, false, not, List, [], ◌∷◌, ◌++◌, length, take, drop, get_or, refl, sym, ap, subst, ◌∙◌, Result, Ok, Err, drop-cons, add-one, append_assoc, append-nil, take-append-drop, drop-drop, true≢false}
+use Rattle.std.proofs.Common.{◌≡◌, ℕ, ◌+◌, ◌-◌, ◌<◌, ◌==◌, true, not, List, [], ◌∷◌, ◌++◌, length, take, drop, get_or, refl, sym, ap, subst, ◌∙◌, Result, Ok, Err, drop-cons, add-one, append_assoc, append-nil, take-append-drop, drop-drop, true≢false}
 use Rattle.std.specs.List.{list_all}
+use Rattle.std.proofs.lemmas.Bool.{and_parts, not-true}
 use Rattle.kl_base.specs.Word.{is_word_byte}
 use Rattle.kl_exchange.specs.Grammar.{is_blank}
 use Rattle.kl_exchange.specs.Machine.{Brackets, IsSound, advanced, run, more, ends, fails, deep, followed, goes, value_due, opened, record_opened, label_due, named, after_value, in_name, in_text, is_plain, stays_on_blank}
 use Rattle.kl_exchange.specs.declared.machine.Holder.{Holder}
 use Rattle.kl_exchange.specs.declared.machine.Phase.{Phase}
 use Rattle.kl_exchange.specs.declared.machine.Phase.TheVariants as phase
-use Rattle.kl_exchange.proofs.Bytes.{both_true}
 use Rattle.kl_exchange.proofs.Reading.{Reaches, reaches, rest_is}
 use Rattle.kl_value.specs.declared.Value.{Value}
 use Rattle.kl_exchange.proofs.Runs.{at, go, run_append, extended}
@@ -71,31 +71,27 @@ stays st (phase.Closing k items) b e blank = absurd (true≢false (sym e))
 pub blanks_stay : (st : Brackets) (p : Phase) (bs : List ℕ) → stays_on_blank p ≡ true → list_all is_blank bs ≡ true → run 256 bs (at st p) ≡ more (at st p)
 blanks_stay st p [] e all = refl
 blanks_stay st p (b ∷ bs) e all =
-    let both = both_true (is_blank b) (list_all is_blank bs) all in
+    let both = and_parts (is_blank b) (list_all is_blank bs) all in
     go 256 st p b bs st p (stays st p b e both.0) ∙ blanks_stay st p bs e both.1
 
 pub name_goes_on : (st : Brackets) (h : Holder) (name bs : List ℕ) → list_all is_word_byte bs ≡ true → run 256 bs (at st (phase.Name h name)) ≡ more (at st (phase.Name h (name ++ bs)))
 unfolding in_name
 name_goes_on st h name [] all = ap (λ ns. more (at st (phase.Name h ns))) (sym (append-nil name))
 name_goes_on st h name (b ∷ bs) all =
-    let both = both_true (is_word_byte b) (list_all is_word_byte bs) all in
+    let both = and_parts (is_word_byte b) (list_all is_word_byte bs) all in
     go 256 st (phase.Name h name) b bs st (phase.Name h (name ++ b ∷ [])) (rw both.0)
     ∙ (name_goes_on st h (name ++ b ∷ []) bs both.1 ∙ ap (λ ns. more (at st (phase.Name h ns))) (append_assoc name (b ∷ []) bs))
 
 plain_step : (st : Brackets) (t : List ℕ) (b : ℕ) → is_plain b ≡ true → in_text st t b ≡ goes st (phase.Text (t ++ b ∷ []))
 unfolding in_text
 plain_step st t b plain =
-    let both = both_true (not (b == 34)) (not (b == 92)) plain in
-    rw (not_true (b == 34) both.0, not_true (b == 92) both.1)
-  where
-    not_true : (c : Bool) → not c ≡ true → c ≡ false
-    not_true true e = sym e
-    not_true false e = refl
+    let both = and_parts (not (b == 34)) (not (b == 92)) plain in
+    rw (not-true (b == 34) both.0, not-true (b == 92) both.1)
 
 pub text_goes_on : (st : Brackets) (t bs : List ℕ) → list_all is_plain bs ≡ true → run 256 bs (at st (phase.Text t)) ≡ more (at st (phase.Text (t ++ bs)))
 text_goes_on st t [] all = ap (λ ns. more (at st (phase.Text ns))) (sym (append-nil t))
 text_goes_on st t (b ∷ bs) all =
-    let both = both_true (is_plain b) (list_all is_plain bs) all in
+    let both = and_parts (is_plain b) (list_all is_plain bs) all in
     go 256 st (phase.Text t) b bs st (phase.Text (t ++ b ∷ [])) (plain_step st t b both.0)
     ∙ (text_goes_on st (t ++ b ∷ []) bs both.1 ∙ ap (λ ns. more (at st (phase.Text ns))) (append_assoc t (b ∷ []) bs))
 

@@ -4,14 +4,14 @@ use Rattle.std.specs.Fmt.{signed_decimal}
 use Rattle.std.specs.List.{flat_map, list_all}
 use Rattle.std.proofs.lemmas.Grind.{flat_map-append}
 use Rattle.std.proofs.Math.Seq.{take-add}
-use Rattle.kl_exchange.proofs.Bytes.{both_true}
 use Rattle.std.proofs.lemmas.Bool.Decides.{nat_tests}
 use Rattle.std.proofs.Math.Nat.{suc-add}
-use Rattle.kl_value.specs.Written.{byte_text, with_commas, text_layer, text_of}
+use Rattle.std.proofs.lemmas.Bool.{and_parts, not-true}
+use Rattle.kl_value.specs.Written.{byte_text, with_commas, text_layer, text_of, separator}
 use Rattle.kl_value.specs.declared.Value.{Value, Value-F, out-Value, map-Value, fold_out-Value}
 use Rattle.kl_value.specs.declared.Value.TheVariants as value
 use Rattle.kl_exchange.specs.Grammar.{word_of}
-use Rattle.kl_exchange.specs.Printing.{field_text, is_plain, separator}
+use Rattle.kl_exchange.specs.Printing.{field_text, is_plain}
 
 text-out : (v : Value) → text_of v ≡ text_layer (map-Value Value (List ℕ) text_of (out-Value v))
 unfolding text_of
@@ -90,21 +90,17 @@ bytes_more (b ∷ bs) (suc i) within =
 -- a byte that stands as it is
 plain_byte : (b : ℕ) → is_plain b ≡ true → byte_text b ≡ b ∷ []
 plain_byte b plain =
-    let both = both_true ((nat_le 32 b && nat_lt b 127) || nat_le 128 b) (not (b == 34) && not (b == 92)) plain in
-    let marks = both_true (not (b == 34)) (not (b == 92)) both.1 in
-    rw (not_true (b == 34) marks.0, not_true (b == 92) marks.1, controls b both.0 10 (omega arith), controls b both.0 13 (omega arith), controls b both.0 9 (omega arith), both.0)
+    let both = and_parts ((nat_le 32 b && nat_lt b 127) || nat_le 128 b) (not (b == 34) && not (b == 92)) plain in
+    let marks = and_parts (not (b == 34)) (not (b == 92)) both.1 in
+    rw (not-true (b == 34) marks.0, not-true (b == 92) marks.1, controls b both.0 10 (omega arith), controls b both.0 13 (omega arith), controls b both.0 9 (omega arith), both.0)
   where
-    not_true : (c : Bool) → not c ≡ true → c ≡ false
-    not_true true e = sym e
-    not_true false e = refl
-
     controls : (b : ℕ) → ((nat_le 32 b && nat_lt b 127) || nat_le 128 b) ≡ true → (k : ℕ) → k < 32 → (b == k) ≡ false
     controls b e k small = grind (arith, nat_tests, e)
 
 plain_run : (bs : List ℕ) → list_all is_plain bs ≡ true → flat_map byte_text bs ≡ bs
 plain_run [] all = refl
 plain_run (b ∷ bs) all =
-    let both = both_true (is_plain b) (list_all is_plain bs) all in
+    let both = and_parts (is_plain b) (list_all is_plain bs) all in
     ap₂ ◌++◌ (plain_byte b both.0) (plain_run bs both.1)
 
 -- a run more

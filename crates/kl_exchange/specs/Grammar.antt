@@ -1,7 +1,6 @@
 -- Exchange text: which bytes spell which values.
-use Rattle.std.specs.Prelude.{◌≡◌, ◌≢◌, ◌+◌, ◌*◌, cond, ℕ, ℤ, pos, Bool, true, false, ◌||◌, ◌==◌, List, [], ◌∷◌, ◌++◌, codes, ◌⊎◌, IsTrue, Option, Some, None, FitsSigned, neg_ℤ}
+use Rattle.std.specs.Prelude.{◌≡◌, ℕ, ℤ, pos, Bool, true, false, ◌||◌, ◌==◌, List, [], ◌∷◌, ◌++◌, codes, ◌⊎◌, IsTrue, Some, FitsSigned, neg_ℤ}
 use Rattle.std.proofs.Common.{zero, suc}
-use Rattle.std.specs.Char.{is_ascii_hexdigit, digit_value}
 use Rattle.std.specs.Int.{w64}
 use Rattle.std.specs.List.{AllByRecursion}
 use Rattle.std.specs.Str.Parse.{IsNumeral, digits_value}
@@ -9,7 +8,8 @@ use Rattle.kl_base.specs.Fields.{IsFieldsOf}
 use Rattle.kl_base.specs.Word.{is_word}
 use Rattle.kl_value.specs.Canon.{canonical}
 use Rattle.kl_value.specs.declared.Kind.{Kind}
-use Rattle.kl_value.specs.declared.Kind.TheVariants as kind
+use Rattle.kl_value.specs.Quoted.{Parts}
+use Rattle.kl_value.specs.Written.{opening, closing}
 use Rattle.kl_value.specs.declared.Value.{Value}
 use Rattle.kl_value.specs.declared.Value.TheVariants as value
 
@@ -66,43 +66,11 @@ pub record SpellsInt (bytes : List ℕ) (number : ℤ) : Type 0 where
   pub value : number ≡ signed negative (digits_value 10 digits)
   pub fits : FitsSigned w64 number
 
--- behind a backslash: what a byte stands for
-abbrev pub escape_of : ℕ → Option ℕ
-escape_of b =
-    cond (b == 34) (Some 34)
-    (cond (b == 92) (Some 92)
-    (cond (b == 110) (Some 10)
-    (cond (b == 114) (Some 13)
-    (cond (b == 116) (Some 9)
-    None))))
-
--- a part of a text: a byte that stands for itself, a byte behind a backslash, or two hexadecimal digits of either case
-pub data SpellsByte (part : List ℕ) (byte : ℕ) : Type 0 where
-  itself : part ≡ byte ∷ [] → byte ≢ 34 → byte ≢ 92 → SpellsByte part byte
-  escaped : (b : ℕ) → part ≡ 92 ∷ b ∷ [] → escape_of b ≡ Some byte → SpellsByte part byte
-  hexadecimal : (high low : ℕ) → part ≡ 92 ∷ 120 ∷ high ∷ low ∷ [] → IsTrue (is_ascii_hexdigit high) → IsTrue (is_ascii_hexdigit low)
-      → byte ≡ digit_value high * 16 + digit_value low → SpellsByte part byte
-
--- the bytes between the quotes of a text
-abbrev pub SpellsBytes : Spelling (List ℕ)
-SpellsBytes inside [] = inside ≡ []
-SpellsBytes inside (byte ∷ bytes) = (part : List ℕ) × (rest : List ℕ) × (inside ≡ part ++ rest) × SpellsByte part byte × SpellsBytes rest bytes
-
 -- a value without brackets
 pub data SpellsPlain (bytes : List ℕ) (v : Value) : Type 0 where
   truth : (b : Bool) → bytes ≡ word_of b → v ≡ value.Bool b → SpellsPlain bytes v
   number : (n : ℤ) → SpellsInt bytes n → v ≡ value.Int n → SpellsPlain bytes v
-  text : (inside t : List ℕ) → bytes ≡ codes "\"" ++ (inside ++ codes "\"") → SpellsBytes inside t → v ≡ value.Text t → SpellsPlain bytes v
-
-abbrev pub opening : Kind → List ℕ
-opening kind.Set = codes "{"
-opening kind.Bag = codes "{|"
-opening kind.List = codes "[|"
-
-abbrev pub closing : Kind → List ℕ
-closing kind.Set = codes "}"
-closing kind.Bag = codes "|}"
-closing kind.List = codes "|]"
+  text : (inside t : List ℕ) → bytes ≡ codes "\"" ++ (inside ++ codes "\"") → Parts t inside → v ≡ value.Text t → SpellsPlain bytes v
 
 abbrev pub SpellsLabel : Spelling (List ℕ)
 SpellsLabel bytes l = (bytes ≡ l) × IsTrue (is_word l)

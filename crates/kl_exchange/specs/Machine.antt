@@ -5,9 +5,10 @@ use Rattle.std.specs.Char.{is_ascii_digit, is_ascii_alphabetic, is_ascii_hexdigi
 use Rattle.std.specs.List.{AllByRecursion}
 use Rattle.kl_base.specs.Word.{is_word, is_word_byte, label_of}
 use Rattle.kl_base.specs.Fields.{LabelsDiffer}
+use Rattle.kl_value.specs.Quoted.{escape_of}
 use Rattle.kl_exchange.specs.Fields.{fields_of}
 use Rattle.kl_exchange.specs.Gathered.{has_label}
-use Rattle.kl_exchange.specs.Grammar.{is_blank, escape_of, word_of, signed}
+use Rattle.kl_exchange.specs.Grammar.{is_blank, word_of, signed}
 use Rattle.kl_value.specs.Canon.{canonical}
 use Rattle.kl_value.specs.declared.Kind.{Kind}
 use Rattle.kl_value.specs.declared.Kind.TheVariants as kind

@@ -2,7 +2,7 @@
 ghost use Rattle.std.specs.Prelude.{◌≡◌, ◌≤◌, ◌<◌, ◌-◌, ◌+◌, [], ◌∷◌, ◌++◌, cond, IsTrue};
 ghost use Rattle.std.specs.Char.{digit_value, is_ascii_digit};
 ghost use Rattle.kl_exchange.specs.Fields.{fields_of};
-ghost use Rattle.kl_exchange.specs.Grammar.{is_blank, signed, word_of, escape_of};
+ghost use Rattle.kl_exchange.specs.Grammar.{is_blank, signed, word_of};
 ghost use Rattle.std.specs.List.{AllByRecursion};
 ghost use Rattle.kl_base.specs.Fields.{LabelsDiffer};
 ghost use Rattle.kl_base.specs.Word.{is_word};
@@ -12,7 +12,7 @@ use crate::gathered::{Gathered, Growing};
 use crate::memo::Memo;
 use crate::stack::Stack;
 use kl_base::{Box, Label, NoMemory, Seq, Text};
-use kl_value::{Fields, Kind, Value, canon};
+use kl_value::{Fields, Kind, Value, canon, escaped};
 use std::alloc::Global;
 use std::mem;
 
@@ -506,20 +506,6 @@ fn in_text(text: Growing<u8>, byte: u8) -> Result<Next, Stop>
         let mut text = text;
         text.push(byte)?;
         goes(Phase::Text(text))
-    }
-}
-
-// The byte that stands for itself or for a control byte behind a `\`.
-fn escaped(byte: u8) -> Option<u8>
-    ensures { result ≡ escape_of byte }
-{
-    match byte {
-        b'"' => Some(b'"'),
-        b'\\' => Some(b'\\'),
-        b'n' => Some(b'\n'),
-        b'r' => Some(b'\r'),
-        b't' => Some(b'\t'),
-        _ => None,
     }
 }
 

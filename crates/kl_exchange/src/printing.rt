@@ -9,7 +9,7 @@ ghost use Rattle.kl_value.specs.IsCanonical.{IsCanonical};
 ghost use Rattle.kl_value.specs.Shape.{depth_of};
 ghost use Rattle.kl_value.specs.Written.{text_of, byte_text, with_commas, hex_digit};
 ghost use Rattle.kl_exchange.specs.Grammar.{IsItem, word_of};
-ghost use Rattle.kl_exchange.specs.Printing.{Puts, Prints, as_stop, field_text, is_plain, separator};
+ghost use Rattle.kl_exchange.specs.Printing.{Puts, Prints, as_stop, field_text, is_plain};
 ghost use Rattle.kl_exchange.specs.Stored.{IsStored};
 
 use crate::error::PrintError;
@@ -17,7 +17,7 @@ use arrayvec::ArrayVec;
 use itoa::Buffer;
 use kl_base::Label;
 use kl_outside::{Sink, Stop, write_whole};
-use kl_value::Value;
+use kl_value::{Value, separator};
 use std::marker::Model;
 
 /// A page of printed text over a sink. What is printed is held until the page is full, or until `flush`, so that the sink
@@ -235,13 +235,6 @@ fn print_fields<S: Sink>(fields: &[(Label, Value)], sink: &mut S, page: &mut Hel
         put(b"=", sink, page);
         print_value(&field.1, sink, page);
     }
-}
-
-// What stands before the item at a place.
-fn separator(place: usize) -> &'static [u8]
-    ensures { result.now ≡ separator place }
-{
-    if place == 0 { b"" } else { b", " }
 }
 
 fn print_word<S: Sink>(word: bool, sink: &mut S, page: &mut Held)

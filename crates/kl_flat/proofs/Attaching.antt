@@ -4,6 +4,7 @@ use Rattle.std.proofs.lemmas.Bool.Decides.{nat_tests}
 use Rattle.std.specs.List.{AllByRecursion}
 use Rattle.std.specs.Cmp.Lexicographic.{pointwise}
 use Rattle.std.specs.Option.{option_map}
+use Rattle.std.proofs.lemmas.Option.{same_Some}
 use Rattle.kl_base.specs.Counts.{Rose}
 use Rattle.kl_value.specs.declared.Value.{Value}
 use Rattle.kl_type.specs.Ground.{ground_of}
@@ -21,11 +22,11 @@ use Rattle.kl_ask.specs.declared.ask.Ask.{Ask}
 use Rattle.kl_ask.specs.declared.ask.DriverError.{DriverError}
 use Rattle.kl_ask.specs.declared.ask.DriverError.TheVariants as error
 use Rattle.kl_ask.proofs.Names.{not_same}
-use Rattle.kl_ask.proofs.Worlds.{some_same}
 use Rattle.kl_flat.specs.Flat.{flat_state, source_at, told_only, attached_of, contents_of, most_bytes, stored_bytes, stored_of, stored_rows}
 use Rattle.kl_flat.specs.Table.{bad_record, table_rows}
 use Rattle.kl_flat.specs.declared.parts.Source.{Source}
 use Rattle.kl_flat.specs.declared.parts.Open.{Open}
+use Rattle.kl_ask.proofs.Worlds.{error_is}
 
 some_none : {T : Type 0} {x : T} → Some x ≡ None → ⊥
 some_none h = cc
@@ -60,7 +61,7 @@ is_missing path ty f is = by f.told refl
 
     at : (o : Option (List ℕ)) → Some (stored_of o ty) ≡ Some Missing → o ≡ None
     at None e = refl
-    at (Some bytes) e = absurd (bytes_not bytes (nat_lt most_bytes (length bytes)) (some_same e))
+    at (Some bytes) e = absurd (bytes_not bytes (nat_lt most_bytes (length bytes)) (same_Some _ _ e))
 
     by : (t : Option (List ℕ → Option (List ℕ))) → f.told ≡ t → IsMissing f path
     by None none = let e : at_path f.told path ty ≡ None = ap (λ t. at_path t path ty) none in absurd (some_none (sym is ∙ e))
@@ -69,9 +70,6 @@ is_missing path ty f is = by f.told refl
 untold : (t : Option (List ℕ → Option (List ℕ))) → t ≡ None → IsSome (contents_of t) → ⊥
 untold None is told = cc
 untold (Some files) is told = some_none is
-
-err_same : {x y : DriverError} → IsErrOf {T = ℕ} {E = DriverError} (Err x) y → x ≡ y
-err_same h = cc
 
 -- the cause of a refusal
 abbrev CauseOf : DriverError → Option Stored → FilesState → FilesState → ℕ → ℕ → Type 0
@@ -107,11 +105,11 @@ refused e source path ty f f' sources cursors asked handed unread unread' told f
       bad = λ place is. tt;
       long = λ most is. tt;
       deep = λ place is. tt;
-      failed = λ is. subst (λ e. CauseOf e (at_path f.told path ty) f f' unread unread') (err_same is) cause;
-      bad_source = λ place is. unread_cause f (subst (λ e. CauseOf e (at_path f.told path ty) f f' unread unread') (err_same is) cause);
-      too_long = λ most is. unread_cause f (subst (λ e. CauseOf e (at_path f.told path ty) f f' unread unread') (err_same is) cause);
-      too_deep = λ place is. absurd (subst (λ e. CauseOf e (at_path f.told path ty) f f' unread unread') (err_same is) cause);
-      no_change = λ d is. subst (λ e. CauseOf e (at_path f.told path ty) f f' unread unread') (err_same is) cause;
+      failed = λ is. subst (λ e. CauseOf e (at_path f.told path ty) f f' unread unread') (error_is is) cause;
+      bad_source = λ place is. unread_cause f (subst (λ e. CauseOf e (at_path f.told path ty) f f' unread unread') (error_is is) cause);
+      too_long = λ most is. unread_cause f (subst (λ e. CauseOf e (at_path f.told path ty) f f' unread unread') (error_is is) cause);
+      too_deep = λ place is. absurd (subst (λ e. CauseOf e (at_path f.told path ty) f f' unread unread') (error_is is) cause);
+      no_change = λ d is. subst (λ e. CauseOf e (at_path f.told path ty) f f' unread unread') (error_is is) cause;
     })
 
 module _ (source path : List ℕ) (ty : Ty) (f f' : FilesState) (sources : List Source) (cursors : List (Option Open)) (asked : List (Ask × ℕ)) (handed unread : ℕ) where

@@ -3,7 +3,7 @@ use Rattle.std.proofs.Common.{Result, zero, suc, ◌≡◌, ◌≢◌, ◌⊎◌
 use Rattle.std.proofs.Math.Path.{fun_ext}
 use Rattle.std.proofs.lemmas.Grind.{common_steps}
 use Rattle.std.proofs.lemmas.List.Sorted.{IsPermutation-refl}
-use Rattle.std.proofs.lemmas.Option.{gets}
+use Rattle.std.proofs.lemmas.Option.{gets, same_Some}
 use Rattle.std.specs.List.{AllByRecursion}
 use Rattle.std.specs.Option.{option_map, option_flatten}
 use Rattle.kl_value.specs.declared.Kind.{Kind}
@@ -21,8 +21,6 @@ use Rattle.kl_ask.specs.declared.ask.Ask.TheVariants as asks
 use Rattle.kl_ask.specs.declared.ask.ColTest.{ColTest}
 use Rattle.kl_ask.specs.declared.ask.DriverError.{DriverError}
 use Rattle.kl_ask.specs.declared.ask.DriverError.TheVariants as error
-use Rattle.kl_ask.proofs.Boxes.{get-set_other, get-set_same}
-use Rattle.kl_ask.proofs.Worlds.{some_same}
 use Rattle.kl_flat.specs.Answering.{Takes}
 use Rattle.kl_flat.specs.Asked.{keep_of, tests_of}
 use Rattle.kl_flat.specs.Flat.{asked_source, flat_state, told_only, attached_of, cursor_of, left_of, open_at}
@@ -31,6 +29,7 @@ use Rattle.kl_flat.specs.declared.parts.Open.{Open}
 use Rattle.kl_flat.proofs.Suiting.{item_flat}
 use Rattle.kl_flat.proofs.Typing.{rows_suit, rows_typed}
 use Rattle.kl_flat.proofs.Shown.{all_drop, all_front, answers_typed, answers-all, answers-few}
+use Rattle.kl_base.proofs.Places.{get-set_other, get-set_same}
 
 get-push_other : {T : Type 0} (xs : List T) (i : ℕ) (y : T) → i ≢ length xs → slice_get (xs ++ y ∷ []) i ≡ slice_get xs i
 get-push_other xs i y ne = grind (arith, gets, common_steps)
@@ -58,7 +57,7 @@ shows (Some t) k keep tests rows = (answers rows keep tests, refl, in_order k (a
 
 told_size : {A : Type 0} (told : Option A) (rows shown : List Value) → told_only told rows ≡ Some shown → length rows ≡ length shown
 told_size None rows shown is = absurd cc
-told_size (Some t) rows shown is = ap length (some_same is)
+told_size (Some t) rows shown is = ap length (same_Some _ _ is)
 
 opens_at : (ask : Ask) (s : Source) (o : Open) (f : FilesState) (sources : List Source) (cursors : List (Option Open)) (asked : List (Ask × ℕ)) (handed unread : ℕ)
     → CanStart (flat_state f sources cursors asked handed unread) ask → asked_source sources ask ≡ Some s
@@ -66,7 +65,7 @@ opens_at : (ask : Ask) (s : Source) (o : Open) (f : FilesState) (sources : List 
     → OpensAt ask (flat_state f sources cursors asked handed unread) (cursor_of f.told o)
 opens_at (asks.Sql text) s o f sources cursors asked handed unread can found ask_is ty_is rows_is at_is small = absurd can.answerable
 opens_at (asks.Rows source keep tests) s o f sources cursors asked handed unread can found ask_is ty_is rows_is at_is small = λ a is.
-    let same : attached_of f.told s ≡ a = some_same (sym (ap (option_map (attached_of f.told)) found) ∙ is) in
+    let same : attached_of f.told s ≡ a = same_Some _ _ (sym (ap (option_map (attached_of f.told)) found) ∙ is) in
     let keep_is : keep_of o.ask ≡ keep = ap keep_of ask_is in
     let left_is : left_of o ≡ answers s.rows keep tests =
     (λ i. answers (drop (at_is i) (rows_is i)) (keep_of (ask_is i)) (tests_of (ask_is i))) in
@@ -164,7 +163,7 @@ module _ (most to : ℕ) (taken : List Value) (o o' : Open) (same : Same o o') (
     where
       left : {A : Type 0} (told : Option A) (all : List Value) → told_only told (left_of o) ≡ Some all → (rest : List Value) × (all ≡ taken ++ rest) × (told_only told (left_of o') ≡ Some rest) × ((length taken ≡ most) ⊎ (rest ≡ []))
       left None all is = absurd cc
-      left (Some t) all is = (left_of o', sym (some_same is) ∙ split_is, refl, elim (takes.all) [ inl e ↦ inl e | inr e ↦ inr (none_left e) ])
+      left (Some t) all is = (left_of o', sym (same_Some _ _ is) ∙ split_is, refl, elim (takes.all) [ inl e ↦ inl e | inr e ↦ inr (none_left e) ])
 
       untold : {A : Type 0} (told : Option A) → told_only told (left_of o) ≡ None → told_only told (left_of o') ≡ None
       untold None is = refl
@@ -194,7 +193,7 @@ module _ (most to : ℕ) (taken : List Value) (o o' : Open) (same : Same o o') (
 
     spent : {A : Type 0} (told : Option A) (all : List Value) → told_only told (left_of o) ≡ Some all → all ≡ []
     spent None all is = absurd cc
-    spent (Some t) all is = sym (some_same is) ∙ none_now
+    spent (Some t) all is = sym (same_Some _ _ is) ∙ none_now
 
 module _ (cursor : ℕ) (o o' : Open) (x : Option Open) (f : FilesState) (sources : List Source) (cursors cursors' : List (Option Open)) (asked : List (Ask × ℕ)) (is : slice_get cursors cursor ≡ Some (Some o)) (made : cursors' ≡ set (set cursors cursor x) cursor (Some o')) where
   is_now : open_at cursors' cursor ≡ Some o'
@@ -215,7 +214,7 @@ module _ (cursor : ℕ) (o o' : Open) (x : Option Open) (f : FilesState) (source
     asked = refl;
     others = λ k ne. ap (seen_as f.told) (others_stay k ne);
     answer = λ c has.
-        let is_cursor : cursor_of f.told o ≡ c = some_same (sym (ap (λ x. seen_as f.told (option_flatten x)) is) ∙ has) in
+        let is_cursor : cursor_of f.told o ≡ c = same_Some _ _ (sym (ap (λ x. seen_as f.told (option_flatten x)) is) ∙ has) in
         subst (λ c. PullsMore cursor most into into' c (flat_state f sources cursors asked handed unread) (flat_state f sources cursors' asked handed' unread)) is_cursor (record {
           rows = taken;
           then = cursor_of f.told o';
@@ -234,7 +233,7 @@ module _ (cursor : ℕ) (o o' : Open) (x : Option Open) (f : FilesState) (source
     asked = refl;
     others = λ k ne. ap (seen_as f.told) (others_stay k ne);
     answer = λ c has.
-        let is_cursor : cursor_of f.told o ≡ c = some_same (sym (ap (λ x. seen_as f.told (option_flatten x)) is) ∙ has) in
+        let is_cursor : cursor_of f.told o ≡ c = same_Some _ _ (sym (ap (λ x. seen_as f.told (option_flatten x)) is) ∙ has) in
         subst (λ c. PullsNone cursor into into c (flat_state f sources cursors asked handed unread) (flat_state f sources cursors' asked handed unread)) is_cursor (record {
           same = refl;
           spent = spent most to taken o o' same at takes none room f.told;

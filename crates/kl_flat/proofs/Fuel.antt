@@ -1,5 +1,6 @@
 -- Every record of a text is in csv's record list: its bound on the number of records is never reached.
 use Rattle.std.proofs.Common.{◌≡◌, ◌≤◌, ◌+◌, ◌||◌, ◌==◌, ℕ, zero, suc, Bool, true, false, List, [], ◌∷◌, ◌++◌, length, Some, None, refl, ap, arith, if◌then◌else◌, add-one, subst}
+use Rattle.std.proofs.lemmas.Option.{same_Some}
 use Rattle.csv.specs.Machine.{Read, after_end, ends_at_end, fields_after, in_field, start_field, start_record, is_end, next_record, step}
 use Rattle.csv.specs.Reading.{default_config, records_from, records_next}
 use Rattle.csv.specs.declared.parser.Config.{Config}
@@ -59,19 +60,16 @@ most s y = length y + one_if (ends_at_end s)
 most-le : (s : State) (y : List ℕ) → most s y ≤ length y + 1
 most-le s y = elim (ends_at_end s) as (λ b. length y + one_if b ≤ length y + 1) [ true ↦ omega arith | false ↦ omega arith ]
 
-same_some : {X : Type 0} (x y : X) → Some x ≡ Some y → x ≡ y
-same_some x y h = cc
-
 pub falls : (y : List ℕ) (s : State) (f : List (List ℕ)) (p : List ℕ) (r : Read) → next_record cfg s f p y ≡ Some r → most r.1 r.2 + 1 ≤ most s y
 unfolding next_record
 falls [] s f p r h = (elim (ends_at_end s) as (λ b. ends_at_end s ≡ b → most r.1 r.2 + 1 ≤ most s []) [
   | true ↦ λ e. let g = rw e at h in
-      subst (λ (q : Read). most q.1 q.2 + 1 ≤ most s []) (same_some (f ++ p ∷ [], st.StartRecord, []) r g) (rw e (omega arith))
+      subst (λ (q : Read). most q.1 q.2 + 1 ≤ most s []) (same_Some (f ++ p ∷ [], st.StartRecord, []) r g) (rw e (omega arith))
   | false ↦ λ e. let g = rw e at h in cc
 ]) refl
 falls (c ∷ rest) s f p r h = (elim (is_end (step cfg s c).1) as (λ b. is_end (step cfg s c).1 ≡ b → most r.1 r.2 + 1 ≤ most s (c ∷ rest)) [
   | true ↦ λ e. let g = rw e at h in
-      subst (λ (q : Read). most q.1 q.2 + 1 ≤ most s (c ∷ rest)) (same_some (fields_after (step cfg s c).1 f p, (step cfg s c).0, rest) r g) (rw (step_rests s c e) (omega arith))
+      subst (λ (q : Read). most q.1 q.2 + 1 ≤ most s (c ∷ rest)) (same_Some (fields_after (step cfg s c).1 f p, (step cfg s c).0, rest) r g) (rw (step_rests s c e) (omega arith))
   | false ↦ λ e. let g = rw e at h in let i = falls rest (step cfg s c).0 _ _ r g in
       omega (arith, most-le (step cfg s c).0 rest)
 ]) refl

@@ -3,19 +3,18 @@ use Rattle.std.proofs.Common.{◌≡◌, ◌<◌, ℕ, zero, suc, ◌+◌, Bool,
 use Rattle.std.specs.Cmp.Lexicographic.{pointwise, same_text}
 use Rattle.std.proofs.lemmas.Grind.{common_steps}
 use Rattle.std.proofs.lemmas.List.{map-append}
-use Rattle.std.proofs.lemmas.Option.{slice_get_read, slice_get_within}
+use Rattle.std.proofs.lemmas.Option.{slice_get_read, slice_get_within, same_Some}
+use Rattle.std.proofs.lemmas.Bool.{and_parts}
 use Rattle.kl_value.specs.declared.Value.{Value, out-Value}
 use Rattle.kl_value.specs.declared.Value.TheVariants as value
 use Rattle.kl_type.specs.declared.ground.Ty.{out-Ty}
 use Rattle.kl_outcome.specs.Outcome.{Name, record_layer}
 use Rattle.kl_ask.specs.Asks.{is_kept, shown, shown_fields}
-use Rattle.kl_ask.proofs.Worlds.{some_same}
 use Rattle.kl_flat.specs.Asked.{keep_of, kept_places}
 use Rattle.kl_flat.specs.Columns.{columns_of}
 use Rattle.kl_flat.specs.Fitting.{fit_fields, fits_base, fits_layer}
 use Rattle.kl_flat.specs.Table.{Columns}
 use Rattle.kl_flat.specs.declared.parts.Open.{Open}
-use Rattle.kl_flat.proofs.Suiting.{both}
 
 abbrev Fields : Type 0
 Fields = List (Name × Value)
@@ -33,8 +32,8 @@ module _ (keep : List Name) where
   kept_at before [] (f ∷ fs) e = cc
   kept_at before (c ∷ cs) [] e = cc
   kept_at before (c ∷ cs) (f ∷ fs) e =
-      let parts = both (pointwise nat_eq f.0 c.0 && fits_base (out-Value f.1) (out-Ty c.1)) (fit_fields cs fs) e in
-      let label : f.0 ≡ c.0 = same_text f.0 c.0 (sym (both (pointwise nat_eq f.0 c.0) (fits_base (out-Value f.1) (out-Ty c.1)) parts.0).0) in
+      let parts = and_parts (pointwise nat_eq f.0 c.0 && fits_base (out-Value f.1) (out-Ty c.1)) (fit_fields cs fs) e in
+      let label : f.0 ≡ c.0 = same_text f.0 c.0 (sym (and_parts (pointwise nat_eq f.0 c.0) (fits_base (out-Value f.1) (out-Ty c.1)) parts.0).0) in
       let size : length (before ++ f ∷ []) ≡ suc (length before) = length-append before (f ∷ []) ∙ add-one (length before) in
       by (is_kept keep c.0) refl (ap (is_kept keep) label) ((λ i. map (slice_get (sym (append_assoc before (f ∷ []) fs) i)) (kept_places keep (sym size i) cs)) ∙ kept_at (before ++ f ∷ []) cs fs parts.1)
     where
@@ -56,7 +55,7 @@ same_items (x ∷ xs) [] e = cc
 same_items (x ∷ xs) (y ∷ ys) e =
     let first : Some x ≡ Some y = cc in
     let others : map Some xs ≡ map Some ys = cc in
-    (λ i. some_same first i ∷ same_items xs ys others i)
+    (λ i. same_Some _ _ first i ∷ same_items xs ys others i)
 
 -- one more field is copied
 pub one_more : (fs : Fields) (places : List ℕ) (i : ℕ) (f : Name × Value) (l : Name) (v : Value) (copies after : Fields) → i < length places → get_or places i 0 < length fs → f ≡ get_or fs (get_or places i 0) f → l ≡ f.0 → v ≡ f.1 → after ≡ copies ++ (l, v) ∷ []

@@ -2,10 +2,10 @@
 use Rattle.std.proofs.Common.{◌≡◌, ◌≤◌, ◌<◌, ℕ, zero, suc, ◌+◌, Bool, true, false, List, [], ◌∷◌, cond, length, take, nat_eq, Some, None, refl, ap, sym, ◌∙◌, subst, arith, add_comm, eqb-true, ◌==◌}
 use Rattle.std.specs.List.{zip}
 use Rattle.std.specs.Cmp.Lexicographic.{pointwise}
+use Rattle.std.proofs.lemmas.Option.{same_Some}
 use Rattle.csv.specs.Records.{field_at}
 use Rattle.kl_base.specs.Fields.{field}
 use Rattle.kl_type.proofs.RowLemmas.{same_label}
-use Rattle.kl_ask.proofs.Worlds.{some_same}
 use Rattle.kl_flat.specs.Table.{Record, times}
 
 abbrev is : List ℕ → List ℕ → Bool
@@ -33,7 +33,7 @@ count_front l (g ∷ fs) (suc i) = let more = count_front l fs i in omega (arith
 count_there : (l : List ℕ) (fs : Record) (i : ℕ) → field_at fs i ≡ Some l → 1 ≤ times l fs
 unfolding field_at
 count_there l [] i h = cc
-count_there l (g ∷ fs) zero h = let e : is l g ≡ true = subst (λ m. is l m ≡ true) (sym (some_same h)) (same_label l) in rw e (omega arith)
+count_there l (g ∷ fs) zero h = let e : is l g ≡ true = subst (λ m. is l m ≡ true) (sym (same_Some _ _ h)) (same_label l) in rw e (omega arith)
 count_there l (g ∷ fs) (suc i) h = let more = count_there l fs i h in omega (arith, more)
 
 -- what a record has under a label that stands in the header once

@@ -3,6 +3,7 @@ use Rattle.std.proofs.Common.{◌≡◌, ◌≤◌, ℕ, zero, suc, Bool, true, 
 use Rattle.std.specs.List.{AllByRecursion, list_all}
 use Rattle.std.specs.List.Sorted.{IsStrictlySortedBy}
 use Rattle.std.proofs.lemmas.List.Kept.{IsStrictlySortedBy-filter}
+use Rattle.std.proofs.lemmas.Option.{same_Some}
 use Rattle.kl_base.specs.Fields.{bytes_cmp, labels_of, LabelsRise}
 use Rattle.kl_value.specs.IsCanonical.{IsCanonical, IsCanonicalLayer}
 use Rattle.kl_value.specs.declared.Value.{Value, every_here-Value}
@@ -15,7 +16,6 @@ use Rattle.kl_outcome.proofs.OutcomeTypes.{record_is}
 use Rattle.kl_ask.specs.Asks.{answers, is_kept, passes, shown, shown_fields, shown_row, shown_type}
 use Rattle.kl_ask.specs.Driver.{IsFlat}
 use Rattle.kl_ask.specs.declared.ask.ColTest.{ColTest}
-use Rattle.kl_ask.proofs.Worlds.{some_same}
 
 rising : (fs : List (Name × Value)) → IsCanonical (value.Rec fs) → LabelsRise fs
 unfolding IsCanonical
@@ -53,7 +53,7 @@ module _ (keep : List Name) where
   shown_record r v i =
       let parts = record_is r v i in
       let fs = parts.0 in
-      let same : i.0.0 ≡ fs = some_same (sym (ap as_record i.0.1 ∙ ap record_layer (value.outs-Rec i.0.0)) ∙ parts.1) in
+      let same : i.0.0 ≡ fs = same_Some _ _ (sym (ap as_record i.0.1 ∙ ap record_layer (value.outs-Rec i.0.0)) ∙ parts.1) in
       let up = rising fs (subst (λ gs. IsCanonical (value.Rec gs)) same (subst IsCanonical i.0.1 i.1)) in
       let made : value.Rec (kept fs) ≡ shown keep v = ap (shown_fields v keep) (sym parts.1) in
       subst (Inhabits (rec (shown_row keep r))) made (

@@ -1,6 +1,7 @@
 -- Which types tables have, seen as ground types.
 use Rattle.std.proofs.Common.{◌≡◌, ℕ, ◌==◌, not, Bool, true, false, ◌&&◌, [], ◌∷◌, length, refl, sym, ap, ◌∙◌, subst}
 use Rattle.std.specs.List.{list_all}
+use Rattle.std.proofs.lemmas.Bool.{and_parts}
 use Rattle.kl_value.specs.declared.Kind.{Kind}
 use Rattle.kl_type.specs.Ground.{Ground, rec, coll, row_by, ground_of}
 use Rattle.kl_type.specs.declared.ground.Ty.{Ty, Ty-F, out-Ty, roll-Ty, roll-out-Ty}
@@ -20,13 +21,9 @@ base_by x e = cc
 base_is : (t : Ty) → is_base t ≡ true → IsBase (ground_of t)
 base_is t e = subst (λ u. IsBase (ground_of u)) (roll-out-Ty t) (base_by (out-Ty t) e)
 
-pub both : (a b : Bool) → (a && b) ≡ true → (a ≡ true) × (b ≡ true)
-both true b e = (refl, e)
-both false b e = cc
-
 all_base : (columns : Columns) → list_all (λ c. is_base c.1) columns ≡ true → AllBase (row_by ground_of columns)
 all_base [] e = tt
-all_base (c ∷ columns) e = let parts = both (is_base c.1) (list_all (λ c. is_base c.1) columns) e in (base_is c.1 parts.0, all_base columns parts.1)
+all_base (c ∷ columns) e = let parts = and_parts (is_base c.1) (list_all (λ c. is_base c.1) columns) e in (base_is c.1 parts.0, all_base columns parts.1)
 
 flat_row : (columns : Columns) → (length columns ≡ 0 → ⊥) → list_all (λ c. is_base c.1) columns ≡ true → IsFlat (rec (row_by ground_of columns))
 flat_row [] some e = absurd (some refl)
@@ -48,7 +45,7 @@ not_none n h e = let f = rw e at h in cc
 
 table_shape : (t : Ty) → is_table_type t ≡ true → Shape (ground_of t) (columns_of t) × IsFlat (rec (row_by ground_of (columns_of t)))
 table_shape t e =
-    let parts = both (not (length (columns_of t) == 0)) (list_all (λ c. is_base c.1) (columns_of t)) e in
+    let parts = and_parts (not (length (columns_of t) == 0)) (list_all (λ c. is_base c.1) (columns_of t)) e in
     let some = not_none (length (columns_of t)) parts.0 in
     (subst (λ u. Shape (ground_of u) (columns_of t)) (roll-out-Ty t) (items_shape (out-Ty t) some), flat_row (columns_of t) some parts.1)
 

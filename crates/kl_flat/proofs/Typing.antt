@@ -6,11 +6,12 @@ use Rattle.std.specs.List.{AllByRecursion, zip}
 use Rattle.std.specs.List.Sorted.{IsStrictlySortedBy}
 use Rattle.std.specs.Cmp.Lexicographic.{pointwise, same_text}
 use Rattle.kl_ask.specs.Asks.{item_of}
-use Rattle.kl_ask.proofs.Worlds.{some_same}
-use Rattle.kl_flat.proofs.Suiting.{both, item_is}
+use Rattle.kl_flat.proofs.Suiting.{item_is}
 use Rattle.std.specs.declared.cmp.Ordering.TheVariants.{Less}
 use Rattle.std.specs.declared.cmp.Ordering.{Ordering}
 use Rattle.std.specs.Ordering.{is_lt}
+use Rattle.std.proofs.lemmas.Bool.{and_parts, and_from}
+use Rattle.std.proofs.lemmas.Option.{same_Some}
 use Rattle.kl_base.proofs.FieldsLemmas.{rise_strictly}
 use Rattle.kl_flat.specs.Fitting.{all_fit, are_rows, fit_fields, fits_base, fits_layer}
 use Rattle.kl_base.specs.Fields.{bytes_cmp, field, labels_of, rises, rises_from, LabelsRise}
@@ -36,18 +37,18 @@ value_fits : (v : Value) (y : Value-F Value) (x : Ty-F Ty) → out-Value v ≡ y
 value_fits v y x e h w same = ap (λ u. fits_base (out-Value u) x) (sym same) ∙ ap (λ z. fits_base z x) e ∙ h
 
 truth_fits : (x y : Bool) (v : Value) → cond x (Some (value.Bool true)) (cond y (Some (value.Bool false)) None) ≡ Some v → fits_base (out-Value v) Ty-F.Bool ≡ true
-truth_fits true y v e = value_fits (value.Bool true) (Value-F.Bool true) Ty-F.Bool (value.outs-Bool true) refl v (some_same e)
-truth_fits false true v e = value_fits (value.Bool false) (Value-F.Bool false) Ty-F.Bool (value.outs-Bool false) refl v (some_same e)
+truth_fits true y v e = value_fits (value.Bool true) (Value-F.Bool true) Ty-F.Bool (value.outs-Bool true) refl v (same_Some _ _ e)
+truth_fits false true v e = value_fits (value.Bool false) (Value-F.Bool false) Ty-F.Bool (value.outs-Bool false) refl v (same_Some _ _ e)
 truth_fits false false v e = cc
 
 number_fits : (o : Option ℤ) (v : Value) → option_map value.Int o ≡ Some v → fits_base (out-Value v) Ty-F.Int ≡ true
-number_fits (Some n) v e = value_fits (value.Int n) (Value-F.Int n) Ty-F.Int (value.outs-Int n) refl v (some_same e)
+number_fits (Some n) v e = value_fits (value.Int n) (Value-F.Int n) Ty-F.Int (value.outs-Int n) refl v (same_Some _ _ e)
 number_fits None v e = cc
 
 cell_fits : (bs : List ℕ) (x : Ty-F Ty) (v : Value) → cell_layer bs x ≡ Some v → fits_base (out-Value v) x ≡ true
 cell_fits bs Ty-F.Bool v e = truth_fits _ _ v e
 cell_fits bs Ty-F.Int v e = number_fits (number_in (without_blanks bs)) v e
-cell_fits bs Ty-F.Str v e = value_fits (value.Text bs) (Value-F.Text bs) Ty-F.Str (value.outs-Text bs) refl v (some_same e)
+cell_fits bs Ty-F.Str v e = value_fits (value.Text bs) (Value-F.Text bs) Ty-F.Str (value.outs-Text bs) refl v (same_Some _ _ e)
 cell_fits bs x v e = cc
 
 part_fits : (cells : List (List ℕ × List ℕ)) (c : List ℕ × Ty) (f : List ℕ × Value) → part_in cells c ≡ Some f → (pointwise nat_eq f.0 c.0 ≡ true) × (fits_base (out-Value f.1) (out-Ty c.1) ≡ true)
@@ -55,7 +56,7 @@ part_fits cells c f e = by (field c.0 cells) refl
   where
     found : (bs : List ℕ) (o : Option Value) → cell_value bs c.1 ≡ o → option_map (λ v. (c.0, v)) o ≡ Some f → (pointwise nat_eq f.0 c.0 ≡ true) × (fits_base (out-Value f.1) (out-Ty c.1) ≡ true)
     found bs (Some v) is h =
-        let same : (c.0, v) ≡ f = some_same h in
+        let same : (c.0, v) ≡ f = same_Some _ _ h in
         (subst (λ (g : List ℕ × Value). pointwise nat_eq g.0 c.0 ≡ true) same (same_label c.0), subst (λ (g : List ℕ × Value). fits_base (out-Value g.1) (out-Ty c.1) ≡ true) same (cell_fits bs (out-Ty c.1) v is))
     found bs None is h = cc
 
@@ -63,19 +64,16 @@ part_fits cells c f e = by (field c.0 cells) refl
     by None is = let bad = rw is at e in cc
     by (Some bs) is = found bs (cell_value bs c.1) refl (rw is at e)
 
-and_true : (a b : Bool) → a ≡ true → b ≡ true → (a && b) ≡ true
-and_true a b p q = rw (p, q) refl
-
 parts_fit : (cells : List (List ℕ × List ℕ)) (columns : Columns) (fs : List (List ℕ × Value)) → all_of (map (part_in cells) columns) ≡ Some fs → fit_fields columns fs ≡ true
-parts_fit cells [] fs e = let none : [] ≡ fs = some_same e in subst (λ gs. fit_fields [] gs ≡ true) none refl
+parts_fit cells [] fs e = let none : [] ≡ fs = same_Some _ _ e in subst (λ gs. fit_fields [] gs ≡ true) none refl
 parts_fit cells (c ∷ columns) fs e = by (part_in cells c) refl (λ gs more. parts_fit cells columns gs more)
   where
     rest : ((gs : List (List ℕ × Value)) → all_of (map (part_in cells) columns) ≡ Some gs → fit_fields columns gs ≡ true) → (f : List ℕ × Value) → part_in cells c ≡ Some f → (o : Option (List (List ℕ × Value))) → all_of (map (part_in cells) columns) ≡ o → option_map (λ xs. f ∷ xs) o ≡ Some fs → fit_fields (c ∷ columns) fs ≡ true
     rest later f is None more h = cc
     rest later f is (Some gs) more h =
         let here = part_fits cells c f is in
-        let same : f ∷ gs ≡ fs = some_same h in
-        subst (λ hs. fit_fields (c ∷ columns) hs ≡ true) same (and_true _ _ (and_true _ _ here.0 here.1) (later gs more))
+        let same : f ∷ gs ≡ fs = same_Some _ _ h in
+        subst (λ hs. fit_fields (c ∷ columns) hs ≡ true) same (and_from _ _ (and_from _ _ here.0 here.1) (later gs more))
 
     by : (o : Option (List ℕ × Value)) → part_in cells c ≡ o → ((gs : List (List ℕ × Value)) → all_of (map (part_in cells) columns) ≡ Some gs → fit_fields columns gs ≡ true) → fit_fields (c ∷ columns) fs ≡ true
     by None is later = let bad = rw is at e in cc
@@ -87,7 +85,7 @@ row_fits columns header entry v e = by (nat_eq (length entry) (length header)) r
     made : (o : Option (List (List ℕ × Value))) → all_of (map (part_in (zip header entry)) columns) ≡ o → option_map value.Rec o ≡ Some v → fits_layer columns (out-Value v) ≡ true
     made None is h = cc
     made (Some fs) is h =
-        let same : value.Rec fs ≡ v = some_same h in
+        let same : value.Rec fs ≡ v = same_Some _ _ h in
         subst (λ w. fits_layer columns (out-Value w) ≡ true) same (ap (fits_layer columns) (value.outs-Rec fs) ∙ parts_fit (zip header entry) columns fs is)
 
     by : (b : Bool) → nat_eq (length entry) (length header) ≡ b → fits_layer columns (out-Value v) ≡ true
@@ -100,7 +98,7 @@ front_fits columns header (r ∷ rs) = by (row_in columns header r) refl (front_
   where
     by : (o : Option Value) → row_in columns header r ≡ o → all_fit columns (front_of (map (row_in columns header) rs)) ≡ true → all_fit columns (front_of (map (row_in columns header) (r ∷ rs))) ≡ true
     by None is later = rw is refl
-    by (Some v) is later = rw is (and_true _ _ (row_fits columns header r v is) later)
+    by (Some v) is later = rw is (and_from _ _ (row_fits columns header r v is) later)
 
 rows_fit : (columns : Columns) (rs : List Record) → all_fit columns (rows_in columns rs) ≡ true
 rows_fit columns [] = refl
@@ -129,8 +127,8 @@ fields_good [] [] e = (refl, tt, refl)
 fields_good [] (f ∷ fs) e = cc
 fields_good (c ∷ columns) [] e = cc
 fields_good (c ∷ columns) (f ∷ fs) e =
-    let parts = both (pointwise nat_eq f.0 c.0 && fits_base (out-Value f.1) (out-Ty c.1)) (fit_fields columns fs) e in
-    let here = both (pointwise nat_eq f.0 c.0) (fits_base (out-Value f.1) (out-Ty c.1)) parts.0 in
+    let parts = and_parts (pointwise nat_eq f.0 c.0 && fits_base (out-Value f.1) (out-Ty c.1)) (fit_fields columns fs) e in
+    let here = and_parts (pointwise nat_eq f.0 c.0) (fits_base (out-Value f.1) (out-Ty c.1)) parts.0 in
     let label : f.0 ≡ c.0 = same_text f.0 c.0 (sym here.0) in
     let value = base_has f.1 c.1 here.1 in
     let good = fields_good columns fs parts.1 in (
@@ -148,7 +146,7 @@ row_good columns v up _ e = cc
 rows_good : (columns : Columns) → LabelsRise columns → (rows : List Value) → all_fit columns rows ≡ true → AllByRecursion (Inhabits (rec (row_by ground_of columns))) rows
 rows_good columns up [] e = tt
 rows_good columns up (v ∷ rows) e =
-    let parts = both (fits_layer columns (out-Value v)) (all_fit columns rows) e in
+    let parts = and_parts (fits_layer columns (out-Value v)) (all_fit columns rows) e in
     (subst (Inhabits (rec (row_by ground_of columns))) (roll-out-Value v) (row_good columns v up (out-Value v) parts.0), rows_good columns up rows parts.1)
 
 -- ---- labels of a proper type
@@ -183,7 +181,7 @@ is_less o e = rw e refl
 rises_after : (l : List ℕ) (ls : List (List ℕ)) → AllByRecursion (λ m. bytes_cmp l m ≡ Less) ls → IsStrictlySortedBy bytes_cmp ls → rises_from l ls ≡ true
 unfolding IsStrictlySortedBy
 rises_after l [] all up = refl
-rises_after l (m ∷ ls) all up = and_true _ _ (is_less _ all.0) (rises_after m ls up.0 up.1)
+rises_after l (m ∷ ls) all up = and_from _ _ (is_less _ all.0) (rises_after m ls up.0 up.1)
 
 rises_is : (ls : List (List ℕ)) → IsStrictlySortedBy bytes_cmp ls → rises ls ≡ true
 unfolding IsStrictlySortedBy
@@ -192,15 +190,15 @@ rises_is (l ∷ ls) up = rises_after l ls up.0 up.1
 
 -- the rows of a table are rows of its type, which have the type of its items
 pub are_table_rows : (bytes : List ℕ) (t : Ty) → is_table_type t ≡ true → IsProper t → are_rows t (table_rows bytes t) ≡ true
-are_table_rows bytes t suits h = and_true _ _ suits (and_true _ _ (rises_is (labels_of (columns_of t)) (columns_up t h)) (rows_fit (columns_of t) (table_records bytes)))
+are_table_rows bytes t suits h = and_from _ _ suits (and_from _ _ (rises_is (labels_of (columns_of t)) (columns_up t h)) (rows_fit (columns_of t) (table_records bytes)))
 
 pub rows_suit : (t : Ty) (rows : List Value) → are_rows t rows ≡ true → is_table_type t ≡ true
-rows_suit t rows e = (both (is_table_type t) _ e).0
+rows_suit t rows e = (and_parts (is_table_type t) _ e).0
 
 pub rows_typed : (t : Ty) (rows : List Value) → are_rows t rows ≡ true → AllByRecursion (Inhabits (item_of (ground_of t))) rows
 rows_typed t rows e =
-    let parts = both (is_table_type t) _ e in
-    let rest = both (rises (labels_of (columns_of t))) (all_fit (columns_of t) rows) parts.1 in
+    let parts = and_parts (is_table_type t) _ e in
+    let rest = and_parts (rises (labels_of (columns_of t))) (all_fit (columns_of t) rows) parts.1 in
     subst (λ g. AllByRecursion (Inhabits g) rows) (sym (item_is t parts.0)) (rows_good (columns_of t) (rise_strictly (labels_of (columns_of t)) rest.0) rows rest.1)
 
 pub typed_table : {E : Type 0} (bytes : List ℕ) (t : Ty) (r : Result Table E) → is_table_type t ≡ true → IsProper t → IfOk r (λ table. table.rows ≡ table_rows bytes t) → IfOk r (λ table. AllByRecursion (Inhabits (item_of (ground_of t))) table.rows)

@@ -1,13 +1,12 @@
 //! Cells of a table.
 ghost use Rattle.std.specs.Prelude.{◌≡◌, IfOk};
-ghost use Rattle.kl_prim.specs.Meaning.{number_in};
 ghost use Rattle.kl_flat.specs.Cells.{cell_value, is_blank, past_blanks, truth_in, without_blanks};
 
 use kl_base::{NoMemory, Text};
+use kl_prim::number_in;
 use kl_type::Ty;
 use kl_value::Value;
 use std::alloc::Global;
-use std::str;
 
 /// The value of a base type that a cell has. None exactly where it has none.
 ///
@@ -36,19 +35,6 @@ fn truth_in(bytes: &[u8]) -> Option<Value>
         Some(Value::Bool(false))
     } else {
         None
-    }
-}
-
-// The integer that all the bytes write, with an optional `-`; `parse` would take a `+` too.
-fn number_in(bytes: &[u8]) -> Option<i64>
-    ensures { result ≡ number_in bytes.now }
-{
-    if bytes.starts_with(b"+") {
-        return None;
-    }
-    match str::from_utf8(bytes) {
-        Ok(text) => text.parse().ok(),
-        Err(_) => None,
     }
 }
 

@@ -3,9 +3,10 @@ use Rattle.std.proofs.Common.{◌≡◌, ◌≢◌, inl, inr, ⊎_elim, ℕ, zer
 use Rattle.std.proofs.lemmas.List.{take_all}
 use Rattle.std.specs.List.{AllByRecursion}
 use Rattle.std.specs.Cmp.Lexicographic.{pointwise}
+use Rattle.std.proofs.lemmas.Option.{same_Some}
 use Rattle.kl_base.specs.Fields.{field, labels_of}
 use Rattle.kl_type.specs.Ground.{Ground, Row, no_row, row, at, IsRow}
-use Rattle.kl_type.proofs.RowLemmas.{told, same_label, at_here, drops, at_drops, drops_row}
+use Rattle.kl_type.proofs.RowLemmas.{told, at_here, drops, at_drops, drops_row, none_some}
 use Rattle.kl_rows.specs.declared.cell.RowNode.{RowNode}
 use Rattle.kl_rows.specs.declared.cell.RowNode.TheVariants.{AnyRow, NoRow, Front}
 use Rattle.kl_rows.specs.declared.cell.Cell.{Cell}
@@ -16,16 +17,15 @@ use Rattle.kl_rows.specs.Solutions.{Assignment, Splits, RowSays, Solves}
 use Rattle.kl_rows.specs.Steps.{Agrees, Grown}
 use Rattle.kl_rows.specs.Making.{CanMake, Adds}
 use Rattle.kl_rows.proofs.CellLists.{sort_within}
-use Rattle.kl_rows.proofs.ListLemmas.{Label, field_here, field_there, none_some, all_at}
-use Rattle.kl_rows.proofs.Advancing.{agrees_on, keeps_on, all_map, absurd_true}
+use Rattle.kl_base.proofs.Each.{all_map}
+use Rattle.kl_rows.proofs.ListLemmas.{Label, field_here, field_there, all_at}
+use Rattle.kl_rows.proofs.Advancing.{agrees_on, keeps_on, absurd_true}
 use Rattle.kl_rows.proofs.Growing.{grown_row}
+use Rattle.kl_rows.proofs.RowCopies.{rest_of, at_rest_of, none_rest_of}
 use Rattle.kl_forms.specs.Checks.{Checks}
 use Rattle.kl_forms.specs.Forms.{HasFields}
 use Rattle.kl_forms.specs.Rows.{HasEach, OpensRow, RefusesRow, IsBarred, HasFront, Fronts}
 use Rattle.kl_forms.proofs.Opening.{type_within}
-
-some_same : {A : Type 0} (a b : A) → Some a ≡ Some b → a ≡ b
-some_same a b h = cc
 
 none_is : {A : Type 0} (o : Option A) (P : Type 0) → o ≡ None → IsSome o → P
 none_is o P e h = let z : ⊥ = cc in absurd z
@@ -129,18 +129,9 @@ closed_end old new all i b is fine adds = subst (λ b. Fronts b all [] old new i
 
 -- a row without a label
 module _ (l : Label) where
-  abbrev rest_of : Row → Row
-  rest_of w = drops (λ m. pointwise nat_eq l m) w
-
-  at_rest_of : (w : Row) (m : Label) → l ≢ m → at m (rest_of w) ≡ at m w
-  at_rest_of w m d = ⊎_elim (λ p. absurd (d p.1)) (λ p. at_drops (λ k. pointwise nat_eq l k) m w ∙ ap (λ b. cond b None (at m w)) p.0) (told l m)
-
-  none_rest_of : (w : Row) → at l (rest_of w) ≡ None
-  none_rest_of w = at_drops (λ k. pointwise nat_eq l k) l w ∙ ap (λ b. cond b None (at l w)) (same_label l)
-
-  each_rest : (s : Assignment) (w : Row) (fs : Fields) → field l fs ≡ None → HasEach fs w s → HasEach fs (rest_of w) s
+  each_rest : (s : Assignment) (w : Row) (fs : Fields) → field l fs ≡ None → HasEach fs w s → HasEach fs (rest_of l w) s
   each_rest s w [] e h = tt
-  each_rest s w ((m, t) ∷ fs) e h = let d = none_behind l m t fs e in (at_rest_of w m d.0 ∙ h.0, each_rest s w fs d.1 h.1)
+  each_rest s w ((m, t) ∷ fs) e h = let d = none_behind l m t fs e in (at_rest_of l w m d.0 ∙ h.0, each_rest s w fs d.1 h.1)
 
 module _ (b : Bool) (all fs : Fields) (l : Label) (t : ℕ) (old mid new : List Cell) (i : ℕ) (fronts : Fronts b all fs old mid i) where
   apart : (m : Label) (u : ℕ) → field l fs ≡ Some u → field m fs ≡ None → m ≢ l
@@ -209,7 +200,7 @@ module _ (b : Bool) (all fs : Fields) (l : Label) (t : ℕ) (old mid new : List 
     one : (s u : Assignment) (r : Row) → Agrees (length old) s u → HasEach ((l, t) ∷ fs) r s → u.types t ≡ u.types n
     one s u r a h =
         a.types t (type_within old t types.0)
-        ∙ (some_same (s.types t) (s.types n) (sym h.0 ∙ all_at (λ k v. at k r ≡ Some (s.types v)) fs l n h.1 found)
+        ∙ (same_Some (s.types t) (s.types n) (sym h.0 ∙ all_at (λ k v. at k r ≡ Some (s.types v)) fs l n h.1 found)
         ∙ sym (a.types n (type_within old n later)))
 
     same_down : ans ≡ true → (s : Assignment) (r : Row) → Solves old s → IsRow r → HasFront b all ((l, t) ∷ fs) r s → Grown old new s (λ u. u.rows i ≡ r)

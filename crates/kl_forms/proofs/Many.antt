@@ -13,6 +13,7 @@ use Rattle.kl_rows.proofs.Advancing.{agrees_refl, agrees_on, keeps_refl, keeps_o
 use Rattle.kl_rows.proofs.Growing.{grown_type}
 use Rattle.kl_forms.specs.Checks.{OpensMany}
 use Rattle.kl_forms.proofs.Opening.{type_within, can_any}
+use Rattle.kl_base.proofs.Each.{all_map}
 
 last_of : (t : Ground) (ts : List Ground) → (us : List Ground) × (x : Ground) × (t ∷ ts ≡ us ++ x ∷ [])
 last_of t [] = ([], t, refl)
@@ -25,10 +26,6 @@ all_but_last (u ∷ us) x h = let w = all_but_last us x h.1 in ((h.0, w.0), w.1)
 all_and_last : (P : ℕ → Type 0) (is : List ℕ) (i : ℕ) → AllByRecursion P is → P i → AllByRecursion P (is ++ i ∷ [])
 all_and_last P [] i h k = (k, tt)
 all_and_last P (j ∷ is) i h k = (h.0, all_and_last P is i h.1 k)
-
-pub keep_all : (P Q : ℕ → Type 0) (is : List ℕ) → ((i : ℕ) → P i → Q i) → AllByRecursion P is → AllByRecursion Q is
-keep_all P Q [] go h = tt
-keep_all P Q (i ∷ is) go h = (go i h.0, keep_all P Q is go h.1)
 
 -- numbers that are there have the same types after a step
 pub same_all : (ns : List Cell) (s u : Assignment) (is : List ℕ) → Agrees (length ns) s u → AllByRecursion (IsType ns) is → map u.types is ≡ map s.types is
@@ -78,7 +75,7 @@ module _ (a b c : List Cell) (items : List ℕ) (i n : ℕ) (many : OpensMany a 
     fine = adds.fine;
     keeps = keeps_on a b c many.keeps adds.keeps;
     size = let e = many.size in omega (arith, length-append items (i ∷ []));
-    sorts = all_and_last (IsType c) items i (keep_all (IsType b) (IsType c) items (λ j. adds.keeps.sorts j a_type) many.sorts) adds.sort;
+    sorts = all_and_last (IsType c) items i (all_map (IsType b) (IsType c) items (λ j. adds.keeps.sorts j a_type) many.sorts) adds.sort;
     down = more_down;
     up = λ s h. many.up s ((adds.solves s).0 h).0;
   }

@@ -11,7 +11,7 @@ use Rattle.kl_rows.specs.Places.{a_type, a_function, sort_at, IsFine, IsType, Is
 use Rattle.kl_rows.specs.Solutions.{Assignment, TypeSays}
 use Rattle.kl_rows.specs.Steps.{Advances}
 use Rattle.kl_rows.specs.Making.{CanMake, Adds, Same}
-use Rattle.kl_rows.specs.Expanding.{Gives}
+use Rattle.kl_rows.specs.Expanding.{GivesType}
 use Rattle.kl_rows.specs.declared.schemes.Scheme.{Scheme}
 use Rattle.kl_rows.specs.Schemes.{Instance, Instantiates, cells_of, given}
 use Rattle.kl_rows.proofs.CellLists.{sort_within}
@@ -67,7 +67,7 @@ says_type old mid new i want ans n fine can there adds c =
     (λ s h d. subst (TypeSays n s) d.3 d.2)
     (with_type old mid i fine n can adds ans new _ (λ t s. t ≡ s.types want) (λ t. stable_type old want (λ x. t ≡ x) there) (λ s e. e) (λ s e. e) c)
 
-pub gives_type : (old mid new : List Cell) (i want : ℕ) (ans : Bool) (x t : Ground) → x ≡ t → IsType old want → Gives old mid i x → Checks ans mid new (λ s. s.types i ≡ s.types want) → Checks ans old new (λ s. t ≡ s.types want)
+pub gives_type : (old mid new : List Cell) (i want : ℕ) (ans : Bool) (x t : Ground) → x ≡ t → IsType old want → GivesType old mid i x → Checks ans mid new (λ s. s.types i ≡ s.types want) → Checks ans old new (λ s. t ≡ s.types want)
 gives_type old mid new i want ans x t is there gives c = record {
   fine = c.fine;
   keeps = keeps_on old mid new gives.keeps c.keeps;

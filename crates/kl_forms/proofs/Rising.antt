@@ -13,6 +13,7 @@ use Rattle.kl_value.specs.Order.{compare}
 use Rattle.kl_value.specs.declared.Value.{Value}
 use Rattle.kl_value.proofs.OrderLemmas.{compare_total, compare_exact}
 use Rattle.kl_forms.specs.Constants.{ValueFields}
+use Rattle.kl_base.proofs.Orders.{not_above}
 
 less_is : (o : Ordering) → true ≡ is_lt o → o ≡ Less
 less_is Less h = refl
@@ -64,11 +65,6 @@ labels_from (f ∷ fs) h = (from_labels f fs h.0, labels_from fs h.1)
 
 pub labels_is : (fs : ValueFields) (r : Bool) → IsAllAdjacentAnswer (λ f g b. b ≡ is_lt (bytes_cmp f.0 g.0)) fs r → IsTrue r ↔ LabelsRise fs
 labels_is fs r h = let e = strict_is by_label by_label_total fs r h in (λ t. labels_to fs (e.0 t), λ up. e.1 (labels_from fs up))
-
-not_above : (o : Ordering) → true ≡ is_le o → is_lt (ordering_reverse o) ≡ false
-not_above Less h = refl
-not_above Equal h = refl
-not_above Greater h = let z : ⊥ = cc in absurd z
 
 above : (o : Ordering) → false ≡ is_le o → is_lt (ordering_reverse o) ≡ false → ⊥
 above Less h e = cc

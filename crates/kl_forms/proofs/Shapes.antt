@@ -1,5 +1,5 @@
 -- Checks put together, for primitives.
-use Rattle.std.proofs.Common.{◌≡◌, ◌↔◌, ◌⊎◌, inl, inr, ⊎_elim, ℕ, Bool, true, false, List, [], ◌∷◌, length, map, Option, Some, None, option_map, Result, Ok, Err, IfOk, refl, sym, ap, ◌∙◌, subst, get_or, arith}
+use Rattle.std.proofs.Common.{◌≡◌, ◌↔◌, ◌⊎◌, ⊎_elim, ℕ, Bool, true, false, List, [], ◌∷◌, length, map, Option, Some, None, option_map, Result, Ok, Err, IfOk, refl, sym, ap, ◌∙◌, subst, get_or, arith}
 use Rattle.std.proofs.lemmas.List.{length-map}
 use Rattle.kl_value.specs.declared.Kind.{Kind}
 use Rattle.kl_value.specs.declared.Kind.TheVariants as kind
@@ -27,6 +27,7 @@ use Rattle.kl_forms.specs.Checks.{Checks, Opens, Refuses, Finds}
 use Rattle.kl_forms.specs.Forms.{ItemsOf, DrawnFrom, Applies, Operates}
 use Rattle.kl_forms.proofs.Steps.{Stable, both, cut, never, told, with_type, with_kind}
 use Rattle.kl_forms.proofs.Opening.{type_within, stable_type, can_any, opened, refused}
+use Rattle.kl_outcome.proofs.PrimLemmas.{one_or_two}
 
 -- one check and another, where the first holds and where it does not
 pub and_then : (one ans : Bool) (a b c : List Cell) (D E : Fact) → one ≡ true → Stable (length a) E → Checks one a b D → Checks ans b c E → Checks ans a c (λ s. D s × E s)
@@ -164,25 +165,6 @@ arm r old new sh one ts want D e go come h =
     (if_ok r (λ ans. Checks ans old new D) (λ ans. Checks ans old new (λ s. ShapeTypes one (ts s) (s.types want))) (λ ans c. told ans old new D _ (λ s x d. go s d) (λ s x d. come s d) c) h)
 
 -- how many arguments there are
-pub takes_some : (sh : Shape) (ts : List Ground) (t : Ground) → ShapeTypes sh ts t → (length ts ≡ 1) ⊎ (length ts ≡ 2)
-takes_some shape.Compare ts t d = inr (ap length d.1)
-takes_some shape.IntOp ts t d = inr (ap length d.0)
-takes_some shape.IntFn ts t d = inl (ap length d.0)
-takes_some shape.BoolFn ts t d = inl (ap length d.0)
-takes_some shape.TextJoin ts t d = inr (ap length d.0)
-takes_some shape.CollTest ts t d = inl (ap length d.2)
-takes_some shape.CollCount ts t d = inl (ap length d.2)
-takes_some shape.CollSum ts t d = inl (ap length d.1)
-takes_some shape.Member ts t d = inr (ap length d.2)
-takes_some shape.CollSame ts t d = inl (ap length d.2)
-takes_some shape.Flatten ts t d = inl (ap length d.2)
-takes_some shape.ToSet ts t d = inl (ap length d.2)
-takes_some shape.ToBag ts t d = inl (ap length d.2)
-takes_some shape.ToList ts t d = inl (ap length d.2)
-takes_some shape.TextLen ts t d = inl (ap length d.0)
-takes_some shape.TextTest ts t d = inr (ap length d.0)
-takes_some shape.TextInts ts t d = inl (ap length d.0)
-takes_some shape.IntText ts t d = inl (ap length d.0)
 
 -- lists of one and of two
 pub one_of : (xs : List ℕ) → length xs ≡ 1 → xs ≡ get_or xs 0 0 ∷ []
@@ -225,7 +207,7 @@ module _ (old : List Cell) (code want : ℕ) (args : List ℕ) where
     not_so_many fine not_one not_two = by_row old false (never old _ fine (λ s h d. ⊎_elim
         (λ q. not_one (sym (length-map args s.types) ∙ q))
         (λ q. not_two (sym (length-map args s.types) ∙ q))
-        (takes_some e.shape (map s.types args) (s.types want) d)))
+        (one_or_two e.shape (map s.types args) (s.types want) d)))
 
 -- operators
 pub op_applied : (c : Op) (old new : List Cell) (first second want : ℕ) (ans : Bool) (code : ℕ) → (c ≡ op.Or → ⊥) → (c ≡ op.And → ⊥) → (c ≡ op.Append → ⊥) → code ≡ code_of c

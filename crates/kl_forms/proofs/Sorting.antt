@@ -1,8 +1,7 @@
 -- Fields sorted by label are the same fields, and those of one label stand side by side.
-use Rattle.std.proofs.Common.{◌≡◌, ◌≢◌, ⊎_elim, ℕ, zero, suc, ◌-◌, Bool, true, false, cond, List, [], ◌∷◌, drop, Option, Some, None, IsSome, nat_eq, refl, sym, ap, ◌∙◌, subst, Ordering, Less, Equal, Greater, is_gt, IsPermutation}
+use Rattle.std.proofs.Common.{◌≡◌, ◌≢◌, ⊎_elim, ℕ, zero, suc, ◌-◌, Bool, true, false, cond, List, [], ◌∷◌, drop, Option, Some, None, IsSome, nat_eq, refl, sym, ap, ◌∙◌, subst, is_gt, IsPermutation}
 use Rattle.std.specs.Cmp.{IsTotalOrder}
 use Rattle.std.specs.Cmp.Lexicographic.{pointwise}
-use Rattle.std.specs.Ordering.{ordering_reverse}
 use Rattle.std.specs.List.{AllByRecursion}
 use Rattle.std.specs.List.Sorted.{IsSortedBy}
 use Rattle.std.proofs.lemmas.Cmp.{on_total, nat_list_cmp_total}
@@ -23,6 +22,7 @@ use Rattle.kl_rows.proofs.ListLemmas.{Label, field_there}
 use Rattle.kl_forms.specs.Forms.{HasFields}
 use Rattle.kl_forms.specs.Rows.{FindsRow, next}
 use Rattle.kl_forms.proofs.Fronts.{none_behind}
+use Rattle.kl_base.proofs.Orders.{neither}
 
 label_total : IsTotalOrder (label_cmp {T = ℕ})
 label_total = on_total (λ (f : Label × ℕ). f.0) nat_list_cmp_total
@@ -66,15 +66,11 @@ finds_sorted (Some row) b fs gs old new m c = record {
 finds_sorted None b fs gs old new m c = record { fine = c.fine; keeps = c.keeps; none = λ s r h g e. c.none s r h g (perm_all (λ f. at f.0 r ≡ Some (s.types f.1)) fs gs m e) }
 
 -- neighbours
-one_label : (o : Ordering) → is_gt o ≡ false → is_gt (ordering_reverse o) ≡ false → o ≡ Equal
-one_label Less h k = let z : ⊥ = cc in absurd z
-one_label Equal h k = refl
-one_label Greater h k = let z : ⊥ = cc in absurd z
 
 past : (l m : Label) (t : ℕ) (fs : Fields) → is_gt (bytes_cmp l m) ≡ false → l ≢ m → AllByRecursion (λ g. is_gt (label_cmp (m, t) g) ≡ false) fs → AllByRecursion (λ f. l ≢ f.0) fs
 past l m t [] le d h = tt
 past l m t (g ∷ fs) le d h =
-    (λ e. d (same_bytes l m (one_label (bytes_cmp l m) le (sym (ap is_gt (nat_list_cmp_total.antisymm m l)) ∙ subst (λ x. is_gt (bytes_cmp m x) ≡ false) (sym e) h.0))), past l m t fs le d h.1)
+    (λ e. d (same_bytes l m (neither (bytes_cmp l m) le (sym (ap is_gt (nat_list_cmp_total.antisymm m l)) ∙ subst (λ x. is_gt (bytes_cmp m x) ≡ false) (sym e) h.0))), past l m t fs le d h.1)
 
 next_is : (l : Label) (t : ℕ) (fs : Fields) → IsRising label_cmp ((l, t) ∷ fs) → field l fs ≡ next l fs
 next_is l t [] up = refl

@@ -1,5 +1,5 @@
 -- Which types the values of each shape have.
-use Rattle.std.proofs.Common.{◌≡◌, ℕ, ℤ, Bool, true, false, cond, List, [], ◌∷◌, map, Some, IsSome, nat_eq, refl, sym, ap, ◌∙◌, subst}
+use Rattle.std.proofs.Common.{◌≡◌, ℕ, ℤ, Bool, true, false, cond, List, [], ◌∷◌, Some, IsSome, nat_eq, refl, sym, ap, ◌∙◌, subst}
 use Rattle.std.specs.Cmp.Lexicographic.{pointwise}
 use Rattle.std.specs.List.{All, AllByRecursion}
 use Rattle.std.proofs.lemmas.List.Elements.{All-from_recursion, recursion_from_All}
@@ -13,7 +13,7 @@ use Rattle.kl_value.specs.declared.value.Value.TheVariants as value
 use Rattle.kl_value.proofs.IsCanonicalLemmas.{bool_made, int_made, text_made, variant_made, record_made, items_canonical}
 use Rattle.kl_type.specs.Ground.{Ground, Row, bool, int, str, rec, var, coll, arrow, no_row, row, at, IsGround, IsRow}
 use Rattle.kl_outcome.specs.Typed.{Has, HasFields, HasAt, Inhabits}
-use Rattle.kl_outcome.proofs.OutcomeTypes.{fields_canonical, carried_canonical, at_has}
+use Rattle.kl_outcome.proofs.OutcomeTypes.{fields_canonical, carried_canonical, at_has, has_at}
 use Rattle.kl_forms.specs.Constants.{ValueFields, row_with, EachHas}
 
 false_some : false ≡ true → ⊥
@@ -170,14 +170,6 @@ items_has k t v vs e up a q h =
     (subst (Inhabits (coll k a)) (sym e) ((vs, refl, recursion_from_All (Has a) vs (λ i d lt. (h i d lt).0)), up (recursion_from_All IsCanonical vs (λ i d lt. (h i d lt).1))))
 
 -- variants
-has_at : (r : Row) (l : List ℕ) (w : Value) (a : Ground) → at l r ≡ Some a → Has a w → HasAt r l w
-has_at no_row l w a e h = cc
-has_at (row m t r) l w a e h = by (pointwise nat_eq l m) (λ k. has_at r l w a k h) e
-  where
-    by : (b : Bool) → (at l r ≡ Some a → HasAt r l w) → cond b (Some t) (at l r) ≡ Some a → cond b (Has t w) (HasAt r l w)
-    by true go k = let same : t ≡ a = cc in subst (λ x. Has x w) (sym same) h
-    by false go k = go k
-
 at_ground : (r : Row) (l : List ℕ) (a : Ground) → IsRow r → at l r ≡ Some a → IsGround a
 at_ground no_row l a g e = cc
 at_ground (row m t r) l a g e = by (pointwise nat_eq l m) (λ k. at_ground r l a g.2 k) e
@@ -193,7 +185,7 @@ variant_type t v l w e g h =
     (x.0, at_ground k.0 l x.0 (subst IsGround k.1 g).1 x.1, (k.0, k.1, x.1), (x.2, carried_canonical l w (subst IsCanonical e h.1)))
 
 pub variant_has : (t : Ground) (v : Value) (l : List ℕ) (w : Value) → v ≡ value.Inj l w → (a : Ground) (r : Row) → t ≡ var r → at l r ≡ Some a → Inhabits a w → Inhabits t v
-variant_has t v l w e a r q f h = subst (λ t. Inhabits t v) (sym q) (subst (Inhabits (var r)) (sym e) ((l, w, refl, has_at r l w a f h.0), variant_made l w h.1))
+variant_has t v l w e a r q f h = subst (λ t. Inhabits t v) (sym q) (subst (Inhabits (var r)) (sym e) ((l, w, refl, has_at r l a w f h.0), variant_made l w h.1))
 
 -- records
 fields_type : (r : Row) (fs : ValueFields) → HasFields r fs → AllByRecursion (λ f. IsCanonical f.1) fs → (ts : List Ground) × (r ≡ row_with fs ts) × EachHas ts fs

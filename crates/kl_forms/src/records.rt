@@ -1,6 +1,6 @@
 //! Records and variants.
 ghost use Rattle.std.specs.Prelude.{◌≡◌, [], IfOk, map};
-ghost use Rattle.kl_base.specs.Fields.{bytes_cmp, labels_of};
+ghost use Rattle.kl_base.specs.Fields.{bytes_cmp};
 ghost use Rattle.kl_base.specs.Sorted.{IsRising};
 ghost use Rattle.kl_rows.specs.Places.{IsFine, IsType, AreTypes};
 ghost use Rattle.kl_forms.specs.Checks.{Checks, Finds};
@@ -8,7 +8,7 @@ ghost use Rattle.kl_forms.specs.Forms.{FieldOf, VariantOf, IsRecord, IsVariant};
 ghost use Rattle.kl_forms.specs.Rows.{FindsRow, Fronts, next};
 
 use crate::types::same;
-use kl_base::{Label, NoMemory};
+use kl_base::{Label, NoMemory, labels_of};
 use kl_rows::{Node, Unifier};
 use std::alloc::Global;
 
@@ -20,16 +20,6 @@ fn next(fields: &[(Label, u64)], label: &Label) -> Option<u64>
         [field, ..] if *label == field.0 => Some(field.1),
         _ => None,
     }
-}
-
-fn labels_of(alloc: Global, fields: &[(Label, u64)]) -> Result<Vec<Label>, NoMemory>
-    ensures { IfOk result (λ labels. labels.items ≡ labels_of fields.now) }
-{
-    let mut labels = Vec::with_capacity(alloc, fields.len())?;
-    for field in fields {
-        labels.push(field.0.dup()?)?;
-    }
-    Ok(labels)
 }
 
 // What stands behind the fields of a row: nothing, or if it is open others.

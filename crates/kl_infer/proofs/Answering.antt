@@ -29,11 +29,13 @@ use Rattle.kl_infer.specs.declared.scope.Known.{Known}
 use Rattle.kl_infer.specs.declared.typing.Typing.{Typing}
 use Rattle.kl_rows.specs.Places.{IsFine, IsType, AreTypes}
 use Rattle.kl_infer.proofs.Leaving.{when, begins, binds, goes_on, said, two_steps, ready_on, ready_for, ready_in, ready_head, ready_tail, ready_both}
-use Rattle.kl_infer.proofs.Loops.{at_item, at_number, ends, all_next, each_next, arms_next, steps_next, quals_next, binding_begins, bound_all, draw_split, draw_join, test_split, test_join, draw_form, test_form}
+use Rattle.kl_infer.proofs.Loops.{at_number, ends, all_next, each_next, arms_next, steps_next, quals_next, binding_begins, bound_all, draw_split, draw_join, test_split, test_join, draw_form, test_form}
 use Rattle.kl_infer.proofs.PatternForms.{leaves_told, ready_out, bound_so_far}
 use Rattle.kl_infer.proofs.Forms.{T, second, con_form, inject_form, coll_form, comp_form, path_form, chain_form, invert_form, minus_form, choice_form, bind_form}
 use Rattle.kl_infer.proofs.Lists.{with_arms, LastTypes, IsLast, none_last, rest_last, is_rest, names_of, bodies, call_form, record_form, select_form}
-use Rattle.kl_infer.proofs.Views.{arm, view_con, view_name, view_call, view_rec, view_inj, view_coll, view_comp, view_if, view_let, view_case, view_path, view_not, view_neg, view_chain, count_view, names_seen, bodies_seen, length_seen, arm_names, arm_length, arms_seen, branch_seen, view_gen, view_cond}
+use Rattle.kl_infer.proofs.Views.{arm, view_con, view_name, view_call, view_rec, view_inj, view_coll, view_comp, view_if, view_let, view_case, view_path, view_not, view_neg, view_chain, count_view, names_seen, bodies_seen, length_seen, arm_names, arm_length, arms_seen, view_gen, view_cond}
+use Rattle.kl_base.proofs.Places.{drop_at}
+use Rattle.kl_syntax.proofs.Views.{branch_seen}
 
 module _ (k : Known) (ns : Fields) (w : ℕ) (e : Expr) where
   -- the expression is asked to have the type
@@ -172,7 +174,7 @@ module _ (k : Known) (ns : Fields) where
       → Leaves a0 a D (All (exps_view (drop n es)) (drop n ws)) → Asks a b (λ s. Types (view x) (sorts k) (context s ns) (s.types (slice_index_or ws n 0))) → Leaves a0 b D (All (exps_view (drop (n + 1) es)) (drop (n + 1) ws))
   all_more a0 a b D es ws n x e lt h r f g =
       all_next k ns a0 a b D (view x) (exps_view (drop (n + 1) es)) (slice_index_or ws n 0) (drop (n + 1) ws) (next_ready k a0 a ns ws n f.follows (omega arith) r)
-      (subst (λ (v : List ℕ). Leaves a0 a D (All (exps_view (x ∷ drop (n + 1) es)) v)) (at_number ws n (omega arith)) (subst (λ (v : List Expr). Leaves a0 a D (All (exps_view v) (drop n ws))) (at_item es n x lt h) f)) g
+      (subst (λ (v : List ℕ). Leaves a0 a D (All (exps_view (x ∷ drop (n + 1) es)) v)) (at_number ws n (omega arith)) (subst (λ (v : List Expr). Leaves a0 a D (All (exps_view v) (drop n ws))) (drop_at es n x lt h) f)) g
 
   pub all_done : (a0 a : Typing) (D : Fact) (es : List Expr) (ws : List ℕ) (n : ℕ) → length ws ≡ length es → length es ≤ n → Leaves a0 a D (All (exps_view (drop n es)) (drop n ws)) → Asks a0 a D
   all_done a0 a D es ws n e le f =
@@ -189,7 +191,7 @@ module _ (k : Known) (ns : Fields) where
       → Leaves a0 a D (All (bodies_view (drop n es)) (drop n ws)) → Asks a b (λ s. Types (view y.1) (sorts k) (context s ns) (s.types (slice_index_or ws n 0))) → Leaves a0 b D (All (bodies_view (drop (n + 1) es)) (drop (n + 1) ws))
   fields_more a0 a b D es ws n x y e lt h hy r f g =
       all_next k ns a0 a b D (view x.1) (bodies_view (drop (n + 1) es)) (slice_index_or ws n 0) (drop (n + 1) ws) (next_ready k a0 a ns ws n f.follows (omega arith) r)
-      (subst (λ (v : List ℕ). Leaves a0 a D (All (bodies_view (x ∷ drop (n + 1) es)) v)) (at_number ws n (omega arith)) (subst (λ (v : List (Word × Expr)). Leaves a0 a D (All (bodies_view v) (drop n ws))) (at_item es n x lt h) f))
+      (subst (λ (v : List ℕ). Leaves a0 a D (All (bodies_view (x ∷ drop (n + 1) es)) v)) (at_number ws n (omega arith)) (subst (λ (v : List (Word × Expr)). Leaves a0 a D (All (bodies_view v) (drop n ws))) (drop_at es n x lt h) f))
       (subst (λ (z : Word × Expr). Asks a b (λ s. Types (view z.1) (sorts k) (context s ns) (s.types (slice_index_or ws n 0)))) (sym hy) g)
 
   pub fields_done : (a0 a : Typing) (D : Fact) (es : List (Word × Expr)) (ws : List ℕ) (n : ℕ) → length ws ≡ length es → length es ≤ n → Leaves a0 a D (All (bodies_view (drop n es)) (drop n ws)) → Asks a0 a D
@@ -207,7 +209,7 @@ module _ (k : Known) (ns : Fields) where
       → Leaves a0 a D (Each (exps_view (drop n es)) i) → Asks a b (λ s. Types (view x) (sorts k) (context s ns) (s.types i)) → Leaves a0 b D (Each (exps_view (drop (n + 1) es)) i)
   each_more a0 a b D es i n x lt h r f g =
       each_next k ns a0 a b D (view x) (exps_view (drop (n + 1) es)) i (ready_on k a0 a ns (i ∷ []) f.follows r)
-      (subst (λ (v : List Expr). Leaves a0 a D (Each (exps_view v) i)) (at_item es n x lt h) f) g
+      (subst (λ (v : List Expr). Leaves a0 a D (Each (exps_view v) i)) (drop_at es n x lt h) f) g
 
   pub each_done : (a0 a : Typing) (D : Fact) (es : List Expr) (i n : ℕ) → length es ≤ n → Leaves a0 a D (Each (exps_view (drop n es)) i) → Asks a0 a D
   each_done a0 a D es i n le f = ends a0 a D (Each (exps_view []) i) (λ s. tt) (subst (λ (v : List Expr). Leaves a0 a D (Each (exps_view v) i)) (drop_all n es le) f)
@@ -231,7 +233,7 @@ module _ (k : Known) (ns : Fields) where
       let r3 : Ready k a ns (one ∷ drop (n + 1) ws) = next_ready k a0 a ns ws n f.follows (omega arith) (ready_tail k a0 ns w ws r) in
       arms_next k ns a0 a b D (out-Branch x).label (pattern_view (out-Branch x).pat) (view (out-Branch x).body) rest one w (drop (n + 1) ws) (ready_both k a ns w (one ∷ drop (n + 1) ws) r2 r3)
       (subst (λ (v : Branches). Leaves a0 a D (Armed v (one ∷ drop (n + 1) ws) w)) (branch_seen x rest)
-      (subst (λ (v : List ℕ). Leaves a0 a D (Armed (arms_view (x ∷ drop (n + 1) bs)) v w)) (at_number ws n (omega arith)) (subst (λ (v : List Branch). Leaves a0 a D (Armed (arms_view v) (drop n ws) w)) (at_item bs n x lt h) f)))
+      (subst (λ (v : List ℕ). Leaves a0 a D (Armed (arms_view (x ∷ drop (n + 1) bs)) v w)) (at_number ws n (omega arith)) (subst (λ (v : List Branch). Leaves a0 a D (Armed (arms_view v) (drop n ws) w)) (drop_at bs n x lt h) f)))
       (subst (λ (v : Branches). Asks a b (λ s. ArmsTake v (sorts k) (context s ns) (s.types one ∷ []) (s.types w))) (branch_seen x no_branches) g)
 
   pub arms_done : (a0 a : Typing) (D : Fact) (bs : List Branch) (ws : List ℕ) (w n : ℕ) → length ws ≡ length bs → length bs ≤ n → Leaves a0 a D (Armed (arms_view (drop n bs)) (drop n ws) w) → Asks a0 a D
@@ -266,9 +268,9 @@ module _ (k : Known) (ns : Fields) where
       → Leaves a0 a D (Stepped (steps_view (drop n ss)) t w) → Gets a b u (λ z s. Unit {0}) → Asks b c (λ s. Types (view x2.1) (sorts k) (context s ns) (s.types u)) → Gets c d v (Operates y2.0 t u)
       → Leaves a0 d D (Stepped (steps_view (drop (n + 1) ss)) v w)
   steps_more a0 a b c d D ss n x y x2 y2 i t w u v lt h h2 hx hy r there f g q m =
-      let same : y ≡ x = tail_first (at_item ss n y lt h2) (at_item ss n x lt h) in
+      let same : y ≡ x = tail_first (drop_at ss n y lt h2) (drop_at ss n x lt h) in
       steps_next k ns a0 a b c d D x.0 (view x.1) (steps_view (drop (n + 1) ss)) t w u v (so_far a0 a i t w f.follows there r)
-      (subst (λ (z : List (Op × Expr)). Leaves a0 a D (Stepped (steps_view z) t w)) (at_item ss n x lt h) f) g (subst (λ (z : Op × Expr). Asks b c (λ s. Types (view z.1) (sorts k) (context s ns) (s.types u))) (sym hx) q) (subst (λ (z : Op × Expr). Gets c d v (Operates z.0 t u)) (sym hy ∙ same) m)
+      (subst (λ (z : List (Op × Expr)). Leaves a0 a D (Stepped (steps_view z) t w)) (drop_at ss n x lt h) f) g (subst (λ (z : Op × Expr). Asks b c (λ s. Types (view z.1) (sorts k) (context s ns) (s.types u))) (sym hx) q) (subst (λ (z : Op × Expr). Gets c d v (Operates z.0 t u)) (sym hy ∙ same) m)
     where
       tail_first : drop n ss ≡ y ∷ drop (n + 1) ss → drop n ss ≡ x ∷ drop (n + 1) ss → y ≡ x
       tail_first p o = cc
@@ -301,7 +303,7 @@ module _ (k : Known) (ns : Fields) where
       → ((rest : Quals) → Binding a b bs cs ns (λ s. QualTypes (qual_view x rest) (sorts k)) (λ s. QualTypes rest (sorts k))) → Binding a0 b bs0 cs ns D (Drawn (quals_view (drop (n + 1) qs)))
   quals_more a0 a b bs0 bs cs D qs n x lt e f g =
       let rest = quals_view (drop (n + 1) qs) in
-      binding_on a0 a b bs0 bs cs D _ _ (subst (λ (v : List Qual). Binding a0 a bs0 bs ns D (Drawn (quals_view v))) (at_item qs n x lt e) f) (g rest)
+      binding_on a0 a b bs0 bs cs D _ _ (subst (λ (v : List Qual). Binding a0 a bs0 bs ns D (Drawn (quals_view v))) (drop_at qs n x lt e) f) (g rest)
 
   pub quals_done : (a0 a : Typing) (bs0 bs : Fields) (D : Assignment → Context → Context → Type 0) (qs : List Qual) (n : ℕ) → length qs ≤ n → Binding a0 a bs0 bs ns D (Drawn (quals_view (drop n qs))) → Binds a0 a bs0 bs ns D
   quals_done a0 a bs0 bs D qs n le f =

@@ -25,6 +25,7 @@ use Rattle.kl_infer.proofs.Grounds.{is_type, takes_ground}
 use Rattle.kl_infer.proofs.Leaving.{told, beside, opens, binds, goes_on, said, ready_on, ready_in, ready_new, still_there}
 use Rattle.kl_infer.proofs.Forms.{first, ground_of_type, known_ground}
 use Rattle.kl_infer.specs.declared.typing.Typing.{Typing}
+use Rattle.kl_rows.proofs.Settlements.{empty_solved, empty_fine}
 
 pub arrow_can : (ns : List Cell) (a b : ℕ) → IsType ns a → IsType ns b → CanMake ns (OfFunction a b)
 arrow_can ns a b h k = record { placed = (h, k); tidy = tt }
@@ -87,12 +88,9 @@ pub record Carries (a z : Typing) (root : ℕ) (q : Sort) (P : Ground → Type 0
 any_assignment : Assignment
 any_assignment = record { types = λ i. bool; functions = λ i. bool; rows = λ i. no_row; kinds = λ i. kind.Set; types_ground = λ i. tt; rows_ground = λ i. tt }
 
-solves_nothing : (ns : List Cell) (s : Assignment) → ns ≡ [] → Solves ns s
-solves_nothing ns s e = record { each = λ i c h. let d : slice_get [] i ≡ Some c = subst (λ (z : List Cell). slice_get z i ≡ Some c) e h in let w : ⊥ = cc in absurd w }
-
 module _ (a z : Typing) (root : ℕ) (q : Sort) (P : Ground → Type 0) (empty : cells a ≡ []) (carries : Carries a z root q P) where
   pub no_type : Concludes z root None → (u : Ground) → P u → ⊥
-  no_type none u h = let w = carries.down u any_assignment h (solves_nothing (cells a) any_assignment empty) in none w.1.to w.0 w.1.solves
+  no_type none u h = let w = carries.down u any_assignment h (empty_solved (cells a) any_assignment empty) in none w.1.to w.0 w.1.solves
 
   pub is_principal : (p : Scheme) → Concluded z root p → IsPrincipal q p P
   is_principal p c =
@@ -103,7 +101,7 @@ module _ (a z : Typing) (root : ℕ) (q : Sort) (P : Ground → Type 0) (empty :
         instances = λ u. (
           (λ i. let w = c.from u i in subst P (ap (λ o. given o w.0 root) (sym sort) ∙ w.2) (carries.up w.0 c.possible w.1)),
           (λ h.
-              let w = carries.down u any_assignment h (solves_nothing (cells a) any_assignment empty) in
+              let w = carries.down u any_assignment h (empty_solved (cells a) any_assignment empty) in
               let g = w.1 in
               subst (Instance p) (ap (λ o. given o g.to root) sort ∙ g.holds) (c.to g.to g.solves)),
         );
@@ -204,15 +202,8 @@ pub answer : (a z : Typing) (root : ℕ) (q : Sort) (P : Ground → Type 0) (fou
 answer a z root q P (Some p) e f h = is_principal a z root q P e f p h
 answer a z root q P None e f h = no_type a z root q P e f h
 
-fine_empty : (ns : List Cell) → ns ≡ [] → IsFine ns
-fine_empty ns e = subst IsFine (sym e) (record {
-  tidy = λ i fs r h. let d : ⊥ = cc in absurd d;
-  placed = λ i c h. let d : ⊥ = cc in absurd d;
-  ended = λ i h. let d : ⊥ = cc in absurd d;
-})
-
 pub ready_first : (k : Known) (t : Typing) → cells t ≡ [] → ((x : Name) → IsGood (meant k x)) → Ready k t [] []
-ready_first k t e g = record { good = g; fine = λ p. fine_empty (cells t) e; bound = λ p. tt; wants = λ p. tt }
+ready_first k t e g = record { good = g; fine = λ p. empty_fine (cells t) e; bound = λ p. tt; wants = λ p. tt }
 
 pub constant_answer : (k : Known) (a b c : Typing) (i : ℕ) (e : Exp) (found : Option Scheme) → cells a ≡ [] → IsTrue a.possible → ((x : Name) → IsGood (meant k x)) → Gets a b i (λ t s. Unit {0}) → Asks b c (λ s. Types e (sorts k) [] (s.types i)) → Concludes c i found
     → MatchOption found ((t : Ground) → Types e (sorts k) [] t → ⊥) (λ p. IsPrincipal a_type p (Types e (sorts k) []))

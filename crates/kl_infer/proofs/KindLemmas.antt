@@ -1,6 +1,7 @@
 -- The kind of a scheme's collections.
 use Rattle.std.proofs.Common.{◌≡◌, ◌⊎◌, inl, inr, ⊎_elim, ℕ, zero, suc, List, [], ◌∷◌, Option, Some, None, option_map, slice_get, refl, sym, ap, ◌∙◌}
 use Rattle.std.specs.Prelude.{IfSome}
+use Rattle.std.proofs.lemmas.Option.{same_Some}
 use Rattle.kl_value.specs.declared.Kind.{Kind}
 use Rattle.kl_value.specs.declared.Kind.TheVariants as kind
 use Rattle.kl_type.specs.Ground.{Ground, int, rec, var, coll, arrow}
@@ -18,7 +19,7 @@ use Rattle.kl_rows.specs.declared.schemes.Scheme.{Scheme}
 use Rattle.kl_rows.specs.Places.{a_type, a_function, a_row, a_kind, sort_of, sort_at, IsTyped}
 use Rattle.kl_rows.specs.Solutions.{scalar_type}
 use Rattle.kl_rows.specs.Schemes.{base_node, cell_of, cells_of, given, Instance, IsScheme}
-use Rattle.kl_rows.proofs.CellLists.{some_same, stands}
+use Rattle.kl_rows.proofs.CellLists.{stands}
 use Rattle.kl_rows.proofs.Choosing.{type_chosen, kind_chosen}
 use Rattle.kl_infer.specs.Kinds.{fixed_kind, kind_place, kind_at, known_kind, HasOther}
 use Rattle.kl_infer.proofs.TreeLemmas.{get_cells}
@@ -70,7 +71,7 @@ known_at s k r e is = is ∙ sym (ap (kind_at s.nodes) e)
 -- the part that says what a cell says
 get_part : (parts : List Part) (i : ℕ) (c : Cell) → slice_get (cells_of parts) i ≡ Some c → (p : Part) × (slice_get parts i ≡ Some p) × (cell_of p ≡ c)
 get_part [] i c e = let z : ⊥ = cc in absurd z
-get_part (p ∷ parts) zero c e = (p, refl, some_same (cell_of p) c e)
+get_part (p ∷ parts) zero c e = (p, refl, same_Some (cell_of p) c e)
 get_part (p ∷ parts) (suc i) c e = get_part parts i c e
 
 IsOpenOrFixed : Part → Type 0

@@ -8,7 +8,7 @@ use Rattle.kl_rows.specs.Places.{Sort, a_type, sort_at, IsFine, IsType, AreTypes
 use Rattle.kl_rows.specs.Solutions.{Assignment, Solves}
 use Rattle.kl_rows.specs.Steps.{Agrees, Grown, Keeps, Advances}
 use Rattle.kl_rows.specs.Making.{Adds, Same}
-use Rattle.kl_rows.specs.Expanding.{Gives}
+use Rattle.kl_rows.specs.Expanding.{GivesType}
 use Rattle.kl_rows.specs.declared.cell.Cell.TheVariants.{OfType}
 use Rattle.kl_rows.specs.declared.cell.TypeNode.TheVariants.{AnyType}
 use Rattle.kl_rows.specs.declared.Unifier.{Unifier}
@@ -29,6 +29,7 @@ use Rattle.kl_infer.specs.Asking.{cells, Follows, Leaves, Asks, Gets, GetsMany, 
 use Rattle.kl_infer.specs.Names.{Meant, by_function, by_code, Ready, labelled, meant, sort_of, sorts}
 use Rattle.kl_infer.specs.declared.scope.Known.{Known}
 use Rattle.kl_infer.specs.declared.typing.Typing.{Typing}
+use Rattle.kl_forms.proofs.Shapes.{head_is}
 
 untrue : {A : Type 0} → (b : Bool) → b ≡ false → IsTrue b → A
 untrue b e p = let d : ⊥ = cc in absurd d
@@ -261,7 +262,7 @@ fresh_so a b i p f e h = record {
   up = λ s q d. (((h.solves s).0 d).0, tt);
 }
 
-pub truth_so : (a b : Typing) (i : ℕ) (t : Ground) → IsTrue a.possible → b.possible ≡ a.possible → t ≡ bool → Gives (cells a) (cells b) i t → Gets a b i (λ u s. u ≡ bool)
+pub truth_so : (a b : Typing) (i : ℕ) (t : Ground) → IsTrue a.possible → b.possible ≡ a.possible → t ≡ bool → GivesType (cells a) (cells b) i t → Gets a b i (λ u s. u ≡ bool)
 truth_so a b i t p e k h = record {
   follows = λ q. record { was = p; fine = h.fine; keeps = h.keeps };
   sort = λ q. h.sort;
@@ -335,10 +336,7 @@ call_function ans old new m p args w e l c =
     subst (λ (z : Meant). Checks ans old new (λ s. CallTypes (sort_of z) (map s.types args) (s.types w))) (sym e)
     (subst (λ (z : List ℕ). Checks ans old new (λ s. CallTypes (sort_of (by_function p)) (map s.types z) (s.types w))) (sym (one_of args l))
     (say ans old new (Calls p i w) (λ s. CallTypes (sort_of (by_function p)) (s.types i ∷ []) (s.types w))
-    (λ s q h. subst (λ (t : Ground). Instance p (arrow t (s.types w))) (sym (first_is _ _ h.1)) h.2) (λ s q h. (s.types i, refl, h)) c))
-  where
-    first_is : (t u : Ground) → t ∷ [] ≡ u ∷ [] → t ≡ u
-    first_is t u q = cc
+    (λ s q h. subst (λ (t : Ground). Instance p (arrow t (s.types w))) (sym (head_is _ _ h.1)) h.2) (λ s q h. (s.types i, refl, h)) c))
 
 pub call_code : (holds : Bool) (old new : List Cell) (m : Meant) (n : ℕ) (args : List ℕ) (w : ℕ) → m ≡ by_code n → Checks holds old new (Applies n args w) → Checks holds old new (λ s. CallTypes (sort_of m) (map s.types args) (s.types w))
 call_code ans old new m n args w e c = subst (λ (z : Meant). Checks ans old new (λ s. CallTypes (sort_of z) (map s.types args) (s.types w))) (sym e) c

@@ -23,12 +23,9 @@ use Rattle.kl_infer.proofs.Grounds.{at_ground, op_ground}
 use Rattle.kl_infer.proofs.Leaving.{told, beside, opens, binds, goes_on, ready_on, ready_for, said, follows_refl, follows_on, begins, same_context}
 use Rattle.kl_infer.proofs.Forms.{T, first, second, third, ground_of_type, ready_after}
 use Rattle.kl_infer.proofs.PatternForms.{Outside, leaves_told, binds_at, binds_by, onto_append, types_append}
+use Rattle.kl_base.proofs.Places.{drop_at}
 
--- an item of a list, and those behind it
-pub at_item : {A : Type 0} (xs : List A) (i : ℕ) (x : A) → i < length xs → x ≡ get_or xs i x → drop i xs ≡ x ∷ drop (i + 1) xs
-at_item xs i x lt e = rw add-one (drop-cons xs i x lt ∙ ap (λ z. z ∷ drop (suc i) xs) (sym e))
-
--- the same of a number
+-- a number of a list, and those behind it
 pub at_number : (ws : List ℕ) (n : ℕ) → n < length ws → drop n ws ≡ slice_index_or ws n 0 ∷ drop (n + 1) ws
 at_number ws n lt = rw add-one (drop-cons ws n 0 lt)
 
@@ -208,7 +205,7 @@ path_there a b D R w there f p = let k = f.follows p in let h = k.keeps in h.sor
 pub path_more : (a0 a b : Typing) (D : Fact) (ls : List Word) (n : ℕ) (l m : Word) (t w i : ℕ) → n < length ls → l ≡ get_or ls n l → l ≡ m → (IsTrue a0.possible → IsType (cells a0) w)
     → Leaves a0 a D (λ s. PathTypes (drop n ls) (s.types t) (s.types w)) → Gets a b i (FieldOf m.text t) → Leaves a0 b D (λ s. PathTypes (drop (n + 1) ls) (s.types i) (s.types w))
 path_more a0 a b D ls n l m t w i lt e em there f g =
-    path_next a0 a b D l (drop (n + 1) ls) t w i (path_there a0 a D _ w there f) (subst (λ (z : List Word). Leaves a0 a D (λ s. PathTypes z (s.types t) (s.types w))) (at_item ls n l lt e) f) (subst (λ (z : Word). Gets a b i (FieldOf z.text t)) (sym em) g)
+    path_next a0 a b D l (drop (n + 1) ls) t w i (path_there a0 a D _ w there f) (subst (λ (z : List Word). Leaves a0 a D (λ s. PathTypes z (s.types t) (s.types w))) (drop_at ls n l lt e) f) (subst (λ (z : Word). Gets a b i (FieldOf z.text t)) (sym em) g)
 
 pub path_done : (a0 a b : Typing) (D : Fact) (ls : List Word) (n t w : ℕ) → length ls ≤ n → Leaves a0 a D (λ s. PathTypes (drop n ls) (s.types t) (s.types w)) → Asks a b (λ s. s.types t ≡ s.types w) → Asks a0 b D
 path_done a0 a b D ls n t w le f g = goes_on a0 a b D _ _ (subst (λ (z : List Word). Leaves a0 a D (λ s. PathTypes z (s.types t) (s.types w))) (drop_all n ls le) f) g

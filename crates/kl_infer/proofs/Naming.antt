@@ -10,7 +10,8 @@ use Rattle.kl_infer.specs.Asking.{onto}
 use Rattle.kl_infer.specs.Names.{Meant, last_from, defined, meant_over, labelled}
 use Rattle.kl_rows.specs.declared.Scheme.{Scheme}
 use Rattle.kl_syntax.specs.declared.tree.Decl.{Decl}
-use Rattle.kl_infer.proofs.Loops.{at_item, at_number}
+use Rattle.kl_infer.proofs.Loops.{at_number}
+use Rattle.kl_base.proofs.Places.{drop_at}
 
 -- the last of a block is the innermost
 pub field_onto : (x : Name) (bs ns : Fields) → field x (onto bs ns) ≡ last_from x bs (field x ns)
@@ -24,7 +25,7 @@ pub meant_step : (x : Name) (ds : List Decl) (ss : List Scheme) (n : ℕ) (d : D
     → p ≡ cond (same_name x d.name.text) (defined d.param s) m → meant_over x (drop n ds) (drop n ss) m ≡ w → meant_over x (drop (n + 1) ds) (drop (n + 1) ss) p ≡ w
 meant_step x ds ss n d s m p w l1 l2 e1 e2 h g =
     ap (meant_over x (drop (n + 1) ds) (drop (n + 1) ss)) h
-    ∙ sym (ap (λ (z : List Decl). meant_over x z (drop n ss) m) (at_item ds n d l1 e1) ∙ ap (λ (z : List Scheme). meant_over x (d ∷ drop (n + 1) ds) z m) (at_item ss n s l2 e2)) ∙ g
+    ∙ sym (ap (λ (z : List Decl). meant_over x z (drop n ss) m) (drop_at ds n d l1 e1) ∙ ap (λ (z : List Scheme). meant_over x (d ∷ drop (n + 1) ds) z m) (drop_at ss n s l2 e2)) ∙ g
 
 over_none : (x : Name) (ds : List Decl) (m : Meant) → meant_over x ds [] m ≡ m
 over_none x [] m = refl
@@ -49,7 +50,7 @@ labels_more {X} f all new xs ns i x y l size lt e ey el en h =
     let n = slice_index_or ns i 0 in
     let rest = labelled (map f (drop (i + 1) xs)) (drop (i + 1) ns) in
     ap (λ (z : Fields). z ++ rest) en ∙ append_assoc all ((l, n) ∷ []) rest ∙ ap (λ (z : Name). all ++ (z, n) ∷ rest) (el ∙ sym (ap f ey))
-    ∙ sym (ap (λ (z : List X). all ++ labelled (map f z) (drop i ns)) (at_item xs i x lt e) ∙ ap (λ (z : List ℕ). all ++ labelled (f x ∷ map f (drop (i + 1) xs)) z) (at_number ns i (omega arith))) ∙ h
+    ∙ sym (ap (λ (z : List X). all ++ labelled (map f z) (drop i ns)) (drop_at xs i x lt e) ∙ ap (λ (z : List ℕ). all ++ labelled (f x ∷ map f (drop (i + 1) xs)) z) (at_number ns i (omega arith))) ∙ h
 
 pub labels_done : {X : Type 0} (f : X → Name) (all : Fields) (xs : List X) (ns : List ℕ) (i : ℕ) → length xs ≤ i → all ++ labelled (map f (drop i xs)) (drop i ns) ≡ labelled (map f xs) ns → all ≡ labelled (map f xs) ns
 labels_done {X} f all xs ns i le h = sym (append-nil all) ∙ sym (ap (λ (z : List X). all ++ labelled (map f z) (drop i ns)) (drop_all i xs le)) ∙ h

@@ -24,9 +24,9 @@ use Rattle.kl_infer.specs.declared.typed.Typed.{Typed}
 use Rattle.kl_infer.specs.declared.inference.InferError.{InferError}
 use Rattle.kl_infer.specs.declared.inference.InferError.TheVariants.{IllTyped, NoMemory}
 use Rattle.kl_infer.specs.declared.scope.Known.{Known}
-use Rattle.kl_infer.proofs.Loops.{at_item}
 use Rattle.kl_infer.specs.Names.{Meant, meant, sorts, by_value, by_function, by_source, meant_over, meant_first, by_maybe_code, by_maybe_source, defined, sort_of, IsGood}
 use Rattle.kl_infer.proofs.Alike.{AreAlike, types_within, function_within}
+use Rattle.kl_base.proofs.Places.{drop_at}
 
 -- ---- the definitions so far
 
@@ -270,7 +270,7 @@ module _ (known : Known) (defs : List Decl) (ss : List Scheme) (sources : List (
       (have_more (take n defs) d K ss p have (declared_alike (behind_all (take n defs) K) (sorts known) known_alike d.param d p h)))
 
   split_at : (d : Decl) → n < length defs → d ≡ get_or defs n d → take n defs ++ d ∷ drop (n + 1) defs ≡ defs
-  split_at d lt e = ap (λ (z : List Decl). take n defs ++ z) (sym (at_item defs n d lt e)) ∙ take-append-drop n defs
+  split_at d lt e = ap (λ (z : List Decl). take n defs ++ z) (sym (drop_at defs n d lt e)) ∙ take-append-drop n defs
 
   pub refuses : (d : Decl) (last : Exp) (why : InferError) → n < length defs → d ≡ get_or defs n d → NoType d.param d (sorts known) → IsAt n why → IsRefusal (decls_of defs) last (types_of sources) why
   refuses d last NoMemory lt e h at = tt

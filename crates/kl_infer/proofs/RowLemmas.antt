@@ -5,8 +5,7 @@ use Rattle.std.proofs.lemmas.Bool.Decides.{nat_tests}
 use Rattle.std.specs.List.{AllByRecursion, flat_map}
 use Rattle.std.specs.Ordering.{is_gt}
 use Rattle.kl_base.specs.Sorted.{put_in, sorted}
-use Rattle.kl_value.specs.Written.{with_commas}
-use Rattle.kl_type.specs.Written.{separator}
+use Rattle.kl_value.specs.Written.{with_commas, separator}
 use Rattle.kl_rows.specs.declared.schemes.Part.{Part}
 use Rattle.kl_rows.specs.declared.schemes.Part.TheVariants.{Is}
 use Rattle.kl_rows.specs.declared.schemes.Node.TheVariants as node

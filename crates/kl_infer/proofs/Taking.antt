@@ -20,10 +20,11 @@ use Rattle.kl_infer.specs.declared.scope.Known.{Known}
 use Rattle.kl_infer.specs.declared.typing.Typing.{Typing}
 use Rattle.kl_infer.proofs.Leaving.{when, ready_in, ready_for}
 use Rattle.kl_infer.proofs.Lists.{names_of}
-use Rattle.kl_infer.proofs.Loops.{at_item, at_number, takes_next, bound_all, binding_begins}
+use Rattle.kl_infer.proofs.Loops.{at_number, takes_next, bound_all, binding_begins}
 use Rattle.kl_infer.proofs.PatternForms.{any_pattern, same_pattern, is_pattern, catch_pattern, variant_pattern, record_pattern, ready_out, bound_so_far}
 use Rattle.kl_infer.proofs.Answering.{next_ready}
 use Rattle.kl_infer.proofs.Views.{view_catch, view_any, view_same, view_is, view_shape, view_variant, pattern_names, pattern_length}
+use Rattle.kl_base.proofs.Places.{drop_at}
 
 module _ (k : Known) (ns : Fields) (a : Typing) where
   -- the pattern is asked to take the type
@@ -85,7 +86,7 @@ module _ (k : Known) (ns : Fields) where
   takes_more a0 a b bs0 bs cs D ps ws n x y e lt h hy r f g =
       let q = next_ready k a0 a ns ws n f.follows (omega arith) (ready_out k a0 bs0 ns ws r) in
       takes_next k ns a0 a b bs0 bs cs D x.0 (pattern_view x.1) (patterns_view (drop (n + 1) ps)) (slice_index_or ws n 0) (drop (n + 1) ws) q
-      (subst (λ (v : List ℕ). Binding a0 a bs0 bs ns D (All (x ∷ drop (n + 1) ps) v)) (at_number ws n (omega arith)) (subst (λ (v : List (Word × Pattern)). Binding a0 a bs0 bs ns D (All v (drop n ws))) (at_item ps n x lt h) f))
+      (subst (λ (v : List ℕ). Binding a0 a bs0 bs ns D (All (x ∷ drop (n + 1) ps) v)) (at_number ws n (omega arith)) (subst (λ (v : List (Word × Pattern)). Binding a0 a bs0 bs ns D (All v (drop n ws))) (drop_at ps n x lt h) f))
       (subst (λ (z : Word × Pattern). Binds a b bs cs ns (λ s. Takes (pattern_view z.1) (NameTypes (sorts k) (context s ns)) (s.types (slice_index_or ws n 0)))) (sym hy) g)
 
   pub takes_done : (a0 a : Typing) (bs0 bs : Fields) (D : Assignment → Context → Context → Type 0) (ps : List (Word × Pattern)) (ws : List ℕ) (n : ℕ) → length ws ≡ length ps → length ps ≤ n → Binding a0 a bs0 bs ns D (All (drop n ps) (drop n ws)) → Binds a0 a bs0 bs ns D

@@ -188,7 +188,3 @@ pub none_at : {X : Type 0} (xs : List X) (i : ℕ) → length xs ≤ i → slice
 none_at [] i le = refl
 none_at (y ∷ xs) zero le = absurd (omega arith)
 none_at (y ∷ xs) (suc i) le = none_at xs i (omega arith)
-
--- one place is read twice
-pub same_read : {X : Type 0} (xs : List X) (i : ℕ) (x y : X) → i < length xs → x ≡ get_or xs i x → y ≡ get_or xs i y → x ≡ y
-same_read xs i x y lt e f = let a : Some x ≡ Some y = sym (some_at xs i x lt e) ∙ some_at xs i y lt f in let z : x ≡ y = cc in z

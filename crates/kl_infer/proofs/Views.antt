@@ -16,65 +16,39 @@ use Rattle.kl_syntax.specs.declared.tree.Word.{Word}
 use Rattle.kl_syntax.specs.Syntax.{Pat, catch, any, same, is, shape, variant, Exp, exps, con, name, call, fields, inject, coll, comp, choice, bind, select, path, invert, minus, chain, Quals, draw, test, Branches, branch}
 use Rattle.kl_syntax.specs.View.{view, qual_view, branch_view, branches_view, branches_of, rest_of, exps_of, exps_view, fields_view, field_view, quals_view, steps_view, pattern_view, patterns_view, pattern_pair}
 use Rattle.kl_infer.proofs.Lists.{with_arms, count, names_of, bodies}
+use Rattle.kl_syntax.proofs.Views.{view_Const, view_Name, view_Gen, view_Cond, view_Call, view_Rec, view_Inj, view_Coll, view_Comp, view_If, view_Let, view_Case, view_Path, view_Not, view_Neg, view_Chain, branch_seen, pattern_Rec}
 
 pub view_con : (e : Expr) (v : Value) → e ≡ expr.Const v → view e ≡ con v
-view_con e v h = ap view h ∙ search (rules, the_lemmas)
+view_con e v h = ap view h ∙ view_Const v
 
 pub view_name : (e : Expr) (x : Word) → e ≡ expr.Name x → view e ≡ name x
-view_name e x h = ap view h ∙ search (rules, the_lemmas)
-
-call_seen : (f : Word) (es : List Expr) → view (expr.Call f es) ≡ call f (exps_view es)
-call_seen f es = search (rules, the_lemmas)
+view_name e x h = ap view h ∙ view_Name x
 
 pub view_call : (e : Expr) (f : Word) (es fs : List Expr) → e ≡ expr.Call f es → fs ≡ es → view e ≡ call f (exps_view fs)
-view_call e f es fs h k = ap view h ∙ call_seen f es ∙ ap (λ (z : List Expr). call f (exps_view z)) (sym k)
-
-rec_seen : (es : List (Word × Expr)) → view (expr.Rec es) ≡ fields (fields_view es)
-rec_seen es = search (rules, the_lemmas)
+view_call e f es fs h k = ap view h ∙ view_Call f es ∙ ap (λ (z : List Expr). call f (exps_view z)) (sym k)
 
 pub view_rec : (e : Expr) (es fs : List (Word × Expr)) → e ≡ expr.Rec es → fs ≡ es → view e ≡ fields (fields_view fs)
-view_rec e es fs h k = ap view h ∙ rec_seen es ∙ ap (λ (z : List (Word × Expr)). fields (fields_view z)) (sym k)
-
-inj_seen : (l : Word) (a : Expr) → view (expr.Inj l a) ≡ inject l (view a)
-inj_seen l a = search (rules, the_lemmas)
+view_rec e es fs h k = ap view h ∙ view_Rec es ∙ ap (λ (z : List (Word × Expr)). fields (fields_view z)) (sym k)
 
 pub view_inj : (e : Expr) (l : Word) (a b : Expr) → e ≡ expr.Inj l a → b ≡ a → view e ≡ inject l (view b)
-view_inj e l a b h k = ap view h ∙ inj_seen l a ∙ ap (λ (z : Expr). inject l (view z)) (sym k)
-
-coll_seen : (k : Kind) (es : List Expr) → view (expr.Coll k es) ≡ coll k (exps_view es)
-coll_seen k es = search (rules, the_lemmas)
+view_inj e l a b h k = ap view h ∙ view_Inj l a ∙ ap (λ (z : Expr). inject l (view z)) (sym k)
 
 pub view_coll : (e : Expr) (n : Kind) (es fs : List Expr) → e ≡ expr.Coll n es → fs ≡ es → view e ≡ coll n (exps_view fs)
-view_coll e n es fs h k = ap view h ∙ coll_seen n es ∙ ap (λ (z : List Expr). coll n (exps_view z)) (sym k)
-
-comp_seen : (k : Kind) (a : Expr) (qs : List Qual) → view (expr.Comp k a qs) ≡ comp k (view a) (quals_view qs)
-comp_seen k a qs = search (rules, the_lemmas)
+view_coll e n es fs h k = ap view h ∙ view_Coll n es ∙ ap (λ (z : List Expr). coll n (exps_view z)) (sym k)
 
 pub view_comp : (e : Expr) (n : Kind) (a b : Expr) (qs rs : List Qual) → e ≡ expr.Comp n a qs → b ≡ a → rs ≡ qs → view e ≡ comp n (view b) (quals_view rs)
-view_comp e n a b qs rs h k j = ap view h ∙ comp_seen n a qs ∙ ap (λ (z : Expr). comp n (view z) (quals_view qs)) (sym k) ∙ ap (λ (z : List Qual). comp n (view b) (quals_view z)) (sym j)
-
-if_seen : (a b c : Expr) → view (expr.If a b c) ≡ choice (view a) (view b) (view c)
-if_seen a b c = search (rules, the_lemmas)
+view_comp e n a b qs rs h k j = ap view h ∙ view_Comp n a qs ∙ ap (λ (z : Expr). comp n (view z) (quals_view qs)) (sym k) ∙ ap (λ (z : List Qual). comp n (view b) (quals_view z)) (sym j)
 
 pub view_if : (e a b c x y z : Expr) → e ≡ expr.If a b c → x ≡ a → y ≡ b → z ≡ c → view e ≡ choice (view x) (view y) (view z)
 view_if e a b c x y z h p q r =
-    ap view h ∙ if_seen a b c ∙ ap (λ (w : Expr). choice (view w) (view b) (view c)) (sym p) ∙ ap (λ (w : Expr). choice (view x) (view w) (view c)) (sym q) ∙ ap (λ (w : Expr). choice (view x) (view y) (view w)) (sym r)
-
-let_seen : (p : Pattern) (a b : Expr) → view (expr.Let p a b) ≡ bind (pattern_view p) (view a) (view b)
-let_seen p a b = search (rules, the_lemmas)
+    ap view h ∙ view_If a b c ∙ ap (λ (w : Expr). choice (view w) (view b) (view c)) (sym p) ∙ ap (λ (w : Expr). choice (view x) (view w) (view c)) (sym q) ∙ ap (λ (w : Expr). choice (view x) (view y) (view w)) (sym r)
 
 pub view_let : (e : Expr) (p : Pattern) (a b x y : Expr) → e ≡ expr.Let p a b → x ≡ a → y ≡ b → view e ≡ bind (pattern_view p) (view x) (view y)
-view_let e p a b x y h q r = ap view h ∙ let_seen p a b ∙ ap (λ (w : Expr). bind (pattern_view p) (view w) (view b)) (sym q) ∙ ap (λ (w : Expr). bind (pattern_view p) (view x) (view w)) (sym r)
-
-case_seen : (a : Expr) (bs : List Branch) (c : Option Expr) → view (expr.Case a bs c) ≡ select (view a) (branches_view bs c)
-case_seen a bs c = search (rules, the_lemmas)
+view_let e p a b x y h q r = ap view h ∙ view_Let p a b ∙ ap (λ (w : Expr). bind (pattern_view p) (view w) (view b)) (sym q) ∙ ap (λ (w : Expr). bind (pattern_view p) (view x) (view w)) (sym r)
 
 -- a branch with what it is of
 abbrev pub arm : Branch → Word × (Pat × Exp)
 arm b = ((out-Branch b).label, (pattern_view (out-Branch b).pat, view (out-Branch b).body))
-
-pub branch_seen : (b : Branch) (bs : Branches) → branch_view b bs ≡ branch (out-Branch b).label (pattern_view (out-Branch b).pat) (view (out-Branch b).body) bs
-branch_seen b bs = search (rules, branch_lemmas)
 
 pub arms_seen : (bs : List Branch) (last : Branches) → branches_of (map branch_view bs) last ≡ with_arms (map arm bs) last
 arms_seen [] last = refl
@@ -82,37 +56,25 @@ arms_seen (b ∷ bs) last = branch_seen b (branches_of (map branch_view bs) last
 
 pub view_case : (e a x : Expr) (bs cs : List Branch) (c : Option Expr) → e ≡ expr.Case a bs c → x ≡ a → cs ≡ bs → view e ≡ select (view x) (with_arms (map arm cs) (rest_of (option_map view c)))
 view_case e a x bs cs c h k j =
-    ap view h ∙ case_seen a bs c ∙ ap (λ (z : Expr). select (view z) (branches_view bs c)) (sym k) ∙ ap (λ (z : List Branch). select (view x) (branches_view z c)) (sym j) ∙ ap (select (view x)) (arms_seen cs (rest_of (option_map view c)))
-
-path_seen : (a : Expr) (ls : List Word) → view (expr.Path a ls) ≡ path (view a) ls
-path_seen a ls = search (rules, the_lemmas)
+    ap view h ∙ view_Case a bs c ∙ ap (λ (z : Expr). select (view z) (branches_view bs c)) (sym k) ∙ ap (λ (z : List Branch). select (view x) (branches_view z c)) (sym j) ∙ ap (select (view x)) (arms_seen cs (rest_of (option_map view c)))
 
 pub view_path : (e a x : Expr) (ls ms : List Word) → e ≡ expr.Path a ls → x ≡ a → ms ≡ ls → view e ≡ path (view x) ms
-view_path e a x ls ms h k j = ap view h ∙ path_seen a ls ∙ ap (λ (z : Expr). path (view z) ls) (sym k) ∙ ap (λ (z : List Word). path (view x) z) (sym j)
-
-not_seen : (a : Expr) → view (expr.Not a) ≡ invert (view a)
-not_seen a = search (rules, the_lemmas)
+view_path e a x ls ms h k j = ap view h ∙ view_Path a ls ∙ ap (λ (z : Expr). path (view z) ls) (sym k) ∙ ap (λ (z : List Word). path (view x) z) (sym j)
 
 pub view_not : (e a x : Expr) → e ≡ expr.Not a → x ≡ a → view e ≡ invert (view x)
-view_not e a x h k = ap view h ∙ not_seen a ∙ ap (λ (z : Expr). invert (view z)) (sym k)
-
-neg_seen : (a : Expr) → view (expr.Neg a) ≡ minus (view a)
-neg_seen a = search (rules, the_lemmas)
+view_not e a x h k = ap view h ∙ view_Not a ∙ ap (λ (z : Expr). invert (view z)) (sym k)
 
 pub view_neg : (e a x : Expr) → e ≡ expr.Neg a → x ≡ a → view e ≡ minus (view x)
-view_neg e a x h k = ap view h ∙ neg_seen a ∙ ap (λ (z : Expr). minus (view z)) (sym k)
-
-chain_seen : (a : Expr) (ss : List (Op × Expr)) → view (expr.Chain a ss) ≡ chain (view a) (steps_view ss)
-chain_seen a ss = search (rules, the_lemmas)
+view_neg e a x h k = ap view h ∙ view_Neg a ∙ ap (λ (z : Expr). minus (view z)) (sym k)
 
 pub view_chain : (e a x : Expr) (ss rs : List (Op × Expr)) → e ≡ expr.Chain a ss → x ≡ a → rs ≡ ss → view e ≡ chain (view x) (steps_view rs)
-view_chain e a x ss rs h k j = ap view h ∙ chain_seen a ss ∙ ap (λ (z : Expr). chain (view z) (steps_view ss)) (sym k) ∙ ap (λ (z : List (Op × Expr)). chain (view x) (steps_view z)) (sym j)
+view_chain e a x ss rs h k j = ap view h ∙ view_Chain a ss ∙ ap (λ (z : Expr). chain (view z) (steps_view ss)) (sym k) ∙ ap (λ (z : List (Op × Expr)). chain (view x) (steps_view z)) (sym j)
 
 pub view_gen : (q : Qual) (p : Pattern) (e : Expr) (qs : Quals) → q ≡ quals.Gen p e → qual_view q qs ≡ draw (pattern_view p) (view e) qs
-view_gen q p e qs h = ap (λ (z : Qual). qual_view z qs) h ∙ search (rules, qual_lemmas)
+view_gen q p e qs h = ap (λ (z : Qual). qual_view z qs) h ∙ ap (λ f. f qs) (view_Gen p e)
 
 pub view_cond : (q : Qual) (e : Expr) (qs : Quals) → q ≡ quals.Cond e → qual_view q qs ≡ test (view e) qs
-view_cond q e qs h = ap (λ (z : Qual). qual_view z qs) h ∙ search (rules, qual_lemmas)
+view_cond q e qs h = ap (λ (z : Qual). qual_view z qs) h ∙ ap (λ f. f qs) (view_Cond e)
 
 -- ---- lists
 
@@ -162,11 +124,8 @@ view_same p x h = ap pattern_view h ∙ search (rules, pattern_lemmas)
 pub view_is : (p : Pattern) (v : Value) (n : ℕ) → p ≡ code.Is v n → pattern_view p ≡ is v n
 view_is p v n h = ap pattern_view h ∙ search (rules, pattern_lemmas)
 
-shape_seen : (ps : List (Word × Pattern)) (dots : Bool) → pattern_view (code.Rec ps dots) ≡ shape (patterns_view ps) dots
-shape_seen ps dots = search (rules, pattern_lemmas)
-
 pub view_shape : (p : Pattern) (ps qs : List (Word × Pattern)) (dots : Bool) → p ≡ code.Rec ps dots → qs ≡ ps → pattern_view p ≡ shape (patterns_view qs) dots
-view_shape p ps qs dots h k = ap pattern_view h ∙ shape_seen ps dots ∙ ap (λ (z : List (Word × Pattern)). shape (patterns_view z) dots) (sym k)
+view_shape p ps qs dots h k = ap pattern_view h ∙ pattern_Rec ps dots ∙ ap (λ (z : List (Word × Pattern)). shape (patterns_view z) dots) (sym k)
 
 variant_seen : (l : Word) (p : Pattern) → pattern_view (code.Inj l p) ≡ variant l (pattern_view p)
 variant_seen l p = search (rules, pattern_lemmas)

@@ -4,7 +4,8 @@ use mathlib.Core.Path.{ap₂}
 use Rattle.kl_value.specs.declared.Kind.{Kind}
 use Rattle.kl_base.specs.Sorted.{sorted}
 use Rattle.kl_type.specs.declared.ground.Ty.{Ty}
-use Rattle.kl_type.specs.Written.{type_text, opening, closing, separator}
+use Rattle.kl_value.specs.Written.{opening, closing, separator}
+use Rattle.kl_type.specs.Written.{type_text}
 use Rattle.kl_rows.specs.declared.schemes.Scheme.{Scheme}
 use Rattle.kl_rows.specs.declared.schemes.Part.{Part}
 use Rattle.kl_rows.specs.declared.schemes.Part.TheVariants.{Is, AnyType, AnyRow, AnyKind}

@@ -5,9 +5,9 @@ use Rattle.std.specs.declared.cmp.Ordering.{Ordering}
 use Rattle.kl_base.specs.Fields.{bytes_cmp}
 use Rattle.kl_base.specs.Sorted.{sorted}
 use Rattle.kl_value.specs.declared.Kind.{Kind}
-use Rattle.kl_value.specs.Written.{with_commas}
+use Rattle.kl_value.specs.Written.{with_commas, opening, closing}
 use Rattle.kl_type.specs.declared.ground.Ty.{Ty}
-use Rattle.kl_type.specs.Written.{type_text, opening, closing}
+use Rattle.kl_type.specs.Written.{type_text}
 use Rattle.kl_rows.specs.declared.schemes.Node.{Node}
 use Rattle.kl_rows.specs.declared.schemes.Node.TheVariants as node
 use Rattle.kl_rows.specs.declared.schemes.Part.{Part}

@@ -2,7 +2,7 @@
 use Rattle.std.specs.Prelude.{◌≡◌, ℕ, ◌<◌, ◌≤◌, Bool, true, false, Option, None, List, [], ◌∷◌, ◌++◌, length, Some, slice_get, codes}
 use Rattle.std.specs.List.{AllByRecursion}
 use Rattle.kl_value.specs.declared.Kind.{Kind}
-use Rattle.kl_type.specs.Written.{separator}
+use Rattle.kl_value.specs.Written.{separator}
 use Rattle.kl_rows.specs.declared.schemes.Part.{Part}
 use Rattle.kl_rows.specs.declared.schemes.Part.TheVariants.{Is}
 use Rattle.kl_rows.specs.declared.schemes.Node.TheVariants as node

@@ -10,8 +10,8 @@ ghost use Rattle.kl_infer.specs.Rows.{CanPrint, IsEnd, IsRowOf, front_of, is_ope
 use crate::page::Page;
 use kl_base::{Label, NoMemory, Text};
 use kl_rows::{Node, Part, Scheme};
-use kl_type::{closing, opening, print_type, separator};
-use kl_value::Kind;
+use kl_type::print_type;
+use kl_value::{Kind, closing, opening, separator};
 use std::alloc::Global;
 
 /// The text of the scheme: types as `print_type` has them, variables `'1`, collections of any kind `%1(type)`, open

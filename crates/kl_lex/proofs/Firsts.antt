@@ -10,7 +10,8 @@ use Rattle.kl_base.specs.Word.{is_word, is_word_byte}
 use Rattle.kl_lex.specs.declared.token.Sym.{Sym as Symbol}
 use Rattle.kl_lex.specs.declared.token.Sym.TheVariants.{OpenList, CloseList, OpenBag, CloseBag, OpenSet, CloseSet, OpenRec, CloseRec, OpenPar, ClosePar, Le, Ge, Ne, Draw, Lt, Gt, Equals, Arrow, Eq, Bar, Comma, Semi, Dots, Dot, Colon, Append, Add, Sub, Mul, Cat, Bind, Any}
 use Rattle.kl_lex.specs.Blank.{is_white, hash, IsDue}
-use Rattle.kl_lex.specs.Spelling.{spelling, IsNumber, IsText, quote, Lexeme, word, number, text, symbol}
+use Rattle.kl_value.specs.Quoted.{quote}
+use Rattle.kl_lex.specs.Spelling.{spelling, IsNumber, Lexeme, word, number, text, symbol, IsText}
 
 -- what begins with the byte: 0 a word, 1 a number, 2 a text, 3 a symbol or nothing, 4 white space or a comment
 unfoldable pub sort_by : Bool → Bool → Bool → Bool → ℕ

@@ -2,7 +2,9 @@
 use Rattle.std.proofs.Common.{◌≡◌, ◌≢◌, ℕ, ◌+◌, ◌*◌, ◌<◌, List, [], ◌∷◌, ◌++◌, Some, None, refl, sym, ap, subst, ◌∙◌, append_assoc, arith}
 use Rattle.std.proofs.lemmas.List.{append-nil}
 use Rattle.std.specs.Char.{digit_value}
-use Rattle.kl_lex.specs.Spelling.{quote, backslash, escape, Part, plain, escaped, hex, Parts, IsText}
+use Rattle.kl_lex.specs.Spelling.{IsText}
+use Rattle.kl_value.specs.Quoted.{quote, backslash, escape_of, Part, plain, escaped, hex, Parts}
+use Rattle.kl_value.proofs.QuotedLemmas.{hex_below, hex_from_below}
 use Rattle.kl_lex.specs.Reading.{PartFirst, NoPart}
 
 -- a part begins with a byte that is no quote
@@ -17,8 +19,8 @@ part_no_quote b part r s p e =
     let z : (x ∷ xs) ++ r ≡ quote ∷ s = subst (λ (w : List ℕ). w ++ r ≡ quote ∷ s) k e in
     n cc
 
-escape_x : (c b : ℕ) → escape c ≡ Some b → c ≡ 120 → ⊥
-escape_x c b h e = let k : None ≡ Some b = subst (λ (z : ℕ). escape z ≡ Some b) e h in cc
+escape_x : (c b : ℕ) → escape_of c ≡ Some b → c ≡ 120 → ⊥
+escape_x c b h e = let k : None ≡ Some b = subst (λ (z : ℕ). escape_of z ≡ Some b) e h in cc
 
 -- one part is at a front
 pub one_part : (b c : ℕ) (p q r s : List ℕ) → Part b p → Part c q → p ++ r ≡ q ++ s → (b ≡ c) × (p ≡ q) × (r ≡ s)
@@ -28,7 +30,7 @@ one_part b c p q r s (plain nq nb) (hex {high = h} {low = l} x y) e = absurd (nb
 one_part b c p q r s (escaped {c = d} h) (plain mq mb) e = absurd (mb cc)
 one_part b c p q r s (escaped {c = d} h) (escaped {c = f} k) e =
     let same : d ≡ f = cc in
-    let z : escape d ≡ escape f = ap escape same in
+    let z : escape_of d ≡ escape_of f = ap escape_of same in
     (cc, cc, cc)
 one_part b c p q r s (escaped {c = d} h) (hex {high = x} {low = y} l m) e = absurd (escape_x d b h cc)
 one_part b c p q r s (hex {high = h} {low = l} x y) (plain mq mb) e = absurd (mb cc)
@@ -80,12 +82,12 @@ one_text m n u (v, e, h) (w, f, k) = (one_inside m n v w [] [] h k (let z : quot
 pub plain_first : (s : List ℕ) (b : ℕ) (bs : List ℕ) → s ≡ b ∷ bs → b ≢ quote → b ≢ backslash → PartFirst s b bs
 plain_first s b bs e n m = (b ∷ [], e, plain n m)
 
-pub escape_first : (s : List ℕ) (c b : ℕ) (bs : List ℕ) → s ≡ c ∷ bs → escape c ≡ Some b → PartFirst (backslash ∷ s) b bs
+pub escape_first : (s : List ℕ) (c b : ℕ) (bs : List ℕ) → s ≡ c ∷ bs → escape_of c ≡ Some b → PartFirst (backslash ∷ s) b bs
 escape_first s c b bs e h = (backslash ∷ c ∷ [], ap (λ (z : List ℕ). backslash ∷ z) e, escaped h)
 
-pub hex_first : (s : List ℕ) (h l b : ℕ) (bs : List ℕ) → s ≡ h ∷ l ∷ bs → ((digit_value h < 16) × (digit_value l < 16)) × (b ≡ 16 * digit_value h + digit_value l) → PartFirst (backslash ∷ 120 ∷ s) b bs
+pub hex_first : (s : List ℕ) (h l b : ℕ) (bs : List ℕ) → s ≡ h ∷ l ∷ bs → ((digit_value h < 16) × (digit_value l < 16)) × (b ≡ digit_value h * 16 + digit_value l) → PartFirst (backslash ∷ 120 ∷ s) b bs
 hex_first s h l b bs e k =
-    (backslash ∷ 120 ∷ h ∷ l ∷ [], ap (λ (z : List ℕ). backslash ∷ 120 ∷ z) e, subst (λ (z : ℕ). Part z (backslash ∷ 120 ∷ h ∷ l ∷ [])) (sym k.1) (hex k.0.0 k.0.1))
+    (backslash ∷ 120 ∷ h ∷ l ∷ [], ap (λ (z : List ℕ). backslash ∷ 120 ∷ z) e, subst (λ (z : ℕ). Part z (backslash ∷ 120 ∷ h ∷ l ∷ [])) (sym k.1) (hex (hex_from_below h k.0.0) (hex_from_below l k.0.1)))
 
 pub no_hex : (s : List ℕ) (h l : ℕ) (bs : List ℕ) → s ≡ h ∷ l ∷ bs → ((digit_value h < 16) × (digit_value l < 16) → ⊥) → NoPart (backslash ∷ 120 ∷ s)
 no_hex s h l bs f never b rest (part, e, plain nq nb) = nb cc
@@ -94,4 +96,4 @@ no_hex s h l bs f never b rest (part, e, hex {high = x} {low = y} i j) =
     let k : h ∷ l ∷ bs ≡ x ∷ y ∷ rest = cc in
     let a : x ≡ h = cc in
     let d : y ≡ l = cc in
-    never (subst (λ (z : ℕ). digit_value z < 16) a i, subst (λ (z : ℕ). digit_value z < 16) d j)
+    never (subst (λ (z : ℕ). digit_value z < 16) a (hex_below x i), subst (λ (z : ℕ). digit_value z < 16) d (hex_below y j))

@@ -15,7 +15,8 @@ use Rattle.kl_base.specs.Word.{is_word, is_word_byte, label_of}
 use Rattle.kl_lex.specs.declared.token.Sym.{Sym as Symbol}
 use Rattle.kl_lex.specs.declared.token.Tok.{Tok}
 use Rattle.kl_lex.specs.declared.token.Tok.TheVariants.{Word, Int, Big, Text, Sym}
-use Rattle.kl_lex.specs.Spelling.{spelling, IsNumber, int_max, IsText, quote, Lexeme, word, number, text, symbol, Spelled, Parts}
+use Rattle.kl_value.specs.Quoted.{Parts, quote}
+use Rattle.kl_lex.specs.Spelling.{spelling, IsNumber, int_max, Lexeme, word, number, text, symbol, Spelled, IsText}
 use Rattle.kl_lex.specs.Lexing.{Longest, Starts, NoneStarts}
 use Rattle.kl_lex.specs.Reading.{Closes, LongestSymbol, HasValue}
 use Rattle.kl_lex.proofs.Firsts.{first, sort, letter_sort, digit_sort, word_sort, number_sort, text_sort, symbol_sort, quote_sort, lexeme_full, only_word, only_number, only_text, only_symbol, same_first, one_symbol}

@@ -1,7 +1,8 @@
 -- What the parts of the lexer answer. No public contract cites this.
 use Rattle.std.specs.Prelude.{◌≡◌, ℕ, pos, ◌+◌, ◌≤◌, List, ◌∷◌, ◌++◌, length}
 use Rattle.kl_lex.specs.Blank.{InLine, EndsLine}
-use Rattle.kl_lex.specs.Spelling.{spelling, Part, Parts, quote, int_max}
+use Rattle.kl_value.specs.Quoted.{Part, Parts, quote}
+use Rattle.kl_lex.specs.Spelling.{spelling, int_max}
 use Rattle.kl_lex.specs.declared.token.Sym.{Sym as Symbol}
 use Rattle.kl_lex.specs.declared.token.Tok.{Tok}
 use Rattle.kl_lex.specs.declared.token.Tok.TheVariants.{Int, Big}

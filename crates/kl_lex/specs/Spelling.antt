@@ -1,9 +1,10 @@
 -- How tokens are spelled.
-use Rattle.std.specs.Prelude.{◌≡◌, ◌≢◌, ℕ, pos, ◌+◌, ◌*◌, ◌<◌, ◌≤◌, ◌==◌, IsTrue, if◌then◌else◌, List, [], ◌∷◌, ◌++◌, Option, Some, None, codes}
+use Rattle.std.specs.Prelude.{◌≡◌, ◌≢◌, ℕ, pos, ◌+◌, ◌≤◌, IsTrue, List, [], ◌∷◌, ◌++◌, codes}
 use Rattle.std.specs.List.{list_all}
-use Rattle.std.specs.Char.{is_ascii_digit, digit_value}
+use Rattle.std.specs.Char.{is_ascii_digit}
 use Rattle.std.specs.Str.Parse.{digits_value}
 use Rattle.kl_base.specs.Word.{is_word}
+use Rattle.kl_value.specs.Quoted.{quote, Parts}
 use Rattle.kl_lex.specs.declared.token.Sym.{Sym as Symbol}
 use Rattle.kl_lex.specs.declared.token.Sym.TheVariants.{OpenList, CloseList, OpenBag, CloseBag, OpenSet, CloseSet, OpenRec, CloseRec, OpenPar, ClosePar, Le, Ge, Ne, Draw, Lt, Gt, Equals, Arrow, Eq, Bar, Comma, Semi, Dots, Dot, Colon, Append, Add, Sub, Mul, Cat, Bind, Any}
 use Rattle.kl_lex.specs.declared.token.Tok.{Tok}
@@ -56,36 +57,6 @@ abbrev pub int_max : ℕ
 int_max = 9223372036854775807
 
 -- ---- texts
-
--- the byte `"`
-abbrev pub quote : ℕ
-quote = 34
-
--- the byte `\`
-abbrev pub backslash : ℕ
-backslash = 92
-
--- the byte that a backslash and this byte mean
-abbrev pub escape : ℕ → Option ℕ
-escape c =
-    if c == quote then Some quote
-    else if c == backslash then Some backslash
-    else if c == 110 then Some 10  -- n, a line feed
-    else if c == 114 then Some 13  -- r, a carriage return
-    else if c == 116 then Some 9  -- t, a tab
-    else None
-
--- one part of a text: the byte that it means, and how it is written
-pub data Part : ℕ → List ℕ → Type 0 where
-  plain : {b : ℕ} → b ≢ quote → b ≢ backslash → Part b (b ∷ [])
-  escaped : {b c : ℕ} → escape c ≡ Some b → Part b (backslash ∷ c ∷ [])
-  -- `\x` and two hexadecimal digits, of either case
-  hex : {high low : ℕ} → digit_value high < 16 → digit_value low < 16 → Part (16 * digit_value high + digit_value low) (backslash ∷ 120 ∷ high ∷ low ∷ [])
-
--- the bytes are the parts, one behind the other, of a text that means these
-abbrev pub Parts : List ℕ → List ℕ → Type 0
-Parts [] u = u ≡ []
-Parts (b ∷ meant) u = (part : List ℕ) × (rest : List ℕ) × (u ≡ part ++ rest) × Part b part × Parts meant rest
 
 -- the bytes are a whole text, between its quotes, that means these
 abbrev pub IsText : List ℕ → List ℕ → Type 0

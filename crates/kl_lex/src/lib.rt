@@ -8,11 +8,15 @@
 //! a refused growth. It plants nothing in `lex`, for which the edits in `must-fail` stand.
 #![tactic(auto)]
 
+mod bracket;
+mod keyword;
 mod lexer;
 mod number;
 mod quoted;
 mod symbol;
 mod token;
 
+pub use bracket::{closer, opener};
+pub use keyword::{Keyword, is_keyword, keyword_of};
 pub use lexer::{LexError, Lexed, Lexer, Next, lex, lex_all};
 pub use token::{Placed, Sym, Tok, Token, Tokens};

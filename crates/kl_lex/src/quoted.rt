@@ -2,9 +2,10 @@ ghost use Rattle.std.specs.Prelude.{◌≡◌, ◌<◌, ◌+◌, ◌*◌, ◌∷
 ghost use Rattle.std.specs.Char.{digit_value};
 ghost use Rattle.std.specs.Option.{SomeIff};
 ghost use Rattle.kl_lex.specs.Reading.{Closes, NoneCloses, PartFirst, NoPart};
-ghost use Rattle.kl_lex.specs.Spelling.{quote, backslash, escape as escape_of};
+ghost use Rattle.kl_value.specs.Quoted.{quote, backslash};
 
 use kl_base::{NoMemory, Text};
+use kl_value::escaped;
 use std::alloc::Global;
 
 /// What a text means whose opening quote stands before these bytes, and the bytes behind its closing quote.
@@ -61,7 +62,7 @@ fn escape_at(bytes: &[u8]) -> Option<(u8, &[u8])>
             if *first == b'x' {
                 hex_at(rest)
             } else {
-                Some((escape(*first)?, rest))
+                Some((escaped(*first)?, rest))
             }
         }
     }
@@ -79,23 +80,9 @@ fn hex_at(bytes: &[u8]) -> Option<(u8, &[u8])>
 
 /// The byte with these hexadecimal digits, of either case.
 fn hex(high: u8, low: u8) -> Option<u8>
-    ensures { SomeIff result ((digit_value high < 16) × (digit_value low < 16)) (16 * digit_value high + digit_value low) }
+    ensures { SomeIff result ((digit_value high < 16) × (digit_value low < 16)) (digit_value high * 16 + digit_value low) }
 {
     let high = char::from(high).to_digit(16)?;
     let low = char::from(low).to_digit(16)?;
-    Some((16 * high + low) as u8)
-}
-
-/// The byte that a backslash and this byte mean.
-fn escape(byte: u8) -> Option<u8>
-    ensures { result ≡ escape_of byte }
-{
-    match byte {
-        b'"' => Some(b'"'),
-        b'\\' => Some(b'\\'),
-        b'n' => Some(b'\n'),
-        b'r' => Some(b'\r'),
-        b't' => Some(b'\t'),
-        _ => None,
-    }
+    Some((high * 16 + low) as u8)
 }

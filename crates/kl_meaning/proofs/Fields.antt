@@ -6,6 +6,7 @@ use Rattle.std.specs.List.{AllByRecursion}
 use Rattle.std.specs.List.Sorted.{IsStrictlySortedBy}
 use Rattle.std.specs.Ordering.{ordering_reverse}
 use Rattle.std.proofs.lemmas.Cmp.{on_total, nat_list_cmp_total}
+use Rattle.std.proofs.lemmas.Bool.{or_parts}
 use Rattle.kl_base.specs.Fields.{bytes_cmp, field, labels_of, LabelsRise}
 use Rattle.kl_base.specs.Sorted.{put_in}
 use Rattle.kl_base.proofs.SortedLemmas.{all-sorted}
@@ -187,13 +188,9 @@ module _ {T : Type 0} (made : Exp → T) (all_made : Flds → List (Name × T)) 
   labels_apart : (fs : Flds) (l : Name) → has_field fs l ≡ false → AllByRecursion (λ p. l ≢ p.0) (all_made fs)
   labels_apart no_flds l h = subst (AllByRecursion (λ p. l ≢ p.0)) (sym none) tt
   labels_apart (flds m e fs) l h =
-      let both = neither (same_name l m.text) (has_field fs l) h in
+      let both = or_parts (same_name l m.text) (has_field fs l) h in
       subst (AllByRecursion (λ p. l ≢ p.0)) (sym (more m e fs))
       ((λ d. true≢false (sym (subst (λ k. same_name l k ≡ true) d (same_label l)) ∙ both.0)), labels_apart fs l both.1)
-    where
-      neither : (a b : Bool) → (a || b) ≡ false → (a ≡ false) × (b ≡ false)
-      neither true b h = absurd (true≢false h)
-      neither false b h = (refl, h)
 
   pub fields_apart : (fs : Flds) → AreTidyFields fs → AllApart (all_made fs)
   fields_apart no_flds h = subst AllApart (sym none) tt

@@ -6,6 +6,7 @@ use Rattle.std.specs.List.Sorted.{IsStrictlySortedBy}
 use Rattle.std.specs.Ordering.{eq_by_cmp}
 use Rattle.std.proofs.lemmas.List.Elements.{recursion_from_All, All-from_recursion}
 use Rattle.std.proofs.lemmas.List.Filters.{All-dedup}
+use Rattle.std.proofs.lemmas.Option.{same_Some}
 use Rattle.kl_base.specs.Fields.{bytes_cmp, field, labels_of, LabelsRise}
 use Rattle.kl_base.specs.Sorted.{sorted}
 use Rattle.kl_base.proofs.SortedLemmas.{all-sorted}
@@ -18,15 +19,12 @@ use Rattle.kl_value.specs.declared.Value.{Value, Value-F, out-Value, map-Value, 
 use Rattle.kl_value.specs.declared.Value.TheVariants as value
 use Rattle.kl_value.proofs.CanonLemmas.{canonical_keeps}
 use Rattle.kl_value.proofs.OrderLemmas.{compare_total}
-use Rattle.kl_type.specs.Ground.{Ground, Row, bool, int, str, rec, var, coll, arrow, no_row, row, at}
+use Rattle.kl_type.specs.Ground.{Ground, Row, bool, int, str, rec, var, coll, arrow, no_row, row, at, labels_in}
 use Rattle.kl_value.specs.Views.{as_bool, as_collection, field_at, field_layer}
 use Rattle.kl_value.proofs.IsCanonicalLemmas.{items_canonical, record_made, variant_made}
 use Rattle.kl_value.proofs.ViewLemmas.{collection_is}
 use Rattle.kl_outcome.specs.Outcome.{Name, Outcome, done, over, stuck, End, fine, overflow, broken, Flow, more, stop, flow, items_in, end_in, followed, drawn, after, outcome_of, args_then, parts_then, recorded, tagged, chosen, if_then, record_layer, as_record, variant_layer, as_variant, field_in, part, opened, cases, items_at_all, items_of, item_then, gathered, collected, joined_to, union_of}
 use Rattle.kl_outcome.specs.Typed.{Has, HasFields, HasAt, Inhabits, HaveTypes, HasItems, OfType}
-
-some_same : {A : Type 0} (a b : A) → Some a ≡ Some b → a ≡ b
-some_same a b h = cc
 
 -- ---- what stands in canonical records and variants
 
@@ -129,6 +127,10 @@ choice_typed t c o q s h g = after_typed t bool c (λ v. chosen (as_bool v) o q)
 abbrev pub FieldsOf : Row → List (Name × Value) → Type 0
 FieldsOf r fs = HasFields r fs × AllByRecursion (λ f. IsCanonical f.1) fs
 
+pub labels_same : (r : Row) (fs : List (Name × Value)) → HasFields r fs → labels_of fs ≡ labels_in r
+labels_same no_row fs h = ap labels_of h
+labels_same (row l s r) fs h = ap labels_of h.2 ∙ ap (λ ls. l ∷ ls) (labels_same r h.1 h.4)
+
 abbrev pub IsRecordOf : Row → Value → Type 0
 IsRecordOf r v = (fs : List (Name × Value)) × (as_record v ≡ Some fs) × FieldsOf r fs
 
@@ -148,7 +150,7 @@ field_typed (row m s r) l t fs h' e =
     subst (Found l t) (sym h.2) (by_bit (pointwise nat_eq l m) refl h.0 h.1 h.3 all (field_typed r l t h.1 (h.4, all.1)))
   where
     by_bit : (b : Bool) → pointwise nat_eq l m ≡ b → (v : Value) (fs : List (Name × Value)) → Has s v → AllByRecursion (λ f. IsCanonical f.1) ((m, v) ∷ fs) → (at l r ≡ Some t → Found l t fs) → Found l t ((m, v) ∷ fs)
-    by_bit true is v fs has good next = (v, rw is refl, (subst (λ z. Has z v) (some_same _ _ (rw is at e)) has, good.0))
+    by_bit true is v fs has good next = (v, rw is refl, (subst (λ z. Has z v) (same_Some _ _ (rw is at e)) has, good.0))
     by_bit false is v fs has good next = let f = next (rw is at e) in (f.0, rw is f.1, f.2)
 
 pub part_typed : (l : Name) (r : Row) (t : Ground) (o : Outcome) → OfType (rec r) o → at l r ≡ Some t → OfType t (part l o)
@@ -189,12 +191,12 @@ recorded_typed ps r h up =
 
 -- ---- variants
 
-has_at : (r : Row) (l : Name) (s : Ground) (v : Value) → at l r ≡ Some s → Has s v → HasAt r l v
+pub has_at : (r : Row) (l : Name) (s : Ground) (v : Value) → at l r ≡ Some s → Has s v → HasAt r l v
 has_at no_row l s v e h = absurd cc
 has_at (row m u r) l s v e h = by_bit (pointwise nat_eq l m) refl (λ f. has_at r l s v f h)
   where
     by_bit : (b : Bool) → pointwise nat_eq l m ≡ b → (at l r ≡ Some s → HasAt r l v) → HasAt (row m u r) l v
-    by_bit true is next = rw is (subst (λ z. Has z v) (sym (some_same _ _ (rw is at e))) h)
+    by_bit true is next = rw is (subst (λ z. Has z v) (sym (same_Some _ _ (rw is at e))) h)
     by_bit false is next = rw is (next (rw is at e))
 
 abbrev pub Carries : Row → Name → Value → Type 0

@@ -1,5 +1,5 @@
 -- What a primitive makes of arguments of its types.
-use Rattle.std.proofs.Common.{◌≡◌, ◌==◌, ℕ, ℤ, ◌+ℤ◌, ◌-ℤ◌, ◌*ℤ◌, neg_ℤ, Ordering, is_le, is_ge, Bool, true, false, cond, List, [], ◌∷◌, ◌++◌, find, Option, Some, None, IsSome, IfSome, refl, sym, ap, subst, ◌∙◌}
+use Rattle.std.proofs.Common.{◌≡◌, ◌⊎◌, inl, inr, ◌==◌, ℕ, ℤ, ◌+ℤ◌, ◌-ℤ◌, ◌*ℤ◌, neg_ℤ, Ordering, is_le, is_ge, Bool, true, false, cond, List, [], ◌∷◌, ◌++◌, length, find, Option, Some, None, IsSome, IfSome, refl, sym, ap, subst, ◌∙◌}
 use Rattle.std.specs.Option.{option_map, option_and_then}
 use Rattle.std.specs.List.{AllByRecursion, flat_map, list_all}
 use Rattle.std.proofs.lemmas.List.Elements.{All-from_recursion}
@@ -23,6 +23,7 @@ use Rattle.kl_outcome.specs.Outcome.{answered}
 use Rattle.kl_outcome.specs.Typed.{Has, HaveTypes, OfType, ShapeTypes, RowTypes, PrimTypes}
 use Rattle.kl_value.proofs.ViewLemmas.{collection_is}
 use Rattle.kl_outcome.proofs.OutcomeTypes.{canonical_has, over_nil}
+use Rattle.kl_base.proofs.Each.{all_append}
 
 -- ---- arguments of these types
 
@@ -126,7 +127,7 @@ sound_of {X} t u a as_x f ts i e g vs h = go vs (along vs ts (a ∷ []) i h)
 has_bool : (b : Bool) → Has bool (value.Bool b)
 has_bool b = rw (value.outs-Bool b) refl
 
-has_int : (n : ℤ) → Has int (value.Int n)
+pub has_int : (n : ℤ) → Has int (value.Int n)
 has_int n = rw (value.outs-Int n) refl
 
 has_text : (t : List ℕ) → Has str (value.Text t)
@@ -154,10 +155,6 @@ extreme_typed test k a v c h e =
 into_typed : (j k : Kind) (a : Ground) (v : Value) (c : Collection) → Has (coll k a) v → as_collection v ≡ Some c → Has (coll j a) (canonical j c.items)
 into_typed j k a v c h e = subst (λ d. Has (coll j a) (canonical j d.items)) (same_items k a v c h e) (canonical_has j a h.0 h.2)
 
-pub append_typed : (P : Value → Type 0) (vs ws : List Value) → AllByRecursion P vs → AllByRecursion P ws → AllByRecursion P (vs ++ ws)
-append_typed P [] ws h g = g
-append_typed P (v ∷ vs) ws h g = (h.0, append_typed P vs ws h.1 g)
-
 lists_typed : (k : Kind) (a : Ground) (vs : List Value) (lists : List (List Value)) → AllByRecursion (Has (coll k a)) vs → all_some (items_at k) vs ≡ Some lists → AllByRecursion (Has a) (flat_map (λ us. us) lists)
 lists_typed k a [] lists h e = let same : [] ≡ lists = cc in subst (λ ls. AllByRecursion (Has a) (flat_map (λ us. us) ls)) same tt
 lists_typed k a (v ∷ vs) lists h e = by_rest (all_some (items_at k) vs) refl (λ ls f. lists_typed k a vs ls h.1 f)
@@ -172,7 +169,7 @@ lists_typed k a (v ∷ vs) lists h e = by_rest (all_some (items_at k) vs) refl (
     by_rest (Some ls) f g' =
         let g : Some (us ∷ ls) ≡ Some lists = sym (ap (option_map (λ q. us ∷ q)) f) ∙ sym (ap (λ o. option_and_then (λ y. option_map (λ q. y ∷ q) (all_some (items_at k) vs)) o) is) ∙ e in
         let same : us ∷ ls ≡ lists = cc in
-        subst (λ q. AllByRecursion (Has a) (flat_map (λ us. us) q)) same (append_typed (Has a) us (flat_map (λ us. us) ls) h.0.2 (g' ls f))
+        subst (λ q. AllByRecursion (Has a) (flat_map (λ us. us) q)) same (all_append (Has a) us (flat_map (λ us. us) ls) h.0.2 (g' ls f))
     by_rest None f g' =
         let g : None ≡ Some lists = sym (ap (option_map (λ q. us ∷ q)) f) ∙ sym (ap (λ o. option_and_then (λ y. option_map (λ q. y ∷ q) (all_some (items_at k) vs)) o) is) ∙ e in
         cc
@@ -260,3 +257,24 @@ prim_typed code ts t vs p h =
     go (gives v) s g c = (g, c v refl)
     go overflows s g c = over_nil t
     go senseless s g c = absurd (s refl)
+
+-- how many arguments a call has
+pub one_or_two : (sh : Shape) (ss : List Ground) (s : Ground) → ShapeTypes sh ss s → (length ss ≡ 1) ⊎ (length ss ≡ 2)
+one_or_two shape.Compare ss s h = inr (ap length h.1)
+one_or_two shape.IntOp ss s h = inr (ap length h.0)
+one_or_two shape.IntFn ss s h = inl (ap length h.0)
+one_or_two shape.BoolFn ss s h = inl (ap length h.0)
+one_or_two shape.TextJoin ss s h = inr (ap length h.0)
+one_or_two shape.CollTest ss s h = inl (ap length h.2)
+one_or_two shape.CollCount ss s h = inl (ap length h.2)
+one_or_two shape.CollSum ss s h = inl (ap length h.1)
+one_or_two shape.Member ss s h = inr (ap length h.2)
+one_or_two shape.CollSame ss s h = inl (ap length h.2)
+one_or_two shape.Flatten ss s h = inl (ap length h.2)
+one_or_two shape.ToSet ss s h = inl (ap length h.2)
+one_or_two shape.ToBag ss s h = inl (ap length h.2)
+one_or_two shape.ToList ss s h = inl (ap length h.2)
+one_or_two shape.TextLen ss s h = inl (ap length h.0)
+one_or_two shape.TextTest ss s h = inr (ap length h.0)
+one_or_two shape.TextInts ss s h = inl (ap length h.0)
+one_or_two shape.IntText ss s h = inl (ap length h.0)

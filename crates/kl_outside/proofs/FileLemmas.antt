@@ -1,15 +1,13 @@
 -- A file that was opened, read and closed.
 use Rattle.std.proofs.Common.{◌≡◌, ℕ, List, Option, Some, None, Ok, Err, Result, refl, sym, ◌∙◌, ap, arith, inl, inr}
 use Rattle.std.proofs.lemmas.Bool.{cases_eq}
+use Rattle.std.proofs.Math.Path.{fun_ext}
 use Rattle.kl_outside.specs.Files.{FilesState, Opens, Closes, ReadsWhole, ReadsRest, IsWhole, OtherFiles, left_at_first}
 use Rattle.kl_outside.specs.declared.stop.Stop.{Stop}
 use Rattle.kl_outside.specs.declared.files.Whole.{Whole}
 
-pub fun_ext : {A B : Type 0} {f g : A → B} → ((x : A) → f x ≡ g x) → f ≡ g
-fun_ext h = λ i x. h x i
-
 -- what is open in the end is what was open at first
-same_left : (file : ℕ) (s0 s1 s2 s3 : FilesState) → s0.left file ≡ None → OtherFiles file s0 s1 → OtherFiles file s1 s2 → OtherFiles file s2 s3 → s3.left file ≡ None → (k : ℕ) → s3.left k ≡ s0.left k
+pub same_left : (file : ℕ) (s0 s1 s2 s3 : FilesState) → s0.left file ≡ None → OtherFiles file s0 s1 → OtherFiles file s1 s2 → OtherFiles file s2 s3 → s3.left file ≡ None → (k : ℕ) → s3.left k ≡ s0.left k
 same_left file s0 s1 s2 s3 fresh a b d closed k = elim (cases_eq k file) [ inl is ↦ ap s3.left is ∙ closed ∙ sym fresh ∙ sym (ap s0.left is) | inr ne ↦ d k ne ∙ b k ne ∙ a k ne ]
 
 no_failure : {T : Type 0} {value : T} {stop : Stop} → Ok value ≡ Err stop → ⊥

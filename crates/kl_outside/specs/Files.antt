@@ -56,7 +56,7 @@ abbrev pub IsAtEnd : Option (Option (List ℕ)) → Type 0
 IsAtEnd left = (bytes : _) → left ≡ Some (Some bytes) → bytes ≡ []
 
 -- `read`
-pub record Reads (file : ℕ) (into : List ℕ) (result : Result ℕ Stop) (old new : FilesState) : Type 0 where
+pub record ReadsPiece (file : ℕ) (into : List ℕ) (result : Result ℕ Stop) (old new : FilesState) : Type 0 where
   pub told : new.told ≡ old.told
   pub within : IfOk result (λ count. count ≤ length into)
   pub bytes : IfOk result (λ count. Consumed (old.left file) (new.left file) (take count into))

@@ -1,5 +1,5 @@
 ghost use Rattle.std.specs.Prelude.{◌<◌, length, IsSome};
-ghost use Rattle.kl_outside.specs.Files.{FilesState, Opens, Reads, Closes, ReadsWhole, ReadsRest};
+ghost use Rattle.kl_outside.specs.Files.{FilesState, Opens, ReadsPiece, Closes, ReadsWhole, ReadsRest};
 
 use crate::Stop;
 use kl_base::Text;
@@ -34,7 +34,7 @@ pub trait Files {
     fn read(&mut self, file: u64, into: &mut [u8]) -> Result<usize, Stop>
         requires is_open { IsSome ((state self.old).left file) }
         requires room { 0 < length into.old }
-        ensures { Reads file into.new result (state self.old) (state self.new) };
+        ensures { ReadsPiece file into.new result (state self.old) (state self.new) };
 
     /// Closes an open file. It takes no memory, and cannot be refused.
     fn close(&mut self, file: u64)

@@ -1,6 +1,6 @@
 ghost use Rattle.std.specs.Prelude.{◌≡◌, ◌↔◌, ◌⊎◌, ◌<◌, ◌+◌, ◌^◌, [], Some, None, length, take, drop, min, MatchOption, MatchResult, IsTrue, IsErrOf, IsSome, slice_get};
 ghost use Rattle.std.specs.Option.{option_flatten};
-ghost use Rattle.kl_outside.specs.Files.{Opens, Reads, Closes};
+ghost use Rattle.kl_outside.specs.Files.{Opens, ReadsPiece, Closes};
 ghost use Rattle.kl_outside.specs.Entries.{bytes_of, bytes_at};
 
 use crate::schedule::Schedule;
@@ -129,7 +129,7 @@ impl Files for MemFiles {
     fn read(&mut self, file: u64, into: &mut [u8]) -> Result<usize, Stop>
         requires is_open { IsSome ((files_state self.old).left file) }
         requires room { 0 < length into.old }
-        ensures reads { Reads file into.new result (files_state self.old) (files_state self.new) }
+        ensures reads { ReadsPiece file into.new result (files_state self.old) (files_state self.new) }
         ensures failed { IsErrOf result Stop.Failed ↔ IsTrue (is_next_listed (files_calls self.old)) }
         ensures calls { files_calls self.new ≡ after_call (files_calls self.old) }
     {

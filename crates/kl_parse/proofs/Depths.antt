@@ -8,8 +8,8 @@ use Rattle.kl_lex.specs.declared.token.Tok.TheVariants as tok
 use Rattle.kl_lex.specs.declared.token.Token.{Token}
 use Rattle.kl_value.specs.declared.value.Kind.{Kind}
 use Rattle.kl_value.specs.declared.value.Kind.TheVariants as kind
-use Rattle.kl_parse.specs.declared.keyword.Keyword.{Keyword}
-use Rattle.kl_parse.specs.declared.keyword.Keyword.TheVariants as key
+use Rattle.kl_lex.specs.declared.keyword.Keyword.{Keyword}
+use Rattle.kl_lex.specs.declared.keyword.Keyword.TheVariants as key
 use Rattle.kl_parse.specs.declared.operator.Level.{Level}
 use Rattle.kl_parse.specs.declared.operator.Level.TheVariants as level
 use Rattle.kl_syntax.specs.declared.tree.Expr.{Expr}
@@ -18,15 +18,17 @@ use Rattle.kl_syntax.specs.declared.tree.Qual.TheVariants as qual
 use Rattle.kl_syntax.specs.declared.tree.Pattern.{Pattern}
 use Rattle.kl_syntax.specs.declared.tree.Pattern.TheVariants as pattern
 use Rattle.kl_syntax.specs.declared.tree.Branch.{Branch}
-use Rattle.kl_parse.specs.Keywords.{spelling}
+use Rattle.kl_lex.specs.Keywords.{spelling}
 use Rattle.kl_parse.specs.Lexemes.{word_of}
-use Rattle.kl_parse.specs.Grammar.{is_of, variant_of, shape_of, name_of, inject_of, gen_of, comp_of, case_of, path_of, chain_of, compare_of, let_of, if_of, branch_of, function_of, constant_of, decl_of, program_of, opener, closer, Sort, whole, negated, signed, added}
-use Rattle.kl_parse.specs.Kinds.{among, is_symbol, is_key, only, a_symbol, a_key, a_label, a_name, a_constant, a_least, a_negative, an_op}
+use Rattle.kl_lex.specs.Brackets.{opener, closer}
+use Rattle.kl_parse.specs.Grammar.{is_of, variant_of, shape_of, name_of, inject_of, gen_of, comp_of, case_of, path_of, chain_of, compare_of, let_of, if_of, branch_of, function_of, constant_of, decl_of, program_of, Sort, whole, negated, signed, added}
+use Rattle.kl_parse.specs.Kinds.{among, is_symbol, is_key, a_symbol, a_key, a_label, a_name, a_constant, a_least, a_negative, an_op}
 use Rattle.kl_parse.specs.Parsing.{can_nest_at, can_nest}
 use Rattle.kl_parse.specs.Descent as d
 use Rattle.kl_parse.proofs.KindLemmas.{symbol_of, key_of}
 use Rattle.kl_phrase.specs.Words.{heads, list_of}
-use Rattle.kl_phrase.specs.Readers.{bad, deep, Out, ok, fail, Reader, after, taken, one, nothing, numbered, chain, both, behind, before, made, pick, choose, opening, goes, turns, loop, many, parted, tailed, dots_end, followed, decided, commit}
+use Rattle.kl_phrase.specs.Readers.{bad, deep, Out, ok, fail, Reader, after, taken, one, nothing, numbered, chain, both, behind, before, made, pick, choose, opening, goes, turns, loop, many, parted, tailed, dots_end, followed, decided, commit, only}
+use Rattle.kl_phrase.proofs.Theory.{no}
 
 -- what is left is a rest of the tokens; before too deep a nesting so many stand that can nest, and one at the place
 abbrev pub Far : {A : Type 0} → ℕ → List Token → Out Token A → Type 0
@@ -201,9 +203,6 @@ deepens_mark s = deepens_one (a_symbol s)
 
 deepens_key : {n : ℕ} (k : Keyword) → Deepens n (d.word_mark k)
 deepens_key k = deepens_one (a_key k)
-
-no : {X : Type 0} → IsTrue false → X
-no i = absurd (let z : false ≡ true = i in cc)
 
 -- ---- patterns
 

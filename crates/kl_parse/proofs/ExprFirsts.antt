@@ -1,12 +1,12 @@
 -- With which tokens expressions begin, and what may go on behind them.
-use Rattle.std.proofs.Common.{◌≡◌, ℕ, zero, suc, Bool, true, false, IsTrue, List, [], ◌∷◌, ◌++◌, Option, Some, None, refl}
+use Rattle.std.proofs.Common.{ℕ, Bool, List, [], ◌∷◌, ◌++◌, Option, Some, None, refl}
 use Rattle.kl_lex.specs.declared.token.Sym.{Sym}
 use Rattle.kl_lex.specs.declared.token.Sym.TheVariants as sy
 use Rattle.kl_lex.specs.declared.token.Token.{Token}
 use Rattle.kl_value.specs.declared.value.Kind.{Kind}
 use Rattle.kl_value.specs.declared.value.Kind.TheVariants as kind
-use Rattle.kl_parse.specs.declared.keyword.Keyword.{Keyword}
-use Rattle.kl_parse.specs.declared.keyword.Keyword.TheVariants as key
+use Rattle.kl_lex.specs.declared.keyword.Keyword.{Keyword}
+use Rattle.kl_lex.specs.declared.keyword.Keyword.TheVariants as key
 use Rattle.kl_parse.specs.declared.operator.Level.{Level}
 use Rattle.kl_parse.specs.declared.operator.Level.TheVariants as level
 use Rattle.kl_syntax.specs.declared.tree.Expr.{Expr}
@@ -15,13 +15,14 @@ use Rattle.kl_syntax.specs.declared.tree.Expr.TheVariants as expr
 use Rattle.kl_syntax.specs.declared.tree.Pattern.{Pattern}
 use Rattle.kl_syntax.specs.declared.tree.Branch.{Branch}
 use Rattle.kl_parse.specs.Lexemes.{Symbol, Key, Label, Name, Constant, IsLeast, AnOp}
-use Rattle.kl_parse.specs.Grammar.{name_of, inject_of, case_of, path_of, chain_of, compare_of, let_of, if_of, opener, closer, Chained, Exprs, Args, Group, Field, Rec, Inject, Otherwise, If, AQual, Inside, Coll, Let, Case, Named, Least, Prim, Post, Un, Mul, Add, Compare, Not, And, Ors, Whole, ABranch, PatVariant, branch_of}
-use Rattle.kl_parse.specs.Kinds.{has, among, is_symbol, is_key, one_symbol, one_key, symbol_kind, key_kind, name_kinds, label_kinds, constant_kinds, big_kinds, op_kinds}
-use Rattle.kl_parse.proofs.KindLemmas.{on_symbol, on_key, on_constant, on_least}
-use Rattle.kl_parse.proofs.PatGoods.{alt, off, starts_label, starts_name}
+use Rattle.kl_lex.specs.Brackets.{opener, closer}
+use Rattle.kl_parse.specs.Grammar.{name_of, inject_of, case_of, path_of, chain_of, compare_of, let_of, if_of, Chained, Exprs, Args, Group, Field, Rec, Inject, Otherwise, If, Inside, Coll, Let, Case, Named, Least, Prim, Post, Un, Mul, Add, Compare, Not, And, Ors, Whole}
+use Rattle.kl_parse.specs.Kinds.{among, is_symbol, is_key, one_symbol, one_key, symbol_kind, name_kinds, label_kinds, constant_kinds, op_kinds}
+use Rattle.kl_parse.proofs.KindLemmas.{on_symbol, on_key, on_constant}
+use Rattle.kl_parse.proofs.PatGoods.{alt, starts_label, starts_name}
 use Rattle.kl_phrase.specs.Words.{Phrase, One, Then, Behind, Before, Many, Made, Or, Optional, Opened, Parted}
-use Rattle.kl_phrase.proofs.Theory.{On, Off}
-use Rattle.kl_phrase.proofs.Firsts.{on_made, on_then, on_behind, on_opened}
+use Rattle.kl_phrase.proofs.Theory.{On, on_behind}
+use Rattle.kl_phrase.proofs.Firsts.{on_made, on_then, on_opened}
 
 -- ---- what may go on
 

@@ -1,33 +1,29 @@
 -- The readers of expressions read the expressions. E: those inside; W: where what begins one of them has its whole texts.
-use Rattle.std.proofs.Common.{◌≡◌, ℕ, zero, suc, ◌+◌, Bool, true, false, ◌&&◌, IsTrue, List, [], ◌∷◌, ◌++◌, length, Option, Some, None, inl, inr, refl, sym, ap, subst, ◌∙◌, append_assoc}
-use Rattle.kl_lex.specs.declared.token.Sym.{Sym}
+use Rattle.std.proofs.Common.{◌≡◌, ℕ, ◌+◌, true, false, List, [], ◌∷◌, ◌++◌, length, Some, None, inl, inr, refl, ap, ◌∙◌, append_assoc}
 use Rattle.kl_lex.specs.declared.token.Sym.TheVariants as sy
 use Rattle.kl_lex.specs.declared.token.Token.{Token}
 use Rattle.kl_value.specs.declared.value.Kind.{Kind}
 use Rattle.kl_value.specs.declared.value.Kind.TheVariants as kind
-use Rattle.kl_parse.specs.declared.keyword.Keyword.{Keyword}
-use Rattle.kl_parse.specs.declared.keyword.Keyword.TheVariants as key
-use Rattle.kl_parse.specs.declared.operator.Level.{Level}
-use Rattle.kl_parse.specs.declared.operator.Level.TheVariants as level
-use Rattle.kl_syntax.specs.declared.tree.Op.{Op}
+use Rattle.kl_lex.specs.declared.keyword.Keyword.{Keyword}
+use Rattle.kl_lex.specs.declared.keyword.Keyword.TheVariants as key
 use Rattle.kl_syntax.specs.declared.tree.Word.{Word}
 use Rattle.kl_syntax.specs.declared.tree.Expr.{Expr}
 use Rattle.kl_syntax.specs.declared.tree.Expr.TheVariants as expr
-use Rattle.kl_syntax.specs.declared.tree.Qual.{Qual}
 use Rattle.kl_syntax.specs.declared.tree.Qual.TheVariants as qual
 use Rattle.kl_syntax.specs.declared.tree.Pattern.{Pattern}
 use Rattle.kl_syntax.specs.declared.tree.Branch.{Branch}
-use Rattle.kl_parse.specs.Lexemes.{IsSymbol, Symbol, IsKey, Key, Label, Name, Constant, IsLeast, AnOp}
-use Rattle.kl_parse.specs.Grammar.{name_of, inject_of, case_of, path_of, chain_of, compare_of, let_of, if_of, gen_of, comp_of, branch_of, opener, closer, Chained, Exprs, Args, Group, Field, Rec, Inject, Otherwise, If, AQual, Inside, Coll, Let, Case, Named, Least, Prim, Post, Un, Mul, Add, Compare, Not, And, Ors, Whole, ABranch, PatVariant}
-use Rattle.kl_parse.specs.Kinds.{has, among, is_symbol, is_key, one_symbol, one_key, symbol_kind, key_kind, name_kinds, label_kinds, constant_kinds, big_kinds, op_kinds, a_constant, a_least, an_op}
+use Rattle.kl_parse.specs.Lexemes.{IsSymbol, Symbol, IsKey, Key, Label}
+use Rattle.kl_lex.specs.Brackets.{opener, closer}
+use Rattle.kl_parse.specs.Grammar.{inject_of, case_of, let_of, if_of, gen_of, comp_of, Exprs, Args, Group, Field, Rec, Inject, Otherwise, If, AQual, Inside, Coll, Let, Case, Prim}
+use Rattle.kl_parse.specs.Kinds.{among, is_symbol, is_key, one_symbol, one_key, symbol_kind, label_kinds}
 use Rattle.kl_parse.specs.Descent as d
-use Rattle.kl_parse.proofs.KindLemmas.{all_of, none_of, within, without, decides_constant, decides_least, decides_op, symbol_of, key_of, on_symbol, on_key, on_least, on_op, has_symbol, has_key, has_label, has_name, has_constant, has_least, has_op}
-use Rattle.kl_parse.proofs.PatGoods.{Free, good_symbol, good_key, good_label, good_name, alt, off, stop, closes, past, past_key, good_variant, has_pat_field, opens_variant}
-use Rattle.kl_parse.proofs.ExprFirsts.{goes_path, goes_mul, goes_add, goes_compare, goes_and, goes_whole, on_args, on_field, on_constants, on_group, on_rec, on_inject, on_coll, on_case, on_named, on_let, on_if, on_not, on_minus, on_digits, InCase, InLet, InIf, prim2, prim3, prim4, prim5, prim6, prim7, prim8, prim_kinds, un_kinds, not_kinds, if_kinds, whole_kinds, Prim2, Prim3, Prim4, Prim5, Prim6, Prim7, Prim8, on2, on3, on4, on5, on6, on7, on8, Minus, on_signed, on_compare, on_path, on_ors, Iffy, on_iffy, Second}
-use Rattle.kl_phrase.specs.Words.{heads, Phrase, One, Nothing, Numbered, Then, Behind, Before, Many, Made, Or, Optional, Opened, Never, Parted}
-use Rattle.kl_phrase.specs.Readers.{Reader, made, both, behind, before, chain, nothing, pick, opening, opened, one, parted, many, followed, fail, bad}
-use Rattle.kl_phrase.proofs.Theory.{Good, On, Off, Has, Opens, Meets, To, Chain, good_one, good_nothing, good_numbered, good_made, good_both, good_behind, good_before, good_pick, good_opening, good_follow, good_many, good_parted, good_same, good_chain, meets_many}
-use Rattle.kl_phrase.proofs.Firsts.{Stops, Heads, Within, on_or, on_made, on_then, on_behind, on_numbered, on_opened, on_parted, on_within, off_on, off_or, off_opened, off_nothing, meets_on, meets_or, meets_nothing, heads_within, heads_without, stops_within, has_made, has_then, has_behind, has_before, has_left, has_right, has_nothing, has_numbered, has_many, has_parted, opens_behind, opens_made}
+use Rattle.kl_parse.proofs.KindLemmas.{all_of, none_of, within, symbol_of, key_of, on_symbol, on_key, has_symbol, has_key, has_label}
+use Rattle.kl_parse.proofs.PatGoods.{Free, good_symbol, good_key, good_label, stop, closes, past, past_key}
+use Rattle.kl_parse.proofs.ExprFirsts.{goes_add, goes_whole, on_field, InCase, InLet, InIf, whole_kinds}
+use Rattle.kl_phrase.specs.Words.{heads, Phrase, Nothing, Then, Behind, Before, Many, Made, Or, Optional, Parted}
+use Rattle.kl_phrase.specs.Readers.{Reader, made, behind, before, chain, nothing, pick, parted}
+use Rattle.kl_phrase.proofs.Theory.{Good, On, Off, Has, Opens, Meets, To, Chain, good_nothing, good_made, good_both, good_before, good_pick, good_follow, good_many, good_parted, good_same, good_chain, meets_many, on_behind, has_behind}
+use Rattle.kl_phrase.proofs.Firsts.{Stops, Heads, Within, on_made, on_parted, off_nothing, meets_on, heads_within, stops_within, has_made, has_then, has_before, has_left, has_right, has_nothing, has_many, has_parted, opens_behind, opens_made}
 use Rattle.kl_phrase.proofs.Commit.{good_choose, good_followed, good_commit, Apart}
 
 -- more may go on: less may follow

@@ -1,13 +1,13 @@
 -- What the code's steps say of the descent through expressions.
-use Rattle.std.proofs.Common.{◌≡◌, ℕ, zero, suc, ◌+◌, ◌<◌, ◌≤◌, Bool, true, false, IsTrue, List, [], ◌∷◌, ◌++◌, length, Option, Some, None, ◌⊎◌, inl, inr, refl, sym, ap, subst, ◌∙◌, length-append, arith}
+use Rattle.std.proofs.Common.{◌≡◌, ℕ, zero, suc, ◌<◌, Bool, true, false, IsTrue, List, [], ◌∷◌, ◌++◌, length, Option, Some, None, inl, inr, refl, sym, ap, subst, ◌∙◌, arith}
+use Rattle.std.proofs.Math.Path.{fun_ext}
 use Rattle.kl_lex.specs.declared.token.Sym.{Sym}
 use Rattle.kl_lex.specs.declared.token.Sym.TheVariants as sy
 use Rattle.kl_lex.specs.declared.token.Token.{Token}
 use Rattle.kl_value.specs.declared.value.Kind.{Kind}
 use Rattle.kl_value.specs.declared.value.Kind.TheVariants as kind
 use Rattle.kl_value.specs.declared.value.Value.{Value}
-use Rattle.kl_parse.specs.declared.keyword.Keyword.{Keyword}
-use Rattle.kl_parse.specs.declared.keyword.Keyword.TheVariants as key
+use Rattle.kl_lex.specs.declared.keyword.Keyword.TheVariants as key
 use Rattle.kl_parse.specs.declared.operator.Level.{Level}
 use Rattle.kl_parse.specs.declared.operator.Level.TheVariants as level
 use Rattle.kl_phrase.specs.declared.fault.Fault.{Fault}
@@ -21,22 +21,21 @@ use Rattle.kl_syntax.specs.declared.tree.Qual.{Qual}
 use Rattle.kl_syntax.specs.declared.tree.Qual.TheVariants as qual
 use Rattle.kl_syntax.specs.declared.tree.Branch.{Branch}
 use Rattle.kl_phrase.specs.Gives.{Fails}
-use Rattle.kl_parse.specs.Grammar.{name_of, inject_of, gen_of, comp_of, case_of, path_of, chain_of, compare_of, let_of, if_of, branch_of, function_of, constant_of, opener, closer, Sort, whole, negated, signed, added, opens}
+use Rattle.kl_lex.specs.Brackets.{opener, closer}
+use Rattle.kl_parse.specs.Grammar.{name_of, inject_of, gen_of, comp_of, case_of, path_of, chain_of, compare_of, let_of, if_of, branch_of, function_of, constant_of, Sort, whole, negated, signed, added, opens}
 use Rattle.kl_parse.specs.Kinds.{among, is_symbol, is_key, constant_kinds, big_kinds, op_kinds, a_constant, an_op, a_symbol}
 use Rattle.kl_parse.specs.Descent as d
 use Rattle.kl_parse.specs.Descent.{mark, word_mark}
-use Rattle.kl_parse.proofs.Kepts.{same_reads, same_pat, same_branch, same_qual, keeps_operand, keeps_field, no, minus_nests, keeps_labels}
+use Rattle.kl_parse.proofs.Kepts.{same_reads, same_pat, same_branch, same_qual, keeps_operand, keeps_field, minus_nests}
 use Rattle.kl_parse.proofs.Steps.{Ahead, AheadKey, behind_mark, behind_key, heads_mark, heads_key}
-use Rattle.kl_phrase.proofs.Failures.{fails_after, fails_so, err_by}
+use Rattle.kl_phrase.proofs.Failures.{fails_after, err_by}
 use Rattle.kl_parse.specs.Parsing.{nests}
 use Rattle.kl_phrase.specs.Words.{heads}
-use Rattle.kl_phrase.specs.Readers.{Why, bad, deep, Out, ok, fail, Reader, after, one, behind, before, both, made, chain, many, followed, instead, turns, pick, nothing, parted, others}
+use Rattle.kl_phrase.specs.Readers.{Why, bad, deep, Out, ok, fail, Reader, after, one, behind, both, made, followed, instead, turns, pick, nothing, others}
 use Rattle.kl_phrase.proofs.Kept.{Keeps, Rests, Takes, takes_both, takes_one}
-use Rattle.kl_phrase.proofs.Gathered.{Progress, goes_on, breaks, stops, parted_on}
+use Rattle.kl_phrase.proofs.Gathered.{Progress, goes_on, stops, parted_on, part_fails}
 use Rattle.kl_phrase.proofs.Exact.{Nested}
-
-ext : {A B : Type 0} {f g : A → B} → ((x : A) → f x ≡ g x) → f ≡ g
-ext h = λ i x. h x i
+use Rattle.kl_phrase.proofs.Theory.{no}
 
 -- ---- by depth
 
@@ -99,9 +98,7 @@ pub step_on : (N n : ℕ) (l : Level) (ts more r : List Token) (o : Op) (a : Exp
 step_on N n l ts more r o a e h = rw (e, h) refl
 
 pub step_fails : (N n : ℕ) (l : Level) (whole_list : Out Token (List (Op × Expr))) (found : List (Op × Expr)) (ts more : List Token) (o : Op) (f : Fault Token) → heads (among (op_kinds l)) ts ≡ true → one (an_op l) ts ≡ ok o more → Fails f (d.operand_at N n l more) → Progress (among (op_kinds l)) (Step N n l) whole_list found ts → Fails f whole_list
-step_fails N n l whole_list found ts more o fault.Memory hd e h so = tt
-step_fails N n l whole_list found ts more o (fault.Bad r) hd e h so = breaks (among (op_kinds l)) (Step N n l) whole_list found ts bad r.now hd (rw (e, h) refl) so
-step_fails N n l whole_list found ts more o (fault.Deep r) hd e h so = breaks (among (op_kinds l)) (Step N n l) whole_list found ts deep r.now hd (rw (e, h) refl) so
+step_fails N n l whole_list found ts more o f hd e = part_fails (among (op_kinds l)) (Step N n l) (d.operand_at N n l more) whole_list found ts f hd (λ w s h. rw (e, h) refl)
 
 keeps_inside : (N n : ℕ) (s : Sort) → IsTrue (opens n) → Keeps (Nested nests) N N (d.inside N n s) (d.inside N n s)
 keeps_inside N zero s i = no i
@@ -257,7 +254,7 @@ inject_deep N n ts more z (c, p, q) a = ap (λ m. d.prim_at N m ts) z ∙ rw (c,
 
 added_is : (N k : ℕ) → d.reads N k added ≡ d.chain_at N k level.Add
 unfolding d.add
-added_is N k = ext (λ ts. reads_is N k added ts)
+added_is N k = fun_ext (λ ts. reads_is N k added ts)
 
 pub inject_at : (N n k : ℕ) (ts more : List Token) → n ≡ suc k → Not3 ts → Ahead sy.Lt ts more → d.prim_at N n ts ≡ made inject_of (d.in_inject N (d.chain_at N k level.Add)) more
 unfolding d.prim

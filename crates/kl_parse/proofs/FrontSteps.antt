@@ -1,6 +1,6 @@
 -- What a first token is, as the code finds it.
-use Rattle.std.proofs.Common.{◌≡◌, ℕ, zero, suc, ◌+◌, ◌-◌, ◌<◌, ◌≤◌, Bool, true, false, ◌&&◌, nat_lt, List, [], ◌∷◌, length, take, drop, get_or, Option, Some, None, refl, sym, ap, subst, ◌∙◌, arith}
-use Rattle.std.proofs.lemmas.Bool.{ltb-true}
+use Rattle.std.proofs.Common.{◌≡◌, ℕ, suc, ◌-◌, ◌<◌, ◌≤◌, Bool, true, false, ◌&&◌, nat_lt, List, [], ◌∷◌, length, take, drop, get_or, Some, None, refl, sym, ap, ◌∙◌, arith}
+use Rattle.std.proofs.lemmas.Bool.{ltb-true, and_parts}
 use Rattle.kl_lex.specs.declared.token.Sym.{Sym}
 use Rattle.kl_lex.specs.declared.token.Tok.{Tok}
 use Rattle.kl_lex.specs.declared.token.Tok.TheVariants as tok
@@ -8,7 +8,7 @@ use Rattle.kl_lex.specs.declared.token.Token.{Token}
 use Rattle.kl_parse.specs.declared.operator.Level.{Level}
 use Rattle.kl_syntax.specs.declared.tree.Op.{Op}
 use Rattle.kl_parse.specs.Kinds.{has, kind_at, among, is_symbol, symbol_kind, label_kinds, op_kinds, op_at, of_level, an_op}
-use Rattle.kl_parse.proofs.KindLemmas.{symbol_at, has_or, and_true, either, decides_op, op_among, no_op}
+use Rattle.kl_parse.proofs.KindLemmas.{symbol_at, has_or, either, decides_op, op_among, no_op}
 use Rattle.kl_phrase.specs.Words.{heads}
 use Rattle.kl_phrase.specs.Readers.{one, ok}
 
@@ -33,7 +33,7 @@ below (k ∷ kinds) = nat_lt k 18 && below kinds
 in_below : (k : ℕ) (kinds : List ℕ) → below kinds ≡ true → has k kinds ≡ true → k < 18
 unfolding below
 in_below k [] h i = absurd cc
-in_below k (j ∷ kinds) h i = let two = and_true (nat_lt j 18) (below kinds) h in either (has_or k j kinds i) (λ e. let l : j < 18 = ltb-true j 18 two.0 in omega arith) (in_below k kinds two.1)
+in_below k (j ∷ kinds) h i = let two = and_parts (nat_lt j 18) (below kinds) h in either (has_or k j kinds i) (λ e. let l : j < 18 = ltb-true j 18 two.0 in omega arith) (in_below k kinds two.1)
 
 no_word : (w : Tok) → ((x : List ℕ) → w ≡ tok.Word x → ⊥) → has (kind_at w) label_kinds ≡ false
 unfolding below

@@ -1,12 +1,12 @@
 -- What the descent answers rests on no token behind the first of the rest, nor on the depth, unless it is too small.
-use Rattle.std.proofs.Common.{◌≡◌, ℕ, zero, suc, ◌≤◌, ◌<◌, ◌+◌, Bool, true, false, IsTrue, List, [], ◌∷◌, ◌++◌, length, Option, Some, None as Nil, inl, inr, if◌then◌else◌, refl, sym, ap, subst, ◌∙◌, length-append, arith}
+use Rattle.std.proofs.Common.{◌≡◌, ℕ, zero, suc, ◌≤◌, ◌+◌, Bool, true, false, IsTrue, List, [], ◌∷◌, length, Option, Some, None as Nil, inl, inr, if◌then◌else◌, refl, sym, ap, ◌∙◌, length-append, arith}
 use Rattle.kl_lex.specs.declared.token.Sym.{Sym}
 use Rattle.kl_lex.specs.declared.token.Sym.TheVariants as sy
 use Rattle.kl_lex.specs.declared.token.Token.{Token}
 use Rattle.kl_value.specs.declared.value.Kind.{Kind}
 use Rattle.kl_value.specs.declared.value.Kind.TheVariants as kind
-use Rattle.kl_parse.specs.declared.keyword.Keyword.{Keyword}
-use Rattle.kl_parse.specs.declared.keyword.Keyword.TheVariants as key
+use Rattle.kl_lex.specs.declared.keyword.Keyword.{Keyword}
+use Rattle.kl_lex.specs.declared.keyword.Keyword.TheVariants as key
 use Rattle.kl_parse.specs.declared.operator.Level.{Level}
 use Rattle.kl_parse.specs.declared.operator.Level.TheVariants as level
 use Rattle.kl_syntax.specs.declared.tree.Expr.{Expr}
@@ -23,17 +23,19 @@ use Rattle.kl_parse.specs.Grammar.{BindPat, AnyPat, NegativePat, ConstantPat, Sa
 use Rattle.kl_parse.proofs.KindLemmas.{symbol_of}
 use Rattle.kl_parse.proofs.PatGoods.{closes, good_reads_pat}
 use Rattle.kl_parse.proofs.Reading.{apart_qual, apart_body, good_reads, up}
-use Rattle.kl_parse.specs.Grammar.{is_of, variant_of, shape_of, name_of, inject_of, gen_of, comp_of, case_of, path_of, chain_of, compare_of, let_of, if_of, branch_of, function_of, constant_of, decl_of, program_of, opener, closer, Sort, whole, negated, signed, added, opens}
-use Rattle.kl_parse.specs.Kinds.{among, is_symbol, is_key, label_kinds, constant_kinds, big_kinds, op_kinds, a_symbol, a_key, a_label, a_name, a_constant, a_least, a_negative, an_op}
+use Rattle.kl_lex.specs.Brackets.{opener, closer}
+use Rattle.kl_parse.specs.Grammar.{is_of, variant_of, shape_of, name_of, inject_of, gen_of, comp_of, case_of, path_of, chain_of, compare_of, let_of, if_of, branch_of, function_of, constant_of, decl_of, program_of, Sort, whole, negated, signed, added, opens}
+use Rattle.kl_parse.specs.Kinds.{among, is_symbol, big_kinds, a_symbol, a_key, a_label, a_name, a_constant, a_least, a_negative, an_op}
 use Rattle.kl_parse.specs.Parsing.{nests_at, nests}
 use Rattle.kl_parse.specs.Descent as d
 use Rattle.kl_phrase.specs.Words.{heads, Phrase, One, Nothing, Numbered, Then, Behind, Before, Made, Or, Opened, Never, Tailed}
-use Rattle.kl_phrase.specs.Readers.{Why, bad, deep, Out, ok, fail, Reader, one, made, both, behind, before, nothing, after}
+use Rattle.kl_phrase.specs.Readers.{Why, deep, Out, ok, fail, Reader, one, made, both, behind, before, after}
 use Rattle.kl_phrase.proofs.Kept.{Keeps, Rests, Takes, keeps_one, takes_one, keeps_nothing, keeps_made, keeps_both, keeps_behind, keeps_before, keeps_chain, keeps_numbered, keeps_pick, keeps_opened, keeps_opening, keeps_many, keeps_parted, takes_both, takes_behind, takes_made}
 use Rattle.kl_phrase.proofs.Tails.{keeps_tailed}
-use Rattle.kl_phrase.proofs.Commit.{keeps_two, Moved, keeps_followed, keeps_commit, keeps_failing, Apart, Short}
+use Rattle.kl_phrase.proofs.Commit.{keeps_two, Moved, keeps_followed, keeps_commit, keeps_failing, Short}
 use Rattle.kl_phrase.proofs.Spelled.{Each as Spelled, None, closed_none, each_one, each_nothing, each_then, each_behind, each_before, each_tailed, each_made, each_numbered, each_or, each_opened, short_none}
 use Rattle.kl_phrase.proofs.Exact.{IsBad, Each, Nested}
+use Rattle.kl_phrase.proofs.Theory.{no}
 
 module _ (Q : Why → List Token → Type 0) (N M : ℕ) where
   keeps_mark : (s : Sym) → Keeps Q N M (d.mark s) (d.mark s)
@@ -71,9 +73,6 @@ module _ (Q : Why → List Token → Type 0) (N M : ℕ) where
   keeps_pat : (p p' : Reader Token Pattern) (may can : Bool) → (IsTrue may → Keeps Q N M p p') → (IsTrue may → IsTrue can) → ((r : List Token) → Q deep r → may ≡ can) → Keeps Q N M (d.pat N p may) (d.pat M p' can)
   unfolding d.pat
   keeps_pat p p' may can k i j = keeps_opening i j (λ h. keeps_made variant_of (keeps_variant p p' (k h))) (keeps_opening i j (λ h. keeps_behind (keeps_mark sy.OpenRec) (keeps_before (keeps_shape p p' (k h)) (keeps_mark sy.CloseRec))) keeps_simple)
-
-pub no : {X : Type 0} → IsTrue false → X
-no i = absurd (let z : false ≡ true = i in cc)
 
 pub more_pat : (N M n k : ℕ) → n ≤ k → Keeps IsBad N M (d.read_pat N n) (d.read_pat M k)
 unfolding d.read_pat

@@ -1,6 +1,6 @@
 -- The phrases of one token, and what decides them.
-use Rattle.std.proofs.Common.{◌≡◌, ℕ, zero, suc, ◌+◌, ◌<◌, ◌≤◌, ℤ, pos, negsuc, neg_ℤ, Bool, true, false, ◌||◌, ◌&&◌, not, nat_eq, cond, List, [], ◌∷◌, ◌++◌, find, map, Option, Some, None, ◌⊎◌, inl, inr, if◌then◌else◌, refl, sym, ap, subst, ◌∙◌, arith}
-use Rattle.std.proofs.lemmas.Bool.{eqb-true, eq-eqb}
+use Rattle.std.proofs.Common.{◌≡◌, ℕ, ◌+◌, ◌<◌, ℤ, pos, negsuc, neg_ℤ, Bool, true, false, ◌||◌, ◌&&◌, not, nat_eq, cond, List, [], ◌∷◌, find, map, Option, Some, None, ◌⊎◌, inl, inr, if◌then◌else◌, refl, sym, ap, subst, ◌∙◌, arith}
+use Rattle.std.proofs.lemmas.Bool.{eqb-true, eq-eqb, and_parts, not-true}
 use Rattle.std.specs.List.{AllByRecursion}
 use Rattle.std.specs.Cmp.Lexicographic.{pointwise}
 use Rattle.std.proofs.lemmas.Slice.Eq.{bytes_eq-Decides}
@@ -12,21 +12,21 @@ use Rattle.kl_lex.specs.declared.token.Tok.TheVariants as tok
 use Rattle.kl_lex.specs.declared.token.Token.{Token}
 use Rattle.kl_value.specs.declared.value.Value.{Value}
 use Rattle.kl_value.specs.declared.value.Value.TheVariants as value
-use Rattle.kl_parse.specs.declared.keyword.Keyword.{Keyword}
-use Rattle.kl_parse.specs.declared.keyword.Keyword.TheVariants as key
-use Rattle.kl_parse.specs.contracts.keyword.Keyword as key_type
+use Rattle.kl_lex.specs.declared.keyword.Keyword.{Keyword}
+use Rattle.kl_lex.specs.declared.keyword.Keyword.TheVariants as key
+use Rattle.kl_lex.specs.contracts.keyword.Keyword as key_type
 use Rattle.kl_parse.specs.declared.operator.Level.{Level}
 use Rattle.kl_parse.specs.declared.operator.Level.TheVariants as level
 use Rattle.kl_parse.specs.contracts.operator.Level as level_type
 use Rattle.kl_syntax.specs.declared.tree.Op.{Op}
 use Rattle.kl_syntax.specs.declared.tree.Op.TheVariants as op
-use Rattle.kl_syntax.specs.declared.tree.Word.{Word}
-use Rattle.kl_parse.specs.Keywords.{spelling, all_keywords, keyword_of}
+use Rattle.kl_lex.specs.Keywords.{spelling, all_keywords, keyword_of}
 use Rattle.kl_parse.specs.Lexemes.{IsSymbol, Symbol, IsKey, Key, IsLabel, IsName, IsConstant, Constant, IsLeast, IsNegative, written, level_of, IsOp, AnOp, word_of, Label, Name}
-use Rattle.kl_parse.specs.Kinds.{key_kind, symbol_kind, word_kind, kind_at, has, among, is_symbol, is_key, name_kinds, label_kinds, constant_kinds, big_kinds, op_kinds, only, a_symbol, a_key, unless_key, a_label_at, a_label, a_name_at, a_name, truth_of, a_constant_at, a_constant, least, a_least_at, a_least, opposite, a_negative_at, a_negative, symbol_op, key_op, op_at, of_level, an_op}
-use Rattle.kl_phrase.specs.Words.{heads, One, Numbered}
-use Rattle.kl_phrase.proofs.Theory.{Decides, On, Has, Good, good_one}
-use Rattle.kl_phrase.proofs.Firsts.{Within, Without, on_one, has_one, on_made, on_numbered, has_made, has_numbered}
+use Rattle.kl_phrase.specs.Readers.{only}
+use Rattle.kl_parse.specs.Kinds.{key_kind, symbol_kind, word_kind, kind_at, has, among, is_symbol, is_key, name_kinds, label_kinds, constant_kinds, big_kinds, op_kinds, a_symbol, a_key, unless_key, a_label_at, a_label, a_name_at, a_name, truth_of, a_constant_at, a_constant, least, a_least_at, a_least, a_negative_at, a_negative, symbol_op, key_op, op_at, of_level, an_op}
+use Rattle.kl_phrase.specs.Words.{One, Numbered}
+use Rattle.kl_phrase.proofs.Theory.{Decides, On, Has, only_true}
+use Rattle.kl_phrase.proofs.Firsts.{Within, Without, on_one, has_one, has_made, has_numbered}
 use denote.Enum.Bare.{sameb, tag_one, same_true, true_same}
 use denote.Enum.Declared.{tag_of}
 
@@ -47,25 +47,17 @@ abbrev pub none_of : List ℕ → List ℕ → Bool
 none_of [] b = true
 none_of (k ∷ a) b = not (has k b) && none_of a b
 
-pub and_true : (a b : Bool) → (a && b) ≡ true → (a ≡ true) × (b ≡ true)
-and_true true b h = (refl, h)
-and_true false b h = absurd cc
-
-not_true : (a : Bool) → not a ≡ true → a ≡ false
-not_true false h = refl
-not_true true h = absurd cc
-
 pub either : {A B X : Type 0} → A ⊎ B → (A → X) → (B → X) → X
 either (inl a) f g = f a
 either (inr b) f g = g b
 
 in_all : (k : ℕ) (a b : List ℕ) → all_of a b ≡ true → has k a ≡ true → has k b ≡ true
 in_all k [] b h i = absurd cc
-in_all k (j ∷ a) b h i = let two = and_true (has j b) (all_of a b) h in either (has_or k j a i) (λ e. ap (λ z. has z b) e ∙ two.0) (in_all k a b two.1)
+in_all k (j ∷ a) b h i = let two = and_parts (has j b) (all_of a b) h in either (has_or k j a i) (λ e. ap (λ z. has z b) e ∙ two.0) (in_all k a b two.1)
 
 in_none : (k : ℕ) (a b : List ℕ) → none_of a b ≡ true → has k a ≡ true → has k b ≡ false
 in_none k [] b h i = absurd cc
-in_none k (j ∷ a) b h i = let two = and_true (not (has j b)) (none_of a b) h in either (has_or k j a i) (λ e. ap (λ z. has z b) e ∙ not_true (has j b) two.0) (in_none k a b two.1)
+in_none k (j ∷ a) b h i = let two = and_parts (not (has j b)) (none_of a b) h in either (has_or k j a i) (λ e. ap (λ z. has z b) e ∙ not-true (has j b) two.0) (in_none k a b two.1)
 
 -- each of these kinds is one of those; none is
 pub within : (a b : List ℕ) → all_of a b ≡ true → Within (among a) (among b)
@@ -145,10 +137,6 @@ yes k = ap (λ b. b || false) (eq-eqb k k refl)
 
 pub is_symbol_of : (s : Sym) (t : Token) → IsSymbol s t tt → is_symbol s t ≡ true
 is_symbol_of s t e = subst (λ (w : Tok). has (kind_at w) (symbol_kind s ∷ []) ≡ true) (sym e) (yes (symbol_kind s))
-
-only_true : (b : Bool) (x : Unit {0}) → only b ≡ Some x → b ≡ true
-only_true true x h = refl
-only_true false x h = absurd cc
 
 pub decides_symbol : (s : Sym) → Decides (IsSymbol s) (a_symbol s)
 decides_symbol s = (λ t x h. symbol_of s t (only_true (is_symbol s t) x h), λ t x h. ap only (is_symbol_of s t h))

@@ -1,9 +1,10 @@
 -- The readers of each level of expressions read that level.
-use Rattle.std.proofs.Common.{◌≡◌, ℕ, zero, suc, ◌+◌, Bool, true, false, ◌&&◌, IsTrue, List, [], ◌∷◌, ◌++◌, length, Option, Some, None, inl, inr, refl, sym, ap, subst, ◌∙◌, append_assoc}
+use Rattle.std.proofs.Common.{◌≡◌, ℕ, ◌+◌, Bool, true, false, ◌&&◌, IsTrue, List, [], ◌∷◌, ◌++◌, length, Option, Some, None, inl, inr, refl, ap, ◌∙◌}
+use Rattle.std.proofs.Math.Bool.{and-false}
 use Rattle.kl_lex.specs.declared.token.Sym.TheVariants as sy
 use Rattle.kl_lex.specs.declared.token.Token.{Token}
 use Rattle.kl_value.specs.declared.value.Kind.TheVariants as kind
-use Rattle.kl_parse.specs.declared.keyword.Keyword.TheVariants as key
+use Rattle.kl_lex.specs.declared.keyword.Keyword.TheVariants as key
 use Rattle.kl_parse.specs.declared.operator.Level.{Level}
 use Rattle.kl_parse.specs.declared.operator.Level.TheVariants as level
 use Rattle.kl_syntax.specs.declared.tree.Op.{Op}
@@ -12,22 +13,19 @@ use Rattle.kl_syntax.specs.declared.tree.Expr.TheVariants as expr
 use Rattle.kl_syntax.specs.declared.tree.Qual.TheVariants as qual
 use Rattle.kl_syntax.specs.declared.tree.Pattern.{Pattern}
 use Rattle.kl_syntax.specs.declared.tree.Branch.{Branch}
-use Rattle.kl_parse.specs.Lexemes.{IsSymbol, Symbol, IsKey, Key, Label, Name, Constant, IsLeast, AnOp}
-use Rattle.kl_parse.specs.Grammar.{name_of, path_of, chain_of, compare_of, branch_of, Chained, Args, Group, Rec, Inject, If, Coll, Let, Case, Named, Least, Prim, Post, Un, Mul, Add, Compare, Not, And, Ors, Whole, ABranch, PatVariant, ReadsPat, Reads, Sort, whole, negated, signed, added, of_sort, opens, PatInside}
-use Rattle.kl_parse.specs.Kinds.{among, is_symbol, is_key, one_symbol, one_key, name_kinds, constant_kinds, big_kinds, op_kinds, a_constant, an_op}
+use Rattle.kl_parse.specs.Lexemes.{IsSymbol, Symbol, IsKey, Key, Label, Constant, IsLeast, AnOp}
+use Rattle.kl_parse.specs.Grammar.{path_of, chain_of, compare_of, Chained, Args, If, Let, Named, Least, Prim, Post, Un, Mul, Add, Compare, Not, And, Ors, Whole, Sort, whole, negated, signed, added, of_sort}
+use Rattle.kl_parse.specs.Kinds.{among, is_symbol, is_key, one_symbol, one_key, name_kinds, constant_kinds, big_kinds, op_kinds}
 use Rattle.kl_parse.specs.Descent as d
-use Rattle.kl_parse.proofs.KindLemmas.{all_of, none_of, decides_constant, decides_least, decides_op, symbol_of, is_symbol_of, least_among, key_of, on_symbol, on_key, on_least, on_op, has_symbol, has_key, has_label, has_name, has_constant, has_least}
-use Rattle.kl_parse.proofs.PatGoods.{Free, good_symbol, good_label, good_name, off, stop, past, past_key, good_variant, has_pat_field, opens_variant, has_reads_pat, good_reads_pat}
-use Rattle.kl_parse.proofs.ExprFirsts.{goes_prim, goes_path, goes_mul, goes_add, goes_compare, goes_and, goes_whole, on_args, on_constants, on_group, on_rec, on_inject, on_coll, on_case, on_named, on_let, on_if, on_not, on_minus, prim2, prim3, prim4, prim5, prim6, prim7, prim8, prim_kinds, un_kinds, not_kinds, if_kinds, whole_kinds, Prim2, Prim3, Prim4, Prim5, Prim6, Prim7, Prim8, on2, on3, on4, on5, on6, on7, on8, Minus, on_path, on_un, on_compare, on_ors, Iffy, on_iffy, on_whole, Second}
+use Rattle.kl_parse.proofs.KindLemmas.{all_of, none_of, decides_constant, decides_least, decides_op, symbol_of, is_symbol_of, least_among, key_of, on_symbol, on_op, has_symbol, has_label, has_constant, has_least}
+use Rattle.kl_parse.proofs.PatGoods.{Free, good_label, good_name, off, stop, past, past_key}
+use Rattle.kl_parse.proofs.ExprFirsts.{goes_prim, goes_path, goes_mul, goes_add, goes_compare, goes_and, goes_whole, on_args, on_constants, on_group, on_rec, on_inject, on_coll, on_case, on_named, on_let, on_if, on_not, on_minus, prim2, prim3, prim4, prim5, prim6, prim7, prim8, prim_kinds, un_kinds, not_kinds, if_kinds, whole_kinds, Prim2, Prim3, Prim4, Prim5, Prim6, Prim7, Prim8, on2, on3, on4, on5, on6, on7, on8, Minus, on_path, on_compare, on_ors, Iffy, on_iffy, Second}
 use Rattle.kl_parse.proofs.ExprGoods.{looser, good_group, good_args, good_rec, good_inject, good_coll, good_case, good_if, good_let, opens_args, opens_group, opens_rec, opens_inject, opens_coll, opens_case, opens_if, opens_let}
-use Rattle.kl_phrase.specs.Words.{heads, Phrase, One, Nothing, Then, Behind, Before, Many, Made, Or, Optional, Opened, Never}
-use Rattle.kl_phrase.specs.Readers.{Reader, made, both, behind, chain, nothing, pick, opening, opened, one, many, fail, bad}
-use Rattle.kl_phrase.proofs.Theory.{Good, On, Off, Has, Opens, Meets, To, good_one, good_nothing, good_made, good_both, good_behind, good_pick, good_opening, good_follow, good_many, good_same, meets_many}
-use Rattle.kl_phrase.proofs.Firsts.{Stops, Heads, on_made, on_then, on_behind, on_opened, off_or, off_opened, off_nothing, meets_on, meets_or, meets_nothing, has_made, has_then, has_behind, has_left, has_right, has_nothing, has_many, opens_behind, opens_made}
+use Rattle.kl_phrase.specs.Words.{heads, Phrase, One, Nothing, Then, Behind, Many, Made, Opened}
+use Rattle.kl_phrase.specs.Readers.{Reader, made}
+use Rattle.kl_phrase.proofs.Theory.{Good, On, Has, Opens, good_one, good_nothing, good_made, good_both, good_pick, good_opening, good_follow, good_many, meets_many, on_behind, has_behind}
+use Rattle.kl_phrase.proofs.Firsts.{Stops, on_made, on_then, off_nothing, meets_on, meets_or, meets_nothing, has_made, has_then, has_left, has_right, has_nothing, has_many, opens_behind, opens_made}
 use Rattle.kl_phrase.proofs.Commit.{good_choose, Apart}
-
-pub no : {X : Type 0} → IsTrue false → X
-no i = absurd (let z : false ≡ true = i in cc)
 
 -- ---- some text spells it
 
@@ -121,10 +119,6 @@ module _ (M : ℕ) (may : Bool) (P PW : Phrase Token Pattern) (E N U A EW NW UW 
   good_post =
       good_made (good_both good_prim (good_many {C = Free} (past sy.Dot good_label has_label) on_dot (λ w h. tt) (λ v h. (tt, looser (one_symbol sy.Dot) goes_path refl v h))) (has_many (Behind (Symbol sy.Dot) Label)) (meets_many (is_symbol sy.Dot) (Behind (Symbol sy.Dot) Label) on_dot (stop (one_symbol sy.Dot) goes_prim refl) (looser goes_prim goes_path refl)))
 
-  and_false : (b : Bool) → (b && false) ≡ false
-  and_false true = refl
-  and_false false = refl
-
   no_least : (ts : List Token) → heads (is_symbol sy.Sub) ts ≡ false → d.is_least ts ≡ false
   no_least [] h = refl
   no_least (t ∷ ts) h = rw h refl
@@ -149,7 +143,7 @@ module _ (M : ℕ) (may : Bool) (P PW : Phrase Token Pattern) (E N U A EW NW UW 
           both_true a b h k = rw (h, k) refl
 
       off_least_text : (n : ℕ) (x : Expr) (w v : List Token) → Minus may P E N U A B n x w → Stops (among goes_path) v → d.is_least (w ++ v) ≡ false
-      off_least_text n x w v (inl (i, (y, ey, (u1, u2, e, (t, e1, h1), r)))) h = rw (e, e1) (ap (λ b. is_symbol sy.Sub t && b) (stop un_kinds big_kinds refl (u2 ++ v) (on_u (n + length u1) y u2 v r)) ∙ and_false (is_symbol sy.Sub t))
+      off_least_text n x w v (inl (i, (y, ey, (u1, u2, e, (t, e1, h1), r)))) h = rw (e, e1) (ap (λ b. is_symbol sy.Sub t && b) (stop un_kinds big_kinds refl (u2 ++ v) (on_u (n + length u1) y u2 v r)) ∙ and-false (is_symbol sy.Sub t))
       off_least_text n x w v (inr s) h = no_least (w ++ v) (stop prim_kinds (one_symbol sy.Sub) refl (w ++ v) (on_path may P E N U A B n x w v s))
 
   good_mul : Good M (Mul may P E N U A B) (Mul true PW EW NW UW AW BW) (Stops (among goes_mul)) (d.mul M may p e n u a b)

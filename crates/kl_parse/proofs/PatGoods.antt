@@ -1,21 +1,20 @@
 -- The readers of patterns read the patterns. P: those inside brackets; W: where what begins one of them has its whole texts.
-use Rattle.std.proofs.Common.{◌≡◌, ℕ, zero, suc, ◌+◌, Bool, true, false, ◌||◌, IsTrue, List, [], ◌∷◌, ◌++◌, Option, Some, None, inl, inr, refl, sym, ap, subst, ◌∙◌}
+use Rattle.std.proofs.Common.{◌≡◌, ℕ, zero, suc, Bool, true, false, IsTrue, List, [], ◌++◌, refl}
 use Rattle.kl_lex.specs.declared.token.Sym.{Sym}
 use Rattle.kl_lex.specs.declared.token.Sym.TheVariants as sy
 use Rattle.kl_lex.specs.declared.token.Token.{Token}
-use Rattle.kl_parse.specs.declared.keyword.Keyword.{Keyword}
-use Rattle.kl_syntax.specs.declared.tree.Word.{Word}
+use Rattle.kl_lex.specs.declared.keyword.Keyword.{Keyword}
 use Rattle.kl_syntax.specs.declared.tree.Pattern.{Pattern}
 use Rattle.kl_syntax.specs.declared.tree.Pattern.TheVariants as pattern
-use Rattle.kl_parse.specs.Lexemes.{IsSymbol, Symbol, IsKey, Key, IsLabel, IsName, Constant, IsNegative, word_of, Label, Name}
+use Rattle.kl_parse.specs.Lexemes.{IsSymbol, Symbol, Key, IsLabel, IsName, Constant, IsNegative, word_of, Label, Name}
 use Rattle.kl_parse.specs.Grammar.{is_of, variant_of, shape_of, BindPat, AnyPat, NegativePat, ConstantPat, SamePat, Simple, PatField, ShapeFields, ShapeDots, PatRec, PatVariant, Pat, ReadsPat}
-use Rattle.kl_parse.specs.Kinds.{has, among, is_symbol, is_key, one_symbol, one_key, symbol_kind, name_kinds, label_kinds, constant_kinds, a_label, a_name}
+use Rattle.kl_parse.specs.Kinds.{has, among, is_symbol, one_symbol, name_kinds, label_kinds, constant_kinds}
 use Rattle.kl_parse.specs.Descent as d
-use Rattle.kl_parse.proofs.KindLemmas.{all_of, none_of, within, without, decides_symbol, decides_key, decides_label, decides_name, decides_constant, decides_negative, symbol_of, on_symbol, on_key, on_label, on_name, on_constant, has_symbol, has_label, has_name, has_negative, has_constant}
-use Rattle.kl_phrase.specs.Words.{heads, Phrase, One, Nothing, Numbered, Then, Behind, Before, Made, Or, Opened, Never, Tailed}
-use Rattle.kl_phrase.specs.Readers.{Reader, made, both, behind, before, opening}
-use Rattle.kl_phrase.proofs.Theory.{Good, On, Off, Has, Opens, Meets, good_one, good_nothing, good_numbered, good_made, good_both, good_behind, good_before, good_pick, good_opening, good_follow}
-use Rattle.kl_phrase.proofs.Firsts.{Stops, Heads, Within, on_or, on_made, on_then, on_behind, on_numbered, on_opened, on_within, off_on, off_or, off_opened, off_nothing, meets_on, heads_within, heads_without, has_made, has_then, has_behind, has_before, has_left, has_right, has_nothing, has_numbered, opens_behind, opens_made}
+use Rattle.kl_parse.proofs.KindLemmas.{all_of, none_of, within, without, decides_symbol, decides_key, decides_label, decides_name, decides_constant, decides_negative, symbol_of, on_symbol, on_label, on_name, on_constant, has_symbol, has_label, has_name, has_negative}
+use Rattle.kl_phrase.specs.Words.{Phrase, One, Nothing, Numbered, Then, Behind, Before, Made, Or, Opened, Never, Tailed}
+use Rattle.kl_phrase.specs.Readers.{Reader, made, both, behind, before}
+use Rattle.kl_phrase.proofs.Theory.{Good, On, Off, Has, Opens, good_one, good_nothing, good_numbered, good_made, good_both, good_behind, good_before, good_pick, good_opening, good_follow, on_behind, has_behind, no}
+use Rattle.kl_phrase.proofs.Firsts.{Stops, Heads, on_or, on_made, on_then, on_numbered, on_opened, on_within, off_on, off_or, off_nothing, meets_on, heads_without, has_made, has_then, has_before, has_left, has_right, has_nothing, opens_behind, opens_made}
 use Rattle.kl_phrase.proofs.Tails.{good_tailed, has_tailed}
 
 abbrev pub Free : List Token → Type 0
@@ -206,9 +205,6 @@ good_pat N may P W p good has_in =
 pub has_reads_pat : (n : ℕ) → Has (ReadsPat n)
 has_reads_pat zero = has_pat false Never
 has_reads_pat (suc n) = has_pat true (ReadsPat n)
-
-pub no : {X : Type 0} → IsTrue false → X
-no i = absurd (let z : false ≡ true = i in cc)
 
 -- what begins a pattern has its whole texts one level deeper
 pub good_reads_pat_one : (N n : ℕ) → Good N (ReadsPat n) (ReadsPat (suc n)) Free (d.read_pat N n)

@@ -1,10 +1,9 @@
 -- What the code's steps say of the descent through definitions.
-use Rattle.std.proofs.Common.{◌≡◌, ℕ, ◌<◌, List, [], ◌∷◌, ◌++◌, length, Option, refl, sym, ap, subst, ◌∙◌}
+use Rattle.std.proofs.Common.{◌≡◌, ℕ, ◌<◌, List, [], ◌∷◌, ◌++◌, length, Option, ap, ◌∙◌}
 use Rattle.kl_lex.specs.declared.token.Sym.TheVariants as sy
 use Rattle.kl_lex.specs.declared.token.Token.{Token}
-use Rattle.kl_parse.specs.declared.keyword.Keyword.TheVariants as key
+use Rattle.kl_lex.specs.declared.keyword.Keyword.TheVariants as key
 use Rattle.kl_phrase.specs.declared.fault.Fault.{Fault}
-use Rattle.kl_phrase.specs.declared.fault.Fault.TheVariants as fault
 use Rattle.kl_syntax.specs.declared.tree.Word.{Word}
 use Rattle.kl_syntax.specs.declared.tree.Pattern.{Pattern}
 use Rattle.kl_syntax.specs.declared.tree.Expr.{Expr}
@@ -16,10 +15,10 @@ use Rattle.kl_parse.specs.Parsing.{nests}
 use Rattle.kl_parse.specs.Descent as d
 use Rattle.kl_parse.specs.Descent.{mark}
 use Rattle.kl_parse.proofs.Kepts.{same_reads, same_body, keeps_rest}
-use Rattle.kl_parse.proofs.Steps.{AheadKey, behind_key, heads_key, rest_less}
-use Rattle.kl_phrase.specs.Readers.{Out, ok, fail, bad, deep, Reader, after, behind, before, both, made}
-use Rattle.kl_phrase.proofs.Kept.{Rests, keeps_made}
-use Rattle.kl_phrase.proofs.Gathered.{Progress, goes_on, breaks}
+use Rattle.kl_parse.proofs.Steps.{AheadKey, behind_key, heads_key}
+use Rattle.kl_phrase.specs.Readers.{Out, ok, Reader, after, behind, before, both}
+use Rattle.kl_phrase.proofs.Kept.{Rests, keeps_made, rest_less}
+use Rattle.kl_phrase.proofs.Gathered.{Progress, goes_on, part_fails}
 use Rattle.kl_phrase.proofs.Exact.{Nested}
 
 abbrev pub ADecl : ℕ → Reader Token Decl
@@ -38,6 +37,4 @@ pub decl_on : (N : ℕ) (list : Out Token (List Decl)) (found : List Decl) (rest
 decl_on N list found rest more r a ahead e so = goes_on (is_key key.Define) (ADecl N) list found rest r a (heads_key key.Define rest more ahead) (decl_at N rest more ahead ∙ e) (decl_less N rest more r a ahead e) so
 
 pub decl_fails : (N : ℕ) (list : Out Token (List Decl)) (found : List Decl) (rest more : List Token) (f : Fault Token) → AheadKey key.Define rest more → Fails f (d.decl_rest N 256 more) → Progress (is_key key.Define) (ADecl N) list found rest → Fails f list
-decl_fails N list found rest more fault.Memory ahead h so = tt
-decl_fails N list found rest more (fault.Bad r) ahead h so = breaks (is_key key.Define) (ADecl N) list found rest bad r.now (heads_key key.Define rest more ahead) (decl_at N rest more ahead ∙ h) so
-decl_fails N list found rest more (fault.Deep r) ahead h so = breaks (is_key key.Define) (ADecl N) list found rest deep r.now (heads_key key.Define rest more ahead) (decl_at N rest more ahead ∙ h) so
+decl_fails N list found rest more f ahead = part_fails (is_key key.Define) (ADecl N) (d.decl_rest N 256 more) list found rest f (heads_key key.Define rest more ahead) (λ w s e. decl_at N rest more ahead ∙ e)

@@ -1,28 +1,26 @@
 -- The descent reads the grammar, nested at most so deep.
-use Rattle.std.proofs.Common.{◌≡◌, ℕ, zero, suc, ◌+◌, Bool, true, false, IsTrue, List, [], ◌∷◌, ◌++◌, length, Option, Some, None, inl, inr, refl, sym, ap, subst, ◌∙◌, append_assoc}
+use Rattle.std.proofs.Common.{◌≡◌, ℕ, zero, suc, ◌+◌, Bool, true, false, IsTrue, List, [], ◌∷◌, ◌++◌, length, Option, inl, inr, refl, ap, ◌∙◌, append_assoc}
 use Rattle.kl_lex.specs.declared.token.Sym.{Sym}
 use Rattle.kl_lex.specs.declared.token.Sym.TheVariants as sy
 use Rattle.kl_lex.specs.declared.token.Token.{Token}
-use Rattle.kl_parse.specs.declared.keyword.Keyword.TheVariants as key
+use Rattle.kl_lex.specs.declared.keyword.Keyword.TheVariants as key
 use Rattle.kl_syntax.specs.declared.tree.Expr.{Expr}
 use Rattle.kl_syntax.specs.declared.tree.Qual.TheVariants as qual
 use Rattle.kl_syntax.specs.declared.tree.Pattern.{Pattern}
 use Rattle.kl_syntax.specs.declared.tree.Branch.{Branch}
-use Rattle.kl_syntax.specs.declared.tree.Decl.{Decl}
-use Rattle.kl_syntax.specs.declared.tree.Program.{Program}
-use Rattle.kl_parse.specs.Lexemes.{IsSymbol, Symbol, IsKey, Key, Name}
+use Rattle.kl_parse.specs.Lexemes.{IsSymbol, Symbol, Key, Name}
 use Rattle.kl_parse.specs.Grammar.{branch_of, function_of, constant_of, decl_of, program_of, PatVariant, ReadsPat, ABranch, Reads, Sort, whole, negated, signed, added, of_sort, opens, PatInside, Body, ADecl, AProgram, ReadsProgram}
 use Rattle.kl_parse.specs.Kinds.{among, is_symbol, is_key, one_symbol, one_key}
 use Rattle.kl_parse.specs.Descent as d
-use Rattle.kl_parse.proofs.KindLemmas.{symbol_of, on_symbol, on_key, has_symbol, has_key, has_name}
+use Rattle.kl_parse.proofs.KindLemmas.{on_symbol, on_key, has_symbol, has_name}
 use Rattle.kl_parse.proofs.PatGoods.{Free, good_symbol, good_key, good_name, off, stop, closes, past, past_key, good_variant, has_pat_field, opens_variant, has_reads_pat, good_reads_pat}
 use Rattle.kl_parse.proofs.ExprFirsts.{goes_path, goes_add, goes_compare, goes_whole, un_kinds, whole_kinds, on_un, on_whole}
-use Rattle.kl_parse.proofs.Levels.{has_sort, good_whole, good_not, good_un, good_add, no}
-use Rattle.kl_parse.proofs.Scan.{Passes, Leads, passes_reads_pat, nothing_there, leads_sort, to_leads, never_both, ends_qual, ends_body, draws, arrows}
-use Rattle.kl_phrase.specs.Words.{heads, Phrase, One, Then, Behind, Before, Many, Made, Or, Opened, Never}
-use Rattle.kl_phrase.specs.Readers.{Reader, Out, ok, fail, bad, made, both, behind, before, pick, opened, many, followed, commit}
-use Rattle.kl_phrase.proofs.Theory.{Good, On, Off, Has, Opens, good_made, good_both, good_before, good_opening, good_many, good_same, good_follow, meets_many}
-use Rattle.kl_phrase.proofs.Firsts.{Stops, Heads, on_made, on_behind, meets_on, has_made, has_then, has_behind, has_before, has_many, has_right, opens_behind, opens_made}
+use Rattle.kl_parse.proofs.Levels.{has_sort, good_whole, good_not, good_un, good_add}
+use Rattle.kl_parse.proofs.Scan.{Leads, passes_reads_pat, nothing_there, leads_sort, to_leads, never_both, ends_qual, ends_body, draws, arrows}
+use Rattle.kl_phrase.specs.Words.{Phrase, Then, Behind, Before, Many, Made, Or, Opened, Never}
+use Rattle.kl_phrase.specs.Readers.{Reader, fail, bad, made}
+use Rattle.kl_phrase.proofs.Theory.{Good, On, Has, Opens, good_made, good_both, good_opening, good_many, good_same, good_follow, on_behind, has_behind, no}
+use Rattle.kl_phrase.proofs.Firsts.{Stops, Heads, on_made, meets_on, has_made, has_then, has_before, has_many, has_right}
 use Rattle.kl_phrase.proofs.Commit.{Apart, good_commit, good_followed, followed_by, made_of, sound_ok}
 use Rattle.kl_phrase.proofs.Spelled.{Each}
 

@@ -1,6 +1,6 @@
 -- Where a qualifier is a generator and where a condition, and where a body is a function, by its tokens alone: one walk passes
 -- over patterns, and tells of what follows an expression unless it met an opener.
-use Rattle.std.proofs.Common.{◌≡◌, ℕ, zero, suc, ◌+◌, ℤ, pos, negsuc, Bool, true, false, IsTrue, List, [], ◌∷◌, ◌++◌, length, map, Option, Some, None, ◌⊎◌, inl, inr, refl, sym, ap, subst, ◌∙◌, append_assoc}
+use Rattle.std.proofs.Common.{◌≡◌, ℕ, zero, suc, Bool, true, false, List, [], ◌∷◌, ◌++◌, Option, Some, None, inl, inr, refl, sym, ap, ◌∙◌, append_assoc}
 use Rattle.kl_lex.specs.declared.token.Sym.{Sym}
 use Rattle.kl_lex.specs.declared.token.Sym.TheVariants as sy
 use Rattle.kl_lex.specs.declared.token.Tok.{Tok}
@@ -8,27 +8,25 @@ use Rattle.kl_lex.specs.declared.token.Tok.TheVariants as tok
 use Rattle.kl_lex.specs.declared.token.Token.{Token}
 use Rattle.kl_value.specs.declared.value.Value.{Value}
 use Rattle.kl_value.specs.declared.value.Value.TheVariants as value
-use Rattle.kl_value.specs.declared.value.Kind.{Kind}
 use Rattle.kl_value.specs.declared.value.Kind.TheVariants as kind
-use Rattle.kl_parse.specs.declared.keyword.Keyword.{Keyword}
-use Rattle.kl_parse.specs.declared.keyword.Keyword.TheVariants as key
+use Rattle.kl_lex.specs.declared.keyword.Keyword.{Keyword}
+use Rattle.kl_lex.specs.declared.keyword.Keyword.TheVariants as key
 use Rattle.kl_parse.specs.declared.operator.Level.{Level}
 use Rattle.kl_parse.specs.declared.operator.Level.TheVariants as level
 use Rattle.kl_syntax.specs.declared.tree.Op.{Op}
 use Rattle.kl_syntax.specs.declared.tree.Op.TheVariants as op
-use Rattle.kl_syntax.specs.declared.tree.Word.{Word}
 use Rattle.kl_syntax.specs.declared.tree.Expr.{Expr}
 use Rattle.kl_syntax.specs.declared.tree.Expr.TheVariants as expr
 use Rattle.kl_syntax.specs.declared.tree.Pattern.{Pattern}
 use Rattle.kl_syntax.specs.declared.tree.Pattern.TheVariants as pattern
 use Rattle.kl_syntax.specs.declared.tree.Branch.{Branch}
-use Rattle.kl_parse.specs.Keywords.{spelling, keyword_of}
+use Rattle.kl_lex.specs.Keywords.{spelling, keyword_of}
 use Rattle.kl_parse.specs.Lexemes.{IsSymbol, Symbol, IsKey, Key, IsLabel, IsName, IsConstant, Constant, IsLeast, IsNegative, word_of, Label, Name, written, AnOp, IsOp}
-use Rattle.kl_parse.specs.Grammar.{is_of, variant_of, shape_of, name_of, inject_of, path_of, chain_of, compare_of, let_of, if_of, BindPat, AnyPat, NegativePat, ConstantPat, SamePat, Simple, PatField, ShapeFields, ShapeDots, PatRec, PatVariant, Pat, ReadsPat, Chained, Exprs, Args, Group, Field, Rec, Inject, If, Coll, Let, Case, Named, Least, Prim, Post, Un, Mul, Add, Compare, Not, And, Ors, Whole, opener, closer, Inside, Reads, whole, negated, signed, added, of_sort, Sort}
+use Rattle.kl_parse.specs.Grammar.{is_of, variant_of, shape_of, name_of, inject_of, path_of, chain_of, compare_of, let_of, if_of, BindPat, AnyPat, NegativePat, ConstantPat, SamePat, Simple, PatField, ShapeFields, ShapeDots, PatRec, PatVariant, Pat, ReadsPat, Chained, Exprs, Args, Group, Field, Rec, Inject, If, Coll, Let, Case, Named, Least, Prim, Post, Un, Mul, Add, Compare, Not, And, Ors, Whole, Inside, whole, negated, signed, added, of_sort, Sort}
 use Rattle.kl_parse.specs.Kinds.{has, kind_at, among, is_symbol, one_symbol, symbol_kind}
-use Rattle.kl_parse.proofs.KindLemmas.{of_spelling, is_none, among_symbols, is_symbol_of}
+use Rattle.kl_parse.proofs.KindLemmas.{is_none, among_symbols, is_symbol_of}
 use Rattle.kl_parse.proofs.PatGoods.{stop}
-use Rattle.kl_parse.proofs.ExprFirsts.{InCase, InLet, InIf, whole_kinds, Prim2, Prim3, Prim4, Prim5, Prim6, Prim7, Prim8, Minus, Iffy, Second}
+use Rattle.kl_parse.proofs.ExprFirsts.{InLet, InIf, whole_kinds, Prim2, Prim3, Prim4, Prim5, Prim6, Prim7, Prim8, Minus, Iffy, Second}
 use Rattle.kl_phrase.specs.Words.{heads, Phrase, One, Nothing, Numbered, Then, Behind, Before, Many, Made, Or, Optional, Opened, Never, Parted, Tailed}
 use Rattle.kl_phrase.proofs.Theory.{On}
 use Rattle.kl_phrase.proofs.Spelled.{Closed, Each, each_one, each_nothing, each_then, each_behind, each_before, each_many, each_parted, each_tailed, each_made, each_numbered, each_or, each_opened}

@@ -1,10 +1,9 @@
 -- What the code's steps say of the descent.
-use Rattle.std.proofs.Common.{◌≡◌, ℕ, zero, suc, ◌+◌, ◌<◌, ◌≤◌, Bool, true, false, List, [], ◌∷◌, ◌++◌, length, Option, Some, None, ◌⊎◌, inl, inr, refl, sym, ap, subst, ◌∙◌, length-append, arith}
+use Rattle.std.proofs.Common.{◌≡◌, ℕ, zero, suc, ◌<◌, Bool, true, false, List, [], ◌∷◌, ◌++◌, length, inl, inr, refl, ap, ◌∙◌}
 use Rattle.kl_lex.specs.declared.token.Sym.{Sym}
 use Rattle.kl_lex.specs.declared.token.Sym.TheVariants as sy
-use Rattle.kl_lex.specs.declared.token.Tok.{Tok}
 use Rattle.kl_lex.specs.declared.token.Token.{Token}
-use Rattle.kl_parse.specs.declared.keyword.Keyword.{Keyword}
+use Rattle.kl_lex.specs.declared.keyword.Keyword.{Keyword}
 use Rattle.kl_phrase.specs.declared.fault.Fault.{Fault}
 use Rattle.kl_phrase.specs.declared.fault.Fault.TheVariants as fault
 use Rattle.kl_syntax.specs.declared.tree.Word.{Word}
@@ -12,14 +11,14 @@ use Rattle.kl_syntax.specs.declared.tree.Pattern.{Pattern}
 use Rattle.kl_syntax.specs.declared.tree.Pattern.TheVariants as pattern
 use Rattle.kl_phrase.specs.Gives.{Fails}
 use Rattle.kl_parse.specs.Grammar.{variant_of, shape_of, opens}
-use Rattle.kl_parse.specs.Kinds.{among, is_symbol, is_key, label_kinds, a_symbol}
+use Rattle.kl_parse.specs.Kinds.{among, is_symbol, is_key, label_kinds}
 use Rattle.kl_parse.specs.Descent as d
 use Rattle.kl_parse.specs.Descent.{mark, word_mark}
 use Rattle.kl_phrase.specs.Words.{heads}
-use Rattle.kl_phrase.specs.Readers.{Why, bad, deep, Out, ok, fail, Reader, after, behind, both, made, turns, tails, loop, others}
-use Rattle.kl_phrase.proofs.Kept.{Rests}
+use Rattle.kl_phrase.specs.Readers.{Why, bad, deep, Out, ok, fail, Reader, after, behind, turns, tails}
+use Rattle.kl_phrase.proofs.Kept.{Rests, rest_less}
 use Rattle.kl_phrase.proofs.Failures.{fails_after, fails_so}
-use Rattle.kl_phrase.proofs.Gathered.{Progress, goes_on, breaks, stops}
+use Rattle.kl_phrase.proofs.Gathered.{Progress, goes_on, part_fails}
 use Rattle.kl_phrase.proofs.Tails.{Going, goes_further, ends_at, fails_at}
 use Rattle.kl_parse.proofs.Kepts.{same_pat, keeps_pat_field, keeps_label}
 use Rattle.kl_phrase.proofs.Exact.{IsBad}
@@ -43,12 +42,6 @@ heads_mark s rest more (t, e, h) = rw e h
 pub heads_key : (k : Keyword) (rest more : List Token) → AheadKey k rest more → heads (is_key k) rest ≡ true
 heads_key k rest more (t, e, h) = rw e h
 
-pub rest_less : {A : Type 0} (t : Token) (rest more r : List Token) (a : A) (o : Out Token A) → rest ≡ t ∷ more → Rests more o → o ≡ ok a r → length r < length rest
-rest_less {A} t rest more r a o e rests eq = go (subst (λ (o : Out Token A). Rests more o) eq rests)
-  where
-    go : Rests {A = A} more (ok a r) → length r < length rest
-    go (u, eu) = let k : length rest ≡ length (t ∷ more) = ap length e in let l : length more ≡ length u + length r = ap length eu ∙ length-append u r in omega arith
-
 pub less : {A : Type 0} (s : Sym) (p : Reader Token A) (rest more r : List Token) (a : A) → ((ts : List Token) → Rests ts (p ts)) → Ahead s rest more → p more ≡ ok a r → length r < length rest
 less s p rest more r a rests (t, e, h) eq = rest_less t rest more r a (p more) e (rests more) eq
 
@@ -59,9 +52,7 @@ pub onward : {A : Type 0} (s : Sym) (p : Reader Token A) → ((ts : List Token) 
 onward s p rests whole found rest more r a ahead e = goes_on (is_symbol s) (behind (mark s) p) whole found rest r a (heads_mark s rest more ahead) (behind_mark s p rest more ahead ∙ e) (less s p rest more r a rests ahead e)
 
 pub fails_on : {A : Type 0} (s : Sym) (p : Reader Token A) (whole : Out Token (List A)) (found : List A) (rest more : List Token) (f : Fault Token) → Ahead s rest more → Fails f (p more) → Progress (is_symbol s) (behind (mark s) p) whole found rest → Fails f whole
-fails_on s p whole found rest more fault.Memory ahead e so = tt
-fails_on s p whole found rest more (fault.Bad r) ahead e so = breaks (is_symbol s) (behind (mark s) p) whole found rest bad r.now (heads_mark s rest more ahead) (behind_mark s p rest more ahead ∙ e) so
-fails_on s p whole found rest more (fault.Deep r) ahead e so = breaks (is_symbol s) (behind (mark s) p) whole found rest deep r.now (heads_mark s rest more ahead) (behind_mark s p rest more ahead ∙ e) so
+fails_on s p whole found rest more f ahead = part_fails (is_symbol s) (behind (mark s) p) (p more) whole found rest f (heads_mark s rest more ahead) (λ w r e. behind_mark s p rest more ahead ∙ e)
 
 -- ---- patterns
 

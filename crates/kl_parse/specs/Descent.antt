@@ -1,18 +1,16 @@
 -- The descent: for each word of the grammar a reader. `total`: how many tokens there are in all.
 -- No public contract cites this.
-use Rattle.std.specs.Prelude.{ℕ, zero, suc, Bool, true, false, ◌&&◌, List, [], ◌∷◌, Option, Some, None, ◌⊎◌}
+use Rattle.std.specs.Prelude.{ℕ, zero, suc, Bool, true, false, List, [], ◌∷◌, Option, Some, None, ◌⊎◌}
 use Rattle.kl_lex.specs.declared.token.Sym.{Sym}
 use Rattle.kl_lex.specs.declared.token.Sym.TheVariants as sym
 use Rattle.kl_lex.specs.declared.token.Token.{Token}
 use Rattle.kl_value.specs.declared.value.Kind.{Kind}
 use Rattle.kl_value.specs.declared.value.Kind.TheVariants as kind
-use Rattle.kl_value.specs.declared.value.Value.{Value}
-use Rattle.kl_parse.specs.declared.keyword.Keyword.{Keyword}
-use Rattle.kl_parse.specs.declared.keyword.Keyword.TheVariants as key
+use Rattle.kl_lex.specs.declared.keyword.Keyword.{Keyword}
+use Rattle.kl_lex.specs.declared.keyword.Keyword.TheVariants as key
 use Rattle.kl_parse.specs.declared.operator.Level.{Level}
 use Rattle.kl_parse.specs.declared.operator.Level.TheVariants as level
 use Rattle.kl_syntax.specs.declared.tree.Word.{Word}
-use Rattle.kl_syntax.specs.declared.tree.Op.{Op}
 use Rattle.kl_syntax.specs.declared.tree.Pattern.{Pattern}
 use Rattle.kl_syntax.specs.declared.tree.Pattern.TheVariants as pattern
 use Rattle.kl_syntax.specs.declared.tree.Expr.{Expr}
@@ -23,9 +21,9 @@ use Rattle.kl_syntax.specs.declared.tree.Branch.{Branch}
 use Rattle.kl_syntax.specs.declared.tree.Decl.{Decl}
 use Rattle.kl_syntax.specs.declared.tree.Program.{Program}
 use Rattle.kl_parse.specs.Lexemes.{word_of}
-use Rattle.kl_parse.specs.Grammar.{is_of, variant_of, shape_of, name_of, inject_of, gen_of, comp_of, case_of, path_of, chain_of, compare_of, let_of, if_of, branch_of, function_of, constant_of, decl_of, program_of, opener, closer, Sort, whole, negated, signed, added, opens}
+use Rattle.kl_lex.specs.Brackets.{opener, closer}
+use Rattle.kl_parse.specs.Grammar.{is_of, variant_of, shape_of, name_of, inject_of, gen_of, comp_of, case_of, path_of, chain_of, compare_of, let_of, if_of, branch_of, function_of, constant_of, decl_of, program_of, Sort, whole, negated, signed, added, opens}
 use Rattle.kl_parse.specs.Kinds.{among, is_symbol, is_key, label_kinds, constant_kinds, big_kinds, op_kinds, symbol_kind, a_symbol, a_key, a_label, a_name, a_constant, a_least, a_negative, an_op}
-use Rattle.kl_phrase.specs.Words.{heads}
 use Rattle.kl_phrase.specs.Readers.{Reader, bad, deep, fail, one, nothing, numbered, both, behind, before, chain, made, two, choose, pick, opened, opening, many, parted, tail_turn, tailed, followed, commit}
 
 abbrev pub mark : Sym → Reader Token (Unit {0})

@@ -1,12 +1,11 @@
 -- The grammar of the language: which tokens spell which tree, nested at most so deep.
 use Rattle.std.specs.Prelude.{ℕ, zero, suc, Bool, true, false, List, [], ◌∷◌, Option, Some, None}
-use Rattle.kl_lex.specs.declared.token.Sym.{Sym}
 use Rattle.kl_lex.specs.declared.token.Sym.TheVariants as sym
 use Rattle.kl_lex.specs.declared.token.Token.{Token}
 use Rattle.kl_value.specs.declared.value.Kind.{Kind}
 use Rattle.kl_value.specs.declared.value.Kind.TheVariants as kind
 use Rattle.kl_value.specs.declared.value.Value.{Value}
-use Rattle.kl_parse.specs.declared.keyword.Keyword.TheVariants as key
+use Rattle.kl_lex.specs.declared.keyword.Keyword.TheVariants as key
 use Rattle.kl_parse.specs.declared.operator.Level.{Level}
 use Rattle.kl_parse.specs.declared.operator.Level.TheVariants as level
 use Rattle.kl_syntax.specs.declared.tree.Word.{Word}
@@ -21,6 +20,7 @@ use Rattle.kl_syntax.specs.declared.tree.Branch.{Branch}
 use Rattle.kl_syntax.specs.declared.tree.Decl.{Decl}
 use Rattle.kl_syntax.specs.declared.tree.Program.{Program}
 use Rattle.kl_parse.specs.Lexemes.{Symbol, Key, Label, Name, Constant, IsNegative, IsLeast, AnOp}
+use Rattle.kl_lex.specs.Brackets.{opener, closer}
 use Rattle.kl_phrase.specs.Words.{Phrase, One, Nothing, Numbered, Then, Behind, Before, Many, Made, Or, Optional, Opened, Never, Parted, Tailed}
 
 -- ---- what is made of the parts
@@ -139,16 +139,6 @@ ReadsPat zero = Pat Never false
 ReadsPat (suc depth) = Pat (ReadsPat depth) true
 
 -- ---- expressions
-
-abbrev pub opener : Kind → Sym
-opener kind.Set = sym.OpenSet
-opener kind.Bag = sym.OpenBag
-opener kind.List = sym.OpenList
-
-abbrev pub closer : Kind → Sym
-closer kind.Set = sym.CloseSet
-closer kind.Bag = sym.CloseBag
-closer kind.List = sym.CloseList
 
 -- S { op S }, with the operators of one level
 abbrev pub Chained : Level → Phrase Token Expr → Phrase Token Expr

@@ -9,18 +9,19 @@ use Rattle.kl_lex.specs.declared.token.Tok.TheVariants as tok
 use Rattle.kl_lex.specs.declared.token.Token.{Token}
 use Rattle.kl_value.specs.declared.value.Value.{Value}
 use Rattle.kl_value.specs.declared.value.Value.TheVariants as value
-use Rattle.kl_parse.specs.declared.keyword.Keyword.{Keyword}
-use Rattle.kl_parse.specs.declared.keyword.Keyword.TheVariants as key
-use Rattle.kl_parse.specs.contracts.keyword.Keyword as key_type
+use Rattle.kl_lex.specs.declared.keyword.Keyword.{Keyword}
+use Rattle.kl_lex.specs.declared.keyword.Keyword.TheVariants as key
+use Rattle.kl_lex.specs.contracts.keyword.Keyword as key_type
 use Rattle.kl_parse.specs.declared.operator.Level.{Level}
 use Rattle.kl_parse.specs.declared.operator.Level.TheVariants as level
 use Rattle.kl_parse.specs.contracts.operator.Level as level_type
 use Rattle.kl_syntax.specs.declared.tree.Op.{Op}
 use Rattle.kl_syntax.specs.declared.tree.Op.TheVariants as op
-use Rattle.kl_parse.specs.Keywords.{keyword_of}
+use Rattle.kl_lex.specs.Keywords.{keyword_of}
 use Rattle.kl_parse.specs.Lexemes.{level_of}
 use denote.Enum.Bare.{sameb}
 use denote.Enum.Declared.{tag_of}
+use Rattle.kl_phrase.specs.Readers.{only}
 
 abbrev pub key_kind : Keyword → ℕ
 key_kind k = 3 + tag_of key_type.the_type k
@@ -79,10 +80,6 @@ op_kinds level.Add = symbol_kind sym.Add ∷ symbol_kind sym.Sub ∷ symbol_kind
 op_kinds level.Mul = symbol_kind sym.Mul ∷ []
 
 -- ---- what a token says, if it is of the kind
-
-abbrev pub only : Bool → Option (Unit {0})
-only true = Some tt
-only false = None
 
 abbrev pub a_symbol : Sym → Token → Option (Unit {0})
 a_symbol s t = only (is_symbol s t)

@@ -1,4 +1,3 @@
-pub mod Keywords
 pub mod Lexemes
 pub mod Grammar
 pub mod Parsing

@@ -8,12 +8,12 @@ use Rattle.kl_lex.specs.declared.token.Tok.TheVariants as tok
 use Rattle.kl_lex.specs.declared.token.Token.{Token}
 use Rattle.kl_phrase.specs.Words.{heads}
 use Rattle.kl_phrase.specs.Places.{IsPlace, IsDeepPlace, BeginsAt}
-use Rattle.kl_parse.specs.declared.keyword.Keyword.TheVariants as key
+use Rattle.kl_lex.specs.declared.keyword.Keyword.TheVariants as key
 use Rattle.kl_parse.specs.declared.program.ParseError.{ParseError}
 use Rattle.kl_parse.specs.declared.program.ParseError.TheVariants.{Syntax, TooDeep, NoMemory}
 use Rattle.kl_syntax.specs.declared.tree.Program.{Program}
 use Rattle.kl_parse.specs.Grammar.{ReadsProgram}
-use Rattle.kl_parse.specs.Keywords.{spelling}
+use Rattle.kl_lex.specs.Keywords.{spelling}
 
 -- the tokens are this program
 abbrev pub IsProgram : List Token → Program → Type 0

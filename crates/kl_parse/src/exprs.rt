@@ -9,18 +9,18 @@ ghost use Rattle.kl_phrase.specs.Words.{heads};
 ghost use Rattle.kl_phrase.specs.Readers.{behind, both, made, one, others, parted};
 ghost use Rattle.kl_parse.specs.declared.operator.Level.TheVariants as levels;
 ghost use Rattle.kl_phrase.specs.Gives.{Gives};
-ghost use Rattle.kl_parse.specs.Grammar.{opener, let_of, if_of, inject_of, case_of, whole, negated, signed};
+ghost use Rattle.kl_lex.specs.Brackets.{opener};
+ghost use Rattle.kl_parse.specs.Grammar.{let_of, if_of, inject_of, case_of, whole, negated, signed};
 ghost use Rattle.kl_parse.specs.Kinds.{among, is_symbol, op_kinds, an_op};
 ghost use Rattle.kl_parse.specs.Descent.{mark, read_pat, labels, reads, chain_at, operand_at, sort_at, compare_at, post_at, prim_at, named_at, branch_at, exprs, in_args, in_group, in_rec, in_inject, in_coll, in_let, in_if, in_case, case_end, expr_before, field, condition, qualifier, quals, beyond, otherwise};
 
 use crate::front::{
     constant, eat, eat_word, is_word, label, least, name, or_bad, or_deep, want, want_word,
 };
-use crate::keyword::Keyword;
 use crate::operator::{Level, operator};
 use crate::patterns::{pattern_before, variant_rest};
 use kl_base::{Box, NoMemory, Seq};
-use kl_lex::{Sym, Token};
+use kl_lex::{Keyword, Sym, Token, closer};
 use kl_phrase::Fault;
 use kl_syntax::{
     Branch, Branches, Expr, ExprFields, Exprs, Op, Pattern, Qual, Quals, Steps, Word, Words,
@@ -58,16 +58,6 @@ fn opened(tokens: &[Token]) -> Option<(Kind, &[Token])>
     }
     let rest = eat(tokens, Sym::OpenList)?;
     Some((Kind::List, rest))
-}
-
-fn closer(kind: Kind) -> Sym
-    ensures { result ≡ Rattle.kl_parse.specs.Grammar.closer kind }
-{
-    match kind {
-        Kind::Set => Sym::CloseSet,
-        Kind::Bag => Sym::CloseBag,
-        Kind::List => Sym::CloseList,
-    }
 }
 
 /// Whether what follows may stand behind a condition.

@@ -9,9 +9,8 @@ ghost use Rattle.kl_phrase.specs.Gives.{Gives};
 ghost use Rattle.kl_parse.specs.Instead.{Instead};
 ghost use Rattle.kl_parse.specs.Descent.{mark, word_mark, name, label, least_at, is_least};
 
-use crate::keyword::{Keyword, keyword_of};
 use kl_base::NoMemory;
-use kl_lex::{Sym, Tok, Token};
+use kl_lex::{Keyword, Sym, Tok, Token, keyword_of};
 use kl_phrase::Fault;
 use kl_syntax::{Expr, Meaning, Word};
 use kl_value::Value;
@@ -51,6 +50,9 @@ pub fn eat_word(tokens: &[Token], keyword: Keyword) -> Option<&[Token]>
 }
 
 /// What stands behind this symbol, which has to come.
+///
+/// # Errors
+/// `Fault::Bad` with these tokens, where it does not come.
 pub fn want(tokens: &[Token], symbol: Sym) -> Result<&[Token], Fault<'_, Token>>
     ensures { Gives (λ x. tt) (λ x. x.now) result (mark symbol tokens.now) }
 {
@@ -61,6 +63,9 @@ pub fn want(tokens: &[Token], symbol: Sym) -> Result<&[Token], Fault<'_, Token>>
 }
 
 /// What stands behind this keyword, which has to come.
+///
+/// # Errors
+/// `Fault::Bad` with these tokens, where it does not come.
 pub fn want_word(tokens: &[Token], keyword: Keyword) -> Result<&[Token], Fault<'_, Token>>
     ensures { Gives (λ x. tt) (λ x. x.now) result (word_mark keyword tokens.now) }
 {
@@ -78,6 +83,9 @@ pub fn number(total: u32, tokens: &[Token]) -> u32
 }
 
 /// A word that is no keyword.
+///
+/// # Errors
+/// `Fault::Bad` with these tokens, where none comes. `Fault::Memory`.
 pub fn name(total: u32, tokens: &[Token]) -> Result<(Word, &[Token]), Fault<'_, Token>>
     ensures { Gives (λ x. x.0) (λ x. x.1.now) result (name total tokens.now) }
 {
@@ -104,6 +112,9 @@ pub fn name(total: u32, tokens: &[Token]) -> Result<(Word, &[Token]), Fault<'_, 
 }
 
 /// Any word.
+///
+/// # Errors
+/// `Fault::Bad` with these tokens, where none comes. `Fault::Memory`.
 pub fn label(total: u32, tokens: &[Token]) -> Result<(Word, &[Token]), Fault<'_, Token>>
     ensures { Gives (λ x. x.0) (λ x. x.1.now) result (label total tokens.now) }
 {
@@ -140,6 +151,9 @@ pub fn is_word(tokens: &[Token]) -> bool
 }
 
 /// A number, a text or a truth value, if the tokens begin with one.
+///
+/// # Errors
+/// Want of memory.
 pub fn constant(alloc: Global, tokens: &[Token]) -> Result<Option<(Value, &[Token])>, NoMemory>
     ensures { IfOk result (λ found. MatchOption found (heads (among constant_kinds) tokens.now ≡ false) (λ x. (heads (among constant_kinds) tokens.now ≡ true) × (one a_constant tokens.now ≡ ok x.0 x.1.now))) }
 {
@@ -159,6 +173,9 @@ pub fn constant(alloc: Global, tokens: &[Token]) -> Result<Option<(Value, &[Toke
 }
 
 /// The digits behind the minus of a pattern, as the negative number.
+///
+/// # Errors
+/// `Fault::Bad` with these tokens, where no digits come.
 pub fn negative(tokens: &[Token]) -> Result<(Value, &[Token]), Fault<'_, Token>>
     ensures { Gives (λ x. x.0) (λ x. x.1.now) result (one a_negative tokens.now) }
 {

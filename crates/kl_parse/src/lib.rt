@@ -5,7 +5,6 @@
 
 mod exprs;
 mod front;
-mod keyword;
 mod operator;
 mod patterns;
 mod program;

@@ -6,8 +6,7 @@ ghost use Rattle.kl_phrase.specs.Readers.{one, ok};
 ghost use Rattle.kl_parse.specs.Kinds.{among, op_kinds, op_at, of_level, an_op};
 ghost use Rattle.kl_parse.specs.Lexemes.{level_of};
 
-use crate::keyword::{Keyword, keyword_of};
-use kl_lex::{Sym, Tok, Token};
+use kl_lex::{Keyword, Sym, Tok, Token, keyword_of};
 use kl_syntax::Op;
 
 /// Which operators bind alike, from the loosest to the tightest.

@@ -10,10 +10,9 @@ ghost use Rattle.kl_parse.specs.Parsing.{IsProgram, IsToldOf, NestsBehind, OnePl
 
 use crate::exprs::expr;
 use crate::front::{eat, eat_word, name, number, or_bad, or_deep, want};
-use crate::keyword::Keyword;
 use crate::patterns::pattern_before;
 use kl_base::Seq;
-use kl_lex::{Sym, Token};
+use kl_lex::{Keyword, Sym, Token};
 use kl_phrase::Fault;
 use kl_syntax::{Decl, Expr, Pattern, Program};
 use std::alloc::Global;

@@ -4,7 +4,7 @@ use Rattle.std.specs.List.{All, AllByRecursion, Contains, list_all, list_any}
 use Rattle.std.specs.List.Sorted.{IsBinarySearchResult, IsSearchInRange}
 use Rattle.std.specs.Option.{option_copied}
 use Rattle.std.specs.Ordering.{ordering_reverse}
-use Rattle.std.proofs.lemmas.Bool.{cases_lt}
+use Rattle.std.proofs.lemmas.Bool.{cases_lt, and_parts}
 use Rattle.std.proofs.lemmas.List.Elements.{All-contains, All-more, All-weaker, All-from_recursion, Contains-append_cases, Contains-append_left, Contains-append_right, Contains-get_or, Contains-push, Contains-push_cases, recursion_from_All, All-from_all_within}
 use Rattle.std.proofs.lemmas.Cmp.{tied_itself, upto}
 use Rattle.std.proofs.lemmas.List.Folds.{list_any_none, list_any-from_Any}
@@ -18,6 +18,7 @@ use Rattle.kl_value.proofs.OrderLemmas.{compare_total, compare_exact, derived_is
 use Rattle.kl_base.proofs.SortedLemmas.{IsSorted-from_rising}
 use Rattle.kl_value.proofs.CanonLemmas.{eq_is}
 use Rattle.kl_prim.specs.Meaning.{extreme}
+use Rattle.kl_base.proofs.Orders.{turned, opposite}
 
 derived_same : derived.ghosts.cmp ≡ compare
 derived_same = λ i v w. derived_is v w i
@@ -53,16 +54,6 @@ opposite_lt Less h = refl
 opposite_lt Equal h = refl
 opposite_lt Greater h = absurd (true≢false (sym h))
 
-opposite_gt : (o : Ordering) → is_gt o ≡ true → is_gt (ordering_reverse o) ≡ false
-opposite_gt Less h = absurd (true≢false (sym h))
-opposite_gt Equal h = absurd (true≢false (sym h))
-opposite_gt Greater h = refl
-
-turned : (o : Ordering) → is_lt o ≡ false → is_gt (ordering_reverse o) ≡ false
-turned Less h = h
-turned Equal h = refl
-turned Greater h = refl
-
 abbrev pub Low : Value → Value → Type 0
 Low v w = is_gt (compare v w) ≡ false
 
@@ -86,7 +77,7 @@ pub high_takes : (vs : List Value) (i : ℕ) (v m : Value) → i < length vs →
     → All (High m) (take i vs) → All (High v) (take (i + 1) vs)
 high_takes vs i v m within at more all =
     All-more (High v) vs i v within
-    (All-weaker (High m) (High v) (λ w h. upto compare_total w m v h (ap is_gt (compare_total.antisymm m v) ∙ opposite_gt _ more)) (take i vs) all)
+    (All-weaker (High m) (High v) (λ w h. upto compare_total w m v h (ap is_gt (compare_total.antisymm m v) ∙ opposite _ more)) (take i vs) all)
     (subst (High v) at (itself v))
 
 pub high_keeps : (vs : List Value) (i : ℕ) (v m : Value) → i < length vs → v ≡ get_or vs i v → is_gt (compare v m) ≡ false
@@ -121,14 +112,9 @@ all_pass : (p : Value → Bool) (vs : List Value) → AllByRecursion (λ v. p v 
 all_pass p [] h = refl
 all_pass p (v ∷ vs) h = ap₂ ◌&&◌ h.0 (all_pass p vs h.1)
 
-both : (a b : Bool) → (a && b) ≡ true → (a ≡ true) × (b ≡ true)
-both true true e = (refl, refl)
-both true false e = cc
-both false b e = cc
-
 each_passes : (p : Value → Bool) (vs : List Value) → list_all p vs ≡ true → AllByRecursion (λ v. p v ≡ true) vs
 each_passes p [] h = tt
-each_passes p (v ∷ vs) h = let parts = both (p v) (list_all p vs) h in (parts.0, each_passes p vs parts.1)
+each_passes p (v ∷ vs) h = let parts = and_parts (p v) (list_all p vs) h in (parts.0, each_passes p vs parts.1)
 
 passes : (p : Value → Bool) (vs : List Value) (v : Value) → list_all p vs ≡ true → Contains vs v → p v ≡ true
 passes p vs v h c = All-contains (λ w. p w ≡ true) vs v (All-from_recursion (λ w. p w ≡ true) vs (each_passes p vs h)) c

@@ -3,7 +3,7 @@ use Rattle.std.proofs.Common.{◌≡◌, ◌↔◌, ◌⊎◌, ⊎_elim, inl, in
 use Rattle.std.specs.Option.{option_copied, option_map, option_and_then}
 use Rattle.std.specs.List.{All, AllByRecursion, Contains, IsDistinct, list_all}
 use Rattle.std.proofs.Math.ListN.{get_or-map}
-use Rattle.std.proofs.lemmas.Bool.{eqb-true}
+use Rattle.std.proofs.lemmas.Bool.{eqb-true, and_parts, not-true}
 use Rattle.std.proofs.lemmas.List.{length-map}
 use Rattle.std.proofs.lemmas.List.Elements.{All-contains, All-from_recursion, recursion_from_All}
 use Rattle.kl_value.specs.declared.Kind.{Kind}
@@ -186,23 +186,14 @@ module _ {K : Type 0} (same : K → K → Bool) where
   all_differ [] = true
   all_differ (k ∷ ks) = list_all (λ l. not (same k l)) ks && all_differ ks
 
-  both : (a b : Bool) → (a && b) ≡ true → (a ≡ true) × (b ≡ true)
-  both true true e = (refl, refl)
-  both true false e = cc
-  both false b e = cc
-
-  unlike : (b : Bool) → not b ≡ true → b ≡ false
-  unlike true e = cc
-  unlike false e = refl
-
   each_unlike : (k : K) (ks : List K) → list_all (λ l. not (same k l)) ks ≡ true → AllByRecursion (λ l. same k l ≡ false) ks
   each_unlike k [] e = tt
-  each_unlike k (l ∷ ls) e = let parts = both (not (same k l)) (list_all (λ j. not (same k j)) ls) e in (unlike _ parts.0, each_unlike k ls parts.1)
+  each_unlike k (l ∷ ls) e = let parts = and_parts (not (same k l)) (list_all (λ j. not (same k j)) ls) e in (not-true _ parts.0, each_unlike k ls parts.1)
 
   pub distinct_is : (ks : List K) → all_differ ks ≡ true → IsDistinct same ks
   unfolding IsDistinct
   distinct_is [] e = tt
-  distinct_is (k ∷ ks) e = let parts = both (list_all (λ l. not (same k l)) ks) (all_differ ks) e in (each_unlike k ks parts.0, distinct_is ks parts.1)
+  distinct_is (k ∷ ks) e = let parts = and_parts (list_all (λ l. not (same k l)) ks) (all_differ ks) e in (each_unlike k ks parts.0, distinct_is ks parts.1)
 
 -- ---- from a row of the program's table to the row of its code
 

@@ -1,10 +1,10 @@
 -- The number that a text writes.
-use Rattle.std.proofs.Common.{◌≡◌, ℕ, zero, suc, ◌<◌, ◌^◌, ℤ, pos, negsuc, neg_ℤ, Bool, true, false, cond, eqb, ltb, ◌&&◌, ◌≢◌, List, [], ◌∷◌, length, drop, take, nat_eq, get_or, Some, None, Result, Ok, Err, refl, sym, ap, ap₂, subst, ◌∙◌, arith, FitsSigned, w64}
+use Rattle.std.proofs.Common.{◌≡◌, ℕ, zero, suc, ◌<◌, ◌^◌, ℤ, pos, negsuc, neg_ℤ, Bool, true, false, cond, eqb, ltb, ◌&&◌, ◌≢◌, List, [], ◌∷◌, length, drop, take, nat_eq, get_or, Some, None, Result, Ok, Err, refl, sym, ap, subst, ◌∙◌, arith, FitsSigned, w64}
 use Rattle.std.specs.Result.{result_ok}
 use Rattle.std.specs.Cmp.Lexicographic.{pointwise}
 use Rattle.std.specs.Str.{IsAscii, IsUtf8, all_ascii_digits}
 use Rattle.std.specs.Str.Parse.{IsNumeral, ParsesSigned, digits_value, signed_digits_value, starts_with_minus, without_leading_plus, without_leading_sign}
-use Rattle.std.proofs.lemmas.Bool.{ltb-true}
+use Rattle.std.proofs.lemmas.Bool.{ltb-true, and_parts, and_from}
 use Rattle.std.proofs.lemmas.Bool.Decides.{nat_tests}
 use Rattle.std.proofs.lemmas.Fmt.{IsAscii-from_digits}
 use Rattle.std.proofs.lemmas.Str.{IsUtf8-from_ascii}
@@ -14,19 +14,11 @@ use Rattle.kl_prim.specs.Meaning.{digits_part, fits_word, is_numeral, number_in,
 digits : IsNumeralModel (λ ds. all_ascii_digits ds ≡ true) (digits_value 10)
 digits = numerals_by_value _ tells_all_ascii_digits
 
-both : (a b : Bool) → (a && b) ≡ true → (a ≡ true) × (b ≡ true)
-both true true e = (refl, refl)
-both true false e = cc
-both false b e = cc
-
-and_both : (a b : Bool) → a ≡ true → b ≡ true → (a && b) ≡ true
-and_both a b p q = ap₂ ◌&&◌ p q
-
 numeral_to : (ds : List ℕ) → is_numeral ds ≡ true → IsNumeral 10 ds
-numeral_to ds e = let parts = both (ltb 0 (length ds)) (all_ascii_digits ds) e in (ltb-true 0 (length ds) parts.0, digits.to ds parts.1)
+numeral_to ds e = let parts = and_parts (ltb 0 (length ds)) (all_ascii_digits ds) e in (ltb-true 0 (length ds) parts.0, digits.to ds parts.1)
 
 numeral_from : (ds : List ℕ) → IsNumeral 10 ds → is_numeral ds ≡ true
-numeral_from ds h = and_both _ _ (grind (arith, nat_tests)) (digits.from ds h.1)
+numeral_from ds h = and_from _ _ (grind (arith, nat_tests)) (digits.from ds h.1)
 
 fits_to : (z : ℤ) → fits_word z ≡ true → FitsSigned w64 z
 fits_to (pos n) e = record { sfits = ltb-true n (2 ^ 63) e }
@@ -48,7 +40,7 @@ signed_part t h =
     ap (λ ds. cond (starts_with_minus t) (neg_ℤ (pos (digits_value 10 ds))) (pos (digits_value 10 ds))) (unsigned_part t h)
 
 chosen : (a b : Bool) (z : ℤ) → a ≡ true → b ≡ true → cond (a && b) (Some z) None ≡ Some z
-chosen a b z p q = ap (λ m. cond m (Some z) None) (and_both a b p q)
+chosen a b z p q = ap (λ m. cond m (Some z) None) (and_from a b p q)
 
 not_chosen : (a b : Bool) (z : ℤ) → (a ≡ true → b ≡ true → ⊥) → cond (a && b) (Some z) None ≡ None
 not_chosen true true z h = absurd (h refl refl)

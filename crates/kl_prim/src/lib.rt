@@ -27,3 +27,4 @@ pub use args::{Arg, Args};
 pub use primitives::{apply, apply_args, row_of, table, table_laws};
 pub use rows::{PrimRow, PrimTable, Shape};
 pub use stop::PrimStop;
+pub use texts::number_in;

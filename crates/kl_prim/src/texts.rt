@@ -17,8 +17,9 @@ pub fn join(alloc: Global, s: &[u8], t: &[u8]) -> Result<Value, PrimStop>
     Ok(Value::Text(Text::of(bytes)))
 }
 
-// The number that the whole text writes, with an optional `-`; `parse` would take a `+` too.
-fn number_in(text: &[u8]) -> Option<i64>
+/// The number that the whole text writes: decimal digits, an optional `-` before them, within 64 bits. `parse` would take
+/// a `+` too.
+pub fn number_in(text: &[u8]) -> Option<i64>
     ensures { result ≡ number_in text.now }
 {
     if text.starts_with(b"+") {

@@ -110,9 +110,6 @@ module _ (old now : List Cell) (a b : ℕ) (before after : List (ℕ × ℕ)) (e
       let h' : Advances ans now new (Asks m.more) (λ s. Unit {0}) = subst (λ ps. Advances ans now new (Asks ps) (λ s. Unit {0})) (m.added ∙ append_first before m.more empty) h in
       advances ans old new _ _ ((then) ans old now new _ _ _ (goes true old now _ _ x) (goes ans now new _ _ h')) (omega arith)
 
-pub rows_told : (P : Bool → Type 0) (b c : Bool) → P b → b ≡ c → P c
-rows_told P b c h e = subst P e h
-
 pub sort_told : (ns : List Cell) (a b : ℕ) (x c : Cell) → HasSort ns a b → x ≡ get_or ns a x → x ≡ c → sort_at ns a ≡ Some (sort_of c)
 sort_told ns a b x c h e f = sort_here ns a c (slice_get-get_or ns a x (sort_within ns a h.sort h.first) ∙ ap Some (sym e ∙ f))
 

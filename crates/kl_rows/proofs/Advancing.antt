@@ -1,8 +1,8 @@
 -- Steps of a merge, one after another.
 use Rattle.std.proofs.Common.{◌≡◌, ⊎_elim, ℕ, zero, suc, ◌+◌, ◌<◌, ◌≤◌, Bool, true, false, IsTrue, List, [], ◌∷◌, length, Some, option_map, slice_get, refl, sym, ap, ◌∙◌, subst, arith, length-set}
-use Rattle.std.specs.List.{AllByRecursion}
 use Rattle.std.proofs.Math.ListN.{set}
 use Rattle.std.proofs.lemmas.Bool.{cases_eq}
+use Rattle.std.proofs.lemmas.Option.{same_Some, slice_get_within}
 use Rattle.kl_rows.specs.declared.cell.TypeNode.TheVariants.{AnyType, Base, Rec, Var, Coll, TypeLink}
 use Rattle.kl_rows.specs.declared.cell.KindNode.TheVariants.{AnyKind, Fixed, KindLink}
 use Rattle.kl_rows.specs.declared.cell.RowNode.{RowNode}
@@ -13,7 +13,9 @@ use Rattle.kl_rows.specs.Lists.{Fields}
 use Rattle.kl_rows.specs.Places.{Sort, a_type, a_row, a_kind, sort_of, sort_at, AreTypes, IsPlaced, EndsAt, Walk, chained_one, chained, Lacks, at_open, at_none, at_front, IsTidy, IsFine, open_one, roots}
 use Rattle.kl_rows.specs.Solutions.{Assignment, Says, Solves}
 use Rattle.kl_rows.specs.Steps.{Agrees, Grown, Keeps, Advances}
-use Rattle.kl_rows.proofs.CellLists.{get_set_same, get_set_other, get_within, some_same, total_set, sort_here}
+use Rattle.kl_rows.proofs.CellLists.{get_set_other, total_set, sort_here}
+use Rattle.kl_base.proofs.Places.{get-set_same}
+use Rattle.kl_base.proofs.Each.{all_map}
 
 abbrev pub Fact : Type 1
 Fact = Assignment → Type 0
@@ -148,10 +150,6 @@ lacks_kept old new l h {i} (at_open ls e d) = at_open ls (h i (AnyRow ls) e) d
 lacks_kept old new l h {i} (at_none e) = at_none (h i NoRow e)
 lacks_kept old new l h {i} (at_front fs r e d k) = at_front fs r (h i (Front fs r) e) d (lacks_kept old new l h k)
 
-pub all_map : (P Q : List ℕ × ℕ → Type 0) (xs : Fields) → ((f : List ℕ × ℕ) → P f → Q f) → AllByRecursion P xs → AllByRecursion Q xs
-all_map P Q [] go h = tt
-all_map P Q (x ∷ xs) go h = (go x h.0, all_map P Q xs go h.1)
-
 pub tidy_kept : (old new : List Cell) (fs : Fields) (r : ℕ) → KeepsRows old new → IsTidy old fs r → IsTidy new fs r
 tidy_kept old new fs r h t = record { lack = all_map (λ f. Lacks old f.0 r) (λ f. Lacks new f.0 r) fs (λ f k. lacks_kept old new f.0 h k) t.lack; differ = t.differ }
 
@@ -171,23 +169,23 @@ Others ns p s = (i : ℕ) (x : Cell) → (p ≡ i → ⊥) → slice_get ns i �
 
 module _ (ns : List Cell) (p : ℕ) (c d : Cell) (here : slice_get ns p ≡ Some c) (sorts : sort_of c ≡ sort_of d) where
   within : p < length ns
-  within = get_within ns p c here
+  within = slice_get_within ns p c here
 
   pub set_here : slice_get (set ns p d) p ≡ Some d
-  set_here = get_set_same ns p d within
+  set_here = get-set_same ns p d within
 
   pub set_there : (i : ℕ) → (p ≡ i → ⊥) → slice_get (set ns p d) i ≡ slice_get ns i
   set_there i off = get_set_other ns p i d off
 
   pub set_each : (P : ℕ → Cell → Type 0) → P p d → ((i : ℕ) (x : Cell) → (p ≡ i → ⊥) → slice_get ns i ≡ Some x → P i x) → (i : ℕ) (x : Cell) → slice_get (set ns p d) i ≡ Some x → P i x
   set_each P a h i x e = ⊎_elim
-      (λ q. subst (λ j. P j x) q (subst (P p) (some_same d x (sym set_here ∙ ap (slice_get (set ns p d)) q ∙ e)) a))
+      (λ q. subst (λ j. P j x) q (subst (P p) (same_Some d x (sym set_here ∙ ap (slice_get (set ns p d)) q ∙ e)) a))
       (λ off. h i x off (sym (set_there i off) ∙ e))
       (cases_eq p i)
 
   pub old_each : (P : ℕ → Cell → Type 0) → P p c → ((i : ℕ) (x : Cell) → (p ≡ i → ⊥) → slice_get ns i ≡ Some x → P i x) → (i : ℕ) (x : Cell) → slice_get ns i ≡ Some x → P i x
   old_each P a h i x e = ⊎_elim
-      (λ q. subst (λ j. P j x) q (subst (P p) (some_same c x (sym here ∙ ap (slice_get ns) q ∙ e)) a))
+      (λ q. subst (λ j. P j x) q (subst (P p) (same_Some c x (sym here ∙ ap (slice_get ns) q ∙ e)) a))
       (λ off. h i x off e)
       (cases_eq p i)
 
@@ -196,7 +194,7 @@ module _ (ns : List Cell) (p : ℕ) (c d : Cell) (here : slice_get ns p ≡ Some
 
   -- a cell that is no row leaves what rows lack as it is
   pub set_stays : ((n : RowNode) → c ≡ OfRow n → ⊥) → Stays
-  set_stays off l i h = lacks_kept ns (set ns p d) l (λ j n q. set_there j (λ same. off n (some_same c (OfRow n) (sym here ∙ ap (slice_get ns) same ∙ q))) ∙ q) h
+  set_stays off l i h = lacks_kept ns (set ns p d) l (λ j n q. set_there j (λ same. off n (same_Some c (OfRow n) (sym here ∙ ap (slice_get ns) same ∙ q))) ∙ q) h
 
   pub set_keeps : Stays → Keeps ns (set ns p d)
   set_keeps stays_so = record {
@@ -253,7 +251,7 @@ module _ (ns : List Cell) (p : ℕ) (c d : Cell) (here : slice_get ns p ≡ Some
   pub set_fine : IsFine ns → IsPlaced ns p d → ((n : RowNode) → c ≡ OfRow n → ⊥) → chained_one d ≡ chained_one c → IsFine (set ns p d)
   set_fine f good off chain = record {
     tidy = λ i fs r e. ⊎_elim
-        (λ same. let q = row_of c (sorts ∙ ap sort_of (some_same d (OfRow (Front fs r)) (sym set_here ∙ ap (slice_get (set ns p d)) same ∙ e))) in absurd (off q.0 q.1))
+        (λ same. let q = row_of c (sorts ∙ ap sort_of (same_Some d (OfRow (Front fs r)) (sym set_here ∙ ap (slice_get (set ns p d)) same ∙ e))) in absurd (off q.0 q.1))
         (λ other. tidy_kept ns (set ns p d) fs r rows_kept (f.tidy i fs r (sym (set_there i other) ∙ e)))
         (cases_eq p i);
     placed = set_placed (set_stays off) f good;
@@ -271,4 +269,4 @@ module _ (ns : List Cell) (p : ℕ) (c d : Cell) (here : slice_get ns p ≡ Some
   }
     where
       rows_kept : KeepsRows ns (set ns p d)
-      rows_kept j n q = set_there j (λ same. off n (some_same c (OfRow n) (sym here ∙ ap (slice_get ns) same ∙ q))) ∙ q
+      rows_kept j n q = set_there j (λ same. off n (same_Some c (OfRow n) (sym here ∙ ap (slice_get ns) same ∙ q))) ∙ q

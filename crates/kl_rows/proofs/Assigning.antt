@@ -16,11 +16,7 @@ use Rattle.kl_rows.specs.declared.cell.Cell.TheVariants.{OfType, OfFunction, OfR
 use Rattle.kl_rows.specs.Lists.{Fields}
 use Rattle.kl_rows.specs.Places.{Parts}
 use Rattle.kl_rows.specs.Solutions.{Assignment, Splits, TypeSays, FunctionSays, RowSays, KindSays, Says}
-use Rattle.kl_rows.proofs.ListLemmas.{Label}
-
-pub all_on : (P Q : Label × ℕ → Type 0) (fs : Fields) → ((f : Label × ℕ) → P f → Q f) → AllByRecursion P fs → AllByRecursion Q fs
-all_on P Q [] go h = tt
-all_on P Q (f ∷ fs) go h = (go f h.0, all_on P Q fs go h.1)
+use Rattle.kl_base.proofs.Each.{all_map}
 
 pub parts_on : (c : Cell) (P Q : ℕ → Type 0) → ((p : ℕ) → P p → Q p) → Parts c P → Parts c Q
 parts_on (OfType AnyType) P Q go h = tt
@@ -32,7 +28,7 @@ parts_on (OfFunction a b) P Q go h = (go a h.0, go b h.1)
 parts_on (OfType (TypeLink a)) P Q go h = go a h
 parts_on (OfRow (AnyRow ls)) P Q go h = tt
 parts_on (OfRow NoRow) P Q go h = tt
-parts_on (OfRow (Front fs r)) P Q go h = (all_on (λ f. P f.1) (λ f. Q f.1) fs (λ f k. go f.1 k) h.0, go r h.1)
+parts_on (OfRow (Front fs r)) P Q go h = (all_map (λ f. P f.1) (λ f. Q f.1) fs (λ f k. go f.1 k) h.0, go r h.1)
 parts_on (OfKind AnyKind) P Q go h = tt
 parts_on (OfKind (Fixed k)) P Q go h = tt
 parts_on (OfKind (KindLink a)) P Q go h = go a h

@@ -1,6 +1,7 @@
 -- An open part of a scheme may be given any type or kind: each other part then has what it says.
 use Rattle.std.proofs.Common.{◌≡◌, ⊎_elim, ℕ, zero, suc, ◌+◌, ◌<◌, ◌≤◌, true, List, [], ◌∷◌, ◌++◌, length, take, Some, nat_eq, slice_get, refl, sym, ap, ◌∙◌, subst, arith}
 use Rattle.std.proofs.lemmas.Bool.{cases_eq, eq-eqb, eqb-true}
+use Rattle.std.proofs.lemmas.Option.{same_Some}
 use Rattle.kl_value.specs.declared.value.Kind.{Kind}
 use Rattle.kl_type.specs.Ground.{Ground, IsGround}
 use Rattle.kl_rows.specs.declared.cell.TypeNode.TheVariants.{AnyType, Var}
@@ -17,17 +18,17 @@ use Rattle.kl_rows.specs.declared.finite.Mark.TheVariants.{Unseen}
 use Rattle.kl_rows.specs.Copying.{IsSource}
 use Rattle.kl_rows.specs.Schemes.{cells_of, IsScheme}
 use Rattle.kl_rows.proofs.Assigning.{parts_on, with_type, with_kind, type_put, kind_put}
-use Rattle.kl_rows.proofs.CellLists.{some_same, stands, sort_here}
+use Rattle.kl_rows.proofs.CellLists.{stands, sort_here}
 use Rattle.kl_rows.proofs.Depths.{next_seen}
-use Rattle.kl_rows.proofs.ListLemmas.{none_some}
 use Rattle.kl_rows.proofs.Ordered.{Start, Whole, started_solvable}
 use Rattle.kl_rows.proofs.Orders.{mark_here, mark_there}
 use Rattle.kl_rows.proofs.Settlements.{scheme_source}
+use Rattle.kl_type.proofs.RowLemmas.{none_some}
 
 sum_before : (f : Cell → ℕ) (cs : List Cell) (i k : ℕ) (c : Cell) → slice_get cs i ≡ Some c → i < k → total f (take i cs) + f c ≤ total f (take k cs)
 sum_before f [] i k c e lt = none_some c _ e
 sum_before f (d ∷ cs) zero zero c e lt = absurd (omega arith)
-sum_before f (d ∷ cs) zero (suc k) c e lt = let same : f d ≡ f c = ap f (some_same d c e) in omega arith
+sum_before f (d ∷ cs) zero (suc k) c e lt = let same : f d ≡ f c = ap f (same_Some d c e) in omega arith
 sum_before f (d ∷ cs) (suc i) zero c e lt = absurd (omega arith)
 sum_before f (d ∷ cs) (suc i) (suc k) c e lt = let r = sum_before f cs i k c e (omega arith) in omega arith
 
@@ -103,13 +104,13 @@ module _ (cells : List Cell) (source : IsSource cells) (before : (i : ℕ) (c : 
 
     module _ (i : ℕ) (c : Cell) (here : slice_get cells i ≡ Some c) (no_row : sort_of c ≡ a_row → ⊥) (parts : Parts c (λ p. nat_eq p i ≡ true)) (v : Assignment) (says : Says c v i) where
       not_here : (P : Type 0) (r : ℕ) → IsRowAt cells r → nat_eq r i ≡ true → P
-      not_here P r q k = absurd (no_row (some_same _ _ (sym (sort_here cells i c here) ∙ sym (ap (sort_at cells) (eqb-true r i k)) ∙ q)))
+      not_here P r q k = absurd (no_row (same_Some _ _ (sym (sort_here cells i c here) ∙ sym (ap (sort_at cells) (eqb-true r i k)) ∙ q)))
 
       choice : Start cells (λ j. nat_eq j i)
       choice = record {
         by = v;
-        says = λ j d e k. (let at : j ≡ i = eqb-true j i k in subst (λ x. Says x v j) (some_same c d (sym here ∙ sym (ap (slice_get cells) at) ∙ e)) (subst (Says c v) (sym at) says));
-        parts = λ j d e k. (let at : j ≡ i = eqb-true j i k in subst (λ x. Parts x (λ p. nat_eq p i ≡ true)) (some_same c d (sym here ∙ sym (ap (slice_get cells) at) ∙ e)) parts);
+        says = λ j d e k. (let at : j ≡ i = eqb-true j i k in subst (λ x. Says x v j) (same_Some c d (sym here ∙ sym (ap (slice_get cells) at) ∙ e)) (subst (Says c v) (sym at) says));
+        parts = λ j d e k. (let at : j ≡ i = eqb-true j i k in subst (λ x. Parts x (λ p. nat_eq p i ≡ true)) (same_Some c d (sym here ∙ sym (ap (slice_get cells) at) ∙ e)) parts);
         variants = λ j r e k. not_here _ r (source.placed j (OfType (Var r)) e) k;
         bares = λ j r e k. not_here _ r (source.placed j (OfRow (Front [] r)) e).1 k;
       }

@@ -3,9 +3,10 @@ use Rattle.std.proofs.Common.{◌≡◌, ◌≢◌, ◌⊎◌, inl, inr, ⊎_eli
 use mathlib.Core.Path.{ap₂}
 use Rattle.std.specs.List.{AllByRecursion}
 use Rattle.std.proofs.Math.ListN.{set}
+use Rattle.std.proofs.lemmas.Option.{same_Some, slice_get_within}
 use Rattle.kl_base.specs.Fields.{field}
 use Rattle.kl_type.specs.Ground.{Row, rec, var, coll, arrow, at}
-use Rattle.kl_type.proofs.RowLemmas.{told}
+use Rattle.kl_type.proofs.RowLemmas.{told, none_some}
 use Rattle.kl_rows.specs.declared.cell.TypeNode.TheVariants.{AnyType, Base, Rec, Var, Coll, TypeLink}
 use Rattle.kl_rows.specs.declared.cell.KindNode.TheVariants.{AnyKind, Fixed, KindLink}
 use Rattle.kl_rows.specs.declared.cell.RowNode.TheVariants.{AnyRow, NoRow, Front}
@@ -18,9 +19,9 @@ use Rattle.kl_rows.specs.Making.{IsNewTidy, CanMake}
 use Rattle.kl_rows.specs.Copying.{Fits, SameAt, Takes, renamed_fields, renamed, number_in, pulled, IsSource, IsEarlier, InOrder, kept_in, IsClosed, SameOn, Copied, Copies}
 use Rattle.kl_rows.proofs.Advancing.{agrees_refl, keeps_refl, keeps_on, lacks_kept}
 use Rattle.kl_rows.proofs.Assigning.{parts_on, Off, says_off}
-use Rattle.kl_rows.proofs.CellLists.{some_same, get_within, stands, sort_here, sort_within}
+use Rattle.kl_rows.proofs.CellLists.{stands, sort_here, sort_within}
 use Rattle.kl_rows.proofs.Growing.{grown_with, grown_map}
-use Rattle.kl_rows.proofs.ListLemmas.{Label, none_some, field_here, field_there}
+use Rattle.kl_rows.proofs.ListLemmas.{Label, field_here, field_there, below_or_last}
 
 sort_renamed : (f : ℕ → ℕ) (c : Cell) → sort_of (renamed f c) ≡ sort_of c
 sort_renamed f (OfType n) = refl
@@ -160,7 +161,7 @@ module _ (D : ℕ → Type 0) (source old now : List Cell) (numbers : List ℕ) 
     after = set numbers i p
 
     within : i < length numbers
-    within = let s = x.size in let l = get_within source i c e in omega arith
+    within = let s = x.size in let l = slice_get_within source i c e in omega arith
 
     number_new : number_in after i ≡ p
     number_new = get_or-set_same numbers i p 0 within
@@ -175,13 +176,13 @@ module _ (D : ℕ → Type 0) (source old now : List Cell) (numbers : List ℕ) 
     More j = D j ⊎ (j ≡ i)
 
     same_cell : (j : ℕ) (y : Cell) → j ≡ i → slice_get source j ≡ Some y → y ≡ c
-    same_cell j y z h = some_same y c (sym h ∙ ap (slice_get source) z ∙ e)
+    same_cell j y z h = same_Some y c (sym h ∙ ap (slice_get source) z ∙ e)
 
     lacks_of : (l : Label) (y : Cell) → y ≡ c → Lacks source l i → LacksAs (renamed (number_in numbers) y) now l
-    lacks_of l y z (at_open ls h k) = subst (λ w. LacksAs (renamed (number_in numbers) w) now l) (some_same (OfRow (AnyRow ls)) y (sym h ∙ e ∙ ap Some (sym z))) k
-    lacks_of l y z (at_none h) = subst (λ w. LacksAs (renamed (number_in numbers) w) now l) (some_same (OfRow NoRow) y (sym h ∙ e ∙ ap Some (sym z))) tt
+    lacks_of l y z (at_open ls h k) = subst (λ w. LacksAs (renamed (number_in numbers) w) now l) (same_Some (OfRow (AnyRow ls)) y (sym h ∙ e ∙ ap Some (sym z))) k
+    lacks_of l y z (at_none h) = subst (λ w. LacksAs (renamed (number_in numbers) w) now l) (same_Some (OfRow NoRow) y (sym h ∙ e ∙ ap Some (sym z))) tt
     lacks_of l y z (at_front fs r h n k) =
-        let is : OfRow (Front fs r) ≡ y = some_same (OfRow (Front fs r)) y (sym h ∙ e ∙ ap Some (sym z)) in
+        let is : OfRow (Front fs r) ≡ y = same_Some (OfRow (Front fs r)) y (sym h ∙ e ∙ ap Some (sym z)) in
         let part : Parts (OfRow (Front fs r)) D = subst (λ w. Parts w D) (sym (is ∙ z)) d in
         subst (λ w. LacksAs (renamed (number_in numbers) w) now l) is (field_renamed (number_in numbers) l fs n, x.lacks l r part.1 k)
 
@@ -251,7 +252,7 @@ module _ (D : ℕ → Type 0) (source old now : List Cell) (numbers : List ℕ) 
     }
       where
         at_sort : (q : Sort) → sort_at source i ≡ Some q → (w v : Assignment) → SameAt (sort_of (renamed (number_in numbers) c)) w p v i → SameAt q w p v i
-        at_sort q h w v m = subst (λ r. SameAt r w p v i) (sort_renamed (number_in numbers) c ∙ some_same (sort_of c) q (sym (sort_here source i c e) ∙ h)) m
+        at_sort q h w v m = subst (λ r. SameAt r w p v i) (sort_renamed (number_in numbers) c ∙ same_Some (sort_of c) q (sym (sort_here source i c e) ∙ h)) m
 
 -- the cells that an order names up to a place, where they are kept
 abbrev pub IsDone : List Bool → List ℕ → ℕ → ℕ → Type 0
@@ -286,9 +287,6 @@ copied_as D E source old now numbers go come x = record {
   down = λ s u h g. grown_map old now s _ _ (λ w k same. record { types = λ j d q. same.types j (come j d) q; functions = λ j d q. same.functions j (come j d) q; rows = λ j d q. same.rows j (come j d) q; kinds = λ j d q. same.kinds j (come j d) q }) (x.down s u h (λ j c d e. g j c (go j d) e));
 }
 
-below : (j k : ℕ) → j < k + 1 → (j < k) ⊎ (j ≡ k)
-below j k l = grind arith
-
 module _ (source old : List Cell) (kept : List Bool) (order : List ℕ) (good : IsSource source) (ordered : InOrder source order) (k at : ℕ) (here : slice_get order k ≡ Some at) where
   done_on : (j : ℕ) → IsDone kept order k j → IsDone kept order (k + 1) j
   done_on j d = (d.0, (let l = d.1 in omega arith), d.2, d.3)
@@ -299,8 +297,8 @@ module _ (source old : List Cell) (kept : List Bool) (order : List ℕ) (good : 
     where
       back : (j : ℕ) → IsDone kept order (k + 1) j → IsDone kept order k j
       back j d = ⊎_elim (λ l. (d.0, l, d.2, d.3))
-          (λ z. absurd (true≢false (sym d.3 ∙ ap (kept_in kept) (some_same j at (sym d.2 ∙ ap (slice_get order) z ∙ here)) ∙ no_keep)))
-          (below d.0 k d.1)
+          (λ z. absurd (true≢false (sym d.3 ∙ ap (kept_in kept) (same_Some j at (sym d.2 ∙ ap (slice_get order) z ∙ here)) ∙ no_keep)))
+          (below_or_last d.0 k d.1)
 
   part_done : IsClosed source kept → (c : Cell) → slice_get source at ≡ Some c → kept_in kept at ≡ true → Parts c (IsDone kept order k)
   part_done closed c e keep = both c (ordered.before k at c here e) (closed.parts at c e keep)
@@ -344,7 +342,7 @@ module _ (source old : List Cell) (kept : List Bool) (order : List ℕ) (good : 
       go j (inr z) = (k, omega arith, here ∙ ap Some (sym z), ap (kept_in kept) z ∙ keep)
 
       back : (j : ℕ) → IsDone kept order (k + 1) j → IsDone kept order k j ⊎ (j ≡ at)
-      back j d = ⊎_elim (λ l. inl (d.0, l, d.2, d.3)) (λ z. inr (some_same j at (sym d.2 ∙ ap (slice_get order) z ∙ here))) (below d.0 k d.1)
+      back j d = ⊎_elim (λ l. inl (d.0, l, d.2, d.3)) (λ z. inr (same_Some j at (sym d.2 ∙ ap (slice_get order) z ∙ here))) (below_or_last d.0 k d.1)
 
 kept_within : (kept : List Bool) (j : ℕ) → kept_in kept j ≡ true → j < length kept
 kept_within [] j h = absurd (true≢false (sym h))
@@ -360,5 +358,5 @@ copy_end source old now kept order numbers k ordered closed le x = copied_as _ _
         let lt = kept_within kept j h in
         let size = closed.size in
         let m = ordered.all j (omega arith) in
-        let l = get_within order m.0 j m.1 in
+        let l = slice_get_within order m.0 j m.1 in
         (m.0, omega arith, m.1, h)

@@ -7,7 +7,7 @@ use Rattle.kl_value.specs.declared.value.Kind.{Kind}
 use Rattle.kl_type.specs.Ground.{Ground, Row, rec, var, coll, no_row, row, at, IsBefore, IsGround, IsRow, IsProper, row_by, ground_of}
 use Rattle.kl_type.specs.declared.Ty.{Ty}
 use Rattle.kl_type.specs.declared.Ty.TheVariants as ty
-use Rattle.kl_type.proofs.RowLemmas.{at_here, at_there, one_row, never_less}
+use Rattle.kl_type.proofs.RowLemmas.{at_here, at_there, one_row, never_less, none_some, before_rest}
 use Rattle.kl_type.proofs.GroundLemmas.{ground-Rec, ground-Var, ground-Coll}
 use Rattle.kl_rows.specs.declared.cell.Scalar.{Scalar}
 use Rattle.kl_rows.specs.declared.cell.TypeNode.{TypeNode}
@@ -21,12 +21,12 @@ use Rattle.kl_rows.specs.Places.{IsType, AreTypes, Lacks, at_none, Differ, IsFin
 use Rattle.kl_rows.specs.Solutions.{Assignment, Splits, scalar_type, TypeSays, Solves}
 use Rattle.kl_rows.specs.Steps.{Grown, Keeps}
 use Rattle.kl_rows.specs.Making.{CanMake, Adds}
-use Rattle.kl_rows.specs.Expanding.{Pushes, Gives, GivesFields, Expands, ExpandsRow}
+use Rattle.kl_rows.specs.Expanding.{Pushes, GivesType, GivesFields, Expands, ExpandsRow}
 use Rattle.kl_rows.proofs.Adding.{adds}
 use Rattle.kl_rows.proofs.Advancing.{agrees_refl, keeps_refl, keeps_on, types_keep}
 use Rattle.kl_rows.proofs.CellLists.{get_end}
 use Rattle.kl_rows.proofs.Growing.{grown_then, grown_map, grown_type, grown_row, grown_kind}
-use Rattle.kl_rows.proofs.ListLemmas.{Label, none_some, field_here, field_there, Looked, found, missing, look, all_at}
+use Rattle.kl_rows.proofs.ListLemmas.{Label, field_here, field_there, Looked, found, missing, look, all_at}
 
 pub pushed : (ns new : List Cell) (c : Cell) (i : ℕ) → IsFine ns → CanMake ns c → Pushes ns new c i → Adds ns new c i
 pushed ns new c i fine can p = adds ns c fine can new i p.added p.place
@@ -35,7 +35,7 @@ pushed ns new c i fine can p = adds ns c fine can new i p.added p.place
 module _ (old mid new : List Cell) (n : TypeNode) (i : ℕ) (t : Ground) (fine : IsFine mid) (keeps : Keeps old mid) (can : CanMake mid (OfType n)) (p : Pushes mid new (OfType n) i) (good : IsGround t)
     (only : (s : Assignment) (u : Ground) → TypeSays n s t → TypeSays n s u → u ≡ t)
     (up : (s : Assignment) → Solves mid s → Solves old s × TypeSays n s t) (down : (s : Assignment) → Solves old s → Grown old mid s (λ u. Unit {0})) where
-  type_last : Gives old new i t
+  type_last : GivesType old new i t
   type_last =
       let a = pushed mid new (OfType n) i fine can p in
       record {
@@ -49,7 +49,7 @@ module _ (old mid new : List Cell) (n : TypeNode) (i : ℕ) (t : Ground) (fine :
 pub gives_scalar : (old new : List Cell) (i : ℕ) (t : Ty) (b : Scalar) → ground_of t ≡ scalar_type b → Pushes old new (OfType (Base b)) i → Expands old new i t
 gives_scalar old new i t b e p = record {
   gives = λ fine proper.
-      subst (Gives old new i) (sym e)
+      subst (GivesType old new i) (sym e)
       (type_last old old new (Base b) i (scalar_type b) fine (keeps_refl old) (record { placed = tt; tidy = tt }) p (subst IsGround e proper) (λ s u q r. r) (λ s h. (h, refl))
       (λ s h. record { to = s; agrees = agrees_refl (length old) s; solves = h; holds = tt }));
 }
@@ -61,7 +61,7 @@ gives_rec old mid new r i t fs gs e f x p = record {
       let good : IsGround (rec (row_by ground_of fs)) = subst IsGround is proper in
       let y = subst (λ hs. ExpandsRow old mid r hs) f x in
       let g = y.gives fine good in
-      subst (Gives old new i) (sym is)
+      subst (GivesType old new i) (sym is)
       (type_last old mid new (Rec r) i (rec (row_by ground_of fs)) g.fine g.keeps (record { placed = g.sort; tidy = tt }) p good (λ s u q z. z ∙ sym q) (λ s h. (let a = g.up s h in (a.0, ap rec (sym a.1))))
       (λ s h. grown_map old mid s _ _ (λ u k z. tt) (g.down s h)));
 }
@@ -73,7 +73,7 @@ gives_var old mid new r i t fs gs e f x p = record {
       let good : IsGround (var (row_by ground_of fs)) = subst IsGround is proper in
       let y = subst (λ hs. ExpandsRow old mid r hs) f x in
       let g = y.gives fine good.1 in
-      subst (Gives old new i) (sym is)
+      subst (GivesType old new i) (sym is)
       (type_last old mid new (Var r) i (var (row_by ground_of fs)) g.fine g.keeps (record { placed = g.sort; tidy = tt }) p good (λ s u q z. z ∙ sym q) (λ s h. (let a = g.up s h in (a.0, ap var (sym a.1))))
       (λ s h. grown_map old mid s _ _ (λ u k z. tt) (g.down s h)));
 }
@@ -88,7 +88,7 @@ gives_coll old one two new j a i t k u v e f q x p = record {
       let g = y.gives kind.fine good in
       let up : (s : Assignment) → Solves two s → Solves old s × (coll k (ground_of u) ≡ coll (s.kinds j) (s.types a)) =
       λ s h. (let b = g.up s h in let c = (kind.solves s).0 b.0 in (c.0, ap₂ coll (sym c.1) (sym b.1))) in
-      subst (Gives old new i) (sym is)
+      subst (GivesType old new i) (sym is)
       (type_last old two new (Coll j a) i (coll k (ground_of u)) g.fine (keeps_on old one two kind.keeps g.keeps) (record { placed = (let m = g.keeps in m.sorts j _ kind.sort, g.sort); tidy = tt }) p good (λ s w c z. z ∙ sym c) up
       (λ s h. grown_then old one two s _ _ (let m = kind.keeps in m.grows) (grown_kind old one j fine (Fixed k) (record { placed = tt; tidy = tt }) kind s h k refl) (λ w d z. grown_map one two w _ _ (λ b c l. tt) (g.down w d))));
 }
@@ -179,11 +179,6 @@ split_same types fs w v e g h a b = one_row w v g h (λ l. go l (look l fs))
     go : (l : Label) → Looked l fs → at l w ≡ at l v
     go l (found t p) = (all_at (λ m u. (at m w ≡ Some (types u)) × (at m e ≡ None)) fs l t a.fronts p).0 ∙ sym ((all_at (λ m u. (at m v ≡ Some (types u)) × (at m e ≡ None)) fs l t b.fronts p).0)
     go l (missing p) = a.others l p ∙ sym (b.others l p)
-
-before_rest : (l m : Label) (t : Ground) (r : Row) → IsBefore m r → IsBefore l (row m t r) → IsBefore l r
-before_rest l m t r b h k u e =
-    let off : k ≢ m = λ z. never_less m (subst (λ x. bytes_cmp m x ≡ Less) z (b k u e)) in
-    h k u (at_there k m t r off ∙ e)
 
 absent : (l : Label) (fs : List (List ℕ × Ty)) (ns : Fields) → labels_of ns ≡ labels_of fs → IsRow (row_by ground_of fs) → IsBefore l (row_by ground_of fs) → field l ns ≡ None
 absent l fs [] e g b = refl

@@ -1,6 +1,7 @@
 -- Solutions that grow by the value of one new number.
 use Rattle.std.proofs.Common.{◌≡◌, ◌≢◌, ℕ, ◌<◌, ◌≤◌, List, [], ◌∷◌, length, sym, subst, arith}
 use Rattle.std.specs.List.{AllByRecursion}
+use Rattle.std.proofs.lemmas.Option.{slice_get_within}
 use Rattle.kl_value.specs.declared.value.Kind.{Kind}
 use Rattle.kl_type.specs.Ground.{Ground, Row, IsGround, IsRow}
 use Rattle.kl_rows.specs.declared.cell.TypeNode.{TypeNode}
@@ -16,7 +17,7 @@ use Rattle.kl_rows.specs.Places.{Parts, a_type, a_row, a_kind, AreTypes, IsPlace
 use Rattle.kl_rows.specs.Solutions.{Assignment, TypeSays, FunctionSays, RowSays, KindSays, Solves}
 use Rattle.kl_rows.specs.Steps.{Agrees, Grown}
 use Rattle.kl_rows.specs.Making.{CanMake, Adds}
-use Rattle.kl_rows.proofs.CellLists.{get_within, sort_within}
+use Rattle.kl_rows.proofs.CellLists.{sort_within}
 use Rattle.kl_rows.proofs.Advancing.{Fact, agrees_on}
 use Rattle.kl_rows.proofs.Assigning.{parts_on, Off, type_off, function_off, row_off, kind_off, says_off, with_type, with_function, with_row, with_kind, type_put, function_put, row_put, kind_put}
 
@@ -51,7 +52,7 @@ off_agrees i n s u le o = record {
 -- a number that is not there may be given any value
 pub off_solves : (ns : List Cell) (s u : Assignment) (i : ℕ) → IsFine ns → length ns ≤ i → Off i s u → Solves ns s → Solves ns u
 off_solves ns s u i fine le o h = record {
-  each = λ j c e. (let lt : j < length ns = get_within ns j c e in says_off i s u c j o (omega arith) (parts_on c _ _ (λ p l. omega arith) (parts_within ns j c (fine.placed j c e))) (h.each j c e));
+  each = λ j c e. (let lt : j < length ns = slice_get_within ns j c e in says_off i s u c j o (omega arith) (parts_on c _ _ (λ p l. omega arith) (parts_within ns j c (fine.placed j c e))) (h.each j c e));
 }
 
 pub grown_then : (a b c : List Cell) (s : Assignment) (P Q : Fact) → length a ≤ length b → Grown a b s P → ((u : Assignment) → Solves b u → P u → Grown b c u Q) → Grown a c s Q

@@ -4,10 +4,9 @@ use mathlib.Core.Path.{ap₂}
 use Rattle.std.specs.Cmp.Lexicographic.{pointwise}
 use Rattle.std.specs.HashMap.{get, IsEmpty, Updates}
 use Rattle.std.proofs.lemmas.Cmp.{nat_list_eq_equiv}
-use Rattle.std.proofs.lemmas.Option.{slice_get-get_or}
+use Rattle.std.proofs.lemmas.Option.{slice_get-get_or, same_Some}
 use Rattle.kl_base.specs.Fields.{field}
 use Rattle.kl_rows.specs.Lists.{Fields, Index, Holds}
-use Rattle.kl_rows.proofs.CellLists.{some_same}
 use Rattle.kl_rows.proofs.ListLemmas.{Label}
 
 pub index_none : (m : Index) (fs : Fields) → IsEmpty m → fs ≡ [] → Holds m fs
@@ -21,6 +20,6 @@ index_front m n k v fs h u l = u.0 l ∙ ap₂ (λ b o. cond b (Some v) o) (nat_
 
 pub index_more : (m n : Index) (k : Label) (v : ℕ) (fs : Fields) (i j : ℕ) (f g d : Label × ℕ) → j < length fs → i ≡ suc j → f ≡ get_or fs j f → g ≡ get_or fs j d → k ≡ f.0 → v ≡ g.1 → Holds m (drop i fs) → Updates (pointwise nat_eq) m n k (Some v) → Holds n (drop j fs)
 index_more m n k v fs i j f g d lt e a b p q h u =
-    let same : f ≡ g = some_same f g (ap Some a ∙ sym (slice_get-get_or fs j f lt) ∙ slice_get-get_or fs j d lt ∙ ap Some (sym b)) in
+    let same : f ≡ g = same_Some f g (ap Some a ∙ sym (slice_get-get_or fs j f lt) ∙ slice_get-get_or fs j d lt ∙ ap Some (sym b)) in
     let front : drop j fs ≡ (k, v) ∷ drop i fs = drop-cons fs j f lt ∙ ap₂ (λ x xs. x ∷ xs) (sym a ∙ ap₂ (λ x y. (x, y)) (sym p) (ap (λ x. x.1) same ∙ sym q)) (ap (λ x. drop x fs) (sym e)) in
     subst (Holds n) (sym front) (index_front m n k v (drop i fs) h u)

@@ -2,7 +2,8 @@
 use Rattle.std.proofs.Common.{◌≡◌, ◌⊎◌, inl, inr, ⊎_elim, ℕ, zero, suc, ◌+◌, ◌<◌, ◌≤◌, Bool, true, false, ◌||◌, List, [], ◌∷◌, length, take, get_or, Some, slice_get, refl, sym, ap, ◌∙◌, subst, arith, length-set, get_or-set_same, get_or-set_other, true≢false}
 use Rattle.std.specs.List.{AllByRecursion}
 use Rattle.std.proofs.Math.ListN.{set}
-use Rattle.std.proofs.lemmas.Bool.{cases_eq}
+use Rattle.std.proofs.lemmas.Bool.{cases_eq, or_parts}
+use Rattle.std.proofs.lemmas.Option.{same_Some, slice_get_within}
 use Rattle.kl_rows.specs.declared.cell.RowNode.TheVariants.{Front}
 use Rattle.kl_rows.specs.declared.cell.Cell.{Cell}
 use Rattle.kl_rows.specs.declared.cell.Cell.TheVariants.{OfRow}
@@ -10,9 +11,10 @@ use Rattle.kl_rows.specs.Lists.{Fields}
 use Rattle.kl_rows.specs.Places.{Parts}
 use Rattle.kl_rows.specs.Copying.{kept_in, IsSource}
 use Rattle.kl_rows.specs.Keeping.{tells, Needs, not_one, unkept, Grows, Widens, KeepsOne, KeepsParts, KeepsFields, ClosedAt, Turns, SweptTo, Sweeps}
-use Rattle.kl_rows.proofs.Assigning.{all_on, parts_on}
-use Rattle.kl_rows.proofs.CellLists.{get_within}
+use Rattle.kl_rows.proofs.Assigning.{parts_on}
 use Rattle.kl_rows.proofs.Growing.{parts_within}
+use Rattle.kl_base.proofs.Each.{all_map}
+use Rattle.kl_rows.proofs.ListLemmas.{below_or_last}
 
 pub grows_refl : (ks : List Bool) → Grows ks ks
 grows_refl ks = record { size = refl; stays = λ j h. h; fewer = omega arith }
@@ -27,10 +29,6 @@ or_true : (a b : Bool) → (a || b) ≡ true → (a ≡ true) ⊎ ((a ≡ false)
 or_true true b h = inl refl
 or_true false b h = inr (refl, h)
 
-or_false : (a b : Bool) → (a || b) ≡ false → (a ≡ false) × (b ≡ false)
-or_false true b h = absurd (true≢false h)
-or_false false b h = (refl, h)
-
 pub widens_then : (x y : Bool) (a b c : List Bool) → Widens x a b → Widens y b c → Widens (x || y) a c
 widens_then x y a b c h k = record {
   grows = grows_then a b c h.grows k.grows;
@@ -38,7 +36,7 @@ widens_then x y a b c h k = record {
       (λ t. (let l = h.less t in let g = k.grows in let m = g.fewer in omega arith))
       (λ t. (let same : unkept b ≡ unkept a = ap unkept (h.same t.0) in let l = k.less t.1 in omega arith))
       (or_true x y e);
-  same = λ e. (let f = or_false x y e in k.same f.1 ∙ h.same f.0);
+  same = λ e. (let f = or_parts x y e in k.same f.1 ∙ h.same f.0);
 }
 
 unkept_set : (ks : List Bool) (i : ℕ) → i < length ks → kept_in ks i ≡ false → unkept (set ks i true) < unkept ks
@@ -83,7 +81,7 @@ parts_two c d x y any a b old mid new e o go h k =
     record { widens = subst (λ z. Widens z old new) (sym o) (widens_then x y old mid new h.widens k.widens); has = subst (λ z. Parts z (IsKeptIn new)) (sym e) (go (g.stays a h.has) k.has) }
 
 fields_stay : (mid new : List Bool) (fs : Fields) → Grows mid new → AllByRecursion (λ f. IsKeptIn mid f.1) fs → AllByRecursion (λ f. IsKeptIn new f.1) fs
-fields_stay mid new fs g h = all_on (λ f. IsKeptIn mid f.1) (λ f. IsKeptIn new f.1) fs (λ f k. g.stays f.1 k) h
+fields_stay mid new fs g h = all_map (λ f. IsKeptIn mid f.1) (λ f. IsKeptIn new f.1) fs (λ f k. g.stays f.1 k) h
 
 pub parts_front : (c : Cell) (x y any : Bool) (fs gs : Fields) (r : ℕ) (old mid new : List Bool) → c ≡ OfRow (Front fs r) → gs ≡ fs → any ≡ (x || y) → KeepsFields x gs old mid → KeepsOne y r mid new → KeepsParts any c old new
 parts_front c x y any fs gs r old mid new e q o h k =
@@ -153,26 +151,20 @@ turns_none c at old vs ws b d v e f w g h = record {
 pub sweep_begins : (cells : List Cell) (ks : List Bool) → SweptTo false cells ks ks 0
 sweep_begins cells ks = record { widens = widens_none ks; still = λ e i c l. absurd (omega arith) }
 
-below : (j k : ℕ) → j < k + 1 → (j < k) ⊎ (j ≡ k)
-below j k l = grind arith
-
 pub sweep_turn : (x y any : Bool) (cells : List Cell) (k : ℕ) (c : Cell) (old mid new : List Bool) → slice_get cells k ≡ Some c → any ≡ (x || y) → SweptTo x cells old mid k → Turns y c k mid new → SweptTo any cells old new (k + 1)
 sweep_turn x y any cells k c old mid new here o h t = record {
   widens = subst (λ z. Widens z old new) (sym o) (widens_then x y old mid new h.widens t.widens);
   still = λ e i d l q.
-      let f = or_false x y (sym o ∙ e) in
+      let f = or_parts x y (sym o ∙ e) in
       let w = h.widens in
       ⊎_elim
       (λ b. h.still f.0 i d b q)
-      (λ z. subst (λ ks. ClosedAt ks d i) (w.same f.0) (subst (ClosedAt mid d) (sym z) (subst (λ y. ClosedAt mid y k) (some_cell c d (sym here ∙ ap (slice_get cells) (sym z) ∙ q)) (t.still f.1))))
-      (below i k l);
+      (λ z. subst (λ ks. ClosedAt ks d i) (w.same f.0) (subst (ClosedAt mid d) (sym z) (subst (λ y. ClosedAt mid y k) (same_Some c d (sym here ∙ ap (slice_get cells) (sym z) ∙ q)) (t.still f.1))))
+      (below_or_last i k l);
 }
-  where
-    some_cell : (a b : Cell) → Some a ≡ Some b → a ≡ b
-    some_cell a b h = cc
 
 pub sweep_ends : (any : Bool) (cells : List Cell) (old new : List Bool) (k : ℕ) → length cells ≤ k → SweptTo any cells old new k → Sweeps any cells old new
-sweep_ends any cells old new k le h = record { widens = h.widens; still = λ e i c q. h.still e i c (let l = get_within cells i c q in omega arith) q }
+sweep_ends any cells old new k le h = record { widens = h.widens; still = λ e i c q. h.still e i c (let l = slice_get_within cells i c q in omega arith) q }
 
 pub needs : (cells : List Cell) (root : ℕ) (old new : List Bool) (any : Bool) → any ≡ false → length old ≡ length cells → kept_in old root ≡ true → Sweeps any cells old new → Needs cells new root
 needs cells root old new any e size has s =

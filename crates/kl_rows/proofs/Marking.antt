@@ -1,18 +1,20 @@
 -- Marks, one after another.
-use Rattle.std.proofs.Common.{◌≡◌, ◌≢◌, ◌↔◌, ◌⊎◌, ⊎_elim, ℕ, zero, suc, ◌+◌, ◌<◌, ◌≤◌, Bool, true, false, not, IsTrue, List, [], ◌∷◌, ◌++◌, length, Option, Some, None, slice_get, get_or, nat_eq, refl, sym, ap, ◌∙◌, subst, arith, length-set}
+use Rattle.std.proofs.Common.{◌≡◌, ◌≢◌, ◌↔◌, ⊎_elim, ℕ, zero, suc, ◌+◌, ◌<◌, ◌≤◌, Bool, true, false, not, IsTrue, List, [], ◌∷◌, ◌++◌, length, Option, Some, None, slice_get, get_or, nat_eq, refl, sym, ap, ◌∙◌, subst, arith, length-set}
 use mathlib.Core.Path.{fun_ext}
 use Rattle.std.specs.Option.{MatchOption, is_some}
 use Rattle.std.proofs.Math.ListN.{set}
 use Rattle.std.proofs.lemmas.Bool.{cases_eq, eq-eqb, ne_eqb}
-use Rattle.std.proofs.lemmas.Option.{slice_get-get_or}
+use Rattle.std.proofs.lemmas.Option.{slice_get-get_or, same_Some, slice_get_within}
 use Rattle.kl_rows.specs.declared.cell.Cell.{Cell}
 use Rattle.kl_rows.specs.declared.finite.Mark.{Mark}
 use Rattle.kl_rows.specs.declared.finite.Mark.TheVariants.{Unseen, Full, Bare}
 use Rattle.kl_rows.specs.Places.{IsFine}
 use Rattle.kl_rows.specs.Finite.{Solvable, or_unseen, mark_in, is_seen, next_mark, pick, mark_of, IsStill, IsStillAt, unseen_one, left, Marked, MarksOne, Sofar, Settled, IsOrderOf}
-use Rattle.kl_rows.proofs.CellLists.{get_set_same, get_set_other, get_within, some_same}
+use Rattle.kl_rows.proofs.CellLists.{get_set_other}
 use Rattle.kl_rows.proofs.Ordered.{marked_solvable}
 use Rattle.kl_rows.proofs.Depths.{all_marked}
+use Rattle.kl_base.proofs.Places.{get-set_same}
+use Rattle.kl_rows.proofs.ListLemmas.{below_or_last, no_no}
 
 seen_is : (m : Mark) → is_seen m ≡ true → m ≢ Unseen
 seen_is Unseen h e = cc
@@ -34,9 +36,6 @@ not_seen Unseen h e = cc
 not_seen Full h e = cc
 not_seen Bare h e = cc
 
-no_mark : {A : Type 0} → true ≡ false → A
-no_mark h = let e : ⊥ = cc in absurd e
-
 seen_none : (n : Mark) → n ≢ Unseen → unseen_one n ≡ 0
 seen_none Unseen h = absurd (h refl)
 seen_none Full h = refl
@@ -49,13 +48,13 @@ left_set (x ∷ ms) (suc i) m l e d = let r = left_set ms i m (omega arith) e d 
 
 module _ (cells : List Cell) (marks : List Mark) (list : List ℕ) (at : ℕ) (lt : at < length cells) (h : Marked cells marks list) where
   keeps : IsStillAt cells (mark_in marks) at → MarksOne false cells marks marks list at
-  keeps s = record { marked = h; less = λ e. no_mark (sym e); same = λ e. refl; still = λ e. s }
+  keeps s = record { marked = h; less = λ e. no_no (sym e); same = λ e. refl; still = λ e. s }
 
   pub seen_already : (ms : List Mark) (b : Bool) → ms ≡ marks → b ≡ is_seen (mark_in ms at) → b ≡ true → MarksOne false cells marks marks list at
   seen_already ms b e f g = keeps (λ c q k. seen_is (mark_in marks at) (ap (λ xs. is_seen (mark_in xs at)) (sym e) ∙ sym f ∙ g))
 
   pub nothing_new : (ms : List Mark) (c : Cell) (m : Mark) (b : Bool) → ms ≡ marks → slice_get cells at ≡ Some c → m ≡ next_mark c (mark_in ms) → b ≡ not (is_seen m) → b ≡ true → MarksOne false cells marks marks list at
-  nothing_new ms c m b e here f g t = keeps (λ d q k. absurd (k (ap (λ x. next_mark x (mark_in marks)) (some_same d c (sym q ∙ here)) ∙ ap (λ xs. next_mark c (mark_in xs)) (sym e) ∙ sym f ∙ not_unseen m (sym g ∙ t))))
+  nothing_new ms c m b e here f g t = keeps (λ d q k. absurd (k (ap (λ x. next_mark x (mark_in marks)) (same_Some d c (sym q ∙ here)) ∙ ap (λ xs. next_mark c (mark_in xs)) (sym e) ∙ sym f ∙ not_unseen m (sym g ∙ t))))
 
   pub new_one : (ms new : List Mark) (more : List ℕ) (c : Cell) (m : Mark) (a b : Bool) → more ≡ list ++ at ∷ [] → ms ≡ marks → a ≡ is_seen (mark_in ms at) → a ≡ false → slice_get cells at ≡ Some c → m ≡ next_mark c (mark_in ms) → b ≡ not (is_seen m) → b ≡ false → new ≡ set marks at m
       → MarksOne true cells marks new more at
@@ -72,28 +71,25 @@ module _ (cells : List Cell) (marks : List Mark) (list : List ℕ) (at : ℕ) (l
           same = λ i. ⊎_elim
               (λ s.
               let new_mark : pick (nat_eq i at) m (mark_of h.order i) ≡ m = rw (eq-eqb i at s) refl in
-              ap (λ j. mark_in (set marks at m) j) s ∙ ap or_unseen (get_set_same marks at m within) ∙ sym new_mark)
+              ap (λ j. mark_in (set marks at m) j) s ∙ ap or_unseen (get-set_same marks at m within) ∙ sym new_mark)
               (λ d. (let old_mark : pick (nat_eq i at) m (mark_of h.order i) ≡ mark_of h.order i = rw (ne_eqb i at d) refl in ap or_unseen (get_set_other marks at i m (λ z. d (sym z))) ∙ h.same i ∙ sym old_mark))
               (cases_eq i at);
           size = length-set marks at m ∙ h.size;
           lists = ap (λ ks. ks ++ at ∷ []) h.lists;
         };
         less = λ z. left_set marks at m within was seen;
-        same = λ z. no_mark z;
-        still = λ z. no_mark z;
+        same = λ z. no_no z;
+        still = λ z. no_no z;
       }))
 
 pub pass_begins : (cells : List Cell) (marks : List Mark) (list : List ℕ) → Marked cells marks list → Sofar false cells marks marks list 0
-pass_begins cells marks list h = record { marked = h; fewer = omega arith; less = λ e. no_mark (sym e); still = λ e i l. absurd (omega arith) }
-
-below : (j k : ℕ) → j < k + 1 → (j < k) ⊎ (j ≡ k)
-below j k l = grind arith
+pass_begins cells marks list h = record { marked = h; fewer = omega arith; less = λ e. no_no (sym e); still = λ e i l. absurd (omega arith) }
 
 pub turn_on : (any any' r : Bool) (cells : List Cell) (old now new : List Mark) (list more : List ℕ) (k : ℕ) → r ≡ true → any' ≡ true → Sofar any cells old now list k → MarksOne r cells now new more k → Sofar any' cells old new more (k + 1)
 turn_on any any' r cells old now new list more k e q s m =
     let a = s.fewer in
     let b = m.less e in
-    record { marked = m.marked; fewer = omega arith; less = λ z. omega arith; still = λ z. no_mark (sym q ∙ z) }
+    record { marked = m.marked; fewer = omega arith; less = λ z. omega arith; still = λ z. no_no (sym q ∙ z) }
 
 pub turn_off : (any any' r : Bool) (cells : List Cell) (old now new : List Mark) (list more : List ℕ) (k : ℕ) → r ≡ false → any' ≡ any → Sofar any cells old now list k → MarksOne r cells now new more k → Sofar any' cells old new more (k + 1)
 turn_off any any' r cells old now new list more k e q s m =
@@ -102,7 +98,7 @@ turn_off any any' r cells old now new list more k e q s m =
       marked = m.marked;
       fewer = subst (λ xs. left xs ≤ left old) (sym same) s.fewer;
       less = λ z. subst (λ xs. left xs < left old) (sym same) (s.less (sym q ∙ z));
-      still = λ z i l. subst (λ xs. IsStillAt cells (mark_in xs) i) (sym same) (⊎_elim (λ p. s.still (sym q ∙ z) i p) (λ p. subst (IsStillAt cells (mark_in now)) (sym p) (m.still e)) (below i k l));
+      still = λ z i l. subst (λ xs. IsStillAt cells (mark_in xs) i) (sym same) (⊎_elim (λ p. s.still (sym q ∙ z) i p) (λ p. subst (IsStillAt cells (mark_in now)) (sym p) (m.still e)) (below_or_last i k l));
     }
 
 pub settles : (cells : List Cell) (old new : List Mark) (list : List ℕ) (any : Bool) → any ≡ false → Sofar any cells old new list (length cells) → Settled cells new list
@@ -116,7 +112,7 @@ decided cells marks ms list b fine h e d =
     let told = subst (λ xs. IsTrue b ↔ ((i : ℕ) → i < length xs → mark_in xs i ≢ Unseen)) e d in
     let w = h.marked in
     let same : mark_in marks ≡ mark_of w.order = fun_ext w.same in
-    let still : IsStill cells (mark_of w.order) = λ i c q k. subst (λ f. f i ≢ Unseen) same (h.still i (get_within cells i c q) c q (subst (λ f. next_mark c f ≢ Unseen) (sym same) k)) in
+    let still : IsStill cells (mark_of w.order) = λ i c q k. subst (λ f. f i ≢ Unseen) same (h.still i (slice_get_within cells i c q) c q (subst (λ f. next_mark c f ≢ Unseen) (sym same) k)) in
     let size = w.size in (
       λ t. marked_solvable cells fine w.order w.is_order (λ i l z. told.0 t i (omega arith) (w.same i ∙ z)),
       λ s. told.1 (λ i l z. (let lt : i < length cells = omega arith in all_marked cells s.by fine s.solves w.order w.is_order still i (get_or cells i (first_cell cells i lt)) (slice_get-get_or cells i (first_cell cells i lt) lt) (sym (w.same i) ∙ z))),

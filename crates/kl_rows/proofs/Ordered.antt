@@ -2,11 +2,12 @@
 use Rattle.std.proofs.Common.{◌≡◌, ◌≢◌, inl, inr, ⊎_elim, ℕ, ◌<◌, Bool, true, false, ◌&&◌, List, [], ◌∷◌, ◌++◌, length, Some, None, slice_get, refl, sym, ap, ◌∙◌, subst, arith, length-append, true≢false}
 use Rattle.std.specs.List.{AllByRecursion}
 use Rattle.std.proofs.lemmas.Bool.{cases_eq, eq-eqb, ne_eqb}
+use Rattle.std.proofs.lemmas.Option.{same_Some, slice_get_within}
 use Rattle.kl_base.specs.Fields.{field}
 use Rattle.kl_value.specs.declared.value.Kind.{Kind}
 use Rattle.kl_value.specs.declared.value.Kind.TheVariants as kind
 use Rattle.kl_type.specs.Ground.{Ground, Row, int, rec, var, coll, arrow, no_row, row, at, IsGround, IsRow}
-use Rattle.kl_type.proofs.RowLemmas.{put, put_row, at_put, at_put_other, at_there, one_row}
+use Rattle.kl_type.proofs.RowLemmas.{put, put_row, at_put, at_put_other, at_there, one_row, none_some}
 use Rattle.kl_rows.specs.declared.cell.Scalar.{Scalar}
 use Rattle.kl_rows.specs.declared.cell.Scalar.TheVariants as scalar
 use Rattle.kl_rows.specs.declared.cell.TypeNode.{TypeNode}
@@ -23,10 +24,11 @@ use Rattle.kl_rows.specs.Lists.{Fields}
 use Rattle.kl_rows.specs.Places.{Parts, a_row, IsPlaced, IsIn, Lacks, at_open, at_none, at_front, Differ, IsFine}
 use Rattle.kl_rows.specs.Solutions.{Assignment, Splits, scalar_type, TypeSays, FunctionSays, RowSays, KindSays, Says, Solves}
 use Rattle.kl_rows.specs.Finite.{Solvable, Order, mark_of, IsOrder, is_seen, full_if, full_only, all_seen, type_mark, front_mark, row_mark, next_mark}
-use Rattle.kl_rows.proofs.CellLists.{some_same, get_within, stands}
-use Rattle.kl_rows.proofs.ListLemmas.{Label, none_some, field_here, field_there}
+use Rattle.kl_rows.proofs.CellLists.{stands}
+use Rattle.kl_base.proofs.Each.{all_map}
+use Rattle.kl_rows.proofs.ListLemmas.{Label, field_here, field_there}
 use Rattle.kl_rows.proofs.Advancing.{row_of}
-use Rattle.kl_rows.proofs.Assigning.{all_on, parts_on, Off, type_off, function_off, row_off, kind_off, says_off, with_type, with_function, with_row, with_kind, type_put, function_put, row_put, kind_put}
+use Rattle.kl_rows.proofs.Assigning.{parts_on, Off, type_off, function_off, row_off, kind_off, says_off, with_type, with_function, with_row, with_kind, type_put, function_put, row_put, kind_put}
 
 Seen : Mark → Type 0
 Seen m = m ≡ Unseen → ⊥
@@ -208,7 +210,7 @@ module _ (ns : List Cell) (fine : IsFine ns) (K : ℕ → Bool) (start : Start n
       let p = front_parts fs (mark_of os) (mark_of os q) h in
       let st = stands ns q a_row (fine.placed i (OfRow (Front fs q)) e).1 in
       let node = row_of st.cell st.sort in
-      let f = fronted b.by fs (b.by.rows q) (b.by.rows_ground q) (all_on (λ g. Lacks ns g.0 q) (λ g. at g.0 (b.by.rows q) ≡ None) fs (λ g k. lacks_says g.0 k p.1) t.lack) t.differ in
+      let f = fronted b.by fs (b.by.rows q) (b.by.rows_ground q) (all_map (λ g. Lacks ns g.0 q) (λ g. at g.0 (b.by.rows q) ≡ None) fs (λ g k. lacks_says g.0 k p.1) t.lack) t.differ in
       record { row_new = f.whole; good = f.good; fits = f.splits; full = λ m z. front_full fs q node.0 f.whole (st.here ∙ ap Some node.1) (λ none. not_kept i q (start.bares i q (e ∙ ap (λ gs. Some (OfRow (Front gs q))) none)) off) f.good f.splits m z }
 
   new_kind : (n : KindNode) → (k : Kind) × KindSays n b.by k
@@ -242,15 +244,15 @@ module _ (ns : List Cell) (fine : IsFine ns) (K : ℕ → Bool) (start : Start n
       same = λ j k. (let o = b.same j k in let d = away no_keep j k in (off.types j d ∙ o.0, off.rows j d ∙ o.1, off.kinds j d ∙ o.2, off.functions j d ∙ o.3));
       held = λ j x e k. says_off i b.by u x j off (away no_keep j k) (parts_on x _ _ (away no_keep) (start.parts j x e k)) (b.held j x e k);
       says = λ j x e k. ⊎_elim
-          (λ same. subst (λ y. Says y u j) (some_same c x (sym here ∙ ap (slice_get ns) (sym same) ∙ e)) (subst (Says c u) (sym same) said))
+          (λ same. subst (λ y. Says y u j) (same_Some c x (sym here ∙ ap (slice_get ns) (sym same) ∙ e)) (subst (Says c u) (sym same) said))
           (λ d. (let k' = subst Seen (mark_old j d) k in says_off i b.by u x j off d (parts_on x _ _ not_new (b.parts j x e k')) (b.says j x e k')))
           (cases_eq j i);
       parts = λ j x e k. ⊎_elim
-          (λ same. subst (λ y. Parts y (λ p. Seen (mark_of ((i, m) ∷ os) p))) (some_same c x (sym here ∙ ap (slice_get ns) (sym same) ∙ e)) (parts_on c _ _ still_seen new_parts))
+          (λ same. subst (λ y. Parts y (λ p. Seen (mark_of ((i, m) ∷ os) p))) (same_Some c x (sym here ∙ ap (slice_get ns) (sym same) ∙ e)) (parts_on c _ _ still_seen new_parts))
           (λ d. parts_on x _ _ still_seen (b.parts j x e (subst Seen (mark_old j d) k)))
           (cases_eq j i);
       full = λ j n e away_j k z. ⊎_elim
-          (λ same. full n (some_same c (OfRow n) (sym here ∙ ap (slice_get ns) (sym same) ∙ e)) (sym mark_new ∙ sym (ap (mark_of ((i, m) ∷ os)) same) ∙ k) (ap u.rows (sym same) ∙ z))
+          (λ same. full n (same_Some c (OfRow n) (sym here ∙ ap (slice_get ns) (sym same) ∙ e)) (sym mark_new ∙ sym (ap (mark_of ((i, m) ∷ os)) same) ∙ k) (ap u.rows (sym same) ∙ z))
           (λ d. b.full j n e away_j (sym (mark_old j d) ∙ k) (sym (off.rows j d) ∙ z))
           (cases_eq j i);
     }
@@ -263,7 +265,7 @@ module _ (ns : List Cell) (fine : IsFine ns) (K : ℕ → Bool) (start : Start n
       held = b.held;
       says = λ j x e k. ⊎_elim (λ same. b.held j x e (ap K same ∙ keep)) (λ d. b.says j x e (subst Seen (mark_old j d) k)) (cases_eq j i);
       parts = λ j x e k. ⊎_elim
-          (λ same. subst (λ y. Parts y (λ p. Seen (mark_of ((i, m) ∷ os) p))) (some_same c x (sym here ∙ ap (slice_get ns) (sym same) ∙ e)) (parts_on c _ _ still_seen new_parts))
+          (λ same. subst (λ y. Parts y (λ p. Seen (mark_of ((i, m) ∷ os) p))) (same_Some c x (sym here ∙ ap (slice_get ns) (sym same) ∙ e)) (parts_on c _ _ still_seen new_parts))
           (λ d. parts_on x _ _ still_seen (b.parts j x e (subst Seen (mark_old j d) k)))
           (cases_eq j i);
       full = λ j n e away_j k z. ⊎_elim (λ same. absurd (true≢false (sym keep ∙ sym (ap K same) ∙ away_j))) (λ d. b.full j n e away_j (sym (mark_old j d) ∙ k) z) (cases_eq j i);
@@ -314,7 +316,7 @@ pub record Whole (ns : List Cell) (K : ℕ → Bool) (start : Start ns K) : Type
 
 pub started_solvable : (ns : List Cell) (K : ℕ → Bool) (start : Start ns K) → IsFine ns → (os : Order) → IsOrder ns os → ((i : ℕ) → i < length ns → mark_of os i ≡ Unseen → ⊥) → Whole ns K start
 unfolding Seen
-started_solvable ns K start f os h all = let b = build ns K start f os h in record { by = b.by; solves = record { each = λ i c e. b.says i c e (all i (get_within ns i c e)) }; same = b.same }
+started_solvable ns K start f os h all = let b = build ns K start f os h in record { by = b.by; solves = record { each = λ i c e. b.says i c e (all i (slice_get_within ns i c e)) }; same = b.same }
 
 no_start : (ns : List Cell) → Start ns (λ j. false)
 no_start ns = record { by = nothing; says = λ j c e k. absurd (true≢false (sym k)); parts = λ j c e k. absurd (true≢false (sym k)); variants = λ j r e k. k; bares = λ j r e k. k }

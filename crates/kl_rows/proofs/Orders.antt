@@ -1,6 +1,7 @@
 -- An order of marks as a list: each cell stands once, behind its parts.
 use Rattle.std.proofs.Common.{◌≡◌, ⊎_elim, ℕ, ◌+◌, ◌<◌, List, [], ◌∷◌, ◌++◌, length, Some, slice_get, refl, sym, ap, ◌∙◌, subst, arith, length-append}
 use Rattle.std.proofs.lemmas.Bool.{cases_eq, eq-eqb, ne_eqb}
+use Rattle.std.proofs.lemmas.Option.{same_Some, slice_get_within}
 use Rattle.kl_rows.specs.declared.cell.Cell.{Cell}
 use Rattle.kl_rows.specs.declared.finite.Mark.{Mark}
 use Rattle.kl_rows.specs.declared.finite.Mark.TheVariants.{Unseen}
@@ -8,7 +9,7 @@ use Rattle.kl_rows.specs.Places.{Parts}
 use Rattle.kl_rows.specs.Finite.{Order, mark_of, IsOrder, next_mark, listed, IsOrderOf}
 use Rattle.kl_rows.specs.Copying.{IsEarlier, InOrder}
 use Rattle.kl_rows.proofs.Assigning.{parts_on}
-use Rattle.kl_rows.proofs.CellLists.{get_within, get_last, get_first, get_end, some_same}
+use Rattle.kl_rows.proofs.CellLists.{get_last, get_first, get_end}
 use Rattle.kl_rows.proofs.Ordered.{parts_marked}
 
 record Place (list : List ℕ) (p : ℕ) : Type 0 where
@@ -44,7 +45,7 @@ module _ (cells : List Cell) where
 
   listed_within : (os : Order) → IsOrder cells os → (k p : ℕ) → slice_get (listed os) k ≡ Some p → p < length cells
   listed_within [] o k p h = let z : ⊥ = cc in absurd z
-  listed_within ((i, m) ∷ os) o k p h = ⊎_elim (λ g. listed_within os o.5 k p g) (λ g. subst (λ x. x < length cells) (sym g.1) (get_within cells i o.0 o.1)) (get_last (listed os) i k p h)
+  listed_within ((i, m) ∷ os) o k p h = ⊎_elim (λ g. listed_within os o.5 k p g) (λ g. subst (λ x. x < length cells) (sym g.1) (slice_get_within cells i o.0 o.1)) (get_last (listed os) i k p h)
 
   listed_once : (os : Order) → IsOrder cells os → (k m p : ℕ) → slice_get (listed os) k ≡ Some p → slice_get (listed os) m ≡ Some p → k ≡ m
   listed_once [] o k m p h g = let z : ⊥ = cc in absurd z
@@ -58,7 +59,7 @@ module _ (cells : List Cell) where
   listed_before ((j, m) ∷ os) o k i c h e = ⊎_elim
       (λ a. parts_on c (IsEarlier (listed os) k) (IsEarlier (listed ((j, m) ∷ os)) k) (λ p g. (g.0, g.1, get_first (listed os) j g.0 p g.2)) (listed_before os o.5 k i c a e))
       (λ a.
-      let same : o.0 ≡ c = some_same o.0 c (sym o.1 ∙ ap (slice_get cells) (sym a.1) ∙ e) in
+      let same : o.0 ≡ c = same_Some o.0 c (sym o.1 ∙ ap (slice_get cells) (sym a.1) ∙ e) in
       let told : next_mark c (mark_of os) ≡ Unseen → ⊥ = λ u. o.3 (o.2 ∙ ap (λ x. next_mark x (mark_of os)) same ∙ u) in
       parts_on c (λ p. mark_of os p ≡ Unseen → ⊥) (IsEarlier (listed ((j, m) ∷ os)) k)
       (λ p u. (let r = seen_listed os p u in let l = r.within in let end : k ≡ length (listed os) = a.0 in (r.at, omega arith, get_first (listed os) j r.at p r.here)))

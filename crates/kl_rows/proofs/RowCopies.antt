@@ -4,7 +4,7 @@ use Rattle.std.specs.List.{AllByRecursion}
 use Rattle.std.specs.Cmp.Lexicographic.{pointwise}
 use Rattle.kl_base.specs.Fields.{field}
 use Rattle.kl_type.specs.Ground.{Ground, Row, at, IsRow}
-use Rattle.kl_type.proofs.RowLemmas.{told, one_row, drops, at_drops, drops_row, same_label}
+use Rattle.kl_type.proofs.RowLemmas.{told, one_row, drops, at_drops, drops_row, same_label, none_some}
 use Rattle.kl_rows.specs.declared.cell.TypeNode.TheVariants.{TypeLink}
 use Rattle.kl_rows.specs.declared.cell.KindNode.TheVariants.{KindLink}
 use Rattle.kl_rows.specs.declared.cell.RowNode.TheVariants.{Front}
@@ -21,7 +21,7 @@ use Rattle.kl_rows.proofs.Advancing.{KeepsRows, agrees_refl, keeps_refl, keeps_o
 use Rattle.kl_rows.proofs.CellLists.{get_first, get_last, sort_within}
 use Rattle.kl_rows.proofs.Expansions.{pushed}
 use Rattle.kl_rows.proofs.Growing.{grown_with, grown_type, grown_function, grown_row, grown_kind, parts_within}
-use Rattle.kl_rows.proofs.ListLemmas.{Label, none_some, field_here, field_there}
+use Rattle.kl_rows.proofs.ListLemmas.{Label, field_here, field_there}
 use Rattle.kl_rows.proofs.Ordered.{labels_apart}
 
 -- one plain cell
@@ -62,6 +62,17 @@ apart_field l m t fs h e = none_some t ⊥ (sym h ∙ field_here m l t fs e)
 field_more : (l m : Label) (t : ℕ) (fs : Fields) → m ≢ l → field m fs ≡ None → field m ((l, t) ∷ fs) ≡ None
 field_more l m t fs d h = field_there m l t fs d ∙ h
 
+-- a row without a label
+module _ (l : Label) where
+  abbrev pub rest_of : Row → Row
+  rest_of w = drops (λ m. pointwise nat_eq l m) w
+
+  pub at_rest_of : (w : Row) (m : Label) → l ≢ m → at m (rest_of w) ≡ at m w
+  at_rest_of w m d = ⊎_elim (λ p. absurd (d p.1)) (λ p. at_drops (λ k. pointwise nat_eq l k) m w ∙ ap (λ b. cond b None (at m w)) p.0) (told l m)
+
+  pub none_rest_of : (w : Row) → at l (rest_of w) ≡ None
+  none_rest_of w = at_drops (λ k. pointwise nat_eq l k) l w ∙ ap (λ b. cond b None (at l w)) (same_label l)
+
 module _ (types : ℕ → Ground) (l : Label) (t : ℕ) (done : Fields) where
   fronts_through : (w e r : Row) (fs : Fields) → AllByRecursion (λ g. g.0 ≢ l) fs → Splits ((l, t) ∷ []) types w e → AllByRecursion (λ f. (at f.0 e ≡ Some (types f.1)) × (at f.0 r ≡ None)) fs
       → AllByRecursion (λ f. (at f.0 w ≡ Some (types f.1)) × (at f.0 r ≡ None)) fs
@@ -75,33 +86,24 @@ module _ (types : ℕ → Ground) (l : Label) (t : ℕ) (done : Fields) where
     others = λ m h. (let d = apart_field l m t done h in a.others m (field_more l m t [] d refl) ∙ b.others m (sym (field_there m l t done d) ∙ h));
   }
 
-  abbrev rest_of : Row → Row
-  rest_of w = drops (λ m. pointwise nat_eq l m) w
-
-  at_rest_of : (w : Row) (m : Label) → l ≢ m → at m (rest_of w) ≡ at m w
-  at_rest_of w m d = ⊎_elim (λ p. absurd (d p.1)) (λ p. at_drops (λ k. pointwise nat_eq l k) m w ∙ ap (λ b. cond b None (at m w)) p.0) (told l m)
-
-  none_rest_of : (w : Row) → at l (rest_of w) ≡ None
-  none_rest_of w = at_drops (λ k. pointwise nat_eq l k) l w ∙ ap (λ b. cond b None (at l w)) (same_label l)
-
   fronts_rest : (w r : Row) (fs : Fields) → AllByRecursion (λ g. g.0 ≢ l) fs → AllByRecursion (λ f. (at f.0 w ≡ Some (types f.1)) × (at f.0 r ≡ None)) fs
-      → AllByRecursion (λ f. (at f.0 (rest_of w) ≡ Some (types f.1)) × (at f.0 r ≡ None)) fs
+      → AllByRecursion (λ f. (at f.0 (rest_of l w) ≡ Some (types f.1)) × (at f.0 r ≡ None)) fs
   fronts_rest w r [] off h = tt
-  fronts_rest w r (f ∷ fs) off h = ((at_rest_of w f.0 (λ e. off.0 (sym e)) ∙ h.0.0, h.0.1), fronts_rest w r fs off.1 h.1)
+  fronts_rest w r (f ∷ fs) off h = ((at_rest_of l w f.0 (λ e. off.0 (sym e)) ∙ h.0.0, h.0.1), fronts_rest w r fs off.1 h.1)
 
   -- a row without its first field
-  splits_first : (w r : Row) → Splits ((l, t) ∷ done) types w r → Splits ((l, t) ∷ []) types w (rest_of w)
+  splits_first : (w r : Row) → Splits ((l, t) ∷ done) types w r → Splits ((l, t) ∷ []) types w (rest_of l w)
   splits_first w r h = record {
-    fronts = ((h.fronts.0.0, none_rest_of w), tt);
-    others = λ m n. (let d = apart_field l m t [] n in sym (at_rest_of w m (λ e. d (sym e))));
+    fronts = ((h.fronts.0.0, none_rest_of l w), tt);
+    others = λ m n. (let d = apart_field l m t [] n in sym (at_rest_of l w m (λ e. d (sym e))));
   }
 
-  splits_rest : (w r : Row) → field l done ≡ None → Splits ((l, t) ∷ done) types w r → Splits done types (rest_of w) r
+  splits_rest : (w r : Row) → field l done ≡ None → Splits ((l, t) ∷ done) types w r → Splits done types (rest_of l w) r
   splits_rest w r none h = record {
     fronts = fronts_rest w r done (labels_apart l done none) h.fronts.1;
     others = λ m n. ⊎_elim
-        (λ p. ap (λ k. at k (rest_of w)) (sym p.1) ∙ none_rest_of w ∙ sym h.fronts.0.1 ∙ ap (λ k. at k r) p.1)
-        (λ p. at_rest_of w m p.1 ∙ h.others m (field_more l m t done (λ e. p.1 (sym e)) n))
+        (λ p. ap (λ k. at k (rest_of l w)) (sym p.1) ∙ none_rest_of l w ∙ sym h.fronts.0.1 ∙ ap (λ k. at k r) p.1)
+        (λ p. at_rest_of l w m p.1 ∙ h.others m (field_more l m t done (λ e. p.1 (sym e)) n))
         (told l m);
   }
 
@@ -187,11 +189,11 @@ split_more old now new r fields left after rest p f block fine can e b x q0 =
       settled = λ h. t.settled (x.settled h);
       up = λ s h. (let a = t.up s h in let b = x.up s a.0 in (b.0, splits_more s.types f.0 f.1 x.done (s.rows p) (s.rows rest) (s.rows r) none a.1 b.1));
       down = λ s w h g sp.
-          grown_with old now new s _ _ k.grows (x.down s (rest_of s.types f.0 f.1 x.done w) h (drops_row (λ m. pointwise nat_eq f.0 m) w g) (splits_rest s.types f.0 f.1 x.done w (s.rows r) none sp))
+          grown_with old now new s _ _ k.grows (x.down s (rest_of f.0 w) h (drops_row (λ m. pointwise nat_eq f.0 m) w g) (splits_rest s.types f.0 f.1 x.done w (s.rows r) none sp))
           (λ v o c d.
           let first = splits_first s.types f.0 f.1 x.done w (s.rows r) sp in
           grown_row now new p x.fine (Front (f ∷ []) rest) make (pushed now new (OfRow (Front (f ∷ []) rest)) p x.fine make q) v c w g
-          (subst (Splits (f ∷ []) v.types w) (sym d) (record { fronts = fronts_agree s.types v.types (f ∷ []) w (rest_of s.types f.0 f.1 x.done w) (o.types f.1 within, tt) first.fronts; others = first.others })));
+          (subst (Splits (f ∷ []) v.types w) (sym d) (record { fronts = fronts_agree s.types v.types (f ∷ []) w (rest_of f.0 w) (o.types f.1 within, tt) first.fronts; others = first.others })));
     }
   where
     both_all : (xs : Fields) → AllByRecursion (λ g. g.0 ≢ f.0) xs → AllByRecursion (λ g. Lacks now g.0 rest) xs → ((m : Label) → m ≢ f.0 → Lacks now m rest → Lacks new m p) → AllByRecursion (λ g. Lacks new g.0 p) xs

@@ -1,9 +1,11 @@
 -- Two ends of rows before one rest.
-use Rattle.std.proofs.Common.{◌≡◌, ◌⊎◌, inl, inr, ⊎_elim, ℕ, zero, suc, ◌+◌, ◌<◌, ◌≤◌, Bool, true, false, ◌&&◌, List, [], ◌∷◌, ◌++◌, length, Option, Some, None, slice_get, nat_eq, refl, sym, ap, ◌∙◌, subst, arith, length-set, length-append}
+use Rattle.std.proofs.Common.{◌≡◌, ◌⊎◌, inl, inr, ⊎_elim, ℕ, zero, suc, ◌+◌, ◌<◌, ◌≤◌, Bool, true, false, ◌&&◌, List, [], ◌∷◌, ◌++◌, length, Option, Some, None, slice_get, refl, sym, ap, ◌∙◌, subst, arith, length-set, length-append}
 use Rattle.std.specs.List.{AllByRecursion, list_all}
 use Rattle.std.specs.Option.{is_none}
 use Rattle.std.proofs.Math.ListN.{set}
-use Rattle.std.proofs.lemmas.Bool.{cases_eq, eq-eqb, ne_eqb}
+use Rattle.std.proofs.lemmas.Bool.{cases_eq, and_parts}
+use Rattle.std.proofs.lemmas.Option.{same_Some, slice_get_within}
+use Rattle.std.proofs.lemmas.List.{append-nil}
 use Rattle.kl_base.specs.Fields.{field}
 use Rattle.kl_type.specs.Ground.{Ground, Row, no_row, rec, var, coll, arrow, at, IsRow}
 use Rattle.kl_rows.specs.declared.cell.TypeNode.TheVariants.{AnyType, Base, Rec, Var, Coll, TypeLink}
@@ -17,13 +19,13 @@ use Rattle.kl_rows.specs.Places.{a_type, a_row, a_kind, sort_of, IsRowAt, AreTyp
 use Rattle.kl_rows.specs.Solutions.{Assignment, Splits, RowSays, Says, Solves}
 use Rattle.kl_rows.specs.Steps.{Agrees, Keeps, Advances, Shares}
 use Rattle.kl_rows.specs.Joining.{or_no_row, cell_at, is_empty, may_take, is_open, lacks_at, AreApart}
-use Rattle.kl_rows.proofs.CellLists.{get_within, get_last, get_first, get_end, some_same, total_set, total_push, stands, sort_here, sort_within}
-use Rattle.kl_rows.proofs.ListLemmas.{Label, none_some, Looked, found, missing, look, field_here}
+use Rattle.kl_rows.proofs.CellLists.{get_last, get_first, get_end, total_set, total_push, stands, sort_here, sort_within, row_same}
+use Rattle.kl_rows.proofs.ListLemmas.{Label, no_no, Looked, found, missing, look, field_here}
 use Rattle.kl_rows.proofs.Meeting.{at_whole, at_rest}
-use Rattle.kl_rows.proofs.Advancing.{Fact, Goes, advances, stays, never, then, sets, set_here, set_there, set_keeps, set_was, set_placed, set_roots, keeps_on, types_keep, placed_keeps, Reaches, walk_kept, lacks_kept, tidy_kept, all_map, Others}
-
-row_same : (m n : RowNode) → Some (OfRow m) ≡ Some (OfRow n) → m ≡ n
-row_same m n h = cc
+use Rattle.kl_rows.proofs.Advancing.{Fact, Goes, advances, stays, never, then, sets, set_here, set_there, set_keeps, set_was, set_placed, set_roots, keeps_on, types_keep, placed_keeps, Reaches, walk_kept, lacks_kept, tidy_kept, Others}
+use Rattle.kl_rows.proofs.Assigning.{Off, with_row, row_put}
+use Rattle.kl_type.proofs.RowLemmas.{none_some}
+use Rattle.kl_base.proofs.Each.{all_append, all_map}
 
 end_unchained : (n : RowNode) → IsEnd n → chained_one (OfRow n) ≡ 0
 end_unchained (AnyRow ls) h = refl
@@ -95,7 +97,7 @@ module _ (ns : List Cell) (e r : ℕ) (n : RowNode) (fs : Fields) (fine : IsFine
 
   tidy_at : (i : ℕ) (gs : Fields) (q : ℕ) → slice_get closed i ≡ Some (OfRow (Front gs q)) → IsTidy closed gs q
   tidy_at i gs q h = ⊎_elim
-      (λ same. (let p = front_same gs q (some_same _ _ (sym closed_here ∙ ap (slice_get closed) same ∙ h)) in subst (λ x. IsTidy closed x q) p.0 (subst (IsTidy closed fs) p.1 (tidy_closed fs r tidy))))
+      (λ same. (let p = front_same gs q (same_Some _ _ (sym closed_here ∙ ap (slice_get closed) same ∙ h)) in subst (λ x. IsTidy closed x q) p.0 (subst (IsTidy closed fs) p.1 (tidy_closed fs r tidy))))
       (λ off. tidy_closed gs q (fine.tidy i gs q (sym (closed_there i off) ∙ h)))
       (cases_eq e i)
 
@@ -127,32 +129,13 @@ module _ (ns : List Cell) (e r : ℕ) (n : RowNode) (fs : Fields) (fine : IsFine
   closed_roots = omega (arith, set_roots ns e (OfRow n) (OfRow (Front fs r)) here refl)
 
 -- another row for one number
-put_at : Bool → Row → Row → Row
-put_at true r q = r
-put_at false r q = q
+put_same : (s : Assignment) (n : ℕ) (r : Row) (g : IsRow r) → (with_row s n r g).rows n ≡ r
+put_same s n r g = (row_put s n r g).1
 
-put_ground : (b : Bool) (r q : Row) → IsRow r → IsRow q → IsRow (put_at b r q)
-unfolding put_at
-put_ground true r q h k = h
-put_ground false r q h k = k
-
-pub put_row : Assignment → ℕ → (r : Row) → IsRow r → Assignment
-put_row s n r g = record {
-  types = s.types;
-  functions = s.functions;
-  rows = λ i. put_at (nat_eq i n) r (s.rows i);
-  kinds = s.kinds;
-  types_ground = s.types_ground;
-  rows_ground = λ i. put_ground (nat_eq i n) r (s.rows i) g (s.rows_ground i);
-}
-
-put_same : (s : Assignment) (n : ℕ) (r : Row) (g : IsRow r) → (put_row s n r g).rows n ≡ r
-unfolding put_row put_at
-put_same s n r g = rw (eq-eqb n n refl) refl
-
-put_agrees : (s : Assignment) (n : ℕ) (r : Row) (g : IsRow r) → Agrees n s (put_row s n r g)
-unfolding put_row put_at
-put_agrees s n r g = record { types = λ i h. refl; functions = λ i h. refl; rows = λ i h. (let d : i ≡ n → ⊥ = λ e. omega arith in rw (ne_eqb i n d) refl); kinds = λ i h. refl }
+put_agrees : (s : Assignment) (n : ℕ) (r : Row) (g : IsRow r) → Agrees n s (with_row s n r g)
+put_agrees s n r g =
+    let o : Off n s (with_row s n r g) = (row_put s n r g).0 in
+    record { types = λ i h. o.types i (λ e. omega arith); functions = λ i h. o.functions i (λ e. omega arith); rows = λ i h. o.rows i (λ e. omega arith); kinds = λ i h. o.kinds i (λ e. omega arith) }
 
 fronts_agree : (ns : List Cell) (fs : Fields) (s u : Assignment) (w e : Row) → AreTypes ns fs → Agrees (length ns) s u → AllByRecursion (λ f. (at f.0 w ≡ Some (s.types f.1)) × (at f.0 e ≡ None)) fs
     → AllByRecursion (λ f. (at f.0 w ≡ Some (u.types f.1)) × (at f.0 e ≡ None)) fs
@@ -183,7 +166,7 @@ says_agree ns i (OfKind (Fixed j)) s u l p a h = a.kinds i l ∙ h
 says_agree ns i (OfKind (KindLink x)) s u l p a h = a.kinds i l ∙ h ∙ sym (a.kinds x (sort_within ns x a_kind p.1))
 
 pub solves_agree : (ns : List Cell) (s u : Assignment) → IsFine ns → Agrees (length ns) s u → Solves ns s → Solves ns u
-solves_agree ns s u f a h = record { each = λ i c e. says_agree ns i c s u (get_within ns i c e) (f.placed i c e) a (h.each i c e) }
+solves_agree ns s u f a h = record { each = λ i c e. says_agree ns i c s u (slice_get_within ns i c e) (f.placed i c e) a (h.each i c e) }
 
 -- a fresh row
 module _ (ns : List Cell) (ls : List Label) (fine : IsFine ns) where
@@ -241,7 +224,7 @@ module _ (ns : List Cell) (ls : List Label) (fine : IsFine ns) where
     keeps = pushed_keeps;
     down = λ s h d.
         let w = go s h d in
-        let u = put_row s (length ns) w.0 w.1 in
+        let u = with_row s (length ns) w.0 w.1 in
         let a = put_agrees s (length ns) w.0 w.1 in
         let e = put_same s (length ns) w.0 w.1 in (
           refl,
@@ -255,13 +238,9 @@ none_is : (o : Option ℕ) → is_none o ≡ true → o ≡ None
 none_is None h = refl
 none_is (Some t) h = let e : ⊥ = cc in absurd e
 
-and_true : (a b : Bool) → (a && b) ≡ true → (a ≡ true) × (b ≡ true)
-and_true true b h = (refl, h)
-and_true false b h = let e : ⊥ = cc in absurd e
-
 all_lacked : (ty : ℕ → Ground) (fs : Fields) (w e : Row) (ls : List Label) → Splits fs ty w e → list_all (λ l. is_none (field l fs)) ls ≡ true → AllByRecursion (λ l. at l e ≡ None) ls → AllByRecursion (λ l. at l w ≡ None) ls
 all_lacked ty fs w e [] h k p = tt
-all_lacked ty fs w e (l ∷ ls) h k p = let both = and_true _ _ k in (h.others l (none_is _ both.0) ∙ p.0, all_lacked ty fs w e ls h both.1 p.1)
+all_lacked ty fs w e (l ∷ ls) h k p = let both = and_parts _ _ k in (h.others l (none_is _ both.0) ∙ p.0, all_lacked ty fs w e ls h both.1 p.1)
 
 one_lacked : (ty : ℕ → Ground) (fs : Fields) (w e : Row) (l : Label) (o : Option ℕ) (b : Bool) → Splits fs ty w e → field l fs ≡ o → (is_none o && b) ≡ false → at l w ≡ None → (b ≡ false → ⊥) → ⊥
 one_lacked ty fs w e l (Some t) b h q c p more = none_some _ ⊥ (sym p ∙ at_whole ty fs w e l t h q)
@@ -301,7 +280,7 @@ open_lacks ns l i ls h (at_front fs r e d k) = open_not ls (Front fs r) (sym h �
 
 taken_none : (fs : Fields) (l : Label) (ls : List Label) → IsIn l ls → list_all (λ m. is_none (field m fs)) ls ≡ true → field l fs ≡ None
 taken_none fs l [] d h = absurd d
-taken_none fs l (m ∷ ms) d h = let both = and_true _ _ h in ⊎_elim (λ e. subst (λ k. field k fs ≡ None) (sym e) (none_is _ both.0)) (λ k. taken_none fs l ms k both.1) d
+taken_none fs l (m ∷ ms) d h = let both = and_parts _ _ h in ⊎_elim (λ e. subst (λ k. field k fs ≡ None) (sym e) (none_is _ both.0)) (λ k. taken_none fs l ms k both.1) d
 
 in_left : (l : Label) (ls ms : List Label) → IsIn l ls → IsIn l (ls ++ ms)
 in_left l [] ms d = absurd d
@@ -378,10 +357,10 @@ module _ (ns : List Cell) (a b : ℕ) (fs gs : Fields) (ls ms : List Label) (fin
   full = set half b (OfRow (Front gs (length ns)))
 
   a_in : a < length ns
-  a_in = get_within ns a (OfRow (AnyRow ls)) ha
+  a_in = slice_get_within ns a (OfRow (AnyRow ls)) ha
 
   b_in : b < length ns
-  b_in = get_within ns b (OfRow (AnyRow ms)) hb
+  b_in = slice_get_within ns b (OfRow (AnyRow ms)) hb
 
   a_off : a ≡ length ns → ⊥
   a_off e = let l = a_in in omega arith
@@ -445,10 +424,6 @@ module _ (ns : List Cell) (a b : ℕ) (fs gs : Fields) (ls ms : List Label) (fin
   right_part [] ys P h = h
   right_part (x ∷ xs) ys P h = right_part xs ys P h.1
 
-  both_parts : (xs ys : List Label) (P : Label → Type 0) → AllByRecursion P xs → AllByRecursion P ys → AllByRecursion P (xs ++ ys)
-  both_parts [] ys P h k = k
-  both_parts (x ∷ xs) ys P h k = (h.0, both_parts xs ys P h.1 k)
-
   -- the rest lacks what the whole lacks
   rest_lacks : (ty : ℕ → Ground) (hs : Fields) (w r : Row) (xs : List Label) → Splits hs ty w r → AllByRecursion (λ l. at l w ≡ None) xs → AllByRecursion (λ l. at l r ≡ None) xs
   rest_lacks ty hs w r [] h k = tt
@@ -466,7 +441,7 @@ module _ (ns : List Cell) (a b : ℕ) (fs gs : Fields) (ls ms : List Label) (fin
       (λ s h d. (
         d.rest,
         d.good,
-        both_parts ls ms (λ l. at l d.rest ≡ None) (rest_lacks s.types fs (s.rows a) d.rest ls d.on_first (h.each a (OfRow (AnyRow ls)) ha)) (rest_lacks s.types gs (s.rows b) d.rest ms d.on_second (h.each b (OfRow (AnyRow ms)) hb)),
+        all_append (λ l. at l d.rest ≡ None) ls ms (rest_lacks s.types fs (s.rows a) d.rest ls d.on_first (h.each a (OfRow (AnyRow ls)) ha)) (rest_lacks s.types gs (s.rows b) d.rest ms d.on_second (h.each b (OfRow (AnyRow ms)) hb)),
         λ u ag e. (shifted s u ag fs a d.rest a_in types_a e d.on_first, (shifted s u ag gs b d.rest b_in types_b e d.on_second, tt)),
       ))
       (λ s h d. record { rest = s.rows (length ns); good = s.rows_ground (length ns); on_first = d.0; on_second = d.1.0 })
@@ -507,10 +482,7 @@ told_open ns ns' i b h e q =
     sym (q ∙ ap is_open here)
 
 pub end_within : (ns : List Cell) (i : ℕ) → EndsAt ns i → i < length ns
-end_within ns i h = get_within ns i (OfRow h.node) h.here
-
-no_no : {A : Type 0} → true ≡ false → A
-no_no h = let e : ⊥ = cc in absurd e
+end_within ns i h = slice_get_within ns i (OfRow h.node) h.here
 
 Ends : Bool → List Cell → List Cell → Fields → Fields → ℕ → ℕ → Type 0
 Ends ans ns new fs gs a b = Advances ans ns new (Shares fs gs a b) (λ s. Unit {0})
@@ -593,17 +565,13 @@ within_set ns one two i j c d h e f = let l = within_push ns one i c h e in omeg
 pub end_row : (ns : List Cell) (i : ℕ) → EndsAt ns i → IsRowAt ns i
 end_row ns i h = sort_here ns i (OfRow h.node) h.here
 
-append_none : {A : Type 0} (xs : List A) → xs ++ [] ≡ xs
-append_none [] = refl
-append_none (x ∷ xs) = ap (λ ys. x ∷ ys) (append_none xs)
-
 lacks_none : (n : RowNode) → ((ls : List Label) → n ≡ AnyRow ls → ⊥) → lacks_at (OfRow n) ≡ []
 lacks_none (AnyRow ls) off = absurd (off ls refl)
 lacks_none NoRow off = refl
 lacks_none (Front fs r) off = refl
 
 pub no_lacks : (ns : List Cell) (i : ℕ) (n : RowNode) (xs : List Label) → slice_get ns i ≡ Some (OfRow n) → ((ls : List Label) → n ≡ AnyRow ls → ⊥) → xs ≡ xs ++ lacks_at (cell_at ns i)
-no_lacks ns i n xs h off = sym (ap (λ c. xs ++ lacks_at (or_no_row c)) h ∙ ap (λ ys. xs ++ ys) (lacks_none n off) ∙ append_none xs)
+no_lacks ns i n xs h off = sym (ap (λ c. xs ++ lacks_at (or_no_row c)) h ∙ ap (λ ys. xs ++ ys) (lacks_none n off) ∙ append-nil xs)
 
 pub some_lacks : (ns : List Cell) (i : ℕ) (n : RowNode) (xs ys ls : List Label) → slice_get ns i ≡ Some (OfRow n) → n ≡ AnyRow ls → ys ≡ xs ++ ls → ys ≡ xs ++ lacks_at (cell_at ns i)
 some_lacks ns i n xs ys ls h e f = f ∙ sym (ap (λ c. xs ++ lacks_at (or_no_row c)) h ∙ ap (λ m. xs ++ lacks_at (OfRow m)) e)

@@ -1,6 +1,7 @@
 -- Schemes that are settled, and their instances.
 use Rattle.std.proofs.Common.{◌≡◌, ℕ, ◌<◌, Bool, true, List, [], length, Option, Some, None, slice_get, inl, inr, refl, sym, ap, ◌∙◌, subst, arith}
 use Rattle.std.specs.List.{AllByRecursion}
+use Rattle.std.proofs.lemmas.Option.{same_Some, slice_get_within}
 use Rattle.kl_type.specs.Ground.{Ground, arrow, IsGround}
 use Rattle.kl_rows.specs.declared.cell.TypeNode.TheVariants.{Var}
 use Rattle.kl_rows.specs.declared.cell.RowNode.TheVariants.{Front}
@@ -16,7 +17,7 @@ use Rattle.kl_rows.specs.Keeping.{Needs}
 use Rattle.kl_rows.specs.Copying.{IsSettled, number_in, pulled, IsSource, IsEarlier, InOrder, kept_in, IsClosed, SameOn, Copies}
 use Rattle.kl_rows.specs.Schemes.{cells_of, IsBasePart, given, Instance, IsScheme, Settles, Instantiates, Tabled, CountsTo, KeepsAll}
 use Rattle.kl_rows.proofs.Assigning.{parts_on}
-use Rattle.kl_rows.proofs.CellLists.{get_within, some_same, stands, sort_here, sort_within}
+use Rattle.kl_rows.proofs.CellLists.{stands, sort_here, sort_within}
 use Rattle.kl_rows.proofs.Growing.{grown_map, parts_within}
 use Rattle.kl_rows.proofs.Ordered.{Start, started_solvable}
 
@@ -29,7 +30,7 @@ empty_fine cells e = subst IsFine (sym e) (record { tidy = λ i fs r h. (let z :
 empty_settled : (cells : List Cell) → cells ≡ [] → IsSettled cells
 empty_settled cells e = subst IsSettled (sym e) (record { plain = λ i c h. (let z : ⊥ = cc in absurd z); before = λ i c h. (let z : ⊥ = cc in absurd z) })
 
-empty_solved : (cells : List Cell) (s : Assignment) → cells ≡ [] → Solves cells s
+pub empty_solved : (cells : List Cell) (s : Assignment) → cells ≡ [] → Solves cells s
 empty_solved cells s e = subst (λ cs. Solves cs s) (sym e) (record { each = λ i c h. (let z : ⊥ = cc in absurd z) })
 
 pub copies_settled : (kept : List Bool) (cells none table : List Cell) (numbers : List ℕ) → none ≡ [] → Copies kept cells none table numbers → IsSettled table
@@ -117,11 +118,11 @@ scheme_source scheme table e g = subst IsSource (sym e) (record { placed = g.pla
 pub scheme_order : (scheme : Scheme) (table : List Cell) (n : ℕ) (list : List ℕ) → table ≡ cells_of scheme.nodes → n ≡ length table → IsScheme scheme → CountsTo n list → InOrder table list
 scheme_order scheme table n list e m g h =
     let size = h.size in
-    let is : (k i : ℕ) → slice_get list k ≡ Some i → i ≡ k = λ k i q. (let l = get_within list k i q in some_same i k (sym q ∙ h.each k (omega arith))) in
+    let is : (k i : ℕ) → slice_get list k ≡ Some i → i ≡ k = λ k i q. (let l = slice_get_within list k i q in same_Some i k (sym q ∙ h.each k (omega arith))) in
     let before : (i : ℕ) (c : Cell) → slice_get table i ≡ Some c → Parts c (λ p. p < i) = subst (λ cs. (i : ℕ) (c : Cell) → slice_get cs i ≡ Some c → Parts c (λ p. p < i)) (sym e) g.before in
     record {
-      within = λ k i q. (let l = get_within list k i q in let s = is k i q in omega arith);
-      before = λ k i c q d. (let s = is k i q in let l = get_within list k i q in parts_on c (λ p. p < i) (IsEarlier list k) (λ p b. (p, omega arith, h.each p (omega arith))) (before i c d));
+      within = λ k i q. (let l = slice_get_within list k i q in let s = is k i q in omega arith);
+      before = λ k i c q d. (let s = is k i q in let l = slice_get_within list k i q in parts_on c (λ p. p < i) (IsEarlier list k) (λ p b. (p, omega arith, h.each p (omega arith))) (before i c d));
       once = λ k j i q d. sym (is k i q) ∙ is j i d;
       all = λ i l. (i, h.each i (omega arith));
     }
@@ -150,7 +151,7 @@ instantiates scheme table old new n kept numbers i e m g h x r =
             a.0,
             record {
               by = pulled numbers s;
-              solves = subst (λ cs. Solves cs (pulled numbers s)) e (record { each = λ j c q. a.1 j c (let l = get_within table j c q in h.each j (omega arith)) q });
+              solves = subst (λ cs. Solves cs (pulled numbers s)) e (record { each = λ j c q. a.1 j c (let l = slice_get_within table j c q in h.each j (omega arith)) q });
               root_is = ap (λ q. given q (pulled numbers s) scheme.root) (sym (sorts ∙ same)) ∙ given_same (sort_at new i) (pulled numbers s) s scheme.root (number_in numbers scheme.root) refl refl ∙ ap (given (sort_at new i) s) (sym r);
             },
           );

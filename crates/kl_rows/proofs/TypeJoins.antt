@@ -20,7 +20,8 @@ use Rattle.kl_rows.specs.Places.{IsPlaced, IsFine, open_one, roots}
 use Rattle.kl_rows.specs.Solutions.{Assignment, scalar_type, TypeSays, KindSays}
 use Rattle.kl_rows.specs.Steps.{Advances, Keeps}
 use Rattle.kl_rows.specs.Walking.{IsTypeRoot, IsKindRoot, HasType, HasKind, TypeRoot, KindRoot}
-use Rattle.kl_rows.specs.Joining.{kept, kept_kind, same_scalar, same_kind, either, compared, same_kinds, TaskAsks, IsWithin, Joins}
+use Rattle.kl_type.specs.Parts.{same_kind}
+use Rattle.kl_rows.specs.Joining.{kept, kept_kind, same_scalar, either, compared, same_kinds, TaskAsks, IsWithin, Joins}
 use Rattle.kl_rows.proofs.CellLists.{sort_here}
 use Rattle.kl_rows.proofs.Advancing.{Goes, advances, then, sets, set_there, set_stays, set_keeps, set_fine, set_roots, keeps_on, placed_keeps, absurd_true}
 

@@ -14,7 +14,7 @@ pub record Pushes (old new : List Cell) (c : Cell) (at : ℕ) : Type 0 where
   pub added : new ≡ old ++ c ∷ []
 
 -- each new solution is an old one and gives the number this type, and each old one grows to a new one
-pub record Gives (old new : List Cell) (i : ℕ) (t : Ground) : Type 0 where
+pub record GivesType (old new : List Cell) (i : ℕ) (t : Ground) : Type 0 where
   pub fine : IsFine new
   pub keeps : Keeps old new
   pub sort : IsType new i
@@ -38,7 +38,7 @@ pub record GivesFields (old new : List Cell) (numbers : Fields) (r : Row) : Type
   pub down : (s : Assignment) → Solves old s → Grown old new s (λ u. Unit {0})
 
 pub record Expands (old new : List Cell) (i : ℕ) (t : Ty) : Type 0 where
-  pub gives : IsFine old → IsProper t → Gives old new i (ground_of t)
+  pub gives : IsFine old → IsProper t → GivesType old new i (ground_of t)
 
 pub record ExpandsRow (old new : List Cell) (i : ℕ) (fs : List (List ℕ × Ty)) : Type 0 where
   pub gives : IsFine old → IsRow (row_by ground_of fs) → GivesRow old new i (row_by ground_of fs)

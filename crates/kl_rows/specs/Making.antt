@@ -1,7 +1,7 @@
 -- New numbers, and what is said of them.
 use Rattle.std.specs.Prelude.{◌≡◌, ◌↔◌, ℕ, Bool, IsTrue, List, [], ◌∷◌, length, Option, Some, None}
 use Rattle.kl_type.specs.Ground.{ground_of, IsProper}
-use Rattle.kl_rows.specs.Expanding.{Gives}
+use Rattle.kl_rows.specs.Expanding.{GivesType}
 use Rattle.kl_rows.specs.declared.cell.TypeNode.TheVariants.{Rec, Var, Coll}
 use Rattle.kl_rows.specs.declared.cell.KindNode.TheVariants.{Fixed}
 use Rattle.kl_rows.specs.declared.cell.RowNode.TheVariants.{NoRow, Front}
@@ -45,7 +45,7 @@ CanMakeNode cells (node.Fixed k) = CanMake cells (OfKind (Fixed k))
 
 -- what `make` does for a node: one cell more, or the cells of a type without variables
 abbrev pub MakesNode : List Cell → List Cell → ℕ → Node → Type 0
-MakesNode old new i (node.Base t) = Gives old new i (ground_of t)
+MakesNode old new i (node.Base t) = GivesType old new i (ground_of t)
 MakesNode old new i (node.Rec r) = Adds old new (OfType (Rec r)) i
 MakesNode old new i (node.Var r) = Adds old new (OfType (Var r)) i
 MakesNode old new i (node.Coll k t) = Adds old new (OfType (Coll k t)) i

@@ -25,6 +25,7 @@ use Rattle.kl_scope.specs.Walks.{Walked, Fronted, onto, same_scope, pattern_fron
 use Rattle.kl_scope.proofs.StayLemmas.{variables_stay}
 use Rattle.kl_scope.proofs.FindingLemmas.{gathered_append}
 use Rattle.kl_scope.proofs.WalkLemmas.{closed, left_is, behind_more, within_more, draw_in_front, test_in_front}
+use Rattle.kl_syntax.proofs.Views.{pattern_Rec, view_Call, view_Rec, view_Coll, view_Comp, view_If, view_Let, view_Case, view_Chain, view_Gen, view_Cond, branch_seen}
 
 -- ---- the lists of the code's trees
 
@@ -230,48 +231,15 @@ branch_in_front l p q e f w v h =
 
 -- ---- the forms as the code has them
 
-view_rec : (ps : List (Word × Pattern)) (dots : Bool) → pattern_view (code.Rec ps dots) ≡ shape (patterns_view ps) dots
-view_rec ps dots = search (rules, pattern_lemmas)
-
 pub rec_ok : (r : Result (Unit {0}) NoMemory) (p q : Pattern) (ps qs zs : List (Word × Pattern)) (dots : Bool) (w u : Walk) → p ≡ code.Rec ps dots → q ≡ code.Rec qs dots → zs ≡ ps → IfOk r (λ _. PatternsWalk (patterns_view zs) (patterns_view qs) w u)
     → IfOk r (λ _. PatternWalk (pattern_view p) (pattern_view q) w u)
 rec_ok r p q ps qs zs dots w u pe qe ze h =
     if_ok r (λ k.
     let walked : PatternsWalk (patterns_view ps) (patterns_view qs) w u = subst (λ (z : List (Word × Pattern)). PatternsWalk (patterns_view z) (patterns_view qs) w u) ze k in
-    rw (pe, qe, view_rec ps dots, view_rec qs dots) (record { tree = ap (λ (t : Pats). shape t dots) walked.tree; found = walked.found; scope = walked.scope })) h
+    rw (pe, qe, pattern_Rec ps dots, pattern_Rec qs dots) (record { tree = ap (λ (t : Pats). shape t dots) walked.tree; found = walked.found; scope = walked.scope })) h
 
 pub variables_rec : (p : Pattern) (ps zs : List (Word × Pattern)) (dots : Bool) → p ≡ code.Rec ps dots → zs ≡ ps → variables_all (patterns_view zs) ≡ variables (pattern_view p)
-variables_rec p ps zs dots pe pz = rw pz (sym (ap variables (ap pattern_view pe ∙ view_rec ps dots)))
-
-view_Call : (f : Word) (es : List Expr) → view (expr.Call f es) ≡ call f (exps_view es)
-view_Call f es = search (rules, the_lemmas)
-
-view_Rec : (fs : List (Word × Expr)) → view (expr.Rec fs) ≡ fields (fields_view fs)
-view_Rec fs = search (rules, the_lemmas)
-
-view_Coll : (k : Kind) (es : List Expr) → view (expr.Coll k es) ≡ coll k (exps_view es)
-view_Coll k es = search (rules, the_lemmas)
-
-view_Comp : (k : Kind) (e : Expr) (qs : List Qual) → view (expr.Comp k e qs) ≡ comp k (view e) (quals_view qs)
-view_Comp k e qs = search (rules, the_lemmas)
-
-view_If : (a b c : Expr) → view (expr.If a b c) ≡ choice (view a) (view b) (view c)
-view_If a b c = search (rules, the_lemmas)
-
-view_Let : (p : Pattern) (a b : Expr) → view (expr.Let p a b) ≡ bind (pattern_view p) (view a) (view b)
-view_Let p a b = search (rules, the_lemmas)
-
-view_Case : (a : Expr) (bs : List Branch) (c : Option Expr) → view (expr.Case a bs c) ≡ select (view a) (branches_view bs c)
-view_Case a bs c = search (rules, the_lemmas)
-
-view_Chain : (a : Expr) (ss : List (Op × Expr)) → view (expr.Chain a ss) ≡ chain (view a) (steps_view ss)
-view_Chain a ss = search (rules, the_lemmas)
-
-view_Gen : (p : Pattern) (e : Expr) → qual_view (quals.Gen p e) ≡ draw (pattern_view p) (view e)
-view_Gen p e = search (rules, qual_lemmas)
-
-view_Cond : (e : Expr) → qual_view (quals.Cond e) ≡ test (view e)
-view_Cond e = search (rules, qual_lemmas)
+variables_rec p ps zs dots pe pz = rw pz (sym (ap variables (ap pattern_view pe ∙ pattern_Rec ps dots)))
 
 -- what holds of the views holds of the code's trees
 seen_as : (r : Result (Unit {0}) NoMemory) (e g : Expr) (a b : Exp) (w u : Walk) → view e ≡ a → view g ≡ b → IfOk r (λ _. ExprWalk a b w u) → IfOk r (λ _. ExprWalk (view e) (view g) w u)
@@ -348,9 +316,6 @@ gen_is e g p q m a b x w v u pe pg pm px h k =
 pub cond_is : (e g : Qual) (a b x : Expr) (w u : Walk) → e ≡ quals.Cond a → g ≡ quals.Cond b → x ≡ a → ExprWalk (view x) (view b) w u → QualFront (qual_view e) (qual_view g) w u
 cond_is e g a b x w u pe pg px k =
     rw (ap qual_view pe ∙ view_Cond a, ap qual_view pg ∙ view_Cond b) (test_in_front (view a) (view b) w u (subst (λ (t : Expr). ExprWalk (view t) (view b) w u) px k))
-
-branch_seen : (b : Branch) (rest : Branches) → branch_view b rest ≡ branch (out-Branch b).label (pattern_view (out-Branch b).pat) (view (out-Branch b).body) rest
-branch_seen b rest = search (rules, branch_lemmas)
 
 rolled_seen : (l : Word) (p : Pattern) (e : Expr) (rest : Branches) → branch_view (roll-Branch (record { label = l; pat = p; body = e })) rest ≡ branch l (pattern_view p) (view e) rest
 rolled_seen l p e rest = search (rules, branch_lemmas)

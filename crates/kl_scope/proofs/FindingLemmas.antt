@@ -12,6 +12,7 @@ use Rattle.kl_scope.specs.Findings.{Finding, breach, may_fail, repeated, is_amon
 use Rattle.kl_scope.specs.Gathering.{Gathered, noted, gathered}
 use Rattle.kl_scope.specs.Patterns.{tests, tests_all}
 use Rattle.kl_scope.specs.Senses.{Name}
+use Rattle.kl_base.proofs.Places.{drop_at}
 
 pub gathered_append : (g : Gathered) (xs ys : List Finding) → gathered g (xs ++ ys) ≡ gathered (gathered g xs) ys
 gathered_append g [] ys = refl
@@ -21,15 +22,12 @@ map_append : {A B : Type 0} (f : A → B) (xs ys : List A) → map f (xs ++ ys) 
 map_append f [] ys = refl
 map_append f (x ∷ xs) ys = ap (λ z. f x ∷ z) (map_append f xs ys)
 
-pub at_item : {A : Type 0} (xs : List A) (i : ℕ) (x : A) → i < length xs → x ≡ get_or xs i x → drop i xs ≡ x ∷ drop (i + 1) xs
-at_item xs i x lt e = rw add-one (drop-cons xs i x lt ∙ ap (λ z. z ∷ drop (suc i) xs) (sym e))
-
 -- ---- parts of patterns that may fail
 
 pub tests_more : (g h : Gathered) (fields : List (Word × Pattern)) (i : ℕ) (f : Word × Pattern) → i < length fields → f ≡ get_or fields i f → h ≡ gathered g (map may_fail (tests (pattern_view f.1)))
     → gathered h (map may_fail (tests_all (patterns_view (drop (i + 1) fields)))) ≡ gathered g (map may_fail (tests_all (patterns_view (drop i fields))))
 tests_more g h fields i f lt at e =
-    rw (at_item fields i f lt at, e) (sym (ap (gathered g) (map_append may_fail (tests (pattern_view f.1)) (tests_all (patterns_view (drop (i + 1) fields)))) ∙ gathered_append g (map may_fail (tests (pattern_view f.1))) (map may_fail (tests_all (patterns_view (drop (i + 1) fields))))))
+    rw (drop_at fields i f lt at, e) (sym (ap (gathered g) (map_append may_fail (tests (pattern_view f.1)) (tests_all (patterns_view (drop (i + 1) fields)))) ∙ gathered_append g (map may_fail (tests (pattern_view f.1))) (map may_fail (tests_all (patterns_view (drop (i + 1) fields))))))
 
 -- ---- words that stand twice
 
@@ -55,7 +53,7 @@ looked_more set next g h first w rest whole l up e = record {
 }
 
 behind_item : (words : List (Bor Word)) (i : ℕ) (w : Bor Word) → i < length words → w ≡ get_or words i w → map (λ w. w.now) (drop i words) ≡ w.now ∷ map (λ w. w.now) (drop (i + 1) words)
-behind_item words i w lt at = ap (map (λ w. w.now)) (at_item words i w lt at)
+behind_item words i w lt at = ap (map (λ w. w.now)) (drop_at words i w lt at)
 
 pub looked_at : (set next : BTreeSet Name) (g h first : Gathered) (words : List (Bor Word)) (i : ℕ) (w : Bor Word) (whole : List Word) → i < length words → w ≡ get_or words i w → Looked set g (map (λ w. w.now) (drop i words)) first whole
     → Updates bytes_cmp set next w.now.text true → h ≡ gathered g (only_if (contains bytes_cmp set w.now.text) (breach (Twice w.now.text w.now.token))) → Looked next h (map (λ w. w.now) (drop (i + 1) words)) first whole

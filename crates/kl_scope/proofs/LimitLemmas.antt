@@ -14,8 +14,8 @@ use Rattle.kl_scope.specs.declared.terms.Size.{Size}
 use Rattle.kl_scope.specs.Caps.{most, capped, decl_size, Judges}
 use Rattle.kl_scope.specs.Limits.{HasManyNodes, IsDeep, IsWithin, IsFirstPast, Tells}
 use Rattle.kl_scope.specs.Sizes.{sized, declared}
-use Rattle.kl_scope.proofs.FindingLemmas.{at_item}
 use Rattle.kl_scope.proofs.SizeLemmas.{size_is}
+use Rattle.kl_base.proofs.Places.{drop_at}
 
 -- ---- what is told of a capped size is true of the size
 
@@ -89,7 +89,7 @@ going_last known i defs last o c end g h j =
     told_last o known (declared (decls_of defs) (view last) []) c (sized (view last) known) i g.number g.within (g.rest ∙ ap (λ (ds : List Decl). known ++ declared (decls_of ds) (view last) known) end) h j
 
 pub at_def : (ds es : List Decl) (i : ℕ) (d : Decl) → ds ≡ es → i < length ds → d ≡ get_or ds i d → drop i es ≡ d ∷ drop (i + 1) es
-at_def ds es i d same lt is = subst (λ (z : List Decl). drop i z ≡ d ∷ drop (i + 1) z) same (at_item ds i d lt is)
+at_def ds es i d same lt is = subst (λ (z : List Decl). drop i z ≡ d ∷ drop (i + 1) z) same (drop_at ds i d lt is)
 
 pub going_end : (known : List Size) (i : ℕ) (ds defs : List Decl) (last : Expr) (o : Option SizeBreach) (c : Size) → ds ≡ defs → length ds ≤ i → i ≤ length ds → Going known i defs last → c ≡ capped (sized (view last) known) → Judges o (length ds) c → Tells o (declared (decls_of defs) (view last) [])
 going_end known i ds defs last o c same le ge g h j =

@@ -259,7 +259,7 @@ fn by_name(row: &PrimRow) -> Option<Sense>
 }
 
 /// Whether a primitive of the table has the name.
-fn is_primitive(name: &Label) -> bool
+pub fn is_primitive(name: &Label) -> bool
     ensures { result ≡ is_some (entry_named name.now) }
 {
     match table().find(name.slice()) {

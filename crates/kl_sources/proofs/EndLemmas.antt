@@ -1,7 +1,7 @@
 -- What the whole call comes to.
 use Rattle.std.proofs.Common.{◌≡◌, ◌⊎◌, ◌<◌, ◌≤◌, ℕ, zero, suc, ◌+◌, Bool, true, false, List, [], ◌∷◌, ◌++◌, length, take, Option, Some, None, Result, Ok, Err, refl, sym, ap, subst, ◌∙◌, arith, inl, inr, get_or, slice_get, zero-add, add-zero, add-one}
-use Rattle.std.proofs.lemmas.Bool.{cases_eq}
-use Rattle.std.proofs.lemmas.Option.{slice_get_read, slice_get_within}
+use Rattle.std.proofs.lemmas.Bool.{cases_eq, cases_lt}
+use Rattle.std.proofs.lemmas.Option.{slice_get_read, slice_get_within, same_Some}
 use Rattle.std.specs.Result.{MatchResult}
 use Rattle.kl_value.specs.declared.Value.{Value}
 use Rattle.kl_type.specs.declared.Ty.{Ty}
@@ -11,7 +11,6 @@ use Rattle.kl_ask.specs.Lists.{EachSteps}
 use Rattle.kl_ask.specs.declared.ask.DriverError.{DriverError}
 use Rattle.kl_ask.specs.declared.ask.DriverError.TheVariants as error
 use Rattle.kl_ask.specs.declared.session.Attached.{Attached}
-use Rattle.kl_ask.proofs.Worlds.{some_same}
 use Rattle.kl_sources.specs.declared.attaching.AttachError.{AttachError}
 use Rattle.kl_sources.specs.declared.source.Source.{Source}
 use Rattle.kl_sources.specs.declared.walking.Refused.{Refused}
@@ -23,16 +22,11 @@ use Rattle.kl_sources.proofs.NameLemmas.{one_of_name}
 use Rattle.kl_sources.proofs.SessionLemmas.{serves, shifts}
 use Rattle.kl_sources.proofs.StepLemmas.{begins}
 
-below_or : (a b : ℕ) → (a < b) ⊎ (b ≤ a)
-below_or a zero = inr (omega arith)
-below_or zero (suc b) = inl (omega arith)
-below_or (suc a) (suc b) = elim (below_or a b) [ inl h ↦ inl (omega (arith, h)) | inr h ↦ inr (omega (arith, h)) ]
-
 -- ---- the list
 
 more_of : (marks : ℕ → Bool) (n i : ℕ) (ss : List Source) (s : Source) → slice_get ss i ≡ Some s → list_of marks n (take (suc i) ss) ≡ list_of marks n (take i ss) ++ listed (marks (n + i)) s ∷ []
 more_of marks n i [] s is = absurd cc
-more_of marks n zero (x ∷ ss) s is = ap (λ (q : Source). listed (marks n) q ∷ []) (some_same is) ∙ ap (λ k. listed (marks k) s ∷ []) (sym (add-zero n))
+more_of marks n zero (x ∷ ss) s is = ap (λ (q : Source). listed (marks n) q ∷ []) (same_Some _ _ is) ∙ ap (λ k. listed (marks k) s ∷ []) (sym (add-zero n))
 more_of marks n (suc i) (x ∷ ss) s is =
     ap (λ l. listed (marks n) x ∷ l) (more_of marks (suc n) i ss s is)
     ∙ ap (λ b. listed (marks n) x ∷ (list_of marks (suc n) (take i ss) ++ listed b s ∷ [])) (shifts marks n i)
@@ -88,14 +82,14 @@ first_at ks marks n (t ∷ ts) s w (inr h) =
     }
   where
     before_more : (r : FirstAt ks marks (suc n) ts s w) (i : ℕ) (u : Source) → i < suc r.place → slice_get (t ∷ ts) i ≡ Some u → marks (n + i) ≡ true → HasRows ks u
-    before_more r zero u lt is mk = subst (HasRows ks) (some_same is) (readable_rows ks (marks n) t h.0 (ap marks (sym (add-zero n)) ∙ mk))
+    before_more r zero u lt is mk = subst (HasRows ks) (same_Some _ _ is) (readable_rows ks (marks n) t h.0 (ap marks (sym (add-zero n)) ∙ mk))
     before_more r (suc i) u lt is mk = r.before i u (omega (arith, lt)) is (shifts marks n i ∙ mk)
 
 first_without : (ks : List DriverKind) (marks : ℕ → Bool) (n : ℕ) (ss : List Source) (s : Source) (w : Stored) (p : ℕ) → slice_get ss p ≡ Some s → marks (n + p) ≡ true → contents ks s ≡ Some w → (HasRows ks s → ⊥)
     → ((i : ℕ) (t : Source) → i < p → slice_get ss i ≡ Some t → marks (n + i) ≡ true → HasRows ks t) → FirstWithout ks marks n ss s w
 first_without ks marks n [] s w p is mk stands without before = absurd cc
 first_without ks marks n (t ∷ ts) s w zero is mk stands without before =
-    let e : t ≡ s = some_same is in
+    let e : t ≡ s = same_Some _ _ is in
     inl (ap marks (sym (add-zero n)) ∙ mk, sym e, ap (contents ks) e ∙ stands, λ r. without (subst (HasRows ks) e r))
 first_without ks marks n (t ∷ ts) s w (suc p) is mk stands without before =
     inr (
@@ -109,7 +103,7 @@ value_rows ks false s v h e = absurd cc
 
 values_rows : (ks : List DriverKind) (marks : ℕ → Bool) (n : ℕ) (ss : List Source) (vs : List (Name × Value)) → HaveValues ks marks n ss vs → (i : ℕ) (t : Source) → slice_get ss i ≡ Some t → marks (n + i) ≡ true → HasRows ks t
 values_rows ks marks n [] vs h i t is mk = absurd cc
-values_rows ks marks n (s ∷ ss) vs h zero t is mk = subst (HasRows ks) (some_same is) (value_rows ks (marks n) s h.0 h.3 (ap marks (sym (add-zero n)) ∙ mk))
+values_rows ks marks n (s ∷ ss) vs h zero t is mk = subst (HasRows ks) (same_Some _ _ is) (value_rows ks (marks n) s h.0 h.3 (ap marks (sym (add-zero n)) ∙ mk))
 values_rows ks marks n (s ∷ ss) vs h (suc i) t is mk = values_rows ks marks (suc n) ss h.1 h.4 i t is (shifts marks n i ∙ mk)
 
 value_for : (ks : List DriverKind) (b : Bool) (s : Source) → (b ≡ true → HasRows ks s) → (v : Value) × IsValueAt ks b s v
@@ -139,7 +133,7 @@ no_rows : (ks : List DriverKind) (s : Source) → contents ks s ≡ None → Has
 no_rows ks s none r = let e = r.1 in absurd cc
 
 error_rows : (ks : List DriverKind) (s : Source) (w : Stored) (e : DriverError) → IsErrorOf w e → contents ks s ≡ Some w → HasRows ks s → ⊥
-error_rows ks s w e error_of stands r = by_stored w error_of (some_same (sym stands ∙ r.1))
+error_rows ks s w e error_of stands r = by_stored w error_of (same_Some _ _ (sym stands ∙ r.1))
   where
     by_stored : (w : Stored) → IsErrorOf w e → w ≡ Rows r.0 → ⊥
     by_stored Missing h q = absurd cc
@@ -176,7 +170,7 @@ module _ (ks : List DriverKind) (marks : ℕ → Bool) (ss : List Source) where
     where
       by_contents : (o : Option Stored) → contents ks s ≡ o → AllRows ks marks ss (suc n) ⊎ UntoldAt ks marks ss (suc n)
       by_contents None e = inr (record { place = n; source = s; within = omega arith; there = is; marked = mk; none = e })
-      by_contents (Some w) e = inl (rows_more n all (λ t there m. subst (HasRows ks) (some_same (sym is ∙ there)) (typed_rows ks s w (typed n s (omega arith) is mk) e)))
+      by_contents (Some w) e = inl (rows_more n all (λ t there m. subst (HasRows ks) (same_Some _ _ (sym is ∙ there)) (typed_rows ks s w (typed n s (omega arith) is mk) e)))
 
   told_or_not : (n : ℕ) → AllTyped ks marks ss n → AllRows ks marks ss n ⊎ UntoldAt ks marks ss n
   told_or_not zero typed = inl (λ i t lt is mk. absurd (omega (arith, lt)))
@@ -207,10 +201,10 @@ module _ (ks : List DriverKind) (marks : ℕ → Bool) (ss : List Source) where
     }
       where
         not_first : (t : Source) (w : Stored) → FirstAt ks marks 0 ss t w → ⊥
-        not_first t w f = elim (below_or f.place n) [
+        not_first t w f = elim (cases_lt f.place n) [
           | inl lt ↦ f.without (typed_rows ks t w (typed f.place t lt f.there (ap marks (sym (zero-add f.place)) ∙ f.marked)) f.stands)
           | inr le ↦ elim (cases_eq f.place n) [
-            | inl e ↦ (let same : t ≡ s = some_same (sym f.there ∙ ap (slice_get ss) e ∙ is) in let q : contents ks s ≡ Some w = subst (λ u. contents ks u ≡ Some w) same f.stands in absurd cc)
+            | inl e ↦ (let same : t ≡ s = same_Some _ _ (sym f.there ∙ ap (slice_get ss) e ∙ is) in let q : contents ks s ≡ Some w = subst (λ u. contents ks u ≡ Some w) same f.stands in absurd cc)
             | inr ne ↦ no_rows ks s none (f.before n s (omega (arith, le, ne)) is (ap marks (zero-add n) ∙ mk))
           ]
         ]
@@ -285,7 +279,7 @@ module _ (marks : ℕ → Bool) (ss : List Source) (old new : List State) (place
       | inl want ↦ inr (mishap_here (inr want))
       | inr h ↦ elim h.2 [
         | inl mishap ↦ inr (mishap_here mishap)
-        | inr (inl g) ↦ at_first h.0 h.1 (λ same. inl (named ∙ ap (λ (q : Source). q.name) same, subst (λ d. IsErrorOf w d) (sym with_error) (subst (λ v. IsErrorOf v r.error) (some_same (sym g.2 ∙ ap (contents (kinds_of old)) same ∙ f.stands)) g.1)))
+        | inr (inl g) ↦ at_first h.0 h.1 (λ same. inl (named ∙ ap (λ (q : Source). q.name) same, subst (λ d. IsErrorOf w d) (sym with_error) (subst (λ v. IsErrorOf v r.error) (same_Some _ _ (sym g.2 ∙ ap (contents (kinds_of old)) same ∙ f.stands)) g.1)))
             (error_rows (kinds_of old) stops.source g.0 r.error g.1 g.2)
         | inr (inr g) ↦ at_first h.0 h.1 (λ same. absurd (let q : contents (kinds_of old) s ≡ None = ap (contents (kinds_of old)) (sym same) ∙ g.1 in let p = f.stands in cc)) (no_rows (kinds_of old) stops.source g.1)
       ]
@@ -295,10 +289,10 @@ module _ (marks : ℕ → Bool) (ss : List Source) (old new : List State) (place
         mishap_here mishap = (r.place, stops.source, stops.there, named, subst (λ d. IsMishap stops.source d old new) (sym with_error) mishap)
 
         at_first : stops.count ≡ r.place → marks r.place ≡ true → (stops.source ≡ s → IsRefusalOf ss s w old new e) → (HasRows (kinds_of old) stops.source → ⊥) → IsRefusalOf ss s w old new e
-        at_first counted mk here never = elim (below_or f.place r.place) [
+        at_first counted mk here never = elim (cases_lt f.place r.place) [
           | inl lt ↦ absurd (f.without (typed_rows (kinds_of old) s w (typed_before f.place s (omega (arith, lt, counted)) f.there (ap marks (sym (zero-add f.place)) ∙ f.marked)) f.stands))
           | inr le ↦ elim (cases_eq f.place r.place) [
-            | inl same_place ↦ here (some_same (sym stops.there ∙ ap (slice_get ss) (sym same_place) ∙ f.there))
+            | inl same_place ↦ here (same_Some _ _ (sym stops.there ∙ ap (slice_get ss) (sym same_place) ∙ f.there))
             | inr ne ↦ absurd (never (f.before r.place stops.source (omega (arith, le, ne)) stops.there (ap marks (zero-add r.place) ∙ mk)))
           ]
         ]
@@ -371,7 +365,7 @@ module _ (marks : ℕ → Bool) (ss : List Source) (old new : List State) (place
   pub whole_err : HaveNone old → (r : Refused) → StopsAt marks ss old new r → (s : Source) → slice_get ss r.place ≡ Some s → (e : AttachError) → e.source ≡ s.name → e.error ≡ r.error → (others : ℕ → Bool) → AgreeBelow (length ss) others marks → AttachesAll others ss (Err e) old new
   whole_err clear r stops s is e named with_error others agree =
       let other = stops_agrees marks others ss agree old new r stops in
-      to_stop others ss old new placed r other e (named ∙ ap (λ (q : Source). q.name) (some_same (sym is ∙ other.there))) with_error clear
+      to_stop others ss old new placed r other e (named ∙ ap (λ (q : Source). q.name) (same_Some _ _ (sym is ∙ other.there))) with_error clear
 
 -- ---- the calls in between
 

@@ -1,7 +1,7 @@
 -- What stands in the list of a session, by the sources that it was made of.
 use Rattle.std.proofs.Common.{◌≡◌, ℕ, zero, suc, ◌+◌, Bool, true, false, List, [], ◌∷◌, Option, Some, None, refl, sym, ap, ◌∙◌, arith, slice_get, add-zero}
+use Rattle.std.proofs.lemmas.Option.{same_Some}
 use Rattle.kl_ask.specs.declared.session.Attached.{Attached}
-use Rattle.kl_ask.proofs.Worlds.{some_same}
 use Rattle.kl_sources.specs.Attaching.{list_of, listed}
 use Rattle.kl_sources.specs.declared.source.Source.{Source}
 
@@ -13,10 +13,10 @@ listed_source marks n (x ∷ ss) zero a place at held = by_mark (marks n) refl
   where
     by_mark : (b : Bool) → marks n ≡ b → (s : Source) × (slice_get (x ∷ ss) zero ≡ Some s) × (marks (n + zero) ≡ true) × (s.name ≡ a.source) × (s.driver ≡ place)
     by_mark true is =
-        let same : listed true x ≡ a = ap (λ b. listed b x) (sym is) ∙ some_same at in
-        (x, refl, ap marks (add-zero n) ∙ is, ap (λ e. e.source) same, some_same (ap (λ e. e.driver) same ∙ held))
+        let same : listed true x ≡ a = ap (λ b. listed b x) (sym is) ∙ same_Some _ _ at in
+        (x, refl, ap marks (add-zero n) ∙ is, ap (λ e. e.source) same, same_Some _ _ (ap (λ e. e.driver) same ∙ held))
     by_mark false is =
-        let same : listed false x ≡ a = ap (λ b. listed b x) (sym is) ∙ some_same at in
+        let same : listed false x ≡ a = ap (λ b. listed b x) (sym is) ∙ same_Some _ _ at in
         let none : None ≡ Some place = ap (λ e. e.driver) same ∙ held in
         absurd cc
 listed_source marks n (x ∷ ss) (suc i) a place at held =

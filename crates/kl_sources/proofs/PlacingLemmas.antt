@@ -1,13 +1,14 @@
 -- Placing sources entry by entry.
-use Rattle.std.proofs.Common.{◌≡◌, ◌<◌, ℕ, zero, suc, ◌+◌, ◌^◌, Bool, true, false, ◌||◌, List, [], ◌∷◌, ◌++◌, map, length, get_or, drop, Option, Some, None, Result, Ok, Err, cond, All, refl, sym, ap, subst, ◌∙◌, arith, inl, inr, slice_get, append_assoc, append-nil, ◌≤◌, drop-cons, add-one}
+use Rattle.std.proofs.Common.{◌≡◌, ◌<◌, ℕ, zero, suc, ◌+◌, ◌^◌, Bool, true, false, ◌||◌, List, [], ◌∷◌, ◌++◌, map, length, get_or, drop, Option, Some, None, Result, Ok, Err, cond, All, refl, sym, ap, subst, ◌∙◌, arith, inl, inr, slice_get, append_assoc, append-nil, ◌≤◌, drop-cons, add-one, is_some}
 use Rattle.std.proofs.lemmas.Map.Text.{is_eq-slice_cmp}
 use Rattle.std.proofs.lemmas.List.{drop_all}
 use Rattle.std.proofs.lemmas.List.Elements.{recursion_from_All}
-use Rattle.std.proofs.lemmas.Option.{some_pair_parts, slice_get_read, slice_get_within}
-use Rattle.std.proofs.lemmas.Bool.{cases_eq}
+use Rattle.std.proofs.lemmas.Option.{some_pair_parts, slice_get_read, slice_get_within, same_Some}
+use Rattle.std.proofs.lemmas.Bool.{cases_eq, or_parts}
 use Rattle.std.specs.BTreeSet.{BTreeSet, contains, Updates}
 use Rattle.std.specs.List.{AllByRecursion, IsDistinct, list_any}
 use Rattle.std.specs.Option.{option_map}
+use Rattle.kl_base.proofs.Each.{all_map}
 use Rattle.kl_base.specs.Fields.{bytes_cmp}
 use Rattle.kl_type.specs.Ground.{IsProper, ground_of}
 use Rattle.kl_type.specs.declared.Ty.{Ty}
@@ -16,20 +17,21 @@ use Rattle.kl_outcome.specs.Outcome.{Name}
 use Rattle.kl_ask.specs.Driver.{DriverKind, State, Suits}
 use Rattle.kl_catalogue.specs.declared.reading.Entry.{Entry}
 use Rattle.kl_ask.proofs.Names.{not_same}
-use Rattle.kl_ask.proofs.Worlds.{some_same}
 use Rattle.kl_sources.specs.declared.source.Source.{Source}
 use Rattle.kl_sources.specs.declared.placing.PlaceError.{PlaceError}
 use Rattle.kl_sources.specs.declared.placing.PlaceError.TheVariants.{Twice, NoDriver, Unsuited, NoMemory}
 use Rattle.kl_sources.specs.Sources.{kinds_of, same, is_taken, driver_named, at_driver, placed, in_front, sources_of, names_of, IsSuited, IsFit, ArePlaced}
 use Rattle.kl_sources.specs.Placing.{IsUnless, Finds, behind}
-use Rattle.kl_sources.proofs.Lists.{mapped, unmapped}
+use Rattle.kl_sources.proofs.Lists.{unmapped}
 use Rattle.kl_sources.proofs.NameLemmas.{turned, same_is, same_here}
+use Rattle.kl_base.proofs.Places.{get-map}
+use Rattle.kl_scope.specs.Senses.{entry_named}
 
 -- ---- the first driver of a name
 
 pub first_named : (x : Name) (ks : List DriverKind) (i : ℕ) (k : DriverKind) → ((j : ℕ) (d : DriverKind) → j < i → slice_get ks j ≡ Some d → same d.name x ≡ false) → slice_get ks i ≡ Some k → same k.name x ≡ true → driver_named x ks ≡ Some (i, k)
 first_named x [] i k before is here = absurd cc
-first_named x (d ∷ ks) zero k before is here = let e : d ≡ k = some_same is in rw e (ap (λ t. cond {A = Option (ℕ × DriverKind)} t (Some (0, k)) (option_map (λ p. (suc p.0, p.1)) (driver_named x ks))) here)
+first_named x (d ∷ ks) zero k before is here = let e : d ≡ k = same_Some _ _ is in rw e (ap (λ t. cond {A = Option (ℕ × DriverKind)} t (Some (0, k)) (option_map (λ p. (suc p.0, p.1)) (driver_named x ks))) here)
 first_named x (d ∷ ks) (suc i) k before is here =
     ap (λ t. cond {A = Option (ℕ × DriverKind)} t (Some (0, d)) (option_map (λ p. (suc p.0, p.1)) (driver_named x ks))) (before 0 d (omega arith) refl)
     ∙ ap (option_map (λ p. (suc p.0, p.1))) (first_named x ks i k (λ j e lt h. before (suc j) e (omega arith) h) is here)
@@ -53,7 +55,7 @@ named_stands x (d ∷ ks) i k h = named_step d ks i k (same d.name x) (driver_na
 
 module _ {A : Type 0} (f : A → State) (xs : List A) where
   kind_at : (i : ℕ) (a : A) → i < length xs → a ≡ get_or xs i a → slice_get (kinds_of (map f xs)) i ≡ Some (f a).kind
-  kind_at i a lt is = mapped (λ (d : State). d.kind) (map f xs) i (f a) (mapped f xs i a (slice_get_read xs (length xs) i a refl lt is))
+  kind_at i a lt is = get-map (λ (d : State). d.kind) (map f xs) i (f a) (get-map f xs i a (slice_get_read xs (length xs) i a refl lt is))
 
   module _ (x : Name) where
     abbrev NoneBelow : ℕ → Type 0
@@ -66,7 +68,7 @@ module _ {A : Type 0} (f : A → State) (xs : List A) where
 
     pub none_more : (i : ℕ) (a : A) → NoneBelow i → i < length xs → a ≡ get_or xs i a → ((f a).kind.name ≡ x → ⊥) → NoneBelow (i + 1)
     none_more i a none lt is other = λ j k below there. elim (cases_eq j i) [
-      | inl e ↦ not_same k.name x (λ h. other (ap (λ (q : DriverKind). q.name) (some_same (sym (kind_at i a lt is) ∙ ap (slice_get (kinds_of (map f xs))) (sym e) ∙ there)) ∙ h))
+      | inl e ↦ not_same k.name x (λ h. other (ap (λ (q : DriverKind). q.name) (same_Some _ _ (sym (kind_at i a lt is) ∙ ap (slice_get (kinds_of (map f xs))) (sym e) ∙ there)) ∙ h))
       | inr ne ↦ none j k (omega (arith, below, ne)) there
     ]
 
@@ -90,7 +92,7 @@ module _ {A : Type 0} (f : A → State) (xs : List A) where
 
   module _ (e : Entry) (i : ℕ) (a : A) (found : Finds e.driver (kinds_of (map f xs)) (Some i)) (lt : i < length xs) (is : a ≡ get_or xs i a) where
     same_kind : found.0 ≡ (f a).kind
-    same_kind = some_same (sym found.1 ∙ kind_at i a lt is)
+    same_kind = same_Some _ _ (sym found.1 ∙ kind_at i a lt is)
 
     at_found : (t : Bool) → t ≡ (f a).kind.suits e.ty → at_driver e (driver_named e.driver (kinds_of (map f xs))) ≡ cond t (Ok (record { name = e.name; ty = e.ty; driver = i; locator = e.locator })) (Err (Unsuited e.name))
     at_found t suits = ap (at_driver e) found.2 ∙ ap (λ b. cond b (Ok (record { name = e.name; ty = e.ty; driver = i; locator = e.locator })) (Err (Unsuited e.name))) (ap (λ (k : DriverKind). k.suits e.ty) same_kind ∙ sym suits)
@@ -130,8 +132,8 @@ begins ks entries taken sources none empty = record {
 }
 
 module _ (ks : List DriverKind) (entries : List Entry) (n : ℕ) (taken : BTreeSet Name) (sources : List Source) (p : Placing ks entries n taken sources) where
-  is_taken_here : (x : Name) → is_taken p.before x ≡ (contains bytes_cmp taken x || list_any (λ r. same r.entry.name x) rows)
-  is_taken_here x = ap (λ t. t || list_any (λ r. same r.entry.name x) rows) (sym (p.taken_is x))
+  is_taken_here : (x : Name) → is_taken p.before x ≡ (contains bytes_cmp taken x || is_some (entry_named x))
+  is_taken_here x = ap (λ t. t || is_some (entry_named x)) (sym (p.taken_is x))
 
   module _ (e : Entry) (lt : n < length entries) (is : e ≡ get_or entries n e) where
     next : drop n entries ≡ e ∷ drop (suc n) entries
@@ -144,15 +146,15 @@ module _ (ks : List DriverKind) (entries : List Entry) (n : ℕ) (taken : BTreeS
     refused_with error h = turn ∙ ap (λ r. behind sources (in_front r (sources_of ks (e.name ∷ p.before) (drop (suc n) entries)))) h
 
     -- the name is taken
-    pub name_taken : (b : Bool) → b ≡ (contains bytes_cmp taken e.name || list_any (λ r. same r.entry.name e.name) rows) → b ≡ true → (x : Name) → x ≡ e.name → sources_of ks [] entries ≡ Err (Twice x)
+    pub name_taken : (b : Bool) → b ≡ (contains bytes_cmp taken e.name || is_some (entry_named e.name)) → b ≡ true → (x : Name) → x ≡ e.name → sources_of ks [] entries ≡ Err (Twice x)
     name_taken b answer h x same_name =
         rw same_name (refused_with (Twice e.name) (ap (λ t. cond t (Err (Twice e.name)) (at_driver e (driver_named e.driver ks))) (is_taken_here e.name ∙ sym answer ∙ h)))
 
-    free : (b : Bool) → b ≡ (contains bytes_cmp taken e.name || list_any (λ r. same r.entry.name e.name) rows) → b ≡ false → placed ks p.before e ≡ at_driver e (driver_named e.driver ks)
+    free : (b : Bool) → b ≡ (contains bytes_cmp taken e.name || is_some (entry_named e.name)) → b ≡ false → placed ks p.before e ≡ at_driver e (driver_named e.driver ks)
     free b answer h = ap (λ t. cond t (Err (Twice e.name)) (at_driver e (driver_named e.driver ks))) (is_taken_here e.name ∙ sym answer ∙ h)
 
     -- what is wrong with the entry itself
-    pub entry_wrong : (b : Bool) → b ≡ (contains bytes_cmp taken e.name || list_any (λ r. same r.entry.name e.name) rows) → b ≡ false → (error : PlaceError) → IsUnless (at_driver e (driver_named e.driver ks)) error → IsUnless (sources_of ks [] entries) error
+    pub entry_wrong : (b : Bool) → b ≡ (contains bytes_cmp taken e.name || is_some (entry_named e.name)) → b ≡ false → (error : PlaceError) → IsUnless (at_driver e (driver_named e.driver ks)) error → IsUnless (sources_of ks [] entries) error
     entry_wrong b answer h (Twice x) wrong = refused_with (Twice x) (free b answer h ∙ wrong)
     entry_wrong b answer h (NoDriver x) wrong = refused_with (NoDriver x) (free b answer h ∙ wrong)
     entry_wrong b answer h (Unsuited x) wrong = refused_with (Unsuited x) (free b answer h ∙ wrong)
@@ -162,7 +164,7 @@ module _ (ks : List DriverKind) (entries : List Entry) (n : ℕ) (taken : BTreeS
     in_turn s (Ok ts) = ap Ok (sym (append_assoc sources (s ∷ []) ts))
     in_turn s (Err error) = refl
 
-    pub goes_on : (b : Bool) → b ≡ (contains bytes_cmp taken e.name || list_any (λ r. same r.entry.name e.name) rows) → b ≡ false → (s : Source) → at_driver e (driver_named e.driver ks) ≡ Ok s → IsFit ks s
+    pub goes_on : (b : Bool) → b ≡ (contains bytes_cmp taken e.name || is_some (entry_named e.name)) → b ≡ false → (s : Source) → at_driver e (driver_named e.driver ks) ≡ Ok s → IsFit ks s
         → (taken' : BTreeSet Name) (x : Name) → x ≡ e.name → Updates bytes_cmp taken taken' x true → (sources' : List Source) → sources' ≡ sources ++ s ∷ [] → Placing ks entries (n + 1) taken' sources'
     goes_on b answer h s stands one_fit taken' x same_name up sources' more = record {
       before = e.name ∷ p.before;
@@ -201,10 +203,6 @@ record IsPlaced (ks : List DriverKind) (before : List Name) (e : Entry) (s : Sou
 ok_same : {A : Type 0} (x y : A) → ◌≡◌ {A = Result A PlaceError} (Ok x) (Ok y) → x ≡ y
 ok_same x y h = cc
 
-or_false : (a b : Bool) → (a || b) ≡ false → (a ≡ false) × (b ≡ false)
-or_false true b h = absurd cc
-or_false false b h = (refl, h)
-
 module _ (ks : List DriverKind) (before : List Name) (e : Entry) (s : Source) where
   suited_one : (i : ℕ) (k : DriverKind) → list_any (same e.name) before ≡ false → driver_named e.driver ks ≡ Some (i, k) → (t : Bool) → k.suits e.ty ≡ t
       → cond t (Ok (record { name = e.name; ty = e.ty; driver = i; locator = e.locator })) (Err (Unsuited e.name)) ≡ Ok s → IsPlaced ks before e s
@@ -218,11 +216,7 @@ module _ (ks : List DriverKind) (before : List Name) (e : Entry) (s : Source) wh
 
   placed_one : (t : Bool) → is_taken before e.name ≡ t → cond t (Err (Twice e.name)) (at_driver e (driver_named e.driver ks)) ≡ Ok s → IsPlaced ks before e s
   placed_one true taken h = absurd cc
-  placed_one false taken h = at_one (or_false (list_any (same e.name) before) (list_any (λ r. same r.entry.name e.name) rows) taken).0 (driver_named e.driver ks) refl h
-
-all_weaker : {X : Type 0} (P Q : X → Type 0) → ((x : X) → P x → Q x) → (xs : List X) → AllByRecursion P xs → AllByRecursion Q xs
-all_weaker P Q f [] h = tt
-all_weaker P Q f (x ∷ xs) h = (f x h.0, all_weaker P Q f xs h.1)
+  placed_one false taken h = at_one (or_parts (list_any (same e.name) before) (is_some (entry_named e.name)) taken).0 (driver_named e.driver ks) refl h
 
 all_named : (P : Name → Type 0) (ss : List Source) → AllByRecursion (λ s. P s.name) ss → AllByRecursion P (names_of ss)
 all_named P [] h = tt
@@ -233,10 +227,10 @@ unfolding IsDistinct
 in_order ks before e s ts proper one rest = record {
   suited = (one.suited, rest.suited);
   proper = (subst IsProper (sym one.ty) proper, rest.proper);
-  fresh = (subst (λ x. list_any (same x) before ≡ false) (sym one.name) one.fresh, all_weaker (λ t. list_any (same t.name) (e.name ∷ before) ≡ false) (λ t. list_any (same t.name) before ≡ false) (λ t h. (or_false (same t.name e.name) (list_any (same t.name) before) h).1) ts rest.fresh);
+  fresh = (subst (λ x. list_any (same x) before ≡ false) (sym one.name) one.fresh, all_map (λ t. list_any (same t.name) (e.name ∷ before) ≡ false) (λ t. list_any (same t.name) before ≡ false) ts (λ t h. (or_parts (same t.name e.name) (list_any (same t.name) before) h).1) rest.fresh);
   differ = (
-    all_named (λ y. same s.name y ≡ false) ts (all_weaker (λ t. list_any (same t.name) (e.name ∷ before) ≡ false) (λ t. same s.name t.name ≡ false)
-        (λ t h. subst (λ x. same x t.name ≡ false) (sym one.name) (turned t.name e.name (or_false (same t.name e.name) (list_any (same t.name) before) h).0)) ts rest.fresh),
+    all_named (λ y. same s.name y ≡ false) ts (all_map (λ t. list_any (same t.name) (e.name ∷ before) ≡ false) (λ t. same s.name t.name ≡ false) ts
+        (λ t h. subst (λ x. same x t.name ≡ false) (sym one.name) (turned t.name e.name (or_parts (same t.name e.name) (list_any (same t.name) before) h).0)) rest.fresh),
     rest.differ,
   );
 }

@@ -1,6 +1,8 @@
 -- What a session of attached sources has of them.
 use Rattle.std.proofs.Common.{◌≡◌, ◌<◌, ℕ, zero, suc, ◌+◌, Bool, true, false, List, [], ◌∷◌, map, Option, Some, None, refl, sym, ap, subst, ◌∙◌, arith, slice_get, zero-add, add-zero}
 use Rattle.std.specs.List.{AllByRecursion}
+use Rattle.std.proofs.lemmas.Option.{same_Some}
+use Rattle.kl_value.proofs.CanonLemmas.{canonical-nil}
 use Rattle.kl_value.specs.Canon.{canonical}
 use Rattle.kl_value.specs.Views.{collection}
 use Rattle.kl_value.specs.declared.Kind.{Kind}
@@ -16,7 +18,6 @@ use Rattle.kl_ask.specs.World.{IsListed, at_driver, at_source, source_at, type_i
 use Rattle.kl_ask.specs.declared.session.Attached.{Attached}
 use Rattle.kl_ask.specs.declared.settings.Settings.{Settings}
 use Rattle.kl_ask.specs.declared.settings.Trace.{Trace}
-use Rattle.kl_ask.proofs.Worlds.{some_same}
 use Rattle.kl_sources.specs.declared.source.Source.{Source}
 use Rattle.kl_sources.specs.Sources.{ArePlaced, IsFit, contents, grounds_of, HaveValues, IsValueAt}
 use Rattle.kl_sources.specs.Attaching.{HasTyped, Serves, Stands, list_of, listed, world_of}
@@ -29,7 +30,7 @@ shifts marks n i = ap marks (omega arith)
 
 listed_at : (marks : ℕ → Bool) (n : ℕ) (ss : List Source) (i : ℕ) (s : Source) → slice_get ss i ≡ Some s → slice_get (list_of marks n ss) i ≡ Some (listed (marks (n + i)) s)
 listed_at marks n [] i s is = absurd cc
-listed_at marks n (x ∷ ss) zero s is = ap (λ (q : Source). Some (listed (marks n) q)) (some_same is) ∙ ap (λ b. Some (listed b s)) (ap marks (sym (add-zero n)))
+listed_at marks n (x ∷ ss) zero s is = ap (λ (q : Source). Some (listed (marks n) q)) (same_Some _ _ is) ∙ ap (λ b. Some (listed b s)) (ap marks (sym (add-zero n)))
 listed_at marks n (x ∷ ss) (suc i) s is = listed_at marks (suc n) ss i s is ∙ ap (λ b. Some (listed b s)) (shifts marks n i)
 
 listed_none : (marks : ℕ → Bool) (n : ℕ) (ss : List Source) (i : ℕ) → slice_get ss i ≡ None → slice_get (list_of marks n ss) i ≡ None
@@ -52,21 +53,15 @@ listed_name false s = refl
 
 -- ---- values
 
-empty_is : (k : Kind) → canonical k [] ≡ collection k []
-unfolding canonical
-empty_is kind.Set = refl
-empty_is kind.Bag = refl
-empty_is kind.List = refl
-
 module _ (ks : List DriverKind) where
   value_is : (b : Bool) (s : Source) (v : Value) → IsValueAt ks b s v → value_of_rows (ground_of s.ty) (rows_at b ks s) ≡ Some v
   value_is true s v h = ap (λ o. value_of_rows (ground_of s.ty) (told_rows o)) h.1 ∙ ap Some (sym h.2)
-  value_is false s v h = ap Some (empty_is (kind_of (ground_of s.ty)) ∙ sym h)
+  value_is false s v h = ap Some (canonical-nil (kind_of (ground_of s.ty)) ∙ sym h)
 
   values_at : (marks : ℕ → Bool) (n : ℕ) (ss : List Source) (vs : List (Name × Value)) → HaveValues ks marks n ss vs → (i : ℕ) (s : Source) → slice_get ss i ≡ Some s → value_of_rows (ground_of s.ty) (rows_at (marks (n + i)) ks s) ≡ slice_get (map (λ p. p.1) vs) i
   values_at marks n [] vs h i s is = absurd cc
   values_at marks n (x ∷ ss) vs h zero s is =
-      subst (λ (q : Source). value_of_rows (ground_of q.ty) (rows_at (marks (n + 0)) ks q) ≡ slice_get (map (λ p. p.1) vs) 0) (some_same is)
+      subst (λ (q : Source). value_of_rows (ground_of q.ty) (rows_at (marks (n + 0)) ks q) ≡ slice_get (map (λ p. p.1) vs) 0) (same_Some _ _ is)
       (ap (λ b. value_of_rows (ground_of x.ty) (rows_at b ks x)) (ap marks (add-zero n)) ∙ value_is (marks n) x h.0 h.3 ∙ ap (λ (us : List (Name × Value)). slice_get (map (λ p. p.1) us) 0) (sym h.2))
   values_at marks n (x ∷ ss) vs h (suc i) s is =
       ap (λ b. value_of_rows (ground_of s.ty) (rows_at b ks s)) (sym (shifts marks n i)) ∙ values_at marks (suc n) ss h.1 h.4 i s is
@@ -81,7 +76,7 @@ module _ (ks : List DriverKind) where
 
 grounds_at : (ss : List Source) (i : ℕ) (s : Source) → slice_get ss i ≡ Some s → slice_get (map (λ p. p.1) (grounds_of ss)) i ≡ Some (ground_of s.ty)
 grounds_at [] i s is = absurd cc
-grounds_at (x ∷ ss) zero s is = ap (λ (q : Source). Some (ground_of q.ty)) (some_same is)
+grounds_at (x ∷ ss) zero s is = ap (λ (q : Source). Some (ground_of q.ty)) (same_Some _ _ is)
 grounds_at (x ∷ ss) (suc i) s is = grounds_at ss i s is
 
 grounds_none : (ss : List Source) (i : ℕ) → slice_get ss i ≡ None → slice_get (map (λ p. p.1) (grounds_of ss)) i ≡ None
@@ -97,7 +92,7 @@ typed_told s (Some Missing) rows h e = absurd h
 typed_told s (Some (Bad place)) rows h e = absurd h
 typed_told s (Some (Long most)) rows h e = absurd h
 typed_told s (Some (Deep place)) rows h e = absurd h
-typed_told s (Some (Rows all)) rows h e = subst (AllByRecursion (Inhabits (item_of (ground_of s.ty)))) (some_same e) h
+typed_told s (Some (Rows all)) rows h e = subst (AllByRecursion (Inhabits (item_of (ground_of s.ty)))) (same_Some _ _ e) h
 
 module _ (ks : List DriverKind) (marks : ℕ → Bool) (ss : List Source) (placed : ArePlaced ks ss) (ds : List State) (stand : (i : ℕ) (s : Source) → slice_get ss i ≡ Some s → marks i ≡ true → Stands ks ds s) (list : List Attached) (list_is : list ≡ list_of marks 0 ss) (settings : Settings) (trace : Trace) where
   stands_in : (i : ℕ) (s : Source) → slice_get ss i ≡ Some s → slice_get list i ≡ Some (listed (marks i) s)
@@ -115,7 +110,7 @@ module _ (ks : List DriverKind) (marks : ℕ → Bool) (ss : List Source) (place
 
   typed_at : (i : ℕ) (s : Source) → slice_get ss i ≡ Some s → (b : Bool) → marks i ≡ b → (rows : List Value) → rows_at b ks s ≡ Some rows → AllByRecursion (Inhabits (item_of (ground_of s.ty))) rows
   typed_at i s is true mk rows e = typed_told s (contents ks s) rows (stand i s is mk).typed e
-  typed_at i s is false mk rows e = subst (AllByRecursion (Inhabits (item_of (ground_of s.ty)))) (some_same e) tt
+  typed_at i s is false mk rows e = subst (AllByRecursion (Inhabits (item_of (ground_of s.ty)))) (same_Some _ _ e) tt
 
   listed_as : (i : ℕ) (s : Source) → slice_get ss i ≡ Some s → (a : Attached) (t : AttachedSource) → listed (marks i) s ≡ a → t.ty ≡ s.ty → t.rows ≡ rows_at (marks i) ks s → IsListed a t
   listed_as i s is a t same_entry same_type same_rows = subst (λ (q : Attached). IsListed q t) same_entry (record {
@@ -129,8 +124,8 @@ module _ (ks : List DriverKind) (marks : ℕ → Bool) (ss : List Source) (place
   listed_in i None is a t entry source = absurd (let n = source_none i is in cc)
   listed_in i (Some s) is a t entry source =
       let p = source_is i s is in
-      let same : p.0 ≡ t = some_same (sym p.1 ∙ source) in
-      listed_as i s is a t (some_same (sym (stands_in i s is) ∙ entry)) (ap (λ (q : AttachedSource). q.ty) (sym same) ∙ p.2) (ap (λ (q : AttachedSource). q.rows) (sym same) ∙ p.3)
+      let same : p.0 ≡ t = same_Some _ _ (sym p.1 ∙ source) in
+      listed_as i s is a t (same_Some _ _ (sym (stands_in i s is) ∙ entry)) (ap (λ (q : AttachedSource). q.ty) (sym same) ∙ p.2) (ap (λ (q : AttachedSource). q.rows) (sym same) ∙ p.3)
 
   types_in : (i : ℕ) (o : Option Source) → slice_get ss i ≡ o → types_of (world_of ds list settings trace) i ≡ slice_get (map (λ p. p.1) (grounds_of ss)) i
   unfolding types_of

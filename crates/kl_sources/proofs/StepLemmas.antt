@@ -1,7 +1,7 @@
 -- Attaching sources one by one.
 use Rattle.std.proofs.Common.{◌≡◌, ◌≢◌, ◌⊎◌, ◌<◌, ◌≤◌, ℕ, ◌+◌, Bool, true, false, List, length, Option, Some, None, Result, Ok, Err, IsSome, refl, sym, ap, subst, ◌∙◌, arith, inl, inr, slice_get}
 use Rattle.std.proofs.lemmas.Bool.{cases_eq}
-use Rattle.std.proofs.lemmas.Option.{slice_get_within}
+use Rattle.std.proofs.lemmas.Option.{slice_get_within, same_Some}
 use Rattle.std.specs.Result.{IsOk}
 use Rattle.kl_base.specs.Counts.{Rose}
 use Rattle.kl_type.specs.declared.Ty.{Ty}
@@ -10,14 +10,15 @@ use Rattle.kl_ask.specs.Driver.{Source as AttachedSource, DriverKind, State, Sto
 use Rattle.kl_ask.specs.Lists.{AtIndex, StepsAt, EachSteps}
 use Rattle.kl_ask.specs.declared.ask.DriverError.{DriverError}
 use Rattle.kl_ask.specs.declared.ask.DriverError.TheVariants as error
-use Rattle.kl_ask.proofs.Worlds.{keeps_none, keeps_then, some_same}
+use Rattle.kl_ask.proofs.Worlds.{keeps_none, keeps_then}
 use Rattle.kl_sources.specs.declared.source.Source.{Source}
 use Rattle.kl_sources.specs.declared.walking.Refused.{Refused}
 use Rattle.kl_sources.specs.Sources.{ArePlaced, IsSuited, kinds_of, contents, contents_at}
 use Rattle.kl_sources.specs.Attaching.{HaveNone, IsErrorOf, IsUnreadable, HasTyped, Stands}
 use Rattle.kl_sources.specs.Walking.{IsMarkedBelow, MayAttachBelow, AttachesBelow, RefusesFor, StopsAt, SameEnd, AttachesIf}
-use Rattle.kl_sources.proofs.Lists.{element, of_all, mapped, unmapped}
+use Rattle.kl_sources.proofs.Lists.{element, of_all, unmapped}
 use Rattle.kl_sources.proofs.NameLemmas.{one_of_name}
+use Rattle.kl_base.proofs.Places.{get-map}
 
 below_more : (n : ℕ) (marks : ℕ → Bool) (ss : List Source) (x : Name) → IsMarkedBelow n marks ss x → IsMarkedBelow (n + 1) marks ss x
 below_more n marks ss x h = (h.0, h.1, omega (arith, h.2), h.3, h.4, h.5)
@@ -25,7 +26,7 @@ below_more n marks ss x h = (h.0, h.1, omega (arith, h.2), h.3, h.4, h.5)
 module _ (marks : ℕ → Bool) (ss : List Source) where
   pub begins : (ds : List State) → AttachesBelow 0 marks ss ds ds
   begins ds = record {
-    drivers = record { size = refl; each = λ i a b ha hb. subst (λ s. MayAttachBelow 0 marks ss a s) (some_same (sym ha ∙ hb)) (record { keeps = keeps_none a; cursors = refl; asked = refl; handed = refl; others = λ x never. refl }) };
+    drivers = record { size = refl; each = λ i a b ha hb. subst (λ s. MayAttachBelow 0 marks ss a s) (same_Some _ _ (sym ha ∙ hb)) (record { keeps = keeps_none a; cursors = refl; asked = refl; handed = refl; others = λ x never. refl }) };
     stand = λ i s lt is marked. absurd (omega (arith, lt));
   }
 
@@ -66,7 +67,7 @@ module _ (old : List State) (ss : List Source) (placed : ArePlaced (kinds_of old
       (at.0, at.1, subst (λ (k : DriverKind). k.suits s.ty ≡ true) (sym at.2) suited.2)
 
   contents_here : (s : Source) (d : State) → slice_get old s.driver ≡ Some d → contents (kinds_of old) s ≡ stored_by d.kind.stored s.locator s.ty
-  contents_here s d is = ap (contents_at s) (mapped (λ (d : State). d.kind) old s.driver d is)
+  contents_here s d is = ap (contents_at s) (get-map (λ (d : State). d.kind) old s.driver d is)
 
   module _ (clear : HaveNone old) (marks : ℕ → Bool) (n : ℕ) (mid : List State) (below : AttachesBelow n marks ss old mid) (s : Source) (is : slice_get ss n ≡ Some s) where
     -- the driver of the next source, as it is now
@@ -77,12 +78,12 @@ module _ (old : List State) (ss : List Source) (placed : ArePlaced (kinds_of old
         (d.0, e.0, d.1, e.1, below.drivers.each s.driver d.0 e.0 d.1 e.1)
 
     at_now : (P : State → Type 0) → P now.1 → AtIndex s.driver P mid
-    at_now P p = λ a there. subst P (some_same (sym now.3 ∙ there)) p
+    at_now P p = λ a there. subst P (same_Some _ _ (sym now.3 ∙ there)) p
 
     pub next_suits : AtIndex s.driver (λ d. d.kind.suits s.ty ≡ true) mid
     next_suits =
         let d = first_driver n s is in
-        at_now (λ d. d.kind.suits s.ty ≡ true) (subst (λ (k : DriverKind). k.suits s.ty ≡ true) (sym now.4.keeps.kind) (subst (λ (q : State). q.kind.suits s.ty ≡ true) (some_same (sym d.1 ∙ now.2)) d.2))
+        at_now (λ d. d.kind.suits s.ty ≡ true) (subst (λ (k : DriverKind). k.suits s.ty ≡ true) (sym now.4.keeps.kind) (subst (λ (q : State). q.kind.suits s.ty ≡ true) (same_Some _ _ (sym d.1 ∙ now.2)) d.2))
 
     pub next_fresh : AtIndex s.driver (λ d. d.attached s.name ≡ None) mid
     next_fresh = at_now (λ d. d.attached s.name ≡ None) (now.4.others s.name (λ h. absurd (let e : h.0 ≡ n = one_of_name ss h.0 n h.1 s placed.differ h.3 is h.5 in omega (arith, h.2, e))) ∙ clear s.driver now.0 now.2 s.name)
@@ -111,7 +112,7 @@ module _ (old : List State) (ss : List Source) (placed : ArePlaced (kinds_of old
               below.drivers.each i a b.0 ha b.1,
               elim (cases_eq i s.driver) [
                 | inl e ↦ inr (e, step.here b.0 c (ap (slice_get mid) (sym e) ∙ b.1) (ap (slice_get new) (sym e) ∙ hc))
-                | inr ne ↦ inl (some_same (sym b.1 ∙ sym (step.others i ne) ∙ hc))
+                | inr ne ↦ inl (same_Some _ _ (sym b.1 ∙ sym (step.others i ne) ∙ hc))
               ],
             )
 
@@ -147,7 +148,7 @@ module _ (old : List State) (ss : List Source) (placed : ArePlaced (kinds_of old
                 there = c.1;
                 attached = (elim (cases_eq t.driver s.driver) [
                   | inl e ↦ under st.driver c.0 (step.here st.driver c.0 (ap (slice_get mid) (sym e) ∙ st.there) (ap (slice_get new) (sym e) ∙ c.1)) t.name ne
-                  | inr away ↦ ap (λ (d : State). d.attached t.name) (some_same (sym c.1 ∙ step.others t.driver away ∙ st.there))
+                  | inr away ↦ ap (λ (d : State). d.attached t.name) (same_Some _ _ (sym c.1 ∙ step.others t.driver away ∙ st.there))
                 ]) ∙ st.attached;
                 count = st.count;
                 kept = st.kept;
@@ -160,7 +161,7 @@ module _ (old : List State) (ss : List Source) (placed : ArePlaced (kinds_of old
       attaches count step = record {
         drivers = framed (Ok count) step (λ b c g x never. g.others x (λ e. never (subst (IsMarkedBelow (n + 1) marks ss) (sym e) here_name)));
         stand = λ i t lt there is_marked. elim (cases_eq i n) [
-          | inl e ↦ subst (Stands (kinds_of old) new) (some_same (sym is ∙ ap (slice_get ss) (sym e) ∙ there)) stands_now
+          | inl e ↦ subst (Stands (kinds_of old) new) (same_Some _ _ (sym is ∙ ap (slice_get ss) (sym e) ∙ there)) stands_now
           | inr ne ↦ still_stands (Ok count) step (λ b c g x away. g.others x away) i t (omega (arith, lt, ne)) there is_marked
         ];
       }
@@ -188,8 +189,6 @@ module _ (old : List State) (ss : List Source) (placed : ArePlaced (kinds_of old
               }
 
       -- the source is refused
-      rose_since : (a b c : ℕ) → a ≤ b → Rose b c → Rose a c
-      rose_since a b c le h = omega (arith, le, h)
 
       untold : (IsTold now.1 → ⊥) → contents (kinds_of old) s ≡ None
       untold never = sym said ∙ by_stored now.1.kind.stored refl
@@ -201,13 +200,13 @@ module _ (old : List State) (ss : List Source) (placed : ArePlaced (kinds_of old
       unread_for : (e : DriverError) (w : Stored) (f : State) → slice_get new s.driver ≡ Some f → IsErrorOf w e → IsUnreadable e → Unreadable w (stored_at now.1 s.locator s.ty) now.1 f → RefusesFor (kinds_of old) s e old new
       unread_for e w f there error_of unreadable h = elim h [
         | inl stands ↦ inr (inl (w, error_of, sym said ∙ stands))
-        | inr none ↦ inr (inr (unreadable, untold none.0, (now.0, f, now.2, there, rose_since now.0.unread now.1.unread f.unread now.4.keeps.unread none.1)))
+        | inr none ↦ inr (inr (unreadable, untold none.0, (now.0, f, now.2, there, omega (arith, now.4.keeps.unread, none.1))))
       ]
 
       refused_for : (e : DriverError) (f : State) → slice_get new s.driver ≡ Some f → Attaches s.name s.locator s.ty (Err e) now.1 f → RefusesFor (kinds_of old) s e old new
       refused_for error.Failed f there g = elim (g.failed refl) [
         | inl missing ↦ inr (inl (Missing, refl, sym said ∙ missing))
-        | inr rose ↦ inl (inl (refl, (now.0, f, now.2, there, rose_since now.0.faults now.1.faults f.faults now.4.keeps.faults rose)))
+        | inr rose ↦ inl (inl (refl, (now.0, f, now.2, there, omega (arith, now.4.keeps.faults, rose))))
       ]
       refused_for (error.BadSource place) f there g = unread_for (error.BadSource place) (Bad place) f there refl tt (g.bad_source place refl)
       refused_for (error.TooLong most) f there g = unread_for (error.TooLong most) (Long most) f there refl tt (g.too_long most refl)

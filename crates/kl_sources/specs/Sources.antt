@@ -1,5 +1,5 @@
 -- The sources of a catalogue at their drivers, and what they come to.
-use Rattle.std.specs.Prelude.{◌≡◌, ◌⊎◌, ℕ, suc, Bool, true, false, ◌||◌, List, [], ◌∷◌, map, cond, nat_eq, Option, Some, None, Result, Ok, Err, slice_get, ⊤}
+use Rattle.std.specs.Prelude.{◌≡◌, ◌⊎◌, ℕ, suc, Bool, true, false, ◌||◌, List, [], ◌∷◌, map, cond, nat_eq, Option, Some, None, Result, Ok, Err, slice_get, ⊤, is_some}
 use Rattle.std.specs.List.{AllByRecursion, IsDistinct, list_any}
 use Rattle.std.specs.Option.{option_map}
 use Rattle.std.specs.Cmp.Lexicographic.{pointwise}
@@ -16,6 +16,7 @@ use Rattle.kl_catalogue.specs.declared.reading.Entry.{Entry}
 use Rattle.kl_sources.specs.declared.source.Source.{Source}
 use Rattle.kl_sources.specs.declared.placing.PlaceError.{PlaceError}
 use Rattle.kl_sources.specs.declared.placing.PlaceError.TheVariants.{Twice, NoDriver, Unsuited}
+use Rattle.kl_scope.specs.Senses.{entry_named}
 
 abbrev pub names_of : List Source → List Name
 names_of ss = map (λ s. s.name) ss
@@ -37,7 +38,7 @@ same = pointwise nat_eq
 
 -- a name that no entry may have: that of one before it, or a primitive's
 abbrev pub is_taken : List Name → Name → Bool
-is_taken before x = list_any (same x) before || list_any (λ r. same r.entry.name x) rows
+is_taken before x = list_any (same x) before || is_some (entry_named x)
 
 -- the first driver with a name, and its place
 abbrev pub driver_named : Name → List DriverKind → Option (ℕ × DriverKind)

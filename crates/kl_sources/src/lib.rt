@@ -1,5 +1,8 @@
 //! The sources of a program: which ones a catalogue names, at which drivers, and what comes of attaching those that the
 //! program mentions.
+//!
+//! What `rt plant` lets through here: bodies that answer want of memory, which no contract of this project ties to a
+//! refused growth. A test with ample memory calls each public function.
 #![tactic(auto)]
 
 mod attaching;

@@ -1,10 +1,9 @@
 //! Which sources a catalogue names.
-ghost use Rattle.std.specs.Prelude.{◌≡◌, ◌<◌, ◌^◌, ◌||◌, IfOk, All, length, map, [], None, true};
+ghost use Rattle.std.specs.Prelude.{◌≡◌, ◌<◌, ◌^◌, ◌||◌, IfOk, All, length, map, [], None, is_some, true};
 ghost use Rattle.std.specs.BTreeSet.{contains};
-ghost use Rattle.std.specs.List.{list_any};
 ghost use Rattle.kl_base.specs.Fields.{bytes_cmp};
 ghost use Rattle.kl_type.specs.Ground.{IsProper};
-ghost use Rattle.kl_prim.specs.Table.{rows};
+ghost use Rattle.kl_scope.specs.Senses.{entry_named};
 ghost use Rattle.kl_sources.specs.declared.placing.PlaceError.TheVariants.{NoMemory as WantOfMemory};
 ghost use Rattle.kl_sources.specs.Sources.{ArePlaced, IsFit, kinds_of, same, driver_named, sources_of};
 ghost use Rattle.kl_sources.specs.Sources as names;
@@ -14,7 +13,7 @@ use crate::source::Source;
 use kl_ask::{Driver, name_boxed, suits_boxed};
 use kl_base::{Label, NoMemory};
 use kl_catalogue::Entry;
-use kl_prim::table;
+use kl_scope::is_primitive;
 use std::alloc::{AllocFailed, Global};
 use std::collections::BTreeSet;
 use thiserror::Error;
@@ -87,18 +86,9 @@ pub fn place_sources(
 
 // Whether the name is one of these, or a primitive's.
 fn is_taken(taken: &BTreeSet<Label>, name: &Label) -> bool
-    ensures { result ≡ contains bytes_cmp taken.now name.now || list_any (λ r. same r.entry.name name.now) rows }
+    ensures { result ≡ contains bytes_cmp taken.now name.now || is_some (entry_named name.now) }
 {
     taken.contains(name) || is_primitive(name)
-}
-
-fn is_primitive(name: &Label) -> bool
-    ensures { result ≡ list_any (λ r. same r.entry.name name.now) rows }
-{
-    match table().find(name.slice()) {
-        Some(_) => true,
-        None => false,
-    }
 }
 
 // An entry at its driver.

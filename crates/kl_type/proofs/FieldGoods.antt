@@ -4,8 +4,8 @@ use Rattle.kl_lex.specs.declared.token.Sym.TheVariants as sy
 use Rattle.kl_lex.specs.declared.token.Placed.{Placed}
 use Rattle.kl_phrase.specs.Words.{heads, Phrase, One, Nothing, Behind, Or, Never}
 use Rattle.kl_phrase.specs.Readers.{Why, bad, Out, ok, fail, Reader, after, behind}
-use Rattle.kl_phrase.proofs.Theory.{Good, On, Has, To, Chain, good_one, good_nothing, good_both, good_behind, good_chain, good_pick, good_same, same_sound}
-use Rattle.kl_phrase.proofs.Firsts.{Stops, on_then, on_behind, off_nothing, has_then, has_behind}
+use Rattle.kl_phrase.proofs.Theory.{Good, On, Has, To, Chain, good_one, good_nothing, good_both, good_behind, good_chain, good_pick, good_same, same_sound, on_behind, has_behind}
+use Rattle.kl_phrase.proofs.Firsts.{Stops, on_then, off_nothing, has_then}
 use Rattle.kl_phrase.proofs.Kept.{Keeps, Kept, Takes, keeps_one, takes_one, keeps_nothing, keeps_both, keeps_behind, keeps_chain, keeps_pick, takes_behind}
 use Rattle.kl_phrase.proofs.Commit.{keeps_failing}
 use Rattle.kl_type.specs.declared.ground.Ty.{Ty}

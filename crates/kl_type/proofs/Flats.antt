@@ -9,11 +9,12 @@ use Rattle.kl_value.specs.declared.Kind.{Kind}
 use Rattle.kl_value.specs.declared.Kind.TheVariants as kind
 use Rattle.kl_phrase.specs.Words.{Phrase, Never}
 use Rattle.kl_phrase.specs.Readers.{Reader, one, pick}
-use Rattle.kl_phrase.proofs.Theory.{Good, Has, good_one, good_pick}
+use Rattle.kl_phrase.proofs.Theory.{Good, Has, good_one, good_pick, no}
 use Rattle.kl_phrase.proofs.Firsts.{Within, on_opened, off_on}
 use Rattle.kl_type.specs.declared.ground.Ty.{Ty}
 use Rattle.kl_type.specs.declared.ground.Ty.TheVariants as ty
-use Rattle.kl_type.specs.Grammar.{opener, closer, put, Coll, Rec, Var, AType, Reads}
+use Rattle.kl_lex.specs.Brackets.{opener, closer}
+use Rattle.kl_type.specs.Grammar.{put, Coll, Rec, Var, AType, Reads}
 use Rattle.kl_type.specs.Texts.{is_bracket, is_bracket_at}
 use Rattle.kl_type.specs.Descent as d
 use Rattle.kl_type.specs.Descent.{is_symbol, is_word, a_symbol, a_base, a_label}
@@ -68,9 +69,6 @@ flat_a_type e e' may h =
     (flat_opening (brackets sy.OpenList refl) (λ i. flat_coll e e' (h i) kind.List)
     (flat_opening (brackets sy.OpenRec refl) (λ i. flat_rec e e' (h i))
     (flat_opening (brackets sy.Lt refl) (λ i. flat_var e e' (h i)) (flat_one a_base)))))
-
-no : {X : Type 0} → IsTrue false → X
-no i = absurd (let z : false ≡ true = i in cc)
 
 pub flattens : (n : ℕ) → Flattens is_bracket (d.reads n) (flat_reads n)
 unfolding d.reads flat_reads

@@ -8,11 +8,12 @@ use Rattle.kl_value.specs.declared.Kind.{Kind}
 use Rattle.kl_value.specs.declared.Kind.TheVariants as kind
 use Rattle.kl_phrase.specs.Words.{Phrase, One, Nothing, Behind, Before, Or, Optional, Opened, Never}
 use Rattle.kl_phrase.specs.Readers.{Reader, pick, nothing}
-use Rattle.kl_phrase.proofs.Theory.{Good, On, Off, Has, Opens, good_one, good_nothing, good_made, good_behind, good_before, good_pick, good_opening, good_follow}
-use Rattle.kl_phrase.proofs.Firsts.{Heads, on_made, on_behind, off_on, off_or, off_opened, off_nothing, meets_on, heads_without, has_before, has_right, has_nothing, opens_behind, opens_made}
+use Rattle.kl_phrase.proofs.Theory.{Good, On, Off, Has, Opens, good_one, good_nothing, good_made, good_behind, good_before, good_pick, good_opening, good_follow, on_behind, no}
+use Rattle.kl_phrase.proofs.Firsts.{Heads, on_made, off_on, off_or, off_opened, off_nothing, meets_on, heads_without, has_before, has_right, has_nothing, opens_behind, opens_made}
 use Rattle.kl_type.specs.declared.ground.Ty.{Ty}
 use Rattle.kl_type.specs.declared.ground.Ty.TheVariants as ty
-use Rattle.kl_type.specs.Grammar.{IsSymbol, Symbol, IsBase, opener, closer, Fields, Coll, Rec, Var, AType, Reads}
+use Rattle.kl_lex.specs.Brackets.{opener, closer}
+use Rattle.kl_type.specs.Grammar.{IsSymbol, Symbol, IsBase, Fields, Coll, Rec, Var, AType, Reads}
 use Rattle.kl_type.specs.Descent as d
 use Rattle.kl_type.specs.Descent.{same_symbol, is_symbol, is_word}
 use Rattle.kl_type.proofs.TokenLemmas.{symbol_of, good_symbol, on_symbol, has_symbol, apart, word_no_symbol, symbol_no_word, decides_base, on_base, has_base}
@@ -121,9 +122,6 @@ good_a_type N may E W e good has_in =
 pub has_reads : (n : ℕ) → Has (Reads n)
 has_reads zero = has_a_type false Never
 has_reads (suc n) = has_a_type true (Reads n)
-
-no : {X : Type 0} → IsTrue false → X
-no i = absurd (let z : false ≡ true = i in cc)
 
 pub good_reads : (N n : ℕ) → Good N (Reads n) (Reads (suc n)) Free (d.reads n)
 unfolding d.reads

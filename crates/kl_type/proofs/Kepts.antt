@@ -10,10 +10,11 @@ use Rattle.kl_phrase.proofs.Kept.{Keeps, Rests, Takes, keeps_one, keeps_nothing,
 use Rattle.kl_phrase.proofs.Exact.{IsBad, Each}
 use Rattle.kl_type.specs.declared.ground.Ty.{Ty}
 use Rattle.kl_type.specs.declared.ground.Ty.TheVariants as ty
-use Rattle.kl_type.specs.Grammar.{opener, closer}
+use Rattle.kl_lex.specs.Brackets.{opener, closer}
 use Rattle.kl_type.specs.Descent as d
 use Rattle.kl_type.specs.Descent.{a_symbol, a_base}
 use Rattle.kl_type.proofs.FieldGoods.{FieldList, keeps_field, keeps_fields, takes_comma}
+use Rattle.kl_phrase.proofs.Theory.{no}
 
 module _ (Q : Why → List Placed → Type 0) (N M : ℕ) where
   keeps_mark : (s : Sym) → Keeps Q N M (d.mark s) (d.mark s)
@@ -37,9 +38,6 @@ module _ (Q : Why → List Placed → Type 0) (N M : ℕ) where
       (keeps_opening i j (λ h. keeps_coll e e' (k h) (k' h) kind.List)
       (keeps_opening i j (λ h. keeps_rec e e' (k h) (k' h))
       (keeps_opening i j (λ h. keeps_var e e' (k h) (k' h)) (keeps_one a_base)))))
-
-no : {X : Type 0} → IsTrue false → X
-no i = absurd (let z : false ≡ true = i in cc)
 
 -- at one depth all failures are kept
 pub same_reads : (Q : Why → List Placed → Type 0) (N M n : ℕ) → Keeps Q N M (d.reads n) (d.reads n)

@@ -1,5 +1,5 @@
 -- What the code's steps say of the descent.
-use Rattle.std.proofs.Common.{◌≡◌, ℕ, zero, suc, ◌<◌, Bool, true, false, cond, List, [], ◌∷◌, length, Option, Some, None, is_some, refl, sym, ap, subst, ◌∙◌, arith, Bor}
+use Rattle.std.proofs.Common.{◌≡◌, ℕ, zero, suc, ◌<◌, Bool, true, false, cond, List, [], ◌∷◌, length, Option, Some, None, is_some, refl, sym, ap, subst, ◌∙◌, arith}
 use Rattle.std.specs.Prelude.{nat_eq}
 use Rattle.std.specs.Cmp.Lexicographic.{pointwise}
 use Rattle.std.specs.BTreeMap.{is_at}
@@ -8,7 +8,6 @@ use Rattle.std.proofs.lemmas.Map.Text.{is_eq-slice_cmp}
 use Rattle.kl_base.specs.Fields.{bytes_cmp, field}
 use Rattle.kl_lex.specs.declared.token.Sym.{Sym}
 use Rattle.kl_lex.specs.declared.token.Sym.TheVariants as sy
-use Rattle.kl_lex.specs.declared.token.Tok.{Tok}
 use Rattle.kl_lex.specs.declared.token.Tok.TheVariants as tok
 use Rattle.kl_lex.specs.declared.token.Placed.{Placed}
 use Rattle.kl_value.specs.declared.Kind.{Kind}
@@ -20,11 +19,12 @@ use Rattle.kl_type.specs.declared.ground.Ty.TheVariants as ty
 use Rattle.kl_phrase.specs.declared.fault.Fault.{Fault}
 use Rattle.kl_phrase.specs.declared.fault.Fault.TheVariants as fault
 use Rattle.kl_phrase.specs.Gives.{Fails}
-use Rattle.kl_phrase.proofs.Failures.{fails_after, err_by}
-use Rattle.kl_type.specs.Grammar.{put, opener}
+use Rattle.kl_phrase.proofs.Failures.{fails_after}
+use Rattle.kl_lex.specs.Brackets.{opener}
+use Rattle.kl_type.specs.Grammar.{put}
 use Rattle.kl_type.specs.Descent as d
 use Rattle.kl_type.specs.Descent.{is_symbol, is_word, is_word_at, a_label, a_label_at, a_base, a_base_at, base_of, unless}
-use Rattle.kl_type.proofs.TokenLemmas.{apart}
+use Rattle.kl_type.proofs.TokenLemmas.{apart, no_word}
 use Rattle.kl_type.proofs.FieldGoods.{FieldList}
 use Rattle.kl_type.proofs.Kepts.{takes_next}
 
@@ -60,18 +60,7 @@ taken_free (Some t) w h = absurd cc
 
 module _ (fields : FieldList) (ts : List Placed) where
   pub no_label : heads is_word ts ≡ false → one (a_label fields) ts ≡ fail bad ts
-  no_label h = go ts h
-    where
-      at : (w : Tok) → is_word_at w ≡ false → a_label_at fields w ≡ None
-      at (tok.Sym found) h = refl
-      at (tok.Word w) h = absurd cc
-      at (tok.Int n) h = refl
-      at tok.Big h = refl
-      at (tok.Text w) h = refl
-
-      go : (ts : List Placed) → heads is_word ts ≡ false → one (a_label fields) ts ≡ fail bad ts
-      go [] h = refl
-      go (t ∷ ts) h = rw (at t.what h) refl
+  no_label h = no_word (λ word. unless (field word fields) word) ts h
 
   pub label_there : (w : List ℕ) (more : List Placed) → AheadWord w ts more → is_some (lookup (is_at (bytes_cmp w)) fields) ≡ true → one (a_label fields) ts ≡ fail bad ts
   label_there w more (t, e, h) there = let k : a_label fields t ≡ None = ap (a_label_at fields) h ∙ taken_there (field w fields) w (ap is_some (sym (found_is fields w)) ∙ there) in rw (e, k) refl
@@ -80,15 +69,7 @@ module _ (fields : FieldList) (ts : List Placed) where
   label_free w more (t, e, h) free = let k : a_label fields t ≡ Some w = ap (a_label_at fields) h ∙ taken_free (field w fields) w (ap is_some (sym (found_is fields w)) ∙ free) in rw (e, k) refl
 
 pub no_base : (ts : List Placed) → heads is_word ts ≡ false → one a_base ts ≡ fail bad ts
-no_base [] h = refl
-no_base (t ∷ ts) h = rw (at t.what h) refl
-  where
-    at : (w : Tok) → is_word_at w ≡ false → a_base_at w ≡ None
-    at (tok.Sym found) h = refl
-    at (tok.Word w) h = absurd cc
-    at (tok.Int n) h = refl
-    at tok.Big h = refl
-    at (tok.Text w) h = refl
+no_base = no_word base_of
 
 pub other_base : (ts more : List Placed) (w : List ℕ) → AheadWord w ts more → base_of w ≡ None → one a_base ts ≡ fail bad ts
 other_base ts more w (t, e, h) n = let k : a_base t ≡ None = ap a_base_at h ∙ n in rw (e, k) refl

@@ -1,21 +1,23 @@
 -- The phrases of one token, and what decides them.
-use Rattle.std.proofs.Common.{◌≡◌, ℕ, zero, suc, ◌+◌, ◌<◌, Bool, true, false, cond, List, [], ◌∷◌, length, Option, Some, None, inl, inr, if◌then◌else◌, refl, sym, ap, subst, ◌∙◌, codes, arith}
+use Rattle.std.proofs.Common.{◌≡◌, ℕ, suc, ◌+◌, ◌<◌, Bool, true, false, cond, List, [], ◌∷◌, length, replicate, Option, Some, None, inl, inr, if◌then◌else◌, refl, sym, ap, subst, ◌∙◌, codes, arith}
 use Rattle.std.specs.Str.{bytes_eq}
 use Rattle.std.proofs.lemmas.Slice.Eq.{bytes_eq-Decides}
+use Rattle.std.proofs.lemmas.List.{length-replicate}
 use Rattle.kl_base.specs.Fields.{field}
 use Rattle.kl_lex.specs.declared.token.Sym.{Sym}
 use Rattle.kl_lex.specs.contracts.token.Sym.{the_type}
 use Rattle.kl_lex.specs.declared.token.Tok.{Tok}
 use Rattle.kl_lex.specs.declared.token.Tok.TheVariants as tok
 use Rattle.kl_lex.specs.declared.token.Placed.{Placed}
-use Rattle.kl_phrase.specs.Words.{One}
-use Rattle.kl_phrase.proofs.Theory.{Good, Decides, On, Has, good_one}
+use Rattle.kl_phrase.specs.Words.{One, heads}
+use Rattle.kl_phrase.proofs.Theory.{Good, Decides, On, Has, good_one, only_true}
 use Rattle.kl_phrase.proofs.Firsts.{Without, on_one, has_one}
 use Rattle.kl_type.specs.declared.ground.Ty.{Ty}
 use Rattle.kl_type.specs.declared.ground.Ty.TheVariants as ty
 use Rattle.kl_type.specs.Grammar.{IsSymbol, Symbol, IsBase, IsLabel}
-use Rattle.kl_type.specs.Descent.{same_symbol, is_symbol_at, is_symbol, only_of, a_symbol, is_word_at, is_word, base_of, a_base_at, a_base, unless, a_label_at, a_label, mark}
+use Rattle.kl_type.specs.Descent.{same_symbol, is_symbol_at, is_symbol, a_symbol, is_word_at, is_word, base_of, a_base_at, a_base, unless, a_label_at, a_label, mark, of_word}
 use denote.Enum.Bare.{same_true, true_same}
+use Rattle.kl_phrase.specs.Readers.{one, fail, bad}
 
 -- ---- symbols
 
@@ -33,11 +35,7 @@ pub symbol_of : (s : Sym) (t : Placed) → is_symbol s t ≡ true → IsSymbol s
 symbol_of s t h = symbol_at s t.what h
 
 pub decides_symbol : (s : Sym) → Decides (IsSymbol s) (a_symbol s)
-decides_symbol s = (λ t x h. symbol_at s t.what (marked (is_symbol s t) x h), λ t x h. rw (at_symbol s t.what h) refl)
-  where
-    marked : (b : Bool) (x : Unit {0}) → only_of b ≡ Some x → b ≡ true
-    marked true x h = refl
-    marked false x h = absurd cc
+decides_symbol s = (λ t x h. symbol_at s t.what (only_true (is_symbol s t) x h), λ t x h. rw (at_symbol s t.what h) refl)
 
 pub good_symbol : {N : ℕ} (s : Sym) (C : List Placed → Type 0) → Good N (Symbol s) (Symbol s) C (mark s)
 good_symbol s C = good_one (decides_symbol s)
@@ -49,7 +47,7 @@ on_symbol s = on_one (λ t x h. at_symbol s t.what h)
 pub apart : (s r : Sym) → same_symbol s r ≡ false → Without (is_symbol s) (is_symbol r)
 apart s r ne t h = subst (λ (z : Tok). is_symbol_at r z ≡ false) (sym (symbol_at s t.what h)) ne
 
-abbrev a_token : Tok → Placed
+abbrev pub a_token : Tok → Placed
 a_token w = record { what = w; from = 0; to = 0 }
 
 pub has_symbol : (s : Sym) → Has (Symbol s)
@@ -68,6 +66,26 @@ word_no_symbol s t h = go t.what h
 pub symbol_no_word : (s : Sym) → Without (is_symbol s) is_word
 symbol_no_word s t h = subst (λ (z : Tok). is_word_at z ≡ false) (sym (symbol_at s t.what h)) refl
 
+-- ---- words
+
+pub word_is : {A : Type 0} (read : List ℕ → Option A) (w : Tok) (a : A) → of_word read w ≡ Some a → (word : List ℕ) × (w ≡ tok.Word word) × (read word ≡ Some a)
+word_is read (tok.Sym found) a h = absurd cc
+word_is read (tok.Word word) a h = (word, refl, h)
+word_is read (tok.Int n) a h = absurd cc
+word_is read tok.Big a h = absurd cc
+word_is read (tok.Text w) a h = absurd cc
+
+pub no_word : {A : Type 0} (read : List ℕ → Option A) (ts : List Placed) → heads is_word ts ≡ false → one (λ t. of_word read t.what) ts ≡ fail bad ts
+no_word read [] h = refl
+no_word {A} read (t ∷ ts) h = rw (at t.what h) refl
+  where
+    at : (w : Tok) → is_word_at w ≡ false → of_word read w ≡ None
+    at (tok.Sym found) h = refl
+    at (tok.Word w) h = absurd cc
+    at (tok.Int n) h = refl
+    at tok.Big h = refl
+    at (tok.Text w) h = refl
+
 -- ---- the types without others inside
 
 base_at : (w : List ℕ) (a : Ty) → base_of w ≡ Some a → (t : Placed) → t.what ≡ tok.Word w → IsBase t a
@@ -79,12 +97,8 @@ base_at w a h t e = go (bytes_eq w (codes "bool")) (bytes_eq w (codes "int")) (b
     go false false true x y z h = let k : a ≡ ty.Str = cc in inr (inr (e ∙ ap tok.Word ((bytes_eq-Decides w (codes "string")).0 z), k))
     go false false false x y z h = absurd cc
 
-a_base_is : (w : Tok) (a : Ty) → a_base_at w ≡ Some a → (t : Placed) → t.what ≡ w → IsBase t a
-a_base_is (tok.Sym found) a h t e = absurd cc
-a_base_is (tok.Word w) a h t e = base_at w a h t e
-a_base_is (tok.Int n) a h t e = absurd cc
-a_base_is tok.Big a h t e = absurd cc
-a_base_is (tok.Text w) a h t e = absurd cc
+a_base_is : (t : Placed) (a : Ty) → a_base t ≡ Some a → IsBase t a
+a_base_is t a h = let k = word_is base_of t.what a h in base_at k.0 a k.2 t k.1
 
 is_a_base : (t : Placed) (a : Ty) → IsBase t a → a_base t ≡ Some a
 is_a_base t a (inl (e, k)) = ap a_base_at e ∙ ap Some (sym k)
@@ -92,7 +106,7 @@ is_a_base t a (inr (inl (e, k))) = ap a_base_at e ∙ ap Some (sym k)
 is_a_base t a (inr (inr (e, k))) = ap a_base_at e ∙ ap Some (sym k)
 
 pub decides_base : Decides IsBase a_base
-decides_base = (λ t a h. a_base_is t.what a h t refl, λ t a h. is_a_base t a h)
+decides_base = (λ t a h. a_base_is t a h, λ t a h. is_a_base t a h)
 
 base_word : (t : Placed) (a : Ty) → IsBase t a → is_word t ≡ true
 base_word t a (inl (e, k)) = ap is_word_at e
@@ -112,11 +126,10 @@ unless_none None w x h = let k : w ≡ x = cc in (k, refl)
 unless_none (Some t) w x h = absurd cc
 
 label_at : (fields : List (List ℕ × Ty)) (w : Tok) (x : List ℕ) → a_label_at fields w ≡ Some x → (w ≡ tok.Word x) × (field x fields ≡ None)
-label_at fields (tok.Sym found) x h = absurd cc
-label_at fields (tok.Word w) x h = let k = unless_none (field w fields) w x h in (ap tok.Word k.0, subst (λ (z : List ℕ). field z fields ≡ None) k.0 k.1)
-label_at fields (tok.Int n) x h = absurd cc
-label_at fields tok.Big x h = absurd cc
-label_at fields (tok.Text w) x h = absurd cc
+label_at fields w x h =
+    let (v, is, free) = word_is (λ word. unless (field word fields) word) w x h in
+    let k = unless_none (field v fields) v x free in
+    (is ∙ ap tok.Word k.0, subst (λ (z : List ℕ). field z fields ≡ None) k.0 k.1)
 
 pub decides_label : (fields : List (List ℕ × Ty)) → Decides (IsLabel fields) (a_label fields)
 decides_label fields = (λ t x h. label_at fields t.what x h, λ t x h. ap (a_label_at fields) h.0 ∙ ap (λ (o : Option Ty). unless o x) h.1)
@@ -138,14 +151,5 @@ longer (f ∷ fields) label lt = go (bytes_eq label f.0) refl (longer fields lab
     go true h others = let k : length label ≡ length f.0 = ap length ((bytes_eq-Decides label f.0).0 h) in absurd (omega arith)
     go false h others = rw h others
 
-letters : ℕ → List ℕ
-letters zero = []
-letters (suc n) = 97 ∷ letters n
-
-length_letters : (n : ℕ) → length (letters n) ≡ n
-unfolding letters
-length_letters zero = refl
-length_letters (suc n) = ap suc (length_letters n)
-
 pub has_label : (fields : List (List ℕ × Ty)) → Has (One (IsLabel fields))
-has_label fields = let label = letters (suc (total fields)) in has_one (IsLabel fields) (a_token (tok.Word label)) label (refl, longer fields label (omega (arith, length_letters (suc (total fields)))))
+has_label fields = let label = replicate (suc (total fields)) 97 in has_one (IsLabel fields) (a_token (tok.Word label)) label (refl, longer fields label (omega (arith, length-replicate {A = ℕ} (suc (total fields)) 97)))

@@ -4,8 +4,8 @@ use Rattle.std.proofs.lemmas.Bool.Decides.{nat_tests}
 use Rattle.std.specs.Prelude.{OnOk}
 use Rattle.std.specs.List.{flat_map}
 use Rattle.kl_value.specs.declared.Kind.{Kind}
-use Rattle.kl_value.specs.Written.{with_commas}
-use Rattle.kl_type.specs.Written.{opening, closing, separator, type_layer, type_text, field_text}
+use Rattle.kl_value.specs.Written.{opening, closing, separator, with_commas}
+use Rattle.kl_type.specs.Written.{type_layer, type_text, field_text}
 use Rattle.kl_type.specs.declared.ground.Ty.{Ty, Ty-F, out-Ty, map-Ty, fold_out-Ty}
 use Rattle.kl_type.specs.declared.ground.Ty.TheVariants as ty
 

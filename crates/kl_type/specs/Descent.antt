@@ -9,12 +9,13 @@ use Rattle.kl_lex.specs.contracts.token.Sym.{the_type}
 use Rattle.kl_lex.specs.declared.token.Tok.{Tok}
 use Rattle.kl_lex.specs.declared.token.Tok.TheVariants as tok
 use Rattle.kl_lex.specs.declared.token.Placed.{Placed}
-use Rattle.kl_phrase.specs.Readers.{Reader, bad, deep, fail, one, nothing, both, behind, before, chain, made, pick, opening}
+use Rattle.kl_phrase.specs.Readers.{Reader, bad, deep, fail, one, nothing, both, behind, before, chain, made, pick, opening, only}
 use Rattle.kl_value.specs.declared.Kind.{Kind}
 use Rattle.kl_value.specs.declared.Kind.TheVariants as kind
 use Rattle.kl_type.specs.declared.ground.Ty.{Ty}
 use Rattle.kl_type.specs.declared.ground.Ty.TheVariants as ty
-use Rattle.kl_type.specs.Grammar.{put, opener, closer}
+use Rattle.kl_lex.specs.Brackets.{opener, closer}
+use Rattle.kl_type.specs.Grammar.{put}
 use denote.Enum.Bare.{sameb}
 
 -- ---- one token
@@ -29,12 +30,8 @@ is_symbol_at s _ = false
 abbrev pub is_symbol : Sym → Placed → Bool
 is_symbol s t = is_symbol_at s t.what
 
-abbrev pub only_of : Bool → Option (Unit {0})
-only_of true = Some tt
-only_of false = None
-
 abbrev pub a_symbol : Sym → Placed → Option (Unit {0})
-a_symbol s t = only_of (is_symbol s t)
+a_symbol s t = only (is_symbol s t)
 
 abbrev pub is_word_at : Tok → Bool
 is_word_at (tok.Word word) = true
@@ -43,12 +40,16 @@ is_word_at _ = false
 abbrev pub is_word : Placed → Bool
 is_word t = is_word_at t.what
 
+-- what a word is read as; any other token is not
+abbrev pub of_word : {A : Type 0} → (List ℕ → Option A) → Tok → Option A
+of_word read (tok.Word word) = read word
+of_word read _ = None
+
 abbrev pub base_of : List ℕ → Option Ty
 base_of word = if pointwise nat_eq word (codes "bool") then Some ty.Bool else if pointwise nat_eq word (codes "int") then Some ty.Int else if pointwise nat_eq word (codes "string") then Some ty.Str else None
 
 abbrev pub a_base_at : Tok → Option Ty
-a_base_at (tok.Word word) = base_of word
-a_base_at _ = None
+a_base_at = of_word base_of
 
 abbrev pub a_base : Placed → Option Ty
 a_base t = a_base_at t.what
@@ -58,8 +59,7 @@ unless None word = Some word
 unless (Some t) word = None
 
 abbrev pub a_label_at : List (List ℕ × Ty) → Tok → Option (List ℕ)
-a_label_at fields (tok.Word word) = unless (at_label word fields) word
-a_label_at fields _ = None
+a_label_at fields = of_word (λ word. unless (at_label word fields) word)
 
 abbrev pub a_label : List (List ℕ × Ty) → Placed → Option (List ℕ)
 a_label fields t = a_label_at fields t.what

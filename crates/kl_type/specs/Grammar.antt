@@ -6,6 +6,7 @@ use Rattle.kl_lex.specs.declared.token.Sym.{Sym}
 use Rattle.kl_lex.specs.declared.token.Sym.TheVariants as sym
 use Rattle.kl_lex.specs.declared.token.Tok.TheVariants as tok
 use Rattle.kl_lex.specs.declared.token.Placed.{Placed}
+use Rattle.kl_lex.specs.Brackets.{opener, closer}
 use Rattle.kl_phrase.specs.Words.{Phrase, One, Then, Behind, Before, Made, Or, Optional, Opened, Never}
 use Rattle.kl_value.specs.declared.Kind.{Kind}
 use Rattle.kl_value.specs.declared.Kind.TheVariants as kind
@@ -44,16 +45,6 @@ module _ (E : Phrase Placed Ty) where
 pub data MoreFields (E : Phrase Placed Ty) : List (List ℕ × Ty) → ℕ → List (List ℕ × Ty) → List Placed → Type 0 where
   no_more : {fields : List (List ℕ × Ty)} {n : ℕ} → MoreFields E fields n fields []
   one_more : {fields all : List (List ℕ × Ty)} {n : ℕ} {u v : List Placed} (f : List ℕ × Ty) → Behind (Symbol sym.Comma) (Field E fields) n f u → MoreFields E (put fields f) (n + length u) all v → MoreFields E fields n all (u ++ v)
-
-abbrev pub opener : Kind → Sym
-opener kind.Set = sym.OpenSet
-opener kind.Bag = sym.OpenBag
-opener kind.List = sym.OpenList
-
-abbrev pub closer : Kind → Sym
-closer kind.Set = sym.CloseSet
-closer kind.Bag = sym.CloseBag
-closer kind.List = sym.CloseList
 
 module _ (E : Phrase Placed Ty) where
   -- LABEL ":" type { "," LABEL ":" type }

@@ -27,6 +27,11 @@ abbrev pub at : List ℕ → Row → Option Ground
 at l no_row = None
 at l (row m t r) = cond (pointwise nat_eq l m) (Some t) (at l r)
 
+-- the labels of a row, in its order
+abbrev pub labels_in : Row → List (List ℕ)
+labels_in no_row = []
+labels_in (row l t r) = l ∷ labels_in r
+
 -- a label stands before each label of a row
 abbrev pub IsBefore : List ℕ → Row → Type 0
 IsBefore l r = (m : List ℕ) (t : Ground) → at m r ≡ Some t → bytes_cmp l m ≡ Less

@@ -1,19 +1,7 @@
 -- The text of a type.
-use Rattle.std.specs.Prelude.{ℕ, ◌==◌, cond, List, [], ◌++◌, map, codes}
-use Rattle.kl_value.specs.declared.Kind.{Kind}
-use Rattle.kl_value.specs.declared.Kind.TheVariants as kind
-use Rattle.kl_value.specs.Written.{with_commas}
+use Rattle.std.specs.Prelude.{ℕ, List, ◌++◌, map, codes}
+use Rattle.kl_value.specs.Written.{with_commas, opening, closing}
 use Rattle.kl_type.specs.declared.ground.Ty.{Ty, Ty-F, fold-Ty}
-
-abbrev pub opening : Kind → List ℕ
-opening kind.Set = codes "{"
-opening kind.Bag = codes "{|"
-opening kind.List = codes "[|"
-
-abbrev pub closing : Kind → List ℕ
-closing kind.Set = codes "}"
-closing kind.Bag = codes "|}"
-closing kind.List = codes "|]"
 
 -- one level, where the texts of what stands inside are given
 abbrev pub type_layer : Ty-F (List ℕ) → List ℕ
@@ -30,7 +18,3 @@ type_text = fold-Ty (List ℕ) type_layer
 -- a field: its label, and the text of its type
 abbrev pub field_text : List ℕ × Ty → List ℕ
 field_text f = f.0 ++ codes ": " ++ type_text f.1
-
--- what stands before the field at a place
-abbrev pub separator : ℕ → List ℕ
-separator place = cond (place == 0) [] (codes ", ")

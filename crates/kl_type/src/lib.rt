@@ -16,6 +16,6 @@ mod typed;
 
 pub use front::{byte_of, eat, want, word_at};
 pub use ground::{Ty, TyFields};
-pub use printing::{closing, opening, print_type, separator};
+pub use printing::print_type;
 pub use reading::{TypeError, read_front, read_type, type_laws};
 pub use typed::has;

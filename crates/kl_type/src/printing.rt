@@ -1,11 +1,11 @@
 //! The text of a type.
 ghost use Rattle.std.specs.Prelude.{◌≡◌, ◌++◌, IfOk, OnOk, map};
 ghost use Rattle.kl_value.specs.Written.{with_commas};
-ghost use Rattle.kl_type.specs.Written.{type_text, field_text, separator, opening, closing};
+ghost use Rattle.kl_type.specs.Written.{type_text, field_text};
 
 use crate::ground::Ty;
 use kl_base::{Label, NoMemory, Text};
-use kl_value::Kind;
+use kl_value::{closing, opening, separator};
 use std::alloc::Global;
 
 /// The text of the type: `bool`, `int`, `string`, `[title: string, vol: int]`, `<chr: int>`, `{int}`, `{|int|}` or
@@ -68,33 +68,4 @@ fn put(piece: &[u8], out: &mut Vec<u8>) -> Result<(), NoMemory>
 {
     out.extend_from_slice(piece)?;
     Ok(())
-}
-
-/// What stands before the field at a place: nothing, or a comma and a space.
-pub fn separator(place: usize) -> &'static [u8]
-    ensures { result.now ≡ separator place }
-{
-    if place == 0 { b"" } else { b", " }
-}
-
-/// The brackets that open a collection type: `{`, `{|`, `[|`.
-pub fn opening(kind: Kind) -> &'static [u8]
-    ensures { result.now ≡ opening kind }
-{
-    match kind {
-        Kind::Set => b"{",
-        Kind::Bag => b"{|",
-        Kind::List => b"[|",
-    }
-}
-
-/// The brackets that close a collection type: `}`, `|}`, `|]`.
-pub fn closing(kind: Kind) -> &'static [u8]
-    ensures { result.now ≡ closing kind }
-{
-    match kind {
-        Kind::Set => b"}",
-        Kind::Bag => b"|}",
-        Kind::List => b"|]",
-    }
 }

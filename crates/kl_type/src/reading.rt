@@ -7,7 +7,8 @@ ghost use Rattle.kl_lex.specs.declared.token.Sym.TheVariants as symbols;
 ghost use Rattle.kl_type.specs.declared.ground.Ty.{Ty as AType};
 ghost use Rattle.kl_type.specs.declared.reading.TypeError.TheVariants.{NoMemory as WantOfMemory};
 ghost use Rattle.kl_phrase.specs.Gives.{Gives};
-ghost use Rattle.kl_type.specs.Grammar.{Reads, opener, closer as closer_of};
+ghost use Rattle.kl_lex.specs.Brackets.{opener};
+ghost use Rattle.kl_type.specs.Grammar.{Reads};
 ghost use Rattle.kl_type.specs.Ground.{IsProper};
 ghost use Rattle.kl_type.specs.Descent.{is_symbol, is_word, a_base, base_of, a_label, field, fields, in_coll, in_rec, in_var, reads};
 ghost use Rattle.kl_phrase.specs.FirstPlaces.{OnePlace};
@@ -17,7 +18,7 @@ ghost use Rattle.kl_type.specs.Texts.{is_bracket};
 use crate::front::{byte_of, eat, want, word_at};
 use crate::ground::{Ty, TyFields};
 use kl_base::{Box, Label, NoMemory, Seq};
-use kl_lex::{Lexed, Placed, Sym, Tok, lex_all};
+use kl_lex::{Lexed, Placed, Sym, Tok, closer, lex_all};
 use kl_phrase::Fault;
 use kl_value::Kind;
 use std::alloc::{AllocFailed, Global};
@@ -118,16 +119,6 @@ fn opened(tokens: &[Placed]) -> Option<(Kind, &[Placed])>
     }
     let rest = eat(tokens, Sym::OpenList)?;
     Some((Kind::List, rest))
-}
-
-fn closer(kind: Kind) -> Sym
-    ensures { result ≡ closer_of kind }
-{
-    match kind {
-        Kind::Set => Sym::CloseSet,
-        Kind::Bag => Sym::CloseBag,
-        Kind::List => Sym::CloseList,
-    }
 }
 
 /// The fields in their order.

@@ -1,5 +1,5 @@
 -- What a sort and a `dedup` of values leave.
-use Rattle.std.proofs.Common.{◌≡◌, List, [], refl, sym, ap, subst, ◌∙◌, IsPermutation, IsSorted}
+use Rattle.std.proofs.Common.{◌≡◌, List, [], ◌∷◌, refl, sym, ap, subst, ◌∙◌, IsPermutation, IsSorted}
 use Rattle.std.specs.List.{All, dedup}
 use Rattle.std.proofs.lemmas.List.Elements.{recursion_from_All, All-from_recursion}
 use Rattle.std.specs.List.Retain.{IsFiltered, DiffersFromLast}
@@ -21,6 +21,19 @@ use Rattle.kl_value.specs.contracts.value.ValuePartialEq.TheImpl as equality
 use Rattle.kl_value.proofs.IsCanonicalLemmas.{set_made, bag_made, list_made, set_strict, bag_rising, IsSorting, rising}
 use Rattle.kl_value.proofs.OrderLemmas.{derived_is, compare_total, compare_exact}
 use Rattle.kl_base.proofs.SortedLemmas.{IsSorted-from_rising, sorted_is, all-sorted, IsRising-sorted, count-sorted, same_from_counts, same_from_members, IsStrictlySortedBy-dedup_sorted, members-to, members-from}
+
+-- no item, and one
+pub canonical-nil : (k : Kind) → canonical k [] ≡ collection k []
+unfolding canonical
+canonical-nil kind.Set = refl
+canonical-nil kind.Bag = refl
+canonical-nil kind.List = refl
+
+pub canonical-one : (k : Kind) (v : Value) → canonical k (v ∷ []) ≡ collection k (v ∷ [])
+unfolding canonical
+canonical-one kind.Set v = refl
+canonical-one kind.Bag v = refl
+canonical-one kind.List v = refl
 
 -- the derived `==` of two values
 pub eq_is : (v w : Value) → equality.ghosts.eq v w ≡ eq_by_cmp compare v w

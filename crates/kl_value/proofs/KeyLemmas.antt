@@ -1,5 +1,5 @@
 -- A value with a smaller key is smaller, so a sort by key and then value sorts.
-use Rattle.std.proofs.Common.{◌≡◌, ℕ, zero, suc, ◌+◌, ◌-◌, ◌*◌, ◌^◌, ◌<◌, ◌≤◌, ⊎_elim, ℤ, pos, negsuc, Bool, true, false, List, [], ◌∷◌, map, length, get_or, drop, Option, refl, sym, ap, ap₂, subst, ◌∙◌, arith, true≢false, Ordering, Less, Equal, Greater, is_lt, is_le, IsPermutation, IsSorted, add-one, drop-cons}
+use Rattle.std.proofs.Common.{◌≡◌, ℕ, zero, suc, ◌+◌, ◌-◌, ◌*◌, ◌^◌, ◌<◌, ◌≤◌, ⊎_elim, ℤ, pos, negsuc, Bool, true, false, List, [], ◌∷◌, map, length, get_or, drop, Option, refl, sym, ap, ap₂, subst, ◌∙◌, arith, Ordering, Less, Equal, Greater, is_lt, is_le, IsPermutation, IsSorted, add-one, drop-cons}
 use Rattle.std.proofs.Math.Nat.{pow-suc, mul-le-mul_right, pow-le-pow_right}
 use Rattle.std.specs.Cmp.{nat_cmp_is}
 use Rattle.std.specs.Bool.{OnTrue}
@@ -20,6 +20,7 @@ use Rattle.kl_value.specs.Order.{order_layer, compare}
 use Rattle.kl_value.specs.declared.value.Value.{Value, Value-F, out-Value}
 use Rattle.kl_value.specs.contracts.value.ValueOrd.TheImpl as derived
 use Rattle.kl_value.proofs.OrderLemmas.{compare-out, compare_total, compare_exact, derived_is}
+use Rattle.kl_base.proofs.Orders.{not_above}
 
 nat_less : (m n : ℕ) → m < n → nat_cmp m n ≡ Less
 nat_less m n h = sym (nat_cmp_is m n Less h)
@@ -133,11 +134,6 @@ turn_end bs i number past so_far =
 pub OnTrue-from : (r : Bool) (P : Type 0) → (r ≡ true → P) → OnTrue r P
 OnTrue-from true P h = h refl
 OnTrue-from false P h = tt
-
-not_above : (o : Ordering) → true ≡ is_le o → is_lt (ordering_reverse o) ≡ false
-not_above Less h = refl
-not_above Equal h = refl
-not_above Greater h = absurd (true≢false h)
 
 pub rise_is : (vs : List Value) (r : Bool) → IsAllAdjacentAnswer (λ v w b. b ≡ is_le (derived.ghosts.cmp v w)) vs r → OnTrue r (IsSorted compare vs)
 rise_is vs true h = λ k d low within. ap is_lt (compare_total.antisymm _ _) ∙ not_above _ (h k d within ∙ ap is_le (derived_is _ _))

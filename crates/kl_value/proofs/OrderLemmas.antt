@@ -1,6 +1,6 @@
 -- The order of values: its equation, and that the derived `cmp` is it.
 use Rattle.std.specs.FinMap.{IsAntisymmetric, nat_cmp-IsAntisymmetric, int_cmp-IsAntisymmetric, slice_cmp-IsAntisymmetric}
-use Rattle.std.proofs.Common.{Bool, true, false, ◌≡◌, ℕ, List, [], ◌∷◌, map, refl, sym, ap, ap₂, subst, ◌∙◌, Ordering, Less, Equal, Greater, is_eq}
+use Rattle.std.proofs.Common.{Bool, true, false, ◌≡◌, ℕ, List, [], ◌∷◌, map, refl, sym, ap, ap₂, subst, ◌∙◌, Ordering, Less, Equal, Greater}
 use Rattle.std.specs.Ordering.{bool_cmp, ordering_then}
 use Rattle.std.specs.Cmp.{IsTotalOrder}
 use Rattle.std.specs.Cmp.Lexicographic.{slice_cmp}
@@ -136,8 +136,3 @@ compare_exact = ind-Value IsExactAt (λ x y is w e.
     let level : order_layer compare x (out-Value w) ≡ Equal = ap (λ z. order_layer compare z (out-Value w)) (sym (out-roll-Value x)) ∙ (sym (compare-out (roll-Value x) w) ∙ e) in
     let same : x ≡ out-Value w = subst (λ z. order_layer compare z (out-Value w) ≡ Equal → z ≡ out-Value w) is (exact_layer y (out-Value w)) level in
     ap roll-Value same ∙ roll-out-Value w)
-
-pub tie_is : (o : Ordering) → is_eq o ≡ true → o ≡ Equal
-tie_is Less e = cc
-tie_is Equal e = refl
-tie_is Greater e = cc

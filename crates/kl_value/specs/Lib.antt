@@ -2,6 +2,7 @@ pub mod Canon
 pub mod IsCanonical
 pub mod Keys
 pub mod Order
+pub mod Quoted
 pub mod Shape
 pub mod Views
 pub mod Written

@@ -9,9 +9,11 @@ mod order;
 mod sorting;
 mod value;
 mod views;
+mod written;
 
 pub use kl_base::{Box, Label, NoMemory, Seq, Text, is_word};
 pub use measure::{depth, dup, dup_items};
 pub use order::{canon, canon_laws, cmp, order_laws};
 pub use value::{Fields, Items, Kind, Value};
 pub use views::{bool_of, bytes_of, field, int_of, into_items, into_parts, items_of, parts_of};
+pub use written::{closing, escaped, opening, separator};

@@ -38,6 +38,9 @@ fn flag<'a>(alloc: Global, name: &'a str) -> Arg<'a>
 }
 
 /// A command on a program and perhaps a catalogue.
+///
+/// # Errors
+/// Want of memory.
 pub fn program<'a>(alloc: Global, name: &'a str) -> Result<Command<'a>, AllocError>
     ensures { IfOk result (λ line. app_of line ≡ program_line name.entry.now) }
 {
@@ -47,6 +50,9 @@ pub fn program<'a>(alloc: Global, name: &'a str) -> Result<Command<'a>, AllocErr
 }
 
 /// `run`, with its options.
+///
+/// # Errors
+/// Want of memory.
 pub fn run<'a>(alloc: Global) -> Result<Command<'a>, AllocError>
     ensures { IfOk result (λ line. app_of line ≡ run_line) }
 {
@@ -62,6 +68,9 @@ pub fn run<'a>(alloc: Global) -> Result<Command<'a>, AllocError>
 }
 
 /// `show`, on a file.
+///
+/// # Errors
+/// Want of memory.
 pub fn show<'a>(alloc: Global) -> Result<Command<'a>, AllocError>
     ensures { IfOk result (λ line. app_of line ≡ show_line) }
 {

@@ -1,5 +1,5 @@
 use Rattle.std.proofs.Common.{sym, ap, ◌∙◌}
-use Rattle.kl_catalogue.specs.Keywords.{is_keyword}
+use Rattle.kl_lex.specs.Keywords.{is_keyword}
 use Rattle.kl_catalogue.proofs.Steps.{no_name, name_taken, name_free}
 use Rattle.kl_catalogue.proofs.front.name.Goals as goal
 

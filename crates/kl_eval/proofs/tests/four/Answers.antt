@@ -10,12 +10,10 @@ use Rattle.kl_value.specs.declared.Value.TheVariants as value
 use Rattle.kl_value.proofs.IsCanonicalLemmas.{int_made}
 use Rattle.kl_ask.specs.World.{types_of}
 use Rattle.kl_eval.proofs.tests.four.Goals as goal
+use Rattle.kl_outcome.proofs.PrimLemmas.{has_int}
 
 view_Const : (v : Value) → view (term.Const v) ≡ con v
 view_Const v = search (rules, the_lemmas)
 
-is_int : (n : ℤ) → Has int (value.Int n)
-is_int n = rw (value.outs-Int n) refl
-
 pub returns : goal.returns
-returns c env w is ready = ([], int, subst (HaveTypes []) (sym is) tt, subst (λ t. CoreTypes (types_of w) [] t int) (sym (view_Const (value.Int (pos 4)))) (is_int (pos 4), int_made (pos 4)), ready)
+returns c env w is ready = ([], int, subst (HaveTypes []) (sym is) tt, subst (λ t. CoreTypes (types_of w) [] t int) (sym (view_Const (value.Int (pos 4)))) (has_int (pos 4), int_made (pos 4)), ready)

@@ -3,7 +3,7 @@ use Rattle.std.specs.List.{AllByRecursion}
 use Rattle.kl_value.specs.declared.Value.{the_lemmas}
 use Rattle.kl_rows.specs.Places.{a_type, IsType, AreTypes}
 use Rattle.kl_forms.specs.Constants.{labelled}
-use Rattle.kl_forms.proofs.Many.{keep_all}
+use Rattle.kl_base.proofs.Each.{all_map}
 use Rattle.kl_forms.proofs.Shapes.{finds_some, finds_none}
 use Rattle.kl_forms.proofs.RowShapes.{labelled_types}
 use Rattle.kl_forms.proofs.Turns.{ItemHas, FieldHas, turn_none, turn_more, turn_fails, item_stable, item_check, items_end, type_at, field_stable, field_check, fields_fail, fields_end}
@@ -108,7 +108,7 @@ record-fields_have-requires t c = (
     c.in_ok-is_one.ensures.fine,
     (
       ap length c.deref-2.ensures.value ∙ c.in_ok-types.ensures.size,
-      subst (AllByRecursion (IsType c.is_record.new.u.cells.items)) (sym c.deref-2.ensures.value) (keep_all (IsType c.fresh_types.new.u.cells.items) (IsType c.is_record.new.u.cells.items) _ (λ i h. c.in_ok-is_one.ensures.keeps.sorts i a_type h) c.in_ok-types.ensures.sorts),
+      subst (AllByRecursion (IsType c.is_record.new.u.cells.items)) (sym c.deref-2.ensures.value) (all_map (IsType c.fresh_types.new.u.cells.items) (IsType c.is_record.new.u.cells.items) _ (λ i h. c.in_ok-is_one.ensures.keeps.sorts i a_type h) c.in_ok-types.ensures.sorts),
     ),
   ),
 )

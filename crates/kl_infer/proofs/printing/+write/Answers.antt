@@ -4,12 +4,12 @@ use Rattle.kl_infer.specs.Numbers.{Writes}
 use Rattle.kl_infer.specs.Printed.{rest_variables, tree_at}
 use Rattle.kl_infer.specs.Rows.{mark_behind}
 use Rattle.kl_infer.proofs.RowLemmas.{Fields, front_variables, front_texts, all_sorted, all_at, length_taken, take_whole}
-use Rattle.kl_infer.proofs.TreeLemmas.{same_read}
 use Rattle.kl_rows.specs.declared.schemes.Part.TheVariants.{Is}
 use Rattle.kl_rows.specs.declared.schemes.Node.TheVariants as node
 use Rattle.kl_infer.proofs.PageLemmas.{on_ok}
 use Rattle.kl_infer.proofs.Writing.{in_record, in_variant, in_collection, in_arrow, write_base, write_record, write_variant, write_collection, write_arrow, write_field, write_no_field, write_kind, write_any, is_any_type, is_any_row, is_any_kind, write_more, write_row}
 use Rattle.kl_infer.proofs.printing.+write.Goals as goal
+use Rattle.kl_base.proofs.Places.{same_read}
 
 pub write-write_row-requires : goal.write-write_row-requires
 write-write_row-requires t c =

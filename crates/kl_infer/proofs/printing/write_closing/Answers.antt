@@ -2,9 +2,9 @@ use Rattle.std.proofs.Common.{[], ◌∙◌, sym, ap, subst}
 use Rattle.kl_infer.specs.Numbers.{Writes}
 use Rattle.kl_infer.specs.Rows.{kind_of}
 use Rattle.kl_infer.proofs.PageLemmas.{on_ok}
-use Rattle.kl_infer.proofs.TreeLemmas.{same_read}
 use Rattle.kl_infer.proofs.Writing.{closing_open, closing_kind, closing_none}
 use Rattle.kl_infer.proofs.printing.write_closing.Goals as goal
+use Rattle.kl_base.proofs.Places.{same_read}
 
 pub returns-then-is_open : goal.returns-then-is_open
 returns-then-is_open c = on_ok _ _ c.put.result (closing_open c.args.parts.now c.args.kind c.index-parts-kind.result c.requires c.index-parts-kind.is _ _ (sym c.is_open.ensures ∙ c.if-is_open.true)) c.put.ensures

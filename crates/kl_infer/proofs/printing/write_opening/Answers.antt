@@ -2,9 +2,9 @@ use Rattle.std.proofs.Common.{[], ◌∙◌, sym, ap, subst}
 use Rattle.kl_infer.specs.Numbers.{Writes}
 use Rattle.kl_infer.specs.Rows.{kind_of}
 use Rattle.kl_infer.proofs.PageLemmas.{on_ok}
-use Rattle.kl_infer.proofs.TreeLemmas.{same_read}
 use Rattle.kl_infer.proofs.Writing.{opening_open, opening_kind, opening_none}
 use Rattle.kl_infer.proofs.printing.write_opening.Goals as goal
+use Rattle.kl_base.proofs.Places.{same_read}
 
 pub returns-then-is_open : goal.returns-then-is_open
 returns-then-is_open c = on_ok _ _ c.put.result

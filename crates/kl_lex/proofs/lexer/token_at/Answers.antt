@@ -1,6 +1,6 @@
 use Rattle.std.proofs.Common.{List, ℕ, subst, sym}
 use Rattle.kl_lex.specs.declared.token.Tok.TheVariants.{Text}
-use Rattle.kl_lex.specs.Spelling.{quote}
+use Rattle.kl_value.specs.Quoted.{quote}
 use Rattle.kl_lex.specs.Lexing.{Starts, NoneStarts}
 use Rattle.kl_lex.proofs.Firsts.{other_sort}
 use Rattle.kl_lex.proofs.Fronts.{begins}

@@ -1,5 +1,5 @@
 use Rattle.std.proofs.Common.{List, ℕ, MatchOption, sym, subst}
-use Rattle.kl_lex.specs.Spelling.{backslash}
+use Rattle.kl_value.specs.Quoted.{backslash}
 use Rattle.kl_lex.specs.Reading.{NoPart, PartFirst}
 use Rattle.kl_lex.proofs.Fronts.{first_and_rest, begins}
 use Rattle.kl_lex.proofs.Inside.{plain_first}

@@ -1,5 +1,5 @@
 use Rattle.std.proofs.Common.{◌≡◌, List, ℕ, ◌++◌, length}
-use Rattle.kl_lex.specs.Spelling.{Parts}
+use Rattle.kl_value.specs.Quoted.{Parts}
 use Rattle.kl_lex.proofs.quoted.text_at.Given as goal
 
 abbrev pub decreases-parts : goal.decreases-parts

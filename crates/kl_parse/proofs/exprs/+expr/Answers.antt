@@ -1,4 +1,4 @@
-use Rattle.std.proofs.Common.{rules, ◌-◌, ◌∷◌, [], length, arith, refl, ◌∙◌}
+use Rattle.std.proofs.Common.{rules, ◌-◌, ◌∷◌, [], arith, refl, ◌∙◌}
 use Rattle.std.proofs.lemmas.Result.{err_from_is_err_and}
 use Rattle.kl_lex.specs.declared.token.Sym.TheVariants.{Comma}
 use Rattle.kl_parse.specs.declared.operator.Level.TheVariants.{Compare}

@@ -5,7 +5,7 @@ use Rattle.kl_phrase.specs.Readers.{behind, others}
 use Rattle.kl_phrase.proofs.Gathered.{stops}
 use Rattle.kl_parse.specs.Kinds.{is_symbol}
 use Rattle.kl_parse.specs.Descent.{mark, label}
-use Rattle.kl_parse.proofs.Steps.{onward, fails_on, less, rests_label}
+use Rattle.kl_parse.proofs.Steps.{onward, fails_on, rests_label}
 use Rattle.kl_parse.proofs.exprs.labels.Goals as goal
 
 pub returns-in_err-next : goal.returns-in_err-next

@@ -1,4 +1,4 @@
-use Rattle.std.proofs.Common.{rules, ◌-◌, ◌∷◌, [], length, arith}
+use Rattle.std.proofs.Common.{rules, ◌-◌, ◌∷◌, [], arith}
 use Rattle.std.proofs.lemmas.Result.{err_from_is_err_and}
 use Rattle.kl_phrase.specs.Readers.{tails}
 use Rattle.kl_parse.specs.Descent.{read_pat, pat_turn}

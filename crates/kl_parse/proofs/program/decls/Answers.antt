@@ -1,6 +1,6 @@
 use Rattle.std.proofs.Common.{[]}
 use Rattle.std.proofs.lemmas.Result.{err_from_is_err_and}
-use Rattle.kl_parse.specs.declared.keyword.Keyword.TheVariants.{Define}
+use Rattle.kl_lex.specs.declared.keyword.Keyword.TheVariants.{Define}
 use Rattle.kl_phrase.specs.Readers.{others}
 use Rattle.kl_phrase.proofs.Gathered.{stops}
 use Rattle.kl_parse.specs.Kinds.{is_key}

@@ -1,7 +1,7 @@
 use Rattle.std.proofs.Common.{[], length}
-use Rattle.kl_phrase.specs.Readers.{behind, made, others}
+use Rattle.kl_phrase.specs.Readers.{others}
 use Rattle.kl_phrase.proofs.Gathered.{Progress}
-use Rattle.kl_parse.specs.declared.keyword.Keyword.TheVariants.{Define}
+use Rattle.kl_lex.specs.declared.keyword.Keyword.TheVariants.{Define}
 use Rattle.kl_parse.specs.Grammar.{whole}
 use Rattle.kl_parse.specs.Kinds.{is_key}
 use Rattle.kl_parse.specs.Descent.{read_pat, reads, decl}

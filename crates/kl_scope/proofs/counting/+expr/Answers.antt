@@ -5,10 +5,10 @@ use Rattle.kl_syntax.specs.declared.tree.Expr.{Expr}
 use Rattle.kl_syntax.specs.View.{view, rest_of, steps_view, pattern_view}
 use Rattle.kl_scope.specs.Caps.{capped}
 use Rattle.kl_scope.specs.Sizes.{leaf, sized, sized_branches}
-use Rattle.kl_scope.proofs.FindingLemmas.{at_item}
 use Rattle.kl_scope.proofs.SizeLemmas.{up_node, up_beside, up_matched, up_chosen, up_qualified, up_chained, up_projected, leaf_is, no_parts_is}
 use Rattle.kl_scope.proofs.SizeForms.{at_back, read_back, seen, qual_seen, at_expr, at_items, at_fields, at_quals, at_steps, at_labels, at_branches, call_form, record_form, coll_form, comp_form, if_form, let_form, case_form, chain_form, path_form, gen_form, cond_form, branch_form, const_form, inject_form, not_form, neg_form, items_more, items_none, fields_more, fields_none, steps_more}
 use Rattle.kl_scope.proofs.counting.+expr.Goals as goal
+use Rattle.kl_base.proofs.Places.{drop_at}
 
 pub branch-returns : goal.branch-returns
 branch-returns t c = λ rest h.
@@ -129,4 +129,4 @@ qual-returns-in-Cond t c = λ rest last h. qual_seen c.args.qual.now _ rest c.ch
 pub steps-steps-preserved : goal.steps-steps-preserved
 steps-steps-preserved t c =
     steps_more c.args.steps.now c.steps.step-index c.step-item.result c.node-size.result c.beside.result c.beside-parts.result c.expr.result c.third.result c.steps.size _ c.args.known.now
-    (at_item c.args.steps.now c.steps.step-index c.step-item.result c.steps-test.true c.step-item.is) c.node-size.ensures c.beside.ensures c.beside-parts.ensures c.expr.ensures c.third.ensures c.steps.invariant
+    (drop_at c.args.steps.now c.steps.step-index c.step-item.result c.steps-test.true c.step-item.is) c.node-size.ensures c.beside.ensures c.beside-parts.ensures c.expr.ensures c.third.ensures c.steps.invariant

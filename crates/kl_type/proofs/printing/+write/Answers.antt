@@ -1,7 +1,7 @@
 use Rattle.std.proofs.Common.{◌≡◌, ◌∙◌, ap, sym, [], ◌++◌, codes, ◌<◌, length, map, drop, List, arith, append-nil}
 use Rattle.std.proofs.lemmas.List.{drop_all}
-use Rattle.kl_value.specs.Written.{with_commas}
-use Rattle.kl_type.specs.Written.{closing, field_text, type_text}
+use Rattle.kl_value.specs.Written.{closing, with_commas}
+use Rattle.kl_type.specs.Written.{field_text, type_text}
 use Rattle.kl_type.proofs.WrittenLemmas.{Field, rest_text, rest_none, field_more, three, text-Rec, text-Var, text-Coll}
 use Rattle.kl_type.proofs.printing.+write.Goals as goal
 

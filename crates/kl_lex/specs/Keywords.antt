@@ -1,8 +1,8 @@
 -- The words that are no names.
-use Rattle.std.specs.Prelude.{ℕ, nat_eq, List, [], ◌∷◌, codes, find, Option}
+use Rattle.std.specs.Prelude.{ℕ, nat_eq, Bool, List, [], ◌∷◌, codes, find, Option, is_some}
 use Rattle.std.specs.Cmp.Lexicographic.{pointwise}
-use Rattle.kl_parse.specs.declared.keyword.Keyword.{Keyword}
-use Rattle.kl_parse.specs.declared.keyword.Keyword.TheVariants as key
+use Rattle.kl_lex.specs.declared.keyword.Keyword.{Keyword}
+use Rattle.kl_lex.specs.declared.keyword.Keyword.TheVariants as key
 
 -- how a keyword is written
 abbrev pub spelling : Keyword → List ℕ
@@ -28,3 +28,7 @@ all_keywords = key.And ∷ key.Case ∷ key.Define ∷ key.Else ∷ key.End ∷ 
 -- the keyword that is written so
 abbrev pub keyword_of : List ℕ → Option Keyword
 keyword_of word = find (λ k. pointwise nat_eq word (spelling k)) all_keywords
+
+-- a keyword, which names nothing
+abbrev pub is_keyword : List ℕ → Bool
+is_keyword word = is_some (keyword_of word)
