@@ -4,7 +4,7 @@ use Rattle.std.proofs.Math.Path.{fun_ext}
 use Rattle.std.proofs.lemmas.Bool.{cases_eq}
 use Rattle.std.proofs.lemmas.Grind.{common_steps}
 use Rattle.std.proofs.lemmas.Option.{gets, same_Some, slice_get_within}
-use Rattle.kl_ask.specs.Driver.{State, Keeps}
+use Rattle.kl_ask.specs.Driver.{State, KeepsState}
 use Rattle.kl_ask.specs.Lists.{StepsAt, EachSteps}
 use Rattle.kl_ask.specs.World.{World, IsReady, Moved, Quiet, at_driver, at_place, at_source, source_at, type_in, value_in, types_of, values_of}
 use Rattle.kl_ask.specs.declared.session.Attached.{Attached}
@@ -13,10 +13,10 @@ use Rattle.kl_ask.specs.declared.ask.DriverError.{DriverError}
 pub error_is : {x y : DriverError} → IsErrOf {T = ℕ} {E = DriverError} (Err x) y → x ≡ y
 error_is h = cc
 
-pub keeps_none : (s : State) → Keeps s s
+pub keeps_none : (s : State) → KeepsState s s
 keeps_none s = record { kind = refl; handed = omega arith; faults = omega arith; drifts = omega arith; no_drift = λ told. refl; unread = omega arith }
 
-pub keeps_then : (a b c : State) → Keeps a b → Keeps b c → Keeps a c
+pub keeps_then : (a b c : State) → KeepsState a b → KeepsState b c → KeepsState a c
 keeps_then a b c m n = record {
   kind = n.kind ∙ m.kind;
   handed = omega (arith, m.handed, n.handed);

@@ -72,7 +72,7 @@ IsTold s = IsSome s.kind.stored
 
 -- ---- what every call keeps
 
-pub record Keeps (old new : State) : Type 0 where
+pub record KeepsState (old new : State) : Type 0 where
   pub kind : new.kind ≡ old.kind
   pub handed : old.handed ≤ new.handed
   pub faults : old.faults ≤ new.faults
@@ -142,7 +142,7 @@ abbrev pub Unreadable : Stored → Option Stored → State → State → Type 0
 Unreadable why stored old new = (stored ≡ Some why) ⊎ ((IsTold old → ⊥) × Rose old.unread new.unread)
 
 pub record Attaches (source : Name) (locator : List ℕ) (ty : Ty) (result : Result ℕ DriverError) (old new : State) : Type 0 where
-  pub keeps : Keeps old new
+  pub keeps : KeepsState old new
   pub cursors : new.cursors ≡ old.cursors
   pub asked : new.asked ≡ old.asked
   pub handed : new.handed ≡ old.handed
@@ -201,7 +201,7 @@ abbrev pub OpensAt : Ask → State → Cursor → Type 0
 OpensAt (asks.Rows source keep tests) old cursor = (a : Source) → old.attached source ≡ Some a → IsFresh keep tests a cursor
 OpensAt (asks.Sql text) old cursor = ⊥
 
-pub record Opens (ask : Ask) (cursor : ℕ) (old new : State) : Type 0 where
+pub record OpensCursor (ask : Ask) (cursor : ℕ) (old new : State) : Type 0 where
   pub free : old.cursors cursor ≡ None
   pub opened : Cursor
   pub now : new.cursors cursor ≡ Some opened
@@ -211,10 +211,10 @@ pub record Opens (ask : Ask) (cursor : ℕ) (old new : State) : Type 0 where
   pub asked : new.asked ≡ with_ask ask old.asked
 
 pub record Starts (ask : Ask) (result : Result ℕ DriverError) (old new : State) : Type 0 where
-  pub keeps : Keeps old new
+  pub keeps : KeepsState old new
   pub attached : new.attached ≡ old.attached
   pub handed : new.handed ≡ old.handed
-  pub opens : IfOk result (λ cursor. Opens ask cursor old new)
+  pub opens : IfOk result (λ cursor. OpensCursor ask cursor old new)
   pub refused : OnErr result ((new.cursors ≡ old.cursors) × (new.asked ≡ old.asked))
   pub failed : IsErrOf result error.Failed → Rose old.faults new.faults
   pub no_other : OnErr result (IsErrOf result error.Failed ⊎ IsErrOf result error.NoMemory)
@@ -293,7 +293,7 @@ PullResult cursor most into into' c (Ok false) old new = PullsNone cursor into i
 PullResult cursor most into into' c (Err e) old new = PullRefused cursor e into into' c old new
 
 pub record Pulls (cursor most : ℕ) (into into' : List Value) (result : Result Bool DriverError) (old new : State) : Type 0 where
-  pub keeps : Keeps old new
+  pub keeps : KeepsState old new
   pub attached : new.attached ≡ old.attached
   pub asked : new.asked ≡ old.asked
   pub others : OtherCursors cursor old new
@@ -302,7 +302,7 @@ pub record Pulls (cursor most : ℕ) (into into' : List Value) (result : Result 
 -- ---- `finish`
 
 pub record Finishes (cursor : ℕ) (old new : State) : Type 0 where
-  pub keeps : Keeps old new
+  pub keeps : KeepsState old new
   pub attached : new.attached ≡ old.attached
   pub asked : new.asked ≡ old.asked
   pub handed : new.handed ≡ old.handed

@@ -6,7 +6,7 @@ use Rattle.kl_value.specs.declared.Value.{Value}
 use Rattle.kl_type.specs.Ground.{Ground, IsProper, ground_of}
 use Rattle.kl_outcome.specs.Typed.{Inhabits}
 use Rattle.kl_ask.specs.Asks.{item_of, kind_of}
-use Rattle.kl_ask.specs.Driver.{State, Source, Keeps, IsColl}
+use Rattle.kl_ask.specs.Driver.{State, Source, KeepsState, IsColl}
 use Rattle.kl_ask.specs.Lists.{EachSteps}
 use Rattle.kl_ask.specs.declared.session.Attached.{Attached}
 use Rattle.kl_ask.specs.declared.settings.Settings.{Settings}
@@ -71,7 +71,7 @@ pub record IsReady (w : World) : Type 0 where
 -- a driver that may have been scanned: what is attached is as it was, no cursor was left open, and none closed that was
 -- open before
 pub record Quiet (old new : State) : Type 0 where
-  pub keeps : Keeps old new
+  pub keeps : KeepsState old new
   pub attached : new.attached ≡ old.attached
   pub cursors : new.cursors ≡ old.cursors
 

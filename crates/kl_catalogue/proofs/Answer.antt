@@ -14,7 +14,7 @@ use Rattle.kl_catalogue.specs.declared.reading.Entry.{Entry}
 use Rattle.kl_catalogue.specs.declared.reading.CatalogueError.{CatalogueError}
 use Rattle.kl_catalogue.specs.declared.reading.CatalogueError.TheVariants.{Bad, TooDeep, NoMemory}
 use Rattle.kl_catalogue.specs.Grammar.{ReadsCatalogue}
-use Rattle.kl_catalogue.specs.Reading.{SpellsCatalogue, IsToldOf, Refuses, RefusesTokens}
+use Rattle.kl_catalogue.specs.Reading.{SpellsCatalogue, IsToldOf, RefusesCatalogue, RefusesTokens}
 use Rattle.kl_catalogue.specs.Descent as d
 use Rattle.kl_catalogue.specs.Descent.{is_source}
 use Rattle.kl_catalogue.proofs.Goods.{exactly, firstly, flat_catalogue, rests_catalogue}
@@ -42,7 +42,7 @@ told_by ts (fail deep r) h = inr (inr (length ts - length r, h.1))
 pub told : (ts : List Placed) → IsToldOf ts
 told ts = told_by ts (ended (d.catalogue 256 ts)) (answers ts)
 
-pub refused_so : (bytes : List ℕ) (ts : List Placed) → PlacedTokens bytes ts → (r : Result (List Entry) CatalogueError) → RefusesTokens (length bytes) ts r → Refuses bytes r
+pub refused_so : (bytes : List ℕ) (ts : List Placed) → PlacedTokens bytes ts → (r : Result (List Entry) CatalogueError) → RefusesTokens (length bytes) ts r → RefusesCatalogue bytes r
 refused_so bytes ts found (Ok c) h = tt
 refused_so bytes ts found (Err (Bad byte)) h = inr (ts, found, h)
 refused_so bytes ts found (Err (TooDeep byte)) h = (ts, found, h)

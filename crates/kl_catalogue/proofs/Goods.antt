@@ -20,7 +20,7 @@ use Rattle.kl_type.proofs.Kepts.{same_reads, more_reads}
 use Rattle.kl_phrase.proofs.FirstPlaces.{Flattens, Firstly, flat_one, flat_nothing, flat_chain, flat_made, flat_both, flat_behind, flat_before, flat_pick}
 use Rattle.kl_type.proofs.Flats.{flat_reads, flattens, good_flat}
 use Rattle.kl_catalogue.specs.declared.reading.Entry.{Entry}
-use Rattle.kl_catalogue.specs.Grammar.{IsSource, IsName, IsText, entry_of, Described, AnEntry, ReadsCatalogue}
+use Rattle.kl_catalogue.specs.Grammar.{IsSource, IsName, IsTextToken, entry_of, Described, AnEntry, ReadsCatalogue}
 use Rattle.kl_catalogue.specs.Descent as d
 use Rattle.kl_catalogue.specs.Descent.{is_source, a_source, a_name, a_text}
 use Rattle.kl_catalogue.proofs.Lexemes.{decides_source, on_source, decides_name, has_name, decides_text, has_text}
@@ -28,10 +28,10 @@ use Rattle.kl_catalogue.proofs.Lexemes.{decides_source, on_source, decides_name,
 -- ---- the words of the grammar
 
 abbrev Located : Phrase Placed (List ℕ × List ℕ)
-Located = Then (Behind (Symbol sy.Eq) (One IsName)) (One IsText)
+Located = Then (Behind (Symbol sy.Eq) (One IsName)) (One IsTextToken)
 
 has_located : Has Located
-has_located = has_then (Behind (Symbol sy.Eq) (One IsName)) (One IsText) (has_behind (Symbol sy.Eq) (One IsName) (has_symbol sy.Eq) has_name) has_text
+has_located = has_then (Behind (Symbol sy.Eq) (One IsName)) (One IsTextToken) (has_behind (Symbol sy.Eq) (One IsName) (has_symbol sy.Eq) has_name) has_text
 
 module _ (W : Phrase Placed Ty) (has_in : Has W) where
   has_typed : Has (Then (Behind (Symbol sy.Colon) W) Located)

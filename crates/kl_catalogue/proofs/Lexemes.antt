@@ -9,7 +9,7 @@ use Rattle.kl_phrase.proofs.Firsts.{on_one, has_one}
 use Rattle.kl_type.proofs.TokenLemmas.{a_token, word_is}
 use Rattle.kl_phrase.specs.Readers.{only}
 use Rattle.kl_lex.specs.Keywords.{is_keyword}
-use Rattle.kl_catalogue.specs.Grammar.{IsSource, IsName, IsText}
+use Rattle.kl_catalogue.specs.Grammar.{IsSource, IsName, IsTextToken}
 use Rattle.kl_catalogue.specs.Descent.{is_source_at, is_source, a_source, unless_keyword, a_name_at, a_name, a_text_at, a_text}
 
 -- ---- "source"
@@ -57,8 +57,8 @@ text_at (tok.Int n) x h = absurd cc
 text_at tok.Big x h = absurd cc
 text_at (tok.Text w) x h = let k : w ≡ x = cc in ap tok.Text k
 
-pub decides_text : Decides IsText a_text
+pub decides_text : Decides IsTextToken a_text
 decides_text = (λ t x h. text_at t.what x h, λ t x h. ap a_text_at h)
 
-pub has_text : Has (One IsText)
-has_text = has_one IsText (a_token (tok.Text (codes "a"))) (codes "a") refl
+pub has_text : Has (One IsTextToken)
+has_text = has_one IsTextToken (a_token (tok.Text (codes "a"))) (codes "a") refl

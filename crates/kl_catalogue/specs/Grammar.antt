@@ -20,8 +20,8 @@ abbrev pub IsName : Placed → List ℕ → Type 0
 IsName t name = (t.what ≡ tok.Word name) × (is_keyword name ≡ false)
 
 -- TEXT
-abbrev pub IsText : Placed → List ℕ → Type 0
-IsText t text = t.what ≡ tok.Text text
+abbrev pub IsTextToken : Placed → List ℕ → Type 0
+IsTextToken t text = t.what ≡ tok.Text text
 
 -- ---- entries
 
@@ -35,7 +35,7 @@ entry_of x = record { name = x.0; ty = x.1.0; driver = x.1.1.0; locator = x.1.1.
 module _ (E : Phrase Placed Ty) where
   -- NAME ":" type "=" NAME TEXT
   abbrev pub Described : Phrase Placed Parts
-  Described = Then (One IsName) (Then (Behind (Symbol sym.Colon) E) (Then (Behind (Symbol sym.Eq) (One IsName)) (One IsText)))
+  Described = Then (One IsName) (Then (Behind (Symbol sym.Colon) E) (Then (Behind (Symbol sym.Eq) (One IsName)) (One IsTextToken)))
 
   -- entry := "source" NAME ":" type "=" NAME TEXT ";"
   abbrev pub AnEntry : Phrase Placed Entry

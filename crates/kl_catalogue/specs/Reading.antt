@@ -1,7 +1,7 @@
 -- Which bytes are which catalogue, and where those that are none go wrong.
 use Rattle.std.specs.Prelude.{◌≡◌, ℕ, List, Result, Ok, Err, ◌⊎◌}
 use Rattle.kl_lex.specs.declared.token.Placed.{Placed}
-use Rattle.kl_type.specs.Texts.{Spells, IsText, IsBadAt, IsDeepAt, AtBad, AtDeep, BadText, DeepText}
+use Rattle.kl_type.specs.Texts.{Spells, IsTextOf, IsBadAt, IsDeepAt, AtBad, AtDeep, BadText, DeepText}
 use Rattle.kl_catalogue.specs.declared.reading.Entry.{Entry}
 use Rattle.kl_catalogue.specs.declared.reading.CatalogueError.{CatalogueError}
 use Rattle.kl_catalogue.specs.declared.reading.CatalogueError.TheVariants.{Bad, TooDeep, NoMemory}
@@ -13,16 +13,11 @@ SpellsCatalogue = Spells ReadsCatalogue
 
 -- the bytes are this catalogue
 abbrev pub IsCatalogue : List ℕ → List Entry → Type 0
-IsCatalogue = IsText ReadsCatalogue
+IsCatalogue = IsTextOf ReadsCatalogue
 
 -- the tokens are a catalogue, or have a place where no catalogue goes on, or a bracket that nests too deep
 abbrev pub IsToldOf : List Placed → Type 0
 IsToldOf ts = ((c : List Entry) × SpellsCatalogue ts c) ⊎ (((k : ℕ) × IsBadAt ReadsCatalogue ts k) ⊎ ((k : ℕ) × IsDeepAt ReadsCatalogue ts k))
-
--- the answer is this catalogue, or want of memory
-abbrev pub OrMemory : Result (List Entry) CatalogueError → List Entry → Type 0
-OrMemory (Ok found) c = found ≡ c
-OrMemory (Err e) c = e ≡ NoMemory
 
 -- what is refused of these tokens, of a text of so many bytes
 abbrev pub RefusesTokens : ℕ → List Placed → Result (List Entry) CatalogueError → Type 0
@@ -32,8 +27,8 @@ RefusesTokens total ts (Err (TooDeep byte)) = AtDeep ReadsCatalogue total ts byt
 RefusesTokens total ts (Err NoMemory) = Unit {0}
 
 -- what is refused of these bytes
-abbrev pub Refuses : List ℕ → Result (List Entry) CatalogueError → Type 0
-Refuses bytes (Ok c) = Unit {0}
-Refuses bytes (Err (Bad byte)) = BadText ReadsCatalogue bytes byte
-Refuses bytes (Err (TooDeep byte)) = DeepText ReadsCatalogue bytes byte
-Refuses bytes (Err NoMemory) = Unit {0}
+abbrev pub RefusesCatalogue : List ℕ → Result (List Entry) CatalogueError → Type 0
+RefusesCatalogue bytes (Ok c) = Unit {0}
+RefusesCatalogue bytes (Err (Bad byte)) = BadText ReadsCatalogue bytes byte
+RefusesCatalogue bytes (Err (TooDeep byte)) = DeepText ReadsCatalogue bytes byte
+RefusesCatalogue bytes (Err NoMemory) = Unit {0}

@@ -13,7 +13,8 @@ ghost use Rattle.kl_catalogue.specs.declared.reading.Entry.{Entry as AnEntry};
 ghost use Rattle.kl_catalogue.specs.declared.reading.CatalogueError.TheVariants.{NoMemory as WantOfMemory};
 ghost use Rattle.kl_catalogue.specs.Grammar.{ReadsCatalogue};
 ghost use Rattle.kl_catalogue.specs.Descent.{entry_rest, catalogue};
-ghost use Rattle.kl_catalogue.specs.Reading.{IsCatalogue, SpellsCatalogue, IsToldOf, OrMemory, Refuses, RefusesTokens};
+ghost use Rattle.kl_base.specs.Results.{OrMemory};
+ghost use Rattle.kl_catalogue.specs.Reading.{IsCatalogue, SpellsCatalogue, IsToldOf, RefusesCatalogue, RefusesTokens};
 
 use crate::front::{name, source, text};
 use kl_base::{Label, NoMemory, Seq, Text};
@@ -114,7 +115,7 @@ fn catalogue_of(alloc: Global, total: usize, tokens: &[Placed]) -> Result<Catalo
     requires short { total ≤ 65536 }
     requires places { PlacesRise 0 total (map token_of tokens.now) }
     ensures spells { IfOk result (SpellsCatalogue tokens.now) }
-    ensures only { (c : List AnEntry) → SpellsCatalogue tokens.now c → OrMemory result c }
+    ensures only { (c : List AnEntry) → SpellsCatalogue tokens.now c → OrMemory WantOfMemory result c }
     ensures refused { RefusesTokens total tokens.now result }
 {
     match entries(alloc, tokens) {
@@ -145,8 +146,8 @@ pub fn read_catalogue(alloc: Global, bytes: &[u8]) -> Result<Catalogue, Catalogu
     requires { length bytes.now ≤ 65536 }
     ensures reads { IfOk result (IsCatalogue bytes.now) }
     ensures proper { IfOk result (λ c. All (λ e. IsProper e.ty) c) }
-    ensures only { (c : List AnEntry) → IsCatalogue bytes.now c → OrMemory result c }
-    ensures refused { Refuses bytes.now result }
+    ensures only { (c : List AnEntry) → IsCatalogue bytes.now c → OrMemory WantOfMemory result c }
+    ensures refused { RefusesCatalogue bytes.now result }
 {
     match lex_all(alloc, bytes)? {
         Lexed::Bad { byte } => Err(CatalogueError::Bad { byte: byte as u32 }),

@@ -20,8 +20,8 @@ use Rattle.kl_core.proofs.Views as core
 use Rattle.kl_meaning.specs.Run.{in_order}
 use Rattle.kl_desugar.specs.Translation.{Scope, Codes, here, tree, tree_all, tree_fields, tree_branches, tree_steps, called_tree, projected, matched_here, no_sense, codes_after}
 use Rattle.kl_desugar.specs.Layers.{Layered, missed, wrapped}
-use Rattle.kl_desugar.specs.Opening.{Opens}
-use Rattle.kl_desugar.specs.States.{Asks, field_of, arm_of}
+use Rattle.kl_desugar.specs.Opening.{OpensQuals}
+use Rattle.kl_desugar.specs.States.{AsksPattern, field_of, arm_of}
 use Rattle.kl_desugar.proofs.Wrapping.{matched_is, quals_are}
 use Rattle.kl_syntax.proofs.Views.{view_Coll, view_Comp, view_Let, view_Rec, view_Case, branch_seen, view_Call, view_Inj, view_Path, view_Chain}
 
@@ -35,7 +35,7 @@ coll_is e k es fs ts us codes S p q r h =
     rw (p, view_Coll, core.view_Make, r, h, q) (ap (term.make k) (sym (trees_are es codes S)))
 
 pub comp_is : (e : Expr) (k : Kind) (a b : Expr) (qs rs : List Qual) (t u : Term) (codes : Codes) (S R : Scope) (ls : List Layered) → e ≡ expr.Comp k a qs → b ≡ a → rs ≡ qs
-    → Opens (quals_view rs) k codes S R [] ls → term.view t ≡ tree (view b) codes R
+    → OpensQuals (quals_view rs) k codes S R [] ls → term.view t ≡ tree (view b) codes R
     → term.view u ≡ wrapped (missed (Some k)) ls (term.make k (term.trees (term.view t) term.no_trees)) → term.view u ≡ tree (view e) codes S
 comp_is e k a b qs rs t u codes S R ls p q r o h w =
     rw (p, view_Comp, w, h, q, o.layers, o.scope, r) (sym (quals_are (quals_view qs) k _ codes S))
@@ -44,12 +44,12 @@ pub let_is : (e : Expr) (p : Pattern) (a b c d : Expr) (q : Pattern) (t u w : Te
     → term.view t ≡ tree (view c) codes S → term.view u ≡ matched_here (pattern_view q) codes S no_sense (λ R. tree (view d) codes R) → term.view (code.Let t w) ≡ tree (view e) codes S
 let_is e p a b c d q t u w codes S i j k l m n h = rw (i, view_Let, core.view_Let, n, m, h, j, k, l) refl
 
-pub within_is : (p : Pattern) (e : Expr) (codes : Codes) (S R Q : Scope) (ls : List Layered) (t u : Term) → Q ≡ R → Asks (pattern_view p) (here (length S)) codes S (None ∷ S) R [] ls
+pub within_is : (p : Pattern) (e : Expr) (codes : Codes) (S R Q : Scope) (ls : List Layered) (t u : Term) → Q ≡ R → AsksPattern (pattern_view p) (here (length S)) codes S (None ∷ S) R [] ls
     → term.view t ≡ tree (view e) codes Q → term.view u ≡ wrapped (missed None) ls (term.view t) → term.view u ≡ matched_here (pattern_view p) codes S no_sense (λ R. tree (view e) codes R)
 within_is p e codes S R Q ls t u m o h f =
     rw (f, h, m, o.layers, o.scope) (sym (matched_is (pattern_view p) (here (length S)) codes S _ (λ Q. tree (view e) codes Q) (None ∷ S)))
 
-pub within_ok : {X : Type 0} (r : Result Term X) (p : Pattern) (e : Expr) (codes : Codes) (S R Q : Scope) (ls : List Layered) (t : Term) → Q ≡ R → Asks (pattern_view p) (here (length S)) codes S (None ∷ S) R [] ls
+pub within_ok : {X : Type 0} (r : Result Term X) (p : Pattern) (e : Expr) (codes : Codes) (S R Q : Scope) (ls : List Layered) (t : Term) → Q ≡ R → AsksPattern (pattern_view p) (here (length S)) codes S (None ∷ S) R [] ls
     → term.view t ≡ tree (view e) codes Q → IfOk r (λ u. term.view u ≡ wrapped (missed None) ls (term.view t)) → IfOk r (λ u. term.view u ≡ matched_here (pattern_view p) codes S no_sense (λ R. tree (view e) codes R))
 within_ok (Ok u) p e codes S R Q ls t m o h f = within_is p e codes S R Q ls t u m o h f
 within_ok (Err x) p e codes S R Q ls t m o h f = tt

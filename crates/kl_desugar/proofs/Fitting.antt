@@ -7,7 +7,7 @@ use Rattle.kl_outcome.specs.Outcome.{Name}
 use Rattle.kl_outcome.specs.Typed.{PrimTypes}
 use Rattle.kl_syntax.specs.Syntax.{Pat, catch, any, same, is, shape, variant, Pats, no_pats, pats}
 use Rattle.kl_meaning.specs.Tidy.{IsSurePattern, AreSurePatterns}
-use Rattle.kl_meaning.specs.Typing.{Context, Sort, nothing, value_of, function_of, primitive, Known, ValueTypes, VariableOr, NameTypes, Takes, TakesFields}
+use Rattle.kl_meaning.specs.Typing.{Context, Sort, nothing, value_of, function_of, primitive, KnownTypes, ValueTypes, VariableOr, NameTypes, Takes, TakesFields}
 use Rattle.kl_core.specs.Trees.{Tree, con}
 use Rattle.kl_core.specs.Typing.{SourceTypes, CoreTypes}
 use Rattle.kl_desugar.specs.Translation.{Scope, level_of, Place, here, inside, place_tree, Code, value_by, function_by, primitive_by, Codes, code_tree, level_tree, name_tree, tested, matched, matched_fields, matched_here}
@@ -22,7 +22,7 @@ Agrees S (function_of P) (function_by t) = (s u : Ground) (G : List Ground) → 
 Agrees S (primitive c) (primitive_by d) = c ≡ d
 Agrees S _ _ = ⊥
 
-abbrev pub AllAgree : SourceTypes → Known → Codes → Type 0
+abbrev pub AllAgree : SourceTypes → KnownTypes → Codes → Type 0
 AllAgree S known codes = (x : Name) → Agrees S (known x) (codes x)
 
 code_typed : (S : SourceTypes) (k : Sort) (c : Code) (t : Ground) (G : List Ground) → Agrees S k c → ValueTypes k t → CoreTypes S G (code_tree c) t
@@ -54,7 +54,7 @@ equal_typed s = (s, refl, refl)
 tested_typed : (S : SourceTypes) (G : List Ground) (s u : Ground) (a b c e : Tree) → CoreTypes S G a s → CoreTypes S G b s → CoreTypes S G c u → CoreTypes S G e u → CoreTypes S G (tested a b c e) u
 tested_typed S G s u a b c e h k p q = ((s ∷ s ∷ [], (s, s ∷ [], refl, h, (s, [], refl, k, refl)), equal_typed s), p, q)
 
-module _ (S : SourceTypes) (known : Known) (codes : Codes) (rest : List Ground) (agree : AllAgree S known codes) where
+module _ (S : SourceTypes) (known : KnownTypes) (codes : Codes) (rest : List Ground) (agree : AllAgree S known codes) where
   level_typed : (P Q : Standing Ground) (m : Option ℕ) (v : Option Ground) (k : Sort) (c : Code) (t : Ground) → Agrees S k c → At P m v → Grows P Q → VariableOr v k t
       → CoreTypes S (values Q ++ rest) (level_tree m c (length (scope Q))) t
   level_typed P Q (Some m) (Some s) k c t a p g h = level_is Q m s rest (g m s p) ∙ ap Some h

@@ -13,7 +13,7 @@ use Rattle.kl_syntax.specs.declared.tree.Word.{Word}
 use Rattle.kl_syntax.specs.declared.tree.Op.TheVariants as op
 use Rattle.kl_syntax.specs.Syntax.{Exp, con, name, call, fields, inject, coll, comp, choice, bind, select, path, invert, minus, chain, Exps, no_exps, exps, Flds, no_flds, flds, Quals, no_quals, draw, test, Branches, no_branches, otherwise, branch, Steps, no_steps, step, Decls, no_decls, constant, function}
 use Rattle.kl_meaning.specs.Match.{Env, same_name, fits}
-use Rattle.kl_meaning.specs.Run.{Meant, nothing, value_of, function_of, primitive, Known, look_up, called, operated, parts_of, flow_if, draw_if, run, run_all, run_items, run_fields, run_quals, run_branches, run_steps, code_named, meant_at, at_first, known_after, meaning_of_program}
+use Rattle.kl_meaning.specs.Run.{Meant, nothing, value_of, function_of, primitive, KnownOutcomes, look_up, called, operated, parts_of, flow_if, draw_if, run, run_all, run_items, run_fields, run_quals, run_branches, run_steps, code_named, meant_at, at_first, known_after, meaning_of_program}
 use Rattle.kl_core.specs.Core.{Tables, core, core_all, core_items, core_parts, core_arms}
 use Rattle.kl_core.specs.Trees as term
 use Rattle.kl_core.specs.Trees.{Tree, Trees, no_trees, trees}
@@ -89,7 +89,7 @@ parts_are T [] (t ∷ ts) env h = absurd h
 parts_are T (o ∷ os) [] env h = absurd h
 parts_are T (o ∷ os) (t ∷ ts) env (e, h, k) = (e, h, parts_are T os ts env k)
 
-module _ (T : Tables) (known : Known) (codes : Codes) (rest : List Value) (meets : AllMeet T known codes) where
+module _ (T : Tables) (known : KnownOutcomes) (codes : Codes) (rest : List Value) (meets : AllMeet T known codes) where
   mutual
     pub tree_up : (e : Exp) (P : Held) → Refines (run e known (names P)) (core T (tree e codes (scope P)) (values P ++ rest))
     tree_up (con v) P = refl
@@ -181,7 +181,7 @@ with_meets : (T : Tables) (b : Bool) (m n : Meant) (c d : Code) → Meets T m c 
 with_meets T true m n c d h k = h
 with_meets T false m n c d h k = k
 
-after_meets : (T : Tables) (ds : Decls) (known : Known) (codes : Codes) → AllMeet T known codes → AllMeet T (known_after ds known) (codes_after ds codes)
+after_meets : (T : Tables) (ds : Decls) (known : KnownOutcomes) (codes : Codes) → AllMeet T known codes → AllMeet T (known_after ds known) (codes_after ds codes)
 after_meets T no_decls known codes h = h
 after_meets T (constant d e ds) known codes h =
     after_meets T ds _ _ (λ x. with_meets T (same_name x d.text) (value_of (run e known [])) (known x) (value_by (tree e codes [])) (codes x) (λ env. tree_up T known codes env h e []) (h x))

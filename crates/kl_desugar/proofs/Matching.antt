@@ -12,7 +12,7 @@ use Rattle.kl_value.specs.Views.{as_bool}
 use Rattle.kl_outcome.specs.Outcome.{Outcome, done, over, stuck, Flow, stop, fine, overflow, Name, after, answered, if_then, outcome_of, as_record, as_variant, opened, collected}
 use Rattle.kl_syntax.specs.Syntax.{Pat, catch, any, same, is, shape, variant, Pats, no_pats, pats}
 use Rattle.kl_meaning.specs.Match.{Env, Fit, bound, misses, past, odd, fit_then, same_name, compared, has_label, fit_field, fit_record, fit_variant, fits, fits_fields, if_fits, must_fit}
-use Rattle.kl_meaning.specs.Run.{Meant, nothing, value_of, function_of, primitive, Known, as_value, named, look_up}
+use Rattle.kl_meaning.specs.Run.{Meant, nothing, value_of, function_of, primitive, KnownOutcomes, as_value, named, look_up}
 use Rattle.kl_core.specs.Core.{Tables, core}
 use Rattle.kl_core.specs.Trees.{Tree}
 use Rattle.kl_desugar.specs.Translation.{Scope, level_of, Place, here, inside, place_tree, Code, value_by, function_by, primitive_by, Codes, code_tree, level_tree, name_tree, matched, matched_fields, matched_here, empty}
@@ -63,7 +63,7 @@ Meets T (function_of f) (function_by t) = (v : Value) (env : List Value) → Ref
 Meets T (primitive c) (primitive_by d) = c ≡ d
 Meets T _ _ = ⊥
 
-abbrev pub AllMeet : Tables → Known → Codes → Type 0
+abbrev pub AllMeet : Tables → KnownOutcomes → Codes → Type 0
 AllMeet T known codes = (x : Name) → Meets T (known x) (codes x)
 
 code_up : (T : Tables) (m : Meant) (c : Code) (env : List Value) → Meets T m c → Refines (as_value m) (core T (code_tree c) env)
@@ -75,7 +75,7 @@ code_up T (value_of o) (primitive_by d) env h = absurd h
 code_up T (function_of f) c env h = tt
 code_up T (primitive d) c env h = tt
 
-module _ (T : Tables) (known : Known) (codes : Codes) (rest : List Value) (meets : AllMeet T known codes) where
+module _ (T : Tables) (known : KnownOutcomes) (codes : Codes) (rest : List Value) (meets : AllMeet T known codes) where
   level_up : (P Q : Held) (m : Option ℕ) (v : Option Value) (d : Meant) (c : Code) → Meets T d c → At P m v → Grows P Q → Refines (named v d) (core T (level_tree m c (length (scope Q))) (values Q ++ rest))
   level_up P Q (Some m) (Some v) d c h a g = ap outcome_of (level_is Q m v rest (g m v a))
   level_up P Q (Some m) None d c h a g = absurd a

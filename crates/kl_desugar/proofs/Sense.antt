@@ -13,7 +13,7 @@ use Rattle.kl_syntax.specs.Syntax.{Exp, con, name, call, fields, inject, coll, c
 use Rattle.kl_meaning.specs.Match.{same_name}
 use Rattle.kl_meaning.specs.Run.{code_named}
 use Rattle.kl_meaning.specs.Tidy.{IsTidy, AreTidy, AreTidyFields, AreTidyQuals, AreTidyBranches, AreTidySteps, IsTidyProgram}
-use Rattle.kl_meaning.specs.Typing.{Context, Sort, nothing, value_of, function_of, primitive, Known, CallTypes, OpTypes, PathTypes, has_branch, Types, AllTypes, EachType, FieldTypes, QualTypes, BranchTypes, StepTypes, sort_at, types_at_first, sort_if, FunctionTypes, types_after, ProgramTypes}
+use Rattle.kl_meaning.specs.Typing.{Context, Sort, nothing, value_of, function_of, primitive, KnownTypes, CallTypes, OpTypes, PathTypes, has_branch, Types, AllTypes, EachType, FieldTypes, QualTypes, BranchTypes, StepTypes, sort_at, types_at_first, sort_if, FunctionTypes, types_after, ProgramTypes}
 use Rattle.kl_meaning.proofs.Fields.{IsFieldOf, in_order_all, in_order_rises, in_order_found, has_fields, fields_apart}
 use Rattle.kl_meaning.proofs.Safety.{truth_typed}
 use Rattle.kl_core.specs.Trees as term
@@ -90,7 +90,7 @@ module _ (S : SourceTypes) (G : List Ground) where
 row_good : (t : Ground) (r : Row) → t ≡ rec r → IsGround t → IsRow r
 row_good t r e h = subst IsGround e h
 
-module _ (S : SourceTypes) (known : Known) (codes : Codes) (rest : List Ground) (agree : AllAgree S known codes) where
+module _ (S : SourceTypes) (known : KnownTypes) (codes : Codes) (rest : List Ground) (agree : AllAgree S known codes) where
   mutual
     pub tree_typed : (e : Exp) (P : Standing Ground) (t : Ground) → IsTidy e → Types e known (names P) t → CoreTypes S (values P ++ rest) (tree e codes (scope P)) t
     tree_typed (con v) P t d h = h.1
@@ -181,7 +181,7 @@ with_agrees : (S : SourceTypes) (b : Bool) (k j : Sort) (c d : Code) → Agrees 
 with_agrees S true k j c d h g = h
 with_agrees S false k j c d h g = g
 
-program_typed : (S : SourceTypes) (ds : Decls) (e : Exp) (known : Known) (codes : Codes) (t : Ground) → IsTidyProgram ds e → AllAgree S known codes → Types e (types_after ds known) [] t → CoreTypes S [] (tree e (codes_after ds codes) []) t
+program_typed : (S : SourceTypes) (ds : Decls) (e : Exp) (known : KnownTypes) (codes : Codes) (t : Ground) → IsTidyProgram ds e → AllAgree S known codes → Types e (types_after ds known) [] t → CoreTypes S [] (tree e (codes_after ds codes) []) t
 program_typed S no_decls e known codes t d g h = tree_typed S known codes [] g e [] t d h
 program_typed S (constant x a ds) e known codes t d g h =
     program_typed S ds e _ _ t d.1

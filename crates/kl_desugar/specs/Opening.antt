@@ -6,6 +6,6 @@ use Rattle.kl_desugar.specs.Translation.{Scope, Codes}
 use Rattle.kl_desugar.specs.Layers.{Layered, after_quals, quals_layers}
 
 -- what qualifiers draw and test is added to the layers, and what they bind to the scope
-pub record Opens (qs : Quals) (k : Kind) (codes : Codes) (old new : Scope) (ls ms : List Layered) : Type 0 where
+pub record OpensQuals (qs : Quals) (k : Kind) (codes : Codes) (old new : Scope) (ls ms : List Layered) : Type 0 where
   pub scope : new ≡ after_quals qs old
   pub layers : ms ≡ ls ++ quals_layers qs k codes old

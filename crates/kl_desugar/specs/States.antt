@@ -50,7 +50,7 @@ found_code (found.Source i) = value_by (term.source i)
 found_code (found.Primitive c) = primitive_by c
 
 -- what a pattern asks is added to the layers, and what it binds to the scope
-pub record Asks (p : Pat) (t : Place) (codes : Codes) (S : Scope) (old new : Scope) (ls ms : List Layered) : Type 0 where
+pub record AsksPattern (p : Pat) (t : Place) (codes : Codes) (S : Scope) (old new : Scope) (ls ms : List Layered) : Type 0 where
   pub scope : new ≡ after_pat p old
   pub layers : ms ≡ ls ++ pat_layers p t codes S old
 

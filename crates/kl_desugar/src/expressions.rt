@@ -9,7 +9,7 @@ ghost use Rattle.kl_core.specs.Trees.{view_part};
 ghost use Rattle.kl_desugar.specs.Translation.{tree, tree_steps, tree_branches, matched_here, no_sense};
 ghost use Rattle.kl_desugar.specs.Layers.{missed, wrapped};
 ghost use Rattle.kl_desugar.specs.States.{layers_view, codes_of, field_of, arm_of};
-ghost use Rattle.kl_desugar.specs.Opening.{Opens};
+ghost use Rattle.kl_desugar.specs.Opening.{OpensQuals};
 
 use crate::calls::{call, operate, project};
 use crate::codes::{Codes, name_term};
@@ -237,7 +237,7 @@ fn tree_quals(
     scope: &mut Vec<Slot>,
     layers: &mut Vec<Layer>,
 ) -> Result<(), NoMemory>
-    ensures { IfOk result (λ _. Opens (quals_view quals.now) kind (codes_of codes.now) scope.old.items scope.new.items (layers_view layers.old.items) (layers_view layers.new.items)) }
+    ensures { IfOk result (λ _. OpensQuals (quals_view quals.now) kind (codes_of codes.now) scope.old.items scope.new.items (layers_view layers.old.items) (layers_view layers.new.items)) }
 {
     for qual in quals {
         tree_qual(alloc, qual, kind, codes, scope, layers)?;
@@ -254,7 +254,7 @@ fn tree_qual(
     scope: &mut Vec<Slot>,
     layers: &mut Vec<Layer>,
 ) -> Result<(), NoMemory>
-    ensures { IfOk result (λ _. Opens (qual_view qual.now no_quals) kind (codes_of codes.now) scope.old.items scope.new.items (layers_view layers.old.items) (layers_view layers.new.items)) }
+    ensures { IfOk result (λ _. OpensQuals (qual_view qual.now no_quals) kind (codes_of codes.now) scope.old.items scope.new.items (layers_view layers.old.items) (layers_view layers.new.items)) }
 {
     match qual {
         Qual::Gen(pattern, source) => {

@@ -5,7 +5,7 @@ ghost use Rattle.kl_core.specs.Trees as term;
 ghost use Rattle.kl_syntax.specs.View.{pattern_view};
 ghost use Rattle.kl_desugar.specs.Translation.{here};
 ghost use Rattle.kl_desugar.specs.Layers.{missed, wrap_one, wrapped, equals, after_pat, pat_layers};
-ghost use Rattle.kl_desugar.specs.States.{layer_view, layers_view, place_view, codes_of, Asks};
+ghost use Rattle.kl_desugar.specs.States.{layer_view, layers_view, place_view, codes_of, AsksPattern};
 
 use crate::codes::{Codes, name_term};
 use crate::scope::{Place, Slot, copy, place_term};
@@ -135,7 +135,7 @@ pub(crate) fn ask(
     scope: &mut Vec<Slot>,
     layers: &mut Vec<Layer>,
 ) -> Result<(), NoMemory>
-    ensures { IfOk result (λ _. Asks (pattern_view pattern.now) (place_view place.now) (codes_of codes.now) outer.now scope.old.items scope.new.items (layers_view layers.old.items) (layers_view layers.new.items)) }
+    ensures { IfOk result (λ _. AsksPattern (pattern_view pattern.now) (place_view place.now) (codes_of codes.now) outer.now scope.old.items scope.new.items (layers_view layers.old.items) (layers_view layers.new.items)) }
 {
     match pattern {
         Pattern::Bind(word) => {
@@ -205,7 +205,7 @@ pub(crate) fn enter(
     codes: &Codes,
     outer: &[Slot],
 ) -> Result<Entered, NoMemory>
-    ensures { IfOk result (λ e. Asks (pattern_view pattern.now) (here (length outer.now)) (codes_of codes.now) outer.now (none ∷ outer.now) e.scope.items [] (layers_view e.layers.items)) }
+    ensures { IfOk result (λ e. AsksPattern (pattern_view pattern.now) (here (length outer.now)) (codes_of codes.now) outer.now (none ∷ outer.now) e.scope.items [] (layers_view e.layers.items)) }
 {
     let mut scope = copy(alloc, outer)?;
     let mut layers = Vec::new(alloc);

@@ -25,7 +25,7 @@ use Rattle.kl_ask.specs.Driver.{State, IsTold as IsToldBy}
 use Rattle.kl_sources.specs.Sources.{names_of, grounds_of}
 use Rattle.kl_sources.specs.declared.source.Source.{Source}
 use Rattle.kl_sources.specs.Sources.{kinds_of}
-use Rattle.kl_engine.specs.Answering.{IsStoredFault, IsUnreadBy, SomeDrifted, Alike, one, IsOutside, reading, writing, drifting, wanting, Follows, PrintsPage, DoesText, IsDetermined, IsOneOf, HasTextFault, IsUnreadFault, NeedsDrivers, IsMentionedIn, PrintsNothing}
+use Rattle.kl_engine.specs.Answering.{IsStoredFault, IsUnreadBy, SomeDrifted, Alike, one, IsOutside, reading, writing, drifting, wanting, FollowsVerdict, PrintsPage, DoesText, IsDetermined, IsOneOf, HasTextFault, IsUnreadFault, NeedsDrivers, IsMentionedIn, PrintsNothing}
 use Rattle.kl_engine.specs.Commands.{Program as AProgram}
 use Rattle.kl_engine.specs.Faults.{Ending}
 use Rattle.kl_engine.specs.Reading.{IsProgramOf, definitions, last, ReadsText}
@@ -61,7 +61,7 @@ unread_plain f plain is = unread_cases (λ g. IsPlain g → ⊥) (λ name place 
 
 -- the ends of a page that is printed
 module _ (v : Verdict) (end : Ending) (out out' : SinkState) (prints : PrintsPage v end out out') where
-  pub follows_prints : (ds ds' : List State) → Follows ⊥ v end ds ds' out out'
+  pub follows_prints : (ds ds' : List State) → FollowsVerdict ⊥ v end ds ds' out out'
   follows_prints ds ds' = record {
     ends = elim prints.ends [ inl h ↦ inl h | inr (inl h) ↦ inr (writing h.0 h.1 h.2) | inr (inr h) ↦ inr (wanting h) ];
     whole = prints.whole;
@@ -126,7 +126,7 @@ printed_done ss marks p program e v end ds out out' of plain prints =
     }
 
 -- a front of nothing at all
-follows_outside : (v : Verdict) (end : Ending) (ds ds' : List State) (out out' : SinkState) (p : Purpose) → Fair p v → out' ≡ out → (v.ending ≡ end → v.page ≡ []) → IsOutside ⊥ v end ds ds' out out' → Follows ⊥ v end ds ds' out out'
+follows_outside : (v : Verdict) (end : Ending) (ds ds' : List State) (out out' : SinkState) (p : Purpose) → Fair p v → out' ≡ out → (v.ending ≡ end → v.page ≡ []) → IsOutside ⊥ v end ds ds' out out' → FollowsVerdict ⊥ v end ds ds' out out'
 follows_outside v end ds ds' out out' p fair same empty outside = record {
   ends = inr outside;
   whole = λ is. ap (λ o. o.taken) same ∙ sym (ap (λ page. append_known out.taken page) (empty (sym is)) ∙ append_known-nil out.taken);
@@ -253,7 +253,7 @@ module _ (ss : List Source) (p : Purpose) (text : List ℕ) (end : Ending) (ds d
   named : (name : Name) → IsNamed ss (is_marked s) name → IsMentionedIn ss text name
   named name (i, at, marked) = (q, whole, i, at, (resolves.marks i (slice_get_within (names_of ss) i name at)).0 marked)
 
-  told_by : Ends (λ others. IsDone (kinds_of ds) ss others p (definitions (names_of ss) q) (last (names_of ss) q)) ss (is_marked s) p end ds ds' out out' → (v : Verdict) → IsTextVerdict (kinds_of ds) ss p text v → (w : Verdict) × IsTextVerdict (kinds_of ds) ss p text w × Alike v w × Follows ⊥ w end ds ds' out out'
+  told_by : Ends (λ others. IsDone (kinds_of ds) ss others p (definitions (names_of ss) q) (last (names_of ss) q)) ss (is_marked s) p end ds ds' out out' → (v : Verdict) → IsTextVerdict (kinds_of ds) ss p text v → (w : Verdict) × IsTextVerdict (kinds_of ds) ss p text w × Alike v w × FollowsVerdict ⊥ w end ds ds' out out'
   told_by (before same none outside) v of = let fair = fair_text (kinds_of ds) ss p text v of in (v, of, one refl, follows_outside v end ds ds' out out' p fair same (untold_empty p v end fair none) (outside v))
   told_by (followed w is follows) v of = (w, as_text w is, text_alike (kinds_of ds) ss p text v w of (as_text w is), follows)
   told_by (untold none all needs) v of = absurd (no_verdict none v of)

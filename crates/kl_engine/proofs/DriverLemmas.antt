@@ -1,10 +1,10 @@
 -- Drivers that stay as they were.
 use Rattle.std.proofs.Common.{◌≡◌, ℕ, List, Some, refl, sym, subst, ◌∙◌, slice_get, arith}
 use Rattle.kl_outcome.specs.Outcome.{Name}
-use Rattle.kl_ask.specs.Driver.{State, Keeps}
+use Rattle.kl_ask.specs.Driver.{State, KeepsState}
 use Rattle.kl_engine.specs.Answering.{KeepsDriver, KeepsDrivers}
 
-keeps_itself : (d : State) → Keeps d d
+keeps_itself : (d : State) → KeepsState d d
 keeps_itself d = record { kind = refl; handed = omega arith; faults = omega arith; drifts = omega arith; no_drift = λ is. refl; unread = omega arith }
 
 same_at : (ds : List State) (i : ℕ) (a b : State) → slice_get ds i ≡ Some a → slice_get ds i ≡ Some b → a ≡ b

@@ -6,10 +6,10 @@ use Rattle.kl_outside.specs.Counts.{Rose}
 use Rattle.kl_outside.specs.Files.{FilesState, IsMissing, ReadsWhole}
 use Rattle.kl_outside.specs.declared.files.Whole.TheVariants as whole
 use Rattle.kl_outside.specs.declared.stop.Stop.TheVariants as stop
-use Rattle.kl_outside.proofs.CountLemmas.{rose_after}
+use Rattle.kl_base.proofs.Rises.{rose_after}
 use Rattle.kl_outside.proofs.FileLemmas.{was_there}
 use Rattle.kl_ask.specs.Driver.{DriverKind}
-use Rattle.kl_catalogue.specs.Reading.{IsCatalogue, Refuses}
+use Rattle.kl_catalogue.specs.Reading.{IsCatalogue, RefusesCatalogue}
 use Rattle.kl_catalogue.specs.declared.reading.CatalogueError.TheVariants.{Bad, TooDeep}
 use Rattle.kl_catalogue.specs.declared.reading.Entry.{Entry}
 use Rattle.kl_sources.specs.Placing.{AnswersList}
@@ -26,10 +26,10 @@ use Rattle.kl_engine.specs.declared.fault.Fault.TheVariants as fault
 -- ---- the text of a catalogue
 
 module _ (ks : List DriverKind) (text : List ℕ) where
-  pub bad_catalogue : (byte : ℕ) → Refuses text (Err (Bad byte)) → PlacesCatalogue ks text (Err (fault.Catalogue byte))
+  pub bad_catalogue : (byte : ℕ) → RefusesCatalogue text (Err (Bad byte)) → PlacesCatalogue ks text (Err (fault.Catalogue byte))
   bad_catalogue byte refuses = record { sources = tt; placed = tt; refused = inr (inl (byte, refuses, refl)); no_other = tt }
 
-  pub deep_catalogue : (byte : ℕ) → Refuses text (Err (TooDeep byte)) → PlacesCatalogue ks text (Err fault.Nesting)
+  pub deep_catalogue : (byte : ℕ) → RefusesCatalogue text (Err (TooDeep byte)) → PlacesCatalogue ks text (Err fault.Nesting)
   deep_catalogue byte refuses = record { sources = tt; placed = tt; refused = inr (inr (inl (byte, refuses, refl))); no_other = tt }
 
   pub catalogue_wanted : PlacesCatalogue ks text (Err fault.NoMemory)

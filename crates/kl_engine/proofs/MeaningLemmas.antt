@@ -5,7 +5,7 @@ use Rattle.std.specs.List.{AllByRecursion}
 use Rattle.std.proofs.lemmas.List.Elements.{All-head, All-tail}
 use Rattle.std.proofs.lemmas.Option.{slice_get_within, same_Some}
 use Rattle.kl_outside.specs.Sinks.{SinkState}
-use Rattle.kl_outside.proofs.CountLemmas.{rose_after}
+use Rattle.kl_base.proofs.Rises.{rose_after}
 use Rattle.kl_value.specs.Canon.{canonical}
 use Rattle.kl_value.specs.Views.{collection}
 use Rattle.kl_value.specs.declared.Kind.{Kind}
@@ -35,7 +35,7 @@ use Rattle.kl_desugar.proofs.Tidying.{resolved_tidy}
 use Rattle.kl_infer.specs.Inferred.{Infers}
 use Rattle.kl_infer.specs.declared.Typed.{Typed}
 use Rattle.kl_ask.specs.Asks.{item_of, kind_of}
-use Rattle.kl_ask.specs.Driver.{DriverKind, State, Keeps, IsColl, Stored, Missing, Bad, Long, Deep, Rows, IsTold as IsToldBy}
+use Rattle.kl_ask.specs.Driver.{DriverKind, State, KeepsState, IsColl, Stored, Missing, Bad, Long, Deep, Rows, IsTold as IsToldBy}
 use Rattle.kl_ask.specs.Lists.{EachSteps}
 use Rattle.kl_ask.specs.World.{World, types_of, values_of}
 use Rattle.std.specs.declared.alloc.Global.{Global}
@@ -57,7 +57,7 @@ use Rattle.kl_sources.proofs.Agreement.{values_agree, first_agrees}
 use Rattle.kl_sources.proofs.ListedSources.{listed_source}
 use Rattle.kl_sources.proofs.Lists.{of_all, unmapped}
 use Rattle.kl_sources.specs.Sources.{kinds_of}
-use Rattle.kl_engine.specs.Answering.{SomeRose, KeepsDrivers, IsIdle, IsStoredFault, IsUnreadBy, SomeDrifted, IsOf, IsOutside, reading, writing, drifting, wanting, Follows, IsDetermined, IsOneOf, HasTextFault, PrintsNothing, IsUnreadFault, NeedsDrivers}
+use Rattle.kl_engine.specs.Answering.{SomeRose, KeepsDrivers, IsIdle, IsStoredFault, IsUnreadBy, SomeDrifted, IsOf, IsOutside, reading, writing, drifting, wanting, FollowsVerdict, IsDetermined, IsOneOf, HasTextFault, PrintsNothing, IsUnreadFault, NeedsDrivers}
 use Rattle.kl_engine.specs.Commands.{Program}
 use Rattle.kl_engine.specs.Faults.{Ending}
 use Rattle.kl_engine.specs.Reading.{WasInScope}
@@ -170,12 +170,12 @@ module _ (Named : Name → Type 0) (ds mid last : List State) (this : KeepsDrive
     };
   }
 
-  rose_at_since : (count : State → ℕ) → ((a b : State) → Keeps a b → count a ≤ count b) → (i : ℕ) → RoseAt i count mid last → RoseAt i count ds last
+  rose_at_since : (count : State → ℕ) → ((a b : State) → KeepsState a b → count a ≤ count b) → (i : ℕ) → RoseAt i count mid last → RoseAt i count ds last
   rose_at_since count later i (b, c, at, then, rose) =
       let a = at_first i b at in
       (a.0, c, a.1, then, rose_after (count a.0) (count b) (count c) (later a.0 b (this.each i a.0 b a.1 at).keeps) rose)
 
-  rose_since : (count : State → ℕ) → ((a b : State) → Keeps a b → count a ≤ count b) → SomeRose count mid last → SomeRose count ds last
+  rose_since : (count : State → ℕ) → ((a b : State) → KeepsState a b → count a ≤ count b) → SomeRose count mid last → SomeRose count ds last
   rose_since count later (i, rose) = (i, rose_at_since count later i rose)
 
   outside_since : (v : Verdict) (end : Ending) (out out' : SinkState) → IsOutside ⊥ v end mid last out out' → IsOutside ⊥ v end ds last out out'
@@ -185,7 +185,7 @@ module _ (Named : Name → Type 0) (ds mid last : List State) (this : KeepsDrive
   outside_since v end out out' (drifting name is rose) = drifting name is (rose_since (λ d. d.drifts) (λ a b keeps. keeps.drifts) rose)
   outside_since v end out out' (wanting is) = wanting is
 
-  follows_since : (v : Verdict) (end : Ending) (out out' : SinkState) → Follows ⊥ v end mid last out out' → Follows ⊥ v end ds last out out'
+  follows_since : (v : Verdict) (end : Ending) (out out' : SinkState) → FollowsVerdict ⊥ v end mid last out out' → FollowsVerdict ⊥ v end ds last out out'
   follows_since v end out out' follows = record {
     ends = elim follows.ends [ inl h ↦ inl h | inr h ↦ inr (outside_since v end out out' h) ];
     whole = follows.whole;

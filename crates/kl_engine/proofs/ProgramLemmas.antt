@@ -10,7 +10,7 @@ use Rattle.kl_outcome.specs.Outcome.{Name}
 use Rattle.kl_ask.specs.Driver.{DriverKind, State}
 use Rattle.kl_sources.specs.declared.source.Source.{Source}
 use Rattle.kl_sources.specs.Sources.{kinds_of}
-use Rattle.kl_engine.specs.Answering.{SomeRose, one, IsOutside, reading, writing, drifting, wanting, Follows, DoesText, Does, IsDetermined, IsOneOf, HasTextFault, HasFault, IsMentionedIn, IsMentioned, PrintsNothing, IsRun, IsUnreadFault, IsUnreadBy, SomeDrifted, OfRun, LacksFile, IsStoredFault}
+use Rattle.kl_engine.specs.Answering.{SomeRose, one, IsOutside, reading, writing, drifting, wanting, FollowsVerdict, DoesText, Does, IsDetermined, IsOneOf, HasTextFault, HasFault, IsMentionedIn, IsMentioned, PrintsNothing, IsRun, IsUnreadFault, IsUnreadBy, SomeDrifted, OfRun, LacksFile, IsStoredFault}
 use Rattle.kl_engine.specs.Commands.{Program}
 use Rattle.kl_engine.specs.Faults.{Ending}
 use Rattle.kl_engine.specs.Inputs.{IsInputsEnd, ReadsInputs}
@@ -37,7 +37,7 @@ outside_also FilesRose v end ds ds' out out' (writing is rose page) = writing is
 outside_also FilesRose v end ds ds' out out' (drifting name is rose) = drifting name is rose
 outside_also FilesRose v end ds ds' out out' (wanting is) = wanting is
 
-follows_also : (FilesRose : Type 0) (v : Verdict) (end : Ending) (ds ds' : List State) (out out' : SinkState) → Follows ⊥ v end ds ds' out out' → Follows FilesRose v end ds ds' out out'
+follows_also : (FilesRose : Type 0) (v : Verdict) (end : Ending) (ds ds' : List State) (out out' : SinkState) → FollowsVerdict ⊥ v end ds ds' out out' → FollowsVerdict FilesRose v end ds ds' out out'
 follows_also FilesRose v end ds ds' out out' follows = record {
   ends = elim follows.ends [ inl h ↦ inl h | inr h ↦ inr (outside_also FilesRose v end ds ds' out out' h) ];
   whole = follows.whole;
@@ -176,14 +176,14 @@ module _ (p : Purpose) (path : List ℕ) (catalogue : Option (List ℕ)) (f f' :
     not_unread h is un = unread_cases (λ k. IsInputsEnd k → ⊥) (λ name place e. e) (λ e. e) (λ e. e) h un (subst IsInputsEnd is reads.no_other)
 
     -- nothing is printed of a verdict that ends as this
-    follows_none : (v : Verdict) → (v.ending ≡ Some g → v.page ≡ []) → (Some g ≡ v.ending) ⊎ IsOutside (Rose f.faults f'.faults) v (Some g) ds ds out out → Follows (Rose f.faults f'.faults) v (Some g) ds ds out out
+    follows_none : (v : Verdict) → (v.ending ≡ Some g → v.page ≡ []) → (Some g ≡ v.ending) ⊎ IsOutside (Rose f.faults f'.faults) v (Some g) ds ds out out → FollowsVerdict (Rose f.faults f'.faults) v (Some g) ds ds out out
     follows_none v empty ends = record {
       ends = ends;
       whole = λ is. sym (ap (append_known out.taken) (empty (sym is)) ∙ append_known-nil out.taken);
       part = took_none v.page out out refl;
     }
 
-    told_refused : (told : List ℕ → Option (List ℕ)) → f.told ≡ Some told → (v : Verdict) → IsProgramVerdict told (kinds_of ds) p path catalogue v → Follows (Rose f.faults f'.faults) v (Some g) ds ds out out
+    told_refused : (told : List ℕ → Option (List ℕ)) → f.told ≡ Some told → (v : Verdict) → IsProgramVerdict told (kinds_of ds) p path catalogue v → FollowsVerdict (Rose f.faults f'.faults) v (Some g) ds ds out out
     told_refused told is v of = elim (reads.refused told is) [
       | inl none ↦ follows_none v (λ same. absurd (of_verdict v told of (same ∙ ap Some none))) (inr (wanting (ap Some none)))
       | inr (inl failed) ↦ follows_none v (λ same. read_empty v told of (same ∙ ap Some failed.0)) (inr (reading (ap Some failed.0) (inl failed.1)))

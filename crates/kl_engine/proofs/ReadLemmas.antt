@@ -4,7 +4,7 @@ use Rattle.std.proofs.lemmas.Bool.{cases_order}
 use Rattle.kl_lex.specs.declared.token.Token.{Token}
 use Rattle.kl_lex.specs.Lexing.{Tokens, PlacesRise}
 use Rattle.kl_lex.proofs.Sequence.{one_lexing, refused_none}
-use Rattle.kl_parse.specs.Parsing.{IsProgram, Refuses}
+use Rattle.kl_parse.specs.Parsing.{IsProgram, RefusesProgram}
 use Rattle.kl_parse.specs.declared.program.ParseError.TheVariants.{Syntax}
 use Rattle.kl_parse.proofs.Answer.{unique}
 use Rattle.kl_syntax.specs.declared.tree.Program.{Program}
@@ -79,7 +79,7 @@ scope_alike names ts size f g (p, e, reads, breach, first, is) (q, d, again, als
     (ap refused (it ∙ (fault_is ts size d also ∙ ap (λ n. fault.Text (wrong_of d) (byte_of ts n size)) (sym same.0))))
     (unnamed_is e ∙ (ap by_rule same.1 ∙ sym (unnamed_is d)))
 
-one_place : (ts : List Token) (k j : ℕ) → Refuses ts (Err (Syntax k)) → Refuses ts (Err (Syntax j)) → k ≡ j
+one_place : (ts : List Token) (k j : ℕ) → RefusesProgram ts (Err (Syntax k)) → RefusesProgram ts (Err (Syntax j)) → k ≡ j
 one_place ts k j this that = elim (cases_order k j) [
   | inl same ↦ same
   | inr (inl less) ↦ absurd (this.no_longer j less that.within that.begins)

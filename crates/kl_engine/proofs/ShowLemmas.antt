@@ -18,7 +18,7 @@ use Rattle.kl_exchange.specs.declared.reader.Item.{Item}
 use Rattle.kl_exchange.specs.declared.reader.Item.TheVariants as item
 use Rattle.kl_exchange.proofs.FileItems.{one_showing}
 use Rattle.kl_exchange.proofs.FileReading.{begins_so, first_shown}
-use Rattle.kl_outside.specs.Files.{FilesState, Opens, Closes, OtherFiles, left_at_first}
+use Rattle.kl_outside.specs.Files.{FilesState, OpensPath, Closes, OtherFiles, left_at_first}
 use Rattle.kl_outside.specs.Sinks.{SinkState, TookPart}
 use Rattle.kl_outside.specs.declared.stop.Stop.{Stop}
 use Rattle.kl_outside.specs.declared.stop.Stop.TheVariants as stop
@@ -386,7 +386,7 @@ module _ (path : List ℕ) where
   unread : (bytes : List ℕ) (fault' : Fault) (f f' : FilesState) (out : SinkState) → Cause fault' [] f f' out out → (v : Verdict) → IsShowing bytes v → FollowsFile v (Some fault') f f' out out
   unread bytes fault' f f' out cause v of = follows_front bytes [] of.0 fault' f f' out out cause (took_none [] out out refl) v of refl
 
-  pub show_failed : (f f' : FilesState) (out : SinkState) → Opens path (Err stop.Failed) f f' → DoesShow path (Some fault.Read) f f' out out
+  pub show_failed : (f f' : FilesState) (out : SinkState) → OpensPath path (Err stop.Failed) f f' → DoesShow path (Some fault.Read) f f' out out
   show_failed f f' out opens = record {
     follows = λ told is v of. file_failed told is (told path) refl v of;
     meant = λ told is well. absurd well;
@@ -407,7 +407,7 @@ module _ (path : List ℕ) where
         ],
       )) v of
 
-  pub show_wanted : (f f' : FilesState) (out : SinkState) → Opens path (Err stop.NoMemory) f f' → DoesShow path (Some fault.NoMemory) f f' out out
+  pub show_wanted : (f f' : FilesState) (out : SinkState) → OpensPath path (Err stop.NoMemory) f f' → DoesShow path (Some fault.NoMemory) f f' out out
   show_wanted f f' out opens = record {
     follows = λ told is v of. file_wanted told is (told path) refl v of;
     meant = λ told is well. absurd well;
@@ -424,7 +424,7 @@ module _ (path : List ℕ) where
 
   -- what is open in the end is what was open at first
 
-  pub show_done : (file : ℕ) (end : Ending) (s0 s1 s2 s3 : FilesState) (out out' : SinkState) → Opens path (Ok file) s0 s1 → ShowsItems file end s1 s2 out out' → Closes file s2 s3 → DoesShow path end s0 s3 out out'
+  pub show_done : (file : ℕ) (end : Ending) (s0 s1 s2 s3 : FilesState) (out out' : SinkState) → OpensPath path (Ok file) s0 s1 → ShowsItems file end s1 s2 out out' → Closes file s2 s3 → DoesShow path end s0 s3 out out'
   show_done file end s0 s1 s2 s3 out out' opens shows closes = record {
     follows = λ told is v of. file_shown told is (told path) refl v of;
     meant = λ told is well. file_meant told is (told path) refl well;

@@ -9,7 +9,7 @@ use Rattle.kl_outcome.specs.Outcome.{Name}
 use Rattle.kl_syntax.specs.Syntax.{Decls, Exp}
 use Rattle.kl_syntax.specs.declared.tree.Program.{Program as AProgram}
 use Rattle.kl_scope.specs.Breaches.{Mentions}
-use Rattle.kl_ask.specs.Driver.{DriverKind, State, Stored, Keeps, IsTold as IsToldBy}
+use Rattle.kl_ask.specs.Driver.{DriverKind, State, Stored, KeepsState, IsTold as IsToldBy}
 use Rattle.kl_ask.specs.Lists.{EachSteps}
 use Rattle.kl_sources.specs.Attaching.{RoseAt}
 use Rattle.kl_sources.specs.Sources.{kinds_of, names_of, contents}
@@ -33,7 +33,7 @@ SomeRose count old new = (i : ℕ) × RoseAt i count old new
 
 -- A driver is what it was, has no cursor open that it had not, and has nothing new attached but under names like these.
 pub record KeepsDriver (Named : Name → Type 0) (old new : State) : Type 0 where
-  pub keeps : Keeps old new
+  pub keeps : KeepsState old new
   pub cursors : new.cursors ≡ old.cursors
   pub attached : (name : Name) → (Named name → ⊥) → new.attached name ≡ old.attached name
 
@@ -79,7 +79,7 @@ pub data IsOutside (FilesRose : Type 0) (v : Verdict) (end : Ending) (ds ds' : L
 
 -- The command ends as the verdict says, or a fault of the outside came first. What was printed is the verdict's page, or
 -- a front of it.
-pub record Follows (FilesRose : Type 0) (v : Verdict) (end : Ending) (ds ds' : List State) (out out' : SinkState) : Type 0 where
+pub record FollowsVerdict (FilesRose : Type 0) (v : Verdict) (end : Ending) (ds ds' : List State) (out out' : SinkState) : Type 0 where
   pub ends : (end ≡ v.ending) ⊎ IsOutside FilesRose v end ds ds' out out'
   pub whole : end ≡ v.ending → out'.taken ≡ append_known out.taken v.page
   pub part : TookPart v.page out out'
@@ -210,7 +210,7 @@ abbrev pub IsMentionedIn : List Source → List ℕ → Name → Type 0
 IsMentionedIn ss text name = (q : AProgram) × IsProgramOf (names_of ss) text q × (i : ℕ) × (slice_get (names_of ss) i ≡ Some name) × Mentions q (names_of ss) i
 
 pub record DoesText (ss : List Source) (p : Purpose) (text : List ℕ) (end : Ending) (ds ds' : List State) (out out' : SinkState) : Type 0 where
-  pub told : (v : Verdict) → IsTextVerdict (kinds_of ds) ss p text v → (w : Verdict) × IsTextVerdict (kinds_of ds) ss p text w × Alike v w × Follows ⊥ w end ds ds' out out'
+  pub told : (v : Verdict) → IsTextVerdict (kinds_of ds) ss p text v → (w : Verdict) × IsTextVerdict (kinds_of ds) ss p text w × Alike v w × FollowsVerdict ⊥ w end ds ds' out out'
   pub meant : IsDetermined end → (NeedsDrivers p end → All IsToldBy ds) → (v : Verdict) × IsTextVerdict (kinds_of ds) ss p text v × (v.ending ≡ end)
   pub read : end ≡ Some fault.Read → IsStoredFault (kinds_of ds) ss (IsMentionedIn ss text) fault.Read ⊎ SomeRose (λ d. d.faults) ds ds'
   pub write : end ≡ Some fault.Write → Rose out.faults out'.faults
@@ -267,7 +267,7 @@ pub record IsClosed (command : Command) (files files' : FilesState) (ds ds' : Li
 
 -- what a command does
 pub record Does (command : Command) (end : Ending) (files files' : FilesState) (ds ds' : List State) (out out' : SinkState) : Type 0 where
-  pub told : (told : _) → files.told ≡ Some told → (v : Verdict) → IsVerdict told (kinds_of ds) command v → (w : Verdict) × IsVerdict told (kinds_of ds) command w × Alike v w × Follows (Rose files.faults files'.faults) w end ds ds' out out'
+  pub told : (told : _) → files.told ≡ Some told → (v : Verdict) → IsVerdict told (kinds_of ds) command v → (w : Verdict) × IsVerdict told (kinds_of ds) command w × Alike v w × FollowsVerdict (Rose files.faults files'.faults) w end ds ds' out out'
   -- the way back
   pub meant : (told : _) → files.told ≡ Some told → IsDetermined end → (CommandNeedsDrivers command end → All IsToldBy ds) → (v : Verdict) × IsVerdict told (kinds_of ds) command v × (v.ending ≡ end)
   pub caused : IsCaused command end files files' ds ds' out out'

@@ -4,7 +4,7 @@ use Rattle.std.specs.List.{slice_get}
 use Rattle.std.specs.Option.{option_map, unwrap_or}
 use Rattle.kl_lex.specs.Lexing.{Tokens, Refused}
 use Rattle.kl_lex.specs.declared.token.Token.{Token}
-use Rattle.kl_parse.specs.Parsing.{IsProgram, Refuses, NestsBehind, Shallow}
+use Rattle.kl_parse.specs.Parsing.{IsProgram, RefusesProgram, NestsBehind, Shallow}
 use Rattle.kl_parse.specs.declared.program.ParseError.TheVariants.{Syntax, TooDeep}
 use Rattle.kl_syntax.specs.declared.tree.Program.{Program}
 use Rattle.kl_syntax.specs.Syntax.{Decls, Exp}
@@ -39,11 +39,11 @@ IsBreach e = ⊤
 
 -- at this token no program goes on, and what stands before it begins a program of bounded nesting
 abbrev pub IsWrongAt : List Token → ℕ → Type 0
-IsWrongAt ts k = Refuses ts (Err (Syntax k)) × Shallow ts (Err (Syntax k))
+IsWrongAt ts k = RefusesProgram ts (Err (Syntax k)) × Shallow ts (Err (Syntax k))
 
 -- this token nests too deep: 256 that can nest stand before it
 abbrev pub NestsTooDeepAt : List Token → ℕ → Type 0
-NestsTooDeepAt ts k = Refuses ts (Err (TooDeep k)) × NestsBehind ts (Err (TooDeep k)) × Shallow ts (Err (TooDeep k))
+NestsTooDeepAt ts k = RefusesProgram ts (Err (TooDeep k)) × NestsBehind ts (Err (TooDeep k)) × Shallow ts (Err (TooDeep k))
 
 -- the tokens are a program that breaks a rule of scope, and this is its first breach
 abbrev pub IsScopeFault : List Name → List Token → ℕ → Fault → Type 0

@@ -16,7 +16,7 @@ use Rattle.kl_ask.specs.declared.ask.DriverError.TheVariants as error
 use Rattle.kl_sources.specs.Attaching.{RoseAt}
 use Rattle.kl_sources.specs.Sources.{kinds_of, names_of}
 use Rattle.kl_sources.specs.declared.source.Source.{Source}
-use Rattle.kl_engine.specs.Answering.{SomeRose, KeepsDrivers, IsStoredFault, IsUnreadBy, SomeDrifted, Follows, PrintsPage, IsOutside, IsDetermined, IsRun, HasTextFault, IsOneOf, PrintsNothing, IsUnreadFault, NeedsDrivers}
+use Rattle.kl_engine.specs.Answering.{SomeRose, KeepsDrivers, IsStoredFault, IsUnreadBy, SomeDrifted, FollowsVerdict, PrintsPage, IsOutside, IsDetermined, IsRun, HasTextFault, IsOneOf, PrintsNothing, IsUnreadFault, NeedsDrivers}
 use Rattle.kl_engine.specs.Commands.{Program}
 use Rattle.kl_engine.specs.Faults.{Ending}
 use Rattle.kl_infer.specs.Numbers.{limit}
@@ -70,7 +70,7 @@ DriftsAt list name old new = (i : ℕ) × (a : Attached) × (place : ℕ) × (sl
 
 -- An outcome is printed. Where the sources are told it is that of the term, and in any case each fault has its cause.
 pub record AnswersTerm (IsOut : Verdict → Type 0) (told : Type 0) (end : Ending) (list : List Attached) (ds ds' : List State) (out out' : SinkState) : Type 0 where
-  pub follows : told → (v : Verdict) × IsOut v × Follows ⊥ v end ds ds' out out'
+  pub follows : told → (v : Verdict) × IsOut v × FollowsVerdict ⊥ v end ds ds' out out'
   pub read : end ≡ Some fault.Read → SomeRose (λ d. d.faults) ds ds'
   pub write : end ≡ Some fault.Write → Rose out.faults out'.faults
   pub changed : (name : Name) → end ≡ Some (fault.Changed name) → DriftsAt list name ds ds'
@@ -82,7 +82,7 @@ pub record AnswersTerm (IsOut : Verdict → Type 0) (told : Type 0) (end : Endin
 -- verdict of the program is followed; or it comes to sources that are not told, and so to no verdict.
 pub data Ends (IsVerdict : (ℕ → Bool) → Verdict → Type 0) (ss : List Source) (marks : ℕ → Bool) (p : Purpose) (end : Ending) (ds ds' : List State) (out out' : SinkState) : Type 0 where
   before : out' ≡ out → (IsDetermined end → ⊥) → ((v : Verdict) → IsOutside ⊥ v end ds ds' out out') → Ends IsVerdict ss marks p end ds ds' out out'
-  followed : (v : Verdict) → IsVerdict marks v → Follows ⊥ v end ds ds' out out' → Ends IsVerdict ss marks p end ds ds' out out'
+  followed : (v : Verdict) → IsVerdict marks v → FollowsVerdict ⊥ v end ds ds' out out' → Ends IsVerdict ss marks p end ds ds' out out'
   untold : ((others : ℕ → Bool) → ((i : ℕ) → i < length ss → marks i ≡ others i) → (v : Verdict) → IsVerdict others v → ⊥) → (All IsToldBy ds → ⊥) → (IsDetermined end → NeedsDrivers p end) → Ends IsVerdict ss marks p end ds ds' out out'
 
 -- a name of the sources that is mentioned

@@ -24,7 +24,7 @@ use Rattle.kl_eval.specs.Comes.{Comes, ItemsCome}
 use Rattle.kl_eval.specs.Sources.{NoSource}
 use Rattle.kl_eval.specs.Evals.{Sense, SenseWhole, PartGives, CallGives, Evals, EvalsPart, EvalsBody, EvalsCall, EvalsInto, AddsAll}
 use Rattle.kl_eval.proofs.Loops.{OnBody}
-use Rattle.kl_eval.specs.Steps.{Adds, AddsItems, Behind, Outside}
+use Rattle.kl_eval.specs.Steps.{AppendsAll, AddsItems, Behind, Outside}
 use Rattle.kl_eval.proofs.Laws.{comes_typed}
 use Rattle.kl_eval.proofs.Forms.{alone, evals_stop, onto, picked, picked_typed, body_goes, body_over, body_lost, value_if, value_if_stop, at_If, at_Make, at_Prim, at_value, value_let, value_let_stop, at_Let}
 
@@ -103,7 +103,7 @@ module _ (t : Term) (k : Kind) (ts us : List Term) (env : List Value) (et : t �
     one : view t ≡ make k (trees (view x) no_trees)
     one = at_Make t k ts us env et eu ∙ ap (λ q. make k (trees_view q)) (alone us x n is)
 
-    pub into_one : (v : Value) (r : Result (Unit {0}) Halt) (old new : List Value) (a b : World) → EvalsPart (view x) env (Ok v) a b → Adds (v ∷ []) r old new → EvalsInto (view t) env r old new a b
+    pub into_one : (v : Value) (r : Result (Unit {0}) Halt) (old new : List Value) (a b : World) → EvalsPart (view x) env (Ok v) a b → AppendsAll (v ∷ []) r old new → EvalsInto (view t) env r old new a b
     into_one v r old new a b h add =
         let c : Comes (types_of a) (values_of a) env (make k (trees (view x) no_trees)) (done (collection k (v ∷ []))) =
         (more v (stop fine), (done v, h.gives, (stop fine, refl, refl)), ap done (sym (canonical-one k v))) in

@@ -42,10 +42,10 @@ use Rattle.kl_ask.specs.declared.DriverError.{DriverError}
 use Rattle.kl_eval.specs.Sources.{NoSource, NoSourceInTrees, NoSourceInParts, NoSourceInArms}
 use Rattle.kl_eval.specs.World.{Tabled}
 use Rattle.kl_eval.proofs.Stops.{stopped_then}
-use Rattle.kl_eval.specs.Comes.{Picks, Opens, Follows, Draws, Comes, ItemsCome, ArgsCome, PartsCome, ArmsCome}
+use Rattle.kl_eval.specs.Comes.{Picks, OpensVariant, FollowsFlow, Draws, Comes, ItemsCome, ArgsCome, PartsCome, ArmsCome}
 use Rattle.kl_eval.specs.Evals.{Sense, SenseIn, SenseEach, SenseParts, SenseCall, SenseBody, HasSense, ResultGives, PartGives, CallGives, FlowGives, Evals, EvalsPart, EvalsEach, EvalsBody, EvalsFields, EvalsCall, end_of}
 use Rattle.kl_eval.proofs.Loops.{before, OnEach, OnBody, OnFields}
-use Rattle.kl_eval.specs.Steps.{Answers, inside_of, Outside, Adds, AddsItems, AddsField, Behind, Gathers, AnswersPrim, place_of}
+use Rattle.kl_eval.specs.Steps.{AnswersOutcome, inside_of, Outside, AppendsAll, AddsItems, AddsField, Behind, Gathers, AnswersPrim, place_of}
 use Rattle.kl_eval.proofs.Laws.{comes_typed}
 use Rattle.kl_outcome.proofs.PrimLemmas.{prim_fits, all_canonical, one_or_two}
 
@@ -86,13 +86,13 @@ module _ (P Q : Outcome → Type 0) (a b : World) where
   gives_stop eval_stop.NoMemory halt.NoMemory p o f = tt
 
 module _ (P : Outcome → Type 0) (a b : World) where
-  pub gives_made : (v : Value) (r : Result Value Halt) → P (done v) → Answers (done v) r → ResultGives P a b r
+  pub gives_made : (v : Value) (r : Result Value Halt) → P (done v) → AnswersOutcome (done v) r → ResultGives P a b r
   gives_made v (Ok w) h k = subst (λ q. P (done q)) (sym k) h
   gives_made v (Err (halt.Over ws)) h k = absurd k
   gives_made v (Err (halt.Driver l e)) h k = absurd k
   gives_made v (Err halt.NoMemory) h k = tt
 
-  pub gives_over : (vs : List Value) (r : Result Value Halt) → P (over vs) → Answers (over vs) r → ResultGives P a b r
+  pub gives_over : (vs : List Value) (r : Result Value Halt) → P (over vs) → AnswersOutcome (over vs) r → ResultGives P a b r
   gives_over vs (Ok w) h k = absurd k
   gives_over vs (Err (halt.Over ws)) h k = subst (λ q. P (over q)) (sym k) h
   gives_over vs (Err (halt.Driver l e)) h k = absurd k
@@ -151,7 +151,7 @@ module _ (t x t' : Tree) (env env' : List Value) (v : Value) where
         (part_from a b c h.moved (Comes (types_of a) (values_of a) env' t') r (back (λ S T. PartGives (Comes S T env' t') b c r) a b h.moved k.gives));
   }
 
-evals_made : (t x : Tree) (env : List Value) (v u : Value) (r : Result Value Halt) (a b : World) → EvalsPart x env (Ok v) a b → Answers (done u) r → ((S : SourceTypes) (T : Tables) → Comes S T env x (done v) → Comes S T env t (done u)) → (NoSource t → NoSource x) → Evals t env r a b
+evals_made : (t x : Tree) (env : List Value) (v u : Value) (r : Result Value Halt) (a b : World) → EvalsPart x env (Ok v) a b → AnswersOutcome (done u) r → ((S : SourceTypes) (T : Tables) → Comes S T env x (done v) → Comes S T env t (done u)) → (NoSource t → NoSource x) → Evals t env r a b
 evals_made t x env v u r a b h k f none = record { moved = h.moved; still = λ n. h.still (none n); gives = gives_made (Comes (types_of a) (values_of a) env t) a b u r (f (types_of a) (values_of a) h.gives) k }
 
 pub evals_stop : (t x : Tree) (env : List Value) (e : EvalStop) (h : Halt) (a b : World) → EvalsPart x env (Err e) a b → Outside e h → ((S : SourceTypes) (T : Tables) (vs : List Value) → Comes S T env x (over vs) → Comes S T env t (over [])) → (NoSource t → NoSource x) → Evals t env (Err h) a b
@@ -170,7 +170,7 @@ part_stop t x env e a b h f none = record { moved = h.moved; still = λ n. h.sti
 pub evals_lent : (t : Tree) (env : List Value) (v : Value) (a : World) → ((S : SourceTypes) (T : Tables) → Comes S T env t (done v)) → EvalsPart t env (Ok v) a a
 evals_lent t env v a f = record { moved = moved_none a; still = λ n. refl; gives = f (types_of a) (values_of a) }
 
-pub evals_copied : (t : Tree) (env : List Value) (v : Value) (r : Result Value Halt) (a : World) → ((S : SourceTypes) (T : Tables) → Comes S T env t (done v)) → Answers (done v) r → Evals t env r a a
+pub evals_copied : (t : Tree) (env : List Value) (v : Value) (r : Result Value Halt) (a : World) → ((S : SourceTypes) (T : Tables) → Comes S T env t (done v)) → AnswersOutcome (done v) r → Evals t env r a a
 evals_copied t env v r a f k = record { moved = moved_none a; still = λ n. refl; gives = gives_made (Comes (types_of a) (values_of a) env t) a a v r (f (types_of a) (values_of a)) k }
 
 -- ---- variables, constants and sources
@@ -188,7 +188,7 @@ sense_var t x S env e s = let s' = subst (λ q. SenseIn S q env) (ap view e ∙ 
 pub come_var : (t : Term) (x : ℕ) (v : Value) (env : List Value) → t ≡ term.Var x → slice_get env x ≡ Some v → (S : SourceTypes) (T : Tables) → Comes S T env (view t) (done v)
 come_var t x v env e g S T = subst (λ q. Comes S T env q (done v)) (sym (ap view e ∙ view_Var x)) (sym (ap outcome_of g))
 
-pub value_var : (t : Term) (x : ℕ) (env : List Value) (v : Value) (r : Result Value Halt) (a : World) → t ≡ term.Var x → slice_get env x ≡ Some v → Answers (done v) r → Evals (view t) env r a a
+pub value_var : (t : Term) (x : ℕ) (env : List Value) (v : Value) (r : Result Value Halt) (a : World) → t ≡ term.Var x → slice_get env x ≡ Some v → AnswersOutcome (done v) r → Evals (view t) env r a a
 value_var t x env v r a e g k = evals_copied (view t) env v r a (come_var t x v env e g) k
 
 -- ---- fields
@@ -228,7 +228,7 @@ sense_proj t l x x' env a et ex s = let p = proj_sense (types_of a) (values_of a
 pub there_field : (t : Term) (l m : Name) (x x' : Term) (env : List Value) (v w : Value) (a b : World) → t ≡ term.Proj l x → m ≡ l → x' ≡ x → w ≡ v → Sense (view t) env a → EvalsPart (view x') env (Ok v) a b → IsSome (field_at m w)
 there_field t l m x x' env v w a b et em ex ew s h = subst (λ q. IsSome (field_at m q)) (sym ew) (proj_there (types_of a) (values_of a) t l m x x' env et em ex v (s.0, s.1, s.2, s.3) h.gives)
 
-pub value_proj : (t : Term) (l m : Name) (x x' : Term) (env : List Value) (v w u : Value) (r : Result Value Halt) (a b : World) → t ≡ term.Proj l x → m ≡ l → x' ≡ x → w ≡ v → field_at m w ≡ Some u → EvalsPart (view x') env (Ok v) a b → Answers (done u) r → Evals (view t) env r a b
+pub value_proj : (t : Term) (l m : Name) (x x' : Term) (env : List Value) (v w u : Value) (r : Result Value Halt) (a b : World) → t ≡ term.Proj l x → m ≡ l → x' ≡ x → w ≡ v → field_at m w ≡ Some u → EvalsPart (view x') env (Ok v) a b → AnswersOutcome (done u) r → Evals (view t) env r a b
 value_proj t l m x x' env v w u r a b et em ex ew ef h k =
     evals_made (view t) (view x') env v u r a b h k (λ S T c. come_proj S T t l m x x' env et em ex v u (ap (field_at m) (sym ew) ∙ ef) c) (subst NoSource (at_Proj (types_of a) (values_of a) t l m x x' env et em ex))
 
@@ -244,7 +244,7 @@ module _ (t : Term) (l m : Name) (x x' : Term) (env : List Value) (et : t ≡ te
   pub sense_inj : (a : World) → Sense (view t) env a → Sense (view x') env a
   sense_inj a s = let s' = subst (λ q. Sense q env a) at_Inj s in (s'.0, s'.3.1, s'.2, s'.3.4, s'.4)
 
-  pub value_inj : (v : Value) (r : Result Value Halt) (a b : World) → EvalsPart (view x') env (Ok v) a b → Answers (done (value.Inj m v)) r → Evals (view t) env r a b
+  pub value_inj : (v : Value) (r : Result Value Halt) (a b : World) → EvalsPart (view x') env (Ok v) a b → AnswersOutcome (done (value.Inj m v)) r → Evals (view t) env r a b
   value_inj v r a b h k = evals_made (view t) (view x') env v (value.Inj m v) r a b h k (λ S T c. subst (λ q. Comes S T env q (done (value.Inj m v))) (sym at_Inj) (done v, c, refl)) (subst NoSource at_Inj)
 
   pub value_inj_stop : (e : EvalStop) (h : Halt) (a b : World) → EvalsPart (view x') env (Err e) a b → Outside e h → Evals (view t) env (Err h) a b
@@ -469,7 +469,7 @@ module _ (t x x' : Term) (ps qs : List (Name × Term)) (c : Option Term) (env : 
   sense_other_at v w l u a b ew ev s h y y' e ec ey = subst (λ q. Sense (view q) env b) (sym ey) (sense_other v w l u a b ew ev s h y e ec)
 
   opens : (v w : Value) (l : Name) (u : Value) (S : SourceTypes) (T : Tables) (o : Outcome) → w ≡ v → as_variant w ≡ Some (l, u) → Comes S T env (view x') (done v) → ArmsCome S T env (arms_view qs c) l u o → Comes S T env (view t) o
-  opens v w l u S T o ew ev d e = subst (λ q. Comes S T env q o) (sym at_Case) (done v, d, subst (λ q. Opens q (λ l w. ArmsCome S T env (arms_view qs c) l w) o) (sym (ap as_variant (sym ew) ∙ ev)) e)
+  opens v w l u S T o ew ev d e = subst (λ q. Comes S T env q o) (sym at_Case) (done v, d, subst (λ q. OpensVariant q (λ l w. ArmsCome S T env (arms_view qs c) l w) o) (sym (ap as_variant (sym ew) ∙ ev)) e)
 
   pub value_branch : (v w : Value) (l : Name) (u : Value) (i : ℕ) (p : Name × Term) (r : Result Value Halt) (a b d : World) → w ≡ v → as_variant w ≡ Some (l, u) → place_of l qs ≡ Some i → slice_get qs i ≡ Some p
       → EvalsPart (view x') env (Ok v) a b → Evals (view p.1) (u ∷ env) r b d → Evals (view t) env r a d
@@ -613,7 +613,7 @@ module _ (t : Term) (x y x' : Term) (env : List Value) (et : t ≡ term.Union x 
   both_still y' a b c ey h g n = let m = subst NoSource at_Union n in g (subst (λ z. NoSource (view z)) (sym ey) m.1) ∙ h m.0
 
   pub value_union : (y' : Term) (v w : Value) (k : Kind) (vs both : List Value) (r : Result Value Halt) (a b c : World) → y' ≡ y → v ≡ collection k vs → AddsItems w (Ok tt) vs both
-      → Evals (view x') env (Ok v) a b → Evals (view y') env (Ok w) b c → Answers (done (canonical k both)) r → Evals (view t) env r a c
+      → Evals (view x') env (Ok v) a b → Evals (view y') env (Ok w) b c → AnswersOutcome (done (canonical k both)) r → Evals (view t) env r a c
   value_union y' v w k vs both r a b c ey ev add h g m =
       let g' = subst (λ q. Evals (view q) env (Ok w) b c) ey g in
       let ws : List Value = add.1 in
@@ -903,7 +903,7 @@ module _ (terms : List Term) (i : ℕ) (t : Term) (whole : Trees) (env now : Lis
             (k.onward (stop overflow) (over vs.items, back (λ S T. Comes S T env (view t) (over vs.items)) a b k.moved h.gives, refl));
       }
 
-  pub each_lost : (v : Value) (now' : List Value) (q : Halt) (c : World) → Evals (view t) env (Ok v) b c → Adds (v ∷ []) (Err q) now now' → EvalsEach whole env (Err q) a c
+  pub each_lost : (v : Value) (now' : List Value) (q : Halt) (c : World) → Evals (view t) env (Ok v) b c → AppendsAll (v ∷ []) (Err q) now now' → EvalsEach whole env (Err q) a c
   each_lost v now' (halt.Over ws) c h add = absurd add
   each_lost v now' (halt.Driver l e) c h add = absurd add
   each_lost v now' halt.NoMemory c h add = record { moved = moved_then a b c (at_item).moved h.moved; still = item_still c h.still; gives = tt }
@@ -925,11 +925,11 @@ each_ends terms i whole env ws a b le inv =
 pub body_starts : (t : Tree) (vs : List Value) (e : End) (env none : List Value) (a : World) → none ≡ [] → SenseBody t vs env a → OnBody t (flow vs e) (flow vs e) vs env none a a
 body_starts t vs e env none a en s = subst (λ q. OnBody t (flow vs e) (flow vs e) vs env q a a) (sym en) (record { moved = moved_none a; still = λ n. refl; sense = s; onward = λ f c. c })
 
-follows_flow : (vs : List Value) (P : Flow → Type 0) (g : Flow) → P g → Follows (flow vs fine) P (before vs g)
+follows_flow : (vs : List Value) (P : Flow → Type 0) (g : Flow) → P g → FollowsFlow (flow vs fine) P (before vs g)
 follows_flow [] P g h = h
 follows_flow (v ∷ vs) P g h = (before vs g, follows_flow vs P g h, refl)
 
-follows_over : (vs : List Value) (P : Flow → Type 0) → Follows (flow vs overflow) P (before vs (stop overflow))
+follows_over : (vs : List Value) (P : Flow → Type 0) → FollowsFlow (flow vs overflow) P (before vs (stop overflow))
 follows_over [] P = refl
 follows_over (v ∷ vs) P = (before vs (stop overflow), follows_over vs P, refl)
 
@@ -953,7 +953,7 @@ module _ (t : Tree) (vs : List Value) (i : ℕ) (v : Value) (whole : Flow) (e : 
             (k.onward (before ws f) (
               done u,
               back (λ S T. Comes S T (v ∷ env) t (done u)) a b k.moved h.gives,
-              subst (λ q. Follows q (Draws (λ v. Comes (types_of a) (values_of a) (v ∷ env) t) (flow (drop (i + 1) vs) e)) (before ws f)) (sym items) (follows_flow ws _ f d),
+              subst (λ q. FollowsFlow q (Draws (λ v. Comes (types_of a) (values_of a) (v ∷ env) t) (flow (drop (i + 1) vs) e)) (before ws f)) (sym items) (follows_flow ws _ f d),
             ));
       }
 

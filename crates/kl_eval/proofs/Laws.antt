@@ -20,7 +20,7 @@ use Rattle.kl_outcome.proofs.PrimLemmas.{prim_typed}
 use Rattle.kl_outcome.proofs.Refining.{Refines, refines_by, refines_same, after_up, FlowUp, items_up, collected_up, union_up}
 use Rattle.kl_core.proofs.Safety.{get_typed}
 use Rattle.kl_eval.proofs.Shapes.{record_typed}
-use Rattle.kl_eval.specs.Comes.{Then, Picks, Opens, Unites, Leads, Follows, Draws, Comes, ItemsCome, ArgsCome, PartsCome, ArmsCome}
+use Rattle.kl_eval.specs.Comes.{Then, Picks, OpensVariant, Unites, Leads, FollowsFlow, Draws, Comes, ItemsCome, ArgsCome, PartsCome, ArmsCome}
 
 -- ---- types
 
@@ -34,7 +34,7 @@ picks_typed t (Some true) P Q o s f g h = f h
 picks_typed t (Some false) P Q o s f g h = g h
 picks_typed t None P Q o s f g h = cc
 
-follows_typed : (t : Ground) (f : Flow) (P : Flow → Type 0) (g : Flow) → FlowOf t f → ((h : Flow) → P h → FlowOf t h) → Follows f P g → FlowOf t g
+follows_typed : (t : Ground) (f : Flow) (P : Flow → Type 0) (g : Flow) → FlowOf t f → ((h : Flow) → P h → FlowOf t h) → FollowsFlow f P g → FlowOf t g
 follows_typed t (more v f) P g i q h = subst (FlowOf t) (sym h.2) (i.0, follows_typed t f P h.0 i.1 q h.1)
 follows_typed t (stop fine) P g i q h = q g h
 follows_typed t (stop overflow) P g i q h = subst (FlowOf t) (sym h) tt
@@ -57,8 +57,8 @@ unites_typed k t (over vs) P o i q h = subst (OfType (coll k t)) (sym h) i
 unites_typed k t stuck P o i q h = absurd i
 
 opens_typed : (r : Row) (t : Ground) (v : Value) (P : Name → Value → Outcome → Type 0) (o : Outcome) → Inhabits (var_type r) v
-    → ((l : Name) (s : Ground) (w : Value) → at l r ≡ Some s → Inhabits s w → P l w o → OfType t o) → Opens (as_variant v) P o → OfType t o
-opens_typed r t v P o i g h = let c = variant_is r v i in g c.0 c.1 c.2 c.4 c.5 (subst (λ q. Opens q P o) c.3 h)
+    → ((l : Name) (s : Ground) (w : Value) → at l r ≡ Some s → Inhabits s w → P l w o → OfType t o) → OpensVariant (as_variant v) P o → OfType t o
+opens_typed r t v P o i g h = let c = variant_is r v i in g c.0 c.1 c.2 c.4 c.5 (subst (λ q. OpensVariant q P o) c.3 h)
 
 module _ (S : SourceTypes) (T : Tables) where
   mutual
@@ -70,7 +70,7 @@ module _ (S : SourceTypes) (T : Tables) where
     comes_typed (proj l a) G env s o e h c = subst (OfType s) (sym c.2) (part_typed l h.0 s c.0 (comes_typed a G env (rec_type h.0) c.0 e h.1 c.1) h.2)
     comes_typed (inj l a) G env s o e h c = subst (λ q. OfType q o) (sym h.2) (subst (OfType (var_type h.0)) (sym c.2) (tagged_typed l h.0 h.1 c.0 h.3 (comes_typed a G env h.1 c.0 e h.4 c.1)))
     comes_typed (case_of a bs) G env s o e h c =
-        then_typed s (var_type h.0) c.0 (λ v. Opens (as_variant v) (λ l w. ArmsCome S T env bs l w)) o (comes_typed a G env (var_type h.0) c.0 e h.1 c.1)
+        then_typed s (var_type h.0) c.0 (λ v. OpensVariant (as_variant v) (λ l w. ArmsCome S T env bs l w)) o (comes_typed a G env (var_type h.0) c.0 e h.1 c.1)
         (λ v i k. opens_typed h.0 s v (λ l w. ArmsCome S T env bs l w) o i (λ l u w f j m. arms_typed bs G env h.0 s l u w o e h.3 f j (h.2 l (rw f refl)) m) k) c.2
     comes_typed (make k ts) G env s o e h c = subst (λ q. OfType q o) (sym h.1) (subst (OfType (coll k h.0)) (sym c.2) (collected_typed k h.0 c.0 (items_come_typed ts G env h.0 c.0 e h.2 c.1)))
     comes_typed (union a b) G env s o e h c =
@@ -141,7 +141,7 @@ picks_up (Some true) x y o P Q f g h = f h
 picks_up (Some false) x y o P Q f g h = g h
 picks_up None x y o P Q f g h = tt
 
-opens_up : (c : Option (Name × Value)) (go : Name → Value → Outcome) (P : Name → Value → Outcome → Type 0) (o : Outcome) → ((l : Name) (w : Value) → P l w o → Refines (go l w) o) → Opens c P o → Refines (opened c go) o
+opens_up : (c : Option (Name × Value)) (go : Name → Value → Outcome) (P : Name → Value → Outcome → Type 0) (o : Outcome) → ((l : Name) (w : Value) → P l w o → Refines (go l w) o) → OpensVariant c P o → Refines (opened c go) o
 opens_up (Some c) go P o g h = g c.0 c.1 h
 opens_up None go P o g h = tt
 
@@ -155,15 +155,15 @@ broken_then (stop fine) g h = cc
 broken_then (stop overflow) g h = cc
 broken_then (stop broken) g h = refl
 
-follows_up : (f g' g : Flow) (P : Flow → Type 0) → ((h : Flow) → P h → FlowUp g' h) → Follows f P g → FlowUp (followed f g') g
+follows_up : (f g' g : Flow) (P : Flow → Type 0) → ((h : Flow) → P h → FlowUp g' h) → FollowsFlow f P g → FlowUp (followed f g') g
 follows_up (more v f) g' g P q h = subst (FlowUp (more v (followed f g'))) (sym h.2) (more_up v (followed f g') h.0 (follows_up f g' h.0 P q h.1))
 follows_up (stop fine) g' g P q h = q g h
 follows_up (stop overflow) g' g P q h = inr h
 follows_up (stop broken) g' g P q h = inl refl
 
-drawn_on : (f f' g' g : Flow) (P : Flow → Type 0) → FlowUp f f' → ((h : Flow) → P h → FlowUp g' h) → Follows f' P g → FlowUp (followed f g') g
+drawn_on : (f f' g' g : Flow) (P : Flow → Type 0) → FlowUp f f' → ((h : Flow) → P h → FlowUp g' h) → FollowsFlow f' P g → FlowUp (followed f g') g
 drawn_on f f' g' g P (inl e) q h = inl (broken_then f g' e)
-drawn_on f f' g' g P (inr e) q h = follows_up f g' g P q (subst (λ z. Follows z P g) e h)
+drawn_on f f' g' g P (inr e) q h = follows_up f g' g P q (subst (λ z. FollowsFlow z P g) e h)
 
 draws_up : (f g : Flow) (go : Value → Flow) (P : Value → Outcome → Type 0) → ((v : Value) (o : Outcome) → P v o → FlowUp (go v) (items_of o)) → Draws P f g → FlowUp (drawn f go) g
 draws_up (more v f) g go P q h = drawn_on (go v) (items_of h.0) (drawn f go) g (Draws P f) (q v h.0 h.1) (λ r d. draws_up f r go P q d) h.2
@@ -203,7 +203,7 @@ module _ (S : SourceTypes) (T : Tables) where
     comes_refine (proj l a) env o c = after_is (core T a env) c.0 (λ v. field_in l (as_record v)) o (comes_refine a env c.0 c.1) c.2
     comes_refine (inj l a) env o c = after_is (core T a env) c.0 (λ v. done (value.Inj l v)) o (comes_refine a env c.0 c.1) c.2
     comes_refine (case_of a bs) env o c =
-        then_up (core T a env) c.0 o (λ v. opened (as_variant v) (λ l w. core_arms T bs l w env)) (λ v. Opens (as_variant v) (λ l w. ArmsCome S T env bs l w)) (comes_refine a env c.0 c.1)
+        then_up (core T a env) c.0 o (λ v. opened (as_variant v) (λ l w. core_arms T bs l w env)) (λ v. OpensVariant (as_variant v) (λ l w. ArmsCome S T env bs l w)) (comes_refine a env c.0 c.1)
         (λ v h. opens_up (as_variant v) (λ l w. core_arms T bs l w env) (λ l w. ArmsCome S T env bs l w) o (λ l w d. arms_refine bs env l w o d) h) c.2
     comes_refine (make k ts) env o c = collected_is k (core_items T ts env) c.0 o (items_come_refine ts env c.0 c.1) c.2
     comes_refine (union a b) env o c = unites_up (core T a env) c.0 (core T b env) o (Comes S T env b) (comes_refine a env c.0 c.1) (λ q d. comes_refine b env q d) c.2

@@ -2,7 +2,7 @@
 use Rattle.std.proofs.Common.{IsSome, slice_get, sym, ◌∙◌, ap, subst, arith}
 use Rattle.std.proofs.lemmas.Option.{slice_get_within}
 use Rattle.kl_outcome.specs.Outcome.{Name}
-use Rattle.kl_ask.specs.Driver.{State, Keeps, Cause}
+use Rattle.kl_ask.specs.Driver.{State, KeepsState, Cause}
 use Rattle.kl_ask.specs.World.{World, Moved}
 use Rattle.kl_ask.specs.declared.DriverError.{DriverError}
 use Rattle.kl_ask.specs.declared.DriverError.TheVariants as error
@@ -10,7 +10,7 @@ use Rattle.kl_ask.proofs.Worlds.{there, source_stays}
 use Rattle.kl_eval.specs.World.{StoppedBy}
 
 -- the cause of a later step is one of both
-pub cause_then : (e : DriverError) (a b c : State) → Keeps a b → Cause e b c → Cause e a c
+pub cause_then : (e : DriverError) (a b c : State) → KeepsState a b → Cause e b c → Cause e a c
 cause_then error.Failed a b c k h = omega (arith, k.faults, h)
 cause_then (error.Changed d) a b c k h = (λ told. h.0 (subst (λ q. IsSome q.stored) (sym k.kind) told), omega (arith, k.drifts, h.1))
 cause_then error.NoMemory a b c k h = tt

@@ -22,9 +22,9 @@ Picks (Some true) P Q o = P o
 Picks (Some false) P Q o = Q o
 Picks None P Q o = o ≡ stuck
 
-abbrev pub Opens : Option (Name × Value) → (Name → Value → Outcome → Type 0) → Outcome → Type 0
-Opens (Some c) P o = P c.0 c.1 o
-Opens None P o = o ≡ stuck
+abbrev pub OpensVariant : Option (Name × Value) → (Name → Value → Outcome → Type 0) → Outcome → Type 0
+OpensVariant (Some c) P o = P c.0 c.1 o
+OpensVariant None P o = o ≡ stuck
 
 -- two collections as one
 abbrev pub Unites : Outcome → (Outcome → Type 0) → Outcome → Type 0
@@ -39,15 +39,15 @@ Leads (over vs) P f = f ≡ stop overflow
 Leads stuck P f = f ≡ stop broken
 
 -- one drawing, and then what P draws where it ends well
-abbrev pub Follows : Flow → (Flow → Type 0) → Flow → Type 0
-Follows (more v f) P g = (h : Flow) × Follows f P h × (g ≡ more v h)
-Follows (stop fine) P g = P g
-Follows (stop overflow) P g = g ≡ stop overflow
-Follows (stop broken) P g = g ≡ stop broken
+abbrev pub FollowsFlow : Flow → (Flow → Type 0) → Flow → Type 0
+FollowsFlow (more v f) P g = (h : Flow) × FollowsFlow f P h × (g ≡ more v h)
+FollowsFlow (stop fine) P g = P g
+FollowsFlow (stop overflow) P g = g ≡ stop overflow
+FollowsFlow (stop broken) P g = g ≡ stop broken
 
 -- the items of what P makes of each item
 abbrev pub Draws : (Value → Outcome → Type 0) → Flow → Flow → Type 0
-Draws P (more v f) g = (o : Outcome) × P v o × Follows (items_of o) (Draws P f) g
+Draws P (more v f) g = (o : Outcome) × P v o × FollowsFlow (items_of o) (Draws P f) g
 Draws P (stop e) g = g ≡ stop e
 
 abbrev mutual
@@ -58,7 +58,7 @@ abbrev mutual
   Comes S T env (rec ps) o = PartsCome S T env ps (λ fs. done (value.Rec fs)) o
   Comes S T env (proj l a) o = (p : Outcome) × Comes S T env a p × (o ≡ part l p)
   Comes S T env (inj l a) o = (p : Outcome) × Comes S T env a p × (o ≡ tagged l p)
-  Comes S T env (case_of a bs) o = (p : Outcome) × Comes S T env a p × Then p (λ v q. Opens (as_variant v) (λ l w. ArmsCome S T env bs l w) q) o
+  Comes S T env (case_of a bs) o = (p : Outcome) × Comes S T env a p × Then p (λ v q. OpensVariant (as_variant v) (λ l w. ArmsCome S T env bs l w) q) o
   Comes S T env (make k ts) o = (f : Flow) × ItemsCome S T env ts f × (o ≡ collected k f)
   Comes S T env (union a b) o = (p : Outcome) × Comes S T env a p × Unites p (Comes S T env b) o
   Comes S T env (ext k b a) o = (p : Outcome) × (f : Flow) × Comes S T env a p × Draws (λ v. Comes S T (v ∷ env) b) (items_of p) f × (o ≡ collected k f)

@@ -9,7 +9,7 @@ use Rattle.kl_type.specs.Ground.{ground_of}
 use Rattle.kl_outcome.specs.Outcome.{Name}
 use Rattle.kl_outcome.specs.Typed.{Inhabits}
 use Rattle.kl_ask.specs.Asks.{columns, item_of, kind_of}
-use Rattle.kl_ask.specs.Driver.{State, Cursor, Keeps, OtherCursors, OpensAt, Cause, source_of}
+use Rattle.kl_ask.specs.Driver.{State, Cursor, KeepsState, OtherCursors, OpensAt, Cause, source_of}
 use Rattle.kl_ask.specs.World.{Quiet}
 use Rattle.kl_ask.specs.declared.ask.Ask.{Ask}
 use Rattle.kl_ask.specs.declared.ask.Ask.TheVariants as asks
@@ -45,7 +45,7 @@ pub record Handed (cursor : ℕ) (into into' : List Value) (first : Cursor) (new
 
 -- some pulls of a cursor
 pub record Draining (cursor : ℕ) (into into' : List Value) (old new : State) : Type 0 where
-  pub keeps : Keeps old new
+  pub keeps : KeepsState old new
   pub attached : new.attached ≡ old.attached
   pub others : OtherCursors cursor old new
   pub rows : (first : Cursor) → old.cursors cursor ≡ Some first → Handed cursor into into' first new
@@ -57,7 +57,7 @@ pub record Drained (cursor : ℕ) (into into' : List Value) (old new : State) : 
 
 -- pulls of a cursor up to a stop
 pub record Stopped (cursor : ℕ) (e : DriverError) (old new : State) : Type 0 where
-  pub keeps : Keeps old new
+  pub keeps : KeepsState old new
   pub attached : new.attached ≡ old.attached
   pub others : OtherCursors cursor old new
   pub closed : new.cursors cursor ≡ None

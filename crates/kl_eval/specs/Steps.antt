@@ -16,14 +16,14 @@ use Rattle.kl_eval.specs.declared.stop.Halt.{Halt}
 use Rattle.kl_eval.specs.declared.stop.Halt.TheVariants as halt
 
 -- a result says what an outcome is, unless memory ran out
-abbrev pub Answers : Outcome → Result Value Halt → Type 0
-Answers (done v) (Ok w) = w ≡ v
-Answers (done v) (Err (halt.Over ws)) = ⊥
-Answers (over vs) (Ok w) = ⊥
-Answers (over vs) (Err (halt.Over ws)) = ws.items ≡ vs
-Answers stuck r = ⊥
-Answers o (Err (halt.Driver l e)) = ⊥
-Answers o (Err halt.NoMemory) = ⊤
+abbrev pub AnswersOutcome : Outcome → Result Value Halt → Type 0
+AnswersOutcome (done v) (Ok w) = w ≡ v
+AnswersOutcome (done v) (Err (halt.Over ws)) = ⊥
+AnswersOutcome (over vs) (Ok w) = ⊥
+AnswersOutcome (over vs) (Err (halt.Over ws)) = ws.items ≡ vs
+AnswersOutcome stuck r = ⊥
+AnswersOutcome o (Err (halt.Driver l e)) = ⊥
+AnswersOutcome o (Err halt.NoMemory) = ⊤
 
 abbrev pub inside_of : Result Value Halt → Result Value EvalStop
 inside_of (Ok v) = Ok v
@@ -38,14 +38,14 @@ Outside stop.NoMemory halt.NoMemory = ⊤
 Outside _ _ = ⊥
 
 -- these at the end of a list, unless memory ran out
-abbrev pub Adds : List Value → Result (Unit {0}) Halt → List Value → List Value → Type 0
-Adds vs (Ok _) old new = new ≡ old ++ vs
-Adds vs (Err (halt.Over ws)) old new = ⊥
-Adds vs (Err (halt.Driver l e)) old new = ⊥
-Adds vs (Err halt.NoMemory) old new = ⊤
+abbrev pub AppendsAll : List Value → Result (Unit {0}) Halt → List Value → List Value → Type 0
+AppendsAll vs (Ok _) old new = new ≡ old ++ vs
+AppendsAll vs (Err (halt.Over ws)) old new = ⊥
+AppendsAll vs (Err (halt.Driver l e)) old new = ⊥
+AppendsAll vs (Err halt.NoMemory) old new = ⊤
 
 abbrev pub AddsItems : Value → Result (Unit {0}) Halt → List Value → List Value → Type 0
-AddsItems v r old new = (k : Kind) × (vs : List Value) × (v ≡ collection k vs) × Adds vs r old new
+AddsItems v r old new = (k : Kind) × (vs : List Value) × (v ≡ collection k vs) × AppendsAll vs r old new
 
 abbrev pub AddsField : Name → Value → Result (Unit {0}) EvalStop → List (Name × Value) → List (Name × Value) → Type 0
 AddsField l v (Ok _) old new = new ≡ old ++ (l, v) ∷ []
@@ -63,8 +63,8 @@ Behind vs _ _ = ⊥
 
 -- a collection of what was drawn
 abbrev pub Gathers : Kind → Result (Vec Value Global) Halt → Result Value Halt → Type 0
-Gathers k (Ok vs) r = Answers (done (canonical k vs.items)) r
-Gathers k (Err (halt.Over vs)) r = Answers (over (kept k vs.items)) r
+Gathers k (Ok vs) r = AnswersOutcome (done (canonical k vs.items)) r
+Gathers k (Err (halt.Over vs)) r = AnswersOutcome (over (kept k vs.items)) r
 Gathers k (Err (halt.Driver l e)) r = r ≡ Err (halt.Driver l e)
 Gathers k (Err halt.NoMemory) r = r ≡ Err halt.NoMemory
 

@@ -8,7 +8,7 @@ ghost use Rattle.kl_value.specs.declared.value.Kind.TheVariants as kind;
 ghost use Rattle.kl_prim.specs.Arguments.{values_in};
 ghost use Rattle.kl_prim.specs.Table.{Fits, meaning};
 ghost use Rattle.kl_outcome.specs.Outcome.{done, as_variant};
-ghost use Rattle.kl_eval.specs.Steps.{Answers, inside_of, Outside, Adds, AddsItems, AddsField, AddsList, Behind, Gathers, AnswersPrim, place_of};
+ghost use Rattle.kl_eval.specs.Steps.{AnswersOutcome, inside_of, Outside, AppendsAll, AddsItems, AddsField, AddsList, Behind, Gathers, AnswersPrim, place_of};
 
 use crate::stop::{EvalStop, Halt};
 use kl_base::{Box, Label, Seq};
@@ -19,7 +19,7 @@ use std::alloc::Global;
 
 /// A copy of a value.
 pub fn copy(alloc: Global, value: &Value) -> Result<Value, Halt>
-    ensures { Answers (done value.now) result }
+    ensures { AnswersOutcome (done value.now) result }
 {
     match dup(alloc, value) {
         Ok(value) => Ok(value),
@@ -29,7 +29,7 @@ pub fn copy(alloc: Global, value: &Value) -> Result<Value, Halt>
 
 /// The variant that carries a value under a label.
 pub fn tag(alloc: Global, label: &Label, carried: Value) -> Result<Value, Halt>
-    ensures { Answers (done (value.Inj label.now carried)) result }
+    ensures { AnswersOutcome (done (value.Inj label.now carried)) result }
 {
     match label.dup() {
         Ok(label) => match Box::new(alloc, carried) {
@@ -89,7 +89,7 @@ pub fn place(branches: &[(Label, Term)], label: &Label) -> Option<usize>
 
 /// Adds a value.
 pub fn push(value: Value, out: &mut Vec<Value>) -> Result<(), Halt>
-    ensures { Adds (value ∷ []) result out.old.items out.new.items }
+    ensures { AppendsAll (value ∷ []) result out.old.items out.new.items }
 {
     match out.push(value) {
         Ok(()) => Ok(()),
@@ -181,7 +181,7 @@ pub fn add_list(outcome: Result<Value, Halt>, into: &mut Vec<Value>) -> Result<(
 /// # Errors
 /// Want of memory.
 pub fn unite(kind: Kind, both: Vec<Value>) -> Result<Value, Halt>
-    ensures { Answers (done (canonical kind both.items)) result }
+    ensures { AnswersOutcome (done (canonical kind both.items)) result }
 {
     let mut both = both;
     match kind {

@@ -5,7 +5,7 @@ use Rattle.std.specs.Io.KnownBytes.{append_known}
 use Rattle.kl_outside.specs.Sinks.{SinkState, HasCause, WritesWhole}
 use Rattle.kl_outside.specs.declared.Stop.{Stop}
 use Rattle.kl_value.specs.Written.{with_commas, separator}
-use Rattle.kl_exchange.specs.Printing.{Puts, Prints, Adds, as_stop, error_of, outcome}
+use Rattle.kl_exchange.specs.Printing.{Puts, Prints, AddsBytes, as_stop, error_of, outcome}
 use Rattle.kl_exchange.specs.declared.error.PrintError.{PrintError}
 use Rattle.kl_exchange.specs.declared.error.PrintError.TheVariants as error
 use Rattle.kl_outside.specs.declared.Stop.TheVariants as stop
@@ -61,14 +61,14 @@ prints_none s h None = record {
     nothing None = refl
     nothing (Some ks) = ap Some (sym (append-nil ks))
 
-adds_then : (us bs : List ℕ) (s t v : SinkState) (h k m : List ℕ) (w x y : Option Stop) → Adds w us s h t k x → Adds x bs t k v m y → Adds w (us ++ bs) s h v m y
+adds_then : (us bs : List ℕ) (s t v : SinkState) (h k m : List ℕ) (w x y : Option Stop) → AddsBytes w us s h t k x → AddsBytes x bs t k v m y → AddsBytes w (us ++ bs) s h v m y
 adds_then us bs s t v h k m (Some e) x y p q =
-    let r = subst (λ z. Adds z bs t k v m y) p.0 q in
+    let r = subst (λ z. AddsBytes z bs t k v m y) p.0 q in
     (r.0, r.1 ∙ p.1)
 adds_then us bs s t v h k m None None y p q = puts_then us bs tt (outcome y) s t v h k m p q
 adds_then us bs s t v h k m None (Some e) y p q =
-    subst (λ z. Adds None (us ++ bs) s h v m z) (sym q.0)
-    (subst (λ z. Adds None (us ++ bs) s h z m (Some e)) (sym q.1) (puts_stopped us bs e s t h k m p))
+    subst (λ z. AddsBytes None (us ++ bs) s h v m z) (sym q.0)
+    (subst (λ z. AddsBytes None (us ++ bs) s h z m (Some e)) (sym q.1) (puts_stopped us bs e s t h k m p))
 
 pub then : {us bs : List ℕ} {s t v : SinkState} {h k m : List ℕ} {w x y : Option Stop} → Prints us s h w t k x → Prints bs t k x v m y → Prints (us ++ bs) s h w v m y
 then p q = record { adds = adds_then _ _ _ _ _ _ _ _ _ _ _ p.adds q.adds }
@@ -125,13 +125,13 @@ same stop.NoMemory = refl
 -- what an answer says, under its own name
 pub put_well : (bytes : List ℕ) (stopped : Option Stop) (s t : SinkState) (h k : List ℕ) (x : Option Stop) → x ≡ None → stopped ≡ None → Prints bytes s h x t k stopped → Puts {T = Unit {0}} bytes (Ok tt) s h t k
 put_well bytes stopped s t h k x fresh none p =
-    subst (λ o. Puts bytes (outcome o) s h t k) none (subst (λ o. Adds o bytes s h t k stopped) fresh p.adds)
+    subst (λ o. Puts bytes (outcome o) s h t k) none (subst (λ o. AddsBytes o bytes s h t k stopped) fresh p.adds)
 
 pub put_refused : (bytes : List ℕ) (e : Stop) (stopped : Option Stop) (s t : SinkState) (h k m : List ℕ) (x : Option Stop) → x ≡ None → stopped ≡ Some e → Prints bytes s h x t k stopped
     → Puts bytes (as_stop {T = Unit {0}} (Err (error_of e))) s h t m
 put_refused bytes e stopped s t h k m x fresh some p =
     subst (λ r. Puts {T = Unit {0}} bytes r s h t m) (sym (same e))
-    (lost bytes e s t h k m (subst (λ o. Puts bytes (outcome o) s h t k) some (subst (λ o. Adds o bytes s h t k stopped) fresh p.adds)))
+    (lost bytes e s t h k m (subst (λ o. Puts bytes (outcome o) s h t k) some (subst (λ o. AddsBytes o bytes s h t k stopped) fresh p.adds)))
 
 -- what is held in the end is written
 pub last_write : (bytes held after slice : List ℕ) (stopped : Option Stop) (r : Result (Unit {0}) Stop) (s t v : SinkState) → held ≡ [] → stopped ≡ None → slice ≡ after

@@ -9,7 +9,7 @@ use Rattle.kl_exchange.specs.State.{State}
 use Rattle.kl_exchange.specs.declared.error.ReadError.{ReadError}
 use Rattle.kl_exchange.specs.declared.error.ReadError.TheVariants as error
 use Rattle.std.specs.List.{list_all}
-use Rattle.kl_exchange.specs.Scan.{Keeps, IsBegun}
+use Rattle.kl_exchange.specs.Scan.{KeepsRun, IsBegun}
 use Rattle.kl_exchange.specs.declared.machine.Machine.{Machine}
 use Rattle.kl_exchange.specs.Machine.{Step}
 use Rattle.kl_exchange.specs.declared.machine.Stop.{Stop}
@@ -146,7 +146,7 @@ module _ (L : ℕ) where
   none_there n bytes room none item rest v is spells = none v rest (rw is (run_item L n item v rest spells room))
 
 -- what a reader keeps
-module _ (buffer : List ℕ) (from to place : ℕ) (m : Machine) (keeps : Keeps buffer from to place m) where
+module _ (buffer : List ℕ) (from to place : ℕ) (m : Machine) (keeps : KeepsRun buffer from to place m) where
   pub keeps_sound : IsSound 256 m.stack m.phase
   keeps_sound = (subst (Reaches 256 start (take (to - from) (drop from buffer))) keeps.met (reaches 256 (take (to - from) (drop from buffer)) start (start_sound 256))).0
 
@@ -355,7 +355,7 @@ pub deep_begun : (bytes rest : List ℕ) → run 256 bytes start ≡ deep rest
 deep_begun bytes rest met =
     let c = subst (Reaches 256 start bytes) met (reaches 256 bytes start (start_sound 256)) in (c.0, c.1, c.2, c.5, c.3, c.4, c.6, c.7, c.9)
 
-module _ (buffer xs : List ℕ) (from to place : ℕ) (m n : Machine) (keeps : Keeps buffer from to place m) (same : xs ≡ buffer) (machine : n ≡ m) where
+module _ (buffer xs : List ℕ) (from to place : ℕ) (m n : Machine) (keeps : KeepsRun buffer from to place m) (same : xs ≡ buffer) (machine : n ≡ m) where
   scanned_bytes : take (length xs - to) (drop to xs) ≡ drop to buffer
   scanned_bytes = rest_is xs buffer to same
 
@@ -364,7 +364,7 @@ module _ (buffer xs : List ℕ) (from to place : ℕ) (m n : Machine) (keeps : K
       keeps_run buffer from to place m keeps
       ∙ (ap (λ bs. run 256 bs m) (sym scanned_bytes) ∙ (ap (λ k. run 256 (take (length xs - to) (drop to xs)) k) (sym machine) ∙ e))
 
-  pub keeps_all : (k : Machine) (len : ℕ) → len ≡ length buffer → run 256 (take (length xs - to) (drop to xs)) n ≡ more k → Keeps buffer from len place k
+  pub keeps_all : (k : Machine) (len : ℕ) → len ≡ length buffer → run 256 (take (length xs - to) (drop to xs)) n ≡ more k → KeepsRun buffer from len place k
   keeps_all k len whole e =
       let ordered = keeps.ordered in
       let within = keeps.within in

@@ -130,6 +130,6 @@ pub record NextItem (result : Result (Option Value) FileError) (old new : FileRe
   pub goes : (first : Left) (vs : List Value) → HasRead first vs old (files.left old.file) → Stands first vs result new (files'.left old.file)
 
 -- what stays true of a reader
-pub record IsWithin (text : State) (limit piece : ℕ) : Type 0 where
+pub record IsFedWithin (text : State) (limit piece : ℕ) : Type 0 where
   pub within : text.place + length text.left ≤ limit
   pub some : 0 < piece

@@ -35,13 +35,13 @@ abbrev pub outcome : Option Stop → Result (Unit {0}) Stop
 outcome None = Ok tt
 outcome (Some e) = Err e
 
-abbrev pub Adds : Option Stop → List ℕ → SinkState → List ℕ → SinkState → List ℕ → Option Stop → Type 0
-Adds None bytes old held new after stopped = Puts bytes (outcome stopped) old held new after
-Adds (Some e) bytes old held new after stopped = (stopped ≡ Some e) × (new ≡ old)
+abbrev pub AddsBytes : Option Stop → List ℕ → SinkState → List ℕ → SinkState → List ℕ → Option Stop → Type 0
+AddsBytes None bytes old held new after stopped = Puts bytes (outcome stopped) old held new after
+AddsBytes (Some e) bytes old held new after stopped = (stopped ≡ Some e) × (new ≡ old)
 
 -- Bytes are printed, unless the sink has stopped: then nothing more is written.
 pub record Prints (bytes : List ℕ) (old : SinkState) (held : List ℕ) (before : Option Stop) (new : SinkState) (after : List ℕ) (stopped : Option Stop) : Type 0 where
-  pub adds : Adds before bytes old held new after stopped
+  pub adds : AddsBytes before bytes old held new after stopped
 
 -- a byte that stands as it is in a text
 abbrev pub is_plain : ℕ → Bool

@@ -64,13 +64,13 @@ pub record IsDeep (old : State) (k : ℕ) : Type 0 where
   pub no_item : NoItem nesting old.left
 
 -- A refusal is kept: the reader answers it from then on. It comes first where there is cause.
-abbrev pub Refuses : State → ReadError → Type 0 → State → Type 0
-Refuses old e cause new = ((old.refused ≡ Some e) × (new ≡ old)) ⊎ ((old.refused ≡ None) × cause × (new ≡ record old { refused = Some e }))
+abbrev pub RefusesItem : State → ReadError → Type 0 → State → Type 0
+RefusesItem old e cause new = ((old.refused ≡ Some e) × (new ≡ old)) ⊎ ((old.refused ≡ None) × cause × (new ≡ record old { refused = Some e }))
 
 abbrev pub ReadsNext : State → Result Item ReadError → State → Type 0
 ReadsNext old (Ok (item.Value v)) new = GivesItem old v new
 ReadsNext old (Ok item.NeedMore) new = Waits old new
 ReadsNext old (Ok item.End) new = EndsText old new
-ReadsNext old (Err (error.Bad place)) new = Refuses old (error.Bad place) ((k : ℕ) × (place ≡ old.place + k) × IsBad old k) new
-ReadsNext old (Err (error.TooDeep place)) new = Refuses old (error.TooDeep place) ((k : ℕ) × (place ≡ old.place + k) × IsDeep old k) new
+ReadsNext old (Err (error.Bad place)) new = RefusesItem old (error.Bad place) ((k : ℕ) × (place ≡ old.place + k) × IsBad old k) new
+ReadsNext old (Err (error.TooDeep place)) new = RefusesItem old (error.TooDeep place) ((k : ℕ) × (place ≡ old.place + k) × IsDeep old k) new
 ReadsNext old (Err error.NoMemory) new = new ≡ old

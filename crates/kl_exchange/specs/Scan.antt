@@ -16,7 +16,7 @@ Scans bytes now (Err (halt.TooDeep count)) o = (count < length bytes) × (o ≡ 
 Scans bytes now (Err halt.NoMemory) o = ⊤
 
 -- The bytes of the buffer from one place to another have come to this machine, and no count can pass its type.
-pub record Keeps (buffer : List ℕ) (from to place : ℕ) (m : Machine) : Type 0 where
+pub record KeepsRun (buffer : List ℕ) (from to place : ℕ) (m : Machine) : Type 0 where
   pub ordered : from ≤ to
   pub within : to ≤ length buffer
   pub room : place + (length buffer - from) < 2 ^ 64

@@ -36,11 +36,11 @@ impl Model for FileReader {
 
     ghost Value = { FileReading };
 
-    ghost use Rattle.kl_exchange.specs.FileReading.{IsWithin};
+    ghost use Rattle.kl_exchange.specs.FileReading.{IsFedWithin};
 
     ghost view = { λ r. record { file = r.file; limit = r.limit; piece = r.piece; text = r.reader; past = r.past } };
 
-    ghost invariant = { λ r. IsWithin r.reader r.limit r.piece };
+    ghost invariant = { λ r. IsFedWithin r.reader r.limit r.piece };
 }
 
 impl FileReader {

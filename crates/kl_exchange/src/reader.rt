@@ -53,11 +53,11 @@ impl Model for Reader {
 
     ghost Value = { State };
 
-    ghost use Rattle.kl_exchange.specs.Scan.{Keeps};
+    ghost use Rattle.kl_exchange.specs.Scan.{KeepsRun};
 
     ghost view = { λ r. record { place = r.place; left = drop r.start r.buffer.items; finished = r.finished; refused = r.refused } };
 
-    ghost invariant = { λ r. Keeps r.buffer.items r.start r.scanned r.place r.machine };
+    ghost invariant = { λ r. KeepsRun r.buffer.items r.start r.scanned r.place r.machine };
 }
 
 impl Reader {

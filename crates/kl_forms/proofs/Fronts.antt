@@ -15,7 +15,7 @@ use Rattle.kl_rows.specs.Lists.{Fields}
 use Rattle.kl_rows.specs.Places.{a_type, a_row, IsIn, IsFine, IsType, AreTypes}
 use Rattle.kl_rows.specs.Solutions.{Assignment, Splits, RowSays, Solves}
 use Rattle.kl_rows.specs.Steps.{Agrees, Grown}
-use Rattle.kl_rows.specs.Making.{CanMake, Adds}
+use Rattle.kl_rows.specs.Making.{CanMake, AddsCell}
 use Rattle.kl_rows.proofs.CellLists.{sort_within}
 use Rattle.kl_base.proofs.Each.{all_map}
 use Rattle.kl_rows.proofs.ListLemmas.{Label, field_here, field_there, all_at}
@@ -96,7 +96,7 @@ barred true all l h = h
 barred false all l h = tt
 
 -- a row of which a node is said
-opens_row : (old new : List Cell) (i : ℕ) (n : RowNode) (E : Row → Assignment → Type 0) → IsFine old → CanMake old (OfRow n) → Adds old new (OfRow n) i
+opens_row : (old new : List Cell) (i : ℕ) (n : RowNode) (E : Row → Assignment → Type 0) → IsFine old → CanMake old (OfRow n) → AddsCell old new (OfRow n) i
     → ((s : Assignment) (r : Row) → E r s → RowSays n s r) → ((s : Assignment) (r : Row) → RowSays n s r → E r s) → OpensRow old new i E
 opens_row old new i n E fine can adds go come = record {
   fine = adds.fine;
@@ -107,7 +107,7 @@ opens_row old new i n E fine can adds go come = record {
 }
 
 -- the end of an open row, and of another
-pub open_end : (old new : List Cell) (all : Fields) (i : ℕ) (ls : List Label) (b : Bool) → b ≡ true → ls ≡ labels_of all → IsFine old → Adds old new (OfRow (AnyRow ls)) i → Fronts b all [] old new i
+pub open_end : (old new : List Cell) (all : Fields) (i : ℕ) (ls : List Label) (b : Bool) → b ≡ true → ls ≡ labels_of all → IsFine old → AddsCell old new (OfRow (AnyRow ls)) i → Fronts b all [] old new i
 open_end old new all i ls b is e fine adds = subst (λ b. Fronts b all [] old new i) (sym is) (record {
   opens = opens_row old new i (AnyRow ls) (HasFront true all []) fine (record { placed = tt; tidy = tt }) adds
       (λ s r h. subst (AllByRecursion (λ l. at l r ≡ None)) (sym e) (each_label (λ l. at l r ≡ None) all (λ l k. h.others l refl k)))
@@ -119,7 +119,7 @@ no_label : (r : Row) → ((l : Label) → at l r ≡ None) → r ≡ no_row
 no_label no_row h = refl
 no_label (row l t r) h = none_some t _ (sym (h l) ∙ at_here l l t r refl)
 
-pub closed_end : (old new : List Cell) (all : Fields) (i : ℕ) (b : Bool) → b ≡ false → IsFine old → Adds old new (OfRow NoRow) i → Fronts b all [] old new i
+pub closed_end : (old new : List Cell) (all : Fields) (i : ℕ) (b : Bool) → b ≡ false → IsFine old → AddsCell old new (OfRow NoRow) i → Fronts b all [] old new i
 closed_end old new all i b is fine adds = subst (λ b. Fronts b all [] old new i) (sym is) (record {
   opens = opens_row old new i NoRow (HasFront false all []) fine (record { placed = tt; tidy = tt }) adds
       (λ s r h. no_label r (λ l. h.others l refl tt))
@@ -142,12 +142,12 @@ module _ (b : Bool) (all fs : Fields) (l : Label) (t : ℕ) (old mid new : List 
   front_can k same is_barred none there = subst (λ k. CanMake mid (OfRow (Front ((k, t) ∷ []) i))) (sym same)
       (record { placed = ((fronts.opens.keeps.sorts t a_type there, tt), fronts.opens.sort); tidy = record { lack = (fronts.lacks l none is_barred, tt); differ = (refl, tt) } })
 
-  module _ (j : ℕ) (is_barred : IsBarred b all l) (none : field l fs ≡ None) (there : IsType old t) (k : Label) (same : k ≡ l) (adds_as : Adds mid new (OfRow (Front ((k, t) ∷ []) i)) j) where
+  module _ (j : ℕ) (is_barred : IsBarred b all l) (none : field l fs ≡ None) (there : IsType old t) (k : Label) (same : k ≡ l) (adds_as : AddsCell mid new (OfRow (Front ((k, t) ∷ []) i)) j) where
     can : CanMake mid (OfRow (Front ((l, t) ∷ []) i))
     can = front_can l refl is_barred none there
 
-    adds : Adds mid new (OfRow (Front ((l, t) ∷ []) i)) j
-    adds = subst (λ k. Adds mid new (OfRow (Front ((k, t) ∷ []) i)) j) same adds_as
+    adds : AddsCell mid new (OfRow (Front ((l, t) ∷ []) i)) j
+    adds = subst (λ k. AddsCell mid new (OfRow (Front ((k, t) ∷ []) i)) j) same adds_as
 
     behind : (s : Assignment) (r : Row) → HasFront b all ((l, t) ∷ fs) r s → HasFront b all fs (rest_of l r) s
     behind s r h = record {

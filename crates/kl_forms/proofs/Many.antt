@@ -8,7 +8,7 @@ use Rattle.kl_rows.specs.declared.cell.Cell.TheVariants.{OfType}
 use Rattle.kl_rows.specs.Places.{a_type, IsFine, IsType}
 use Rattle.kl_rows.specs.Solutions.{Assignment, Solves}
 use Rattle.kl_rows.specs.Steps.{Agrees, Grown}
-use Rattle.kl_rows.specs.Making.{Adds}
+use Rattle.kl_rows.specs.Making.{AddsCell}
 use Rattle.kl_rows.proofs.Advancing.{agrees_refl, agrees_on, keeps_refl, keeps_on}
 use Rattle.kl_rows.proofs.Growing.{grown_type}
 use Rattle.kl_forms.specs.Checks.{OpensMany}
@@ -53,7 +53,7 @@ many_none ns items e f = subst (λ is. OpensMany ns ns is 0) (sym e) (record {
     none [] size = refl
     none (t ∷ ts) size = absurd (omega arith)
 
-module _ (a b c : List Cell) (items : List ℕ) (i n : ℕ) (many : OpensMany a b items n) (adds : Adds b c (OfType AnyType) i) where
+module _ (a b c : List Cell) (items : List ℕ) (i n : ℕ) (many : OpensMany a b items n) (adds : AddsCell b c (OfType AnyType) i) where
   more_down : (s : Assignment) (ts : List Ground) → Solves a s → length ts ≡ n + 1 → AllByRecursion IsGround ts → Grown a c s (λ u. map u.types (items ++ i ∷ []) ≡ ts)
   more_down s [] h size all = absurd (omega arith)
   more_down s (t ∷ ts) h size all =

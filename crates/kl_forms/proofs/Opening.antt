@@ -10,14 +10,14 @@ use Rattle.kl_rows.specs.declared.cell.Cell.TheVariants.{OfType, OfFunction, OfK
 use Rattle.kl_rows.specs.Places.{a_type, a_function, sort_at, IsFine, IsType, IsFunction}
 use Rattle.kl_rows.specs.Solutions.{Assignment, TypeSays}
 use Rattle.kl_rows.specs.Steps.{Advances}
-use Rattle.kl_rows.specs.Making.{CanMake, Adds, Same}
+use Rattle.kl_rows.specs.Making.{CanMake, AddsCell, Same}
 use Rattle.kl_rows.specs.Expanding.{GivesType}
 use Rattle.kl_rows.specs.declared.schemes.Scheme.{Scheme}
 use Rattle.kl_rows.specs.Schemes.{Instance, Instantiates, cells_of, given}
 use Rattle.kl_rows.proofs.CellLists.{sort_within}
 use Rattle.kl_rows.proofs.Advancing.{Fact, agrees_on, keeps_on, absurd_true}
 use Rattle.kl_rows.proofs.Growing.{grown_type, grown_function}
-use Rattle.kl_forms.specs.Checks.{Checks, Opens, Refuses}
+use Rattle.kl_forms.specs.Checks.{Checks, OpensItem, LeavesNone}
 use Rattle.kl_forms.proofs.Steps.{Stable, merges, told, with_type, with_kind, with_instance}
 
 pub type_within : (ns : List Cell) (i : ℕ) → IsType ns i → i < length ns
@@ -31,8 +31,8 @@ pub can_any : (ns : List Cell) → CanMake ns (OfType AnyType)
 can_any ns = record { placed = tt; tidy = tt }
 
 -- a fresh type of which a check asks something
-module _ (old mid new : List Cell) (item : ℕ) (E : Ground → Fact) (fine : IsFine old) (adds : Adds old mid (OfType AnyType) item) (stable : (t : Ground) → Stable (length old) (E t)) where
-  pub opens : (ans : Bool) → ans ≡ true → Checks ans mid new (λ s. E (s.types item) s) → Opens old new item E
+module _ (old mid new : List Cell) (item : ℕ) (E : Ground → Fact) (fine : IsFine old) (adds : AddsCell old mid (OfType AnyType) item) (stable : (t : Ground) → Stable (length old) (E t)) where
+  pub opens : (ans : Bool) → ans ≡ true → Checks ans mid new (λ s. E (s.types item) s) → OpensItem old new item E
   opens ans e c = record {
     fine = c.fine;
     keeps = keeps_on old mid new adds.keeps c.keeps;
@@ -45,7 +45,7 @@ module _ (old mid new : List Cell) (item : ℕ) (E : Ground → Fact) (fine : Is
     up = λ s h. let w = c.up e s h in (((adds.solves s).0 w.0).0, w.1);
   }
 
-  pub refuses : (ans : Bool) → ans ≡ false → Checks ans mid new (λ s. E (s.types item) s) → Refuses old new E
+  pub refuses : (ans : Bool) → ans ≡ false → Checks ans mid new (λ s. E (s.types item) s) → LeavesNone old new E
   refuses ans e c = record {
     fine = c.fine;
     keeps = keeps_on old mid new adds.keeps c.keeps;
@@ -60,7 +60,7 @@ pub same_types : (ans : Bool) (old new : List Cell) (a b : ℕ) → IsType old a
 same_types ans old new a b is m = subst (λ o. Checks ans old new (Same o a b)) is (merges ans old new _ m)
 
 -- a new type is this one
-pub says_type : (old mid new : List Cell) (i want : ℕ) (ans : Bool) (n : TypeNode) → IsFine old → CanMake old (OfType n) → IsType old want → Adds old mid (OfType n) i → Checks ans mid new (λ s. s.types i ≡ s.types want) → Checks ans old new (λ s. TypeSays n s (s.types want))
+pub says_type : (old mid new : List Cell) (i want : ℕ) (ans : Bool) (n : TypeNode) → IsFine old → CanMake old (OfType n) → IsType old want → AddsCell old mid (OfType n) i → Checks ans mid new (λ s. s.types i ≡ s.types want) → Checks ans old new (λ s. TypeSays n s (s.types want))
 says_type old mid new i want ans n fine can there adds c =
     told ans old new _ _
     (λ s h d. (s.types want, s.types_ground want, d, refl))
@@ -87,7 +87,7 @@ instance_type old mid new i want ans scheme there is used c =
     (with_instance old mid scheme i is used ans new _ (λ t s. t ≡ s.types want) (λ t. stable_type old want (λ x. t ≡ x) there) (λ s e. e) (λ s e. e) c)
 
 -- a call of a scheme's function
-pub instance_call : (old mid made new : List Cell) (i j arg want : ℕ) (ans : Bool) (scheme : Scheme) → IsType old arg → IsType old want → IsFunction (cells_of scheme.nodes) scheme.root → Instantiates old mid scheme i → Adds mid made (OfFunction arg want) j
+pub instance_call : (old mid made new : List Cell) (i j arg want : ℕ) (ans : Bool) (scheme : Scheme) → IsType old arg → IsType old want → IsFunction (cells_of scheme.nodes) scheme.root → Instantiates old mid scheme i → AddsCell mid made (OfFunction arg want) j
     → Advances ans made new (Same (sort_at made i) i j) (λ s. Unit {0}) → Checks ans old new (λ s. Instance scheme (arrow (s.types arg) (s.types want)))
 instance_call old mid made new i j arg want ans scheme arg_there there is used adds m =
     let sort : sort_at mid i ≡ sort_at (cells_of scheme.nodes) scheme.root = used.sort in
@@ -113,7 +113,7 @@ instance_call old mid made new i j arg want ans scheme arg_there there is used a
     }
 
 -- collections
-pub items_known : (old mid new : List Cell) (i item want : ℕ) (ans : Bool) (k : Kind) → IsFine old → IsType old item → IsType old want → Adds old mid (OfKind (Fixed k)) i
+pub items_known : (old mid new : List Cell) (i item want : ℕ) (ans : Bool) (k : Kind) → IsFine old → IsType old item → IsType old want → AddsCell old mid (OfKind (Fixed k)) i
     → Checks ans mid new (λ s. s.types want ≡ coll (s.kinds i) (s.types item)) → Checks ans old new (λ s. s.types want ≡ coll k (s.types item))
 items_known old mid new i item want ans k fine item_there there adds c =
     told ans old new _ _
@@ -122,7 +122,7 @@ items_known old mid new i item want ans k fine item_there there adds c =
     (with_kind old mid i fine (Fixed k) (record { placed = tt; tidy = tt }) adds ans new _ (λ j s. s.types want ≡ coll j (s.types item))
     (λ j s u a d. a.types want (type_within old want there) ∙ (d ∙ ap (coll j) (sym (a.types item (type_within old item item_there))))) (λ s e. e) (λ s e. e) c)
 
-pub items_any : (old mid new : List Cell) (i item want : ℕ) (ans : Bool) → IsFine old → IsType old item → IsType old want → Adds old mid (OfKind AnyKind) i
+pub items_any : (old mid new : List Cell) (i item want : ℕ) (ans : Bool) → IsFine old → IsType old item → IsType old want → AddsCell old mid (OfKind AnyKind) i
     → Checks ans mid new (λ s. s.types want ≡ coll (s.kinds i) (s.types item)) → Checks ans old new (λ s. (k : Kind) × (s.types want ≡ coll k (s.types item)))
 items_any old mid new i item want ans fine item_there there adds c =
     told ans old new _ _
@@ -132,7 +132,7 @@ items_any old mid new i item want ans fine item_there there adds c =
     (λ j s u a d. a.types want (type_within old want there) ∙ (d ∙ ap (coll j) (sym (a.types item (type_within old item item_there))))) (λ s e. e) (λ s e. e) c)
 
 -- a number that a call found, of which a check asks something
-pub opened : (old mid new : List Cell) (item : ℕ) (E : Ground → Fact) (ans : Bool) → Opens old mid item E → (F : Ground → Fact) → ((t : Ground) → Stable (length old) (F t)) → Checks ans mid new (λ s. F (s.types item) s)
+pub opened : (old mid new : List Cell) (item : ℕ) (E : Ground → Fact) (ans : Bool) → OpensItem old mid item E → (F : Ground → Fact) → ((t : Ground) → Stable (length old) (F t)) → Checks ans mid new (λ s. F (s.types item) s)
     → Checks ans old new (λ s. (t : Ground) × IsGround t × E t s × F t s)
 opened old mid new item E ans o F stable c = record {
   fine = c.fine;
@@ -145,7 +145,7 @@ opened old mid new item E ans o F stable c = record {
   up = λ e s h. let w = c.up e s h in let x = o.up s w.0 in (x.0, (s.types item, s.types_ground item, x.1, w.1));
 }
 
-pub refused : (old new : List Cell) (E : Ground → Fact) (D : Fact) → Refuses old new E → ((s : Assignment) → D s → (t : Ground) × IsGround t × E t s) → Checks false old new D
+pub refused : (old new : List Cell) (E : Ground → Fact) (D : Fact) → LeavesNone old new E → ((s : Assignment) → D s → (t : Ground) × IsGround t × E t s) → Checks false old new D
 refused old new E D r go = record {
   fine = r.fine;
   keeps = r.keeps;
@@ -154,7 +154,7 @@ refused old new E D r go = record {
 }
 
 -- a number that was there, where a check asks that it is what is said
-pub opens_there : (old new : List Cell) (item : ℕ) (E : Ground → Fact) (D : Fact) → IsType old item → ((s : Assignment) (t : Ground) → E t s → D s × (s.types item ≡ t)) → ((s : Assignment) → D s → E (s.types item) s) → Checks true old new D → Opens old new item E
+pub opens_there : (old new : List Cell) (item : ℕ) (E : Ground → Fact) (D : Fact) → IsType old item → ((s : Assignment) (t : Ground) → E t s → D s × (s.types item ≡ t)) → ((s : Assignment) → D s → E (s.types item) s) → Checks true old new D → OpensItem old new item E
 opens_there old new item E D there go come c = record {
   fine = c.fine;
   keeps = c.keeps;

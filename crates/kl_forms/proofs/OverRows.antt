@@ -8,10 +8,10 @@ use Rattle.kl_rows.specs.declared.cell.Cell.TheVariants.{OfType}
 use Rattle.kl_rows.specs.Lists.{Fields}
 use Rattle.kl_rows.specs.Places.{IsFine, IsType}
 use Rattle.kl_rows.specs.Solutions.{Assignment, TypeSays}
-use Rattle.kl_rows.specs.Making.{CanMake, Adds}
+use Rattle.kl_rows.specs.Making.{CanMake, AddsCell}
 use Rattle.kl_rows.proofs.Advancing.{agrees_on, keeps_on, absurd_true}
 use Rattle.kl_rows.proofs.Growing.{grown_type}
-use Rattle.kl_forms.specs.Checks.{Checks, Opens, Refuses}
+use Rattle.kl_forms.specs.Checks.{Checks, OpensItem, LeavesNone}
 use Rattle.kl_forms.specs.Forms.{HasFields, IsRecord, IsVariant}
 use Rattle.kl_forms.specs.Rows.{FindsRow, OpensRow, RefusesRow}
 use Rattle.kl_forms.proofs.Steps.{told}
@@ -23,7 +23,7 @@ module _ (over : Row → Ground) (node : ℕ → TypeNode) (row_good : (r : Row)
   over_good : (s : Assignment) (want : ℕ) (r : Row) → s.types want ≡ over r → IsRow r
   over_good s want r e = row_good r (subst IsGround e (s.types_ground want))
 
-  over_row : (old mid made new : List Cell) (row i want : ℕ) (ans : Bool) (E : Row → Assignment → Type 0) → IsType old want → OpensRow old mid row E → CanMake mid (OfType (node row)) → Adds mid made (OfType (node row)) i
+  over_row : (old mid made new : List Cell) (row i want : ℕ) (ans : Bool) (E : Row → Assignment → Type 0) → IsType old want → OpensRow old mid row E → CanMake mid (OfType (node row)) → AddsCell mid made (OfType (node row)) i
       → Checks ans made new (λ s. s.types i ≡ s.types want) → Checks ans old new (λ s. (r : Row) × (s.types want ≡ over r) × E r s)
   over_row old mid made new row i want ans E there open_row can adds c = record {
     fine = c.fine;
@@ -65,14 +65,14 @@ module _ (old mid made new : List Cell) (row i want : ℕ) (ans b : Bool) (fs gs
   pub no_variant : o ≡ None → Checks false old mid (IsVariant b fs want)
   no_variant e = over_none var Var (λ r h. h.1) (λ i s t h. h) (λ i s t h. h) old mid want b fs (none_found e)
 
-  pub a_record : o ≡ Some row → Adds mid made (OfType (Rec row)) i → Checks ans made new (λ s. s.types i ≡ s.types want) → Checks ans old new (IsRecord b fs want)
+  pub a_record : o ≡ Some row → AddsCell mid made (OfType (Rec row)) i → Checks ans made new (λ s. s.types i ≡ s.types want) → Checks ans old new (IsRecord b fs want)
   a_record e adds c = let r = row_found e in over_row rec Rec (λ r h. h) (λ i s t h. h) (λ i s t h. h) old mid made new row i want ans (HasFields b fs) there r (record { placed = r.sort; tidy = tt }) adds c
 
-  pub a_variant : o ≡ Some row → Adds mid made (OfType (Var row)) i → Checks ans made new (λ s. s.types i ≡ s.types want) → Checks ans old new (IsVariant b fs want)
+  pub a_variant : o ≡ Some row → AddsCell mid made (OfType (Var row)) i → Checks ans made new (λ s. s.types i ≡ s.types want) → Checks ans old new (IsVariant b fs want)
   a_variant e adds c = let r = row_found e in over_row var Var (λ r h. h.1) (λ i s t h. h) (λ i s t h. h) old mid made new row i want ans (HasFields b fs) there r (record { placed = r.sort; tidy = tt }) adds c
 
 -- one label of a type over a row
-module _ (over : Row → Ground) (old mid new : List Cell) (l m : List ℕ) (item want : ℕ) (ans : Bool) (fs : Fields) (fine : IsFine old) (there : IsType old want) (adds : Adds old mid (OfType AnyType) item)
+module _ (over : Row → Ground) (old mid new : List Cell) (l m : List ℕ) (item want : ℕ) (ans : Bool) (fs : Fields) (fine : IsFine old) (there : IsType old want) (adds : AddsCell old mid (OfType AnyType) item)
     (is : fs ≡ (l, item) ∷ []) (same : l ≡ m) (check : Checks ans mid new (λ s. (r : Row) × (s.types want ≡ over r) × HasFields true fs r s)) where
   abbrev AtLabel : Ground → Assignment → Type 0
   AtLabel t s = (r : Row) × (s.types want ≡ over r) × (at m r ≡ Some t)
@@ -86,8 +86,8 @@ module _ (over : Row → Ground) (old mid new : List Cell) (l m : List ℕ) (ite
   abbrev Over : Ground → Ground → Type 0
   Over t x = (r : Row) × (x ≡ over r) × (at m r ≡ Some t)
 
-  pub label_opens : ans ≡ true → Opens old new item AtLabel
+  pub label_opens : ans ≡ true → OpensItem old new item AtLabel
   label_opens e = opens old mid new item AtLabel fine adds (λ t. stable_type old want (Over t) there) ans e label_check
 
-  pub label_refuses : ans ≡ false → Refuses old new AtLabel
+  pub label_refuses : ans ≡ false → LeavesNone old new AtLabel
   label_refuses e = refuses old mid new item AtLabel fine adds (λ t. stable_type old want (Over t) there) ans e label_check

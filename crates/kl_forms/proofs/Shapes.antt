@@ -20,10 +20,10 @@ use Rattle.kl_rows.specs.declared.cell.Cell.TheVariants.{OfType, OfKind}
 use Rattle.kl_rows.specs.declared.cell.Scalar.{Scalar}
 use Rattle.kl_rows.specs.Places.{a_kind, IsFine, IsType, IsKind}
 use Rattle.kl_rows.specs.Solutions.{Assignment, scalar_type}
-use Rattle.kl_rows.specs.Making.{Adds}
+use Rattle.kl_rows.specs.Making.{AddsCell}
 use Rattle.kl_rows.proofs.CellLists.{sort_within}
 use Rattle.kl_rows.proofs.Advancing.{Fact}
-use Rattle.kl_forms.specs.Checks.{Checks, Opens, Refuses, Finds}
+use Rattle.kl_forms.specs.Checks.{Checks, OpensItem, LeavesNone, Finds}
 use Rattle.kl_forms.specs.Forms.{ItemsOf, DrawnFrom, Applies, Operates}
 use Rattle.kl_forms.proofs.Steps.{Stable, both, cut, never, told, with_type, with_kind}
 use Rattle.kl_forms.proofs.Opening.{type_within, stable_type, can_any, opened, refused}
@@ -60,7 +60,7 @@ items_ground s i k t e = subst IsGround e (s.types_ground i)
 
 -- a collection, whose items some check speaks of
 module _ (old mid new : List Cell) (item arg want : ℕ) (ans : Bool) (arg_there : IsType old arg) (there : IsType old want) where
-  module _ (open_item : Opens old mid item (DrawnFrom arg)) where
+  module _ (open_item : OpensItem old mid item (DrawnFrom arg)) where
     pub turned : (k : Kind) → Checks ans mid new (λ s. ItemsOf k want (s.types item) s) → Checks ans old new (λ s. (j : Kind) × (a : Ground) × (s.types arg ≡ coll j a) × (s.types want ≡ coll k a))
     turned k c = told ans old new _ _
         (λ s h d. (d.1, items_ground s arg d.0 d.1 d.2, (d.0, d.2), d.3))
@@ -85,7 +85,7 @@ module _ (old mid new : List Cell) (item arg want : ℕ) (ans : Bool) (arg_there
         (λ s h d. (d.2.0, d.0, d.2.1, d.3))
         (opened old mid new item (DrawnFrom arg) ans open_item (λ t s. s.types want ≡ scalar_type b) (λ t. stable_type old want (λ x. x ≡ scalar_type b) there) c)
 
-  pub integers : Opens old mid item (ItemsOf kind.Set want) → Checks ans mid new (λ s. (s.types arg ≡ str) × (s.types item ≡ int)) → Checks ans old new (λ s. ShapeTypes shape.TextInts (s.types arg ∷ []) (s.types want))
+  pub integers : OpensItem old mid item (ItemsOf kind.Set want) → Checks ans mid new (λ s. (s.types arg ≡ str) × (s.types item ≡ int)) → Checks ans old new (λ s. ShapeTypes shape.TextInts (s.types arg ∷ []) (s.types want))
   integers open_item c = told ans old new _ _
       (λ s h d. (int, tt, d.1, (head_is (s.types arg) str d.0, refl)))
       (λ s h d. (one_is (s.types arg) str d.3.0, d.2 ∙ ap (coll kind.Set) d.3.1))
@@ -93,7 +93,7 @@ module _ (old mid new : List Cell) (item arg want : ℕ) (ans : Bool) (arg_there
 
 -- no collection
 module _ (old new : List Cell) (arg want : ℕ) where
-  module _ (none : Refuses old new (DrawnFrom arg)) where
+  module _ (none : LeavesNone old new (DrawnFrom arg)) where
     pub not_turned : (k : Kind) → Checks false old new (λ s. (j : Kind) × (a : Ground) × (s.types arg ≡ coll j a) × (s.types want ≡ coll k a))
     not_turned k = refused old new (DrawnFrom arg) _ none (λ s d. (d.1, items_ground s arg d.0 d.1 d.2, (d.0, d.2)))
 
@@ -106,11 +106,11 @@ module _ (old new : List Cell) (arg want : ℕ) where
     pub not_counted : (b : Scalar) → Checks false old new (λ s. (k : Kind) × (a : Ground) × (s.types arg ≡ coll k a) × (s.types want ≡ scalar_type b))
     not_counted b = refused old new (DrawnFrom arg) _ none (λ s d. (d.1, items_ground s arg d.0 d.1 d.2, (d.0, d.2)))
 
-  pub no_integers : Refuses old new (ItemsOf kind.Set want) → Checks false old new (λ s. ShapeTypes shape.TextInts (s.types arg ∷ []) (s.types want))
+  pub no_integers : LeavesNone old new (ItemsOf kind.Set want) → Checks false old new (λ s. ShapeTypes shape.TextInts (s.types arg ∷ []) (s.types want))
   no_integers none = refused old new (ItemsOf kind.Set want) _ none (λ s d. (int, tt, d.1))
 
 -- collections of collections of one kind
-module _ (old mid made new : List Cell) (k item arg want : ℕ) (ans : Bool) (fine : IsFine old) (arg_there : IsType old arg) (there : IsType old want) (kinds : Adds old mid (OfKind AnyKind) k) (types : Adds mid made (OfType AnyType) item) where
+module _ (old mid made new : List Cell) (k item arg want : ℕ) (ans : Bool) (fine : IsFine old) (arg_there : IsType old arg) (there : IsType old want) (kinds : AddsCell old mid (OfKind AnyKind) k) (types : AddsCell mid made (OfType AnyType) item) where
   abbrev Flat : Kind → Ground → Fact
   Flat j t s = (s.types want ≡ coll j t) × (s.types arg ≡ coll j (s.types want))
 
@@ -141,10 +141,10 @@ pub scalar_check : (old new : List Cell) (want : ℕ) (ans : Bool) (t : Ty) (b :
 scalar_check old new want ans t b e c = told ans old new _ _ (λ s h d. e ∙ sym d) (λ s h d. sym d ∙ e) c
 
 -- what a call found
-pub finds_some : (o : Option ℕ) (item : ℕ) (old new : List Cell) (E : Ground → Fact) → o ≡ Some item → Finds o old new E → Opens old new item E
+pub finds_some : (o : Option ℕ) (item : ℕ) (old new : List Cell) (E : Ground → Fact) → o ≡ Some item → Finds o old new E → OpensItem old new item E
 finds_some o item old new E e f = subst (λ o. Finds o old new E) e f
 
-pub finds_none : (o : Option ℕ) (old new : List Cell) (E : Ground → Fact) → o ≡ None → Finds o old new E → Refuses old new E
+pub finds_none : (o : Option ℕ) (old new : List Cell) (E : Ground → Fact) → o ≡ None → Finds o old new E → LeavesNone old new E
 finds_none o old new E e f = subst (λ o. Finds o old new E) e f
 
 -- a kind and items, of a collection that is there

@@ -10,7 +10,7 @@ use Rattle.kl_rows.specs.declared.cell.Cell.TheVariants.{OfType, OfRow, OfKind}
 use Rattle.kl_rows.specs.Places.{IsFine, IsType, sort_at}
 use Rattle.kl_rows.specs.Solutions.{Assignment, TypeSays, RowSays, KindSays, Solves}
 use Rattle.kl_rows.specs.Steps.{Agrees, Advances}
-use Rattle.kl_rows.specs.Making.{CanMake, Adds}
+use Rattle.kl_rows.specs.Making.{CanMake, AddsCell}
 use Rattle.kl_rows.specs.declared.schemes.Scheme.{Scheme}
 use Rattle.kl_rows.specs.Schemes.{Instance, Instantiates, cells_of, given}
 use Rattle.kl_rows.proofs.Advancing.{Fact, agrees_refl, agrees_on, keeps_refl, keeps_on, absurd_true}
@@ -60,7 +60,7 @@ both ans a b c D E stable f g = record {
 
 -- a new type of which something is said, and what is asked where it is t
 module _ (old new : List Cell) (i : ℕ) (fine : IsFine old) where
-  pub with_type : (n : TypeNode) → CanMake old (OfType n) → Adds old new (OfType n) i → (ans : Bool) (end : List Cell) (D : Fact) (E : Ground → Fact) → ((t : Ground) → Stable (length old) (E t))
+  pub with_type : (n : TypeNode) → CanMake old (OfType n) → AddsCell old new (OfType n) i → (ans : Bool) (end : List Cell) (D : Fact) (E : Ground → Fact) → ((t : Ground) → Stable (length old) (E t))
       → ((s : Assignment) → E (s.types i) s → D s) → ((s : Assignment) → D s → E (s.types i) s) → Checks ans new end D
       → Checks ans old end (λ s. (t : Ground) × IsGround t × TypeSays n s t × E t s)
   with_type n can adds ans end D E stable go come c = record {
@@ -73,7 +73,7 @@ module _ (old new : List Cell) (i : ℕ) (fine : IsFine old) where
     up = λ t s h. let w = c.up t s h in let z = (adds.solves s).0 w.0 in (z.0, (s.types i, s.types_ground i, z.1, come s w.1));
   }
 
-  pub with_row : (n : RowNode) → CanMake old (OfRow n) → Adds old new (OfRow n) i → (ans : Bool) (end : List Cell) (D : Fact) (E : Row → Fact) → ((r : Row) → Stable (length old) (E r))
+  pub with_row : (n : RowNode) → CanMake old (OfRow n) → AddsCell old new (OfRow n) i → (ans : Bool) (end : List Cell) (D : Fact) (E : Row → Fact) → ((r : Row) → Stable (length old) (E r))
       → ((s : Assignment) → E (s.rows i) s → D s) → ((s : Assignment) → D s → E (s.rows i) s) → Checks ans new end D
       → Checks ans old end (λ s. (r : Row) × IsRow r × RowSays n s r × E r s)
   with_row n can adds ans end D E stable go come c = record {
@@ -86,7 +86,7 @@ module _ (old new : List Cell) (i : ℕ) (fine : IsFine old) where
     up = λ t s h. let w = c.up t s h in let z = (adds.solves s).0 w.0 in (z.0, (s.rows i, s.rows_ground i, z.1, come s w.1));
   }
 
-  pub with_kind : (n : KindNode) → CanMake old (OfKind n) → Adds old new (OfKind n) i → (ans : Bool) (end : List Cell) (D : Fact) (E : Kind → Fact) → ((k : Kind) → Stable (length old) (E k))
+  pub with_kind : (n : KindNode) → CanMake old (OfKind n) → AddsCell old new (OfKind n) i → (ans : Bool) (end : List Cell) (D : Fact) (E : Kind → Fact) → ((k : Kind) → Stable (length old) (E k))
       → ((s : Assignment) → E (s.kinds i) s → D s) → ((s : Assignment) → D s → E (s.kinds i) s) → Checks ans new end D
       → Checks ans old end (λ s. (k : Kind) × KindSays n s k × E k s)
   with_kind n can adds ans end D E stable go come c = record {

@@ -17,7 +17,7 @@ use Rattle.kl_outcome.specs.Typed.{Inhabits}
 use Rattle.kl_rows.specs.declared.cell.Cell.{Cell}
 use Rattle.kl_rows.specs.Lists.{Fields}
 use Rattle.kl_rows.specs.Places.{IsFine, IsType}
-use Rattle.kl_forms.specs.Checks.{Checks, Opens, Refuses, OpensMany}
+use Rattle.kl_forms.specs.Checks.{Checks, OpensItem, LeavesNone, OpensMany}
 use Rattle.kl_forms.specs.Forms.{ItemsOf, VariantOf, IsOfType, IsRecord}
 use Rattle.kl_forms.specs.Constants.{ValueFields, TakesItems, TakesFields, EachHas, labelled}
 use Rattle.kl_forms.proofs.Steps.{never, told}
@@ -72,7 +72,7 @@ module _ (old : List Cell) (want : ℕ) (v : Value) (fine : IsFine old) where
 
 -- variants
 module _ (old mid : List Cell) (want : ℕ) (v : Value) (l : List ℕ) (w x : Value) (e : v ≡ value.Inj l w) where
-  pub variant_value : (new : List Cell) (item : ℕ) (ans : Bool) → x ≡ w → Opens old mid item (VariantOf l want) → Checks ans mid new (IsOfType x item) → Checks ans old new (IsOfType v want)
+  pub variant_value : (new : List Cell) (item : ℕ) (ans : Bool) → x ≡ w → OpensItem old mid item (VariantOf l want) → Checks ans mid new (IsOfType x item) → Checks ans old new (IsOfType v want)
   variant_value new item ans same o c =
       let f : v ≡ value.Inj l x = e ∙ ap (value.Inj l) (sym same) in
       told ans old new _ _
@@ -80,18 +80,18 @@ module _ (old mid : List Cell) (want : ℕ) (v : Value) (l : List ℕ) (w x : Va
       (λ s h d. variant_has (s.types want) v l x f d.0 d.2.0 d.2.1 d.2.2 d.3)
       (opened old mid new item (VariantOf l want) ans o (λ t s. Inhabits t x) (λ t s u a d. d) c)
 
-  pub no_variant_value : Refuses old mid (VariantOf l want) → Checks false old mid (IsOfType v want)
+  pub no_variant_value : LeavesNone old mid (VariantOf l want) → Checks false old mid (IsOfType v want)
   no_variant_value r = refused old mid (VariantOf l want) (IsOfType v want) r (λ s d. let k = variant_type (s.types want) v l w e (s.types_ground want) d in (k.0, k.1, k.2))
 
 -- collections
 module _ (old mid : List Cell) (want : ℕ) (k : Kind) (vs : List Value) where
-  pub takes_items : (new : List Cell) (item : ℕ) (ans : Bool) → Opens old mid item (ItemsOf k want) → Checks ans mid new (λ s. All (Inhabits (s.types item)) vs) → Checks ans old new (TakesItems k vs want)
+  pub takes_items : (new : List Cell) (item : ℕ) (ans : Bool) → OpensItem old mid item (ItemsOf k want) → Checks ans mid new (λ s. All (Inhabits (s.types item)) vs) → Checks ans old new (TakesItems k vs want)
   takes_items new item ans o c = told ans old new _ _
       (λ s h d. (d.0, items_ground s want k d.0 d.1, d.1, d.2))
       (λ s h d. (d.0, d.2, d.3))
       (opened old mid new item (ItemsOf k want) ans o (λ t s. All (Inhabits t) vs) (λ t s u a d. d) c)
 
-  pub takes_none : Refuses old mid (ItemsOf k want) → Checks false old mid (TakesItems k vs want)
+  pub takes_none : LeavesNone old mid (ItemsOf k want) → Checks false old mid (TakesItems k vs want)
   takes_none r = refused old mid (ItemsOf k want) (TakesItems k vs want) r (λ s d. (d.0, items_ground s want k d.0 d.1, d.1))
 
 -- records

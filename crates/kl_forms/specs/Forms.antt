@@ -29,13 +29,13 @@ abbrev pub VariantOf : List ℕ → ℕ → Ground → Assignment → Type 0
 VariantOf l want t s = (r : Row) × (s.types want ≡ var r) × (at l r ≡ Some t)
 
 -- the row has a label only where these have it, unless it is open
-abbrev pub IsWithin : Bool → Fields → Row → Type 0
-IsWithin true fs r = ⊤
-IsWithin false fs r = (l : List ℕ) → IsSome (at l r) → IsSome (field l fs)
+abbrev pub HasNoOthers : Bool → Fields → Row → Type 0
+HasNoOthers true fs r = ⊤
+HasNoOthers false fs r = (l : List ℕ) → IsSome (at l r) → IsSome (field l fs)
 
 -- the row has these labels with these types and, if it is open, others
 abbrev pub HasFields : Bool → Fields → Row → Assignment → Type 0
-HasFields open_end fs r s = AllByRecursion (λ f. at f.0 r ≡ Some (s.types f.1)) fs × IsWithin open_end fs r
+HasFields open_end fs r s = AllByRecursion (λ f. at f.0 r ≡ Some (s.types f.1)) fs × HasNoOthers open_end fs r
 
 abbrev pub IsRecord : Bool → Fields → ℕ → Assignment → Type 0
 IsRecord open_end fs want s = (r : Row) × (s.types want ≡ rec r) × HasFields open_end fs r s

@@ -8,7 +8,7 @@ use Rattle.kl_rows.specs.declared.cell.Cell.{Cell}
 use Rattle.kl_rows.specs.Lists.{Fields}
 use Rattle.kl_rows.specs.Places.{IsFine, IsRowAt, Lacks}
 use Rattle.kl_rows.specs.Solutions.{Assignment, Solves}
-use Rattle.kl_rows.specs.Steps.{Grown, Keeps}
+use Rattle.kl_rows.specs.Steps.{Grown, KeepsCells}
 use Rattle.kl_forms.specs.Forms.{HasFields}
 
 -- the row has each of the fields
@@ -19,7 +19,7 @@ HasEach fs r s = AllByRecursion (λ f. at f.0 r ≡ Some (s.types f.1)) fs
 -- each new solution is an old one whose row there meets it.
 pub record OpensRow (old new : List Cell) (row : ℕ) (E : Row → Assignment → Type 0) : Type 0 where
   pub fine : IsFine new
-  pub keeps : Keeps old new
+  pub keeps : KeepsCells old new
   pub sort : IsRowAt new row
   pub down : (s : Assignment) (r : Row) → Solves old s → IsRow r → E r s → Grown old new s (λ u. u.rows row ≡ r)
   pub up : (s : Assignment) → Solves new s → Solves old s × E (s.rows row) s
@@ -27,7 +27,7 @@ pub record OpensRow (old new : List Cell) (row : ℕ) (E : Row → Assignment �
 -- no old solution has a row with the fields
 pub record RefusesRow (old new : List Cell) (fs : Fields) : Type 0 where
   pub fine : IsFine new
-  pub keeps : Keeps old new
+  pub keeps : KeepsCells old new
   pub none : (s : Assignment) (r : Row) → Solves old s → IsRow r → HasEach fs r s → ⊥
 
 -- a row with these fields and, if it is open, others; or none where the types that stand at one label can't be one

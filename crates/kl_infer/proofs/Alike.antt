@@ -8,19 +8,19 @@ use Rattle.kl_syntax.specs.Syntax.{Pat, catch, any, same, is, shape, variant, Pa
 use Rattle.kl_meaning.specs.Typing.{Context, Sort, nothing, value_of, function_of, primitive, ValueTypes, CallTypes, VariableOr, NameTypes, Takes, TakesFields, Types, AllTypes, EachType, FieldTypes, QualTypes, BranchTypes, StepTypes, FunctionTypes}
 
 -- what the one gives the other gives too
-abbrev pub IsWithin : Sort → Sort → Type 0
-IsWithin nothing k = Unit {0}
-IsWithin (value_of P) (value_of Q) = (t : Ground) → P t → Q t
-IsWithin (value_of P) _ = ⊥
-IsWithin (function_of P) (function_of Q) = (a b : Ground) → P a b → Q a b
-IsWithin (function_of P) _ = ⊥
-IsWithin (primitive c) (primitive d) = c ≡ d
-IsWithin (primitive c) _ = ⊥
+abbrev pub IsIncluded : Sort → Sort → Type 0
+IsIncluded nothing k = Unit {0}
+IsIncluded (value_of P) (value_of Q) = (t : Ground) → P t → Q t
+IsIncluded (value_of P) _ = ⊥
+IsIncluded (function_of P) (function_of Q) = (a b : Ground) → P a b → Q a b
+IsIncluded (function_of P) _ = ⊥
+IsIncluded (primitive c) (primitive d) = c ≡ d
+IsIncluded (primitive c) _ = ⊥
 
 abbrev pub AreAlike : Sort → Sort → Type 0
-AreAlike k j = IsWithin k j × IsWithin j k
+AreAlike k j = IsIncluded k j × IsIncluded j k
 
-value_within : (k j : Sort) (t : Ground) → IsWithin k j → ValueTypes k t → ValueTypes j t
+value_within : (k j : Sort) (t : Ground) → IsIncluded k j → ValueTypes k t → ValueTypes j t
 value_within nothing j t w h = absurd h
 value_within (value_of P) (value_of Q) t w h = w t h
 value_within (value_of P) nothing t w h = absurd w
@@ -29,7 +29,7 @@ value_within (value_of P) (primitive d) t w h = absurd w
 value_within (function_of P) j t w h = absurd h
 value_within (primitive c) j t w h = absurd h
 
-call_within : (k j : Sort) (ss : List Ground) (t : Ground) → IsWithin k j → CallTypes k ss t → CallTypes j ss t
+call_within : (k j : Sort) (ss : List Ground) (t : Ground) → IsIncluded k j → CallTypes k ss t → CallTypes j ss t
 call_within nothing j ss t w h = absurd h
 call_within (value_of P) j ss t w h = absurd h
 call_within (function_of P) (function_of Q) ss t w h = (h.0, h.1, w h.0 t h.2)
@@ -41,7 +41,7 @@ call_within (primitive c) nothing ss t w h = absurd w
 call_within (primitive c) (value_of Q) ss t w h = absurd w
 call_within (primitive c) (function_of Q) ss t w h = absurd w
 
-variable_within : (o : Option Ground) (k j : Sort) (t : Ground) → IsWithin k j → VariableOr o k t → VariableOr o j t
+variable_within : (o : Option Ground) (k j : Sort) (t : Ground) → IsIncluded k j → VariableOr o k t → VariableOr o j t
 variable_within (Some s) k j t w h = h
 variable_within None k j t w h = value_within k j t w h
 
@@ -58,7 +58,7 @@ mutual
   fields_within no_pats P Q r G H w h = h
   fields_within (pats l p ps) P Q r G H w h = (h.0, h.1, h.2, takes_within p P Q h.0 G h.1 w h.3, fields_within ps P Q r h.1 H w h.4)
 
-module _ (K J : Name → Sort) (within : (x : Name) → IsWithin (K x) (J x)) where
+module _ (K J : Name → Sort) (within : (x : Name) → IsIncluded (K x) (J x)) where
   named : (G : Context) (x : Name) (t : Ground) → NameTypes K G x t → NameTypes J G x t
   named G x t h = variable_within (field x G) (K x) (J x) t (within x) h
 

@@ -23,7 +23,7 @@ use Rattle.kl_syntax.specs.declared.tree.Word.{Word}
 use Rattle.kl_syntax.specs.Syntax.{Exp, Exps, Steps, Branches, no_branches, otherwise, Quals, no_quals, draw, test, select}
 use Rattle.kl_syntax.specs.View.{view, qual_view, branch_view, branches_of, rest_of, exps_of, exps_view, field_view, quals_view, steps_view, pattern_view}
 use Rattle.kl_meaning.specs.Typing.{Context, NameTypes, CallTypes, Takes, PathTypes, Types, AllTypes, EachType, QualTypes, StepTypes}
-use Rattle.kl_infer.specs.Asking.{cells, Follows, Leaves, Asks, Gets, GetsMany, Binds, Binding, context, onto}
+use Rattle.kl_infer.specs.Asking.{cells, FollowsTyping, Leaves, Asks, Gets, GetsMany, Binds, Binding, context, onto}
 use Rattle.kl_infer.specs.Names.{Ready, sorts, ArmsTake, labelled}
 use Rattle.kl_infer.specs.declared.scope.Known.{Known}
 use Rattle.kl_infer.specs.declared.typing.Typing.{Typing}
@@ -153,12 +153,12 @@ wants_drop P ws zero h = h
 wants_drop P [] (suc n) h = tt
 wants_drop P (v ∷ ws) (suc n) h = wants_drop P ws n h.1
 
-pub next_ready : (k : Known) (a0 a : Typing) (ns : Fields) (ws : List ℕ) (n : ℕ) → (IsTrue a.possible → Follows a0 a) → n < length ws → Ready k a0 ns ws → Ready k a ns (slice_index_or ws n 0 ∷ drop (n + 1) ws)
+pub next_ready : (k : Known) (a0 a : Typing) (ns : Fields) (ws : List ℕ) (n : ℕ) → (IsTrue a.possible → FollowsTyping a0 a) → n < length ws → Ready k a0 ns ws → Ready k a ns (slice_index_or ws n 0 ∷ drop (n + 1) ws)
 next_ready k a0 a ns ws n f lt r =
     let q = ready_on k a0 a ns ws f r in
     ready_for k a ns ws _ (λ p. subst (λ (v : List ℕ). AllByRecursion (IsType (cells a)) v) (at_number ws n lt) (wants_drop (IsType (cells a)) ws n (q.wants p))) q
 
-pub one_ready : (k : Known) (a0 a : Typing) (ns : Fields) (ws : List ℕ) (n m : ℕ) → (IsTrue a.possible → Follows a0 a) → n < m → length ws ≡ m → Ready k a0 ns ws → Ready k a ns (slice_index_or ws n 0 ∷ [])
+pub one_ready : (k : Known) (a0 a : Typing) (ns : Fields) (ws : List ℕ) (n m : ℕ) → (IsTrue a.possible → FollowsTyping a0 a) → n < m → length ws ≡ m → Ready k a0 ns ws → Ready k a ns (slice_index_or ws n 0 ∷ [])
 one_ready k a0 a ns ws n m f lt e r = ready_head k a ns _ _ (next_ready k a0 a ns ws n f (omega arith) r)
 
 -- ---- lists
@@ -261,7 +261,7 @@ module _ (k : Known) (ns : Fields) where
   steps_starts t ss i w f = begins t (Stepped (steps_view ss) i w) f
 
   -- the type so far is there beside what was
-  pub so_far : (a0 a : Typing) (i t w : ℕ) → (IsTrue a.possible → Follows a0 a) → (IsTrue a.possible → IsType (cells a) t) → Ready k a0 ns (i ∷ w ∷ []) → Ready k a ns (t ∷ w ∷ [])
+  pub so_far : (a0 a : Typing) (i t w : ℕ) → (IsTrue a.possible → FollowsTyping a0 a) → (IsTrue a.possible → IsType (cells a) t) → Ready k a0 ns (i ∷ w ∷ []) → Ready k a ns (t ∷ w ∷ [])
   so_far a0 a i t w f g r = let q = ready_on k a0 a ns (i ∷ w ∷ []) f r in ready_for k a ns (i ∷ w ∷ []) (t ∷ w ∷ []) (λ p. (g p, (q.wants p).1)) q
 
   pub steps_more : (a0 a b c d : Typing) (D : Fact) (ss : List (Op × Expr)) (n : ℕ) (x y x2 y2 : Op × Expr) (i t w u v : ℕ) → n < length ss → x ≡ get_or ss n x → y ≡ get_or ss n y → x ≡ x2 → y ≡ y2 → Ready k a0 ns (i ∷ w ∷ []) → (IsTrue a.possible → IsType (cells a) t)

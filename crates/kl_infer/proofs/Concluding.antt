@@ -7,7 +7,7 @@ use Rattle.kl_rows.specs.declared.cell.Cell.TheVariants.{OfFunction}
 use Rattle.kl_rows.specs.declared.Scheme.{Scheme}
 use Rattle.kl_rows.specs.Places.{Sort, a_type, a_function, a_row, a_kind, sort_at, IsFine, IsType, IsFunction, IsTyped}
 use Rattle.kl_rows.specs.Schemes.{Instance, Settles, given}
-use Rattle.kl_rows.specs.Making.{CanMake, Adds, HasSort, Same, Unifies}
+use Rattle.kl_rows.specs.Making.{CanMake, AddsCell, HasSort, Same, Unifies}
 use Rattle.kl_rows.specs.Solutions.{Assignment, Solves}
 use Rattle.kl_rows.specs.Steps.{Agrees, Grown}
 use Rattle.kl_rows.proofs.CellLists.{sort_within}
@@ -17,7 +17,7 @@ use Rattle.kl_rows.proofs.Advancing.{agrees_on}
 use Rattle.kl_outcome.specs.Outcome.{Name}
 use Rattle.kl_syntax.specs.Syntax.{Pat, Exp}
 use Rattle.kl_meaning.specs.Typing.{Context, NameTypes, Takes, Types, FunctionTypes}
-use Rattle.kl_infer.specs.Asking.{cells, Follows, Leaves, Asks, Gets, GetsFunction, Binds, Concluded, Concludes, context, onto}
+use Rattle.kl_infer.specs.Asking.{cells, FollowsTyping, Leaves, Asks, Gets, GetsFunction, Binds, Concluded, Concludes, context, onto}
 use Rattle.kl_infer.specs.Inferred.{IsPrincipal, IsArrow}
 use Rattle.kl_infer.specs.Names.{IsGood, Ready, meant, sorts}
 use Rattle.kl_infer.specs.declared.scope.Known.{Known}
@@ -30,7 +30,7 @@ use Rattle.kl_rows.proofs.Settlements.{empty_solved, empty_fine}
 pub arrow_can : (ns : List Cell) (a b : ℕ) → IsType ns a → IsType ns b → CanMake ns (OfFunction a b)
 arrow_can ns a b h k = record { placed = (h, k); tidy = tt }
 
-pub arrow_so : (a b : Typing) (i p q : ℕ) → IsTrue a.possible → IsFine (cells a) → b.possible ≡ a.possible → IsType (cells a) p → IsType (cells a) q → Adds (cells a) (cells b) (OfFunction p q) i → GetsFunction a b i p q
+pub arrow_so : (a b : Typing) (i p q : ℕ) → IsTrue a.possible → IsFine (cells a) → b.possible ≡ a.possible → IsType (cells a) p → IsType (cells a) q → AddsCell (cells a) (cells b) (OfFunction p q) i → GetsFunction a b i p q
 arrow_so a b i p q po f e tp tq h = record {
   follows = λ r. record { was = po; fine = h.fine; keeps = h.keeps };
   sort = λ r. h.sort;
@@ -222,7 +222,7 @@ function_answer k a b c d f z i j l p e bs0 bs cs found em po good e0 ec g1 h1 g
     (function_carries k a b c d f z i j l p e bs (ready_first k a em good) po g1 (subst (λ (v : Fields). Binds b c v bs [] (λ s. Takes p (NameTypes (sorts k) []) (s.types i))) e0 h1) g2
     (subst (λ (v : Fields). Asks d f (λ s. Types e (sorts k) (context s (onto v [])) (s.types j))) ec h2) g3) h)
 
-pub typed_there : (a b : Typing) (i : ℕ) → (IsTrue b.possible → Follows a b) → (IsTrue a.possible → IsType (cells a) i) → IsTrue b.possible → IsTyped (cells b) i
+pub typed_there : (a b : Typing) (i : ℕ) → (IsTrue b.possible → FollowsTyping a b) → (IsTrue a.possible → IsType (cells a) i) → IsTrue b.possible → IsTyped (cells b) i
 typed_there a b i f g p = inl (still_there a b i f g p)
 
 pub function_there : (a : Typing) (i : ℕ) → (IsTrue a.possible → IsFunction (cells a) i) → IsTrue a.possible → IsTyped (cells a) i

@@ -18,7 +18,7 @@ use Rattle.kl_forms.specs.Forms.{ItemsOf, VariantOf, IsOfType, Applies}
 use Rattle.kl_syntax.specs.declared.tree.Word.{Word}
 use Rattle.kl_syntax.specs.Syntax.{Pat, Exp, con, inject, coll, comp, choice, bind, path, invert, minus, chain, Exps, Quals, Steps}
 use Rattle.kl_meaning.specs.Typing.{Context, NameTypes, Takes, PathTypes, Types, AllTypes, EachType, QualTypes, StepTypes}
-use Rattle.kl_infer.specs.Asking.{cells, Follows, Leaves, Asks, Gets, Binds, context, onto}
+use Rattle.kl_infer.specs.Asking.{cells, FollowsTyping, Leaves, Asks, Gets, Binds, context, onto}
 use Rattle.kl_infer.specs.Names.{Meant, no_sense, by_value, by_function, by_source, by_code, IsGood, Ready, meant, sort_of, sorts}
 use Rattle.kl_infer.specs.declared.scope.Known.{Known}
 use Rattle.kl_infer.specs.declared.typing.Typing.{Typing}
@@ -86,7 +86,7 @@ module _ (k : Known) (ns : Fields) where
     ground_of_all es s ts h = all_ground (sorts k) (λ x. good_ground (meant k x) (ready.good x)) es (context s ns) ts (context_ground s ns) h
 
     -- the same numbers after a step
-    pub ready_after : (b : Typing) (i : ℕ) → (IsTrue b.possible → Follows a b) → (IsTrue b.possible → IsType (cells b) i) → Ready k b ns (i ∷ ws)
+    pub ready_after : (b : Typing) (i : ℕ) → (IsTrue b.possible → FollowsTyping a b) → (IsTrue b.possible → IsType (cells b) i) → Ready k b ns (i ∷ ws)
     ready_after b i f g = let r = ready_on k a b ns ws f ready in ready_for k b ns ws (i ∷ ws) (λ p. (g p, r.wants p)) r
 
   module _ (a b c : Typing) (w : ℕ) (ready : Ready k a ns (w ∷ [])) where

@@ -15,7 +15,7 @@ use Rattle.kl_syntax.specs.declared.tree.Op.{Op}
 use Rattle.kl_syntax.specs.declared.tree.Op.TheVariants as op
 use Rattle.kl_syntax.specs.declared.tree.Word.{Word}
 use Rattle.kl_syntax.specs.Syntax.{Pat, catch, any, same, is, shape as record_of, variant, Pats, no_pats, pats, Exp, con, name, call, fields, inject, coll, comp, choice, bind, select, path, invert, minus, chain, Exps, no_exps, exps, Quals, no_quals, draw, test, Branches, no_branches, otherwise, branch, Steps, no_steps, step}
-use Rattle.kl_meaning.specs.Typing.{IsFirstOrder, IsFirstOrderRow, IsType, Context, Sort, nothing, value_of, function_of, primitive, ValueTypes, CallTypes, VariableOr, NameTypes, Takes, TakesFields, OpTypes, PathTypes, Types, AllTypes, QualTypes, BranchTypes, StepTypes, has_branch}
+use Rattle.kl_meaning.specs.Typing.{IsFirstOrder, IsFirstOrderRow, IsLanguageType, Context, Sort, nothing, value_of, function_of, primitive, ValueTypes, CallTypes, VariableOr, NameTypes, Takes, TakesFields, OpTypes, PathTypes, Types, AllTypes, QualTypes, BranchTypes, StepTypes, has_branch}
 
 mutual
   pub first_order : (t : Ground) → IsGround t → IsFirstOrder t
@@ -31,7 +31,7 @@ mutual
   first_order_row no_row g = tt
   first_order_row (row l t r) g = (first_order t g.1, first_order_row r g.2)
 
-pub is_type : (t : Ground) → IsGround t → IsType t
+pub is_type : (t : Ground) → IsGround t → IsLanguageType t
 is_type t g = (g, first_order t g)
 
 some_ground : (b : Bool) (u t : Ground) (o : Option Ground) → IsGround u → (o ≡ Some t → IsGround t) → cond b (Some u) o ≡ Some t → IsGround t

@@ -6,8 +6,8 @@ use Rattle.kl_rows.specs.declared.cell.Cell.{Cell}
 use Rattle.kl_rows.specs.Lists.{Fields}
 use Rattle.kl_rows.specs.Places.{Sort, a_type, sort_at, IsFine, IsType, AreTypes}
 use Rattle.kl_rows.specs.Solutions.{Assignment, Solves}
-use Rattle.kl_rows.specs.Steps.{Agrees, Grown, Keeps, Advances}
-use Rattle.kl_rows.specs.Making.{Adds, Same}
+use Rattle.kl_rows.specs.Steps.{Agrees, Grown, KeepsCells, Advances}
+use Rattle.kl_rows.specs.Making.{AddsCell, Same}
 use Rattle.kl_rows.specs.Expanding.{GivesType}
 use Rattle.kl_rows.specs.declared.cell.Cell.TheVariants.{OfType}
 use Rattle.kl_rows.specs.declared.cell.TypeNode.TheVariants.{AnyType}
@@ -18,14 +18,14 @@ use Rattle.kl_rows.proofs.Growing.{grown_map, grown_type}
 use Rattle.kl_outcome.specs.Outcome.{Name}
 use Rattle.kl_rows.proofs.CellLists.{sort_within}
 use Rattle.kl_rows.proofs.Advancing.{Fact, agrees_refl, agrees_on, keeps_refl, keeps_on, types_keep}
-use Rattle.kl_forms.specs.Checks.{Checks, Opens, Refuses, Finds, OpensMany}
+use Rattle.kl_forms.specs.Checks.{Checks, OpensItem, LeavesNone, Finds, OpensMany}
 use Rattle.kl_forms.specs.Forms.{Calls, Applies}
 use Rattle.kl_forms.proofs.Steps.{Stable, merges, told as say}
 use Rattle.kl_base.specs.Fields.{field}
 use Rattle.std.specs.Cmp.Lexicographic.{pointwise}
 use Rattle.std.specs.Prelude.{nat_eq}
 use Rattle.kl_meaning.specs.Typing.{Context, ValueTypes, CallTypes, VariableOr, NameTypes}
-use Rattle.kl_infer.specs.Asking.{cells, Follows, Leaves, Asks, Gets, GetsMany, Binds, context, onto}
+use Rattle.kl_infer.specs.Asking.{cells, FollowsTyping, Leaves, Asks, Gets, GetsMany, Binds, context, onto}
 use Rattle.kl_infer.specs.Names.{Meant, by_function, by_code, Ready, labelled, meant, sort_of, sorts}
 use Rattle.kl_infer.specs.declared.scope.Known.{Known}
 use Rattle.kl_infer.specs.declared.typing.Typing.{Typing}
@@ -34,10 +34,10 @@ use Rattle.kl_forms.proofs.Shapes.{head_is}
 untrue : {A : Type 0} → (b : Bool) → b ≡ false → IsTrue b → A
 untrue b e p = let d : ⊥ = cc in absurd d
 
-pub follows_refl : (t : Typing) → IsFine (cells t) → IsTrue t.possible → Follows t t
+pub follows_refl : (t : Typing) → IsFine (cells t) → IsTrue t.possible → FollowsTyping t t
 follows_refl t f p = record { was = p; fine = f; keeps = keeps_refl (cells t) }
 
-pub follows_on : (a b c : Typing) → Follows a b → Follows b c → Follows a c
+pub follows_on : (a b c : Typing) → FollowsTyping a b → FollowsTyping b c → FollowsTyping a c
 follows_on a b c f g = record { was = f.was; fine = g.fine; keeps = keeps_on (cells a) (cells b) (cells c) f.keeps g.keeps }
 
 pub begins : (t : Typing) (D : Fact) → (IsTrue t.possible → IsFine (cells t)) → Leaves t t D D
@@ -63,20 +63,20 @@ skips_pattern t bs ns D e = record { follows = untrue _ e; sorts = untrue _ e; d
 -- what a call of a form does
 pub asked : (holds : Bool) (a b : Typing) (new : List Cell) (D : Fact) → IsTrue a.possible → b.possible ≡ holds → cells b ≡ new → Checks holds (cells a) new D → Asks a b D
 asked ans a b new D p e n c = record {
-  follows = λ q. record { was = p; fine = subst IsFine (sym n) c.fine; keeps = subst (Keeps (cells a)) (sym n) c.keeps };
+  follows = λ q. record { was = p; fine = subst IsFine (sym n) c.fine; keeps = subst (KeepsCells (cells a)) (sym n) c.keeps };
   down = λ s q h d. let w = c.down s h d in (e ∙ w.0, subst (λ ns. Grown (cells a) ns s (λ u. Unit {0})) (sym n) w.1);
   up = λ s q h r. c.up (sym e ∙ q) s (subst (λ ns. Solves ns s) n h);
 }
 
-pub opened_so : (a b : Typing) (new : List Cell) (i : ℕ) (E : Ground → Fact) → IsTrue a.possible → b.possible ≡ a.possible → cells b ≡ new → Opens (cells a) new i E → Gets a b i E
+pub opened_so : (a b : Typing) (new : List Cell) (i : ℕ) (E : Ground → Fact) → IsTrue a.possible → b.possible ≡ a.possible → cells b ≡ new → OpensItem (cells a) new i E → Gets a b i E
 opened_so a b new i E p e n c = record {
-  follows = λ q. record { was = p; fine = subst IsFine (sym n) c.fine; keeps = subst (Keeps (cells a)) (sym n) c.keeps };
+  follows = λ q. record { was = p; fine = subst IsFine (sym n) c.fine; keeps = subst (KeepsCells (cells a)) (sym n) c.keeps };
   sort = λ q. subst (λ ns. IsType ns i) (sym n) c.sort;
   down = λ s t q h g d. (e ∙ p, subst (λ ns. Grown (cells a) ns s (λ u. u.types i ≡ t)) (sym n) (c.down s t h g d));
   up = λ s q h. c.up s (subst (λ ns. Solves ns s) n h);
 }
 
-pub refused_so : (a b : Typing) (new : List Cell) (i : ℕ) (E : Ground → Fact) → b.possible ≡ false → Refuses (cells a) new E → Gets a b i E
+pub refused_so : (a b : Typing) (new : List Cell) (i : ℕ) (E : Ground → Fact) → b.possible ≡ false → LeavesNone (cells a) new E → Gets a b i E
 refused_so a b new i E e c = record { follows = untrue _ e; sort = untrue _ e; down = λ s t q h g d. absurd (c.none s t h g d); up = λ s p h. untrue _ e p }
 
 pub many_so : (a b : Typing) (is : List ℕ) (n : ℕ) → IsTrue a.possible → b.possible ≡ a.possible → OpensMany (cells a) (cells b) is n → GetsMany a b is n
@@ -168,11 +168,11 @@ goes_on a b c D R S f g = record {
 
 -- ---- what stays as it is where numbers are added
 
-wants_keep : (old new : List Cell) (ws : List ℕ) → Keeps old new → AllByRecursion (IsType old) ws → AllByRecursion (IsType new) ws
+wants_keep : (old new : List Cell) (ws : List ℕ) → KeepsCells old new → AllByRecursion (IsType old) ws → AllByRecursion (IsType new) ws
 wants_keep old new [] k h = tt
 wants_keep old new (w ∷ ws) k h = (k.sorts w a_type h.0, wants_keep old new ws k h.1)
 
-pub ready_on : (k : Known) (a b : Typing) (ns : Fields) (ws : List ℕ) → (IsTrue b.possible → Follows a b) → Ready k a ns ws → Ready k b ns ws
+pub ready_on : (k : Known) (a b : Typing) (ns : Fields) (ws : List ℕ) → (IsTrue b.possible → FollowsTyping a b) → Ready k a ns ws → Ready k b ns ws
 ready_on k a b ns ws f r = record {
   good = r.good;
   fine = λ p. (f p).fine;
@@ -210,14 +210,14 @@ pub when : {A E : Type 0} (P Q : A → Type 0) (r : Result A E) → ((v : A) →
 when P Q (Ok v) go h = go v h
 when P Q (Err e) go h = tt
 
-pub two_steps : (a b c : Typing) → (IsTrue c.possible → Follows b c) → (IsTrue b.possible → Follows a b) → IsTrue c.possible → Follows a c
+pub two_steps : (a b c : Typing) → (IsTrue c.possible → FollowsTyping b c) → (IsTrue b.possible → FollowsTyping a b) → IsTrue c.possible → FollowsTyping a c
 two_steps a b c f g p = let h = f p in follows_on a b c (g h.was) h
 
 -- a new number after a step
-pub ready_new : (k : Known) (a b : Typing) (ns : Fields) (ws : List ℕ) (i : ℕ) → (IsTrue b.possible → Follows a b) → (IsTrue b.possible → IsType (cells b) i) → Ready k a ns ws → Ready k b ns (i ∷ [])
+pub ready_new : (k : Known) (a b : Typing) (ns : Fields) (ws : List ℕ) (i : ℕ) → (IsTrue b.possible → FollowsTyping a b) → (IsTrue b.possible → IsType (cells b) i) → Ready k a ns ws → Ready k b ns (i ∷ [])
 ready_new k a b ns ws i f g r = ready_for k b ns ws (i ∷ []) (λ p. (g p, tt)) (ready_on k a b ns ws f r)
 
-pub ready_many : (k : Known) (a b : Typing) (ns : Fields) (ws is : List ℕ) → (IsTrue b.possible → Follows a b) → (IsTrue b.possible → AllByRecursion (IsType (cells b)) is) → Ready k a ns ws → Ready k b ns is
+pub ready_many : (k : Known) (a b : Typing) (ns : Fields) (ws is : List ℕ) → (IsTrue b.possible → FollowsTyping a b) → (IsTrue b.possible → AllByRecursion (IsType (cells b)) is) → Ready k a ns ws → Ready k b ns is
 ready_many k a b ns ws is f g r = ready_for k b ns ws is g (ready_on k a b ns ws f r)
 
 pub ready_at : (k : Known) (a : Typing) (ns : Fields) (ws vs : List ℕ) → vs ≡ ws → Ready k a ns ws → Ready k a ns vs
@@ -251,10 +251,10 @@ labelled_there t ls is js all e d f p = subst (λ (z : Fields). AreTypes (cells 
 
 pub gets_found : (found : Option ℕ) (a b : Typing) (u : Unifier) (i : ℕ) (E : Ground → Fact) → IsTrue a.possible → b.unifier ≡ u → MatchOption found ((i ≡ 0) × (b.possible ≡ false)) (λ n. (i ≡ n) × (b.possible ≡ a.possible))
     → Finds found (cells a) u.cells.items E → Gets a b i E
-gets_found (Some n) a b u i E p e m f = opened_so a b u.cells.items i E p m.1 (ap (λ (z : Unifier). z.cells.items) e) (subst (λ (j : ℕ). Opens (cells a) u.cells.items j E) (sym m.0) f)
+gets_found (Some n) a b u i E p e m f = opened_so a b u.cells.items i E p m.1 (ap (λ (z : Unifier). z.cells.items) e) (subst (λ (j : ℕ). OpensItem (cells a) u.cells.items j E) (sym m.0) f)
 gets_found None a b u i E p e m f = refused_so a b u.cells.items i E m.1 f
 
-pub fresh_so : (a b : Typing) (i : ℕ) → IsTrue a.possible → IsFine (cells a) → b.possible ≡ a.possible → Adds (cells a) (cells b) (OfType AnyType) i → Gets a b i (λ t s. Unit {0})
+pub fresh_so : (a b : Typing) (i : ℕ) → IsTrue a.possible → IsFine (cells a) → b.possible ≡ a.possible → AddsCell (cells a) (cells b) (OfType AnyType) i → Gets a b i (λ t s. Unit {0})
 fresh_so a b i p f e h = record {
   follows = λ q. record { was = p; fine = h.fine; keeps = h.keeps };
   sort = λ q. h.sort;
@@ -321,7 +321,7 @@ name_out k a b ns x w e f =
 pub ready_like : (k : Known) (a : Typing) (bs cs ns : Fields) (ws : List ℕ) → cs ≡ bs → Ready k a (onto bs ns) ws → Ready k a (onto cs ns) ws
 ready_like k a bs cs ns ws e r = subst (λ (z : Fields). Ready k a (onto z ns) ws) (sym e) r
 
-pub still_there : (a b : Typing) (i : ℕ) → (IsTrue b.possible → Follows a b) → (IsTrue a.possible → IsType (cells a) i) → IsTrue b.possible → IsType (cells b) i
+pub still_there : (a b : Typing) (i : ℕ) → (IsTrue b.possible → FollowsTyping a b) → (IsTrue a.possible → IsType (cells a) i) → IsTrue b.possible → IsType (cells b) i
 still_there a b i f g p = let k = f p in let h = k.keeps in h.sorts i a_type (g k.was)
 
 one_of : (args : List ℕ) → length args ≡ 1 → args ≡ slice_index_or args 0 0 ∷ []

@@ -7,7 +7,7 @@ use Rattle.kl_type.specs.Ground.{Ground, Row, rec, var, at, IsGround, IsRow}
 use Rattle.kl_rows.specs.Lists.{Fields}
 use Rattle.kl_rows.specs.Solutions.{Assignment}
 use Rattle.kl_outcome.specs.Outcome.{Name}
-use Rattle.kl_forms.specs.Forms.{IsWithin, IsRecord, IsVariant}
+use Rattle.kl_forms.specs.Forms.{HasNoOthers, IsRecord, IsVariant}
 use Rattle.kl_syntax.specs.declared.tree.Word.{Word}
 use Rattle.kl_syntax.specs.Syntax.{Pat, Exp, call, fields, select, Exps, no_exps, exps, Branches, no_branches, otherwise, branch}
 use Rattle.kl_syntax.specs.View.{exps_of, flds_of}
@@ -84,11 +84,11 @@ abbrev pub Within : Bool → List Name → Row → Type 0
 Within true ls r = ⊤
 Within false ls r = (l : Name) → IsSome (at l r) → IsTrue (has_name ls l)
 
-within_named : (open_end : Bool) (ls : List Name) (is : List ℕ) (r : Row) → IsWithin open_end (labelled ls is) r → Within open_end ls r
+within_named : (open_end : Bool) (ls : List Name) (is : List ℕ) (r : Row) → HasNoOthers open_end (labelled ls is) r → Within open_end ls r
 within_named true ls is r h = tt
 within_named false ls is r h = λ l k. named_there l ls is (h l k)
 
-named_within : (open_end : Bool) (ls : List Name) (is : List ℕ) (r : Row) → length is ≡ length ls → Within open_end ls r → IsWithin open_end (labelled ls is) r
+named_within : (open_end : Bool) (ls : List Name) (is : List ℕ) (r : Row) → length is ≡ length ls → Within open_end ls r → HasNoOthers open_end (labelled ls is) r
 named_within true ls is r e h = tt
 named_within false ls is r e h = λ l k. there_named l ls is e (h l k)
 

@@ -8,7 +8,7 @@ use Rattle.kl_rows.specs.Places.{IsFine, IsType, AreTypes, sort_at, a_function}
 use Rattle.kl_rows.specs.Schemes.{IsScheme, Instance, cells_of, given}
 use Rattle.kl_rows.specs.declared.Scheme.{Scheme}
 use Rattle.kl_rows.specs.Solutions.{Assignment, Solves}
-use Rattle.kl_rows.specs.Steps.{Grown, Keeps}
+use Rattle.kl_rows.specs.Steps.{Grown, KeepsCells}
 use Rattle.kl_meaning.specs.Typing.{Context}
 use Rattle.kl_infer.specs.declared.typing.Typing.{Typing}
 
@@ -16,15 +16,15 @@ abbrev pub cells : Typing → List Cell
 cells t = t.unifier.cells.items
 
 -- numbers are of the right sorts and keep them
-pub record Follows (old new : Typing) : Type 0 where
+pub record FollowsTyping (old new : Typing) : Type 0 where
   pub was : IsTrue old.possible
   pub fine : IsFine (cells new)
-  pub keeps : Keeps (cells old) (cells new)
+  pub keeps : KeepsCells (cells old) (cells new)
 
 -- From numbers of which D is asked to numbers of which R is left to ask. Once it is not possible, no solution met what
 -- was asked.
 pub record Leaves (old new : Typing) (D R : Assignment → Type 0) : Type 0 where
-  pub follows : IsTrue new.possible → Follows old new
+  pub follows : IsTrue new.possible → FollowsTyping old new
   pub down : (s : Assignment) → IsTrue old.possible → Solves (cells old) s → D s → IsTrue new.possible × Grown (cells old) (cells new) s R
   pub up : (s : Assignment) → IsTrue new.possible → Solves (cells new) s → R s → Solves (cells old) s × D s
 
@@ -34,21 +34,21 @@ Asks old new D = Leaves old new D (λ s. Unit {0})
 
 -- a number of a type of which E is said
 pub record Gets (old new : Typing) (item : ℕ) (E : Ground → Assignment → Type 0) : Type 0 where
-  pub follows : IsTrue new.possible → Follows old new
+  pub follows : IsTrue new.possible → FollowsTyping old new
   pub sort : IsTrue new.possible → IsType (cells new) item
   pub down : (s : Assignment) (t : Ground) → IsTrue old.possible → Solves (cells old) s → IsGround t → E t s → IsTrue new.possible × Grown (cells old) (cells new) s (λ u. u.types item ≡ t)
   pub up : (s : Assignment) → IsTrue new.possible → Solves (cells new) s → Solves (cells old) s × E (s.types item) s
 
 -- a number of a function from the one type to the other
 pub record GetsFunction (old new : Typing) (item from to : ℕ) : Type 0 where
-  pub follows : IsTrue new.possible → Follows old new
+  pub follows : IsTrue new.possible → FollowsTyping old new
   pub sort : IsTrue new.possible → sort_at (cells new) item ≡ Some a_function
   pub down : (s : Assignment) → IsTrue old.possible → Solves (cells old) s → IsTrue new.possible × Grown (cells old) (cells new) s (λ u. u.functions item ≡ arrow (s.types from) (s.types to))
   pub up : (s : Assignment) → IsTrue new.possible → Solves (cells new) s → Solves (cells old) s × (s.functions item ≡ arrow (s.types from) (s.types to))
 
 -- so many numbers of types of which nothing is said
 pub record GetsMany (old new : Typing) (items : List ℕ) (count : ℕ) : Type 0 where
-  pub follows : IsTrue new.possible → Follows old new
+  pub follows : IsTrue new.possible → FollowsTyping old new
   pub still : new.possible ≡ old.possible
   pub size : IsTrue old.possible → length items ≡ count
   pub sorts : IsTrue new.possible → AllByRecursion (IsType (cells new)) items
@@ -66,14 +66,14 @@ onto (b ∷ bs) ns = onto bs (b ∷ ns)
 
 -- What a pattern asks of the number of a type, where it binds variables more. `outside` has the types of a bare name.
 pub record Binds (old new : Typing) (bound bound_new ns : Fields) (D : Assignment → Context → Context → Type 0) : Type 0 where
-  pub follows : IsTrue new.possible → Follows old new
+  pub follows : IsTrue new.possible → FollowsTyping old new
   pub sorts : IsTrue new.possible → AreTypes (cells old) bound → AreTypes (cells new) bound_new
   pub down : (s : Assignment) (H : Context) → IsTrue old.possible → Solves (cells old) s → D s (context s (onto bound ns)) H → IsTrue new.possible × Grown (cells old) (cells new) s (λ u. context u (onto bound_new ns) ≡ H)
   pub up : (s : Assignment) → IsTrue new.possible → Solves (cells new) s → Solves (cells old) s × D s (context s (onto bound ns)) (context s (onto bound_new ns))
 
 -- the same on the way: D is asked at first, and R is left
 pub record Binding (old now : Typing) (bound bound_now ns : Fields) (D R : Assignment → Context → Context → Type 0) : Type 0 where
-  pub follows : IsTrue now.possible → Follows old now
+  pub follows : IsTrue now.possible → FollowsTyping old now
   pub sorts : IsTrue now.possible → AreTypes (cells old) bound → AreTypes (cells now) bound_now
   pub leaves : (H : Context) → Leaves old now (λ s. D s (context s (onto bound ns)) H) (λ s. R s (context s (onto bound_now ns)) H)
 

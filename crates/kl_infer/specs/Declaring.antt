@@ -6,18 +6,18 @@ use Rattle.kl_rows.specs.Places.{a_type, a_function}
 use Rattle.kl_syntax.specs.declared.tree.Decl.{Decl}
 use Rattle.kl_syntax.specs.declared.tree.Pattern.{Pattern}
 use Rattle.kl_syntax.specs.View.{view, pattern_view}
-use Rattle.kl_meaning.specs.Typing.{Known, Types, FunctionTypes}
+use Rattle.kl_meaning.specs.Typing.{KnownTypes, Types, FunctionTypes}
 use Rattle.kl_infer.specs.Inferred.{IsPrincipal, IsArrow}
 use Rattle.kl_infer.specs.declared.inference.InferError.{InferError}
 use Rattle.kl_infer.specs.declared.inference.InferError.TheVariants.{IllTyped, NoMemory}
 
 -- the scheme is principal for it
-abbrev pub Declared : Option Pattern → Decl → Known → Scheme → Type 0
+abbrev pub Declared : Option Pattern → Decl → KnownTypes → Scheme → Type 0
 Declared (Some q) d known scheme = IsPrincipal a_function scheme (IsArrow (FunctionTypes known (pattern_view q) (view d.body)))
 Declared None d known scheme = IsPrincipal a_type scheme (Types (view d.body) known [])
 
 -- it has no type
-abbrev pub NoType : Option Pattern → Decl → Known → Type 0
+abbrev pub NoType : Option Pattern → Decl → KnownTypes → Type 0
 NoType (Some q) d known = (s t : Ground) → FunctionTypes known (pattern_view q) (view d.body) s t → ⊥
 NoType None d known = (t : Ground) → Types (view d.body) known [] t → ⊥
 

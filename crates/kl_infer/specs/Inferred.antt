@@ -7,7 +7,7 @@ use Rattle.kl_rows.specs.Schemes.{IsScheme, Instance, cells_of}
 use Rattle.kl_rows.specs.declared.Scheme.{Scheme}
 use Rattle.kl_outcome.specs.Outcome.{Name}
 use Rattle.kl_syntax.specs.Syntax.{Exp, Decls, no_decls, constant, function}
-use Rattle.kl_meaning.specs.Typing.{Known, value_of, function_of, with_sort, types_at_first, Types, FunctionTypes, ProgramTypes, HasTyping}
+use Rattle.kl_meaning.specs.Typing.{KnownTypes, value_of, function_of, with_sort, types_at_first, Types, FunctionTypes, ProgramTypes, HasTyping}
 use Rattle.kl_infer.specs.declared.typed.Typed.{Typed}
 
 -- A scheme is principal for what has types: its instances are exactly these types, and there is one.
@@ -22,7 +22,7 @@ abbrev pub IsArrow : (Ground → Ground → Type 0) → Ground → Type 0
 IsArrow F t = (a : Ground) × (b : Ground) × (t ≡ arrow a b) × F a b
 
 -- one scheme a definition, in their order, each over the definitions before it
-abbrev pub HaveSchemes : Decls → Known → List Scheme → Type 0
+abbrev pub HaveSchemes : Decls → KnownTypes → List Scheme → Type 0
 HaveSchemes no_decls known schemes = schemes ≡ []
 HaveSchemes (constant d e ds) known schemes =
     (first : Scheme) × (rest : List Scheme) × (schemes ≡ first ∷ rest) × IsPrincipal a_type first (Types e known [])
@@ -42,7 +42,7 @@ pub record Infers (ds : Decls) (e : Exp) (sources : List (Name × Ground)) (type
   pub has_typing : HasTyping ds e sources
 
 -- the first declaration without a type, over the definitions before it; the last expression stands behind them
-abbrev pub FailsAt : Decls → Exp → Known → ℕ → Type 0
+abbrev pub FailsAt : Decls → Exp → KnownTypes → ℕ → Type 0
 FailsAt no_decls last known n = (n ≡ 0) × ((t : Ground) → Types last known [] t → ⊥)
 FailsAt (constant d e ds) last known n =
     ((n ≡ 0) × ((t : Ground) → Types e known [] t → ⊥))

@@ -11,7 +11,7 @@ use Rattle.kl_lex.specs.declared.token.Sym.{Sym as Symbol}
 use Rattle.kl_lex.specs.declared.token.Sym.TheVariants.{OpenList, CloseList, OpenBag, CloseBag, OpenSet, CloseSet, OpenRec, CloseRec, OpenPar, ClosePar, Le, Ge, Ne, Draw, Lt, Gt, Equals, Arrow, Eq, Bar, Comma, Semi, Dots, Dot, Colon, Append, Add, Sub, Mul, Cat, Bind, Any}
 use Rattle.kl_lex.specs.Blank.{is_white, hash, IsDue}
 use Rattle.kl_value.specs.Quoted.{quote}
-use Rattle.kl_lex.specs.Spelling.{spelling, IsNumber, Lexeme, word, number, text, symbol, IsText}
+use Rattle.kl_lex.specs.Spelling.{spelling, IsNumber, Lexeme, word, number, text, symbol, SpellsText}
 
 -- what begins with the byte: 0 a word, 1 a number, 2 a text, 3 a symbol or nothing, 4 white space or a comment
 unfoldable pub sort_by : Bool → Bool → Bool → Bool → ℕ
@@ -67,7 +67,7 @@ pub number_sort : (u : List ℕ) → IsNumber u → sort (first u) ≡ 1
 number_sort [] h = absurd (h.0 refl)
 number_sort (b ∷ w) h = digit_sort b (and_parts (is_ascii_digit b) (list_all is_ascii_digit w) h.1).0
 
-pub text_sort : (meant u : List ℕ) → IsText meant u → sort (first u) ≡ 2
+pub text_sort : (meant u : List ℕ) → SpellsText meant u → sort (first u) ≡ 2
 unfolding sort sort_by
 text_sort meant u (inside, e, h) = rw e refl
 
@@ -106,7 +106,7 @@ only_number u (number h) e = h
 only_number u (text meant h) e = absurd (omega (arith, text_sort meant u h))
 only_number u (symbol s k) e = absurd (omega (arith, symbol_sort s, ap (λ (z : List ℕ). sort (first z)) k))
 
-pub only_text : (u : List ℕ) → Lexeme u → sort (first u) ≡ 2 → (meant : List ℕ) × IsText meant u
+pub only_text : (u : List ℕ) → Lexeme u → sort (first u) ≡ 2 → (meant : List ℕ) × SpellsText meant u
 only_text u (word h) e = absurd (omega (arith, word_sort u h))
 only_text u (number h) e = absurd (omega (arith, number_sort u h))
 only_text u (text meant h) e = (meant, h)

@@ -2,7 +2,7 @@
 use Rattle.std.proofs.Common.{◌≡◌, ◌≢◌, ℕ, ◌+◌, ◌*◌, ◌<◌, List, [], ◌∷◌, ◌++◌, Some, None, refl, sym, ap, subst, ◌∙◌, append_assoc, arith}
 use Rattle.std.proofs.lemmas.List.{append-nil}
 use Rattle.std.specs.Char.{digit_value}
-use Rattle.kl_lex.specs.Spelling.{IsText}
+use Rattle.kl_lex.specs.Spelling.{SpellsText}
 use Rattle.kl_value.specs.Quoted.{quote, backslash, escape_of, Part, plain, escaped, hex, Parts}
 use Rattle.kl_value.proofs.QuotedLemmas.{hex_below, hex_from_below}
 use Rattle.kl_lex.specs.Reading.{PartFirst, NoPart}
@@ -74,7 +74,7 @@ parts_more [] u p b h x = (p, [], ap (λ (z : List ℕ). z ++ p) h ∙ sym (appe
 parts_more (c ∷ m) u p b (q, w, f, y, k) x = (q, w ++ p, ap (λ (z : List ℕ). z ++ p) f ∙ append_assoc q w p, y, parts_more m w p b k x)
 
 -- one text has one meaning
-pub one_text : (m n u : List ℕ) → IsText m u → IsText n u → m ≡ n
+pub one_text : (m n u : List ℕ) → SpellsText m u → SpellsText n u → m ≡ n
 one_text m n u (v, e, h) (w, f, k) = (one_inside m n v w [] [] h k (let z : quote ∷ (v ++ quote ∷ []) ≡ quote ∷ (w ++ quote ∷ []) = sym e ∙ f in cc)).0
 
 -- ---- the part at a front, by its first bytes

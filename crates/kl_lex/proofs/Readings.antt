@@ -16,7 +16,7 @@ use Rattle.kl_lex.specs.declared.token.Sym.{Sym as Symbol}
 use Rattle.kl_lex.specs.declared.token.Tok.{Tok}
 use Rattle.kl_lex.specs.declared.token.Tok.TheVariants.{Word, Int, Big, Text, Sym}
 use Rattle.kl_value.specs.Quoted.{Parts, quote}
-use Rattle.kl_lex.specs.Spelling.{spelling, IsNumber, int_max, Lexeme, word, number, text, symbol, Spelled, IsText}
+use Rattle.kl_lex.specs.Spelling.{spelling, IsNumber, int_max, Lexeme, word, number, text, symbol, Spelled, SpellsText}
 use Rattle.kl_lex.specs.Lexing.{Longest, Starts, NoneStarts}
 use Rattle.kl_lex.specs.Reading.{Closes, LongestSymbol, HasValue}
 use Rattle.kl_lex.proofs.Firsts.{first, sort, letter_sort, digit_sort, word_sort, number_sort, text_sort, symbol_sort, quote_sort, lexeme_full, only_word, only_number, only_text, only_symbol, same_first, one_symbol}
@@ -174,7 +174,7 @@ number_unspelled u one lt (Sym s) h = omega (arith, number_sort u one, symbol_so
 
 pub text_starts : (bs meant rest : List ℕ) → Closes bs meant rest → Starts (quote ∷ bs) (Text meant) rest
 text_starts bs meant rest (inside, e, h) =
-    let one : IsText meant (quote ∷ (inside ++ quote ∷ [])) = (inside, refl, h) in
+    let one : SpellsText meant (quote ∷ (inside ++ quote ∷ [])) = (inside, refl, h) in
     record {
       lexeme = quote ∷ (inside ++ quote ∷ []);
       longest = record {
@@ -185,7 +185,7 @@ text_starts bs meant rest (inside, e, h) =
       spelled = one;
     }
   where
-    longest_text : (bs meant rest inside : List ℕ) → bs ≡ inside ++ quote ∷ rest → Parts meant inside → (v s : List ℕ) → quote ∷ bs ≡ v ++ s → (n : List ℕ) × IsText n v → length v ≤ length (quote ∷ (inside ++ quote ∷ []))
+    longest_text : (bs meant rest inside : List ℕ) → bs ≡ inside ++ quote ∷ rest → Parts meant inside → (v s : List ℕ) → quote ∷ bs ≡ v ++ s → (n : List ℕ) × SpellsText n v → length v ≤ length (quote ∷ (inside ++ quote ∷ []))
     longest_text bs meant rest inside e h v s f (n, (w, g, k)) =
         let z : quote ∷ bs ≡ (quote ∷ (w ++ quote ∷ [])) ++ s = f ∙ ap (λ (x : List ℕ). x ++ s) g in
         let y : bs ≡ (w ++ quote ∷ []) ++ s = cc in
@@ -197,7 +197,7 @@ pub text_none : (bs : List ℕ) → ((meant rest : List ℕ) → Closes bs meant
 text_none bs never what rest s =
     no_text bs never s.lexeme rest s.longest.parts (only_text s.lexeme s.longest.one (ap sort (same_first (quote ∷ bs) s.lexeme rest s.longest.one s.longest.parts) ∙ quote_sort))
   where
-    no_text : (bs : List ℕ) → ((meant rest : List ℕ) → Closes bs meant rest → ⊥) → (u rest : List ℕ) → quote ∷ bs ≡ u ++ rest → (n : List ℕ) × IsText n u → ⊥
+    no_text : (bs : List ℕ) → ((meant rest : List ℕ) → Closes bs meant rest → ⊥) → (u rest : List ℕ) → quote ∷ bs ≡ u ++ rest → (n : List ℕ) × SpellsText n u → ⊥
     no_text bs never u rest f (n, (w, g, k)) =
         let z : quote ∷ bs ≡ (quote ∷ (w ++ quote ∷ [])) ++ rest = f ∙ ap (λ (x : List ℕ). x ++ rest) g in
         let y : bs ≡ (w ++ quote ∷ []) ++ rest = cc in

@@ -51,8 +51,3 @@ abbrev pub RefusedAt : {A : Type 0} → List ℕ → Result A LexError → Type 
 RefusedAt bytes (Ok x) = Unit {0}
 RefusedAt bytes (Err NoMemory) = Unit {0}
 RefusedAt bytes (Err (Bad byte)) = Refused bytes byte
-
--- the answer is this list, or want of memory
-abbrev pub OrMemory : Result (List Token) LexError → List Token → Type 0
-OrMemory (Ok found) ts = found ≡ ts
-OrMemory (Err e) ts = e ≡ NoMemory

@@ -59,8 +59,8 @@ int_max = 9223372036854775807
 -- ---- texts
 
 -- the bytes are a whole text, between its quotes, that means these
-abbrev pub IsText : List ℕ → List ℕ → Type 0
-IsText meant u = (inside : List ℕ) × (u ≡ quote ∷ (inside ++ quote ∷ [])) × Parts meant inside
+abbrev pub SpellsText : List ℕ → List ℕ → Type 0
+SpellsText meant u = (inside : List ℕ) × (u ≡ quote ∷ (inside ++ quote ∷ [])) × Parts meant inside
 
 -- ---- tokens
 
@@ -68,7 +68,7 @@ IsText meant u = (inside : List ℕ) × (u ≡ quote ∷ (inside ++ quote ∷ []
 pub data Lexeme (u : List ℕ) : Type 0 where
   word : IsTrue (is_word u) → Lexeme u
   number : IsNumber u → Lexeme u
-  text : (meant : List ℕ) → IsText meant u → Lexeme u
+  text : (meant : List ℕ) → SpellsText meant u → Lexeme u
   symbol : (s : Symbol) → u ≡ spelling s → Lexeme u
 
 -- the bytes spell this token; a number past the greatest by more than one spells none
@@ -76,5 +76,5 @@ abbrev pub Spelled : Tok → List ℕ → Type 0
 Spelled (Word w) u = IsTrue (is_word u) × (w ≡ u)
 Spelled (Int n) u = IsNumber u × (digits_value 10 u ≤ int_max) × (n ≡ pos (digits_value 10 u))
 Spelled Big u = IsNumber u × (digits_value 10 u ≡ int_max + 1)
-Spelled (Text meant) u = IsText meant u
+Spelled (Text meant) u = SpellsText meant u
 Spelled (Sym s) u = u ≡ spelling s

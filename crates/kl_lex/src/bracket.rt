@@ -1,20 +1,9 @@
 //! The symbols around a collection.
 ghost use Rattle.std.specs.Prelude.{◌≡◌};
-ghost use Rattle.kl_lex.specs.Brackets.{opener, closer};
+ghost use Rattle.kl_lex.specs.Brackets.{closer};
 
 use crate::token::Sym;
 use kl_value::Kind;
-
-/// The symbol that opens a collection: `{`, `{|`, `[|`.
-pub fn opener(kind: Kind) -> Sym
-    ensures { result ≡ opener kind }
-{
-    match kind {
-        Kind::Set => Sym::OpenSet,
-        Kind::Bag => Sym::OpenBag,
-        Kind::List => Sym::OpenList,
-    }
-}
 
 /// The symbol that closes a collection: `}`, `|}`, `|]`.
 pub fn closer(kind: Kind) -> Sym

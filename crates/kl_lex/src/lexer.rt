@@ -5,7 +5,8 @@ ghost use Rattle.std.specs.Char.{is_ascii_alphabetic};
 ghost use Rattle.std.specs.List.{prefix_len};
 ghost use Rattle.kl_base.specs.Word.{is_word_byte};
 ghost use Rattle.kl_lex.specs.Blank.{Gap, IsDue, is_white};
-ghost use Rattle.kl_lex.specs.Lexing.{Starts, NoneStarts, Tokens as AreTokens, RefusedAt, OrMemory, PlacesRise};
+ghost use Rattle.kl_base.specs.Results.{OrMemory};
+ghost use Rattle.kl_lex.specs.Lexing.{Starts, NoneStarts, Tokens as AreTokens, RefusedAt, PlacesRise};
 ghost use Rattle.kl_lex.specs.Placing.{Comes, AreLexed, OnlyTokens, PlacedTokens, token_of};
 ghost use Rattle.kl_lex.specs.Reading.{LineBefore};
 ghost use Rattle.kl_lex.specs.declared.lexer.LexError.TheVariants.{NoMemory as WantOfMemory};
@@ -57,7 +58,7 @@ impl<T: Drop> From<AllocFailed<T>> for LexError {
 pub fn lex(alloc: Global, bytes: &[u8]) -> Result<Tokens, LexError>
     requires { length bytes.now ≤ 65536 }
     ensures tokens { IfOk result (AreTokens bytes.now) }
-    ensures only { (ts : List AToken) → AreTokens bytes.now ts → OrMemory result ts }
+    ensures only { (ts : List AToken) → AreTokens bytes.now ts → OrMemory WantOfMemory result ts }
     ensures bad { RefusedAt bytes.now result }
     ensures places { IfOk result (PlacesRise 0 (length bytes.now)) }
 {
@@ -90,7 +91,7 @@ fn narrow(token: Placed) -> Token
 }
 
 /// The tokens of bytes of any length, or where there are none.
-#[derive(Debug, Drop)]
+#[derive(Drop)]
 pub enum Lexed {
     /// The tokens, in their order.
     Tokens(Seq<Placed>),

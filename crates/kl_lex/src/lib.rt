@@ -5,18 +5,20 @@
 //! only one, or the byte at which there is none. A `Lexer` answers one token after the other, of bytes of any length.
 //!
 //! What `rt plant` lets through here: a body that answers want of memory, which no contract of this project ties to
-//! a refused growth. It plants nothing in `lex`, for which the edits in `must-fail` stand.
+//! a refused growth. It plants nothing in `lex`, for which the edits in `wrong` stand.
 #![tactic(auto)]
 
 mod bracket;
 mod keyword;
+mod laws;
 mod lexer;
 mod number;
 mod quoted;
 mod symbol;
 mod token;
 
-pub use bracket::{closer, opener};
+pub use bracket::closer;
 pub use keyword::{Keyword, is_keyword, keyword_of};
+pub use laws::lex_laws;
 pub use lexer::{LexError, Lexed, Lexer, Next, lex, lex_all};
 pub use token::{Placed, Sym, Tok, Token, Tokens};

@@ -1,7 +1,7 @@
 use kl_base::{Label, Seq, Text};
 
 /// A symbol, in the order of the language's list of symbols.
-#[derive(Clone, Copy, Debug, PartialEq, Eq)]
+#[derive(Clone, Copy, PartialEq, Eq)]
 pub enum Sym {
     /// `[|`
     OpenList,
@@ -70,7 +70,7 @@ pub enum Sym {
 }
 
 /// What a token is.
-#[derive(Debug, Drop, PartialEq, Eq)]
+#[derive(Drop, PartialEq, Eq)]
 pub enum Tok {
     /// A letter, then letters, digits and `_`. Keywords are words too.
     Word(Label),
@@ -85,7 +85,7 @@ pub enum Tok {
 }
 
 /// A token, which stands in the bytes from `from` to before `to`.
-#[derive(Debug, Drop, PartialEq, Eq)]
+#[derive(Drop, PartialEq, Eq)]
 pub struct Token {
     /// What it is.
     pub what: Tok,
@@ -99,7 +99,7 @@ pub struct Token {
 pub type Tokens = Seq<Token>;
 
 /// A token of a text of any length, which stands in the bytes from `from` to before `to`.
-#[derive(Debug, Drop, PartialEq, Eq)]
+#[derive(Drop, PartialEq, Eq)]
 pub struct Placed {
     /// What it is.
     pub what: Tok,

@@ -21,8 +21,8 @@ pub data Meant : Type 0 where
   function_of : (Value → Outcome) → Meant
   primitive : ℕ → Meant
 
-abbrev pub Known : Type 0
-Known = Name → Meant
+abbrev pub KnownOutcomes : Type 0
+KnownOutcomes = Name → Meant
 
 abbrev pub as_value : Meant → Outcome
 as_value (value_of o) = o
@@ -33,7 +33,7 @@ abbrev pub named : Option Value → Meant → Outcome
 named (Some v) m = done v
 named None m = as_value m
 
-abbrev pub look_up : Known → Env → Name → Outcome
+abbrev pub look_up : KnownOutcomes → Env → Name → Outcome
 look_up known env x = named (field x env) (known x)
 
 -- a function is of one argument, a primitive of those that its row says
@@ -87,7 +87,7 @@ draw_if (over vs) f = stop overflow
 draw_if stuck f = stop broken
 
 abbrev mutual
-  pub run : Exp → Known → Env → Outcome
+  pub run : Exp → KnownOutcomes → Env → Outcome
   run (con v) known env = done v
   run (name x) known env = look_up known env x.text
   run (call f es) known env = called (known f.text) (run_all es known env)
@@ -103,29 +103,29 @@ abbrev mutual
   run (minus a) known env = applied 10 (run a known env ∷ [])
   run (chain a ss) known env = run_steps ss (run a known env) known env
 
-  pub run_all : Exps → Known → Env → List Outcome
+  pub run_all : Exps → KnownOutcomes → Env → List Outcome
   run_all no_exps known env = []
   run_all (exps e es) known env = run e known env ∷ run_all es known env
 
-  pub run_items : Exps → Known → Env → Flow
+  pub run_items : Exps → KnownOutcomes → Env → Flow
   run_items no_exps known env = stop fine
   run_items (exps e es) known env = item_then (run e known env) (run_items es known env)
 
-  pub run_fields : Flds → Known → Env → List (Name × Outcome)
+  pub run_fields : Flds → KnownOutcomes → Env → List (Name × Outcome)
   run_fields no_flds known env = []
   run_fields (flds l e fs) known env = (l.text, run e known env) ∷ run_fields fs known env
 
-  pub run_quals : Quals → (Env → Flow) → Known → Env → Flow
+  pub run_quals : Quals → (Env → Flow) → KnownOutcomes → Env → Flow
   run_quals no_quals go known env = go env
   run_quals (draw p s qs) go known env = drawn (items_of (run s known env)) (λ v. if_fits (fits p (look_up known env) v env) (λ inner. run_quals qs go known inner))
   run_quals (test c qs) go known env = draw_if (run c known env) (run_quals qs go known env)
 
-  pub run_branches : Branches → Name → Value → Known → Env → Outcome
+  pub run_branches : Branches → Name → Value → KnownOutcomes → Env → Outcome
   run_branches no_branches l v known env = stuck
   run_branches (otherwise c) l v known env = run c known env
   run_branches (branch m p b bs) l v known env = cond (same_name l m.text) (must_fit (fits p (look_up known env) v env) (λ inner. run b known inner)) (run_branches bs l v known env)
 
-  pub run_steps : Steps → Outcome → Known → Env → Outcome
+  pub run_steps : Steps → Outcome → KnownOutcomes → Env → Outcome
   run_steps no_steps o known env = o
   run_steps (step c e ss) o known env = run_steps ss (operated c o (run e known env)) known env
 
@@ -146,14 +146,14 @@ meant_at (Some v) c = value_of (done v)
 meant_at None c = meant_by_code c
 
 -- sources, and then primitives
-abbrev pub at_first : List (Name × Value) → Known
+abbrev pub at_first : List (Name × Value) → KnownOutcomes
 at_first sources x = meant_at (field x sources) (code_named x)
 
-abbrev pub with_known : Name → Meant → Known → Known
+abbrev pub with_known : Name → Meant → KnownOutcomes → KnownOutcomes
 with_known d m known x = cond (same_name x d) m (known x)
 
 -- a definition means what its expression means over the definitions before it, without variables
-abbrev pub known_after : Decls → Known → Known
+abbrev pub known_after : Decls → KnownOutcomes → KnownOutcomes
 known_after no_decls known = known
 known_after (constant d e ds) known = known_after ds (with_known d.text (value_of (run e known [])) known)
 known_after (function d p e ds) known = known_after ds (with_known d.text (function_of (λ v. must_fit (fits p (look_up known []) v []) (λ inner. run e known inner))) known)

@@ -29,8 +29,8 @@ abbrev mutual
 
 -- One of the language's types: labels rise, a variant type has at least one, and no function stands in it. Where a
 -- derivation is free to choose a type it is one of these.
-abbrev pub IsType : Ground → Type 0
-IsType t = IsGround t × IsFirstOrder t
+abbrev pub IsLanguageType : Ground → Type 0
+IsLanguageType t = IsGround t × IsFirstOrder t
 
 -- the type of each variable, the last bound first
 abbrev pub Context : Type 0
@@ -50,8 +50,8 @@ pub data Sort : Type 1 where
   function_of : (Ground → Ground → Type 0) → Sort
   primitive : ℕ → Sort
 
-abbrev pub Known : Type 1
-Known = Name → Sort
+abbrev pub KnownTypes : Type 1
+KnownTypes = Name → Sort
 
 abbrev pub ValueTypes : Sort → Ground → Type 0
 ValueTypes (value_of P) t = P t
@@ -68,7 +68,7 @@ abbrev pub VariableOr : Option Ground → Sort → Ground → Type 0
 VariableOr (Some s) k t = s ≡ t
 VariableOr None k t = ValueTypes k t
 
-abbrev pub NameTypes : Known → Context → Name → Ground → Type 0
+abbrev pub NameTypes : KnownTypes → Context → Name → Ground → Type 0
 NameTypes known G x t = VariableOr (field x G) (known x) t
 
 -- each label of the row stands in the pattern, unless it ends in `...`
@@ -113,14 +113,14 @@ has_branch (otherwise c) l = true
 has_branch (branch m p b bs) l = same_name l m.text || has_branch bs l
 
 abbrev mutual
-  pub Types : Exp → Known → Context → Ground → Type 0
-  Types (con v) known G t = IsType t × Inhabits t v
+  pub Types : Exp → KnownTypes → Context → Ground → Type 0
+  Types (con v) known G t = IsLanguageType t × Inhabits t v
   Types (name x) known G t = NameTypes known G x.text t
   Types (call f es) known G t = (ss : List Ground) × AllTypes es known G ss × CallTypes (known f.text) ss t
   Types (fields fs) known G t =
-      (r : Row) × (t ≡ rec r) × IsType t × ((l : Name) → IsSome (at l r) → IsTrue (has_field fs l)) × FieldTypes fs known G r
-  Types (inject l a) known G t = (r : Row) × (s : Ground) × (t ≡ var r) × IsType t × (at l.text r ≡ Some s) × Types a known G s
-  Types (coll k es) known G t = (s : Ground) × (t ≡ colls k s) × IsType t × EachType es known G s
+      (r : Row) × (t ≡ rec r) × IsLanguageType t × ((l : Name) → IsSome (at l r) → IsTrue (has_field fs l)) × FieldTypes fs known G r
+  Types (inject l a) known G t = (r : Row) × (s : Ground) × (t ≡ var r) × IsLanguageType t × (at l.text r ≡ Some s) × Types a known G s
+  Types (coll k es) known G t = (s : Ground) × (t ≡ colls k s) × IsLanguageType t × EachType es known G s
   Types (comp k e qs) known G t = (s : Ground) × (H : Context) × (t ≡ colls k s) × QualTypes qs known G H × Types e known H s
   Types (choice a b c) known G t = Types a known G bool × Types b known G t × Types c known G t
   Types (bind p a b) known G t = (s : Ground) × (H : Context) × Types a known G s × Takes p (NameTypes known G) s G H × Types b known H t
@@ -132,35 +132,35 @@ abbrev mutual
   Types (chain a ss) known G t = (s : Ground) × Types a known G s × StepTypes ss known G s t
 
   -- each of its own type
-  pub AllTypes : Exps → Known → Context → List Ground → Type 0
+  pub AllTypes : Exps → KnownTypes → Context → List Ground → Type 0
   AllTypes no_exps known G ss = ss ≡ []
   AllTypes (exps e es) known G ss = (s : Ground) × (rest : List Ground) × (ss ≡ s ∷ rest) × Types e known G s × AllTypes es known G rest
 
   -- all of one type
-  pub EachType : Exps → Known → Context → Ground → Type 0
+  pub EachType : Exps → KnownTypes → Context → Ground → Type 0
   EachType no_exps known G s = ⊤
   EachType (exps e es) known G s = Types e known G s × EachType es known G s
 
   -- each of the type that the row has at its label
-  pub FieldTypes : Flds → Known → Context → Row → Type 0
+  pub FieldTypes : Flds → KnownTypes → Context → Row → Type 0
   FieldTypes no_flds known G r = ⊤
   FieldTypes (flds l e fs) known G r = (s : Ground) × (at l.text r ≡ Some s) × Types e known G s × FieldTypes fs known G r
 
   -- a generator draws from a collection of any kind, and a condition is a truth value
-  pub QualTypes : Quals → Known → Context → Context → Type 0
+  pub QualTypes : Quals → KnownTypes → Context → Context → Type 0
   QualTypes no_quals known G H = H ≡ G
   QualTypes (draw p s qs) known G H =
       (k : Kind) × (u : Ground) × (M : Context) × Types s known G (colls k u) × Takes p (NameTypes known G) u G M × QualTypes qs known M H
   QualTypes (test c qs) known G H = Types c known G bool × QualTypes qs known G H
 
   -- each branch is for a label of the variant, and all results have the type
-  pub BranchTypes : Branches → Known → Context → Row → Ground → Type 0
+  pub BranchTypes : Branches → KnownTypes → Context → Row → Ground → Type 0
   BranchTypes no_branches known G r t = ⊤
   BranchTypes (otherwise c) known G r t = Types c known G t
   BranchTypes (branch l p b bs) known G r t =
       (s : Ground) × (H : Context) × (at l.text r ≡ Some s) × Takes p (NameTypes known G) s G H × Types b known H t × BranchTypes bs known G r t
 
-  pub StepTypes : Steps → Known → Context → Ground → Ground → Type 0
+  pub StepTypes : Steps → KnownTypes → Context → Ground → Ground → Type 0
   StepTypes no_steps known G s t = s ≡ t
   StepTypes (step c e ss) known G s t = (u : Ground) × (q : Ground) × Types e known G u × OpTypes c s u q × StepTypes ss known G q t
 
@@ -173,28 +173,28 @@ abbrev pub sort_at : Option Ground → Option ℕ → Sort
 sort_at (Some s) c = value_of (λ t. s ≡ t)
 sort_at None c = sort_by_code c
 
-abbrev pub types_at_first : List (Name × Ground) → Known
+abbrev pub types_at_first : List (Name × Ground) → KnownTypes
 types_at_first sources x = sort_at (field x sources) (code_named x)
 
 abbrev pub sort_if : Bool → Sort → Sort → Sort
 sort_if true k j = k
 sort_if false k j = j
 
-abbrev pub with_sort : Name → Sort → Known → Known
+abbrev pub with_sort : Name → Sort → KnownTypes → KnownTypes
 with_sort d k known x = sort_if (same_name x d) k (known x)
 
 -- a function has the pairs of a type that its parameter takes and a type that its body has then
-abbrev pub FunctionTypes : Known → Pat → Exp → Ground → Ground → Type 0
-FunctionTypes known p e s t = IsType s × (H : Context) × Takes p (NameTypes known []) s [] H × Types e known H t
+abbrev pub FunctionTypes : KnownTypes → Pat → Exp → Ground → Ground → Type 0
+FunctionTypes known p e s t = IsLanguageType s × (H : Context) × Takes p (NameTypes known []) s [] H × Types e known H t
 
 -- a definition has the types of its expression over the definitions before it, each use a derivation of its own
-abbrev pub types_after : Decls → Known → Known
+abbrev pub types_after : Decls → KnownTypes → KnownTypes
 types_after no_decls known = known
 types_after (constant d e ds) known = types_after ds (with_sort d.text (value_of (Types e known [])) known)
 types_after (function d p e ds) known = types_after ds (with_sort d.text (function_of (FunctionTypes known p e)) known)
 
 -- each definition has a type by itself
-abbrev pub EachTyped : Decls → Known → Type 0
+abbrev pub EachTyped : Decls → KnownTypes → Type 0
 EachTyped no_decls known = ⊤
 EachTyped (constant d e ds) known = ((t : Ground) × Types e known [] t) × EachTyped ds (with_sort d.text (value_of (Types e known [])) known)
 EachTyped (function d p e ds) known =

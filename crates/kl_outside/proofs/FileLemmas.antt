@@ -2,7 +2,7 @@
 use Rattle.std.proofs.Common.{◌≡◌, ℕ, List, Option, Some, None, Ok, Err, Result, refl, sym, ◌∙◌, ap, arith, inl, inr}
 use Rattle.std.proofs.lemmas.Bool.{cases_eq}
 use Rattle.std.proofs.Math.Path.{fun_ext}
-use Rattle.kl_outside.specs.Files.{FilesState, Opens, Closes, ReadsWhole, ReadsRest, IsWhole, OtherFiles, left_at_first}
+use Rattle.kl_outside.specs.Files.{FilesState, OpensPath, Closes, ReadsWhole, ReadsRest, IsWhole, OtherFiles, left_at_first}
 use Rattle.kl_outside.specs.declared.stop.Stop.{Stop}
 use Rattle.kl_outside.specs.declared.files.Whole.{Whole}
 
@@ -13,7 +13,7 @@ same_left file s0 s1 s2 s3 fresh a b d closed k = elim (cases_eq k file) [ inl i
 no_failure : {T : Type 0} {value : T} {stop : Stop} → Ok value ≡ Err stop → ⊥
 no_failure is = cc
 
-pub whole_read : (path : List ℕ) (most file : ℕ) (result : Result Whole Stop) (s0 s1 s2 s3 : FilesState) → Opens path (Ok file) s0 s1 → ReadsRest file most result s1 s2 → Closes file s2 s3 → ReadsWhole path most result s0 s3
+pub whole_read : (path : List ℕ) (most file : ℕ) (result : Result Whole Stop) (s0 s1 s2 s3 : FilesState) → OpensPath path (Ok file) s0 s1 → ReadsRest file most result s1 s2 → Closes file s2 s3 → ReadsWhole path most result s0 s3
 whole_read path most file result s0 s1 s2 s3 opens reads closes = record {
   told = closes.told ∙ reads.told ∙ opens.told;
   left = fun_ext (same_left file s0 s1 s2 s3 opens.fresh opens.others reads.others closes.others closes.closed);

@@ -1,4 +1,3 @@
-pub mod CountLemmas
 pub mod SinkLemmas
 pub mod FileLemmas
 mod Places

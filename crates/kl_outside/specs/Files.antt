@@ -31,7 +31,7 @@ abbrev pub OtherFiles : ℕ → FilesState → FilesState → Type 0
 OtherFiles file old new = (k : ℕ) → k ≢ file → new.left k ≡ old.left k
 
 -- `open_path`
-pub record Opens (path : List ℕ) (result : Result ℕ Stop) (old new : FilesState) : Type 0 where
+pub record OpensPath (path : List ℕ) (result : Result ℕ Stop) (old new : FilesState) : Type 0 where
   pub told : new.told ≡ old.told
   pub fresh : IfOk result (λ file. old.left file ≡ None)
   pub left : IfOk result (λ file. new.left file ≡ Some (left_at_first old.told path))
@@ -79,16 +79,16 @@ IsWhole most bytes (Bytes whole) = (whole ≡ bytes) × (length bytes ≤ most)
 IsWhole most bytes TooLong = most < length bytes
 
 -- No more bytes were answered than is allowed.
-abbrev pub IsWithin : ℕ → Whole → Type 0
-IsWithin most (Bytes whole) = length whole ≤ most
-IsWithin most TooLong = ⊤
+abbrev pub HasAtMost : ℕ → Whole → Type 0
+HasAtMost most (Bytes whole) = length whole ≤ most
+HasAtMost most TooLong = ⊤
 
 -- `read_whole`
 pub record ReadsWhole (path : List ℕ) (most : ℕ) (result : Result Whole Stop) (old new : FilesState) : Type 0 where
   pub told : new.told ≡ old.told
   pub left : new.left ≡ old.left
   pub whole : (bytes : List ℕ) → Holds old path bytes → IfOk result (IsWhole most bytes)
-  pub within : IfOk result (IsWithin most)
+  pub within : IfOk result (HasAtMost most)
   pub later : old.faults ≤ new.faults
   pub failed : IsErrOf result Failed → IsMissing old path ⊎ Rose old.faults new.faults
   pub missing : IsMissing old path → IsErrOf result Failed × (new.faults ≡ old.faults)
@@ -98,6 +98,6 @@ pub record ReadsRest (file most : ℕ) (result : Result Whole Stop) (old new : F
   pub told : new.told ≡ old.told
   pub others : OtherFiles file old new
   pub whole : (bytes : List ℕ) → old.left file ≡ Some (Some bytes) → IfOk result (IsWhole most bytes)
-  pub within : IfOk result (IsWithin most)
+  pub within : IfOk result (HasAtMost most)
   pub later : old.faults ≤ new.faults
   pub failed : IsErrOf result Failed → Rose old.faults new.faults

@@ -1,5 +1,5 @@
 ghost use Rattle.std.specs.Prelude.{◌<◌, length, IsSome};
-ghost use Rattle.kl_outside.specs.Files.{FilesState, Opens, ReadsPiece, Closes, ReadsWhole, ReadsRest};
+ghost use Rattle.kl_outside.specs.Files.{FilesState, OpensPath, ReadsPiece, Closes, ReadsWhole, ReadsRest};
 
 use crate::Stop;
 use kl_base::Text;
@@ -22,7 +22,7 @@ pub trait Files {
     ///   could not be opened, and `faults` rose.
     /// - `NoMemory`: there was no memory for one more open file.
     fn open_path(&mut self, path: &[u8]) -> Result<u64, Stop>
-        ensures { Opens path.now result (state self.old) (state self.new) };
+        ensures { OpensPath path.now result (state self.old) (state self.new) };
 
     /// Copies the next bytes of an open file to the front of `into`, at least one where any is left, and answers how
     /// many. The answer 0 is the end of the file.

@@ -1,6 +1,6 @@
 ghost use Rattle.std.specs.Prelude.{◌≡◌, ◌↔◌, ◌⊎◌, ◌<◌, ◌+◌, ◌^◌, [], Some, None, length, take, drop, min, MatchOption, MatchResult, IsTrue, IsErrOf, IsSome, slice_get};
 ghost use Rattle.std.specs.Option.{option_flatten};
-ghost use Rattle.kl_outside.specs.Files.{Opens, ReadsPiece, Closes};
+ghost use Rattle.kl_outside.specs.Files.{OpensPath, ReadsPiece, Closes};
 ghost use Rattle.kl_outside.specs.Entries.{bytes_of, bytes_at};
 
 use crate::schedule::Schedule;
@@ -108,7 +108,7 @@ impl Files for MemFiles {
     /// It is `Failed` exactly where the path is missing or the call is listed. A missing path comes first, and counts
     /// no fault.
     fn open_path(&mut self, path: &[u8]) -> Result<u64, Stop>
-        ensures opens { Opens path.now result (files_state self.old) (files_state self.new) }
+        ensures opens { OpensPath path.now result (files_state self.old) (files_state self.new) }
         ensures failed { IsErrOf result Stop.Failed ↔ ((told_bytes self.old path.now ≡ None) ⊎ IsTrue (is_next_listed (files_calls self.old))) }
         ensures calls { files_calls self.new ≡ after_opening (told_bytes self.old path.now) (files_calls self.old) }
     {

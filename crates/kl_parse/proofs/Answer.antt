@@ -14,14 +14,14 @@ use Rattle.kl_parse.proofs.Reading.{up, good_program, has_program}
 use Rattle.kl_parse.proofs.Kepts.{more_program, same_program}
 use Rattle.kl_parse.proofs.Depths.{Far, deepens_program}
 use Rattle.kl_phrase.specs.Readers.{Why, Out, ok, fail, bad, deep, ended}
-use Rattle.kl_phrase.specs.Places.{IsPlace, IsDeepPlace, BeginsAt, Answers}
+use Rattle.kl_phrase.specs.Places.{IsPlace, IsDeepPlace, BeginsAt, AnswersPlace}
 use Rattle.kl_phrase.proofs.Exact.{Exactly}
 use Rattle.kl_phrase.proofs.Exact as exact
 
 exactly : Exactly ReadsProgram up Free nests d.program
 exactly = record { has = has_program; good = good_program; ends = tt; more = more_program; same = same_program }
 
-answers : (ts : List Token) → Answers ReadsProgram nests 256 ts (ended (d.program (length ts) 256 ts))
+answers : (ts : List Token) → AnswersPlace ReadsProgram nests 256 ts (ended (d.program (length ts) 256 ts))
 answers ts = exact.answers ReadsProgram up Free nests d.program exactly 256 ts
 
 pub unique : (ts : List Token) (p q : Program) → IsProgram ts p → IsProgram ts q → p ≡ q
@@ -30,7 +30,7 @@ unique ts p q h i = exact.unique ReadsProgram up Free nests d.program exactly 25
 only : (ts : List Token) (p : Program) → IsProgram ts p → ended (d.program (length ts) 256 ts) ≡ ok p []
 only ts p h = exact.only ReadsProgram up Free nests d.program exactly 256 p ts h
 
-told_by : (ts : List Token) (o : Out Token Program) → Answers ReadsProgram nests 256 ts o → IsToldOf ts
+told_by : (ts : List Token) (o : Out Token Program) → AnswersPlace ReadsProgram nests 256 ts o → IsToldOf ts
 told_by ts (ok p r) h = inl (p, h.1)
 told_by ts (fail bad r) h = inr (inl (length ts - length r, h.1))
 told_by ts (fail deep r) h = inr (inr (length ts - length r, h.1))
@@ -84,8 +84,8 @@ begins_at n (t ∷ u) s (inl z) = absurd cc
 begins_at n (t ∷ u) s (inr (more, a, h)) = (s ++ more, a, subst (ReadsProgram n 0 a) (append_assoc (t ∷ u) s more) h)
 
 module _ (total : ℕ) (ts : List Token) (all : total ≡ length ts) where
-  answered : (o : Out Token Program) → d.program total 256 ts ≡ o → Answers ReadsProgram nests 256 ts (ended o)
-  answered o e = subst (λ (z : Out Token Program). Answers ReadsProgram nests 256 ts (ended z)) (ap (λ n. d.program n 256 ts) (sym all) ∙ e) (answers ts)
+  answered : (o : Out Token Program) → d.program total 256 ts ≡ o → AnswersPlace ReadsProgram nests 256 ts (ended o)
+  answered o e = subst (λ (z : Out Token Program). AnswersPlace ReadsProgram nests 256 ts (ended z)) (ap (λ n. d.program n 256 ts) (sym all) ∙ e) (answers ts)
 
   only_so : (o : Out Token Program) (p : Program) → d.program total 256 ts ≡ o → IsProgram ts p → ended o ≡ ok p []
   only_so o p e h = ap ended (sym e ∙ ap (λ n. d.program n 256 ts) all) ∙ only ts p h

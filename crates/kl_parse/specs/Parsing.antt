@@ -49,17 +49,12 @@ can_nest_at _ = false
 abbrev pub can_nest : Token → Bool
 can_nest t = can_nest_at t.what
 
--- the answer is this program, or want of memory
-abbrev pub OrMemory : Result Program ParseError → Program → Type 0
-OrMemory (Ok found) p = found ≡ p
-OrMemory (Err e) p = e ≡ NoMemory
-
 -- at the place of a refusal no program goes on, or what begins so nests too deep
-abbrev pub Refuses : List Token → Result Program ParseError → Type 0
-Refuses ts (Ok p) = Unit {0}
-Refuses ts (Err (Syntax k)) = IsPlace ReadsProgram ts k
-Refuses ts (Err (TooDeep k)) = IsDeepPlace ReadsProgram nests 256 ts k
-Refuses ts (Err NoMemory) = Unit {0}
+abbrev pub RefusesProgram : List Token → Result Program ParseError → Type 0
+RefusesProgram ts (Ok p) = Unit {0}
+RefusesProgram ts (Err (Syntax k)) = IsPlace ReadsProgram ts k
+RefusesProgram ts (Err (TooDeep k)) = IsDeepPlace ReadsProgram nests 256 ts k
+RefusesProgram ts (Err NoMemory) = Unit {0}
 
 -- what is refused for nesting stands at a token that can nest, behind 256 others
 abbrev pub NestsBehind : List Token → Result Program ParseError → Type 0

@@ -6,7 +6,9 @@ ghost use Rattle.kl_syntax.specs.declared.tree.Program.{Program as AProgram};
 ghost use Rattle.kl_phrase.specs.Gives.{Gives};
 ghost use Rattle.kl_parse.specs.Grammar.{whole};
 ghost use Rattle.kl_parse.specs.Descent.{read_pat, reads, plain_body, body, decl_rest, decls, program};
-ghost use Rattle.kl_parse.specs.Parsing.{IsProgram, IsToldOf, NestsBehind, OnePlace, OrMemory, Refuses, Shallow};
+ghost use Rattle.kl_parse.specs.declared.program.ParseError.TheVariants.{NoMemory as WantOfMemory};
+ghost use Rattle.kl_base.specs.Results.{OrMemory};
+ghost use Rattle.kl_parse.specs.Parsing.{IsProgram, IsToldOf, NestsBehind, OnePlace, RefusesProgram, Shallow};
 
 use crate::exprs::expr;
 use crate::front::{eat, eat_word, name, number, or_bad, or_deep, want};
@@ -138,8 +140,8 @@ fn program(
 pub fn parse(alloc: Global, tokens: &[Token]) -> Result<Program, ParseError>
     requires { length tokens.now < 2 ^ 32 }
     ensures program { IfOk result (IsProgram tokens.now) }
-    ensures only { (p : AProgram) → IsProgram tokens.now p → OrMemory result p }
-    ensures refused { Refuses tokens.now result }
+    ensures only { (p : AProgram) → IsProgram tokens.now p → OrMemory WantOfMemory result p }
+    ensures refused { RefusesProgram tokens.now result }
     ensures nested { NestsBehind tokens.now result }
     ensures shallow { Shallow tokens.now result }
 {

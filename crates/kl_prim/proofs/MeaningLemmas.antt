@@ -16,7 +16,7 @@ use Rattle.kl_value.proofs.IsCanonicalLemmas.{bool_made, int_made, text_made, it
 use Rattle.kl_value.proofs.ViewLemmas.{collection_form, items_form}
 use Rattle.kl_value.specs.Views.{IsBool, IsCollection, IsInt, IsText}
 use Rattle.kl_prim.specs.Fits.{FitsShape, OneOf, TwoOf, IsAny, IsCollectionOfInts, IsNested}
-use Rattle.kl_prim.specs.Meaning.{Answer, Answers, gives, overflows, senseless, with_some, one, two, as_any, all_some, as_ints, as_nested, exact, fits_word, total, extreme, alone, number_in, set_of_found}
+use Rattle.kl_prim.specs.Meaning.{Answer, AnswersMeaning, gives, overflows, senseless, with_some, one, two, as_any, all_some, as_ints, as_nested, exact, fits_word, total, extreme, alone, number_in, set_of_found}
 use Rattle.kl_prim.specs.Table.{Fits, FitsRow, IsTotal, IsTotalRow, Row, Takes, TakesRow, meaning, meaning_of, row_at, rows}
 use Rattle.kl_value.specs.Views.{Collection, as_bool, as_int, as_text, as_collection, items_at, collection}
 use Rattle.kl_prim.specs.declared.stop.PrimStop.{PrimStop}
@@ -379,7 +379,7 @@ meaning_canonical code args v h e =
     go (Some r) s = s args (recursion_from_All IsCanonical args h)
     go None s = tt
 
-pub answer_canonical : (code : ℕ) (args : List Value) (r : Result Value PrimStop) → All IsCanonical args → Answers (meaning code args) r → IfOk r IsCanonical
+pub answer_canonical : (code : ℕ) (args : List Value) (r : Result Value PrimStop) → All IsCanonical args → AnswersMeaning (meaning code args) r → IfOk r IsCanonical
 answer_canonical code args (Ok v) h e = meaning_canonical code args v h e
 answer_canonical code args (Err e) h a = tt
 

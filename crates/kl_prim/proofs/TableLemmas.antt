@@ -12,7 +12,7 @@ use Rattle.kl_value.specs.Views.{IsCollection, IsInt}
 use Rattle.kl_prim.specs.Fits.{FitsShape, OneOf, IsCollectionOfInts, IsNested}
 use Rattle.kl_value.specs.Canon.{canonical}
 use Rattle.kl_value.specs.IsCanonical.{IsCanonical}
-use Rattle.kl_prim.specs.Meaning.{Answer, Answers, one, with_some, all_some, as_ints, as_nested, gives, into}
+use Rattle.kl_prim.specs.Meaning.{Answer, AnswersMeaning, one, with_some, all_some, as_ints, as_nested, gives, into}
 use Rattle.kl_prim.specs.Table.{Entry, Fits, FitsRow, Row, Takes, TakesRow, entry_of, meaning, row_at, rows}
 use Rattle.kl_value.specs.Views.{as_int, as_collection, collection, items_at}
 use Rattle.kl_value.proofs.ViewLemmas.{collection_is}
@@ -24,8 +24,8 @@ infixr 3 ◌&◌
 abbrev pub ◌&◌ : {A B : Type 0} → A → B → A × B
 a & b = (a, b)
 
-pub answers_by : (a b : Answer) (r : Result Value PrimStop) → a ≡ b → Answers b r → Answers a r
-answers_by a b r e h = subst (λ x. Answers x r) (sym e) h
+pub answers_by : (a b : Answer) (r : Result Value PrimStop) → a ≡ b → AnswersMeaning b r → AnswersMeaning a r
+answers_by a b r e h = subst (λ x. AnswersMeaning x r) (sym e) h
 
 pub means : (code n : ℕ) (args : List Value) (a : Answer) → code ≡ n → meaning n args ≡ a → meaning code args ≡ a
 means code n args a e h = ap (λ k. meaning k args) e ∙ h

@@ -23,10 +23,10 @@ pub data Answer : Type 0 where
   senseless : Answer
 
 -- a result says what the answer is, unless memory ran out, which hides no overflow
-abbrev pub Answers : Answer → Result Value PrimStop → Type 0
-Answers a (Ok v) = a ≡ gives v
-Answers a (Err stop.Overflow) = a ≡ overflows
-Answers a (Err stop.NoMemory) = a ≢ overflows
+abbrev pub AnswersMeaning : Answer → Result Value PrimStop → Type 0
+AnswersMeaning a (Ok v) = a ≡ gives v
+AnswersMeaning a (Err stop.Overflow) = a ≡ overflows
+AnswersMeaning a (Err stop.NoMemory) = a ≢ overflows
 
 -- what is made of one argument, or of two, once each is read as what is asked
 abbrev pub with_some : {X : Type 0} → Option X → (X → Answer) → Answer

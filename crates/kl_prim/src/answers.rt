@@ -4,7 +4,7 @@ ghost use Rattle.kl_value.specs.IsCanonical.{IsCanonical};
 ghost use Rattle.kl_value.specs.Views.{IsBool, IsInt, IsText, IsCollection};
 ghost use Rattle.kl_prim.specs.Arguments.{values_in};
 ghost use Rattle.kl_prim.specs.Fits.{IsAny, IsCollectionOfInts, IsNested, OneOf, TwoOf};
-ghost use Rattle.kl_prim.specs.Meaning.{Answers};
+ghost use Rattle.kl_prim.specs.Meaning.{AnswersMeaning};
 ghost use Rattle.kl_prim.specs.Meaning as meaning;
 
 use crate::args::{Arg, Args, alone};
@@ -22,7 +22,7 @@ use std::alloc::Global;
 /// Whether two values are equal.
 pub fn equal(args: &Args<'_>) -> Result<Value, PrimStop>
     requires { TwoOf IsAny IsAny (values_in args.now) }
-    ensures { Answers (meaning.equal (values_in args.now)) result }
+    ensures { AnswersMeaning (meaning.equal (values_in args.now)) result }
 {
     let (v, w) = two_values(args);
     Ok(Value::Bool(cmp(v, w).is_eq()))
@@ -31,7 +31,7 @@ pub fn equal(args: &Args<'_>) -> Result<Value, PrimStop>
 /// Whether they are not.
 pub fn unequal(args: &Args<'_>) -> Result<Value, PrimStop>
     requires { TwoOf IsAny IsAny (values_in args.now) }
-    ensures { Answers (meaning.unequal (values_in args.now)) result }
+    ensures { AnswersMeaning (meaning.unequal (values_in args.now)) result }
 {
     let (v, w) = two_values(args);
     Ok(Value::Bool(cmp(v, w).is_ne()))
@@ -40,7 +40,7 @@ pub fn unequal(args: &Args<'_>) -> Result<Value, PrimStop>
 /// Whether the first is below the second.
 pub fn below(args: &Args<'_>) -> Result<Value, PrimStop>
     requires { TwoOf IsAny IsAny (values_in args.now) }
-    ensures { Answers (meaning.below (values_in args.now)) result }
+    ensures { AnswersMeaning (meaning.below (values_in args.now)) result }
 {
     let (v, w) = two_values(args);
     Ok(Value::Bool(cmp(v, w).is_lt()))
@@ -49,7 +49,7 @@ pub fn below(args: &Args<'_>) -> Result<Value, PrimStop>
 /// Whether the first is at most the second.
 pub fn at_most(args: &Args<'_>) -> Result<Value, PrimStop>
     requires { TwoOf IsAny IsAny (values_in args.now) }
-    ensures { Answers (meaning.at_most (values_in args.now)) result }
+    ensures { AnswersMeaning (meaning.at_most (values_in args.now)) result }
 {
     let (v, w) = two_values(args);
     Ok(Value::Bool(cmp(v, w).is_le()))
@@ -58,7 +58,7 @@ pub fn at_most(args: &Args<'_>) -> Result<Value, PrimStop>
 /// Whether the first is above the second.
 pub fn above(args: &Args<'_>) -> Result<Value, PrimStop>
     requires { TwoOf IsAny IsAny (values_in args.now) }
-    ensures { Answers (meaning.above (values_in args.now)) result }
+    ensures { AnswersMeaning (meaning.above (values_in args.now)) result }
 {
     let (v, w) = two_values(args);
     Ok(Value::Bool(cmp(v, w).is_gt()))
@@ -67,7 +67,7 @@ pub fn above(args: &Args<'_>) -> Result<Value, PrimStop>
 /// Whether the first is at least the second.
 pub fn at_least(args: &Args<'_>) -> Result<Value, PrimStop>
     requires { TwoOf IsAny IsAny (values_in args.now) }
-    ensures { Answers (meaning.at_least (values_in args.now)) result }
+    ensures { AnswersMeaning (meaning.at_least (values_in args.now)) result }
 {
     let (v, w) = two_values(args);
     Ok(Value::Bool(cmp(v, w).is_ge()))
@@ -76,7 +76,7 @@ pub fn at_least(args: &Args<'_>) -> Result<Value, PrimStop>
 /// The sum of two integers.
 pub fn add(args: &Args<'_>) -> Result<Value, PrimStop>
     requires { TwoOf IsInt IsInt (values_in args.now) }
-    ensures { Answers (meaning.add (values_in args.now)) result }
+    ensures { AnswersMeaning (meaning.add (values_in args.now)) result }
 {
     let (m, n) = two_ints(args);
     numbers::add(m, n)
@@ -85,7 +85,7 @@ pub fn add(args: &Args<'_>) -> Result<Value, PrimStop>
 /// The first less the second.
 pub fn subtract(args: &Args<'_>) -> Result<Value, PrimStop>
     requires { TwoOf IsInt IsInt (values_in args.now) }
-    ensures { Answers (meaning.subtract (values_in args.now)) result }
+    ensures { AnswersMeaning (meaning.subtract (values_in args.now)) result }
 {
     let (m, n) = two_ints(args);
     numbers::subtract(m, n)
@@ -94,7 +94,7 @@ pub fn subtract(args: &Args<'_>) -> Result<Value, PrimStop>
 /// Their product.
 pub fn multiply(args: &Args<'_>) -> Result<Value, PrimStop>
     requires { TwoOf IsInt IsInt (values_in args.now) }
-    ensures { Answers (meaning.multiply (values_in args.now)) result }
+    ensures { AnswersMeaning (meaning.multiply (values_in args.now)) result }
 {
     let (m, n) = two_ints(args);
     numbers::multiply(m, n)
@@ -103,7 +103,7 @@ pub fn multiply(args: &Args<'_>) -> Result<Value, PrimStop>
 /// The opposite of an integer.
 pub fn negate(args: &Args<'_>) -> Result<Value, PrimStop>
     requires { OneOf IsInt (values_in args.now) }
-    ensures { Answers (meaning.negate (values_in args.now)) result }
+    ensures { AnswersMeaning (meaning.negate (values_in args.now)) result }
 {
     numbers::negate(one_int(args))
 }
@@ -111,7 +111,7 @@ pub fn negate(args: &Args<'_>) -> Result<Value, PrimStop>
 /// Whether a truth value is false.
 pub fn complement(args: &Args<'_>) -> Result<Value, PrimStop>
     requires { OneOf IsBool (values_in args.now) }
-    ensures { Answers (meaning.complement (values_in args.now)) result }
+    ensures { AnswersMeaning (meaning.complement (values_in args.now)) result }
 {
     Ok(Value::Bool(!one_bool(args)))
 }
@@ -119,7 +119,7 @@ pub fn complement(args: &Args<'_>) -> Result<Value, PrimStop>
 /// The first text, then the second.
 pub fn join(alloc: Global, args: &Args<'_>) -> Result<Value, PrimStop>
     requires { TwoOf IsText IsText (values_in args.now) }
-    ensures { Answers (meaning.join (values_in args.now)) result }
+    ensures { AnswersMeaning (meaning.join (values_in args.now)) result }
 {
     let (s, t) = two_texts(args);
     texts::join(alloc, s, t)
@@ -128,7 +128,7 @@ pub fn join(alloc: Global, args: &Args<'_>) -> Result<Value, PrimStop>
 /// Whether a collection has no item.
 pub fn is_empty(args: &Args<'_>) -> Result<Value, PrimStop>
     requires { OneOf IsCollection (values_in args.now) }
-    ensures { Answers (meaning.is_empty (values_in args.now)) result }
+    ensures { AnswersMeaning (meaning.is_empty (values_in args.now)) result }
 {
     let (_, items) = one_collection(args);
     Ok(Value::Bool(items.is_empty()))
@@ -137,7 +137,7 @@ pub fn is_empty(args: &Args<'_>) -> Result<Value, PrimStop>
 /// How many items a collection has.
 pub fn count(args: &Args<'_>) -> Result<Value, PrimStop>
     requires { OneOf IsCollection (values_in args.now) }
-    ensures { Answers (meaning.count (values_in args.now)) result }
+    ensures { AnswersMeaning (meaning.count (values_in args.now)) result }
 {
     let (_, items) = one_collection(args);
     Ok(amount(items))
@@ -146,7 +146,7 @@ pub fn count(args: &Args<'_>) -> Result<Value, PrimStop>
 /// The exact total of a collection of integers.
 pub fn sum(args: &Args<'_>) -> Result<Value, PrimStop>
     requires { OneOf IsCollectionOfInts (values_in args.now) }
-    ensures { Answers (meaning.sum (values_in args.now)) result }
+    ensures { AnswersMeaning (meaning.sum (values_in args.now)) result }
 {
     let (_, items) = one_collection(args);
     numbers::sum(items)
@@ -156,7 +156,7 @@ pub fn sum(args: &Args<'_>) -> Result<Value, PrimStop>
 pub fn member(args: &Args<'_>) -> Result<Value, PrimStop>
     requires fits { TwoOf IsAny IsCollection (values_in args.now) }
     requires canonical { All IsCanonical (values_in args.now) }
-    ensures { Answers (meaning.member (values_in args.now)) result }
+    ensures { AnswersMeaning (meaning.member (values_in args.now)) result }
 {
     let (v, kind, items) = value_and_collection(args);
     Ok(Value::Bool(collections::member(v, kind, items)))
@@ -166,7 +166,7 @@ pub fn member(args: &Args<'_>) -> Result<Value, PrimStop>
 pub fn least(alloc: Global, args: &Args<'_>) -> Result<Value, PrimStop>
     requires fits { OneOf IsCollection (values_in args.now) }
     requires canonical { All IsCanonical (values_in args.now) }
-    ensures { Answers (meaning.least (values_in args.now)) result }
+    ensures { AnswersMeaning (meaning.least (values_in args.now)) result }
 {
     let (kind, items) = one_collection(args);
     collections::least(alloc, kind, items)
@@ -176,7 +176,7 @@ pub fn least(alloc: Global, args: &Args<'_>) -> Result<Value, PrimStop>
 pub fn greatest(alloc: Global, args: &Args<'_>) -> Result<Value, PrimStop>
     requires fits { OneOf IsCollection (values_in args.now) }
     requires canonical { All IsCanonical (values_in args.now) }
-    ensures { Answers (meaning.greatest (values_in args.now)) result }
+    ensures { AnswersMeaning (meaning.greatest (values_in args.now)) result }
 {
     let (kind, items) = one_collection(args);
     collections::greatest(alloc, kind, items)
@@ -185,7 +185,7 @@ pub fn greatest(alloc: Global, args: &Args<'_>) -> Result<Value, PrimStop>
 /// The items of the items of a collection, in order, as a collection of its kind.
 pub fn flatten(alloc: Global, args: Args<'_>) -> Result<Value, PrimStop>
     requires { OneOf IsNested (values_in args) }
-    ensures { Answers (meaning.flatten (values_in args.entry)) result }
+    ensures { AnswersMeaning (meaning.flatten (values_in args.entry)) result }
 {
     match alone(args) {
         Arg::Lent(v) => {
@@ -203,7 +203,7 @@ pub fn flatten(alloc: Global, args: Args<'_>) -> Result<Value, PrimStop>
 pub fn setof(alloc: Global, args: Args<'_>) -> Result<Value, PrimStop>
     requires fits { OneOf IsCollection (values_in args) }
     requires canonical { All IsCanonical (values_in args) }
-    ensures { Answers (meaning.into Kind.Set (values_in args.entry)) result }
+    ensures { AnswersMeaning (meaning.into Kind.Set (values_in args.entry)) result }
 {
     let (kind, items) = taken(alloc, alone(args))?;
     convert(kind, items, Kind::Set)
@@ -213,7 +213,7 @@ pub fn setof(alloc: Global, args: Args<'_>) -> Result<Value, PrimStop>
 pub fn bagof(alloc: Global, args: Args<'_>) -> Result<Value, PrimStop>
     requires fits { OneOf IsCollection (values_in args) }
     requires canonical { All IsCanonical (values_in args) }
-    ensures { Answers (meaning.into Kind.Bag (values_in args.entry)) result }
+    ensures { AnswersMeaning (meaning.into Kind.Bag (values_in args.entry)) result }
 {
     let (kind, items) = taken(alloc, alone(args))?;
     convert(kind, items, Kind::Bag)
@@ -223,7 +223,7 @@ pub fn bagof(alloc: Global, args: Args<'_>) -> Result<Value, PrimStop>
 pub fn listof(alloc: Global, args: Args<'_>) -> Result<Value, PrimStop>
     requires fits { OneOf IsCollection (values_in args) }
     requires canonical { All IsCanonical (values_in args) }
-    ensures { Answers (meaning.into Kind.List (values_in args.entry)) result }
+    ensures { AnswersMeaning (meaning.into Kind.List (values_in args.entry)) result }
 {
     let (kind, items) = taken(alloc, alone(args))?;
     convert(kind, items, Kind::List)
@@ -232,7 +232,7 @@ pub fn listof(alloc: Global, args: Args<'_>) -> Result<Value, PrimStop>
 /// How many bytes a text has.
 pub fn text_length(args: &Args<'_>) -> Result<Value, PrimStop>
     requires { OneOf IsText (values_in args.now) }
-    ensures { Answers (meaning.text_length (values_in args.now)) result }
+    ensures { AnswersMeaning (meaning.text_length (values_in args.now)) result }
 {
     Ok(amount(one_text(args)))
 }
@@ -240,7 +240,7 @@ pub fn text_length(args: &Args<'_>) -> Result<Value, PrimStop>
 /// Whether the second text is a prefix of the first.
 pub fn begins_with(args: &Args<'_>) -> Result<Value, PrimStop>
     requires { TwoOf IsText IsText (values_in args.now) }
-    ensures { Answers (meaning.begins_with (values_in args.now)) result }
+    ensures { AnswersMeaning (meaning.begins_with (values_in args.now)) result }
 {
     let (s, t) = two_texts(args);
     Ok(Value::Bool(s.starts_with(t)))
@@ -249,7 +249,7 @@ pub fn begins_with(args: &Args<'_>) -> Result<Value, PrimStop>
 /// The set of the integer that a text writes, or of none.
 pub fn to_int(alloc: Global, args: &Args<'_>) -> Result<Value, PrimStop>
     requires { OneOf IsText (values_in args.now) }
-    ensures { Answers (meaning.to_int (values_in args.now)) result }
+    ensures { AnswersMeaning (meaning.to_int (values_in args.now)) result }
 {
     texts::to_int(alloc, one_text(args))
 }
@@ -257,7 +257,7 @@ pub fn to_int(alloc: Global, args: &Args<'_>) -> Result<Value, PrimStop>
 /// The canonical text of an integer.
 pub fn to_text(alloc: Global, args: &Args<'_>) -> Result<Value, PrimStop>
     requires { OneOf IsInt (values_in args.now) }
-    ensures { Answers (meaning.to_text (values_in args.now)) result }
+    ensures { AnswersMeaning (meaning.to_text (values_in args.now)) result }
 {
     texts::to_text(alloc, one_int(args))
 }

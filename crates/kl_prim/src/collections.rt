@@ -6,7 +6,7 @@ ghost use Rattle.std.specs.Ordering.{is_eq, is_ge, is_gt, is_le};
 ghost use Rattle.kl_value.specs.Canon.{canonical};
 ghost use Rattle.kl_value.specs.Order.{compare};
 ghost use Rattle.kl_value.specs.IsCanonical.{IsCanonical};
-ghost use Rattle.kl_prim.specs.Meaning.{Answers, all_some, alone, extreme, gives, listed, with_some};
+ghost use Rattle.kl_prim.specs.Meaning.{AnswersMeaning, all_some, alone, extreme, gives, listed, with_some};
 ghost use Rattle.kl_value.specs.Views.{IsCollection, items_at, collection};
 ghost use Rattle.kl_prim.specs.Arguments.{value_in};
 
@@ -100,7 +100,7 @@ fn greatest_of(kind: Kind, items: &[Value]) -> Option<&Value>
 
 // The collection of a copy of the item, if there is one.
 fn alone(alloc: Global, kind: Kind, item: Option<&Value>) -> Result<Value, PrimStop>
-    ensures { Answers (gives (collection kind (alone (option_copied item.entry)))) result }
+    ensures { AnswersMeaning (gives (collection kind (alone (option_copied item.entry)))) result }
 {
     let mut items = Vec::new(alloc);
     if let Some(item) = item {
@@ -112,7 +112,7 @@ fn alone(alloc: Global, kind: Kind, item: Option<&Value>) -> Result<Value, PrimS
 /// The collection of the least item alone, or of none.
 pub fn least(alloc: Global, kind: Kind, items: &[Value]) -> Result<Value, PrimStop>
     requires { IsCanonical (collection kind items.now) }
-    ensures { Answers (gives (collection kind (alone (extreme is_le items.now)))) result }
+    ensures { AnswersMeaning (gives (collection kind (alone (extreme is_le items.now)))) result }
 {
     alone(alloc, kind, least_of(kind, items))
 }
@@ -120,7 +120,7 @@ pub fn least(alloc: Global, kind: Kind, items: &[Value]) -> Result<Value, PrimSt
 /// The collection of the greatest item alone, or of none.
 pub fn greatest(alloc: Global, kind: Kind, items: &[Value]) -> Result<Value, PrimStop>
     requires { IsCanonical (collection kind items.now) }
-    ensures { Answers (gives (collection kind (alone (extreme is_ge items.now)))) result }
+    ensures { AnswersMeaning (gives (collection kind (alone (extreme is_ge items.now)))) result }
 {
     alone(alloc, kind, greatest_of(kind, items))
 }
@@ -128,7 +128,7 @@ pub fn greatest(alloc: Global, kind: Kind, items: &[Value]) -> Result<Value, Pri
 /// The items of the items of a collection that is lent, in order, as a collection of the same kind.
 pub fn flatten_lent(alloc: Global, kind: Kind, items: &[Value]) -> Result<Value, PrimStop>
     requires { All (λ v. IsSome (items_at kind v)) items.now }
-    ensures { Answers (with_some (all_some (items_at kind) items.now) (λ lists. gives (canonical kind (flat_map (λ vs. vs) lists)))) result }
+    ensures { AnswersMeaning (with_some (all_some (items_at kind) items.now) (λ lists. gives (canonical kind (flat_map (λ vs. vs) lists)))) result }
 {
     let mut all = Vec::new(alloc);
     for item in items {
@@ -140,7 +140,7 @@ pub fn flatten_lent(alloc: Global, kind: Kind, items: &[Value]) -> Result<Value,
 /// The same of one that is handed over, whose items are kept.
 pub fn flatten_owned(alloc: Global, kind: Kind, items: Vec<Value>) -> Result<Value, PrimStop>
     requires { All (λ v. IsSome (items_at kind v)) items.items }
-    ensures { Answers (with_some (all_some (items_at kind) items.items) (λ lists. gives (canonical kind (flat_map (λ vs. vs) lists)))) result }
+    ensures { AnswersMeaning (with_some (all_some (items_at kind) items.items) (λ lists. gives (canonical kind (flat_map (λ vs. vs) lists)))) result }
 {
     Ok(canon(kind, joined(alloc, kind, items)?)?)
 }
@@ -173,7 +173,7 @@ pub fn taken(alloc: Global, arg: Arg<'_>) -> Result<(Kind, Vec<Value>), NoMemory
 /// The collection of another kind with the items of one of a kind. Items that are in order already are not sorted.
 pub fn convert(kind: Kind, items: Vec<Value>, into: Kind) -> Result<Value, PrimStop>
     requires { IsCanonical (collection kind items.items) }
-    ensures { Answers (gives (canonical into items.items)) result }
+    ensures { AnswersMeaning (gives (canonical into items.items)) result }
 {
     let mut items = items;
     match into {

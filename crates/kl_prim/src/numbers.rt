@@ -2,7 +2,7 @@
 ghost use Rattle.std.specs.Prelude.{◌≡◌, ◌<◌, ◌^◌, ℤ, pos, ◌+ℤ◌, ◌-ℤ◌, ◌*ℤ◌, neg_ℤ, All, SomeIff, FitsSigned, length};
 ghost use Rattle.std.specs.Int.{w64};
 ghost use Rattle.kl_value.specs.Views.{IsInt};
-ghost use Rattle.kl_prim.specs.Meaning.{Answers, amount, exact, gives, with_some, all_some, total};
+ghost use Rattle.kl_prim.specs.Meaning.{AnswersMeaning, amount, exact, gives, with_some, all_some, total};
 ghost use Rattle.kl_value.specs.Views.{as_int};
 
 use crate::stop::PrimStop;
@@ -10,7 +10,7 @@ use kl_value::{Value, int_of};
 
 // What a checked operation answers: none is an overflow.
 fn checked(answer: Option<i64>) -> Result<Value, PrimStop>
-    ensures { (z : ℤ) → SomeIff answer (FitsSigned w64 z) z → Answers (exact z) result }
+    ensures { (z : ℤ) → SomeIff answer (FitsSigned w64 z) z → AnswersMeaning (exact z) result }
 {
     match answer {
         Some(z) => Ok(Value::Int(z)),
@@ -19,25 +19,25 @@ fn checked(answer: Option<i64>) -> Result<Value, PrimStop>
 }
 
 pub fn add(m: i64, n: i64) -> Result<Value, PrimStop>
-    ensures { Answers (exact (m +ℤ n)) result }
+    ensures { AnswersMeaning (exact (m +ℤ n)) result }
 {
     checked(m.checked_add(n))
 }
 
 pub fn subtract(m: i64, n: i64) -> Result<Value, PrimStop>
-    ensures { Answers (exact (m -ℤ n)) result }
+    ensures { AnswersMeaning (exact (m -ℤ n)) result }
 {
     checked(m.checked_sub(n))
 }
 
 pub fn multiply(m: i64, n: i64) -> Result<Value, PrimStop>
-    ensures { Answers (exact (m *ℤ n)) result }
+    ensures { AnswersMeaning (exact (m *ℤ n)) result }
 {
     checked(m.checked_mul(n))
 }
 
 pub fn negate(n: i64) -> Result<Value, PrimStop>
-    ensures { Answers (exact (neg_ℤ n)) result }
+    ensures { AnswersMeaning (exact (neg_ℤ n)) result }
 {
     checked(n.checked_neg())
 }
@@ -46,7 +46,7 @@ pub fn negate(n: i64) -> Result<Value, PrimStop>
 /// bits; only the whole one may leave 64.
 pub fn sum(items: &[Value]) -> Result<Value, PrimStop>
     requires { All IsInt items.now }
-    ensures { Answers (with_some (all_some as_int items.now) (λ ns. exact (total ns))) result }
+    ensures { AnswersMeaning (with_some (all_some as_int items.now) (λ ns. exact (total ns))) result }
 {
     let mut total: i128 = 0;
     for item in items {

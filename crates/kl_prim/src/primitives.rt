@@ -5,7 +5,7 @@ ghost use Rattle.kl_value.specs.IsCanonical.{IsCanonical};
 ghost use Rattle.kl_value.specs.declared.Value.{Value};
 ghost use Rattle.kl_prim.specs.Arguments.{values_in};
 ghost use Rattle.kl_prim.specs.Fits.{FitsShape};
-ghost use Rattle.kl_prim.specs.Meaning.{Answers, gives, overflows, senseless};
+ghost use Rattle.kl_prim.specs.Meaning.{AnswersMeaning, gives, overflows, senseless};
 ghost use Rattle.kl_prim.specs.Table.{Fits, IsTotal, Takes, entry_of, meaning, row_at, rows};
 
 use crate::answers::{
@@ -111,7 +111,7 @@ pub fn table_laws()
 fn answer(alloc: Global, code: u8, args: Args<'_>) -> Result<Value, PrimStop>
     requires fits { Fits code (values_in args) }
     requires canonical { All IsCanonical (values_in args) }
-    ensures { Answers (meaning code (values_in args.entry)) result }
+    ensures { AnswersMeaning (meaning code (values_in args.entry)) result }
 {
     primitives!(answer_of code alloc args)
 }

@@ -1,7 +1,7 @@
 //! What is made of texts.
 ghost use Rattle.std.specs.Prelude.{◌≡◌, ◌++◌, List, ℕ, ℤ, IfOk};
 ghost use Rattle.std.specs.Fmt.{signed_decimal};
-ghost use Rattle.kl_prim.specs.Meaning.{Answers, gives, number_in, set_of_found};
+ghost use Rattle.kl_prim.specs.Meaning.{AnswersMeaning, gives, number_in, set_of_found};
 
 use crate::stop::PrimStop;
 use kl_value::{Seq, Text, Value};
@@ -10,7 +10,7 @@ use std::str;
 
 /// The bytes of one text, then those of another.
 pub fn join(alloc: Global, s: &[u8], t: &[u8]) -> Result<Value, PrimStop>
-    ensures { Answers (gives (Value.Text (s.now ++ t.now))) result }
+    ensures { AnswersMeaning (gives (Value.Text (s.now ++ t.now))) result }
 {
     let mut bytes = Vec::from_slice(alloc, s)?;
     bytes.extend_from_slice(t)?;
@@ -33,7 +33,7 @@ pub fn number_in(text: &[u8]) -> Option<i64>
 
 /// The set of the number that the text writes, or the empty set.
 pub fn to_int(alloc: Global, text: &[u8]) -> Result<Value, PrimStop>
-    ensures { Answers (gives (set_of_found (number_in text.now))) result }
+    ensures { AnswersMeaning (gives (set_of_found (number_in text.now))) result }
 {
     let mut found = Vec::new(alloc);
     if let Some(n) = number_in(text) {
@@ -44,7 +44,7 @@ pub fn to_int(alloc: Global, text: &[u8]) -> Result<Value, PrimStop>
 
 /// The canonical text of an integer.
 pub fn to_text(alloc: Global, n: i64) -> Result<Value, PrimStop>
-    ensures { Answers (gives (Value.Text (signed_decimal n))) result }
+    ensures { AnswersMeaning (gives (Value.Text (signed_decimal n))) result }
 {
     Ok(Value::Text(Text::of(n.to_string(alloc)?.into_bytes())))
 }

@@ -6,9 +6,9 @@ use Rattle.kl_rows.specs.declared.cell.Cell.TheVariants.{OfType, OfFunction, OfR
 use Rattle.kl_rows.specs.Lists.{Fields}
 use Rattle.kl_rows.specs.Places.{Sort, a_row, sort_of, sort_at, IsPlaced, chained_one, Ended, Lacks, at_open, at_none, at_front, LacksAs, IsTidy, IsFine}
 use Rattle.kl_rows.specs.Solutions.{Says}
-use Rattle.kl_rows.specs.Steps.{Keeps, Advances, Asks}
+use Rattle.kl_rows.specs.Steps.{KeepsCells, Advances, Equates}
 use Rattle.kl_rows.specs.Joining.{ArePairs, MeetsRows}
-use Rattle.kl_rows.specs.Making.{IsNewTidy, CanMake, Adds, HasSort, Same, Unifies}
+use Rattle.kl_rows.specs.Making.{IsNewTidy, CanMake, AddsCell, HasSort, Same, Unifies}
 use Rattle.kl_rows.specs.Finite.{Solvable}
 use Rattle.kl_rows.proofs.CellLists.{get_last, get_first, get_end, total_push, stands, sort_here, sort_within}
 use Rattle.std.proofs.lemmas.Option.{slice_get-get_or}
@@ -21,7 +21,7 @@ module _ (ns : List Cell) (d : Cell) (fine : IsFine ns) (can : CanMake ns d) whe
   rows_kept : KeepsRows ns grown
   rows_kept j n h = get_first ns d j (OfRow n) h
 
-  grown_keeps : Keeps ns grown
+  grown_keeps : KeepsCells ns grown
   grown_keeps = record {
     grows = omega (arith, length-append ns (d ∷ []));
     sorts = λ i q e. (let st = stands ns i q e in sort_here grown i st.cell (get_first ns d i st.cell st.here) ∙ ap Some st.sort);
@@ -73,8 +73,8 @@ module _ (ns : List Cell) (d : Cell) (fine : IsFine ns) (can : CanMake ns d) whe
   lacks_new (OfFunction x y) e l h = absurd h
   lacks_new (OfKind n) e l h = absurd h
 
-  pub adds : (new : List Cell) (i : ℕ) → new ≡ ns ++ d ∷ [] → i ≡ length ns → Adds ns new d i
-  adds new i e p = subst (λ xs. Adds ns xs d i) (sym e) (subst (Adds ns grown d) (sym p) (record {
+  pub adds : (new : List Cell) (i : ℕ) → new ≡ ns ++ d ∷ [] → i ≡ length ns → AddsCell ns new d i
+  adds new i e p = subst (λ xs. AddsCell ns xs d i) (sym e) (subst (AddsCell ns grown d) (sym p) (record {
     place = refl;
     fine = grown_fine;
     keeps = grown_keeps;
@@ -102,12 +102,12 @@ module _ (old now : List Cell) (a b : ℕ) (before after : List (ℕ × ℕ)) (e
   pub rows_fail : MeetsRows false old now a b before after → Advances false old now (λ s. s.rows a ≡ s.rows b) (λ s. Unit {0})
   rows_fail m = (let x = m.step in record { fine = x.fine; keeps = x.keeps; fewer = x.fewer; down = λ s h d. absurd_true _ (x.down s h d).0; up = λ t. absurd_true _ t })
 
-  pub rows_merge : (ans : Bool) (new : List Cell) → MeetsRows true old now a b before after → Advances ans now new (Asks after) (λ s. Unit {0}) → Advances ans old new (λ s. s.rows a ≡ s.rows b) (λ s. Unit {0})
+  pub rows_merge : (ans : Bool) (new : List Cell) → MeetsRows true old now a b before after → Advances ans now new (Equates after) (λ s. Unit {0}) → Advances ans old new (λ s. s.rows a ≡ s.rows b) (λ s. Unit {0})
   rows_merge ans new m h =
       let x = m.step in
       let p = x.fewer in
       let q = h.fewer in
-      let h' : Advances ans now new (Asks m.more) (λ s. Unit {0}) = subst (λ ps. Advances ans now new (Asks ps) (λ s. Unit {0})) (m.added ∙ append_first before m.more empty) h in
+      let h' : Advances ans now new (Equates m.more) (λ s. Unit {0}) = subst (λ ps. Advances ans now new (Equates ps) (λ s. Unit {0})) (m.added ∙ append_first before m.more empty) h in
       advances ans old new _ _ ((then) ans old now new _ _ _ (goes true old now _ _ x) (goes ans now new _ _ h')) (omega arith)
 
 pub sort_told : (ns : List Cell) (a b : ℕ) (x c : Cell) → HasSort ns a b → x ≡ get_or ns a x → x ≡ c → sort_at ns a ≡ Some (sort_of c)

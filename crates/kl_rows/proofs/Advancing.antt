@@ -12,7 +12,7 @@ use Rattle.kl_rows.specs.declared.cell.Cell.TheVariants.{OfType, OfFunction, OfR
 use Rattle.kl_rows.specs.Lists.{Fields}
 use Rattle.kl_rows.specs.Places.{Sort, a_type, a_row, a_kind, sort_of, sort_at, AreTypes, IsPlaced, EndsAt, Walk, chained_one, chained, Lacks, at_open, at_none, at_front, IsTidy, IsFine, open_one, roots}
 use Rattle.kl_rows.specs.Solutions.{Assignment, Says, Solves}
-use Rattle.kl_rows.specs.Steps.{Agrees, Grown, Keeps, Advances}
+use Rattle.kl_rows.specs.Steps.{Agrees, Grown, KeepsCells, Advances}
 use Rattle.kl_rows.proofs.CellLists.{get_set_other, total_set, sort_here}
 use Rattle.kl_base.proofs.Places.{get-set_same}
 use Rattle.kl_base.proofs.Each.{all_map}
@@ -31,10 +31,10 @@ agrees_on m n s u v le a b = record {
   kinds = λ i h. b.kinds i (omega arith) ∙ a.kinds i h;
 }
 
-pub keeps_refl : (ns : List Cell) → Keeps ns ns
+pub keeps_refl : (ns : List Cell) → KeepsCells ns ns
 keeps_refl ns = record { grows = omega arith; sorts = λ i q e. e; lacks = λ l i h. h }
 
-pub keeps_on : (a b c : List Cell) → Keeps a b → Keeps b c → Keeps a c
+pub keeps_on : (a b c : List Cell) → KeepsCells a b → KeepsCells b c → KeepsCells a c
 keeps_on a b c h k = record { grows = let x = h.grows in let y = k.grows in omega arith; sorts = λ i q e. k.sorts i q (h.sorts i q e); lacks = λ l i x. k.lacks l i (h.lacks l i x) }
 
 pub absurd_true : (A : Type 0) → IsTrue false → A
@@ -43,7 +43,7 @@ absurd_true A h = let d : ⊥ = cc in absurd d
 -- what a step does to the solutions, whatever becomes of the roots
 pub record Goes (yes : Bool) (old new : List Cell) (D R : Fact) : Type 0 where
   pub fine : IsFine new
-  pub keeps : Keeps old new
+  pub keeps : KeepsCells old new
   pub down : (s : Assignment) → Solves old s → D s → IsTrue yes × Grown old new s R
   pub up : IsTrue yes → (s : Assignment) → Solves new s → R s → Solves old s × D s
 
@@ -111,11 +111,11 @@ through ans a b D D' R go come h = record {
   up = λ t s p r. let one = h.up t s p r in (one.0, come s one.0 one.1);
 }
 
-pub types_keep : (old new : List Cell) (fs : Fields) → Keeps old new → AreTypes old fs → AreTypes new fs
+pub types_keep : (old new : List Cell) (fs : Fields) → KeepsCells old new → AreTypes old fs → AreTypes new fs
 types_keep old new [] k h = tt
 types_keep old new (f ∷ fs) k h = (k.sorts f.1 a_type h.0, types_keep old new fs k h.1)
 
-pub placed_keeps : (old new : List Cell) (i : ℕ) (c : Cell) → Keeps old new → IsPlaced old i c → IsPlaced new i c
+pub placed_keeps : (old new : List Cell) (i : ℕ) (c : Cell) → KeepsCells old new → IsPlaced old i c → IsPlaced new i c
 placed_keeps old new i (OfType AnyType) k h = tt
 placed_keeps old new i (OfType (Base b)) k h = tt
 placed_keeps old new i (OfType (Rec r)) k h = k.sorts r a_row h
@@ -196,7 +196,7 @@ module _ (ns : List Cell) (p : ℕ) (c d : Cell) (here : slice_get ns p ≡ Some
   pub set_stays : ((n : RowNode) → c ≡ OfRow n → ⊥) → Stays
   set_stays off l i h = lacks_kept ns (set ns p d) l (λ j n q. set_there j (λ same. off n (same_Some c (OfRow n) (sym here ∙ ap (slice_get ns) same ∙ q))) ∙ q) h
 
-  pub set_keeps : Stays → Keeps ns (set ns p d)
+  pub set_keeps : Stays → KeepsCells ns (set ns p d)
   set_keeps stays_so = record {
     lacks = stays_so;
     grows = omega (arith, length-set ns p d);

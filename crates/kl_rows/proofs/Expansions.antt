@@ -19,8 +19,8 @@ use Rattle.kl_rows.specs.declared.cell.Cell.TheVariants.{OfType, OfRow, OfKind}
 use Rattle.kl_rows.specs.Lists.{Fields}
 use Rattle.kl_rows.specs.Places.{IsType, AreTypes, Lacks, at_none, Differ, IsFine}
 use Rattle.kl_rows.specs.Solutions.{Assignment, Splits, scalar_type, TypeSays, Solves}
-use Rattle.kl_rows.specs.Steps.{Grown, Keeps}
-use Rattle.kl_rows.specs.Making.{CanMake, Adds}
+use Rattle.kl_rows.specs.Steps.{Grown, KeepsCells}
+use Rattle.kl_rows.specs.Making.{CanMake, AddsCell}
 use Rattle.kl_rows.specs.Expanding.{Pushes, GivesType, GivesFields, Expands, ExpandsRow}
 use Rattle.kl_rows.proofs.Adding.{adds}
 use Rattle.kl_rows.proofs.Advancing.{agrees_refl, keeps_refl, keeps_on, types_keep}
@@ -28,11 +28,11 @@ use Rattle.kl_rows.proofs.CellLists.{get_end}
 use Rattle.kl_rows.proofs.Growing.{grown_then, grown_map, grown_type, grown_row, grown_kind}
 use Rattle.kl_rows.proofs.ListLemmas.{Label, field_here, field_there, Looked, found, missing, look, all_at}
 
-pub pushed : (ns new : List Cell) (c : Cell) (i : ℕ) → IsFine ns → CanMake ns c → Pushes ns new c i → Adds ns new c i
+pub pushed : (ns new : List Cell) (c : Cell) (i : ℕ) → IsFine ns → CanMake ns c → Pushes ns new c i → AddsCell ns new c i
 pushed ns new c i fine can p = adds ns c fine can new i p.added p.place
 
 -- the last cell of a type
-module _ (old mid new : List Cell) (n : TypeNode) (i : ℕ) (t : Ground) (fine : IsFine mid) (keeps : Keeps old mid) (can : CanMake mid (OfType n)) (p : Pushes mid new (OfType n) i) (good : IsGround t)
+module _ (old mid new : List Cell) (n : TypeNode) (i : ℕ) (t : Ground) (fine : IsFine mid) (keeps : KeepsCells old mid) (can : CanMake mid (OfType n)) (p : Pushes mid new (OfType n) i) (good : IsGround t)
     (only : (s : Assignment) (u : Ground) → TypeSays n s t → TypeSays n s u → u ≡ t)
     (up : (s : Assignment) → Solves mid s → Solves old s × TypeSays n s t) (down : (s : Assignment) → Solves old s → Grown old mid s (λ u. Unit {0})) where
   type_last : GivesType old new i t

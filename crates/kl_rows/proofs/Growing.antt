@@ -16,7 +16,7 @@ use Rattle.kl_rows.specs.Lists.{Fields}
 use Rattle.kl_rows.specs.Places.{Parts, a_type, a_row, a_kind, AreTypes, IsPlaced, IsFine}
 use Rattle.kl_rows.specs.Solutions.{Assignment, TypeSays, FunctionSays, RowSays, KindSays, Solves}
 use Rattle.kl_rows.specs.Steps.{Agrees, Grown}
-use Rattle.kl_rows.specs.Making.{CanMake, Adds}
+use Rattle.kl_rows.specs.Making.{CanMake, AddsCell}
 use Rattle.kl_rows.proofs.CellLists.{sort_within}
 use Rattle.kl_rows.proofs.Advancing.{Fact, agrees_on}
 use Rattle.kl_rows.proofs.Assigning.{parts_on, Off, type_off, function_off, row_off, kind_off, says_off, with_type, with_function, with_row, with_kind, type_put, function_put, row_put, kind_put}
@@ -74,7 +74,7 @@ module _ (old new : List Cell) (i : ℕ) (fine : IsFine old) where
   private_within c can e = parts_on c _ _ (λ p l. omega arith) (parts_within old (length old) c can.placed)
 
   -- a new type may be any that the node says
-  pub grown_type : (n : TypeNode) → CanMake old (OfType n) → Adds old new (OfType n) i → (s : Assignment) → Solves old s → (t : Ground) → IsGround t → TypeSays n s t → Grown old new s (λ u. u.types i ≡ t)
+  pub grown_type : (n : TypeNode) → CanMake old (OfType n) → AddsCell old new (OfType n) i → (s : Assignment) → Solves old s → (t : Ground) → IsGround t → TypeSays n s t → Grown old new s (λ u. u.types i ≡ t)
   grown_type n can a s h t g says =
       let p = type_put s i t g in
       let u : Assignment = with_type s i t g in
@@ -87,7 +87,7 @@ module _ (old new : List Cell) (i : ℕ) (fine : IsFine old) where
       }
 
   -- a new function goes from and to its types
-  pub grown_function : (a b : ℕ) → CanMake old (OfFunction a b) → Adds old new (OfFunction a b) i → (s : Assignment) → Solves old s → (t : Ground) → FunctionSays a b s t → Grown old new s (λ u. u.functions i ≡ t)
+  pub grown_function : (a b : ℕ) → CanMake old (OfFunction a b) → AddsCell old new (OfFunction a b) i → (s : Assignment) → Solves old s → (t : Ground) → FunctionSays a b s t → Grown old new s (λ u. u.functions i ≡ t)
   grown_function a b can k s h t says =
       let p = function_put s i t in
       let u : Assignment = with_function s i t in
@@ -99,7 +99,7 @@ module _ (old new : List Cell) (i : ℕ) (fine : IsFine old) where
         holds = p.1;
       }
 
-  pub grown_row : (n : RowNode) → CanMake old (OfRow n) → Adds old new (OfRow n) i → (s : Assignment) → Solves old s → (r : Row) → IsRow r → RowSays n s r → Grown old new s (λ u. u.rows i ≡ r)
+  pub grown_row : (n : RowNode) → CanMake old (OfRow n) → AddsCell old new (OfRow n) i → (s : Assignment) → Solves old s → (r : Row) → IsRow r → RowSays n s r → Grown old new s (λ u. u.rows i ≡ r)
   grown_row n can a s h r g says =
       let p = row_put s i r g in
       let u : Assignment = with_row s i r g in
@@ -111,7 +111,7 @@ module _ (old new : List Cell) (i : ℕ) (fine : IsFine old) where
         holds = p.1;
       }
 
-  pub grown_kind : (n : KindNode) → CanMake old (OfKind n) → Adds old new (OfKind n) i → (s : Assignment) → Solves old s → (k : Kind) → KindSays n s k → Grown old new s (λ u. u.kinds i ≡ k)
+  pub grown_kind : (n : KindNode) → CanMake old (OfKind n) → AddsCell old new (OfKind n) i → (s : Assignment) → Solves old s → (k : Kind) → KindSays n s k → Grown old new s (λ u. u.kinds i ≡ k)
   grown_kind n can a s h k says =
       let p = kind_put s i k in
       let u : Assignment = with_kind s i k in

@@ -13,8 +13,8 @@ use Rattle.kl_rows.specs.declared.cell.Cell.TheVariants.{OfType, OfFunction, OfR
 use Rattle.kl_rows.specs.Lists.{Fields}
 use Rattle.kl_rows.specs.Places.{a_type, sort_of, IsType, IsRowAt, AreTypes, Parts, Lacks, Differ, IsFine}
 use Rattle.kl_rows.specs.Solutions.{Assignment, Splits, Solves}
-use Rattle.kl_rows.specs.Steps.{Grown, Keeps}
-use Rattle.kl_rows.specs.Making.{CanMake, Adds}
+use Rattle.kl_rows.specs.Steps.{Grown, KeepsCells}
+use Rattle.kl_rows.specs.Making.{CanMake, AddsCell}
 use Rattle.kl_rows.specs.Expanding.{Pushes}
 use Rattle.kl_rows.specs.Copying.{IsPlain, IsSettled, Fits, SameAt, Takes}
 use Rattle.kl_rows.proofs.Advancing.{KeepsRows, agrees_refl, keeps_refl, keeps_on}
@@ -40,7 +40,7 @@ takes_plain old new c p fine can plain q = record {
   down = λ s u i h f. grow c refl s u i h f;
 }
   where
-    a : Adds old new c p
+    a : AddsCell old new c p
     a = pushed old new c p fine can q
 
     rows_kept : KeepsRows old new
@@ -50,10 +50,10 @@ takes_plain old new c p fine can plain q = record {
     last i x e = get_last old c i x (ap (λ cs. slice_get cs i) (sym q.added) ∙ e)
 
     grow : (d : Cell) → d ≡ c → (s u : Assignment) (i : ℕ) → Solves old s → Fits d s u i → Grown old new s (λ w. SameAt (sort_of d) w p u i)
-    grow (OfType n) e s u i h f = grown_type old new p fine n (subst (CanMake old) (sym e) can) (subst (λ x. Adds old new x p) (sym e) a) s h (u.types i) (u.types_ground i) f
-    grow (OfFunction x y) e s u i h f = grown_function old new p fine x y (subst (CanMake old) (sym e) can) (subst (λ z. Adds old new z p) (sym e) a) s h (u.functions i) f
-    grow (OfRow n) e s u i h f = grown_row old new p fine n (subst (CanMake old) (sym e) can) (subst (λ x. Adds old new x p) (sym e) a) s h (u.rows i) (u.rows_ground i) f
-    grow (OfKind n) e s u i h f = grown_kind old new p fine n (subst (CanMake old) (sym e) can) (subst (λ x. Adds old new x p) (sym e) a) s h (u.kinds i) f
+    grow (OfType n) e s u i h f = grown_type old new p fine n (subst (CanMake old) (sym e) can) (subst (λ x. AddsCell old new x p) (sym e) a) s h (u.types i) (u.types_ground i) f
+    grow (OfFunction x y) e s u i h f = grown_function old new p fine x y (subst (CanMake old) (sym e) can) (subst (λ z. AddsCell old new z p) (sym e) a) s h (u.functions i) f
+    grow (OfRow n) e s u i h f = grown_row old new p fine n (subst (CanMake old) (sym e) can) (subst (λ x. AddsCell old new x p) (sym e) a) s h (u.rows i) (u.rows_ground i) f
+    grow (OfKind n) e s u i h f = grown_kind old new p fine n (subst (CanMake old) (sym e) can) (subst (λ x. AddsCell old new x p) (sym e) a) s h (u.kinds i) f
 
 -- a label that differs from this one
 apart_field : (l m : Label) (t : ℕ) (fs : Fields) → field m ((l, t) ∷ fs) ≡ None → m ≢ l
@@ -138,7 +138,7 @@ pub record Split (old now : List Cell) (r : ℕ) (fields left : Fields) (rest : 
   pub done : Fields
   pub all : left ++ done ≡ fields
   pub fine : IsFine now
-  pub keeps : Keeps old now
+  pub keeps : KeepsCells old now
   pub rows : KeepsRows old now
   pub sort : IsRowAt now rest
   pub lack : AllByRecursion (λ f. Lacks now f.0 rest) left

@@ -17,7 +17,7 @@ use Rattle.kl_rows.specs.declared.cell.Cell.TheVariants.{OfType, OfFunction, OfR
 use Rattle.kl_rows.specs.Lists.{Fields}
 use Rattle.kl_rows.specs.Places.{a_type, a_row, a_kind, sort_of, IsRowAt, AreTypes, IsPlaced, IsEnd, EndsAt, Steps, Walk, chained_one, Ended, IsIn, Lacks, at_open, at_none, at_front, IsTidy, IsFine, open_one, roots}
 use Rattle.kl_rows.specs.Solutions.{Assignment, Splits, RowSays, Says, Solves}
-use Rattle.kl_rows.specs.Steps.{Agrees, Keeps, Advances, Shares}
+use Rattle.kl_rows.specs.Steps.{Agrees, KeepsCells, Advances, Shares}
 use Rattle.kl_rows.specs.Joining.{or_no_row, cell_at, is_empty, may_take, is_open, lacks_at, AreApart}
 use Rattle.kl_rows.proofs.CellLists.{get_last, get_first, get_end, total_set, total_push, stands, sort_here, sort_within, row_same}
 use Rattle.kl_rows.proofs.ListLemmas.{Label, no_no, Looked, found, missing, look, field_here}
@@ -86,7 +86,7 @@ module _ (ns : List Cell) (e r : ℕ) (n : RowNode) (fs : Fields) (fine : IsFine
   lacks_closed l {i} (at_none q) = ⊎_elim (λ same. subst (Lacks closed l) same (at_closed l (subst (Lacks ns l) (sym same) (at_none q)))) (λ off. at_none (closed_there i off ∙ q)) (cases_eq e i)
   lacks_closed l {i} (at_front gs q p d k) = at_front gs q (closed_there i (no_front i gs q (record { here = p })) ∙ p) d (lacks_closed l k)
 
-  pub closed_keeps : Keeps ns closed
+  pub closed_keeps : KeepsCells ns closed
   closed_keeps = set_keeps ns e (OfRow n) (OfRow (Front fs r)) here refl (λ l i h. lacks_closed l h)
 
   tidy_closed : (gs : Fields) (q : ℕ) → IsTidy ns gs q → IsTidy closed gs q
@@ -176,7 +176,7 @@ module _ (ns : List Cell) (ls : List Label) (fine : IsFine ns) where
   pub pushed_longer : length pushed ≡ length ns + 1
   pushed_longer = length-append ns (OfRow (AnyRow ls) ∷ [])
 
-  pub pushed_keeps : Keeps ns pushed
+  pub pushed_keeps : KeepsCells ns pushed
   pushed_keeps = record {
     grows = omega (arith, pushed_longer);
     sorts = λ i q e. (let st = stands ns i q e in sort_here pushed i st.cell (get_first ns (OfRow (AnyRow ls)) i st.cell st.here) ∙ ap Some st.sort);

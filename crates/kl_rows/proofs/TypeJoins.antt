@@ -18,10 +18,10 @@ use Rattle.kl_rows.specs.declared.meet.Task.{Task}
 use Rattle.kl_rows.specs.declared.meet.Task.TheVariants.{Nothing, Rows, Colls, Clash}
 use Rattle.kl_rows.specs.Places.{IsPlaced, IsFine, open_one, roots}
 use Rattle.kl_rows.specs.Solutions.{Assignment, scalar_type, TypeSays, KindSays}
-use Rattle.kl_rows.specs.Steps.{Advances, Keeps}
+use Rattle.kl_rows.specs.Steps.{Advances, KeepsCells}
 use Rattle.kl_rows.specs.Walking.{IsTypeRoot, IsKindRoot, HasType, HasKind, TypeRoot, KindRoot}
 use Rattle.kl_type.specs.Parts.{same_kind}
-use Rattle.kl_rows.specs.Joining.{kept, kept_kind, same_scalar, either, compared, same_kinds, TaskAsks, IsWithin, Joins}
+use Rattle.kl_rows.specs.Joining.{kept, kept_kind, same_scalar, either, compared, same_kinds, TaskAsks, IsTaskIn, Joins}
 use Rattle.kl_rows.proofs.CellLists.{sort_here}
 use Rattle.kl_rows.proofs.Advancing.{Goes, advances, then, sets, set_there, set_stays, set_keeps, set_fine, set_roots, keeps_on, placed_keeps, absurd_true}
 
@@ -107,7 +107,7 @@ scalars_enough scalar.Int scalar.Str s h = absurd h
 scalars_enough scalar.Str scalar.Bool s h = absurd h
 scalars_enough scalar.Str scalar.Int s h = absurd h
 
-either_within : (ns : List Cell) (b : Bool) → IsWithin ns (either b)
+either_within : (ns : List Cell) (b : Bool) → IsTaskIn ns (either b)
 either_within ns true = tt
 either_within ns false = tt
 
@@ -146,7 +146,7 @@ asks_enough (TypeLink x) n s t r q a h = absurd r
 asks_enough m (TypeLink x) s t r q a h = absurd q
 asks_enough _ _ s t r q a h = absurd a
 
-tasks_within : (ns : List Cell) (i j : ℕ) (m n : TypeNode) → IsTypeRoot m → IsTypeRoot n → IsPlaced ns i (OfType m) → IsPlaced ns j (OfType n) → IsWithin ns (compared m n)
+tasks_within : (ns : List Cell) (i j : ℕ) (m n : TypeNode) → IsTypeRoot m → IsTypeRoot n → IsPlaced ns i (OfType m) → IsPlaced ns j (OfType n) → IsTaskIn ns (compared m n)
 tasks_within ns i j AnyType n r q h k = tt
 tasks_within ns i j (Base x) AnyType r q h k = tt
 tasks_within ns i j (Rec x) AnyType r q h k = tt
@@ -160,7 +160,7 @@ tasks_within ns i j (TypeLink x) n r q h k = absurd r
 tasks_within ns i j m (TypeLink x) r q h k = absurd q
 tasks_within ns i j _ _ r q h k = tt
 
-within_keeps : (old new : List Cell) (t : Task) → Keeps old new → IsWithin old t → IsWithin new t
+within_keeps : (old new : List Cell) (t : Task) → KeepsCells old new → IsTaskIn old t → IsTaskIn new t
 within_keeps old new Nothing k h = tt
 within_keeps old new (Rows a b) k h = (k.sorts a _ h.0, k.sorts b _ h.1)
 within_keeps old new (Colls a b c d) k h = (k.sorts a _ h.0, k.sorts b _ h.1, k.sorts c _ h.2, k.sorts d _ h.3)
@@ -182,10 +182,10 @@ module _ (ns : List Cell) (low high : ℕ) (m n : TypeNode) (fine : IsFine ns) (
   low_linked : slice_get (set ns high (OfType (TypeLink low))) low ≡ Some (OfType m)
   low_linked = set_there ns high (OfType n) (OfType (TypeLink low)) at_high refl low (λ e. omega arith) ∙ at_low
 
-  linked_keeps : Keeps ns (set ns high (OfType (TypeLink low)))
+  linked_keeps : KeepsCells ns (set ns high (OfType (TypeLink low)))
   linked_keeps = set_keeps ns high (OfType n) (OfType (TypeLink low)) at_high refl (set_stays ns high (OfType n) (OfType (TypeLink low)) at_high refl (no_row_here n))
 
-  joined_keeps : Keeps (set ns high (OfType (TypeLink low))) joined_cells
+  joined_keeps : KeepsCells (set ns high (OfType (TypeLink low))) joined_cells
   joined_keeps = set_keeps (set ns high (OfType (TypeLink low))) low (OfType m) (OfType (kept m n)) low_linked refl (set_stays (set ns high (OfType (TypeLink low))) low (OfType m) (OfType (kept m n)) low_linked refl (no_row_here m))
 
   joined_fine : IsFine joined_cells

@@ -12,7 +12,7 @@ use Rattle.kl_rows.specs.declared.cell.Cell.TheVariants.{OfType, OfFunction, OfR
 use Rattle.kl_rows.specs.Lists.{Fields}
 use Rattle.kl_rows.specs.Places.{Sort, a_type, a_function, a_row, a_kind, sort_of, sort_at, IsType, IsFunction, IsRowAt, IsKind, Parts, IsPlaced, Lacks, LacksAs, IsTidy, IsFine}
 use Rattle.kl_rows.specs.Solutions.{Assignment, TypeSays, FunctionSays, RowSays, KindSays, Says, Solves}
-use Rattle.kl_rows.specs.Steps.{Grown, Keeps}
+use Rattle.kl_rows.specs.Steps.{Grown, KeepsCells}
 
 -- a cell that is no link, and no block but of one field
 abbrev pub IsPlain : Cell → Type 0
@@ -47,7 +47,7 @@ SameAt a_kind w p u i = w.kinds p ≡ u.kinds i
 -- cells are added of which one has the meaning of this cell
 pub record Takes (old new : List Cell) (c : Cell) (p : ℕ) : Type 0 where
   pub fine : IsFine new
-  pub keeps : Keeps old new
+  pub keeps : KeepsCells old new
   pub rows : (i : ℕ) (n : RowNode) → slice_get old i ≡ Some (OfRow n) → slice_get new i ≡ Some (OfRow n)
   pub sort : sort_at new p ≡ Some (sort_of c)
   pub lacks : (l : List ℕ) → LacksAs c old l → Lacks new l p
@@ -136,7 +136,7 @@ SolvesOn D cells u = (j : ℕ) (c : Cell) → D j → slice_get cells j ≡ Some
 -- one grows by each assignment that does
 pub record Copied (D : ℕ → Type 0) (source old new : List Cell) (numbers : List ℕ) : Type 0 where
   pub fine : IsFine new
-  pub keeps : Keeps old new
+  pub keeps : KeepsCells old new
   pub size : length numbers ≡ length source
   pub sorts : (j : ℕ) (c : Cell) → D j → slice_get source j ≡ Some c → sort_at new (number_in numbers j) ≡ Some (sort_of c)
   pub closed : (j : ℕ) (c : Cell) → D j → slice_get source j ≡ Some c → Parts c D

@@ -6,7 +6,7 @@ use Rattle.kl_rows.specs.declared.cell.Cell.{Cell}
 use Rattle.kl_rows.specs.Lists.{Fields}
 use Rattle.kl_rows.specs.Places.{IsType, IsRowAt, AreTypes, IsFine}
 use Rattle.kl_rows.specs.Solutions.{Assignment, Solves}
-use Rattle.kl_rows.specs.Steps.{Grown, Keeps}
+use Rattle.kl_rows.specs.Steps.{Grown, KeepsCells}
 
 -- one cell more, and its number
 pub record Pushes (old new : List Cell) (c : Cell) (at : ℕ) : Type 0 where
@@ -16,7 +16,7 @@ pub record Pushes (old new : List Cell) (c : Cell) (at : ℕ) : Type 0 where
 -- each new solution is an old one and gives the number this type, and each old one grows to a new one
 pub record GivesType (old new : List Cell) (i : ℕ) (t : Ground) : Type 0 where
   pub fine : IsFine new
-  pub keeps : Keeps old new
+  pub keeps : KeepsCells old new
   pub sort : IsType new i
   pub up : (s : Assignment) → Solves new s → Solves old s × (s.types i ≡ t)
   pub down : (s : Assignment) → Solves old s → Grown old new s (λ u. u.types i ≡ t)
@@ -24,7 +24,7 @@ pub record GivesType (old new : List Cell) (i : ℕ) (t : Ground) : Type 0 where
 -- the same for a row
 pub record GivesRow (old new : List Cell) (i : ℕ) (r : Row) : Type 0 where
   pub fine : IsFine new
-  pub keeps : Keeps old new
+  pub keeps : KeepsCells old new
   pub sort : IsRowAt new i
   pub up : (s : Assignment) → Solves new s → Solves old s × (s.rows i ≡ r)
   pub down : (s : Assignment) → Solves old s → Grown old new s (λ u. u.rows i ≡ r)
@@ -32,7 +32,7 @@ pub record GivesRow (old new : List Cell) (i : ℕ) (r : Row) : Type 0 where
 -- the same for the types of fields
 pub record GivesFields (old new : List Cell) (numbers : Fields) (r : Row) : Type 0 where
   pub fine : IsFine new
-  pub keeps : Keeps old new
+  pub keeps : KeepsCells old new
   pub sorts : AreTypes new numbers
   pub up : (s : Assignment) → Solves new s → Solves old s × (row_by s.types numbers ≡ r)
   pub down : (s : Assignment) → Solves old s → Grown old new s (λ u. Unit {0})

@@ -11,7 +11,7 @@ use Rattle.kl_rows.specs.declared.schemes.Node.{Node}
 use Rattle.kl_rows.specs.declared.schemes.Node.TheVariants as node
 use Rattle.kl_rows.specs.Places.{Sort, a_type, a_function, a_row, a_kind, sort_of, sort_at, IsPlaced, Lacks, LacksAs, IsTidy, IsFine}
 use Rattle.kl_rows.specs.Solutions.{Assignment, Says, Solves}
-use Rattle.kl_rows.specs.Steps.{Grown, Keeps}
+use Rattle.kl_rows.specs.Steps.{Grown, KeepsCells}
 
 abbrev pub IsNewTidy : List Cell → Cell → Type 0
 IsNewTidy cells (OfRow (Front fs r)) = IsTidy cells fs r
@@ -23,10 +23,10 @@ pub record CanMake (cells : List Cell) (c : Cell) : Type 0 where
   pub tidy : IsNewTidy cells c
 
 -- the new solutions are the old ones that give the new number what is said
-pub record Adds (old new : List Cell) (c : Cell) (i : ℕ) : Type 0 where
+pub record AddsCell (old new : List Cell) (c : Cell) (i : ℕ) : Type 0 where
   pub place : i ≡ length old
   pub fine : IsFine new
-  pub keeps : Keeps old new
+  pub keeps : KeepsCells old new
   pub sort : sort_at new i ≡ Some (sort_of c)
   pub lacks : (l : List ℕ) → LacksAs c old l → Lacks new l i
   pub solves : (s : Assignment) → Solves new s ↔ (Solves old s × Says c s i)
@@ -46,13 +46,13 @@ CanMakeNode cells (node.Fixed k) = CanMake cells (OfKind (Fixed k))
 -- what `make` does for a node: one cell more, or the cells of a type without variables
 abbrev pub MakesNode : List Cell → List Cell → ℕ → Node → Type 0
 MakesNode old new i (node.Base t) = GivesType old new i (ground_of t)
-MakesNode old new i (node.Rec r) = Adds old new (OfType (Rec r)) i
-MakesNode old new i (node.Var r) = Adds old new (OfType (Var r)) i
-MakesNode old new i (node.Coll k t) = Adds old new (OfType (Coll k t)) i
-MakesNode old new i (node.Arrow a b) = Adds old new (OfFunction a b) i
-MakesNode old new i (node.Row l t r) = Adds old new (OfRow (Front ((l, t) ∷ []) r)) i
-MakesNode old new i node.EmptyRow = Adds old new (OfRow NoRow) i
-MakesNode old new i (node.Fixed k) = Adds old new (OfKind (Fixed k)) i
+MakesNode old new i (node.Rec r) = AddsCell old new (OfType (Rec r)) i
+MakesNode old new i (node.Var r) = AddsCell old new (OfType (Var r)) i
+MakesNode old new i (node.Coll k t) = AddsCell old new (OfType (Coll k t)) i
+MakesNode old new i (node.Arrow a b) = AddsCell old new (OfFunction a b) i
+MakesNode old new i (node.Row l t r) = AddsCell old new (OfRow (Front ((l, t) ∷ []) r)) i
+MakesNode old new i node.EmptyRow = AddsCell old new (OfRow NoRow) i
+MakesNode old new i (node.Fixed k) = AddsCell old new (OfKind (Fixed k)) i
 
 -- two numbers of one sort
 pub record HasSort (cells : List Cell) (a b : ℕ) : Type 0 where
@@ -71,7 +71,7 @@ Same None a b s = ⊥
 -- a most general unifier is added: true exactly where something makes them one, and then the solutions are those that do
 pub record Unifies (yes : Bool) (old new : List Cell) (a b : ℕ) : Type 0 where
   pub fine : IsFine new
-  pub keeps : Keeps old new
+  pub keeps : KeepsCells old new
   pub exact : IsTrue yes ↔ ((s : Assignment) × Solves old s × Same (sort_at old a) a b s)
   pub down : (s : Assignment) → Solves old s → Same (sort_at old a) a b s → Grown old new s (λ u. Unit {0})
   pub up : IsTrue yes → (s : Assignment) → Solves new s → Solves old s × Same (sort_at old a) a b s

@@ -19,7 +19,7 @@ use Rattle.kl_rows.specs.Copying.{kept_in}
 use Rattle.kl_rows.specs.Lists.{Fields}
 use Rattle.kl_rows.specs.Places.{Sort, a_type, a_function, a_row, a_kind, sort_at, IsTyped, Parts, IsPlaced, IsTidy, IsFine}
 use Rattle.kl_rows.specs.Solutions.{Assignment, Solves}
-use Rattle.kl_rows.specs.Steps.{Grown, Keeps}
+use Rattle.kl_rows.specs.Steps.{Grown, KeepsCells}
 
 abbrev base_layer : Ty-F Ty → TypeNode
 base_layer Ty-F.Bool = type.Base scalar.Bool
@@ -98,7 +98,7 @@ pub record Settles (cells : List Cell) (root : ℕ) (scheme : Scheme) : Type 0 w
 -- each new solution is an old one and gives the number an instance, and each old one grows by each instance
 pub record Instantiates (old new : List Cell) (scheme : Scheme) (i : ℕ) : Type 0 where
   pub fine : IsFine new
-  pub keeps : Keeps old new
+  pub keeps : KeepsCells old new
   pub sort : sort_at new i ≡ sort_at (cells_of scheme.nodes) scheme.root
   pub up : (s : Assignment) → Solves new s → Solves old s × Instance scheme (given (sort_at new i) s i)
   pub down : (s : Assignment) (t : Ground) → Solves old s → Instance scheme t → Grown old new s (λ u. given (sort_at new i) u i ≡ t)

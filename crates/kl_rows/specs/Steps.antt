@@ -22,7 +22,7 @@ pub record Grown (old new : List Cell) (s : Assignment) (P : Assignment → Type
   pub holds : P to
 
 -- old numbers are good, of the same sort, and lack what they lacked
-pub record Keeps (old new : List Cell) : Type 0 where
+pub record KeepsCells (old new : List Cell) : Type 0 where
   pub grows : length old ≤ length new
   pub sorts : (i : ℕ) (q : Sort) → sort_at old i ≡ Some q → sort_at new i ≡ Some q
   pub lacks : (l : List ℕ) (i : ℕ) → Lacks old l i → Lacks new l i
@@ -30,14 +30,14 @@ pub record Keeps (old new : List Cell) : Type 0 where
 -- from cells where D is asked to cells where R is left to ask; where the answer is no, nothing meets D
 pub record Advances (yes : Bool) (old new : List Cell) (D R : Assignment → Type 0) : Type 0 where
   pub fine : IsFine new
-  pub keeps : Keeps old new
+  pub keeps : KeepsCells old new
   pub fewer : roots new ≤ roots old
   pub down : (s : Assignment) → Solves old s → D s → IsTrue yes × Grown old new s R
   pub up : IsTrue yes → (s : Assignment) → Solves new s → R s → Solves old s × D s
 
 -- that the types of each pair are one
-abbrev pub Asks : List (ℕ × ℕ) → Assignment → Type 0
-Asks pairs s = AllByRecursion (λ p. s.types p.0 ≡ s.types p.1) pairs
+abbrev pub Equates : List (ℕ × ℕ) → Assignment → Type 0
+Equates pairs s = AllByRecursion (λ p. s.types p.0 ≡ s.types p.1) pairs
 
 -- that two ends have these fields more, before one rest
 pub record Shares (for_first for_second : Fields) (first second : ℕ) (s : Assignment) : Type 0 where

@@ -1,7 +1,7 @@
 //! New cells.
 ghost use Rattle.std.specs.Prelude.{IfOk};
 ghost use Rattle.kl_rows.specs.Places.{IsFine};
-ghost use Rattle.kl_rows.specs.Making.{Adds, CanMake};
+ghost use Rattle.kl_rows.specs.Making.{AddsCell, CanMake};
 ghost use Rattle.kl_rows.specs.Expanding.{Pushes, Expands, ExpandsRow};
 ghost use Rattle.kl_rows.specs.declared.cell.Cell.TheVariants.{OfType};
 
@@ -14,7 +14,7 @@ use std::alloc::Global;
 pub fn add(cells: &mut Vec<Cell>, cell: Cell) -> Result<usize, NoMemory>
     requires fine { IsFine cells.old.items }
     requires can { CanMake cells.old.items cell }
-    ensures { IfOk result (λ i. Adds cells.old.items cells.new.items cell i) }
+    ensures { IfOk result (λ i. AddsCell cells.old.items cells.new.items cell i) }
 {
     let at = push(cells, cell)?;
     Ok(at)

@@ -4,7 +4,7 @@ ghost use Rattle.kl_rows.specs.Places.{IsFine, IsTyped, IsRowAt, sort_at};
 ghost use Rattle.kl_rows.specs.Steps.{Advances};
 ghost use Rattle.kl_rows.specs.Finite.{Solvable};
 ghost use Rattle.kl_rows.specs.Schemes.{IsScheme, Settles, Instantiates};
-ghost use Rattle.kl_rows.specs.Making.{Adds, CanMake, CanMakeNode, MakesNode, HasSort, Same, Unifies};
+ghost use Rattle.kl_rows.specs.Making.{AddsCell, CanMake, CanMakeNode, MakesNode, HasSort, Same, Unifies};
 ghost use Rattle.kl_rows.specs.declared.cell.Cell.TheVariants.{OfType, OfRow, OfKind};
 ghost use Rattle.kl_rows.specs.declared.cell.TypeNode.TheVariants.{AnyType};
 ghost use Rattle.kl_rows.specs.declared.cell.RowNode.TheVariants.{AnyRow};
@@ -42,7 +42,7 @@ impl Unifier {
     /// A type of which nothing is said.
     pub fn fresh_type(&mut self) -> Result<u64, NoMemory>
         requires { IsFine self.old.cells.items }
-        ensures { IfOk result (λ i. Adds self.old.cells.items self.new.cells.items (OfType AnyType) i) }
+        ensures { IfOk result (λ i. AddsCell self.old.cells.items self.new.cells.items (OfType AnyType) i) }
     {
         let at = add(&mut self.cells, Cell::OfType(TypeNode::AnyType))?;
         Ok(at as u64)
@@ -51,7 +51,7 @@ impl Unifier {
     /// A row of which nothing is said but that it lacks these labels.
     pub fn fresh_row(&mut self, lacks: &[Label]) -> Result<u64, NoMemory>
         requires { IsFine self.old.cells.items }
-        ensures { IfOk result (λ i. Adds self.old.cells.items self.new.cells.items (OfRow (AnyRow lacks.now)) i) }
+        ensures { IfOk result (λ i. AddsCell self.old.cells.items self.new.cells.items (OfRow (AnyRow lacks.now)) i) }
     {
         let mut labels = Vec::new(self.alloc);
         add_labels(&mut labels, lacks)?;
@@ -65,7 +65,7 @@ impl Unifier {
     /// A kind of which nothing is said.
     pub fn fresh_kind(&mut self) -> Result<u64, NoMemory>
         requires { IsFine self.old.cells.items }
-        ensures { IfOk result (λ i. Adds self.old.cells.items self.new.cells.items (OfKind AnyKind) i) }
+        ensures { IfOk result (λ i. AddsCell self.old.cells.items self.new.cells.items (OfKind AnyKind) i) }
     {
         let at = add(&mut self.cells, Cell::OfKind(KindNode::AnyKind))?;
         Ok(at as u64)
@@ -114,7 +114,7 @@ impl Unifier {
     fn add_type(&mut self, node: TypeNode) -> Result<u64, NoMemory>
         requires fine { IsFine self.old.cells.items }
         requires can { CanMake self.old.cells.items (OfType node) }
-        ensures { IfOk result (λ i. Adds self.old.cells.items self.new.cells.items (OfType node) i) }
+        ensures { IfOk result (λ i. AddsCell self.old.cells.items self.new.cells.items (OfType node) i) }
     {
         let at = add(&mut self.cells, Cell::OfType(node))?;
         Ok(at as u64)

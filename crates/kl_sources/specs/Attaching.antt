@@ -7,7 +7,7 @@ use Rattle.kl_type.specs.Ground.{ground_of}
 use Rattle.kl_outcome.specs.Outcome.{Name}
 use Rattle.kl_outcome.specs.Typed.{Inhabits}
 use Rattle.kl_ask.specs.Asks.{item_of}
-use Rattle.kl_ask.specs.Driver.{DriverKind, State, Stored, Missing, Bad, Long, Deep, Rows, Keeps, told_rows}
+use Rattle.kl_ask.specs.Driver.{DriverKind, State, Stored, Missing, Bad, Long, Deep, Rows, KeepsState, told_rows}
 use Rattle.kl_ask.specs.Lists.{EachSteps}
 use Rattle.kl_ask.specs.declared.ask.DriverError.{DriverError}
 use Rattle.kl_ask.specs.declared.ask.DriverError.TheVariants as error
@@ -43,7 +43,7 @@ IsMarkedName marks sources x = (i : ℕ) × (s : Source) × (slice_get sources i
 
 -- a driver at which nothing but marked sources may have been attached
 pub record MayAttach (marks : ℕ → Bool) (sources : List Source) (old new : State) : Type 0 where
-  pub keeps : Keeps old new
+  pub keeps : KeepsState old new
   pub cursors : new.cursors ≡ old.cursors
   pub asked : new.asked ≡ old.asked
   pub handed : new.handed ≡ old.handed

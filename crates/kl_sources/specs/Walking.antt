@@ -2,7 +2,7 @@
 -- whole call follow.
 use Rattle.std.specs.Prelude.{◌≡◌, ◌⊎◌, ℕ, ◌<◌, Bool, true, false, List, length, Some, None, Result, Ok, Err, IsOk, slice_get, ⊤}
 use Rattle.kl_outcome.specs.Outcome.{Name}
-use Rattle.kl_ask.specs.Driver.{DriverKind, State, Stored, Keeps, Attaches}
+use Rattle.kl_ask.specs.Driver.{DriverKind, State, Stored, KeepsState, Attaches}
 use Rattle.kl_ask.specs.Lists.{EachSteps, StepsAt}
 use Rattle.kl_ask.specs.declared.ask.DriverError.{DriverError}
 use Rattle.kl_ask.specs.declared.ask.DriverError.TheVariants as error
@@ -16,7 +16,7 @@ abbrev pub IsMarkedBelow : ℕ → (ℕ → Bool) → List Source → Name → T
 IsMarkedBelow n marks sources x = (i : ℕ) × (s : Source) × (i < n) × (slice_get sources i ≡ Some s) × (marks i ≡ true) × (s.name ≡ x)
 
 pub record MayAttachBelow (n : ℕ) (marks : ℕ → Bool) (sources : List Source) (old new : State) : Type 0 where
-  pub keeps : Keeps old new
+  pub keeps : KeepsState old new
   pub cursors : new.cursors ≡ old.cursors
   pub asked : new.asked ≡ old.asked
   pub handed : new.handed ≡ old.handed

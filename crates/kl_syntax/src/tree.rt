@@ -4,7 +4,7 @@ use kl_base::{Box, Label, Seq};
 use kl_value::{Kind, Value};
 
 /// A word of a program and the number of its token, counted from 0.
-#[derive(Debug, Drop, PartialEq, Eq)]
+#[derive(Drop, PartialEq, Eq)]
 pub struct Word {
     pub text: Label,
     pub token: u32,
@@ -14,7 +14,7 @@ pub struct Word {
 }
 
 /// What a name means where it stands.
-#[derive(Clone, Copy, Debug, PartialEq, Eq)]
+#[derive(Clone, Copy, PartialEq, Eq)]
 pub enum Meaning {
     /// Not resolved.
     Open,
@@ -29,7 +29,7 @@ pub enum Meaning {
 }
 
 /// An operator of a chain.
-#[derive(Clone, Copy, Debug, PartialEq, Eq)]
+#[derive(Clone, Copy, PartialEq, Eq)]
 pub enum Op {
     Or,
     And,
@@ -52,7 +52,7 @@ pub enum Op {
 pub type PatFields = Seq<(Word, Pattern)>;
 
 /// What a value is matched with.
-#[derive(Debug, Drop, PartialEq, Eq)]
+#[derive(Drop, PartialEq, Eq)]
 pub enum Pattern {
     /// `\x`: any value, under this name.
     Bind(Word),
@@ -87,7 +87,7 @@ pub type Words = Seq<Word>;
 pub type Steps = Seq<(Op, Expr)>;
 
 /// An expression.
-#[derive(Debug, Drop, PartialEq, Eq)]
+#[derive(Drop, PartialEq, Eq)]
 #[cycle(tree)]
 pub enum Expr {
     Const(Value),
@@ -116,7 +116,7 @@ pub enum Expr {
 }
 
 /// A qualifier of a comprehension.
-#[derive(Debug, Drop, PartialEq, Eq)]
+#[derive(Drop, PartialEq, Eq)]
 #[cycle(tree)]
 pub enum Qual {
     /// `p <- e`.
@@ -125,7 +125,7 @@ pub enum Qual {
 }
 
 /// A branch of a `case`: `<l=p> => e`.
-#[derive(Debug, Drop, PartialEq, Eq)]
+#[derive(Drop, PartialEq, Eq)]
 #[cycle(tree)]
 pub struct Branch {
     pub label: Word,
@@ -137,7 +137,7 @@ pub struct Branch {
 pub type Decls = Seq<Decl>;
 
 /// A definition: `define name == body;`, or with a parameter `define name == p => body;`.
-#[derive(Debug, Drop, PartialEq, Eq)]
+#[derive(Drop, PartialEq, Eq)]
 pub struct Decl {
     pub name: Word,
     pub param: Option<Pattern>,
@@ -145,7 +145,7 @@ pub struct Decl {
 }
 
 /// A program: its definitions, and the expression that is asked for.
-#[derive(Debug, Drop, PartialEq, Eq)]
+#[derive(Drop, PartialEq, Eq)]
 pub struct Program {
     pub defs: Decls,
     pub last: Expr,

@@ -12,7 +12,7 @@ use Rattle.kl_type.specs.declared.ground.Ty.{Ty}
 use Rattle.kl_type.specs.declared.reading.TypeError.{TypeError}
 use Rattle.kl_type.specs.declared.reading.TypeError.TheVariants.{Bad, TooDeep, NoMemory}
 use Rattle.kl_type.specs.Grammar.{Reads}
-use Rattle.kl_type.specs.Reading.{SpellsType, Refuses, RefusesTokens}
+use Rattle.kl_type.specs.Reading.{SpellsType, RefusesType, RefusesTokens}
 use Rattle.kl_type.specs.Texts.{is_bracket}
 use Rattle.kl_type.specs.Descent as d
 use Rattle.kl_type.proofs.FieldGoods.{Free}
@@ -39,7 +39,7 @@ unique ts t u h i = exact.unique Reads suc Free is_bracket (λ N n. d.reads n) e
 pub one_place : (ts : List Placed) → OnePlace Reads is_bracket 256 ts
 one_place ts = firsts.one_place Reads is_bracket 256 ts
 
-pub refused_so : (bytes : List ℕ) (ts : List Placed) → PlacedTokens bytes ts → (r : Result Ty TypeError) → RefusesTokens (length bytes) ts r → Refuses bytes r
+pub refused_so : (bytes : List ℕ) (ts : List Placed) → PlacedTokens bytes ts → (r : Result Ty TypeError) → RefusesTokens (length bytes) ts r → RefusesType bytes r
 refused_so bytes ts found (Ok t) h = tt
 refused_so bytes ts found (Err (Bad place)) h = inr (ts, found, h)
 refused_so bytes ts found (Err (TooDeep place)) h = (ts, found, h)

@@ -10,7 +10,7 @@ use Rattle.kl_phrase.specs.Words.{Phrase}
 use Rattle.kl_phrase.specs.Readers.{Out, Reader, ok, fail, bad, deep, ended}
 use Rattle.kl_phrase.specs.FirstPlaces.{FirstAnswers}
 use Rattle.kl_phrase.proofs.Kept.{Rests}
-use Rattle.kl_type.specs.Texts.{byte_of, is_bracket, Spells, IsText, IsBadAt, IsDeepAt, AtBad, AtDeep}
+use Rattle.kl_type.specs.Texts.{byte_of, is_bracket, Spells, IsTextOf, IsBadAt, IsDeepAt, AtBad, AtDeep}
 
 empty : (r : List Placed) → length r ≡ 0 → r ≡ []
 empty [] z = refl
@@ -78,9 +78,9 @@ module _ (bytes : List ℕ) (l : Lexed) (ts rs : List Placed) (z : l ≡ lexed.T
   alone us k = y ∙ subst (λ (q : Lexed). OnlyTokens q us) z (o us k)
 
   module _ {A : Type 0} (S : ℕ → Phrase Placed A) where
-    pub reads_so : {E : Type 0} (r : Result A E) → IfOk r (Spells S rs) → IfOk r (IsText S bytes)
+    pub reads_so : {E : Type 0} (r : Result A E) → IfOk r (Spells S rs) → IfOk r (IsTextOf S bytes)
     reads_so (Ok a) k = (rs, placed, k)
     reads_so (Err e) k = tt
 
-    pub only_as : (P : A → Type 0) → ((a : A) → Spells S rs a → P a) → (a : A) → IsText S bytes a → P a
+    pub only_as : (P : A → Type 0) → ((a : A) → Spells S rs a → P a) → (a : A) → IsTextOf S bytes a → P a
     only_as P k a (us, q, s) = k a (subst (λ (z : List Placed). Spells S z a) (sym (alone us q)) s)

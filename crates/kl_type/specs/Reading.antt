@@ -5,7 +5,7 @@ use Rattle.kl_type.specs.declared.ground.Ty.{Ty}
 use Rattle.kl_type.specs.declared.reading.TypeError.{TypeError}
 use Rattle.kl_type.specs.declared.reading.TypeError.TheVariants.{Bad, TooDeep, NoMemory}
 use Rattle.kl_type.specs.Grammar.{Reads}
-use Rattle.kl_type.specs.Texts.{Spells, IsText, AtBad, AtDeep, BadText, DeepText}
+use Rattle.kl_type.specs.Texts.{Spells, IsTextOf, AtBad, AtDeep, BadText, DeepText}
 
 -- the tokens are this type, nested at most 256 deep
 abbrev pub SpellsType : List Placed → Ty → Type 0
@@ -13,12 +13,7 @@ SpellsType = Spells Reads
 
 -- the bytes are this type
 abbrev pub ReadsType : List ℕ → Ty → Type 0
-ReadsType = IsText Reads
-
--- the answer is this type, or want of memory
-abbrev pub OrMemory : Result Ty TypeError → Ty → Type 0
-OrMemory (Ok found) t = found ≡ t
-OrMemory (Err e) t = e ≡ NoMemory
+ReadsType = IsTextOf Reads
 
 -- what is refused of these tokens, of a text of so many bytes
 abbrev pub RefusesTokens : ℕ → List Placed → Result Ty TypeError → Type 0
@@ -28,8 +23,8 @@ RefusesTokens total ts (Err (TooDeep place)) = AtDeep Reads total ts place
 RefusesTokens total ts (Err NoMemory) = Unit {0}
 
 -- what is refused of these bytes
-abbrev pub Refuses : List ℕ → Result Ty TypeError → Type 0
-Refuses bytes (Ok t) = Unit {0}
-Refuses bytes (Err (Bad place)) = BadText Reads bytes place
-Refuses bytes (Err (TooDeep place)) = DeepText Reads bytes place
-Refuses bytes (Err NoMemory) = Unit {0}
+abbrev pub RefusesType : List ℕ → Result Ty TypeError → Type 0
+RefusesType bytes (Ok t) = Unit {0}
+RefusesType bytes (Err (Bad place)) = BadText Reads bytes place
+RefusesType bytes (Err (TooDeep place)) = DeepText Reads bytes place
+RefusesType bytes (Err NoMemory) = Unit {0}

@@ -33,8 +33,8 @@ module _ {A : Type 0} (S : ℕ → Phrase Placed A) where
   Spells ts a = S 256 0 a ts
 
   -- the bytes are this value
-  abbrev pub IsText : List ℕ → A → Type 0
-  IsText bytes a = (ts : List Placed) × PlacedTokens bytes ts × Spells ts a
+  abbrev pub IsTextOf : List ℕ → A → Type 0
+  IsTextOf bytes a = (ts : List Placed) × PlacedTokens bytes ts × Spells ts a
 
   -- so many tokens are all that begin some text, and they begin one nested at most 256 deep
   abbrev pub IsBadAt : List Placed → ℕ → Type 0

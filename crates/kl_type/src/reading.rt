@@ -12,7 +12,8 @@ ghost use Rattle.kl_type.specs.Grammar.{Reads};
 ghost use Rattle.kl_type.specs.Ground.{IsProper};
 ghost use Rattle.kl_type.specs.Descent.{is_symbol, is_word, a_base, base_of, a_label, field, fields, in_coll, in_rec, in_var, reads};
 ghost use Rattle.kl_phrase.specs.FirstPlaces.{OnePlace};
-ghost use Rattle.kl_type.specs.Reading.{ReadsType, SpellsType, OrMemory, Refuses, RefusesTokens};
+ghost use Rattle.kl_base.specs.Results.{OrMemory};
+ghost use Rattle.kl_type.specs.Reading.{ReadsType, SpellsType, RefusesType, RefusesTokens};
 ghost use Rattle.kl_type.specs.Texts.{is_bracket};
 
 use crate::front::{byte_of, eat, want, word_at};
@@ -261,7 +262,7 @@ pub fn read_front(alloc: Global, tokens: &[Placed]) -> Result<(Ty, &[Placed]), F
 /// As `read_type`, which reads the tokens first.
 fn type_of(alloc: Global, total: usize, tokens: &[Placed]) -> Result<Ty, TypeError>
     ensures spells { IfOk result (SpellsType tokens.now) }
-    ensures only { (t : AType) → SpellsType tokens.now t → OrMemory result t }
+    ensures only { (t : AType) → SpellsType tokens.now t → OrMemory WantOfMemory result t }
     ensures refused { RefusesTokens total tokens.now result }
 {
     match read_front(alloc, tokens) {
@@ -291,8 +292,8 @@ fn type_of(alloc: Global, total: usize, tokens: &[Placed]) -> Result<Ty, TypeErr
 pub fn read_type(alloc: Global, bytes: &[u8]) -> Result<Ty, TypeError>
     ensures reads { IfOk result (ReadsType bytes.now) }
     ensures proper { IfOk result IsProper }
-    ensures only { (t : AType) → ReadsType bytes.now t → OrMemory result t }
-    ensures refused { Refuses bytes.now result }
+    ensures only { (t : AType) → ReadsType bytes.now t → OrMemory WantOfMemory result t }
+    ensures refused { RefusesType bytes.now result }
 {
     match lex_all(alloc, bytes)? {
         Lexed::Bad { byte } => Err(TypeError::Bad { place: byte }),

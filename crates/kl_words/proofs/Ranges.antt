@@ -26,7 +26,7 @@ use Rattle.kl_ask.specs.declared.settings.JoinHow.{JoinHow}
 use Rattle.kl_words.specs.declared.command.Job.{Job}
 use Rattle.kl_words.specs.declared.command.WordsError.{WordsError}
 use Rattle.kl_words.specs.Lines.{program_line, run_line}
-use Rattle.kl_words.specs.Commands.{Answers, IsWithin, job_by, job_of, join_of, number_of, number_told, settings_of}
+use Rattle.kl_words.specs.Commands.{AnswersWanted, AreInRange, job_by, job_of, join_of, number_of, number_told, settings_of}
 use Rattle.kl_words.proofs.Reading.{told_reads}
 
 -- ---- the one rule of an id
@@ -218,7 +218,7 @@ known line id low high is takes help version name = record {
 }
 
 settings_in : (line : Command) (m : ArgMatches) (how : JoinHow) → app_of line ≡ run_line → IsParsedFrom line m
-    → IsWithin (settings_of (rows_of (found_of m)) how)
+    → AreInRange (settings_of (rows_of (found_of m)) how)
 settings_in line m how is p = record {
   block = kept _ 1 65536 256 (number_in line m p (codes "block") 1 65536 (known line (codes "block") 1 65536 is takes_block refl refl (λ e. cc)) (omega arith)) (omega arith) (omega arith);
   fetch = kept _ 1 4096 64 (number_in line m p (codes "fetch") 1 4096 (known line (codes "fetch") 1 4096 is takes_fetch refl refl (λ e. cc)) (omega arith)) (omega arith) (omega arith);
@@ -226,12 +226,12 @@ settings_in line m how is p = record {
 }
 
 pub job_in : (line : Command) (m : ArgMatches) (r : Result Job WordsError) → app_of line ≡ run_line → IsParsedFrom line m
-    → Answers (job_of (rows_of (found_of m))) r → IfOk r (λ j. IsWithin j.settings)
+    → AnswersWanted (job_of (rows_of (found_of m))) r → IfOk r (λ j. AreInRange j.settings)
 job_in line m (Err e) is p h = tt
 job_in line m (Ok j) is p h = go (join_of (rows_of (found_of m))) h
   where
-    go : (o : Option JoinHow) → option_map (job_by (rows_of (found_of m))) o ≡ Some j → IsWithin j.settings
+    go : (o : Option JoinHow) → option_map (job_by (rows_of (found_of m))) o ≡ Some j → AreInRange j.settings
     go None e = cc
     go (Some how) e =
         let same : job_by (rows_of (found_of m)) how ≡ j = ap (λ (o : Option Job). unwrap_or o j) e in
-        subst (λ (x : Job). IsWithin x.settings) same (settings_in line m how is p)
+        subst (λ (x : Job). AreInRange x.settings) same (settings_in line m how is p)

@@ -17,7 +17,7 @@ use Rattle.clap.specs.ValueTests.{is_numeral}
 use Rattle.clap.specs.Words.{App, HasKind, HasMatchesOf, Kinds, Row, Text, fault_of, first_value, found_of, is_simple, is_simple_and_free, kind_of, matches_of, one_of, one_text, rows_of}
 use Rattle.clap.proofs.WalkLemmas.{both, first_value-rows, one_text-rows}
 use Rattle.kl_words.specs.declared.command.WordsError.{WordsError}
-use Rattle.kl_words.specs.Commands.{Answers, has_flag, number_of, number_told, path_at, reading, rows_where}
+use Rattle.kl_words.specs.Commands.{AnswersWanted, has_flag, number_of, number_told, path_at, reading, rows_where}
 
 -- ---- a command line
 
@@ -41,8 +41,8 @@ pub read_by : (a b : App) (words : List Text) (o : Option (List Row)) → a ≡ 
 read_by a b words o e h = subst (λ l. reading l words ≡ o) e h
 
 pub then_answers : {T : Type 0} (o : Option (List Row)) (rows : List Row) (f : List Row → Option T) (r : Result T WordsError)
-    → o ≡ Some rows → Answers (f rows) r → Answers (option_and_then f o) r
-then_answers o rows f r e h = subst (λ p. Answers (option_and_then f p) r) (sym e) h
+    → o ≡ Some rows → AnswersWanted (f rows) r → AnswersWanted (option_and_then f o) r
+then_answers o rows f r e h = subst (λ p. AnswersWanted (option_and_then f p) r) (sym e) h
 
 -- ---- a path
 

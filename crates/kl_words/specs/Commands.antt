@@ -104,20 +104,20 @@ command_of (name ∷ rest) = named name (name ∷ rest)
 -- ---- what holds of a command
 
 -- the settings are within their ranges
-pub record IsWithin (s : Settings) : Type 0 where
+pub record AreInRange (s : Settings) : Type 0 where
   pub block : (1 ≤ s.block) × (s.block ≤ 65536)
   pub fetch : (1 ≤ s.fetch) × (s.fetch ≤ 4096)
   pub cache : s.cache ≤ 4096
 
 abbrev pub KeepsLimits : Command → Type 0
-KeepsLimits (command.Run job) = IsWithin job.settings
+KeepsLimits (command.Run job) = AreInRange job.settings
 KeepsLimits other = ⊤
 
 -- ---- what a call answers
 
 -- what there is; a refusal other than for want of memory comes only where there is nothing
-abbrev pub Answers : {T : Type 0} → Option T → Result T WordsError → Type 0
-Answers wanted result = MatchResult result (λ x. wanted ≡ Some x) (λ e. e ≡ Usage → wanted ≡ None)
+abbrev pub AnswersWanted : {T : Type 0} → Option T → Result T WordsError → Type 0
+AnswersWanted wanted result = MatchResult result (λ x. wanted ≡ Some x) (λ e. e ≡ Usage → wanted ≡ None)
 
 -- no refusal but for want of memory
 abbrev pub OnlyWants : {T : Type 0} → Result T WordsError → Type 0

@@ -2,7 +2,7 @@
 ghost use Rattle.std.specs.Prelude.{◌≡◌, ◌≢◌, IfOk, IfErr, codes, map, string_bytes, None, Some, option_and_then, option_map, true};
 ghost use Rattle.clap.specs.Words.{app_of, first_of, found_of, IsParsedFrom, is_simple_and_free, kind_of, rows_of};
 ghost use Rattle.kl_words.specs.Lines.{program_line, run_line, show_line};
-ghost use Rattle.kl_words.specs.Commands.{Answers, IsWithin, KeepsLimits, OnlyWants, command_of, has_flag, job_of, join_named, join_of, number_of, on_program, path_at, reading};
+ghost use Rattle.kl_words.specs.Commands.{AnswersWanted, AreInRange, KeepsLimits, OnlyWants, command_of, has_flag, job_of, join_named, join_of, number_of, on_program, path_at, reading};
 
 use crate::command::{Command, Job, WordsError};
 use crate::line;
@@ -101,7 +101,7 @@ fn join(matches: &ArgMatches<'_>) -> Option<JoinHow>
 }
 
 fn job(alloc: Global, matches: &ArgMatches<'_>) -> Result<Job, WordsError>
-    ensures { Answers (job_of (rows_of (found_of matches.now))) result }
+    ensures { AnswersWanted (job_of (rows_of (found_of matches.now))) result }
 {
     let Some(join) = join(matches) else {
         return Err(WordsError::Usage);
@@ -123,8 +123,8 @@ fn job(alloc: Global, matches: &ArgMatches<'_>) -> Result<Job, WordsError>
 }
 
 fn run(alloc: Global, words: &[String]) -> Result<Job, WordsError>
-    ensures meant { Answers (option_and_then job_of (reading run_line (map string_bytes words.now))) result }
-    ensures within { IfOk result (λ job. IsWithin job.settings) }
+    ensures meant { AnswersWanted (option_and_then job_of (reading run_line (map string_bytes words.now))) result }
+    ensures within { IfOk result (λ job. AreInRange job.settings) }
 {
     let matches = read_line(line::run(alloc)?, words)?;
     job(alloc, &matches)
@@ -132,7 +132,7 @@ fn run(alloc: Global, words: &[String]) -> Result<Job, WordsError>
 
 // A program and perhaps a catalogue, behind a command of this name.
 fn paths(alloc: Global, name: &str, words: &[String]) -> Result<(Text, Option<Text>), WordsError>
-    ensures { Answers (on_program name.now (map string_bytes words.now)) result }
+    ensures { AnswersWanted (on_program name.now (map string_bytes words.now)) result }
 {
     let matches = read_line(line::program(alloc, name)?, words)?;
     Ok((
@@ -142,7 +142,7 @@ fn paths(alloc: Global, name: &str, words: &[String]) -> Result<(Text, Option<Te
 }
 
 fn file(alloc: Global, words: &[String]) -> Result<Text, WordsError>
-    ensures { Answers (option_map (path_at (codes "file")) (reading show_line (map string_bytes words.now))) result }
+    ensures { AnswersWanted (option_map (path_at (codes "file")) (reading show_line (map string_bytes words.now))) result }
 {
     let matches = read_line(line::show(alloc)?, words)?;
     path(alloc, &matches, "file")
@@ -160,7 +160,7 @@ fn file(alloc: Global, words: &[String]) -> Result<Text, WordsError>
 /// command: one too many or too few, an option that there is not, that is given twice, whose value is missing, out of its
 /// range or none that it takes, a value where none is taken, or a call for help. Want of memory.
 pub fn read_words(alloc: Global, words: &[String]) -> Result<Command, WordsError>
-    ensures meant { Answers (command_of (map string_bytes words.now)) result }
+    ensures meant { AnswersWanted (command_of (map string_bytes words.now)) result }
     ensures within { IfOk result KeepsLimits }
 {
     match words {

@@ -3,7 +3,7 @@ use Rattle.std.proofs.lemmas.Int.{ints}
 use Rattle.std.proofs.lemmas.List.{take_all}
 use Rattle.std.proofs.lemmas.List.Sums.{fold_more}
 use Rattle.kl_value.specs.declared.Value.{Value}
-use Rattle.kl_prim.specs.Meaning.{Answers, with_some, exact, total}
+use Rattle.kl_prim.specs.Meaning.{AnswersMeaning, with_some, exact, total}
 use Rattle.kl_value.specs.Views.{as_int}
 use Rattle.kl_prim.proofs.ItemLemmas.{int_at, all_some_is, some_from_ok, total_is}
 use Rattle.kl_prim.proofs.numbers.sum.Goals as goal
@@ -28,5 +28,5 @@ returns c =
     let sum : total (map int_at xs) ≡ c.loop-item.total =
     total_is xs ∙ (ap (fold (λ t v. t +ℤ int_at v) (pos 0)) (sym all) ∙ (sym c.loop-item.invariant.so_far ∙ c.loop-item.total-is)) in
     let fits = some_from_ok _ _ _ _ c.try_from.ensures c.ok.ensures.value in
-    subst (λ o. Answers (with_some o (λ ns. exact (total ns))) c.checked.result) (sym read)
-    (subst (λ z. Answers (exact z) c.checked.result) (sym (sum ∙ sym c.loop-item.total-is)) (c.checked.ensures _ fits))
+    subst (λ o. AnswersMeaning (with_some o (λ ns. exact (total ns))) c.checked.result) (sym read)
+    (subst (λ z. AnswersMeaning (exact z) c.checked.result) (sym (sum ∙ sym c.loop-item.total-is)) (c.checked.ensures _ fits))
