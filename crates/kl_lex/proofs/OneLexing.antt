@@ -1,5 +1,5 @@
 -- Bytes are one list of tokens, or go wrong at one byte.
-use Rattle.std.proofs.Common.{◌≡◌, inl, inr, ℕ, List, [], length, map, refl, ap, arith, ⊥}
+use Rattle.std.proofs.Common.{◌≡◌, inl, inr, ℕ, List, [], length, map, refl, ap, arith}
 use Rattle.kl_lex.specs.Lexing.{Refused, Tokens}
 use Rattle.kl_lex.specs.Placing.{PlacedTokens, token_of}
 use Rattle.kl_lex.specs.declared.token.Placed.{Placed}

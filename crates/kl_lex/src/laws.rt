@@ -1,5 +1,5 @@
 //! Laws of the tokens of bytes.
-ghost use Rattle.std.specs.Prelude.{◌≡◌, List, ℕ, ⊥};
+ghost use Rattle.std.specs.Prelude.{◌≡◌, List, ℕ};
 ghost use Rattle.kl_lex.specs.Lexing.{Refused, Tokens as AreTokens};
 ghost use Rattle.kl_lex.specs.Placing.{PlacedTokens};
 ghost use Rattle.kl_lex.specs.declared.token.Placed.{Placed as APlaced};

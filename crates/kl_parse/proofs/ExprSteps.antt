@@ -22,7 +22,8 @@ use Rattle.kl_syntax.specs.declared.tree.Qual.TheVariants as qual
 use Rattle.kl_syntax.specs.declared.tree.Branch.{Branch}
 use Rattle.kl_phrase.specs.Gives.{Fails}
 use Rattle.kl_lex.specs.Brackets.{opener, closer}
-use Rattle.kl_parse.specs.Grammar.{name_of, inject_of, gen_of, comp_of, case_of, path_of, chain_of, compare_of, let_of, if_of, branch_of, function_of, constant_of, Sort, whole, negated, signed, added, opens}
+use Rattle.kl_phrase.specs.Depth.{opens}
+use Rattle.kl_parse.specs.Grammar.{name_of, inject_of, gen_of, comp_of, case_of, path_of, chain_of, compare_of, let_of, if_of, branch_of, function_of, constant_of, Sort, whole, negated, signed, added}
 use Rattle.kl_parse.specs.Kinds.{among, is_symbol, is_key, constant_kinds, big_kinds, op_kinds, a_constant, an_op, a_symbol}
 use Rattle.kl_parse.specs.Descent as d
 use Rattle.kl_parse.specs.Descent.{mark, word_mark}

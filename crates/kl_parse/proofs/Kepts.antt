@@ -24,7 +24,8 @@ use Rattle.kl_parse.proofs.KindLemmas.{symbol_of}
 use Rattle.kl_parse.proofs.PatGoods.{closes, good_reads_pat}
 use Rattle.kl_parse.proofs.Reading.{apart_qual, apart_body, good_reads, up}
 use Rattle.kl_lex.specs.Brackets.{opener, closer}
-use Rattle.kl_parse.specs.Grammar.{is_of, variant_of, shape_of, name_of, inject_of, gen_of, comp_of, case_of, path_of, chain_of, compare_of, let_of, if_of, branch_of, function_of, constant_of, decl_of, program_of, Sort, whole, negated, signed, added, opens}
+use Rattle.kl_phrase.specs.Depth.{opens}
+use Rattle.kl_parse.specs.Grammar.{is_of, variant_of, shape_of, name_of, inject_of, gen_of, comp_of, case_of, path_of, chain_of, compare_of, let_of, if_of, branch_of, function_of, constant_of, decl_of, program_of, Sort, whole, negated, signed, added}
 use Rattle.kl_parse.specs.Kinds.{among, is_symbol, big_kinds, a_symbol, a_key, a_label, a_name, a_constant, a_least, a_negative, an_op}
 use Rattle.kl_parse.specs.Parsing.{nests_at, nests}
 use Rattle.kl_parse.specs.Descent as d

@@ -9,7 +9,8 @@ use Rattle.kl_syntax.specs.declared.tree.Qual.TheVariants as qual
 use Rattle.kl_syntax.specs.declared.tree.Pattern.{Pattern}
 use Rattle.kl_syntax.specs.declared.tree.Branch.{Branch}
 use Rattle.kl_parse.specs.Lexemes.{IsSymbol, Symbol, Key, Name}
-use Rattle.kl_parse.specs.Grammar.{branch_of, function_of, constant_of, decl_of, program_of, PatVariant, ReadsPat, ABranch, Reads, Sort, whole, negated, signed, added, of_sort, opens, PatInside, Body, ADecl, AProgram, ReadsProgram}
+use Rattle.kl_phrase.specs.Depth.{opens}
+use Rattle.kl_parse.specs.Grammar.{branch_of, function_of, constant_of, decl_of, program_of, PatVariant, ReadsPat, ABranch, Reads, Sort, whole, negated, signed, added, of_sort, PatInside, Body, ADecl, AProgram, ReadsProgram}
 use Rattle.kl_parse.specs.Kinds.{among, is_symbol, is_key, one_symbol, one_key}
 use Rattle.kl_parse.specs.Descent as d
 use Rattle.kl_parse.proofs.KindLemmas.{on_symbol, on_key, has_symbol, has_name}

@@ -10,7 +10,8 @@ use Rattle.kl_syntax.specs.declared.tree.Word.{Word}
 use Rattle.kl_syntax.specs.declared.tree.Pattern.{Pattern}
 use Rattle.kl_syntax.specs.declared.tree.Pattern.TheVariants as pattern
 use Rattle.kl_phrase.specs.Gives.{Fails}
-use Rattle.kl_parse.specs.Grammar.{variant_of, shape_of, opens}
+use Rattle.kl_phrase.specs.Depth.{opens}
+use Rattle.kl_parse.specs.Grammar.{variant_of, shape_of}
 use Rattle.kl_parse.specs.Kinds.{among, is_symbol, is_key, label_kinds}
 use Rattle.kl_parse.specs.Descent as d
 use Rattle.kl_parse.specs.Descent.{mark, word_mark}

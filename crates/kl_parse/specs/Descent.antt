@@ -22,7 +22,8 @@ use Rattle.kl_syntax.specs.declared.tree.Decl.{Decl}
 use Rattle.kl_syntax.specs.declared.tree.Program.{Program}
 use Rattle.kl_parse.specs.Lexemes.{word_of}
 use Rattle.kl_lex.specs.Brackets.{opener, closer}
-use Rattle.kl_parse.specs.Grammar.{is_of, variant_of, shape_of, name_of, inject_of, gen_of, comp_of, case_of, path_of, chain_of, compare_of, let_of, if_of, branch_of, function_of, constant_of, decl_of, program_of, Sort, whole, negated, signed, added, opens}
+use Rattle.kl_phrase.specs.Depth.{opens}
+use Rattle.kl_parse.specs.Grammar.{is_of, variant_of, shape_of, name_of, inject_of, gen_of, comp_of, case_of, path_of, chain_of, compare_of, let_of, if_of, branch_of, function_of, constant_of, decl_of, program_of, Sort, whole, negated, signed, added}
 use Rattle.kl_parse.specs.Kinds.{among, is_symbol, is_key, label_kinds, constant_kinds, big_kinds, op_kinds, symbol_kind, a_symbol, a_key, a_label, a_name, a_constant, a_least, a_negative, an_op}
 use Rattle.kl_phrase.specs.Readers.{Reader, bad, deep, fail, one, nothing, numbered, both, behind, before, chain, made, two, choose, pick, opened, opening, many, parted, tail_turn, tailed, followed, commit}
 

@@ -21,6 +21,7 @@ use Rattle.kl_syntax.specs.declared.tree.Decl.{Decl}
 use Rattle.kl_syntax.specs.declared.tree.Program.{Program}
 use Rattle.kl_parse.specs.Lexemes.{Symbol, Key, Label, Name, Constant, IsNegative, IsLeast, AnOp}
 use Rattle.kl_lex.specs.Brackets.{opener, closer}
+use Rattle.kl_phrase.specs.Depth.{opens}
 use Rattle.kl_phrase.specs.Words.{Phrase, One, Nothing, Numbered, Then, Behind, Before, Many, Made, Or, Optional, Opened, Never, Parted, Tailed}
 
 -- ---- what is made of the parts
@@ -267,10 +268,6 @@ of_sort whole may P E N U A B = Whole may P E N U A B
 of_sort negated may P E N U A B = Not may P E N U A B
 of_sort signed may P E N U A B = Un may P E N U A B
 of_sort added may P E N U A B = Add may P E N U A B
-
-abbrev pub opens : ℕ → Bool
-opens zero = false
-opens (suc depth) = true
 
 -- the patterns inside the brackets of one nested at most so deep
 abbrev pub PatInside : ℕ → Phrase Token Pattern

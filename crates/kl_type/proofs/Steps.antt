@@ -12,6 +12,7 @@ use Rattle.kl_lex.specs.declared.token.Tok.TheVariants as tok
 use Rattle.kl_lex.specs.declared.token.Placed.{Placed}
 use Rattle.kl_value.specs.declared.Kind.{Kind}
 use Rattle.kl_value.specs.declared.Kind.TheVariants as kind
+use Rattle.kl_phrase.specs.Depth.{opens}
 use Rattle.kl_phrase.specs.Words.{heads}
 use Rattle.kl_phrase.specs.Readers.{Why, bad, deep, Out, ok, fail, Reader, after, behind, one}
 use Rattle.kl_type.specs.declared.ground.Ty.{Ty}
@@ -125,12 +126,12 @@ less n found rest more r f a h = takes_next n found rest f r (behind_mark sy.Com
 
 -- ---- by depth
 
-reads_is : (n : ℕ) (ts : List Placed) → d.reads n ts ≡ d.a_type (d.inside n) (d.opens n) ts
+reads_is : (n : ℕ) (ts : List Placed) → d.reads n ts ≡ d.a_type (d.inside n) (opens n) ts
 unfolding d.reads
 reads_is zero ts = refl
 reads_is (suc n) ts = refl
 
-at_depth : (n m : ℕ) (ts : List Placed) → n ≡ m → d.reads n ts ≡ d.a_type (d.inside m) (d.opens m) ts
+at_depth : (n m : ℕ) (ts : List Placed) → n ≡ m → d.reads n ts ≡ d.a_type (d.inside m) (opens m) ts
 at_depth n m ts z = ap (λ k. d.reads k ts) z ∙ reads_is m ts
 
 pub coll_deep : (n : ℕ) (k : Kind) (ts more : List Placed) → n ≡ 0 → Ahead (opener k) ts more → d.reads n ts ≡ fail deep ts
