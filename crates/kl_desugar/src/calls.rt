@@ -65,9 +65,10 @@ fn both(alloc: Global, a: Term, b: Term) -> Result<Term, NoMemory>
 fn either(alloc: Global, a: Term, b: Term) -> Result<Term, NoMemory>
     ensures { IfOk result (λ t. term.view t ≡ term.choice (term.view a) (term.con (Value.Bool true)) (term.view b)) }
 {
-    let other = truth(alloc, true)?;
     let a = Box::new(alloc, a)?;
-    Ok(Term::If(a, other, Box::new(alloc, b)?))
+    let b = Box::new(alloc, b)?;
+    let other = truth(alloc, true)?;
+    Ok(Term::If(a, other, b))
 }
 
 fn union(alloc: Global, a: Term, b: Term) -> Result<Term, NoMemory>

@@ -1,5 +1,6 @@
 //! The driver of tables.
-ghost use Rattle.std.specs.Prelude.{◌≡◌, ℕ, []};
+ghost use Rattle.std.specs.Prelude.{◌≡◌, ◌<◌, ◌^◌, ℕ, [], length, true, IfOk};
+ghost use Rattle.kl_flat.specs.Fitting.{are_rows};
 ghost use Rattle.kl_flat.specs.Flat.{flat_state, open_at};
 
 use crate::answering::next_answers;
@@ -8,10 +9,10 @@ use crate::parts::{Open, Source};
 use crate::sources::{find_asked, opened};
 use crate::table::{Table, read_table};
 use kl_ask::{Abilities, Ask, Driver, DriverError, count_ask, sum_asked};
-use kl_base::{Label, Shared, Text};
+use kl_base::{Label, NoMemory, Shared, Text};
 use kl_outside::{Files, Stop, Whole, read_whole};
 use kl_type::Ty;
-use kl_value::Value;
+use kl_value::{Items, Value};
 use std::alloc::Global;
 use std::mem;
 
@@ -87,10 +88,8 @@ impl<F: Files + Drop> Driver for FlatDriver<F> {
             return Err(DriverError::BadSource { place });
         }
         let count = rows.len() as u64;
-        let name = source.dup()?;
-        let ty = Shared::new(self.alloc, ty.dup(self.alloc)?)?;
-        let rows = Shared::new(self.alloc, rows)?;
-        self.sources.push(Source { name, ty, rows })?;
+        let made = new_source(self.alloc, source, ty, rows)?;
+        self.sources.push(made)?;
         Ok(count)
     }
 
@@ -138,6 +137,20 @@ impl<F: Files + Drop> Driver for FlatDriver<F> {
     fn handed(&self) -> u64 {
         self.handed
     }
+}
+
+// A source of this name, with these rows.
+fn new_source(alloc: Global, name: &Label, ty: &Ty, rows: Items) -> Result<Source, NoMemory>
+    requires small { length rows < 2 ^ 64 }
+    requires typed { are_rows ty.now rows ≡ true }
+    ensures name { IfOk result (λ s. s.name ≡ name.now) }
+    ensures ty { IfOk result (λ s. s.ty ≡ ty.now) }
+    ensures rows { IfOk result (λ s. s.rows ≡ rows) }
+{
+    let name = name.dup()?;
+    let ty = Shared::new(alloc, ty.dup(alloc)?)?;
+    let rows = Shared::new(alloc, rows)?;
+    Ok(Source { name, ty, rows })
 }
 
 // Drops the places of closed cursors behind the last open one, so that they are used again.

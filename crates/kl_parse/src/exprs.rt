@@ -70,23 +70,13 @@ fn ends_condition(tokens: &[Token]) -> bool
         || eat(tokens, Sym::CloseList).is_some()
 }
 
-fn make_let(alloc: Global, bound: Pattern, value: Expr, body: Expr) -> Result<Expr, NoMemory>
-    ensures { IfOk result (λ found. found ≡ exprs_of.Let bound value body) }
+/// A chain of one operator.
+fn compared(alloc: Global, first: Box<Expr>, op: Op, second: Expr) -> Result<Expr, NoMemory>
+    ensures { IfOk result (λ found. found ≡ exprs_of.Chain first ((op, second) ∷ [])) }
 {
-    Ok(Expr::Let(bound, Box::new(alloc, value)?, Box::new(alloc, body)?))
-}
-
-fn boxed(alloc: Global, one: Expr, other: Expr) -> Result<(Box<Expr>, Box<Expr>), NoMemory>
-    ensures { IfOk result (λ found. found ≡ (one, other)) }
-{
-    Ok((Box::new(alloc, one)?, Box::new(alloc, other)?))
-}
-
-fn make_if(alloc: Global, test: Expr, yes: Expr, no: Expr) -> Result<Expr, NoMemory>
-    ensures { IfOk result (λ found. found ≡ exprs_of.If test yes no) }
-{
-    let (yes, no) = boxed(alloc, yes, no)?;
-    Ok(Expr::If(Box::new(alloc, test)?, yes, no))
+    let mut steps = Vec::new(alloc);
+    steps.push((op, second))?;
+    Ok(Expr::Chain(first, Seq::of(steps)))
 }
 
 /// `"let" .. | "if" .. | or`
@@ -114,18 +104,32 @@ pub fn expr(
     chain(alloc, total, depth, Level::Or, tokens)
 }
 
-/// An expression and this keyword.
+/// An expression, in a box.
 #[cycle(expr)]
-fn expr_before(
+fn boxed(
+    alloc: Global,
+    total: u32,
+    depth: u32,
+    tokens: &[Token],
+) -> Result<(Box<Expr>, &[Token]), Fault<'_, Token>>
+    ensures { Gives (λ x. x.0) (λ x. x.1.now) result (reads total depth whole tokens.now) }
+{
+    let (found, rest) = expr(alloc, total, depth, tokens)?;
+    Ok((Box::new(alloc, found)?, rest))
+}
+
+/// An expression, in a box, and this keyword.
+#[cycle(expr)]
+fn boxed_before(
     alloc: Global,
     total: u32,
     depth: u32,
     keyword: Keyword,
     tokens: &[Token],
-) -> Result<(Expr, &[Token]), Fault<'_, Token>>
+) -> Result<(Box<Expr>, &[Token]), Fault<'_, Token>>
     ensures { Gives (λ x. x.0) (λ x. x.1.now) result (expr_before (reads total depth whole) keyword tokens.now) }
 {
-    let (found, rest) = expr(alloc, total, depth, tokens)?;
+    let (found, rest) = boxed(alloc, total, depth, tokens)?;
     let rest = want_word(rest, keyword)?;
     Ok((found, rest))
 }
@@ -141,9 +145,9 @@ fn let_rest(
     ensures { Gives (λ x. x.0) (λ x. x.1.now) result (made let_of (in_let (read_pat total depth) (reads total depth whole)) tokens.now) }
 {
     let (bound, rest) = pattern_before(alloc, total, depth, Sym::Equals, tokens)?;
-    let (value, rest) = expr_before(alloc, total, depth, Keyword::In, rest)?;
-    let (body, rest) = expr(alloc, total, depth, rest)?;
-    Ok((make_let(alloc, bound, value, body)?, rest))
+    let (value, rest) = boxed_before(alloc, total, depth, Keyword::In, rest)?;
+    let (body, rest) = boxed(alloc, total, depth, rest)?;
+    Ok((Expr::Let(bound, value, body), rest))
 }
 
 /// `expr "then" expr "else" expr`
@@ -156,10 +160,10 @@ fn if_rest(
 ) -> Result<(Expr, &[Token]), Fault<'_, Token>>
     ensures { Gives (λ x. x.0) (λ x. x.1.now) result (made if_of (in_if (reads total depth whole)) tokens.now) }
 {
-    let (test, rest) = expr_before(alloc, total, depth, Keyword::Then, tokens)?;
-    let (yes, rest) = expr_before(alloc, total, depth, Keyword::Else, rest)?;
-    let (no, rest) = expr(alloc, total, depth, rest)?;
-    Ok((make_if(alloc, test, yes, no)?, rest))
+    let (test, rest) = boxed_before(alloc, total, depth, Keyword::Then, tokens)?;
+    let (yes, rest) = boxed_before(alloc, total, depth, Keyword::Else, rest)?;
+    let (no, rest) = boxed(alloc, total, depth, rest)?;
+    Ok((Expr::If(test, yes, no), rest))
 }
 
 /// `operand { op operand }`, with the operators of one level.
@@ -179,6 +183,21 @@ fn chain(
         return Ok((first, rest));
     }
     Ok((Expr::Chain(Box::new(alloc, first)?, Seq::of(more)), rest))
+}
+
+/// A chain, in a box.
+#[cycle(expr)]
+fn boxed_chain(
+    alloc: Global,
+    total: u32,
+    depth: u32,
+    level: Level,
+    tokens: &[Token],
+) -> Result<(Box<Expr>, &[Token]), Fault<'_, Token>>
+    ensures { Gives (λ x. x.0) (λ x. x.1.now) result (chain_at total depth level tokens.now) }
+{
+    let (found, rest) = chain(alloc, total, depth, level, tokens)?;
+    Ok((Box::new(alloc, found)?, rest))
 }
 
 #[cycle(expr)]
@@ -255,10 +274,9 @@ fn comparison(
     match operator(rest, Level::Compare) {
         None => Ok((first, rest)),
         Some((op, after)) => {
+            let head = Box::new(alloc, first)?;
             let (second, rest) = operand(alloc, total, depth, Level::Compare, after)?;
-            let mut steps = Vec::new(alloc);
-            steps.push((op, second))?;
-            Ok((Expr::Chain(Box::new(alloc, first)?, Seq::of(steps)), rest))
+            Ok((compared(alloc, head, op, second)?, rest))
         }
     }
 }
@@ -495,9 +513,9 @@ fn inject_rest(
 {
     let (word, rest) = label(total, tokens)?;
     let rest = want(rest, Sym::Eq)?;
-    let (found, rest) = chain(alloc, total, depth, Level::Add, rest)?;
+    let (found, rest) = boxed_chain(alloc, total, depth, Level::Add, rest)?;
     let rest = want(rest, Sym::Gt)?;
-    Ok((Expr::Inj(word, Box::new(alloc, found)?), rest))
+    Ok((Expr::Inj(word, found), rest))
 }
 
 /// What stands behind the bracket of a collection.
@@ -534,8 +552,9 @@ fn beyond(
 {
     match eat(tokens, Sym::Bar) {
         Some(after) => {
+            let head = Box::new(alloc, first)?;
             let (found, rest) = qualifiers(alloc, total, depth, after)?;
-            Ok((Expr::Comp(kind, Box::new(alloc, first)?, found), rest))
+            Ok((Expr::Comp(kind, head, found), rest))
         }
         None => {
             let (found, rest) = more_exprs(alloc, total, depth, first, tokens)?;
@@ -634,10 +653,10 @@ fn case_rest(
 ) -> Result<(Expr, &[Token]), Fault<'_, Token>>
     ensures { Gives (λ x. x.0) (λ x. x.1.now) result (made case_of (in_case (reads total depth whole) (branch_at total depth)) tokens.now) }
 {
-    let (subject, rest) = expr_before(alloc, total, depth, Keyword::Of, tokens)?;
+    let (subject, rest) = boxed_before(alloc, total, depth, Keyword::Of, tokens)?;
     let (found, rest) = branches(alloc, total, depth, rest)?;
     let (last, rest) = case_end(alloc, total, depth, rest)?;
-    Ok((Expr::Case(Box::new(alloc, subject)?, found, last), rest))
+    Ok((Expr::Case(subject, found, last), rest))
 }
 
 /// `branch { "," branch }`
@@ -724,8 +743,8 @@ fn otherwise(
     match eat_word(tokens, Keyword::Otherwise) {
         None => Ok((None, tokens)),
         Some(after) => {
-            let (found, rest) = expr(alloc, total, depth, after)?;
-            Ok((Some(Box::new(alloc, found)?), rest))
+            let (found, rest) = boxed(alloc, total, depth, after)?;
+            Ok((Some(found), rest))
         }
     }
 }

@@ -74,8 +74,8 @@ comparison-returns-in_err-second-in-Some t c =
 pub comparison-returns-in-None : goal.comparison-returns-in-None
 comparison-returns-in-None t c = compare_one c.args.total c.args.depth c.args.tokens.now c.in_ok-first.rest.now c.in_ok-first.first c.in_ok-first.ensures c.in-None.ensures
 
-pub comparison-returns-in_ok-new-in-Some : goal.comparison-returns-in_ok-new-in-Some
-comparison-returns-in_ok-new-in-Some t c = rw (c.of.ensures, c.in_ok-new-in-Some.ensures) (compare_ok c.args.total c.args.depth c.args.tokens.now c.in_ok-first.rest.now c.in-Some.after.now c.in_ok-second-in-Some.rest.now c.in_ok-first.first c.in_ok-second-in-Some.second c.in-Some.op _ (search rules) c.in_ok-first.ensures c.in-Some.ensures.0 c.in-Some.ensures.1 c.in_ok-second-in-Some.ensures)
+pub comparison-returns-in_ok-compared-in-Some : goal.comparison-returns-in_ok-compared-in-Some
+comparison-returns-in_ok-compared-in-Some t c = rw (c.in_ok-compared-in-Some.ensures, c.in_ok-head-in-Some.ensures) (compare_ok c.args.total c.args.depth c.args.tokens.now c.in_ok-first.rest.now c.in-Some.after.now c.in_ok-second-in-Some.rest.now c.in_ok-first.first c.in_ok-second-in-Some.second c.in-Some.op ((c.in-Some.op, c.in_ok-second-in-Some.second) ∷ []) refl c.in_ok-first.ensures c.in-Some.ensures.0 c.in-Some.ensures.1 c.in_ok-second-in-Some.ensures)
 
 pub expr-returns-then-depth-eq0 : goal.expr-returns-then-depth-eq0
 expr-returns-then-depth-eq0 t c = let_deep c.args.total c.args.depth c.args.tokens.now c.in-Some.rest.now c.if-depth-eq0.true c.in-Some.ensures

@@ -48,13 +48,13 @@ abbrev pub decreases-condition : goal.decreases-condition
 decreases-condition l = 40 * l.depth + 22
 
 abbrev pub decreases-otherwise : goal.decreases-otherwise
-decreases-otherwise l = 40 * l.depth + 22
+decreases-otherwise l = 40 * l.depth + 23
 
 abbrev pub decreases-if_rest : goal.decreases-if_rest
-decreases-if_rest l = 40 * l.depth + 23
+decreases-if_rest l = 40 * l.depth + 24
 
 abbrev pub decreases-let_rest : goal.decreases-let_rest
-decreases-let_rest l = 40 * l.depth + 23
+decreases-let_rest l = 40 * l.depth + 24
 
 abbrev pub decreases-more_exprs : goal.decreases-more_exprs
 decreases-more_exprs l = 40 * l.depth + 22
@@ -125,11 +125,17 @@ invariant-more_steps-steps l = Progress (among (op_kinds l.level)) (both (one (a
 abbrev pub decreases-more_steps-steps : goal.decreases-more_steps-steps
 decreases-more_steps-steps l = length l.rest
 
-abbrev pub decreases-expr_before : goal.decreases-expr_before
-decreases-expr_before l = 40 * l.depth + 22
+abbrev pub decreases-boxed_chain : goal.decreases-boxed_chain
+decreases-boxed_chain l = 40 * l.depth + (rank l.level + 3)
+
+abbrev pub decreases-boxed : goal.decreases-boxed
+decreases-boxed l = 40 * l.depth + 22
+
+abbrev pub decreases-boxed_before : goal.decreases-boxed_before
+decreases-boxed_before l = 40 * l.depth + 23
 
 abbrev pub decreases-case_end : goal.decreases-case_end
-decreases-case_end l = 40 * l.depth + 23
+decreases-case_end l = 40 * l.depth + 24
 
 abbrev pub decreases-branches : goal.decreases-branches
 decreases-branches l = 40 * l.depth + 24

@@ -17,16 +17,15 @@ returns-in-Some g c =
     bad_source c.args.source.now c.args.locator.now c.args.ty.now (g.F.Files.state c.args.self.now.files) (g.F.Files.state c.read_whole.new.files) _ _ _ _ c.args.self.now.unread c.in-Ok-Bytes.bytes c.in-Some.place _
     (rw (← c.slice.ensures, ← c.in-Ok-Bytes.field-0-is) c.in-Ok-Bytes.ensures) bad c.saturating_add-self-in-Some.ensures (search rules)
 
-pub invariant_of-push : goal.invariant_of-push
-invariant_of-push g c =
-    let rows : c.in_ok-rows-2.rows ≡ table_rows c.slice-2.result.now c.args.ty.now = c.in_ok-rows-2.ensures ∙ c.in_ok-rows.ensures.rows in
-    let ty : c.in_ok-ty.ty ≡ c.args.ty.now = c.in_ok-ty.ensures ∙ c.in_ok-dup.ensures in
+pub new_source-requires-clause-small : goal.new_source-requires-clause-small
+new_source-requires-clause-small g c =
     let size : c.len-count.result ≡ length c.in_ok-rows.rows = search rules in
     let small : c.len-count.result < 2 ^ 64 = search rules in
-    record {
-      small = omega (arith, size, small, ap length c.in_ok-rows-2.ensures);
-      typed = (λ i. are_rows (ty i) (rows i)) ∙ are_table_rows c.slice-2.result.now c.args.ty.now c.requires.suits c.requires.proper;
-    }
+    omega (arith, size, small)
+
+pub new_source-requires-clause-typed : goal.new_source-requires-clause-typed
+new_source-requires-clause-typed g c =
+    ap (are_rows c.args.ty.now) c.in_ok-rows.ensures.rows ∙ are_table_rows c.slice-2.result.now c.args.ty.now c.requires.suits c.requires.proper
 
 pub returns-in_err-push : goal.returns-in_err-push
 returns-in_err-push g c =
@@ -37,9 +36,8 @@ pub returns : goal.returns
 returns g c =
     let none : c.in_ok-rows.field-0.bad ≡ None = search rules in
     let fine : bad_record c.in-Ok-Bytes.bytes c.args.ty.now ≡ None = ap (λ b. bad_record b c.args.ty.now) (sym c.slice-2.ensures) ∙ sym c.in_ok-rows.ensures.bad ∙ none in
-    let rows : c.in_ok-rows-2.rows ≡ table_rows c.slice-2.result.now c.args.ty.now = c.in_ok-rows-2.ensures ∙ c.in_ok-rows.ensures.rows in
-    let ty : c.in_ok-ty.ty ≡ c.args.ty.now = c.in_ok-ty.ensures ∙ c.in_ok-dup.ensures in
+    let rows : c.in_ok-made.made.rows ≡ table_rows c.slice-2.result.now c.args.ty.now = c.in_ok-made.ensures.rows ∙ c.in_ok-rows.ensures.rows in
     let size : c.len-count.result ≡ length c.in_ok-rows.field-0.rows = search rules in
-    let good : are_rows c.args.ty.now c.in_ok-rows-2.rows ≡ true = ap (are_rows c.args.ty.now) rows ∙ are_table_rows c.slice-2.result.now c.args.ty.now c.requires.suits c.requires.proper in
+    let good : are_rows c.args.ty.now c.in_ok-made.made.rows ≡ true = ap (are_rows c.args.ty.now) rows ∙ are_table_rows c.slice-2.result.now c.args.ty.now c.requires.suits c.requires.proper in
     attach_done c.args.source.now c.args.locator.now c.in-Ok-Bytes.bytes c.args.ty.now c.len-count.result _ (g.F.Files.state c.args.self.now.files) (g.F.Files.state c.read_whole.new.files) _ _ _ _ _ _
-    (rw (← c.slice.ensures, ← c.in-Ok-Bytes.field-0-is) c.in-Ok-Bytes.ensures) fine (rows ∙ ap (λ b. table_rows b c.args.ty.now) c.slice-2.ensures) c.in_ok-name.ensures ty (size ∙ ap length (sym c.in_ok-rows-2.ensures)) (rows_typed c.args.ty.now c.in_ok-rows-2.rows good) c.requires.fresh c.in_ok-push.ensures.items
+    (rw (← c.slice.ensures, ← c.in-Ok-Bytes.field-0-is) c.in-Ok-Bytes.ensures) fine (rows ∙ ap (λ b. table_rows b c.args.ty.now) c.slice-2.ensures) c.in_ok-made.ensures.name c.in_ok-made.ensures.ty (size ∙ ap length (sym c.in_ok-made.ensures.rows)) (rows_typed c.args.ty.now c.in_ok-made.made.rows good) c.requires.fresh c.in_ok-push.ensures.items
