@@ -1,20 +1,15 @@
 -- The rows of the table at their codes.
-use Rattle.std.proofs.Common.{◌≡◌, ◌↔◌, ◌⊎◌, ⊎_elim, inl, inr, ℕ, ℤ, ◌==◌, ◌&&◌, not, Bool, true, false, cond, ◌<◌, List, [], ◌∷◌, map, find, Option, Some, None, refl, sym, ap, subst, ◌∙◌, IsSome, IsSomeAnd, IfSome, Bor, Result}
+use Rattle.std.proofs.Common.{◌≡◌, ◌↔◌, ◌⊎◌, ⊎_elim, inl, inr, ℕ, ℤ, ◌==◌, ◌&&◌, not, Bool, true, false, cond, List, [], ◌∷◌, map, find, Option, Some, None, refl, sym, ap, subst, ◌∙◌, IfSome, Bor, Result}
 use Rattle.std.specs.Option.{option_copied, option_map, option_and_then}
-use Rattle.std.specs.List.{All, AllByRecursion, Contains, IsDistinct, list_all}
-use Rattle.std.proofs.Math.ListN.{get_or-map}
+use Rattle.std.specs.List.{AllByRecursion, IsDistinct, list_all}
 use Rattle.std.proofs.lemmas.Bool.{eqb-true, and_parts, not-true}
-use Rattle.std.proofs.lemmas.List.{length-map}
-use Rattle.std.proofs.lemmas.List.Elements.{All-contains, All-from_recursion, recursion_from_All}
 use Rattle.kl_value.specs.declared.Kind.{Kind}
 use Rattle.kl_value.specs.declared.Value.{Value}
-use Rattle.kl_value.specs.Views.{IsCollection, IsInt}
-use Rattle.kl_prim.specs.Fits.{FitsShape, OneOf, IsCollectionOfInts, IsNested}
+use Rattle.kl_prim.specs.Fits.{FitsShape}
 use Rattle.kl_value.specs.Canon.{canonical}
-use Rattle.kl_value.specs.IsCanonical.{IsCanonical}
-use Rattle.kl_prim.specs.Meaning.{Answer, AnswersMeaning, one, with_some, all_some, as_ints, as_nested, gives, into}
-use Rattle.kl_prim.specs.Table.{Entry, Fits, FitsRow, Row, Takes, TakesRow, entry_of, meaning, row_at, rows}
-use Rattle.kl_value.specs.Views.{as_int, as_collection, collection, items_at}
+use Rattle.kl_prim.specs.Meaning.{Answer, AnswersMeaning, one, with_some, all_some, as_ints, gives, into}
+use Rattle.kl_prim.specs.Table.{Fits, FitsRow, Row, Takes, TakesRow, entry_of, meaning, row_at, rows}
+use Rattle.kl_value.specs.Views.{as_int, collection}
 use Rattle.kl_value.proofs.ViewLemmas.{collection_is}
 use Rattle.kl_prim.specs.declared.rows.PrimRow.{PrimRow}
 use Rattle.kl_prim.specs.declared.stop.PrimStop.{PrimStop}
