@@ -40,7 +40,8 @@ AddsBytes None bytes old held new after stopped = Puts bytes (outcome stopped) o
 AddsBytes (Some e) bytes old held new after stopped = (stopped ≡ Some e) × (new ≡ old)
 
 -- Bytes are printed, unless the sink has stopped: then nothing more is written.
-pub record Prints (bytes : List ℕ) (old : SinkState) (held : List ℕ) (before : Option Stop) (new : SinkState) (after : List ℕ) (stopped : Option Stop) : Type 0 where
+pub record Prints (bytes : List ℕ) (old : SinkState) (held : List ℕ) (before : Option Stop)
+    (new : SinkState) (after : List ℕ) (stopped : Option Stop) : Type 0 where
   pub adds : AddsBytes before bytes old held new after stopped
 
 -- a byte that stands as it is in a text
