@@ -242,7 +242,6 @@ more_taken left (a ∷ front) b others (suc j) is past =
     (rest.0, rw is (ap (λ bs. a ∷ bs) rest.1))
 
 module _ (left front : List ℕ) (b : ℕ) (others : List ℕ) (is : left ≡ front ++ b ∷ others) (n : Machine) (met : run 256 front start ≡ more n) where
-
   front_begins : Begins 256 front
   front_begins = let c = begins_more 256 front n met in begins 256 front c.0 c.1 c.2
 

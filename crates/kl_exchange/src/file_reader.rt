@@ -48,8 +48,13 @@ impl FileReader {
     /// a time. Takes no memory.
     pub fn new(alloc: Global, file: u64, limit: u64, piece: usize) -> FileReader
         requires { 0 < piece }
-        ensures { result ≡ record { file = file; limit = limit; piece = piece;
-            text = record { place = 0; left = []; finished = false; refused = None }; past = false } }
+        ensures { result ≡ record {
+          file = file;
+          limit = limit;
+          piece = piece;
+          text = record { place = 0; left = []; finished = false; refused = None };
+          past = false;
+        } }
     {
         FileReader {
             file,

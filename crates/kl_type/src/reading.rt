@@ -112,7 +112,7 @@ fn label<'a>(
 fn opened(tokens: &[Placed]) -> Option<(Kind, &[Placed])>
     ensures { MatchOption result
         ((heads (is_symbol symbols.OpenSet) tokens.now ≡ false) × (heads (is_symbol symbols.OpenBag) tokens.now ≡ false)
-            × (heads (is_symbol symbols.OpenList) tokens.now ≡ false))
+        × (heads (is_symbol symbols.OpenList) tokens.now ≡ false))
         (λ x. (t : APlaced) × (tokens.now ≡ t ∷ x.1.now) × (is_symbol (opener x.0) t ≡ true)) }
 {
     if let Some(rest) = eat(tokens, Sym::OpenSet) {
