@@ -1,5 +1,5 @@
 -- Steps of attaching: a file is read as a table, and a source is added. No public contract cites this.
-use Rattle.std.specs.Prelude.{◌≡◌, ◌⊎◌, ℕ, List, [], ◌∷◌, ◌++◌, length, Option, Some, None, Result, Ok, Err}
+use Rattle.std.specs.Prelude.{◌≡◌, ◌⊎◌, ℕ, List, [], ◌∷◌, ◌++◌, length, Some, None, Result, Ok, Err}
 use Rattle.kl_value.specs.declared.Value.{Value}
 use Rattle.kl_type.specs.declared.ground.Ty.{Ty}
 use Rattle.kl_outcome.specs.Outcome.{Name}
