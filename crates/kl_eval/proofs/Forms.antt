@@ -183,7 +183,7 @@ got (u ∷ G) (v ∷ env) zero s h e = refl
 got (u ∷ G) (v ∷ env) (suc x) s h e = got G env x s h.1 e
 
 pub sense_var : (t : Term) (x : ℕ) (S : SourceTypes) (env : List Value) → t ≡ term.Var x → SenseIn S (view t) env → IsSome (slice_get env x)
-sense_var t x S env e s = let s' = subst (λ q. SenseIn S q env) (ap view e ∙ view_Var x) s in got s'.0 env x s'.1 s'.2 s'.3
+sense_var t x S env e s = let s' = subst (λ q. SenseIn S q env) (ap view e ∙ view_Var x) s in got s'.0 env x s'.1 s'.2 s'.3.0
 
 pub come_var : (t : Term) (x : ℕ) (v : Value) (env : List Value) → t ≡ term.Var x → slice_get env x ≡ Some v → (S : SourceTypes) (T : Tables) → Comes S T env (view t) (done v)
 come_var t x v env e g S T = subst (λ q. Comes S T env q (done v)) (sym (ap view e ∙ view_Var x)) (sym (ap outcome_of g))
@@ -242,7 +242,7 @@ module _ (t : Term) (l m : Name) (x x' : Term) (env : List Value) (et : t ≡ te
   at_Inj = ap view et ∙ view_Inj l x ∙ ap (λ q. inj l (view q)) (sym ex) ∙ ap (λ q. inj q (view x')) (sym em)
 
   pub sense_inj : (a : World) → Sense (view t) env a → Sense (view x') env a
-  sense_inj a s = let s' = subst (λ q. Sense q env a) at_Inj s in (s'.0, s'.3.1, s'.2, s'.3.4, s'.4)
+  sense_inj a s = let s' = subst (λ q. Sense q env a) at_Inj s in (s'.0, s'.3.1, s'.2, s'.3.5, s'.4)
 
   pub value_inj : (v : Value) (r : Result Value Halt) (a b : World) → EvalsPart (view x') env (Ok v) a b → AnswersOutcome (done (value.Inj m v)) r → Evals (view t) env r a b
   value_inj v r a b h k = evals_made (view t) (view x') env v (value.Inj m v) r a b h k (λ S T c. subst (λ q. Comes S T env q (done (value.Inj m v))) (sym at_Inj) (done v, c, refl)) (subst NoSource at_Inj)
@@ -506,7 +506,7 @@ module _ (t : Term) (k : Kind) (ts us : List Term) (env : List Value) (et : t �
   at_Make = ap view et ∙ view_Make k ts ∙ ap (λ q. make k (trees_view q)) (sym eu)
 
   pub sense_make : (a : World) → Sense (view t) env a → SenseEach (trees_view us) env a
-  sense_make a s = let s' = subst (λ q. Sense q env a) at_Make s in (s'.0, s'.3.0, s'.2, s'.3.2, s'.4)
+  sense_make a s = let s' = subst (λ q. Sense q env a) at_Make s in (s'.0, s'.3.0, s'.2, s'.3.3, s'.4)
 
   pub value_make : (d : Result (Vec Value Global) Halt) (r : Result Value Halt) (a b : World) → EvalsEach (trees_view us) env d a b → Gathers k d r → Evals (view t) env r a b
   value_make d r a b h g =
@@ -687,7 +687,7 @@ module _ (t : Term) (i : ℕ) (env : List Value) (et : t ≡ term.Source i) wher
   at_Source = ap view et ∙ view_Source i
 
   pub source_there : (a : World) → Sense (view t) env a → IsSome (types_of a i)
-  source_there a s = let s' = subst (λ q. Sense q env a) at_Source s in rw s'.3 refl
+  source_there a s = let s' = subst (λ q. Sense q env a) at_Source s in rw s'.3.0 refl
 
   pub source_ready : (a : World) → Sense (view t) env a → IsReady a
   source_ready a s = s.4
