@@ -1,13 +1,13 @@
 ghost use Rattle.std.specs.Prelude.{◌≡◌, List, [], IfOk};
-ghost use Rattle.kl_value.specs.declared.value.Value.{Value};
+ghost use Rattle.kl_value.specs.declared.Value.{Value};
 ghost use Rattle.kl_core.specs.Trees.{view};
 ghost use Rattle.kl_ask.specs.World.{World, IsReady};
 ghost use Rattle.kl_eval.specs.Evals.{Sense, SenseList};
 
-use crate::{eval, eval_list};
 use kl_ask::{JoinHow, Seen, Session, Settings, Trace};
 use kl_base::Seq;
 use kl_core::Term;
+use kl_eval::{eval, eval_list};
 use kl_value::{Kind, Value};
 use std::alloc::{AllocError, Global};
 use std::test::Fail;

@@ -1,5 +1,5 @@
 use Rattle.std.proofs.Common.{ap, reverse}
-use Rattle.kl_eval.proofs.tests.a_list_is_added.Goals as goal
+use Rattle.calls_language.proofs.evaluation.a_list_is_added.Goals as goal
 
 pub list_of-requires : goal.list_of-requires
 list_of-requires g c = c.four.ensures
