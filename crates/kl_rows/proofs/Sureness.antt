@@ -1,25 +1,31 @@
 -- Types that are known to be types without variables.
-use Rattle.std.proofs.Common.{◌≡◌, ℕ, suc, zero, ◌+◌, ◌<◌, ◌≤◌, Bool, true, false, IsTrue, List, [], ◌∷◌, ◌++◌, length, take, get_or, Some, refl, sym, ap, ◌∙◌, subst, arith}
+use Rattle.std.proofs.Common.{◌≡◌, ⊎_elim, nat_eq, true≢false, ℕ, suc, zero, ◌+◌, ◌<◌, ◌≤◌, Bool, true, false, IsTrue, List, [], ◌∷◌, ◌++◌, length, take, take_all, get_or, Some, refl, sym, ap, ◌∙◌, subst, arith}
 use mathlib.Core.Path.{ap₂}
+use Rattle.std.specs.Cmp.Lexicographic.{pointwise}
+use Rattle.kl_type.proofs.RowLemmas.{told}
+use Rattle.kl_rows.specs.Joining.{same_scalar}
+use Rattle.kl_rows.proofs.Advancing.{absurd_true}
 use Rattle.kl_type.specs.Ground.{Row, rec, var, coll, no_row, row, IsGround, IsRow, IsProper, row_by, ground_of}
 use Rattle.kl_type.specs.declared.ground.Ty.{Ty}
 use Rattle.kl_type.specs.declared.ground.Ty.TheVariants as ty
 use Rattle.kl_type.proofs.GroundLemmas.{ground-Rec, ground-Var, ground-Coll}
 use Rattle.kl_value.specs.declared.value.Kind.{Kind}
 use Rattle.kl_rows.specs.declared.cell.Scalar.{Scalar}
+use Rattle.kl_rows.specs.declared.cell.Scalar.TheVariants as scalar
 use Rattle.kl_rows.specs.declared.cell.TypeNode.{TypeNode}
-use Rattle.kl_rows.specs.declared.cell.TypeNode.TheVariants.{Base, Rec, Var, Coll}
+use Rattle.kl_rows.specs.declared.cell.TypeNode.TheVariants.{AnyType, Base, Rec, Var, Coll, TypeLink}
 use Rattle.kl_rows.specs.declared.cell.KindNode.{KindNode}
-use Rattle.kl_rows.specs.declared.cell.KindNode.TheVariants.{Fixed}
+use Rattle.kl_rows.specs.declared.cell.KindNode.TheVariants.{AnyKind, Fixed, KindLink}
 use Rattle.kl_rows.specs.declared.cell.RowNode.{RowNode}
 use Rattle.kl_rows.specs.declared.cell.RowNode.TheVariants.{NoRow, Front}
 use Rattle.kl_rows.specs.declared.cell.Cell.{Cell}
 use Rattle.kl_rows.specs.declared.cell.Cell.TheVariants.{OfRow, OfKind}
 use Rattle.kl_rows.specs.Lists.{Fields}
-use Rattle.kl_rows.specs.Looking.{KnownAs, Knows, KnowsRow, KnowsFields, KnowsTo, IsKindAt}
+use Rattle.kl_rows.specs.Looking.{KnownAs, Knows, KnowsRow, KnowsTo, IsBlock, IsKindAt, is_base, is_fixed}
 use Rattle.kl_rows.specs.Places.{IsFine, IsType, IsRowAt, IsKind, AreTypes}
 use Rattle.kl_rows.specs.Solutions.{Splits, scalar_type}
 use Rattle.kl_rows.specs.Walking.{HasRow, HasKind, FindsKind}
+use Rattle.kl_rows.proofs.TypeJoins.{kind_enough}
 use Rattle.kl_rows.proofs.Expansions.{append_row, row_append, field_proper, take_more, front_splits, split_same}
 
 -- what stands in a known type is there
@@ -35,8 +41,30 @@ kind_there ns i k a n h e = (subst (KnownAs ns i) e h).placed.0
 pub item_there : (ns : List Cell) (i k a : ℕ) (n : TypeNode) → KnownAs ns i n → n ≡ Coll k a → IsType ns a
 item_there ns i k a n h e = (subst (KnownAs ns i) e h).placed.1
 
-pub knows_scalar : (ns : List Cell) (i : ℕ) (b : Bool) (t : Ty) (n : TypeNode) (x : Scalar) → ground_of t ≡ scalar_type x → KnownAs ns i n → (IsTrue b → n ≡ Base x) → Knows b ns i t
-knows_scalar ns i b t n x is h e = record { says = λ y p s g. (subst (KnownAs ns i) (e y) h).says s g ∙ sym is }
+scalar_enough : (a b : Scalar) → IsTrue (same_scalar a b) → a ≡ b
+scalar_enough scalar.Bool scalar.Bool h = refl
+scalar_enough scalar.Int scalar.Int h = refl
+scalar_enough scalar.Str scalar.Str h = refl
+scalar_enough scalar.Bool scalar.Int h = absurd_true _ h
+scalar_enough scalar.Bool scalar.Str h = absurd_true _ h
+scalar_enough scalar.Int scalar.Bool h = absurd_true _ h
+scalar_enough scalar.Int scalar.Str h = absurd_true _ h
+scalar_enough scalar.Str scalar.Bool h = absurd_true _ h
+scalar_enough scalar.Str scalar.Int h = absurd_true _ h
+
+pub same_labels : (b : Bool) (l m : List ℕ) → b ≡ pointwise nat_eq l m → b ≡ true → l ≡ m
+same_labels b l m e h = ⊎_elim (λ p. p.1) (λ p. absurd (true≢false (sym h ∙ e ∙ p.0))) (told l m)
+
+base_is : (n : TypeNode) (x : Scalar) → IsTrue (is_base n x) → n ≡ Base x
+base_is (Base a) x h = ap Base (scalar_enough a x h)
+base_is AnyType x h = let z : ⊥ = cc in absurd z
+base_is (Rec r) x h = let z : ⊥ = cc in absurd z
+base_is (Var r) x h = let z : ⊥ = cc in absurd z
+base_is (Coll k a) x h = let z : ⊥ = cc in absurd z
+base_is (TypeLink a) x h = let z : ⊥ = cc in absurd z
+
+pub knows_scalar : (ns : List Cell) (i : ℕ) (b : Bool) (t : Ty) (n : TypeNode) (x : Scalar) → ground_of t ≡ scalar_type x → KnownAs ns i n → b ≡ is_base n x → Knows b ns i t
+knows_scalar ns i b t n x is h e = record { says = λ y p s g. (subst (KnownAs ns i) (base_is n x (subst IsTrue e y)) h).says s g ∙ sym is }
 
 pub knows_record : (ns : List Cell) (i r : ℕ) (b : Bool) (t : Ty) (fs gs : List (List ℕ × Ty)) (n : TypeNode) → t ≡ ty.Rec fs → gs ≡ fs → KnownAs ns i n → n ≡ Rec r → KnowsRow b ns r gs → Knows b ns i t
 knows_record ns i r b t fs gs n e f h z k = record {
@@ -63,23 +91,22 @@ knows_coll ns i j a b c t k u v n e f h z q w m = record {
       (subst (KnownAs ns i) z h).says s g ∙ ap₂ coll (q.says (subst IsTrue (sym w) refl) s g) (d.says y (subst IsGround is p) s g) ∙ sym is;
 }
 
-pub kind_known : (ns : List Cell) (i found : ℕ) (b : Bool) (n : KindNode) (k j : Kind) → FindsKind ns i found → HasKind ns found n → n ≡ Fixed j → (IsTrue b → j ≡ k) → IsKindAt b ns i k
-kind_known ns i found b n k j f h e q = record { says = λ y s g. sym (f.same s g) ∙ g.each found (OfKind (Fixed j)) (h ∙ ap (λ m. Some (OfKind m)) e) ∙ q y }
+fixed_is : (n : KindNode) (k : Kind) → IsTrue (is_fixed n k) → n ≡ Fixed k
+fixed_is (Fixed j) k h = ap Fixed (kind_enough j k h)
+fixed_is AnyKind k h = let z : ⊥ = cc in absurd z
+fixed_is (KindLink a) k h = let z : ⊥ = cc in absurd z
+
+pub kind_known : (ns : List Cell) (i found : ℕ) (b : Bool) (n : KindNode) (k : Kind) → FindsKind ns i found → HasKind ns found n → b ≡ is_fixed n k → IsKindAt b ns i k
+kind_known ns i found b n k f h e = record { says = λ y s g. (let is = fixed_is n k (subst IsTrue e y) in sym (f.same s g) ∙ g.each found (OfKind (Fixed k)) (h ∙ ap (λ m. Some (OfKind m)) is)) }
 
 -- a block before the row without labels
-pub knows_block : (ns : List Cell) (i r : ℕ) (b : Bool) (n : RowNode) (numbers ms : Fields) (fs : List (List ℕ × Ty)) → HasRow ns i n → n ≡ Front numbers r → ms ≡ numbers → HasRow ns r NoRow → KnowsFields b ns ms fs → KnowsRow b ns i fs
-knows_block ns i r b n numbers ms fs h e f bare k = record {
-  says = λ y p s g.
-      let here : HasRow ns i (Front numbers r) = h ∙ ap (λ m. Some (OfRow m)) e in
-      let m = subst (λ gs. KnowsFields b ns gs fs) f k in
-      let same = m.says y p s g in
-      let none : s.rows r ≡ no_row = g.each r (OfRow NoRow) bare in
-      let made : Splits numbers s.types (row_by ground_of fs) no_row = subst (λ w. Splits numbers s.types w no_row) same (front_splits s.types numbers (subst IsRow (sym same) p)) in
-      split_same s.types numbers (s.rows i) (row_by ground_of fs) (s.rows r) (s.rows_ground i) p (g.each i (OfRow (Front numbers r)) here) (subst (Splits numbers s.types (row_by ground_of fs)) (sym none) made);
-}
-
-pub block_types : (ns : List Cell) (i r : ℕ) (n : RowNode) (numbers ms : Fields) → IsFine ns → HasRow ns i n → n ≡ Front numbers r → ms ≡ numbers → AreTypes ns ms × IsRowAt ns r
-block_types ns i r n numbers ms fine h e f = let p = fine.placed i (OfRow (Front numbers r)) (h ∙ ap (λ m. Some (OfRow m)) e) in (subst (AreTypes ns) (sym f) p.0, p.1)
+pub a_block : (ns : List Cell) (i r : ℕ) (n : RowNode) (numbers ms : Fields) → IsFine ns → HasRow ns i n → n ≡ Front numbers r → ms ≡ numbers → HasRow ns r NoRow → IsBlock ns i ms
+a_block ns i r n numbers ms fine h e f bare =
+    let here : HasRow ns i (Front numbers r) = h ∙ ap (λ m. Some (OfRow m)) e in
+    subst (IsBlock ns i) (sym f) (record {
+      there = (fine.placed i (OfRow (Front numbers r)) here).0;
+      splits = λ s g. (let none : s.rows r ≡ no_row = g.each r (OfRow NoRow) bare in subst (Splits numbers s.types (s.rows i)) none (g.each i (OfRow (Front numbers r)) here));
+    })
 
 type_of_field : (ns : List Cell) (fs : Fields) (k : ℕ) (f : List ℕ × ℕ) → k < length fs → f ≡ get_or fs k f → AreTypes ns fs → IsType ns f.1
 type_of_field ns [] k f lt e h = absurd (omega arith)
@@ -101,11 +128,10 @@ knows_more ns numbers fs k m f b lt size em ef named t h to = record {
       ∙ sym (row_append ground_of (take k fs) (f ∷ [])) ∙ ap (row_by ground_of) (sym (take_more fs k f lt ef));
 }
 
-pub knows_all : (ns : List Cell) (numbers : Fields) (fs : List (List ℕ × Ty)) (k : ℕ) → length fs ≤ k → length numbers ≡ length fs → KnowsTo ns numbers fs k → KnowsFields true ns numbers fs
-knows_all ns numbers fs k le size to = record { says = λ y p s g. ap (row_by s.types) (sym (whole numbers k (omega arith))) ∙ to.says p s g ∙ ap (row_by ground_of) (whole fs k le) }
-  where
-    whole : {X : Type 0} (xs : List X) (k : ℕ) → length xs ≤ k → take k xs ≡ xs
-    whole [] zero l = refl
-    whole [] (suc k) l = refl
-    whole (x ∷ xs) zero l = absurd (omega arith)
-    whole (x ∷ xs) (suc k) l = ap (λ ys. x ∷ ys) (whole xs k (omega arith))
+pub knows_all : (ns : List Cell) (i : ℕ) (numbers : Fields) (fs : List (List ℕ × Ty)) (k : ℕ) → length fs ≤ k → length numbers ≡ length fs → IsBlock ns i numbers → KnowsTo ns numbers fs k → KnowsRow true ns i fs
+knows_all ns i numbers fs k le size block to = record {
+  says = λ y p s g.
+      let same : row_by s.types numbers ≡ row_by ground_of fs = ap (row_by s.types) (sym (take_all k numbers (omega arith))) ∙ to.says p s g ∙ ap (row_by ground_of) (take_all k fs le) in
+      let made : Splits numbers s.types (row_by ground_of fs) no_row = subst (λ w. Splits numbers s.types w no_row) same (front_splits s.types numbers (subst IsRow (sym same) p)) in
+      split_same s.types numbers (s.rows i) (row_by ground_of fs) no_row (s.rows_ground i) p (block.splits s g) made;
+}

@@ -1,7 +1,9 @@
 //! Whether a type is known to be one without variables.
-ghost use Rattle.std.specs.Prelude.{◌≡◌, length, true};
-ghost use Rattle.kl_rows.specs.Looking.{IsKindAt, Knows, KnowsFields, KnowsRow, KnowsThere};
-ghost use Rattle.kl_rows.specs.Places.{IsFine, IsKind, IsRowAt, IsType, AreTypes};
+ghost use Rattle.std.specs.Prelude.{◌≡◌, IfSome, nat_eq, true};
+ghost use Rattle.std.specs.Cmp.Lexicographic.{pointwise};
+ghost use Rattle.std.specs.Option.{option_copied};
+ghost use Rattle.kl_rows.specs.Looking.{IsBlock, IsKindAt, Knows, KnowsRow, KnowsThere, is_base, is_fixed};
+ghost use Rattle.kl_rows.specs.Places.{IsFine, IsKind, IsRowAt, IsType};
 ghost use Rattle.kl_rows.specs.declared.cell.RowNode.TheVariants.{NoRow};
 ghost use Rattle.kl_rows.specs.Walking.{HasRow};
 
@@ -31,9 +33,9 @@ fn knows(cells: &[Cell], at: usize, t: &Ty) -> bool
 {
     let known = node(cells, at);
     match t {
-        Ty::Bool => matches!(known, TypeNode::Base(Scalar::Bool)),
-        Ty::Int => matches!(known, TypeNode::Base(Scalar::Int)),
-        Ty::Str => matches!(known, TypeNode::Base(Scalar::Str)),
+        Ty::Bool => is_base(known, Scalar::Bool),
+        Ty::Int => is_base(known, Scalar::Int),
+        Ty::Str => is_base(known, Scalar::Str),
         Ty::Rec(fields) => match known {
             TypeNode::Rec(row) => knows_row(cells, row, fields.slice()),
             _ => false,
@@ -55,13 +57,28 @@ fn knows(cells: &[Cell], at: usize, t: &Ty) -> bool
     }
 }
 
+fn is_base(node: TypeNode, scalar: Scalar) -> bool
+    ensures { result ≡ is_base node scalar }
+{
+    match node {
+        TypeNode::Base(known) => known == scalar,
+        _ => false,
+    }
+}
+
 // The kind is known to be this one.
 fn is_kind(cells: &[Cell], at: usize, kind: Kind) -> bool
     requires fine { IsFine cells.now }
     requires there { IsKind cells.now at }
     ensures { IsKindAt result cells.now at kind }
 {
-    match kind_at(cells, find_kind(cells, at)) {
+    is_fixed(kind_at(cells, find_kind(cells, at)), kind)
+}
+
+fn is_fixed(node: KindNode, kind: Kind) -> bool
+    ensures { result ≡ is_fixed node kind }
+{
+    match node {
         KindNode::Fixed(known) => known == kind,
         _ => false,
     }
@@ -74,43 +91,49 @@ fn knows_row(cells: &[Cell], row: usize, fields: &[(Label, Ty)]) -> bool
     requires there { IsRowAt cells.now row }
     ensures { KnowsRow result cells.now row fields.now }
 {
-    match row_at(cells, row) {
-        RowNode::Front(numbers, rest) => {
-            let numbers = numbers.slice();
-            if numbers.len() == fields.len() && is_bare(cells, *rest) {
-                knows_fields(cells, numbers, fields)
-            } else {
-                false
-            }
-        }
-        _ => false,
+    let numbers = match block(cells, row) {
+        Some(numbers) => numbers,
+        None => return false,
+    };
+    if numbers.len() != fields.len() {
+        return false;
     }
-}
-
-fn is_bare(cells: &[Cell], row: usize) -> bool
-    requires { IsRowAt cells.now row }
-    ensures { result ≡ true → HasRow cells.now row NoRow }
-{
-    match row_at(cells, row) {
-        RowNode::NoRow => true,
-        _ => false,
-    }
-}
-
-#[cycle(knows)]
-fn knows_fields(cells: &[Cell], numbers: &[(Label, usize)], fields: &[(Label, Ty)]) -> bool
-    requires fine { IsFine cells.now }
-    requires there { AreTypes cells.now numbers.now }
-    requires size { length numbers.now ≡ length fields.now }
-    ensures { KnowsFields result cells.now numbers.now fields.now }
-{
     'fields: for i in 0..fields.len() {
-        if numbers[i].0 != fields[i].0 {
+        let number = &numbers[i];
+        let field = &fields[i];
+        if !are_alike(&number.0, &field.0) {
             return false;
         }
-        if !knows(cells, numbers[i].1, &fields[i].1) {
+        if !knows(cells, number.1, &field.1) {
             return false;
         }
     }
     true
+}
+
+fn are_alike(first: &Label, second: &Label) -> bool
+    ensures { result ≡ pointwise nat_eq first.now second.now }
+{
+    *first == *second
+}
+
+// The fields of a row that is one block before the row without labels.
+fn block(cells: &[Cell], row: usize) -> Option<&[(Label, usize)]>
+    requires fine { IsFine cells.now }
+    requires there { IsRowAt cells.now row }
+    ensures { IfSome (option_copied result) (IsBlock cells.now row) }
+{
+    match row_at(cells, row) {
+        RowNode::Front(numbers, rest) if is_bare(cells, *rest) => Some(numbers.slice()),
+        _ => None,
+    }
+}
+
+fn is_bare(cells: &[Cell], row: usize) -> bool
+    ensures { result ≡ true → HasRow cells.now row NoRow }
+{
+    match cells.get(row) {
+        Some(Cell::OfRow(RowNode::NoRow)) => true,
+        _ => false,
+    }
 }
