@@ -1,6 +1,7 @@
 pub mod KindLemmas
 pub mod PageLemmas
 pub mod RowLemmas
+pub mod Stable
 pub mod TreeLemmas
 pub mod Writing
 pub mod Leaving
