@@ -22,7 +22,7 @@ use Rattle.kl_infer.specs.Asking.{cells, FollowsTyping, Leaves, Asks, Gets, Gets
 use Rattle.kl_infer.specs.Inferred.{IsPrincipal, IsArrow}
 use Rattle.kl_infer.specs.Names.{IsGood, Ready, meant, sorts}
 use Rattle.kl_infer.specs.declared.scope.Known.{Known}
-use Rattle.kl_infer.proofs.Grounds.{is_type, takes_ground}
+use Rattle.kl_meaning.proofs.Grounds.{takes_ground}
 use Rattle.kl_infer.proofs.Leaving.{told, beside, opens, binds, goes_on, said, ready_on, ready_in, ready_new, still_there}
 use Rattle.kl_infer.proofs.Forms.{first, ground_of_type, known_ground}
 use Rattle.kl_infer.specs.declared.typing.Typing.{Typing}
@@ -129,7 +129,7 @@ module _ (k : Known) (a b c d f z : Typing) (i j l : ℕ) (p : Pat) (e : Exp) (b
         let x = h.0 in
         let y = h.1 in
         let ty = ground_of_body x y h.3 in
-        let w = (both_types x y).down s po m (x, h.3.0.0, tt, (refl, (h.3.1, h.3.2, (y, ty s, tt, (refl, h.3.3))))) in
+        let w = (both_types x y).down s po m (x, h.3.0, tt, (refl, (h.3.1, h.3.2, (y, ty s, tt, (refl, h.3.3))))) in
         let v = w.1 in
         let n = g3.down v.to w.0 v.solves in
         let o = n.1 in
@@ -152,7 +152,7 @@ module _ (k : Known) (a b c d f z : Typing) (i j l : ℕ) (p : Pat) (e : Exp) (b
           s.types j,
           n.1,
           (
-            is_type (s.types i) (s.types_ground i),
+            s.types_ground i,
             w.3.1.0,
             subst (λ (t : Ground). Takes p (NameTypes (sorts k) []) t [] w.3.1.0) w.3.0 w.3.1.1,
             subst (λ (t : Ground). Types e (sorts k) w.3.1.0 t) r.3.0 r.3.1,
@@ -161,7 +161,7 @@ module _ (k : Known) (a b c d f z : Typing) (i j l : ℕ) (p : Pat) (e : Exp) (b
   }
     where
       ground_of_body : (x y : Ground) → FunctionTypes (sorts k) p e x y → Assignment → IsGround y
-      ground_of_body x y h s = known_ground k [] a [] ready e h.1 y (takes_ground p (NameTypes (sorts k) []) x [] h.1 h.0.0 tt h.2) h.3
+      ground_of_body x y h s = known_ground k [] a [] ready e h.1 y (takes_ground p (NameTypes (sorts k) []) x [] h.1 h.0 tt h.2) h.3
 
 -- ---- the answer of a search
 

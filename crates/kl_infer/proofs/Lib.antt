@@ -5,7 +5,6 @@ pub mod Stable
 pub mod TreeLemmas
 pub mod Writing
 pub mod Leaving
-pub mod Grounds
 pub mod Forms
 pub mod Lists
 pub mod PatternForms
