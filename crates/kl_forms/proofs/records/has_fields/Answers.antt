@@ -1,4 +1,4 @@
-use Rattle.std.proofs.Common.{refl}
+use Rattle.std.proofs.Common.{refl, true}
 use Rattle.kl_forms.proofs.Looking.{row_refused, row_takes}
 use Rattle.kl_forms.proofs.records.has_fields.Goals as goal
 
