@@ -289,9 +289,9 @@ pub made_so : (holds : Bool) (a b : Typing) (mid new : List Cell) (i w : ℕ) (t
     → Advances holds mid new (Same (sort_at mid i) i w) (λ s. Unit {0}) → Asks a b (IsThis t w)
 made_so ans a b mid new i w t u p e n q there g m = asked ans a b new (IsThis t w) p e n (gives_type (cells a) mid new i w ans (ground_of u) (ground_of t) (ap ground_of q) there g (same_types ans mid new i w g.sort m))
 
-pub known_so : (a b : Typing) (i w : ℕ) (t : Ty) (yes : Bool) → yes ≡ true → IsProper t → KnowsThere yes (cells a) i t → Asks a b (λ s. s.types i ≡ s.types w) → Asks a b (IsThis t w)
-known_so a b i w t yes e p h f =
-    let y : IsTrue yes = subst IsTrue (sym e) refl in
+pub known_so : (a b : Typing) (i w : ℕ) (t : Ty) (sure : Bool) → sure ≡ true → IsProper t → KnowsThere sure (cells a) i t → Asks a b (λ s. s.types i ≡ s.types w) → Asks a b (IsThis t w)
+known_so a b i w t sure e p h f =
+    let y : IsTrue sure = subst IsTrue (sym e) refl in
     record {
       follows = f.follows;
       down = λ s q g d. f.down s q g (h.says y p s g ∙ d);
