@@ -19,7 +19,7 @@ use Rattle.kl_infer.specs.Asking.{cells, Leaves, Asks, Gets, GetsMany, Binds, co
 use Rattle.kl_infer.specs.Names.{Ready, sorts, TakesAll, labelled}
 use Rattle.kl_infer.specs.declared.scope.Known.{Known}
 use Rattle.kl_infer.specs.declared.typing.Typing.{Typing}
-use Rattle.kl_infer.proofs.Grounds.{at_ground}
+use Rattle.kl_outcome.proofs.Grounds.{at_ground}
 use Rattle.kl_infer.proofs.Leaving.{told, beside, opens, opens_many, goes_on, ready_on, ready_for, said, follows_refl, begins, same_context}
 use Rattle.kl_infer.proofs.Forms.{first}
 use Rattle.kl_infer.proofs.Lists.{AtEach, Within, RecordAt, each_ground, each_length, has_name, names_of, length_names, record_at}

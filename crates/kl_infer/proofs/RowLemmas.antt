@@ -33,19 +33,6 @@ sorted_each : {X : Type 0} (h : List ℕ × ℕ → X) (fs : Fields) → sorted 
 sorted_each h [] = refl
 sorted_each h (f ∷ fs) = ap (put_in by_label (f.0, h f)) (sorted_each h fs) ∙ put_in_each h f (sorted by_label fs)
 
--- fields are put in, the last first
-abbrev pub put_all : Fields → Fields → Fields
-put_all [] gs = gs
-put_all (f ∷ fs) gs = put_in by_label f (put_all fs gs)
-
-pub put_all_last : (fs : Fields) (f : List ℕ × ℕ) (gs : Fields) → put_all (fs ++ f ∷ []) gs ≡ put_all fs (put_in by_label f gs)
-put_all_last [] f gs = refl
-put_all_last (g ∷ fs) f gs = ap (put_in by_label g) (put_all_last fs f gs)
-
-pub put_all_sorted : (fs : Fields) → put_all fs [] ≡ sorted by_label fs
-put_all_sorted [] = refl
-put_all_sorted (f ∷ fs) = ap (put_in by_label f) (put_all_sorted fs)
-
 module _ (parts : List Part) where
   abbrev pub piece : List ℕ × ℕ → List ℕ → List ℕ
   piece f all = f.0 ++ codes ": " ++ text (tree_at parts f.1) all
@@ -225,35 +212,6 @@ take_last : {X : Type 0} (xs : List X) (i : ℕ) (x : X) → i < length xs → x
 take_last [] i x lt e = absurd (omega arith)
 take_last (y ∷ xs) zero x lt e = ap (λ z. z ∷ []) (sym e)
 take_last (y ∷ xs) (suc i) x lt e = ap (λ zs. y ∷ zs) (take_last xs i x (omega arith) e)
-
-put_behind : (f g : List ℕ × ℕ) (b : Bool) (fs : Fields) → b ≡ true → cond b (g ∷ put_in by_label f fs) (f ∷ g ∷ fs) ≡ g ∷ put_in by_label f fs
-put_behind f g true fs e = refl
-put_behind f g false fs e = let z : ⊥ = cc in absurd z
-
-put_before : (f g : List ℕ × ℕ) (b : Bool) (fs : Fields) → b ≡ false → cond b (g ∷ put_in by_label f fs) (f ∷ g ∷ fs) ≡ f ∷ g ∷ fs
-put_before f g false fs e = refl
-put_before f g true fs e = let z : ⊥ = cc in absurd z
-
-pub put_first : (f : List ℕ × ℕ) (fs : Fields) → take 0 fs ++ put_in by_label f (drop 0 fs) ≡ put_in by_label f fs
-put_first f fs = refl
-
-pub put_last : (f : List ℕ × ℕ) (fs : Fields) (i : ℕ) → drop i fs ≡ [] → take i fs ++ put_in by_label f (drop i fs) ≡ put_in by_label f fs → take i fs ++ f ∷ drop i fs ≡ put_in by_label f fs
-put_last f fs i e h = ap (λ gs. take i fs ++ f ∷ gs) e ∙ (ap (λ gs. take i fs ++ put_in by_label f gs) (sym e) ∙ h)
-
-module _ (f g : List ℕ × ℕ) (fs : Fields) (i : ℕ) (lt : i < length fs) (is : g ≡ get_or fs i g) (before : take i fs ++ put_in by_label f (drop i fs) ≡ put_in by_label f fs) where
-  first : drop i fs ≡ g ∷ drop (suc i) fs
-  first = drop-cons fs i g lt ∙ ap (λ x. x ∷ drop (suc i) fs) (sym is)
-
-  pub put_on : is_gt (by_label f g) ≡ true → take (i + 1) fs ++ put_in by_label f (drop (i + 1) fs) ≡ put_in by_label f fs
-  put_on e = rw add-one
-      (ap (λ t. t ++ put_in by_label f (drop (suc i) fs)) (take_last fs i g lt is)
-      ∙ (append_assoc (take i fs) (g ∷ []) (put_in by_label f (drop (suc i) fs))
-      ∙ (ap (λ t. take i fs ++ t) (sym (ap (put_in by_label f) first ∙ put_behind f g (is_gt (by_label f g)) (drop (suc i) fs) e)) ∙ before)))
-
-  pub put_here : is_gt (by_label f g) ≡ false → take i fs ++ f ∷ drop i fs ≡ put_in by_label f fs
-  put_here e =
-      ap (λ t. take i fs ++ f ∷ t) first
-      ∙ (ap (λ t. take i fs ++ t) (sym (ap (put_in by_label f) first ∙ put_before f g (is_gt (by_label f g)) (drop (suc i) fs) e)) ∙ before)
 
 -- one field more is written
 pub take_more : {X : Type 0} (xs : List X) (i : ℕ) (x : X) → i < length xs → x ≡ get_or xs i x → take (i + 1) xs ≡ take i xs ++ x ∷ []

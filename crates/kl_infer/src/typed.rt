@@ -15,7 +15,7 @@ pub type Schemes = Seq<Scheme>;
 
 /// A program's types, as schemes. That of a function has an arrow at its root, from its parameter's type to its
 /// result's.
-#[derive(Debug, Drop)]
+#[derive(Drop)]
 pub struct Typed {
     pub schemes: Schemes,
     /// The scheme of the last expression.

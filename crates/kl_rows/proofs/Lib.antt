@@ -22,5 +22,7 @@ pub mod RowJoins
 pub mod RowMeets
 pub mod SchemeLemmas
 pub mod Settlements
+pub mod Spots
+pub mod Sureness
 pub mod TypeJoins
 pub mod Walking

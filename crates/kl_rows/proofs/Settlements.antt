@@ -19,7 +19,7 @@ use Rattle.kl_rows.specs.Schemes.{cells_of, IsBasePart, given, Instance, IsSchem
 use Rattle.kl_rows.proofs.Assigning.{parts_on}
 use Rattle.kl_rows.proofs.CellLists.{stands, sort_here, sort_within}
 use Rattle.kl_rows.proofs.Growing.{grown_map, parts_within}
-use Rattle.kl_rows.proofs.Ordered.{Start, started_solvable}
+use Rattle.kl_rows.proofs.Ordered.{Start, started_solvable, marked_solvable}
 
 pub fine_source : (cells : List Cell) → IsFine cells → IsSource cells
 fine_source cells fine = record { placed = fine.placed; tidy = fine.tidy }
@@ -89,6 +89,10 @@ module _ (cells : List Cell) (list : List ℕ) (root : ℕ) (kept : List Bool) (
       let st = typed cells root is_root in
       let sorts : sort_at table (number_in numbers root) ≡ sort_at cells root = x.sorts root st.cell needs.root_in st.here ∙ sym (sort_here cells root st.cell st.here) in
       let root_sort : sort_at (cells_of scheme.nodes) scheme.root ≡ sort_at cells root = ap (λ cs. sort_at cs scheme.root) same ∙ ap (sort_at table) r ∙ sorts in
+      let meets : (s : Assignment) → Solves cells s → Instance scheme (given (sort_at cells root) s root) = λ s h.
+          let g = x.down s s (empty_solved none s e) (λ j c k q. h.each j c q) in
+          let w = g.holds in
+          record { by = g.to; solves = subst (λ cs. Solves cs g.to) (sym same) g.solves; root_is = ap (λ q. given q g.to scheme.root) root_sort ∙ ap (given (sort_at cells root) g.to) r ∙ given_copied (λ j. kept_in kept j ≡ true) cells numbers g.to s root is_root needs.root_in w } in
       record {
         good = record {
           placed = subst (λ cs. (i : ℕ) (c : Cell) → slice_get cs i ≡ Some c → IsPlaced cs i c) (sym same) table_fine.placed;
@@ -98,10 +102,8 @@ module _ (cells : List Cell) (list : List ℕ) (root : ℕ) (kept : List Bool) (
           root_in = typed_as cells (cells_of scheme.nodes) root scheme.root root_sort is_root;
         };
         sort = root_sort;
-        to = λ s h.
-            let g = x.down s s (empty_solved none s e) (λ j c k q. h.each j c q) in
-            let w = g.holds in
-            record { by = g.to; solves = subst (λ cs. Solves cs g.to) (sym same) g.solves; root_is = ap (λ q. given q g.to scheme.root) root_sort ∙ ap (given (sort_at cells root) g.to) r ∙ given_copied (λ j. kept_in kept j ≡ true) cells numbers g.to s root is_root needs.root_in w };
+        to = meets;
+        has_one = let w = marked_solvable cells fine ordered.order ordered.is_order ordered.all in (given (sort_at cells root) w.by root, meets w.by w.solves);
         from = λ u h.
             let v = h.by in
             let solved : Solves table v = subst (λ cs. Solves cs v) same h.solves in

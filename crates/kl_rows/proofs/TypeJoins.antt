@@ -256,7 +256,7 @@ kind_must kind.Bag kind.List h = let e : ⊥ = cc in absurd e
 kind_must kind.List kind.Set h = let e : ⊥ = cc in absurd e
 kind_must kind.List kind.Bag h = let e : ⊥ = cc in absurd e
 
-kind_enough : (a b : Kind) → IsTrue (same_kind a b) → a ≡ b
+pub kind_enough : (a b : Kind) → IsTrue (same_kind a b) → a ≡ b
 kind_enough kind.Set kind.Set h = refl
 kind_enough kind.Bag kind.Bag h = refl
 kind_enough kind.List kind.List h = refl

@@ -18,7 +18,7 @@ use kl_value::Kind;
 use std::alloc::Global;
 
 /// What two cells that stand for one type ask of others.
-#[derive(Clone, Copy, Debug)]
+#[derive(Clone, Copy)]
 pub enum Task {
     Nothing,
     Rows(usize, usize),
