@@ -15,17 +15,15 @@ ghost use Rattle.kl_parse.specs.Kinds.{among, is_symbol, op_kinds, an_op};
 ghost use Rattle.kl_parse.specs.Descent.{mark, read_pat, labels, reads, chain_at, operand_at, sort_at, compare_at, post_at, prim_at, named_at, branch_at, exprs, in_args, in_group, in_rec, in_inject, in_coll, in_let, in_if, in_case, case_end, expr_before, field, condition, qualifier, quals, beyond, otherwise};
 
 use crate::front::{
-    boxed, closed, closed_word, constant, eat, eat_word, is_word, label, labelled, least, name, or_bad,
-    or_deep, want,
+    boxed, closed, closed_word, constant, eat, eat_word, is_word, label, labelled, least, name,
+    or_bad, or_deep, want,
 };
 use crate::operator::{Level, operator};
 use crate::patterns::{pattern_before, variant_rest};
 use kl_base::{Box, Seq};
 use kl_lex::{Keyword, Sym, Token, closer};
 use kl_phrase::Fault;
-use kl_syntax::{
-    Branch, Branches, Expr, ExprFields, Exprs, Op, Pattern, Qual, Quals, Word,
-};
+use kl_syntax::{Branch, Branches, Expr, ExprFields, Exprs, Op, Pattern, Qual, Quals, Word};
 use kl_value::Kind;
 use std::alloc::Global;
 
