@@ -94,8 +94,8 @@ module _ (total : ℕ) (ts : List Token) (all : total ≡ length ts) where
   empty [] z = refl
   empty (t ∷ r) z = absurd cc
 
-  pub whole_program : (p : Program) (r : List Token) → d.program total 256 ts ≡ ok p r → length r ≡ 0 → IsProgram ts p
-  whole_program p r e z = (answered (ok p []) (e ∙ ap (ok p) (empty r z))).1
+  pub whole_program : (p q : Program) (r : List Token) → q ≡ p → d.program total 256 ts ≡ ok p r → length r ≡ 0 → IsProgram ts q
+  whole_program p q r same e z = subst (IsProgram ts) (sym same) ((answered (ok p []) (e ∙ ap (ok p) (empty r z))).1)
 
   pub same_program_read : (p q : Program) (r : List Token) → d.program total 256 ts ≡ ok p r → length r ≡ 0 → IsProgram ts q → p ≡ q
   same_program_read p q r e z h = let k : Path (Out Token Program) (ok p []) (ok q []) = only_so (ok p []) q (e ∙ ap (ok p) (empty r z)) h in cc

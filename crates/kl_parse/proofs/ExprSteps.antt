@@ -456,12 +456,6 @@ module _ (N n k : ℕ) (ts more rest : List Token) (a : Word × Pattern) (z : n 
   pub branch_arrow : d.branch_at N n ts ≡ after (behind (mark sy.Arrow) (d.reads N n whole) rest) (λ b s. ok (branch_of (a, b)) s)
   branch_arrow = branch_here N n k ts more z h ∙ rw v refl
 
-  pub branch_arrow_fails : (f : Fault Token) → Fails f (mark sy.Arrow rest) → Fails f (d.branch_at N n ts)
-  branch_arrow_fails f i = err_by f (d.branch_at N n ts) (behind (mark sy.Arrow) (d.reads N n whole) rest) (λ b s. ok (branch_of (a, b)) s) branch_arrow (fails_after f (mark sy.Arrow rest) (λ _ r. d.reads N n whole r) i)
-
-  pub branch_body : (last : List Token) → mark sy.Arrow rest ≡ ok tt last → d.branch_at N n ts ≡ after (d.reads N n whole last) (λ b s. ok (branch_of (a, b)) s)
-  branch_body last i = branch_arrow ∙ rw i refl
-
 pub variant_in_branch_fails : (N n k : ℕ) (ts more : List Token) (f : Fault Token) → n ≡ suc k → mark sy.Lt ts ≡ ok tt more → Fails f (d.in_variant N (d.read_pat N k) more) → Fails f (d.branch_at N n ts)
 variant_in_branch_fails N n k ts more f z h i = err_by f (d.branch_at N n ts) (d.in_variant N (d.read_pat N k) more) (λ a r. after (behind (mark sy.Arrow) (d.reads N n whole) r) (λ b s. ok (branch_of (a, b)) s)) (branch_here N n k ts more z h) i
 
@@ -486,14 +480,8 @@ module _ (p : Reader Token Pattern) (e : Reader Token Expr) (k : Kind) (ts : Lis
       coll_beyond_fails f h = err_by f (d.in_coll p e k ts) (d.beyond p e k a rest) (λ a s. after (mark (closer k) s) (λ _ z. ok a z)) coll_beyond h
 
       module _ (b : Expr) (more : List Token) (found : d.beyond p e k a rest ≡ ok b more) (r : Sym) (also : r ≡ closer k) where
-        coll_close : d.in_coll p e k ts ≡ after (mark (closer k) more) (λ _ z. ok b z)
-        coll_close = coll_beyond ∙ rw found refl
-
-        pub coll_close_fails : (f : Fault Token) → Fails f (mark r more) → Fails f (d.in_coll p e k ts)
-        coll_close_fails f h = err_by f (d.in_coll p e k ts) (mark (closer k) more) (λ _ z. ok b z) coll_close (subst (λ (q : Sym). Fails f (mark q more)) also h)
-
-        pub coll_ok : (last : List Token) → mark r more ≡ ok tt last → d.in_coll p e k ts ≡ ok b last
-        coll_ok last h = coll_close ∙ rw (subst (λ (q : Sym). mark q more ≡ ok tt last) also h) refl
+        pub coll_close : d.in_coll p e k ts ≡ after (mark r more) (λ _ z. ok b z)
+        coll_close = coll_beyond ∙ rw found (ap (λ (q : Sym). after {B = Expr} (mark q more) (λ _ z. ok b z)) (sym also))
 
 -- ---- what is left is a rest
 
