@@ -10,7 +10,7 @@ use Rattle.std.proofs.lemmas.List.MinMax.{ranks_by}
 use Rattle.kl_base.specs.Fields.{bytes_cmp}
 use Rattle.kl_base.specs.Sorted.{IsRising, put_in, sorted}
 use Rattle.kl_base.proofs.SortedLemmas.{IsRising-from_sorted, IsRising-sorted}
-use Rattle.kl_base.proofs.Orders.{neither, tied}
+use Rattle.kl_base.proofs.Orders.{even_turned, neither, tied, ties_of}
 use Rattle.kl_rows.specs.Lists.{Fields}
 use Rattle.kl_infer.specs.Printed.{by_label}
 
@@ -73,17 +73,12 @@ itself_first f fs = ap (λ b. cond b (f ∷ named f fs) (named f fs)) (ap is_eq 
 heads_tie : (f g : Field) (fs gs : Fields) → IsRising by_label (f ∷ fs) → IsRising by_label (g ∷ gs) → ((q : Field) → named q (f ∷ fs) ≡ named q (g ∷ gs)) → (b : Bool) → is_eq (by_label f g) ≡ b → is_eq (by_label f g) ≡ true
 heads_tie f g fs gs up vp same true e = e
 heads_tie f g fs gs up vp same false e =
-    let other : is_eq (by_label g f) ≡ false = ap is_eq (total.antisymm g f) ∙ flipped (by_label f g) ∙ e in
+    let other : is_eq (by_label g f) ≡ false = ap is_eq (total.antisymm g f) ∙ even_turned (by_label f g) ∙ e in
     let in_gs : f ∷ named f fs ≡ named f gs = sym (itself_first f fs) ∙ same f ∙ ap (λ b. cond b (g ∷ named f gs) (named f gs)) e in
     let in_fs : g ∷ named g gs ≡ named g fs = sym (itself_first g gs) ∙ sym (same g) ∙ ap (λ b. cond b (f ∷ named g fs) (named g fs)) other in
     let gf : is_gt (by_label g f) ≡ false = first_has (λ z. is_gt (by_label g z) ≡ false) f f _ gs in_gs vp.0 in
     let fg : is_gt (by_label f g) ≡ false = first_has (λ z. is_gt (by_label f z) ≡ false) g g _ fs in_fs up.0 in
     ap is_eq (neither (by_label f g) fg (ap is_gt (sym (total.antisymm g f)) ∙ gf))
-  where
-    flipped : (o : Ordering) → is_eq (ordering_reverse o) ≡ is_eq o
-    flipped Less = refl
-    flipped Equal = refl
-    flipped Greater = refl
 
 -- two rising lists are one where the fields of each label stand in one order
 one_order : (fs gs : Fields) → IsRising by_label fs → IsRising by_label gs → ((q : Field) → named q fs ≡ named q gs) → fs ≡ gs
@@ -98,12 +93,7 @@ one_order (f ∷ fs) (g ∷ gs) up vp same =
     ap₂ ◌∷◌ head (one_order fs gs up.1 vp.1 tails)
 
 tie_is : (f g : Field) → ties below f g ≡ is_eq (by_label f g)
-tie_is f g = ap (λ o. not (is_lt (by_label f g)) && not (is_lt o)) (total.antisymm g f) ∙ by_cases (by_label f g)
-  where
-    by_cases : (o : Ordering) → not (is_lt o) && not (is_lt (ordering_reverse o)) ≡ is_eq o
-    by_cases Less = refl
-    by_cases Equal = refl
-    by_cases Greater = refl
+tie_is f g = ap (λ o. not (is_lt (by_label f g)) && not (is_lt o)) (total.antisymm g f) ∙ ties_of (by_label f g)
 
 -- what a stable sort by label leaves
 pub stable_is : (fs gs : Fields) → IsSortedBy below gs → IsStableBy below fs gs → gs ≡ sorted by_label fs
