@@ -116,12 +116,6 @@ module _ (k : Known) (a b c d f z : Typing) (i j l : ℕ) (p : Pat) (e : Exp) (b
       (beside d f (λ s. Types e (sorts k) (context s (onto bs [])) (s.types j)) (λ s. (s.types i ≡ x) × (s.types j ≡ y))
       (λ q s u ag m. let kp = (g2.follows q).keeps in let pq = (g2.follows q).was in (ag.types i (sort_within (cells d) i a_type (kp.sorts i a_type ((ready_there.wants pq).0))) ∙ m.0, ag.types j (sort_within (cells d) j a_type (g2.sort q)) ∙ m.1)) h2))))
 
-  arrow_first : (x y x2 y2 : Ground) → arrow x y ≡ arrow x2 y2 → x ≡ x2
-  arrow_first x y x2 y2 q = cc
-
-  arrow_second : (x y x2 y2 : Ground) → arrow x y ≡ arrow x2 y2 → y ≡ y2
-  arrow_second x y x2 y2 q = cc
-
   pub function_carries : Carries a z l a_function (IsArrow (FunctionTypes (sorts k) p e))
   function_carries = record {
     sort = g3.sort;

@@ -117,12 +117,6 @@ not_each (e ∷ ds) d more K g h = not_each ds d more (behind_one e.param e K) (
 
 -- ---- the code's names and the definition's
 
-alike_refl : (k : Sort) → AreAlike k k
-alike_refl nothing = (tt, tt)
-alike_refl (value_of P) = ((λ t h. h), (λ t h. h))
-alike_refl (function_of P) = ((λ a b h. h), (λ a b h. h))
-alike_refl (primitive c) = (refl, refl)
-
 alike_code : (o : Option ℕ) → AreAlike (sort_by_code o) (sort_of (by_maybe_code o))
 alike_code (Some c) = (refl, refl)
 alike_code None = (tt, tt)

@@ -174,9 +174,6 @@ module _ (parts : List Part) where
     pub falls : AllByRecursion (λ f. f.1 < place) fields
     pub here : end ≤ place
 
-  pub on_row_first : (place : ℕ) → CanPrint parts place → OnRow place [] place
-  on_row_first place can = record { can = can; same = refl; falls = tt; here = omega arith }
-
   fronted_last : (fs : Fields) (f : List ℕ × ℕ) (r : Tree) → fronted parts (fs ++ f ∷ []) r ≡ fronted parts fs (field f.0 (tree_at parts f.1) r)
   fronted_last [] f r = refl
   fronted_last (g ∷ fs) f r = ap (field g.0 (tree_at parts g.1)) (fronted_last fs f r)
