@@ -1,20 +1,19 @@
 -- Checks, one after another: what is asked is put together from the last step to the first.
 use Rattle.std.proofs.Common.{◌≡◌, ℕ, Bool, true, false, List, length, refl, sym, ap, ◌∙◌, subst}
 use Rattle.kl_value.specs.declared.value.Kind.{Kind}
-use Rattle.kl_type.specs.Ground.{Ground, Row, IsGround, IsRow}
+use Rattle.kl_type.specs.Ground.{Ground, IsGround}
 use Rattle.kl_rows.specs.declared.cell.TypeNode.{TypeNode}
-use Rattle.kl_rows.specs.declared.cell.RowNode.{RowNode}
 use Rattle.kl_rows.specs.declared.cell.KindNode.{KindNode}
 use Rattle.kl_rows.specs.declared.cell.Cell.{Cell}
-use Rattle.kl_rows.specs.declared.cell.Cell.TheVariants.{OfType, OfRow, OfKind}
+use Rattle.kl_rows.specs.declared.cell.Cell.TheVariants.{OfType, OfKind}
 use Rattle.kl_rows.specs.Places.{IsFine, IsType, sort_at}
-use Rattle.kl_rows.specs.Solutions.{Assignment, TypeSays, RowSays, KindSays, Solves}
+use Rattle.kl_rows.specs.Solutions.{Assignment, TypeSays, KindSays, Solves}
 use Rattle.kl_rows.specs.Steps.{Agrees, Advances}
 use Rattle.kl_rows.specs.Making.{CanMake, AddsCell}
 use Rattle.kl_rows.specs.declared.schemes.Scheme.{Scheme}
 use Rattle.kl_rows.specs.Schemes.{Instance, Instantiates, cells_of, given}
 use Rattle.kl_rows.proofs.Advancing.{Fact, agrees_refl, agrees_on, keeps_refl, keeps_on, absurd_true}
-use Rattle.kl_rows.proofs.Growing.{grown_type, grown_row, grown_kind}
+use Rattle.kl_rows.proofs.Growing.{grown_type, grown_kind}
 use Rattle.kl_forms.specs.Checks.{Checks}
 
 -- D speaks of numbers below n alone

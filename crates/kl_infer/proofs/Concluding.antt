@@ -1,16 +1,16 @@
 -- From what was asked to schemes.
-use Rattle.std.proofs.Common.{◌≡◌, inl, inr, ℕ, ◌<◌, ◌≤◌, Bool, true, false, IsTrue, List, [], ◌∷◌, length, slice_get, Option, Some, None, MatchOption, refl, sym, ap, ◌∙◌, subst}
+use Rattle.std.proofs.Common.{◌≡◌, inl, inr, ℕ, ◌≤◌, IsTrue, List, [], ◌∷◌, length, Option, Some, None, MatchOption, refl, sym, ap, ◌∙◌, subst}
 use Rattle.kl_value.specs.declared.Kind.TheVariants as kind
 use Rattle.kl_type.specs.Ground.{Ground, bool, arrow, no_row, IsGround}
 use Rattle.kl_rows.specs.declared.cell.Cell.{Cell}
 use Rattle.kl_rows.specs.declared.cell.Cell.TheVariants.{OfFunction}
 use Rattle.kl_rows.specs.declared.Scheme.{Scheme}
-use Rattle.kl_rows.specs.Places.{Sort, a_type, a_function, a_row, a_kind, sort_at, IsFine, IsType, IsFunction, IsTyped}
+use Rattle.kl_rows.specs.Places.{Sort, a_type, a_function, sort_at, IsFine, IsType, IsFunction, IsTyped}
 use Rattle.kl_rows.specs.Schemes.{Instance, Settles, given}
 use Rattle.kl_rows.specs.Finite.{Solvable}
 use Rattle.kl_rows.specs.Making.{CanMake, AddsCell}
 use Rattle.kl_rows.specs.Solutions.{Assignment, Solves}
-use Rattle.kl_rows.specs.Steps.{Agrees, Grown}
+use Rattle.kl_rows.specs.Steps.{Grown}
 use Rattle.kl_rows.proofs.CellLists.{sort_within}
 use Rattle.kl_rows.proofs.Growing.{grown_function}
 use Rattle.kl_rows.specs.Lists.{Fields}

@@ -16,7 +16,7 @@ use Rattle.kl_syntax.specs.Syntax.{Exp, Decls, no_decls}
 use Rattle.kl_syntax.specs.View.{view, pattern_view, decls_of, decl_of}
 use Rattle.kl_meaning.specs.Match.{same_name}
 use Rattle.kl_meaning.specs.Run.{code_named}
-use Rattle.kl_meaning.specs.Typing.{Sort, nothing, value_of, function_of, primitive, KnownTypes as Sorts, with_sort, sort_if, sort_at, sort_by_code, types_at_first, types_after, Types, FunctionTypes, EachTyped}
+use Rattle.kl_meaning.specs.Typing.{Sort, value_of, function_of, KnownTypes as Sorts, with_sort, sort_if, sort_at, sort_by_code, types_at_first, types_after, Types, FunctionTypes, EachTyped}
 use Rattle.kl_infer.specs.Declaring.{Declared, NoType, IsAt}
 use Rattle.kl_infer.specs.Inferred.{IsPrincipal, IsArrow, HaveSchemes, FailsAt, Infers, types_of}
 use Rattle.kl_infer.specs.Refusing.{IsRefusal}
