@@ -1,6 +1,6 @@
 -- A label in a row that is there.
 use Rattle.std.proofs.Common.{◌≡◌, ℕ, ◌<◌, Bool, true, false, List, [], ◌∷◌, length, Option, Some, None, sym, ap, ◌∙◌, subst}
-use Rattle.kl_type.specs.Ground.{Ground, Row, rec, var, at, IsGround}
+use Rattle.kl_type.specs.Ground.{Ground, Row, rec, var, at}
 use Rattle.kl_rows.specs.declared.cell.TypeNode.{TypeNode}
 use Rattle.kl_rows.specs.declared.cell.TypeNode.TheVariants.{AnyType, Rec, Var}
 use Rattle.kl_rows.specs.declared.cell.Cell.{Cell}
@@ -9,9 +9,9 @@ use Rattle.kl_rows.specs.declared.looking.Spot.{Spot}
 use Rattle.kl_rows.specs.declared.looking.Spot.TheVariants.{At, Behind}
 use Rattle.kl_rows.specs.Lists.{Fields}
 use Rattle.kl_rows.specs.Looking.{KnownAs, Spots}
-use Rattle.kl_rows.specs.Places.{a_row, sort_at, IsFine, IsType, IsRowAt}
+use Rattle.kl_rows.specs.Places.{a_row, sort_at, IsFine, IsRowAt}
 use Rattle.kl_rows.specs.Solutions.{Assignment, Solves}
-use Rattle.kl_rows.specs.Steps.{Advances, Agrees}
+use Rattle.kl_rows.specs.Steps.{Advances}
 use Rattle.kl_rows.specs.Making.{AddsCell, Same}
 use Rattle.kl_rows.proofs.Advancing.{agrees_on, agrees_refl, keeps_on, keeps_refl}
 use Rattle.kl_rows.proofs.CellLists.{sort_within}

@@ -1,16 +1,16 @@
 -- From what was asked to schemes.
-use Rattle.std.proofs.Common.{◌≡◌, inl, inr, ℕ, ◌<◌, ◌≤◌, Bool, true, false, IsTrue, List, [], ◌∷◌, length, slice_get, Option, Some, None, MatchOption, refl, sym, ap, ◌∙◌, subst}
+use Rattle.std.proofs.Common.{◌≡◌, inl, inr, ℕ, ◌≤◌, IsTrue, List, [], ◌∷◌, length, Option, Some, None, MatchOption, refl, sym, ap, ◌∙◌, subst}
 use Rattle.kl_value.specs.declared.Kind.TheVariants as kind
 use Rattle.kl_type.specs.Ground.{Ground, bool, arrow, no_row, IsGround}
 use Rattle.kl_rows.specs.declared.cell.Cell.{Cell}
 use Rattle.kl_rows.specs.declared.cell.Cell.TheVariants.{OfFunction}
 use Rattle.kl_rows.specs.declared.Scheme.{Scheme}
-use Rattle.kl_rows.specs.Places.{Sort, a_type, a_function, a_row, a_kind, sort_at, IsFine, IsType, IsFunction, IsTyped}
+use Rattle.kl_rows.specs.Places.{Sort, a_type, a_function, sort_at, IsFine, IsType, IsFunction, IsTyped}
 use Rattle.kl_rows.specs.Schemes.{Instance, Settles, given}
 use Rattle.kl_rows.specs.Finite.{Solvable}
 use Rattle.kl_rows.specs.Making.{CanMake, AddsCell}
 use Rattle.kl_rows.specs.Solutions.{Assignment, Solves}
-use Rattle.kl_rows.specs.Steps.{Agrees, Grown}
+use Rattle.kl_rows.specs.Steps.{Grown}
 use Rattle.kl_rows.proofs.CellLists.{sort_within}
 use Rattle.kl_rows.proofs.Growing.{grown_function}
 use Rattle.kl_rows.specs.Lists.{Fields}
@@ -115,12 +115,6 @@ module _ (k : Known) (a b c d f z : Typing) (i j l : ℕ) (p : Pat) (e : Exp) (b
       (told d f _ _ _ _ (λ s m. (m.1.1, (m.0, m.1.0))) (λ s q m. (m.1.0, (m.1.1, m.0))) (λ s m. m) (λ s m. m)
       (beside d f (λ s. Types e (sorts k) (context s (onto bs [])) (s.types j)) (λ s. (s.types i ≡ x) × (s.types j ≡ y))
       (λ q s u ag m. let kp = (g2.follows q).keeps in let pq = (g2.follows q).was in (ag.types i (sort_within (cells d) i a_type (kp.sorts i a_type ((ready_there.wants pq).0))) ∙ m.0, ag.types j (sort_within (cells d) j a_type (g2.sort q)) ∙ m.1)) h2))))
-
-  arrow_first : (x y x2 y2 : Ground) → arrow x y ≡ arrow x2 y2 → x ≡ x2
-  arrow_first x y x2 y2 q = cc
-
-  arrow_second : (x y x2 y2 : Ground) → arrow x y ≡ arrow x2 y2 → y ≡ y2
-  arrow_second x y x2 y2 q = cc
 
   pub function_carries : Carries a z l a_function (IsArrow (FunctionTypes (sorts k) p e))
   function_carries = record {

@@ -52,19 +52,6 @@ begins t D f = record {
   up = λ s p h r. (h, r);
 }
 
--- where nothing can be met, anything is asked
-pub skipped : (t : Typing) (D R : Fact) → t.possible ≡ false → Leaves t t D R
-skipped t D R e = record { follows = untrue _ e; down = λ s p h d. untrue _ e p; up = λ s p h r. untrue _ e p }
-
-pub gets_none : (t : Typing) (i : ℕ) (E : Ground → Fact) → t.possible ≡ false → Gets t t i E
-gets_none t i E e = record { follows = untrue _ e; sort = untrue _ e; down = λ s u p h g d. untrue _ e p; up = λ s p h. untrue _ e p }
-
-pub many_none : (t : Typing) (is : List ℕ) (n : ℕ) → t.possible ≡ false → GetsMany t t is n
-many_none t is n e = record { follows = untrue _ e; still = refl; size = untrue _ e; sorts = untrue _ e; down = λ s ts p h l g. untrue _ e p; up = λ s p h. untrue _ e p }
-
-pub skips_pattern : (t : Typing) (bs ns : Fields) (D : Assignment → Context → Context → Type 0) → t.possible ≡ false → Binds t t bs bs ns D
-skips_pattern t bs ns D e = record { follows = untrue _ e; sorts = untrue _ e; down = λ s H p h d. untrue _ e p; up = λ s p h. untrue _ e p }
-
 -- what a call of a form does
 pub asked : (holds : Bool) (a b : Typing) (new : List Cell) (D : Fact) → IsTrue a.possible → b.possible ≡ holds → cells b ≡ new → Checks holds (cells a) new D → Asks a b D
 asked ans a b new D p e n c = record {

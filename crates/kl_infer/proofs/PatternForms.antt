@@ -82,9 +82,6 @@ module _ (a b : Typing) (bs cs ns : Fields) (D : Assignment → Context → Cont
 pub leaves_told : (a b c : Typing) (D E R S : Fact) → ((s : Assignment) → D s → E s) → ((s : Assignment) → Solves (cells a) s → E s → D s) → Leaves a b E R → Leaves b c R S → Leaves a c D S
 leaves_told a b c D E R S go come f g = goes_on a b c D R S (told a b E D R R go come (λ s r. r) (λ s r. r) f) g
 
-pub cut_short : {A : Type 0} (b : Bool) → b ≡ false → IsTrue b → A
-cut_short b e p = let d : ⊥ = cc in absurd d
-
 module _ (k : Known) (ns : Fields) where
   abbrev pub Outside : Assignment → Name → Ground → Type 0
   Outside s = NameTypes (sorts k) (context s ns)

@@ -1,5 +1,5 @@
 -- Rows, field by field.
-use Rattle.std.proofs.Common.{◌≡◌, ℕ, zero, suc, ◌+◌, ◌<◌, ◌≤◌, ◌==◌, Bool, true, false, cond, List, [], ◌∷◌, ◌++◌, length, map, take, drop, get_or, slice_get, Some, None, add-one, drop-cons, codes, refl, sym, ap, ◌∙◌, subst, arith, append_assoc, append-nil}
+use Rattle.std.proofs.Common.{◌≡◌, ℕ, zero, suc, ◌+◌, ◌<◌, ◌≤◌, ◌==◌, Bool, true, false, cond, List, [], ◌∷◌, ◌++◌, length, map, take, get_or, slice_get, Some, None, add-one, codes, refl, sym, ap, ◌∙◌, subst, arith, append_assoc, append-nil}
 use mathlib.Core.Path.{ap₂}
 use Rattle.std.proofs.lemmas.Bool.Decides.{nat_tests}
 use Rattle.std.specs.List.{AllByRecursion, flat_map}
@@ -173,9 +173,6 @@ module _ (parts : List Part) where
     pub same : tree_at parts place ≡ fronted parts fields (tree_at parts end)
     pub falls : AllByRecursion (λ f. f.1 < place) fields
     pub here : end ≤ place
-
-  pub on_row_first : (place : ℕ) → CanPrint parts place → OnRow place [] place
-  on_row_first place can = record { can = can; same = refl; falls = tt; here = omega arith }
 
   fronted_last : (fs : Fields) (f : List ℕ × ℕ) (r : Tree) → fronted parts (fs ++ f ∷ []) r ≡ fronted parts fs (field f.0 (tree_at parts f.1) r)
   fronted_last [] f r = refl

@@ -5,7 +5,17 @@ ghost use Rattle.kl_base.specs.Fields.{field};
 ghost use Rattle.kl_type.specs.Ground.{bool, IsProper};
 ghost use Rattle.kl_rows.specs.Places.{IsFine, IsType, IsTyped, AreTypes};
 ghost use Rattle.kl_forms.specs.Forms.{
-    ItemsOf, DrawnFrom, FieldOf, VariantOf, IsRecord, IsVariant, IsOfType, Applies, Operates, IsThis, IsInstance
+  ItemsOf,
+  DrawnFrom,
+  FieldOf,
+  VariantOf,
+  IsRecord,
+  IsVariant,
+  IsOfType,
+  Applies,
+  Operates,
+  IsThis,
+  IsInstance,
 };
 ghost use Rattle.kl_meaning.specs.Typing.{NameTypes, ValueTypes, CallTypes};
 ghost use Rattle.kl_infer.specs.Asking.{Asks, Concludes, Gets, GetsFunction, GetsMany, context};

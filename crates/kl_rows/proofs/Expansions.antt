@@ -93,10 +93,6 @@ gives_coll old one two new j a i t k u v e f q x p = record {
       (λ s h. grown_then old one two s _ _ (let m = kind.keeps in m.grows) (grown_kind old one j fine (Fixed k) (record { placed = tt; tidy = tt }) kind s h k refl) (λ w d z. grown_map one two w _ _ (λ b c l. tt) (g.down w d))));
 }
 
--- the fields of a row, one after another
-abbrev pub TyField : Type 0
-TyField = List ℕ × Ty
-
 abbrev pub append_row : Row → Row → Row
 append_row no_row q = q
 append_row (row l t r) q = row l t (append_row r q)

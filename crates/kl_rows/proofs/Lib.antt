@@ -1,7 +1,6 @@
 pub mod Adding
 pub mod Advancing
 pub mod Assigning
-pub mod Cases
 pub mod CellLists
 pub mod Choosing
 pub mod Copies

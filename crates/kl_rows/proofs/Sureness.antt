@@ -1,11 +1,11 @@
 -- Types that are known to be types without variables.
-use Rattle.std.proofs.Common.{◌≡◌, ⊎_elim, nat_eq, true≢false, ℕ, suc, zero, ◌+◌, ◌<◌, ◌≤◌, Bool, true, false, IsTrue, List, [], ◌∷◌, ◌++◌, length, take, take_all, get_or, Some, refl, sym, ap, ◌∙◌, subst, arith}
+use Rattle.std.proofs.Common.{◌≡◌, ⊎_elim, nat_eq, true≢false, ℕ, ◌+◌, ◌<◌, ◌≤◌, Bool, true, IsTrue, List, [], ◌∷◌, length, take, take_all, get_or, Some, refl, sym, ap, ◌∙◌, subst, arith}
 use mathlib.Core.Path.{ap₂}
 use Rattle.std.specs.Cmp.Lexicographic.{pointwise}
 use Rattle.kl_type.proofs.RowLemmas.{told}
 use Rattle.kl_rows.specs.Joining.{same_scalar}
 use Rattle.kl_rows.proofs.Advancing.{absurd_true}
-use Rattle.kl_type.specs.Ground.{Row, rec, var, coll, no_row, row, IsGround, IsRow, IsProper, row_by, ground_of}
+use Rattle.kl_type.specs.Ground.{rec, var, coll, no_row, row, IsGround, IsRow, row_by, ground_of}
 use Rattle.kl_type.specs.declared.ground.Ty.{Ty}
 use Rattle.kl_type.specs.declared.ground.Ty.TheVariants as ty
 use Rattle.kl_type.proofs.GroundLemmas.{ground-Rec, ground-Var, ground-Coll}
@@ -22,24 +22,11 @@ use Rattle.kl_rows.specs.declared.cell.Cell.{Cell}
 use Rattle.kl_rows.specs.declared.cell.Cell.TheVariants.{OfRow, OfKind}
 use Rattle.kl_rows.specs.Lists.{Fields}
 use Rattle.kl_rows.specs.Looking.{KnownAs, Knows, KnowsRow, KnowsTo, IsBlock, IsKindAt, is_base, is_fixed}
-use Rattle.kl_rows.specs.Places.{IsFine, IsType, IsRowAt, IsKind, AreTypes}
+use Rattle.kl_rows.specs.Places.{IsFine}
 use Rattle.kl_rows.specs.Solutions.{Splits, scalar_type}
 use Rattle.kl_rows.specs.Walking.{HasRow, HasKind, FindsKind}
 use Rattle.kl_rows.proofs.TypeJoins.{kind_enough}
 use Rattle.kl_rows.proofs.Expansions.{append_row, row_append, field_proper, take_more, front_splits, split_same}
-
--- what stands in a known type is there
-pub row_there : (ns : List Cell) (i r : ℕ) (n : TypeNode) → KnownAs ns i n → n ≡ Rec r → IsRowAt ns r
-row_there ns i r n h e = (subst (KnownAs ns i) e h).placed
-
-pub variant_there : (ns : List Cell) (i r : ℕ) (n : TypeNode) → KnownAs ns i n → n ≡ Var r → IsRowAt ns r
-variant_there ns i r n h e = (subst (KnownAs ns i) e h).placed
-
-pub kind_there : (ns : List Cell) (i k a : ℕ) (n : TypeNode) → KnownAs ns i n → n ≡ Coll k a → IsKind ns k
-kind_there ns i k a n h e = (subst (KnownAs ns i) e h).placed.0
-
-pub item_there : (ns : List Cell) (i k a : ℕ) (n : TypeNode) → KnownAs ns i n → n ≡ Coll k a → IsType ns a
-item_there ns i k a n h e = (subst (KnownAs ns i) e h).placed.1
 
 scalar_enough : (a b : Scalar) → IsTrue (same_scalar a b) → a ≡ b
 scalar_enough scalar.Bool scalar.Bool h = refl
@@ -107,17 +94,6 @@ a_block ns i r n numbers ms fine h e f bare =
       there = (fine.placed i (OfRow (Front numbers r)) here).0;
       splits = λ s g. (let none : s.rows r ≡ no_row = g.each r (OfRow NoRow) bare in subst (Splits numbers s.types (s.rows i)) none (g.each i (OfRow (Front numbers r)) here));
     })
-
-type_of_field : (ns : List Cell) (fs : Fields) (k : ℕ) (f : List ℕ × ℕ) → k < length fs → f ≡ get_or fs k f → AreTypes ns fs → IsType ns f.1
-type_of_field ns [] k f lt e h = absurd (omega arith)
-type_of_field ns (g ∷ fs) zero f lt e h = subst (λ x. IsType ns x.1) (sym e) h.0
-type_of_field ns (g ∷ fs) (suc k) f lt e h = type_of_field ns fs k f (omega arith) e h.1
-
-pub field_there : (ns : List Cell) (fs : Fields) (k m : ℕ) (f : List ℕ × ℕ) → k < m → length fs ≡ m → f ≡ get_or fs k f → AreTypes ns fs → IsType ns f.1
-field_there ns fs k m f lt l e h = type_of_field ns fs k f (omega arith) e h
-
-pub knows_nothing : (ns : List Cell) (numbers : Fields) (fs : List (List ℕ × Ty)) → KnowsTo ns numbers fs 0
-knows_nothing ns numbers fs = record { says = λ p s g. refl }
 
 pub knows_more : (ns : List Cell) (numbers : Fields) (fs : List (List ℕ × Ty)) (k : ℕ) (m : List ℕ × ℕ) (f : List ℕ × Ty) (b : Bool) → k < length fs → length numbers ≡ length fs → m ≡ get_or numbers k m → f ≡ get_or fs k f → m.0 ≡ f.0 → b ≡ true → Knows b ns m.1 f.1 → KnowsTo ns numbers fs k
     → KnowsTo ns numbers fs (k + 1)

@@ -170,9 +170,6 @@ no_row_here : (n : TypeNode) (r : RowNode) → OfType n ≡ OfRow r → ⊥
 no_row_here n r h = cc
 
 module _ (ns : List Cell) (low high : ℕ) (m n : TypeNode) (fine : IsFine ns) (order : low < high) (at_low : HasType ns low m) (at_high : HasType ns high n) (root_m : IsTypeRoot m) (root_n : IsTypeRoot n) where
-  linked : List Cell
-  linked = set ns high (OfType (TypeLink low))
-
   abbrev pub joined_cells : List Cell
   joined_cells = set (set ns high (OfType (TypeLink low))) low (OfType (kept m n))
 

@@ -1,4 +1,4 @@
-use Rattle.std.proofs.Common.{refl, sym, ap, ◌∙◌}
+use Rattle.std.proofs.Common.{refl, ap}
 use Rattle.kl_infer.specs.Names.{meant_of}
 use Rattle.kl_infer.proofs.Leaving.{when, value_good, source_good, value_named, source_named, none_named}
 use Rattle.kl_infer.proofs.typing.Typing.known.Goals as goal
