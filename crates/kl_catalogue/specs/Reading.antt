@@ -1,5 +1,5 @@
 -- Which bytes are which catalogue, and where those that are none go wrong.
-use Rattle.std.specs.Prelude.{◌≡◌, ℕ, List, Result, Ok, Err, ◌⊎◌}
+use Rattle.std.specs.Prelude.{ℕ, List, Result, Ok, Err, ◌⊎◌}
 use Rattle.kl_lex.specs.declared.token.Placed.{Placed}
 use Rattle.kl_type.specs.Texts.{Spells, IsTextOf, IsBadAt, IsDeepAt, AtBad, AtDeep, BadText, DeepText}
 use Rattle.kl_catalogue.specs.declared.reading.Entry.{Entry}
