@@ -214,7 +214,7 @@ CommandNeedsDrivers command end = ⊥
 
 -- ---- what is done with a program's text
 
--- a page is printed, or a front of it
+-- A page is printed, or a front of it. No public contract cites this.
 pub record PrintsPage (v : Verdict) (end : Ending) (out out' : SinkState) : Type 0 where
   pub ends : (end ≡ v.ending) ⊎ ((end ≡ Some fault.Write) × Rose out.faults out'.faults × (v.page ≢ [])) ⊎ (end ≡ Some fault.NoMemory)
   pub whole : end ≡ v.ending → out'.taken ≡ append_known out.taken v.page
@@ -226,6 +226,7 @@ abbrev pub IsMentionedIn : List Source → List ℕ → Name → Type 0
 IsMentionedIn ss text name =
     (q : AProgram) × IsProgramOf (names_of ss) text q × (i : ℕ) × (slice_get (names_of ss) i ≡ Some name) × Mentions q (names_of ss) i
 
+-- What is done with a text over these sources. No public contract cites this.
 pub record DoesText (ss : List Source) (p : Purpose) (text : List ℕ) (end : Ending) (old new : Outside) : Type 0 where
   pub told : (v : Verdict) → IsTextVerdict (kinds_of old.drivers) ss p text v
       → (w : Verdict) × IsTextVerdict (kinds_of old.drivers) ss p text w × Alike (ListsTypes p) v w × FollowsVerdict w end old new

@@ -76,11 +76,12 @@ definitions names p = resolved_decls (decls_of p.defs) (at_first names)
 abbrev pub last : List Name → Program → Exp
 last names p = resolved (view p.last) (behind_decls (decls_of p.defs) (at_first names))
 
--- what reading answers: the program in scope with what its names mean, a fault of the text, or want of memory
+-- What reading answers: the program in scope with what its names mean, a fault of the text, or want of memory. No public
+-- contract cites this.
 abbrev pub ReadsText : List Name → List ℕ → Result Scoped Fault → Type 0
 ReadsText names bytes (Ok s) = (p : Program) × IsProgramOf names bytes p × Resolves p names s
 ReadsText names bytes (Err f) = (f ≡ fault.NoMemory) ⊎ IsTextFault names bytes f
 
--- the program was in scope before its names carried what they mean
+-- the program was in scope before its names carried what they mean; no public contract cites this
 abbrev pub WasInScope : List Name → Scoped → Type 0
 WasInScope names s = (p : Program) × Resolves p names s

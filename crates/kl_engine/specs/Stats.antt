@@ -5,7 +5,7 @@ use Rattle.kl_ask.specs.Driver.{State}
 use Rattle.kl_ask.specs.declared.settings.Trace.{Trace}
 use Rattle.kl_engine.specs.Faults.{Ending, joined, fault_line}
 
--- the rows that some drivers handed since they were made
+-- the rows that some drivers handed since they were made; no public contract cites this
 abbrev pub handed_by : List State → ℕ
 handed_by ds = sum (map (λ d. d.handed) ds)
 
