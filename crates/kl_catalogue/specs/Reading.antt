@@ -19,7 +19,7 @@ IsCatalogue = IsTextOf ReadsCatalogue
 abbrev pub IsToldOf : List Placed → Type 0
 IsToldOf ts = ((c : List Entry) × SpellsCatalogue ts c) ⊎ (((k : ℕ) × IsBadAt ReadsCatalogue ts k) ⊎ ((k : ℕ) × IsDeepAt ReadsCatalogue ts k))
 
--- what is refused of these tokens, of a text of so many bytes
+-- for private functions alone: what is refused of these tokens, of a text of so many bytes
 abbrev pub RefusesTokens : ℕ → List Placed → Result (List Entry) CatalogueError → Type 0
 RefusesTokens total ts (Ok c) = Unit {0}
 RefusesTokens total ts (Err (Bad byte)) = AtBad ReadsCatalogue total ts byte
