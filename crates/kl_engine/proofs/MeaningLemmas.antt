@@ -202,12 +202,12 @@ module _ (ks : List DriverKind) (marks : ℕ → Bool) where
 
   module _ (n : ℕ) (s : Source) (ss : List Source) where
     come_unmarked : marks n ≡ false → ComeTo (suc n) ss → ComeTo n (s ∷ ss)
-    come_unmarked is (inl (vs, have)) = inl ((s.name, empty_of s) ∷ vs, empty_of s, vs, refl, subst (λ b. IsValueAt ks b s (empty_of s)) (sym is) refl, have)
+    come_unmarked is (inl (vs, have)) = inl ((s.name, empty_of s) ∷ vs, (empty_of s, vs, refl, subst (λ b. IsValueAt ks b s (empty_of s)) (sym is) refl, have))
     come_unmarked is (inr (t, w, first)) = inr (t, w, inr (subst (λ b. IsReadable ks b s) (sym is) tt, first))
 
     module _ (is : marks n ≡ true) where
       come_rows : (rows : List Value) → contents ks s ≡ Some (Rows rows) → ComeTo (suc n) ss → ComeTo n (s ∷ ss)
-      come_rows rows at (inl (vs, have)) = inl ((s.name, value_of s rows) ∷ vs, value_of s rows, vs, refl, subst (λ b. IsValueAt ks b s (value_of s rows)) (sym is) (rows, at, refl), have)
+      come_rows rows at (inl (vs, have)) = inl ((s.name, value_of s rows) ∷ vs, (value_of s rows, vs, refl, subst (λ b. IsValueAt ks b s (value_of s rows)) (sym is) (rows, at, refl), have))
       come_rows rows at (inr (t, w, first)) = inr (t, w, inr (subst (λ b. IsReadable ks b s) (sym is) (rows, at), first))
 
       come_without : (w : Stored) → contents ks s ≡ Some w → ((rows : List Value) → w ≡ Rows rows → ⊥) → ComeTo n (s ∷ ss)
@@ -221,16 +221,14 @@ module _ (ks : List DriverKind) (marks : ℕ → Bool) where
       come_marked (Some (Long most)) at some rest = come_without (Long most) at (λ rows same. cc)
       come_marked (Some (Deep place)) at some rest = come_without (Deep place) at (λ rows same. cc)
 
+    come_next : (b : Bool) → marks n ≡ b → (marks n ≡ true → IsSome (contents ks s)) → ComeTo (suc n) ss → ComeTo n (s ∷ ss)
+    come_next false is told rest = come_unmarked is rest
+    come_next true is told rest = come_marked is (contents ks s) refl (told is) rest
+
   come_to : (n : ℕ) (ss : List Source) → ((i : ℕ) (s : Source) → slice_get ss i ≡ Some s → marks (n + i) ≡ true → IsSome (contents ks s)) → ComeTo n ss
   come_to n [] told = inl ([], refl)
-  come_to n (s ∷ ss) told = pick (marks n) refl
-    where
-      rest : ComeTo (suc n) ss
-      rest = come_to (suc n) ss (λ i x at marked. told (suc i) x at (ap marks (omega arith) ∙ marked))
-
-      pick : (b : Bool) → marks n ≡ b → ComeTo n (s ∷ ss)
-      pick false is = come_unmarked n s ss is rest
-      pick true is = come_marked n s ss is (contents ks s) refl (told 0 s refl (ap marks (add-zero n) ∙ is)) rest
+  come_to n (s ∷ ss) told =
+      come_next n s ss (marks n) refl (λ is. told 0 s refl (ap marks (add-zero n) ∙ is)) (come_to (suc n) ss (λ i x at marked. told (suc i) x at (ap marks (omega arith) ∙ marked)))
 
 -- ---- a program whose sources are not told has no verdict
 

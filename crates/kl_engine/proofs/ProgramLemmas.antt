@@ -33,7 +33,7 @@ does_same ss us p text other end o o' same also does = subst (λ xs. DoesText xs
 -- a fault of the outside, where the files had been read before
 module _ (f f' : FilesState) (v : Verdict) (end : Ending) (ds ds' : List State) (out out' : SinkState) where
   outside_also : IsOutside v end (outside_of f' ds out) (outside_of f' ds' out') → IsOutside v end (outside_of f ds out) (outside_of f' ds' out')
-  outside_also (reading is (inl none)) = absurd (omega (arith, none))
+  outside_also (reading is (inl failed)) = reading is (inl (omega (arith, failed)))
   outside_also (reading is (inr rose)) = reading is (inr rose)
   outside_also (writing is rose page) = writing is rose page
   outside_also (drifting name is rose) = drifting name is rose

@@ -1,6 +1,9 @@
-use Rattle.std.proofs.Common.{ap}
+use Rattle.std.proofs.Common.{[], ap}
 use Rattle.kl_engine.proofs.ShowLemmas.{show_failed, show_wanted, show_done}
 use Rattle.kl_engine.proofs.show.show.Goals as goal
+
+pub close-requires : goal.close-requires
+close-requires g c = (rw (ap (λ r. r.file) c.new-items.ensures) at (c.show_items-result.ensures [])).is_open
 
 pub returns-in-Err-Failed : goal.returns-in-Err-Failed
 returns-in-Err-Failed g c = λ ds. show_failed _ ds _ _ _ (rw c.in-Err-Failed.field-0-is at c.in-Err-Failed.ensures)
