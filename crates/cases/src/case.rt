@@ -83,7 +83,7 @@ pub struct Turns {
 }
 
 /// Whose calls fail in turn.
-#[derive(Clone, Copy)]
+#[derive(Clone, Copy, PartialEq, Eq)]
 pub enum Side {
     Files,
     Driver,

@@ -1,8 +1,11 @@
 //! Running a case.
+ghost use Rattle.std.specs.Prelude.{◌<◌, ◌^◌, All, IfOk, length, map};
+ghost use Rattle.kl_engine.specs.Answering.{IsIdle};
 
 use crate::case::{Case, Side, read_case};
 use crate::pieces::Pieces;
 use anyhow::{Context, Result};
+use kl_ask::Driver;
 use kl_engine::{kleisli, one_driver};
 use kl_exchange::print;
 use kl_flat::FlatDriver;
@@ -34,58 +37,109 @@ fn try_case(alloc: Global, case: &Case) -> Result<Option<Vec<u8>>> {
 
 // Runs a case where this call fails too. There is no call 0.
 fn try_turn(alloc: Global, case: &Case, call: u64) -> Result<Option<Vec<u8>>> {
-    let mut files = files_of(alloc, case, &case.given.fails.files)?;
-    let mut tables = files_of(alloc, case, &case.given.fails.driver)?;
-    let mut out = sink_of(alloc, case, &case.given.fails.out)?;
-    let mut err = sink_of(alloc, case, &case.given.fails.err)?;
-    match case.given.turns.of {
-        Side::Files => files.fail_at(call)?,
-        Side::Driver => tables.fail_at(call)?,
-        Side::Out => out.sink.fail_at(call)?,
-        Side::Err => err.sink.fail_at(call)?,
-    }
-    let driver = Box::new(alloc, FlatDriver::new(alloc, tables))?;
-    let mut drivers = one_driver(alloc, driver)?;
+    let mut files = files_of(alloc, case, &case.given.fails.files, Side::Files, call)?;
+    let mut drivers = drivers_of(alloc, case, call)?;
+    try_over(alloc, case, call, &mut files, &mut drivers)
+}
+
+// Runs a case over these files and drivers.
+fn try_over(
+    alloc: Global,
+    case: &Case,
+    call: u64,
+    files: &mut MemFiles,
+    drivers: &mut Vec<Box<dyn Driver>>,
+) -> Result<Option<Vec<u8>>>
+    requires idle { All IsIdle (map (λ d. state d) drivers.old.items) }
+    requires few { length drivers.old.items < 2 ^ 32 }
+{
+    let mut out = sink_of(alloc, case, &case.given.fails.out, Side::Out, call)?;
+    let mut err = sink_of(alloc, case, &case.given.fails.err, Side::Err, call)?;
     let answer = kleisli(
         alloc,
         &case.given.words,
-        &mut files,
-        &mut drivers,
+        files,
+        drivers,
         &mut out,
         &mut err,
     );
     let status = i64::from(answer.status);
-    if case.wanted.fits(status, out.sink.bytes(), err.sink.bytes()) {
-        return Ok(None);
-    }
-    let line = line_of(
+    differs(
         alloc,
         case,
         call,
         status,
         out.sink.bytes(),
         err.sink.bytes(),
-    )?;
-    Ok(Some(line))
+    )
 }
 
-fn files_of(alloc: Global, case: &Case, fails: &[u64]) -> Result<MemFiles> {
+// A line on what came, where it is not what was wanted.
+fn differs(
+    alloc: Global,
+    case: &Case,
+    call: u64,
+    status: i64,
+    out: &[u8],
+    err: &[u8],
+) -> Result<Option<Vec<u8>>> {
+    if case.wanted.fits(status, out, err) {
+        Ok(None)
+    } else {
+        Ok(Some(line_of(alloc, case, call, status, out, err)?))
+    }
+}
+
+// The call of this side that fails in a turn.
+fn call_of(case: &Case, side: Side, call: u64) -> u64 {
+    if case.given.turns.of == side { call } else { 0 }
+}
+
+// The driver of tables, over files of its own.
+fn drivers_of(alloc: Global, case: &Case, call: u64) -> Result<Vec<Box<dyn Driver>>>
+    ensures idle { IfOk result (λ drivers. All IsIdle (map (λ d. state d) drivers.items)) }
+    ensures few { IfOk result (λ drivers. length drivers.items < 2 ^ 32) }
+{
+    let tables = files_of(alloc, case, &case.given.fails.driver, Side::Driver, call)?;
+    let driver = Box::new(alloc, FlatDriver::new(alloc, tables))?;
+    Ok(one_driver(alloc, driver)?)
+}
+
+fn files_of(
+    alloc: Global,
+    case: &Case,
+    fails: &[u64],
+    side: Side,
+    call: u64,
+) -> Result<MemFiles> {
+    let mut files = MemFiles::new(alloc, entries_of(alloc, case)?);
+    for failing in fails {
+        files.fail_at(*failing)?;
+    }
+    files.fail_at(call_of(case, side, call))?;
+    Ok(files)
+}
+
+fn entries_of(alloc: Global, case: &Case) -> Result<Vec<(Text, Text)>> {
     let mut entries = Vec::new(alloc);
     for (path, text) in &case.given.files {
         entries.push((path.dup(alloc)?, text.dup(alloc)?))?;
     }
-    let mut files = MemFiles::new(alloc, entries);
-    for call in fails {
-        files.fail_at(*call)?;
-    }
-    Ok(files)
+    Ok(entries)
 }
 
-fn sink_of(alloc: Global, case: &Case, fails: &[u64]) -> Result<Pieces> {
+fn sink_of(
+    alloc: Global,
+    case: &Case,
+    fails: &[u64],
+    side: Side,
+    call: u64,
+) -> Result<Pieces> {
     let mut sink = MemSink::new(alloc);
-    for call in fails {
-        sink.fail_at(*call)?;
+    for failing in fails {
+        sink.fail_at(*failing)?;
     }
+    sink.fail_at(call_of(case, side, call))?;
     Ok(Pieces {
         sink,
         most: case.given.piece,

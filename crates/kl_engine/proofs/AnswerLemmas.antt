@@ -2,6 +2,7 @@
 use Rattle.std.proofs.Common.{◌≡◌, ◌≢◌, inl, inr, ℕ, Bool, true, false, if◌then◌else◌, List, [], ◌++◌, Option, Some, None, Ok, Err, refl, sym, ap, subst, ◌∙◌}
 use Rattle.std.specs.Bool.{⊤}
 use Rattle.std.proofs.lemmas.Option.{same_Some}
+use Rattle.kl_outside.specs.Files.{FilesState}
 use Rattle.kl_outside.specs.Sinks.{SinkState}
 use Rattle.kl_outside.proofs.SinkLemmas.{took_none}
 use Rattle.kl_value.specs.declared.Value.{Value}
@@ -20,6 +21,7 @@ use Rattle.kl_infer.specs.Kinds.{HasOther}
 use Rattle.kl_engine.specs.Answering.{SomeRose, KeepsDrivers, IsOutside, reading, drifting, wanting, PrintsPage, IsOneOf, PrintsNothing}
 use Rattle.kl_engine.specs.Commands.{Program}
 use Rattle.kl_engine.specs.Faults.{Ending}
+use Rattle.kl_engine.specs.Outside.{outside_of}
 use Rattle.kl_engine.specs.Running.{AnswersTerm, DriftsAt, HasRunFault, IsListScheme, IsListOutcome, IsValueOutcome}
 use Rattle.kl_engine.specs.Verdict.{Verdict, value_page, refused, cut, cut_list, suffice, first_of, overflowing}
 use Rattle.kl_engine.specs.declared.fault.Fault.{Fault}
@@ -42,8 +44,8 @@ IsStopped list (fault.Changed name) ds ds' = DriftsAt list name ds ds'
 IsStopped list fault.NoMemory ds ds' = ⊤
 IsStopped list f ds ds' = ⊥
 
-module _ (list : List Attached) (ds ds' : List State) (out out' : SinkState) where
-  stopped_outside : (v : Verdict) (f : Fault) → IsStopped list f ds ds' → IsOutside ⊥ v (Some f) ds ds' out out'
+module _ (list : List Attached) (files : FilesState) (ds ds' : List State) (out out' : SinkState) where
+  stopped_outside : (v : Verdict) (f : Fault) → IsStopped list f ds ds' → IsOutside v (Some f) (outside_of files ds out) (outside_of files ds' out')
   stopped_outside v fault.Read rose = reading refl (inr rose)
   stopped_outside v (fault.Changed name) (i, a, place, at, named, held, rose) = drifting name refl (place, rose)
   stopped_outside v fault.NoMemory rose = wanting refl
@@ -117,23 +119,23 @@ module _ (list : List Attached) (ds ds' : List State) (out out' : SinkState) whe
 
 -- ---- a term's outcome, where it is printed or something came before
 
-module _ (IsOut : Verdict → Type 0) (told : Type 0) (list : List Attached) (ds ds' : List State) (keeps : KeepsDrivers (λ name. ⊥) ds ds') where
+module _ (IsOut : Verdict → Type 0) (told : Type 0) (list : List Attached) (files : FilesState) (ds ds' : List State) (keeps : KeepsDrivers (λ name. ⊥) ds ds') where
   -- a fault of the outside came, and nothing was printed
-  pub term_stopped : (f : Fault) (out : SinkState) → IsStopped list f ds ds' → (told → (v : Verdict) × IsOut v × IsRunEnd v.ending) → AnswersTerm IsOut told (Some f) list ds ds' out out
+  pub term_stopped : (f : Fault) (out : SinkState) → IsStopped list f ds ds' → (told → (v : Verdict) × IsOut v × IsRunEnd v.ending) → AnswersTerm IsOut told (Some f) list (outside_of files ds out) (outside_of files ds' out)
   term_stopped f out rose some = record {
     follows = λ is. let found = some is in (
       found.0,
       found.1,
       record {
-        ends = inr (stopped_outside list ds ds' out out found.0 f rose);
-        whole = λ same. absurd (stopped_end list ds ds' out out f rose (subst IsRunEnd (sym same) found.2));
+        ends = inr (stopped_outside list files ds ds' out out found.0 f rose);
+        whole = λ same. absurd (stopped_end list files ds ds' out out f rose (subst IsRunEnd (sym same) found.2));
         part = took_none found.0.page out out refl;
       },
     );
     read = λ is. subst (λ g. IsStopped list g ds ds') (same_Some f fault.Read is) rose;
     write = λ is. absurd (subst (λ g. IsStopped list g ds ds') (same_Some f fault.Write is) rose);
     changed = λ name is. subst (λ g. IsStopped list g ds ds') (same_Some f (fault.Changed name) is) rose;
-    no_other = stopped_fault list ds ds' out out f rose;
+    no_other = stopped_fault list files ds ds' out out f rose;
     nothing = λ is. refl;
     drivers = keeps;
   }
@@ -192,9 +194,9 @@ module _ (IsOut : Verdict → Type 0) (told : Type 0) (list : List Attached) (ds
   never_before (Some fault.SchemeBytes) is nothing = is
 
   -- the outcome is printed
-  pub term_printed : (v : Verdict) (end : Ending) (out out' : SinkState) → IsRunEnd v.ending → (told → IsOut v) → PrintsPage v end out out' → AnswersTerm IsOut told end list ds ds' out out'
+  pub term_printed : (v : Verdict) (end : Ending) (out out' : SinkState) → IsRunEnd v.ending → (told → IsOut v) → PrintsPage v end out out' → AnswersTerm IsOut told end list (outside_of files ds out) (outside_of files ds' out')
   term_printed v end out out' ended of prints = record {
-    follows = λ is. (v, of is, follows_prints v end out out' prints ds ds');
+    follows = λ is. (v, of is, follows_prints v end out out' prints files ds ds');
     read = λ is. absurd (elim prints.ends [
       | inl h ↦ run_end v fault.Read ended (sym h ∙ is) (λ e. e)
       | inr (inl h) ↦ (let two : Some fault.Write ≡ Some fault.Read = sym h.0 ∙ is in cc)

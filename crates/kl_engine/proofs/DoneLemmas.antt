@@ -4,6 +4,7 @@ use Rattle.std.proofs.lemmas.Option.{gets, slice_get_within}
 use Rattle.std.specs.Prelude.{All, slice_get, ⊤}
 use Rattle.std.specs.Io.KnownBytes.{append_known}
 use Rattle.kl_outside.specs.Counts.{Rose}
+use Rattle.kl_outside.specs.Files.{FilesState}
 use Rattle.kl_outside.specs.Sinks.{SinkState}
 use Rattle.kl_outside.proofs.SinkLemmas.{took_none, append_known-nil}
 use Rattle.kl_type.specs.Ground.{Ground}
@@ -21,13 +22,14 @@ use Rattle.kl_infer.specs.Printed.{scheme_text}
 use Rattle.kl_infer.specs.declared.Typed.{Typed}
 use Rattle.kl_meaning.specs.Typing.{HasTyping}
 use Rattle.kl_rows.specs.declared.Scheme.{Scheme}
-use Rattle.kl_ask.specs.Driver.{State, IsTold as IsToldBy}
+use Rattle.kl_ask.specs.Driver.{State}
 use Rattle.kl_sources.specs.Sources.{names_of, grounds_of}
 use Rattle.kl_sources.specs.declared.source.Source.{Source}
 use Rattle.kl_sources.specs.Sources.{kinds_of}
-use Rattle.kl_engine.specs.Answering.{IsStoredFault, IsUnreadBy, SomeDrifted, Alike, one, IsOutside, reading, writing, drifting, wanting, FollowsVerdict, PrintsPage, DoesText, IsDetermined, IsOneOf, HasTextFault, IsUnreadFault, NeedsDrivers, IsMentionedIn, PrintsNothing}
+use Rattle.kl_engine.specs.Answering.{IsStoredFault, AreTold, IsUnreadBy, SomeDrifted, ListsTypes, Alike, one, IsOutside, reading, writing, drifting, wanting, FollowsVerdict, PrintsPage, DoesText, IsDetermined, IsOneOf, HasTextFault, IsUnreadFault, NeedsDrivers, IsMentionedIn, PrintsNothing}
 use Rattle.kl_engine.specs.Commands.{Program as AProgram}
 use Rattle.kl_engine.specs.Faults.{Ending}
+use Rattle.kl_engine.specs.Outside.{outside_of}
 use Rattle.kl_engine.specs.Reading.{IsProgramOf, definitions, last, ReadsText}
 use Rattle.kl_engine.specs.Running.{Ends, before, followed, untold, IsNamed, DoneBy, DoneWith, DoneMeaning}
 use Rattle.kl_engine.specs.Typing.{breach_fault, IsTypingFault, IsTyped, AnswersTypes, TypesOfAny}
@@ -61,8 +63,8 @@ unread_plain f plain is = unread_cases (λ g. IsPlain g → ⊥) (λ name place 
 
 -- the ends of a page that is printed
 module _ (v : Verdict) (end : Ending) (out out' : SinkState) (prints : PrintsPage v end out out') where
-  pub follows_prints : (ds ds' : List State) → FollowsVerdict ⊥ v end ds ds' out out'
-  follows_prints ds ds' = record {
+  pub follows_prints : (files : FilesState) (ds ds' : List State) → FollowsVerdict v end (outside_of files ds out) (outside_of files ds' out')
+  follows_prints files ds ds' = record {
     ends = elim prints.ends [ inl h ↦ inl h | inr (inl h) ↦ inr (writing h.0 h.1 h.2) | inr (inr h) ↦ inr (wanting h) ];
     whole = prints.whole;
     part = prints.part;
@@ -109,12 +111,12 @@ plain_lines [] = tt
 plain_lines (d ∷ ds) = plain_line (nat_lt limit (length (scheme_text d.1))) d (scheme_lines ds) (plain_lines ds)
 
 -- a verdict of a program was printed, and no source was asked
-pub printed_done : (ss : List Source) (marks : ℕ → Bool) (p : Purpose) (program : Decls) (e : Exp) (v : Verdict) (end : Ending) (ds : List State) (out out' : SinkState)
-    → IsDone (kinds_of ds) ss marks p program e v → IsOneOf IsPlain v.ending → PrintsPage v end out out' → DoneWith ss marks p program e end ds ds out out'
-printed_done ss marks p program e v end ds out out' of plain prints =
+pub printed_done : (ss : List Source) (marks : ℕ → Bool) (p : Purpose) (program : Decls) (e : Exp) (v : Verdict) (end : Ending) (files : FilesState) (ds : List State) (out out' : SinkState)
+    → IsDone (kinds_of ds) ss marks p program e v → IsOneOf IsPlain v.ending → PrintsPage v end out out' → DoneWith ss marks p program e end (outside_of files ds out) (outside_of files ds out')
+printed_done ss marks p program e v end files ds out out' of plain prints =
     let fair = fair_done (kinds_of ds) ss marks program e p v of in
     let plain_too = plain_end v end out out' prints plain in record {
-      ends = followed v of (follows_prints v end out out' prints ds ds);
+      ends = followed v of (follows_prints v end out out' prints files ds ds);
       read = λ is. absurd (plain_no end fault.Read plain_too is (λ h. h));
       write = wrote v end out out' prints p fair;
       unread = λ f is un. absurd (plain_no end f plain_too is (λ h. unread_plain f h un));
@@ -126,16 +128,16 @@ printed_done ss marks p program e v end ds out out' of plain prints =
     }
 
 -- a front of nothing at all
-follows_outside : (v : Verdict) (end : Ending) (ds ds' : List State) (out out' : SinkState) (p : Purpose) → Fair p v → out' ≡ out → (v.ending ≡ end → v.page ≡ []) → IsOutside ⊥ v end ds ds' out out' → FollowsVerdict ⊥ v end ds ds' out out'
-follows_outside v end ds ds' out out' p fair same empty outside = record {
+follows_outside : (v : Verdict) (end : Ending) (files : FilesState) (ds ds' : List State) (out out' : SinkState) (p : Purpose) → Fair p v → out' ≡ out → (v.ending ≡ end → v.page ≡ []) → IsOutside v end (outside_of files ds out) (outside_of files ds' out') → FollowsVerdict v end (outside_of files ds out) (outside_of files ds' out')
+follows_outside v end files ds ds' out out' p fair same empty outside = record {
   ends = inr outside;
   whole = λ is. ap (λ o. o.taken) same ∙ sym (ap (λ page. append_known out.taken page) (empty (sym is)) ∙ append_known-nil out.taken);
   part = took_none v.page out out' (ap (λ o. o.taken) same);
 }
 
 -- memory ran out first
-pub wanted_done : (IsVerdict : (ℕ → Bool) → Verdict → Type 0) (ss : List Source) (marks : ℕ → Bool) (p : Purpose) (ds : List State) (out : SinkState) → DoneBy IsVerdict ss marks p (Some fault.NoMemory) ds ds out out
-wanted_done IsVerdict ss marks p ds out = record {
+pub wanted_done : (IsVerdict : (ℕ → Bool) → Verdict → Type 0) (ss : List Source) (marks : ℕ → Bool) (p : Purpose) (files : FilesState) (ds : List State) (out : SinkState) → DoneBy IsVerdict ss marks p (Some fault.NoMemory) (outside_of files ds out) (outside_of files ds out)
+wanted_done IsVerdict ss marks p files ds out = record {
   ends = before refl (λ is. is) (λ v. wanting refl);
   read = λ is. absurd cc;
   write = λ is. absurd cc;
@@ -150,11 +152,11 @@ wanted_done IsVerdict ss marks p ds out = record {
 -- ---- texts
 
 -- an end that is told is none of the outside
-outside_untold : (v : Verdict) (end : Ending) (ds ds' : List State) (out out' : SinkState) → IsDetermined end → IsOutside ⊥ v end ds ds' out out' → ⊥
-outside_untold v end ds ds' out out' told (reading is rose) = subst IsDetermined is told
-outside_untold v end ds ds' out out' told (writing is rose page) = subst IsDetermined is told
-outside_untold v end ds ds' out out' told (drifting name is rose) = subst IsDetermined is told
-outside_untold v end ds ds' out out' told (wanting is) = subst IsDetermined is told
+outside_untold : (v : Verdict) (end : Ending) (files : FilesState) (ds ds' : List State) (out out' : SinkState) → IsDetermined end → IsOutside v end (outside_of files ds out) (outside_of files ds' out') → ⊥
+outside_untold v end files ds ds' out out' told (reading is rose) = subst IsDetermined is told
+outside_untold v end files ds ds' out out' told (writing is rose page) = subst IsDetermined is told
+outside_untold v end files ds ds' out out' told (drifting name is rose) = subst IsDetermined is told
+outside_untold v end files ds ds' out out' told (wanting is) = subst IsDetermined is told
 
 -- of a verdict that ends as an end that is not told nothing is printed
 untold_empty : (p : Purpose) (v : Verdict) (end : Ending) → Fair p v → (IsDetermined end → ⊥) → v.ending ≡ end → v.page ≡ []
@@ -183,12 +185,12 @@ untold_empty p v (Some fault.TermDepth) fair never is = absurd (never tt)
 untold_empty p v (Some fault.SchemeBytes) fair never is = absurd (never tt)
 
 -- a verdict on the text was printed, and no source was asked
-does_text : (ss : List Source) (p : Purpose) (text : List ℕ) (v : Verdict) (end : Ending) (ds : List State) (out out' : SinkState)
-    → IsTextVerdict (kinds_of ds) ss p text v → IsOneOf IsPlain v.ending → PrintsPage v end out out' → DoesText ss p text end ds ds out out'
-does_text ss p text v end ds out out' of plain prints =
+does_text : (ss : List Source) (p : Purpose) (text : List ℕ) (v : Verdict) (end : Ending) (files : FilesState) (ds : List State) (out out' : SinkState)
+    → IsTextVerdict (kinds_of ds) ss p text v → IsOneOf IsPlain v.ending → PrintsPage v end out out' → DoesText ss p text end (outside_of files ds out) (outside_of files ds out')
+does_text ss p text v end files ds out out' of plain prints =
     let fair = fair_text (kinds_of ds) ss p text v of in
     let plain_too = plain_end v end out out' prints plain in record {
-      told = λ w is. (v, of, text_alike (kinds_of ds) ss p text w v is of, follows_prints v end out out' prints ds ds);
+      told = λ w is. (v, of, text_alike (kinds_of ds) ss p text w v is of, follows_prints v end out out' prints files ds ds);
       meant = λ told needs. (
         v,
         of,
@@ -208,9 +210,9 @@ does_text ss p text v end ds out out' of plain prints =
       still = λ is. refl;
     }
 
-pub text_wanted : (ss : List Source) (p : Purpose) (text : List ℕ) (ds : List State) (out : SinkState) → DoesText ss p text (Some fault.NoMemory) ds ds out out
-text_wanted ss p text ds out = record {
-  told = λ v of. let fair = fair_text (kinds_of ds) ss p text v of in (v, of, one refl, follows_outside v (Some fault.NoMemory) ds ds out out p fair refl (untold_empty p v (Some fault.NoMemory) fair (λ is. is)) (wanting refl));
+pub text_wanted : (ss : List Source) (p : Purpose) (text : List ℕ) (files : FilesState) (ds : List State) (out : SinkState) → DoesText ss p text (Some fault.NoMemory) (outside_of files ds out) (outside_of files ds out)
+text_wanted ss p text files ds out = record {
+  told = λ v of. let fair = fair_text (kinds_of ds) ss p text v of in (v, of, one refl, follows_outside v (Some fault.NoMemory) files ds ds out out p fair refl (untold_empty p v (Some fault.NoMemory) fair (λ is. is)) (wanting refl));
   meant = λ is needs. absurd is;
   read = λ is. absurd cc;
   write = λ is. absurd cc;
@@ -230,13 +232,17 @@ types_sources us ss program e r same types = subst (λ xs. AnswersTypes (grounds
 pub reads_names : (us names : List Name) (ss : List Source) (text : List ℕ) (r : Result Scoped Fault) → us ≡ names → names ≡ names_of ss → ReadsText us text r → ReadsText (names_of ss) text r
 reads_names us names ss text r same is reads = subst (λ ns. ReadsText ns text r) (same ∙ is) reads
 
-pub unread : (ss : List Source) (p : Purpose) (text : List ℕ) (f : Fault) (ds : List State) (out : SinkState) → ReadsText (names_of ss) text (Err f) → DoesText ss p text (Some f) ds ds out out
-unread ss p text f ds out (inl is) = subst (λ g. DoesText ss p text (Some g) ds ds out out) (sym is) (text_wanted ss p text ds out)
-unread ss p text f ds out (inr of) = does_text ss p text (refused f) (Some f) ds out out (inl (f, of, refl)) (any_fault IsPlain (λ w byte. tt) tt (names_of ss) text f of) (prints_refused f out)
+-- what was read over the same sources
+pub reads_sources : (us ss : List Source) (text : List ℕ) (r : Result Scoped Fault) → us ≡ ss → ReadsText (names_of us) text r → ReadsText (names_of ss) text r
+reads_sources us ss text r same reads = subst (λ xs. ReadsText (names_of xs) text r) same reads
+
+pub unread : (ss : List Source) (p : Purpose) (text : List ℕ) (f : Fault) (files : FilesState) (ds : List State) (out : SinkState) → ReadsText (names_of ss) text (Err f) → DoesText ss p text (Some f) (outside_of files ds out) (outside_of files ds out)
+unread ss p text f files ds out (inl is) = subst (λ g. DoesText ss p text (Some g) (outside_of files ds out) (outside_of files ds out)) (sym is) (text_wanted ss p text files ds out)
+unread ss p text f files ds out (inr of) = does_text ss p text (refused f) (Some f) files ds out out (inl (f, of, refl)) (any_fault IsPlain (λ w byte. tt) tt (names_of ss) text f of) (prints_refused f out)
 
 -- what was done with a program in scope was done with its text
-module _ (ss : List Source) (p : Purpose) (text : List ℕ) (end : Ending) (ds ds' : List State) (out out' : SinkState) (q : Program) (s : Scoped) (whole : IsProgramOf (names_of ss) text q) (resolves : Resolves q (names_of ss) s)
-    (does : DoneWith ss (is_marked s) p (definitions (names_of ss) q) (last (names_of ss) q) end ds ds' out out') where
+module _ (ss : List Source) (p : Purpose) (text : List ℕ) (end : Ending) (files : FilesState) (ds ds' : List State) (out out' : SinkState) (q : Program) (s : Scoped) (whole : IsProgramOf (names_of ss) text q) (resolves : Resolves q (names_of ss) s)
+    (does : DoneWith ss (is_marked s) p (definitions (names_of ss) q) (last (names_of ss) q) end (outside_of files ds out) (outside_of files ds' out')) where
   marks_told : AreMarks q (names_of ss) (is_marked s)
   marks_told = resolves.marks
 
@@ -253,15 +259,15 @@ module _ (ss : List Source) (p : Purpose) (text : List ℕ) (end : Ending) (ds d
   named : (name : Name) → IsNamed ss (is_marked s) name → IsMentionedIn ss text name
   named name (i, at, marked) = (q, whole, i, at, (resolves.marks i (slice_get_within (names_of ss) i name at)).0 marked)
 
-  told_by : Ends (λ others. IsDone (kinds_of ds) ss others p (definitions (names_of ss) q) (last (names_of ss) q)) ss (is_marked s) p end ds ds' out out' → (v : Verdict) → IsTextVerdict (kinds_of ds) ss p text v → (w : Verdict) × IsTextVerdict (kinds_of ds) ss p text w × Alike v w × FollowsVerdict ⊥ w end ds ds' out out'
-  told_by (before same none outside) v of = let fair = fair_text (kinds_of ds) ss p text v of in (v, of, one refl, follows_outside v end ds ds' out out' p fair same (untold_empty p v end fair none) (outside v))
+  told_by : Ends (λ others. IsDone (kinds_of ds) ss others p (definitions (names_of ss) q) (last (names_of ss) q)) ss (is_marked s) p end (outside_of files ds out) (outside_of files ds' out') → (v : Verdict) → IsTextVerdict (kinds_of ds) ss p text v → (w : Verdict) × IsTextVerdict (kinds_of ds) ss p text w × Alike (ListsTypes p) v w × FollowsVerdict w end (outside_of files ds out) (outside_of files ds' out')
+  told_by (before same none outside) v of = let fair = fair_text (kinds_of ds) ss p text v of in (v, of, one refl, follows_outside v end files ds ds' out out' p fair same (untold_empty p v end fair none) (outside v))
   told_by (followed w is follows) v of = (w, as_text w is, text_alike (kinds_of ds) ss p text v w of (as_text w is), follows)
   told_by (untold none all needs) v of = absurd (no_verdict none v of)
 
-  meant_by : Ends (λ others. IsDone (kinds_of ds) ss others p (definitions (names_of ss) q) (last (names_of ss) q)) ss (is_marked s) p end ds ds' out out' → IsDetermined end → (NeedsDrivers p end → All IsToldBy ds) → (v : Verdict) × IsTextVerdict (kinds_of ds) ss p text v × (v.ending ≡ end)
+  meant_by : Ends (λ others. IsDone (kinds_of ds) ss others p (definitions (names_of ss) q) (last (names_of ss) q)) ss (is_marked s) p end (outside_of files ds out) (outside_of files ds' out') → IsDetermined end → (NeedsDrivers p end → AreTold (kinds_of ds) ss (IsMentionedIn ss text)) → (v : Verdict) × IsTextVerdict (kinds_of ds) ss p text v × (v.ending ≡ end)
   meant_by (before same none outside) told needs = absurd (none told)
-  meant_by (followed w is follows) told needs = (w, as_text w is, elim follows.ends [ inl h ↦ sym h | inr h ↦ absurd (outside_untold w end ds ds' out out' told h) ])
-  meant_by (untold none all must) told needs = absurd (all (needs (must told)))
+  meant_by (followed w is follows) told needs = (w, as_text w is, elim follows.ends [ inl h ↦ sym h | inr h ↦ absurd (outside_untold w end files ds ds' out out' told h) ])
+  meant_by (untold none all must) told needs = absurd (all (λ i x at of. needs (must told) i x at (named x.name of)))
 
   -- what holds of marked sources holds of mentioned ones
   stored_wider : (f : Fault) → IsStoredFault (kinds_of ds) ss (IsNamed ss (is_marked s)) f → IsStoredFault (kinds_of ds) ss (IsMentionedIn ss text) f
@@ -274,7 +280,7 @@ module _ (ss : List Source) (p : Purpose) (text : List ℕ) (end : Ending) (ds d
   drifted_wider : (name : Name) → SomeDrifted ss (λ x. IsNamed ss (is_marked s) x × (x ≡ name)) ds ds' → SomeDrifted ss (λ x. IsMentionedIn ss text x × (x ≡ name)) ds ds'
   drifted_wider name (i, x, at, of, rose) = (i, x, at, (named x.name of.0, of.1), rose)
 
-  pub program_done : DoesText ss p text end ds ds' out out'
+  pub program_done : DoesText ss p text end (outside_of files ds out) (outside_of files ds' out')
   program_done = record {
     told = told_by does.ends;
     meant = meant_by does.ends;
@@ -306,31 +312,31 @@ module _ (P : Decls → Exp → Type 0) (names : List Name) (p : Program) (s : S
   pub as_resolved : P (decls_of s.program.defs) (view s.program.last) → P (definitions names p) (last names p)
   as_resolved h = subst (λ ds. P ds (last names p)) resolves.defs (subst (P (decls_of s.program.defs)) resolves.last h)
 
-pub done_program : (ss : List Source) (p : Purpose) (text : List ℕ) (s : Scoped) (end : Ending) (ds ds' : List State) (out out' : SinkState) → ReadsText (names_of ss) text (Ok s)
-    → DoneWith ss (is_marked s) p (decls_of s.program.defs) (view s.program.last) end ds ds' out out' → DoesText ss p text end ds ds' out out'
-done_program ss p text s end ds ds' out out' (q, whole, resolves) does =
-    program_done ss p text end ds ds' out out' q s whole resolves (as_resolved (λ program e. DoneWith ss (is_marked s) p program e end ds ds' out out') (names_of ss) q s resolves does)
+pub done_program : (ss : List Source) (p : Purpose) (text : List ℕ) (s : Scoped) (end : Ending) (files : FilesState) (ds ds' : List State) (out out' : SinkState) → ReadsText (names_of ss) text (Ok s)
+    → DoneWith ss (is_marked s) p (decls_of s.program.defs) (view s.program.last) end (outside_of files ds out) (outside_of files ds' out') → DoesText ss p text end (outside_of files ds out) (outside_of files ds' out')
+done_program ss p text s end files ds ds' out out' (q, whole, resolves) does =
+    program_done ss p text end files ds ds' out out' q s whole resolves (as_resolved (λ program e. DoneWith ss (is_marked s) p program e end (outside_of files ds out) (outside_of files ds' out')) (names_of ss) q s resolves does)
 
-pub checked : (ss : List Source) (text : List ℕ) (s : Scoped) (end : Ending) (ds : List State) (out out' : SinkState) → ReadsText (names_of ss) text (Ok s) → PrintsPage (well (codes "ok\n")) end out out' → DoesText ss purpose.Check text end ds ds out out'
-checked ss text s end ds out out' (q, whole, resolves) prints = does_text ss purpose.Check text (well (codes "ok\n")) end ds out out' (inr (q, is_marked s, whole, resolves.marks, refl)) tt prints
+pub checked : (ss : List Source) (text : List ℕ) (s : Scoped) (end : Ending) (files : FilesState) (ds : List State) (out out' : SinkState) → ReadsText (names_of ss) text (Ok s) → PrintsPage (well (codes "ok\n")) end out out' → DoesText ss purpose.Check text end (outside_of files ds out) (outside_of files ds out')
+checked ss text s end files ds out out' (q, whole, resolves) prints = does_text ss purpose.Check text (well (codes "ok\n")) end files ds out out' (inr (q, is_marked s, whole, resolves.marks, refl)) tt prints
 
-module _ (ss : List Source) (marks : ℕ → Bool) (program : Decls) (e : Exp) (ds : List State) where
-  pub untyped_types : (f : Fault) (out : SinkState) → AnswersTypes (grounds_of ss) program e (Err f) → DoneWith ss marks purpose.Types program e (Some f) ds ds out out
-  untyped_types f out (inl is) = subst (λ g. DoneWith ss marks purpose.Types program e (Some g) ds ds out out) (sym is) (wanted_done (λ others. IsDone (kinds_of ds) ss others purpose.Types program e) ss marks purpose.Types ds out)
-  untyped_types f out (inr of) = printed_done ss marks purpose.Types program e (refused f) (Some f) ds out out (typing_fault (grounds_of ss) program e f (IsListing (grounds_of ss) program e) of) (plain_typing (grounds_of ss) program e f of) (prints_refused f out)
+module _ (ss : List Source) (marks : ℕ → Bool) (program : Decls) (e : Exp) (files : FilesState) (ds : List State) where
+  pub untyped_types : (f : Fault) (out : SinkState) → AnswersTypes (grounds_of ss) program e (Err f) → DoneWith ss marks purpose.Types program e (Some f) (outside_of files ds out) (outside_of files ds out)
+  untyped_types f out (inl is) = subst (λ g. DoneWith ss marks purpose.Types program e (Some g) (outside_of files ds out) (outside_of files ds out)) (sym is) (wanted_done (λ others. IsDone (kinds_of ds) ss others purpose.Types program e) ss marks purpose.Types files ds out)
+  untyped_types f out (inr of) = printed_done ss marks purpose.Types program e (refused f) (Some f) files ds out out (typing_fault (grounds_of ss) program e f (IsListing (grounds_of ss) program e) of) (plain_typing (grounds_of ss) program e f of) (prints_refused f out)
 
-  pub untyped_run : (first : Option ℕ) (f : Fault) (out : SinkState) → AnswersTypes (grounds_of ss) program e (Err f) → DoneWith ss marks (purpose.Run first) program e (Some f) ds ds out out
-  untyped_run first f out (inl is) = subst (λ g. DoneWith ss marks (purpose.Run first) program e (Some g) ds ds out out) (sym is) (wanted_done (λ others. IsDone (kinds_of ds) ss others (purpose.Run first) program e) ss marks (purpose.Run first) ds out)
-  untyped_run first f out (inr of) = printed_done ss marks (purpose.Run first) program e (refused f) (Some f) ds out out (typing_fault (grounds_of ss) program e f (λ w. HasTyping program e (grounds_of ss) × IsMeant (kinds_of ds) ss marks first program e w) of) (plain_typing (grounds_of ss) program e f of) (prints_refused f out)
+  pub untyped_run : (first : Option ℕ) (f : Fault) (out : SinkState) → AnswersTypes (grounds_of ss) program e (Err f) → DoneWith ss marks (purpose.Run first) program e (Some f) (outside_of files ds out) (outside_of files ds out)
+  untyped_run first f out (inl is) = subst (λ g. DoneWith ss marks (purpose.Run first) program e (Some g) (outside_of files ds out) (outside_of files ds out)) (sym is) (wanted_done (λ others. IsDone (kinds_of ds) ss others (purpose.Run first) program e) ss marks (purpose.Run first) files ds out)
+  untyped_run first f out (inr of) = printed_done ss marks (purpose.Run first) program e (refused f) (Some f) files ds out out (typing_fault (grounds_of ss) program e f (λ w. HasTyping program e (grounds_of ss) × IsMeant (kinds_of ds) ss marks first program e w) of) (plain_typing (grounds_of ss) program e f of) (prints_refused f out)
 
-  pub listed : (typed : Typed) (end : Ending) (out out' : SinkState) → IsTyped (grounds_of ss) program e typed → PrintsPage (scheme_lines (named_schemes program typed)) end out out' → DoneWith ss marks purpose.Types program e end ds ds out out'
+  pub listed : (typed : Typed) (end : Ending) (out out' : SinkState) → IsTyped (grounds_of ss) program e typed → PrintsPage (scheme_lines (named_schemes program typed)) end out out' → DoneWith ss marks purpose.Types program e end (outside_of files ds out) (outside_of files ds out')
   listed typed end out out' types prints =
-      printed_done ss marks purpose.Types program e (scheme_lines (named_schemes program typed)) end ds out out'
+      printed_done ss marks purpose.Types program e (scheme_lines (named_schemes program typed)) end files ds out out'
       (after_none (size_fault (declared program e [])) (λ w. IsUntyped (grounds_of ss) program e w ⊎ IsListing (grounds_of ss) program e w) (scheme_lines (named_schemes program typed)) types.fits (inr (typed, types.infers, refl)))
       (plain_lines (named_schemes program typed)) prints
 
   -- a program that has a typing comes to what it means
-  pub answered : (first : Option ℕ) (typed : Typed) (end : Ending) (ds' : List State) (out out' : SinkState) → IsTyped (grounds_of ss) program e typed → DoneMeaning ss marks first program e end ds ds' out out' → DoneWith ss marks (purpose.Run first) program e end ds ds' out out'
+  pub answered : (first : Option ℕ) (typed : Typed) (end : Ending) (ds' : List State) (out out' : SinkState) → IsTyped (grounds_of ss) program e typed → DoneMeaning ss marks first program e end (outside_of files ds out) (outside_of files ds' out') → DoneWith ss marks (purpose.Run first) program e end (outside_of files ds out) (outside_of files ds' out')
   answered first typed end ds' out out' types does = record {
     ends = ends_typed does.ends;
     read = does.read;
@@ -349,7 +355,7 @@ module _ (ss : List Source) (marks : ℕ → Bool) (program : Decls) (e : Exp) (
       not_meant : (others : ℕ → Bool) (v : Verdict) → (IsMeant (kinds_of ds) ss others first program e v → ⊥) → IsDone (kinds_of ds) ss others (purpose.Run first) program e v → ⊥
       not_meant others v none of = elim (subst (λ s. AfterSizes s (IsRunning others) v) types.fits of) [ inl h ↦ h.1.none types.infers.has_typing | inr h ↦ none h.1 ]
 
-      ends_typed : Ends (λ others. IsMeant (kinds_of ds) ss others first program e) ss marks (purpose.Run first) end ds ds' out out' → Ends (λ others. IsDone (kinds_of ds) ss others (purpose.Run first) program e) ss marks (purpose.Run first) end ds ds' out out'
+      ends_typed : Ends (λ others. IsMeant (kinds_of ds) ss others first program e) ss marks (purpose.Run first) end (outside_of files ds out) (outside_of files ds' out') → Ends (λ others. IsDone (kinds_of ds) ss others (purpose.Run first) program e) ss marks (purpose.Run first) end (outside_of files ds out) (outside_of files ds' out')
       ends_typed (before same none outside) = before same none outside
       ends_typed (followed v of follows) = followed v (after_none (size_fault (declared program e [])) (IsRunning marks) v types.fits (inr (types.infers.has_typing, of))) follows
       ends_typed (untold none all needs) = untold (λ others same v. not_meant others v (none others same v)) all needs

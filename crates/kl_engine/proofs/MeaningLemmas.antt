@@ -4,6 +4,7 @@ use Rattle.std.specs.Prelude.{All, ⊤}
 use Rattle.std.specs.List.{AllByRecursion}
 use Rattle.std.proofs.lemmas.List.Elements.{All-head, All-tail}
 use Rattle.std.proofs.lemmas.Option.{slice_get_within, same_Some}
+use Rattle.kl_outside.specs.Files.{FilesState}
 use Rattle.kl_outside.specs.Sinks.{SinkState}
 use Rattle.kl_base.proofs.Rises.{rose_after}
 use Rattle.kl_value.specs.Canon.{canonical}
@@ -35,7 +36,7 @@ use Rattle.kl_desugar.proofs.Tidying.{resolved_tidy}
 use Rattle.kl_infer.specs.Inferred.{Infers}
 use Rattle.kl_infer.specs.declared.Typed.{Typed}
 use Rattle.kl_ask.specs.Asks.{item_of, kind_of}
-use Rattle.kl_ask.specs.Driver.{DriverKind, State, KeepsState, IsColl, Stored, Missing, Bad, Long, Deep, Rows, IsTold as IsToldBy}
+use Rattle.kl_ask.specs.Driver.{DriverKind, State, KeepsState, IsColl, Stored, Missing, Bad, Long, Deep, Rows}
 use Rattle.kl_ask.specs.Lists.{EachSteps}
 use Rattle.kl_ask.specs.World.{World, types_of, values_of}
 use Rattle.std.specs.declared.alloc.Global.{Global}
@@ -50,16 +51,17 @@ use Rattle.kl_ask.proofs.Whole.{collection_is}
 use Rattle.kl_ask.proofs.Worlds.{there, keeps_then}
 use Rattle.kl_eval.specs.Evals.{Sense, SenseList}
 use Rattle.kl_sources.specs.Attaching.{RoseAt, list_of, HaveNone, AttachesAll, world_of, IsErrorOf, IsUnreadable, NoVerdict, MayAttach, Causes, Serves, Stands, HasTyped}
-use Rattle.kl_sources.specs.Sources.{ArePlaced, IsFit, names_of, grounds_of, contents, IsValueAt, HaveValues}
+use Rattle.kl_sources.specs.Sources.{ArePlaced, IsFit, names_of, grounds_of, contents, HasRows, value_of, empty_of, IsValueAt, HaveValues, IsReadable, FirstWithout}
 use Rattle.kl_sources.specs.declared.attaching.AttachError.{AttachError}
 use Rattle.kl_sources.specs.declared.source.Source.{Source}
 use Rattle.kl_sources.proofs.Agreement.{values_agree, first_agrees}
 use Rattle.kl_sources.proofs.ListedSources.{listed_source}
-use Rattle.kl_sources.proofs.Lists.{of_all, unmapped}
+use Rattle.kl_sources.proofs.Lists.{of_all}
 use Rattle.kl_sources.specs.Sources.{kinds_of}
-use Rattle.kl_engine.specs.Answering.{SomeRose, KeepsDrivers, IsIdle, IsStoredFault, IsUnreadBy, SomeDrifted, IsOf, IsOutside, reading, writing, drifting, wanting, FollowsVerdict, IsDetermined, IsOneOf, HasTextFault, PrintsNothing, IsUnreadFault, NeedsDrivers}
+use Rattle.kl_engine.specs.Answering.{SomeRose, KeepsDrivers, IsIdle, IsStoredFault, AreTold, IsUnreadBy, SomeDrifted, IsOf, IsOutside, reading, writing, drifting, wanting, FollowsVerdict, IsDetermined, IsOneOf, HasTextFault, PrintsNothing, IsUnreadFault, NeedsDrivers}
 use Rattle.kl_engine.specs.Commands.{Program}
 use Rattle.kl_engine.specs.Faults.{Ending}
+use Rattle.kl_engine.specs.Outside.{outside_of}
 use Rattle.kl_engine.specs.Reading.{WasInScope}
 use Rattle.kl_engine.specs.Running.{AnswersTerm, DriftsAt, HasRunFault, IsListScheme, IsTermOutcome, fault_of, Ends, before, followed, untold, IsNamed, DoneMeaning}
 use Rattle.kl_engine.specs.Verdict.{Verdict, refused, GivesList, stored_fault, IsMeant}
@@ -178,19 +180,55 @@ module _ (Named : Name → Type 0) (ds mid last : List State) (this : KeepsDrive
   rose_since : (count : State → ℕ) → ((a b : State) → KeepsState a b → count a ≤ count b) → SomeRose count mid last → SomeRose count ds last
   rose_since count later (i, rose) = (i, rose_at_since count later i rose)
 
-  outside_since : (v : Verdict) (end : Ending) (out out' : SinkState) → IsOutside ⊥ v end mid last out out' → IsOutside ⊥ v end ds last out out'
-  outside_since v end out out' (reading is (inl none)) = absurd none
-  outside_since v end out out' (reading is (inr rose)) = reading is (inr (rose_since (λ d. d.faults) (λ a b keeps. keeps.faults) rose))
-  outside_since v end out out' (writing is rose page) = writing is rose page
-  outside_since v end out out' (drifting name is rose) = drifting name is (rose_since (λ d. d.drifts) (λ a b keeps. keeps.drifts) rose)
-  outside_since v end out out' (wanting is) = wanting is
+  outside_since : (v : Verdict) (end : Ending) (files : FilesState) (out out' : SinkState) → IsOutside v end (outside_of files mid out) (outside_of files last out') → IsOutside v end (outside_of files ds out) (outside_of files last out')
+  outside_since v end files out out' (reading is (inl failed)) = reading is (inl failed)
+  outside_since v end files out out' (reading is (inr rose)) = reading is (inr (rose_since (λ d. d.faults) (λ a b keeps. keeps.faults) rose))
+  outside_since v end files out out' (writing is rose page) = writing is rose page
+  outside_since v end files out out' (drifting name is rose) = drifting name is (rose_since (λ d. d.drifts) (λ a b keeps. keeps.drifts) rose)
+  outside_since v end files out out' (wanting is) = wanting is
 
-  follows_since : (v : Verdict) (end : Ending) (out out' : SinkState) → FollowsVerdict ⊥ v end mid last out out' → FollowsVerdict ⊥ v end ds last out out'
-  follows_since v end out out' follows = record {
-    ends = elim follows.ends [ inl h ↦ inl h | inr h ↦ inr (outside_since v end out out' h) ];
+  follows_since : (v : Verdict) (end : Ending) (files : FilesState) (out out' : SinkState) → FollowsVerdict v end (outside_of files mid out) (outside_of files last out') → FollowsVerdict v end (outside_of files ds out) (outside_of files last out')
+  follows_since v end files out out' follows = record {
+    ends = elim follows.ends [ inl h ↦ inl h | inr h ↦ inr (outside_since v end files out out' h) ];
     whole = follows.whole;
     part = follows.part;
   }
+
+-- ---- sources that are told have values, or there is a first without rows
+
+module _ (ks : List DriverKind) (marks : ℕ → Bool) where
+  abbrev ComeTo : ℕ → List Source → Type 0
+  ComeTo n ss = ((vs : List (Name × Value)) × HaveValues ks marks n ss vs) ⊎ ((s : Source) × (w : Stored) × FirstWithout ks marks n ss s w)
+
+  module _ (n : ℕ) (s : Source) (ss : List Source) where
+    come_unmarked : marks n ≡ false → ComeTo (suc n) ss → ComeTo n (s ∷ ss)
+    come_unmarked is (inl (vs, have)) = inl ((s.name, empty_of s) ∷ vs, (empty_of s, vs, refl, subst (λ b. IsValueAt ks b s (empty_of s)) (sym is) refl, have))
+    come_unmarked is (inr (t, w, first)) = inr (t, w, inr (subst (λ b. IsReadable ks b s) (sym is) tt, first))
+
+    module _ (is : marks n ≡ true) where
+      come_rows : (rows : List Value) → contents ks s ≡ Some (Rows rows) → ComeTo (suc n) ss → ComeTo n (s ∷ ss)
+      come_rows rows at (inl (vs, have)) = inl ((s.name, value_of s rows) ∷ vs, (value_of s rows, vs, refl, subst (λ b. IsValueAt ks b s (value_of s rows)) (sym is) (rows, at, refl), have))
+      come_rows rows at (inr (t, w, first)) = inr (t, w, inr (subst (λ b. IsReadable ks b s) (sym is) (rows, at), first))
+
+      come_without : (w : Stored) → contents ks s ≡ Some w → ((rows : List Value) → w ≡ Rows rows → ⊥) → ComeTo n (s ∷ ss)
+      come_without w at none = inr (s, w, inl (is, refl, at, λ has. none has.0 (same_Some _ _ (sym at ∙ has.1))))
+
+      come_marked : (found : Option Stored) → contents ks s ≡ found → IsSome found → ComeTo (suc n) ss → ComeTo n (s ∷ ss)
+      come_marked None at some rest = let none : IsSome {T = Stored} None = some in cc
+      come_marked (Some (Rows rows)) at some rest = come_rows rows at rest
+      come_marked (Some Missing) at some rest = come_without Missing at (λ rows same. cc)
+      come_marked (Some (Bad place)) at some rest = come_without (Bad place) at (λ rows same. cc)
+      come_marked (Some (Long most)) at some rest = come_without (Long most) at (λ rows same. cc)
+      come_marked (Some (Deep place)) at some rest = come_without (Deep place) at (λ rows same. cc)
+
+    come_next : (b : Bool) → marks n ≡ b → (marks n ≡ true → IsSome (contents ks s)) → ComeTo (suc n) ss → ComeTo n (s ∷ ss)
+    come_next false is told rest = come_unmarked is rest
+    come_next true is told rest = come_marked is (contents ks s) refl (told is) rest
+
+  come_to : (n : ℕ) (ss : List Source) → ((i : ℕ) (s : Source) → slice_get ss i ≡ Some s → marks (n + i) ≡ true → IsSome (contents ks s)) → ComeTo n ss
+  come_to n [] told = inl ([], refl)
+  come_to n (s ∷ ss) told =
+      come_next n s ss (marks n) refl (λ is. told 0 s refl (ap marks (add-zero n) ∙ is)) (come_to (suc n) ss (λ i x at marked. told (suc i) x at (ap marks (omega arith) ∙ marked)))
 
 -- ---- a program whose sources are not told has no verdict
 
@@ -199,14 +237,16 @@ module _ (ss : List Source) (marks : ℕ → Bool) (first : Option ℕ) (program
   none_meant others same v (inl (s, w, f, at, is, eq)) = lacks.no_first s w (first_agrees (kinds_of ds) marks others 0 ss s w (λ i less. sym (same i (omega (arith, less)))) at)
   none_meant others same v (inr (vs, values, is)) = lacks.no_values vs (values_agree (kinds_of ds) marks others 0 ss vs (λ i less. sym (same i (omega (arith, less)))) values)
 
-  none_told : All IsToldBy ds → ⊥
-  none_told all =
-      let at = unmapped (λ (d : State). d.kind) ds lacks.driver.0 lacks.driver.1 lacks.driver.2 in
-      let told : IsSome {T = List ℕ → Ty → Stored} None = subst IsSome (ap (λ (k : DriverKind). k.stored) at.2 ∙ lacks.driver.3) (at_all IsToldBy ds lacks.driver.0 at.0 all at.1) in cc
+  none_told : AreTold (kinds_of ds) ss (IsNamed ss marks) → ⊥
+  none_told told =
+      elim (come_to (kinds_of ds) marks 0 ss (λ i s at marked. told i s at (i, get-map (λ (x : Source). x.name) ss i s at, ap marks (sym (zero-add i)) ∙ marked))) [
+        | inl h ↦ lacks.no_values h.0 h.1
+        | inr h ↦ lacks.no_first h.0 h.1 h.2
+      ]
 
 -- ---- attaching was refused
 
-module _ (ss : List Source) (marks : ℕ → Bool) (first : Option ℕ) (program : Decls) (exp : Exp) (ds mid : List State) (out : SinkState) (e : AttachError) (c : Causes marks ss ds mid e) where
+module _ (ss : List Source) (marks : ℕ → Bool) (first : Option ℕ) (program : Decls) (exp : Exp) (files : FilesState) (ds mid : List State) (out : SinkState) (e : AttachError) (c : Causes marks ss ds mid e) where
   refusal : Fault
   refusal = fault_of e.source e.error
 
@@ -224,12 +264,12 @@ module _ (ss : List Source) (marks : ℕ → Bool) (first : Option ℕ) (program
   refused_of (error.Changed drift) = c.named
   refused_of error.NoMemory = tt
 
-  refused_ends : Ends (λ others. IsMeant (kinds_of ds) ss others first program exp) ss marks (purpose.Run first) (Some (fault_of e.source e.error)) ds mid out out
+  refused_ends : Ends (λ others. IsMeant (kinds_of ds) ss others first program exp) ss marks (purpose.Run first) (Some (fault_of e.source e.error)) (outside_of files ds out) (outside_of files mid out)
   refused_ends = elim c.cause [
     | inl (inl h) ↦ before refl (λ told. subst (λ d. IsDetermined (Some (fault_of e.source d))) h.0 told) (λ v. reading (ap (λ d. Some (fault_of e.source d)) h.0) (inr (c.refused.driver, h.1)))
     | inl (inr h) ↦ before refl (λ told. subst (λ d. IsDetermined (Some (fault_of e.source d))) h told) (λ v. wanting (ap (λ d. Some (fault_of e.source d)) h))
     | inr (inl (w, of, at, inl without)) ↦ followed (refused (fault_of e.source e.error)) (inl (c.refused, w, fault_of e.source e.error, without, refused_by w of, refl))
-        (follows_prints (refused (fault_of e.source e.error)) (Some (fault_of e.source e.error)) out out (prints_refused (fault_of e.source e.error) out) ds mid)
+        (follows_prints (refused (fault_of e.source e.error)) (Some (fault_of e.source e.error)) out out (prints_refused (fault_of e.source e.error) out) files ds mid)
     | inr (inl (w, of, at, inr lacks)) ↦ untold (none_meant ss marks first program exp ds lacks) (none_told ss marks first program exp ds lacks) (needs_drivers e.source first e.error)
     | inr (inr (unreadable, at, lacks, rose)) ↦ untold (none_meant ss marks first program exp ds lacks) (none_told ss marks first program exp ds lacks) (needs_drivers e.source first e.error)
   ]
@@ -261,7 +301,7 @@ module _ (ss : List Source) (marks : ℕ → Bool) (first : Option ℕ) (program
     | inr (inr (unreadable, at, lacks, rose)) ↦ inr (c.place, c.refused, c.there, (refused_named (unreadable_no_want e.error unreadable), subst (λ g. IsOf g c.refused.name) (same_Some _ _ is) (refused_of e.error)), at, rose)
   ]
 
-  pub attach_refused : EachSteps (MayAttach marks ss) ds mid → DoneMeaning ss marks first program exp (Some (fault_of e.source e.error)) ds mid out out
+  pub attach_refused : EachSteps (MayAttach marks ss) ds mid → DoneMeaning ss marks first program exp (Some (fault_of e.source e.error)) (outside_of files ds out) (outside_of files mid out)
   attach_refused steps = record {
     ends = refused_ends;
     read = refused_read;
@@ -276,8 +316,8 @@ module _ (ss : List Source) (marks : ℕ → Bool) (first : Option ℕ) (program
 
 -- ---- memory ran out before sources were attached
 
-pub meaning_wanted : (ss : List Source) (marks : ℕ → Bool) (first : Option ℕ) (program : Decls) (e : Exp) (ds : List State) (out : SinkState) → DoneMeaning ss marks first program e (Some fault.NoMemory) ds ds out out
-meaning_wanted ss marks first program e ds out = wanted_done (λ others. IsMeant (kinds_of ds) ss others first program e) ss marks (purpose.Run first) ds out
+pub meaning_wanted : (ss : List Source) (marks : ℕ → Bool) (first : Option ℕ) (program : Decls) (e : Exp) (files : FilesState) (ds : List State) (out : SinkState) → DoneMeaning ss marks first program e (Some fault.NoMemory) (outside_of files ds out) (outside_of files ds out)
+meaning_wanted ss marks first program e files ds out = wanted_done (λ others. IsMeant (kinds_of ds) ss others first program e) ss marks (purpose.Run first) files ds out
 
 -- ---- values of sources
 
@@ -429,18 +469,18 @@ module _ (ss : List Source) (program : Decls) (e : Exp) (typed : Typed) (infers 
 module _ (ss : List Source) (program : Decls) (e : Exp) (typed : Typed) (infers : Infers program e (grounds_of ss) typed) (tidy : IsTidyProgram program e) (names : List Name) (kept : names ≡ names_of ss) (t : Tree) (is : t ≡ term_of program e names)
     (means : Means program e names t) (ds : List State) (marks : ℕ → Bool) (w : World) (serves : Serves (kinds_of ds) marks ss w) (placed : ArePlaced (kinds_of ds) ss) (steps : EachSteps (MayAttach marks ss) ds w.drivers)
     (stand : (i : ℕ) (s : Source) → slice_get ss i ≡ Some s → marks i ≡ true → Stands (kinds_of ds) w.drivers s) (listed : Bool) (of : listed ≡ true → IsListScheme typed.result) (other : listed ≡ false → IsListScheme typed.result → ⊥)
-    (first : Option ℕ) (end : Ending) (last : List State) (out out' : SinkState) (answers : AnswersTerm (IsTermOutcome listed first (core (values_of w) t [])) (HaveSources (types_of w) (values_of w)) end w.sources w.drivers last out out') (list_is : w.sources ≡ list_of marks 0 ss) where
+    (first : Option ℕ) (end : Ending) (files : FilesState) (last : List State) (out out' : SinkState) (answers : AnswersTerm (IsTermOutcome listed first (core (values_of w) t [])) (HaveSources (types_of w) (values_of w)) end w.sources (outside_of files w.drivers out) (outside_of files last out')) (list_is : w.sources ≡ list_of marks 0 ss) where
   kept_first : KeepsDrivers (IsNamed ss marks) ds w.drivers
   kept_first = attach_keeps ss marks ds w.drivers steps
 
-  answered_ends : ((vs : List (Name × Value)) × HaveValues (kinds_of ds) marks 0 ss vs) ⊎ NoVerdict (kinds_of ds) marks ss → Ends (λ others. IsMeant (kinds_of ds) ss others first program e) ss marks (purpose.Run first) end ds last out out'
+  answered_ends : ((vs : List (Name × Value)) × HaveValues (kinds_of ds) marks 0 ss vs) ⊎ NoVerdict (kinds_of ds) marks ss → Ends (λ others. IsMeant (kinds_of ds) ss others first program e) ss marks (purpose.Run first) end (outside_of files ds out) (outside_of files last out')
   answered_ends (inl (vs, have)) =
       let inhabit : HaveTypesByName (grounds_of ss) vs =
       values_typed (kinds_of ds) marks 0 ss vs (λ i s at. (of_all (IsFit (kinds_of ds)) ss i s placed.fit at).2.collection) (λ i s at marked. (stand i s at (ap marks (sym (zero-add i)) ∙ marked)).typed) have in
       let found = answers.follows (sources_have ss program e typed infers tidy names kept t is (kinds_of ds) marks w serves means vs have inhabit) in
       let meant : IsTermOutcome listed first (meaning_of_program program e vs) found.0 = subst (λ o. IsTermOutcome listed first o found.0) (core_is ss program e typed infers tidy names kept t is (kinds_of ds) marks w serves means vs have inhabit) found.1 in
       followed found.0 (inr (vs, have, outcome_is ss program e typed infers listed of other first (meaning_of_program program e vs) found.0 meant))
-      (follows_since (IsNamed ss marks) ds w.drivers last kept_first found.0 end out out' found.2)
+      (follows_since (IsNamed ss marks) ds w.drivers last kept_first found.0 end files out out' found.2)
   answered_ends (inr lacks) = untold (none_meant ss marks first program e ds lacks) (none_told ss marks first program e ds lacks) (run_needs first end answers.no_other)
 
   drifted : (name : Name) → DriftsAt w.sources name w.drivers last → SomeDrifted ss (λ x. IsNamed ss marks x × (x ≡ name)) ds last
@@ -450,7 +490,7 @@ module _ (ss : List Source) (program : Decls) (e : Exp) (typed : Typed) (infers 
       let since : RoseAt place (λ d. d.drifts) ds last = rose_at_since (IsNamed ss marks) ds w.drivers last kept_first (λ d. d.drifts) (λ a b keeps. keeps.drifts) place rose in
       (i, s.0, s.1, (of, s.3 ∙ named), subst (λ p. RoseAt p (λ d. d.drifts) ds last) (sym s.4) since)
 
-  pub term_done : ((vs : List (Name × Value)) × HaveValues (kinds_of ds) marks 0 ss vs) ⊎ NoVerdict (kinds_of ds) marks ss → DoneMeaning ss marks first program e end ds last out out'
+  pub term_done : ((vs : List (Name × Value)) × HaveValues (kinds_of ds) marks 0 ss vs) ⊎ NoVerdict (kinds_of ds) marks ss → DoneMeaning ss marks first program e end (outside_of files ds out) (outside_of files last out')
   term_done values = record {
     ends = answered_ends values;
     read = λ is. inr (rose_since (IsNamed ss marks) ds w.drivers last kept_first (λ d. d.faults) (λ a b keeps. keeps.faults) (answers.read is));
@@ -482,13 +522,13 @@ module _ (ss : List Source) (s : Scoped) (scope : WasInScope (names_of ss) s) (t
     session_list true_is =
         list_sense ss (decls_of s.program.defs) (view s.program.last) typed infers (tidied (names_of ss) s scope) s.sources scope.1.sources_kept t is (kinds_of ds) (is_marked s) (world_of mid list settings trace) session_serves (of true_is)
 
-    pub session_done : (means : Means (decls_of s.program.defs) (view s.program.last) s.sources t) (placed : ArePlaced (kinds_of ds) ss) (other : listed ≡ false → IsListScheme typed.result → ⊥) (first : Option ℕ) (end : Ending) (last : List State) (out out' : SinkState)
-        → AnswersTerm (IsTermOutcome listed first (core (values_of (world_of mid list settings trace)) t [])) (HaveSources (types_of (world_of mid list settings trace)) (values_of (world_of mid list settings trace))) end list mid last out out'
-        → DoneMeaning ss (is_marked s) first (decls_of s.program.defs) (view s.program.last) end ds last out out'
-    session_done means placed other first end last out out' answers =
+    pub session_done : (means : Means (decls_of s.program.defs) (view s.program.last) s.sources t) (placed : ArePlaced (kinds_of ds) ss) (other : listed ≡ false → IsListScheme typed.result → ⊥) (first : Option ℕ) (end : Ending) (files : FilesState) (last : List State) (out out' : SinkState)
+        → AnswersTerm (IsTermOutcome listed first (core (values_of (world_of mid list settings trace)) t [])) (HaveSources (types_of (world_of mid list settings trace)) (values_of (world_of mid list settings trace))) end list (outside_of files mid out) (outside_of files last out')
+        → DoneMeaning ss (is_marked s) first (decls_of s.program.defs) (view s.program.last) end (outside_of files ds out) (outside_of files last out')
+    session_done means placed other first end files last out out' answers =
         term_done ss (decls_of s.program.defs) (view s.program.last) typed infers (tidied (names_of ss) s scope) s.sources scope.1.sources_kept t is means ds (is_marked s) (world_of mid list settings trace) session_serves placed attaches.drivers
-        attaches.stand listed of other first end last out out' answers attaches.list attaches.values
+        attaches.stand listed of other first end files last out out' answers attaches.list attaches.values
 
-pub attach_failed : (ss : List Source) (marks : ℕ → Bool) (first : Option ℕ) (program : Decls) (exp : Exp) (ds mid : List State) (out : SinkState) (e : AttachError) (f : Fault) → AttachesAll marks ss (Err e) ds mid → f ≡ fault_of e.source e.error → DoneMeaning ss marks first program exp (Some f) ds mid out out
-attach_failed ss marks first program exp ds mid out e f attaches same =
-    subst (λ g. DoneMeaning ss marks first program exp (Some g) ds mid out out) (sym same) (attach_refused ss marks first program exp ds mid out e attaches.cause attaches.drivers)
+pub attach_failed : (ss : List Source) (marks : ℕ → Bool) (first : Option ℕ) (program : Decls) (exp : Exp) (files : FilesState) (ds mid : List State) (out : SinkState) (e : AttachError) (f : Fault) → AttachesAll marks ss (Err e) ds mid → f ≡ fault_of e.source e.error → DoneMeaning ss marks first program exp (Some f) (outside_of files ds out) (outside_of files mid out)
+attach_failed ss marks first program exp files ds mid out e f attaches same =
+    subst (λ g. DoneMeaning ss marks first program exp (Some g) (outside_of files ds out) (outside_of files mid out)) (sym same) (attach_refused ss marks first program exp files ds mid out e attaches.cause attaches.drivers)

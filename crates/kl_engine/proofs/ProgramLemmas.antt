@@ -1,5 +1,5 @@
 -- What is done with a program, by what is done with its text.
-use Rattle.std.proofs.Common.{◌≡◌, ◌⊎◌, inl, inr, ℕ, List, [], Option, Some, None, Ok, Err, refl, sym, ◌∙◌, ap, subst}
+use Rattle.std.proofs.Common.{◌≡◌, ◌⊎◌, inl, inr, ℕ, List, [], Option, Some, None, Ok, Err, refl, sym, ◌∙◌, ap, subst, arith}
 use Rattle.std.specs.Prelude.{⊤}
 use Rattle.std.specs.Io.KnownBytes.{append_known}
 use Rattle.kl_outside.specs.Counts.{Rose}
@@ -13,6 +13,7 @@ use Rattle.kl_sources.specs.Sources.{kinds_of}
 use Rattle.kl_engine.specs.Answering.{SomeRose, one, IsOutside, reading, writing, drifting, wanting, FollowsVerdict, DoesText, Does, IsDetermined, IsOneOf, HasTextFault, HasFault, IsMentionedIn, IsMentioned, PrintsNothing, IsRun, IsUnreadFault, IsUnreadBy, SomeDrifted, OfRun, LacksFile, IsStoredFault}
 use Rattle.kl_engine.specs.Commands.{Program}
 use Rattle.kl_engine.specs.Faults.{Ending}
+use Rattle.kl_engine.specs.Outside.{Outside, outside_of}
 use Rattle.kl_engine.specs.Inputs.{IsInputsEnd, ReadsInputs}
 use Rattle.kl_engine.specs.Verdict.{Verdict, refused, HasInputs, IsTextVerdict, IsInputsFault, IsProgramVerdict}
 use Rattle.kl_engine.specs.declared.fault.Fault.{Fault}
@@ -26,23 +27,24 @@ use Rattle.kl_engine.proofs.InputLemmas.{inputs_one, inputs_well, inputs_fault_o
 use Rattle.kl_engine.proofs.UnreadLemmas.{unread_cases}
 
 -- what is done with a text is done with the same text
-pub does_same : (ss us : List Source) (p : Purpose) (text other : List ℕ) (end : Ending) (ds ds' : List State) (out out' : SinkState) → us ≡ ss → other ≡ text → DoesText us p other end ds ds' out out' → DoesText ss p text end ds ds' out out'
-does_same ss us p text other end ds ds' out out' same also does = subst (λ xs. DoesText xs p text end ds ds' out out') same (subst (λ bs. DoesText us p bs end ds ds' out out') also does)
+pub does_same : (ss us : List Source) (p : Purpose) (text other : List ℕ) (end : Ending) (o o' : Outside) → us ≡ ss → other ≡ text → DoesText us p other end o o' → DoesText ss p text end o o'
+does_same ss us p text other end o o' same also does = subst (λ xs. DoesText xs p text end o o') same (subst (λ bs. DoesText us p bs end o o') also does)
 
--- a fault of the outside, where a file failed too
-outside_also : (FilesRose : Type 0) (v : Verdict) (end : Ending) (ds ds' : List State) (out out' : SinkState) → IsOutside ⊥ v end ds ds' out out' → IsOutside FilesRose v end ds ds' out out'
-outside_also FilesRose v end ds ds' out out' (reading is (inl none)) = absurd none
-outside_also FilesRose v end ds ds' out out' (reading is (inr rose)) = reading is (inr rose)
-outside_also FilesRose v end ds ds' out out' (writing is rose page) = writing is rose page
-outside_also FilesRose v end ds ds' out out' (drifting name is rose) = drifting name is rose
-outside_also FilesRose v end ds ds' out out' (wanting is) = wanting is
+-- a fault of the outside, where the files had been read before
+module _ (f f' : FilesState) (v : Verdict) (end : Ending) (ds ds' : List State) (out out' : SinkState) where
+  outside_also : IsOutside v end (outside_of f' ds out) (outside_of f' ds' out') → IsOutside v end (outside_of f ds out) (outside_of f' ds' out')
+  outside_also (reading is (inl failed)) = reading is (inl (omega (arith, failed)))
+  outside_also (reading is (inr rose)) = reading is (inr rose)
+  outside_also (writing is rose page) = writing is rose page
+  outside_also (drifting name is rose) = drifting name is rose
+  outside_also (wanting is) = wanting is
 
-follows_also : (FilesRose : Type 0) (v : Verdict) (end : Ending) (ds ds' : List State) (out out' : SinkState) → FollowsVerdict ⊥ v end ds ds' out out' → FollowsVerdict FilesRose v end ds ds' out out'
-follows_also FilesRose v end ds ds' out out' follows = record {
-  ends = elim follows.ends [ inl h ↦ inl h | inr h ↦ inr (outside_also FilesRose v end ds ds' out out' h) ];
-  whole = follows.whole;
-  part = follows.part;
-}
+  follows_also : FollowsVerdict v end (outside_of f' ds out) (outside_of f' ds' out') → FollowsVerdict v end (outside_of f ds out) (outside_of f' ds' out')
+  follows_also follows = record {
+    ends = elim follows.ends [ inl h ↦ inl h | inr h ↦ inr (outside_also h) ];
+    whole = follows.whole;
+    part = follows.part;
+  }
 
 -- A text's fault is a program's.
 of_program : (p : Purpose) (path : List ℕ) (catalogue : Option (List ℕ)) (end : Ending) → IsOneOf (HasTextFault p) end → IsOneOf (HasFault (Program p path catalogue)) end
@@ -104,16 +106,16 @@ unread_run p fault.TermDepth is has = absurd is
 unread_run p fault.SchemeBytes is has = absurd is
 
 module _ (p : Purpose) (path : List ℕ) (catalogue : Option (List ℕ)) (f f' : FilesState) where
-  pub program_does : (i : Inputs) (end : Ending) (ds ds' : List State) (out out' : SinkState) → ReadsInputs path catalogue (kinds_of ds) (Ok i) f f' → DoesText i.sources p i.text end ds ds' out out' → Does (Program p path catalogue) end f f' ds ds' out out'
+  pub program_does : (i : Inputs) (end : Ending) (ds ds' : List State) (out out' : SinkState) → ReadsInputs path catalogue (kinds_of ds) (Ok i) f f' → DoesText i.sources p i.text end (outside_of f' ds out) (outside_of f' ds' out') → Does (Program p path catalogue) end (outside_of f ds out) (outside_of f' ds' out')
   program_does i end ds ds' out out' reads does = record {
     told = λ told is v of. elim of [
       | inl h ↦ absurd (inputs_well told (kinds_of ds) path catalogue i.text i.sources h.0 (reads.inputs told is) h.1)
       | inr h ↦
           let same = inputs_one told (kinds_of ds) path catalogue h.0 i.text h.1 i.sources h.2 (reads.inputs told is) in
           let found = does.told v (subst (λ ss. IsTextVerdict (kinds_of ds) ss p i.text v) same.1 (subst (λ text. IsTextVerdict (kinds_of ds) h.1 p text v) same.0 h.3)) in
-          (found.0, inr (i.text, i.sources, reads.inputs told is, found.1), found.2, follows_also (Rose f.faults f'.faults) found.0 end ds ds' out out' found.3)
+          (found.0, inr (i.text, i.sources, reads.inputs told is, found.1), found.2, follows_also f f' found.0 end ds ds' out out' found.3)
     ];
-    meant = λ told is well needs. let found = does.meant well needs in (found.0, inr (i.text, i.sources, reads.inputs told is, found.1), found.2);
+    meant = λ told is well needs. let found = does.meant well (λ need. needs need i.text i.sources (reads.inputs told is)) in (found.0, inr (i.text, i.sources, reads.inputs told is, found.1), found.2);
     caused = record {
       usage = λ is. absurd (none_misuses p end does.no_other is);
       no_usage = λ is. absurd cc;
@@ -176,14 +178,14 @@ module _ (p : Purpose) (path : List ℕ) (catalogue : Option (List ℕ)) (f f' :
     not_unread h is un = unread_cases (λ k. IsInputsEnd k → ⊥) (λ name place e. e) (λ e. e) (λ e. e) h un (subst IsInputsEnd is reads.no_other)
 
     -- nothing is printed of a verdict that ends as this
-    follows_none : (v : Verdict) → (v.ending ≡ Some g → v.page ≡ []) → (Some g ≡ v.ending) ⊎ IsOutside (Rose f.faults f'.faults) v (Some g) ds ds out out → FollowsVerdict (Rose f.faults f'.faults) v (Some g) ds ds out out
+    follows_none : (v : Verdict) → (v.ending ≡ Some g → v.page ≡ []) → (Some g ≡ v.ending) ⊎ IsOutside v (Some g) (outside_of f ds out) (outside_of f' ds out) → FollowsVerdict v (Some g) (outside_of f ds out) (outside_of f' ds out)
     follows_none v empty ends = record {
       ends = ends;
       whole = λ is. sym (ap (append_known out.taken) (empty (sym is)) ∙ append_known-nil out.taken);
       part = took_none v.page out out refl;
     }
 
-    told_refused : (told : List ℕ → Option (List ℕ)) → f.told ≡ Some told → (v : Verdict) → IsProgramVerdict told (kinds_of ds) p path catalogue v → FollowsVerdict (Rose f.faults f'.faults) v (Some g) ds ds out out
+    told_refused : (told : List ℕ → Option (List ℕ)) → f.told ≡ Some told → (v : Verdict) → IsProgramVerdict told (kinds_of ds) p path catalogue v → FollowsVerdict v (Some g) (outside_of f ds out) (outside_of f' ds out)
     told_refused told is v of = elim (reads.refused told is) [
       | inl none ↦ follows_none v (λ same. absurd (of_verdict v told of (same ∙ ap Some none))) (inr (wanting (ap Some none)))
       | inr (inl failed) ↦ follows_none v (λ same. read_empty v told of (same ∙ ap Some failed.0)) (inr (reading (ap Some failed.0) (inl failed.1)))
@@ -206,7 +208,7 @@ module _ (p : Purpose) (path : List ℕ) (catalogue : Option (List ℕ)) (f f' :
     abbrev ReadCause : Type 0
     ReadCause = LacksFile (Program p path catalogue) f (kinds_of ds) ⊎ OfRun (Program p path catalogue) f (kinds_of ds) (λ text ss. IsStoredFault (kinds_of ds) ss (IsMentionedIn ss text) fault.Read) ⊎ Rose f.faults f'.faults ⊎ SomeRose (λ d. d.faults) ds ds
 
-    pub program_refused : Does (Program p path catalogue) (Some g) f f' ds ds out out
+    pub program_refused : Does (Program p path catalogue) (Some g) (outside_of f ds out) (outside_of f' ds out)
     program_refused = record {
       told = λ told is v of. (v, of, one refl, told_refused told is v of);
       meant = λ told is well needs. elim (reads.refused told is) [

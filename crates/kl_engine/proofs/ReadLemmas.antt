@@ -3,7 +3,7 @@ use Rattle.std.proofs.Common.{◌≡◌, inl, inr, ℕ, ◌+◌, ◌≤◌, ◌=
 use Rattle.std.proofs.lemmas.Bool.{cases_order}
 use Rattle.kl_lex.specs.declared.token.Token.{Token}
 use Rattle.kl_lex.specs.Lexing.{Tokens, PlacesRise}
-use Rattle.kl_lex.proofs.Sequence.{one_lexing, refused_none}
+use Rattle.kl_lex.proofs.OneLexing as lexing
 use Rattle.kl_parse.specs.Parsing.{IsProgram, RefusesProgram}
 use Rattle.kl_parse.specs.declared.program.ParseError.TheVariants.{Syntax}
 use Rattle.kl_parse.proofs.Answer.{unique}
@@ -70,8 +70,8 @@ same_rank e f (inl a) (inr b) = absurd (let same = b.0 in omega (arith, a, same)
 same_rank e f (inr a) (inl b) = absurd (let same = a.0 in omega (arith, b, same))
 same_rank e f (inr a) (inr b) = (a.0, let this = a.1 in let that = b.1 in omega (arith, this, that))
 
-scope_alike : (names : List Name) (ts : List Token) (size : ℕ) (f g : Fault) → IsScopeFault names ts size f → IsScopeFault names ts size g → Alike (refused f) (refused g)
-scope_alike names ts size f g (p, e, reads, breach, first, is) (q, d, again, also, second, it) =
+scope_alike : (L : Type 0) (names : List Name) (ts : List Token) (size : ℕ) (f g : Fault) → IsScopeFault names ts size f → IsScopeFault names ts size g → Alike L (refused f) (refused g)
+scope_alike L names ts size f g (p, e, reads, breach, first, is) (q, d, again, also, second, it) =
     let too : IsFirstBreach p names d = subst (λ r. IsFirstBreach r names d) (unique ts q p again reads) second in
     let same = same_rank e d (first.first d too.breaks) (too.first e first.breaks) in
     renamed (wrong_of e) (wrong_of d) (byte_of ts (token_of e) size)
@@ -86,27 +86,24 @@ one_place ts k j this that = elim (cases_order k j) [
   | inr (inr less) ↦ absurd (that.no_longer k less this.within this.begins)
 ]
 
-tokens_alike : (names : List Name) (ts : List Token) (size : ℕ) (f g : Fault) → IsTokensFault names ts size f → IsTokensFault names ts size g → Alike (refused f) (refused g)
-tokens_alike names ts size f g (inl this) (inl that) = scope_alike names ts size f g this that
-tokens_alike names ts size f g (inl (p, e, reads, breach, first, was)) (inr (inl (k, place, it))) = absurd (place.0.not_whole (256, p, reads))
-tokens_alike names ts size f g (inl (p, e, reads, breach, first, was)) (inr (inr (k, place, it))) = absurd (place.0.not_whole p reads)
-tokens_alike names ts size f g (inr (inl (k, place, is))) (inl (p, e, reads, breach, first, was)) = absurd (place.0.not_whole (256, p, reads))
-tokens_alike names ts size f g (inr (inl (k, place, is))) (inr (inl (j, also, it))) = one (ap refused (is ∙ (ap (λ n. fault.Text wrong.Syntax (byte_of ts n size)) (one_place ts k j place.0 also.0) ∙ sym it)))
-tokens_alike names ts size f g (inr (inl (k, place, is))) (inr (inr (j, also, it))) = nested (byte_of ts k size) (ap refused is) (ap refused it)
-tokens_alike names ts size f g (inr (inr (k, place, is))) (inl (p, e, reads, breach, first, was)) = absurd (place.0.not_whole p reads)
-tokens_alike names ts size f g (inr (inr (k, place, is))) (inr (inl (j, also, it))) = unnested (byte_of ts j size) (ap refused is) (ap refused it)
-tokens_alike names ts size f g (inr (inr (k, place, is))) (inr (inr (j, also, it))) = one (ap refused (is ∙ sym it))
+tokens_alike : (L : Type 0) (names : List Name) (ts : List Token) (size : ℕ) (f g : Fault) → IsTokensFault names ts size f → IsTokensFault names ts size g → Alike L (refused f) (refused g)
+tokens_alike L names ts size f g (inl this) (inl that) = scope_alike L names ts size f g this that
+tokens_alike L names ts size f g (inl (p, e, reads, breach, first, was)) (inr (inl (k, place, it))) = absurd (place.0.not_whole (256, p, reads))
+tokens_alike L names ts size f g (inl (p, e, reads, breach, first, was)) (inr (inr (k, place, it))) = absurd (place.0.not_whole p reads)
+tokens_alike L names ts size f g (inr (inl (k, place, is))) (inl (p, e, reads, breach, first, was)) = absurd (place.0.not_whole (256, p, reads))
+tokens_alike L names ts size f g (inr (inl (k, place, is))) (inr (inl (j, also, it))) = one (ap refused (is ∙ (ap (λ n. fault.Text wrong.Syntax (byte_of ts n size)) (one_place ts k j place.0 also.0) ∙ sym it)))
+tokens_alike L names ts size f g (inr (inl (k, place, is))) (inr (inr (j, also, it))) = nested (byte_of ts k size) (ap refused is) (ap refused it)
+tokens_alike L names ts size f g (inr (inr (k, place, is))) (inl (p, e, reads, breach, first, was)) = absurd (place.0.not_whole p reads)
+tokens_alike L names ts size f g (inr (inr (k, place, is))) (inr (inl (j, also, it))) = unnested (byte_of ts j size) (ap refused is) (ap refused it)
+tokens_alike L names ts size f g (inr (inr (k, place, is))) (inr (inr (j, also, it))) = one (ap refused (is ∙ sym it))
 
-pub faults_alike : (names : List Name) (bytes : List ℕ) (f g : Fault) → IsTextFault names bytes f → IsTextFault names bytes g → Alike (refused f) (refused g)
-faults_alike names bytes f g (inl (ts, tokens, ends)) (inl (us, also, too)) =
-    let same = (one_lexing (length bytes) bytes ts us [] [] tokens (inl refl) also (inl refl)).0 in
-    tokens_alike names us (length bytes) f g (subst (λ r. IsTokensFault names r (length bytes) f) same ends) too
-faults_alike names bytes f g (inl (ts, tokens, ends)) (inr (byte, (us, left, upto, due, none, at), it)) = absurd (refused_none bytes us ts left upto due none tokens)
-faults_alike names bytes f g (inr (byte, (us, left, upto, due, none, at), is)) (inl (ts, tokens, ends)) = absurd (refused_none bytes us ts left upto due none tokens)
-faults_alike names bytes f g (inr (byte, (us, left, upto, due, none, at), is)) (inr (byte2, (us2, left2, upto2, due2, none2, at2), it)) =
-    let same = (one_lexing (length bytes) bytes us us2 left left2 upto (inr (due, none)) upto2 (inr (due2, none2))).1 in
-    let place : byte ≡ byte2 = omega (arith, at, at2, ap length same) in
-    one (ap refused (is ∙ (ap (λ n. fault.Text wrong.NoToken n) place ∙ sym it)))
+pub faults_alike : (L : Type 0) (names : List Name) (bytes : List ℕ) (f g : Fault) → IsTextFault names bytes f → IsTextFault names bytes g → Alike L (refused f) (refused g)
+faults_alike L names bytes f g (inl (ts, tokens, ends)) (inl (us, also, too)) =
+    tokens_alike L names us (length bytes) f g (subst (λ r. IsTokensFault names r (length bytes) f) (lexing.unique bytes ts us tokens also) ends) too
+faults_alike L names bytes f g (inl (ts, tokens, ends)) (inr (byte, none, it)) = absurd (lexing.refused bytes byte ts none tokens)
+faults_alike L names bytes f g (inr (byte, none, is)) (inl (ts, tokens, ends)) = absurd (lexing.refused bytes byte ts none tokens)
+faults_alike L names bytes f g (inr (byte, none, is)) (inr (byte2, none2, it)) =
+    one (ap refused (is ∙ (ap (λ n. fault.Text wrong.NoToken n) (lexing.one_byte bytes byte byte2 none none2) ∙ sym it)))
 
 -- ---- a text in scope is one program, and has no fault
 
@@ -117,14 +114,13 @@ tokens_whole names ts size f p reads scope (inr (inr (k, place, is))) = place.0.
 
 pub no_fault : (names : List Name) (bytes : List ℕ) (f : Fault) (p : Program) → IsProgramOf names bytes p → IsTextFault names bytes f → ⊥
 no_fault names bytes f p whole (inl (ts, tokens, ends)) =
-    let same = (one_lexing (length bytes) bytes ts whole.tokens [] [] tokens (inl refl) whole.lexed (inl refl)).0 in
-    tokens_whole names whole.tokens (length bytes) f p whole.spelled whole.in_scope (subst (λ r. IsTokensFault names r (length bytes) f) same ends)
-no_fault names bytes f p whole (inr (byte, (us, left, upto, due, none, at), is)) = refused_none bytes us whole.tokens left upto due none whole.lexed
+    tokens_whole names whole.tokens (length bytes) f p whole.spelled whole.in_scope
+    (subst (λ r. IsTokensFault names r (length bytes) f) (lexing.unique bytes ts whole.tokens tokens whole.lexed) ends)
+no_fault names bytes f p whole (inr (byte, none, is)) = lexing.refused bytes byte whole.tokens none whole.lexed
 
 pub one_program : (names : List Name) (bytes : List ℕ) (p q : Program) → IsProgramOf names bytes p → IsProgramOf names bytes q → p ≡ q
 one_program names bytes p q this that =
-    let same = (one_lexing (length bytes) bytes this.tokens that.tokens [] [] this.lexed (inl refl) that.lexed (inl refl)).0 in
-    unique that.tokens p q (subst (λ r. IsProgram r p) same this.spelled) that.spelled
+    unique that.tokens p q (subst (λ r. IsProgram r p) (lexing.unique bytes this.tokens that.tokens this.lexed that.lexed) this.spelled) that.spelled
 
 pub few_tokens : (place total : ℕ) (ts : List Token) → PlacesRise place total ts → place + length ts ≤ total
 few_tokens place total [] rise = omega (arith, rise)

@@ -25,9 +25,11 @@ use Rattle.kl_outside.specs.declared.stop.Stop.TheVariants as stop
 use Rattle.kl_outside.proofs.SinkLemmas.{append_known-nil, append_known-append, took_none, took_all, took_front}
 use Rattle.kl_value.specs.Written.{text_of}
 use Rattle.kl_value.specs.declared.value.Value.{Value}
+use Rattle.kl_ask.specs.Driver.{State}
 use Rattle.kl_engine.specs.Answering.{IsDetermined, IsOneOf, HasFault}
 use Rattle.kl_engine.specs.Commands.{Show}
 use Rattle.kl_engine.specs.Faults.{Ending}
+use Rattle.kl_engine.specs.Outside.{outside_of}
 use Rattle.kl_engine.specs.Showing.{FollowsFile, DoesShow, ShowsItems, Flushes, read_fault, fetch_fault, write_fault}
 use Rattle.kl_engine.specs.Verdict.{Verdict, refused, end_fault, lines, IsFile, IsShowing}
 use Rattle.kl_engine.specs.declared.fault.Fault.{Fault}
@@ -58,12 +60,12 @@ showing_told : (bytes : List ℕ) (v : Verdict) → IsShowing bytes v → IsDete
 showing_told bytes v of = subst (λ w. IsDetermined w.ending) (sym of.3) (end_told of.1)
 
 -- all items were printed, and the end was met
-follows_end : (bytes : List ℕ) (vs : List Value) (end : FileEnd) (s0 s : FilesState) (out0 out : SinkState) → Shows most_read bytes vs end → out.taken ≡ append_known out0.taken (lines vs)
-    → (v : Verdict) → IsShowing bytes v → FollowsFile v (end_fault end) s0 s out0 out
-follows_end bytes vs end s0 s out0 out shows took v of =
+follows_end : (ds : List State) (bytes : List ℕ) (vs : List Value) (end : FileEnd) (s0 s : FilesState) (out0 out : SinkState) → Shows most_read bytes vs end → out.taken ≡ append_known out0.taken (lines vs)
+    → (v : Verdict) → IsShowing bytes v → FollowsFile v (end_fault end) (outside_of s0 ds out0) (outside_of s ds out)
+follows_end ds bytes vs end s0 s out0 out shows took v of =
     let one = one_showing most_read bytes vs of.0 end of.1 shows of.2 in
     let same : shown vs end ≡ v = ap (λ ws. shown ws end) one.0 ∙ (ap (λ e. shown of.0 e) one.1 ∙ sym of.3) in
-    subst (λ w. FollowsFile w (end_fault end) s0 s out0 out) same (record {
+    subst (λ w. FollowsFile w (end_fault end) (outside_of s0 ds out0) (outside_of s ds out)) same (record {
       ends = inl refl;
       whole = λ is. took;
       part = took_all (lines vs) out0 out took;
@@ -124,9 +126,9 @@ stop_other f vs s0 s out0 out cause = elim cause [
   | inr (inr h) ↦ subst (HasFault (Show [])) (sym h) tt
 ]
 
-follows_front : (bytes : List ℕ) (vs us : List Value) (f : Fault) (s0 s : FilesState) (out0 out : SinkState) → Cause f vs s0 s out0 out → TookPart (lines vs) out0 out
-    → (v : Verdict) (of : IsShowing bytes v) → of.0 ≡ vs ++ us → FollowsFile v (Some f) s0 s out0 out
-follows_front bytes vs us f s0 s out0 out cause part v of is =
+follows_front : (ds : List State) (bytes : List ℕ) (vs us : List Value) (f : Fault) (s0 s : FilesState) (out0 out : SinkState) → Cause f vs s0 s out0 out → TookPart (lines vs) out0 out
+    → (v : Verdict) (of : IsShowing bytes v) → of.0 ≡ vs ++ us → FollowsFile v (Some f) (outside_of s0 ds out0) (outside_of s ds out)
+follows_front ds bytes vs us f s0 s out0 out cause part v of is =
     let page : v.page ≡ lines vs ++ lines us = ap (λ w. w.page) of.3 ∙ (ap lines is ∙ lines-append vs us) in
     record {
       ends = elim cause [
@@ -172,9 +174,9 @@ going_none now s out is_open is_new unpast limit = record {
   none = λ is. refl;
 }
 
-module _ (file : ℕ) (new : FileReading) (s0 s : FilesState) (out0 out : SinkState) (vs : List Value) (stays : Stays file new s0 s) where
+module _ (ds : List State) (file : ℕ) (new : FileReading) (s0 s : FilesState) (out0 out : SinkState) (vs : List Value) (stays : Stays file new s0 s) where
   -- the end was met
-  ends_with : (end : FileEnd) → EndsSo (s0.left file) vs end new (s.left file) → out.taken ≡ append_known out0.taken (lines vs) → ShowsItems file (end_fault end) s0 s out0 out
+  ends_with : (end : FileEnd) → EndsSo (s0.left file) vs end new (s.left file) → out.taken ≡ append_known out0.taken (lines vs) → ShowsItems file (end_fault end) (outside_of s0 ds out0) (outside_of s ds out)
   ends_with end ends took = record {
     told = stays.told;
     others = stays.others;
@@ -183,7 +185,7 @@ module _ (file : ℕ) (new : FileReading) (s0 s : FilesState) (out0 out : SinkSt
     read = λ is. absurd (subst IsDetermined is (end_told end));
     write = λ is. absurd (subst IsDetermined is (end_told end));
     no_other = end_other end;
-    follows = λ bytes known v of. follows_end bytes vs end s0 s out0 out (shows bytes known) took v of;
+    follows = λ bytes known v of. follows_end ds bytes vs end s0 s out0 out (shows bytes known) took v of;
     meant = λ bytes known is. (shown vs end, (vs, end, shows bytes known, refl), refl);
   }
     where
@@ -191,7 +193,7 @@ module _ (file : ℕ) (new : FileReading) (s0 s : FilesState) (out0 out : SinkSt
       shows bytes known = subst (λ n. Shows n bytes vs end) stays.limit (ends.1 bytes known)
 
   -- a fault of the outside came first, or want of memory
-  stops_with : (f : Fault) → HasRead (s0.left file) vs new (s.left file) → TookPart (lines vs) out0 out → Cause f vs s0 s out0 out → ShowsItems file (Some f) s0 s out0 out
+  stops_with : (f : Fault) → HasRead (s0.left file) vs new (s.left file) → TookPart (lines vs) out0 out → Cause f vs s0 s out0 out → ShowsItems file (Some f) (outside_of s0 ds out0) (outside_of s ds out)
   stops_with f has part cause = record {
     told = stays.told;
     others = stays.others;
@@ -202,12 +204,12 @@ module _ (file : ℕ) (new : FileReading) (s0 s : FilesState) (out0 out : SinkSt
     no_other = stop_other f vs s0 s out0 out cause;
     follows = λ bytes known v of.
         let front = first_shown (s0.left file) vs of.0 new (s.left file) bytes of.1 has known (subst (λ n. Shows n bytes of.0 of.1) (sym stays.limit) of.2) in
-        follows_front bytes vs front.0 f s0 s out0 out cause part v of front.1;
+        follows_front ds bytes vs front.0 f s0 s out0 out cause part v of front.1;
     meant = λ bytes known is. absurd (unlike f vs s0 s out0 out cause is);
   }
 
   -- a write was refused
-  refused_with : (e : PrintError) → HasRead (s0.left file) vs new (s.left file) → TookPart (lines vs) out0 out → lines vs ≢ [] → (as_stop {T = Unit {0}} (Err e) ≡ Err stop.Failed → Rose out0.faults out.faults) → ShowsItems file (Some (write_fault e)) s0 s out0 out
+  refused_with : (e : PrintError) → HasRead (s0.left file) vs new (s.left file) → TookPart (lines vs) out0 out → lines vs ≢ [] → (as_stop {T = Unit {0}} (Err e) ≡ Err stop.Failed → Rose out0.faults out.faults) → ShowsItems file (Some (write_fault e)) (outside_of s0 ds out0) (outside_of s ds out)
   refused_with print.Failed has part full rose = stops_with fault.Write has part (inr (inl (refl, rose refl, full)))
   refused_with print.NoMemory has part full rose = stops_with fault.NoMemory has part (inr (inr refl))
 
@@ -263,9 +265,9 @@ module _ (file : ℕ) (now : FileReading) (s0 s : FilesState) (out0 out : SinkSt
     none = λ is. absurd cc;
   }
 
-  pub items_stopped : (e : PrintError) (new : FileReading) (v : Value) (out' : SinkState) (after : List ℕ) → HandsOut (Ok (item.Value v)) now new → Puts (line v) (as_stop {T = Unit {0}} (Err e)) out held out' after → ShowsItems file (Some (write_fault e)) s0 s out0 out'
-  items_stopped e new v out' after hands puts =
-      refused_with file new s0 s out0 out' (so.vs ++ v ∷ []) (stays_held new (Ok (item.Value v)) hands) e (held_out new (Ok (item.Value v)) hands) (record {
+  pub items_stopped : (ds : List State) (e : PrintError) (new : FileReading) (v : Value) (out' : SinkState) (after : List ℕ) → HandsOut (Ok (item.Value v)) now new → Puts (line v) (as_stop {T = Unit {0}} (Err e)) out held out' after → ShowsItems file (Some (write_fault e)) (outside_of s0 ds out0) (outside_of s ds out')
+  items_stopped ds e new v out' after hands puts =
+      refused_with ds file new s0 s out0 out' (so.vs ++ v ∷ []) (stays_held new (Ok (item.Value v)) hands) e (held_out new (Ok (item.Value v)) hands) (record {
         done = so.done ++ puts.done;
         rest = puts.rest;
         all = line_all v (as_stop {T = Unit {0}} (Err e)) out' after puts;
@@ -303,26 +305,26 @@ module _ (file : ℕ) (now : FileReading) (s0 s : FilesState) (out0 out : SinkSt
           none = λ is. f.1;
         }
 
-    pub items_end : (new : FileReading) → HandsOut (Ok item.End) now new → ShowsItems file None s0 s out0 out'
-    items_end new hands = ends_with file new s0 s out0 out' so.vs (stays_held new (Ok item.End) hands) WholeText (held_out new (Ok item.End) hands) (flushed begun refl).0
+    pub items_end : (ds : List State) (new : FileReading) → HandsOut (Ok item.End) now new → ShowsItems file None (outside_of s0 ds out0) (outside_of s ds out')
+    items_end ds new hands = ends_with ds file new s0 s out0 out' so.vs (stays_held new (Ok item.End) hands) WholeText (held_out new (Ok item.End) hands) (flushed begun refl).0
 
-    pub items_refused : (e : ReadError) (new : FileReading) → HandsOut (Err e) now new → ShowsItems file (Some (read_fault e)) s0 s out0 out'
-    items_refused (read.Bad place) new hands = ends_with file new s0 s out0 out' so.vs (stays_held new (Err (read.Bad place)) hands) (BadAt place) (held_out new (Err (read.Bad place)) hands) (flushed begun refl).0
-    items_refused (read.TooDeep place) new hands = ends_with file new s0 s out0 out' so.vs (stays_held new (Err (read.TooDeep place)) hands) (TooDeepAt place) (held_out new (Err (read.TooDeep place)) hands) (flushed begun refl).0
-    items_refused read.NoMemory new hands = stops_with file new s0 s out0 out' so.vs (stays_held new (Err read.NoMemory) hands) fault.NoMemory (held_out new (Err read.NoMemory) hands) (took_all (lines so.vs) out0 out' (flushed begun refl).0) (inr (inr refl))
+    pub items_refused : (ds : List State) (e : ReadError) (new : FileReading) → HandsOut (Err e) now new → ShowsItems file (Some (read_fault e)) (outside_of s0 ds out0) (outside_of s ds out')
+    items_refused ds (read.Bad place) new hands = ends_with ds file new s0 s out0 out' so.vs (stays_held new (Err (read.Bad place)) hands) (BadAt place) (held_out new (Err (read.Bad place)) hands) (flushed begun refl).0
+    items_refused ds (read.TooDeep place) new hands = ends_with ds file new s0 s out0 out' so.vs (stays_held new (Err (read.TooDeep place)) hands) (TooDeepAt place) (held_out new (Err (read.TooDeep place)) hands) (flushed begun refl).0
+    items_refused ds read.NoMemory new hands = stops_with ds file new s0 s out0 out' so.vs (stays_held new (Err read.NoMemory) hands) fault.NoMemory (held_out new (Err read.NoMemory) hands) (took_all (lines so.vs) out0 out' (flushed begun refl).0) (inr (inr refl))
 
   -- writing the page was refused
-  pub items_unflushed : (e : PrintError) (result : Result Item ReadError) (new : FileReading) (out' : SinkState) (after : List ℕ) → ((v : Value) → result ≡ Ok (item.Value v) → ⊥) → HandsOut result now new → Flushes {T = Unit {0}} begun (as_stop (Err e)) held after out out' → ShowsItems file (Some (write_fault e)) s0 s out0 out'
-  items_unflushed e result new out' after no_item hands flushes = go begun refl
+  pub items_unflushed : (ds : List State) (e : PrintError) (result : Result Item ReadError) (new : FileReading) (out' : SinkState) (after : List ℕ) → ((v : Value) → result ≡ Ok (item.Value v) → ⊥) → HandsOut result now new → Flushes {T = Unit {0}} begun (as_stop (Err e)) held after out out' → ShowsItems file (Some (write_fault e)) (outside_of s0 ds out0) (outside_of s ds out')
+  items_unflushed ds e result new out' after no_item hands flushes = go begun refl
     where
       not_idle : (f : PrintError) → IsOk (as_stop {T = Unit {0}} (Err f)) → ⊥
       not_idle print.Failed is = cc
       not_idle print.NoMemory is = cc
 
-      go : (b : Bool) → begun ≡ b → ShowsItems file (Some (write_fault e)) s0 s out0 out'
+      go : (b : Bool) → begun ≡ b → ShowsItems file (Some (write_fault e)) (outside_of s0 ds out0) (outside_of s ds out')
       go true is =
           let w = (flushes.writes is).0 in
-          refused_with file new s0 s out0 out' so.vs (stays_held new result hands) e (held_has (s0.left file) (s.left file) so.vs new result no_item (held_out new result hands)) (record {
+          refused_with ds file new s0 s out0 out' so.vs (stays_held new result hands) e (held_has (s0.left file) (s.left file) so.vs new result no_item (held_out new result hands)) (record {
             done = so.done ++ w.part.done;
             rest = w.part.rest;
             all = so.all ∙ (ap (λ bs. so.done ++ bs) w.part.all ∙ sym (append_assoc so.done w.part.done w.part.rest));
@@ -363,19 +365,19 @@ module _ (file : ℕ) (now : FileReading) (s0 s : FilesState) (out0 out : SinkSt
     took_lines : begun ≡ false → out.taken ≡ append_known out0.taken (lines so.vs)
     took_lines is = so.took ∙ ap (append_known out0.taken) (sym (so.all ∙ (ap (λ bs. so.done ++ bs) (so.none is) ∙ append-nil so.done)))
 
-    pub items_unfetched : begun ≡ false → (e : FileError) → Fetches (Err e) now new s t → ShowsItems file (Some (fetch_fault e)) s0 t out0 out
-    items_unfetched is (error.Bad place) fetches = absurd (came (Err (error.Bad place)) fetches)
-    items_unfetched is (error.TooDeep place) fetches = absurd (came (Err (error.TooDeep place)) fetches)
-    items_unfetched is error.TooLong fetches = ends_with file new s0 t out0 out so.vs (stays_fetched (Err error.TooLong) fetches) PastLimit (came (Err error.TooLong) fetches) (took_lines is)
-    items_unfetched is error.Read fetches =
-        stops_with file new s0 t out0 out so.vs (stays_fetched (Err error.Read) fetches) fault.Read (came (Err error.Read) fetches) (took_all (lines so.vs) out0 out (took_lines is))
+    pub items_unfetched : (ds : List State) → begun ≡ false → (e : FileError) → Fetches (Err e) now new s t → ShowsItems file (Some (fetch_fault e)) (outside_of s0 ds out0) (outside_of t ds out)
+    items_unfetched ds is (error.Bad place) fetches = absurd (came (Err (error.Bad place)) fetches)
+    items_unfetched ds is (error.TooDeep place) fetches = absurd (came (Err (error.TooDeep place)) fetches)
+    items_unfetched ds is error.TooLong fetches = ends_with ds file new s0 t out0 out so.vs (stays_fetched (Err error.TooLong) fetches) PastLimit (came (Err error.TooLong) fetches) (took_lines is)
+    items_unfetched ds is error.Read fetches =
+        stops_with ds file new s0 t out0 out so.vs (stays_fetched (Err error.Read) fetches) fault.Read (came (Err error.Read) fetches) (took_all (lines so.vs) out0 out (took_lines is))
         (inl (refl, (let a = so.stays.later in let b = fetches.leaves.failed refl in omega arith)))
-    items_unfetched is error.NoMemory fetches =
-        stops_with file new s0 t out0 out so.vs (stays_fetched (Err error.NoMemory) fetches) fault.NoMemory (came (Err error.NoMemory) fetches) (took_all (lines so.vs) out0 out (took_lines is)) (inr (inr refl))
+    items_unfetched ds is error.NoMemory fetches =
+        stops_with ds file new s0 t out0 out so.vs (stays_fetched (Err error.NoMemory) fetches) fault.NoMemory (came (Err error.NoMemory) fetches) (took_all (lines so.vs) out0 out (took_lines is)) (inr (inr refl))
 
 -- what a missing file comes to, of which nothing is printed
-missing_follows : (v : Verdict) (f f' : FilesState) (out : SinkState) → v ≡ refused fault.Read → FollowsFile v (Some fault.Read) f f' out out
-missing_follows v f f' out is = record {
+missing_follows : (ds : List State) (v : Verdict) (f f' : FilesState) (out : SinkState) → v ≡ refused fault.Read → FollowsFile v (Some fault.Read) (outside_of f ds out) (outside_of f' ds out)
+missing_follows ds v f f' out is = record {
   ends = inl (sym (ap (λ w. w.ending) is));
   whole = λ end. sym (ap (λ w. append_known out.taken w.page) is ∙ append_known-nil out.taken);
   part = took_none v.page out out refl;
@@ -383,11 +385,11 @@ missing_follows v f f' out is = record {
 
 module _ (path : List ℕ) where
   -- before an item was read
-  unread : (bytes : List ℕ) (fault' : Fault) (f f' : FilesState) (out : SinkState) → Cause fault' [] f f' out out → (v : Verdict) → IsShowing bytes v → FollowsFile v (Some fault') f f' out out
-  unread bytes fault' f f' out cause v of = follows_front bytes [] of.0 fault' f f' out out cause (took_none [] out out refl) v of refl
+  unread : (ds : List State) (bytes : List ℕ) (fault' : Fault) (f f' : FilesState) (out : SinkState) → Cause fault' [] f f' out out → (v : Verdict) → IsShowing bytes v → FollowsFile v (Some fault') (outside_of f ds out) (outside_of f' ds out)
+  unread ds bytes fault' f f' out cause v of = follows_front ds bytes [] of.0 fault' f f' out out cause (took_none [] out out refl) v of refl
 
-  pub show_failed : (f f' : FilesState) (out : SinkState) → OpensPath path (Err stop.Failed) f f' → DoesShow path (Some fault.Read) f f' out out
-  show_failed f f' out opens = record {
+  pub show_failed : (ds : List State) (f f' : FilesState) (out : SinkState) → OpensPath path (Err stop.Failed) f f' → DoesShow path (Some fault.Read) (outside_of f ds out) (outside_of f' ds out)
+  show_failed ds f f' out opens = record {
     follows = λ told is v of. file_failed told is (told path) refl v of;
     meant = λ told is well. absurd well;
     read = λ is. opens.failed refl;
@@ -397,9 +399,9 @@ module _ (path : List ℕ) where
     told = opens.told;
   }
     where
-      file_failed : (told : List ℕ → Option (List ℕ)) → f.told ≡ Some told → (file : Option (List ℕ)) → told path ≡ file → (v : Verdict) → IsFile IsShowing file v → FollowsFile v (Some fault.Read) f f' out out
-      file_failed told is None at v of = missing_follows v f f' out of
-      file_failed told is (Some bytes) at v of = unread bytes fault.Read f f' out (inl (
+      file_failed : (told : List ℕ → Option (List ℕ)) → f.told ≡ Some told → (file : Option (List ℕ)) → told path ≡ file → (v : Verdict) → IsFile IsShowing file v → FollowsFile v (Some fault.Read) (outside_of f ds out) (outside_of f' ds out)
+      file_failed told is None at v of = missing_follows ds v f f' out of
+      file_failed told is (Some bytes) at v of = unread ds bytes fault.Read f f' out (inl (
         refl,
         elim (opens.failed refl) [
           | inl missing ↦ absurd (let one : told ≡ missing.0 = let a = sym is ∙ missing.1 in cc in let b = ap (λ t. t path) one in let d = missing.2 in cc)
@@ -407,8 +409,8 @@ module _ (path : List ℕ) where
         ],
       )) v of
 
-  pub show_wanted : (f f' : FilesState) (out : SinkState) → OpensPath path (Err stop.NoMemory) f f' → DoesShow path (Some fault.NoMemory) f f' out out
-  show_wanted f f' out opens = record {
+  pub show_wanted : (ds : List State) (f f' : FilesState) (out : SinkState) → OpensPath path (Err stop.NoMemory) f f' → DoesShow path (Some fault.NoMemory) (outside_of f ds out) (outside_of f' ds out)
+  show_wanted ds f f' out opens = record {
     follows = λ told is v of. file_wanted told is (told path) refl v of;
     meant = λ told is well. absurd well;
     read = λ is. absurd cc;
@@ -418,14 +420,14 @@ module _ (path : List ℕ) where
     told = opens.told;
   }
     where
-      file_wanted : (told : List ℕ → Option (List ℕ)) → f.told ≡ Some told → (file : Option (List ℕ)) → told path ≡ file → (v : Verdict) → IsFile IsShowing file v → FollowsFile v (Some fault.NoMemory) f f' out out
+      file_wanted : (told : List ℕ → Option (List ℕ)) → f.told ≡ Some told → (file : Option (List ℕ)) → told path ≡ file → (v : Verdict) → IsFile IsShowing file v → FollowsFile v (Some fault.NoMemory) (outside_of f ds out) (outside_of f' ds out)
       file_wanted told is None at v of = absurd (let a = (opens.missing (told, is, at)).0 in cc)
-      file_wanted told is (Some bytes) at v of = unread bytes fault.NoMemory f f' out (inr (inr refl)) v of
+      file_wanted told is (Some bytes) at v of = unread ds bytes fault.NoMemory f f' out (inr (inr refl)) v of
 
   -- what is open in the end is what was open at first
 
-  pub show_done : (file : ℕ) (end : Ending) (s0 s1 s2 s3 : FilesState) (out out' : SinkState) → OpensPath path (Ok file) s0 s1 → ShowsItems file end s1 s2 out out' → Closes file s2 s3 → DoesShow path end s0 s3 out out'
-  show_done file end s0 s1 s2 s3 out out' opens shows closes = record {
+  pub show_done : (ds : List State) (file : ℕ) (end : Ending) (s0 s1 s2 s3 : FilesState) (out out' : SinkState) → OpensPath path (Ok file) s0 s1 → ShowsItems file end (outside_of s1 ds out) (outside_of s2 ds out') → Closes file s2 s3 → DoesShow path end (outside_of s0 ds out) (outside_of s3 ds out')
+  show_done ds file end s0 s1 s2 s3 out out' opens shows closes = record {
     follows = λ told is v of. file_shown told is (told path) refl v of;
     meant = λ told is well. file_meant told is (told path) refl well;
     read = λ is. inr (rose (shows.read is));
@@ -444,7 +446,7 @@ module _ (path : List ℕ) where
       gone : (told : List ℕ → Option (List ℕ)) → s0.told ≡ Some told → told path ≡ None → ⊥
       gone told is none = let a = (opens.missing (told, is, none)).0 in cc
 
-      file_shown : (told : List ℕ → Option (List ℕ)) → s0.told ≡ Some told → (found : Option (List ℕ)) → told path ≡ found → (v : Verdict) → IsFile IsShowing found v → FollowsFile v end s0 s3 out out'
+      file_shown : (told : List ℕ → Option (List ℕ)) → s0.told ≡ Some told → (found : Option (List ℕ)) → told path ≡ found → (v : Verdict) → IsFile IsShowing found v → FollowsFile v end (outside_of s0 ds out) (outside_of s3 ds out')
       file_shown told is None has v of = absurd (gone told is has)
       file_shown told is (Some bytes) has v of =
           let follows = shows.follows bytes (at told is bytes has) v of in

@@ -13,6 +13,7 @@ use Rattle.kl_engine.specs.Answering.{one, reading, writing, wanting, Does, IsMe
 use Rattle.kl_words.specs.declared.command.Command.{Command as Read}
 use Rattle.kl_engine.specs.Commands.{Command, NoneNamed, Program, Show, asked}
 use Rattle.kl_engine.specs.Faults.{Ending}
+use Rattle.kl_engine.specs.Outside.{Outside, outside_of}
 use Rattle.kl_engine.specs.Showing.{DoesShow}
 use Rattle.kl_engine.specs.Verdict.{Verdict, refused, end_fault, IsShowing, IsFile, IsVerdict}
 use Rattle.kl_engine.specs.declared.fault.Fault.TheVariants as fault
@@ -42,21 +43,21 @@ wants_fault NoneNamed = tt
 wants_fault (Program p path catalogue) = tt
 wants_fault (Show path) = tt
 
-unread_wanted : (command : Command) (files : FilesState) (ds : List State) → UnreadCause command (Some fault.NoMemory) files ds ds
-unread_wanted NoneNamed files ds = tt
-unread_wanted (Program p path catalogue) files ds = λ f is un. absurd (let same : fault.NoMemory ≡ f = cc in subst IsUnreadFault (sym same) un)
-unread_wanted (Show path) files ds = tt
+unread_wanted : (command : Command) (o : Outside) → UnreadCause command (Some fault.NoMemory) o o
+unread_wanted NoneNamed o = tt
+unread_wanted (Program p path catalogue) o = λ f is un. absurd (let same : fault.NoMemory ≡ f = cc in subst IsUnreadFault (sym same) un)
+unread_wanted (Show path) o = tt
 
-pub wanted_does : (command : Command) (f : FilesState) (ds : List State) (out : SinkState) → Does command (Some fault.NoMemory) f f ds ds out out
-wanted_does command f ds out = record {
+pub wanted_does : (command : Command) (o : Outside) → Does command (Some fault.NoMemory) o o
+wanted_does command o = record {
   told = λ told is v of. (
     v,
     of,
     one refl,
     record {
       ends = inr (wanting refl);
-      whole = λ same. absurd (never_wanted told (kinds_of ds) command v of (sym same));
-      part = took_none v.page out out refl;
+      whole = λ same. absurd (never_wanted told (kinds_of o.drivers) command v of (sym same));
+      part = took_none v.page o.out o.out refl;
     },
   );
   meant = λ told is well needs. absurd well;
@@ -69,20 +70,20 @@ wanted_does command f ds out = record {
     no_other = wants_fault command;
     nothing = λ is. refl;
   };
-  unread = unread_wanted command f ds;
-  closed = record { left = refl; told = refl; drivers = keeps_same (λ name. ⊤) ds; still = λ is. refl; mentioned = λ told is. keeps_same (IsMentioned told (kinds_of ds) command) ds };
+  unread = unread_wanted command o;
+  closed = record { left = refl; told = refl; drivers = keeps_same (λ name. ⊤) o.drivers; still = λ is. refl; mentioned = λ told is. keeps_same (IsMentioned told (kinds_of o.drivers) command) o.drivers };
 }
 
-pub neither_does : (f : FilesState) (ds : List State) (out : SinkState) → Does NoneNamed (Some fault.Usage) f f ds ds out out
-neither_does f ds out = record {
+pub neither_does : (o : Outside) → Does NoneNamed (Some fault.Usage) o o
+neither_does o = record {
   told = λ told is v of. (
     v,
     of,
     one refl,
     record {
       ends = inl (sym (ap (λ w. w.ending) of));
-      whole = λ end. sym (ap (λ w. append_known out.taken w.page) of ∙ append_known-nil out.taken);
-      part = took_none v.page out out refl;
+      whole = λ end. sym (ap (λ w. append_known o.out.taken w.page) of ∙ append_known-nil o.out.taken);
+      part = took_none v.page o.out o.out refl;
     },
   );
   meant = λ told is well needs. (refused fault.Usage, refl, refl);
@@ -96,7 +97,7 @@ neither_does f ds out = record {
     nothing = λ is. refl;
   };
   unread = tt;
-  closed = record { left = refl; told = refl; drivers = keeps_same (λ name. ⊤) ds; still = λ is. refl; mentioned = λ told is. keeps_same (IsMentioned told (kinds_of ds) NoneNamed) ds };
+  closed = record { left = refl; told = refl; drivers = keeps_same (λ name. ⊤) o.drivers; still = λ is. refl; mentioned = λ told is. keeps_same (IsMentioned told (kinds_of o.drivers) NoneNamed) o.drivers };
 }
 
 -- ---- a file that is shown
@@ -107,7 +108,7 @@ shown_end path end has is = subst (IsOneOf (HasFault (Show path))) is has
 shown_drift : (path : List ℕ) (end : Ending) (name : Name) → IsOneOf (HasFault (Show path)) end → end ≡ Some (fault.Changed name) → ⊥
 shown_drift path end name has is = subst (IsOneOf (HasFault (Show path))) is has
 
-pub show_does : (path : List ℕ) (end : Ending) (f f' : FilesState) (ds : List State) (out out' : SinkState) → DoesShow path end f f' out out' → Does (Show path) end f f' ds ds out out'
+pub show_does : (path : List ℕ) (end : Ending) (f f' : FilesState) (ds : List State) (out out' : SinkState) → DoesShow path end (outside_of f ds out) (outside_of f' ds out') → Does (Show path) end (outside_of f ds out) (outside_of f' ds out')
 show_does path end f f' ds out out' shows = record {
   told = λ told is v of.
       let follows = shows.follows told is v of in (
@@ -143,20 +144,20 @@ show_does path end f f' ds out out' shows = record {
 }
 
 -- what is done with a file is done with it under another name of the same path
-pub show_at : (path other : List ℕ) (end : Ending) (f f' : FilesState) (ds : List State) (out out' : SinkState) → other ≡ path → DoesShow other end f f' out out' → Does (Show path) end f f' ds ds out out'
-show_at path other end f f' ds out out' same shows = show_does path end f f' ds out out' (subst (λ p. DoesShow p end f f' out out') same shows)
+pub show_at : (path other : List ℕ) (end : Ending) (f f' : FilesState) (ds : List State) (out out' : SinkState) → other ≡ path → DoesShow other end (outside_of f ds out) (outside_of f' ds out') → Does (Show path) end (outside_of f ds out) (outside_of f' ds out')
+show_at path other end f f' ds out out' same shows = show_does path end f f' ds out out' (subst (λ p. DoesShow p end (outside_of f ds out) (outside_of f' ds out')) same shows)
 
 -- ---- words that name a command
 
 module _ (found : Option Read) (r : Read) (is : found ≡ Some r) where
-  pub does_found : (end end' : Ending) (f f' : FilesState) (ds ds' : List State) (out out' : SinkState) → end ≡ end' → Does (asked (Some r)) end' f f' ds ds' out out' → Does (asked found) end f f' ds ds' out out'
-  does_found end end' f f' ds ds' out out' same does = subst (λ e. Does (asked found) e f f' ds ds' out out') (sym same) (subst (λ o. Does (asked o) end' f f' ds ds' out out') (sym is) does)
+  pub does_found : (end end' : Ending) (o o' : Outside) → end ≡ end' → Does (asked (Some r)) end' o o' → Does (asked found) end o o'
+  does_found end end' o o' same does = subst (λ e. Does (asked found) e o o') (sym same) (subst (λ c. Does (asked c) end' o o') (sym is) does)
 
 -- words that name none
 module _ (found : Option Read) (is : found ≡ None) where
-  pub does_none : (end : Ending) (f : FilesState) (ds : List State) (out : SinkState) → end ≡ Some fault.Usage → Does (asked found) end f f ds ds out out
-  does_none end f ds out same = subst (λ e. Does (asked found) e f f ds ds out out) (sym same) (subst (λ o. Does (asked o) (Some fault.Usage) f f ds ds out out) (sym is) (neither_does f ds out))
+  pub does_none : (end : Ending) (o : Outside) → end ≡ Some fault.Usage → Does (asked found) end o o
+  does_none end o same = subst (λ e. Does (asked found) e o o) (sym same) (subst (λ c. Does (asked c) (Some fault.Usage) o o) (sym is) (neither_does o))
 
 -- memory ran out, whatever the words name
-pub does_wanted : (found : Option Read) (end : Ending) (f : FilesState) (ds : List State) (out : SinkState) → end ≡ Some fault.NoMemory → Does (asked found) end f f ds ds out out
-does_wanted found end f ds out same = subst (λ e. Does (asked found) e f f ds ds out out) (sym same) (wanted_does (asked found) f ds out)
+pub does_wanted : (found : Option Read) (end : Ending) (o : Outside) → end ≡ Some fault.NoMemory → Does (asked found) end o o
+does_wanted found end o same = subst (λ e. Does (asked found) e o o) (sym same) (wanted_does (asked found) o)

@@ -1,5 +1,5 @@
 -- What a command does: how it ends, what it prints, the cause of each fault, and what stays as it was.
-use Rattle.std.specs.Prelude.{◌≡◌, ◌≢◌, ◌⊎◌, ℕ, List, [], Option, Some, None, slice_get, All, ⊤}
+use Rattle.std.specs.Prelude.{◌≡◌, ◌≢◌, ◌⊎◌, ℕ, List, [], Option, Some, None, slice_get, IsSome, ⊤}
 use Rattle.std.specs.Io.KnownBytes.{append_known}
 use Rattle.kl_outside.specs.Counts.{Rose}
 use Rattle.kl_outside.specs.Files.{FilesState}
@@ -9,13 +9,14 @@ use Rattle.kl_outcome.specs.Outcome.{Name}
 use Rattle.kl_syntax.specs.Syntax.{Decls, Exp}
 use Rattle.kl_syntax.specs.declared.tree.Program.{Program as AProgram}
 use Rattle.kl_scope.specs.Breaches.{Mentions}
-use Rattle.kl_ask.specs.Driver.{DriverKind, State, Stored, KeepsState, IsTold as IsToldBy}
+use Rattle.kl_ask.specs.Driver.{DriverKind, State, Stored, KeepsState}
 use Rattle.kl_ask.specs.Lists.{EachSteps}
 use Rattle.kl_sources.specs.Attaching.{RoseAt}
 use Rattle.kl_sources.specs.Sources.{kinds_of, names_of, contents}
 use Rattle.kl_sources.specs.declared.source.Source.{Source}
 use Rattle.kl_engine.specs.Commands.{Command, NoneNamed, Program, Show}
 use Rattle.kl_engine.specs.Faults.{Ending}
+use Rattle.kl_engine.specs.Outside.{Outside}
 use Rattle.kl_engine.specs.Reading.{IsProgramOf}
 use Rattle.kl_engine.specs.Verdict.{Verdict, refused, stored_fault, IsListing, IsTextVerdict, HasInputs, IsVerdict}
 use Rattle.kl_engine.specs.declared.fault.Fault.{Fault}
@@ -48,15 +49,24 @@ IsIdle d = ((name : Name) → d.attached name ≡ None) × ((k : ℕ) → d.curs
 
 -- what the driver of a source tells of it is this fault
 abbrev pub IsStoredFault : List DriverKind → List Source → (Name → Type 0) → Fault → Type 0
-IsStoredFault ks ss Named f = (i : ℕ) × (s : Source) × (w : Stored) × (slice_get ss i ≡ Some s) × Named s.name × (contents ks s ≡ Some w) × (stored_fault s.name w ≡ Some f)
+IsStoredFault ks ss Named f =
+    (i : ℕ) × (s : Source) × (w : Stored)
+    × (slice_get ss i ≡ Some s) × Named s.name × (contents ks s ≡ Some w) × (stored_fault s.name w ≡ Some f)
 
 -- the driver of a source tells nothing of it, and counted one that it could not read
 abbrev pub IsCounted : List Source → (Name → Type 0) → List State → List State → Type 0
-IsCounted ss Named old new = (i : ℕ) × (s : Source) × (slice_get ss i ≡ Some s) × Named s.name × (contents (kinds_of old) s ≡ None) × RoseAt s.driver (λ d. d.unread) old new
+IsCounted ss Named old new =
+    (i : ℕ) × (s : Source)
+    × (slice_get ss i ≡ Some s) × Named s.name × (contents (kinds_of old) s ≡ None) × RoseAt s.driver (λ d. d.unread) old new
 
 -- the driver of a source counted a drift
 abbrev pub SomeDrifted : List Source → (Name → Type 0) → List State → List State → Type 0
-SomeDrifted ss Named old new = (i : ℕ) × (s : Source) × (slice_get ss i ≡ Some s) × Named s.name × RoseAt s.driver (λ d. d.drifts) old new
+SomeDrifted ss Named old new =
+    (i : ℕ) × (s : Source) × (slice_get ss i ≡ Some s) × Named s.name × RoseAt s.driver (λ d. d.drifts) old new
+
+-- the drivers of these sources tell what they hold
+abbrev pub AreTold : List DriverKind → List Source → (Name → Type 0) → Type 0
+AreTold ks ss Named = (i : ℕ) (s : Source) → slice_get ss i ≡ Some s → Named s.name → IsSome (contents ks s)
 
 -- the source of this name is what the fault is of, where it tells a name
 abbrev pub IsOf : Fault → Name → Type 0
@@ -71,18 +81,19 @@ IsUnreadBy ss Named f old new = IsStoredFault (kinds_of old) ss Named f ⊎ IsCo
 -- ---- the end of a command
 
 -- A fault of the outside, or want of memory: it may come before the end that a verdict has, where its cause is there.
-pub data IsOutside (FilesRose : Type 0) (v : Verdict) (end : Ending) (ds ds' : List State) (out out' : SinkState) : Type 0 where
-  reading : end ≡ Some fault.Read → FilesRose ⊎ SomeRose (λ d. d.faults) ds ds' → IsOutside FilesRose v end ds ds' out out'
-  writing : end ≡ Some fault.Write → Rose out.faults out'.faults → v.page ≢ [] → IsOutside FilesRose v end ds ds' out out'
-  drifting : (name : Name) → end ≡ Some (fault.Changed name) → SomeRose (λ d. d.drifts) ds ds' → IsOutside FilesRose v end ds ds' out out'
-  wanting : end ≡ Some fault.NoMemory → IsOutside FilesRose v end ds ds' out out'
+pub data IsOutside (v : Verdict) (end : Ending) (old new : Outside) : Type 0 where
+  reading : end ≡ Some fault.Read
+      → Rose old.files.faults new.files.faults ⊎ SomeRose (λ d. d.faults) old.drivers new.drivers → IsOutside v end old new
+  writing : end ≡ Some fault.Write → Rose old.out.faults new.out.faults → v.page ≢ [] → IsOutside v end old new
+  drifting : (name : Name) → end ≡ Some (fault.Changed name) → SomeRose (λ d. d.drifts) old.drivers new.drivers → IsOutside v end old new
+  wanting : end ≡ Some fault.NoMemory → IsOutside v end old new
 
 -- The command ends as the verdict says, or a fault of the outside came first. What was printed is the verdict's page, or
 -- a front of it.
-pub record FollowsVerdict (FilesRose : Type 0) (v : Verdict) (end : Ending) (ds ds' : List State) (out out' : SinkState) : Type 0 where
-  pub ends : (end ≡ v.ending) ⊎ IsOutside FilesRose v end ds ds' out out'
-  pub whole : end ≡ v.ending → out'.taken ≡ append_known out.taken v.page
-  pub part : TookPart v.page out out'
+pub record FollowsVerdict (v : Verdict) (end : Ending) (old new : Outside) : Type 0 where
+  pub ends : (end ≡ v.ending) ⊎ IsOutside v end old new
+  pub whole : end ≡ v.ending → new.out.taken ≡ append_known old.out.taken v.page
+  pub part : TookPart v.page old.out new.out
 
 -- what is wrong, whatever the name
 abbrev pub unnamed : Wrong → Wrong
@@ -92,14 +103,16 @@ unnamed (wrong.Misapplied name) = wrong.Misapplied []
 unnamed w = w
 
 -- Verdicts on the same bytes are one, but for three things. Tokens with which no program goes on, and that nest too deep
--- besides, may be told either way; the same breach at the same token may be told of another name; and of the types of
--- one program other principal schemes, of the same instances, may be listed.
-pub data Alike (v w : Verdict) : Type 0 where
-  one : v ≡ w → Alike v w
-  nested : (byte : ℕ) → v ≡ refused (fault.Text wrong.Syntax byte) → w ≡ refused fault.Nesting → Alike v w
-  unnested : (byte : ℕ) → v ≡ refused fault.Nesting → w ≡ refused (fault.Text wrong.Syntax byte) → Alike v w
-  renamed : (x y : Wrong) (byte : ℕ) → v ≡ refused (fault.Text x byte) → w ≡ refused (fault.Text y byte) → unnamed x ≡ unnamed y → Alike v w
-  retyped : (grounds : List (Name × Ground)) (ds : Decls) (e : Exp) → IsListing grounds ds e v → IsListing grounds ds e w → Alike v w
+-- besides, may be told either way; the same breach at the same token may be told of another name; and where types are
+-- listed, other principal schemes of the same instances may be listed for one program.
+pub data Alike (Listing : Type 0) (v w : Verdict) : Type 0 where
+  one : v ≡ w → Alike Listing v w
+  nested : (byte : ℕ) → v ≡ refused (fault.Text wrong.Syntax byte) → w ≡ refused fault.Nesting → Alike Listing v w
+  unnested : (byte : ℕ) → v ≡ refused fault.Nesting → w ≡ refused (fault.Text wrong.Syntax byte) → Alike Listing v w
+  renamed : (x y : Wrong) (byte : ℕ)
+      → v ≡ refused (fault.Text x byte) → w ≡ refused (fault.Text y byte) → unnamed x ≡ unnamed y → Alike Listing v w
+  retyped : Listing
+      → (grounds : List (Name × Ground)) (ds : Decls) (e : Exp) → IsListing grounds ds e v → IsListing grounds ds e w → Alike Listing v w
 
 -- an end that bytes determine: none of the faults that can come to any command
 abbrev pub IsDetermined : Ending → Type 0
@@ -117,6 +130,9 @@ abbrev pub IsTyping : Purpose → Type 0
 IsTyping purpose.Check = ⊥
 IsTyping p = ⊤
 
+abbrev pub ListsTypes : Purpose → Type 0
+ListsTypes p = p ≡ purpose.Types
+
 abbrev pub IsRun : Purpose → Type 0
 IsRun (purpose.Run first) = ⊤
 IsRun p = ⊥
@@ -130,7 +146,7 @@ HasTextFault p fault.Nesting = ⊤
 HasTextFault p fault.TermNodes = IsTyping p
 HasTextFault p fault.TermDepth = IsTyping p
 HasTextFault p (fault.IllTyped decl) = IsTyping p
-HasTextFault p fault.SchemeBytes = p ≡ purpose.Types
+HasTextFault p fault.SchemeBytes = ListsTypes p
 HasTextFault p fault.Overflow = IsRun p
 HasTextFault p fault.Read = IsRun p
 HasTextFault p (fault.Changed name) = IsRun p
@@ -198,7 +214,7 @@ CommandNeedsDrivers command end = ⊥
 
 -- ---- what is done with a program's text
 
--- a page is printed, or a front of it
+-- A page is printed, or a front of it. No public contract cites this.
 pub record PrintsPage (v : Verdict) (end : Ending) (out out' : SinkState) : Type 0 where
   pub ends : (end ≡ v.ending) ⊎ ((end ≡ Some fault.Write) × Rose out.faults out'.faults × (v.page ≢ [])) ⊎ (end ≡ Some fault.NoMemory)
   pub whole : end ≡ v.ending → out'.taken ≡ append_known out.taken v.page
@@ -207,19 +223,25 @@ pub record PrintsPage (v : Verdict) (end : Ending) (out out' : SinkState) : Type
 
 -- a name that the program in a text mentions
 abbrev pub IsMentionedIn : List Source → List ℕ → Name → Type 0
-IsMentionedIn ss text name = (q : AProgram) × IsProgramOf (names_of ss) text q × (i : ℕ) × (slice_get (names_of ss) i ≡ Some name) × Mentions q (names_of ss) i
+IsMentionedIn ss text name =
+    (q : AProgram) × IsProgramOf (names_of ss) text q × (i : ℕ) × (slice_get (names_of ss) i ≡ Some name) × Mentions q (names_of ss) i
 
-pub record DoesText (ss : List Source) (p : Purpose) (text : List ℕ) (end : Ending) (ds ds' : List State) (out out' : SinkState) : Type 0 where
-  pub told : (v : Verdict) → IsTextVerdict (kinds_of ds) ss p text v → (w : Verdict) × IsTextVerdict (kinds_of ds) ss p text w × Alike v w × FollowsVerdict ⊥ w end ds ds' out out'
-  pub meant : IsDetermined end → (NeedsDrivers p end → All IsToldBy ds) → (v : Verdict) × IsTextVerdict (kinds_of ds) ss p text v × (v.ending ≡ end)
-  pub read : end ≡ Some fault.Read → IsStoredFault (kinds_of ds) ss (IsMentionedIn ss text) fault.Read ⊎ SomeRose (λ d. d.faults) ds ds'
-  pub write : end ≡ Some fault.Write → Rose out.faults out'.faults
-  pub unread : (f : Fault) → end ≡ Some f → IsUnreadFault f → IsUnreadBy ss (IsMentionedIn ss text) f ds ds'
-  pub changed : (name : Name) → end ≡ Some (fault.Changed name) → SomeDrifted ss (λ x. IsMentionedIn ss text x × (x ≡ name)) ds ds'
+-- What is done with a text over these sources. No public contract cites this.
+pub record DoesText (ss : List Source) (p : Purpose) (text : List ℕ) (end : Ending) (old new : Outside) : Type 0 where
+  pub told : (v : Verdict) → IsTextVerdict (kinds_of old.drivers) ss p text v
+      → (w : Verdict) × IsTextVerdict (kinds_of old.drivers) ss p text w × Alike (ListsTypes p) v w × FollowsVerdict w end old new
+  pub meant : IsDetermined end → (NeedsDrivers p end → AreTold (kinds_of old.drivers) ss (IsMentionedIn ss text))
+      → (v : Verdict) × IsTextVerdict (kinds_of old.drivers) ss p text v × (v.ending ≡ end)
+  pub read : end ≡ Some fault.Read
+      → IsStoredFault (kinds_of old.drivers) ss (IsMentionedIn ss text) fault.Read ⊎ SomeRose (λ d. d.faults) old.drivers new.drivers
+  pub write : end ≡ Some fault.Write → Rose old.out.faults new.out.faults
+  pub unread : (f : Fault) → end ≡ Some f → IsUnreadFault f → IsUnreadBy ss (IsMentionedIn ss text) f old.drivers new.drivers
+  pub changed : (name : Name) → end ≡ Some (fault.Changed name)
+      → SomeDrifted ss (λ x. IsMentionedIn ss text x × (x ≡ name)) old.drivers new.drivers
   pub no_other : IsOneOf (HasTextFault p) end
-  pub nothing : PrintsNothing (Program p [] None) end → out' ≡ out
-  pub drivers : KeepsDrivers (IsMentionedIn ss text) ds ds'
-  pub still : (IsRun p → ⊥) → ds' ≡ ds
+  pub nothing : PrintsNothing (Program p [] None) end → new.out ≡ old.out
+  pub drivers : KeepsDrivers (IsMentionedIn ss text) old.drivers new.drivers
+  pub still : (IsRun p → ⊥) → new.drivers ≡ old.drivers
 
 -- ---- what a command does
 
@@ -229,47 +251,82 @@ LacksFile command files ks = (told : _) × (files.told ≡ Some told) × IsVerdi
 
 -- P holds of a run's text and its sources, which are those of its files where these are told
 abbrev pub OfRun : Command → FilesState → List DriverKind → (List ℕ → List Source → Type 0) → Type 0
-OfRun (Program (purpose.Run first) path catalogue) files ks P = (text : List ℕ) × (ss : List Source) × ((told : _) → files.told ≡ Some told → HasInputs told ks path catalogue text ss) × P text ss
+OfRun (Program (purpose.Run first) path catalogue) files ks P =
+    (text : List ℕ) × (ss : List Source)
+    × ((told : _) → files.told ≡ Some told → HasInputs told ks path catalogue text ss) × P text ss
 OfRun command files ks P = ⊥
 
+-- a driver tells that a source which the run's program mentions is missing
+abbrev pub LacksSource : Command → Outside → Type 0
+LacksSource command old =
+    let ks : List DriverKind = kinds_of old.drivers in
+    OfRun command old.files ks (λ text ss. IsStoredFault ks ss (IsMentionedIn ss text) fault.Read)
+
+-- a source of this name, which the run's program mentions, drifted
+abbrev pub Drifted : Command → Name → Outside → Outside → Type 0
+Drifted command name old new =
+    OfRun command old.files (kinds_of old.drivers) (λ text ss. SomeDrifted ss (λ x. IsMentionedIn ss text x × (x ≡ name)) old.drivers new.drivers)
+
 -- Whether files and drivers tell their bytes or not, each ending has its cause.
-pub record IsCaused (command : Command) (end : Ending) (files files' : FilesState) (ds ds' : List State) (out out' : SinkState) : Type 0 where
+pub record IsCaused (command : Command) (end : Ending) (old new : Outside) : Type 0 where
   pub usage : end ≡ Some fault.Usage → command ≡ NoneNamed
   pub no_usage : command ≡ NoneNamed → (end ≡ Some fault.Usage) ⊎ (end ≡ Some fault.NoMemory)
-  pub read : end ≡ Some fault.Read → LacksFile command files (kinds_of ds) ⊎ OfRun command files (kinds_of ds) (λ text ss. IsStoredFault (kinds_of ds) ss (IsMentionedIn ss text) fault.Read) ⊎ Rose files.faults files'.faults ⊎ SomeRose (λ d. d.faults) ds ds'
-  pub write : end ≡ Some fault.Write → Rose out.faults out'.faults
-  pub changed : (name : Name) → end ≡ Some (fault.Changed name) → OfRun command files (kinds_of ds) (λ text ss. SomeDrifted ss (λ x. IsMentionedIn ss text x × (x ≡ name)) ds ds')
+  pub read : end ≡ Some fault.Read
+      → LacksFile command old.files (kinds_of old.drivers)
+      ⊎ LacksSource command old
+      ⊎ Rose old.files.faults new.files.faults
+      ⊎ SomeRose (λ d. d.faults) old.drivers new.drivers
+  pub write : end ≡ Some fault.Write → Rose old.out.faults new.out.faults
+  pub changed : (name : Name) → end ≡ Some (fault.Changed name) → Drifted command name old new
   pub no_other : IsOneOf (HasFault command) end
-  pub nothing : PrintsNothing command end → out' ≡ out
+  pub nothing : PrintsNothing command end → new.out ≡ old.out
 
 -- The same of a source of a program that is unreadable, too long or nested too deep.
-abbrev pub UnreadCause : Command → Ending → FilesState → List State → List State → Type 0
-UnreadCause (Program p path catalogue) end files ds ds' = (f : Fault) → end ≡ Some f → IsUnreadFault f → OfRun (Program p path catalogue) files (kinds_of ds) (λ text ss. IsUnreadBy ss (IsMentionedIn ss text) f ds ds')
-UnreadCause command end files ds ds' = ⊤
+abbrev pub UnreadCause : Command → Ending → Outside → Outside → Type 0
+UnreadCause (Program p path catalogue) end old new =
+    (f : Fault) → end ≡ Some f → IsUnreadFault f
+    → OfRun (Program p path catalogue) old.files (kinds_of old.drivers) (λ text ss. IsUnreadBy ss (IsMentionedIn ss text) f old.drivers new.drivers)
+UnreadCause command end old new = ⊤
 
 -- a name that the program of a command mentions
 abbrev pub IsMentioned : (List ℕ → Option (List ℕ)) → List DriverKind → Command → Name → Type 0
-IsMentioned told ks (Program p path catalogue) name = (text : List ℕ) × (ss : List Source) × HasInputs told ks path catalogue text ss × IsMentionedIn ss text name
+IsMentioned told ks (Program p path catalogue) name =
+    (text : List ℕ) × (ss : List Source) × HasInputs told ks path catalogue text ss × IsMentionedIn ss text name
 IsMentioned told ks command name = ⊥
+
+-- the drivers of the sources that the program of a command mentions tell what they hold
+abbrev pub AreMentionedTold : (List ℕ → Option (List ℕ)) → List DriverKind → Command → Type 0
+AreMentionedTold told ks (Program p path catalogue) =
+    (text : List ℕ) (ss : List Source) → HasInputs told ks path catalogue text ss → AreTold ks ss (IsMentionedIn ss text)
+AreMentionedTold told ks command = ⊤
 
 abbrev pub IsRunning : Command → Type 0
 IsRunning (Program p path catalogue) = IsRun p
 IsRunning command = ⊥
 
+abbrev pub CommandListsTypes : Command → Type 0
+CommandListsTypes (Program p path catalogue) = ListsTypes p
+CommandListsTypes command = ⊥
+
 -- No file and no cursor is open that was not, and the same bytes are told. Only a run attaches sources, and none but
 -- those that its program mentions.
-pub record IsClosed (command : Command) (files files' : FilesState) (ds ds' : List State) : Type 0 where
-  pub left : files'.left ≡ files.left
-  pub told : files'.told ≡ files.told
-  pub drivers : KeepsDrivers (λ name. ⊤) ds ds'
-  pub still : (IsRunning command → ⊥) → ds' ≡ ds
-  pub mentioned : (told : _) → files.told ≡ Some told → KeepsDrivers (IsMentioned told (kinds_of ds) command) ds ds'
+pub record IsClosed (command : Command) (old new : Outside) : Type 0 where
+  pub left : new.files.left ≡ old.files.left
+  pub told : new.files.told ≡ old.files.told
+  pub drivers : KeepsDrivers (λ name. ⊤) old.drivers new.drivers
+  pub still : (IsRunning command → ⊥) → new.drivers ≡ old.drivers
+  pub mentioned : (told : _) → old.files.told ≡ Some told
+      → KeepsDrivers (IsMentioned told (kinds_of old.drivers) command) old.drivers new.drivers
 
 -- what a command does
-pub record Does (command : Command) (end : Ending) (files files' : FilesState) (ds ds' : List State) (out out' : SinkState) : Type 0 where
-  pub told : (told : _) → files.told ≡ Some told → (v : Verdict) → IsVerdict told (kinds_of ds) command v → (w : Verdict) × IsVerdict told (kinds_of ds) command w × Alike v w × FollowsVerdict (Rose files.faults files'.faults) w end ds ds' out out'
+pub record Does (command : Command) (end : Ending) (old new : Outside) : Type 0 where
+  pub told : (told : _) → old.files.told ≡ Some told
+      → (v : Verdict) → IsVerdict told (kinds_of old.drivers) command v
+      → (w : Verdict) × IsVerdict told (kinds_of old.drivers) command w × Alike (CommandListsTypes command) v w × FollowsVerdict w end old new
   -- the way back
-  pub meant : (told : _) → files.told ≡ Some told → IsDetermined end → (CommandNeedsDrivers command end → All IsToldBy ds) → (v : Verdict) × IsVerdict told (kinds_of ds) command v × (v.ending ≡ end)
-  pub caused : IsCaused command end files files' ds ds' out out'
-  pub unread : UnreadCause command end files ds ds'
-  pub closed : IsClosed command files files' ds ds'
+  pub meant : (told : _) → old.files.told ≡ Some told
+      → IsDetermined end → (CommandNeedsDrivers command end → AreMentionedTold told (kinds_of old.drivers) command)
+      → (v : Verdict) × IsVerdict told (kinds_of old.drivers) command v × (v.ending ≡ end)
+  pub caused : IsCaused command end old new
+  pub unread : UnreadCause command end old new
+  pub closed : IsClosed command old new

@@ -13,6 +13,7 @@ use Rattle.kl_engine.specs.declared.fault.Wrong.TheVariants as wrong
 abbrev pub Ending : Type 0
 Ending = Option Fault
 
+-- the same of what a function answers; no public contract cites this
 abbrev pub ending : Result (Unit {0}) Fault → Ending
 ending (Ok done) = None
 ending (Err f) = Some f

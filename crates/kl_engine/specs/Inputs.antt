@@ -34,13 +34,15 @@ pub record PlacesCatalogue (ks : List DriverKind) (text : List ℕ) (result : Re
   pub refused : IfErr result (λ f. (f ≡ fault.NoMemory) ⊎ IsCatalogueFault ks text f)
   pub no_other : IfErr result IsCatalogueEnd
 
-pub record ReadsSources (catalogue : Option (List ℕ)) (ks : List DriverKind) (result : Result (Vec Source Global) Fault) (files files' : FilesState) : Type 0 where
+pub record ReadsSources (catalogue : Option (List ℕ)) (ks : List DriverKind) (result : Result (Vec Source Global) Fault) (files files' : FilesState)
+    : Type 0 where
   pub left : files'.left ≡ files.left
   pub told : files'.told ≡ files.told
   pub later : files.faults ≤ files'.faults
   pub placed : IfOk result (λ ss. ArePlaced ks ss.items)
   pub sources : (told : _) → files.told ≡ Some told → IfOk result (λ ss. HasSources told ks catalogue ss.items)
-  pub refused : (told : _) → files.told ≡ Some told → IfErr result (λ f. (f ≡ fault.NoMemory) ⊎ ((f ≡ fault.Read) × Rose files.faults files'.faults) ⊎ IsSourcesFault told ks catalogue f)
+  pub refused : (told : _) → files.told ≡ Some told
+      → IfErr result (λ f. (f ≡ fault.NoMemory) ⊎ ((f ≡ fault.Read) × Rose files.faults files'.faults) ⊎ IsSourcesFault told ks catalogue f)
   pub no_other : IfErr result IsSourcesEnd
   pub read : (files.told ≡ None) → IfErr result (λ f. f ≡ fault.Read → Rose files.faults files'.faults)
 
@@ -49,12 +51,14 @@ abbrev pub IsInputsEnd : Fault → Type 0
 IsInputsEnd fault.ProgramBytes = ⊤
 IsInputsEnd f = IsSourcesEnd f
 
-pub record ReadsInputs (path : List ℕ) (catalogue : Option (List ℕ)) (ks : List DriverKind) (result : Result Inputs Fault) (files files' : FilesState) : Type 0 where
+pub record ReadsInputs (path : List ℕ) (catalogue : Option (List ℕ)) (ks : List DriverKind) (result : Result Inputs Fault) (files files' : FilesState)
+    : Type 0 where
   pub left : files'.left ≡ files.left
   pub told : files'.told ≡ files.told
   pub few : IfOk result (λ i. length i.text ≤ most_bytes)
   pub placed : IfOk result (λ i. ArePlaced ks i.sources)
   pub inputs : (told : _) → files.told ≡ Some told → IfOk result (λ i. HasInputs told ks path catalogue i.text i.sources)
-  pub refused : (told : _) → files.told ≡ Some told → IfErr result (λ f. (f ≡ fault.NoMemory) ⊎ ((f ≡ fault.Read) × Rose files.faults files'.faults) ⊎ IsInputsFault told ks path catalogue f)
+  pub refused : (told : _) → files.told ≡ Some told
+      → IfErr result (λ f. (f ≡ fault.NoMemory) ⊎ ((f ≡ fault.Read) × Rose files.faults files'.faults) ⊎ IsInputsFault told ks path catalogue f)
   pub no_other : IfErr result IsInputsEnd
   pub read : files.told ≡ None → IfErr result (λ f. f ≡ fault.Read → Rose files.faults files'.faults)

@@ -1,4 +1,5 @@
 pub mod Faults
+pub mod Outside
 pub mod Commands
 pub mod Reading
 pub mod Catalogues

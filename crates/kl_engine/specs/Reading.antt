@@ -51,11 +51,16 @@ IsScopeFault names ts size f = (p : Program) × (e : ScopeError) × IsProgram ts
 
 -- the tokens break a rule of scope; or at a place no program goes on; or they nest too deep
 abbrev pub IsTokensFault : List Name → List Token → ℕ → Fault → Type 0
-IsTokensFault names ts size f = IsScopeFault names ts size f ⊎ ((k : ℕ) × IsWrongAt ts k × (f ≡ fault.Text wrong.Syntax (byte_of ts k size))) ⊎ ((k : ℕ) × NestsTooDeepAt ts k × (f ≡ fault.Nesting))
+IsTokensFault names ts size f =
+    IsScopeFault names ts size f
+    ⊎ ((k : ℕ) × IsWrongAt ts k × (f ≡ fault.Text wrong.Syntax (byte_of ts k size)))
+    ⊎ ((k : ℕ) × NestsTooDeepAt ts k × (f ≡ fault.Nesting))
 
 -- the bytes are no program in scope, and this is what is told of them
 abbrev pub IsTextFault : List Name → List ℕ → Fault → Type 0
-IsTextFault names bytes f = ((ts : List Token) × Tokens bytes ts × IsTokensFault names ts (length bytes) f) ⊎ ((byte : ℕ) × Refused bytes byte × (f ≡ fault.Text wrong.NoToken byte))
+IsTextFault names bytes f =
+    ((ts : List Token) × Tokens bytes ts × IsTokensFault names ts (length bytes) f)
+    ⊎ ((byte : ℕ) × Refused bytes byte × (f ≡ fault.Text wrong.NoToken byte))
 
 -- the bytes are this program, and it keeps to the rules of scope
 pub record IsProgramOf (names : List Name) (bytes : List ℕ) (p : Program) : Type 0 where
@@ -71,11 +76,12 @@ definitions names p = resolved_decls (decls_of p.defs) (at_first names)
 abbrev pub last : List Name → Program → Exp
 last names p = resolved (view p.last) (behind_decls (decls_of p.defs) (at_first names))
 
--- what reading answers: the program in scope with what its names mean, a fault of the text, or want of memory
+-- What reading answers: the program in scope with what its names mean, a fault of the text, or want of memory. No public
+-- contract cites this.
 abbrev pub ReadsText : List Name → List ℕ → Result Scoped Fault → Type 0
 ReadsText names bytes (Ok s) = (p : Program) × IsProgramOf names bytes p × Resolves p names s
 ReadsText names bytes (Err f) = (f ≡ fault.NoMemory) ⊎ IsTextFault names bytes f
 
--- the program was in scope before its names carried what they mean
+-- the program was in scope before its names carried what they mean; no public contract cites this
 abbrev pub WasInScope : List Name → Scoped → Type 0
 WasInScope names s = (p : Program) × Resolves p names s

@@ -1,5 +1,5 @@
 -- What the private functions of `run` and `types` answer. No public contract cites this.
-use Rattle.std.specs.Prelude.{◌≡◌, ◌⊎◌, ℕ, ◌<◌, nat_lt, Bool, true, false, List, [], ◌++◌, length, Option, Some, None, Result, Ok, Err, slice_get, All, ⊤}
+use Rattle.std.specs.Prelude.{◌≡◌, ◌⊎◌, ℕ, ◌<◌, nat_lt, Bool, true, false, List, [], ◌++◌, length, Option, Some, None, Result, Ok, Err, slice_get, ⊤}
 use Rattle.kl_outside.specs.Counts.{Rose}
 use Rattle.kl_outside.specs.Sinks.{SinkState, WritesWhole}
 use Rattle.kl_outside.specs.declared.stop.Stop.TheVariants as stop
@@ -9,16 +9,19 @@ use Rattle.kl_rows.specs.Schemes.{Instance}
 use Rattle.kl_outcome.specs.Outcome.{Name, Outcome, done, over, stuck}
 use Rattle.kl_rows.specs.declared.Scheme.{Scheme}
 use Rattle.kl_syntax.specs.Syntax.{Decls, Exp}
-use Rattle.kl_ask.specs.Driver.{State, IsTold as IsToldBy}
+use Rattle.kl_ask.specs.Driver.{State}
 use Rattle.kl_ask.specs.declared.session.Attached.{Attached}
 use Rattle.kl_ask.specs.declared.ask.DriverError.{DriverError}
 use Rattle.kl_ask.specs.declared.ask.DriverError.TheVariants as error
 use Rattle.kl_sources.specs.Attaching.{RoseAt}
 use Rattle.kl_sources.specs.Sources.{kinds_of, names_of}
 use Rattle.kl_sources.specs.declared.source.Source.{Source}
-use Rattle.kl_engine.specs.Answering.{SomeRose, KeepsDrivers, IsStoredFault, IsUnreadBy, SomeDrifted, FollowsVerdict, PrintsPage, IsOutside, IsDetermined, IsRun, HasTextFault, IsOneOf, PrintsNothing, IsUnreadFault, NeedsDrivers}
+use Rattle.kl_engine.specs.Answering.{SomeRose, KeepsDrivers, IsStoredFault, AreTold, IsUnreadBy, SomeDrifted}
+use Rattle.kl_engine.specs.Answering.{FollowsVerdict, PrintsPage, IsOutside, IsDetermined, IsRun}
+use Rattle.kl_engine.specs.Answering.{HasTextFault, IsOneOf, PrintsNothing, IsUnreadFault, NeedsDrivers}
 use Rattle.kl_engine.specs.Commands.{Program}
 use Rattle.kl_engine.specs.Faults.{Ending}
+use Rattle.kl_engine.specs.Outside.{Outside}
 use Rattle.kl_infer.specs.Numbers.{limit}
 use Rattle.kl_infer.specs.Printed.{scheme_text}
 use Rattle.kl_engine.specs.Verdict.{Verdict, value_page, cut, refused, scheme_line, scheme_lines, cut_list, IsMeant, IsDone}
@@ -66,54 +69,69 @@ HasRunFault f = ⊥
 
 -- a source of a session is attached at a driver that counted a drift
 abbrev pub DriftsAt : List Attached → Name → List State → List State → Type 0
-DriftsAt list name old new = (i : ℕ) × (a : Attached) × (place : ℕ) × (slice_get list i ≡ Some a) × (a.source ≡ name) × (a.driver ≡ Some place) × RoseAt place (λ d. d.drifts) old new
+DriftsAt list name old new =
+    (i : ℕ) × (a : Attached) × (place : ℕ)
+    × (slice_get list i ≡ Some a) × (a.source ≡ name) × (a.driver ≡ Some place) × RoseAt place (λ d. d.drifts) old new
 
 -- An outcome is printed. Where the sources are told it is that of the term, and in any case each fault has its cause.
-pub record AnswersTerm (IsOut : Verdict → Type 0) (told : Type 0) (end : Ending) (list : List Attached) (ds ds' : List State) (out out' : SinkState) : Type 0 where
-  pub follows : told → (v : Verdict) × IsOut v × FollowsVerdict ⊥ v end ds ds' out out'
-  pub read : end ≡ Some fault.Read → SomeRose (λ d. d.faults) ds ds'
-  pub write : end ≡ Some fault.Write → Rose out.faults out'.faults
-  pub changed : (name : Name) → end ≡ Some (fault.Changed name) → DriftsAt list name ds ds'
+pub record AnswersTerm (IsOut : Verdict → Type 0) (told : Type 0) (end : Ending) (list : List Attached) (old new : Outside) : Type 0 where
+  pub follows : told → (v : Verdict) × IsOut v × FollowsVerdict v end old new
+  pub read : end ≡ Some fault.Read → SomeRose (λ d. d.faults) old.drivers new.drivers
+  pub write : end ≡ Some fault.Write → Rose old.out.faults new.out.faults
+  pub changed : (name : Name) → end ≡ Some (fault.Changed name) → DriftsAt list name old.drivers new.drivers
   pub no_other : IsOneOf HasRunFault end
-  pub nothing : PrintsNothing (Program (purpose.Run None) [] None) end → out' ≡ out
-  pub drivers : KeepsDrivers (λ name. ⊥) ds ds'
-
--- How what is done with a program ends: a fault of the outside or want of memory came before anything was printed; or a
--- verdict of the program is followed; or it comes to sources that are not told, and so to no verdict.
-pub data Ends (IsVerdict : (ℕ → Bool) → Verdict → Type 0) (ss : List Source) (marks : ℕ → Bool) (p : Purpose) (end : Ending) (ds ds' : List State) (out out' : SinkState) : Type 0 where
-  before : out' ≡ out → (IsDetermined end → ⊥) → ((v : Verdict) → IsOutside ⊥ v end ds ds' out out') → Ends IsVerdict ss marks p end ds ds' out out'
-  followed : (v : Verdict) → IsVerdict marks v → FollowsVerdict ⊥ v end ds ds' out out' → Ends IsVerdict ss marks p end ds ds' out out'
-  untold : ((others : ℕ → Bool) → ((i : ℕ) → i < length ss → marks i ≡ others i) → (v : Verdict) → IsVerdict others v → ⊥) → (All IsToldBy ds → ⊥) → (IsDetermined end → NeedsDrivers p end) → Ends IsVerdict ss marks p end ds ds' out out'
+  pub nothing : PrintsNothing (Program (purpose.Run None) [] None) end → new.out ≡ old.out
+  pub drivers : KeepsDrivers (λ name. ⊥) old.drivers new.drivers
 
 -- a name of the sources that is mentioned
 abbrev pub IsNamed : List Source → (ℕ → Bool) → Name → Type 0
 IsNamed ss marks name = (i : ℕ) × (slice_get (names_of ss) i ≡ Some name) × (marks i ≡ true)
 
-pub record DoneBy (IsVerdict : (ℕ → Bool) → Verdict → Type 0) (ss : List Source) (marks : ℕ → Bool) (p : Purpose) (end : Ending) (ds ds' : List State) (out out' : SinkState) : Type 0 where
-  pub ends : Ends IsVerdict ss marks p end ds ds' out out'
-  pub read : end ≡ Some fault.Read → IsStoredFault (kinds_of ds) ss (IsNamed ss marks) fault.Read ⊎ SomeRose (λ d. d.faults) ds ds'
-  pub write : end ≡ Some fault.Write → Rose out.faults out'.faults
-  pub unread : (f : Fault) → end ≡ Some f → IsUnreadFault f → IsUnreadBy ss (IsNamed ss marks) f ds ds'
-  pub changed : (name : Name) → end ≡ Some (fault.Changed name) → SomeDrifted ss (λ x. IsNamed ss marks x × (x ≡ name)) ds ds'
+-- whatever marks the sources have that are these, there is no verdict
+abbrev pub WithoutVerdict : ((ℕ → Bool) → Verdict → Type 0) → List Source → (ℕ → Bool) → Type 0
+WithoutVerdict IsVerdict ss marks =
+    (others : ℕ → Bool) → ((i : ℕ) → i < length ss → marks i ≡ others i) → (v : Verdict) → IsVerdict others v → ⊥
+
+-- How what is done with a program ends: a fault of the outside or want of memory came before anything was printed; or a
+-- verdict of the program is followed; or it comes to sources that are not told, and so to no verdict.
+pub data Ends (IsVerdict : (ℕ → Bool) → Verdict → Type 0) (ss : List Source) (marks : ℕ → Bool) (p : Purpose) (end : Ending) (old new : Outside)
+    : Type 0 where
+  before : new.out ≡ old.out → (IsDetermined end → ⊥) → ((v : Verdict) → IsOutside v end old new) → Ends IsVerdict ss marks p end old new
+  followed : (v : Verdict) → IsVerdict marks v → FollowsVerdict v end old new → Ends IsVerdict ss marks p end old new
+  untold : WithoutVerdict IsVerdict ss marks → (AreTold (kinds_of old.drivers) ss (IsNamed ss marks) → ⊥)
+      → (IsDetermined end → NeedsDrivers p end) → Ends IsVerdict ss marks p end old new
+
+pub record DoneBy (IsVerdict : (ℕ → Bool) → Verdict → Type 0) (ss : List Source) (marks : ℕ → Bool) (p : Purpose) (end : Ending) (old new : Outside)
+    : Type 0 where
+  pub ends : Ends IsVerdict ss marks p end old new
+  pub read : end ≡ Some fault.Read
+      → IsStoredFault (kinds_of old.drivers) ss (IsNamed ss marks) fault.Read ⊎ SomeRose (λ d. d.faults) old.drivers new.drivers
+  pub write : end ≡ Some fault.Write → Rose old.out.faults new.out.faults
+  pub unread : (f : Fault) → end ≡ Some f → IsUnreadFault f → IsUnreadBy ss (IsNamed ss marks) f old.drivers new.drivers
+  pub changed : (name : Name) → end ≡ Some (fault.Changed name)
+      → SomeDrifted ss (λ x. IsNamed ss marks x × (x ≡ name)) old.drivers new.drivers
   pub no_other : IsOneOf (HasTextFault p) end
-  pub nothing : PrintsNothing (Program p [] None) end → out' ≡ out
-  pub drivers : KeepsDrivers (IsNamed ss marks) ds ds'
-  pub still : (IsRun p → ⊥) → ds' ≡ ds
+  pub nothing : PrintsNothing (Program p [] None) end → new.out ≡ old.out
+  pub drivers : KeepsDrivers (IsNamed ss marks) old.drivers new.drivers
+  pub still : (IsRun p → ⊥) → new.drivers ≡ old.drivers
 
 -- what a purpose makes of a program is done
-abbrev pub DoneWith : List Source → (ℕ → Bool) → Purpose → Decls → Exp → Ending → List State → List State → SinkState → SinkState → Type 0
-DoneWith ss marks p program e end ds ds' out out' = DoneBy (λ others. IsDone (kinds_of ds) ss others p program e) ss marks p end ds ds' out out'
+abbrev pub DoneWith : List Source → (ℕ → Bool) → Purpose → Decls → Exp → Ending → Outside → Outside → Type 0
+DoneWith ss marks p program e end old new = DoneBy (λ others. IsDone (kinds_of old.drivers) ss others p program e) ss marks p end old new
 
 -- what a run of a program with a typing comes to is done
-abbrev pub DoneMeaning : List Source → (ℕ → Bool) → Option ℕ → Decls → Exp → Ending → List State → List State → SinkState → SinkState → Type 0
-DoneMeaning ss marks first program e end ds ds' out out' = DoneBy (λ others. IsMeant (kinds_of ds) ss others first program e) ss marks (purpose.Run first) end ds ds' out out'
+abbrev pub DoneMeaning : List Source → (ℕ → Bool) → Option ℕ → Decls → Exp → Ending → Outside → Outside → Type 0
+DoneMeaning ss marks first program e end old new =
+    DoneBy (λ others. IsMeant (kinds_of old.drivers) ss others first program e) ss marks (purpose.Run first) end old new
 
 -- the line of a declaration is written, or nothing where the text of its scheme is too long
 abbrev pub ListsLine : Name × Scheme → Result (Unit {0}) Fault → SinkState → SinkState → Type 0
 ListsLine d (Ok x) old new = (nat_lt limit (length (scheme_text d.1)) ≡ false) × WritesWhole {T = Unit {0}} (scheme_line d) (Ok tt) old new
 ListsLine d (Err fault.SchemeBytes) old new = (nat_lt limit (length (scheme_text d.1)) ≡ true) × (new ≡ old)
 ListsLine d (Err fault.Write) old new = (nat_lt limit (length (scheme_text d.1)) ≡ false) × WritesWhole {T = Unit {0}} (scheme_line d) (Err stop.Failed) old new
-ListsLine d (Err fault.NoMemory) old new = (new ≡ old) ⊎ ((nat_lt limit (length (scheme_text d.1)) ≡ false) × WritesWhole {T = Unit {0}} (scheme_line d) (Err stop.NoMemory) old new)
+ListsLine d (Err fault.NoMemory) old new =
+    (new ≡ old)
+    ⊎ ((nat_lt limit (length (scheme_text d.1)) ≡ false) × WritesWhole {T = Unit {0}} (scheme_line d) (Err stop.NoMemory) old new)
 ListsLine d (Err f) old new = ⊥
 
 -- the lines of these declarations are written

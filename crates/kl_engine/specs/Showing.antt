@@ -8,12 +8,13 @@ use Rattle.kl_exchange.specs.declared.error.ReadError.{ReadError}
 use Rattle.kl_exchange.specs.declared.error.ReadError.TheVariants as read
 use Rattle.kl_outside.specs.Counts.{Rose}
 use Rattle.std.specs.Io.KnownBytes.{append_known}
-use Rattle.kl_outside.specs.Files.{FilesState, OtherFiles, IsMissing}
+use Rattle.kl_outside.specs.Files.{OtherFiles, IsMissing}
 use Rattle.kl_outside.specs.Sinks.{SinkState, WritesWhole, TookPart}
 use Rattle.kl_outside.specs.declared.stop.Stop.{Stop}
 use Rattle.kl_engine.specs.Answering.{IsDetermined, IsOneOf, HasFault}
 use Rattle.kl_engine.specs.Commands.{Show}
 use Rattle.kl_engine.specs.Faults.{Ending}
+use Rattle.kl_engine.specs.Outside.{Outside}
 use Rattle.kl_engine.specs.Verdict.{Verdict, IsFile, IsShowing}
 use Rattle.kl_engine.specs.declared.fault.Fault.{Fault}
 use Rattle.kl_engine.specs.declared.fault.Fault.TheVariants as fault
@@ -41,29 +42,33 @@ pub record Flushes {T : Type 0} (begun : Bool) (result : Result T Stop) (held af
 
 -- The end of a verdict on a file, or a fault of the outside with its cause, or want of memory, came first. What was printed
 -- is the verdict's page, or a front of it.
-pub record FollowsFile (v : Verdict) (end : Ending) (files files' : FilesState) (out out' : SinkState) : Type 0 where
-  pub ends : (end ≡ v.ending) ⊎ ((end ≡ Some fault.Read) × Rose files.faults files'.faults) ⊎ ((end ≡ Some fault.Write) × Rose out.faults out'.faults × (v.page ≢ [])) ⊎ (end ≡ Some fault.NoMemory)
-  pub whole : end ≡ v.ending → out'.taken ≡ append_known out.taken v.page
-  pub part : TookPart v.page out out'
+pub record FollowsFile (v : Verdict) (end : Ending) (old new : Outside) : Type 0 where
+  pub ends : (end ≡ v.ending)
+      ⊎ ((end ≡ Some fault.Read) × Rose old.files.faults new.files.faults)
+      ⊎ ((end ≡ Some fault.Write) × Rose old.out.faults new.out.faults × (v.page ≢ []))
+      ⊎ (end ≡ Some fault.NoMemory)
+  pub whole : end ≡ v.ending → new.out.taken ≡ append_known old.out.taken v.page
+  pub part : TookPart v.page old.out new.out
 
 -- the file at a path is shown
-pub record DoesShow (path : List ℕ) (end : Ending) (files files' : FilesState) (out out' : SinkState) : Type 0 where
-  pub follows : (told : _) → files.told ≡ Some told → (v : Verdict) → IsFile IsShowing (told path) v → FollowsFile v end files files' out out'
-  pub meant : (told : _) → files.told ≡ Some told → IsDetermined end → (v : Verdict) × IsFile IsShowing (told path) v × (v.ending ≡ end)
-  pub read : end ≡ Some fault.Read → IsMissing files path ⊎ Rose files.faults files'.faults
-  pub write : end ≡ Some fault.Write → Rose out.faults out'.faults
+pub record DoesShow (path : List ℕ) (end : Ending) (old new : Outside) : Type 0 where
+  pub follows : (told : _) → old.files.told ≡ Some told → (v : Verdict) → IsFile IsShowing (told path) v → FollowsFile v end old new
+  pub meant : (told : _) → old.files.told ≡ Some told → IsDetermined end → (v : Verdict) × IsFile IsShowing (told path) v × (v.ending ≡ end)
+  pub read : end ≡ Some fault.Read → IsMissing old.files path ⊎ Rose old.files.faults new.files.faults
+  pub write : end ≡ Some fault.Write → Rose old.out.faults new.out.faults
   pub no_other : IsOneOf (HasFault (Show path)) end
-  pub left : files'.left ≡ files.left
-  pub told : files'.told ≡ files.told
+  pub left : new.files.left ≡ old.files.left
+  pub told : new.files.told ≡ old.files.told
 
 -- what an open file has left is shown
-pub record ShowsItems (file : ℕ) (end : Ending) (files files' : FilesState) (out out' : SinkState) : Type 0 where
-  pub told : files'.told ≡ files.told
-  pub others : OtherFiles file files files'
-  pub is_open : IsSome (files'.left file)
-  pub later : files.faults ≤ files'.faults
-  pub read : end ≡ Some fault.Read → Rose files.faults files'.faults
-  pub write : end ≡ Some fault.Write → Rose out.faults out'.faults
+pub record ShowsItems (file : ℕ) (end : Ending) (old new : Outside) : Type 0 where
+  pub told : new.files.told ≡ old.files.told
+  pub others : OtherFiles file old.files new.files
+  pub is_open : IsSome (new.files.left file)
+  pub later : old.files.faults ≤ new.files.faults
+  pub read : end ≡ Some fault.Read → Rose old.files.faults new.files.faults
+  pub write : end ≡ Some fault.Write → Rose old.out.faults new.out.faults
   pub no_other : IsOneOf (HasFault (Show [])) end
-  pub follows : (bytes : List ℕ) → files.left file ≡ Some (Some bytes) → (v : Verdict) → IsShowing bytes v → FollowsFile v end files files' out out'
-  pub meant : (bytes : List ℕ) → files.left file ≡ Some (Some bytes) → IsDetermined end → (v : Verdict) × IsShowing bytes v × (v.ending ≡ end)
+  pub follows : (bytes : List ℕ) → old.files.left file ≡ Some (Some bytes) → (v : Verdict) → IsShowing bytes v → FollowsFile v end old new
+  pub meant : (bytes : List ℕ) → old.files.left file ≡ Some (Some bytes)
+      → IsDetermined end → (v : Verdict) × IsShowing bytes v × (v.ending ≡ end)

@@ -1,5 +1,6 @@
 -- What words mean over files: what is to be printed, and the fault with which that ends.
-use Rattle.std.specs.Prelude.{◌≡◌, ◌⊎◌, ℕ, ◌<◌, ◌≤◌, ◌↔◌, nat_lt, nat_le, Bool, false, IsTrue, List, [], ◌∷◌, ◌++◌, length, map, take, codes, Option, Some, None, if◌then◌else◌}
+use Rattle.std.specs.Prelude.{◌≡◌, ◌⊎◌, ℕ, ◌<◌, ◌≤◌, ◌↔◌, nat_lt, nat_le, Bool, false, IsTrue, if◌then◌else◌}
+use Rattle.std.specs.Prelude.{List, [], ◌∷◌, ◌++◌, length, map, take, codes, Option, Some, None}
 use Rattle.std.specs.List.{flat_map, zip}
 use Rattle.kl_exchange.specs.FileItems.{FileEnd, WholeText, BadAt, TooDeepAt, PastLimit, Shows, most_read}
 use Rattle.kl_value.specs.Written.{text_of, with_commas}
@@ -165,7 +166,8 @@ IsMeant ks ss marks first ds e v =
 abbrev pub IsDone : List DriverKind → List Source → (ℕ → Bool) → Purpose → Decls → Exp → Verdict → Type 0
 IsDone ks ss marks purpose.Check ds e v = v ≡ well (codes "ok\n")
 IsDone ks ss marks purpose.Types ds e v = IsSized ds e (λ w. IsUntyped (grounds_of ss) ds e w ⊎ IsListing (grounds_of ss) ds e w) v
-IsDone ks ss marks (purpose.Run first) ds e v = IsSized ds e (λ w. IsUntyped (grounds_of ss) ds e w ⊎ (HasTyping ds e (grounds_of ss) × IsMeant ks ss marks first ds e w)) v
+IsDone ks ss marks (purpose.Run first) ds e v =
+    IsSized ds e (λ w. IsUntyped (grounds_of ss) ds e w ⊎ (HasTyping ds e (grounds_of ss) × IsMeant ks ss marks first ds e w)) v
 
 -- the fault of what stands behind the items of a file
 abbrev pub end_fault : FileEnd → Ending
@@ -190,7 +192,9 @@ AreMarks q names marks = (i : ℕ) → i < length names → IsTrue (marks i) ↔
 abbrev pub IsTextVerdict : List DriverKind → List Source → Purpose → List ℕ → Verdict → Type 0
 IsTextVerdict ks ss p bytes v =
     ((f : Fault) × IsTextFault (names_of ss) bytes f × (v ≡ refused f))
-    ⊎ ((q : Program) × (marks : ℕ → Bool) × IsProgramOf (names_of ss) bytes q × AreMarks q (names_of ss) marks × IsDone ks ss marks p (definitions (names_of ss) q) (last (names_of ss) q) v)
+    ⊎ ((q : Program) × (marks : ℕ → Bool)
+        × IsProgramOf (names_of ss) bytes q × AreMarks q (names_of ss) marks
+        × IsDone ks ss marks p (definitions (names_of ss) q) (last (names_of ss) q) v)
 
 -- ---- files
 
@@ -214,7 +218,8 @@ abbrev pub IsInputsFault : (List ℕ → Option (List ℕ)) → List DriverKind 
 IsInputsFault told ks path catalogue f = IsFileFault fault.ProgramBytes (λ text. IsSourcesFault told ks catalogue) (told path) f
 
 -- a command has this text and these sources
-pub record HasInputs (told : List ℕ → Option (List ℕ)) (ks : List DriverKind) (path : List ℕ) (catalogue : Option (List ℕ)) (text : List ℕ) (ss : List Source) : Type 0 where
+pub record HasInputs (told : List ℕ → Option (List ℕ)) (ks : List DriverKind) (path : List ℕ) (catalogue : Option (List ℕ)) (text : List ℕ)
+    (ss : List Source) : Type 0 where
   pub at : told path ≡ Some text
   pub few : length text ≤ most_bytes
   pub sources : HasSources told ks catalogue ss

@@ -9,7 +9,7 @@ use kl_base::Label;
 use kl_outside::{Sink, Stop, write_whole};
 
 /// Why a command did not end well. Places are bytes of the file that the words name.
-#[derive(Debug, Drop, PartialEq, Eq)]
+#[derive(Drop, PartialEq, Eq)]
 pub enum Fault {
     /// The words name no command.
     Usage,
@@ -59,7 +59,7 @@ pub enum Fault {
 }
 
 /// What is wrong with a program's text.
-#[derive(Debug, Drop, PartialEq, Eq)]
+#[derive(Drop, PartialEq, Eq)]
 pub enum Wrong {
     /// A token is due, and none starts there.
     NoToken,

@@ -17,7 +17,7 @@ use std::alloc::Global;
 const MOST: u64 = 65_536;
 
 /// What a command on a program works on: the program's text, and the sources of its catalogue.
-#[derive(Debug, Drop)]
+#[derive(Drop)]
 pub struct Inputs {
     pub text: Text,
     pub sources: Seq<Source>,
@@ -36,7 +36,8 @@ pub fn read_inputs<F: Files>(
     files: &mut F,
 ) -> Result<Inputs, Fault>
     requires { length drivers.now.items < 2 ^ 32 }
-    ensures { ReadsInputs program.now catalogue.now (kinds_of (map (λ d. (Driver-box d).state d.value) drivers.now.items)) result (F.state files.old) (F.state files.new) }
+    ensures { ReadsInputs program.now catalogue.now (kinds_of (map (λ d. (Driver-box d).state d.value) drivers.now.items))
+        result (F.state files.old) (F.state files.new) }
 {
     match read_whole(alloc, files, program.slice(), MOST) {
         Ok(Whole::Bytes(text)) => match read_sources(alloc, catalogue, drivers, files) {

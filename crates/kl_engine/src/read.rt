@@ -1,7 +1,7 @@
 //! Reading a program: its bytes as tokens, these as a tree, and what its names mean; and its types.
 ghost use Rattle.std.specs.Prelude.{◌≡◌, ◌≤◌, All, length};
 ghost use Rattle.kl_infer.specs.Inferred.{types_of};
-ghost use Rattle.kl_sources.specs.Sources.{grounds_of};
+ghost use Rattle.kl_sources.specs.Sources.{grounds_of, names_of};
 ghost use Rattle.kl_type.specs.Ground.{IsProper};
 ghost use Rattle.kl_engine.specs.Reading.{byte_of, scope_fault, ReadsText};
 ghost use Rattle.kl_syntax.specs.View.{view, decls_of};
@@ -13,9 +13,23 @@ use kl_infer::{InferError, Typed, infer};
 use kl_lex::{LexError, Token, lex};
 use kl_parse::{ParseError, parse};
 use kl_scope::{ScopeError, Scoped, SizeBreach, resolve, sizes};
-use kl_sources::{Source, types_of};
+use kl_sources::{Source, names_of, types_of};
 use kl_type::Ty;
 use std::alloc::Global;
+
+/// The program in scope that a text is, over these sources.
+///
+/// # Errors
+/// As `read_program`.
+pub fn read_over(alloc: Global, text: &[u8], sources: &[Source]) -> Result<Scoped, Fault>
+    requires { length text.now ≤ 65536 }
+    ensures { ReadsText (names_of sources.now) text.now result }
+{
+    match names_of(alloc, sources) {
+        Ok(names) => read_program(alloc, text, &names),
+        Err(_) => Err(Fault::NoMemory),
+    }
+}
 
 /// The program in scope that a text is, over sources of these names.
 ///

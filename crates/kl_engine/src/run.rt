@@ -1,5 +1,6 @@
 //! What `run` does with a program's text: it prints the value that the program means.
 ghost use Rattle.std.specs.Prelude.{◌≡◌, ◌≤◌, ◌<◌, [], All, length, map, true, false};
+ghost use Rattle.kl_outside.specs.Files.{FilesState};
 ghost use Rattle.kl_ask.specs.Driver.{State};
 ghost use Rattle.kl_ask.specs.World.{Moved, types_of, values_of};
 ghost use Rattle.kl_core.specs.Core.{core};
@@ -16,14 +17,16 @@ ghost use Rattle.kl_type.specs.Ground.{Ground, IsProper};
 ghost use Rattle.kl_sources.specs.Sources.{kinds_of};
 ghost use Rattle.kl_engine.specs.Answering.{DoesText, IsIdle};
 ghost use Rattle.kl_engine.specs.Faults.{ending};
+ghost use Rattle.kl_engine.specs.Outside.{outside_of};
 ghost use Rattle.kl_engine.specs.Reading.{WasInScope};
-ghost use Rattle.kl_engine.specs.Running.{AnswersTerm, DoneWith, DoneMeaning, IsTermOutcome, IsListScheme, IsListOutcome, IsValueOutcome, fault_of};
+ghost use Rattle.kl_engine.specs.Running.{AnswersTerm, DoneWith, DoneMeaning};
+ghost use Rattle.kl_engine.specs.Running.{IsTermOutcome, IsListScheme, IsListOutcome, IsValueOutcome, fault_of};
 ghost use Rattle.kl_engine.specs.declared.top.Purpose.TheVariants.{Run};
 
 use crate::cut::cut;
 use crate::fault::Fault;
 use crate::page::{print_cut_list, print_value};
-use crate::read::{infer_over, read_program};
+use crate::read::{infer_over, read_over};
 use kl_ask::{Driver, DriverError, Seen, Session, Settings, Trace};
 use kl_base::{Label, Seq};
 use kl_core::Term;
@@ -32,7 +35,7 @@ use kl_eval::{EvalStop, eval, eval_list};
 use kl_infer::Typed;
 use kl_outside::Sink;
 use kl_scope::Scoped;
-use kl_sources::{AttachError, Source, attach_sources, names_of};
+use kl_sources::{AttachError, Source, attach_sources};
 use kl_value::{Kind, Value};
 use std::alloc::Global;
 use std::mem;
@@ -62,14 +65,13 @@ pub fn run<S: Sink>(
     requires placed { ArePlaced (kinds_of (map (λ d. (Driver-box d).state d.value) drivers.old.items)) sources.items }
     requires idle { All IsIdle (map (λ d. (Driver-box d).state d.value) drivers.old.items) }
     requires fetch { 0 < how.settings.fetch }
-    ensures { DoesText sources.items (Run how.first) text.now (ending result) (map (λ d. (Driver-box d).state d.value) drivers.old.items) (map (λ d. (Driver-box d).state d.value) drivers.new.items) (S.state out.old) (S.state out.new) }
+    ensures { (files : FilesState) → DoesText sources.items (Run how.first) text.now (ending result)
+        (outside_of files (map (λ d. (Driver-box d).state d.value) drivers.old.items) (S.state out.old))
+        (outside_of files (map (λ d. (Driver-box d).state d.value) drivers.new.items) (S.state out.new)) }
 {
-    match names_of(alloc, &sources) {
-        Ok(names) => match read_program(alloc, text, &names) {
-            Ok(scoped) => run_program(alloc, &scoped, sources, how, drivers, out),
-            Err(fault) => Err(fault),
-        },
-        Err(_) => Err(Fault::NoMemory),
+    match read_over(alloc, text, &sources) {
+        Ok(scoped) => run_program(alloc, &scoped, sources, how, drivers, out),
+        Err(fault) => Err(fault),
     }
 }
 
@@ -86,7 +88,10 @@ fn run_program<S: Sink>(
     requires placed { ArePlaced (kinds_of (map (λ d. (Driver-box d).state d.value) drivers.old.items)) sources.items }
     requires idle { All IsIdle (map (λ d. (Driver-box d).state d.value) drivers.old.items) }
     requires fetch { 0 < how.settings.fetch }
-    ensures { DoneWith sources.items (is_marked scoped.now) (Run how.first) (decls_of scoped.now.program.defs) (view scoped.now.program.last) (ending result) (map (λ d. (Driver-box d).state d.value) drivers.old.items) (map (λ d. (Driver-box d).state d.value) drivers.new.items) (S.state out.old) (S.state out.new) }
+    ensures { (files : FilesState) → DoneWith sources.items (is_marked scoped.now) (Run how.first)
+        (decls_of scoped.now.program.defs) (view scoped.now.program.last) (ending result)
+        (outside_of files (map (λ d. (Driver-box d).state d.value) drivers.old.items) (S.state out.old))
+        (outside_of files (map (λ d. (Driver-box d).state d.value) drivers.new.items) (S.state out.new)) }
 {
     match infer_over(alloc, scoped, &sources) {
         Ok(typed) => answer(alloc, scoped, &typed, sources, how, drivers, out),
@@ -109,26 +114,55 @@ fn answer<S: Sink>(
     requires placed { ArePlaced (kinds_of (map (λ d. (Driver-box d).state d.value) drivers.old.items)) sources.items }
     requires idle { All IsIdle (map (λ d. (Driver-box d).state d.value) drivers.old.items) }
     requires fetch { 0 < how.settings.fetch }
-    ensures { DoneMeaning sources.items (is_marked scoped.now) how.first (decls_of scoped.now.program.defs) (view scoped.now.program.last) (ending result) (map (λ d. (Driver-box d).state d.value) drivers.old.items) (map (λ d. (Driver-box d).state d.value) drivers.new.items) (S.state out.old) (S.state out.new) }
+    ensures { (files : FilesState) → DoneMeaning sources.items (is_marked scoped.now) how.first
+        (decls_of scoped.now.program.defs) (view scoped.now.program.last) (ending result)
+        (outside_of files (map (λ d. (Driver-box d).state d.value) drivers.old.items) (S.state out.old))
+        (outside_of files (map (λ d. (Driver-box d).state d.value) drivers.new.items) (S.state out.new)) }
+{
+    match translate(alloc, scoped) {
+        Ok(term) => answer_translated(alloc, &term, scoped, typed, sources, how, drivers, out),
+        Err(_) => Err(Fault::NoMemory),
+    }
+}
+
+// Prints what the term of a program comes to, over its sources.
+fn answer_translated<S: Sink>(
+    alloc: Global,
+    term: &Term,
+    scoped: &Scoped,
+    typed: &Typed,
+    sources: Vec<Source>,
+    how: How,
+    drivers: &mut Vec<Box<dyn Driver>>,
+    out: &mut S,
+) -> Result<(), Fault>
+    requires scope { WasInScope (names_of sources.items) scoped.now }
+    requires types { Infers (decls_of scoped.now.program.defs) (view scoped.now.program.last) (grounds_of sources.items) typed.now }
+    requires term { term_view term.now ≡ term_of (decls_of scoped.now.program.defs) (view scoped.now.program.last) scoped.now.sources }
+    requires means { Means (decls_of scoped.now.program.defs) (view scoped.now.program.last) scoped.now.sources (term_view term.now) }
+    requires placed { ArePlaced (kinds_of (map (λ d. (Driver-box d).state d.value) drivers.old.items)) sources.items }
+    requires idle { All IsIdle (map (λ d. (Driver-box d).state d.value) drivers.old.items) }
+    requires fetch { 0 < how.settings.fetch }
+    ensures { (files : FilesState) → DoneMeaning sources.items (is_marked scoped.now) how.first
+        (decls_of scoped.now.program.defs) (view scoped.now.program.last) (ending result)
+        (outside_of files (map (λ d. (Driver-box d).state d.value) drivers.old.items) (S.state out.old))
+        (outside_of files (map (λ d. (Driver-box d).state d.value) drivers.new.items) (S.state out.new)) }
 {
     let is_list = gives_list(typed);
-    match translate(alloc, scoped) {
-        Ok(term) => match attach_sources(alloc, sources, scoped, drivers) {
-            Ok(attached) => {
-                let mut session = Session {
-                    drivers: mem::replace(drivers, Vec::new(alloc)),
-                    sources: attached,
-                    settings: how.settings,
-                    trace: Trace::new(alloc),
-                };
-                let result = answer_term(alloc, &term, is_list, how.first, &mut session, out);
-                let Session { drivers: back, .. } = session;
-                *drivers = back;
-                result
-            }
-            Err(AttachError { source, error }) => Err(driver_fault(source, error)),
-        },
-        Err(_) => Err(Fault::NoMemory),
+    match attach_sources(alloc, sources, scoped, drivers) {
+        Ok(attached) => {
+            let mut session = Session {
+                drivers: mem::replace(drivers, Vec::new(alloc)),
+                sources: attached,
+                settings: how.settings,
+                trace: Trace::new(alloc),
+            };
+            let result = answer_term(alloc, term, is_list, how.first, &mut session, out);
+            let Session { drivers: back, .. } = session;
+            *drivers = back;
+            result
+        }
+        Err(AttachError { source, error }) => Err(driver_fault(source, error)),
     }
 }
 
@@ -143,7 +177,12 @@ fn answer_term<S: Sink>(
 ) -> Result<(), Fault>
     requires sense { Sense (term_view term.now) [] (⟦<Session as Seen>⟧.world session.old) }
     requires list { is_list ≡ true → SenseList (term_view term.now) [] (⟦<Session as Seen>⟧.world session.old) }
-    ensures prints { AnswersTerm (IsTermOutcome is_list first (core (values_of (⟦<Session as Seen>⟧.world session.old)) (term_view term.now) [])) (HaveSources (types_of (⟦<Session as Seen>⟧.world session.old)) (values_of (⟦<Session as Seen>⟧.world session.old))) (ending result) (⟦<Session as Seen>⟧.world session.old).sources (⟦<Session as Seen>⟧.world session.old).drivers (⟦<Session as Seen>⟧.world session.new).drivers (S.state out.old) (S.state out.new) }
+    ensures prints { (files : FilesState) → AnswersTerm
+        (IsTermOutcome is_list first (core (values_of (⟦<Session as Seen>⟧.world session.old)) (term_view term.now) []))
+        (HaveSources (types_of (⟦<Session as Seen>⟧.world session.old)) (values_of (⟦<Session as Seen>⟧.world session.old))) (ending result)
+        (⟦<Session as Seen>⟧.world session.old).sources
+        (outside_of files (⟦<Session as Seen>⟧.world session.old).drivers (S.state out.old))
+        (outside_of files (⟦<Session as Seen>⟧.world session.new).drivers (S.state out.new)) }
     ensures rest { Moved (⟦<Session as Seen>⟧.world session.old) (⟦<Session as Seen>⟧.world session.new) }
 {
     if is_list {
@@ -191,7 +230,12 @@ fn answer_list<S: Sink>(
     out: &mut S,
 ) -> Result<(), Fault>
     requires { SenseList (term_view term.now) [] (⟦<Session as Seen>⟧.world session.old) }
-    ensures prints { AnswersTerm (IsListOutcome first (core (values_of (⟦<Session as Seen>⟧.world session.old)) (term_view term.now) [])) (HaveSources (types_of (⟦<Session as Seen>⟧.world session.old)) (values_of (⟦<Session as Seen>⟧.world session.old))) (ending result) (⟦<Session as Seen>⟧.world session.old).sources (⟦<Session as Seen>⟧.world session.old).drivers (⟦<Session as Seen>⟧.world session.new).drivers (S.state out.old) (S.state out.new) }
+    ensures prints { (files : FilesState) → AnswersTerm
+        (IsListOutcome first (core (values_of (⟦<Session as Seen>⟧.world session.old)) (term_view term.now) []))
+        (HaveSources (types_of (⟦<Session as Seen>⟧.world session.old)) (values_of (⟦<Session as Seen>⟧.world session.old))) (ending result)
+        (⟦<Session as Seen>⟧.world session.old).sources
+        (outside_of files (⟦<Session as Seen>⟧.world session.old).drivers (S.state out.old))
+        (outside_of files (⟦<Session as Seen>⟧.world session.new).drivers (S.state out.new)) }
     ensures rest { Moved (⟦<Session as Seen>⟧.world session.old) (⟦<Session as Seen>⟧.world session.new) }
 {
     let mut env = Vec::new(alloc);
@@ -213,7 +257,12 @@ fn answer_value<S: Sink>(
     out: &mut S,
 ) -> Result<(), Fault>
     requires { Sense (term_view term.now) [] (⟦<Session as Seen>⟧.world session.old) }
-    ensures prints { AnswersTerm (IsValueOutcome first (core (values_of (⟦<Session as Seen>⟧.world session.old)) (term_view term.now) [])) (HaveSources (types_of (⟦<Session as Seen>⟧.world session.old)) (values_of (⟦<Session as Seen>⟧.world session.old))) (ending result) (⟦<Session as Seen>⟧.world session.old).sources (⟦<Session as Seen>⟧.world session.old).drivers (⟦<Session as Seen>⟧.world session.new).drivers (S.state out.old) (S.state out.new) }
+    ensures prints { (files : FilesState) → AnswersTerm
+        (IsValueOutcome first (core (values_of (⟦<Session as Seen>⟧.world session.old)) (term_view term.now) []))
+        (HaveSources (types_of (⟦<Session as Seen>⟧.world session.old)) (values_of (⟦<Session as Seen>⟧.world session.old))) (ending result)
+        (⟦<Session as Seen>⟧.world session.old).sources
+        (outside_of files (⟦<Session as Seen>⟧.world session.old).drivers (S.state out.old))
+        (outside_of files (⟦<Session as Seen>⟧.world session.new).drivers (S.state out.new)) }
     ensures rest { Moved (⟦<Session as Seen>⟧.world session.old) (⟦<Session as Seen>⟧.world session.new) }
 {
     let mut env = Vec::new(alloc);

@@ -1,9 +1,11 @@
 //! What `show` does: it prints a file's items as they are read.
-ghost use Rattle.std.specs.Prelude.{◌≡◌, ◌++◌, [], codes, false, IsSome};
+ghost use Rattle.std.specs.Prelude.{◌≡◌, ◌++◌, List, [], codes, false, IsSome};
+ghost use Rattle.kl_ask.specs.Driver.{State};
 ghost use Rattle.kl_exchange.specs.FileItems.{most_read, reading};
 ghost use Rattle.kl_exchange.specs.Printing.{Puts, as_stop};
 ghost use Rattle.kl_value.specs.Written.{text_of};
 ghost use Rattle.kl_engine.specs.Faults.{ending};
+ghost use Rattle.kl_engine.specs.Outside.{outside_of};
 ghost use Rattle.kl_engine.specs.Showing.{DoesShow, ShowsItems, Flushes, read_fault, fetch_fault, write_fault};
 
 use crate::fault::Fault;
@@ -27,7 +29,8 @@ pub fn show<F: Files, S: Sink>(
     files: &mut F,
     out: &mut S,
 ) -> Result<(), Fault>
-    ensures { DoesShow path.now (ending result) (F.state files.old) (F.state files.new) (S.state out.old) (S.state out.new) }
+    ensures { (ds : List State) → DoesShow path.now (ending result)
+        (outside_of (F.state files.old) ds (S.state out.old)) (outside_of (F.state files.new) ds (S.state out.new)) }
 {
     let file = match files.open_path(path) {
         Ok(file) => file,
@@ -50,7 +53,8 @@ fn show_items<F: Files, S: Sink>(
     requires is_new { items.old.text ≡ reading 0 [] false }
     requires unpast { items.old.past ≡ false }
     requires limit { items.old.limit ≡ most_read }
-    ensures { ShowsItems items.old.file (ending result) (F.state files.old) (F.state files.new) (S.state out.old) (S.state out.new) }
+    ensures { (ds : List State) → ShowsItems items.old.file (ending result)
+        (outside_of (F.state files.old) ds (S.state out.old)) (outside_of (F.state files.new) ds (S.state out.new)) }
 {
     let mut page = Page::new();
     // Whether the page has any line.

@@ -1,5 +1,5 @@
 //! What was counted while a program ran, and how it is told.
-ghost use Rattle.std.specs.Prelude.{◌≡◌, map};
+ghost use Rattle.std.specs.Prelude.{◌≡◌, ◌<◌, ◌^◌, length, map};
 ghost use Rattle.std.specs.List.{flat_map};
 ghost use Rattle.kl_outside.specs.Sinks.{WritesWhole};
 ghost use Rattle.kl_ask.specs.Driver.{State};
@@ -11,19 +11,20 @@ use itoa::Buffer;
 use kl_ask::{Driver, Trace, handed_boxed};
 use kl_outside::{Sink, Stop};
 
-/// How many rows the drivers handed since they were made. The count stands still at its greatest value.
-pub fn rows_handed(drivers: &Vec<Box<dyn Driver>>) -> u64
+/// How many rows the drivers handed since they were made.
+pub fn rows_handed(drivers: &Vec<Box<dyn Driver>>) -> u128
+    requires { length drivers.now.items < 2 ^ 32 }
     ensures { result ≡ handed_by (map (λ d. state d) drivers.now.items) }
 {
-    let mut handed: u64 = 0;
+    let mut handed: u128 = 0;
     'drivers: for driver in drivers {
-        handed = handed.saturating_add(handed_boxed(driver));
+        handed += u128::from(handed_boxed(driver));
     }
     handed
 }
 
 /// Tells what was counted. Where a line is refused, nothing else comes of it.
-pub fn tell_counts<E: Sink>(trace: &Trace, handed: u64, err: &mut E)
+pub fn tell_counts<E: Sink>(trace: &Trace, handed: u128, err: &mut E)
     ensures { TookLine (stats_text trace.now handed) (E.state err.old) (E.state err.new) }
 {
     match write_counts(trace, handed, err) {
@@ -31,7 +32,7 @@ pub fn tell_counts<E: Sink>(trace: &Trace, handed: u64, err: &mut E)
     }
 }
 
-fn write_counts<E: Sink>(trace: &Trace, handed: u64, err: &mut E) -> Result<(), Stop>
+fn write_counts<E: Sink>(trace: &Trace, handed: u128, err: &mut E) -> Result<(), Stop>
     ensures { WritesWhole (stats_text trace.now handed) result (E.state err.old) (E.state err.new) }
 {
     match write_totals(trace, handed, err) {
@@ -40,7 +41,7 @@ fn write_counts<E: Sink>(trace: &Trace, handed: u64, err: &mut E) -> Result<(), 
     }
 }
 
-fn write_totals<E: Sink>(trace: &Trace, handed: u64, err: &mut E) -> Result<(), Stop>
+fn write_totals<E: Sink>(trace: &Trace, handed: u128, err: &mut E) -> Result<(), Stop>
     ensures { WritesWhole (totals_text trace.now handed) result (E.state err.old) (E.state err.new) }
 {
     write_parts(

@@ -1,12 +1,13 @@
 //! The top call.
-ghost use Rattle.std.specs.Prelude.{◌≡◌, ◌<◌, ◌^◌, ◌-◌, None, All, length, map, string_bytes};
+ghost use Rattle.std.specs.Prelude.{◌≡◌, ◌<◌, ◌^◌, None, All, length, map, string_bytes};
 ghost use Rattle.kl_words.specs.Commands.{command_of};
 ghost use Rattle.kl_ask.specs.Driver.{State};
 ghost use Rattle.kl_engine.specs.Answering.{Does, IsIdle};
 ghost use Rattle.kl_engine.specs.Commands.{Program, asked, path_of, wants_stats};
 ghost use Rattle.kl_engine.specs.Faults.{TookLine, ending, status_of};
+ghost use Rattle.kl_engine.specs.Outside.{outside_of};
 ghost use Rattle.kl_ask.specs.Trace.{IsBlank};
-ghost use Rattle.kl_engine.specs.Stats.{handed_by, told_text};
+ghost use Rattle.kl_engine.specs.Stats.{handed_in, told_text};
 ghost use Rattle.kl_engine.specs.declared.top.Purpose.TheVariants.{Run, Check, Types};
 
 use crate::check::check;
@@ -23,7 +24,7 @@ use kl_words::{Command, Job, WordsError, read_words};
 use std::alloc::Global;
 
 /// What the top call answers.
-#[derive(Debug, Drop, PartialEq, Eq)]
+#[derive(Drop, PartialEq, Eq)]
 pub struct Answer {
     /// 0: well, and all that the command prints was written. Else that of the fault: 1: the words name no command. 2: the
     /// program is none in scope. 3: the program has no typing. 4: the catalogue is none, or an entry of it has a name that
@@ -79,11 +80,19 @@ pub fn kleisli<F: Files, S: Sink, E: Sink>(
 ) -> Answer
     requires idle { All IsIdle (map (λ d. (Driver-box d).state d.value) drivers.old.items) }
     requires few { length drivers.old.items < 2 ^ 32 }
-    ensures does { Does (asked (command_of (map (λ w. string_bytes w) words.now))) result.fault (F.state files.old) (F.state files.new) (map (λ d. (Driver-box d).state d.value) drivers.old.items) (map (λ d. (Driver-box d).state d.value) drivers.new.items) (S.state out.old) (S.state out.new) }
+    ensures does { Does (asked (command_of (map (λ w. string_bytes w) words.now))) result.fault
+        (outside_of (F.state files.old) (map (λ d. (Driver-box d).state d.value) drivers.old.items) (S.state out.old))
+        (outside_of (F.state files.new) (map (λ d. (Driver-box d).state d.value) drivers.new.items) (S.state out.new)) }
     ensures status { result.status ≡ status_of result.fault }
-    ensures line { TookLine (told_text (wants_stats (command_of (map (λ w. string_bytes w) words.now))) (path_of (asked (command_of (map (λ w. string_bytes w) words.now)))) result.fault result.trace (handed_by (map (λ d. (Driver-box d).state d.value) drivers.new.items) - handed_by (map (λ d. (Driver-box d).state d.value) drivers.old.items))) (E.state err.old) (E.state err.new) }
+    ensures line { let command = command_of (map (λ w. string_bytes w) words.now) in
+        TookLine (told_text (wants_stats command) (path_of (asked command)) result.fault result.trace
+        (handed_in (map (λ d. (Driver-box d).state d.value) drivers.old.items) (map (λ d. (Driver-box d).state d.value) drivers.new.items)))
+        (E.state err.old) (E.state err.new) }
     ensures trace { IsBlank result.trace }
-    ensures words_first { command_of (map (λ w. string_bytes w) words.now) ≡ None → (files.new ≡ files.old) × (map (λ d. (Driver-box d).state d.value) drivers.new.items ≡ map (λ d. (Driver-box d).state d.value) drivers.old.items) × (out.new ≡ out.old) }
+    ensures words_first { command_of (map (λ w. string_bytes w) words.now) ≡ None
+        → (files.new ≡ files.old)
+        × (map (λ d. (Driver-box d).state d.value) drivers.new.items ≡ map (λ d. (Driver-box d).state d.value) drivers.old.items)
+        × (out.new ≡ out.old) }
 {
     let before = rows_handed(drivers);
     match read_words(alloc, words) {
@@ -126,7 +135,7 @@ fn end<E: Sink>(
     outcome: Result<(), Fault>,
     path: &[u8],
     stats: bool,
-    handed: u64,
+    handed: u128,
     err: &mut E,
 ) -> Answer
     ensures fault { result.fault ≡ ending outcome }
@@ -168,7 +177,9 @@ fn do_run<F: Files, S: Sink>(
     requires idle { All IsIdle (map (λ d. (Driver-box d).state d.value) drivers.old.items) }
     requires few { length drivers.old.items < 2 ^ 32 }
     requires fetch { 0 < job.now.settings.fetch }
-    ensures { Does (Program (Run job.now.first) job.now.program job.now.catalogue) (ending result) (F.state files.old) (F.state files.new) (map (λ d. (Driver-box d).state d.value) drivers.old.items) (map (λ d. (Driver-box d).state d.value) drivers.new.items) (S.state out.old) (S.state out.new) }
+    ensures { Does (Program (Run job.now.first) job.now.program job.now.catalogue) (ending result)
+        (outside_of (F.state files.old) (map (λ d. (Driver-box d).state d.value) drivers.old.items) (S.state out.old))
+        (outside_of (F.state files.new) (map (λ d. (Driver-box d).state d.value) drivers.new.items) (S.state out.new)) }
 {
     match read_inputs(alloc, &job.program, &job.catalogue, drivers, files) {
         Ok(Inputs { text, sources }) => {
@@ -192,7 +203,9 @@ fn do_types<F: Files, S: Sink>(
     out: &mut S,
 ) -> Result<(), Fault>
     requires { length drivers.now.items < 2 ^ 32 }
-    ensures { Does (Program Types program.now catalogue.now) (ending result) (F.state files.old) (F.state files.new) (map (λ d. (Driver-box d).state d.value) drivers.now.items) (map (λ d. (Driver-box d).state d.value) drivers.now.items) (S.state out.old) (S.state out.new) }
+    ensures { Does (Program Types program.now catalogue.now) (ending result)
+        (outside_of (F.state files.old) (map (λ d. (Driver-box d).state d.value) drivers.now.items) (S.state out.old))
+        (outside_of (F.state files.new) (map (λ d. (Driver-box d).state d.value) drivers.now.items) (S.state out.new)) }
 {
     match read_inputs(alloc, program, catalogue, drivers, files) {
         Ok(inputs) => types(alloc, inputs.text.slice(), inputs.sources.slice(), out),
@@ -210,7 +223,9 @@ fn do_check<F: Files, S: Sink>(
     out: &mut S,
 ) -> Result<(), Fault>
     requires { length drivers.now.items < 2 ^ 32 }
-    ensures { Does (Program Check program.now catalogue.now) (ending result) (F.state files.old) (F.state files.new) (map (λ d. (Driver-box d).state d.value) drivers.now.items) (map (λ d. (Driver-box d).state d.value) drivers.now.items) (S.state out.old) (S.state out.new) }
+    ensures { Does (Program Check program.now catalogue.now) (ending result)
+        (outside_of (F.state files.old) (map (λ d. (Driver-box d).state d.value) drivers.now.items) (S.state out.old))
+        (outside_of (F.state files.new) (map (λ d. (Driver-box d).state d.value) drivers.now.items) (S.state out.new)) }
 {
     match read_inputs(alloc, program, catalogue, drivers, files) {
         Ok(inputs) => check(alloc, inputs.text.slice(), inputs.sources.slice(), out),

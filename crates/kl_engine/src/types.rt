@@ -4,20 +4,22 @@ ghost use Rattle.std.specs.List.{zip};
 ghost use Rattle.kl_rows.specs.Schemes.{IsScheme};
 ghost use Rattle.kl_syntax.specs.View.{view, decls_of};
 ghost use Rattle.kl_ask.specs.Driver.{State};
+ghost use Rattle.kl_outside.specs.Files.{FilesState};
 ghost use Rattle.kl_type.specs.Ground.{IsProper};
 ghost use Rattle.kl_engine.specs.Answering.{DoesText, PrintsPage};
 ghost use Rattle.kl_engine.specs.Faults.{ending};
+ghost use Rattle.kl_engine.specs.Outside.{outside_of};
 ghost use Rattle.kl_engine.specs.Running.{DoneWith, ListsLine, ListsFront};
 ghost use Rattle.kl_engine.specs.Verdict.{named_schemes, scheme_lines};
 ghost use Rattle.kl_engine.specs.declared.top.Purpose.TheVariants.{Types};
 
 use crate::fault::Fault;
-use crate::read::{infer_over, read_program};
+use crate::read::{infer_over, read_over};
 use kl_infer::{Typed, print_scheme};
 use kl_outside::{Sink, Stop, write_whole};
 use kl_rows::Scheme;
 use kl_scope::Scoped;
-use kl_sources::{Source, names_of};
+use kl_sources::Source;
 use kl_syntax::Decl;
 use std::alloc::{AllocError, Global};
 
@@ -34,14 +36,12 @@ pub fn types<S: Sink>(
 ) -> Result<(), Fault>
     requires few { length text.now ≤ 65536 }
     requires proper { All (λ s. IsProper s.ty) sources.now }
-    ensures { (ds : List State) → DoesText sources.now Types text.now (ending result) ds ds (S.state out.old) (S.state out.new) }
+    ensures { (files : FilesState) (ds : List State) → DoesText sources.now Types text.now (ending result)
+        (outside_of files ds (S.state out.old)) (outside_of files ds (S.state out.new)) }
 {
-    match names_of(alloc, sources) {
-        Ok(names) => match read_program(alloc, text, &names) {
-            Ok(scoped) => list_types(alloc, &scoped, sources, out),
-            Err(fault) => Err(fault),
-        },
-        Err(_) => Err(Fault::NoMemory),
+    match read_over(alloc, text, sources) {
+        Ok(scoped) => list_types(alloc, &scoped, sources, out),
+        Err(fault) => Err(fault),
     }
 }
 
@@ -53,7 +53,9 @@ fn list_types<S: Sink>(
     out: &mut S,
 ) -> Result<(), Fault>
     requires { All (λ s. IsProper s.ty) sources.now }
-    ensures { (marks : ℕ → Bool) (ds : List State) → DoneWith sources.now marks Types (decls_of scoped.now.program.defs) (view scoped.now.program.last) (ending result) ds ds (S.state out.old) (S.state out.new) }
+    ensures { (marks : ℕ → Bool) (files : FilesState) (ds : List State) → DoneWith sources.now marks Types
+        (decls_of scoped.now.program.defs) (view scoped.now.program.last) (ending result)
+        (outside_of files ds (S.state out.old)) (outside_of files ds (S.state out.new)) }
 {
     match infer_over(alloc, scoped, sources) {
         Ok(typed) => list(alloc, scoped, &typed, out),

@@ -1,12 +1,19 @@
 use Rattle.std.proofs.Common.{Some, ap, ◌∙◌}
+use Rattle.kl_engine.proofs.StatsLemmas.{handed_is, run_told}
 use Rattle.kl_engine.proofs.TopLemmas.{does_found, does_none, does_wanted, show_at}
 use Rattle.kl_engine.proofs.top.kleisli.Goals as goal
 
 pub returns-in-Ok-Show-clause-does : goal.returns-in-Ok-Show-clause-does
-returns-in-Ok-Show-clause-does g c = does_found _ _ (c.in-Ok-Show.ensures.meant ∙ ap Some c.in-Ok-Show.field-0-is) _ _ _ _ _ _ _ _ c.end-in-Ok-Show.ensures.fault (show_at c.in-Ok-Show.file _ _ _ _ _ _ _ c.slice-in-Ok-Show.ensures c.show-result.ensures)
+returns-in-Ok-Show-clause-does g c = does_found _ _ (c.in-Ok-Show.ensures.meant ∙ ap Some c.in-Ok-Show.field-0-is) _ _ _ _ c.end-in-Ok-Show.ensures.fault (show_at c.in-Ok-Show.file _ _ _ _ _ _ _ c.slice-in-Ok-Show.ensures (c.show-result.ensures _))
 
 pub returns-in-Err-Usage-clause-does : goal.returns-in-Err-Usage-clause-does
-returns-in-Err-Usage-clause-does g c = does_none _ (c.in-Err-Usage.ensures.meant c.in-Err-Usage.field-0-is) _ _ _ _ c.end-in-Err-Usage.ensures.fault
+returns-in-Err-Usage-clause-does g c = does_none _ (c.in-Err-Usage.ensures.meant c.in-Err-Usage.field-0-is) _ _ c.end-in-Err-Usage.ensures.fault
 
 pub returns-in-Err-NoMemory-clause-does : goal.returns-in-Err-NoMemory-clause-does
-returns-in-Err-NoMemory-clause-does g c = does_wanted _ _ _ _ _ c.end-in-Err-NoMemory.ensures.fault
+returns-in-Err-NoMemory-clause-does g c = does_wanted _ _ _ c.end-in-Err-NoMemory.ensures.fault
+
+pub returns-in-Ok-Run-clause-line : goal.returns-in-Ok-Run-clause-line
+returns-in-Ok-Run-clause-line g c =
+    run_told _ c.in-Ok-Run.job _ _ _ _ c.saturating_sub-handed.result _ _ _ (c.in-Ok-Run.ensures.meant ∙ ap Some c.in-Ok-Run.field-0-is) c.slice.ensures c.end.ensures.fault
+    (handed_is _ _ _ c.rows_handed-before.result c.rows_handed.result c.saturating_sub-handed.result c.do_run-result.ensures.closed.drivers c.rows_handed-before.ensures c.rows_handed.ensures c.saturating_sub-handed.ensures)
+    c.end.ensures.line

@@ -6,7 +6,7 @@ pub list-requires-clause-schemes : goal.list-requires-clause-schemes
 list-requires-clause-schemes g c = good_schemes _ _ _ c.in-Ok.ensures.infers.schemes
 
 pub returns-in-Ok : goal.returns-in-Ok
-returns-in-Ok g c = λ marks ds. listed _ marks _ _ ds _ _ _ _ c.in-Ok.ensures c.list.ensures
+returns-in-Ok g c = λ marks files ds. listed _ marks _ _ files ds _ _ _ _ c.in-Ok.ensures c.list.ensures
 
 pub returns-in-Err : goal.returns-in-Err
-returns-in-Err g c = λ marks ds. untyped_types _ marks _ _ ds _ _ c.in-Err.ensures
+returns-in-Err g c = λ marks files ds. untyped_types _ marks _ _ files ds _ _ c.in-Err.ensures
