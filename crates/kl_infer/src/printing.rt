@@ -4,7 +4,8 @@ ghost use Rattle.std.specs.Option.{option_map};
 ghost use Rattle.kl_base.specs.Sorted.{sorted};
 ghost use Rattle.kl_rows.specs.Schemes.{IsScheme};
 ghost use Rattle.kl_infer.specs.Numbers.{Writes, limit};
-ghost use Rattle.kl_infer.specs.Printed.{by_label, opening_text, closing_text, kind_variables, rest_variables, row_variables, row_text, tree_at, text, variables, scheme_text};
+ghost use Rattle.kl_infer.specs.Printed.{by_label, opening_text, closing_text, kind_variables, rest_variables, row_variables, row_text, tree_at};
+ghost use Rattle.kl_infer.specs.Printed.{text, variables, scheme_text};
 ghost use Rattle.kl_infer.specs.Rows.{CanPrint, IsEnd, IsRowOf, front_of, is_open, kind_of, mark_behind};
 
 use crate::page::Page;

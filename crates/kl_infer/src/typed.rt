@@ -29,7 +29,8 @@ impl Typed {
     pub fn result_kind(&self) -> Option<Kind>
         ensures table { result ≡ known_kind self.now.result }
         ensures instances { IfSome result (λ k. (t : Ground) → Instance self.now.result t → (s : Ground) × (t ≡ coll k s)) }
-        ensures others { (k : Kind) → IsScheme self.now.result → (t : Ground) → Instance self.now.result t → (result ≡ Some k → ⊥) → HasOther self.now.result k }
+        ensures others { (k : Kind) → IsScheme self.now.result → (t : Ground) → Instance self.now.result t → (result ≡ Some k → ⊥)
+            → HasOther self.now.result k }
     {
         known_kind(&self.result)
     }

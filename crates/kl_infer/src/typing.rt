@@ -394,7 +394,8 @@ fn can_call(u: &mut Unifier, sense: Sense, args: &[u64], want: u64) -> Result<bo
     requires there { IsType u.old.cells.items want }
     requires args_there { AllByRecursion (IsType u.old.cells.items) args.now }
     requires good { IsGood (meant_of sense) }
-    ensures { IfOk result (λ holds. Checks holds u.old.cells.items u.new.cells.items (λ s. CallTypes (sort_of (meant_of sense.entry)) (map s.types args.now) (s.types want))) }
+    ensures { IfOk result (λ holds. Checks holds u.old.cells.items u.new.cells.items
+        (λ s. CallTypes (sort_of (meant_of sense.entry)) (map s.types args.now) (s.types want))) }
 {
     match sense {
         Sense::Function(scheme) => {

@@ -212,7 +212,8 @@ impl Unifier {
     pub fn merge(&mut self, first: u64, second: u64) -> Result<bool, NoMemory>
         requires fine { IsFine self.old.cells.items }
         requires sorts { HasSort self.old.cells.items first second }
-        ensures { IfOk result (λ holds. Advances holds self.old.cells.items self.new.cells.items (Same (sort_at self.old.cells.items first) first second) (λ s. Unit {0})) }
+        ensures { IfOk result (λ holds. Advances holds self.old.cells.items self.new.cells.items (Same (sort_at self.old.cells.items first) first second)
+            (λ s. Unit {0})) }
     {
         let first = first as usize;
         let second = second as usize;
