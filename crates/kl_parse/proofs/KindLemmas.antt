@@ -1,5 +1,5 @@
 -- The phrases of one token, and what decides them.
-use Rattle.std.proofs.Common.{◌≡◌, ℕ, ◌+◌, ◌<◌, ℤ, pos, negsuc, neg_ℤ, Bool, true, false, ◌||◌, ◌&&◌, not, nat_eq, cond, List, [], ◌∷◌, find, map, Option, Some, None, ◌⊎◌, inl, inr, if◌then◌else◌, refl, sym, ap, subst, ◌∙◌, arith}
+use Rattle.std.proofs.Common.{◌≡◌, ℕ, ◌+◌, ◌<◌, pos, negsuc, neg_ℤ, Bool, true, false, ◌||◌, ◌&&◌, not, nat_eq, cond, List, [], ◌∷◌, find, map, Option, Some, None, ◌⊎◌, inl, inr, if◌then◌else◌, refl, sym, ap, subst, ◌∙◌, arith}
 use Rattle.std.proofs.lemmas.Bool.{eqb-true, eq-eqb, and_parts, not-true}
 use Rattle.std.specs.List.{AllByRecursion}
 use Rattle.std.specs.Cmp.Lexicographic.{pointwise}
@@ -435,21 +435,11 @@ has_key k = has_one (IsKey k) (a_token (tok.Word (spelling k))) tt refl
 pub has_label : Has Label
 has_label = has_made word_of (Numbered (One IsLabel)) (has_numbered (One IsLabel) (has_one IsLabel (a_token (tok.Word [])) [] refl))
 
-pub has_constant : Has Constant
-has_constant = let z : ℤ = pos 0 in has_one IsConstant (a_token (tok.Int z)) (value.Int z) refl
-
 pub has_least : Has (One IsLeast)
 has_least = has_one IsLeast (a_token tok.Big) least (refl, refl)
 
 pub has_negative : Has (One IsNegative)
 has_negative = has_one IsNegative (a_token tok.Big) least (inr (refl, refl))
-
-pub has_op : (l : Level) → Has (AnOp l)
-has_op level.Or = has_one (IsOp level.Or) (a_token (written op.Or)) op.Or (refl, refl)
-has_op level.And = has_one (IsOp level.And) (a_token (written op.And)) op.And (refl, refl)
-has_op level.Compare = has_one (IsOp level.Compare) (a_token (written op.Eq)) op.Eq (refl, refl)
-has_op level.Add = has_one (IsOp level.Add) (a_token (written op.Add)) op.Add (refl, refl)
-has_op level.Mul = has_one (IsOp level.Mul) (a_token (written op.Mul)) op.Mul (refl, refl)
 
 unkeyed : (k : Keyword) → [] ≡ spelling k → ⊥
 unkeyed key.And e = cc

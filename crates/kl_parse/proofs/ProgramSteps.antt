@@ -11,7 +11,6 @@ use Rattle.kl_syntax.specs.declared.tree.Decl.{Decl}
 use Rattle.kl_phrase.specs.Gives.{Fails}
 use Rattle.kl_parse.specs.Grammar.{decl_of, whole}
 use Rattle.kl_parse.specs.Kinds.{is_key}
-use Rattle.kl_parse.specs.Parsing.{nests}
 use Rattle.kl_parse.specs.Descent as d
 use Rattle.kl_parse.specs.Descent.{mark}
 use Rattle.kl_parse.proofs.Kepts.{same_reads, same_body, keeps_rest}
@@ -19,7 +18,7 @@ use Rattle.kl_parse.proofs.Steps.{AheadKey, behind_key, heads_key}
 use Rattle.kl_phrase.specs.Readers.{Out, ok, Reader, after, behind, before, both}
 use Rattle.kl_phrase.proofs.Kept.{Rests, keeps_made, rest_less}
 use Rattle.kl_phrase.proofs.Gathered.{Progress, goes_on, part_fails}
-use Rattle.kl_phrase.proofs.Exact.{Nested}
+use Rattle.kl_phrase.proofs.Exact.{Each}
 
 abbrev pub ADecl : ℕ → ℕ → Reader Token Decl
 ADecl N n = d.decl N (d.read_pat N n) (d.reads N n whole)
@@ -28,7 +27,7 @@ decl_at : (N n : ℕ) (rest more : List Token) → AheadKey key.Define rest more
 decl_at N n rest more a = ap (λ (o : Out Token (Word × (Option Pattern × Expr))). after {B = Decl} o (λ x s. ok (decl_of x) s)) (behind_key key.Define (both (d.name N) (behind (mark sy.Equals) (before (d.body (d.read_pat N n) (d.reads N n whole)) (mark sy.Semi)))) rest more a)
 
 rests_decl : (N n : ℕ) (ts : List Token) → Rests ts (d.decl_rest N n ts)
-rests_decl N n ts = (keeps_made decl_of (keeps_rest (Nested nests) N N n n (same_reads N N n whole) (same_body N N n (same_reads N N n whole)))).rests ts
+rests_decl N n ts = (keeps_made decl_of (keeps_rest Each N N n n (same_reads N N n whole) (same_body N N n (same_reads N N n whole)))).rests ts
 
 pub decl_less : (N n : ℕ) (rest more r : List Token) (a : Decl) → AheadKey key.Define rest more → d.decl_rest N n more ≡ ok a r → length r < length rest
 decl_less N n rest more r a (t, e, h) i = rest_less t rest more r a (d.decl_rest N n more) e (rests_decl N n more) i

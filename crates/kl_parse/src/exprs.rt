@@ -265,12 +265,12 @@ fn signed(
 ) -> Result<(Box<Expr>, &[Token]), Fault<'_, Token>>
     ensures { Gives (λ x. x.0) (λ x. x.1.now) result (sort_at total depth signed tokens.now) }
 {
-    if let Some((found, rest)) = least(tokens) {
-        return boxed(alloc, found, rest);
-    }
     if let Some(rest) = eat(tokens, Sym::Sub) {
+        if let Some((found, rest)) = least(rest) {
+            return boxed(alloc, found, rest);
+        }
         if depth == 0 {
-            return Err(Fault::Deep(tokens));
+            return Err(Fault::Deep(rest));
         }
         let (inner, rest) = signed(alloc, total, depth - 1, rest)?;
         return boxed(alloc, Expr::Neg(inner), rest);

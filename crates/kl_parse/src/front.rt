@@ -5,10 +5,10 @@ ghost use Rattle.kl_lex.specs.declared.token.Token.{Token as AToken};
 ghost use Rattle.kl_phrase.specs.Words.{heads};
 ghost use Rattle.kl_lex.specs.declared.token.Sym.TheVariants as symbols;
 ghost use Rattle.kl_phrase.specs.Readers.{after, before, one, ok, bad, deep, farther};
-ghost use Rattle.kl_parse.specs.Kinds.{is_symbol, is_key, among, label_kinds, constant_kinds, a_constant, a_negative};
+ghost use Rattle.kl_parse.specs.Kinds.{is_symbol, is_key, among, label_kinds, constant_kinds, big_kinds, a_constant, a_negative};
 ghost use Rattle.kl_phrase.specs.Gives.{Gives};
 ghost use Rattle.kl_parse.specs.Instead.{Instead};
-ghost use Rattle.kl_parse.specs.Descent.{mark, word_mark, name, label, least_at, is_least};
+ghost use Rattle.kl_parse.specs.Descent.{mark, word_mark, name, label, least_at};
 
 use kl_base::{Box, NoMemory};
 use kl_lex::{Keyword, Sym, Tok, Token, keyword_of};
@@ -239,19 +239,14 @@ pub fn negative(tokens: &[Token]) -> Result<(Value, &[Token]), Fault<'_, Token>>
     }
 }
 
-/// The least integer, if the tokens begin with a minus and the digits that it makes this number.
+/// The least integer, if the tokens begin with the digits that a minus makes this number.
 pub fn least(tokens: &[Token]) -> Option<(Expr, &[Token])>
-    ensures { MatchOption result (is_least tokens.now ≡ false) (λ x. (is_least tokens.now ≡ true) × (least_at tokens.now ≡ ok x.0 x.1.now)) }
+    ensures { MatchOption result (heads (among big_kinds) tokens.now ≡ false) (λ x. (heads (among big_kinds) tokens.now ≡ true) × (least_at tokens.now ≡ ok x.0 x.1.now)) }
 {
     match tokens {
-        [
-            Token {
-                what: Tok::Sym(Sym::Sub),
-                ..
-            },
-            Token { what: Tok::Big, .. },
-            rest @ ..,
-        ] => Some((Expr::Const(Value::Int(i64::MIN)), rest)),
+        [Token { what: Tok::Big, .. }, rest @ ..] => {
+            Some((Expr::Const(Value::Int(i64::MIN)), rest))
+        }
         _ => None,
     }
 }
@@ -263,7 +258,7 @@ pub fn farther<'a>(one: &'a [Token], other: &'a [Token]) -> &'a [Token]
     if other.len() < one.len() { other } else { one }
 }
 
-/// What a second reader answers after the first, which no text goes on with from this place.
+/// What a second reader answers after the first, which goes on with no text from this place: the farther of two places.
 pub fn or_bad<'a>(
     place: &'a [Token],
     second: Result<(Box<Expr>, &'a [Token]), Fault<'a, Token>>,
@@ -273,12 +268,13 @@ pub fn or_bad<'a>(
     match second {
         Err(Fault::Bad(other)) => Err(Fault::Bad(farther(place, other))),
         Err(Fault::Memory) => Err(Fault::Memory),
-        Err(Fault::Deep(other)) => Err(Fault::Deep(other)),
+        Err(Fault::Deep(other)) => Err(Fault::Deep(farther(place, other))),
         Ok(found) => Ok(found),
     }
 }
 
-/// What a second reader answers after the first, which nests too deep at this place.
+/// What a second reader answers after the first, which nests too deep at this place: the farther of two places, which is
+/// then one of nesting.
 pub fn or_deep<'a>(
     place: &'a [Token],
     second: Result<(Box<Expr>, &'a [Token]), Fault<'a, Token>>,
@@ -286,9 +282,9 @@ pub fn or_deep<'a>(
     ensures { Instead (λ x. x.0) (λ x. x.1.now) deep place.now second.entry result }
 {
     match second {
-        Err(Fault::Bad(_)) => Err(Fault::Deep(place)),
+        Err(Fault::Bad(other)) => Err(Fault::Deep(farther(place, other))),
         Err(Fault::Memory) => Err(Fault::Memory),
-        Err(Fault::Deep(other)) => Err(Fault::Deep(other)),
+        Err(Fault::Deep(other)) => Err(Fault::Deep(farther(place, other))),
         Ok(found) => Ok(found),
     }
 }

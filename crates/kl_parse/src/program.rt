@@ -6,11 +6,13 @@ ghost use Rattle.kl_syntax.specs.declared.tree.Program.{Program as AProgram};
 ghost use Rattle.kl_lex.specs.declared.token.Sym.TheVariants as symbols;
 ghost use Rattle.kl_phrase.specs.Gives.{Gives};
 ghost use Rattle.kl_phrase.specs.Readers.{before};
+ghost use Rattle.kl_phrase.specs.Fronts.{told};
+ghost use Rattle.kl_parse.specs.Telling.{Says, SaysAgain, Through};
 ghost use Rattle.kl_parse.specs.Grammar.{whole};
 ghost use Rattle.kl_parse.specs.Descent.{mark, name, read_pat, reads, plain_body, body, decl_rest, decls, program};
 ghost use Rattle.kl_parse.specs.declared.program.ParseError.TheVariants.{NoMemory as WantOfMemory};
 ghost use Rattle.kl_base.specs.Results.{OrMemory};
-ghost use Rattle.kl_parse.specs.Parsing.{IsProgram, IsToldOf, NestsBehind, OnePlace, RefusesProgram, Shallow};
+ghost use Rattle.kl_parse.specs.Parsing.{IsProgram, IsToldOf, OnePlace, RefusesProgram};
 
 use crate::exprs::expr;
 use crate::front::{boxed, closed, eat, eat_word, name, number, or_bad, or_deep};
@@ -25,10 +27,11 @@ use thiserror::Error;
 /// Why tokens are no program.
 #[derive(Clone, Copy, Debug, PartialEq, Eq, Error)]
 pub enum ParseError {
-    /// So many tokens begin some program, and no more of these do.
+    /// So many tokens begin a program nested at most 256 deep, and more of them begin none.
     #[error("syntax at token {token}")]
     Syntax { token: u32 },
-    /// This token makes the nesting 257, and those before it begin some program.
+    /// So many tokens begin a program nested at most 256 deep; with the next one they begin a program, but none nested so
+    /// little.
     #[error("nesting at token {token}")]
     TooDeep { token: u32 },
     /// Want of memory.
@@ -165,19 +168,36 @@ fn program(
     boxed(alloc, Program { defs, last }, rest)
 }
 
-/// The program that the tokens spell, nested at most 256 deep. Nesting counts, of brackets, `if`, `let`, `case`, `not` and
-/// unary minus, those that are not finished.
-///
-/// # Errors
-/// `Syntax` with the number of tokens of the longest prefix that begins some program. `TooDeep` with a token that makes the
-/// nesting 257. Want of memory.
-pub fn parse(alloc: Global, tokens: &[Token]) -> Result<Program, ParseError>
+/// What is told of the tokens before and at a place of nesting, by what is left of them: a program goes on through all of
+/// them, or none does.
+fn through(token: u32, rest: &[Token]) -> ParseError
+    ensures { Through token rest.now result }
+{
+    if rest.is_empty() {
+        ParseError::TooDeep { token }
+    } else {
+        ParseError::Syntax { token }
+    }
+}
+
+/// Whether a program, however deep, goes on through all of these tokens, which are one more than so many.
+fn again(alloc: Global, token: u32, front: &[Token]) -> ParseError
+    requires { length front.now < 2 ^ 32 }
+    ensures { SaysAgain token front.now result }
+{
+    let total = front.len() as u32;
+    match program(alloc, total, total, front) {
+        Err(Fault::Memory) => ParseError::NoMemory,
+        Ok((_found, rest)) => through(token, rest),
+        Err(Fault::Bad(rest)) => through(token, rest),
+        Err(Fault::Deep(rest)) => through(token, rest),
+    }
+}
+
+/// The program that the tokens are, if it nests at most 256 deep. The tokens through a place of nesting are read once more.
+fn answer(alloc: Global, tokens: &[Token]) -> Result<Program, ParseError>
     requires { length tokens.now < 2 ^ 32 }
-    ensures program { IfOk result (IsProgram tokens.now) }
-    ensures only { (p : AProgram) → IsProgram tokens.now p → OrMemory WantOfMemory result p }
-    ensures refused { RefusesProgram tokens.now result }
-    ensures nested { NestsBehind tokens.now result }
-    ensures shallow { Shallow tokens.now result }
+    ensures { Says result (told program 256 tokens.now) }
 {
     let total = tokens.len() as u32;
     match program(alloc, total, MOST_NESTED, tokens) {
@@ -193,10 +213,30 @@ pub fn parse(alloc: Global, tokens: &[Token]) -> Result<Program, ParseError>
         Err(Fault::Bad(rest)) => Err(ParseError::Syntax {
             token: number(total, rest),
         }),
-        Err(Fault::Deep(rest)) => Err(ParseError::TooDeep {
-            token: number(total, rest),
-        }),
+        Err(Fault::Deep(rest)) => {
+            let token = number(total, rest);
+            match tokens.get(..token as usize + 1) {
+                Some(front) => Err(again(alloc, token, front)),
+                None => Err(ParseError::Syntax { token: total }),
+            }
+        }
     }
+}
+
+/// The program that the tokens spell, nested at most 256 deep. Nesting counts, of brackets, `if`, `let`, `case`, `not` and
+/// unary minus, those that are not finished.
+///
+/// # Errors
+/// The place is the first token such that no program nested at most 256 deep goes on through it. `TooDeep` with this token,
+/// where a program nested deeper does; else `Syntax`, also where the tokens end before the program does, with their number.
+/// Want of memory.
+pub fn parse(alloc: Global, tokens: &[Token]) -> Result<Program, ParseError>
+    requires { length tokens.now < 2 ^ 32 }
+    ensures program { IfOk result (IsProgram tokens.now) }
+    ensures only { (p : AProgram) → IsProgram tokens.now p → OrMemory WantOfMemory result p }
+    ensures refused { RefusesProgram tokens.now result }
+{
+    answer(alloc, tokens)
 }
 
 /// Laws of programs, for the layers above to cite.

@@ -4,14 +4,15 @@ use Rattle.kl_lex.specs.declared.token.Sym.TheVariants.{Comma}
 use Rattle.kl_parse.specs.declared.operator.Level.TheVariants.{Compare}
 use Rattle.kl_syntax.specs.declared.tree.Expr.TheVariants as expr
 use Rattle.kl_syntax.specs.declared.tree.Qual.TheVariants as qual
-use Rattle.kl_phrase.specs.Readers.{ok, bad, deep, instead, behind, others}
+use Rattle.kl_phrase.specs.Readers.{ok, bad, deep, behind, others}
+use Rattle.kl_phrase.specs.Refusals.{refused}
 use Rattle.kl_phrase.proofs.Gathered.{stops}
 use Rattle.kl_parse.specs.Grammar.{whole, negated, signed, path_of}
 use Rattle.kl_parse.specs.Kinds.{is_symbol}
 use Rattle.kl_parse.specs.Descent.{mark, read_pat, reads, labels, field, qualifier, branch_at, operand_at, sort_at, compare_at, post_at, drawn, condition}
 use Rattle.kl_parse.proofs.Steps.{less, onward, fails_on}
 use Rattle.kl_phrase.proofs.Failures.{err_by, is_bad, is_deep}
-use Rattle.kl_parse.proofs.ExprSteps.{let_deep, let_at, if_deep, if_at, ors_at, Others, step_fails, step_less, step_onward, step_stops, operand_or, operand_compare, operand_add, not_deep, not_at, not_none, compare_fails, compare_one, compare_two, compare_ok, gen_at, cond_at, least_found, minus_deep, minus_at, minus_none, path_fails, path_first, path_one, path_more, const_found, group_deep, group_at, rec_deep, rec_at, inject_deep, inject_at, coll_deep, coll_at, case_deep, case_at, name_at, named_fails, named_alone, named_deep, named_args, branch_bad, branch_deep, variant_in_branch_fails, branch_arrow, coll_empty, coll_first_fails, coll_beyond_fails, coll_close, rests_whole, rests_field, rests_qual, rests_branch}
+use Rattle.kl_parse.proofs.ExprSteps.{let_deep, let_at, if_deep, if_at, ors_at, Others, step_fails, step_less, step_onward, step_stops, operand_or, operand_compare, operand_add, not_deep, not_at, not_none, compare_fails, compare_one, compare_two, compare_ok, gen_at, cond_at, least_found, minus_deep, minus_on, minus_none, path_fails, path_first, path_one, path_more, const_found, group_deep, group_at, rec_deep, rec_at, inject_deep, inject_at, coll_deep, coll_at, case_deep, case_at, name_at, named_fails, named_alone, named_deep, named_args, branch_bad, branch_deep, variant_in_branch_fails, branch_arrow, coll_empty, coll_first_fails, coll_beyond_fails, coll_close, rests_whole, rests_field, rests_qual, rests_branch}
 use Rattle.kl_parse.proofs.exprs.+expr.Goals as goal
 
 pub branch-returns-in_err-inner : goal.branch-returns-in_err-inner
@@ -234,12 +235,12 @@ qualifier-returns-in_err-source-in-Ok t c =
 pub qualifier-returns-in_err-found-in-Err-Bad : goal.qualifier-returns-in_err-found-in-Err-Bad
 qualifier-returns-in_err-found-in-Err-Bad t c =
     let p = err_from_is_err_and c.from_residual-in_err-found-in-Err-Bad.result c.from_residual-in_err-found-in-Err-Bad.ensures.1 in
-    rw (p.1, p.2) (err_by c.in_err-found-in-Err-Bad.field-0.0 (qualifier (read_pat c.args.total c.args.depth) (reads c.args.total c.args.depth whole) c.args.tokens.now) (instead bad c.in-Err-Bad.place.now (condition (reads c.args.total c.args.depth whole) c.args.tokens.now)) (λ b s. ok (qual.Cond b) s) (cond_at (read_pat c.args.total c.args.depth) (reads c.args.total c.args.depth whole) c.args.tokens.now c.in-Err-Bad.place.now bad (is_bad c.in-Err-Bad.field-0 c.in-Err-Bad.place (drawn (read_pat c.args.total c.args.depth) c.args.tokens.now) c.in-Err-Bad.field-0-is c.in-Err-Bad.ensures)) (c.in_err-found-in-Err-Bad.ensures (condition (reads c.args.total c.args.depth whole) c.args.tokens.now) c.condition.ensures))
+    rw (p.1, p.2) (err_by c.in_err-found-in-Err-Bad.field-0.0 (qualifier (read_pat c.args.total c.args.depth) (reads c.args.total c.args.depth whole) c.args.tokens.now) (refused bad c.in-Err-Bad.place.now (condition (reads c.args.total c.args.depth whole) c.args.tokens.now)) (λ b s. ok (qual.Cond b) s) (cond_at (read_pat c.args.total c.args.depth) (reads c.args.total c.args.depth whole) c.args.tokens.now c.in-Err-Bad.place.now bad (is_bad c.in-Err-Bad.field-0 c.in-Err-Bad.place (drawn (read_pat c.args.total c.args.depth) c.args.tokens.now) c.in-Err-Bad.field-0-is c.in-Err-Bad.ensures)) (c.in_err-found-in-Err-Bad.ensures (condition (reads c.args.total c.args.depth whole) c.args.tokens.now) c.condition.ensures))
 
 pub qualifier-returns-in_err-found-in-Err-Deep : goal.qualifier-returns-in_err-found-in-Err-Deep
 qualifier-returns-in_err-found-in-Err-Deep t c =
     let p = err_from_is_err_and c.from_residual-in_err-found-in-Err-Deep.result c.from_residual-in_err-found-in-Err-Deep.ensures.1 in
-    rw (p.1, p.2) (err_by c.in_err-found-in-Err-Deep.field-0.0 (qualifier (read_pat c.args.total c.args.depth) (reads c.args.total c.args.depth whole) c.args.tokens.now) (instead deep c.in-Err-Deep.place.now (condition (reads c.args.total c.args.depth whole) c.args.tokens.now)) (λ b s. ok (qual.Cond b) s) (cond_at (read_pat c.args.total c.args.depth) (reads c.args.total c.args.depth whole) c.args.tokens.now c.in-Err-Deep.place.now deep (is_deep c.in-Err-Deep.field-0 c.in-Err-Deep.place (drawn (read_pat c.args.total c.args.depth) c.args.tokens.now) c.in-Err-Deep.field-0-is c.in-Err-Deep.ensures)) (c.in_err-found-in-Err-Deep.ensures (condition (reads c.args.total c.args.depth whole) c.args.tokens.now) c.condition-in-Err-Deep.ensures))
+    rw (p.1, p.2) (err_by c.in_err-found-in-Err-Deep.field-0.0 (qualifier (read_pat c.args.total c.args.depth) (reads c.args.total c.args.depth whole) c.args.tokens.now) (refused deep c.in-Err-Deep.place.now (condition (reads c.args.total c.args.depth whole) c.args.tokens.now)) (λ b s. ok (qual.Cond b) s) (cond_at (read_pat c.args.total c.args.depth) (reads c.args.total c.args.depth whole) c.args.tokens.now c.in-Err-Deep.place.now deep (is_deep c.in-Err-Deep.field-0 c.in-Err-Deep.place (drawn (read_pat c.args.total c.args.depth) c.args.tokens.now) c.in-Err-Deep.field-0-is c.in-Err-Deep.ensures)) (c.in_err-found-in-Err-Deep.ensures (condition (reads c.args.total c.args.depth whole) c.args.tokens.now) c.condition-in-Err-Deep.ensures))
 
 pub qualifier-returns-in_ok-source-in-Ok : goal.qualifier-returns-in_ok-source-in-Ok
 qualifier-returns-in_ok-source-in-Ok t c = rw (c.into_inner.ensures, c.into_inner-in-Ok.ensures) ((gen_at (read_pat c.args.total c.args.depth) (reads c.args.total c.args.depth whole) c.args.tokens.now c.in-Ok.rest.now c.in-Ok.bound c.in-Ok.ensures) ∙ rw c.in_ok-source-in-Ok.ensures refl)
@@ -250,19 +251,19 @@ qualifier-returns-in_ok-found-in-Err-Bad t c = rw c.into_inner-in-Err-Bad.ensure
 pub qualifier-returns-in_ok-found-in-Err-Deep : goal.qualifier-returns-in_ok-found-in-Err-Deep
 qualifier-returns-in_ok-found-in-Err-Deep t c = rw c.into_inner-in-Err-Deep.ensures ((cond_at (read_pat c.args.total c.args.depth) (reads c.args.total c.args.depth whole) c.args.tokens.now c.in-Err-Deep.place.now deep (is_deep c.in-Err-Deep.field-0 c.in-Err-Deep.place (drawn (read_pat c.args.total c.args.depth) c.args.tokens.now) c.in-Err-Deep.field-0-is c.in-Err-Deep.ensures)) ∙ rw (c.in_ok-found-in-Err-Deep.ensures (condition (reads c.args.total c.args.depth whole) c.args.tokens.now) c.condition-in-Err-Deep.ensures) refl)
 
-pub signed-returns-in-Some : goal.signed-returns-in-Some
-signed-returns-in-Some t c = rw (least_found c.args.total c.args.depth c.args.tokens.now c.in-Some.rest.now c.in-Some.found c.in-Some.ensures.0 c.in-Some.ensures.1) c.boxed.ensures
+pub signed-returns-in-Some-least : goal.signed-returns-in-Some-least
+signed-returns-in-Some-least t c = rw (least_found c.args.total c.args.depth c.args.tokens.now c.in-Some.rest.now c.in-Some-least.rest.now c.in-Some-least.found c.in-Some.ensures c.in-Some-least.ensures.0 c.in-Some-least.ensures.1) c.boxed.ensures
 
 pub signed-returns-then-depth-eq0 : goal.signed-returns-then-depth-eq0
-signed-returns-then-depth-eq0 t c = minus_deep c.args.total c.args.depth c.args.tokens.now c.in-Some-eat.rest.now c.if-depth-eq0.true c.in_default.ensures c.in-Some-eat.ensures
+signed-returns-then-depth-eq0 t c = minus_deep c.args.total c.args.depth c.args.tokens.now c.in-Some.rest.now c.if-depth-eq0.true c.in-Some.ensures c.in_default-least.ensures
 
 pub signed-returns-in_err-inner : goal.signed-returns-in_err-inner
 signed-returns-in_err-inner t c =
     let p = err_from_is_err_and c.from_residual.result c.from_residual.ensures.1 in
-    rw (p.1, p.2) (err_by c.in_err-inner.field-0.0 (sort_at c.args.total c.args.depth signed c.args.tokens.now) (sort_at c.args.total (c.args.depth - 1) signed c.in-Some-eat.rest.now) (λ x s. ok (expr.Neg x) s) (minus_at c.args.total c.args.depth (c.args.depth - 1) c.args.tokens.now c.in-Some-eat.rest.now (omega arith) c.in_default.ensures c.in-Some-eat.ensures) c.in_err-inner.ensures)
+    rw (p.1, p.2) (err_by c.in_err-inner.field-0.0 (sort_at c.args.total c.args.depth signed c.args.tokens.now) (sort_at c.args.total (c.args.depth - 1) signed c.in-Some.rest.now) (λ x s. ok (expr.Neg x) s) (minus_on c.args.total c.args.depth (c.args.depth - 1) c.args.tokens.now c.in-Some.rest.now (omega arith) c.in-Some.ensures c.in_default-least.ensures) c.in_err-inner.ensures)
 
-pub signed-returns-in-Some-eat : goal.signed-returns-in-Some-eat
-signed-returns-in-Some-eat t c = rw (minus_at c.args.total c.args.depth (c.args.depth - 1) c.args.tokens.now c.in-Some-eat.rest.now (omega arith) c.in_default.ensures c.in-Some-eat.ensures, c.in_ok-inner.ensures) c.boxed-in-Some-eat.ensures
+pub signed-returns-in-Some : goal.signed-returns-in-Some
+signed-returns-in-Some t c = rw (minus_on c.args.total c.args.depth (c.args.depth - 1) c.args.tokens.now c.in-Some.rest.now (omega arith) c.in-Some.ensures c.in_default-least.ensures, c.in_ok-inner.ensures) c.boxed-in-Some.ensures
 
 pub signed-returns : goal.signed-returns
-signed-returns t c = rw (minus_none c.args.total c.args.depth c.args.tokens.now c.in_default.ensures c.in_default-eat.ensures) c.path.ensures
+signed-returns t c = rw (minus_none c.args.total c.args.depth c.args.tokens.now c.in_default.ensures) c.path.ensures
