@@ -27,7 +27,7 @@ fn define(alloc: Global, def: &Decl, codes: &Codes) -> Result<Definition, NoMemo
         Some(param) => Ok(Definition {
             name,
             function: true,
-            term: tree_within(alloc, &def.body, param, codes, &scope)?,
+            term: tree_within(alloc, &def.body, param, codes, &scope)?.into_inner(),
         }),
         None => Ok(Definition {
             name,
