@@ -13,4 +13,6 @@ mod catalogues;
 #[cfg(test)]
 mod placing;
 #[cfg(test)]
+mod tables;
+#[cfg(test)]
 mod words;

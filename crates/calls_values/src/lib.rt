@@ -9,6 +9,8 @@ mod containers;
 #[cfg(test)]
 mod exchange;
 #[cfg(test)]
+mod outside;
+#[cfg(test)]
 mod primitives;
 #[cfg(test)]
 mod tokens;

@@ -1,5 +1,6 @@
 pub mod Boxes
 pub mod Columns
+pub mod Equal
 pub mod Kept
 pub mod Names
 pub mod Whole

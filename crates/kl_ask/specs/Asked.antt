@@ -3,7 +3,7 @@ use Rattle.std.specs.Prelude.{ℕ, ◌+◌, ◌-◌, ◌^◌, min, Bool, List, [
 use Rattle.kl_ask.specs.contracts.ask.AskPartialEq.TheImpl as equality
 use Rattle.kl_ask.specs.declared.ask.Ask.{Ask}
 
--- two asks are the same where their fields are
+-- Asks that are counted together, by `==`. The contract of `ask_laws` says that these are the equal ones.
 abbrev pub same_ask : Ask → Ask → Bool
 same_ask a b = equality.ghosts.eq a b
 

@@ -1,5 +1,6 @@
 -- What a driver means, and what each call does to it.
-use Rattle.std.specs.Prelude.{◌≡◌, ◌≢◌, ◌⊎◌, ◌<◌, ◌≤◌, ℕ, ◌+◌, ◌^◌, Bool, true, false, List, [], ◌++◌, length, Result, Option, Some, None, Ok, Err, IfOk, OnOk, OnErr, IsErrOf, IsSome, ⊤}
+use Rattle.std.specs.Prelude.{◌≡◌, ◌≢◌, ◌⊎◌, ◌<◌, ◌≤◌, ℕ, ◌+◌, ◌^◌, Bool, true, false, List, [], ◌++◌, length, Option, Some, None, IsSome, ⊤}
+use Rattle.std.specs.Prelude.{Result, Ok, Err, IfOk, OnOk, OnErr, IsErrOf}
 use Rattle.std.specs.List.{AllByRecursion, IsDistinct}
 use Rattle.std.specs.List.Sorted.{IsPermutation}
 use Rattle.std.specs.Ordering.{is_eq}
@@ -72,6 +73,7 @@ IsTold s = IsSome s.kind.stored
 
 -- ---- what every call keeps
 
+-- What calls come to, one or more of them: no count falls. Which counts a call may raise is said of each call below.
 pub record KeepsState (old new : State) : Type 0 where
   pub kind : new.kind ≡ old.kind
   pub handed : old.handed ≤ new.handed
@@ -141,17 +143,29 @@ told_rows None = None
 abbrev pub Unreadable : Stored → Option Stored → State → State → Type 0
 Unreadable why stored old new = (stored ≡ Some why) ⊎ ((IsTold old → ⊥) × Rose old.unread new.unread)
 
+-- only an answer that the source is unreadable raises the count of unreadable sources
+abbrev pub CountsUnread : Result ℕ DriverError → ℕ → ℕ → Type 0
+CountsUnread (Err (error.BadSource place)) before now = before ≤ now
+CountsUnread (Err (error.TooLong most)) before now = before ≤ now
+CountsUnread (Err (error.TooDeep place)) before now = before ≤ now
+CountsUnread _ before now = now ≡ before
+
 pub record Attaches (source : Name) (locator : List ℕ) (ty : Ty) (result : Result ℕ DriverError) (old new : State) : Type 0 where
   pub keeps : KeepsState old new
   pub cursors : new.cursors ≡ old.cursors
   pub asked : new.asked ≡ old.asked
   pub handed : new.handed ≡ old.handed
+  -- of the other counts, that of faults may rise, and that of unreadable sources with a refusal as unreadable
+  pub drifts : new.drifts ≡ old.drifts
+  pub unread : CountsUnread result old.unread new.unread
   pub others : OtherSources source old new
   -- the answer is the number of rows that a whole scan hands
-  pub attached : IfOk result (λ count. (kept : Option ℕ) × (new.attached source ≡ Some (record { ty = ty; rows = told_rows (stored_at old locator ty); count = count; kept = kept })))
+  pub attached : IfOk result (λ count. (kept : Option ℕ)
+      × (new.attached source ≡ Some (record { ty = ty; rows = told_rows (stored_at old locator ty); count = count; kept = kept })))
   pub count : IfOk result (λ count. (rows : List Value) → stored_at old locator ty ≡ Some (Rows rows) → count ≡ length rows)
   -- a driver with `unique` repeats no row of a set
-  pub unique : old.kind.abilities.unique ≡ true → kind_of (ground_of ty) ≡ kind.Set → OnOk result ((rows : List Value) → stored_at old locator ty ≡ Some (Rows rows) → IsDistinct same_value rows)
+  pub unique : old.kind.abilities.unique ≡ true → kind_of (ground_of ty) ≡ kind.Set
+      → OnOk result ((rows : List Value) → stored_at old locator ty ≡ Some (Rows rows) → IsDistinct same_value rows)
   pub typed : OnOk result ((rows : List Value) → stored_at old locator ty ≡ Some (Rows rows) → AllByRecursion (Inhabits (item_of (ground_of ty))) rows)
   pub refused : OnErr result (new.attached ≡ old.attached)
   -- what contents that are told say is not attached
@@ -171,7 +185,9 @@ pub record Attaches (source : Name) (locator : List ℕ) (ty : Ty) (result : Res
 -- An ask of rows may be started where its source is attached, the driver is able to answer it, and its columns and tests
 -- fit the type. No driver joins, so none is asked SQL.
 abbrev pub IsAnswerable : State → Ask → Type 0
-IsAnswerable s (asks.Rows source keep tests) = (a : Source) × (s.attached source ≡ Some a) × (is_allowed s.kind.abilities (ground_of a.ty) (asks.Rows source keep tests) ≡ true) × AskFits (ground_of a.ty) keep tests
+IsAnswerable s (asks.Rows source keep tests) =
+    (a : Source) × (s.attached source ≡ Some a)
+    × (is_allowed s.kind.abilities (ground_of a.ty) (asks.Rows source keep tests) ≡ true) × AskFits (ground_of a.ty) keep tests
 IsAnswerable s (asks.Sql text) = ⊥
 
 pub record CanStart (s : State) (ask : Ask) : Type 0 where
@@ -214,6 +230,9 @@ pub record Starts (ask : Ask) (result : Result ℕ DriverError) (old new : State
   pub keeps : KeepsState old new
   pub attached : new.attached ≡ old.attached
   pub handed : new.handed ≡ old.handed
+  -- of the other counts, that of faults alone may rise
+  pub drifts : new.drifts ≡ old.drifts
+  pub unread : new.unread ≡ old.unread
   pub opens : IfOk result (λ cursor. OpensCursor ask cursor old new)
   pub refused : OnErr result ((new.cursors ≡ old.cursors) × (new.asked ≡ old.asked))
   pub failed : IsErrOf result error.Failed → Rose old.faults new.faults
@@ -229,7 +248,8 @@ pub record Hands (limit : ℕ) (rows : List Value) (old new : Cursor) : Type 0 w
   pub most : length rows ≤ limit
   pub typed : AllByRecursion (Inhabits old.ty) rows
   pub bound : new.bound + length rows ≡ old.bound
-  pub left : (all : List Value) → old.left ≡ Some all → (rest : List Value) × (all ≡ rows ++ rest) × (new.left ≡ Some rest) × ((length rows ≡ limit) ⊎ (rest ≡ []))
+  pub left : (all : List Value) → old.left ≡ Some all
+      → (rest : List Value) × (all ≡ rows ++ rest) × (new.left ≡ Some rest) × ((length rows ≡ limit) ⊎ (rest ≡ []))
   pub untold : old.left ≡ None → new.left ≡ None
 
 -- contents that are told say that no row is left
@@ -292,10 +312,18 @@ PullResult cursor most into into' c (Ok true) old new = PullsMore cursor most in
 PullResult cursor most into into' c (Ok false) old new = PullsNone cursor into into' c old new
 PullResult cursor most into into' c (Err e) old new = PullRefused cursor e into into' c old new
 
+-- only an answer that the source has changed raises the count of drifts
+abbrev pub CountsDrift : Result Bool DriverError → ℕ → ℕ → Type 0
+CountsDrift (Err (error.Changed d)) before now = before ≤ now
+CountsDrift _ before now = now ≡ before
+
 pub record Pulls (cursor most : ℕ) (into into' : List Value) (result : Result Bool DriverError) (old new : State) : Type 0 where
   pub keeps : KeepsState old new
   pub attached : new.attached ≡ old.attached
   pub asked : new.asked ≡ old.asked
+  -- of the other counts, that of faults may rise, and that of drifts with a refusal as changed
+  pub drifts : CountsDrift result old.drifts new.drifts
+  pub unread : new.unread ≡ old.unread
   pub others : OtherCursors cursor old new
   pub answer : (c : Cursor) → old.cursors cursor ≡ Some c → PullResult cursor most into into' c result old new
 
@@ -306,5 +334,8 @@ pub record Finishes (cursor : ℕ) (old new : State) : Type 0 where
   pub attached : new.attached ≡ old.attached
   pub asked : new.asked ≡ old.asked
   pub handed : new.handed ≡ old.handed
+  pub faults : new.faults ≡ old.faults
+  pub drifts : new.drifts ≡ old.drifts
+  pub unread : new.unread ≡ old.unread
   pub closed : new.cursors cursor ≡ None
   pub others : OtherCursors cursor old new

@@ -7,7 +7,7 @@ use kl_value::Value;
 use std::alloc::{AllocError, AllocFailed};
 
 /// What a driver can do beside handing whole rows.
-#[derive(Clone, Copy, Debug, PartialEq, Eq)]
+#[derive(Clone, Copy, PartialEq, Eq)]
 pub struct Abilities {
     /// It tests rows.
     pub select: bool,
@@ -20,7 +20,7 @@ pub struct Abilities {
 }
 
 /// A comparison, by the order of values.
-#[derive(Clone, Copy, Debug, PartialEq, Eq)]
+#[derive(Clone, Copy, PartialEq, Eq)]
 pub enum Cmp {
     Eq,
     Ne,
@@ -31,7 +31,7 @@ pub enum Cmp {
 }
 
 /// What a column is compared with.
-#[derive(Debug, Drop, PartialEq, Eq)]
+#[derive(Drop, PartialEq, Eq)]
 pub enum Right {
     /// Another column of the row.
     Col(Label),
@@ -40,7 +40,7 @@ pub enum Right {
 }
 
 /// A test of a row: its column stands so to the right side.
-#[derive(Debug, Drop, PartialEq, Eq)]
+#[derive(Drop, PartialEq, Eq)]
 pub struct ColTest {
     pub left: Label,
     pub op: Cmp,
@@ -48,7 +48,7 @@ pub struct ColTest {
 }
 
 /// What a driver is asked for.
-#[derive(Debug, Drop, PartialEq, Eq)]
+#[derive(Drop, PartialEq, Eq)]
 pub enum Ask {
     /// The rows of a source that pass all tests, each with the columns that are kept, which stand in rising order. Where
     /// the rows are no records, none is kept and whole values are handed.
@@ -64,7 +64,7 @@ pub enum Ask {
 }
 
 /// What was found to have changed since a source was attached.
-#[derive(Clone, Copy, Debug, PartialEq, Eq)]
+#[derive(Clone, Copy, PartialEq, Eq)]
 pub enum Drift {
     /// It had so many bytes, and has others.
     Bytes { kept: u64, found: u64 },
@@ -77,7 +77,7 @@ pub enum Drift {
 }
 
 /// Why a driver refuses.
-#[derive(Clone, Copy, Debug, PartialEq, Eq)]
+#[derive(Clone, Copy, PartialEq, Eq)]
 pub enum DriverError {
     /// A file is missing or could not be read.
     Failed,

@@ -1,10 +1,16 @@
 //! How often each ask was asked, kept in the same way by every driver.
-ghost use Rattle.std.specs.Prelude.{◌≡◌, ◌-◌, ◌^◌, min, OnErr, OnOk};
-ghost use Rattle.kl_ask.specs.Asked.{all_times, with_ask};
+ghost use Rattle.std.specs.Prelude.{◌≡◌, ◌-◌, ◌^◌, min, Decides, OnErr, OnOk};
+ghost use Rattle.kl_ask.specs.Asked.{all_times, same_ask, with_ask};
+ghost use Rattle.kl_ask.specs.declared.ask.Ask.{Ask};
 
 use crate::ask::Ask;
 use kl_base::NoMemory;
 use std::alloc::Global;
+
+/// The law of the kept list: two asks are counted together exactly where they are equal.
+pub fn ask_laws()
+    ensures { (a b : Ask) → Decides (same_ask a b) (a ≡ b) }
+{}
 
 /// Counts an ask once more. A count stands still at its greatest value.
 ///

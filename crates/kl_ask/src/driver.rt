@@ -16,7 +16,7 @@ use kl_value::Value;
 /// what comes of each call is exact. Where it does not, types, causes and frames are, and how many rows come: each cursor
 /// has a number of rows that it may still hand, which falls with each row.
 ///
-/// No call changes what the driver is, contents that are told, or anything that its entry does not name.
+/// No call changes what the driver is, contents that are told, or anything that its entry does not name, counts too.
 pub trait Driver: Drop {
     /// What the driver means.
     ghost state: { Self → State };
@@ -37,7 +37,8 @@ pub trait Driver: Drop {
 
     /// Attaches the source at a locator under a name that has none, and answers the number of rows that a whole scan
     /// hands, also where contents are not told. Told rows have the type's items, and where the driver has `unique`, those
-    /// of a set differ.
+    /// of a set differ. The count of faults may rise, and with `BadSource`, `TooLong` or `TooDeep` that of unreadable
+    /// sources.
     ///
     /// # Errors
     /// `Failed` where the file is told to be missing, or on a fault; `BadSource`, `TooLong` and `TooDeep` where what is
@@ -51,7 +52,7 @@ pub trait Driver: Drop {
 
     /// Opens a cursor for an ask, and answers its number, which no open cursor has. Without tests the cursor may hand as
     /// many rows as `attach` answered, and with tests at most as many; where contents are told, it has the rows that the
-    /// ask answers, of a list in order.
+    /// ask answers, of a list in order. The ask is counted once more. Of the other counts that of faults alone may rise.
     ///
     /// # Errors
     /// `Failed` on a fault; `NoMemory`. Nothing is opened or counted then.
@@ -61,7 +62,8 @@ pub trait Driver: Drop {
 
     /// Appends the next rows of an open cursor, at least one and at most `most`, or answers false: no row is left. Where
     /// contents are told, it appends `most` rows, or all that are left. Where they are not, an ask with tests may answer
-    /// false while more rows were possible, and none is left from then on.
+    /// false while more rows were possible, and none is left from then on. The count of rows handed rises by the number
+    /// of rows appended, that of faults may rise, and with `Changed` that of drifts.
     ///
     /// # Errors
     /// `Failed` on a fault; `Changed`, with what differs from what was kept at attaching, or where the source no longer
@@ -72,7 +74,7 @@ pub trait Driver: Drop {
         requires room { 0 < most }
         ensures { Pulls cursor most into.old.items into.new.items result (state self.old) (state self.new) };
 
-    /// Closes an open cursor. Takes no memory.
+    /// Closes an open cursor. No count rises. Takes no memory.
     fn finish(&mut self, cursor: u64)
         requires { IsSome ((state self.old).cursors cursor) }
         ensures { Finishes cursor (state self.old) (state self.new) };

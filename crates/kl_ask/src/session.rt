@@ -8,7 +8,7 @@ use kl_type::Ty;
 
 /// A source of a program: its name, the type of the whole collection, and the place of its driver in the list. One that
 /// the program does not mention has no driver: nothing asks for its rows, and it counts as empty.
-#[derive(Debug, Drop)]
+#[derive(Drop)]
 pub struct Attached {
     pub source: Label,
     pub ty: Ty,
@@ -33,5 +33,10 @@ pub trait Seen {
 impl Seen for Session {
     ghost use Rattle.std.specs.Prelude.{map};
 
-    ghost world = { λ s. record { drivers = map (λ d. (Driver-box d).state d.value) s.drivers.items; sources = s.sources; settings = s.settings; trace = s.trace } };
+    ghost world = { λ s. record {
+      drivers = map (λ d. (Driver-box d).state d.value) s.drivers.items;
+      sources = s.sources;
+      settings = s.settings;
+      trace = s.trace;
+    } };
 }

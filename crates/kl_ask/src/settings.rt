@@ -5,7 +5,7 @@ use kl_base::Seq;
 use std::alloc::Global;
 
 /// How a loop over a source inside another loop is joined.
-#[derive(Clone, Copy, Debug, PartialEq, Eq)]
+#[derive(Clone, Copy, PartialEq, Eq)]
 pub enum JoinHow {
     /// Rows of the outer loop are taken in blocks, and the inner source is read once for each.
     Block,
@@ -14,7 +14,7 @@ pub enum JoinHow {
 }
 
 /// How a program is run. No setting changes what it means.
-#[derive(Clone, Copy, Debug, PartialEq, Eq)]
+#[derive(Clone, Copy, PartialEq, Eq)]
 pub struct Settings {
     /// How many rows a block of a join holds: 1 to 65,536.
     pub block: u32,
@@ -30,16 +30,19 @@ pub struct Settings {
     pub delegate: bool,
 }
 
-/// One execution of a join: its number, its outer rows, and how often its inner source was started.
-#[derive(Clone, Copy, Debug, PartialEq, Eq)]
+/// One execution of a join.
+#[derive(Clone, Copy, PartialEq, Eq)]
 pub struct JoinRun {
+    /// The number of the join.
     pub join: u32,
+    /// How many rows the outer loop had.
     pub outer: u64,
+    /// How often the inner source was started.
     pub starts: u64,
 }
 
 /// What is counted while a program runs. A count whose mechanism does not run is 0 or empty.
-#[derive(Debug, Drop, PartialEq, Eq)]
+#[derive(Drop, PartialEq, Eq)]
 pub struct Trace {
     /// Steps of rewriting.
     pub steps: u32,

@@ -1,5 +1,5 @@
 -- Which bytes are which catalogue, and where those that are none go wrong.
-use Rattle.std.specs.Prelude.{◌≡◌, ℕ, List, Result, Ok, Err, ◌⊎◌}
+use Rattle.std.specs.Prelude.{ℕ, List, Result, Ok, Err, ◌⊎◌}
 use Rattle.kl_lex.specs.declared.token.Placed.{Placed}
 use Rattle.kl_type.specs.Texts.{Spells, IsTextOf, IsBadAt, IsDeepAt, AtBad, AtDeep, BadText, DeepText}
 use Rattle.kl_catalogue.specs.declared.reading.Entry.{Entry}
@@ -19,7 +19,7 @@ IsCatalogue = IsTextOf ReadsCatalogue
 abbrev pub IsToldOf : List Placed → Type 0
 IsToldOf ts = ((c : List Entry) × SpellsCatalogue ts c) ⊎ (((k : ℕ) × IsBadAt ReadsCatalogue ts k) ⊎ ((k : ℕ) × IsDeepAt ReadsCatalogue ts k))
 
--- what is refused of these tokens, of a text of so many bytes
+-- for private functions alone: what is refused of these tokens, of a text of so many bytes
 abbrev pub RefusesTokens : ℕ → List Placed → Result (List Entry) CatalogueError → Type 0
 RefusesTokens total ts (Ok c) = Unit {0}
 RefusesTokens total ts (Err (Bad byte)) = AtBad ReadsCatalogue total ts byte

@@ -1,8 +1,10 @@
 pub mod Meanings
 pub mod TypeLaws
+pub mod Proper
 pub mod Views
 pub mod Raising
 pub mod Putting
 pub mod Safety
 pub mod Sizes
 pub mod Holding
+pub mod Made

@@ -32,16 +32,16 @@ record_typed ps r h up = recorded_typed ps r h (subst (IsStrictlySortedBy bytes_
 module _ (S : SourceTypes) (T : Tables) (told : HaveSources S T) where
   mutual
     pub safe : (t : Tree) (G : List Ground) (env : List Value) (s : Ground) → HaveTypes G env → CoreTypes S G t s → OfType s (core T t env)
-    safe (var x) G env s e h = get_typed G env x s e h
-    safe (con v) G env s e h = h
-    safe (source i) G env s e h = let f = told i s h in subst (λ o. OfType s (outcome_of o)) (sym f.1) f.2
+    safe (var x) G env s e h = get_typed G env x s e h.0
+    safe (con v) G env s e h = h.1
+    safe (source i) G env s e h = let f = told i s h.0 in subst (λ o. OfType s (outcome_of o)) (sym f.1) f.2
     safe (rec ps) G env s e h = subst (λ q. OfType q (core T (rec ps) env)) (sym h.1) (record_typed (core_parts T ps env) h.0 (safe_parts ps G env h.0 e h.3) h.2)
     safe (proj l a) G env s e h = part_typed l h.0 s (core T a env) (safe a G env _ e h.1) h.2
-    safe (inj l a) G env s e h = subst (λ q. OfType q (core T (inj l a) env)) (sym h.2) (tagged_typed l h.0 h.1 (core T a env) h.3 (safe a G env h.1 e h.4))
+    safe (inj l a) G env s e h = subst (λ q. OfType q (core T (inj l a) env)) (sym h.2) (tagged_typed l h.0 h.1 (core T a env) h.4 (safe a G env h.1 e h.5))
     safe (case_of a bs) G env s e h =
         cases_typed h.0 s (core T a env) (λ l v. core_arms T bs l v env) (safe a G env _ e h.1)
         (λ l u v i j. safe_arms bs G env h.0 s l u v e h.3 i j (h.2 l (rw i refl)))
-    safe (make k ts) G env s e h = subst (λ q. OfType q (core T (make k ts) env)) (sym h.1) (collected_typed k h.0 (core_items T ts env) (safe_items ts G env h.0 e h.2))
+    safe (make k ts) G env s e h = subst (λ q. OfType q (core T (make k ts) env)) (sym h.1) (collected_typed k h.0 (core_items T ts env) (safe_items ts G env h.0 e h.3))
     safe (union a b) G env s e h =
         subst (λ q. OfType q (core T (union a b) env)) (sym h.2)
         (union_typed h.0 h.1 (core T a env) (core T b env) (subst (λ q. OfType q (core T a env)) h.2 (safe a G env s e h.3)) (subst (λ q. OfType q (core T b env)) h.2 (safe b G env s e h.4)))

@@ -1,7 +1,7 @@
 -- Moving and replacing positions keeps the types of a term.
 use Rattle.std.proofs.Common.{◌≡◌, inl, inr, ℕ, suc, ◌+◌, ◌-◌, ◌<◌, ◌≤◌, List, [], ◌∷◌, ◌++◌, length, Some, slice_get, refl, sym, ◌∙◌, subst, arith, ⊎_elim}
 use Rattle.std.proofs.lemmas.Bool.{cases_lt, cases_eq, lt-ltb, le-ltb, eq-eqb, ne_eqb}
-use Rattle.kl_type.specs.Ground.{Ground, Row}
+use Rattle.kl_type.specs.Ground.{Ground, Row, IsGround}
 use Rattle.kl_outcome.specs.Outcome.{Name}
 use Rattle.kl_core.specs.Trees.{Tree, var, con, source, rec, proj, inj, case_of, make, union, ext, choice, bind, prim, Trees, no_trees, trees, Parts, no_parts, parts, Arms, no_arms, rest, arm}
 use Rattle.kl_core.specs.Positions.{shift_of, shift_trees, shift_parts, shift_arms, placed, subst_of, subst_trees, subst_parts, subst_arms}
@@ -23,15 +23,15 @@ arm_put l (arm k b bs) n w (inr h) = inr (arm_put l bs n w h)
 module _ (S : SourceTypes) where
   mutual
     pub shift_typed : (t : Tree) (pre mid post : List Ground) (s : Ground) (n m : ℕ) → n ≡ length pre → m ≡ length mid → CoreTypes S (pre ++ post) t s → CoreTypes S (pre ++ (mid ++ post)) (shift_of t n m) s
-    shift_typed (var x) pre mid post s n m e f h = rw (e, f) (raised_get pre mid post x ∙ h)
+    shift_typed (var x) pre mid post s n m e f h = rw (e, f) (raised_get pre mid post x ∙ h.0, h.1)
     shift_typed (con v) pre mid post s n m e f h = h
     shift_typed (source i) pre mid post s n m e f h = h
     shift_typed (rec ps) pre mid post s n m e f h = (h.0, h.1, h.2, shift_parts_typed ps pre mid post h.0 n m e f h.3)
     shift_typed (proj l a) pre mid post s n m e f h = (h.0, shift_typed a pre mid post _ n m e f h.1, h.2)
-    shift_typed (inj l a) pre mid post s n m e f h = (h.0, h.1, h.2, h.3, shift_typed a pre mid post h.1 n m e f h.4)
+    shift_typed (inj l a) pre mid post s n m e f h = (h.0, h.1, h.2, h.3, h.4, shift_typed a pre mid post h.1 n m e f h.5)
     shift_typed (case_of a bs) pre mid post s n m e f h =
         (h.0, shift_typed a pre mid post _ n m e f h.1, λ l i. arm_shifted l bs n m (h.2 l i), shift_arms_typed bs pre mid post h.0 s n m e f h.3)
-    shift_typed (make k ts) pre mid post s n m e f h = (h.0, h.1, shift_each_typed ts pre mid post h.0 n m e f h.2)
+    shift_typed (make k ts) pre mid post s n m e f h = (h.0, h.1, h.2, shift_each_typed ts pre mid post h.0 n m e f h.3)
     shift_typed (union a b) pre mid post s n m e f h = (h.0, h.1, h.2, shift_typed a pre mid post s n m e f h.3, shift_typed b pre mid post s n m e f h.4)
     shift_typed (ext k b a) pre mid post s n m e f h =
         (h.0, h.1, h.2, h.3, shift_typed a pre mid post _ n m e f h.4, shift_typed b (h.2 ∷ pre) mid post s (n + 1) m (omega arith) f h.5)
@@ -58,8 +58,8 @@ module _ (S : SourceTypes) where
     shift_arms_typed (arm l b bs) pre mid post r s n m e f h =
         (h.0, h.1, shift_typed b (h.0 ∷ pre) mid post s (n + 1) m (omega arith) f h.2, shift_arms_typed bs pre mid post r s n m e f h.3)
 
-  placed_typed : (w : Tree) (pre post : List Ground) (u s : Ground) (x n : ℕ) → n ≡ length pre → CoreTypes S (pre ++ post) w u → slice_get (pre ++ u ∷ post) x ≡ Some s → CoreTypes S (pre ++ post) (placed n w x) s
-  placed_typed w pre post u s x n e d h = ⊎_elim here off (cases_eq x n)
+  placed_typed : (w : Tree) (pre post : List Ground) (u s : Ground) (x n : ℕ) → n ≡ length pre → CoreTypes S (pre ++ post) w u → slice_get (pre ++ u ∷ post) x ≡ Some s → IsGround s → CoreTypes S (pre ++ post) (placed n w x) s
+  placed_typed w pre post u s x n e d h g = ⊎_elim here off (cases_eq x n)
     where
       here : x ≡ n → CoreTypes S (pre ++ post) (placed n w x) s
       here q =
@@ -68,7 +68,7 @@ module _ (S : SourceTypes) where
           rw (eq-eqb x n q) (subst (CoreTypes S (pre ++ post) w) same d)
 
       below : (x ≡ n → ⊥) → x < n → CoreTypes S (pre ++ post) (placed n w x) s
-      below q lt = rw (ne_eqb x n q, lt-ltb x n lt) (get_left pre post (u ∷ post) x (omega arith) ∙ h)
+      below q lt = rw (ne_eqb x n q, lt-ltb x n lt) (get_left pre post (u ∷ post) x (omega arith) ∙ h, g)
 
       above : (x ≡ n → ⊥) → n ≤ x → CoreTypes S (pre ++ post) (placed n w x) s
       above q ge =
@@ -76,7 +76,7 @@ module _ (S : SourceTypes) where
           let k : ℕ = x - n - 1 in
           let i : x - 1 ≡ length pre + k = omega arith in
           let j : x ≡ length pre + suc k = omega arith in
-          rw (ne_eqb x n q, le-ltb x n ge) (get_right pre post (x - 1) k i ∙ sym (get_right pre (u ∷ post) x (suc k) j) ∙ h)
+          rw (ne_eqb x n q, le-ltb x n ge) (get_right pre post (x - 1) k i ∙ sym (get_right pre (u ∷ post) x (suc k) j) ∙ h, g)
 
       off : (x ≡ n → ⊥) → CoreTypes S (pre ++ post) (placed n w x) s
       off q = ⊎_elim (below q) (above q) (cases_lt x n)
@@ -87,15 +87,15 @@ module _ (S : SourceTypes) where
 
   mutual
     pub subst_typed : (t w : Tree) (pre post : List Ground) (u s : Ground) (n : ℕ) → n ≡ length pre → CoreTypes S (pre ++ post) w u → CoreTypes S (pre ++ u ∷ post) t s → CoreTypes S (pre ++ post) (subst_of t n w) s
-    subst_typed (var x) w pre post u s n e d h = placed_typed w pre post u s x n e d h
+    subst_typed (var x) w pre post u s n e d h = placed_typed w pre post u s x n e d h.0 h.1
     subst_typed (con v) w pre post u s n e d h = h
     subst_typed (source i) w pre post u s n e d h = h
     subst_typed (rec ps) w pre post u s n e d h = (h.0, h.1, h.2, subst_parts_typed ps w pre post u h.0 n e d h.3)
     subst_typed (proj l a) w pre post u s n e d h = (h.0, subst_typed a w pre post u _ n e d h.1, h.2)
-    subst_typed (inj l a) w pre post u s n e d h = (h.0, h.1, h.2, h.3, subst_typed a w pre post u h.1 n e d h.4)
+    subst_typed (inj l a) w pre post u s n e d h = (h.0, h.1, h.2, h.3, h.4, subst_typed a w pre post u h.1 n e d h.5)
     subst_typed (case_of a bs) w pre post u s n e d h =
         (h.0, subst_typed a w pre post u _ n e d h.1, λ l i. arm_put l bs n w (h.2 l i), subst_arms_typed bs w pre post u h.0 s n e d h.3)
-    subst_typed (make k ts) w pre post u s n e d h = (h.0, h.1, subst_each_typed ts w pre post u h.0 n e d h.2)
+    subst_typed (make k ts) w pre post u s n e d h = (h.0, h.1, h.2, subst_each_typed ts w pre post u h.0 n e d h.3)
     subst_typed (union a b) w pre post u s n e d h = (h.0, h.1, h.2, subst_typed a w pre post u s n e d h.3, subst_typed b w pre post u s n e d h.4)
     subst_typed (ext k b a) w pre post u s n e d h =
         (h.0, h.1, h.2, h.3, subst_typed a w pre post u _ n e d h.4, subst_typed b (shift_of w 0 1) (h.2 ∷ pre) post u s (n + 1) (omega arith) (deeper w pre post h.2 u d) h.5)

@@ -6,3 +6,4 @@ pub mod Positions
 pub mod Counts
 pub mod Keeping
 pub mod Inside
+pub mod Building

@@ -4,10 +4,13 @@ ghost use Rattle.kl_core.specs.Trees.{view, view_part};
 ghost use Rattle.kl_core.specs.Positions.{InRange, shift_of};
 ghost use Rattle.kl_core.specs.Keeping.{MeansShifted, TypedShifted};
 
+use crate::building::{
+    binding, case, collection, constant, extension, injection, primitive, projection, record, test,
+    union,
+};
 use crate::copy::copy;
 use crate::term::{Term, TermBranches, TermFields, Terms};
 use kl_base::{Box, Label, NoMemory, Seq};
-use kl_value::dup as dup_value;
 use std::alloc::Global;
 
 /// Raises each free position at or above `from` by `by`. The term that it answers means the same whatever `by` values
@@ -32,54 +35,38 @@ pub fn raise(alloc: Global, term: &Term, from: u32, by: u32) -> Result<Term, NoM
 {
     match term {
         Term::Var(x) => Ok(Term::Var(if *x < from { *x } else { *x + by })),
-        Term::Const(v) => Ok(Term::Const(dup_value(alloc, v)?)),
+        Term::Const(v) => constant(alloc, v),
         Term::Source(i) => Ok(Term::Source(*i)),
-        Term::Rec(fields) => Ok(Term::Rec(raise_fields(alloc, fields.slice(), from, by)?)),
-        Term::Proj(label, a) => {
-            let label = label.dup()?;
-            Ok(Term::Proj(label, raise_box(alloc, a, from, by)?))
-        }
-        Term::Inj(label, a) => {
-            let label = label.dup()?;
-            Ok(Term::Inj(label, raise_box(alloc, a, from, by)?))
-        }
+        Term::Rec(fields) => record(raise_fields(alloc, fields.slice(), from, by)),
+        Term::Proj(label, a) => projection(label, raise_box(alloc, a, from, by)),
+        Term::Inj(label, a) => injection(label, raise_box(alloc, a, from, by)),
         Term::Case(a, branches, other) => {
             let a = raise_box(alloc, a, from, by)?;
             let branches = raise_branches(alloc, branches.slice(), from, by)?;
             match other {
-                Some(other) => Ok(Term::Case(
-                    a,
-                    branches,
-                    Some(raise_box(alloc, other, from, by)?),
-                )),
+                Some(other) => case(a, branches, raise_box(alloc, other, from, by)),
                 None => Ok(Term::Case(a, branches, None)),
             }
         }
-        Term::Make(kind, terms) => Ok(Term::Make(
-            *kind,
-            raise_all(alloc, terms.slice(), from, by)?,
-        )),
+        Term::Make(kind, terms) => collection(*kind, raise_all(alloc, terms.slice(), from, by)),
         Term::Union(a, b) => {
             let a = raise_box(alloc, a, from, by)?;
-            Ok(Term::Union(a, raise_box(alloc, b, from, by)?))
+            union(a, raise_box(alloc, b, from, by))
         }
         Term::Ext(kind, body, source) => {
             let body = raise_body(alloc, body, from, by)?;
-            Ok(Term::Ext(*kind, body, raise_box(alloc, source, from, by)?))
+            extension(*kind, body, raise_box(alloc, source, from, by))
         }
         Term::If(a, b, c) => {
             let a = raise_box(alloc, a, from, by)?;
             let b = raise_box(alloc, b, from, by)?;
-            Ok(Term::If(a, b, raise_box(alloc, c, from, by)?))
+            test(a, b, raise_box(alloc, c, from, by))
         }
         Term::Let(a, b) => {
             let a = raise_box(alloc, a, from, by)?;
-            Ok(Term::Let(a, raise_body(alloc, b, from, by)?))
+            binding(a, raise_body(alloc, b, from, by))
         }
-        Term::Prim(code, terms) => Ok(Term::Prim(
-            *code,
-            raise_all(alloc, terms.slice(), from, by)?,
-        )),
+        Term::Prim(code, terms) => primitive(*code, raise_all(alloc, terms.slice(), from, by)),
     }
 }
 

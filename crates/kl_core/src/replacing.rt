@@ -5,10 +5,13 @@ ghost use Rattle.kl_core.specs.Positions.{shift_of, subst_of};
 ghost use Rattle.kl_core.specs.Keeping.{MeansPut, TypedPut, Room};
 ghost use Rattle.kl_core.specs.Inside.{RoomIn, RoomUnder};
 
+use crate::building::{
+    binding, case, collection, constant, extension, injection, primitive, projection, record, test,
+    union,
+};
 use crate::moving::raise;
 use crate::term::{Term, TermBranches, TermFields, Terms};
 use kl_base::{Box, Label, NoMemory, Seq};
-use kl_value::dup as dup_value;
 use std::alloc::Global;
 
 /// Puts `with` for the position `at` and lowers the positions above it. Where `with` has a value, the term that it
@@ -42,54 +45,42 @@ fn put(alloc: Global, term: &Term, at: u32, with: &Term, under: u32) -> Result<T
                 Ok(Term::Var(*x - 1))
             }
         }
-        Term::Const(v) => Ok(Term::Const(dup_value(alloc, v)?)),
+        Term::Const(v) => constant(alloc, v),
         Term::Source(i) => Ok(Term::Source(*i)),
-        Term::Rec(fields) => Ok(Term::Rec(put_fields(alloc, fields.slice(), at, with, under)?)),
-        Term::Proj(label, a) => {
-            let label = label.dup()?;
-            Ok(Term::Proj(label, put_box(alloc, a, at, with, under)?))
-        }
-        Term::Inj(label, a) => {
-            let label = label.dup()?;
-            Ok(Term::Inj(label, put_box(alloc, a, at, with, under)?))
-        }
+        Term::Rec(fields) => record(put_fields(alloc, fields.slice(), at, with, under)),
+        Term::Proj(label, a) => projection(label, put_box(alloc, a, at, with, under)),
+        Term::Inj(label, a) => injection(label, put_box(alloc, a, at, with, under)),
         Term::Case(a, branches, other) => {
             let a = put_box(alloc, a, at, with, under)?;
             let branches = put_branches(alloc, branches.slice(), at, with, under)?;
             match other {
-                Some(other) => Ok(Term::Case(
-                    a,
-                    branches,
-                    Some(put_box(alloc, other, at, with, under)?),
-                )),
+                Some(other) => case(a, branches, put_box(alloc, other, at, with, under)),
                 None => Ok(Term::Case(a, branches, None)),
             }
         }
-        Term::Make(kind, terms) => Ok(Term::Make(
-            *kind,
-            put_all(alloc, terms.slice(), at, with, under)?,
-        )),
+        Term::Make(kind, terms) => {
+            collection(*kind, put_all(alloc, terms.slice(), at, with, under))
+        }
         Term::Union(a, b) => {
             let a = put_box(alloc, a, at, with, under)?;
-            Ok(Term::Union(a, put_box(alloc, b, at, with, under)?))
+            union(a, put_box(alloc, b, at, with, under))
         }
         Term::Ext(kind, body, source) => {
             let body = put_body(alloc, body, at, with, under)?;
-            Ok(Term::Ext(*kind, body, put_box(alloc, source, at, with, under)?))
+            extension(*kind, body, put_box(alloc, source, at, with, under))
         }
         Term::If(a, b, c) => {
             let a = put_box(alloc, a, at, with, under)?;
             let b = put_box(alloc, b, at, with, under)?;
-            Ok(Term::If(a, b, put_box(alloc, c, at, with, under)?))
+            test(a, b, put_box(alloc, c, at, with, under))
         }
         Term::Let(a, b) => {
             let a = put_box(alloc, a, at, with, under)?;
-            Ok(Term::Let(a, put_body(alloc, b, at, with, under)?))
+            binding(a, put_body(alloc, b, at, with, under))
         }
-        Term::Prim(code, terms) => Ok(Term::Prim(
-            *code,
-            put_all(alloc, terms.slice(), at, with, under)?,
-        )),
+        Term::Prim(code, terms) => {
+            primitive(*code, put_all(alloc, terms.slice(), at, with, under))
+        }
     }
 }
 
@@ -181,7 +172,8 @@ fn put_branches(
 ) -> Result<TermBranches, NoMemory>
     requires room { All (λ b. RoomUnder (view b.1) at under (view with.now)) branches.now }
     requires inside { under ≤ at }
-    ensures { IfOk result (λ bs. map view_part bs ≡ map (λ b. (b.0, subst_of (view b.1) (at + 1) (shift_of (shift_of (view with.now) 0 under) 0 1))) branches.now) }
+    ensures { IfOk result (λ bs.
+        map view_part bs ≡ map (λ b. (b.0, subst_of (view b.1) (at + 1) (shift_of (shift_of (view with.now) 0 under) 0 1))) branches.now) }
 {
     let mut made = Vec::with_capacity(alloc, branches.len())?;
     for branch in branches {

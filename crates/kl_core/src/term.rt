@@ -14,7 +14,7 @@ pub type TermBranches = Seq<(Label, Term)>;
 
 /// A term of the core language, with positions in place of names, 0 the nearest (de Bruijn, Indagationes Mathematicae
 /// 34, 1972). `Ext` binds one position in its body, `Let` one in its body, and each branch of a `Case` one.
-#[derive(Debug, Drop)]
+#[derive(Drop)]
 pub enum Term {
     /// The value at a position.
     Var(u32),

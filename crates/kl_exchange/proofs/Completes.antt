@@ -17,7 +17,7 @@ use Rattle.kl_value.specs.Quoted.{Part, Parts, escape_of}
 use Rattle.kl_exchange.specs.Fields.{fields_of}
 use Rattle.kl_value.specs.Written.{opening, closing}
 use Rattle.kl_exchange.specs.Grammar.{is_blank, Blank, Padded, More, word_of, sign_of, signed, SpellsPlain, SpellsField, SpellsBracket, Spells, IsItem}
-use Rattle.kl_exchange.specs.Machine.{Brackets, IsSound, IsSoundFrame, IsSoundHolder, IsSoundPhase, pending, goes, bad, run, Run, more, ends, fails, deep, followed, advanced, value_due, opens, opened, closes, ends_closing, behind_brace, behind_bracket, label_due, record_opened, named, in_name, in_word, behind_minus, after_item, after_field, after_value, in_digits, in_text, behind_escape, hex_due, low_hex_due, or_bad, with_digit, greatest_magnitude, hex_of, has_named, frame_of, first_of_close, last_of_close}
+use Rattle.kl_exchange.specs.Machine.{Brackets, IsSound, IsSoundFrame, IsSoundHolder, IsSoundPhase, pending, goes, bad, run, Run, more, ends, fails, deep, followed, advanced, value_due, opens_bracket, opened, closes, ends_closing, behind_brace, behind_bracket, label_due, record_opened, named, in_name, in_word, behind_minus, after_item, after_field, after_value, in_digits, in_text, behind_escape, hex_due, low_hex_due, or_bad, with_digit, greatest_magnitude, hex_of, has_named, frame_of, first_of_close, last_of_close}
 use Rattle.kl_exchange.specs.declared.machine.Frame.TheVariants as frame
 use Rattle.kl_exchange.specs.declared.machine.Holder.{Holder}
 use Rattle.kl_exchange.specs.declared.machine.Holder.TheVariants as holder
@@ -304,7 +304,7 @@ module _ (L : ℕ) where
   bracket_open n st u w (inr c) = opens_record n st u w c
 
   right_opens : (st : Brackets) (b : ℕ) (p : Phase) → AllByRecursion IsSoundFrame st → IsSoundPhase p → pending p ≡ 1
-      → ((n : ℕ) (u : List ℕ) (w : Value) → At n st p u w → Due (suc n) st (b ∷ u) w) → Right L st phase.Value b (opens L st p)
+      → ((n : ℕ) (u : List ℕ) (w : Value) → At n st p u w → Due (suc n) st (b ∷ u) w) → Right L st phase.Value b (opens_bracket L st p)
   right_opens st b p frames sound one make =
       choose (Right L st phase.Value b) (nat_lt (length st) L) _ _
       (λ e. (record { frames = frames; at = sound; nesting = let room = lt_from (length st) L e in omega arith }, λ u w c. (suc c.0, omega (arith, c.1), make c.0 u w c.2)))
@@ -794,7 +794,7 @@ lifts_cond true x y z w one other = one
 lifts_cond false x y z w one other = other
 
 module _ (L K : ℕ) (deeper : L ≤ K) where
-  lifts_opens : (st : Brackets) (p : Phase) → Lifts (opens L st p) (opens K st p)
+  lifts_opens : (st : Brackets) (p : Phase) → Lifts (opens_bracket L st p) (opens_bracket K st p)
   lifts_opens st p = opening_at (nat_lt (length st) L) (nat_lt (length st) K) refl refl
     where
       opening_at : (c d : Bool) → nat_lt (length st) L ≡ c → nat_lt (length st) K ≡ d → Lifts (cond c (goes st p) (Err stop.TooDeep)) (cond d (goes st p) (Err stop.TooDeep))

@@ -500,9 +500,6 @@ module _ (old now new : FileReading) (s t : FilesState) (far : Meanwhile old now
     goes = λ first vs has. stands first vs (hands.goes first (t.left old.file) vs (far.goes first vs has));
   }
 
-  pub next_value : (v : Value) → held ≡ Ok (item.Value v) → NextItem (Ok (Some v)) old new s t
-  next_value v is = held_item (Ok (Some v)) (λ e. cc) (λ w e. is ∙ ap (λ x. Ok (item.Value x)) (let a : v ≡ w = cc in a)) (λ first vs h. subst (λ r. HeldOut first vs r new (t.left old.file)) is h)
-
   pub next_end : held ≡ Ok item.End → NextItem (Ok None) old new s t
   next_end is = held_item (Ok None) (λ e. cc) (λ w e. absurd cc) (λ first vs h. subst (λ r. HeldOut first vs r new (t.left old.file)) is h)
 

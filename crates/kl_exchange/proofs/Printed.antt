@@ -113,25 +113,10 @@ pub item_more : {A : Type 0} {s t u v : SinkState} {h k l m : List ℕ} {w x y z
 item_more f xs i a within is same bytes p q r =
     shown (with_commas (map f (take (i + 1) xs))) (commas_more f xs i a within is) (then (then p (shown (separator i) (sym same) q)) (shown (f a) (sym bytes) r))
 
--- after a refusal nothing is said of what is held
-pub lost : {T : Type 0} (bytes : List ℕ) (e : Stop) (s t : SinkState) (h k m : List ℕ) → Puts {T = T} bytes (Err e) s h t k → Puts {T = T} bytes (Err e) s h t m
-lost bytes e s t h k m p = record { done = p.done; rest = p.rest; all = p.all; took = p.took; holds = tt; cause = p.cause }
-
 -- the stop of an error that hands it on
 pub same : (e : Stop) → as_stop {T = Unit {0}} (Err (error_of e)) ≡ Err e
 same stop.Failed = refl
 same stop.NoMemory = refl
-
--- what an answer says, under its own name
-pub put_well : (bytes : List ℕ) (stopped : Option Stop) (s t : SinkState) (h k : List ℕ) (x : Option Stop) → x ≡ None → stopped ≡ None → Prints bytes s h x t k stopped → Puts {T = Unit {0}} bytes (Ok tt) s h t k
-put_well bytes stopped s t h k x fresh none p =
-    subst (λ o. Puts bytes (outcome o) s h t k) none (subst (λ o. AddsBytes o bytes s h t k stopped) fresh p.adds)
-
-pub put_refused : (bytes : List ℕ) (e : Stop) (stopped : Option Stop) (s t : SinkState) (h k m : List ℕ) (x : Option Stop) → x ≡ None → stopped ≡ Some e → Prints bytes s h x t k stopped
-    → Puts bytes (as_stop {T = Unit {0}} (Err (error_of e))) s h t m
-put_refused bytes e stopped s t h k m x fresh some p =
-    subst (λ r. Puts {T = Unit {0}} bytes r s h t m) (sym (same e))
-    (lost bytes e s t h k m (subst (λ o. Puts bytes (outcome o) s h t k) some (subst (λ o. AddsBytes o bytes s h t k stopped) fresh p.adds)))
 
 -- what is held in the end is written
 pub last_write : (bytes held after slice : List ℕ) (stopped : Option Stop) (r : Result (Unit {0}) Stop) (s t v : SinkState) → held ≡ [] → stopped ≡ None → slice ≡ after
@@ -159,10 +144,3 @@ last_write bytes held after slice stopped r s t v none fine same p q =
 -- Nothing is held at first, and in the end all that is held is written.
 pub whole : (bytes : List ℕ) (t : Unit {0}) (r : Result (Unit {0}) Stop) (k : List ℕ) (s u v : SinkState) → Puts bytes (Ok t) s [] u k → WritesWhole k r u v → WritesWhole bytes r s v
 whole bytes t r k s u v p q = last_write bytes [] k k None r s u v refl refl refl p q
-
-pub refused_whole : (bytes : List ℕ) (e : PrintError) (k : List ℕ) (s u : SinkState) → Puts bytes (as_stop {T = Unit {0}} (Err e)) s [] u k → WritesWhole bytes (as_stop {T = Unit {0}} (Err e)) s u
-refused_whole bytes error.Failed k s u p = record { took = tt; part = record { done = p.done; rest = p.rest; all = p.all; took = p.took }; cause = p.cause }
-refused_whole bytes error.NoMemory k s u p = record { took = tt; part = record { done = p.done; rest = p.rest; all = p.all; took = p.took }; cause = p.cause }
-
-pub flushed : (k : List ℕ) (r : Result (Unit {0}) Stop) (e : Stop) (s u : SinkState) → r ≡ Err e → WritesWhole k r s u → WritesWhole k (as_stop {T = Unit {0}} (Err (error_of e))) s u
-flushed k r e s u is q = subst (λ o. WritesWhole k o s u) (is ∙ sym (same e)) q

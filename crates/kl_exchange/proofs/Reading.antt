@@ -40,9 +40,6 @@ Reaches L m bytes (ends v rest) = (item : List ℕ) × (bytes ≡ item ++ rest) 
 Reaches L m bytes (fails rest) = Begun L m bytes rest stop.Bad ⊎ Begun L m bytes rest stop.NoMemory
 Reaches L m bytes (deep rest) = Begun L m bytes rest stop.TooDeep
 
-abbrev Advances : ℕ → Machine → ℕ → Machine → Type 0
-Advances L m b n = advanced L m.stack m.phase b ≡ Ok (Step.Goes n)
-
 module _ (L : ℕ) where
   go_on : (m n : Machine) (b : ℕ) (bytes : List ℕ) → advanced L m.stack m.phase b ≡ Ok (Step.Goes n) → run L (b ∷ bytes) m ≡ run L bytes n
   go_on m n b bytes e = ap (λ o. followed o b bytes (λ k. run L bytes k)) e
@@ -245,9 +242,6 @@ more_taken left (a ∷ front) b others (suc j) is past =
     (rest.0, rw is (ap (λ bs. a ∷ bs) rest.1))
 
 module _ (left front : List ℕ) (b : ℕ) (others : List ℕ) (is : left ≡ front ++ b ∷ others) (n : Machine) (met : run 256 front start ≡ more n) where
-  goes_stuck : (ys : List ℕ) → Stuck 256 (run 256 (b ∷ ys) n) → Stuck 256 (run 256 (front ++ b ∷ ys) start)
-  goes_stuck ys stuck = rw (run_append 256 front (b ∷ ys) start, met) stuck
-
   front_begins : Begins 256 front
   front_begins = let c = begins_more 256 front n met in begins 256 front c.0 c.1 c.2
 

@@ -19,7 +19,7 @@ use Rattle.kl_exchange.specs.Fields.{fields_of}
 use Rattle.kl_exchange.proofs.Bytes.{digit_is, digit_not_blank, blank_not_digit, blank_not_word, blank_not_bar, letter_not_blank, letter_not_bar, letter_not_close, not_equal, at_most, below, after_ge, fits_magnitude, escape_not_x, IsFirst, first_digit_is}
 use Rattle.kl_value.specs.Written.{opening, closing}
 use Rattle.kl_exchange.specs.Grammar.{is_blank, Blank, Padded, More, Listed, word_of, sign_of, signed, SpellsInt, SpellsPlain, SpellsLabel, SpellsField, SpellsBracket, Spells, IsItem}
-use Rattle.kl_exchange.specs.Machine.{Brackets, goes, run, Run, more, ends, fails, deep, followed, advanced, value_due, opens, opened, closes, ends_closing, behind_brace, behind_bracket, label_due, record_opened, named, in_name, in_word, behind_minus, after_item, after_field, after_value, in_digits, in_text, behind_escape, hex_due, low_hex_due, greatest_magnitude, has_named, frame_of}
+use Rattle.kl_exchange.specs.Machine.{Brackets, goes, run, Run, more, ends, fails, deep, followed, advanced, value_due, opens_bracket, opened, closes, ends_closing, behind_brace, behind_bracket, label_due, record_opened, named, in_name, in_word, behind_minus, after_item, after_field, after_value, in_digits, in_text, behind_escape, hex_due, low_hex_due, greatest_magnitude, has_named, frame_of}
 use Rattle.kl_exchange.specs.declared.machine.Machine.{Machine}
 use Rattle.kl_exchange.specs.declared.machine.Frame.TheVariants as frame
 use Rattle.kl_exchange.specs.declared.machine.Holder.{Holder}
@@ -388,7 +388,7 @@ module _ (L : ℕ) where
         ∙ (blanks (frame.Items k [] ∷ st) (phase.After v) (after_blank (frame.Items k [] ∷ st) v) p.after behind p.blank_after
         ∙ run_items st k [] v spells.1 vs rest spells.4 room))))
 
-    open_bracket : (st : Brackets) (b : ℕ) (p : Phase) → length st < L → opens L st p ≡ goes st p
+    open_bracket : (st : Brackets) (b : ℕ) (p : Phase) → length st < L → opens_bracket L st p ≡ goes st p
     open_bracket st b p room = rw (below (length st) L room)
 
     -- the first byte behind `{` and `[`

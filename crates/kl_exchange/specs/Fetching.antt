@@ -1,4 +1,4 @@
--- What comes to a reader from an open file.
+-- What comes to a reader from an open file. No public contract cites this.
 use Rattle.std.specs.Prelude.{◌≡◌, ℕ, ◌≤◌, List, ◌++◌, length, Result, Ok, Err, IsErrOf, IsSome}
 use Rattle.kl_base.specs.Counts.{Rose}
 use Rattle.kl_outside.specs.Files.{FilesState, OtherFiles, Consumed, IsAtEnd}

@@ -1,5 +1,6 @@
 -- What a reader of an open file knows, and what each call does.
-use Rattle.std.specs.Prelude.{◌≡◌, ℕ, ◌+◌, ◌-◌, ◌*◌, ◌<◌, ◌≤◌, Bool, true, false, List, [], ◌∷◌, ◌++◌, length, Option, Some, None, Result, Ok, Err, OnOk, IsErrOf, IsSome}
+use Rattle.std.specs.Prelude.{◌≡◌, ℕ, ◌+◌, ◌-◌, ◌*◌, ◌<◌, ◌≤◌, Bool, true, false, List, [], ◌∷◌, ◌++◌, length}
+use Rattle.std.specs.Prelude.{Option, Some, None, Result, Ok, Err, OnOk, IsErrOf, IsSome}
 use Rattle.kl_base.specs.Counts.{Rose}
 use Rattle.kl_outside.specs.Files.{FilesState, OtherFiles}
 use Rattle.kl_value.specs.declared.Value.{Value}

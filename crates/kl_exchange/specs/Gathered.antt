@@ -9,6 +9,6 @@ use Rattle.kl_base.specs.Fields.{bytes_cmp}
 abbrev pub has_label : {T : Type 0} → List (List ℕ × T) → List ℕ → Bool
 has_label fields l = list_any (λ f. pointwise nat_eq l f.0) fields
 
--- a label is among these exactly where some field has it
+-- for private functions alone: a label is among these exactly where some field has it
 pub record AreLabels {T : Type 0} (labels : List (List ℕ)) (fields : List (List ℕ × T)) : Type 0 where
   pub same : (l : List ℕ) → list_any (is_at (bytes_cmp l)) labels ≡ has_label fields l

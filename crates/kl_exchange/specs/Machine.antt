@@ -1,6 +1,7 @@
 -- What one byte makes of what an item's bytes have come to. Only contracts of private functions cite this; what a
 -- reader answers is said by the grammar.
-use Rattle.std.specs.Prelude.{◌≡◌, ℕ, ◌+◌, ◌-◌, ◌*◌, ◌^◌, ◌<◌, ◌≤◌, IsTrue, Bool, true, false, not, ◌&&◌, ◌==◌, nat_lt, nat_le, cond, List, [], ◌∷◌, ◌++◌, length, ⊤, Option, Some, None, Result, Ok, Err, slice_index}
+use Rattle.std.specs.Prelude.{◌≡◌, ℕ, ◌+◌, ◌-◌, ◌*◌, ◌^◌, ◌<◌, ◌≤◌, IsTrue, Bool, true, false, not, ◌&&◌, ◌==◌, nat_lt, nat_le, cond}
+use Rattle.std.specs.Prelude.{List, [], ◌∷◌, ◌++◌, length, ⊤, Option, Some, None, Result, Ok, Err, slice_index}
 use Rattle.std.specs.Char.{is_ascii_digit, is_ascii_alphabetic, is_ascii_hexdigit, digit_value}
 use Rattle.std.specs.List.{AllByRecursion}
 use Rattle.kl_base.specs.Word.{is_word, is_word_byte, label_of}
@@ -91,8 +92,8 @@ or_bad None f = bad
 or_bad (Some x) f = f x
 
 -- a bracket opens where fewer than L are open
-abbrev pub opens : ℕ → Brackets → Phase → Result Step Stop
-opens L st p = cond (nat_lt (length st) L) (goes st p) (Err stop.TooDeep)
+abbrev pub opens_bracket : ℕ → Brackets → Phase → Result Step Stop
+opens_bracket L st p = cond (nat_lt (length st) L) (goes st p) (Err stop.TooDeep)
 
 unfoldable pub value_due : ℕ → Brackets → ℕ → Result Step Stop
 value_due L st b =
@@ -102,9 +103,9 @@ value_due L st b =
     (cond (b == 34) (goes st (phase.Text []))
     (cond (b == 116) (goes st (phase.Word true 1))
     (cond (b == 102) (goes st (phase.Word false 1))
-    (cond (b == 123) (opens L st phase.Brace)
-    (cond (b == 91) (opens L st phase.Bracket)
-    (cond (b == 60) (opens L st (phase.Label holder.Variant))
+    (cond (b == 123) (opens_bracket L st phase.Brace)
+    (cond (b == 91) (opens_bracket L st phase.Bracket)
+    (cond (b == 60) (opens_bracket L st (phase.Label holder.Variant))
     bad))))))))
 
 unfoldable pub closes : Brackets → Kind → List Value → Result Step Stop

@@ -31,16 +31,19 @@ pub record Puts {T : Type 0} (bytes : List ℕ) (result : Result T Stop) (old : 
   pub holds : OnOk result (rest ≡ after)
   pub cause : HasCause result old new
 
+-- for private functions alone: what a page answers that has stopped, or not
 abbrev pub outcome : Option Stop → Result (Unit {0}) Stop
 outcome None = Ok tt
 outcome (Some e) = Err e
 
+-- for private functions alone
 abbrev pub AddsBytes : Option Stop → List ℕ → SinkState → List ℕ → SinkState → List ℕ → Option Stop → Type 0
 AddsBytes None bytes old held new after stopped = Puts bytes (outcome stopped) old held new after
 AddsBytes (Some e) bytes old held new after stopped = (stopped ≡ Some e) × (new ≡ old)
 
--- Bytes are printed, unless the sink has stopped: then nothing more is written.
-pub record Prints (bytes : List ℕ) (old : SinkState) (held : List ℕ) (before : Option Stop) (new : SinkState) (after : List ℕ) (stopped : Option Stop) : Type 0 where
+-- For private functions alone: bytes are printed, unless the sink has stopped: then nothing more is written.
+pub record Prints (bytes : List ℕ) (old : SinkState) (held : List ℕ) (before : Option Stop)
+    (new : SinkState) (after : List ℕ) (stopped : Option Stop) : Type 0 where
   pub adds : AddsBytes before bytes old held new after stopped
 
 -- a byte that stands as it is in a text

@@ -1,4 +1,4 @@
--- What a scan over several bytes answers, and what a reader keeps of them.
+-- What a scan over several bytes answers, and what a reader keeps of them. No public contract cites this.
 use Rattle.std.specs.Prelude.{◌≡◌, ℕ, ◌+◌, ◌-◌, ◌^◌, ◌<◌, ◌≤◌, List, length, take, ⊤, Result, Ok, Err}
 use Rattle.std.proofs.Common.{drop}
 use Rattle.kl_exchange.specs.Machine.{Run, more, ends, fails, deep, run, start}

@@ -1,4 +1,5 @@
--- What the types of the program keep of every value: integers are within 64 bits, and labels are words.
+-- What the types of the program keep of every value: integers are within 64 bits, and labels are
+-- words. No public contract cites this.
 use Rattle.std.specs.Prelude.{⊤, IsTrue, FitsSigned}
 use Rattle.std.specs.Int.{w64}
 use Rattle.std.specs.List.{AllByRecursion}

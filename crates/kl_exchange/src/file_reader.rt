@@ -22,7 +22,7 @@ pub const MOST_READ: u64 = 17_179_869_184;
 ///
 /// `next` answers the next item. Who has something to do before a read that may wait, as a page to be written, asks
 /// `next_held` for the items that were fetched, and calls `fetch` when it answers `NeedMore`.
-#[derive(Debug, Drop)]
+#[derive(Drop)]
 pub struct FileReader {
     file: u64,
     limit: u64,
@@ -48,7 +48,13 @@ impl FileReader {
     /// a time. Takes no memory.
     pub fn new(alloc: Global, file: u64, limit: u64, piece: usize) -> FileReader
         requires { 0 < piece }
-        ensures { result ≡ record { file = file; limit = limit; piece = piece; text = record { place = 0; left = []; finished = false; refused = None }; past = false } }
+        ensures { result ≡ record {
+          file = file;
+          limit = limit;
+          piece = piece;
+          text = record { place = 0; left = []; finished = false; refused = None };
+          past = false;
+        } }
     {
         FileReader {
             file,

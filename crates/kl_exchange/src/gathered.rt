@@ -8,7 +8,7 @@ use std::collections::BTreeSet;
 use std::marker::Model;
 
 /// A list that grows, which contracts see as the list of its items.
-#[derive(Debug, Drop)]
+#[derive(Drop)]
 pub struct Growing<T> {
     items: Vec<T>,
 }
@@ -81,7 +81,7 @@ const FEW: usize = 16;
 
 /// The fields of a record as they came, which contracts see as their list. The labels behind the first few are kept in
 /// order as well, so that a record of many fields is not walked for each.
-#[derive(Debug, Drop)]
+#[derive(Drop)]
 pub struct Gathered<T> {
     fields: Vec<(Label, T)>,
     others: BTreeSet<Label>,

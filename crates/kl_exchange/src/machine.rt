@@ -6,7 +6,11 @@ ghost use Rattle.kl_exchange.specs.Grammar.{is_blank, signed, word_of};
 ghost use Rattle.std.specs.List.{AllByRecursion};
 ghost use Rattle.kl_base.specs.Fields.{LabelsDiffer};
 ghost use Rattle.kl_base.specs.Word.{is_word};
-ghost use Rattle.kl_exchange.specs.Machine.{IsSound, IsSoundFrame, LeadsOn, Advances, Brackets, going, opens, value_due, closes, ends_closing, opened, behind_brace, behind_bracket, label_due, record_opened, named, in_name, in_word, behind_minus, after_item, after_field, after_value, in_digits, in_text, behind_escape, hex_due, low_hex_due, advanced, start, has_named, frame_of, first_of_close, last_of_close, greatest_magnitude, with_digit, hex_of};
+ghost use Rattle.kl_exchange.specs.Machine.{IsSound, IsSoundFrame, LeadsOn, Advances, Brackets, going, opens_bracket, closes};
+ghost use Rattle.kl_exchange.specs.Machine.{value_due, opened, behind_brace, behind_bracket, label_due, record_opened, named};
+ghost use Rattle.kl_exchange.specs.Machine.{in_name, in_word, behind_minus, after_item, after_field, after_value, in_digits};
+ghost use Rattle.kl_exchange.specs.Machine.{in_text, behind_escape, hex_due, low_hex_due, advanced, start, has_named, frame_of};
+ghost use Rattle.kl_exchange.specs.Machine.{ends_closing, first_of_close, last_of_close, greatest_magnitude, with_digit, hex_of};
 
 use crate::gathered::{Gathered, Growing};
 use crate::memo::Memo;
@@ -20,7 +24,7 @@ use std::mem;
 pub const NESTING_LIMIT: usize = 256;
 
 /// A bracket round the value that is due, with what stands before that value.
-#[derive(Debug, Drop)]
+#[derive(Drop)]
 pub enum Frame {
     /// The items so far of a collection.
     Items(Kind, Growing<Value>),
@@ -33,21 +37,21 @@ pub enum Frame {
 type Brackets = Stack<Frame>;
 
 /// The bytes of an item so far: the brackets that are open, and where the innermost one stands.
-#[derive(Debug, Drop)]
+#[derive(Drop)]
 pub struct Machine {
     pub stack: Stack<Frame>,
     pub phase: Phase,
 }
 
 /// Whose label is read. Its bracket is open and not yet on the stack.
-#[derive(Debug, Drop)]
+#[derive(Drop)]
 pub enum Holder {
     /// The fields so far, as they came.
     Record(Gathered<Value>),
     Variant,
 }
 
-#[derive(Debug, Drop)]
+#[derive(Drop)]
 pub enum Phase {
     /// A value is due.
     Value,
@@ -83,7 +87,7 @@ pub enum Phase {
 }
 
 /// Where a byte leads.
-#[derive(Debug, Drop)]
+#[derive(Drop)]
 pub enum Next {
     Goes(Phase),
     /// The byte ends the item.
@@ -91,7 +95,7 @@ pub enum Next {
 }
 
 /// Why a byte makes nothing of a machine.
-#[derive(Clone, Copy, Debug)]
+#[derive(Clone, Copy)]
 pub enum Stop {
     /// The byte cannot follow.
     Bad,
@@ -206,18 +210,18 @@ fn value_due(alloc: Global, stack: &Brackets, byte: u8) -> Result<Next, Stop>
     } else if byte == b'f' {
         goes(Phase::Word(false, 1))
     } else if byte == b'{' {
-        opens(stack, Phase::Brace)
+        opens_bracket(stack, Phase::Brace)
     } else if byte == b'[' {
-        opens(stack, Phase::Bracket)
+        opens_bracket(stack, Phase::Bracket)
     } else if byte == b'<' {
-        opens(stack, Phase::Label(Holder::Variant))
+        opens_bracket(stack, Phase::Label(Holder::Variant))
     } else {
         Err(Stop::Bad)
     }
 }
 
-fn opens(stack: &Brackets, phase: Phase) -> Result<Next, Stop>
-    ensures { LeadsOn stack.now result (opens 256 stack.now phase) }
+fn opens_bracket(stack: &Brackets, phase: Phase) -> Result<Next, Stop>
+    ensures { LeadsOn stack.now result (opens_bracket 256 stack.now phase) }
 {
     if stack.len() < NESTING_LIMIT {
         goes(phase)

@@ -13,7 +13,7 @@ const MOST_ROOM: usize = 16;
 
 /// The labels that came last, which are shared from then on, and how many fields the last record had. No contract sees
 /// them.
-#[derive(Debug, Drop)]
+#[derive(Drop)]
 pub struct Memo {
     labels: Vec<Label>,
     // Behind the label that came last: records mostly have their fields in one order.

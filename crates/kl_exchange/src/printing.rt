@@ -214,7 +214,8 @@ fn print_value<S: Sink>(v: &Value, sink: &mut S, page: &mut Held)
 // The items with a comma and a space between them.
 #[cycle(print)]
 fn print_items<S: Sink>(items: &[Value], sink: &mut S, page: &mut Held)
-    ensures prints { Prints (with_commas (map text_of items.now)) (S.state sink.old) page.old.bytes.items page.old.stop (S.state sink.new) page.new.bytes.items page.new.stop }
+    ensures prints { Prints (with_commas (map text_of items.now))
+        (S.state sink.old) page.old.bytes.items page.old.stop (S.state sink.new) page.new.bytes.items page.new.stop }
     ensures stored { AllByRecursion IsStored items.now }
 {
     'items: for (i, item) in items.iter().enumerate() {
@@ -226,7 +227,8 @@ fn print_items<S: Sink>(items: &[Value], sink: &mut S, page: &mut Held)
 // The fields with a comma and a space between them.
 #[cycle(print)]
 fn print_fields<S: Sink>(fields: &[(Label, Value)], sink: &mut S, page: &mut Held)
-    ensures prints { Prints (with_commas (map field_text fields.now)) (S.state sink.old) page.old.bytes.items page.old.stop (S.state sink.new) page.new.bytes.items page.new.stop }
+    ensures prints { Prints (with_commas (map field_text fields.now))
+        (S.state sink.old) page.old.bytes.items page.old.stop (S.state sink.new) page.new.bytes.items page.new.stop }
     ensures stored { AllByRecursion (λ f. IsTrue (is_word f.0) × IsStored f.1) fields.now }
 {
     'fields: for (i, field) in fields.iter().enumerate() {
@@ -248,7 +250,8 @@ fn print_word<S: Sink>(word: bool, sink: &mut S, page: &mut Held)
 }
 
 fn print_number<S: Sink>(number: &i64, sink: &mut S, page: &mut Held)
-    ensures prints { Prints (signed_decimal number.now) (S.state sink.old) page.old.bytes.items page.old.stop (S.state sink.new) page.new.bytes.items page.new.stop }
+    ensures prints { Prints (signed_decimal number.now)
+        (S.state sink.old) page.old.bytes.items page.old.stop (S.state sink.new) page.new.bytes.items page.new.stop }
     ensures fits { FitsSigned w64 number.now }
 {
     let mut buffer = Buffer::new();
@@ -256,7 +259,8 @@ fn print_number<S: Sink>(number: &i64, sink: &mut S, page: &mut Held)
 }
 
 fn print_text<S: Sink>(text: &[u8], sink: &mut S, page: &mut Held)
-    ensures { Prints ((codes "\"" ++ flat_map byte_text text.now) ++ codes "\"") (S.state sink.old) page.old.bytes.items page.old.stop (S.state sink.new) page.new.bytes.items page.new.stop }
+    ensures { Prints ((codes "\"" ++ flat_map byte_text text.now) ++ codes "\"")
+        (S.state sink.old) page.old.bytes.items page.old.stop (S.state sink.new) page.new.bytes.items page.new.stop }
 {
     put(b"\"", sink, page);
     let mut at = 0;

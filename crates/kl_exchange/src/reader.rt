@@ -16,7 +16,7 @@ use std::alloc::Global;
 use std::marker::Model;
 
 /// What a reader answers.
-#[derive(Debug, Drop)]
+#[derive(Drop)]
 pub enum Item {
     /// The next item.
     Value(Value),
@@ -31,7 +31,7 @@ pub enum Item {
 /// Contracts see the number of bytes in the items read so far, the bytes behind them, whether more come, and what was
 /// refused for good. It looks at each byte a bounded number of times, but for those of an item that met want of memory,
 /// which are read again from the item's beginning.
-#[derive(Debug, Drop)]
+#[derive(Drop)]
 pub struct Reader {
     alloc: Global,
     // Bytes of items read, then those left.

@@ -12,7 +12,7 @@ use kl_base::NoMemory;
 use kl_value::Value;
 use std::alloc::Global;
 
-#[derive(Debug, Drop)]
+#[derive(Drop)]
 pub enum Scanned {
     /// All bytes have been taken, and the item has not ended.
     More,
@@ -21,7 +21,7 @@ pub enum Scanned {
 }
 
 /// Why a scan stops, and how many bytes were taken before.
-#[derive(Clone, Copy, Debug)]
+#[derive(Clone, Copy)]
 pub enum Halt {
     Bad(usize),
     TooDeep(usize),

@@ -17,7 +17,7 @@ use Rattle.kl_outside.specs.Files.{FilesState, ReadsWhole, IsWhole, IsMissing}
 use Rattle.kl_outside.specs.declared.files.Whole.{Whole}
 use Rattle.kl_outside.specs.declared.files.Whole.TheVariants.{Bytes, TooLong}
 use Rattle.kl_ask.specs.Asks.{item_of}
-use Rattle.kl_ask.specs.Driver.{Stored, Missing, Bad, Long, Deep, Rows, Source as Attached, Attaches, told_rows, stored_by}
+use Rattle.kl_ask.specs.Driver.{Stored, Missing, Bad, Long, Deep, Rows, Source as Attached, Attaches, CountsUnread, told_rows, stored_by}
 use Rattle.kl_ask.specs.declared.ask.Ask.{Ask}
 use Rattle.kl_ask.specs.declared.ask.DriverError.{DriverError}
 use Rattle.kl_ask.specs.declared.ask.DriverError.TheVariants as error
@@ -86,15 +86,17 @@ unread_cause f (inr e) = inr (untold f.told e.0, e.1)
 
 -- a refused `attach`
 pub refused : (e : DriverError) (source path : List ℕ) (ty : Ty) (f f' : FilesState) (sources : List Source) (cursors : List (Option Open)) (asked : List (Ask × ℕ)) (handed unread unread' : ℕ)
-    → f'.told ≡ f.told → f.faults ≤ f'.faults → unread ≤ unread' → CauseOf e (at_path f.told path ty) f f' unread unread'
+    → f'.told ≡ f.told → f.faults ≤ f'.faults → unread ≤ unread' → CountsUnread (Err e) unread unread' → CauseOf e (at_path f.told path ty) f f' unread unread'
     → (at_path f.told path ty ≡ Some Missing → (f'.faults ≡ f.faults) × (unread' ≡ unread))
     → Attaches source path ty (Err e) (flat_state f sources cursors asked handed unread) (flat_state f' sources cursors asked handed unread')
-refused e source path ty f f' sources cursors asked handed unread unread' told faults more cause missing =
+refused e source path ty f f' sources cursors asked handed unread unread' told faults more counts cause missing =
     subst (λ t. Attaches source path ty (Err e) (flat_state f sources cursors asked handed unread) (flat_state (record { told = t; left = f'.left; faults = f'.faults }) sources cursors asked handed unread')) (sym told) (record {
       keeps = record { kind = refl; handed = omega arith; faults = faults; drifts = omega arith; no_drift = λ is. refl; unread = more };
       cursors = refl;
       asked = refl;
       handed = refl;
+      drifts = refl;
+      unread = counts;
       others = λ name ne. refl;
       attached = tt;
       count = tt;
@@ -115,7 +117,7 @@ refused e source path ty f f' sources cursors asked handed unread unread' told f
 module _ (source path : List ℕ) (ty : Ty) (f f' : FilesState) (sources : List Source) (cursors : List (Option Open)) (asked : List (Ask × ℕ)) (handed unread : ℕ) where
   -- the file was read, and memory wanted then
   pub no_memory : (whole : Whole) → ReadsWhole path most_bytes (Ok whole) f f' → Attaches source path ty (Err error.NoMemory) (flat_state f sources cursors asked handed unread) (flat_state f' sources cursors asked handed unread)
-  no_memory whole reads = refused error.NoMemory source path ty f f' sources cursors asked handed unread unread reads.told reads.later (omega arith) tt (λ is. ((reads.missing (is_missing path ty f is)).1, refl))
+  no_memory whole reads = refused error.NoMemory source path ty f f' sources cursors asked handed unread unread reads.told reads.later (omega arith) refl tt (λ is. ((reads.missing (is_missing path ty f is)).1, refl))
 
   pub no_memory_as : (whole : Whole) (result : Result ℕ DriverError) (sources' : List Source) → ReadsWhole path most_bytes (Ok whole) f f' → sources' ≡ sources → result ≡ Err error.NoMemory
       → Attaches source path ty result (flat_state f sources cursors asked handed unread) (flat_state f' sources' cursors asked handed unread)
@@ -125,7 +127,7 @@ module _ (source path : List ℕ) (ty : Ty) (f f' : FilesState) (sources : List 
 
   pub too_long : (unread' : ℕ) → ReadsWhole path most_bytes (Ok TooLong) f f' → unread' ≡ min (unread + 1) (2 ^ 64 - 1) → unread < 2 ^ 64
       → Attaches source path ty (Err (error.TooLong most_bytes)) (flat_state f sources cursors asked handed unread) (flat_state f' sources cursors asked handed unread')
-  too_long unread' reads rose fits = refused (error.TooLong most_bytes) source path ty f f' sources cursors asked handed unread unread' reads.told reads.later (omega (arith, rose, fits))
+  too_long unread' reads rose fits = refused (error.TooLong most_bytes) source path ty f f' sources cursors asked handed unread unread' reads.told reads.later (omega (arith, rose, fits)) (omega (arith, rose, fits))
       (by (stands path ty TooLong f f' reads)) (λ is. let q = (reads.missing (is_missing path ty f is)).0 in absurd cc)
     where
       by : Stands f.told path ty TooLong → (at_path f.told path ty ≡ Some (Long most_bytes)) ⊎ ((f.told ≡ None) × Rose unread unread')
@@ -134,7 +136,7 @@ module _ (source path : List ℕ) (ty : Ty) (f f' : FilesState) (sources : List 
 
   pub bad_source : (bytes : List ℕ) (place unread' : ℕ) → ReadsWhole path most_bytes (Ok (Bytes bytes)) f f' → bad_record bytes ty ≡ Some place → unread' ≡ min (unread + 1) (2 ^ 64 - 1) → unread < 2 ^ 64
       → Attaches source path ty (Err (error.BadSource place)) (flat_state f sources cursors asked handed unread) (flat_state f' sources cursors asked handed unread')
-  bad_source bytes place unread' reads bad rose fits = refused (error.BadSource place) source path ty f f' sources cursors asked handed unread unread' reads.told reads.later (omega (arith, rose, fits))
+  bad_source bytes place unread' reads bad rose fits = refused (error.BadSource place) source path ty f f' sources cursors asked handed unread unread' reads.told reads.later (omega (arith, rose, fits)) (omega (arith, rose, fits))
       (by (stands path ty (Bytes bytes) f f' reads)) (λ is. let q = (reads.missing (is_missing path ty f is)).0 in absurd cc)
     where
       by : Stands f.told path ty (Bytes bytes) → (at_path f.told path ty ≡ Some (Bad place)) ⊎ ((f.told ≡ None) × Rose unread unread')
@@ -202,6 +204,8 @@ attach_done source path bytes ty count s f f' sources sources' cursors asked han
       cursors = refl;
       asked = refl;
       handed = refl;
+      drifts = refl;
+      unread = refl;
       others = λ n ne. ap (option_map (attached_of f.told)) (ap (λ xs. source_at xs n) grown ∙ other_source sources s n (λ is. ne (is ∙ name)));
       attached = (None, ap (option_map (attached_of f.told)) (ap (λ xs. source_at xs source) grown ∙ here) ∙ ap Some kept);
       count = λ all is. size ∙ ap length (sym (facts.1 all is));

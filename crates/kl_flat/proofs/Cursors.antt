@@ -1,9 +1,9 @@
 -- Cursors of a flat driver: how they are opened, what they hand, and how they are closed.
-use Rattle.std.proofs.Common.{Result, zero, suc, ◌≡◌, ◌≢◌, ◌⊎◌, ◌<◌, ◌+◌, ◌^◌, ℕ, Bool, true, false, List, [], ◌∷◌, ◌++◌, length, set, drop, Option, Some, None, Ok, Err, refl, sym, ◌∙◌, ap, subst, arith, inl, inr, slice_get, length-append, IsSome}
-use Rattle.std.proofs.Math.Path.{fun_ext}
+use Rattle.std.proofs.Common.{Result, zero, suc, ◌≡◌, ◌≢◌, ◌⊎◌, ◌<◌, ◌+◌, ◌^◌, ℕ, Bool, true, false, List, [], ◌∷◌, ◌++◌, length, set, drop, Option, Some, None, Ok, Err, refl, sym, ◌∙◌, ap, subst, arith, inl, inr, slice_get, length-append, nat_lt, IsSome}
+use Rattle.std.proofs.lemmas.Bool.Decides.{nat_tests}
 use Rattle.std.proofs.lemmas.Grind.{common_steps}
 use Rattle.std.proofs.lemmas.List.Sorted.{IsPermutation-refl}
-use Rattle.std.proofs.lemmas.Option.{gets, same_Some}
+use Rattle.std.proofs.lemmas.Option.{gets, same_Some, slice_get_within}
 use Rattle.std.specs.List.{AllByRecursion}
 use Rattle.std.specs.Option.{option_map, option_flatten}
 use Rattle.kl_value.specs.declared.Kind.{Kind}
@@ -15,7 +15,7 @@ use Rattle.kl_outcome.specs.Typed.{Inhabits}
 use Rattle.kl_outside.specs.Files.{FilesState}
 use Rattle.kl_ask.specs.Asked.{raised_by, with_ask}
 use Rattle.kl_ask.specs.Asks.{answers, item_of, kind_of, shown_type}
-use Rattle.kl_ask.specs.Driver.{Cursor, CanStart, Starts, OpensAt, IsFresh, InOrder, Shows, Pulls, PullsMore, PullsNone, Hands, IsFlat, emptied}
+use Rattle.kl_ask.specs.Driver.{Cursor, CanStart, Starts, OpensAt, IsFresh, InOrder, Shows, Pulls, PullsMore, PullsNone, PullResult, Hands, IsFlat, emptied}
 use Rattle.kl_ask.specs.declared.ask.Ask.{Ask}
 use Rattle.kl_ask.specs.declared.ask.Ask.TheVariants as asks
 use Rattle.kl_ask.specs.declared.ask.ColTest.{ColTest}
@@ -23,6 +23,7 @@ use Rattle.kl_ask.specs.declared.ask.DriverError.{DriverError}
 use Rattle.kl_ask.specs.declared.ask.DriverError.TheVariants as error
 use Rattle.kl_flat.specs.Answering.{Takes}
 use Rattle.kl_flat.specs.Asked.{keep_of, tests_of}
+use Rattle.kl_flat.specs.Cursors.{HandsNext, OpensLast}
 use Rattle.kl_flat.specs.Flat.{asked_source, flat_state, told_only, attached_of, cursor_of, left_of, open_at}
 use Rattle.kl_flat.specs.declared.parts.Source.{Source}
 use Rattle.kl_flat.specs.declared.parts.Open.{Open}
@@ -34,12 +35,8 @@ use Rattle.kl_base.proofs.Places.{get-set_other, get-set_same}
 get-push_other : {T : Type 0} (xs : List T) (i : ℕ) (y : T) → i ≢ length xs → slice_get (xs ++ y ∷ []) i ≡ slice_get xs i
 get-push_other xs i y ne = grind (arith, gets, common_steps)
 
--- a place with no cursor at the end opens none
-pub open-push : (cursors : List (Option Open)) (k : ℕ) → open_at (cursors ++ None ∷ []) k ≡ open_at cursors k
-open-push [] zero = refl
-open-push [] (suc k) = refl
-open-push (o ∷ cursors) zero = refl
-open-push (o ∷ cursors) (suc k) = open-push cursors k
+get-push_same : {T : Type 0} (xs : List T) (i : ℕ) (y : T) → i ≡ length xs → slice_get (xs ++ y ∷ []) i ≡ Some y
+get-push_same xs i y is = grind (arith, gets, common_steps)
 
 abbrev seen_as : {A : Type 0} → Option A → Option Open → Option Cursor
 seen_as told o = option_map (cursor_of told) o
@@ -79,27 +76,26 @@ opens_at (asks.Rows source keep tests) s o f sources cursors asked handed unread
       bound = omega (arith, few, ap length left_is, ap length rows_is, small);
     })
 
-pub start_done : (ask : Ask) (s : Source) (o : Open) (n : ℕ) (f : FilesState) (sources : List Source) (cursors pushed : List (Option Open)) (asked asked' : List (Ask × ℕ)) (handed unread : ℕ)
-    → CanStart (flat_state f sources cursors asked handed unread) ask → asked_source sources ask ≡ Some s
-    → o.ask ≡ ask → o.ty ≡ s.ty → o.rows ≡ s.rows → o.at ≡ 0 → length o.rows < 2 ^ 64
-    → n ≡ length cursors → pushed ≡ cursors ++ None ∷ [] → asked' ≡ with_ask ask asked
-    → Starts ask (Ok n) (flat_state f sources cursors asked handed unread) (flat_state f sources (set pushed n (Some o)) asked' handed unread)
-start_done ask s o n f sources cursors pushed asked asked' handed unread can found ask_is ty_is rows_is at_is small last grown counted =
-    let made : set pushed n (Some o) ≡ set (cursors ++ None ∷ []) n (Some o) = ap (λ xs. set xs n (Some o)) grown in
-    let within : n < length (cursors ++ None ∷ []) = omega (arith, last, length-append cursors (None ∷ [])) in
-    let now : slice_get (set pushed n (Some o)) n ≡ Some (Some o) = ap (λ xs. slice_get xs n) made ∙ get-set_same (cursors ++ None ∷ []) n (Some o) within in
+pub start_done : (ask : Ask) (n : ℕ) (f : FilesState) (sources : List Source) (cursors cursors' : List (Option Open)) (asked asked' : List (Ask × ℕ)) (handed unread : ℕ)
+    → CanStart (flat_state f sources cursors asked handed unread) ask → n ≡ length cursors → OpensLast sources ask cursors cursors' → asked' ≡ with_ask ask asked
+    → Starts ask (Ok n) (flat_state f sources cursors asked handed unread) (flat_state f sources cursors' asked' handed unread)
+start_done ask n f sources cursors cursors' asked asked' handed unread can last opens counted =
+    let o = opens.made in
+    let now : slice_get cursors' n ≡ Some (Some o) = ap (λ xs. slice_get xs n) opens.grown ∙ get-push_same cursors n (Some o) last in
     let past : slice_get cursors n ≡ None = grind (arith, gets, common_steps) in
     record {
       keeps = record { kind = refl; handed = omega arith; faults = omega arith; drifts = omega arith; no_drift = λ is. refl; unread = omega arith };
       attached = refl;
       handed = refl;
+      drifts = refl;
+      unread = refl;
       opens = record {
         free = ap (λ x. seen_as f.told (option_flatten x)) past;
         opened = cursor_of f.told o;
         now = ap (λ x. seen_as f.told (option_flatten x)) now;
-        ask_kept = ask_is;
-        fresh = opens_at ask s o f sources cursors asked handed unread can found ask_is ty_is rows_is at_is small;
-        others = λ k ne. ap (λ x. seen_as f.told (option_flatten x)) (ap (λ xs. slice_get xs k) made ∙ get-set_other (cursors ++ None ∷ []) n k (Some o) ne ∙ get-push_other cursors k None (λ is. ne (is ∙ sym last)));
+        ask_kept = opens.ask_is;
+        fresh = opens_at ask opens.source o f sources cursors asked handed unread can opens.found opens.ask_is opens.ty opens.rows opens.start o.small;
+        others = λ k ne. ap (λ x. seen_as f.told (option_flatten x)) (ap (λ xs. slice_get xs k) opens.grown ∙ get-push_other cursors k (Some o) (λ is. ne (is ∙ sym last)));
         asked = counted;
       };
       refused = tt;
@@ -107,26 +103,28 @@ start_done ask s o n f sources cursors pushed asked asked' handed unread can fou
       no_other = tt;
     }
 
--- want of memory opens nothing; a place for a cursor may be there
-pub start_refused : (ask : Ask) (f : FilesState) (sources : List Source) (cursors cursors' : List (Option Open)) (asked asked' : List (Ask × ℕ)) (handed unread : ℕ)
-    → ((k : ℕ) → open_at cursors' k ≡ open_at cursors k) → asked' ≡ asked
-    → Starts ask (Err error.NoMemory) (flat_state f sources cursors asked handed unread) (flat_state f sources cursors' asked' handed unread)
-start_refused ask f sources cursors cursors' asked asked' handed unread same kept = record {
+start_refused : (ask : Ask) (f : FilesState) (sources : List Source) (cursors : List (Option Open)) (asked : List (Ask × ℕ)) (handed unread : ℕ)
+    → Starts ask (Err error.NoMemory) (flat_state f sources cursors asked handed unread) (flat_state f sources cursors asked handed unread)
+start_refused ask f sources cursors asked handed unread = record {
   keeps = record { kind = refl; handed = omega arith; faults = omega arith; drifts = omega arith; no_drift = λ is. refl; unread = omega arith };
   attached = refl;
   handed = refl;
+  drifts = refl;
+  unread = refl;
   opens = tt;
-  refused = (fun_ext (λ k. ap (seen_as f.told) (same k)), kept);
+  refused = (refl, refl);
   failed = λ is. absurd cc;
   no_other = inr refl;
 }
 
+-- want of memory opens nothing
 pub start_stopped : (ask : Ask) (result : Result ℕ DriverError) (f : FilesState) (sources : List Source) (cursors cursors' : List (Option Open)) (asked asked' : List (Ask × ℕ)) (handed unread : ℕ)
-    → cursors' ≡ cursors ++ None ∷ [] → asked' ≡ asked → result ≡ Err error.NoMemory
+    → cursors' ≡ cursors → asked' ≡ asked → result ≡ Err error.NoMemory
     → Starts ask result (flat_state f sources cursors asked handed unread) (flat_state f sources cursors' asked' handed unread)
-start_stopped ask result f sources cursors cursors' asked asked' handed unread grown kept is =
+start_stopped ask result f sources cursors cursors' asked asked' handed unread same kept is =
     subst (λ r. Starts ask r (flat_state f sources cursors asked handed unread) (flat_state f sources cursors' asked' handed unread)) (sym is)
-    (start_refused ask f sources cursors cursors' asked asked' handed unread (λ k. ap (λ xs. open_at xs k) grown ∙ open-push cursors k) kept)
+    (subst (λ os. Starts ask (Err error.NoMemory) (flat_state f sources cursors asked handed unread) (flat_state f sources os asked' handed unread)) (sym same)
+    (subst (λ times. Starts ask (Err error.NoMemory) (flat_state f sources cursors asked handed unread) (flat_state f sources cursors times handed unread)) (sym kept) (start_refused ask f sources cursors asked handed unread)))
 
 -- ---- `pull`
 
@@ -195,78 +193,80 @@ module _ (most to : ℕ) (taken : List Value) (o o' : Open) (same : Same o o') (
     spent None all is = absurd cc
     spent (Some t) all is = sym (same_Some _ _ is) ∙ none_now
 
-module _ (cursor : ℕ) (o o' : Open) (x : Option Open) (f : FilesState) (sources : List Source) (cursors cursors' : List (Option Open)) (asked : List (Ask × ℕ)) (is : slice_get cursors cursor ≡ Some (Some o)) (made : cursors' ≡ set (set cursors cursor x) cursor (Some o')) where
+module _ (cursor : ℕ) (o o' : Open) (f : FilesState) (sources : List Source) (cursors cursors' : List (Option Open)) (asked : List (Ask × ℕ)) (is : slice_get cursors cursor ≡ Some (Some o)) (made : cursors' ≡ set cursors cursor (Some o')) where
   is_now : open_at cursors' cursor ≡ Some o'
-  is_now = ap (λ xs. open_at xs cursor) made ∙ ap option_flatten (get-set_same (set cursors cursor x) cursor (Some o') within)
-    where
-      within : cursor < length (set cursors cursor x)
-      within = grind (arith, gets, common_steps)
+  is_now = ap (λ xs. open_at xs cursor) made ∙ ap option_flatten (get-set_same cursors cursor (Some o') (slice_get_within cursors cursor (Some o) is))
 
   others_stay : (k : ℕ) → k ≢ cursor → open_at cursors' k ≡ open_at cursors k
-  others_stay k ne = ap option_flatten (ap (λ xs. slice_get xs k) made ∙ get-set_other (set cursors cursor x) cursor k (Some o') ne ∙ get-set_other cursors cursor k x ne)
+  others_stay k ne = ap option_flatten (ap (λ xs. slice_get xs k) made ∙ get-set_other cursors cursor k (Some o') ne)
 
-  pub pull_done : (most to n : ℕ) (into into' taken : List Value) (handed handed' unread : ℕ) → Same o o' → o'.at ≡ to → Takes o.rows o.at (keep_of o.ask) (tests_of o.ask) most taken to
-      → n ≡ length taken → 0 < length taken → into' ≡ into ++ taken → handed' ≡ raised_by n handed → handed < 2 ^ 64
-      → Pulls cursor most into into' (Ok true) (flat_state f sources cursors asked handed unread) (flat_state f sources cursors' asked handed' unread)
-  pull_done most to n into into' taken handed handed' unread same at takes size some appended count fits = record {
-    keeps = record { kind = refl; handed = omega (arith, count, fits); faults = omega arith; drifts = omega arith; no_drift = λ is. refl; unread = omega arith };
-    attached = refl;
-    asked = refl;
-    others = λ k ne. ap (seen_as f.told) (others_stay k ne);
-    answer = λ c has.
-        let is_cursor : cursor_of f.told o ≡ c = same_Some _ _ (sym (ap (λ x. seen_as f.told (option_flatten x)) is) ∙ has) in
-        subst (λ c. PullsMore cursor most into into' c (flat_state f sources cursors asked handed unread) (flat_state f sources cursors' asked handed' unread)) is_cursor (record {
-          rows = taken;
+  cursor_is : (c : Cursor) → seen_as f.told (open_at cursors cursor) ≡ Some c → cursor_of f.told o ≡ c
+  cursor_is c has = same_Some _ _ (sym (ap (λ x. seen_as f.told (option_flatten x)) is) ∙ has)
+
+  module _ (most n : ℕ) (into into' : List Value) (hand : HandsNext most into into' o o' n) (handed handed' unread : ℕ) (count : handed' ≡ raised_by n handed) (fits : handed < 2 ^ 64) (room : 0 < most) where
+    same : Same o o'
+    same = (hand.ask, hand.ty, hand.rows)
+
+    more : 0 < n → (c : Cursor) → seen_as f.told (open_at cursors cursor) ≡ Some c
+        → PullsMore cursor most into into' c (flat_state f sources cursors asked handed unread) (flat_state f sources cursors' asked handed' unread)
+    more some c has =
+        subst (λ c. PullsMore cursor most into into' c (flat_state f sources cursors asked handed unread) (flat_state f sources cursors' asked handed' unread)) (cursor_is c has) (record {
+          rows = hand.taken;
           then = cursor_of f.told o';
-          appended = appended;
+          appended = hand.appended;
           now = ap (seen_as f.told) is_now;
-          hands = hands most to taken o o' same at takes f.told some (item_flat o.ty (rows_suit o.ty o.rows o.typed)) (rows_typed o.ty o.rows o.typed);
-          handed = count ∙ ap (λ n. raised_by n handed) size;
-        });
-  }
+          hands = hands most o'.at hand.taken o o' same refl hand.takes f.told (omega (arith, some, hand.size)) (item_flat o.ty (rows_suit o.ty o.rows o.typed)) (rows_typed o.ty o.rows o.typed);
+          handed = count ∙ ap (λ n. raised_by n handed) hand.size;
+        })
 
-  pub pull_none : (most to : ℕ) (into taken : List Value) (handed unread : ℕ) → Same o o' → o'.at ≡ to → Takes o.rows o.at (keep_of o.ask) (tests_of o.ask) most taken to → length taken ≡ 0 → 0 < most
-      → Pulls cursor most into into (Ok false) (flat_state f sources cursors asked handed unread) (flat_state f sources cursors' asked handed unread)
-  pull_none most to into taken handed unread same at takes none room = record {
-    keeps = record { kind = refl; handed = omega arith; faults = omega arith; drifts = omega arith; no_drift = λ is. refl; unread = omega arith };
-    attached = refl;
-    asked = refl;
-    others = λ k ne. ap (seen_as f.told) (others_stay k ne);
-    answer = λ c has.
-        let is_cursor : cursor_of f.told o ≡ c = same_Some _ _ (sym (ap (λ x. seen_as f.told (option_flatten x)) is) ∙ has) in
-        subst (λ c. PullsNone cursor into into c (flat_state f sources cursors asked handed unread) (flat_state f sources cursors' asked handed unread)) is_cursor (record {
-          same = refl;
-          spent = spent most to taken o o' same at takes none room f.told;
-          over = inl (ap length (none_now most to taken o o' same at takes none room));
-          now = ap (seen_as f.told) is_now ∙ ap Some (emptied_is most to taken o o' same at takes none room f.told);
-          handed = refl;
-        });
-  }
+    none : n ≡ 0 → (c : Cursor) → seen_as f.told (open_at cursors cursor) ≡ Some c
+        → PullsNone cursor into into' c (flat_state f sources cursors asked handed unread) (flat_state f sources cursors' asked handed' unread)
+    none nothing c has =
+        let few : length hand.taken ≡ 0 = omega (arith, nothing, hand.size) in
+        subst (λ c. PullsNone cursor into into' c (flat_state f sources cursors asked handed unread) (flat_state f sources cursors' asked handed' unread)) (cursor_is c has) (record {
+          same = grind (arith, common_steps);
+          spent = spent most o'.at hand.taken o o' same refl hand.takes few room f.told;
+          over = inl (ap length (none_now most o'.at hand.taken o o' same refl hand.takes few room));
+          now = ap (seen_as f.told) is_now ∙ ap Some (emptied_is most o'.at hand.taken o o' same refl hand.takes few room f.told);
+          handed = omega (arith, count, fits, nothing);
+        })
+
+    answer : (some : Bool) → nat_lt 0 n ≡ some → (c : Cursor) → seen_as f.told (open_at cursors cursor) ≡ Some c
+        → PullResult cursor most into into' c (Ok some) (flat_state f sources cursors asked handed unread) (flat_state f sources cursors' asked handed' unread)
+    answer true test c has = more (grind (arith, nat_tests)) c has
+    answer false test c has = none (grind (arith, nat_tests)) c has
+
+    -- rows were appended, or none was left
+    pub pull_done : Pulls cursor most into into' (Ok (nat_lt 0 n)) (flat_state f sources cursors asked handed unread) (flat_state f sources cursors' asked handed' unread)
+    pull_done = record {
+      keeps = record { kind = refl; handed = omega (arith, count, fits); faults = omega arith; drifts = omega arith; no_drift = λ is. refl; unread = omega arith };
+      attached = refl;
+      asked = refl;
+      drifts = refl;
+      unread = refl;
+      others = λ k ne. ap (seen_as f.told) (others_stay k ne);
+      answer = answer (nat_lt 0 n) refl;
+    }
 
 -- want of memory closes the cursor
-pub pull_refused : (cursor most : ℕ) (into : List Value) (f : FilesState) (sources : List Source) (cursors cursors' : List (Option Open)) (asked : List (Ask × ℕ)) (handed unread : ℕ)
-    → cursor < length cursors → cursors' ≡ set cursors cursor None
-    → Pulls cursor most into into (Err error.NoMemory) (flat_state f sources cursors asked handed unread) (flat_state f sources cursors' asked handed unread)
-pull_refused cursor most into f sources cursors cursors' asked handed unread within made = record {
+pub pull_stopped : (cursor most : ℕ) (into into' : List Value) (o : Option Open) (f : FilesState) (sources : List Source) (cursors cursors' : List (Option Open)) (asked : List (Ask × ℕ)) (handed unread : ℕ)
+    → open_at cursors' cursor ≡ None → ((k : ℕ) → k ≢ cursor → open_at cursors' k ≡ open_at (set cursors cursor o) k) → into' ≡ into
+    → Pulls cursor most into into' (Err error.NoMemory) (flat_state f sources cursors asked handed unread) (flat_state f sources cursors' asked handed unread)
+pull_stopped cursor most into into' o f sources cursors cursors' asked handed unread closed others same = record {
   keeps = record { kind = refl; handed = omega arith; faults = omega arith; drifts = omega arith; no_drift = λ is. refl; unread = omega arith };
   attached = refl;
   asked = refl;
-  others = λ k ne. ap (λ x. seen_as f.told (option_flatten x)) (ap (λ xs. slice_get xs k) made ∙ get-set_other cursors cursor k None ne);
+  drifts = refl;
+  unread = refl;
+  others = λ k ne. ap (seen_as f.told) (others k ne ∙ ap option_flatten (get-set_other cursors cursor k o ne));
   answer = λ c has. record {
-    same = refl;
-    closed = ap (λ x. seen_as f.told (option_flatten x)) (ap (λ xs. slice_get xs cursor) made ∙ get-set_same cursors cursor None within);
+    same = same;
+    closed = ap (seen_as f.told) closed;
     handed = refl;
     cause = tt;
     drifted = λ d drift. absurd cc;
   };
 }
-
-pub pull_stopped : (cursor most : ℕ) (into into' : List Value) (result : Result Bool DriverError) (f : FilesState) (sources : List Source) (cursors cursors' : List (Option Open)) (asked : List (Ask × ℕ)) (handed unread : ℕ)
-    → cursor < length cursors → cursors' ≡ set cursors cursor None → into' ≡ into → result ≡ Err error.NoMemory
-    → Pulls cursor most into into' result (flat_state f sources cursors asked handed unread) (flat_state f sources cursors' asked handed unread)
-pull_stopped cursor most into into' result f sources cursors cursors' asked handed unread within made same is =
-    subst (λ xs. Pulls cursor most into xs result (flat_state f sources cursors asked handed unread) (flat_state f sources cursors' asked handed unread)) (sym same)
-    (subst (λ r. Pulls cursor most into into r (flat_state f sources cursors asked handed unread) (flat_state f sources cursors' asked handed unread)) (sym is) (pull_refused cursor most into f sources cursors cursors' asked handed unread within made))
 
 -- an open cursor is in its place
 pub there : {A : Type 0} (told : Option A) (cursors : List (Option Open)) (k : ℕ) → IsSome (option_map (cursor_of told) (open_at cursors k)) → (o : Open) × (slice_get cursors k ≡ Some (Some o))

@@ -2,6 +2,7 @@ pub mod Answering
 pub mod Asked
 pub mod Cells
 pub mod Columns
+pub mod Cursors
 pub mod Fitting
 pub mod Flat
 pub mod Places

@@ -1,7 +1,8 @@
 //! The driver of tables.
-ghost use Rattle.std.specs.Prelude.{◌≡◌, ◌<◌, ◌^◌, ℕ, [], length, true, IfOk};
+ghost use Rattle.std.specs.Prelude.{◌≡◌, ◌≢◌, ◌<◌, ◌^◌, ℕ, [], length, true, IfOk, None, OnErr, OnOk, IsSome};
+ghost use Rattle.kl_flat.specs.Cursors.{HandsNext, OpensLast};
 ghost use Rattle.kl_flat.specs.Fitting.{are_rows};
-ghost use Rattle.kl_flat.specs.Flat.{flat_state, open_at};
+ghost use Rattle.kl_flat.specs.Flat.{asked_source, flat_state, open_at};
 
 use crate::answering::next_answers;
 use crate::columns::is_table_type;
@@ -14,7 +15,6 @@ use kl_outside::{Files, Stop, Whole, read_whole};
 use kl_type::Ty;
 use kl_value::{Items, Value};
 use std::alloc::Global;
-use std::mem;
 
 // The greatest length of a table's file.
 const MOST_BYTES: u64 = 268_435_456;
@@ -94,40 +94,36 @@ impl<F: Files + Drop> Driver for FlatDriver<F> {
     }
 
     fn start(&mut self, ask: &Ask) -> Result<u64, DriverError> {
-        let Some(source) = find_asked(&self.sources, ask) else {
-            unreachable!()
-        };
-        let open = opened(self.alloc, source, ask)?;
-        let cursor = self.cursors.len();
-        self.cursors.push(None)?;
-        count_ask(self.alloc, &mut self.asked, ask)?;
-        self.cursors[cursor] = Some(open);
-        Ok(cursor as u64)
+        let cursor = self.cursors.len() as u64;
+        open_cursor(self.alloc, &self.sources, ask, &mut self.cursors)?;
+        match count_ask(self.alloc, &mut self.asked, ask) {
+            Ok(()) => Ok(cursor),
+            Err(NoMemory) => {
+                self.cursors.pop();
+                Err(DriverError::NoMemory)
+            }
+        }
     }
 
     fn pull(&mut self, cursor: u64, most: u32, into: &mut Vec<Value>) -> Result<bool, DriverError> {
         let cursor = cursor as usize;
-        let Some(open) = mem::replace(&mut self.cursors[cursor], None) else {
+        let Some(open) = &mut self.cursors[cursor] else {
             unreachable!()
         };
-        let (taken, at) = next_answers(self.alloc, &open, most)?;
-        let mut open = open;
-        open.at = at;
-        if taken.is_empty() {
-            self.cursors[cursor] = Some(open);
-            return Ok(false);
+        match hand_next(self.alloc, open, most, into) {
+            Ok(count) => {
+                self.handed = self.handed.saturating_add(count);
+                Ok(count > 0)
+            }
+            Err(NoMemory) => {
+                close(&mut self.cursors, cursor);
+                Err(DriverError::NoMemory)
+            }
         }
-        let count = taken.len() as u64;
-        let mut taken = taken;
-        into.append(&mut taken)?;
-        self.cursors[cursor] = Some(open);
-        self.handed = self.handed.saturating_add(count);
-        Ok(true)
     }
 
     fn finish(&mut self, cursor: u64) {
-        self.cursors[cursor as usize] = None;
-        close_last(&mut self.cursors);
+        close(&mut self.cursors, cursor as usize);
     }
 
     fn starts(&self) -> u64 {
@@ -151,6 +147,52 @@ fn new_source(alloc: Global, name: &Label, ty: &Ty, rows: Items) -> Result<Sourc
     let ty = Shared::new(alloc, ty.dup(alloc)?)?;
     let rows = Shared::new(alloc, rows)?;
     Ok(Source { name, ty, rows })
+}
+
+// Opens a cursor for an ask, behind the others.
+fn open_cursor(
+    alloc: Global,
+    sources: &[Source],
+    ask: &Ask,
+    cursors: &mut Vec<Option<Open>>,
+) -> Result<(), NoMemory>
+    requires { IsSome (asked_source sources.now ask.now) }
+    ensures opened { OnOk result (OpensLast sources.now ask.now cursors.old.items cursors.new.items) }
+    ensures refused { OnErr result (cursors.new.items ≡ cursors.old.items) }
+{
+    let Some(source) = find_asked(sources, ask) else {
+        unreachable!()
+    };
+    let open = opened(alloc, source, ask)?;
+    cursors.push(Some(open))?;
+    Ok(())
+}
+
+// Appends the next answers of a cursor, which then stands behind the last row that was looked at, and says how many.
+fn hand_next(
+    alloc: Global,
+    cursor: &mut Open,
+    most: u32,
+    into: &mut Vec<Value>,
+) -> Result<u64, NoMemory>
+    ensures handed { IfOk result (HandsNext most into.old.items into.new.items cursor.old cursor.new) }
+    ensures refused { OnErr result (into.new.items ≡ into.old.items) }
+{
+    let (mut taken, at) = next_answers(alloc, cursor, most)?;
+    let count = taken.len() as u64;
+    into.append(&mut taken)?;
+    cursor.at = at;
+    Ok(count)
+}
+
+// Closes the cursor at a place.
+fn close(cursors: &mut Vec<Option<Open>>, cursor: usize)
+    requires { cursor < length cursors.old.items }
+    ensures closed { open_at cursors.new.items cursor ≡ None }
+    ensures others { (k : ℕ) → k ≢ cursor → open_at cursors.new.items k ≡ open_at cursors.old.items k }
+{
+    cursors[cursor] = None;
+    close_last(cursors);
 }
 
 // Drops the places of closed cursors behind the last open one, so that they are used again.

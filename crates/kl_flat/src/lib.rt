@@ -17,6 +17,3 @@ mod table;
 pub use columns::is_table_type;
 pub use driver::FlatDriver;
 pub use table::{Table, read_table};
-
-#[cfg(test)]
-mod tests;

@@ -20,7 +20,7 @@ use kl_value::{Items, Value};
 use std::alloc::Global;
 
 /// The rows of a table before its first bad record, and that record's number, if there is one. The header is number 0.
-#[derive(Debug, Drop, PartialEq, Eq)]
+#[derive(Drop, PartialEq, Eq)]
 pub struct Table {
     pub rows: Items,
     pub bad: Option<u64>,

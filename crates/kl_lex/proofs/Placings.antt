@@ -51,9 +51,6 @@ from_within total r t after (front, g, f, e) = omega (arith, f.from)
 pub to_within : (total : ℕ) (r : List ℕ) (t : Placed) (after : Lexer) → Comes total r (next.Token t after) → t.to ≤ total
 to_within total r t after (front, g, f, e) = omega (arith, f.to)
 
-pub byte_within : (total : ℕ) (r : List ℕ) (byte : ℕ) → Comes total r (next.Bad byte) → byte ≤ total
-byte_within total r byte (left, g, due, never, e) = omega arith
-
 pub full : (r : List ℕ) → (length r ≡ 0 → ⊥) → r ≡ [] → ⊥
 full r n e = n (ap length e)
 

@@ -1,4 +1,5 @@
-pub mod Patterns
 pub mod Fields
-pub mod Safety
+pub mod Grounds
 pub mod Naming
+pub mod Patterns
+pub mod Safety

@@ -118,7 +118,7 @@ test_typed t stuck f h g = absurd h
 
 -- ---- expressions
 
-module _ (K : sort.Known) (M : meant.Known) (agree : (x : Name) → Agrees (K x) (M x)) where
+module _ (K : sort.KnownTypes) (M : meant.KnownOutcomes) (agree : (x : Name) → Agrees (K x) (M x)) where
   looked_up : (G : Context) (env : Env) → HaveTypesByName G env → (x : Name) (t : Ground) → NameTypes K G x t → OfType t (look_up M env x)
   looked_up G env h x t n = named_typed (field x G) (field x env) (K x) (M x) t (both_at x G env h) (agree x) n
 
@@ -128,7 +128,7 @@ module _ (K : sort.Known) (M : meant.Known) (agree : (x : Name) → Agrees (K x)
     safe (name x) G env t y h i = looked_up G env h x.text t i
     safe (call f es) G env t y h i = called_typed (K f.text) (M f.text) (run_all es M env) i.0 t (agree f.text) (safe_all es G env i.0 y h i.1) i.2
     safe (fields fs) G env t y h i =
-        let row_is = subst IsGround i.1 i.2.0 in
+        let row_is = subst IsGround i.1 i.2 in
         let ps = run_fields fs M env in
         let up = in_order_rises ps (fields_apart (λ e. run e M env) (λ fs. run_fields fs M env) refl (λ l e fs. refl) fs y) in
         subst (λ q. OfType q (run (fields fs) M env)) (sym i.1)
@@ -211,7 +211,7 @@ module _ (K : sort.Known) (M : meant.Known) (agree : (x : Name) → Agrees (K x)
 
 -- ---- programs
 
-with_agrees : (d : Name) (k : Sort) (m : Meant) (K : sort.Known) (M : meant.Known) → Agrees k m → ((x : Name) → Agrees (K x) (M x)) → (x : Name) → Agrees (with_sort d k K x) (with_known d m M x)
+with_agrees : (d : Name) (k : Sort) (m : Meant) (K : sort.KnownTypes) (M : meant.KnownOutcomes) → Agrees k m → ((x : Name) → Agrees (K x) (M x)) → (x : Name) → Agrees (with_sort d k K x) (with_known d m M x)
 with_agrees d k m K M a h x = elim (same_name x d) as (λ b. Agrees (sort_if b k (K x)) (cond b m (M x))) [ true ↦ a | false ↦ h x ]
 
 code_agrees : (c : Option ℕ) → Agrees (sort_by_code c) (meant_by_code c)
@@ -227,14 +227,14 @@ source_agrees None None c b = code_agrees c
 first_agrees : (types : List (Name × Ground)) (values : List (Name × Value)) → HaveTypesByName types values → (x : Name) → Agrees (types_at_first types x) (at_first values x)
 first_agrees types values h x = source_agrees (field x types) (field x values) (code_named x) (both_at x types values h)
 
-function_agrees : (K : sort.Known) (M : meant.Known) → ((x : Name) → Agrees (K x) (M x)) → (p : Pat) (e : Exp) → IsSurePattern p → IsTidy e
+function_agrees : (K : sort.KnownTypes) (M : meant.KnownOutcomes) → ((x : Name) → Agrees (K x) (M x)) → (p : Pat) (e : Exp) → IsSurePattern p → IsTidy e
     → Agrees (sort.function_of (FunctionTypes K p e)) (meant.function_of (λ v. must_fit (fits p (look_up M []) v []) (λ inner. run e M inner)))
 function_agrees K M h p e y z s t v i j =
     must_fit_typed i.1 t (fits p (look_up M []) v []) (λ inner. run e M inner)
     (takes (NameTypes K []) (look_up M []) (looked_up K M h [] [] tt) p s v [] i.1 [] i.2 j tt) (sure_fits (look_up M []) p v [] y)
     (λ inner k. safe K M h e i.1 inner t z k i.3)
 
-last_typed : (ds : Decls) (e : Exp) (K : sort.Known) (M : meant.Known) → ((x : Name) → Agrees (K x) (M x)) → (t : Ground) → IsTidyProgram ds e → Types e (types_after ds K) [] t → OfType t (run e (known_after ds M) [])
+last_typed : (ds : Decls) (e : Exp) (K : sort.KnownTypes) (M : meant.KnownOutcomes) → ((x : Name) → Agrees (K x) (M x)) → (t : Ground) → IsTidyProgram ds e → Types e (types_after ds K) [] t → OfType t (run e (known_after ds M) [])
 last_typed no_decls e K M h t y i = safe K M h e [] [] t y tt i
 last_typed (constant d a ds) e K M h t y i =
     last_typed ds e (with_sort d.text (sort.value_of (Types a K [])) K) (with_known d.text (meant.value_of (run a M [])) M)

@@ -117,13 +117,15 @@ abbrev mutual
 
   pub run_quals : Quals → (Env → Flow) → KnownOutcomes → Env → Flow
   run_quals no_quals go known env = go env
-  run_quals (draw p s qs) go known env = drawn (items_of (run s known env)) (λ v. if_fits (fits p (look_up known env) v env) (λ inner. run_quals qs go known inner))
+  run_quals (draw p s qs) go known env =
+      drawn (items_of (run s known env)) (λ v. if_fits (fits p (look_up known env) v env) (λ inner. run_quals qs go known inner))
   run_quals (test c qs) go known env = draw_if (run c known env) (run_quals qs go known env)
 
   pub run_branches : Branches → Name → Value → KnownOutcomes → Env → Outcome
   run_branches no_branches l v known env = stuck
   run_branches (otherwise c) l v known env = run c known env
-  run_branches (branch m p b bs) l v known env = cond (same_name l m.text) (must_fit (fits p (look_up known env) v env) (λ inner. run b known inner)) (run_branches bs l v known env)
+  run_branches (branch m p b bs) l v known env =
+      cond (same_name l m.text) (must_fit (fits p (look_up known env) v env) (λ inner. run b known inner)) (run_branches bs l v known env)
 
   pub run_steps : Steps → Outcome → KnownOutcomes → Env → Outcome
   run_steps no_steps o known env = o
@@ -156,7 +158,8 @@ with_known d m known x = cond (same_name x d) m (known x)
 abbrev pub known_after : Decls → KnownOutcomes → KnownOutcomes
 known_after no_decls known = known
 known_after (constant d e ds) known = known_after ds (with_known d.text (value_of (run e known [])) known)
-known_after (function d p e ds) known = known_after ds (with_known d.text (function_of (λ v. must_fit (fits p (look_up known []) v []) (λ inner. run e known inner))) known)
+known_after (function d p e ds) known =
+    known_after ds (with_known d.text (function_of (λ v. must_fit (fits p (look_up known []) v []) (λ inner. run e known inner))) known)
 
 abbrev pub meaning_of_program : Decls → Exp → List (Name × Value) → Outcome
 meaning_of_program ds e sources = run e (known_after ds (at_first sources)) []

@@ -1,8 +1,9 @@
 -- The types of expressions and programs, as derivations over ground types.
 use Rattle.std.specs.Prelude.{◌≡◌, ℕ, Bool, true, false, ◌||◌, IsTrue, List, [], ◌∷◌, Option, Some, None, IsSome, ⊤}
+use Rattle.std.specs.List.{AllByRecursion}
 use Rattle.kl_base.specs.Fields.{field}
 use Rattle.kl_value.specs.declared.Kind.{Kind}
-use Rattle.kl_type.specs.Ground.{Ground, Row, bool, int, str, rec, var, coll as colls, arrow, no_row, row, at, IsGround}
+use Rattle.kl_type.specs.Ground.{Ground, Row, bool, rec, var, coll as colls, at, IsGround}
 use Rattle.kl_outcome.specs.Outcome.{Name}
 use Rattle.kl_outcome.specs.Typed.{Inhabits, PrimTypes}
 use Rattle.kl_syntax.specs.declared.tree.Op.{Op}
@@ -12,29 +13,18 @@ use Rattle.kl_syntax.specs.Syntax.{Pat, catch, any, same, is, shape, variant, Pa
 use Rattle.kl_meaning.specs.Match.{Env, same_name, has_label}
 use Rattle.kl_meaning.specs.Run.{code_of, code_named}
 
--- no function stands in it
-abbrev mutual
-  pub IsFirstOrder : Ground → Type 0
-  IsFirstOrder bool = ⊤
-  IsFirstOrder int = ⊤
-  IsFirstOrder str = ⊤
-  IsFirstOrder (rec r) = IsFirstOrderRow r
-  IsFirstOrder (var r) = IsFirstOrderRow r
-  IsFirstOrder (colls k t) = IsFirstOrder t
-  IsFirstOrder (arrow a b) = ⊥
-
-  pub IsFirstOrderRow : Row → Type 0
-  IsFirstOrderRow no_row = ⊤
-  IsFirstOrderRow (row l t r) = IsFirstOrder t × IsFirstOrderRow r
-
 -- One of the language's types: labels rise, a variant type has at least one, and no function stands in it. Where a
 -- derivation is free to choose a type it is one of these.
 abbrev pub IsLanguageType : Ground → Type 0
-IsLanguageType t = IsGround t × IsFirstOrder t
+IsLanguageType t = IsGround t
 
 -- the type of each variable, the last bound first
 abbrev pub Context : Type 0
 Context = List (Name × Ground)
+
+-- each of them is one of the language's
+abbrev pub AreGround : Context → Type 0
+AreGround G = AllByRecursion (λ b. IsLanguageType b.1) G
 
 -- values of these types at the same names, in the same order
 abbrev pub HaveTypesByName : Context → Env → Type 0

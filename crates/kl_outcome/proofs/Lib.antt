@@ -1,4 +1,6 @@
 pub mod Flows
+pub mod Grounds
+pub mod Having
 pub mod OutcomeTypes
 pub mod PrimLemmas
 pub mod Refining

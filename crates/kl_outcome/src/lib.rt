@@ -4,3 +4,7 @@
 //! Definitions, and lemmas on them for all that has a meaning: an outcome has a type where its parts have theirs, and a
 //! primitive of arguments of its types gives a value of its type or overflows.
 #![tactic(auto)]
+
+mod laws;
+
+pub use laws::has_laws;

@@ -93,7 +93,7 @@ pub record ReadsWhole (path : List ℕ) (most : ℕ) (result : Result Whole Stop
   pub failed : IsErrOf result Failed → IsMissing old path ⊎ Rose old.faults new.faults
   pub missing : IsMissing old path → IsErrOf result Failed × (new.faults ≡ old.faults)
 
--- the part of `read_whole` between opening and closing
+-- for private functions alone: the part of `read_whole` between opening and closing
 pub record ReadsRest (file most : ℕ) (result : Result Whole Stop) (old new : FilesState) : Type 0 where
   pub told : new.told ≡ old.told
   pub others : OtherFiles file old new

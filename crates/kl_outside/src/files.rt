@@ -43,7 +43,7 @@ pub trait Files {
 }
 
 /// The bytes of a path, or that they are more than was allowed.
-#[derive(Debug, Drop, PartialEq, Eq)]
+#[derive(Drop, PartialEq, Eq)]
 pub enum Whole {
     /// All bytes of the file.
     Bytes(Text),

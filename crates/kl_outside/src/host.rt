@@ -169,6 +169,3 @@ fn flush<W: Write>(stream: &mut W) -> io::Result<()> {
     }
     Err(ErrorKind::TimedOut.into())
 }
-
-#[cfg(test)]
-mod tests;

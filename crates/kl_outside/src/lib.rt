@@ -23,6 +23,3 @@ pub use memory::MemFiles;
 pub use memory_sink::MemSink;
 pub use sinks::{Sink, write_whole};
 pub use stop::Stop;
-
-#[cfg(test)]
-mod tests;

@@ -1,4 +1,5 @@
-ghost use Rattle.std.specs.Prelude.{◌≡◌, ◌↔◌, ◌⊎◌, ◌<◌, ◌+◌, ◌^◌, [], Some, None, length, take, drop, min, MatchOption, MatchResult, IsTrue, IsErrOf, IsSome, slice_get};
+ghost use Rattle.std.specs.Prelude.{◌≡◌, ◌↔◌, ◌⊎◌, ◌<◌, ◌+◌, ◌^◌, [], Some, None, length, take, drop, min, slice_get};
+ghost use Rattle.std.specs.Prelude.{MatchOption, MatchResult, IsTrue, IsErrOf, IsSome};
 ghost use Rattle.std.specs.Option.{option_flatten};
 ghost use Rattle.kl_outside.specs.Files.{OpensPath, ReadsPiece, Closes};
 ghost use Rattle.kl_outside.specs.Entries.{bytes_of, bytes_at};
@@ -46,7 +47,8 @@ impl MemFiles {
     /// Want of memory; the files are as they were then.
     pub fn fail_at(&mut self, call: u64) -> Result<(), NoMemory>
         ensures state { files_state self.new ≡ files_state self.old }
-        ensures calls { MatchResult result (λ _. files_calls self.new ≡ list_call call (files_calls self.old)) (λ _. files_calls self.new ≡ files_calls self.old) }
+        ensures calls { MatchResult result (λ _. files_calls self.new ≡ list_call call (files_calls self.old))
+            (λ _. files_calls self.new ≡ files_calls self.old) }
     {
         self.schedule.list(call)
     }

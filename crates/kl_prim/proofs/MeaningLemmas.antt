@@ -382,8 +382,3 @@ meaning_canonical code args v h e =
 pub answer_canonical : (code : ℕ) (args : List Value) (r : Result Value PrimStop) → All IsCanonical args → AnswersMeaning (meaning code args) r → IfOk r IsCanonical
 answer_canonical code args (Ok v) h e = meaning_canonical code args v h e
 answer_canonical code args (Err e) h a = tt
-
--- what `canon` makes of canonical items
-pub canon_canonical : {E : Type 0} (k : Kind) (vs : List Value) (r : Result Value E) → All IsCanonical vs → IfOk r (λ v. v ≡ canonical k vs) → IfOk r IsCanonical
-canon_canonical k vs (Ok v) h e = subst IsCanonical (sym e) (canonical_keeps k vs h)
-canon_canonical k vs (Err e) h i = tt

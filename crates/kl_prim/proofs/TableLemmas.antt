@@ -1,20 +1,15 @@
 -- The rows of the table at their codes.
-use Rattle.std.proofs.Common.{◌≡◌, ◌↔◌, ◌⊎◌, ⊎_elim, inl, inr, ℕ, ℤ, ◌==◌, ◌&&◌, not, Bool, true, false, cond, ◌<◌, List, [], ◌∷◌, map, find, Option, Some, None, refl, sym, ap, subst, ◌∙◌, IsSome, IsSomeAnd, IfSome, Bor, Result}
+use Rattle.std.proofs.Common.{◌≡◌, ◌↔◌, ◌⊎◌, ⊎_elim, inl, inr, ℕ, ℤ, ◌==◌, ◌&&◌, not, Bool, true, false, cond, List, [], ◌∷◌, map, find, Option, Some, None, refl, sym, ap, subst, ◌∙◌, IfSome, Bor, Result}
 use Rattle.std.specs.Option.{option_copied, option_map, option_and_then}
-use Rattle.std.specs.List.{All, AllByRecursion, Contains, IsDistinct, list_all}
-use Rattle.std.proofs.Math.ListN.{get_or-map}
+use Rattle.std.specs.List.{AllByRecursion, IsDistinct, list_all}
 use Rattle.std.proofs.lemmas.Bool.{eqb-true, and_parts, not-true}
-use Rattle.std.proofs.lemmas.List.{length-map}
-use Rattle.std.proofs.lemmas.List.Elements.{All-contains, All-from_recursion, recursion_from_All}
 use Rattle.kl_value.specs.declared.Kind.{Kind}
 use Rattle.kl_value.specs.declared.Value.{Value}
-use Rattle.kl_value.specs.Views.{IsCollection, IsInt}
-use Rattle.kl_prim.specs.Fits.{FitsShape, OneOf, IsCollectionOfInts, IsNested}
+use Rattle.kl_prim.specs.Fits.{FitsShape}
 use Rattle.kl_value.specs.Canon.{canonical}
-use Rattle.kl_value.specs.IsCanonical.{IsCanonical}
-use Rattle.kl_prim.specs.Meaning.{Answer, AnswersMeaning, one, with_some, all_some, as_ints, as_nested, gives, into}
-use Rattle.kl_prim.specs.Table.{Entry, Fits, FitsRow, Row, Takes, TakesRow, entry_of, meaning, row_at, rows}
-use Rattle.kl_value.specs.Views.{as_int, as_collection, collection, items_at}
+use Rattle.kl_prim.specs.Meaning.{Answer, AnswersMeaning, one, with_some, all_some, as_ints, gives, into}
+use Rattle.kl_prim.specs.Table.{Fits, FitsRow, Row, Takes, TakesRow, entry_of, meaning, row_at, rows}
+use Rattle.kl_value.specs.Views.{as_int, collection}
 use Rattle.kl_value.proofs.ViewLemmas.{collection_is}
 use Rattle.kl_prim.specs.declared.rows.PrimRow.{PrimRow}
 use Rattle.kl_prim.specs.declared.stop.PrimStop.{PrimStop}
@@ -35,29 +30,6 @@ fits code n args e h = subst (λ k. Fits k args) e h
 
 -- ---- collections as arguments
 
-some_of : {X : Type 0} (o : Option X) (P : X → Type 0) → IsSomeAnd o P → IsSome o
-some_of (Some x) P h = refl
-some_of None P h = absurd h
-
-weaker_one : (P Q : Value → Type 0) → ((v : Value) → P v → Q v) → (args : List Value) → OneOf P args → OneOf Q args
-weaker_one P Q f [] h = h
-weaker_one P Q f (v ∷ []) h = f v h
-weaker_one P Q f (v ∷ w ∷ vs) h = h
-
-pub ints_are : (args : List Value) → OneOf IsCollectionOfInts args → OneOf IsCollection args
-ints_are = weaker_one IsCollectionOfInts IsCollection (λ v h. some_of (as_collection v) _ h)
-
-pub nested_are : (args : List Value) → OneOf IsNested args → OneOf IsCollection args
-nested_are = weaker_one IsNested IsCollection (λ v h. some_of (as_collection v) _ h)
-
-pub all_ints : (args : List Value) (k : Kind) (vs : List Value) → OneOf IsCollectionOfInts args → args ≡ collection k vs ∷ [] → All IsInt vs
-all_ints args k vs h e = subst (λ o. IsSomeAnd o (λ c. All IsInt c.items)) (collection_is k vs) (subst (OneOf IsCollectionOfInts) e h)
-
-pub all_nested : (args : List Value) (k : Kind) (vs : List Value) → OneOf IsNested args → args ≡ collection k vs ∷ []
-    → All (λ v. IsSome (items_at k v)) vs
-all_nested args k vs h e =
-    subst (λ o. IsSomeAnd o (λ c. All (λ w. IsSome (items_at c.kind w)) c.items)) (collection_is k vs) (subst (OneOf IsNested) e h)
-
 pub reads_ints : (args : List Value) (k : Kind) (vs : List Value) (f : List ℤ → Answer) → args ≡ collection k vs ∷ []
     → one as_ints f args ≡ with_some (all_some as_int vs) f
 reads_ints args k vs f e =
@@ -67,25 +39,6 @@ reads_ints args k vs f e =
 pub into_by : (k : Kind) (args : List Value) (a : Value) (j : Kind) (vs : List Value) → args ≡ a ∷ [] → a ≡ collection j vs → into k args ≡ gives (canonical k vs)
 into_by k args a j vs e f =
     ap (into k) (e ∙ ap (λ v. v ∷ []) f) ∙ ap (λ o. with_some o (λ c. gives (canonical k c.items))) (collection_is j vs)
-
--- the one argument is canonical
-pub one_canonical : (args : List Value) (a v : Value) → args ≡ a ∷ [] → a ≡ v → All IsCanonical args → IsCanonical v
-one_canonical args a v e f all = subst IsCanonical f (recursion_from_All IsCanonical (a ∷ []) (subst (All IsCanonical) e all)).0
-
--- it is a collection
-pub one_fits : (P : Value → Type 0) (args : List Value) (a : Value) → args ≡ a ∷ [] → OneOf P args → P a
-one_fits P args a e h = subst (OneOf P) e h
-
-paired : {X : Type 0} (o : Option X) (k : Kind) (f : Kind × X → Answer) → with_some (option_map (λ x. (k, x)) o) f ≡ with_some o (λ x. f (k, x))
-paired (Some x) k f = refl
-paired None k f = refl
-
-pub reads_nested : (args : List Value) (k : Kind) (vs : List Value) (f : Kind × List (List Value) → Answer) → args ≡ collection k vs ∷ []
-    → one as_nested f args ≡ with_some (all_some (items_at k) vs) (λ lists. f (k, lists))
-reads_nested args k vs f e =
-    ap (one as_nested f) e
-    ∙ (ap (λ o. with_some (option_and_then (λ c. option_map (λ lists. (c.kind, lists)) (all_some (items_at c.kind) c.items)) o) f) (collection_is k vs)
-    ∙ paired (all_some (items_at k) vs) k f)
 
 -- ---- codes without a row
 
@@ -196,51 +149,3 @@ module _ {K : Type 0} (same : K → K → Bool) where
   distinct_is (k ∷ ks) e = let parts = and_parts (list_all (λ l. not (same k l)) ks) (all_differ ks) e in (each_unlike k ks parts.0, distinct_is ks parts.1)
 
 -- ---- from a row of the program's table to the row of its code
-
-abbrev IsAt : Entry → Type 0
-IsAt e = (r : Row) × (row_at e.code ≡ Some r) × (r.entry ≡ e)
-
-rows_at : AllByRecursion IsAt (map (λ r. r.entry) rows)
-unfolding row_at rows
-rows_at =
-    (_, refl, refl) &
-    (_, refl, refl) &
-    (_, refl, refl) &
-    (_, refl, refl) &
-    (_, refl, refl) &
-    (_, refl, refl) &
-    (_, refl, refl) &
-    (_, refl, refl) &
-    (_, refl, refl) &
-    (_, refl, refl) &
-    (_, refl, refl) &
-    (_, refl, refl) &
-    (_, refl, refl) &
-    (_, refl, refl) &
-    (_, refl, refl) &
-    (_, refl, refl) &
-    (_, refl, refl) &
-    (_, refl, refl) &
-    (_, refl, refl) &
-    (_, refl, refl) &
-    (_, refl, refl) &
-    (_, refl, refl) &
-    (_, refl, refl) &
-    (_, refl, refl) &
-    (_, refl, refl) &
-    (_, refl, refl) &
-    tt
-
-pub entry_at : (e : Entry) → Contains (map (λ r. r.entry) rows) e → (r : Row) × (row_at e.code ≡ Some r) × (r.entry ≡ e)
-entry_at e c = All-contains IsAt (map (λ r. r.entry) rows) e (All-from_recursion IsAt (map (λ r. r.entry) rows) rows_at) c
-
-contains_map : {X Y : Type 0} (f : X → Y) (xs : List X) (x : X) → Contains xs x → Contains (map f xs) (f x)
-contains_map f xs x c = (c.0, subst (λ n. c.0 < n) (sym (length-map xs f)) c.1, get_or-map f xs c.0 x ∙ ap f c.2)
-
--- what fits the shape of a row of the table fits its code
-pub fits_found : (rs : List PrimRow) (r : PrimRow) (args : List Value) → map entry_of rs ≡ map (λ q. q.entry) rows → Contains rs r
-    → FitsShape r.shape args → Fits r.code args
-unfolding Fits
-fits_found rs r args same c h =
-    let at = entry_at (entry_of r) (subst (λ es. Contains es (entry_of r)) same (contains_map entry_of rs r c)) in
-    subst (λ o. FitsRow o args) (sym at.1) (subst (λ e. FitsShape e.shape args) (sym at.2) h)

@@ -1,5 +1,6 @@
 -- What each primitive makes of its arguments.
-use Rattle.std.specs.Prelude.{◌≡◌, ◌≢◌, ℕ, ◌^◌, ℤ, pos, negsuc, ◌+ℤ◌, ◌-ℤ◌, ◌*ℤ◌, neg_ℤ, Bool, not, ◌&&◌, if◌then◌else◌, nat_lt, nat_eq, List, [], ◌∷◌, ◌++◌, length, drop, find, fold, Option, Some, None, option_and_then, unwrap_or, Result, Ok, Err}
+use Rattle.std.specs.Prelude.{◌≡◌, ◌≢◌, ℕ, ◌^◌, ℤ, pos, negsuc, ◌+ℤ◌, ◌-ℤ◌, ◌*ℤ◌, neg_ℤ, Bool, not, ◌&&◌, if◌then◌else◌, nat_lt, nat_eq}
+use Rattle.std.specs.Prelude.{List, [], ◌∷◌, ◌++◌, length, drop, find, fold, Option, Some, None, option_and_then, unwrap_or, Result, Ok, Err}
 use Rattle.std.specs.Option.{option_map}
 use Rattle.std.specs.List.{list_all, list_any, flat_map, starts_with}
 use Rattle.std.specs.declared.cmp.Ordering.{Ordering}
@@ -22,7 +23,7 @@ pub data Answer : Type 0 where
   overflows : Answer
   senseless : Answer
 
--- a result says what the answer is, unless memory ran out, which hides no overflow
+-- for private functions alone: a result says what the answer is, unless memory ran out, which hides no overflow
 abbrev pub AnswersMeaning : Answer → Result Value PrimStop → Type 0
 AnswersMeaning a (Ok v) = a ≡ gives v
 AnswersMeaning a (Err stop.Overflow) = a ≡ overflows
@@ -56,7 +57,7 @@ as_ints v = option_and_then (λ c. all_some as_int c.items) (as_collection v)
 abbrev pub as_nested : Value → Option (Kind × List (List Value))
 as_nested v = option_and_then (λ c. option_map (λ lists. (c.kind, lists)) (all_some (items_at c.kind) c.items)) (as_collection v)
 
--- the items of a value that is a collection of the kind, or none
+-- for private functions alone: the items of a value that is a collection of the kind, or none
 abbrev pub listed : Kind → Value → List Value
 listed k v = unwrap_or (items_at k v) []
 
@@ -180,7 +181,7 @@ to_int = one as_text (λ t. gives (set_of_found (number_in t)))
 abbrev pub to_text : List Value → Answer
 to_text = one as_int (λ n. gives (value.Text (signed_decimal n)))
 
--- what arguments are read as, whatever is made of it then
+-- for private functions alone: what arguments are read as, whatever is made of it then
 abbrev pub ReadsOne : {X : Type 0} → (Value → Option X) → List Value → X → Type 0
 ReadsOne {X} as_x args x = (f : X → Answer) → one as_x f args ≡ f x
 

@@ -20,56 +20,79 @@ use kl_value::Value;
 use std::alloc::Global;
 
 // Each primitive once: code, name, number of arguments, their shape, whether there is always an answer; the function
-// that answers.
+// that answers. Those that `keep` have the arguments, the others look at them.
 macro_rules! primitives {
     ($then:ident $code:ident $alloc:ident $args:ident) => {
-        $then! { $code
-            1 b"=" 2 Compare true, equal(&$args);
-            2 b"<>" 2 Compare true, unequal(&$args);
-            3 b"<" 2 Compare true, below(&$args);
-            4 b"<=" 2 Compare true, at_most(&$args);
-            5 b">" 2 Compare true, above(&$args);
-            6 b">=" 2 Compare true, at_least(&$args);
-            7 b"+" 2 IntOp false, add(&$args);
-            8 b"-" 2 IntOp false, subtract(&$args);
-            9 b"*" 2 IntOp false, multiply(&$args);
-            10 b"neg" 1 IntFn false, negate(&$args);
-            11 b"not" 1 BoolFn true, complement(&$args);
-            12 b"^" 2 TextJoin true, join($alloc, &$args);
-            13 b"isempty" 1 CollTest true, is_empty(&$args);
-            14 b"count" 1 CollCount true, count(&$args);
-            15 b"sum" 1 CollSum false, sum(&$args);
-            16 b"member" 2 Member true, member(&$args);
-            17 b"least" 1 CollSame true, least($alloc, &$args);
-            18 b"greatest" 1 CollSame true, greatest($alloc, &$args);
-            19 b"flatten" 1 Flatten true, flatten($alloc, $args);
-            20 b"setof" 1 ToSet true, setof($alloc, $args);
-            21 b"bagof" 1 ToBag true, bagof($alloc, $args);
-            22 b"listof" 1 ToList true, listof($alloc, $args);
-            23 b"strlen" 1 TextLen true, text_length(&$args);
-            24 b"startswith" 2 TextTest true, begins_with(&$args);
-            25 b"toint" 1 TextInts true, to_int($alloc, &$args);
-            26 b"totext" 1 IntText true, to_text($alloc, &$args);
+        $then! { $code $alloc $args
+            look {
+                1 b"=" 2 Compare true, equal($args);
+                2 b"<>" 2 Compare true, unequal($args);
+                3 b"<" 2 Compare true, below($args);
+                4 b"<=" 2 Compare true, at_most($args);
+                5 b">" 2 Compare true, above($args);
+                6 b">=" 2 Compare true, at_least($args);
+                7 b"+" 2 IntOp false, add($args);
+                8 b"-" 2 IntOp false, subtract($args);
+                9 b"*" 2 IntOp false, multiply($args);
+                10 b"neg" 1 IntFn false, negate($args);
+                11 b"not" 1 BoolFn true, complement($args);
+                12 b"^" 2 TextJoin true, join($alloc, $args);
+                13 b"isempty" 1 CollTest true, is_empty($args);
+                14 b"count" 1 CollCount true, count($args);
+                15 b"sum" 1 CollSum false, sum($args);
+                16 b"member" 2 Member true, member($args);
+                17 b"least" 1 CollSame true, least($alloc, $args);
+                18 b"greatest" 1 CollSame true, greatest($alloc, $args);
+            }
+            keep {
+                19 b"flatten" 1 Flatten true, flatten($alloc, $args);
+                20 b"setof" 1 ToSet true, setof($alloc, $args);
+                21 b"bagof" 1 ToBag true, bagof($alloc, $args);
+                22 b"listof" 1 ToList true, listof($alloc, $args);
+            }
+            look {
+                23 b"strlen" 1 TextLen true, text_length($args);
+                24 b"startswith" 2 TextTest true, begins_with($args);
+                25 b"toint" 1 TextInts true, to_int($alloc, $args);
+                26 b"totext" 1 IntText true, to_text($alloc, $args);
+            }
         }
     };
 }
 
 macro_rules! rows_of {
-    ($what:ident $($code:literal $name:literal $arity:literal $shape:ident $total:literal, $answer:expr;)*) => {
-        [$(PrimRow {
+    ($what:ident $alloc:ident $args:ident
+        $($how:ident { $($code:literal $name:literal $arity:literal $shape:ident $total:literal, $answer:expr;)* })*) => {
+        [$($(PrimRow {
             code: $code,
             name: $name,
             arity: $arity,
             shape: Shape::$shape,
             total: $total,
-        }),*]
+        }),*),*]
     };
 }
 
-macro_rules! answer_of {
-    ($what:ident $($code:literal $name:literal $arity:literal $shape:ident $total:literal, $answer:expr;)*) => {
+macro_rules! kept_of {
+    ($what:ident $alloc:ident $args:ident
+        look { $($before:tt)* }
+        keep { $($code:literal $name:literal $arity:literal $shape:ident $total:literal, $answer:expr;)* }
+        look { $($behind:tt)* }) => {
         match $what {
             $($code => $answer,)*
+            _ => look($alloc, $what, &$args),
+        }
+    };
+}
+
+macro_rules! looked_at_of {
+    ($what:ident $alloc:ident $args:ident
+        look { $($code:literal $name:literal $arity:literal $shape:ident $total:literal, $answer:expr;)* }
+        keep { $($kept:tt)* }
+        look { $($last:literal $its_name:literal $its_arity:literal $its_shape:ident $its_total:literal, $its_answer:expr;)* }) => {
+        match $what {
+            $($code => $answer,)*
+            $($last => $its_answer,)*
             _ => unreachable!(),
         }
     };
@@ -113,7 +136,17 @@ fn answer(alloc: Global, code: u8, args: Args<'_>) -> Result<Value, PrimStop>
     requires canonical { All IsCanonical (values_in args) }
     ensures { AnswersMeaning (meaning code (values_in args.entry)) result }
 {
-    primitives!(answer_of code alloc args)
+    primitives!(kept_of code alloc args)
+}
+
+// Apart from those that keep, since what is only borrowed has not to be dropped behind each answer.
+fn look(alloc: Global, code: u8, args: &Args<'_>) -> Result<Value, PrimStop>
+    requires fits { Fits code (values_in args.now) }
+    requires canonical { All IsCanonical (values_in args.now) }
+    requires looks { (code ≢ 19) × (code ≢ 20) × (code ≢ 21) × (code ≢ 22) }
+    ensures { AnswersMeaning (meaning code (values_in args.now)) result }
+{
+    primitives!(looked_at_of code alloc args)
 }
 
 /// What the primitive of a code makes of arguments that fit the shape of its row, as the table means it. What is only

@@ -225,7 +225,7 @@ module _ (marks others : ℕ → Bool) (ss : List Source) (agree : AgreeBelow (l
   }
     where
       may : {a b : State} → MayAttachBelow n marks ss a b → MayAttachBelow n others ss a b
-      may m = record { keeps = m.keeps; cursors = m.cursors; asked = m.asked; handed = m.handed; others = λ x never. m.others x (λ h. never (h.0, h.1, h.2, h.3, same_at h.0 h.1 h.3 ∙ h.4, h.5)) }
+      may m = record { keeps = m.keeps; cursors = m.cursors; asked = m.asked; handed = m.handed; drifts = m.drifts; others = λ x never. m.others x (λ h. never (h.0, h.1, h.2, h.3, same_at h.0 h.1 h.3 ∙ h.4, h.5)) }
 
   stops_agrees : (r : Refused) → StopsAt marks ss old new r → StopsAt others ss old new r
   stops_agrees r stops = record {
@@ -246,7 +246,7 @@ module _ (marks : ℕ → Bool) (ss : List Source) (old new : List State) (place
   all_steps n below = record { size = below.drivers.size; each = λ i a b ha hb. may (below.drivers.each i a b ha hb) }
     where
       may : {a b : State} → MayAttachBelow n marks ss a b → MayAttach marks ss a b
-      may m = record { keeps = m.keeps; cursors = m.cursors; asked = m.asked; handed = m.handed; others = λ x never. m.others x (λ h. never (h.0, h.1, h.3, h.4, h.5)) }
+      may m = record { keeps = m.keeps; cursors = m.cursors; asked = m.asked; handed = m.handed; drifts = m.drifts; others = λ x never. m.others x (λ h. never (h.0, h.1, h.3, h.4, h.5)) }
 
   typed_below : (n : ℕ) → AttachesBelow n marks ss old new → AllTyped (kinds_of old) marks ss n
   typed_below n below i t lt is mk = (below.stand i t lt is mk).typed

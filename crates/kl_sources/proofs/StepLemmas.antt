@@ -26,12 +26,12 @@ below_more n marks ss x h = (h.0, h.1, omega (arith, h.2), h.3, h.4, h.5)
 module _ (marks : ℕ → Bool) (ss : List Source) where
   pub begins : (ds : List State) → AttachesBelow 0 marks ss ds ds
   begins ds = record {
-    drivers = record { size = refl; each = λ i a b ha hb. subst (λ s. MayAttachBelow 0 marks ss a s) (same_Some _ _ (sym ha ∙ hb)) (record { keeps = keeps_none a; cursors = refl; asked = refl; handed = refl; others = λ x never. refl }) };
+    drivers = record { size = refl; each = λ i a b ha hb. subst (λ s. MayAttachBelow 0 marks ss a s) (same_Some _ _ (sym ha ∙ hb)) (record { keeps = keeps_none a; cursors = refl; asked = refl; handed = refl; drifts = refl; others = λ x never. refl }) };
     stand = λ i s lt is marked. absurd (omega (arith, lt));
   }
 
   wider : (n : ℕ) (a b : State) → MayAttachBelow n marks ss a b → MayAttachBelow (n + 1) marks ss a b
-  wider n a b m = record { keeps = m.keeps; cursors = m.cursors; asked = m.asked; handed = m.handed; others = λ x never. m.others x (λ h. never (below_more n marks ss x h)) }
+  wider n a b m = record { keeps = m.keeps; cursors = m.cursors; asked = m.asked; handed = m.handed; drifts = m.drifts; others = λ x never. m.others x (λ h. never (below_more n marks ss x h)) }
 
   -- a source that is not marked
   pub skips : (n : ℕ) (old mid new : List State) → AttachesBelow n marks ss old mid → marks n ≡ false → new ≡ mid → AttachesBelow (n + 1) marks ss old new
@@ -132,6 +132,7 @@ module _ (old : List State) (ss : List Source) (placed : ArePlaced (kinds_of old
                   cursors = g.1.cursors ∙ m.cursors;
                   asked = g.1.asked ∙ m.asked;
                   handed = g.1.handed ∙ m.handed;
+                  drifts = g.1.drifts ∙ m.drifts;
                   others = λ x never. under b c g.1 x never ∙ m.others x (λ y. never (below_more n marks ss x y));
                 }
               ]
@@ -236,6 +237,7 @@ module _ (old : List State) (ss : List Source) (placed : ArePlaced (kinds_of old
               cursors = g.1.cursors ∙ m.cursors;
               asked = g.1.asked ∙ m.asked;
               handed = g.1.handed ∙ m.handed;
+              drifts = g.1.drifts ∙ m.drifts;
               others = λ x never. ap (λ (h : Name → Option AttachedSource). h x) g.1.refused ∙ m.others x never;
             }
           ]

@@ -1,5 +1,6 @@
 -- What comes of attaching the sources that a program mentions.
-use Rattle.std.specs.Prelude.{◌≡◌, ◌≢◌, ◌⊎◌, ℕ, suc, ◌<◌, ◌≤◌, Bool, true, false, List, [], ◌∷◌, length, map, Option, Some, None, Result, IfOk, IfErr, OnOk, MatchResult, slice_get, ⊤}
+use Rattle.std.specs.Prelude.{◌≡◌, ◌≢◌, ◌⊎◌, ℕ, suc, ◌<◌, ◌≤◌, Bool, true, false, List, [], ◌∷◌, length, map, slice_get, Option, Some, None, ⊤}
+use Rattle.std.specs.Prelude.{Result, IfOk, IfErr, OnOk, MatchResult}
 use Rattle.std.specs.List.{AllByRecursion}
 use Rattle.kl_base.specs.Counts.{Rose}
 use Rattle.kl_value.specs.declared.Value.{Value}
@@ -47,6 +48,7 @@ pub record MayAttach (marks : ℕ → Bool) (sources : List Source) (old new : S
   pub cursors : new.cursors ≡ old.cursors
   pub asked : new.asked ≡ old.asked
   pub handed : new.handed ≡ old.handed
+  pub drifts : new.drifts ≡ old.drifts
   pub others : (x : Name) → (IsMarkedName marks sources x → ⊥) → new.attached x ≡ old.attached x
 
 -- a count of the driver at a place rose
@@ -109,7 +111,8 @@ IsRefusalOf sources s w old new e =
 
 -- contents that are told say that the source is without rows
 abbrev pub StandsWithout : List DriverKind → (ℕ → Bool) → List Source → Source → DriverError → Type 0
-StandsWithout ks marks sources s e = (w : Stored) × IsErrorOf w e × (contents ks s ≡ Some w) × (FirstWithout ks marks 0 sources s w ⊎ NoVerdict ks marks sources)
+StandsWithout ks marks sources s e =
+    (w : Stored) × IsErrorOf w e × (contents ks s ≡ Some w) × (FirstWithout ks marks 0 sources s w ⊎ NoVerdict ks marks sources)
 
 -- the source is not told, and its driver counted one that it could not read
 abbrev pub IsUnread : List DriverKind → (ℕ → Bool) → List Source → Source → DriverError → List State → List State → Type 0
@@ -123,9 +126,12 @@ pub record Causes (marks : ℕ → Bool) (sources : List Source) (old new : List
   pub there : slice_get sources place ≡ Some refused
   pub named : refused.name ≡ e.source
   pub marked : e.error ≢ error.NoMemory → marks place ≡ true
-  pub cause : IsMishap refused e.error old new ⊎ StandsWithout (kinds_of old) marks sources refused e.error ⊎ IsUnread (kinds_of old) marks sources refused e.error old new
+  pub cause : IsMishap refused e.error old new
+      ⊎ StandsWithout (kinds_of old) marks sources refused e.error
+      ⊎ IsUnread (kinds_of old) marks sources refused e.error old new
   pub before : e.error ≢ error.NoMemory → (i : ℕ) (s : Source) → i < place → slice_get sources i ≡ Some s → marks i ≡ true → Stands (kinds_of old) new s
-  pub behind : e.error ≢ error.NoMemory → (i : ℕ) (s : Source) → place ≤ i → slice_get sources i ≡ Some s → (k : ℕ) (d : State) → slice_get new k ≡ Some d → d.attached s.name ≡ None
+  pub behind : e.error ≢ error.NoMemory → (i : ℕ) (s : Source) → place ≤ i → slice_get sources i ≡ Some s
+      → (k : ℕ) (d : State) → slice_get new k ≡ Some d → d.attached s.name ≡ None
 
 -- ---- the session
 
@@ -146,7 +152,8 @@ pub record AttachesAll (marks : ℕ → Bool) (sources : List Source) (result : 
   pub list : IfOk result (λ list. list ≡ list_of marks 0 sources)
   -- each marked source stands at its driver, and a session of these drivers and this list is ready
   pub stand : OnOk result ((i : ℕ) (s : Source) → slice_get sources i ≡ Some s → marks i ≡ true → Stands (kinds_of old) new s)
-  pub ready : IfOk result (λ list. (settings : Settings) (trace : Trace) → 0 < settings.fetch → Serves (kinds_of old) marks sources (world_of new list settings trace))
+  pub ready : IfOk result (λ list. (settings : Settings) (trace : Trace)
+      → 0 < settings.fetch → Serves (kinds_of old) marks sources (world_of new list settings trace))
   -- the sources have values, or some driver does not tell
   pub values : OnOk result (((vs : List (Name × Value)) × HaveValues (kinds_of old) marks 0 sources vs) ⊎ NoVerdict (kinds_of old) marks sources)
   -- where contents that are told say that a source is the first without rows, its error comes, or a mishap

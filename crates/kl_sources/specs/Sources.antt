@@ -1,5 +1,6 @@
 -- The sources of a catalogue at their drivers, and what they come to.
-use Rattle.std.specs.Prelude.{◌≡◌, ◌⊎◌, ℕ, suc, Bool, true, false, ◌||◌, List, [], ◌∷◌, map, cond, nat_eq, Option, Some, None, Result, Ok, Err, slice_get, ⊤, is_some}
+use Rattle.std.specs.Prelude.{◌≡◌, ◌⊎◌, ℕ, suc, Bool, true, false, ◌||◌, List, [], ◌∷◌, map, slice_get, cond, nat_eq, ⊤}
+use Rattle.std.specs.Prelude.{Option, Some, None, is_some, Result, Ok, Err}
 use Rattle.std.specs.List.{AllByRecursion, IsDistinct, list_any}
 use Rattle.std.specs.Option.{option_map}
 use Rattle.std.specs.Cmp.Lexicographic.{pointwise}
@@ -109,7 +110,9 @@ IsValueAt ks false s v = v ≡ empty_of s
 -- which makes no difference to a program that does not mention it.
 abbrev pub HaveValues : List DriverKind → (ℕ → Bool) → ℕ → List Source → List (Name × Value) → Type 0
 HaveValues ks marks n [] vs = vs ≡ []
-HaveValues ks marks n (s ∷ ss) vs = (v : Value) × (rest : List (Name × Value)) × (vs ≡ (s.name, v) ∷ rest) × IsValueAt ks (marks n) s v × HaveValues ks marks (suc n) ss rest
+HaveValues ks marks n (s ∷ ss) vs =
+    (v : Value) × (rest : List (Name × Value)) × (vs ≡ (s.name, v) ∷ rest)
+    × IsValueAt ks (marks n) s v × HaveValues ks marks (suc n) ss rest
 
 abbrev pub IsReadable : List DriverKind → Bool → Source → Type 0
 IsReadable ks true s = HasRows ks s

@@ -20,6 +20,7 @@ pub record MayAttachBelow (n : ℕ) (marks : ℕ → Bool) (sources : List Sourc
   pub cursors : new.cursors ≡ old.cursors
   pub asked : new.asked ≡ old.asked
   pub handed : new.handed ≡ old.handed
+  pub drifts : new.drifts ≡ old.drifts
   pub others : (x : Name) → (IsMarkedBelow n marks sources x → ⊥) → new.attached x ≡ old.attached x
 
 -- the marked ones of the first n sources are attached

@@ -13,7 +13,7 @@ use std::alloc::Global;
 
 /// Why sources are not attached: the source that is refused, and its driver's answer. Want of memory may be told of any
 /// source.
-#[derive(Debug, Drop, PartialEq, Eq)]
+#[derive(Drop, PartialEq, Eq)]
 pub struct AttachError {
     pub source: Label,
     pub error: DriverError,
@@ -35,7 +35,8 @@ pub fn attach_sources(
 ) -> Result<Seq<Attached>, AttachError>
     requires placed { ArePlaced (kinds_of (map (λ d. state d) drivers.old.items)) sources.items }
     requires clear { HaveNone (map (λ d. state d) drivers.old.items) }
-    ensures { (marks : ℕ → Bool) → AgreeBelow (length sources.items) marks (is_marked scoped.now) → AttachesAll marks sources.items result (map (λ d. state d) drivers.old.items) (map (λ d. state d) drivers.new.items) }
+    ensures { (marks : ℕ → Bool) → AgreeBelow (length sources.items) marks (is_marked scoped.now)
+        → AttachesAll marks sources.items result (map (λ d. state d) drivers.old.items) (map (λ d. state d) drivers.new.items) }
 {
     match attach_listed(alloc, &sources, scoped, drivers) {
         Ok(list) => Ok(list),

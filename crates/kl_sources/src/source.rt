@@ -8,7 +8,7 @@ use std::alloc::Global;
 
 /// A source: its name, the type of the whole collection, the place of its driver in the list of drivers, and where the
 /// driver finds it.
-#[derive(Debug, Drop, PartialEq, Eq)]
+#[derive(Drop, PartialEq, Eq)]
 pub struct Source {
     pub name: Label,
     pub ty: Ty,

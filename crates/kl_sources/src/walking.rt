@@ -15,7 +15,7 @@ use kl_scope::Scoped;
 use std::alloc::Global;
 
 /// The number of a source that is refused, and why.
-#[derive(Clone, Copy, Debug, PartialEq, Eq)]
+#[derive(Clone, Copy, PartialEq, Eq)]
 pub struct Refused {
     pub place: usize,
     pub error: DriverError,
@@ -95,7 +95,8 @@ fn attach(source: &Source, drivers: &mut Vec<Box<dyn Driver>>) -> Result<u64, Dr
     requires proper { IsProper source.now.ty }
     requires suits { AtIndex source.now.driver (λ d. d.kind.suits source.now.ty ≡ true) (map (λ d. state d) drivers.old.items) }
     requires fresh { AtIndex source.now.driver (λ d. d.attached source.now.name ≡ None) (map (λ d. state d) drivers.old.items) }
-    ensures { StepsAt source.now.driver (λ a b. Attaches source.now.name source.now.locator source.now.ty result a b) (map (λ d. state d) drivers.old.items) (map (λ d. state d) drivers.new.items) }
+    ensures { StepsAt source.now.driver (λ a b. Attaches source.now.name source.now.locator source.now.ty result a b)
+        (map (λ d. state d) drivers.old.items) (map (λ d. state d) drivers.new.items) }
 {
     attach_boxed(
         &mut drivers[source.driver as usize],

@@ -35,5 +35,3 @@ ground-Var fs = at_layer _ _ (ty.outs-Var fs)
 
 pub ground-Coll : (k : Kind) (t : Ty) → ground_of (ty.Coll k t) ≡ coll k (ground_of t)
 ground-Coll k t = at_layer _ _ (ty.outs-Coll k t)
-
-pub ruleset grounds = (ground-Bool, ground-Int, ground-Str, ground-Rec, ground-Var, ground-Coll)

@@ -55,8 +55,5 @@ more_reads N M (suc n) (suc k) le = keeps_a_type IsBad N M (d.reads n) (d.reads 
 pub rests_reads : (n : ℕ) (ts : List Placed) → Rests ts (d.reads n ts)
 rests_reads n ts = (same_reads Each 0 0 n).rests ts
 
-pub rests_field : (n : ℕ) (fields : FieldList) (ts : List Placed) → Rests ts (d.field (d.reads n) fields ts)
-rests_field n fields ts = (keeps_field Each 0 0 (d.reads n) (d.reads n) (same_reads Each 0 0 n) fields).rests ts
-
 pub takes_next : (n : ℕ) (fields : FieldList) → Takes (Rattle.kl_phrase.specs.Readers.behind (d.mark sy.Comma) (d.field (d.reads n) fields))
 takes_next n fields = takes_comma Each 0 0 (d.reads n) (d.reads n) (same_reads Each 0 0 n) fields

@@ -72,12 +72,6 @@ module _ (fields : FieldList) (ts : List Placed) where
 pub no_base : (ts : List Placed) → heads is_word ts ≡ false → one a_base ts ≡ fail bad ts
 no_base = no_word base_of
 
-pub other_base : (ts more : List Placed) (w : List ℕ) → AheadWord w ts more → base_of w ≡ None → one a_base ts ≡ fail bad ts
-other_base ts more w (t, e, h) n = let k : a_base t ≡ None = ap a_base_at h ∙ n in rw (e, k) refl
-
-pub named_base : (ts more : List Placed) (w : List ℕ) (a : Ty) → AheadWord w ts more → base_of w ≡ Some a → one a_base ts ≡ ok a more
-named_base ts more w a (t, e, h) s = let k : a_base t ≡ Some a = ap a_base_at h ∙ s in rw (e, k) refl
-
 -- ---- fields
 
 -- what was found and what is left lead to the whole, in more turns than tokens are left

@@ -47,7 +47,10 @@ of_word read (tok.Word word) = read word
 of_word read _ = None
 
 abbrev pub base_of : List ℕ → Option Ty
-base_of word = if pointwise nat_eq word (codes "bool") then Some ty.Bool else if pointwise nat_eq word (codes "int") then Some ty.Int else if pointwise nat_eq word (codes "string") then Some ty.Str else None
+base_of word =
+    if pointwise nat_eq word (codes "bool") then Some ty.Bool else
+    if pointwise nat_eq word (codes "int") then Some ty.Int else
+    if pointwise nat_eq word (codes "string") then Some ty.Str else None
 
 abbrev pub a_base_at : Tok → Option Ty
 a_base_at = of_word base_of
@@ -104,7 +107,11 @@ module _ (e : Reader Placed Ty) where
   var = made ty.Var (behind (mark sym.Lt) in_var)
 
   unfoldable pub a_type : Bool → Reader Placed Ty
-  a_type may = opening (is_symbol sym.OpenSet) may (coll kind.Set) (opening (is_symbol sym.OpenBag) may (coll kind.Bag) (opening (is_symbol sym.OpenList) may (coll kind.List) (opening (is_symbol sym.OpenRec) may rec (opening (is_symbol sym.Lt) may var (one a_base)))))
+  a_type may =
+      opening (is_symbol sym.OpenSet) may (coll kind.Set)
+      (opening (is_symbol sym.OpenBag) may (coll kind.Bag)
+      (opening (is_symbol sym.OpenList) may (coll kind.List)
+      (opening (is_symbol sym.OpenRec) may rec (opening (is_symbol sym.Lt) may var (one a_base)))))
 
 abbrev pub never : Reader Placed Ty
 never ts = fail deep ts

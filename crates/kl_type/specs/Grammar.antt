@@ -24,7 +24,9 @@ Symbol s = One (IsSymbol s)
 
 -- "bool" | "int" | "string"
 abbrev pub IsBase : Placed → Ty → Type 0
-IsBase t a = ((t.what ≡ tok.Word (codes "bool")) × (a ≡ ty.Bool)) ⊎ (((t.what ≡ tok.Word (codes "int")) × (a ≡ ty.Int)) ⊎ ((t.what ≡ tok.Word (codes "string")) × (a ≡ ty.Str)))
+IsBase t a =
+    ((t.what ≡ tok.Word (codes "bool")) × (a ≡ ty.Bool))
+    ⊎ (((t.what ≡ tok.Word (codes "int")) × (a ≡ ty.Int)) ⊎ ((t.what ≡ tok.Word (codes "string")) × (a ≡ ty.Str)))
 
 -- LABEL: any word, but no label of these fields
 abbrev pub IsLabel : List (List ℕ × Ty) → Placed → List ℕ → Type 0
@@ -44,7 +46,8 @@ module _ (E : Phrase Placed Ty) where
 -- { "," LABEL ":" type }, behind these fields
 pub data MoreFields (E : Phrase Placed Ty) : List (List ℕ × Ty) → ℕ → List (List ℕ × Ty) → List Placed → Type 0 where
   no_more : {fields : List (List ℕ × Ty)} {n : ℕ} → MoreFields E fields n fields []
-  one_more : {fields all : List (List ℕ × Ty)} {n : ℕ} {u v : List Placed} (f : List ℕ × Ty) → Behind (Symbol sym.Comma) (Field E fields) n f u → MoreFields E (put fields f) (n + length u) all v → MoreFields E fields n all (u ++ v)
+  one_more : {fields all : List (List ℕ × Ty)} {n : ℕ} {u v : List Placed} (f : List ℕ × Ty)
+      → Behind (Symbol sym.Comma) (Field E fields) n f u → MoreFields E (put fields f) (n + length u) all v → MoreFields E fields n all (u ++ v)
 
 module _ (E : Phrase Placed Ty) where
   -- LABEL ":" type { "," LABEL ":" type }
@@ -65,7 +68,9 @@ module _ (E : Phrase Placed Ty) where
 
   -- type := coll | record | variant | base, where nesting may go on
   abbrev pub AType : Bool → Phrase Placed Ty
-  AType may = Or (Opened may (Coll kind.Set)) (Or (Opened may (Coll kind.Bag)) (Or (Opened may (Coll kind.List)) (Or (Opened may Rec) (Or (Opened may Var) (One IsBase)))))
+  AType may =
+      Or (Opened may (Coll kind.Set)) (Or (Opened may (Coll kind.Bag)) (Or (Opened may (Coll kind.List))
+      (Or (Opened may Rec) (Or (Opened may Var) (One IsBase)))))
 
 -- the tokens are this type, nested at most so deep
 abbrev pub Reads : ℕ → Phrase Placed Ty

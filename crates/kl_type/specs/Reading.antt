@@ -15,7 +15,7 @@ SpellsType = Spells Reads
 abbrev pub ReadsType : List ℕ → Ty → Type 0
 ReadsType = IsTextOf Reads
 
--- what is refused of these tokens, of a text of so many bytes
+-- for private functions alone: what is refused of these tokens, of a text of so many bytes
 abbrev pub RefusesTokens : ℕ → List Placed → Result Ty TypeError → Type 0
 RefusesTokens total ts (Ok t) = Unit {0}
 RefusesTokens total ts (Err (Bad place)) = AtBad Reads total ts place

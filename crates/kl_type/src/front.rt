@@ -14,7 +14,8 @@ use kl_phrase::Fault;
 
 /// What stands behind this symbol, if the tokens begin with it.
 pub fn eat(tokens: &[Placed], symbol: Sym) -> Option<&[Placed]>
-    ensures { MatchOption result (heads (is_symbol symbol) tokens.now ≡ false) (λ rest. (t : APlaced) × (tokens.now ≡ t ∷ rest.now) × (is_symbol symbol t ≡ true)) }
+    ensures { MatchOption result (heads (is_symbol symbol) tokens.now ≡ false)
+        (λ rest. (t : APlaced) × (tokens.now ≡ t ∷ rest.now) × (is_symbol symbol t ≡ true)) }
 {
     match tokens {
         [

@@ -110,7 +110,10 @@ fn label<'a>(
 
 /// The kind of collection that a bracket opens, and what stands behind it.
 fn opened(tokens: &[Placed]) -> Option<(Kind, &[Placed])>
-    ensures { MatchOption result ((heads (is_symbol symbols.OpenSet) tokens.now ≡ false) × (heads (is_symbol symbols.OpenBag) tokens.now ≡ false) × (heads (is_symbol symbols.OpenList) tokens.now ≡ false)) (λ x. (t : APlaced) × (tokens.now ≡ t ∷ x.1.now) × (is_symbol (opener x.0) t ≡ true)) }
+    ensures { MatchOption result
+        ((heads (is_symbol symbols.OpenSet) tokens.now ≡ false) × (heads (is_symbol symbols.OpenBag) tokens.now ≡ false)
+        × (heads (is_symbol symbols.OpenList) tokens.now ≡ false))
+        (λ x. (t : APlaced) × (tokens.now ≡ t ∷ x.1.now) × (is_symbol (opener x.0) t ≡ true)) }
 {
     if let Some(rest) = eat(tokens, Sym::OpenSet) {
         return Some((Kind::Set, rest));

@@ -1,6 +1,6 @@
 -- What clap's calls say, in the words of the definitions.
 use Rattle.std.proofs.Common.{◌≡◌, ◌∙◌, ◌<◌, ◌^◌, ◌&&◌, ℕ, Bool, true, false, List, [], ◌∷◌, Option, Some, None, Ok, Err, length, refl, sym, ap, subst, codes, inl, inr}
-use Rattle.std.specs.Prelude.{Result, nat_lt, option_and_then, unwrap_or}
+use Rattle.std.specs.Prelude.{IfOk, Result, nat_lt, option_and_then, option_map, unwrap_or}
 use Rattle.std.specs.List.{list_all}
 use Rattle.std.specs.Option.{option_map_or}
 use Rattle.std.specs.Char.{digit_value}
@@ -17,7 +17,7 @@ use Rattle.clap.specs.ValueTests.{is_numeral}
 use Rattle.clap.specs.Words.{App, HasKind, HasMatchesOf, Kinds, Row, Text, fault_of, first_value, found_of, is_simple, is_simple_and_free, kind_of, matches_of, one_of, one_text, rows_of}
 use Rattle.clap.proofs.WalkLemmas.{both, first_value-rows, one_text-rows}
 use Rattle.kl_words.specs.declared.command.WordsError.{WordsError}
-use Rattle.kl_words.specs.Commands.{AnswersWanted, has_flag, number_of, number_told, path_at, reading, rows_where}
+use Rattle.kl_words.specs.Commands.{AnswersWanted, OnlyWants, has_flag, number_of, number_told, path_at, reading, rows_where}
 
 -- ---- a command line
 
@@ -43,6 +43,12 @@ read_by a b words o e h = subst (λ l. reading l words ≡ o) e h
 pub then_answers : {T : Type 0} (o : Option (List Row)) (rows : List Row) (f : List Row → Option T) (r : Result T WordsError)
     → o ≡ Some rows → AnswersWanted (f rows) r → AnswersWanted (option_and_then f o) r
 then_answers o rows f r e h = subst (λ p. AnswersWanted (option_and_then f p) r) (sym e) h
+
+-- a call that reads one thing of the rows, and refuses for want of memory alone
+pub read_one : {T : Type 0} (f : List Row → T) (a b : App) (words : List Text) (rows : List Row) (r : Result T WordsError)
+    → a ≡ b → reading a words ≡ Some rows → IfOk r (λ x. x ≡ f rows) → OnlyWants r → AnswersWanted (option_map f (reading b words)) r
+read_one f a b words rows (Ok x) same read is wants = subst (λ l. option_map f (reading l words) ≡ Some x) same (ap (option_map f) read ∙ ap Some (sym is))
+read_one f a b words rows (Err e) same read is wants = λ usage. absurd cc
 
 -- ---- a path
 

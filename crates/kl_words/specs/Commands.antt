@@ -1,5 +1,6 @@
 -- The command of some words.
-use Rattle.std.specs.Prelude.{◌≡◌, ◌≤◌, ⊤, ◌&&◌, ◌^◌, ℕ, Bool, false, not, List, [], ◌∷◌, Option, Some, None, Result, MatchResult, IfErr, codes, nat_lt, option_and_then, option_map, unwrap_or, if◌then◌else◌}
+use Rattle.std.specs.Prelude.{◌≡◌, ◌≤◌, ⊤, ◌&&◌, ◌^◌, ℕ, Bool, false, not, if◌then◌else◌, List, [], ◌∷◌, codes, nat_lt}
+use Rattle.std.specs.Prelude.{Option, Some, None, option_and_then, option_map, unwrap_or, Result, MatchResult, IfErr}
 use Rattle.std.specs.Option.{option_map_or}
 use Rattle.std.specs.Str.{bytes_eq}
 use Rattle.std.specs.Str.Parse.{digits_value, without_leading_plus}

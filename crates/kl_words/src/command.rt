@@ -35,7 +35,7 @@ impl From<AllocError> for WordsError {
 }
 
 /// What the words ask for. Programs, catalogues and files are given by their paths.
-#[derive(Debug, Drop, PartialEq, Eq)]
+#[derive(Drop, PartialEq, Eq)]
 pub enum Command {
     /// A program is run, and its value printed.
     Run(Job),
@@ -56,7 +56,7 @@ pub enum Command {
 }
 
 /// A program that is to be run.
-#[derive(Debug, Drop, PartialEq, Eq)]
+#[derive(Drop, PartialEq, Eq)]
 pub struct Job {
     /// The path of the program.
     pub program: Text,

@@ -2,7 +2,8 @@
 ghost use Rattle.std.specs.Prelude.{◌≡◌, ◌≢◌, IfOk, IfErr, codes, map, string_bytes, None, Some, option_and_then, option_map, true};
 ghost use Rattle.clap.specs.Words.{app_of, first_of, found_of, IsParsedFrom, is_simple_and_free, kind_of, rows_of};
 ghost use Rattle.kl_words.specs.Lines.{program_line, run_line, show_line};
-ghost use Rattle.kl_words.specs.Commands.{AnswersWanted, AreInRange, KeepsLimits, OnlyWants, command_of, has_flag, job_of, join_named, join_of, number_of, on_program, path_at, reading};
+ghost use Rattle.kl_words.specs.Commands.{AnswersWanted, AreInRange, KeepsLimits, OnlyWants, command_of, reading};
+ghost use Rattle.kl_words.specs.Commands.{has_flag, job_of, join_named, join_of, number_of, on_program, path_at};
 
 use crate::command::{Command, Job, WordsError};
 use crate::line;

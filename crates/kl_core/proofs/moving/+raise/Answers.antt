@@ -2,6 +2,7 @@ use Rattle.std.proofs.Common.{rules, arith, refl, subst, sym, ◌+◌, ◌≤◌
 use Rattle.kl_core.specs.Trees.{view}
 use Rattle.kl_core.specs.Positions.{InRange, shift_of}
 use Rattle.kl_core.specs.declared.term.Term.{the_lemmas}
+use Rattle.kl_core.proofs.Made.{made}
 use Rattle.kl_core.proofs.Raising.{fit_Make, fit_Prim, fit_Rec, fit_branches, fit_other, raise_Make, raise_Prim, raise_Rec, raise_Case, raise_other, raise_nothing, copied}
 use Rattle.kl_core.proofs.moving.+raise.Goals as goal
 
@@ -20,23 +21,25 @@ raise-raise_all-requires t c = (search (rules, the_lemmas, arith), fit_Make _ _ 
 pub raise-raise_all-requires-in-Prim : goal.raise-raise_all-requires-in-Prim
 raise-raise_all-requires-in-Prim t c = (search (rules, the_lemmas, arith), fit_Prim _ _ _ _ _ _ c.in-Prim.is c.slice-in-Prim.ensures c.requires.fits)
 
-pub raise-returns-in_ok-raise_fields-in-Rec : goal.raise-returns-in_ok-raise_fields-in-Rec
-raise-returns-in_ok-raise_fields-in-Rec t c = raise_Rec _ _ _ _ _ _ c.in-Rec.is c.slice.ensures c.in_ok-raise_fields-in-Rec.ensures
+pub raise-returns-in-Rec : goal.raise-returns-in-Rec
+raise-returns-in-Rec t c = made _ _ _ _ _ c.record.ensures c.raise_fields.ensures (λ qs h. raise_Rec _ _ _ _ _ _ c.in-Rec.is c.slice.ensures h)
 
-pub raise-returns-in_ok-raise_box-in-Some : goal.raise-returns-in_ok-raise_box-in-Some
-raise-returns-in_ok-raise_box-in-Some t c =
-    raise_Case _ _ _ _ _ _ _ _ (Some c.in_ok-raise_box-in-Some.field-0) _ _ c.in-Case.is c.a.view_is c.in_ok-a-in-Case.ensures c.slice-in-Case.ensures c.in_ok-branches-in-Case.ensures
-    (raise_other _ _ _ _ _ c.in-Some.is c.in_ok-raise_box-in-Some.ensures)
+pub raise-returns-in-Some : goal.raise-returns-in-Some
+raise-returns-in-Some t c =
+    made _ _ _ _ _ c.case.ensures c.raise_box-in-Some.ensures
+    (λ d h.
+    raise_Case _ _ _ _ _ _ _ _ (Some d) _ _ c.in-Case.is refl c.in_ok-a-in-Case.ensures c.slice-in-Case.ensures c.in_ok-branches-in-Case.ensures
+    (raise_other _ _ _ _ _ c.in-Some.is h))
 
 pub raise-returns-in-None : goal.raise-returns-in-None
 raise-returns-in-None t c =
     raise_Case _ _ _ _ _ _ _ _ None _ _ c.in-Case.is refl c.in_ok-a-in-Case.ensures c.slice-in-Case.ensures c.in_ok-branches-in-Case.ensures (raise_nothing _ _ _ c.in-None.is)
 
-pub raise-returns-in_ok-raise_all-in-Make : goal.raise-returns-in_ok-raise_all-in-Make
-raise-returns-in_ok-raise_all-in-Make t c = raise_Make _ _ _ _ _ _ _ c.in-Make.is c.slice-in-Make.ensures c.in_ok-raise_all-in-Make.ensures
+pub raise-returns-in-Make : goal.raise-returns-in-Make
+raise-returns-in-Make t c = made _ _ _ _ _ c.collection.ensures c.raise_all.ensures (λ us h. raise_Make _ _ _ _ _ _ _ c.in-Make.is c.slice-in-Make.ensures h)
 
-pub raise-returns-in_ok-raise_all-in-Prim : goal.raise-returns-in_ok-raise_all-in-Prim
-raise-returns-in_ok-raise_all-in-Prim t c = raise_Prim _ _ _ _ _ _ _ c.in-Prim.is c.slice-in-Prim.ensures c.in_ok-raise_all-in-Prim.ensures
+pub raise-returns-in-Prim : goal.raise-returns-in-Prim
+raise-returns-in-Prim t c = made _ _ _ _ _ c.primitive.ensures c.raise_all-in-Prim.ensures (λ us h. raise_Prim _ _ _ _ _ _ _ c.in-Prim.is c.slice-in-Prim.ensures h)
 
 pub raise_branches-raise_under-requires : goal.raise_branches-raise_under-requires
 unfolding Rattle.kl_core.specs.declared.term.Term.TheBlock.the_depth

@@ -1,7 +1,15 @@
-use Rattle.std.proofs.Common.{◌∙◌, ap}
-use Rattle.clap.specs.Words.{is_simple_and_free}
+use Rattle.std.proofs.Common.{◌∙◌, Some, ap, map, option_map, string_bytes, sym}
+use Rattle.clap.specs.Words.{app_of, found_of, is_simple_and_free, rows_of}
+use Rattle.kl_words.specs.Lines.{program_line}
+use Rattle.kl_words.specs.Commands.{paths_of}
+use Rattle.kl_words.proofs.Reading.{read_by}
 use Rattle.kl_words.proofs.Simple.{program_simple}
 use Rattle.kl_words.proofs.read.paths.Goals as goal
 
 pub read_line-requires : goal.read_line-requires
 read_line-requires c = ap is_simple_and_free c.in_ok-program.ensures ∙ program_simple _
+
+pub returns : goal.returns
+returns c =
+    let read = read_by (app_of c.in_ok-program.field-0) (program_line c.args.name.now) (map string_bytes c.args.words.now) (Some (rows_of (found_of c.in_ok-matches.matches))) c.in_ok-program.ensures c.in_ok-matches.ensures.ok in
+    ap (option_map paths_of) read ∙ (λ i. Some (sym c.in_ok-path.ensures.path i, sym c.in_ok-optional_path.ensures.path i))

@@ -1,13 +1,11 @@
-use Rattle.std.proofs.Common.{◌≡◌, rules, sym, ap, ◌∙◌, length}
-use Rattle.kl_flat.specs.Flat.{asked_source}
-use Rattle.kl_flat.proofs.Cursors.{start_done, start_stopped}
+use Rattle.std.proofs.Common.{◌≡◌, rules, subst, length}
+use Rattle.kl_flat.specs.Cursors.{OpensLast}
+use Rattle.kl_flat.proofs.Cursors.{start_done}
 use Rattle.kl_flat.proofs.driver.FlatDriverDriver.start.Goals as goal
 
-pub returns-in_err-count_ask : goal.returns-in_err-count_ask
-returns-in_err-count_ask g c = start_stopped c.args.ask.now c.from_residual-in_err-count_ask.result (g.F.Files.state c.args.self.now.files) _ c.args.self.now.cursors.items _ c.args.self.now.asked.items _ _ _ c.in_ok-push.ensures.items c.in_err-count_ask.ensures.refused (search rules)
-
-pub returns : goal.returns
-returns g c =
-    let found = ap (λ xs. asked_source xs c.args.ask.now) (sym c.deref.ensures.value) ∙ c.in-Some.ensures in
-    let last : c.len-cursor.result ≡ length c.args.self.now.cursors.items = search rules in
-    start_done c.args.ask.now c.in-Some.source.now c.in_ok-open.open c.len-cursor.result (g.F.Files.state c.args.self.now.files) _ c.args.self.now.cursors.items _ c.args.self.now.asked.items _ _ _ c.requires found c.in_ok-open.ensures.ask c.in_ok-open.ensures.ty c.in_ok-open.ensures.rows c.in_ok-open.ensures.start c.in_ok-open.open.small last c.in_ok-push.ensures.items c.in_ok-count_ask.ensures.counted
+pub returns-in-Ok : goal.returns-in-Ok
+returns-in-Ok g c =
+    let cursors = c.args.self.now.cursors.items in
+    let last : c.len-cursor.result ≡ length cursors = search rules in
+    let opens = subst (λ sources. OpensLast sources c.args.ask.now cursors c.open_cursor.new.cursors.items) c.deref.ensures.value c.in_ok-open_cursor.ensures.opened in
+    start_done c.args.ask.now c.len-cursor.result (g.F.Files.state c.args.self.now.files) _ cursors _ _ _ _ _ c.requires last opens c.in-Ok.ensures.counted

@@ -3,7 +3,7 @@ use Rattle.kl_type.specs.Ground.{IsProper}
 use Rattle.kl_type.specs.declared.ground.Ty.TheVariants as ty
 use Rattle.kl_value.specs.declared.Kind.TheVariants as kind
 use Rattle.kl_flat.proofs.OneColumn.{one_proper}
-use Rattle.kl_flat.proofs.tests.counts.Goals as goal
+use Rattle.calls_sources.proofs.tables.counts.Goals as goal
 
 pub returns-clause-proper : goal.returns-clause-proper
 returns-clause-proper c =

@@ -2,9 +2,9 @@ ghost use Rattle.std.specs.Prelude.{◌≡◌, true, IfOk};
 ghost use Rattle.kl_type.specs.Ground.{IsProper};
 ghost use Rattle.kl_flat.specs.Columns.{is_table_type};
 
-use crate::{FlatDriver, read_table};
 use kl_ask::Driver;
 use kl_base::{Box, Label, Seq, Text};
+use kl_flat::{FlatDriver, Table, read_table};
 use kl_outside::MemFiles;
 use kl_type::Ty;
 use kl_value::Kind;
@@ -22,11 +22,14 @@ fn counts(alloc: Global) -> Result<Ty, Fail>
     Ok(Ty::Coll(Kind::Bag, item))
 }
 
+fn table(alloc: Global) -> Result<Table, Fail> {
+    let ty = counts(alloc)?;
+    Ok(read_table(alloc, b"m,n\n1,-3\n2, 007\t\n3,+5\n", &ty)?)
+}
+
 #[test]
 fn a_table_is_read(rt: HostRuntime) -> Result<(), Fail> {
-    let alloc = rt.alloc();
-    let ty = counts(alloc)?;
-    let table = read_table(alloc, b"m,n\n1,-3\n2, 007\t\n3,+5\n", &ty)?;
+    let table = table(rt.alloc())?;
     assert_eq!(rt; table.rows.len(), 2);
     assert!(rt; table.bad == Some(3));
     Ok(())
@@ -36,16 +39,24 @@ fn text(alloc: Global, bytes: &[u8]) -> Result<Text, Fail> {
     Ok(Text::of(Vec::from_slice(alloc, bytes)?))
 }
 
-#[test]
-fn a_source_is_attached(rt: HostRuntime) -> Result<(), Fail> {
-    let alloc = rt.alloc();
+fn files(alloc: Global) -> Result<MemFiles, Fail> {
     let path = text(alloc, b"t.csv")?;
-    let files = vec![in alloc; (path.dup(alloc)?, text(alloc, b"n\n1\n2\n")?)]?;
-    let mut driver = FlatDriver::new(alloc, MemFiles::new(alloc, files));
+    let table = text(alloc, b"n\n1\n2\n")?;
+    Ok(MemFiles::new(alloc, vec![in alloc; (path, table)]?))
+}
+
+// Whether the table is attached, with two rows.
+fn attaches(alloc: Global) -> Result<bool, Fail> {
     let name = Label::new(alloc, b"t")?.ok_or("no word")?;
+    let path = text(alloc, b"t.csv")?;
     let ty = counts(alloc)?;
-    let count = driver.attach(&name, &path, &ty).map_err(|_| "attach")?;
-    assert_eq!(rt; count, 2);
-    assert_eq!(rt; driver.starts(), 0);
+    let mut driver = FlatDriver::new(alloc, files(alloc)?);
+    let count = driver.attach(&name, &path, &ty);
+    Ok(count == Ok(2) && driver.starts() == 0)
+}
+
+#[test]
+fn a_table_is_attached(rt: HostRuntime) -> Result<(), Fail> {
+    assert!(rt; attaches(rt.alloc())?);
     Ok(())
 }
