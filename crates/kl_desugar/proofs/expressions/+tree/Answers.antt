@@ -19,7 +19,7 @@ tree-returns-in_ok-branches-in-Case t c =
     case_is _ _ _ _ _ _ _ _ _ _ _ _ c.in-Case.is c.get-in-Case.ensures c.slice-in-Case.ensures c.of-in-Case.ensures c.in_ok-branches-in-Case.ensures c.in_ok-other-in-Case.ensures c.in_ok-a-in-Case.ensures
 
 pub tree_call-returns : goal.tree_call-returns
-tree_call-returns t c = call_ok _ _ _ _ _ _ _ c.slice.ensures c.in_ok-args.ensures c.call.ensures
+tree_call-returns t c = call_ok _ c.args.word.now _ _ _ _ _ c.slice.ensures c.in_ok-args.ensures c.call.ensures
 
 pub tree_within-returns : goal.tree_within-returns
 tree_within-returns t c = within_ok _ _ _ _ _ _ _ _ _ c.deref.ensures.value c.in_ok-entered.ensures c.in_ok-body.ensures c.wrap.ensures
