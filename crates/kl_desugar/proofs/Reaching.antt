@@ -143,7 +143,7 @@ reached_same (function n p a ds) e c d h =
     let j = function_by (function_tree p a d) in
     elim (is_among xs n.text) as (λ b. is_among xs n.text ≡ b → AgreeOn (xs ++ if_among b ys) c d → tree e (codes_after (kept_if b (function n p a) (reached ds e)) c) [] ≡ tree e (codes_after ds (with_code n.text j d)) []) [
       | true ↦ λ i g. reached_same ds e _ _ (both_with xs n.text (function_by (function_tree p a c)) j c d
-        (ap function_by (function_same c d p a (back xs ys c d g))) (front xs ys c d g))
+          (ap function_by (function_same c d p a (back xs ys c d g))) (front xs ys c d g))
       | false ↦ λ i g. reached_same ds e _ _ (either_with xs n.text j c d i (front xs [] c d g))
     ] refl h
 

@@ -16,7 +16,8 @@ types_of sources i = slice_get (map (λ s. s.1) sources) i
 -- where the program is tidy and its sources have types of the language, its term has each type that the program has
 abbrev pub MakesSense : Decls → Exp → List (Name × Ground) → Type 0
 MakesSense ds e sources =
-    (t : Ground) → AreGround sources → IsTidyProgram ds e → ProgramTypes ds e sources t → CoreTypes (types_of sources) [] (term_of ds e (map (λ s. s.0) sources)) t
+    (t : Ground) → AreGround sources → IsTidyProgram ds e → ProgramTypes ds e sources t
+    → CoreTypes (types_of sources) [] (term_of ds e (map (λ s. s.0) sources)) t
 
 -- the same of a term over any types of the sources with these names
 abbrev pub HasSense : Decls → Exp → List Name → Tree → Type 0

@@ -35,7 +35,8 @@ fn comprehended(
     layers: Vec<Layer>,
     head: Box<Term>,
 ) -> Result<Term, NoMemory>
-    ensures { IfOk result (λ t. term.view t ≡ wrapped (missed (Some kind)) (layers_view layers.items) (term.make kind (term.trees (term.view head) term.no_trees))) }
+    ensures { IfOk result (λ t. term.view t
+        ≡ wrapped (missed (Some kind)) (layers_view layers.items) (term.make kind (term.trees (term.view head) term.no_trees))) }
 {
     let head = made(alloc, kind, head)?;
     Ok(wrap(alloc, layers, Some(kind), head)?.into_inner())
@@ -185,7 +186,8 @@ pub(crate) fn tree_within(
     codes: &Codes,
     scope: &[Slot],
 ) -> Result<Box<Term>, NoMemory>
-    ensures { IfOk result (λ t. term.view t ≡ matched_here (pattern_view pattern.now) (codes_of codes.now) scope.now no_sense (λ R. tree (view body.now) (codes_of codes.now) R)) }
+    ensures { IfOk result (λ t. term.view t
+        ≡ matched_here (pattern_view pattern.now) (codes_of codes.now) scope.now no_sense (λ R. tree (view body.now) (codes_of codes.now) R)) }
 {
     let entered = enter(alloc, pattern, codes, scope)?;
     let body = tree_box(alloc, body, codes, &entered.scope)?;
@@ -269,7 +271,8 @@ fn tree_quals(
     scope: &mut Vec<Slot>,
     layers: &mut Vec<Layer>,
 ) -> Result<(), NoMemory>
-    ensures { IfOk result (λ _. OpensQuals (quals_view quals.now) kind (codes_of codes.now) scope.old.items scope.new.items (layers_view layers.old.items) (layers_view layers.new.items)) }
+    ensures { IfOk result (λ _. OpensQuals (quals_view quals.now) kind (codes_of codes.now) scope.old.items scope.new.items
+        (layers_view layers.old.items) (layers_view layers.new.items)) }
 {
     for qual in quals {
         tree_qual(alloc, qual, kind, codes, scope, layers)?;
@@ -286,7 +289,8 @@ fn tree_qual(
     scope: &mut Vec<Slot>,
     layers: &mut Vec<Layer>,
 ) -> Result<(), NoMemory>
-    ensures { IfOk result (λ _. OpensQuals (qual_view qual.now no_quals) kind (codes_of codes.now) scope.old.items scope.new.items (layers_view layers.old.items) (layers_view layers.new.items)) }
+    ensures { IfOk result (λ _. OpensQuals (qual_view qual.now no_quals) kind (codes_of codes.now)
+        scope.old.items scope.new.items (layers_view layers.old.items) (layers_view layers.new.items)) }
 {
     match qual {
         Qual::Gen(pattern, source) => {

@@ -121,7 +121,8 @@ fn ask_equal(
     count: usize,
     layers: &mut Vec<Layer>,
 ) -> Result<(), NoMemory>
-    ensures { IfOk result (λ _. layers_view layers.new.items ≡ layers_view layers.old.items ++ equals (place_tree (place_view place.now) count) (view other) ∷ []) }
+    ensures { IfOk result (λ _. layers_view layers.new.items ≡ layers_view layers.old.items
+        ++ equals (place_tree (place_view place.now) count) (view other) ∷ []) }
 {
     let value = place_term(alloc, place, count)?;
     layers.push(Layer::Guard(two(alloc, 1, value, other)?))?;
@@ -137,7 +138,8 @@ fn ask_bound(
     layers: &mut Vec<Layer>,
 ) -> Result<(), NoMemory>
     ensures scope { IfOk result (λ _. scope.new.items ≡ Some word.now.text ∷ scope.old.items) }
-    ensures layers { IfOk result (λ _. layers_view layers.new.items ≡ layers_view layers.old.items ++ bound (place_tree (place_view place.now) (length scope.old.items)) ∷ []) }
+    ensures layers { IfOk result (λ _. layers_view layers.new.items ≡ layers_view layers.old.items
+        ++ bound (place_tree (place_view place.now) (length scope.old.items)) ∷ []) }
 {
     let value = place_term(alloc, place, scope.len())?;
     layers.push(Layer::Bound(value))?;
@@ -155,7 +157,8 @@ fn ask_opened(
     layers: &mut Vec<Layer>,
 ) -> Result<(), NoMemory>
     ensures scope { IfOk result (λ _. scope.new.items ≡ none ∷ scope.old.items) }
-    ensures layers { IfOk result (λ _. layers_view layers.new.items ≡ layers_view layers.old.items ++ opened (place_tree (place_view place.now) (length scope.old.items)) word.now.text ∷ []) }
+    ensures layers { IfOk result (λ _. layers_view layers.new.items ≡ layers_view layers.old.items
+        ++ opened (place_tree (place_view place.now) (length scope.old.items)) word.now.text ∷ []) }
 {
     let value = place_term(alloc, place, scope.len())?;
     let label = word.text.dup()?;
@@ -174,7 +177,8 @@ pub(crate) fn ask(
     scope: &mut Vec<Slot>,
     layers: &mut Vec<Layer>,
 ) -> Result<(), NoMemory>
-    ensures { IfOk result (λ _. AsksPattern (pattern_view pattern.now) (place_view place.now) (codes_of codes.now) outer.now scope.old.items scope.new.items (layers_view layers.old.items) (layers_view layers.new.items)) }
+    ensures { IfOk result (λ _. AsksPattern (pattern_view pattern.now) (place_view place.now) (codes_of codes.now) outer.now
+        scope.old.items scope.new.items (layers_view layers.old.items) (layers_view layers.new.items)) }
 {
     match pattern {
         Pattern::Bind(word) => ask_bound(alloc, word, place, scope, layers),
@@ -231,7 +235,8 @@ pub(crate) fn enter(
     codes: &Codes,
     outer: &[Slot],
 ) -> Result<Entered, NoMemory>
-    ensures { IfOk result (λ e. AsksPattern (pattern_view pattern.now) (here (length outer.now)) (codes_of codes.now) outer.now (none ∷ outer.now) e.scope.items [] (layers_view e.layers.items)) }
+    ensures { IfOk result (λ e. AsksPattern (pattern_view pattern.now) (here (length outer.now))
+        (codes_of codes.now) outer.now (none ∷ outer.now) e.scope.items [] (layers_view e.layers.items)) }
 {
     let mut scope = copy(alloc, outer)?;
     let mut layers = Vec::new(alloc);

@@ -20,7 +20,8 @@ use std::alloc::Global;
 
 // What a definition stands for, over those before it.
 fn define(alloc: Global, def: &Decl, codes: &Codes) -> Result<Definition, NoMemory>
-    ensures { IfOk result (λ d. with_code d.name (definition_code d.function (term.view d.term)) (codes_of codes.now) ≡ codes_after (decl_of def.now.param def.now no_decls) (codes_of codes.now)) }
+    ensures { IfOk result (λ d. with_code d.name (definition_code d.function (term.view d.term)) (codes_of codes.now)
+        ≡ codes_after (decl_of def.now.param def.now no_decls) (codes_of codes.now)) }
 {
     let name = def.name.text.dup()?;
     let scope = Vec::new(alloc);
@@ -72,7 +73,7 @@ fn last_term(alloc: Global, program: &Program, sources: &[Label]) -> Result<Term
 
 /// The term of a program: over values of the program's sources, by their numbers, with which the program makes sense, the
 /// term means what the program means. Over sources of the language's types it has each type that the program has, and no
-/// position is free in it. The term of a
+/// position is free in it. Terms are made of the definitions alone that the last expression reaches. The term of a
 /// definition stands at each of its uses, so that the term of a short program can be too large for any memory: whoever
 /// must not wait for that asks `kl_scope::sizes` first. Where it tells of no declaration, the term is within its limits.
 ///

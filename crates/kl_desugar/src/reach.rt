@@ -103,10 +103,7 @@ fn names_all<'a>(items: &'a [Expr], words: &mut Vec<&'a Word>) -> Result<(), NoM
 }
 
 #[cycle(names)]
-fn names_fields<'a>(
-    fields: &'a [(Word, Expr)],
-    words: &mut Vec<&'a Word>,
-) -> Result<(), NoMemory>
+fn names_fields<'a>(fields: &'a [(Word, Expr)], words: &mut Vec<&'a Word>) -> Result<(), NoMemory>
     ensures { IfOk result (λ _. behind_each words.new.items ≡ behind_each words.old.items ++ names_fields (fields_view fields.now)) }
 {
     'fields: for field in fields {
@@ -137,7 +134,8 @@ fn names_quals<'a>(quals: &'a [Qual], words: &mut Vec<&'a Word>) -> Result<(), N
 
 #[cycle(names)]
 fn names_qual<'a>(qual: &'a Qual, words: &mut Vec<&'a Word>) -> Result<(), NoMemory>
-    ensures { IfOk result (λ _. (rest : Quals) → behind_each words.new.items ++ names_quals rest ≡ behind_each words.old.items ++ names_quals (qual_view qual.now rest)) }
+    ensures { IfOk result (λ _. (rest : Quals) → behind_each words.new.items ++ names_quals rest ≡ behind_each words.old.items
+        ++ names_quals (qual_view qual.now rest)) }
 {
     match qual {
         Qual::Gen(pattern, e) => {
@@ -154,11 +152,9 @@ fn names_qual<'a>(qual: &'a Qual, words: &mut Vec<&'a Word>) -> Result<(), NoMem
 
 /// Branches before others.
 #[cycle(names)]
-fn names_branches<'a>(
-    branches: &'a [Branch],
-    words: &mut Vec<&'a Word>,
-) -> Result<(), NoMemory>
-    ensures { IfOk result (λ _. (rest : Branches) → behind_each words.new.items ++ names_branches rest ≡ behind_each words.old.items ++ names_branches (branches_of (map branch_view branches.now) rest)) }
+fn names_branches<'a>(branches: &'a [Branch], words: &mut Vec<&'a Word>) -> Result<(), NoMemory>
+    ensures { IfOk result (λ _. (rest : Branches) → behind_each words.new.items ++ names_branches rest ≡ behind_each words.old.items
+        ++ names_branches (branches_of (map branch_view branches.now) rest)) }
 {
     'branches: for branch in branches {
         names_branch(branch, words)?;
@@ -168,7 +164,8 @@ fn names_branches<'a>(
 
 #[cycle(names)]
 fn names_branch<'a>(branch: &'a Branch, words: &mut Vec<&'a Word>) -> Result<(), NoMemory>
-    ensures { IfOk result (λ _. (rest : Branches) → behind_each words.new.items ++ names_branches rest ≡ behind_each words.old.items ++ names_branches (branch_view branch.now rest)) }
+    ensures { IfOk result (λ _. (rest : Branches) → behind_each words.new.items ++ names_branches rest ≡ behind_each words.old.items
+        ++ names_branches (branch_view branch.now rest)) }
 {
     pattern_names(&branch.pat, words)?;
     names(&branch.body, words)?;
@@ -176,10 +173,7 @@ fn names_branch<'a>(branch: &'a Branch, words: &mut Vec<&'a Word>) -> Result<(),
 }
 
 #[cycle(names)]
-fn names_rest<'a>(
-    rest: &'a Option<Box<Expr>>,
-    words: &mut Vec<&'a Word>,
-) -> Result<(), NoMemory>
+fn names_rest<'a>(rest: &'a Option<Box<Expr>>, words: &mut Vec<&'a Word>) -> Result<(), NoMemory>
     ensures { IfOk result (λ _. behind_each words.new.items ≡ behind_each words.old.items ++ names_branches (rest_of (option_map view rest.now))) }
 {
     match rest {
