@@ -86,11 +86,3 @@ pub call_ok : {X : Type 0} (r : Result Term X) (f : Word) (es fs : List Expr) (t
     → IfOk r (λ t. term.view t ≡ tree (call f (exps_view es)) codes S)
 call_ok (Ok t) f es fs ts codes S q h w = rw (w, h, q) (ap (called_tree (codes f.text)) (sym (trees_are es codes S)))
 call_ok (Err x) f es fs ts codes S q h w = tt
-
-pub path_is : (e : Expr) (a b : Expr) (ws vs : List Word) (t u v : Term) (codes : Codes) (S : Scope) → e ≡ expr.Path a ws → b ≡ a → vs ≡ ws → term.view t ≡ tree (view b) codes S
-    → term.view u ≡ projected vs (term.view t) → v ≡ u → term.view v ≡ tree (view e) codes S
-path_is e a b ws vs t u v codes S p q r h w is = rw (p, view_Path, is, w, h, q, r) refl
-
-pub chain_is : (e : Expr) (a b : Expr) (ss ts : List (Op × Expr)) (t u v : Term) (codes : Codes) (S : Scope) → e ≡ expr.Chain a ss → b ≡ a → ts ≡ ss → term.view t ≡ tree (view b) codes S
-    → term.view u ≡ tree_steps (steps_view ts) (term.view t) codes S → v ≡ u → term.view v ≡ tree (view e) codes S
-chain_is e a b ss ts t u v codes S p q r h w is = rw (p, view_Chain, is, w, h, q, r) refl

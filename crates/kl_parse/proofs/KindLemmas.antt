@@ -410,17 +410,6 @@ some_op level.Compare w h = one_of level.Compare w (ops_of level.Compare) (refl,
 some_op level.Add w h = one_of level.Add w (ops_of level.Add) (refl, (refl, (refl, (refl, tt)))) h
 some_op level.Mul w h = one_of level.Mul w (ops_of level.Mul) (refl, tt) h
 
--- where the test holds the token says an operator
-pub op_of : (l : Level) (t : Token) → among (op_kinds l) t ≡ true → (o : Op) × (an_op l t ≡ Some o)
-op_of l t h = let k = some_op l t.what h in (k.0, (decides_op l).1 t k.0 (k.1, k.2))
-
-pub no_op : (l : Level) (t : Token) → an_op l t ≡ None → among (op_kinds l) t ≡ false
-no_op l t e = go (among (op_kinds l) t) refl
-  where
-    go : (b : Bool) → among (op_kinds l) t ≡ b → among (op_kinds l) t ≡ false
-    go false i = i
-    go true i = let k = op_of l t i in let f : Path (Option Op) None (Some k.0) = sym e ∙ k.1 in absurd cc
-
 -- ---- some token is one
 
 abbrev a_token : Tok → Token

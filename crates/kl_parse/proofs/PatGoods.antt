@@ -136,9 +136,6 @@ on_rec P = on_behind (is_symbol sy.OpenRec) (Symbol sy.OpenRec) (Before (Shape P
 abbrev bracket_kinds : List ℕ
 bracket_kinds = one_symbol sy.OpenRec ++ simple_kinds
 
-abbrev pub pat_kinds : List ℕ
-pat_kinds = one_symbol sy.Lt ++ bracket_kinds
-
 on_bracketed : (may : Bool) (P : Phrase Token Pattern) → On (among bracket_kinds) (Or (Opened may (PatRec P)) Simple)
 on_bracketed may P = alt (Opened may (PatRec P)) Simple (one_symbol sy.OpenRec) simple_kinds bracket_kinds refl refl (on_opened (is_symbol sy.OpenRec) may (PatRec P) (on_rec P)) on_simple
 

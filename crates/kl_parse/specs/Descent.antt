@@ -170,10 +170,6 @@ module _ (total : ℕ) where
   abbrev pub in_inject : Reader Token Expr → Reader Token (Word × Expr)
   in_inject a = before (field a) (mark sym.Gt)
 
-  -- behind the bracket of a branch: p inside it, e behind the arrow
-  abbrev pub in_branch : Reader Token Pattern → Reader Token Expr → Reader Token Branch
-  in_branch p e = made branch_of (both (in_variant p) (behind (mark sym.Arrow) e))
-
   abbrev pub labels : Reader Token (List Word)
   labels = many (is_symbol sym.Dot) (behind (mark sym.Dot) label)
 
@@ -286,9 +282,6 @@ module _ (total : ℕ) where
   abbrev pub branch_inside : ℕ → Reader Token Branch
   branch_inside zero = never deep
   branch_inside (suc depth) = branch_at depth
-
-  abbrev pub pat_at : ℕ → Reader Token Pattern
-  pat_at depth = pat total (pat_inside depth) deep (opens depth)
 
   abbrev pub named_at : ℕ → Reader Token Expr
   named_at depth = named total deep (opens depth) (inside depth whole)

@@ -43,9 +43,6 @@ module _ {T : Type 0} where
   pub leaves_chain : {A B : Type 0} {p : Reader T A} {k : A → Reader T B} → Leaves p → ((a : A) → Leaves (k a)) → Leaves (chain p k)
   leaves_chain {A} {B} {p} {k} h f = record { leaves = λ ts. leaves_after ts (p ts) k (h.leaves ts) (λ a r. (f a).leaves r) }
 
-  pub leaves_made : {A B : Type 0} (f : A → B) {p : Reader T A} → Leaves p → Leaves (made f p)
-  leaves_made f h = leaves_chain h (λ a. leaves_nothing (f a))
-
   pub leaves_pick : {A : Type 0} {test : T → Bool} {p q : Reader T A} → Leaves p → Leaves q → Leaves (pick test p q)
   leaves_pick {A} {test} {p} {q} h k = record { leaves = λ ts. pick_rests (heads test ts) ts (p ts) (q ts) (h.leaves ts) (k.leaves ts) }
 
