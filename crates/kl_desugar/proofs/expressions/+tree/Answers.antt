@@ -1,4 +1,4 @@
-use Rattle.kl_desugar.proofs.Arms.{coll_is, comp_ok, let_is, rec_ok, case_is, call_ok, path_is, chain_is, within_ok}
+use Rattle.kl_desugar.proofs.Arms.{coll_is, comp_ok, let_is, rec_ok, case_is, call_ok, within_ok}
 use Rattle.kl_desugar.proofs.expressions.+tree.Goals as goal
 
 pub tree-returns-in_ok-items-in-Coll : goal.tree-returns-in_ok-items-in-Coll
