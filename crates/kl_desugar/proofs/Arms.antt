@@ -1,17 +1,17 @@
 -- The term of an expression, a variant each.
-use Rattle.std.proofs.Common.{◌≡◌, ℕ, List, [], ◌∷◌, map, Option, Some, None, length, Result, Ok, Err, IfOk, refl, sym, ap, ◌∙◌, rules}
+use Rattle.std.proofs.Common.{◌≡◌, ℕ, List, [], ◌∷◌, map, Option, Some, None, length, Result, Ok, Err, IfOk, refl, sym, ap, ◌∙◌}
 use Rattle.std.specs.Option.{option_map}
 use Rattle.kl_value.specs.declared.Kind.{Kind}
 use Rattle.kl_syntax.specs.declared.Word.{Word}
 use Rattle.kl_syntax.specs.declared.Pattern.{Pattern}
 use Rattle.kl_syntax.specs.declared.tree.Op.{Op}
-use Rattle.kl_syntax.specs.declared.tree.Expr.{Expr, the_lemmas}
+use Rattle.kl_syntax.specs.declared.tree.Expr.{Expr}
 use Rattle.kl_syntax.specs.declared.tree.Qual.{Qual}
 use Rattle.kl_syntax.specs.declared.tree.Expr.TheVariants as expr
-use Rattle.kl_syntax.specs.declared.tree.Branch.{Branch, out-Branch, the_lemmas as branch_lemmas}
+use Rattle.kl_syntax.specs.declared.tree.Branch.{Branch}
 use Rattle.kl_syntax.specs.declared.tree.Decl.{Decl}
 use Rattle.kl_syntax.specs.Syntax.{call, Branches, Decls, no_decls}
-use Rattle.kl_syntax.specs.View.{view, exps_of, exps_view, quals_view, pattern_view, steps_view, fields_view, branch_view, branches_of, branches_view, rest_of, decl_of}
+use Rattle.kl_syntax.specs.View.{view, exps_of, exps_view, quals_view, pattern_view, steps_view, fields_view, branch_view, branches_of, rest_of, decl_of}
 use Rattle.kl_core.specs.declared.Term.{Term}
 use Rattle.kl_core.specs.declared.term.Term.TheVariants as code
 use Rattle.kl_core.specs.Trees as term
@@ -23,7 +23,7 @@ use Rattle.kl_desugar.specs.Layers.{Layered, missed, wrapped}
 use Rattle.kl_desugar.specs.Opening.{OpensQuals}
 use Rattle.kl_desugar.specs.States.{AsksPattern, field_of, arm_of}
 use Rattle.kl_desugar.proofs.Wrapping.{matched_is, quals_are}
-use Rattle.kl_syntax.proofs.Views.{view_Coll, view_Comp, view_Let, view_Rec, view_Case, branch_seen, view_Call, view_Inj, view_Path, view_Chain}
+use Rattle.kl_syntax.proofs.Views.{view_Coll, view_Comp, view_Let, view_Rec, view_Case, branch_seen, view_Path, view_Chain}
 
 trees_are : (es : List Expr) (codes : Codes) (S : Scope) → tree_all (exps_of (map view es)) codes S ≡ term.trees_of (map (λ e. tree (view e) codes S) es)
 trees_are [] codes S = refl
