@@ -55,14 +55,7 @@ fn try_over(
 {
     let mut out = sink_of(alloc, case, &case.given.fails.out, Side::Out, call)?;
     let mut err = sink_of(alloc, case, &case.given.fails.err, Side::Err, call)?;
-    let answer = kleisli(
-        alloc,
-        &case.given.words,
-        files,
-        drivers,
-        &mut out,
-        &mut err,
-    );
+    let answer = kleisli(alloc, &case.given.words, files, drivers, &mut out, &mut err);
     let status = i64::from(answer.status);
     differs(
         alloc,
@@ -105,13 +98,7 @@ fn drivers_of(alloc: Global, case: &Case, call: u64) -> Result<Vec<Box<dyn Drive
     Ok(one_driver(alloc, driver)?)
 }
 
-fn files_of(
-    alloc: Global,
-    case: &Case,
-    fails: &[u64],
-    side: Side,
-    call: u64,
-) -> Result<MemFiles> {
+fn files_of(alloc: Global, case: &Case, fails: &[u64], side: Side, call: u64) -> Result<MemFiles> {
     let mut files = MemFiles::new(alloc, entries_of(alloc, case)?);
     for failing in fails {
         files.fail_at(*failing)?;
@@ -128,13 +115,7 @@ fn entries_of(alloc: Global, case: &Case) -> Result<Vec<(Text, Text)>> {
     Ok(entries)
 }
 
-fn sink_of(
-    alloc: Global,
-    case: &Case,
-    fails: &[u64],
-    side: Side,
-    call: u64,
-) -> Result<Pieces> {
+fn sink_of(alloc: Global, case: &Case, fails: &[u64], side: Side, call: u64) -> Result<Pieces> {
     let mut sink = MemSink::new(alloc);
     for failing in fails {
         sink.fail_at(*failing)?;

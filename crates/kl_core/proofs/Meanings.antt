@@ -5,7 +5,7 @@ use mathlib.Core.Path.{fun_ext, ap₂}
 use Rattle.std.proofs.lemmas.Bool.{cases_lt, cases_eq, lt-ltb, le-ltb, eq-eqb, ne_eqb}
 use Rattle.kl_value.specs.declared.Value.{Value}
 use Rattle.kl_outcome.specs.Outcome.{Outcome, done, Name, after, outcome_of, if_then, applied, recorded, tagged, part, cases, items_of, item_then, drawn, collected, union_of}
-use Rattle.kl_core.specs.Trees.{Tree, var, con, source, rec, proj, inj, case_of, make, union, ext, choice, bind, prim, Trees, no_trees, trees, Parts, no_parts, parts, Arms, no_arms, rest, arm}
+use Rattle.kl_core.specs.Trees.{Tree, Var, Const, Source, Rec, Proj, Inj, Case, Make, Union, Ext, If, Let, Prim, Trees, no_trees, trees, Parts, no_parts, parts, Arms, no_arms, rest, arm}
 use Rattle.kl_core.specs.Core.{Tables, core, core_all, core_items, core_parts, core_arms}
 use Rattle.kl_core.specs.Positions.{raised, shift_of, shift_trees, shift_parts, shift_arms, placed, subst_of, subst_trees, subst_parts, subst_arms}
 
@@ -37,23 +37,23 @@ choice_same a b c d e f p q r = ap (λ o. if_then o b c) p ∙ ap₂ (λ o u. if
 module _ (T : Tables) where
   mutual
     pub shift_keeps : (t : Tree) (pre mid post : List Value) (n m : ℕ) → n ≡ length pre → m ≡ length mid → core T (shift_of t n m) (pre ++ (mid ++ post)) ≡ core T t (pre ++ post)
-    shift_keeps (var x) pre mid post n m e f = rw (e, f) (ap outcome_of (raised_get pre mid post x))
-    shift_keeps (con v) pre mid post n m e f = refl
-    shift_keeps (source i) pre mid post n m e f = refl
-    shift_keeps (rec ps) pre mid post n m e f = ap recorded (shift_keeps_parts ps pre mid post n m e f)
-    shift_keeps (proj l a) pre mid post n m e f = ap (part l) (shift_keeps a pre mid post n m e f)
-    shift_keeps (inj l a) pre mid post n m e f = ap (tagged l) (shift_keeps a pre mid post n m e f)
-    shift_keeps (case_of a bs) pre mid post n m e f =
+    shift_keeps (Var x) pre mid post n m e f = rw (e, f) (ap outcome_of (raised_get pre mid post x))
+    shift_keeps (Const v) pre mid post n m e f = refl
+    shift_keeps (Source i) pre mid post n m e f = refl
+    shift_keeps (Rec ps) pre mid post n m e f = ap recorded (shift_keeps_parts ps pre mid post n m e f)
+    shift_keeps (Proj l a) pre mid post n m e f = ap (part l) (shift_keeps a pre mid post n m e f)
+    shift_keeps (Inj l a) pre mid post n m e f = ap (tagged l) (shift_keeps a pre mid post n m e f)
+    shift_keeps (Case a bs) pre mid post n m e f =
         ap₂ cases (shift_keeps a pre mid post n m e f) (fun_ext λ l. fun_ext λ v. shift_keeps_arms bs l v pre mid post n m e f)
-    shift_keeps (make k ts) pre mid post n m e f = ap (collected k) (shift_keeps_items ts pre mid post n m e f)
-    shift_keeps (union a b) pre mid post n m e f = ap₂ union_of (shift_keeps a pre mid post n m e f) (shift_keeps b pre mid post n m e f)
-    shift_keeps (ext k b s) pre mid post n m e f =
+    shift_keeps (Make k ts) pre mid post n m e f = ap (collected k) (shift_keeps_items ts pre mid post n m e f)
+    shift_keeps (Union a b) pre mid post n m e f = ap₂ union_of (shift_keeps a pre mid post n m e f) (shift_keeps b pre mid post n m e f)
+    shift_keeps (Ext k b s) pre mid post n m e f =
         ap₂ (λ o go. collected k (drawn (items_of o) go)) (shift_keeps s pre mid post n m e f) (fun_ext λ v. ap items_of (shift_keeps b (v ∷ pre) mid post (n + 1) m (omega arith) f))
-    shift_keeps (choice a b c) pre mid post n m e f =
+    shift_keeps (If a b c) pre mid post n m e f =
         choice_same _ _ _ _ _ _ (shift_keeps a pre mid post n m e f) (shift_keeps b pre mid post n m e f) (shift_keeps c pre mid post n m e f)
-    shift_keeps (bind a b) pre mid post n m e f =
+    shift_keeps (Let a b) pre mid post n m e f =
         ap₂ after (shift_keeps a pre mid post n m e f) (fun_ext λ v. shift_keeps b (v ∷ pre) mid post (n + 1) m (omega arith) f)
-    shift_keeps (prim c ts) pre mid post n m e f = ap (applied c) (shift_keeps_all ts pre mid post n m e f)
+    shift_keeps (Prim c ts) pre mid post n m e f = ap (applied c) (shift_keeps_all ts pre mid post n m e f)
 
     shift_keeps_all : (ts : Trees) (pre mid post : List Value) (n m : ℕ) → n ≡ length pre → m ≡ length mid → core_all T (shift_trees ts n m) (pre ++ (mid ++ post)) ≡ core_all T ts (pre ++ post)
     shift_keeps_all no_trees pre mid post n m e f = refl
@@ -99,23 +99,23 @@ module _ (T : Tables) where
 
   mutual
     pub subst_keeps : (t w : Tree) (pre post : List Value) (v : Value) (n : ℕ) → n ≡ length pre → core T w (pre ++ post) ≡ done v → core T (subst_of t n w) (pre ++ post) ≡ core T t (pre ++ v ∷ post)
-    subst_keeps (var x) w pre post v n e h = placed_get w pre post v x n e h
-    subst_keeps (con c) w pre post v n e h = refl
-    subst_keeps (source i) w pre post v n e h = refl
-    subst_keeps (rec ps) w pre post v n e h = ap recorded (subst_keeps_parts ps w pre post v n e h)
-    subst_keeps (proj l a) w pre post v n e h = ap (part l) (subst_keeps a w pre post v n e h)
-    subst_keeps (inj l a) w pre post v n e h = ap (tagged l) (subst_keeps a w pre post v n e h)
-    subst_keeps (case_of a bs) w pre post v n e h =
+    subst_keeps (Var x) w pre post v n e h = placed_get w pre post v x n e h
+    subst_keeps (Const c) w pre post v n e h = refl
+    subst_keeps (Source i) w pre post v n e h = refl
+    subst_keeps (Rec ps) w pre post v n e h = ap recorded (subst_keeps_parts ps w pre post v n e h)
+    subst_keeps (Proj l a) w pre post v n e h = ap (part l) (subst_keeps a w pre post v n e h)
+    subst_keeps (Inj l a) w pre post v n e h = ap (tagged l) (subst_keeps a w pre post v n e h)
+    subst_keeps (Case a bs) w pre post v n e h =
         ap₂ cases (subst_keeps a w pre post v n e h) (fun_ext λ l. fun_ext λ u. subst_keeps_arms bs l u w pre post v n e h)
-    subst_keeps (make k ts) w pre post v n e h = ap (collected k) (subst_keeps_items ts w pre post v n e h)
-    subst_keeps (union a b) w pre post v n e h = ap₂ union_of (subst_keeps a w pre post v n e h) (subst_keeps b w pre post v n e h)
-    subst_keeps (ext k b s) w pre post v n e h =
+    subst_keeps (Make k ts) w pre post v n e h = ap (collected k) (subst_keeps_items ts w pre post v n e h)
+    subst_keeps (Union a b) w pre post v n e h = ap₂ union_of (subst_keeps a w pre post v n e h) (subst_keeps b w pre post v n e h)
+    subst_keeps (Ext k b s) w pre post v n e h =
         ap₂ (λ o go. collected k (drawn (items_of o) go)) (subst_keeps s w pre post v n e h) (fun_ext λ u. ap items_of (subst_keeps b (shift_of w 0 1) (u ∷ pre) post v (n + 1) (omega arith) (deeper w pre post u v h)))
-    subst_keeps (choice a b c) w pre post v n e h =
+    subst_keeps (If a b c) w pre post v n e h =
         choice_same _ _ _ _ _ _ (subst_keeps a w pre post v n e h) (subst_keeps b w pre post v n e h) (subst_keeps c w pre post v n e h)
-    subst_keeps (bind a b) w pre post v n e h =
+    subst_keeps (Let a b) w pre post v n e h =
         ap₂ after (subst_keeps a w pre post v n e h) (fun_ext λ u. subst_keeps b (shift_of w 0 1) (u ∷ pre) post v (n + 1) (omega arith) (deeper w pre post u v h))
-    subst_keeps (prim c ts) w pre post v n e h = ap (applied c) (subst_keeps_all ts w pre post v n e h)
+    subst_keeps (Prim c ts) w pre post v n e h = ap (applied c) (subst_keeps_all ts w pre post v n e h)
 
     subst_keeps_all : (ts : Trees) (w : Tree) (pre post : List Value) (v : Value) (n : ℕ) → n ≡ length pre → core T w (pre ++ post) ≡ done v → core_all T (subst_trees ts n w) (pre ++ post) ≡ core_all T ts (pre ++ v ∷ post)
     subst_keeps_all no_trees w pre post v n e h = refl

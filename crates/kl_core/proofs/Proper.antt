@@ -7,7 +7,7 @@ use Rattle.kl_type.specs.Ground.{Ground, Row, rec as rec_type, var as var_type, 
 use Rattle.kl_type.proofs.RowLemmas.{same_label, told}
 use Rattle.kl_outcome.specs.Outcome.{Name}
 use Rattle.kl_outcome.proofs.Grounds.{at_ground, prim_ground}
-use Rattle.kl_core.specs.Trees.{Tree, var, con, source, rec, proj, inj, case_of, make, union, ext, choice, bind, prim, Trees, no_trees, trees, Parts, no_parts, parts, Arms, no_arms, rest, arm}
+use Rattle.kl_core.specs.Trees.{Tree, Var, Const, Source, Rec, Proj, Inj, Case, Make, Union, Ext, If, Let, Prim, Trees, no_trees, trees, Parts, no_parts, parts, Arms, no_arms, rest, arm}
 use Rattle.kl_core.specs.Typing.{SourceTypes, CoreTypes, AllTypes, PartTypes, ArmTypes, Covers}
 
 -- ---- rows
@@ -27,19 +27,19 @@ first_label l t r = rw (same_label l) refl
 module _ (S : SourceTypes) where
   mutual
     pub types_proper : (t : Tree) (G : List Ground) (s : Ground) → CoreTypes S G t s → IsGround s
-    types_proper (var x) G s h = h.1
-    types_proper (con v) G s h = h.0
-    types_proper (source i) G s h = h.1
-    types_proper (rec ps) G s h = subst IsGround (sym h.1) (parts_proper ps G h.0 h.2 h.3)
-    types_proper (proj l a) G s h = at_ground l h.0 s (types_proper a G (rec_type h.0) h.1) h.2
-    types_proper (inj l a) G s h = h.3
-    types_proper (case_of a bs) G s h = arms_proper bs G h.0 s (types_proper a G (var_type h.0) h.1) h.2 h.3
-    types_proper (make k ts) G s h = h.2
-    types_proper (union a b) G s h = types_proper a G s h.3
-    types_proper (ext k b a) G s h = types_proper b (h.2 ∷ G) s h.5
-    types_proper (choice a b c) G s h = types_proper b G s h.1
-    types_proper (bind a b) G s h = types_proper b (h.0 ∷ G) s h.2
-    types_proper (prim c ts) G s h = prim_ground c h.0 s (all_proper ts G h.0 h.1) h.2
+    types_proper (Var x) G s h = h.1
+    types_proper (Const v) G s h = h.0
+    types_proper (Source i) G s h = h.1
+    types_proper (Rec ps) G s h = subst IsGround (sym h.1) (parts_proper ps G h.0 h.2 h.3)
+    types_proper (Proj l a) G s h = at_ground l h.0 s (types_proper a G (rec_type h.0) h.1) h.2
+    types_proper (Inj l a) G s h = h.3
+    types_proper (Case a bs) G s h = arms_proper bs G h.0 s (types_proper a G (var_type h.0) h.1) h.2 h.3
+    types_proper (Make k ts) G s h = h.2
+    types_proper (Union a b) G s h = types_proper a G s h.3
+    types_proper (Ext k b a) G s h = types_proper b (h.2 ∷ G) s h.5
+    types_proper (If a b c) G s h = types_proper b G s h.1
+    types_proper (Let a b) G s h = types_proper b (h.0 ∷ G) s h.2
+    types_proper (Prim c ts) G s h = prim_ground c h.0 s (all_proper ts G h.0 h.1) h.2
 
     all_proper : (ts : Trees) (G : List Ground) (ss : List Ground) → AllTypes S G ts ss → AllByRecursion IsGround ss
     all_proper no_trees G ss h = subst (AllByRecursion IsGround) (sym h) tt

@@ -8,7 +8,7 @@ use Rattle.kl_value.specs.declared.Kind.{Kind}
 use Rattle.kl_outcome.specs.Outcome.{Name}
 use Rattle.kl_core.specs.declared.term.Term.{Term}
 use Rattle.kl_core.specs.declared.term.Term.TheVariants as term
-use Rattle.kl_core.specs.Trees.{Tree, var, con, source, rec, proj, inj, case_of, make, union, ext, choice, bind, prim, Trees, no_trees, trees, Parts, no_parts, parts, Arms, no_arms, rest, arm, arms_of, rest_of, view, view_part, trees_view, parts_view}
+use Rattle.kl_core.specs.Trees.{Tree, Var, Const, Source, Rec, Proj, Inj, Case, Make, Union, Ext, If, Let, Prim, Trees, no_trees, trees, Parts, no_parts, parts, Arms, no_arms, rest, arm, arms_of, rest_of, view, view_part, trees_view, parts_view}
 use Rattle.kl_core.specs.Positions.{raised, shift_of, shift_trees, shift_parts, shift_arms, subst_of, subst_trees, subst_parts, subst_arms, binders, binders_trees, binders_parts, binders_arms, InRange, TreesInRange, PartsInRange, ArmsInRange}
 use Rattle.kl_core.specs.Core.{core}
 use Rattle.kl_core.specs.Typing.{CoreTypes}
@@ -34,19 +34,19 @@ raised_twice x n a b = ⊎_elim low high (cases_lt x n)
 
 mutual
   pub shift_twice : (t : Tree) (n a b : ℕ) → shift_of (shift_of t n a) n b ≡ shift_of t n (a + b)
-  shift_twice (var x) n a b = ap var (raised_twice x n a b)
-  shift_twice (con v) n a b = refl
-  shift_twice (source i) n a b = refl
-  shift_twice (rec ps) n a b = ap rec (twice_parts ps n a b)
-  shift_twice (proj l t) n a b = ap (proj l) (shift_twice t n a b)
-  shift_twice (inj l t) n a b = ap (inj l) (shift_twice t n a b)
-  shift_twice (case_of t bs) n a b = ap₂ case_of (shift_twice t n a b) (twice_arms bs n a b)
-  shift_twice (make k ts) n a b = ap (make k) (twice_trees ts n a b)
-  shift_twice (union t u) n a b = ap₂ union (shift_twice t n a b) (shift_twice u n a b)
-  shift_twice (ext k t u) n a b = ap₂ (ext k) (shift_twice t (n + 1) a b) (shift_twice u n a b)
-  shift_twice (choice t u v) n a b = ap (λ q. choice q (shift_of (shift_of u n a) n b) (shift_of (shift_of v n a) n b)) (shift_twice t n a b) ∙ ap₂ (choice (shift_of t n (a + b))) (shift_twice u n a b) (shift_twice v n a b)
-  shift_twice (bind t u) n a b = ap₂ bind (shift_twice t n a b) (shift_twice u (n + 1) a b)
-  shift_twice (prim c ts) n a b = ap (prim c) (twice_trees ts n a b)
+  shift_twice (Var x) n a b = ap Var (raised_twice x n a b)
+  shift_twice (Const v) n a b = refl
+  shift_twice (Source i) n a b = refl
+  shift_twice (Rec ps) n a b = ap Rec (twice_parts ps n a b)
+  shift_twice (Proj l t) n a b = ap (Proj l) (shift_twice t n a b)
+  shift_twice (Inj l t) n a b = ap (Inj l) (shift_twice t n a b)
+  shift_twice (Case t bs) n a b = ap₂ Case (shift_twice t n a b) (twice_arms bs n a b)
+  shift_twice (Make k ts) n a b = ap (Make k) (twice_trees ts n a b)
+  shift_twice (Union t u) n a b = ap₂ Union (shift_twice t n a b) (shift_twice u n a b)
+  shift_twice (Ext k t u) n a b = ap₂ (Ext k) (shift_twice t (n + 1) a b) (shift_twice u n a b)
+  shift_twice (If t u v) n a b = ap (λ q. If q (shift_of (shift_of u n a) n b) (shift_of (shift_of v n a) n b)) (shift_twice t n a b) ∙ ap₂ (If (shift_of t n (a + b))) (shift_twice u n a b) (shift_twice v n a b)
+  shift_twice (Let t u) n a b = ap₂ Let (shift_twice t n a b) (shift_twice u (n + 1) a b)
+  shift_twice (Prim c ts) n a b = ap (Prim c) (twice_trees ts n a b)
 
   twice_trees : (ts : Trees) (n a b : ℕ) → shift_trees (shift_trees ts n a) n b ≡ shift_trees ts n (a + b)
   twice_trees no_trees n a b = refl
@@ -66,19 +66,19 @@ still x n = ⊎_elim (λ h. rw (lt-ltb x n h) refl) (λ h. rw (le-ltb x n h) (om
 
 mutual
   pub shift_none : (t : Tree) (n : ℕ) → shift_of t n 0 ≡ t
-  shift_none (var x) n = ap var (still x n)
-  shift_none (con v) n = refl
-  shift_none (source i) n = refl
-  shift_none (rec ps) n = ap rec (none_parts ps n)
-  shift_none (proj l t) n = ap (proj l) (shift_none t n)
-  shift_none (inj l t) n = ap (inj l) (shift_none t n)
-  shift_none (case_of t bs) n = ap₂ case_of (shift_none t n) (none_arms bs n)
-  shift_none (make k ts) n = ap (make k) (none_trees ts n)
-  shift_none (union t u) n = ap₂ union (shift_none t n) (shift_none u n)
-  shift_none (ext k t u) n = ap₂ (ext k) (shift_none t (n + 1)) (shift_none u n)
-  shift_none (choice t u v) n = ap (λ q. choice q (shift_of u n 0) (shift_of v n 0)) (shift_none t n) ∙ ap₂ (choice t) (shift_none u n) (shift_none v n)
-  shift_none (bind t u) n = ap₂ bind (shift_none t n) (shift_none u (n + 1))
-  shift_none (prim c ts) n = ap (prim c) (none_trees ts n)
+  shift_none (Var x) n = ap Var (still x n)
+  shift_none (Const v) n = refl
+  shift_none (Source i) n = refl
+  shift_none (Rec ps) n = ap Rec (none_parts ps n)
+  shift_none (Proj l t) n = ap (Proj l) (shift_none t n)
+  shift_none (Inj l t) n = ap (Inj l) (shift_none t n)
+  shift_none (Case t bs) n = ap₂ Case (shift_none t n) (none_arms bs n)
+  shift_none (Make k ts) n = ap (Make k) (none_trees ts n)
+  shift_none (Union t u) n = ap₂ Union (shift_none t n) (shift_none u n)
+  shift_none (Ext k t u) n = ap₂ (Ext k) (shift_none t (n + 1)) (shift_none u n)
+  shift_none (If t u v) n = ap (λ q. If q (shift_of u n 0) (shift_of v n 0)) (shift_none t n) ∙ ap₂ (If t) (shift_none u n) (shift_none v n)
+  shift_none (Let t u) n = ap₂ Let (shift_none t n) (shift_none u (n + 1))
+  shift_none (Prim c ts) n = ap (Prim c) (none_trees ts n)
 
   none_trees : (ts : Trees) (n : ℕ) → shift_trees ts n 0 ≡ ts
   none_trees no_trees n = refl
@@ -106,19 +106,19 @@ less_raised x n m k g h = ⊎_elim low high (cases_lt x n)
 
 mutual
   fit_less : (t : Tree) (n m k : ℕ) → k ≤ m → InRange (shift_of t n m) → InRange (shift_of t n k)
-  fit_less (var x) n m k g h = less_raised x n m k g h
-  fit_less (con v) n m k g h = tt
-  fit_less (source i) n m k g h = tt
-  fit_less (rec ps) n m k g h = less_parts ps n m k g h
-  fit_less (proj l t) n m k g h = fit_less t n m k g h
-  fit_less (inj l t) n m k g h = fit_less t n m k g h
-  fit_less (case_of t bs) n m k g h = (fit_less t n m k g h.0, less_arms bs n m k g h.1)
-  fit_less (make j ts) n m k g h = less_trees ts n m k g h
-  fit_less (union t u) n m k g h = (fit_less t n m k g h.0, fit_less u n m k g h.1)
-  fit_less (ext j t u) n m k g h = (fit_less t (n + 1) m k g h.0, fit_less u n m k g h.1)
-  fit_less (choice t u v) n m k g h = (fit_less t n m k g h.0, fit_less u n m k g h.1, fit_less v n m k g h.2)
-  fit_less (bind t u) n m k g h = (fit_less t n m k g h.0, fit_less u (n + 1) m k g h.1)
-  fit_less (prim c ts) n m k g h = less_trees ts n m k g h
+  fit_less (Var x) n m k g h = less_raised x n m k g h
+  fit_less (Const v) n m k g h = tt
+  fit_less (Source i) n m k g h = tt
+  fit_less (Rec ps) n m k g h = less_parts ps n m k g h
+  fit_less (Proj l t) n m k g h = fit_less t n m k g h
+  fit_less (Inj l t) n m k g h = fit_less t n m k g h
+  fit_less (Case t bs) n m k g h = (fit_less t n m k g h.0, less_arms bs n m k g h.1)
+  fit_less (Make j ts) n m k g h = less_trees ts n m k g h
+  fit_less (Union t u) n m k g h = (fit_less t n m k g h.0, fit_less u n m k g h.1)
+  fit_less (Ext j t u) n m k g h = (fit_less t (n + 1) m k g h.0, fit_less u n m k g h.1)
+  fit_less (If t u v) n m k g h = (fit_less t n m k g h.0, fit_less u n m k g h.1, fit_less v n m k g h.2)
+  fit_less (Let t u) n m k g h = (fit_less t n m k g h.0, fit_less u (n + 1) m k g h.1)
+  fit_less (Prim c ts) n m k g h = less_trees ts n m k g h
 
   less_trees : (ts : Trees) (n m k : ℕ) → k ≤ m → TreesInRange (shift_trees ts n m) → TreesInRange (shift_trees ts n k)
   less_trees no_trees n m k g h = tt
@@ -138,19 +138,19 @@ mutual
 module _ (w : Tree) (top : ℕ) (fits : InRange (shift_of w 0 top)) where
   mutual
     room_in : (t : Tree) (at under : ℕ) → at + binders t < 2 ^ 32 → under + binders t ≤ top → RoomIn t at under w
-    room_in (var x) at under g h = fit_less w 0 top under (omega arith) fits
-    room_in (con v) at under g h = tt
-    room_in (source i) at under g h = tt
-    room_in (rec ps) at under g h = room_in_parts ps at under g h
-    room_in (proj l a) at under g h = room_in a at under g h
-    room_in (inj l a) at under g h = room_in a at under g h
-    room_in (case_of a bs) at under g h = (room_in a at under (omega arith) (omega arith), room_in_arms bs at under (omega arith) (omega arith))
-    room_in (make k ts) at under g h = room_in_trees ts at under g h
-    room_in (union a b) at under g h = (room_in a at under (omega arith) (omega arith), room_in b at under (omega arith) (omega arith))
-    room_in (ext k b s) at under g h = (room_in s at under (omega arith) (omega arith), omega arith, room_in b (at + 1) (under + 1) (omega arith) (omega arith))
-    room_in (choice a b c) at under g h = (room_in a at under (omega arith) (omega arith), room_in b at under (omega arith) (omega arith), room_in c at under (omega arith) (omega arith))
-    room_in (bind a b) at under g h = (room_in a at under (omega arith) (omega arith), omega arith, room_in b (at + 1) (under + 1) (omega arith) (omega arith))
-    room_in (prim c ts) at under g h = room_in_trees ts at under g h
+    room_in (Var x) at under g h = fit_less w 0 top under (omega arith) fits
+    room_in (Const v) at under g h = tt
+    room_in (Source i) at under g h = tt
+    room_in (Rec ps) at under g h = room_in_parts ps at under g h
+    room_in (Proj l a) at under g h = room_in a at under g h
+    room_in (Inj l a) at under g h = room_in a at under g h
+    room_in (Case a bs) at under g h = (room_in a at under (omega arith) (omega arith), room_in_arms bs at under (omega arith) (omega arith))
+    room_in (Make k ts) at under g h = room_in_trees ts at under g h
+    room_in (Union a b) at under g h = (room_in a at under (omega arith) (omega arith), room_in b at under (omega arith) (omega arith))
+    room_in (Ext k b s) at under g h = (room_in s at under (omega arith) (omega arith), omega arith, room_in b (at + 1) (under + 1) (omega arith) (omega arith))
+    room_in (If a b c) at under g h = (room_in a at under (omega arith) (omega arith), room_in b at under (omega arith) (omega arith), room_in c at under (omega arith) (omega arith))
+    room_in (Let a b) at under g h = (room_in a at under (omega arith) (omega arith), omega arith, room_in b (at + 1) (under + 1) (omega arith) (omega arith))
+    room_in (Prim c ts) at under g h = room_in_trees ts at under g h
 
     room_in_trees : (ts : Trees) (at under : ℕ) → at + binders_trees ts < 2 ^ 32 → under + binders_trees ts ≤ top → RoomTrees ts at under w
     room_in_trees no_trees at under g h = tt
@@ -205,19 +205,19 @@ room_other t a ps c b d n u w e f g h =
 -- ---- what is put
 
 pub put_Make : (t : Term) (k : Kind) (ts us vs : List Term) (n : ℕ) (w : Tree) → t ≡ term.Make k ts → vs ≡ ts → map view us ≡ map (λ t. subst_of (view t) n w) vs → view (term.Make k us) ≡ subst_of (view t) n w
-put_Make t k ts us vs n w e f h = rw (e, view_Make, view_Make) (ap (make k) (mapped_trees (λ t. subst_of t n w) (λ ts. subst_trees ts n w) refl (λ t ts. refl) ts us vs f h))
+put_Make t k ts us vs n w e f h = rw (e, view_Make, view_Make) (ap (Make k) (mapped_trees (λ t. subst_of t n w) (λ ts. subst_trees ts n w) refl (λ t ts. refl) ts us vs f h))
 
 pub put_Prim : (t : Term) (c : ℕ) (ts us vs : List Term) (n : ℕ) (w : Tree) → t ≡ term.Prim c ts → vs ≡ ts → map view us ≡ map (λ t. subst_of (view t) n w) vs → view (term.Prim c us) ≡ subst_of (view t) n w
-put_Prim t c ts us vs n w e f h = rw (e, view_Prim, view_Prim) (ap (prim c) (mapped_trees (λ t. subst_of t n w) (λ ts. subst_trees ts n w) refl (λ t ts. refl) ts us vs f h))
+put_Prim t c ts us vs n w e f h = rw (e, view_Prim, view_Prim) (ap (Prim c) (mapped_trees (λ t. subst_of t n w) (λ ts. subst_trees ts n w) refl (λ t ts. refl) ts us vs f h))
 
 pub put_Rec : (t : Term) (ps qs rs : List (Name × Term)) (n : ℕ) (w : Tree) → t ≡ term.Rec ps → rs ≡ ps → map view_part qs ≡ map (λ p. (p.0, subst_of (view p.1) n w)) rs → view (term.Rec qs) ≡ subst_of (view t) n w
-put_Rec t ps qs rs n w e f h = rw (e, view_Rec, view_Rec) (ap rec (mapped_parts (λ t. subst_of t n w) (λ ps. subst_parts ps n w) refl (λ l t ps. refl) ps qs rs f h))
+put_Rec t ps qs rs n w e f h = rw (e, view_Rec, view_Rec) (ap Rec (mapped_parts (λ t. subst_of t n w) (λ ps. subst_parts ps n w) refl (λ l t ps. refl) ps qs rs f h))
 
 pub put_Case : (t a b b' : Term) (ps qs rs : List (Name × Term)) (c d : Option Term) (n : ℕ) (w : Tree) → t ≡ term.Case a ps c → b' ≡ b → view b ≡ subst_of (view a) n w → rs ≡ ps
     → map view_part qs ≡ map (λ p. (p.0, subst_of (view p.1) (n + 1) (shift_of w 0 1))) rs → rest_of (view_option d) ≡ subst_arms (rest_of (view_option c)) n w → view (term.Case b' qs d) ≡ subst_of (view t) n w
 put_Case t a b b' ps qs rs c d n w e j g f h i =
     view_Case b' qs d
-    ∙ ap₂ case_of (ap view j ∙ g) (mapped_arms (λ t. subst_of t (n + 1) (shift_of w 0 1)) (λ bs. subst_arms bs n w) (λ l t bs. refl) ps qs rs (rest_of (view_option c)) (rest_of (view_option d)) f h i)
+    ∙ ap₂ Case (ap view j ∙ g) (mapped_arms (λ t. subst_of t (n + 1) (shift_of w 0 1)) (λ bs. subst_arms bs n w) (λ l t bs. refl) ps qs rs (rest_of (view_option c)) (rest_of (view_option d)) f h i)
     ∙ sym (ap (λ q. subst_of q n w) (ap view e ∙ view_Case a ps c))
 
 pub put_other : (c : Option Term) (o d : Term) (n : ℕ) (w : Tree) → c ≡ Some o → view d ≡ subst_of (view o) n w → rest_of (view_option (Some d)) ≡ subst_arms (rest_of (view_option c)) n w

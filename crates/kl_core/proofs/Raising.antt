@@ -8,7 +8,7 @@ use Rattle.kl_value.specs.declared.Kind.{Kind}
 use Rattle.kl_outcome.specs.Outcome.{Name}
 use Rattle.kl_core.specs.declared.term.Term.{Term}
 use Rattle.kl_core.specs.declared.term.Term.TheVariants as term
-use Rattle.kl_core.specs.Trees.{Tree, var, con, source, rec, proj, inj, case_of, make, union, ext, choice, bind, prim, Trees, no_trees, trees, Parts, no_parts, parts, Arms, no_arms, rest, arm, arms_of, rest_of, view, view_part, trees_view, parts_view}
+use Rattle.kl_core.specs.Trees.{Tree, Var, Const, Source, Rec, Proj, Inj, Case, Make, Union, Ext, If, Let, Prim, Trees, no_trees, trees, Parts, no_parts, parts, Arms, no_arms, rest, arm, arms_of, rest_of, view, view_part, trees_view, parts_view}
 use Rattle.kl_core.specs.Positions.{raised, shift_of, shift_trees, shift_parts, shift_arms, InRange, TreesInRange, PartsInRange, ArmsInRange}
 use Rattle.kl_core.specs.Core.{core}
 use Rattle.kl_core.specs.Typing.{CoreTypes}
@@ -55,19 +55,19 @@ fit_other t a ps c b d n m e f g h =
 -- ---- what is raised
 
 pub raise_Make : (t : Term) (k : Kind) (ts us vs : List Term) (n m : ℕ) → t ≡ term.Make k ts → vs ≡ ts → map view us ≡ map (λ t. shift_of (view t) n m) vs → view (term.Make k us) ≡ shift_of (view t) n m
-raise_Make t k ts us vs n m e f h = rw (e, view_Make, view_Make) (ap (make k) (mapped_trees (λ t. shift_of t n m) (λ ts. shift_trees ts n m) refl (λ t ts. refl) ts us vs f h))
+raise_Make t k ts us vs n m e f h = rw (e, view_Make, view_Make) (ap (Make k) (mapped_trees (λ t. shift_of t n m) (λ ts. shift_trees ts n m) refl (λ t ts. refl) ts us vs f h))
 
 pub raise_Prim : (t : Term) (c : ℕ) (ts us vs : List Term) (n m : ℕ) → t ≡ term.Prim c ts → vs ≡ ts → map view us ≡ map (λ t. shift_of (view t) n m) vs → view (term.Prim c us) ≡ shift_of (view t) n m
-raise_Prim t c ts us vs n m e f h = rw (e, view_Prim, view_Prim) (ap (prim c) (mapped_trees (λ t. shift_of t n m) (λ ts. shift_trees ts n m) refl (λ t ts. refl) ts us vs f h))
+raise_Prim t c ts us vs n m e f h = rw (e, view_Prim, view_Prim) (ap (Prim c) (mapped_trees (λ t. shift_of t n m) (λ ts. shift_trees ts n m) refl (λ t ts. refl) ts us vs f h))
 
 pub raise_Rec : (t : Term) (ps qs rs : List (Name × Term)) (n m : ℕ) → t ≡ term.Rec ps → rs ≡ ps → map view_part qs ≡ map (λ p. (p.0, shift_of (view p.1) n m)) rs → view (term.Rec qs) ≡ shift_of (view t) n m
-raise_Rec t ps qs rs n m e f h = rw (e, view_Rec, view_Rec) (ap rec (mapped_parts (λ t. shift_of t n m) (λ ps. shift_parts ps n m) refl (λ l t ps. refl) ps qs rs f h))
+raise_Rec t ps qs rs n m e f h = rw (e, view_Rec, view_Rec) (ap Rec (mapped_parts (λ t. shift_of t n m) (λ ps. shift_parts ps n m) refl (λ l t ps. refl) ps qs rs f h))
 
 pub raise_Case : (t a b b' : Term) (ps qs rs : List (Name × Term)) (c d : Option Term) (n m : ℕ) → t ≡ term.Case a ps c → b' ≡ b → view b ≡ shift_of (view a) n m → rs ≡ ps
     → map view_part qs ≡ map (λ p. (p.0, shift_of (view p.1) (n + 1) m)) rs → rest_of (view_option d) ≡ shift_arms (rest_of (view_option c)) n m → view (term.Case b' qs d) ≡ shift_of (view t) n m
 raise_Case t a b b' ps qs rs c d n m e j g f h i =
     view_Case b' qs d
-    ∙ ap₂ case_of (ap view j ∙ g) (mapped_arms (λ t. shift_of t (n + 1) m) (λ bs. shift_arms bs n m) (λ l t bs. refl) ps qs rs (rest_of (view_option c)) (rest_of (view_option d)) f h i)
+    ∙ ap₂ Case (ap view j ∙ g) (mapped_arms (λ t. shift_of t (n + 1) m) (λ bs. shift_arms bs n m) (λ l t bs. refl) ps qs rs (rest_of (view_option c)) (rest_of (view_option d)) f h i)
     ∙ sym (ap (λ q. shift_of q n m) (ap view e ∙ view_Case a ps c))
 
 pub raise_other : (c : Option Term) (o d : Term) (n m : ℕ) → c ≡ Some o → view d ≡ shift_of (view o) n m → rest_of (view_option (Some d)) ≡ shift_arms (rest_of (view_option c)) n m
@@ -86,19 +86,19 @@ same_var x n m g h = ⊎_elim (λ lt. rw (lt-ltb x n lt) refl) (λ ge. absurd (p
 
 mutual
   pub none_raised : (t : Tree) (n m : ℕ) → 2 ^ 32 ≤ n → InRange (shift_of t n m) → shift_of t n m ≡ t
-  none_raised (var x) n m g h = ap var (same_var x n m g h)
-  none_raised (con v) n m g h = refl
-  none_raised (source i) n m g h = refl
-  none_raised (rec ps) n m g h = ap rec (none_raised_parts ps n m g h)
-  none_raised (proj l a) n m g h = ap (proj l) (none_raised a n m g h)
-  none_raised (inj l a) n m g h = ap (inj l) (none_raised a n m g h)
-  none_raised (case_of a bs) n m g h = ap₂ case_of (none_raised a n m g h.0) (none_raised_arms bs n m g h.1)
-  none_raised (make k ts) n m g h = ap (make k) (none_raised_trees ts n m g h)
-  none_raised (union a b) n m g h = ap₂ union (none_raised a n m g h.0) (none_raised b n m g h.1)
-  none_raised (ext k b s) n m g h = ap₂ (ext k) (none_raised b (n + 1) m (omega arith) h.0) (none_raised s n m g h.1)
-  none_raised (choice a b c) n m g h = ap (λ q. choice q (shift_of b n m) (shift_of c n m)) (none_raised a n m g h.0) ∙ ap₂ (choice a) (none_raised b n m g h.1) (none_raised c n m g h.2)
-  none_raised (bind a b) n m g h = ap₂ bind (none_raised a n m g h.0) (none_raised b (n + 1) m (omega arith) h.1)
-  none_raised (prim c ts) n m g h = ap (prim c) (none_raised_trees ts n m g h)
+  none_raised (Var x) n m g h = ap Var (same_var x n m g h)
+  none_raised (Const v) n m g h = refl
+  none_raised (Source i) n m g h = refl
+  none_raised (Rec ps) n m g h = ap Rec (none_raised_parts ps n m g h)
+  none_raised (Proj l a) n m g h = ap (Proj l) (none_raised a n m g h)
+  none_raised (Inj l a) n m g h = ap (Inj l) (none_raised a n m g h)
+  none_raised (Case a bs) n m g h = ap₂ Case (none_raised a n m g h.0) (none_raised_arms bs n m g h.1)
+  none_raised (Make k ts) n m g h = ap (Make k) (none_raised_trees ts n m g h)
+  none_raised (Union a b) n m g h = ap₂ Union (none_raised a n m g h.0) (none_raised b n m g h.1)
+  none_raised (Ext k b s) n m g h = ap₂ (Ext k) (none_raised b (n + 1) m (omega arith) h.0) (none_raised s n m g h.1)
+  none_raised (If a b c) n m g h = ap (λ q. If q (shift_of b n m) (shift_of c n m)) (none_raised a n m g h.0) ∙ ap₂ (If a) (none_raised b n m g h.1) (none_raised c n m g h.2)
+  none_raised (Let a b) n m g h = ap₂ Let (none_raised a n m g h.0) (none_raised b (n + 1) m (omega arith) h.1)
+  none_raised (Prim c ts) n m g h = ap (Prim c) (none_raised_trees ts n m g h)
 
   none_raised_trees : (ts : Trees) (n m : ℕ) → 2 ^ 32 ≤ n → TreesInRange (shift_trees ts n m) → shift_trees ts n m ≡ ts
   none_raised_trees no_trees n m g h = refl

@@ -9,7 +9,7 @@ use Rattle.kl_type.specs.Ground.{Ground, Row, rec as rec_type, at, labels_in}
 use Rattle.kl_prim.specs.Table.{meaning}
 use Rattle.kl_outcome.specs.Outcome.{Name, Outcome, stuck, outcome_of, answered, recorded, items_of, drawn}
 use Rattle.kl_outcome.specs.Typed.{Inhabits, HaveTypes, OfType}
-use Rattle.kl_core.specs.Trees.{Tree, var, con, source, rec, proj, inj, case_of, make, union, ext, choice, bind, prim, Trees, no_trees, trees, Parts, no_parts, parts, Arms, no_arms, rest, arm}
+use Rattle.kl_core.specs.Trees.{Tree, Var, Const, Source, Rec, Proj, Inj, Case, Make, Union, Ext, If, Let, Prim, Trees, no_trees, trees, Parts, no_parts, parts, Arms, no_arms, rest, arm}
 use Rattle.kl_core.specs.Core.{Tables, core, core_all, core_items, core_parts, core_arms}
 use Rattle.kl_core.specs.Typing.{SourceTypes, CoreTypes, EachType, AllTypes, PartTypes, ArmTypes, HasArm, HaveSources}
 use Rattle.kl_outcome.proofs.OutcomeTypes.{never_of, after_typed, choice_typed, part_typed, recorded_typed, PartsOf, tagged_typed, cases_typed, args_then_typed, ArgsOf, FlowOf, drawn_typed, items_typed, item_typed, collected_typed, union_typed}
@@ -32,27 +32,27 @@ record_typed ps r h up = recorded_typed ps r h (subst (IsStrictlySortedBy bytes_
 module _ (S : SourceTypes) (T : Tables) (told : HaveSources S T) where
   mutual
     pub safe : (t : Tree) (G : List Ground) (env : List Value) (s : Ground) → HaveTypes G env → CoreTypes S G t s → OfType s (core T t env)
-    safe (var x) G env s e h = get_typed G env x s e h.0
-    safe (con v) G env s e h = h.1
-    safe (source i) G env s e h = let f = told i s h.0 in subst (λ o. OfType s (outcome_of o)) (sym f.1) f.2
-    safe (rec ps) G env s e h = subst (λ q. OfType q (core T (rec ps) env)) (sym h.1) (record_typed (core_parts T ps env) h.0 (safe_parts ps G env h.0 e h.3) h.2)
-    safe (proj l a) G env s e h = part_typed l h.0 s (core T a env) (safe a G env _ e h.1) h.2
-    safe (inj l a) G env s e h = subst (λ q. OfType q (core T (inj l a) env)) (sym h.2) (tagged_typed l h.0 h.1 (core T a env) h.4 (safe a G env h.1 e h.5))
-    safe (case_of a bs) G env s e h =
+    safe (Var x) G env s e h = get_typed G env x s e h.0
+    safe (Const v) G env s e h = h.1
+    safe (Source i) G env s e h = let f = told i s h.0 in subst (λ o. OfType s (outcome_of o)) (sym f.1) f.2
+    safe (Rec ps) G env s e h = subst (λ q. OfType q (core T (Rec ps) env)) (sym h.1) (record_typed (core_parts T ps env) h.0 (safe_parts ps G env h.0 e h.3) h.2)
+    safe (Proj l a) G env s e h = part_typed l h.0 s (core T a env) (safe a G env _ e h.1) h.2
+    safe (Inj l a) G env s e h = subst (λ q. OfType q (core T (Inj l a) env)) (sym h.2) (tagged_typed l h.0 h.1 (core T a env) h.4 (safe a G env h.1 e h.5))
+    safe (Case a bs) G env s e h =
         cases_typed h.0 s (core T a env) (λ l v. core_arms T bs l v env) (safe a G env _ e h.1)
         (λ l u v i j. safe_arms bs G env h.0 s l u v e h.3 i j (h.2 l (rw i refl)))
-    safe (make k ts) G env s e h = subst (λ q. OfType q (core T (make k ts) env)) (sym h.1) (collected_typed k h.0 (core_items T ts env) (safe_items ts G env h.0 e h.3))
-    safe (union a b) G env s e h =
-        subst (λ q. OfType q (core T (union a b) env)) (sym h.2)
+    safe (Make k ts) G env s e h = subst (λ q. OfType q (core T (Make k ts) env)) (sym h.1) (collected_typed k h.0 (core_items T ts env) (safe_items ts G env h.0 e h.3))
+    safe (Union a b) G env s e h =
+        subst (λ q. OfType q (core T (Union a b) env)) (sym h.2)
         (union_typed h.0 h.1 (core T a env) (core T b env) (subst (λ q. OfType q (core T a env)) h.2 (safe a G env s e h.3)) (subst (λ q. OfType q (core T b env)) h.2 (safe b G env s e h.4)))
-    safe (ext k b a) G env s e h =
-        subst (λ q. OfType q (core T (ext k b a) env)) (sym h.3)
+    safe (Ext k b a) G env s e h =
+        subst (λ q. OfType q (core T (Ext k b a) env)) (sym h.3)
         (collected_typed k h.0 (drawn (items_of (core T a env)) (λ v. items_of (core T b (v ∷ env))))
         (drawn_typed h.0 h.2 (items_of (core T a env)) (λ v. items_of (core T b (v ∷ env))) (items_typed h.1 h.2 (core T a env) (safe a G env _ e h.4))
         (λ v i. items_typed k h.0 (core T b (v ∷ env)) (subst (λ q. OfType q (core T b (v ∷ env))) h.3 (safe b (h.2 ∷ G) (v ∷ env) s (i, e) h.5)))))
-    safe (choice a b c) G env s e h = choice_typed s (core T a env) (core T b env) (core T c env) (safe a G env _ e h.0) (safe b G env s e h.1) (safe c G env s e h.2)
-    safe (bind a b) G env s e h = after_typed s h.0 (core T a env) (λ v. core T b (v ∷ env)) (safe a G env h.0 e h.1) (λ v i. safe b (h.0 ∷ G) (v ∷ env) s (i, e) h.2)
-    safe (prim c ts) G env s e h = args_then_typed s (core_all T ts env) h.0 (λ vs. answered (meaning c vs)) (safe_all ts G env h.0 e h.1) (λ vs i. prim_typed c h.0 s vs h.2 i)
+    safe (If a b c) G env s e h = choice_typed s (core T a env) (core T b env) (core T c env) (safe a G env _ e h.0) (safe b G env s e h.1) (safe c G env s e h.2)
+    safe (Let a b) G env s e h = after_typed s h.0 (core T a env) (λ v. core T b (v ∷ env)) (safe a G env h.0 e h.1) (λ v i. safe b (h.0 ∷ G) (v ∷ env) s (i, e) h.2)
+    safe (Prim c ts) G env s e h = args_then_typed s (core_all T ts env) h.0 (λ vs. answered (meaning c vs)) (safe_all ts G env h.0 e h.1) (λ vs i. prim_typed c h.0 s vs h.2 i)
 
     safe_items : (ts : Trees) (G : List Ground) (env : List Value) (s : Ground) → HaveTypes G env → EachType S G ts s → FlowOf s (core_items T ts env)
     safe_items no_trees G env s e h = tt

@@ -3,7 +3,7 @@ use Rattle.std.proofs.Common.{◌≡◌, inl, inr, ℕ, suc, ◌+◌, ◌-◌, �
 use Rattle.std.proofs.lemmas.Bool.{cases_lt, cases_eq, lt-ltb, le-ltb, eq-eqb, ne_eqb}
 use Rattle.kl_type.specs.Ground.{Ground, Row, IsGround}
 use Rattle.kl_outcome.specs.Outcome.{Name}
-use Rattle.kl_core.specs.Trees.{Tree, var, con, source, rec, proj, inj, case_of, make, union, ext, choice, bind, prim, Trees, no_trees, trees, Parts, no_parts, parts, Arms, no_arms, rest, arm}
+use Rattle.kl_core.specs.Trees.{Tree, Var, Const, Source, Rec, Proj, Inj, Case, Make, Union, Ext, If, Let, Prim, Trees, no_trees, trees, Parts, no_parts, parts, Arms, no_arms, rest, arm}
 use Rattle.kl_core.specs.Positions.{shift_of, shift_trees, shift_parts, shift_arms, placed, subst_of, subst_trees, subst_parts, subst_arms}
 use Rattle.kl_core.specs.Typing.{SourceTypes, CoreTypes, EachType, AllTypes, PartTypes, ArmTypes, HasArm}
 use Rattle.kl_core.proofs.Meanings.{raised_get, get_left, get_right}
@@ -23,22 +23,22 @@ arm_put l (arm k b bs) n w (inr h) = inr (arm_put l bs n w h)
 module _ (S : SourceTypes) where
   mutual
     pub shift_typed : (t : Tree) (pre mid post : List Ground) (s : Ground) (n m : ℕ) → n ≡ length pre → m ≡ length mid → CoreTypes S (pre ++ post) t s → CoreTypes S (pre ++ (mid ++ post)) (shift_of t n m) s
-    shift_typed (var x) pre mid post s n m e f h = rw (e, f) (raised_get pre mid post x ∙ h.0, h.1)
-    shift_typed (con v) pre mid post s n m e f h = h
-    shift_typed (source i) pre mid post s n m e f h = h
-    shift_typed (rec ps) pre mid post s n m e f h = (h.0, h.1, h.2, shift_parts_typed ps pre mid post h.0 n m e f h.3)
-    shift_typed (proj l a) pre mid post s n m e f h = (h.0, shift_typed a pre mid post _ n m e f h.1, h.2)
-    shift_typed (inj l a) pre mid post s n m e f h = (h.0, h.1, h.2, h.3, h.4, shift_typed a pre mid post h.1 n m e f h.5)
-    shift_typed (case_of a bs) pre mid post s n m e f h =
+    shift_typed (Var x) pre mid post s n m e f h = rw (e, f) (raised_get pre mid post x ∙ h.0, h.1)
+    shift_typed (Const v) pre mid post s n m e f h = h
+    shift_typed (Source i) pre mid post s n m e f h = h
+    shift_typed (Rec ps) pre mid post s n m e f h = (h.0, h.1, h.2, shift_parts_typed ps pre mid post h.0 n m e f h.3)
+    shift_typed (Proj l a) pre mid post s n m e f h = (h.0, shift_typed a pre mid post _ n m e f h.1, h.2)
+    shift_typed (Inj l a) pre mid post s n m e f h = (h.0, h.1, h.2, h.3, h.4, shift_typed a pre mid post h.1 n m e f h.5)
+    shift_typed (Case a bs) pre mid post s n m e f h =
         (h.0, shift_typed a pre mid post _ n m e f h.1, λ l i. arm_shifted l bs n m (h.2 l i), shift_arms_typed bs pre mid post h.0 s n m e f h.3)
-    shift_typed (make k ts) pre mid post s n m e f h = (h.0, h.1, h.2, shift_each_typed ts pre mid post h.0 n m e f h.3)
-    shift_typed (union a b) pre mid post s n m e f h = (h.0, h.1, h.2, shift_typed a pre mid post s n m e f h.3, shift_typed b pre mid post s n m e f h.4)
-    shift_typed (ext k b a) pre mid post s n m e f h =
+    shift_typed (Make k ts) pre mid post s n m e f h = (h.0, h.1, h.2, shift_each_typed ts pre mid post h.0 n m e f h.3)
+    shift_typed (Union a b) pre mid post s n m e f h = (h.0, h.1, h.2, shift_typed a pre mid post s n m e f h.3, shift_typed b pre mid post s n m e f h.4)
+    shift_typed (Ext k b a) pre mid post s n m e f h =
         (h.0, h.1, h.2, h.3, shift_typed a pre mid post _ n m e f h.4, shift_typed b (h.2 ∷ pre) mid post s (n + 1) m (omega arith) f h.5)
-    shift_typed (choice a b c) pre mid post s n m e f h =
+    shift_typed (If a b c) pre mid post s n m e f h =
         (shift_typed a pre mid post _ n m e f h.0, shift_typed b pre mid post s n m e f h.1, shift_typed c pre mid post s n m e f h.2)
-    shift_typed (bind a b) pre mid post s n m e f h = (h.0, shift_typed a pre mid post h.0 n m e f h.1, shift_typed b (h.0 ∷ pre) mid post s (n + 1) m (omega arith) f h.2)
-    shift_typed (prim c ts) pre mid post s n m e f h = (h.0, shift_all_typed ts pre mid post h.0 n m e f h.1, h.2)
+    shift_typed (Let a b) pre mid post s n m e f h = (h.0, shift_typed a pre mid post h.0 n m e f h.1, shift_typed b (h.0 ∷ pre) mid post s (n + 1) m (omega arith) f h.2)
+    shift_typed (Prim c ts) pre mid post s n m e f h = (h.0, shift_all_typed ts pre mid post h.0 n m e f h.1, h.2)
 
     shift_each_typed : (ts : Trees) (pre mid post : List Ground) (s : Ground) (n m : ℕ) → n ≡ length pre → m ≡ length mid → EachType S (pre ++ post) ts s → EachType S (pre ++ (mid ++ post)) (shift_trees ts n m) s
     shift_each_typed no_trees pre mid post s n m e f h = tt
@@ -87,23 +87,23 @@ module _ (S : SourceTypes) where
 
   mutual
     pub subst_typed : (t w : Tree) (pre post : List Ground) (u s : Ground) (n : ℕ) → n ≡ length pre → CoreTypes S (pre ++ post) w u → CoreTypes S (pre ++ u ∷ post) t s → CoreTypes S (pre ++ post) (subst_of t n w) s
-    subst_typed (var x) w pre post u s n e d h = placed_typed w pre post u s x n e d h.0 h.1
-    subst_typed (con v) w pre post u s n e d h = h
-    subst_typed (source i) w pre post u s n e d h = h
-    subst_typed (rec ps) w pre post u s n e d h = (h.0, h.1, h.2, subst_parts_typed ps w pre post u h.0 n e d h.3)
-    subst_typed (proj l a) w pre post u s n e d h = (h.0, subst_typed a w pre post u _ n e d h.1, h.2)
-    subst_typed (inj l a) w pre post u s n e d h = (h.0, h.1, h.2, h.3, h.4, subst_typed a w pre post u h.1 n e d h.5)
-    subst_typed (case_of a bs) w pre post u s n e d h =
+    subst_typed (Var x) w pre post u s n e d h = placed_typed w pre post u s x n e d h.0 h.1
+    subst_typed (Const v) w pre post u s n e d h = h
+    subst_typed (Source i) w pre post u s n e d h = h
+    subst_typed (Rec ps) w pre post u s n e d h = (h.0, h.1, h.2, subst_parts_typed ps w pre post u h.0 n e d h.3)
+    subst_typed (Proj l a) w pre post u s n e d h = (h.0, subst_typed a w pre post u _ n e d h.1, h.2)
+    subst_typed (Inj l a) w pre post u s n e d h = (h.0, h.1, h.2, h.3, h.4, subst_typed a w pre post u h.1 n e d h.5)
+    subst_typed (Case a bs) w pre post u s n e d h =
         (h.0, subst_typed a w pre post u _ n e d h.1, λ l i. arm_put l bs n w (h.2 l i), subst_arms_typed bs w pre post u h.0 s n e d h.3)
-    subst_typed (make k ts) w pre post u s n e d h = (h.0, h.1, h.2, subst_each_typed ts w pre post u h.0 n e d h.3)
-    subst_typed (union a b) w pre post u s n e d h = (h.0, h.1, h.2, subst_typed a w pre post u s n e d h.3, subst_typed b w pre post u s n e d h.4)
-    subst_typed (ext k b a) w pre post u s n e d h =
+    subst_typed (Make k ts) w pre post u s n e d h = (h.0, h.1, h.2, subst_each_typed ts w pre post u h.0 n e d h.3)
+    subst_typed (Union a b) w pre post u s n e d h = (h.0, h.1, h.2, subst_typed a w pre post u s n e d h.3, subst_typed b w pre post u s n e d h.4)
+    subst_typed (Ext k b a) w pre post u s n e d h =
         (h.0, h.1, h.2, h.3, subst_typed a w pre post u _ n e d h.4, subst_typed b (shift_of w 0 1) (h.2 ∷ pre) post u s (n + 1) (omega arith) (deeper w pre post h.2 u d) h.5)
-    subst_typed (choice a b c) w pre post u s n e d h =
+    subst_typed (If a b c) w pre post u s n e d h =
         (subst_typed a w pre post u _ n e d h.0, subst_typed b w pre post u s n e d h.1, subst_typed c w pre post u s n e d h.2)
-    subst_typed (bind a b) w pre post u s n e d h =
+    subst_typed (Let a b) w pre post u s n e d h =
         (h.0, subst_typed a w pre post u h.0 n e d h.1, subst_typed b (shift_of w 0 1) (h.0 ∷ pre) post u s (n + 1) (omega arith) (deeper w pre post h.0 u d) h.2)
-    subst_typed (prim c ts) w pre post u s n e d h = (h.0, subst_all_typed ts w pre post u h.0 n e d h.1, h.2)
+    subst_typed (Prim c ts) w pre post u s n e d h = (h.0, subst_all_typed ts w pre post u h.0 n e d h.1, h.2)
 
     subst_each_typed : (ts : Trees) (w : Tree) (pre post : List Ground) (u s : Ground) (n : ℕ) → n ≡ length pre → CoreTypes S (pre ++ post) w u → EachType S (pre ++ u ∷ post) ts s → EachType S (pre ++ post) (subst_trees ts n w) s
     subst_each_typed no_trees w pre post u s n e d h = tt

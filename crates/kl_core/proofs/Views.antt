@@ -6,39 +6,39 @@ use Rattle.kl_value.specs.declared.Kind.{Kind}
 use Rattle.kl_outcome.specs.Outcome.{Name}
 use Rattle.kl_core.specs.declared.term.Term.{Term, the_lemmas}
 use Rattle.kl_core.specs.declared.term.Term.TheVariants as term
-use Rattle.kl_core.specs.Trees.{Tree, var, source, rec, proj, inj, case_of, make, union, ext, choice, bind, prim, Trees, no_trees, trees, Parts, no_parts, parts, Arms, arm, trees_of, parts_of, arms_of, rest_of, view, view_part, trees_view, parts_view}
+use Rattle.kl_core.specs.Trees.{Tree, Var, Source, Rec, Proj, Inj, Case, Make, Union, Ext, If, Let, Prim, Trees, no_trees, trees, Parts, no_parts, parts, Arms, arm, trees_of, parts_of, arms_of, rest_of, view, view_part, trees_view, parts_view}
 
-pub view_Var : (x : ℕ) → view (term.Var x) ≡ var x
+pub view_Var : (x : ℕ) → view (term.Var x) ≡ Var x
 view_Var x = search (rules, the_lemmas)
 
-pub view_Source : (i : ℕ) → view (term.Source i) ≡ source i
+pub view_Source : (i : ℕ) → view (term.Source i) ≡ Source i
 view_Source i = search (rules, the_lemmas)
 
-pub view_Rec : (ps : List (Name × Term)) → view (term.Rec ps) ≡ rec (parts_view ps)
+pub view_Rec : (ps : List (Name × Term)) → view (term.Rec ps) ≡ Rec (parts_view ps)
 view_Rec ps = search (rules, the_lemmas)
 
-pub view_Proj : (l : Name) (a : Term) → view (term.Proj l a) ≡ proj l (view a)
+pub view_Proj : (l : Name) (a : Term) → view (term.Proj l a) ≡ Proj l (view a)
 view_Proj l a = search (rules, the_lemmas)
 
-pub view_Inj : (l : Name) (a : Term) → view (term.Inj l a) ≡ inj l (view a)
+pub view_Inj : (l : Name) (a : Term) → view (term.Inj l a) ≡ Inj l (view a)
 view_Inj l a = search (rules, the_lemmas)
 
-pub view_Make : (k : Kind) (ts : List Term) → view (term.Make k ts) ≡ make k (trees_view ts)
+pub view_Make : (k : Kind) (ts : List Term) → view (term.Make k ts) ≡ Make k (trees_view ts)
 view_Make k ts = search (rules, the_lemmas)
 
-pub view_Union : (a b : Term) → view (term.Union a b) ≡ union (view a) (view b)
+pub view_Union : (a b : Term) → view (term.Union a b) ≡ Union (view a) (view b)
 view_Union a b = search (rules, the_lemmas)
 
-pub view_Ext : (k : Kind) (b s : Term) → view (term.Ext k b s) ≡ ext k (view b) (view s)
+pub view_Ext : (k : Kind) (b s : Term) → view (term.Ext k b s) ≡ Ext k (view b) (view s)
 view_Ext k b s = search (rules, the_lemmas)
 
-pub view_If : (a b c : Term) → view (term.If a b c) ≡ choice (view a) (view b) (view c)
+pub view_If : (a b c : Term) → view (term.If a b c) ≡ If (view a) (view b) (view c)
 view_If a b c = search (rules, the_lemmas)
 
-pub view_Let : (a b : Term) → view (term.Let a b) ≡ bind (view a) (view b)
+pub view_Let : (a b : Term) → view (term.Let a b) ≡ Let (view a) (view b)
 view_Let a b = search (rules, the_lemmas)
 
-pub view_Prim : (c : ℕ) (ts : List Term) → view (term.Prim c ts) ≡ prim c (trees_view ts)
+pub view_Prim : (c : ℕ) (ts : List Term) → view (term.Prim c ts) ≡ Prim c (trees_view ts)
 view_Prim c ts = search (rules, the_lemmas)
 
 -- the branches of a case, and what stands behind `otherwise`
@@ -48,7 +48,7 @@ view_option = option_map view
 abbrev pub arms_view : List (Name × Term) → Option Term → Arms
 arms_view ps c = arms_of (map view_part ps) (rest_of (view_option c))
 
-pub view_Case : (a : Term) (ps : List (Name × Term)) (c : Option Term) → view (term.Case a ps c) ≡ case_of (view a) (arms_view ps c)
+pub view_Case : (a : Term) (ps : List (Name × Term)) (c : Option Term) → view (term.Case a ps c) ≡ Case (view a) (arms_view ps c)
 view_Case a ps c = search (rules, the_lemmas)
 
 -- a map over trees, on lists

@@ -3,7 +3,7 @@ use Rattle.std.specs.Prelude.{ℕ, List, [], ◌∷◌, Option, cond, slice_get,
 use Rattle.std.specs.Cmp.Lexicographic.{pointwise}
 use Rattle.kl_value.specs.declared.Value.{Value}
 use Rattle.kl_outcome.specs.Outcome.{Outcome, done, stuck, Flow, stop, fine, Name, after, outcome_of, if_then, applied, recorded, tagged, part, cases, items_of, item_then, drawn, collected, union_of}
-use Rattle.kl_core.specs.Trees.{Tree, var, con, source, rec, proj, inj, case_of, make, union, ext, choice, bind, prim, Trees, no_trees, trees, Parts, no_parts, parts, Arms, no_arms, rest, arm}
+use Rattle.kl_core.specs.Trees.{Tree, Var, Const, Source, Rec, Proj, Inj, Case, Make, Union, Ext, If, Let, Prim, Trees, no_trees, trees, Parts, no_parts, parts, Arms, no_arms, rest, arm}
 
 -- the value of each source, where it is known
 abbrev pub Tables : Type 0
@@ -11,19 +11,19 @@ Tables = ℕ → Option Value
 
 abbrev mutual
   pub core : Tables → Tree → List Value → Outcome
-  core T (var x) env = outcome_of (slice_get env x)
-  core T (con v) env = done v
-  core T (source i) env = outcome_of (T i)
-  core T (rec ps) env = recorded (core_parts T ps env)
-  core T (proj l a) env = part l (core T a env)
-  core T (inj l a) env = tagged l (core T a env)
-  core T (case_of a bs) env = cases (core T a env) (λ l v. core_arms T bs l v env)
-  core T (make k ts) env = collected k (core_items T ts env)
-  core T (union a b) env = union_of (core T a env) (core T b env)
-  core T (ext k b s) env = collected k (drawn (items_of (core T s env)) (λ v. items_of (core T b (v ∷ env))))
-  core T (choice a b c) env = if_then (core T a env) (core T b env) (core T c env)
-  core T (bind a b) env = after (core T a env) (λ v. core T b (v ∷ env))
-  core T (prim c ts) env = applied c (core_all T ts env)
+  core T (Var x) env = outcome_of (slice_get env x)
+  core T (Const v) env = done v
+  core T (Source i) env = outcome_of (T i)
+  core T (Rec ps) env = recorded (core_parts T ps env)
+  core T (Proj l a) env = part l (core T a env)
+  core T (Inj l a) env = tagged l (core T a env)
+  core T (Case a bs) env = cases (core T a env) (λ l v. core_arms T bs l v env)
+  core T (Make k ts) env = collected k (core_items T ts env)
+  core T (Union a b) env = union_of (core T a env) (core T b env)
+  core T (Ext k b s) env = collected k (drawn (items_of (core T s env)) (λ v. items_of (core T b (v ∷ env))))
+  core T (If a b c) env = if_then (core T a env) (core T b env) (core T c env)
+  core T (Let a b) env = after (core T a env) (λ v. core T b (v ∷ env))
+  core T (Prim c ts) env = applied c (core_all T ts env)
 
   pub core_all : Tables → Trees → List Value → List Outcome
   core_all T no_trees env = []

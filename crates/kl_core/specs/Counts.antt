@@ -3,24 +3,24 @@ use Rattle.std.specs.Prelude.{ℕ, ◌+◌, max, Bool, true, false, ◌&&◌, Op
 use Rattle.kl_value.specs.declared.Kind.{Kind}
 use Rattle.kl_value.specs.declared.Kind.TheVariants as kind
 use Rattle.kl_prim.specs.Table.{Row as Primitive, row_at}
-use Rattle.kl_core.specs.Trees.{Tree, var, con, source, rec, proj, inj, case_of, make, union, ext, choice, bind, prim, Trees, no_trees, trees, Parts, no_parts, parts, Arms, no_arms, rest, arm}
+use Rattle.kl_core.specs.Trees.{Tree, Var, Const, Source, Rec, Proj, Inj, Case, Make, Union, Ext, If, Let, Prim, Trees, no_trees, trees, Parts, no_parts, parts, Arms, no_arms, rest, arm}
 
 -- a term is one more than its parts
 abbrev mutual
   pub nodes_of : Tree → ℕ
-  nodes_of (var x) = 1
-  nodes_of (con v) = 1
-  nodes_of (source i) = 1
-  nodes_of (rec ps) = 1 + nodes_parts ps
-  nodes_of (proj l a) = 1 + nodes_of a
-  nodes_of (inj l a) = 1 + nodes_of a
-  nodes_of (case_of a bs) = 1 + (nodes_of a + nodes_arms bs)
-  nodes_of (make k ts) = 1 + nodes_trees ts
-  nodes_of (union a b) = 1 + (nodes_of a + nodes_of b)
-  nodes_of (ext k b s) = 1 + (nodes_of b + nodes_of s)
-  nodes_of (choice a b c) = 1 + (nodes_of a + (nodes_of b + nodes_of c))
-  nodes_of (bind a b) = 1 + (nodes_of a + nodes_of b)
-  nodes_of (prim c ts) = 1 + nodes_trees ts
+  nodes_of (Var x) = 1
+  nodes_of (Const v) = 1
+  nodes_of (Source i) = 1
+  nodes_of (Rec ps) = 1 + nodes_parts ps
+  nodes_of (Proj l a) = 1 + nodes_of a
+  nodes_of (Inj l a) = 1 + nodes_of a
+  nodes_of (Case a bs) = 1 + (nodes_of a + nodes_arms bs)
+  nodes_of (Make k ts) = 1 + nodes_trees ts
+  nodes_of (Union a b) = 1 + (nodes_of a + nodes_of b)
+  nodes_of (Ext k b s) = 1 + (nodes_of b + nodes_of s)
+  nodes_of (If a b c) = 1 + (nodes_of a + (nodes_of b + nodes_of c))
+  nodes_of (Let a b) = 1 + (nodes_of a + nodes_of b)
+  nodes_of (Prim c ts) = 1 + nodes_trees ts
 
   pub nodes_trees : Trees → ℕ
   nodes_trees no_trees = 0
@@ -38,19 +38,19 @@ abbrev mutual
 -- a term is one deeper than its deepest part
 abbrev mutual
   pub depth_of : Tree → ℕ
-  depth_of (var x) = 1
-  depth_of (con v) = 1
-  depth_of (source i) = 1
-  depth_of (rec ps) = 1 + depth_parts ps
-  depth_of (proj l a) = 1 + depth_of a
-  depth_of (inj l a) = 1 + depth_of a
-  depth_of (case_of a bs) = 1 + max (depth_of a) (depth_arms bs)
-  depth_of (make k ts) = 1 + depth_trees ts
-  depth_of (union a b) = 1 + max (depth_of a) (depth_of b)
-  depth_of (ext k b s) = 1 + max (depth_of b) (depth_of s)
-  depth_of (choice a b c) = 1 + max (depth_of a) (max (depth_of b) (depth_of c))
-  depth_of (bind a b) = 1 + max (depth_of a) (depth_of b)
-  depth_of (prim c ts) = 1 + depth_trees ts
+  depth_of (Var x) = 1
+  depth_of (Const v) = 1
+  depth_of (Source i) = 1
+  depth_of (Rec ps) = 1 + depth_parts ps
+  depth_of (Proj l a) = 1 + depth_of a
+  depth_of (Inj l a) = 1 + depth_of a
+  depth_of (Case a bs) = 1 + max (depth_of a) (depth_arms bs)
+  depth_of (Make k ts) = 1 + depth_trees ts
+  depth_of (Union a b) = 1 + max (depth_of a) (depth_of b)
+  depth_of (Ext k b s) = 1 + max (depth_of b) (depth_of s)
+  depth_of (If a b c) = 1 + max (depth_of a) (max (depth_of b) (depth_of c))
+  depth_of (Let a b) = 1 + max (depth_of a) (depth_of b)
+  depth_of (Prim c ts) = 1 + depth_trees ts
 
   pub depth_trees : Trees → ℕ
   depth_trees no_trees = 0
@@ -76,19 +76,19 @@ total_code code = total_row (row_at code)
 -- no primitive in it may overflow
 abbrev mutual
   pub total_in : Tree → Bool
-  total_in (var x) = true
-  total_in (con v) = true
-  total_in (source i) = true
-  total_in (rec ps) = total_parts ps
-  total_in (proj l a) = total_in a
-  total_in (inj l a) = total_in a
-  total_in (case_of a bs) = total_in a && total_arms bs
-  total_in (make k ts) = total_trees ts
-  total_in (union a b) = total_in a && total_in b
-  total_in (ext k b s) = total_in b && total_in s
-  total_in (choice a b c) = total_in a && (total_in b && total_in c)
-  total_in (bind a b) = total_in a && total_in b
-  total_in (prim c ts) = total_code c && total_trees ts
+  total_in (Var x) = true
+  total_in (Const v) = true
+  total_in (Source i) = true
+  total_in (Rec ps) = total_parts ps
+  total_in (Proj l a) = total_in a
+  total_in (Inj l a) = total_in a
+  total_in (Case a bs) = total_in a && total_arms bs
+  total_in (Make k ts) = total_trees ts
+  total_in (Union a b) = total_in a && total_in b
+  total_in (Ext k b s) = total_in b && total_in s
+  total_in (If a b c) = total_in a && (total_in b && total_in c)
+  total_in (Let a b) = total_in a && total_in b
+  total_in (Prim c ts) = total_code c && total_trees ts
 
   pub total_trees : Trees → Bool
   total_trees no_trees = true

@@ -1,23 +1,23 @@
 -- For private functions alone: room for `with` inside a term, where it stands under so many binders of the whole already.
 use Rattle.std.specs.Prelude.{ℕ, ◌+◌, ◌<◌, ◌^◌, ⊤}
-use Rattle.kl_core.specs.Trees.{Tree, var, con, source, rec, proj, inj, case_of, make, union, ext, choice, bind, prim, Trees, no_trees, trees, Parts, no_parts, parts, Arms, no_arms, rest, arm}
+use Rattle.kl_core.specs.Trees.{Tree, Var, Const, Source, Rec, Proj, Inj, Case, Make, Union, Ext, If, Let, Prim, Trees, no_trees, trees, Parts, no_parts, parts, Arms, no_arms, rest, arm}
 use Rattle.kl_core.specs.Positions.{InRange, shift_of}
 
 abbrev mutual
   pub RoomIn : Tree → ℕ → ℕ → Tree → Type 0
-  RoomIn (var x) at under with = InRange (shift_of with 0 under)
-  RoomIn (con v) at under with = ⊤
-  RoomIn (source i) at under with = ⊤
-  RoomIn (rec ps) at under with = RoomParts ps at under with
-  RoomIn (proj l a) at under with = RoomIn a at under with
-  RoomIn (inj l a) at under with = RoomIn a at under with
-  RoomIn (case_of a bs) at under with = RoomIn a at under with × RoomArms bs at under with
-  RoomIn (make k ts) at under with = RoomTrees ts at under with
-  RoomIn (union a b) at under with = RoomIn a at under with × RoomIn b at under with
-  RoomIn (ext k b s) at under with = RoomIn s at under with × (at + 1 < 2 ^ 32) × RoomIn b (at + 1) (under + 1) with
-  RoomIn (choice a b c) at under with = RoomIn a at under with × RoomIn b at under with × RoomIn c at under with
-  RoomIn (bind a b) at under with = RoomIn a at under with × (at + 1 < 2 ^ 32) × RoomIn b (at + 1) (under + 1) with
-  RoomIn (prim c ts) at under with = RoomTrees ts at under with
+  RoomIn (Var x) at under with = InRange (shift_of with 0 under)
+  RoomIn (Const v) at under with = ⊤
+  RoomIn (Source i) at under with = ⊤
+  RoomIn (Rec ps) at under with = RoomParts ps at under with
+  RoomIn (Proj l a) at under with = RoomIn a at under with
+  RoomIn (Inj l a) at under with = RoomIn a at under with
+  RoomIn (Case a bs) at under with = RoomIn a at under with × RoomArms bs at under with
+  RoomIn (Make k ts) at under with = RoomTrees ts at under with
+  RoomIn (Union a b) at under with = RoomIn a at under with × RoomIn b at under with
+  RoomIn (Ext k b s) at under with = RoomIn s at under with × (at + 1 < 2 ^ 32) × RoomIn b (at + 1) (under + 1) with
+  RoomIn (If a b c) at under with = RoomIn a at under with × RoomIn b at under with × RoomIn c at under with
+  RoomIn (Let a b) at under with = RoomIn a at under with × (at + 1 < 2 ^ 32) × RoomIn b (at + 1) (under + 1) with
+  RoomIn (Prim c ts) at under with = RoomTrees ts at under with
 
   pub RoomTrees : Trees → ℕ → ℕ → Tree → Type 0
   RoomTrees no_trees at under with = ⊤

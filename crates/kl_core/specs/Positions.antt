@@ -1,6 +1,6 @@
 -- Free positions, moved and replaced (de Bruijn).
 use Rattle.std.specs.Prelude.{ℕ, ◌+◌, ◌-◌, ◌<◌, ◌^◌, max, Bool, false, ◌||◌, cond, nat_eq, nat_lt, ⊤}
-use Rattle.kl_core.specs.Trees.{Tree, var, con, source, rec, proj, inj, case_of, make, union, ext, choice, bind, prim, Trees, no_trees, trees, Parts, no_parts, parts, Arms, no_arms, rest, arm}
+use Rattle.kl_core.specs.Trees.{Tree, Var, Const, Source, Rec, Proj, Inj, Case, Make, Union, Ext, If, Let, Prim, Trees, no_trees, trees, Parts, no_parts, parts, Arms, no_arms, rest, arm}
 use Rattle.kl_core.specs.Leaves.{Leaves, LeavesOfTrees, LeavesOfParts, LeavesOfArms}
 
 -- a position at or above `from` is raised
@@ -10,19 +10,19 @@ raised from by x = cond (nat_lt x from) x (x + by)
 -- each free position at or above `from` raised by `by`
 abbrev mutual
   pub shift_of : Tree → ℕ → ℕ → Tree
-  shift_of (var x) from by = var (raised from by x)
-  shift_of (con v) from by = con v
-  shift_of (source i) from by = source i
-  shift_of (rec ps) from by = rec (shift_parts ps from by)
-  shift_of (proj l a) from by = proj l (shift_of a from by)
-  shift_of (inj l a) from by = inj l (shift_of a from by)
-  shift_of (case_of a bs) from by = case_of (shift_of a from by) (shift_arms bs from by)
-  shift_of (make k ts) from by = make k (shift_trees ts from by)
-  shift_of (union a b) from by = union (shift_of a from by) (shift_of b from by)
-  shift_of (ext k b s) from by = ext k (shift_of b (from + 1) by) (shift_of s from by)
-  shift_of (choice a b c) from by = choice (shift_of a from by) (shift_of b from by) (shift_of c from by)
-  shift_of (bind a b) from by = bind (shift_of a from by) (shift_of b (from + 1) by)
-  shift_of (prim c ts) from by = prim c (shift_trees ts from by)
+  shift_of (Var x) from by = Var (raised from by x)
+  shift_of (Const v) from by = Const v
+  shift_of (Source i) from by = Source i
+  shift_of (Rec ps) from by = Rec (shift_parts ps from by)
+  shift_of (Proj l a) from by = Proj l (shift_of a from by)
+  shift_of (Inj l a) from by = Inj l (shift_of a from by)
+  shift_of (Case a bs) from by = Case (shift_of a from by) (shift_arms bs from by)
+  shift_of (Make k ts) from by = Make k (shift_trees ts from by)
+  shift_of (Union a b) from by = Union (shift_of a from by) (shift_of b from by)
+  shift_of (Ext k b s) from by = Ext k (shift_of b (from + 1) by) (shift_of s from by)
+  shift_of (If a b c) from by = If (shift_of a from by) (shift_of b from by) (shift_of c from by)
+  shift_of (Let a b) from by = Let (shift_of a from by) (shift_of b (from + 1) by)
+  shift_of (Prim c ts) from by = Prim c (shift_trees ts from by)
 
   pub shift_trees : Trees → ℕ → ℕ → Trees
   shift_trees no_trees from by = no_trees
@@ -39,23 +39,23 @@ abbrev mutual
 
 -- `with` for the position `at`, and the positions above it lowered
 abbrev pub placed : ℕ → Tree → ℕ → Tree
-placed at with x = cond (nat_eq x at) with (cond (nat_lt x at) (var x) (var (x - 1)))
+placed at with x = cond (nat_eq x at) with (cond (nat_lt x at) (Var x) (Var (x - 1)))
 
 abbrev mutual
   pub subst_of : Tree → ℕ → Tree → Tree
-  subst_of (var x) at with = placed at with x
-  subst_of (con v) at with = con v
-  subst_of (source i) at with = source i
-  subst_of (rec ps) at with = rec (subst_parts ps at with)
-  subst_of (proj l a) at with = proj l (subst_of a at with)
-  subst_of (inj l a) at with = inj l (subst_of a at with)
-  subst_of (case_of a bs) at with = case_of (subst_of a at with) (subst_arms bs at with)
-  subst_of (make k ts) at with = make k (subst_trees ts at with)
-  subst_of (union a b) at with = union (subst_of a at with) (subst_of b at with)
-  subst_of (ext k b s) at with = ext k (subst_of b (at + 1) (shift_of with 0 1)) (subst_of s at with)
-  subst_of (choice a b c) at with = choice (subst_of a at with) (subst_of b at with) (subst_of c at with)
-  subst_of (bind a b) at with = bind (subst_of a at with) (subst_of b (at + 1) (shift_of with 0 1))
-  subst_of (prim c ts) at with = prim c (subst_trees ts at with)
+  subst_of (Var x) at with = placed at with x
+  subst_of (Const v) at with = Const v
+  subst_of (Source i) at with = Source i
+  subst_of (Rec ps) at with = Rec (subst_parts ps at with)
+  subst_of (Proj l a) at with = Proj l (subst_of a at with)
+  subst_of (Inj l a) at with = Inj l (subst_of a at with)
+  subst_of (Case a bs) at with = Case (subst_of a at with) (subst_arms bs at with)
+  subst_of (Make k ts) at with = Make k (subst_trees ts at with)
+  subst_of (Union a b) at with = Union (subst_of a at with) (subst_of b at with)
+  subst_of (Ext k b s) at with = Ext k (subst_of b (at + 1) (shift_of with 0 1)) (subst_of s at with)
+  subst_of (If a b c) at with = If (subst_of a at with) (subst_of b at with) (subst_of c at with)
+  subst_of (Let a b) at with = Let (subst_of a at with) (subst_of b (at + 1) (shift_of with 0 1))
+  subst_of (Prim c ts) at with = Prim c (subst_trees ts at with)
 
   pub subst_trees : Trees → ℕ → Tree → Trees
   subst_trees no_trees at with = no_trees
@@ -73,19 +73,19 @@ abbrev mutual
 -- how many binders stand round a place, at most
 abbrev mutual
   pub binders : Tree → ℕ
-  binders (var x) = 0
-  binders (con v) = 0
-  binders (source i) = 0
-  binders (rec ps) = binders_parts ps
-  binders (proj l a) = binders a
-  binders (inj l a) = binders a
-  binders (case_of a bs) = max (binders a) (binders_arms bs)
-  binders (make k ts) = binders_trees ts
-  binders (union a b) = max (binders a) (binders b)
-  binders (ext k b s) = max (binders b + 1) (binders s)
-  binders (choice a b c) = max (binders a) (max (binders b) (binders c))
-  binders (bind a b) = max (binders a) (binders b + 1)
-  binders (prim c ts) = binders_trees ts
+  binders (Var x) = 0
+  binders (Const v) = 0
+  binders (Source i) = 0
+  binders (Rec ps) = binders_parts ps
+  binders (Proj l a) = binders a
+  binders (Inj l a) = binders a
+  binders (Case a bs) = max (binders a) (binders_arms bs)
+  binders (Make k ts) = binders_trees ts
+  binders (Union a b) = max (binders a) (binders b)
+  binders (Ext k b s) = max (binders b + 1) (binders s)
+  binders (If a b c) = max (binders a) (max (binders b) (binders c))
+  binders (Let a b) = max (binders a) (binders b + 1)
+  binders (Prim c ts) = binders_trees ts
 
   pub binders_trees : Trees → ℕ
   binders_trees no_trees = 0
@@ -122,19 +122,19 @@ ArmsInRange = LeavesOfArms FitsWord AnySource
 -- whether a free position stands in it
 abbrev mutual
   pub occurs_in : ℕ → Tree → Bool
-  occurs_in n (var x) = nat_eq x n
-  occurs_in n (con v) = false
-  occurs_in n (source i) = false
-  occurs_in n (rec ps) = occurs_parts n ps
-  occurs_in n (proj l a) = occurs_in n a
-  occurs_in n (inj l a) = occurs_in n a
-  occurs_in n (case_of a bs) = occurs_in n a || occurs_arms n bs
-  occurs_in n (make k ts) = occurs_trees n ts
-  occurs_in n (union a b) = occurs_in n a || occurs_in n b
-  occurs_in n (ext k b s) = occurs_in (n + 1) b || occurs_in n s
-  occurs_in n (choice a b c) = occurs_in n a || (occurs_in n b || occurs_in n c)
-  occurs_in n (bind a b) = occurs_in n a || occurs_in (n + 1) b
-  occurs_in n (prim c ts) = occurs_trees n ts
+  occurs_in n (Var x) = nat_eq x n
+  occurs_in n (Const v) = false
+  occurs_in n (Source i) = false
+  occurs_in n (Rec ps) = occurs_parts n ps
+  occurs_in n (Proj l a) = occurs_in n a
+  occurs_in n (Inj l a) = occurs_in n a
+  occurs_in n (Case a bs) = occurs_in n a || occurs_arms n bs
+  occurs_in n (Make k ts) = occurs_trees n ts
+  occurs_in n (Union a b) = occurs_in n a || occurs_in n b
+  occurs_in n (Ext k b s) = occurs_in (n + 1) b || occurs_in n s
+  occurs_in n (If a b c) = occurs_in n a || (occurs_in n b || occurs_in n c)
+  occurs_in n (Let a b) = occurs_in n a || occurs_in (n + 1) b
+  occurs_in n (Prim c ts) = occurs_trees n ts
 
   pub occurs_trees : ℕ → Trees → Bool
   occurs_trees n no_trees = false

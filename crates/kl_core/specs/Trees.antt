@@ -7,19 +7,19 @@ use Rattle.kl_core.specs.declared.term.Term.{Term, Term-F, fold-Term}
 
 mutual
   pub data Tree : Type 0 where
-    var : ℕ → Tree
-    con : Value → Tree
-    source : ℕ → Tree
-    rec : Parts → Tree
-    proj : Name → Tree → Tree
-    inj : Name → Tree → Tree
-    case_of : Tree → Arms → Tree
-    make : Kind → Trees → Tree
-    union : Tree → Tree → Tree
-    ext : Kind → Tree → Tree → Tree
-    choice : Tree → Tree → Tree → Tree
-    bind : Tree → Tree → Tree
-    prim : ℕ → Trees → Tree
+    Var : ℕ → Tree
+    Const : Value → Tree
+    Source : ℕ → Tree
+    Rec : Parts → Tree
+    Proj : Name → Tree → Tree
+    Inj : Name → Tree → Tree
+    Case : Tree → Arms → Tree
+    Make : Kind → Trees → Tree
+    Union : Tree → Tree → Tree
+    Ext : Kind → Tree → Tree → Tree
+    If : Tree → Tree → Tree → Tree
+    Let : Tree → Tree → Tree
+    Prim : ℕ → Trees → Tree
 
   pub data Trees : Type 0 where
     no_trees : Trees
@@ -52,19 +52,19 @@ arms_of [] last = last
 arms_of (p ∷ ps) last = arm p.0 p.1 (arms_of ps last)
 
 abbrev pub layer : Term-F Tree → Tree
-layer (Term-F.Var x) = var x
-layer (Term-F.Const v) = con v
-layer (Term-F.Source i) = source i
-layer (Term-F.Rec ps) = rec (parts_of ps)
-layer (Term-F.Proj l a) = proj l a
-layer (Term-F.Inj l a) = inj l a
-layer (Term-F.Case a bs c) = case_of a (arms_of bs (rest_of c))
-layer (Term-F.Make k ts) = make k (trees_of ts)
-layer (Term-F.Union a b) = union a b
-layer (Term-F.Ext k b s) = ext k b s
-layer (Term-F.If a b c) = choice a b c
-layer (Term-F.Let a b) = bind a b
-layer (Term-F.Prim c ts) = prim c (trees_of ts)
+layer (Term-F.Var x) = Var x
+layer (Term-F.Const v) = Const v
+layer (Term-F.Source i) = Source i
+layer (Term-F.Rec ps) = Rec (parts_of ps)
+layer (Term-F.Proj l a) = Proj l a
+layer (Term-F.Inj l a) = Inj l a
+layer (Term-F.Case a bs c) = Case a (arms_of bs (rest_of c))
+layer (Term-F.Make k ts) = Make k (trees_of ts)
+layer (Term-F.Union a b) = Union a b
+layer (Term-F.Ext k b s) = Ext k b s
+layer (Term-F.If a b c) = If a b c
+layer (Term-F.Let a b) = Let a b
+layer (Term-F.Prim c ts) = Prim c (trees_of ts)
 
 abbrev pub view : Term → Tree
 view = fold-Term Tree layer

@@ -7,7 +7,7 @@ use Rattle.kl_value.specs.declared.Value.{Value}
 use Rattle.kl_type.specs.Ground.{Ground, Row, bool, rec as rec_type, var as var_type, coll, no_row, row, at, labels_in, IsGround}
 use Rattle.kl_outcome.specs.Outcome.{Name}
 use Rattle.kl_outcome.specs.Typed.{Inhabits, PrimTypes}
-use Rattle.kl_core.specs.Trees.{Tree, var, con, source, rec, proj, inj, case_of, make, union, ext, choice, bind, prim, Trees, no_trees, trees, Parts, no_parts, parts, Arms, no_arms, rest, arm}
+use Rattle.kl_core.specs.Trees.{Tree, Var, Const, Source, Rec, Proj, Inj, Case, Make, Union, Ext, If, Let, Prim, Trees, no_trees, trees, Parts, no_parts, parts, Arms, no_arms, rest, arm}
 
 -- the type of each source, where there is one
 abbrev pub SourceTypes : Type 0
@@ -27,20 +27,20 @@ Covers r bs = (l : Name) → IsSome (at l r) → HasArm l bs
 -- type, as that of a constant, a variant or an empty collection, it is, and so is what a position or a source has.
 abbrev mutual
   pub CoreTypes : SourceTypes → List Ground → Tree → Ground → Type 0
-  CoreTypes S G (var x) t = (slice_get G x ≡ Some t) × IsGround t
-  CoreTypes S G (con v) t = IsGround t × Inhabits t v
-  CoreTypes S G (source i) t = (S i ≡ Some t) × IsGround t
-  CoreTypes S G (rec ps) t = (r : Row) × (t ≡ rec_type r) × IsStrictlySortedBy bytes_cmp (labels_in r) × PartTypes S G ps r
-  CoreTypes S G (proj l a) t = (r : Row) × CoreTypes S G a (rec_type r) × (at l r ≡ Some t)
-  CoreTypes S G (inj l a) t = (r : Row) × (s : Ground) × (t ≡ var_type r) × IsGround t × (at l r ≡ Some s) × CoreTypes S G a s
-  CoreTypes S G (case_of a bs) t = (r : Row) × CoreTypes S G a (var_type r) × Covers r bs × ArmTypes S G bs r t
-  CoreTypes S G (make k ts) t = (s : Ground) × (t ≡ coll k s) × IsGround t × EachType S G ts s
-  CoreTypes S G (union a b) t = (k : Kind) × (s : Ground) × (t ≡ coll k s) × CoreTypes S G a t × CoreTypes S G b t
-  CoreTypes S G (ext k b a) t =
+  CoreTypes S G (Var x) t = (slice_get G x ≡ Some t) × IsGround t
+  CoreTypes S G (Const v) t = IsGround t × Inhabits t v
+  CoreTypes S G (Source i) t = (S i ≡ Some t) × IsGround t
+  CoreTypes S G (Rec ps) t = (r : Row) × (t ≡ rec_type r) × IsStrictlySortedBy bytes_cmp (labels_in r) × PartTypes S G ps r
+  CoreTypes S G (Proj l a) t = (r : Row) × CoreTypes S G a (rec_type r) × (at l r ≡ Some t)
+  CoreTypes S G (Inj l a) t = (r : Row) × (s : Ground) × (t ≡ var_type r) × IsGround t × (at l r ≡ Some s) × CoreTypes S G a s
+  CoreTypes S G (Case a bs) t = (r : Row) × CoreTypes S G a (var_type r) × Covers r bs × ArmTypes S G bs r t
+  CoreTypes S G (Make k ts) t = (s : Ground) × (t ≡ coll k s) × IsGround t × EachType S G ts s
+  CoreTypes S G (Union a b) t = (k : Kind) × (s : Ground) × (t ≡ coll k s) × CoreTypes S G a t × CoreTypes S G b t
+  CoreTypes S G (Ext k b a) t =
       (s : Ground) × (j : Kind) × (u : Ground) × (t ≡ coll k s) × CoreTypes S G a (coll j u) × CoreTypes S (u ∷ G) b t
-  CoreTypes S G (choice a b c) t = CoreTypes S G a bool × CoreTypes S G b t × CoreTypes S G c t
-  CoreTypes S G (bind a b) t = (s : Ground) × CoreTypes S G a s × CoreTypes S (s ∷ G) b t
-  CoreTypes S G (prim c ts) t = (ss : List Ground) × AllTypes S G ts ss × PrimTypes c ss t
+  CoreTypes S G (If a b c) t = CoreTypes S G a bool × CoreTypes S G b t × CoreTypes S G c t
+  CoreTypes S G (Let a b) t = (s : Ground) × CoreTypes S G a s × CoreTypes S (s ∷ G) b t
+  CoreTypes S G (Prim c ts) t = (ss : List Ground) × AllTypes S G ts ss × PrimTypes c ss t
 
   -- all of one type
   pub EachType : SourceTypes → List Ground → Trees → Ground → Type 0

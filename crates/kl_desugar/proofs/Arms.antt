@@ -10,7 +10,7 @@ use Rattle.kl_syntax.specs.declared.tree.Qual.{Qual}
 use Rattle.kl_syntax.specs.declared.tree.Expr.TheVariants as expr
 use Rattle.kl_syntax.specs.declared.tree.Branch.{Branch}
 use Rattle.kl_syntax.specs.declared.tree.Decl.{Decl}
-use Rattle.kl_syntax.specs.Syntax.{call, Branches, Decls, no_decls}
+use Rattle.kl_syntax.specs.Syntax.{Call, Branches, Decls, no_decls}
 use Rattle.kl_syntax.specs.View.{view, exps_of, exps_view, quals_view, pattern_view, steps_view, fields_view, branch_view, branches_of, rest_of, decl_of}
 use Rattle.kl_core.specs.declared.Term.{Term}
 use Rattle.kl_core.specs.declared.term.Term.TheVariants as code
@@ -32,11 +32,11 @@ trees_are (e ∷ es) codes S = ap (term.trees (tree (view e) codes S)) (trees_ar
 pub coll_is : (e : Expr) (k : Kind) (es fs : List Expr) (ts us : List Term) (codes : Codes) (S : Scope) → e ≡ expr.Coll k es → fs ≡ es → us ≡ ts
     → map term.view ts ≡ map (λ e. tree (view e) codes S) fs → term.view (code.Make k us) ≡ tree (view e) codes S
 coll_is e k es fs ts us codes S p q r h =
-    rw (p, view_Coll, core.view_Make, r, h, q) (ap (term.make k) (sym (trees_are es codes S)))
+    rw (p, view_Coll, core.view_Make, r, h, q) (ap (term.Make k) (sym (trees_are es codes S)))
 
 pub comp_ok : {X : Type 0} (r : Result Term X) (e : Expr) (k : Kind) (a b : Expr) (qs rs : List Qual) (t : Term) (codes : Codes) (S R Q : Scope) (ls : List Layered) → e ≡ expr.Comp k a qs → b ≡ a → rs ≡ qs → Q ≡ R
     → OpensQuals (quals_view rs) k codes S R [] ls → term.view t ≡ tree (view b) codes Q
-    → IfOk r (λ u. term.view u ≡ wrapped (missed (Some k)) ls (term.make k (term.trees (term.view t) term.no_trees))) → IfOk r (λ u. term.view u ≡ tree (view e) codes S)
+    → IfOk r (λ u. term.view u ≡ wrapped (missed (Some k)) ls (term.Make k (term.trees (term.view t) term.no_trees))) → IfOk r (λ u. term.view u ≡ tree (view e) codes S)
 comp_ok (Ok u) e k a b qs rs t codes S R Q ls p q r m o h w =
     rw (p, view_Comp, w, h, q, m, o.layers, o.scope, r) (sym (quals_are (quals_view qs) k _ codes S))
 comp_ok (Err x) e k a b qs rs t codes S R Q ls p q r m o h w = tt
@@ -61,8 +61,8 @@ fields_are [] codes S = refl
 fields_are (f ∷ fs) codes S = ap (λ z. field_of codes S f ∷ z) (fields_are fs codes S)
 
 pub rec_ok : {X : Type 0} (r : Result Term X) (e : Expr) (fs gs : List (Word × Expr)) (ts : List (List ℕ × Term)) (codes : Codes) (S : Scope) → e ≡ expr.Rec fs → gs ≡ fs
-    → map view_part ts ≡ map (field_of codes S) gs → IfOk r (λ t. term.view t ≡ term.rec (term.parts_of (in_order (map view_part ts)))) → IfOk r (λ t. term.view t ≡ tree (view e) codes S)
-rec_ok (Ok t) e fs gs ts codes S p q h w = rw (p, view_Rec, w, h, q) (ap (λ z. term.rec (term.parts_of (in_order z))) (sym (fields_are fs codes S)))
+    → map view_part ts ≡ map (field_of codes S) gs → IfOk r (λ t. term.view t ≡ term.Rec (term.parts_of (in_order (map view_part ts)))) → IfOk r (λ t. term.view t ≡ tree (view e) codes S)
+rec_ok (Ok t) e fs gs ts codes S p q h w = rw (p, view_Rec, w, h, q) (ap (λ z. term.Rec (term.parts_of (in_order z))) (sym (fields_are fs codes S)))
 rec_ok (Err x) e fs gs ts codes S p q h w = tt
 
 branches_are : (bs : List Branch) (last : Branches) (codes : Codes) (S : Scope) → tree_branches (branches_of (map branch_view bs) last) codes S ≡ term.arms_of (map (arm_of codes S) bs) (tree_branches last codes S)
@@ -75,7 +75,7 @@ pub case_is : (e a b : Expr) (bs cs : List Branch) (c : Option Expr) (t : Term) 
     → map view_part ts ≡ map (arm_of codes S) cs → term.rest_of (option_map term.view u) ≡ tree_branches (rest_of (option_map view c)) codes S → term.view t ≡ tree (view b) codes S
     → term.view (code.Case t us u) ≡ tree (view e) codes S
 case_is e a b bs cs c t ts us u codes S i j k m h g f =
-    rw (i, view_Case, core.view_Case, f, j, m, h, k, g) (ap (term.case_of (tree (view a) codes S)) (sym (branches_are bs (rest_of (option_map view c)) codes S)))
+    rw (i, view_Case, core.view_Case, f, j, m, h, k, g) (ap (term.Case (tree (view a) codes S)) (sym (branches_are bs (rest_of (option_map view c)) codes S)))
 
 pub decl_then : (p : Option Pattern) (d : Decl) (ds : Decls) (codes : Codes) → codes_after (decl_of p d ds) codes ≡ codes_after ds (codes_after (decl_of p d no_decls) codes)
 decl_then (Some p) d ds codes = refl
@@ -83,6 +83,6 @@ decl_then None d ds codes = refl
 
 pub call_ok : {X : Type 0} (r : Result Term X) (f : Word) (es fs : List Expr) (ts : List Term) (codes : Codes) (S : Scope) → fs ≡ es
     → map term.view ts ≡ map (λ e. tree (view e) codes S) fs → IfOk r (λ t. term.view t ≡ called_tree (codes f.text) (term.trees_of (map term.view ts)))
-    → IfOk r (λ t. term.view t ≡ tree (call f (exps_view es)) codes S)
+    → IfOk r (λ t. term.view t ≡ tree (Call f (exps_view es)) codes S)
 call_ok (Ok t) f es fs ts codes S q h w = rw (w, h, q) (ap (called_tree (codes f.text)) (sym (trees_are es codes S)))
 call_ok (Err x) f es fs ts codes S q h w = tt

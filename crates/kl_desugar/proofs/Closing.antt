@@ -7,7 +7,7 @@ use Rattle.kl_outcome.specs.Outcome.{Name}
 use Rattle.kl_syntax.specs.declared.tree.Op.{Op}
 use Rattle.kl_syntax.specs.declared.tree.Op.TheVariants as op
 use Rattle.kl_syntax.specs.declared.tree.Word.{Word}
-use Rattle.kl_syntax.specs.Syntax.{Pat, catch, any, same, is, shape, variant, Pats, no_pats, pats, Exp, con, name, call, fields, inject, coll, comp, choice, bind, select, path, invert, minus, chain, Exps, no_exps, exps, Flds, no_flds, flds, Quals, no_quals, draw, test, Branches, no_branches, otherwise, branch, Steps, no_steps, step, Decls, no_decls, constant, function}
+use Rattle.kl_syntax.specs.Syntax.{Pat, catch, any, same, is, shape, variant, Pats, no_pats, pats, Exp, Const, name, Call, Rec, Inj, Coll, Comp, If, Let, Case, Path, Not, Neg, Chain, Exps, no_exps, exps, Flds, no_flds, flds, Quals, no_quals, draw, test, Branches, no_branches, otherwise, branch, Steps, no_steps, step, Decls, no_decls, constant, function}
 use Rattle.kl_meaning.specs.Match.{same_name}
 use Rattle.kl_meaning.specs.Run.{code_named}
 use Rattle.kl_meaning.proofs.Fields.{in_order_all}
@@ -100,7 +100,7 @@ module _ (codes : Codes) (closed : CodesBelow codes) where
       matched_below (catch x) t R A le at h = λ m g. or_from _ _ (place_below t (length R) at m g) (h (Some x.text ∷ R) (omega arith) (m + 1) (under (length R) m g))
       matched_below any t R A le at h = h R (omega arith)
       matched_below (same x) t R A le at h = tested_below (place_tree t (length R)) (name_tree codes S x.text (length R)) (A R) e (length R) (place_below t (length R) at) (name_below codes S x.text (length R) closed le) (h R (omega arith)) missed
-      matched_below (is v n) t R A le at h = tested_below (place_tree t (length R)) (term.con v) (A R) e (length R) (place_below t (length R) at) (λ m g. refl) (h R (omega arith)) missed
+      matched_below (is v n) t R A le at h = tested_below (place_tree t (length R)) (term.Const v) (A R) e (length R) (place_below t (length R) at) (λ m g. refl) (h R (omega arith)) missed
       matched_below (shape ps dots) t R A le at h = pats_below ps t R A le at h
       matched_below (variant l p) t R A le at h =
           let inner : Below (suc (length R)) (matched p (here (length R)) codes S e A (None ∷ R)) = matched_below p (here (length R)) (None ∷ R) A (omega (arith, le)) (omega arith) (λ Q g. h Q (omega (arith, g))) in
@@ -146,7 +146,7 @@ module _ (codes : Codes) (closed : CodesBelow codes) where
 
   path_below : (ls : List Word) (t : Tree) (n : ℕ) → Below n t → Below n (projected ls t)
   path_below [] t n h = h
-  path_below (l ∷ ls) t n h = path_below ls (term.proj l.text t) n h
+  path_below (l ∷ ls) t n h = path_below ls (term.Proj l.text t) n h
 
   parts_below : (ps : List (Name × Tree)) (n : ℕ) → AllByRecursion (λ p. Below n p.1) ps → (m : ℕ) → n ≤ m → occurs_parts m (term.parts_of ps) ≡ false
   parts_below [] n h m g = refl
@@ -154,22 +154,22 @@ module _ (codes : Codes) (closed : CodesBelow codes) where
 
   mutual
     tree_below : (e : Exp) (S : Scope) → Below (length S) (tree e codes S)
-    tree_below (con v) S = λ m g. refl
+    tree_below (Const v) S = λ m g. refl
     tree_below (name x) S = name_below codes S x.text (length S) closed (omega arith)
-    tree_below (call f es) S = call_below (codes f.text) (tree_all es codes S) (length S) (closed f.text) (all_below es S)
-    tree_below (fields fs) S = parts_below _ (length S) (in_order_all (λ p. Below (length S) p.1) _ (fields_below fs S))
-    tree_below (inject l a) S = tree_below a S
-    tree_below (coll k es) S = all_below es S
-    tree_below (comp k e qs) S = quals_below qs k (λ R. term.make k (trees (tree e codes R) no_trees)) S (λ Q m g. or_from _ _ (tree_below e Q m g) refl)
-    tree_below (choice a b c) S = λ m g. or_from _ _ (tree_below a S m g) (or_from _ _ (tree_below b S m g) (tree_below c S m g))
-    tree_below (bind p a b) S =
+    tree_below (Call f es) S = call_below (codes f.text) (tree_all es codes S) (length S) (closed f.text) (all_below es S)
+    tree_below (Rec fs) S = parts_below _ (length S) (in_order_all (λ p. Below (length S) p.1) _ (fields_below fs S))
+    tree_below (Inj l a) S = tree_below a S
+    tree_below (Coll k es) S = all_below es S
+    tree_below (Comp k e qs) S = quals_below qs k (λ R. term.Make k (trees (tree e codes R) no_trees)) S (λ Q m g. or_from _ _ (tree_below e Q m g) refl)
+    tree_below (If a b c) S = λ m g. or_from _ _ (tree_below a S m g) (or_from _ _ (tree_below b S m g) (tree_below c S m g))
+    tree_below (Let p a b) S =
         let inner = here_below p S no_sense (λ R. tree b codes R) (λ m g. refl) (λ Q. tree_below b Q) in
         λ m g. or_from _ _ (tree_below a S m g) (inner (m + 1) (under (length S) m g))
-    tree_below (select a bs) S = λ m g. or_from _ _ (tree_below a S m g) (branches_below bs S m g)
-    tree_below (path a ls) S = path_below ls _ (length S) (tree_below a S)
-    tree_below (invert a) S = λ m g. or_from _ _ (tree_below a S m g) refl
-    tree_below (minus a) S = λ m g. or_from _ _ (tree_below a S m g) refl
-    tree_below (chain a ss) S = steps_below ss _ S (tree_below a S)
+    tree_below (Case a bs) S = λ m g. or_from _ _ (tree_below a S m g) (branches_below bs S m g)
+    tree_below (Path a ls) S = path_below ls _ (length S) (tree_below a S)
+    tree_below (Not a) S = λ m g. or_from _ _ (tree_below a S m g) refl
+    tree_below (Neg a) S = λ m g. or_from _ _ (tree_below a S m g) refl
+    tree_below (Chain a ss) S = steps_below ss _ S (tree_below a S)
 
     all_below : (es : Exps) (S : Scope) → AllBelow (length S) (tree_all es codes S)
     all_below no_exps S = λ m g. refl

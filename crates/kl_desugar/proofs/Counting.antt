@@ -13,7 +13,7 @@ use Rattle.kl_syntax.specs.declared.tree.Meaning.TheVariants.{Variable, Definiti
 use Rattle.kl_syntax.specs.declared.tree.Op.{Op}
 use Rattle.kl_syntax.specs.declared.tree.Op.TheVariants as op
 use Rattle.kl_syntax.specs.declared.tree.Word.{Word}
-use Rattle.kl_syntax.specs.Syntax.{Pat, catch, any, same, is, shape, variant, Pats, no_pats, pats, Exp, con, name, call, fields, inject, coll, comp, choice, bind, select, path, invert, minus, chain, Exps, no_exps, exps, Flds, no_flds, flds, Quals, no_quals, draw, test, Branches, no_branches, otherwise, branch, Steps, no_steps, step, Decls, no_decls, constant, function}
+use Rattle.kl_syntax.specs.Syntax.{Pat, catch, any, same, is, shape, variant, Pats, no_pats, pats, Exp, Const, name, Call, Rec, Inj, Coll, Comp, If, Let, Case, Path, Not, Neg, Chain, Exps, no_exps, exps, Flds, no_flds, flds, Quals, no_quals, draw, test, Branches, no_branches, otherwise, branch, Steps, no_steps, step, Decls, no_decls, constant, function}
 use Rattle.kl_syntax.specs.View.{view, decls_of}
 use Rattle.kl_scope.specs.declared.names.Sense.{Sense}
 use Rattle.kl_scope.specs.declared.refusal.ScopeError.TheVariants.{Misapplied}
@@ -100,7 +100,7 @@ order_depth : (ps : List (Name × Tree)) → depth_parts (term.parts_of (in_orde
 order_depth [] = refl
 order_depth (p ∷ ps) = put_depth p (in_order ps) ∙ ap (λ n. max (depth_of p.1) n) (order_depth ps)
 
-record_fits : (ps : List (Name × Tree)) (s : Size) → Fits (nodes_parts (term.parts_of ps)) (depth_parts (term.parts_of ps)) s → Within (term.rec (term.parts_of (in_order ps))) (node s)
+record_fits : (ps : List (Name × Tree)) (s : Size) → Fits (nodes_parts (term.parts_of ps)) (depth_parts (term.parts_of ps)) s → Within (term.Rec (term.parts_of (in_order ps))) (node s)
 record_fits ps s h = node_fits _ _ s (rw (order_nodes ps, order_depth ps) h)
 
 -- ---- what names stand for
@@ -229,7 +229,7 @@ operated_fits op.Cat a b p q h k = pair_fits a b p q h k
 
 path_fits : (ls : List Word) (t : Tree) (s : Size) → Within t s → Within (projected ls t) (size.projected s ls)
 path_fits [] t s h = h
-path_fits (l ∷ ls) t s h = path_fits ls (term.proj l.text t) (node s) (node_fits _ _ s h)
+path_fits (l ∷ ls) t s h = path_fits ls (term.Proj l.text t) (node s) (node_fits _ _ s h)
 
 all_bound_both : (s : Seen) (vs ws : List Word) → all_bound s (vs ++ ws) ≡ all_bound (all_bound s vs) ws
 all_bound_both s [] ws = refl
@@ -283,7 +283,7 @@ module _ (defs : List (Name × Bool)) (sources : List Name) (codes : Codes) (ds 
       matched_fits (catch x) t R A a b h k clean = node_fits _ _ _ (beside_fits _ _ _ _ a b (h (length R)) k)
       matched_fits any t R A a b h k clean = k
       matched_fits (same x) t R A a b h k clean = tested_fits (place_tree t (length R)) (name_tree codes S (meant (named s x.text) x).text (length R)) (A R) e a (size.named (meant (named s x.text) x).means ds) b (h (length R)) (name_fits S s x (length R) m clean) k missed
-      matched_fits (is v n) t R A a b h k clean = tested_fits (place_tree t (length R)) (term.con v) (A R) e a leaf b (h (length R)) leaf_fits k missed
+      matched_fits (is v n) t R A a b h k clean = tested_fits (place_tree t (length R)) (term.Const v) (A R) e a leaf b (h (length R)) leaf_fits k missed
       matched_fits (shape ps dots) t R A a b h k clean = fields_fit ps t R A a b h k (last_clean (repeated [] (pattern_labels ps)) _ clean)
       matched_fits (variant l p) t R A a b h k clean =
           node_fits _ _ _ (beside_fits _ _ _ _ a _ (h (length R)) (beside_fits _ _ _ _ _ leaf (matched_fits p (here (length R)) (None ∷ R) A leaf b (λ n. leaf_fits) k clean) missed))
@@ -307,34 +307,34 @@ module _ (defs : List (Name × Bool)) (sources : List Name) (codes : Codes) (ds 
 
   mutual
     tree_fits : (e : Exp) (S : Scope) (s : Seen) → Matches S s → Clean (findings e s) → Within (tree (resolved e s) codes S) (sized (resolved e s) ds)
-    tree_fits (con v) S s m h = leaf_fits
+    tree_fits (Const v) S s m h = leaf_fits
     tree_fits (name w) S s m h = name_fits S s w (length S) m h
-    tree_fits (call f es) S s m h =
-        subst (λ x. Within (called_tree (codes x) (tree_all (resolved_all es s) codes S)) (sized (resolved (call f es) s) ds)) (sym (text_is (called s f.text) f))
+    tree_fits (Call f es) S s m h =
+        subst (λ x. Within (called_tree (codes x) (tree_all (resolved_all es s) codes S)) (sized (resolved (Call f es) s) ds)) (sym (text_is (called s f.text) f))
         (call_fits (place_in s.variables f.text) (standing s.definitions s.sources f.text) (primitive_of f.text) (codes f.text) f es s codes S _ ds (stands S s f.text m)
         (first_clean _ (findings_all es s) h) (all_fit es S s m (last_clean (used (called s f.text) f (count es)) _ h)))
-    tree_fits (fields fs) S s m h = record_fits (tree_fields (resolved_fields fs s) codes S) _ (parts_fit fs S s m (last_clean (repeated [] (field_labels fs)) _ h))
-    tree_fits (inject l a) S s m h = node_fits _ _ _ (tree_fits a S s m h)
-    tree_fits (coll k es) S s m h = node_fits _ _ _ (all_fit es S s m h)
-    tree_fits (comp k e qs) S s m h =
-        quals_fit qs k (λ R. term.make k (trees (tree (resolved e (behind qs s)) codes R) no_trees)) S s _ m
+    tree_fits (Rec fs) S s m h = record_fits (tree_fields (resolved_fields fs s) codes S) _ (parts_fit fs S s m (last_clean (repeated [] (field_labels fs)) _ h))
+    tree_fits (Inj l a) S s m h = node_fits _ _ _ (tree_fits a S s m h)
+    tree_fits (Coll k es) S s m h = node_fits _ _ _ (all_fit es S s m h)
+    tree_fits (Comp k e qs) S s m h =
+        quals_fit qs k (λ R. term.Make k (trees (tree (resolved e (behind qs s)) codes R) no_trees)) S s _ m
         (node_fits _ _ _ (and_none _ _ _ (tree_fits e (after_quals (resolved_quals qs s) S) (behind qs s) (quals_match qs S s m) (last_clean (findings_quals qs s) _ h))))
         (first_clean _ (findings e (behind qs s)) h)
-    tree_fits (choice a b c) S s m h =
+    tree_fits (If a b c) S s m h =
         let k = last_clean (findings a s) (findings b s ++ findings c s) h in
         node_fits _ _ _ (beside_fits _ _ _ _ _ _ (tree_fits a S s m (first_clean _ (findings b s ++ findings c s) h)) (beside_fits _ _ _ _ _ _ (tree_fits b S s m (first_clean _ (findings c s) k)) (tree_fits c S s m (last_clean (findings b s) _ k))))
-    tree_fits (bind p a b) S s m h =
+    tree_fits (Let p a b) S s m h =
         let k = last_clean (findings a s) (sure_findings p s ++ findings b (within p s)) h in
         node_fits _ _ _ (beside_fits _ _ _ _ _ _ (tree_fits a S s m (first_clean _ (sure_findings p s ++ findings b (within p s)) h))
         (here_fits S s m no_sense leaf_fits p (λ R. tree (resolved b (within p s)) codes R) _ (tree_fits b (after_pat (resolved_pat p s) (None ∷ S)) (within p s) (here_matches p S s m) (last_clean (sure_findings p s) _ k))
         (sure_clean p s (first_clean _ (findings b (within p s)) k))))
-    tree_fits (select a bs) S s m h =
+    tree_fits (Case a bs) S s m h =
         let k = last_clean (findings a s) (repeated [] (branch_labels bs) ++ findings_branches bs s) h in
         node_fits _ _ _ (beside_fits _ _ _ _ _ _ (tree_fits a S s m (first_clean _ (repeated [] (branch_labels bs) ++ findings_branches bs s) h)) (branches_fit bs S s m (last_clean (repeated [] (branch_labels bs)) _ k)))
-    tree_fits (path a ls) S s m h = path_fits ls _ _ (tree_fits a S s m h)
-    tree_fits (invert a) S s m h = node_fits _ _ _ (and_none _ _ _ (tree_fits a S s m h))
-    tree_fits (minus a) S s m h = node_fits _ _ _ (and_none _ _ _ (tree_fits a S s m h))
-    tree_fits (chain a ss) S s m h = steps_fit ss _ S s _ m (tree_fits a S s m (first_clean _ (findings_steps ss s) h)) (last_clean (findings a s) _ h)
+    tree_fits (Path a ls) S s m h = path_fits ls _ _ (tree_fits a S s m h)
+    tree_fits (Not a) S s m h = node_fits _ _ _ (and_none _ _ _ (tree_fits a S s m h))
+    tree_fits (Neg a) S s m h = node_fits _ _ _ (and_none _ _ _ (tree_fits a S s m h))
+    tree_fits (Chain a ss) S s m h = steps_fit ss _ S s _ m (tree_fits a S s m (first_clean _ (findings_steps ss s) h)) (last_clean (findings a s) _ h)
 
     all_fit : (es : Exps) (S : Scope) (s : Seen) → Matches S s → Clean (findings_all es s) → Fits (nodes_trees (tree_all (resolved_all es s) codes S)) (depth_trees (tree_all (resolved_all es s) codes S)) (sized_all (resolved_all es s) ds)
     all_fit no_exps S s m h = none_fits size.no_parts

@@ -10,7 +10,7 @@ use Rattle.kl_outcome.proofs.Grounds.{at_ground}
 use Rattle.kl_syntax.specs.Syntax.{Pat, catch, any, same, is, shape, variant, Pats, no_pats, pats}
 use Rattle.kl_meaning.specs.Tidy.{IsSurePattern, AreSurePatterns}
 use Rattle.kl_meaning.specs.Typing.{Context, AreGround, Sort, nothing, value_of, function_of, primitive, KnownTypes, ValueTypes, VariableOr, NameTypes, Takes, TakesFields}
-use Rattle.kl_core.specs.Trees.{Tree, con}
+use Rattle.kl_core.specs.Trees.{Tree, Const}
 use Rattle.kl_core.specs.Typing.{SourceTypes, CoreTypes}
 use Rattle.kl_core.proofs.Proper.{types_proper}
 use Rattle.kl_desugar.specs.Translation.{Scope, level_of, Place, here, inside, place_tree, Code, value_by, function_by, primitive_by, Codes, code_tree, level_tree, name_tree, tested, matched, matched_fields, matched_here}
@@ -115,7 +115,7 @@ module _ (S : SourceTypes) (known : KnownTypes) (codes : Codes) (rest : List Gro
       matched_typed any t P s H A m i g c h k = k P i (grows_none P) (sym h)
       matched_typed (same x) t P s H A m i g c h k = if_tested s t P _ _ (must_miss m) i c (name_typed P0 P x.text s i g h.0) (k P i (grows_none P) (sym h.1))
       matched_typed (is w n) t P s H A m i g c h k =
-          let d = types_proper S _ _ s (place_typed S t P s rest i c) in if_tested s t P (con w) _ (must_miss m) i c (d, h.0) (k P i (grows_none P) (sym h.1))
+          let d = types_proper S _ _ s (place_typed S t P s rest i c) in if_tested s t P (Const w) _ (must_miss m) i c (d, h.0) (k P i (grows_none P) (sym h.1))
       matched_typed (shape ps dots) t P s H A m i g c h k = fields_typed ps t P h.0 H A m i g (subst (Carries t P) h.1 c) h.3 k
       matched_typed (variant l p) t P s H A m i g c h k =
           let miss = must_miss m in

@@ -11,7 +11,7 @@ use Rattle.kl_outcome.proofs.Refining.{Refines, refines_same, refines_is, after_
 use Rattle.kl_syntax.specs.declared.tree.Op.{Op}
 use Rattle.kl_syntax.specs.declared.tree.Word.{Word}
 use Rattle.kl_syntax.specs.declared.tree.Op.TheVariants as op
-use Rattle.kl_syntax.specs.Syntax.{Exp, con, name, call, fields, inject, coll, comp, choice, bind, select, path, invert, minus, chain, Exps, no_exps, exps, Flds, no_flds, flds, Quals, no_quals, draw, test, Branches, no_branches, otherwise, branch, Steps, no_steps, step, Decls, no_decls, constant, function}
+use Rattle.kl_syntax.specs.Syntax.{Exp, Const, name, Call, Rec, Inj, Coll, Comp, If, Let, Case, Path, Not, Neg, Chain, Exps, no_exps, exps, Flds, no_flds, flds, Quals, no_quals, draw, test, Branches, no_branches, otherwise, branch, Steps, no_steps, step, Decls, no_decls, constant, function}
 use Rattle.kl_meaning.specs.Match.{Env, same_name, fits}
 use Rattle.kl_meaning.specs.Run.{Meant, nothing, value_of, function_of, primitive, KnownOutcomes, look_up, called, operated, parts_of, flow_if, draw_if, run, run_all, run_items, run_fields, run_quals, run_branches, run_steps, code_named, meant_at, at_first, known_after, meaning_of_program}
 use Rattle.kl_core.specs.Core.{Tables, core, core_all, core_items, core_parts, core_arms}
@@ -70,7 +70,7 @@ operated_up T op.Cat o q a b env h k = two_up 12 _ _ _ _ h k
 -- fields one after the other
 path_up : (T : Tables) (ls : List Word) (o : Outcome) (t : Tree) (env : List Value) → Refines o (core T t env) → Refines (parts_of ls o) (core T (projected ls t) env)
 path_up T [] o t env h = h
-path_up T (l ∷ ls) o t env h = path_up T ls (part l.text o) (term.proj l.text t) env (after_up o (core T t env) _ _ h (λ v. refines_same (field_in l.text (as_record v))))
+path_up T (l ∷ ls) o t env h = path_up T ls (part l.text o) (term.Proj l.text t) env (after_up o (core T t env) _ _ h (λ v. refines_same (field_in l.text (as_record v))))
 
 -- a test before what is drawn
 test_up : (k : Kind) (c c' q : Outcome) (f : Flow) → Refines c c' → Refines (collected k f) q → Refines (collected k (draw_if c f)) (if_then c' q (collected k (stop fine)))
@@ -92,26 +92,26 @@ parts_are T (o ∷ os) (t ∷ ts) env (e, h, k) = (e, h, parts_are T os ts env k
 module _ (T : Tables) (known : KnownOutcomes) (codes : Codes) (rest : List Value) (meets : AllMeet T known codes) where
   mutual
     pub tree_up : (e : Exp) (P : Held) → Refines (run e known (names P)) (core T (tree e codes (scope P)) (values P ++ rest))
-    tree_up (con v) P = refl
+    tree_up (Const v) P = refl
     tree_up (name x) P = name_up T known codes rest meets P P x.text (grows_none P)
-    tree_up (call f es) P = call_up T (known f.text) (codes f.text) _ _ _ (meets f.text) (all_up es P)
-    tree_up (fields fs) P = parts_up _ _ _ (parts_are T _ _ _ (order_up (λ o t. Refines o (core T t (values P ++ rest))) _ _ (fields_up fs P)))
-    tree_up (inject l a) P = after_up (run a known (names P)) _ _ _ (tree_up a P) (λ v. refines_same (done (value.Inj l.text v)))
-    tree_up (coll k es) P = collected_up k _ _ (items_up es P)
-    tree_up (comp k e qs) P =
-        quals_up qs k (λ inner. item_then (run e known inner) (stop fine)) (λ R. term.make k (trees (tree e codes R) no_trees)) P
+    tree_up (Call f es) P = call_up T (known f.text) (codes f.text) _ _ _ (meets f.text) (all_up es P)
+    tree_up (Rec fs) P = parts_up _ _ _ (parts_are T _ _ _ (order_up (λ o t. Refines o (core T t (values P ++ rest))) _ _ (fields_up fs P)))
+    tree_up (Inj l a) P = after_up (run a known (names P)) _ _ _ (tree_up a P) (λ v. refines_same (done (value.Inj l.text v)))
+    tree_up (Coll k es) P = collected_up k _ _ (items_up es P)
+    tree_up (Comp k e qs) P =
+        quals_up qs k (λ inner. item_then (run e known inner) (stop fine)) (λ R. term.Make k (trees (tree e codes R) no_trees)) P
         (λ Q. collected_up k _ _ (item_up (run e known (names Q)) _ (stop fine) (stop fine) (tree_up e Q) (inr refl)))
-    tree_up (choice a b c) P = if_up _ _ _ _ _ _ (tree_up a P) (tree_up b P) (tree_up c P)
-    tree_up (bind p a b) P =
+    tree_up (If a b c) P = if_up _ _ _ _ _ _ (tree_up a P) (tree_up b P) (tree_up c P)
+    tree_up (Let p a b) P =
         after_up (run a known (names P)) _ _ _ (tree_up a P)
         (λ v. rw (must_is (fits p (look_up known (names P)) v (names P)) (λ inner. run b known inner))
         (here_up T known codes rest meets p P v stuck no_sense (λ inner. run b known inner) (λ R. tree b codes R) (λ env. tt) (λ Q. tree_up b Q)))
-    tree_up (select a bs) P =
+    tree_up (Case a bs) P =
         after_up (run a known (names P)) _ _ _ (tree_up a P) (λ v. opened_up (as_variant v) _ _ (λ l w. branches_up bs l w P))
-    tree_up (path a ls) P = path_up T ls _ _ _ (tree_up a P)
-    tree_up (invert a) P = one_up 11 _ _ (tree_up a P)
-    tree_up (minus a) P = one_up 10 _ _ (tree_up a P)
-    tree_up (chain a ss) P = steps_up ss _ _ P (tree_up a P)
+    tree_up (Path a ls) P = path_up T ls _ _ _ (tree_up a P)
+    tree_up (Not a) P = one_up 11 _ _ (tree_up a P)
+    tree_up (Neg a) P = one_up 10 _ _ (tree_up a P)
+    tree_up (Chain a ss) P = steps_up ss _ _ P (tree_up a P)
 
     all_up : (es : Exps) (P : Held) → RefinesAll (run_all es known (names P)) (core_all T (tree_all es codes (scope P)) (values P ++ rest))
     all_up no_exps P = tt

@@ -4,7 +4,7 @@ use mathlib.Core.Path.{ap₂}
 use Rattle.kl_value.specs.declared.Kind.{Kind}
 use Rattle.kl_outcome.specs.Outcome.{Name}
 use Rattle.kl_syntax.specs.declared.tree.Word.{Word}
-use Rattle.kl_syntax.specs.Syntax.{Pat, catch, any, same, is, shape, variant, Pats, no_pats, pats, Exp, con, name, call, fields, inject, coll, comp, choice, bind, select, path, invert, minus, chain, Exps, no_exps, exps, Flds, no_flds, flds, Quals, no_quals, draw, test, Branches, no_branches, otherwise, branch, Steps, no_steps, step, Decls, no_decls, constant, function}
+use Rattle.kl_syntax.specs.Syntax.{Pat, catch, any, same, is, shape, variant, Pats, no_pats, pats, Exp, Const, name, Call, Rec, Inj, Coll, Comp, If, Let, Case, Path, Not, Neg, Chain, Exps, no_exps, exps, Flds, no_flds, flds, Quals, no_quals, draw, test, Branches, no_branches, otherwise, branch, Steps, no_steps, step, Decls, no_decls, constant, function}
 use Rattle.kl_meaning.specs.Match.{same_name}
 use Rattle.kl_meaning.specs.Run.{in_order}
 use Rattle.kl_core.specs.Trees as term
@@ -35,13 +35,13 @@ module _ (c d : Codes) where
 
   mutual
     pattern_same : (p : Pat) (t : Place) (S : Scope) (e : Tree) (A B : Scope → Tree) (R : Scope) → AgreeOn (pattern_names p) c d → ((Q : Scope) → A Q ≡ B Q) → matched p t c S e A R ≡ matched p t d S e B R
-    pattern_same (catch x) t S e A B R h k = ap (term.bind (place_tree t (length R))) (k (Some x.text ∷ R))
+    pattern_same (catch x) t S e A B R h k = ap (term.Let (place_tree t (length R))) (k (Some x.text ∷ R))
     pattern_same any t S e A B R h k = k R
     pattern_same (same x) t S e A B R h k = ap₂ (λ u a. tested (place_tree t (length R)) u a e) (same_at S x.text (length R) h.0) (k R)
-    pattern_same (is v n) t S e A B R h k = ap (λ a. tested (place_tree t (length R)) (term.con v) a e) (k R)
+    pattern_same (is v n) t S e A B R h k = ap (λ a. tested (place_tree t (length R)) (term.Const v) a e) (k R)
     pattern_same (shape ps dots) t S e A B R h k = patterns_same ps t S e A B R h k
     pattern_same (variant l p) t S e A B R h k =
-        ap (λ a. term.case_of (place_tree t (length R)) (term.arm l.text a (term.rest e))) (pattern_same p (here (length R)) S e A B (None ∷ R) h k)
+        ap (λ a. term.Case (place_tree t (length R)) (term.arm l.text a (term.rest e))) (pattern_same p (here (length R)) S e A B (None ∷ R) h k)
 
     patterns_same : (ps : Pats) (t : Place) (S : Scope) (e : Tree) (A B : Scope → Tree) (R : Scope) → AgreeOn (patterns_names ps) c d → ((Q : Scope) → A Q ≡ B Q)
         → matched_fields ps t c S e A R ≡ matched_fields ps t d S e B R
@@ -52,28 +52,28 @@ module _ (c d : Codes) where
 
   mutual
     tree_same : (e : Exp) (S : Scope) → AgreeOn (names e) c d → tree e c S ≡ tree e d S
-    tree_same (con v) S h = refl
+    tree_same (Const v) S h = refl
     tree_same (name x) S h = same_at S x.text (length S) h.0
-    tree_same (call f es) S h = ap₂ called_tree h.0 (all_same es S h.1)
-    tree_same (fields fs) S h = ap (λ z. term.rec (term.parts_of (in_order z))) (fields_same fs S h)
-    tree_same (inject l a) S h = ap (term.inj l.text) (tree_same a S h)
-    tree_same (coll k es) S h = ap (term.make k) (all_same es S h)
-    tree_same (comp k e qs) S h =
-        quals_same qs k (λ R. term.make k (trees (tree e c R) no_trees)) (λ R. term.make k (trees (tree e d R) no_trees)) S (back (names e) (names_quals qs) c d h)
-        (λ Q. ap (λ z. term.make k (trees z no_trees)) (tree_same e Q (front (names e) (names_quals qs) c d h)))
-    tree_same (choice a b f) S h =
+    tree_same (Call f es) S h = ap₂ called_tree h.0 (all_same es S h.1)
+    tree_same (Rec fs) S h = ap (λ z. term.Rec (term.parts_of (in_order z))) (fields_same fs S h)
+    tree_same (Inj l a) S h = ap (term.Inj l.text) (tree_same a S h)
+    tree_same (Coll k es) S h = ap (term.Make k) (all_same es S h)
+    tree_same (Comp k e qs) S h =
+        quals_same qs k (λ R. term.Make k (trees (tree e c R) no_trees)) (λ R. term.Make k (trees (tree e d R) no_trees)) S (back (names e) (names_quals qs) c d h)
+        (λ Q. ap (λ z. term.Make k (trees z no_trees)) (tree_same e Q (front (names e) (names_quals qs) c d h)))
+    tree_same (If a b f) S h =
         let those = front (names a ++ names b) (names f) c d h in
-        ap₂ (λ u v. term.choice u v (tree f c S)) (tree_same a S (front (names a) (names b) c d those)) (tree_same b S (back (names a) (names b) c d those))
-        ∙ ap (term.choice (tree a d S) (tree b d S)) (tree_same f S (back (names a ++ names b) (names f) c d h))
-    tree_same (bind p a b) S h =
+        ap₂ (λ u v. term.If u v (tree f c S)) (tree_same a S (front (names a) (names b) c d those)) (tree_same b S (back (names a) (names b) c d those))
+        ∙ ap (term.If (tree a d S) (tree b d S)) (tree_same f S (back (names a ++ names b) (names f) c d h))
+    tree_same (Let p a b) S h =
         let those = front (pattern_names p ++ names a) (names b) c d h in
-        ap₂ term.bind (tree_same a S (back (pattern_names p) (names a) c d those))
+        ap₂ term.Let (tree_same a S (back (pattern_names p) (names a) c d those))
         (pattern_same p (here (length S)) S no_sense (λ R. tree b c R) (λ R. tree b d R) (None ∷ S) (front (pattern_names p) (names a) c d those) (λ Q. tree_same b Q (back (pattern_names p ++ names a) (names b) c d h)))
-    tree_same (select a bs) S h = ap₂ term.case_of (tree_same a S (front (names a) (names_branches bs) c d h)) (branches_same bs S (back (names a) (names_branches bs) c d h))
-    tree_same (path a ls) S h = ap (projected ls) (tree_same a S h)
-    tree_same (invert a) S h = ap (λ z. term.prim 11 (trees z no_trees)) (tree_same a S h)
-    tree_same (minus a) S h = ap (λ z. term.prim 10 (trees z no_trees)) (tree_same a S h)
-    tree_same (chain a ss) S h = steps_same ss (tree a c S) (tree a d S) S (tree_same a S (front (names a) (names_steps ss) c d h)) (back (names a) (names_steps ss) c d h)
+    tree_same (Case a bs) S h = ap₂ term.Case (tree_same a S (front (names a) (names_branches bs) c d h)) (branches_same bs S (back (names a) (names_branches bs) c d h))
+    tree_same (Path a ls) S h = ap (projected ls) (tree_same a S h)
+    tree_same (Not a) S h = ap (λ z. term.Prim 11 (trees z no_trees)) (tree_same a S h)
+    tree_same (Neg a) S h = ap (λ z. term.Prim 10 (trees z no_trees)) (tree_same a S h)
+    tree_same (Chain a ss) S h = steps_same ss (tree a c S) (tree a d S) S (tree_same a S (front (names a) (names_steps ss) c d h)) (back (names a) (names_steps ss) c d h)
 
     all_same : (es : Exps) (S : Scope) → AgreeOn (names_all es) c d → tree_all es c S ≡ tree_all es d S
     all_same no_exps S h = refl
@@ -87,11 +87,11 @@ module _ (c d : Codes) where
     quals_same no_quals k A B S h j = j S
     quals_same (draw p s qs) k A B S h j =
         let those = front (pattern_names p ++ names s) (names_quals qs) c d h in
-        ap₂ (term.ext k)
+        ap₂ (term.Ext k)
         (pattern_same p (here (length S)) S (empty k) (λ R. tree_quals qs k A c R) (λ R. tree_quals qs k B d R) (None ∷ S) (front (pattern_names p) (names s) c d those)
         (λ Q. quals_same qs k A B Q (back (pattern_names p ++ names s) (names_quals qs) c d h) j))
         (tree_same s S (back (pattern_names p) (names s) c d those))
-    quals_same (test e qs) k A B S h j = ap₂ (λ u v. term.choice u v (empty k)) (tree_same e S (front (names e) (names_quals qs) c d h)) (quals_same qs k A B S (back (names e) (names_quals qs) c d h) j)
+    quals_same (test e qs) k A B S h j = ap₂ (λ u v. term.If u v (empty k)) (tree_same e S (front (names e) (names_quals qs) c d h)) (quals_same qs k A B S (back (names e) (names_quals qs) c d h) j)
 
     branches_same : (bs : Branches) (S : Scope) → AgreeOn (names_branches bs) c d → tree_branches bs c S ≡ tree_branches bs d S
     branches_same no_branches S h = refl

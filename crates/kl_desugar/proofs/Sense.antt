@@ -10,7 +10,7 @@ use Rattle.kl_outcome.proofs.Grounds.{at_ground}
 use Rattle.kl_syntax.specs.declared.tree.Op.{Op}
 use Rattle.kl_syntax.specs.declared.tree.Op.TheVariants as op
 use Rattle.kl_syntax.specs.declared.tree.Word.{Word}
-use Rattle.kl_syntax.specs.Syntax.{Exp, con, name, call, fields, inject, coll, comp, choice, bind, select, path, invert, minus, chain, Exps, no_exps, exps, Flds, no_flds, flds, Quals, no_quals, draw, test, Branches, no_branches, otherwise, branch, Steps, no_steps, step, Decls, no_decls, constant, function}
+use Rattle.kl_syntax.specs.Syntax.{Exp, Const, name, Call, Rec, Inj, Coll, Comp, If, Let, Case, Path, Not, Neg, Chain, Exps, no_exps, exps, Flds, no_flds, flds, Quals, no_quals, draw, test, Branches, no_branches, otherwise, branch, Steps, no_steps, step, Decls, no_decls, constant, function}
 use Rattle.kl_meaning.specs.Match.{same_name}
 use Rattle.kl_meaning.specs.Run.{code_named}
 use Rattle.kl_meaning.specs.Tidy.{IsTidy, AreTidy, AreTidyFields, AreTidyQuals, AreTidyBranches, AreTidySteps, IsTidyProgram}
@@ -50,8 +50,8 @@ module _ (S : SourceTypes) (G : List Ground) where
   two_typed s u a b h k = (s, u ∷ [], refl, h, (u, [], refl, k, refl))
 
   operated_typed : (c : Op) (s u t : Ground) (a b : Tree) → OpTypes c s u t → CoreTypes S G a s → CoreTypes S G b u → CoreTypes S G (operated_tree c a b) t
-  operated_typed op.And s u t a b h p q = (subst (CoreTypes S G a) h.0 p, subst (CoreTypes S G b) (h.1 ∙ sym h.2) q, subst (CoreTypes S G (term.con (value.Bool false))) (sym h.2) (tt, truth_typed false))
-  operated_typed op.Or s u t a b h p q = (subst (CoreTypes S G a) h.0 p, subst (CoreTypes S G (term.con (value.Bool true))) (sym h.2) (tt, truth_typed true), subst (CoreTypes S G b) (h.1 ∙ sym h.2) q)
+  operated_typed op.And s u t a b h p q = (subst (CoreTypes S G a) h.0 p, subst (CoreTypes S G b) (h.1 ∙ sym h.2) q, subst (CoreTypes S G (term.Const (value.Bool false))) (sym h.2) (tt, truth_typed false))
+  operated_typed op.Or s u t a b h p q = (subst (CoreTypes S G a) h.0 p, subst (CoreTypes S G (term.Const (value.Bool true))) (sym h.2) (tt, truth_typed true), subst (CoreTypes S G b) (h.1 ∙ sym h.2) q)
   operated_typed op.Append s u t a b h p q = (h.0, h.1, h.4 ∙ h.2, subst (CoreTypes S G a) (sym h.4) p, subst (CoreTypes S G b) (h.3 ∙ sym h.4) q)
   operated_typed op.Eq s u t a b h p q = (s ∷ u ∷ [], two_typed s u a b p q, h)
   operated_typed op.Ne s u t a b h p q = (s ∷ u ∷ [], two_typed s u a b p q, h)
@@ -66,7 +66,7 @@ module _ (S : SourceTypes) (G : List Ground) where
 
   path_typed : (ls : List Word) (s t : Ground) (a : Tree) → PathTypes ls s t → CoreTypes S G a s → CoreTypes S G (projected ls a) t
   path_typed [] s t a h k = subst (CoreTypes S G a) h k
-  path_typed (l ∷ ls) s t a h k = path_typed ls h.1 t (term.proj l.text a) h.4 (h.0, subst (CoreTypes S G a) h.2 k, h.3)
+  path_typed (l ∷ ls) s t a h k = path_typed ls h.1 t (term.Proj l.text a) h.4 (h.0, subst (CoreTypes S G a) h.2 k, h.3)
 
   call_typed : (k : Sort) (c : Code) (ss : List Ground) (t : Ground) (ts : Trees) → Agrees S k c → core.AllTypes S G ts ss → CallTypes k ss t → CoreTypes S G (called_tree c ts) t
   call_typed (function_of P) (function_by u) ss t (trees a no_trees) g h k =
@@ -96,10 +96,10 @@ row_good t r e h = subst IsGround e h
 module _ (S : SourceTypes) (known : KnownTypes) (codes : Codes) (rest : List Ground) (agree : AllAgree S known codes) (ground : (x : Name) → IsGroundSort (known x)) where
   mutual
     pub tree_typed : (e : Exp) (P : Standing Ground) (t : Ground) → AllGround P → IsTidy e → Types e known (names P) t → CoreTypes S (values P ++ rest) (tree e codes (scope P)) t
-    tree_typed (con v) P t i d h = h
+    tree_typed (Const v) P t i d h = h
     tree_typed (name x) P t i d h = name_typed S known codes rest agree P P x.text t i (grows_none P) h
-    tree_typed (call f es) P t i d h = call_typed S _ (known f.text) (codes f.text) h.0 t _ (agree f.text) (all_typed es P h.0 i d h.1) h.2
-    tree_typed (fields fs) P t i d h =
+    tree_typed (Call f es) P t i d h = call_typed S _ (known f.text) (codes f.text) h.0 t _ (agree f.text) (all_typed es P h.0 i d h.1) h.2
+    tree_typed (Rec fs) P t i d h =
         let good = row_good t h.0 h.1 h.2 in (
           h.0,
           h.1,
@@ -108,27 +108,27 @@ module _ (S : SourceTypes) (known : KnownTypes) (codes : Codes) (rest : List Gro
               (in_order_all (IsFieldOf (CoreTypes S (values P ++ rest)) h.0) _ (fields_typed fs P h.0 i d h.4))
               (λ l there. in_order_found l _ (has_fields (λ e. tree e codes (scope P)) (λ fs. tree_fields fs codes (scope P)) refl (λ l e fs. refl) fs l (h.3 l there))),
         )
-    tree_typed (inject l a) P t i d h = (h.0, h.1, h.2, h.3, h.4, tree_typed a P h.1 i d h.5)
-    tree_typed (coll k es) P t i d h = (h.0, h.1, h.2, each_typed es P h.0 i d h.3)
-    tree_typed (comp k e qs) P t i d h =
+    tree_typed (Inj l a) P t i d h = (h.0, h.1, h.2, h.3, h.4, tree_typed a P h.1 i d h.5)
+    tree_typed (Coll k es) P t i d h = (h.0, h.1, h.2, each_typed es P h.0 i d h.3)
+    tree_typed (Comp k e qs) P t i d h =
         let item = types_ground known ground e h.1 h.0 (quals_ground known ground qs (names P) h.1 (names_ground P i) h.3) h.4 in
-        subst (CoreTypes S (values P ++ rest) (tree (comp k e qs) codes (scope P))) (sym h.2)
-        (quals_typed qs k (λ R. term.make k (trees (tree e codes R) no_trees)) P h.1 h.0 item i d.0 h.3
+        subst (CoreTypes S (values P ++ rest) (tree (Comp k e qs) codes (scope P))) (sym h.2)
+        (quals_typed qs k (λ R. term.Make k (trees (tree e codes R) no_trees)) P h.1 h.0 item i d.0 h.3
         (λ Q q n. (h.0, refl, item, (tree_typed e Q h.0 q d.1 (subst (λ G. Types e known G h.0) (sym n) h.4), tt))))
-    tree_typed (choice a b c) P t i d h = (tree_typed a P bool i d.0 h.0, tree_typed b P t i d.1 h.1, tree_typed c P t i d.2 h.2)
-    tree_typed (bind p a b) P t i d h =
+    tree_typed (If a b c) P t i d h = (tree_typed a P bool i d.0 h.0, tree_typed b P t i d.1 h.1, tree_typed c P t i d.2 h.2)
+    tree_typed (Let p a b) P t i d h =
         let first = tree_typed a P h.0 i d.1 h.2 in (
           h.0,
           first,
           here_typed S known codes rest agree p P h.0 t no_sense h.1 (λ R. tree b codes R) (inl d.0) h.3 (types_proper S _ _ h.0 first) i (λ Q q n. tree_typed b Q t q d.2 (subst (λ G. Types b known G t) (sym n) h.4)),
         )
-    tree_typed (select a bs) P t i d h =
+    tree_typed (Case a bs) P t i d h =
         let subject = tree_typed a P _ i d.0 h.1 in
         (h.0, subject, λ l there. arm_held bs codes (scope P) l (h.2 l there), branches_typed bs P h.0 t i (types_proper S _ _ (variant_type h.0) subject).1 d.1 h.3)
-    tree_typed (path a ls) P t i d h = path_typed S _ ls h.0 t _ h.2 (tree_typed a P h.0 i d h.1)
-    tree_typed (invert a) P t i d h = (h.0 ∷ [], (h.0, [], refl, tree_typed a P h.0 i d h.1, refl), h.2)
-    tree_typed (minus a) P t i d h = (h.0 ∷ [], (h.0, [], refl, tree_typed a P h.0 i d h.1, refl), h.2)
-    tree_typed (chain a ss) P t i d h = steps_typed ss _ P h.0 t i d.1 h.2 (tree_typed a P h.0 i d.0 h.1)
+    tree_typed (Path a ls) P t i d h = path_typed S _ ls h.0 t _ h.2 (tree_typed a P h.0 i d h.1)
+    tree_typed (Not a) P t i d h = (h.0 ∷ [], (h.0, [], refl, tree_typed a P h.0 i d h.1, refl), h.2)
+    tree_typed (Neg a) P t i d h = (h.0 ∷ [], (h.0, [], refl, tree_typed a P h.0 i d h.1, refl), h.2)
+    tree_typed (Chain a ss) P t i d h = steps_typed ss _ P h.0 t i d.1 h.2 (tree_typed a P h.0 i d.0 h.1)
 
     all_typed : (es : Exps) (P : Standing Ground) (ss : List Ground) → AllGround P → AreTidy es → AllTypes es known (names P) ss → core.AllTypes S (values P ++ rest) (tree_all es codes (scope P)) ss
     all_typed no_exps P ss i d h = h

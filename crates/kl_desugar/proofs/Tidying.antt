@@ -7,7 +7,7 @@ use Rattle.std.proofs.lemmas.List.Elements.{Contains-append_left, Contains-appen
 use Rattle.std.proofs.lemmas.Slice.Eq.{bytes_eq-Decides}
 use Rattle.kl_outcome.specs.Outcome.{Name}
 use Rattle.kl_syntax.specs.declared.tree.Program.{Program}
-use Rattle.kl_syntax.specs.Syntax.{Pat, catch, any, same, is, shape, variant, Pats, no_pats, pats, Exp, con, name, call, fields, inject, coll, comp, choice, bind, select, path, invert, minus, chain, Exps, no_exps, exps, Flds, no_flds, flds, Quals, no_quals, draw, test, Branches, no_branches, otherwise, branch, Steps, no_steps, step, Decls, no_decls, constant, function}
+use Rattle.kl_syntax.specs.Syntax.{Pat, catch, any, same, is, shape, variant, Pats, no_pats, pats, Exp, Const, name, Call, Rec, Inj, Coll, Comp, If, Let, Case, Path, Not, Neg, Chain, Exps, no_exps, exps, Flds, no_flds, flds, Quals, no_quals, draw, test, Branches, no_branches, otherwise, branch, Steps, no_steps, step, Decls, no_decls, constant, function}
 use Rattle.kl_syntax.specs.View.{view, decls_of}
 use Rattle.kl_scope.specs.declared.refusal.ScopeError.{ScopeError}
 use Rattle.kl_scope.specs.declared.refusal.ScopeError.TheVariants.{Twice}
@@ -77,26 +77,26 @@ not_again (flds l e fs) x before s h clean =
 
 mutual
   tidy : (e : Exp) (s : Scope) → Clean (findings e s) → IsTidy (resolved e s)
-  tidy (con v) s h = tt
+  tidy (Const v) s h = tt
   tidy (name w) s h = tt
-  tidy (call f es) s h = tidy_all es s (last_clean (used (called s f.text) f (count es)) _ h)
-  tidy (fields fs) s h = tidy_fields fs [] s (first_clean _ (findings_fields fs s) h) (last_clean (repeated [] (field_labels fs)) _ h)
-  tidy (inject l e) s h = tidy e s h
-  tidy (coll k es) s h = tidy_all es s h
-  tidy (comp k e qs) s h = (tidy_quals qs s (first_clean _ (findings e (behind qs s)) h), tidy e (behind qs s) (last_clean (findings_quals qs s) _ h))
-  tidy (choice a b c) s h =
+  tidy (Call f es) s h = tidy_all es s (last_clean (used (called s f.text) f (count es)) _ h)
+  tidy (Rec fs) s h = tidy_fields fs [] s (first_clean _ (findings_fields fs s) h) (last_clean (repeated [] (field_labels fs)) _ h)
+  tidy (Inj l e) s h = tidy e s h
+  tidy (Coll k es) s h = tidy_all es s h
+  tidy (Comp k e qs) s h = (tidy_quals qs s (first_clean _ (findings e (behind qs s)) h), tidy e (behind qs s) (last_clean (findings_quals qs s) _ h))
+  tidy (If a b c) s h =
       let k = last_clean (findings a s) (findings b s ++ findings c s) h in
       (tidy a s (first_clean _ (findings b s ++ findings c s) h), tidy b s (first_clean _ (findings c s) k), tidy c s (last_clean (findings b s) _ k))
-  tidy (bind p a b) s h =
+  tidy (Let p a b) s h =
       let k = last_clean (findings a s) (sure_findings p s ++ findings b (within p s)) h in
       (must_match p s (first_clean _ (findings b (within p s)) k), tidy a s (first_clean _ (sure_findings p s ++ findings b (within p s)) h), tidy b (within p s) (last_clean (sure_findings p s) _ k))
-  tidy (select e bs) s h =
+  tidy (Case e bs) s h =
       let k = last_clean (findings e s) (repeated [] (branch_labels bs) ++ findings_branches bs s) h in
       (tidy e s (first_clean _ (repeated [] (branch_labels bs) ++ findings_branches bs s) h), tidy_branches bs s (last_clean (repeated [] (branch_labels bs)) _ k))
-  tidy (path e ls) s h = tidy e s h
-  tidy (invert e) s h = tidy e s h
-  tidy (minus e) s h = tidy e s h
-  tidy (chain e ss) s h = (tidy e s (first_clean _ (findings_steps ss s) h), tidy_steps ss s (last_clean (findings e s) _ h))
+  tidy (Path e ls) s h = tidy e s h
+  tidy (Not e) s h = tidy e s h
+  tidy (Neg e) s h = tidy e s h
+  tidy (Chain e ss) s h = (tidy e s (first_clean _ (findings_steps ss s) h), tidy_steps ss s (last_clean (findings e s) _ h))
 
   tidy_all : (es : Exps) (s : Scope) → Clean (findings_all es s) → AreTidy (resolved_all es s)
   tidy_all no_exps s h = tt

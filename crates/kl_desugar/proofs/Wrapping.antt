@@ -18,7 +18,7 @@ mutual
   matched_is (same x) t codes S e A R = refl
   matched_is (is v n) t codes S e A R = refl
   matched_is (shape ps dots) t codes S e A R = fields_are ps t codes S e A R
-  matched_is (variant l p) t codes S e A R = ap (λ a. term.case_of (place_tree t (length R)) (arm l.text a (rest e))) (matched_is p (here (length R)) codes S e A (None ∷ R))
+  matched_is (variant l p) t codes S e A R = ap (λ a. term.Case (place_tree t (length R)) (arm l.text a (rest e))) (matched_is p (here (length R)) codes S e A (None ∷ R))
 
   fields_are : (ps : Pats) (t : Place) (codes : Codes) (S : Scope) (e : Tree) (A : Scope → Tree) (R : Scope) → matched_fields ps t codes S e A R ≡ wrapped e (pats_layers ps t codes S R) (A (after_pats ps R))
   fields_are no_pats t codes S e A R = refl
@@ -30,8 +30,8 @@ mutual
 pub quals_are : (qs : Quals) (k : Kind) (A : Scope → Tree) (codes : Codes) (S : Scope) → tree_quals qs k A codes S ≡ wrapped (empty k) (quals_layers qs k codes S) (A (after_quals qs S))
 quals_are no_quals k A codes S = refl
 quals_are (draw p s qs) k A codes S =
-    ap (λ a. term.ext k a (tree s codes S))
+    ap (λ a. term.Ext k a (tree s codes S))
     (matched_is p (here (length S)) codes S (empty k) (λ R. tree_quals qs k A codes R) (None ∷ S)
     ∙ ap (wrapped (empty k) (pat_layers p (here (length S)) codes S (None ∷ S))) (quals_are qs k A codes (after_pat p (None ∷ S)))
     ∙ sym (wrapped_both (empty k) (pat_layers p (here (length S)) codes S (None ∷ S)) _ _))
-quals_are (test c qs) k A codes S = ap (λ a. term.choice (tree c codes S) a (empty k)) (quals_are qs k A codes S)
+quals_are (test c qs) k A codes S = ap (λ a. term.If (tree c codes S) a (empty k)) (quals_are qs k A codes S)

@@ -14,10 +14,10 @@ pub data Layered : Type 0 where
   drawn : Kind → Tree → Layered
 
 abbrev pub wrap_one : Tree → Layered → Tree → Tree
-wrap_one e (bound t) a = term.bind t a
-wrap_one e (guard c) a = term.choice c a e
-wrap_one e (opened t l) a = term.case_of t (arm l a (rest e))
-wrap_one e (drawn k s) a = term.ext k a s
+wrap_one e (bound t) a = term.Let t a
+wrap_one e (guard c) a = term.If c a e
+wrap_one e (opened t l) a = term.Case t (arm l a (rest e))
+wrap_one e (drawn k s) a = term.Ext k a s
 
 abbrev pub wrapped : Tree → List Layered → Tree → Tree
 wrapped e [] a = a
@@ -29,7 +29,7 @@ missed (Some k) = empty k
 missed None = no_sense
 
 abbrev pub equals : Tree → Tree → Layered
-equals t u = guard (term.prim 1 (pair t u))
+equals t u = guard (term.Prim 1 (pair t u))
 
 -- the scope behind a pattern
 abbrev mutual
@@ -50,7 +50,7 @@ abbrev mutual
   pat_layers (catch x) t codes S R = bound (place_tree t (length R)) ∷ []
   pat_layers any t codes S R = []
   pat_layers (same x) t codes S R = equals (place_tree t (length R)) (name_tree codes S x.text (length R)) ∷ []
-  pat_layers (is v n) t codes S R = equals (place_tree t (length R)) (term.con v) ∷ []
+  pat_layers (is v n) t codes S R = equals (place_tree t (length R)) (term.Const v) ∷ []
   pat_layers (shape ps dots) t codes S R = pats_layers ps t codes S R
   pat_layers (variant l p) t codes S R = opened (place_tree t (length R)) l.text ∷ pat_layers p (here (length R)) codes S (None ∷ R)
 

@@ -5,7 +5,7 @@ use Rattle.kl_outcome.specs.Outcome.{Name}
 use Rattle.kl_syntax.specs.declared.tree.Decl.{Decl}
 use Rattle.kl_syntax.specs.declared.tree.Pattern.{Pattern}
 use Rattle.kl_syntax.specs.declared.tree.Word.{Word}
-use Rattle.kl_syntax.specs.Syntax.{Pat, catch, any, same, is, shape, variant, Pats, no_pats, pats, Exp, con, name, call, fields, inject, coll, comp, choice, bind, select, path, invert, minus, chain, Exps, no_exps, exps, Flds, no_flds, flds, Quals, no_quals, draw, test, Branches, no_branches, otherwise, branch, Steps, no_steps, step, Decls, no_decls, constant, function}
+use Rattle.kl_syntax.specs.Syntax.{Pat, catch, any, same, is, shape, variant, Pats, no_pats, pats, Exp, Const, name, Call, Rec, Inj, Coll, Comp, If, Let, Case, Path, Not, Neg, Chain, Exps, no_exps, exps, Flds, no_flds, flds, Quals, no_quals, draw, test, Branches, no_branches, otherwise, branch, Steps, no_steps, step, Decls, no_decls, constant, function}
 use Rattle.kl_syntax.specs.View.{pattern_view, view}
 use Rattle.kl_meaning.specs.Match.{same_name}
 
@@ -25,20 +25,20 @@ abbrev mutual
 
 abbrev mutual
   pub names : Exp → List Word
-  names (con v) = []
+  names (Const v) = []
   names (name x) = x ∷ []
-  names (call f es) = f ∷ names_all es
-  names (fields fs) = names_fields fs
-  names (inject l a) = names a
-  names (coll k es) = names_all es
-  names (comp k e qs) = names e ++ names_quals qs
-  names (choice a b c) = names a ++ names b ++ names c
-  names (bind p a b) = pattern_names p ++ names a ++ names b
-  names (select a bs) = names a ++ names_branches bs
-  names (path a ls) = names a
-  names (invert a) = names a
-  names (minus a) = names a
-  names (chain a ss) = names a ++ names_steps ss
+  names (Call f es) = f ∷ names_all es
+  names (Rec fs) = names_fields fs
+  names (Inj l a) = names a
+  names (Coll k es) = names_all es
+  names (Comp k e qs) = names e ++ names_quals qs
+  names (If a b c) = names a ++ names b ++ names c
+  names (Let p a b) = pattern_names p ++ names a ++ names b
+  names (Case a bs) = names a ++ names_branches bs
+  names (Path a ls) = names a
+  names (Not a) = names a
+  names (Neg a) = names a
+  names (Chain a ss) = names a ++ names_steps ss
 
   pub names_all : Exps → List Word
   names_all no_exps = []

@@ -47,7 +47,7 @@ abbrev pub found_code : Found → Code
 found_code found.Nothing = nothing
 found_code (found.Value t) = value_by (view t.now)
 found_code (found.Function t) = function_by (view t.now)
-found_code (found.Source i) = value_by (term.source i)
+found_code (found.Source i) = value_by (term.Source i)
 found_code (found.Primitive c) = primitive_by c
 
 -- what a pattern asks is added to the layers, and what it binds to the scope

@@ -7,7 +7,7 @@ use Rattle.kl_outcome.specs.Outcome.{Name, stuck}
 use Rattle.kl_syntax.specs.declared.tree.Op.{Op}
 use Rattle.kl_syntax.specs.declared.tree.Word.{Word}
 use Rattle.kl_syntax.specs.declared.tree.Op.TheVariants as op
-use Rattle.kl_syntax.specs.Syntax.{Pat, catch, any, same, is, shape, variant, Pats, no_pats, pats, Exp, con, name, call, fields, inject, coll, comp, choice, bind, select, path, invert, minus, chain, Exps, no_exps, exps, Flds, no_flds, flds, Quals, no_quals, draw, test, Branches, no_branches, otherwise, branch, Steps, no_steps, step, Decls, no_decls, constant, function}
+use Rattle.kl_syntax.specs.Syntax.{Pat, catch, any, same, is, shape, variant, Pats, no_pats, pats, Exp, Const, name, Call, Rec, Inj, Coll, Comp, If, Let, Case, Path, Not, Neg, Chain, Exps, no_exps, exps, Flds, no_flds, flds, Quals, no_quals, draw, test, Branches, no_branches, otherwise, branch, Steps, no_steps, step, Decls, no_decls, constant, function}
 use Rattle.kl_meaning.specs.Match.{same_name}
 use Rattle.kl_meaning.specs.Run.{code_of, code_named, in_order, meaning_of_program}
 use Rattle.kl_core.specs.Core.{Tables, core}
@@ -30,7 +30,7 @@ level_of x (b ∷ S) = cond (is_at b x) (Some (length S)) (level_of x S)
 
 -- the variable at a level, where so many positions are bound
 abbrev pub at_level : ℕ → ℕ → Tree
-at_level m n = term.var (n - suc m)
+at_level m n = term.Var (n - suc m)
 
 -- what is matched: a position's value, or a field of what is
 pub data Place : Type 0 where
@@ -39,7 +39,7 @@ pub data Place : Type 0 where
 
 abbrev pub place_tree : Place → ℕ → Tree
 place_tree (here m) n = at_level m n
-place_tree (inside l t) n = term.proj l (place_tree t n)
+place_tree (inside l t) n = term.Proj l (place_tree t n)
 
 -- what a name that is no variable stands for
 pub data Code : Type 0 where
@@ -53,7 +53,7 @@ Codes = Name → Code
 
 -- what stands where a program in scope never comes
 abbrev pub no_sense : Tree
-no_sense = term.rec term.no_parts
+no_sense = term.Rec term.no_parts
 
 abbrev pub code_tree : Code → Tree
 code_tree (value_by t) = t
@@ -71,41 +71,41 @@ abbrev pub pair : Tree → Tree → Trees
 pair a b = trees a (trees b no_trees)
 
 abbrev pub tested : Tree → Tree → Tree → Tree → Tree
-tested t u a e = term.choice (term.prim 1 (pair t u)) a e
+tested t u a e = term.If (term.Prim 1 (pair t u)) a e
 
 -- M(p, t, A): the term that matches the pattern at a place and goes on with A in the scope that is then reached, or with
 -- e where the pattern does not fit. S is the scope outside the pattern, R the scope by now.
 abbrev mutual
   pub matched : Pat → Place → Codes → Scope → Tree → (Scope → Tree) → Scope → Tree
-  matched (catch x) t codes S e A R = term.bind (place_tree t (length R)) (A (Some x.text ∷ R))
+  matched (catch x) t codes S e A R = term.Let (place_tree t (length R)) (A (Some x.text ∷ R))
   matched any t codes S e A R = A R
   matched (same x) t codes S e A R = tested (place_tree t (length R)) (name_tree codes S x.text (length R)) (A R) e
-  matched (is v n) t codes S e A R = tested (place_tree t (length R)) (term.con v) (A R) e
+  matched (is v n) t codes S e A R = tested (place_tree t (length R)) (term.Const v) (A R) e
   matched (shape ps dots) t codes S e A R = matched_fields ps t codes S e A R
   matched (variant l p) t codes S e A R =
-      term.case_of (place_tree t (length R)) (arm l.text (matched p (here (length R)) codes S e A (None ∷ R)) (rest e))
+      term.Case (place_tree t (length R)) (arm l.text (matched p (here (length R)) codes S e A (None ∷ R)) (rest e))
 
   pub matched_fields : Pats → Place → Codes → Scope → Tree → (Scope → Tree) → Scope → Tree
   matched_fields no_pats t codes S e A R = A R
   matched_fields (pats l p ps) t codes S e A R = matched p (inside l.text t) codes S e (λ Q. matched_fields ps t codes S e A Q) R
 
 abbrev pub empty : Kind → Tree
-empty k = term.make k no_trees
+empty k = term.Make k no_trees
 
 abbrev pub called_tree : Code → Trees → Tree
-called_tree (function_by t) (trees a no_trees) = term.bind a t
-called_tree (primitive_by c) ts = term.prim c ts
+called_tree (function_by t) (trees a no_trees) = term.Let a t
+called_tree (primitive_by c) ts = term.Prim c ts
 called_tree _ ts = no_sense
 
 abbrev pub operated_tree : Op → Tree → Tree → Tree
-operated_tree op.And a b = term.choice a b (term.con (value.Bool false))
-operated_tree op.Or a b = term.choice a (term.con (value.Bool true)) b
-operated_tree op.Append a b = term.union a b
-operated_tree c a b = term.prim (code_of c) (pair a b)
+operated_tree op.And a b = term.If a b (term.Const (value.Bool false))
+operated_tree op.Or a b = term.If a (term.Const (value.Bool true)) b
+operated_tree op.Append a b = term.Union a b
+operated_tree c a b = term.Prim (code_of c) (pair a b)
 
 abbrev pub projected : List Word → Tree → Tree
 projected [] t = t
-projected (l ∷ ls) t = projected ls (term.proj l.text t)
+projected (l ∷ ls) t = projected ls (term.Proj l.text t)
 
 -- the value of a position that has just been bound in S is matched, and then A
 abbrev pub matched_here : Pat → Codes → Scope → Tree → (Scope → Tree) → Tree
@@ -114,20 +114,20 @@ matched_here p codes S e A = matched p (here (length S)) codes S e A (None ∷ S
 -- T(e)
 abbrev mutual
   pub tree : Exp → Codes → Scope → Tree
-  tree (con v) codes S = term.con v
+  tree (Const v) codes S = term.Const v
   tree (name x) codes S = name_tree codes S x.text (length S)
-  tree (call f es) codes S = called_tree (codes f.text) (tree_all es codes S)
-  tree (fields fs) codes S = term.rec (term.parts_of (in_order (tree_fields fs codes S)))
-  tree (inject l a) codes S = term.inj l.text (tree a codes S)
-  tree (coll k es) codes S = term.make k (tree_all es codes S)
-  tree (comp k e qs) codes S = tree_quals qs k (λ R. term.make k (trees (tree e codes R) no_trees)) codes S
-  tree (choice a b c) codes S = term.choice (tree a codes S) (tree b codes S) (tree c codes S)
-  tree (bind p a b) codes S = term.bind (tree a codes S) (matched_here p codes S no_sense (λ R. tree b codes R))
-  tree (select a bs) codes S = term.case_of (tree a codes S) (tree_branches bs codes S)
-  tree (path a ls) codes S = projected ls (tree a codes S)
-  tree (invert a) codes S = term.prim 11 (trees (tree a codes S) no_trees)
-  tree (minus a) codes S = term.prim 10 (trees (tree a codes S) no_trees)
-  tree (chain a ss) codes S = tree_steps ss (tree a codes S) codes S
+  tree (Call f es) codes S = called_tree (codes f.text) (tree_all es codes S)
+  tree (Rec fs) codes S = term.Rec (term.parts_of (in_order (tree_fields fs codes S)))
+  tree (Inj l a) codes S = term.Inj l.text (tree a codes S)
+  tree (Coll k es) codes S = term.Make k (tree_all es codes S)
+  tree (Comp k e qs) codes S = tree_quals qs k (λ R. term.Make k (trees (tree e codes R) no_trees)) codes S
+  tree (If a b c) codes S = term.If (tree a codes S) (tree b codes S) (tree c codes S)
+  tree (Let p a b) codes S = term.Let (tree a codes S) (matched_here p codes S no_sense (λ R. tree b codes R))
+  tree (Case a bs) codes S = term.Case (tree a codes S) (tree_branches bs codes S)
+  tree (Path a ls) codes S = projected ls (tree a codes S)
+  tree (Not a) codes S = term.Prim 11 (trees (tree a codes S) no_trees)
+  tree (Neg a) codes S = term.Prim 10 (trees (tree a codes S) no_trees)
+  tree (Chain a ss) codes S = tree_steps ss (tree a codes S) codes S
 
   pub tree_all : Exps → Codes → Scope → Trees
   tree_all no_exps codes S = no_trees
@@ -139,8 +139,8 @@ abbrev mutual
 
   pub tree_quals : Quals → Kind → (Scope → Tree) → Codes → Scope → Tree
   tree_quals no_quals k A codes S = A S
-  tree_quals (draw p s qs) k A codes S = term.ext k (matched_here p codes S (empty k) (λ R. tree_quals qs k A codes R)) (tree s codes S)
-  tree_quals (test c qs) k A codes S = term.choice (tree c codes S) (tree_quals qs k A codes S) (empty k)
+  tree_quals (draw p s qs) k A codes S = term.Ext k (matched_here p codes S (empty k) (λ R. tree_quals qs k A codes R)) (tree s codes S)
+  tree_quals (test c qs) k A codes S = term.If (tree c codes S) (tree_quals qs k A codes S) (empty k)
 
   pub tree_branches : Branches → Codes → Scope → Arms
   tree_branches no_branches codes S = no_arms
@@ -161,7 +161,7 @@ code_by (Some c) = primitive_by c
 code_by None = nothing
 
 abbrev pub code_at : Option ℕ → Option ℕ → Code
-code_at (Some i) c = value_by (term.source i)
+code_at (Some i) c = value_by (term.Source i)
 code_at None c = code_by c
 
 -- sources by their numbers, and then primitives

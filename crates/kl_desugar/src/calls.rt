@@ -49,20 +49,20 @@ pub(crate) fn call(
 }
 
 fn truth(alloc: Global, b: bool) -> Result<Box<Term>, NoMemory>
-    ensures { IfOk result (λ t. term.view t ≡ term.con (Value.Bool b)) }
+    ensures { IfOk result (λ t. term.view t ≡ term.Const (Value.Bool b)) }
 {
     Box::new(alloc, Term::Const(Value::Bool(b)))
 }
 
 fn both(alloc: Global, a: Box<Term>, b: Box<Term>) -> Result<Box<Term>, NoMemory>
-    ensures { IfOk result (λ t. term.view t ≡ term.choice (term.view a) (term.view b) (term.con (Value.Bool false))) }
+    ensures { IfOk result (λ t. term.view t ≡ term.If (term.view a) (term.view b) (term.Const (Value.Bool false))) }
 {
     let other = truth(alloc, false)?;
     Box::new(alloc, Term::If(a, b, other))
 }
 
 fn either(alloc: Global, a: Box<Term>, b: Box<Term>) -> Result<Box<Term>, NoMemory>
-    ensures { IfOk result (λ t. term.view t ≡ term.choice (term.view a) (term.con (Value.Bool true)) (term.view b)) }
+    ensures { IfOk result (λ t. term.view t ≡ term.If (term.view a) (term.Const (Value.Bool true)) (term.view b)) }
 {
     let other = truth(alloc, true)?;
     Box::new(alloc, Term::If(a, other, b))

@@ -2,7 +2,7 @@
 ghost use Rattle.std.specs.Prelude.{◌≡◌, ◌∷◌, [], ◌++◌, length, map, IfOk};
 ghost use Rattle.std.specs.Option.{option_map};
 ghost use Rattle.kl_meaning.specs.Run.{in_order};
-ghost use Rattle.kl_syntax.specs.Syntax.{no_quals, call as called, inject};
+ghost use Rattle.kl_syntax.specs.Syntax.{no_quals, call as called, Inj};
 ghost use Rattle.kl_syntax.specs.View.{pattern_view, qual_view, view, rest_of, exps_view, quals_view, steps_view};
 ghost use Rattle.kl_core.specs.Trees as term;
 ghost use Rattle.kl_core.specs.Trees.{view_part};
@@ -23,7 +23,7 @@ use std::alloc::Global;
 
 #[tactic(auto, using(kl_core::proofs::Views::view_Make))]
 fn made(alloc: Global, kind: Kind, head: Box<Term>) -> Result<Box<Term>, NoMemory>
-    ensures { IfOk result (λ t. term.view t ≡ term.make kind (term.trees (term.view head) term.no_trees)) }
+    ensures { IfOk result (λ t. term.view t ≡ term.Make kind (term.trees (term.view head) term.no_trees)) }
 {
     let items = vec![in alloc; head.into_inner()]?;
     Box::new(alloc, Term::Make(kind, Seq::of(items)))
@@ -36,7 +36,7 @@ fn comprehended(
     head: Box<Term>,
 ) -> Result<Term, NoMemory>
     ensures { IfOk result (λ t. term.view t
-        ≡ wrapped (missed (Some kind)) (layers_view layers.items) (term.make kind (term.trees (term.view head) term.no_trees))) }
+        ≡ wrapped (missed (Some kind)) (layers_view layers.items) (term.Make kind (term.trees (term.view head) term.no_trees))) }
 {
     let head = made(alloc, kind, head)?;
     Ok(wrap(alloc, layers, Some(kind), head)?.into_inner())
@@ -44,7 +44,7 @@ fn comprehended(
 
 #[tactic(auto, using(kl_core::proofs::Views::view_Prim))]
 fn one(alloc: Global, code: u8, a: Box<Term>) -> Result<Term, NoMemory>
-    ensures { IfOk result (λ t. term.view t ≡ term.prim code (term.trees (term.view a) term.no_trees)) }
+    ensures { IfOk result (λ t. term.view t ≡ term.Prim code (term.trees (term.view a) term.no_trees)) }
 {
     let args = vec![in alloc; a.into_inner()]?;
     Ok(Term::Prim(code, Seq::of(args)))
@@ -52,7 +52,7 @@ fn one(alloc: Global, code: u8, a: Box<Term>) -> Result<Term, NoMemory>
 
 // A record of these fields.
 fn record(fields: Vec<(Label, Term)>) -> Result<Term, NoMemory>
-    ensures { IfOk result (λ t. term.view t ≡ term.rec (term.parts_of (in_order (map view_part fields.items)))) }
+    ensures { IfOk result (λ t. term.view t ≡ term.Rec (term.parts_of (in_order (map view_part fields.items)))) }
 {
     let mut fields = fields;
     fields.sort_by(|a, b| a.0.cmp(&b.0))?;
@@ -137,7 +137,7 @@ fn tree_inj(
     codes: &Codes,
     scope: &[Slot],
 ) -> Result<Term, NoMemory>
-    ensures { IfOk result (λ t. term.view t ≡ tree (inject word.now (view a.now)) (codes_of codes.now) scope.now) }
+    ensures { IfOk result (λ t. term.view t ≡ tree (Inj word.now (view a.now)) (codes_of codes.now) scope.now) }
 {
     let a = tree_box(alloc, a.get(), codes, scope)?;
     let label = word.text.dup()?;

@@ -51,7 +51,7 @@ fn choose(
     body: Box<Term>,
     at: Option<Kind>,
 ) -> Result<Box<Term>, NoMemory>
-    ensures { IfOk result (λ t. view t ≡ term.choice (view test) (view body) (missed at)) }
+    ensures { IfOk result (λ t. view t ≡ term.If (view test) (view body) (missed at)) }
 {
     let other = missed_box(alloc, at)?;
     Box::new(alloc, Term::If(test, body, other))
@@ -72,7 +72,7 @@ fn open(
     body: Box<Term>,
     at: Option<Kind>,
 ) -> Result<Box<Term>, NoMemory>
-    ensures { IfOk result (λ t. view t ≡ term.case_of (view subject) (term.arm label (view body) (term.rest (missed at)))) }
+    ensures { IfOk result (λ t. view t ≡ term.Case (view subject) (term.arm label (view body) (term.rest (missed at)))) }
 {
     let other = missed_box(alloc, at)?;
     let arms = one_arm(alloc, label, body)?;

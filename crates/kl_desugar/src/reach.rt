@@ -2,9 +2,11 @@
 ghost use Rattle.std.specs.Prelude.{◌≡◌, ◌++◌, map, reverse, IfOk};
 ghost use Rattle.std.specs.Option.{option_map};
 ghost use Rattle.kl_syntax.specs.Syntax.{Quals, Branches};
-ghost use Rattle.kl_syntax.specs.View.{pattern_view, patterns_view, view, exps_view, fields_view, quals_view, qual_view, branches_of, branch_view, rest_of, steps_view, decl_of, decls_of};
+ghost use Rattle.kl_syntax.specs.View.{pattern_view, patterns_view, view, exps_view, fields_view, quals_view, qual_view, branches_of, branch_view};
+ghost use Rattle.kl_syntax.specs.View.{rest_of, steps_view, decl_of, decls_of};
 ghost use Rattle.kl_scope.specs.Senses.{behind_each};
-ghost use Rattle.kl_desugar.specs.Reached.{pattern_names, patterns_names, names, names_all, names_fields, names_quals, names_branches, names_steps, decl_names, is_among, wanted, reached};
+ghost use Rattle.kl_desugar.specs.Reached.{pattern_names, patterns_names, names, names_all, names_fields, names_quals, names_branches, names_steps};
+ghost use Rattle.kl_desugar.specs.Reached.{decl_names, is_among, wanted, reached};
 
 use kl_base::{Box, Label, NoMemory};
 use kl_syntax::{Branch, Decl, Expr, Op, Pattern, Program, Qual, Word};

@@ -18,7 +18,7 @@ pub(crate) fn no_sense(alloc: Global) -> Term
 
 /// A value as a term.
 pub(crate) fn constant_box(alloc: Global, value: &Value) -> Result<Box<Term>, NoMemory>
-    ensures { IfOk result (λ t. term.view t ≡ term.con value.now) }
+    ensures { IfOk result (λ t. term.view t ≡ term.Const value.now) }
 {
     Box::new(alloc, Term::Const(dup(alloc, value)?))
 }
@@ -31,7 +31,7 @@ pub(crate) fn two(
     a: Box<Term>,
     b: Box<Term>,
 ) -> Result<Box<Term>, NoMemory>
-    ensures { IfOk result (λ t. term.view t ≡ term.prim code (pair (term.view a) (term.view b))) }
+    ensures { IfOk result (λ t. term.view t ≡ term.Prim code (pair (term.view a) (term.view b))) }
 {
     let args = vec![in alloc; a.into_inner(), b.into_inner()]?;
     Box::new(alloc, Term::Prim(code, Seq::of(args)))

@@ -20,12 +20,12 @@ scan_line scan = joined (codes "scan " ∷ decimal scan.0 ∷ codes " starts " �
 abbrev pub totals_text : Trace → ℕ → List ℕ
 totals_text trace handed =
     joined (
-      codes "steps " ∷ decimal trace.steps
-      ∷ codes "\nhits " ∷ decimal trace.hits
-      ∷ codes "\nmisses " ∷ decimal trace.misses
-      ∷ codes "\npeak " ∷ decimal trace.peak
-      ∷ codes "\nhanded " ∷ decimal handed
-      ∷ codes "\n" ∷ [])
+    codes "steps " ∷ decimal trace.steps
+    ∷ codes "\nhits " ∷ decimal trace.hits
+    ∷ codes "\nmisses " ∷ decimal trace.misses
+    ∷ codes "\npeak " ∷ decimal trace.peak
+    ∷ codes "\nhanded " ∷ decimal handed
+    ∷ codes "\n" ∷ [])
 
 abbrev pub stats_text : Trace → ℕ → List ℕ
 stats_text trace handed = totals_text trace handed ++ flat_map scan_line trace.starts

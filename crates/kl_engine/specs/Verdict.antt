@@ -193,8 +193,8 @@ abbrev pub IsTextVerdict : List DriverKind → List Source → Purpose → List 
 IsTextVerdict ks ss p bytes v =
     ((f : Fault) × IsTextFault (names_of ss) bytes f × (v ≡ refused f))
     ⊎ ((q : Program) × (marks : ℕ → Bool)
-        × IsProgramOf (names_of ss) bytes q × AreMarks q (names_of ss) marks
-        × IsDone ks ss marks p (definitions (names_of ss) q) (last (names_of ss) q) v)
+    × IsProgramOf (names_of ss) bytes q × AreMarks q (names_of ss) marks
+    × IsDone ks ss marks p (definitions (names_of ss) q) (last (names_of ss) q) v)
 
 -- ---- files
 

@@ -11,7 +11,7 @@ use Rattle.kl_outcome.specs.Typed.{OfType, Inhabits}
 use Rattle.kl_outcome.proofs.OutcomeTypes.{items_inhabit}
 use Rattle.kl_core.specs.declared.term.Term.{Term}
 use Rattle.kl_core.specs.declared.term.Term.TheVariants as term
-use Rattle.kl_core.specs.Trees.{Tree, make, prim, no_trees, trees, view, trees_view}
+use Rattle.kl_core.specs.Trees.{Tree, Make, Prim, no_trees, trees, view, trees_view}
 use Rattle.kl_core.specs.Typing.{CoreTypes}
 use Rattle.kl_eval.specs.declared.stop.EvalStop.{EvalStop}
 use Rattle.kl_eval.specs.declared.stop.EvalStop.TheVariants as eval_stop
@@ -92,7 +92,7 @@ module _ (t : Term) (k : Kind) (ts us : List Term) (env : List Value) (et : t �
   pub into_none : (old new : List Value) (a : World) → length us ≡ 0 → new ≡ old → EvalsInto (view t) env (Ok tt) old new a a
   into_none old new a n s =
       let empty : us ≡ [] = nil_of us n in
-      let c : Comes (types_of a) (values_of a) env (make k (trees_view us)) (done (collection k [])) =
+      let c : Comes (types_of a) (values_of a) env (Make k (trees_view us)) (done (collection k [])) =
       (stop fine, subst (λ q. ItemsCome (types_of a) (values_of a) env (trees_view q) (stop fine)) (sym empty) refl, ap done (sym (canonical-nil k))) in
       record {
         whole = Ok (collection k []);
@@ -105,12 +105,12 @@ module _ (t : Term) (k : Kind) (ts us : List Term) (env : List Value) (et : t �
       nil_of (u ∷ us) n = cc
 
   module _ (x : Term) (n : length us ≡ 1) (is : x ≡ get_or us 0 x) where
-    one : view t ≡ make k (trees (view x) no_trees)
-    one = at_Make t k ts us env et eu ∙ ap (λ q. make k (trees_view q)) (alone us x n is)
+    one : view t ≡ Make k (trees (view x) no_trees)
+    one = at_Make t k ts us env et eu ∙ ap (λ q. Make k (trees_view q)) (alone us x n is)
 
     pub into_one : (v : Value) (r : Result (Unit {0}) Halt) (old new : List Value) (a b : World) → EvalsPart (view x) env (Ok v) a b → AppendsAll (v ∷ []) r old new → EvalsInto (view t) env r old new a b
     into_one v r old new a b h add =
-        let c : Comes (types_of a) (values_of a) env (make k (trees (view x) no_trees)) (done (collection k (v ∷ []))) =
+        let c : Comes (types_of a) (values_of a) env (Make k (trees (view x) no_trees)) (done (collection k (v ∷ []))) =
         (more v (stop fine), (done v, h.gives, (stop fine, refl, refl)), ap done (sym (canonical-one k v))) in
         record {
           whole = Ok (collection k (v ∷ []));
@@ -128,7 +128,7 @@ module _ (t : Term) (c : ℕ) (ts us : List Term) (env : List Value) (et : t ≡
   pub look_prim : (r : Result Value EvalStop) (a b : World) → EvalsCall c (trees_view us) env r a b → EvalsPart (view t) env r a b
   look_prim r a b h = subst (λ q. EvalsPart q env r a b) (sym (at_Prim t c ts us env et eu)) (record { moved = h.moved; still = h.still; gives = go r h.gives })
     where
-      go : (r : Result Value EvalStop) → CallGives (Comes (types_of a) (values_of a) env (prim c (trees_view us))) a b r → PartGives (Comes (types_of a) (values_of a) env (prim c (trees_view us))) a b r
+      go : (r : Result Value EvalStop) → CallGives (Comes (types_of a) (values_of a) env (Prim c (trees_view us))) a b r → PartGives (Comes (types_of a) (values_of a) env (Prim c (trees_view us))) a b r
       go (Ok v) h = h
       go (Err eval_stop.Overflow) h = ([], h)
       go (Err (eval_stop.Driver l e)) h = h

@@ -25,7 +25,7 @@ use Rattle.kl_outcome.specs.Typed.{Inhabits, HaveTypes, OfType, RowTypes, PrimTy
 use Rattle.kl_core.specs.declared.term.Term.{Term}
 use Rattle.kl_core.specs.declared.term.Term.TheVariants as term
 use Rattle.kl_core.specs.Core.{Tables}
-use Rattle.kl_core.specs.Trees.{Tree, source, rec, proj, inj, case_of, make, union, ext, choice, bind, prim, Trees, no_trees, trees, Parts, parts, Arms, arms_of, rest_of, view, view_part, trees_view, parts_view}
+use Rattle.kl_core.specs.Trees.{Tree, Source, Rec, Proj, Inj, Case, Make, Union, Ext, If, Let, Prim, Trees, no_trees, trees, Parts, parts, Arms, arms_of, rest_of, view, view_part, trees_view, parts_view}
 use Rattle.kl_core.specs.Typing.{SourceTypes, CoreTypes, EachType, AllTypes, PartTypes, ArmTypes, HasArm, Covers}
 use Rattle.kl_core.proofs.Views.{view_Var, view_Source, view_Rec, view_Proj, view_Inj, view_Make, view_Union, view_Ext, view_If, view_Let, view_Prim, view_option, arms_view, view_Case}
 use Rattle.kl_outcome.proofs.OutcomeTypes.{part_typed, part_is, variant_is, items_inhabit, FlowOf, items_typed}
@@ -192,8 +192,8 @@ value_var t x env v r a e g k = evals_copied (view t) env v r a (come_var t x v 
 -- ---- fields
 
 module _ (S : SourceTypes) (T : Tables) (t : Term) (l m : Name) (x x' : Term) (env : List Value) (et : t ≡ term.Proj l x) (em : m ≡ l) (ex : x' ≡ x) where
-  pub at_Proj : view t ≡ proj m (view x')
-  at_Proj = ap view et ∙ view_Proj l x ∙ ap (λ q. proj l (view q)) (sym ex) ∙ ap (λ q. proj q (view x')) (sym em)
+  pub at_Proj : view t ≡ Proj m (view x')
+  at_Proj = ap view et ∙ view_Proj l x ∙ ap (λ q. Proj l (view q)) (sym ex) ∙ ap (λ q. Proj q (view x')) (sym em)
 
   pub proj_sense : SenseIn S (view t) env → SenseIn S (view x') env
   proj_sense s = let s' = subst (λ q. SenseIn S q env) at_Proj s in (s'.0, rec_type s'.3.0, s'.2, s'.3.1)
@@ -236,8 +236,8 @@ value_proj_stop t l m x x' env e h a b et em ex p o = evals_stop (view t) (view 
 -- ---- variants
 
 module _ (t : Term) (l m : Name) (x x' : Term) (env : List Value) (et : t ≡ term.Inj l x) (em : m ≡ l) (ex : x' ≡ x) where
-  at_Inj : view t ≡ inj m (view x')
-  at_Inj = ap view et ∙ view_Inj l x ∙ ap (λ q. inj l (view q)) (sym ex) ∙ ap (λ q. inj q (view x')) (sym em)
+  at_Inj : view t ≡ Inj m (view x')
+  at_Inj = ap view et ∙ view_Inj l x ∙ ap (λ q. Inj l (view q)) (sym ex) ∙ ap (λ q. Inj q (view x')) (sym em)
 
   pub sense_inj : (a : World) → Sense (view t) env a → Sense (view x') env a
   sense_inj a s = let s' = subst (λ q. Sense q env a) at_Inj s in (s'.0, s'.3.1, s'.2, s'.3.5, s'.4)
@@ -258,8 +258,8 @@ picked true y z = y
 picked false y z = z
 
 module _ (t x y z x' : Term) (env : List Value) (et : t ≡ term.If x y z) (ex : x' ≡ x) where
-  pub at_If : view t ≡ choice (view x') (view y) (view z)
-  at_If = ap view et ∙ view_If x y z ∙ ap (λ q. choice (view q) (view y) (view z)) (sym ex)
+  pub at_If : view t ≡ If (view x') (view y) (view z)
+  at_If = ap view et ∙ view_If x y z ∙ ap (λ q. If (view q) (view y) (view z)) (sym ex)
 
   pub sense_test : (a : World) → Sense (view t) env a → Sense (view x') env a
   sense_test a s = let s' = subst (λ q. Sense q env a) at_If s in (s'.0, bool, s'.2, s'.3.0, s'.4)
@@ -269,7 +269,7 @@ module _ (t x y z x' : Term) (env : List Value) (et : t ≡ term.If x y z) (ex :
       let s' = subst (λ q. Sense q env a) at_If s in
       subst IsBool (sym ew) (comes_typed (types_of a) (values_of a) (view x') s'.0 env bool (done v) s'.2 s'.3.0 h.gives).0
 
-  pub picked_typed : (bit : Bool) (S : SourceTypes) (G : List Ground) (s : Ground) → CoreTypes S G (choice (view x') (view y) (view z)) s → CoreTypes S G (view (picked bit y z)) s
+  pub picked_typed : (bit : Bool) (S : SourceTypes) (G : List Ground) (s : Ground) → CoreTypes S G (If (view x') (view y) (view z)) s → CoreTypes S G (view (picked bit y z)) s
   picked_typed true S G s h = h.1
   picked_typed false S G s h = h.2
 
@@ -324,8 +324,8 @@ module _ (t x y z x' : Term) (env : List Value) (et : t ≡ term.If x y z) (ex :
 -- ---- `Let`
 
 module _ (t x y x' : Term) (env : List Value) (et : t ≡ term.Let x y) (ex : x' ≡ x) where
-  pub at_Let : view t ≡ bind (view x') (view y)
-  at_Let = ap view et ∙ view_Let x y ∙ ap (λ q. bind (view q) (view y)) (sym ex)
+  pub at_Let : view t ≡ Let (view x') (view y)
+  at_Let = ap view et ∙ view_Let x y ∙ ap (λ q. Let (view q) (view y)) (sym ex)
 
   pub sense_bound : (a : World) → Sense (view t) env a → Sense (view x') env a
   sense_bound a s = let s' = subst (λ q. Sense q env a) at_Let s in (s'.0, s'.3.0, s'.2, s'.3.1, s'.4)
@@ -437,8 +437,8 @@ pub missing : (l : Name) (ps qs : List (Name × Term)) → qs ≡ ps → None �
 missing l ps qs eq e = sym (e ∙ ap (place_of l) eq)
 
 module _ (t x x' : Term) (ps qs : List (Name × Term)) (c : Option Term) (env : List Value) (et : t ≡ term.Case x ps c) (ex : x' ≡ x) (eq : qs ≡ ps) where
-  at_Case : view t ≡ case_of (view x') (arms_view qs c)
-  at_Case = ap view et ∙ view_Case x ps c ∙ ap (λ q. case_of (view q) (arms_view ps c)) (sym ex) ∙ ap (λ q. case_of (view x') (arms_view q c)) (sym eq)
+  at_Case : view t ≡ Case (view x') (arms_view qs c)
+  at_Case = ap view et ∙ view_Case x ps c ∙ ap (λ q. Case (view q) (arms_view ps c)) (sym ex) ∙ ap (λ q. Case (view x') (arms_view q c)) (sym eq)
 
   pub sense_subject : (a : World) → Sense (view t) env a → Sense (view x') env a
   sense_subject a s = let s' = subst (λ q. Sense q env a) at_Case s in (s'.0, var_type s'.3.0, s'.2, s'.3.1, s'.4)
@@ -517,8 +517,8 @@ module _ (P : Flow → Type 0) (Q : Outcome → Type 0) (k : Kind) (a b : World)
 
 -- a literal
 module _ (t : Term) (k : Kind) (ts us : List Term) (env : List Value) (et : t ≡ term.Make k ts) (eu : us ≡ ts) where
-  pub at_Make : view t ≡ make k (trees_view us)
-  at_Make = ap view et ∙ view_Make k ts ∙ ap (λ q. make k (trees_view q)) (sym eu)
+  pub at_Make : view t ≡ Make k (trees_view us)
+  at_Make = ap view et ∙ view_Make k ts ∙ ap (λ q. Make k (trees_view q)) (sym eu)
 
   pub sense_make : (a : World) → Sense (view t) env a → SenseEach (trees_view us) env a
   sense_make a s = let s' = subst (λ q. Sense q env a) at_Make s in (s'.0, s'.3.0, s'.2, s'.3.3, s'.4)
@@ -526,13 +526,13 @@ module _ (t : Term) (k : Kind) (ts us : List Term) (env : List Value) (et : t �
   pub value_make : (d : Result (Vec Value Global) Halt) (r : Result Value Halt) (a b : World) → EvalsEach (trees_view us) env d a b → Gathers k d r → Evals (view t) env r a b
   value_make d r a b h g =
       subst (λ q. Evals q env r a b) (sym at_Make)
-      (record { moved = h.moved; still = h.still; gives = gathers (ItemsCome (types_of a) (values_of a) env (trees_view us)) (Comes (types_of a) (values_of a) env (make k (trees_view us))) k a b d r (λ f c. (f, c, refl)) h.gives g })
+      (record { moved = h.moved; still = h.still; gives = gathers (ItemsCome (types_of a) (values_of a) env (trees_view us)) (Comes (types_of a) (values_of a) env (Make k (trees_view us))) k a b d r (λ f c. (f, c, refl)) h.gives g })
 
 -- ---- a loop
 
 module _ (t : Term) (k : Kind) (x y x' y' : Term) (env : List Value) (et : t ≡ term.Ext k x y) (ex : x' ≡ x) (ey : y' ≡ y) where
-  at_Ext : view t ≡ ext k (view x') (view y')
-  at_Ext = ap view et ∙ view_Ext k x y ∙ ap (λ q. ext k (view q) (view y)) (sym ex) ∙ ap (λ q. ext k (view x') (view q)) (sym ey)
+  at_Ext : view t ≡ Ext k (view x') (view y')
+  at_Ext = ap view et ∙ view_Ext k x y ∙ ap (λ q. Ext k (view q) (view y)) (sym ex) ∙ ap (λ q. Ext k (view x') (view q)) (sym ey)
 
   pub sense_source : (a : World) → Sense (view t) env a → Sense (view y') env a
   sense_source a s = let s' = subst (λ q. Sense q env a) at_Ext s in (s'.0, coll s'.3.1 s'.3.2, s'.2, s'.3.4, s'.4)
@@ -564,7 +564,7 @@ module _ (t : Term) (k : Kind) (x y x' y' : Term) (env : List Value) (et : t ≡
       (record {
         moved = moved_then a b c m i.moved;
         still = λ n. i.still n.0 ∙ calm n.1;
-        gives = gathers (Draws (λ v. Comes (types_of a) (values_of a) (v ∷ env) (view x')) (flow vs e)) (Comes (types_of a) (values_of a) env (ext k (view x') (view y'))) k a c d r
+        gives = gathers (Draws (λ v. Comes (types_of a) (values_of a) (v ∷ env) (view x')) (flow vs e)) (Comes (types_of a) (values_of a) env (Ext k (view x') (view y'))) k a c d r
             (λ f q. (p, f, h, subst (λ z. Draws (λ v. Comes (types_of a) (values_of a) (v ∷ env) (view x')) z f) (sym is) q, refl))
             (flow_from a b c m (Draws (λ v. Comes (types_of a) (values_of a) (v ∷ env) (view x')) (flow vs e)) d (back (λ S T. FlowGives (Draws (λ v. Comes S T (v ∷ env) (view x')) (flow vs e)) b c d) a b m i.gives)) g;
       })
@@ -590,8 +590,8 @@ flow_more [] ws e = refl
 flow_more (v ∷ vs) ws e = ap (more v) (flow_more vs ws e)
 
 module _ (t : Term) (x y x' : Term) (env : List Value) (et : t ≡ term.Union x y) (ex : x' ≡ x) where
-  at_Union : view t ≡ union (view x') (view y)
-  at_Union = ap view et ∙ view_Union x y ∙ ap (λ q. union (view q) (view y)) (sym ex)
+  at_Union : view t ≡ Union (view x') (view y)
+  at_Union = ap view et ∙ view_Union x y ∙ ap (λ q. Union (view q) (view y)) (sym ex)
 
   pub sense_first : (a : World) → Sense (view t) env a → Sense (view x') env a
   sense_first a s = let s' = subst (λ q. Sense q env a) at_Union s in (s'.0, s'.1, s'.2, s'.3.3, s'.4)
@@ -692,8 +692,8 @@ module _ (t : Term) (x y x' : Term) (env : List Value) (et : t ≡ term.Union x 
 -- ---- a record
 
 module _ (t : Term) (ps qs : List (Name × Term)) (env : List Value) (et : t ≡ term.Rec ps) (eq : qs ≡ ps) where
-  at_Rec : view t ≡ rec (parts_view qs)
-  at_Rec = ap view et ∙ view_Rec ps ∙ ap (λ q. rec (parts_view q)) (sym eq)
+  at_Rec : view t ≡ Rec (parts_view qs)
+  at_Rec = ap view et ∙ view_Rec ps ∙ ap (λ q. Rec (parts_view q)) (sym eq)
 
   pub sense_rec : (a : World) → Sense (view t) env a → SenseParts (parts_view qs) env a
   sense_rec a s = let s' = subst (λ q. Sense q env a) at_Rec s in (s'.0, s'.3.0, s'.2, s'.3.3, s'.4)
@@ -713,7 +713,7 @@ module _ (t : Term) (ps qs : List (Name × Term)) (env : List Value) (et : t ≡
 -- ---- a source
 
 module _ (t : Term) (i : ℕ) (env : List Value) (et : t ≡ term.Source i) where
-  at_Source : view t ≡ source i
+  at_Source : view t ≡ Source i
   at_Source = ap view et ∙ view_Source i
 
   pub source_there : (a : World) → Sense (view t) env a → IsSome (types_of a i)
@@ -735,8 +735,8 @@ module _ (t : Term) (i : ℕ) (env : List Value) (et : t ≡ term.Source i) wher
 -- ---- a primitive
 
 module _ (t : Term) (c : ℕ) (ts us : List Term) (env : List Value) (et : t ≡ term.Prim c ts) (eu : us ≡ ts) where
-  pub at_Prim : view t ≡ prim c (trees_view us)
-  at_Prim = ap view et ∙ view_Prim c ts ∙ ap (λ q. prim c (trees_view q)) (sym eu)
+  pub at_Prim : view t ≡ Prim c (trees_view us)
+  at_Prim = ap view et ∙ view_Prim c ts ∙ ap (λ q. Prim c (trees_view q)) (sym eu)
 
   pub sense_prim : (a : World) → Sense (view t) env a → SenseCall c (trees_view us) env a
   sense_prim a s = let s' = subst (λ q. Sense q env a) at_Prim s in (s'.0, s'.3.0, s'.1, s'.2, s'.3.1, s'.3.2, s'.4)

@@ -13,7 +13,7 @@ use Rattle.kl_prim.specs.Table.{meaning}
 use Rattle.kl_outcome.specs.Outcome.{Name, Outcome, done, over, stuck, Flow, more, stop, fine, overflow, broken, end_in, field_in, as_record, outcome_of, answered, after, args_then, parts_then, opened, chosen, as_variant, items_of, item_then, followed, drawn, collected, union_of}
 use Rattle.kl_outcome.specs.Typed.{HasFields, Inhabits, HaveTypes, OfType}
 use Rattle.kl_core.specs.Core.{Tables, core, core_all, core_items, core_parts, core_arms}
-use Rattle.kl_core.specs.Trees.{Tree, var, con, source, rec, proj, inj, case_of, make, union, ext, choice, bind, prim, Trees, no_trees, trees, Parts, no_parts, parts, Arms, no_arms, rest, arm}
+use Rattle.kl_core.specs.Trees.{Tree, Var, Const, Source, Rec, Proj, Inj, Case, Make, Union, Ext, If, Let, Prim, Trees, no_trees, trees, Parts, no_parts, parts, Arms, no_arms, rest, arm}
 use Rattle.kl_core.specs.Typing.{SourceTypes, CoreTypes, EachType, AllTypes, PartTypes, ArmTypes, HasArm}
 use Rattle.kl_outcome.proofs.OutcomeTypes.{over_nil, part_typed, tagged_typed, variant_is, FlowOf, items_typed, collected_typed, union_typed}
 use Rattle.kl_outcome.proofs.PrimLemmas.{prim_typed}
@@ -63,31 +63,31 @@ opens_typed r t v P o i g h = let c = variant_is r v i in g c.0 c.1 c.2 c.4 c.5 
 module _ (S : SourceTypes) (T : Tables) where
   mutual
     pub comes_typed : (t : Tree) (G : List Ground) (env : List Value) (s : Ground) (o : Outcome) → HaveTypes G env → CoreTypes S G t s → Comes S T env t o → OfType s o
-    comes_typed (var x) G env s o e h c = subst (OfType s) (sym c) (get_typed G env x s e h.0)
-    comes_typed (con v) G env s o e h c = subst (OfType s) (sym c) h.1
-    comes_typed (source i) G env s o e h c = subst (OfType s) (sym c.2) (c.1.typed s h.0)
-    comes_typed (rec ps) G env s o e h c = subst (λ q. OfType q o) (sym h.1) (parts_typed ps G env h.0 (rec_type h.0) (λ fs. done (value.Rec fs)) o e h.3 (λ fs has good. record_typed h.0 fs h.2 has good) c)
-    comes_typed (proj l a) G env s o e h c = subst (OfType s) (sym c.2) (part_typed l h.0 s c.0 (comes_typed a G env (rec_type h.0) c.0 e h.1 c.1) h.2)
-    comes_typed (inj l a) G env s o e h c = subst (λ q. OfType q o) (sym h.2) (subst (OfType (var_type h.0)) (sym c.2) (tagged_typed l h.0 h.1 c.0 h.4 (comes_typed a G env h.1 c.0 e h.5 c.1)))
-    comes_typed (case_of a bs) G env s o e h c =
+    comes_typed (Var x) G env s o e h c = subst (OfType s) (sym c) (get_typed G env x s e h.0)
+    comes_typed (Const v) G env s o e h c = subst (OfType s) (sym c) h.1
+    comes_typed (Source i) G env s o e h c = subst (OfType s) (sym c.2) (c.1.typed s h.0)
+    comes_typed (Rec ps) G env s o e h c = subst (λ q. OfType q o) (sym h.1) (parts_typed ps G env h.0 (rec_type h.0) (λ fs. done (value.Rec fs)) o e h.3 (λ fs has good. record_typed h.0 fs h.2 has good) c)
+    comes_typed (Proj l a) G env s o e h c = subst (OfType s) (sym c.2) (part_typed l h.0 s c.0 (comes_typed a G env (rec_type h.0) c.0 e h.1 c.1) h.2)
+    comes_typed (Inj l a) G env s o e h c = subst (λ q. OfType q o) (sym h.2) (subst (OfType (var_type h.0)) (sym c.2) (tagged_typed l h.0 h.1 c.0 h.4 (comes_typed a G env h.1 c.0 e h.5 c.1)))
+    comes_typed (Case a bs) G env s o e h c =
         then_typed s (var_type h.0) c.0 (λ v. OpensVariant (as_variant v) (λ l w. ArmsCome S T env bs l w)) o (comes_typed a G env (var_type h.0) c.0 e h.1 c.1)
         (λ v i k. opens_typed h.0 s v (λ l w. ArmsCome S T env bs l w) o i (λ l u w f j m. arms_typed bs G env h.0 s l u w o e h.3 f j (h.2 l (rw f refl)) m) k) c.2
-    comes_typed (make k ts) G env s o e h c = subst (λ q. OfType q o) (sym h.1) (subst (OfType (coll k h.0)) (sym c.2) (collected_typed k h.0 c.0 (items_come_typed ts G env h.0 c.0 e h.3 c.1)))
-    comes_typed (union a b) G env s o e h c =
+    comes_typed (Make k ts) G env s o e h c = subst (λ q. OfType q o) (sym h.1) (subst (OfType (coll k h.0)) (sym c.2) (collected_typed k h.0 c.0 (items_come_typed ts G env h.0 c.0 e h.3 c.1)))
+    comes_typed (Union a b) G env s o e h c =
         subst (λ q. OfType q o) (sym h.2)
         (unites_typed h.0 h.1 c.0 (Comes S T env b) o (subst (λ q. OfType q c.0) h.2 (comes_typed a G env s c.0 e h.3 c.1)) (λ q d. subst (λ z. OfType z q) h.2 (comes_typed b G env s q e h.4 d)) c.2)
-    comes_typed (ext k b a) G env s o e h c =
+    comes_typed (Ext k b a) G env s o e h c =
         subst (λ q. OfType q o) (sym h.3)
         (subst (OfType (coll k h.0)) (sym c.4)
         (collected_typed k h.0 c.1
         (draws_typed h.0 h.2 k (λ v. Comes S T (v ∷ env) b) (items_of c.0) c.1 (items_typed h.1 h.2 c.0 (comes_typed a G env (coll h.1 h.2) c.0 e h.4 c.2))
         (λ v q i d. subst (λ z. OfType z q) h.3 (comes_typed b (h.2 ∷ G) (v ∷ env) s q (i, e) h.5 d)) c.3)))
-    comes_typed (choice a b d) G env s o e h c =
+    comes_typed (If a b d) G env s o e h c =
         then_typed s bool c.0 (λ v. Picks (as_bool v) (Comes S T env b) (Comes S T env d)) o (comes_typed a G env bool c.0 e h.0 c.1)
         (λ v i k. picks_typed s (as_bool v) (Comes S T env b) (Comes S T env d) o i.0 (comes_typed b G env s o e h.1) (comes_typed d G env s o e h.2) k) c.2
-    comes_typed (bind a b) G env s o e h c =
+    comes_typed (Let a b) G env s o e h c =
         then_typed s h.0 c.0 (λ v. Comes S T (v ∷ env) b) o (comes_typed a G env h.0 c.0 e h.1 c.1) (λ v i k. comes_typed b (h.0 ∷ G) (v ∷ env) s o (i, e) h.2 k) c.2
-    comes_typed (prim c ts) G env s o e h k = args_typed ts G env h.0 s (λ vs. answered (meaning c vs)) o e h.1 (λ vs i. prim_typed c h.0 s vs h.2 i) k
+    comes_typed (Prim c ts) G env s o e h k = args_typed ts G env h.0 s (λ vs. answered (meaning c vs)) o e h.1 (λ vs i. prim_typed c h.0 s vs h.2 i) k
 
     items_come_typed : (ts : Trees) (G : List Ground) (env : List Value) (s : Ground) (f : Flow) → HaveTypes G env → EachType S G ts s → ItemsCome S T env ts f → FlowOf s f
     items_come_typed no_trees G env s f e h c = subst (FlowOf s) (sym c) tt
@@ -192,31 +192,31 @@ collected_is k f g o b h = subst (Refines (collected k f)) (sym h) (collected_up
 module _ (S : SourceTypes) (T : Tables) where
   mutual
     pub comes_refine : (t : Tree) (env : List Value) (o : Outcome) → Comes S T env t o → Refines (core T t env) o
-    comes_refine (var x) env o c = refines_by (outcome_of (slice_get env x)) o c
-    comes_refine (con v) env o c = c
-    comes_refine (source i) env o c = by_told (T i) refl
+    comes_refine (Var x) env o c = refines_by (outcome_of (slice_get env x)) o c
+    comes_refine (Const v) env o c = c
+    comes_refine (Source i) env o c = by_told (T i) refl
       where
         by_told : (q : Option Value) → T i ≡ q → Refines (outcome_of q) o
         by_told (Some u) e = c.2 ∙ ap done (c.1.told u e)
         by_told None e = tt
-    comes_refine (rec ps) env o c = parts_refine ps env (λ fs. done (value.Rec fs)) o c
-    comes_refine (proj l a) env o c = after_is (core T a env) c.0 (λ v. field_in l (as_record v)) o (comes_refine a env c.0 c.1) c.2
-    comes_refine (inj l a) env o c = after_is (core T a env) c.0 (λ v. done (value.Inj l v)) o (comes_refine a env c.0 c.1) c.2
-    comes_refine (case_of a bs) env o c =
+    comes_refine (Rec ps) env o c = parts_refine ps env (λ fs. done (value.Rec fs)) o c
+    comes_refine (Proj l a) env o c = after_is (core T a env) c.0 (λ v. field_in l (as_record v)) o (comes_refine a env c.0 c.1) c.2
+    comes_refine (Inj l a) env o c = after_is (core T a env) c.0 (λ v. done (value.Inj l v)) o (comes_refine a env c.0 c.1) c.2
+    comes_refine (Case a bs) env o c =
         then_up (core T a env) c.0 o (λ v. opened (as_variant v) (λ l w. core_arms T bs l w env)) (λ v. OpensVariant (as_variant v) (λ l w. ArmsCome S T env bs l w)) (comes_refine a env c.0 c.1)
         (λ v h. opens_up (as_variant v) (λ l w. core_arms T bs l w env) (λ l w. ArmsCome S T env bs l w) o (λ l w d. arms_refine bs env l w o d) h) c.2
-    comes_refine (make k ts) env o c = collected_is k (core_items T ts env) c.0 o (items_come_refine ts env c.0 c.1) c.2
-    comes_refine (union a b) env o c = unites_up (core T a env) c.0 (core T b env) o (Comes S T env b) (comes_refine a env c.0 c.1) (λ q d. comes_refine b env q d) c.2
-    comes_refine (ext k b a) env o c =
+    comes_refine (Make k ts) env o c = collected_is k (core_items T ts env) c.0 o (items_come_refine ts env c.0 c.1) c.2
+    comes_refine (Union a b) env o c = unites_up (core T a env) c.0 (core T b env) o (Comes S T env b) (comes_refine a env c.0 c.1) (λ q d. comes_refine b env q d) c.2
+    comes_refine (Ext k b a) env o c =
         collected_is k (drawn (items_of (core T a env)) (λ v. items_of (core T b (v ∷ env)))) c.1 o
         (source_up (core T a env) c.0 c.1 (λ v. items_of (core T b (v ∷ env))) (λ v. Comes S T (v ∷ env) b) (comes_refine a env c.0 c.2)
         (λ v q d. items_up (core T b (v ∷ env)) q (comes_refine b (v ∷ env) q d)) c.3) c.4
-    comes_refine (choice a b d) env o c =
+    comes_refine (If a b d) env o c =
         then_up (core T a env) c.0 o (λ v. chosen (as_bool v) (core T b env) (core T d env)) (λ v. Picks (as_bool v) (Comes S T env b) (Comes S T env d)) (comes_refine a env c.0 c.1)
         (λ v h. picks_up (as_bool v) (core T b env) (core T d env) o (Comes S T env b) (Comes S T env d) (comes_refine b env o) (comes_refine d env o) h) c.2
-    comes_refine (bind a b) env o c =
+    comes_refine (Let a b) env o c =
         then_up (core T a env) c.0 o (λ v. core T b (v ∷ env)) (λ v. Comes S T (v ∷ env) b) (comes_refine a env c.0 c.1) (λ v h. comes_refine b (v ∷ env) o h) c.2
-    comes_refine (prim c ts) env o k = args_refine ts env (λ vs. answered (meaning c vs)) o k
+    comes_refine (Prim c ts) env o k = args_refine ts env (λ vs. answered (meaning c vs)) o k
 
     items_come_refine : (ts : Trees) (env : List Value) (f : Flow) → ItemsCome S T env ts f → FlowUp (core_items T ts env) f
     items_come_refine no_trees env f c = inr c

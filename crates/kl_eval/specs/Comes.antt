@@ -8,7 +8,7 @@ use Rattle.kl_value.specs.declared.Value.TheVariants as value
 use Rattle.kl_prim.specs.Table.{meaning}
 use Rattle.kl_outcome.specs.Outcome.{Name, Outcome, done, over, stuck, Flow, more, stop, fine, overflow, broken, outcome_of, answered, part, tagged, as_variant, items_of, collected, union_of}
 use Rattle.kl_core.specs.Core.{Tables}
-use Rattle.kl_core.specs.Trees.{Tree, var, con, source, rec, proj, inj, case_of, make, union, ext, choice, bind, prim, Trees, no_trees, trees, Parts, no_parts, parts, Arms, no_arms, rest, arm}
+use Rattle.kl_core.specs.Trees.{Tree, Var, Const, Source, Rec, Proj, Inj, Case, Make, Union, Ext, If, Let, Prim, Trees, no_trees, trees, Parts, no_parts, parts, Arms, no_arms, rest, arm}
 use Rattle.kl_core.specs.Typing.{SourceTypes}
 use Rattle.kl_eval.specs.World.{ReadsSource}
 
@@ -53,19 +53,19 @@ Draws P (stop e) g = g ≡ stop e
 
 abbrev mutual
   pub Comes : SourceTypes → Tables → List Value → Tree → Outcome → Type 0
-  Comes S T env (var x) o = o ≡ outcome_of (slice_get env x)
-  Comes S T env (con v) o = o ≡ done v
-  Comes S T env (source i) o = (v : Value) × ReadsSource S T i v × (o ≡ done v)
-  Comes S T env (rec ps) o = PartsCome S T env ps (λ fs. done (value.Rec fs)) o
-  Comes S T env (proj l a) o = (p : Outcome) × Comes S T env a p × (o ≡ part l p)
-  Comes S T env (inj l a) o = (p : Outcome) × Comes S T env a p × (o ≡ tagged l p)
-  Comes S T env (case_of a bs) o = (p : Outcome) × Comes S T env a p × Then p (λ v q. OpensVariant (as_variant v) (λ l w. ArmsCome S T env bs l w) q) o
-  Comes S T env (make k ts) o = (f : Flow) × ItemsCome S T env ts f × (o ≡ collected k f)
-  Comes S T env (union a b) o = (p : Outcome) × Comes S T env a p × Unites p (Comes S T env b) o
-  Comes S T env (ext k b a) o = (p : Outcome) × (f : Flow) × Comes S T env a p × Draws (λ v. Comes S T (v ∷ env) b) (items_of p) f × (o ≡ collected k f)
-  Comes S T env (choice a b c) o = (p : Outcome) × Comes S T env a p × Then p (λ v q. Picks (as_bool v) (Comes S T env b) (Comes S T env c) q) o
-  Comes S T env (bind a b) o = (p : Outcome) × Comes S T env a p × Then p (λ v. Comes S T (v ∷ env) b) o
-  Comes S T env (prim c ts) o = ArgsCome S T env ts (λ vs. answered (meaning c vs)) o
+  Comes S T env (Var x) o = o ≡ outcome_of (slice_get env x)
+  Comes S T env (Const v) o = o ≡ done v
+  Comes S T env (Source i) o = (v : Value) × ReadsSource S T i v × (o ≡ done v)
+  Comes S T env (Rec ps) o = PartsCome S T env ps (λ fs. done (value.Rec fs)) o
+  Comes S T env (Proj l a) o = (p : Outcome) × Comes S T env a p × (o ≡ part l p)
+  Comes S T env (Inj l a) o = (p : Outcome) × Comes S T env a p × (o ≡ tagged l p)
+  Comes S T env (Case a bs) o = (p : Outcome) × Comes S T env a p × Then p (λ v q. OpensVariant (as_variant v) (λ l w. ArmsCome S T env bs l w) q) o
+  Comes S T env (Make k ts) o = (f : Flow) × ItemsCome S T env ts f × (o ≡ collected k f)
+  Comes S T env (Union a b) o = (p : Outcome) × Comes S T env a p × Unites p (Comes S T env b) o
+  Comes S T env (Ext k b a) o = (p : Outcome) × (f : Flow) × Comes S T env a p × Draws (λ v. Comes S T (v ∷ env) b) (items_of p) f × (o ≡ collected k f)
+  Comes S T env (If a b c) o = (p : Outcome) × Comes S T env a p × Then p (λ v q. Picks (as_bool v) (Comes S T env b) (Comes S T env c) q) o
+  Comes S T env (Let a b) o = (p : Outcome) × Comes S T env a p × Then p (λ v. Comes S T (v ∷ env) b) o
+  Comes S T env (Prim c ts) o = ArgsCome S T env ts (λ vs. answered (meaning c vs)) o
 
   pub ItemsCome : SourceTypes → Tables → List Value → Trees → Flow → Type 0
   ItemsCome S T env no_trees f = f ≡ stop fine

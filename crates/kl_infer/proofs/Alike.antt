@@ -4,7 +4,7 @@ use Rattle.kl_base.specs.Fields.{field}
 use Rattle.kl_type.specs.Ground.{Ground, Row, bool, var, coll as colls}
 use Rattle.kl_outcome.specs.Outcome.{Name}
 use Rattle.kl_outcome.specs.Typed.{PrimTypes}
-use Rattle.kl_syntax.specs.Syntax.{Pat, catch, any, same, is, shape, variant, Pats, no_pats, pats, Exp, con, name, call, fields, inject, coll, comp, choice, bind, select, path, invert, minus, chain, Exps, no_exps, exps, Flds, no_flds, flds, Quals, no_quals, draw, test, Branches, no_branches, otherwise, branch, Steps, no_steps, step}
+use Rattle.kl_syntax.specs.Syntax.{Pat, catch, any, same, is, shape, variant, Pats, no_pats, pats, Exp, Const, name, Call, Rec, Inj, Coll, Comp, If, Let, Case, Path, Not, Neg, Chain, Exps, no_exps, exps, Flds, no_flds, flds, Quals, no_quals, draw, test, Branches, no_branches, otherwise, branch, Steps, no_steps, step}
 use Rattle.kl_meaning.specs.Typing.{Context, Sort, nothing, value_of, function_of, primitive, ValueTypes, CallTypes, VariableOr, NameTypes, Takes, TakesFields, Types, AllTypes, EachType, FieldTypes, QualTypes, BranchTypes, StepTypes, FunctionTypes}
 
 -- what the one gives the other gives too
@@ -64,20 +64,20 @@ module _ (K J : Name → Sort) (within : (x : Name) → IsIncluded (K x) (J x)) 
 
   mutual
     pub types_within : (e : Exp) (G : Context) (t : Ground) → Types e K G t → Types e J G t
-    types_within (con v) G t h = h
+    types_within (Const v) G t h = h
     types_within (name x) G t h = named G x.text t h
-    types_within (call f es) G t h = (h.0, all_within es G h.0 h.1, call_within (K f.text) (J f.text) h.0 t (within f.text) h.2)
-    types_within (fields fs) G t h = (h.0, h.1, h.2, h.3, each_field fs G h.0 h.4)
-    types_within (inject l e) G t h = (h.0, h.1, h.2, h.3, h.4, types_within e G h.1 h.5)
-    types_within (coll k es) G t h = (h.0, h.1, h.2, each_within es G h.0 h.3)
-    types_within (comp k e qs) G t h = (h.0, h.1, h.2, quals_within qs G h.1 h.3, types_within e h.1 h.0 h.4)
-    types_within (choice a b c) G t h = (types_within a G bool h.0, types_within b G t h.1, types_within c G t h.2)
-    types_within (bind p x y) G t h = (h.0, h.1, types_within x G h.0 h.2, takes_within p (NameTypes K G) (NameTypes J G) h.0 G h.1 (named G) h.3, types_within y h.1 t h.4)
-    types_within (select e bs) G t h = (h.0, types_within e G (var h.0) h.1, h.2, branches_within bs G h.0 t h.3)
-    types_within (path e ls) G t h = (h.0, types_within e G h.0 h.1, h.2)
-    types_within (invert e) G t h = (h.0, types_within e G h.0 h.1, h.2)
-    types_within (minus e) G t h = (h.0, types_within e G h.0 h.1, h.2)
-    types_within (chain e ss) G t h = (h.0, types_within e G h.0 h.1, steps_within ss G h.0 t h.2)
+    types_within (Call f es) G t h = (h.0, all_within es G h.0 h.1, call_within (K f.text) (J f.text) h.0 t (within f.text) h.2)
+    types_within (Rec fs) G t h = (h.0, h.1, h.2, h.3, each_field fs G h.0 h.4)
+    types_within (Inj l e) G t h = (h.0, h.1, h.2, h.3, h.4, types_within e G h.1 h.5)
+    types_within (Coll k es) G t h = (h.0, h.1, h.2, each_within es G h.0 h.3)
+    types_within (Comp k e qs) G t h = (h.0, h.1, h.2, quals_within qs G h.1 h.3, types_within e h.1 h.0 h.4)
+    types_within (If a b c) G t h = (types_within a G bool h.0, types_within b G t h.1, types_within c G t h.2)
+    types_within (Let p x y) G t h = (h.0, h.1, types_within x G h.0 h.2, takes_within p (NameTypes K G) (NameTypes J G) h.0 G h.1 (named G) h.3, types_within y h.1 t h.4)
+    types_within (Case e bs) G t h = (h.0, types_within e G (var h.0) h.1, h.2, branches_within bs G h.0 t h.3)
+    types_within (Path e ls) G t h = (h.0, types_within e G h.0 h.1, h.2)
+    types_within (Not e) G t h = (h.0, types_within e G h.0 h.1, h.2)
+    types_within (Neg e) G t h = (h.0, types_within e G h.0 h.1, h.2)
+    types_within (Chain e ss) G t h = (h.0, types_within e G h.0 h.1, steps_within ss G h.0 t h.2)
 
     all_within : (es : Exps) (G : Context) (ss : List Ground) → AllTypes es K G ss → AllTypes es J G ss
     all_within no_exps G ss h = h

@@ -20,7 +20,7 @@ use Rattle.kl_syntax.specs.declared.tree.Pattern.{Pattern}
 use Rattle.kl_syntax.specs.declared.tree.Qual.{Qual}
 use Rattle.kl_syntax.specs.declared.tree.Qual.TheVariants as quals
 use Rattle.kl_syntax.specs.declared.tree.Word.{Word}
-use Rattle.kl_syntax.specs.Syntax.{Exp, Exps, Steps, Branches, no_branches, otherwise, Quals, no_quals, draw, test, select}
+use Rattle.kl_syntax.specs.Syntax.{Exp, Exps, Steps, Branches, no_branches, otherwise, Quals, no_quals, draw, test, Case}
 use Rattle.kl_syntax.specs.View.{view, qual_view, branch_view, branches_of, rest_of, exps_of, exps_view, field_view, quals_view, steps_view, pattern_view}
 use Rattle.kl_meaning.specs.Typing.{Context, NameTypes, CallTypes, Takes, PathTypes, Types, AllTypes, EachType, QualTypes, StepTypes}
 use Rattle.kl_infer.specs.Asking.{cells, FollowsTyping, Leaves, Asks, Gets, GetsMany, Binds, Binding, context, onto}
@@ -121,7 +121,7 @@ module _ (k : Known) (ns : Fields) (w : ℕ) (e : Expr) where
         let ms = map arm bs2 in
         let le : length ms ≡ length bs2 = arm_length bs2 in
         let same : all ≡ labelled (names_of ms) is = j5 ∙ ap (λ (v : List Name). labelled v ds1) (sym (arm_names bs2)) ∙ ap (labelled (names_of ms)) j3 in
-        at_view a g _ (view_case e y y2 bs bs2 rest h j1 j2 ∙ ap (λ (v : Branches). select (view y2) (with_arms ms v)) lr)
+        at_view a g _ (view_case e y y2 bs bs2 rest h j1 j2 ∙ ap (λ (v : Branches). Case (view y2) (with_arms ms v)) lr)
         (select_form k ns a b c d x f g w ready i is (view y2) ms last il (g1.size po ∙ sym le) (subst (λ (n : ℕ). GetsMany a b is n) (sym le) g1) g2
         (subst (λ (v : Fields). Asks c d (IsVariant (is_rest last) v i)) same (subst (λ (v : Bool). Asks c d (IsVariant v all i)) oo q1)) q2
         (subst (λ (v : List ℕ). Asks x f (λ s. ArmsTake (with_arms ms no_branches) (sorts k) (context s ns) (map s.types v) (s.types w))) j4

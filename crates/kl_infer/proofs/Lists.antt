@@ -9,7 +9,7 @@ use Rattle.kl_rows.specs.Solutions.{Assignment}
 use Rattle.kl_outcome.specs.Outcome.{Name}
 use Rattle.kl_forms.specs.Forms.{HasNoOthers, IsRecord, IsVariant}
 use Rattle.kl_syntax.specs.declared.tree.Word.{Word}
-use Rattle.kl_syntax.specs.Syntax.{Pat, Exp, call, fields, select, Exps, no_exps, exps, Branches, no_branches, otherwise, branch}
+use Rattle.kl_syntax.specs.Syntax.{Pat, Exp, Call, Rec, Case, Exps, no_exps, exps, Branches, no_branches, otherwise, branch}
 use Rattle.kl_syntax.specs.View.{exps_of, flds_of}
 use Rattle.kl_meaning.specs.Match.{same_name}
 use Rattle.kl_meaning.specs.Typing.{Sort, Context, CallTypes, Types, AllTypes, FieldTypes, BranchTypes, has_branch, has_field}
@@ -125,9 +125,9 @@ module _ (k : Known) (ns : Fields) (a b c d : Typing) (w : ℕ) (ready : Ready k
   many_ready g = ready_for k b ns (w ∷ []) is g.sorts (ready_on k a b ns (w ∷ []) g.follows ready)
 
   pub call_form : (f : Word) (es : Exps) → n ≡ count es → GetsMany a b is n → Asks b c (λ s. CallTypes (sorts k f.text) (map s.types is) (s.types w))
-      → Asks c d (λ s. AllTypes es (sorts k) (context s ns) (map s.types is)) → Asks a d (T k ns (call f es) w)
+      → Asks c d (λ s. AllTypes es (sorts k) (context s ns) (map s.types is)) → Asks a d (T k ns (Call f es) w)
   call_form f es e g h1 h2 =
-      steps a b d (T k ns (call f es) w) _ _
+      steps a b d (T k ns (Call f es) w) _ _
       (λ s h. (h.0, all_length es (sorts k) (context s ns) h.0 h.1 ∙ sym e, ground_of_all k ns a (w ∷ []) ready es s h.0 h.1, (h.2, h.1)))
       (λ s q h. (h.0, h.3.1, h.3.0))
       (opens_many a b is n (λ ts s. CallTypes (sorts k f.text) ts (s.types w) × AllTypes es (sorts k) (context s ns) ts)
@@ -169,11 +169,11 @@ length_names (f ∷ fs) = ap suc (length_names fs)
 
 module _ (k : Known) (ns : Fields) (a b c d : Typing) (w : ℕ) (ready : Ready k a ns (w ∷ [])) (is : List ℕ) where
   pub record_form : (fs : List (Word × Exp)) → length is ≡ length fs → GetsMany a b is (length fs) → Asks b c (IsRecord false (labelled (names_of fs) is) w)
-      → Asks c d (λ s. AllTypes (bodies fs) (sorts k) (context s ns) (map s.types is)) → Asks a d (T k ns (fields (flds_of fs)) w)
+      → Asks c d (λ s. AllTypes (bodies fs) (sorts k) (context s ns) (map s.types is)) → Asks a d (T k ns (Rec (flds_of fs)) w)
   record_form fs e g h1 h2 =
       let ls = names_of fs in
       let el : length is ≡ length ls = e ∙ sym (length_names fs) in
-      steps a b d (T k ns (fields (flds_of fs)) w) _ _
+      steps a b d (T k ns (Rec (flds_of fs)) w) _ _
       (λ s h.
       let v = fields_split (sorts k) (context s ns) h.0 fs h.4 in (
         v.0,
@@ -261,7 +261,7 @@ within_arms ms (branch _ _ _ _) r x7 h l q = elim x7 [ ]
 module _ (k : Known) (ns : Fields) (a b c d e f g : Typing) (w : ℕ) (ready : Ready k a ns (w ∷ [])) (i : ℕ) (is : List ℕ) where
   pub select_form : (x : Exp) (ms : Arms) (last : Branches) → IsLast last → length is ≡ length ms → GetsMany a b is (length ms) → Gets b c i (λ t s. Unit {0}) → Asks c d (IsVariant (is_rest last) (labelled (names_of ms) is) i)
       → Asks d e (T k ns x i) → Asks e f (λ s. ArmsTake (with_arms ms no_branches) (sorts k) (context s ns) (map s.types is) (s.types w))
-      → Asks f g (λ s. LastTypes last (sorts k) (context s ns) (s.types w)) → Asks a g (T k ns (select x (with_arms ms last)) w)
+      → Asks f g (λ s. LastTypes last (sorts k) (context s ns) (s.types w)) → Asks a g (T k ns (Case x (with_arms ms last)) w)
   select_form x ms last il en g1 g2 h1 h2 h3 h4 =
       let ls = names_of ms in
       let el : length is ≡ length ls = en ∙ sym (length_names ms) in
@@ -270,7 +270,7 @@ module _ (k : Known) (ns : Fields) (a b c d e f g : Typing) (w : ℕ) (ready : R
       let r3 : Ready k c ns (i ∷ w ∷ is) = ready_after k ns b (w ∷ is) r1 c i g2.follows g2.sort in
       let r4 : Ready k d ns (i ∷ w ∷ is) = ready_on k c d ns (i ∷ w ∷ is) h1.follows r3 in
       let r5 : Ready k e ns (i ∷ w ∷ is) = ready_on k d e ns (i ∷ w ∷ is) h2.follows r4 in
-      steps a b g (T k ns (select x (with_arms ms last)) w) _ _
+      steps a b g (T k ns (Case x (with_arms ms last)) w) _ _
       (λ s h.
       let v = arms_split K (context s ns) h.0 (s.types w) ms last il h.3 in
       let gr : IsGround (var h.0) = ground_of_type k ns a (w ∷ []) ready x s (var h.0) h.1 in

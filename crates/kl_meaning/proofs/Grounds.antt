@@ -11,7 +11,7 @@ use Rattle.kl_outcome.proofs.Grounds.{at_ground, prim_ground}
 use Rattle.kl_syntax.specs.declared.tree.Op.{Op}
 use Rattle.kl_syntax.specs.declared.tree.Op.TheVariants as op
 use Rattle.kl_syntax.specs.declared.tree.Word.{Word}
-use Rattle.kl_syntax.specs.Syntax.{Pat, catch, any, same, is, shape as record_of, variant, Pats, no_pats, pats, Exp, con, name, call, fields, inject, coll, comp, choice, bind, select, path, invert, minus, chain, Exps, no_exps, exps, Quals, no_quals, draw, test, Branches, no_branches, otherwise, branch, Steps, no_steps, step, Decls, no_decls, constant, function}
+use Rattle.kl_syntax.specs.Syntax.{Pat, catch, any, same, is, shape as record_of, variant, Pats, no_pats, pats, Exp, Const, name, Call, Rec, Inj, Coll, Comp, If, Let, Case, Path, Not, Neg, Chain, Exps, no_exps, exps, Quals, no_quals, draw, test, Branches, no_branches, otherwise, branch, Steps, no_steps, step, Decls, no_decls, constant, function}
 use Rattle.kl_meaning.specs.Match.{same_name}
 use Rattle.kl_meaning.specs.Run.{code_named}
 use Rattle.kl_meaning.specs.Typing.{Context, AreGround, Sort, nothing, value_of, function_of, primitive, ValueTypes, CallTypes, VariableOr, NameTypes, Takes, TakesFields, OpTypes, PathTypes, Types, AllTypes, QualTypes, BranchTypes, StepTypes, has_branch, sort_at, sort_if, with_sort, types_at_first, types_after, FunctionTypes, KnownTypes, ProgramTypes}
@@ -94,20 +94,20 @@ no_label h = let d : ⊥ = cc in d
 module _ (K : Name → Sort) (ground : (x : Name) → IsGroundSort (K x)) where
   mutual
     pub types_ground : (e : Exp) (G : Context) (t : Ground) → AreGround G → Types e K G t → IsGround t
-    types_ground (con v) G t a h = h.0
+    types_ground (Const v) G t a h = h.0
     types_ground (name x) G t a h = variable_ground (field x.text G) (K x.text) t (field_ground x.text G t a) (ground x.text) h
-    types_ground (call f es) G t a h = call_ground (K f.text) h.0 t (ground f.text) (all_ground es G h.0 a h.1) h.2
-    types_ground (fields fs) G t a h = h.2
-    types_ground (inject l e) G t a h = h.3
-    types_ground (coll k es) G t a h = h.2
-    types_ground (comp k e qs) G t a h = subst IsGround (sym h.2) (types_ground e h.1 h.0 (quals_ground qs G h.1 a h.3) h.4)
-    types_ground (choice c b d) G t a h = types_ground b G t a h.1
-    types_ground (bind p x y) G t a h = types_ground y h.1 t (takes_ground p (NameTypes K G) h.0 G h.1 (types_ground x G h.0 a h.2) a h.3) h.4
-    types_ground (select e bs) G t a h = let g = types_ground e G (var h.0) a h.1 in branches_ground bs h.0 G t g a h.2 h.3
-    types_ground (path e ls) G t a h = path_ground ls h.0 t (types_ground e G h.0 a h.1) h.2
-    types_ground (invert e) G t a h = prim_ground 11 (h.0 ∷ []) t (types_ground e G h.0 a h.1, tt) h.2
-    types_ground (minus e) G t a h = prim_ground 10 (h.0 ∷ []) t (types_ground e G h.0 a h.1, tt) h.2
-    types_ground (chain e ss) G t a h = steps_ground ss G h.0 t a (types_ground e G h.0 a h.1) h.2
+    types_ground (Call f es) G t a h = call_ground (K f.text) h.0 t (ground f.text) (all_ground es G h.0 a h.1) h.2
+    types_ground (Rec fs) G t a h = h.2
+    types_ground (Inj l e) G t a h = h.3
+    types_ground (Coll k es) G t a h = h.2
+    types_ground (Comp k e qs) G t a h = subst IsGround (sym h.2) (types_ground e h.1 h.0 (quals_ground qs G h.1 a h.3) h.4)
+    types_ground (If c b d) G t a h = types_ground b G t a h.1
+    types_ground (Let p x y) G t a h = types_ground y h.1 t (takes_ground p (NameTypes K G) h.0 G h.1 (types_ground x G h.0 a h.2) a h.3) h.4
+    types_ground (Case e bs) G t a h = let g = types_ground e G (var h.0) a h.1 in branches_ground bs h.0 G t g a h.2 h.3
+    types_ground (Path e ls) G t a h = path_ground ls h.0 t (types_ground e G h.0 a h.1) h.2
+    types_ground (Not e) G t a h = prim_ground 11 (h.0 ∷ []) t (types_ground e G h.0 a h.1, tt) h.2
+    types_ground (Neg e) G t a h = prim_ground 10 (h.0 ∷ []) t (types_ground e G h.0 a h.1, tt) h.2
+    types_ground (Chain e ss) G t a h = steps_ground ss G h.0 t a (types_ground e G h.0 a h.1) h.2
 
     pub all_ground : (es : Exps) (G : Context) (ss : List Ground) → AreGround G → AllTypes es K G ss → AllByRecursion IsGround ss
     all_ground no_exps G ss a h = subst (AllByRecursion IsGround) (sym h) tt

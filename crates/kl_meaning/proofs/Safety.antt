@@ -16,7 +16,7 @@ use Rattle.kl_outcome.proofs.PrimLemmas.{prim_typed}
 use Rattle.kl_syntax.specs.declared.tree.Op.{Op}
 use Rattle.kl_syntax.specs.declared.tree.Op.TheVariants as op
 use Rattle.kl_syntax.specs.declared.tree.Word.{Word}
-use Rattle.kl_syntax.specs.Syntax.{Pat, Exp, con, name, call, fields, inject, coll, comp, choice, bind, select, path, invert, minus, chain, Exps, no_exps, exps, Flds, no_flds, flds, Quals, no_quals, draw, test, Branches, no_branches, otherwise, branch, Steps, no_steps, step, Decls, no_decls, constant, function}
+use Rattle.kl_syntax.specs.Syntax.{Pat, Exp, Const, name, Call, Rec, Inj, Coll, Comp, If, Let, Case, Path, Not, Neg, Chain, Exps, no_exps, exps, Flds, no_flds, flds, Quals, no_quals, draw, test, Branches, no_branches, otherwise, branch, Steps, no_steps, step, Decls, no_decls, constant, function}
 use Rattle.kl_meaning.specs.Match.{Env, fits, if_fits, must_fit, same_name}
 use Rattle.kl_meaning.specs.Run.{Meant, as_value, named, look_up, one_then, called, code_of, operated, in_order, parts_of, flow_if, draw_if, run, run_all, run_items, run_fields, run_quals, run_branches, run_steps, code_named, meant_by_code, meant_at, at_first, with_known, known_after, meaning_of_program}
 use Rattle.kl_meaning.specs.Run as meant
@@ -124,41 +124,41 @@ module _ (K : sort.KnownTypes) (M : meant.KnownOutcomes) (agree : (x : Name) →
 
   mutual
     pub safe : (e : Exp) (G : Context) (env : Env) (t : Ground) → IsTidy e → HaveTypesByName G env → Types e K G t → OfType t (run e M env)
-    safe (con v) G env t y h i = i.1
+    safe (Const v) G env t y h i = i.1
     safe (name x) G env t y h i = looked_up G env h x.text t i
-    safe (call f es) G env t y h i = called_typed (K f.text) (M f.text) (run_all es M env) i.0 t (agree f.text) (safe_all es G env i.0 y h i.1) i.2
-    safe (fields fs) G env t y h i =
+    safe (Call f es) G env t y h i = called_typed (K f.text) (M f.text) (run_all es M env) i.0 t (agree f.text) (safe_all es G env i.0 y h i.1) i.2
+    safe (Rec fs) G env t y h i =
         let row_is = subst IsGround i.1 i.2 in
         let ps = run_fields fs M env in
         let up = in_order_rises ps (fields_apart (λ e. run e M env) (λ fs. run_fields fs M env) refl (λ l e fs. refl) fs y) in
-        subst (λ q. OfType q (run (fields fs) M env)) (sym i.1)
+        subst (λ q. OfType q (run (Rec fs) M env)) (sym i.1)
         (recorded_typed (in_order ps) i.0
         (parts_of_row i.0 (in_order ps) row_is up (in_order_all (IsFieldOf (λ o t. OfType t o) i.0) ps (safe_fields fs G env i.0 y h i.4))
         (λ l s. in_order_found l ps (has_fields (λ e. run e M env) (λ fs. run_fields fs M env) refl (λ l e fs. refl) fs l (i.3 l s))))
         up)
-    safe (inject l a) G env t y h i =
-        subst (λ q. OfType q (run (inject l a) M env)) (sym i.2) (tagged_typed l.text i.0 i.1 (run a M env) i.4 (safe a G env i.1 y h i.5))
-    safe (coll k es) G env t y h i =
-        subst (λ q. OfType q (run (coll k es) M env)) (sym i.1) (collected_typed k i.0 (run_items es M env) (safe_items es G env i.0 y h i.3))
-    safe (comp k e qs) G env t y h i =
-        subst (λ q. OfType q (run (comp k e qs) M env)) (sym i.2)
+    safe (Inj l a) G env t y h i =
+        subst (λ q. OfType q (run (Inj l a) M env)) (sym i.2) (tagged_typed l.text i.0 i.1 (run a M env) i.4 (safe a G env i.1 y h i.5))
+    safe (Coll k es) G env t y h i =
+        subst (λ q. OfType q (run (Coll k es) M env)) (sym i.1) (collected_typed k i.0 (run_items es M env) (safe_items es G env i.0 y h i.3))
+    safe (Comp k e qs) G env t y h i =
+        subst (λ q. OfType q (run (Comp k e qs) M env)) (sym i.2)
         (collected_typed k i.0 (run_quals qs (λ inner. item_then (run e M inner) (stop fine)) M env)
         (safe_quals qs G i.1 env i.0 (λ inner. item_then (run e M inner) (stop fine)) y.0 h i.3
         (λ inner j. item_typed i.0 (run e M inner) (stop fine) (safe e i.1 inner i.0 y.1 j i.4) tt)))
-    safe (choice a b c) G env t y h i =
+    safe (If a b c) G env t y h i =
         choice_typed t (run a M env) (run b M env) (run c M env) (safe a G env bool y.0 h i.0) (safe b G env t y.1 h i.1) (safe c G env t y.2 h i.2)
-    safe (bind p a b) G env t y h i =
+    safe (Let p a b) G env t y h i =
         after_typed t i.0 (run a M env) (λ v. must_fit (fits p (look_up M env) v env) (λ inner. run b M inner)) (safe a G env i.0 y.1 h i.2)
         (λ v j. must_fit_typed i.1 t (fits p (look_up M env) v env) (λ inner. run b M inner)
         (takes (NameTypes K G) (look_up M env) (looked_up G env h) p i.0 v G i.1 env i.3 j h) (sure_fits (look_up M env) p v env y.0)
         (λ inner k. safe b i.1 inner t y.2 k i.4))
-    safe (select a bs) G env t y h i =
+    safe (Case a bs) G env t y h i =
         cases_typed i.0 t (run a M env) (λ l v. run_branches bs l v M env) (safe a G env (var i.0) y.0 h i.1)
         (λ l u v e j. safe_branches bs G env i.0 t l u v y.1 h i.3 e j (i.2 l (rw e refl)))
-    safe (path a ls) G env t y h i = path_typed ls i.0 t (run a M env) i.2 (safe a G env i.0 y h i.1)
-    safe (invert a) G env t y h i = applied_typed 11 (run a M env ∷ []) (i.0 ∷ []) t (i.0, [], refl, safe a G env i.0 y h i.1, refl) i.2
-    safe (minus a) G env t y h i = applied_typed 10 (run a M env ∷ []) (i.0 ∷ []) t (i.0, [], refl, safe a G env i.0 y h i.1, refl) i.2
-    safe (chain a ss) G env t y h i = safe_steps ss G env i.0 t (run a M env) y.1 h i.2 (safe a G env i.0 y.0 h i.1)
+    safe (Path a ls) G env t y h i = path_typed ls i.0 t (run a M env) i.2 (safe a G env i.0 y h i.1)
+    safe (Not a) G env t y h i = applied_typed 11 (run a M env ∷ []) (i.0 ∷ []) t (i.0, [], refl, safe a G env i.0 y h i.1, refl) i.2
+    safe (Neg a) G env t y h i = applied_typed 10 (run a M env ∷ []) (i.0 ∷ []) t (i.0, [], refl, safe a G env i.0 y h i.1, refl) i.2
+    safe (Chain a ss) G env t y h i = safe_steps ss G env i.0 t (run a M env) y.1 h i.2 (safe a G env i.0 y.0 h i.1)
 
     safe_all : (es : Exps) (G : Context) (env : Env) (ss : List Ground) → AreTidy es → HaveTypesByName G env → AllTypes es K G ss → ArgsOf (run_all es M env) ss
     safe_all no_exps G env ss y h i = i

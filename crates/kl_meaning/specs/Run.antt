@@ -11,7 +11,7 @@ use Rattle.kl_value.specs.Views.{as_bool}
 use Rattle.kl_syntax.specs.declared.tree.Op.{Op}
 use Rattle.kl_syntax.specs.declared.tree.Op.TheVariants as op
 use Rattle.kl_syntax.specs.declared.tree.Word.{Word}
-use Rattle.kl_syntax.specs.Syntax.{Exp, con, name, call, fields, inject, coll, comp, choice, bind, select, path, invert, minus, chain, Exps, no_exps, exps, Flds, no_flds, flds, Quals, no_quals, draw, test, Branches, no_branches, otherwise, branch, Steps, no_steps, step, Decls, no_decls, constant, function}
+use Rattle.kl_syntax.specs.Syntax.{Exp, Const, name, Call, Rec, Inj, Coll, Comp, If, Let, Case, Path, Not, Neg, Chain, Exps, no_exps, exps, Flds, no_flds, flds, Quals, no_quals, draw, test, Branches, no_branches, otherwise, branch, Steps, no_steps, step, Decls, no_decls, constant, function}
 use Rattle.kl_meaning.specs.Match.{Env, fits, if_fits, must_fit, same_name}
 
 -- what a name that is no variable means
@@ -88,20 +88,20 @@ draw_if stuck f = stop broken
 
 abbrev mutual
   pub run : Exp → KnownOutcomes → Env → Outcome
-  run (con v) known env = done v
+  run (Const v) known env = done v
   run (name x) known env = look_up known env x.text
-  run (call f es) known env = called (known f.text) (run_all es known env)
-  run (fields fs) known env = recorded (in_order (run_fields fs known env))
-  run (inject l a) known env = tagged l.text (run a known env)
-  run (coll k es) known env = collected k (run_items es known env)
-  run (comp k e qs) known env = collected k (run_quals qs (λ inner. item_then (run e known inner) (stop fine)) known env)
-  run (choice a b c) known env = if_then (run a known env) (run b known env) (run c known env)
-  run (bind p a b) known env = after (run a known env) (λ v. must_fit (fits p (look_up known env) v env) (λ inner. run b known inner))
-  run (select a bs) known env = cases (run a known env) (λ l v. run_branches bs l v known env)
-  run (path a ls) known env = parts_of ls (run a known env)
-  run (invert a) known env = applied 11 (run a known env ∷ [])
-  run (minus a) known env = applied 10 (run a known env ∷ [])
-  run (chain a ss) known env = run_steps ss (run a known env) known env
+  run (Call f es) known env = called (known f.text) (run_all es known env)
+  run (Rec fs) known env = recorded (in_order (run_fields fs known env))
+  run (Inj l a) known env = tagged l.text (run a known env)
+  run (Coll k es) known env = collected k (run_items es known env)
+  run (Comp k e qs) known env = collected k (run_quals qs (λ inner. item_then (run e known inner) (stop fine)) known env)
+  run (If a b c) known env = if_then (run a known env) (run b known env) (run c known env)
+  run (Let p a b) known env = after (run a known env) (λ v. must_fit (fits p (look_up known env) v env) (λ inner. run b known inner))
+  run (Case a bs) known env = cases (run a known env) (λ l v. run_branches bs l v known env)
+  run (Path a ls) known env = parts_of ls (run a known env)
+  run (Not a) known env = applied 11 (run a known env ∷ [])
+  run (Neg a) known env = applied 10 (run a known env ∷ [])
+  run (Chain a ss) known env = run_steps ss (run a known env) known env
 
   pub run_all : Exps → KnownOutcomes → Env → List Outcome
   run_all no_exps known env = []

@@ -1,7 +1,7 @@
 -- What the rules of scope say of a program's form: a pattern that has to match always does, and no record has a label
 -- twice.
 use Rattle.std.specs.Prelude.{◌≡◌, false, ⊤}
-use Rattle.kl_syntax.specs.Syntax.{Pat, catch, any, same, is, shape, variant, Pats, no_pats, pats, Exp, con, name, call, fields, inject, coll, comp, choice, bind, select, path, invert, minus, chain, Exps, no_exps, exps, Flds, no_flds, flds, Quals, no_quals, draw, test, Branches, no_branches, otherwise, branch, Steps, no_steps, step, Decls, no_decls, constant, function}
+use Rattle.kl_syntax.specs.Syntax.{Pat, catch, any, same, is, shape, variant, Pats, no_pats, pats, Exp, Const, name, Call, Rec, Inj, Coll, Comp, If, Let, Case, Path, Not, Neg, Chain, Exps, no_exps, exps, Flds, no_flds, flds, Quals, no_quals, draw, test, Branches, no_branches, otherwise, branch, Steps, no_steps, step, Decls, no_decls, constant, function}
 use Rattle.kl_meaning.specs.Typing.{has_field}
 
 -- without a test in it, a pattern matches each value of a type that it takes
@@ -21,20 +21,20 @@ abbrev mutual
 -- a generator's pattern may test, those of `let`, of a branch and of a parameter may not
 abbrev mutual
   pub IsTidy : Exp → Type 0
-  IsTidy (con v) = ⊤
+  IsTidy (Const v) = ⊤
   IsTidy (name x) = ⊤
-  IsTidy (call f es) = AreTidy es
-  IsTidy (fields fs) = AreTidyFields fs
-  IsTidy (inject l a) = IsTidy a
-  IsTidy (coll k es) = AreTidy es
-  IsTidy (comp k e qs) = AreTidyQuals qs × IsTidy e
-  IsTidy (choice a b c) = IsTidy a × IsTidy b × IsTidy c
-  IsTidy (bind p a b) = IsSurePattern p × IsTidy a × IsTidy b
-  IsTidy (select a bs) = IsTidy a × AreTidyBranches bs
-  IsTidy (path a ls) = IsTidy a
-  IsTidy (invert a) = IsTidy a
-  IsTidy (minus a) = IsTidy a
-  IsTidy (chain a ss) = IsTidy a × AreTidySteps ss
+  IsTidy (Call f es) = AreTidy es
+  IsTidy (Rec fs) = AreTidyFields fs
+  IsTidy (Inj l a) = IsTidy a
+  IsTidy (Coll k es) = AreTidy es
+  IsTidy (Comp k e qs) = AreTidyQuals qs × IsTidy e
+  IsTidy (If a b c) = IsTidy a × IsTidy b × IsTidy c
+  IsTidy (Let p a b) = IsSurePattern p × IsTidy a × IsTidy b
+  IsTidy (Case a bs) = IsTidy a × AreTidyBranches bs
+  IsTidy (Path a ls) = IsTidy a
+  IsTidy (Not a) = IsTidy a
+  IsTidy (Neg a) = IsTidy a
+  IsTidy (Chain a ss) = IsTidy a × AreTidySteps ss
 
   pub AreTidy : Exps → Type 0
   AreTidy no_exps = ⊤

@@ -10,7 +10,7 @@ use Rattle.kl_outcome.specs.Typed.{Inhabits, PrimTypes}
 use Rattle.kl_syntax.specs.declared.tree.Op.{Op}
 use Rattle.kl_syntax.specs.declared.tree.Op.TheVariants as op
 use Rattle.kl_syntax.specs.declared.tree.Word.{Word}
-use Rattle.kl_syntax.specs.Syntax.{Pat, catch, any, same, is, shape, variant, Pats, no_pats, pats, Exp, con, name, call, fields, inject, coll, comp, choice, bind, select, path, invert, minus, chain, Exps, no_exps, exps, Flds, no_flds, flds, Quals, no_quals, draw, test, Branches, no_branches, otherwise, branch, Steps, no_steps, step, Decls, no_decls, constant, function}
+use Rattle.kl_syntax.specs.Syntax.{Pat, catch, any, same, is, shape, variant, Pats, no_pats, pats, Exp, Const, name, Call, Rec, Inj, Coll, Comp, If, Let, Case, Path, Not, Neg, Chain, Exps, no_exps, exps, Flds, no_flds, flds, Quals, no_quals, draw, test, Branches, no_branches, otherwise, branch, Steps, no_steps, step, Decls, no_decls, constant, function}
 use Rattle.kl_meaning.specs.Match.{Env, same_name, has_label}
 use Rattle.kl_meaning.specs.Run.{code_of, code_named}
 
@@ -100,22 +100,22 @@ has_branch (branch m p b bs) l = same_name l m.text || has_branch bs l
 
 abbrev mutual
   pub Types : Exp → KnownTypes → Context → Ground → Type 0
-  Types (con v) known G t = IsGround t × Inhabits t v
+  Types (Const v) known G t = IsGround t × Inhabits t v
   Types (name x) known G t = NameTypes known G x.text t
-  Types (call f es) known G t = (ss : List Ground) × AllTypes es known G ss × CallTypes (known f.text) ss t
-  Types (fields fs) known G t =
+  Types (Call f es) known G t = (ss : List Ground) × AllTypes es known G ss × CallTypes (known f.text) ss t
+  Types (Rec fs) known G t =
       (r : Row) × (t ≡ rec r) × IsGround t × ((l : Name) → IsSome (at l r) → IsTrue (has_field fs l)) × FieldTypes fs known G r
-  Types (inject l a) known G t = (r : Row) × (s : Ground) × (t ≡ var r) × IsGround t × (at l.text r ≡ Some s) × Types a known G s
-  Types (coll k es) known G t = (s : Ground) × (t ≡ colls k s) × IsGround t × EachType es known G s
-  Types (comp k e qs) known G t = (s : Ground) × (H : Context) × (t ≡ colls k s) × QualTypes qs known G H × Types e known H s
-  Types (choice a b c) known G t = Types a known G bool × Types b known G t × Types c known G t
-  Types (bind p a b) known G t = (s : Ground) × (H : Context) × Types a known G s × Takes p (NameTypes known G) s G H × Types b known H t
-  Types (select a bs) known G t =
+  Types (Inj l a) known G t = (r : Row) × (s : Ground) × (t ≡ var r) × IsGround t × (at l.text r ≡ Some s) × Types a known G s
+  Types (Coll k es) known G t = (s : Ground) × (t ≡ colls k s) × IsGround t × EachType es known G s
+  Types (Comp k e qs) known G t = (s : Ground) × (H : Context) × (t ≡ colls k s) × QualTypes qs known G H × Types e known H s
+  Types (If a b c) known G t = Types a known G bool × Types b known G t × Types c known G t
+  Types (Let p a b) known G t = (s : Ground) × (H : Context) × Types a known G s × Takes p (NameTypes known G) s G H × Types b known H t
+  Types (Case a bs) known G t =
       (r : Row) × Types a known G (var r) × ((l : Name) → IsSome (at l r) → IsTrue (has_branch bs l)) × BranchTypes bs known G r t
-  Types (path a ls) known G t = (s : Ground) × Types a known G s × PathTypes ls s t
-  Types (invert a) known G t = (s : Ground) × Types a known G s × PrimTypes 11 (s ∷ []) t
-  Types (minus a) known G t = (s : Ground) × Types a known G s × PrimTypes 10 (s ∷ []) t
-  Types (chain a ss) known G t = (s : Ground) × Types a known G s × StepTypes ss known G s t
+  Types (Path a ls) known G t = (s : Ground) × Types a known G s × PathTypes ls s t
+  Types (Not a) known G t = (s : Ground) × Types a known G s × PrimTypes 11 (s ∷ []) t
+  Types (Neg a) known G t = (s : Ground) × Types a known G s × PrimTypes 10 (s ∷ []) t
+  Types (Chain a ss) known G t = (s : Ground) × Types a known G s × StepTypes ss known G s t
 
   -- each of its own type
   pub AllTypes : Exps → KnownTypes → Context → List Ground → Type 0

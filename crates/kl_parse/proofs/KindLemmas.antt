@@ -372,44 +372,6 @@ op_among l t o h = ap (λ w. has (kind_at w) (op_kinds l)) h.0 ∙ ap (λ k. has
 pub on_op : (l : Level) → On (among (op_kinds l)) (AnOp l)
 on_op l = on_one (op_among l)
 
--- a token of these kinds is an operator of the level
-is_op : (w : Tok) → (o : Op) → kind_at w ≡ kind_at (written o) → w ≡ written o
-is_op w op.Or h = key_at key.Or w h
-is_op w op.And h = key_at key.And w h
-is_op w op.Eq h = symbol_at sy.Eq w h
-is_op w op.Ne h = symbol_at sy.Ne w h
-is_op w op.Lt h = symbol_at sy.Lt w h
-is_op w op.Le h = symbol_at sy.Le w h
-is_op w op.Gt h = symbol_at sy.Gt w h
-is_op w op.Ge h = symbol_at sy.Ge w h
-is_op w op.Add h = symbol_at sy.Add w h
-is_op w op.Sub h = symbol_at sy.Sub w h
-is_op w op.Append h = symbol_at sy.Append w h
-is_op w op.Cat h = symbol_at sy.Cat w h
-is_op w op.Mul h = symbol_at sy.Mul w h
-
-abbrev ops_of : Level → List Op
-ops_of level.Or = op.Or ∷ []
-ops_of level.And = op.And ∷ []
-ops_of level.Compare = op.Eq ∷ op.Ne ∷ op.Lt ∷ op.Le ∷ op.Gt ∷ op.Ge ∷ []
-ops_of level.Add = op.Add ∷ op.Sub ∷ op.Append ∷ op.Cat ∷ []
-ops_of level.Mul = op.Mul ∷ []
-
-abbrev OfLevel : Level → List Op → Type 0
-OfLevel l [] = Unit {0}
-OfLevel l (o ∷ os) = (level_of o ≡ l) × OfLevel l os
-
-one_of : (l : Level) (w : Tok) (os : List Op) → OfLevel l os → has (kind_at w) (map (λ o. kind_at (written o)) os) ≡ true → (o : Op) × (w ≡ written o) × (level_of o ≡ l)
-one_of l w [] each h = absurd cc
-one_of l w (o ∷ os) (e, each) h = either (has_or (kind_at w) (kind_at (written o)) (map (λ o. kind_at (written o)) os) h) (λ i. (o, is_op w o i, e)) (one_of l w os each)
-
-some_op : (l : Level) (w : Tok) → has (kind_at w) (op_kinds l) ≡ true → (o : Op) × (w ≡ written o) × (level_of o ≡ l)
-some_op level.Or w h = one_of level.Or w (ops_of level.Or) (refl, tt) h
-some_op level.And w h = one_of level.And w (ops_of level.And) (refl, tt) h
-some_op level.Compare w h = one_of level.Compare w (ops_of level.Compare) (refl, (refl, (refl, (refl, (refl, (refl, tt)))))) h
-some_op level.Add w h = one_of level.Add w (ops_of level.Add) (refl, (refl, (refl, (refl, tt)))) h
-some_op level.Mul w h = one_of level.Mul w (ops_of level.Mul) (refl, tt) h
-
 -- ---- some token is one
 
 abbrev a_token : Tok → Token

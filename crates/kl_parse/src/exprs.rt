@@ -12,7 +12,9 @@ ghost use Rattle.kl_phrase.specs.Gives.{Gives};
 ghost use Rattle.kl_lex.specs.Brackets.{opener};
 ghost use Rattle.kl_parse.specs.Grammar.{branch_of, let_of, if_of, inject_of, case_of, whole, negated, signed};
 ghost use Rattle.kl_parse.specs.Kinds.{among, is_symbol, op_kinds, an_op};
-ghost use Rattle.kl_parse.specs.Descent.{mark, read_pat, labels, reads, chain_at, operand_at, sort_at, compare_at, post_at, prim_at, named_at, branch_at, exprs, in_args, in_group, in_rec, in_inject, in_coll, in_let, in_if, in_case, case_end, expr_before, field, condition, qualifier, quals, beyond, otherwise};
+ghost use Rattle.kl_parse.specs.Descent.{mark, read_pat, labels, reads, chain_at, operand_at, sort_at, compare_at, post_at, prim_at, named_at};
+ghost use Rattle.kl_parse.specs.Descent.{branch_at, exprs, in_args, in_group, in_rec, in_inject, in_coll, in_let, in_if, in_case, case_end};
+ghost use Rattle.kl_parse.specs.Descent.{expr_before, field, condition, qualifier, quals, beyond, otherwise};
 
 use crate::front::{
     boxed, closed, closed_word, constant, eat, eat_word, is_word, label, labelled, least, name,
@@ -47,7 +49,8 @@ fn labels(
 
 /// The kind of collection that a bracket opens, and what stands behind it.
 fn opened(tokens: &[Token]) -> Option<(Kind, &[Token])>
-    ensures { MatchOption result ((heads (is_symbol symbols.OpenSet) tokens.now ≡ false) × (heads (is_symbol symbols.OpenBag) tokens.now ≡ false) × (heads (is_symbol symbols.OpenList) tokens.now ≡ false)) (λ x. (t : AToken) × (tokens.now ≡ t ∷ x.1.now) × (is_symbol (opener x.0) t ≡ true)) }
+    ensures { MatchOption result ((heads (is_symbol symbols.OpenSet) tokens.now ≡ false) × (heads (is_symbol symbols.OpenBag) tokens.now ≡ false)
+        × (heads (is_symbol symbols.OpenList) tokens.now ≡ false)) (λ x. (t : AToken) × (tokens.now ≡ t ∷ x.1.now) × (is_symbol (opener x.0) t ≡ true)) }
 {
     if let Some(rest) = eat(tokens, Sym::OpenSet) {
         return Some((Kind::Set, rest));
@@ -183,7 +186,8 @@ fn more_steps(
     level: Level,
     tokens: &[Token],
 ) -> Result<(Vec<(Op, Expr)>, &[Token]), Fault<'_, Token>>
-    ensures { Gives (λ x. x.0.items) (λ x. x.1.now) result (others (among (op_kinds level)) (both (one (an_op level)) (operand_at total depth level)) [] tokens.now) }
+    ensures { Gives (λ x. x.0.items) (λ x. x.1.now) result
+        (others (among (op_kinds level)) (both (one (an_op level)) (operand_at total depth level)) [] tokens.now) }
 {
     let mut found = Vec::new(alloc);
     let mut rest = tokens;
@@ -402,7 +406,8 @@ fn more_exprs(
     first: Box<Expr>,
     tokens: &[Token],
 ) -> Result<(Exprs, &[Token]), Fault<'_, Token>>
-    ensures { Gives (λ x. x.0) (λ x. x.1.now) result (others (is_symbol symbols.Comma) (behind (mark symbols.Comma) (reads total depth whole)) (first ∷ []) tokens.now) }
+    ensures { Gives (λ x. x.0) (λ x. x.1.now) result
+        (others (is_symbol symbols.Comma) (behind (mark symbols.Comma) (reads total depth whole)) (first ∷ []) tokens.now) }
 {
     let mut found = Vec::new(alloc);
     found.push(first.into_inner())?;
@@ -484,7 +489,8 @@ fn more_fields(
     first: (Word, Expr),
     tokens: &[Token],
 ) -> Result<(ExprFields, &[Token]), Fault<'_, Token>>
-    ensures { Gives (λ x. x.0) (λ x. x.1.now) result (others (is_symbol symbols.Comma) (behind (mark symbols.Comma) (field total (reads total depth whole))) (first ∷ []) tokens.now) }
+    ensures { Gives (λ x. x.0) (λ x. x.1.now) result
+        (others (is_symbol symbols.Comma) (behind (mark symbols.Comma) (field total (reads total depth whole))) (first ∷ []) tokens.now) }
 {
     let mut found = Vec::new(alloc);
     found.push(first)?;
@@ -592,7 +598,8 @@ fn more_qualifiers(
     first: Qual,
     tokens: &[Token],
 ) -> Result<(Quals, &[Token]), Fault<'_, Token>>
-    ensures { Gives (λ x. x.0) (λ x. x.1.now) result (others (is_symbol symbols.Comma) (behind (mark symbols.Comma) (qualifier (read_pat total depth) (reads total depth whole))) (first ∷ []) tokens.now) }
+    ensures { Gives (λ x. x.0) (λ x. x.1.now) result
+        (others (is_symbol symbols.Comma) (behind (mark symbols.Comma) (qualifier (read_pat total depth) (reads total depth whole))) (first ∷ []) tokens.now) }
 {
     let mut found = Vec::new(alloc);
     found.push(first)?;
@@ -721,7 +728,8 @@ fn branch_rest(
     pat: Box<Pattern>,
     tokens: &[Token],
 ) -> Result<(Branch, &[Token]), Fault<'_, Token>>
-    ensures { Gives (λ x. x.0) (λ x. x.1.now) result (made (λ body. branch_of ((label, pat), body)) (behind (mark symbols.Arrow) (reads total depth whole)) tokens.now) }
+    ensures { Gives (λ x. x.0) (λ x. x.1.now) result
+        (made (λ body. branch_of ((label, pat), body)) (behind (mark symbols.Arrow) (reads total depth whole)) tokens.now) }
 {
     let rest = want(tokens, Sym::Arrow)?;
     let (body, rest) = expr(alloc, total, depth, rest)?;
@@ -739,7 +747,8 @@ fn more_branches(
     first: Branch,
     tokens: &[Token],
 ) -> Result<(Branches, &[Token]), Fault<'_, Token>>
-    ensures { Gives (λ x. x.0) (λ x. x.1.now) result (others (is_symbol symbols.Comma) (behind (mark symbols.Comma) (branch_at total depth)) (first ∷ []) tokens.now) }
+    ensures { Gives (λ x. x.0) (λ x. x.1.now) result
+        (others (is_symbol symbols.Comma) (behind (mark symbols.Comma) (branch_at total depth)) (first ∷ []) tokens.now) }
 {
     let mut found = Vec::new(alloc);
     found.push(first)?;

@@ -19,7 +19,8 @@ use std::alloc::Global;
 
 /// What stands behind this symbol, if the tokens begin with it.
 pub fn eat(tokens: &[Token], symbol: Sym) -> Option<&[Token]>
-    ensures { MatchOption result (heads (is_symbol symbol) tokens.now ≡ false) (λ rest. (t : AToken) × (tokens.now ≡ t ∷ rest.now) × (is_symbol symbol t ≡ true)) }
+    ensures { MatchOption result (heads (is_symbol symbol) tokens.now ≡ false) (λ rest. (t : AToken) × (tokens.now ≡ t ∷ rest.now)
+        × (is_symbol symbol t ≡ true)) }
 {
     let [Token { what, .. }, rest @ ..] = tokens else {
         return None;
@@ -202,7 +203,8 @@ pub fn is_word(tokens: &[Token]) -> bool
 /// # Errors
 /// Want of memory.
 pub fn constant(alloc: Global, tokens: &[Token]) -> Result<Option<(Value, &[Token])>, NoMemory>
-    ensures { IfOk result (λ found. MatchOption found (heads (among constant_kinds) tokens.now ≡ false) (λ x. (heads (among constant_kinds) tokens.now ≡ true) × (one a_constant tokens.now ≡ ok x.0 x.1.now))) }
+    ensures { IfOk result (λ found. MatchOption found (heads (among constant_kinds) tokens.now ≡ false)
+        (λ x. (heads (among constant_kinds) tokens.now ≡ true) × (one a_constant tokens.now ≡ ok x.0 x.1.now))) }
 {
     let [Token { what, .. }, rest @ ..] = tokens else {
         return Ok(None);
@@ -241,7 +243,8 @@ pub fn negative(tokens: &[Token]) -> Result<(Value, &[Token]), Fault<'_, Token>>
 
 /// The least integer, if the tokens begin with the digits that a minus makes this number.
 pub fn least(tokens: &[Token]) -> Option<(Expr, &[Token])>
-    ensures { MatchOption result (heads (among big_kinds) tokens.now ≡ false) (λ x. (heads (among big_kinds) tokens.now ≡ true) × (least_at tokens.now ≡ ok x.0 x.1.now)) }
+    ensures { MatchOption result (heads (among big_kinds) tokens.now ≡ false) (λ x. (heads (among big_kinds) tokens.now ≡ true)
+        × (least_at tokens.now ≡ ok x.0 x.1.now)) }
 {
     match tokens {
         [Token { what: Tok::Big, .. }, rest @ ..] => {

@@ -12,7 +12,7 @@ use Rattle.kl_syntax.specs.declared.tree.Pattern.TheVariants as code
 use Rattle.kl_syntax.specs.declared.tree.Qual.{Qual}
 use Rattle.kl_syntax.specs.declared.tree.Qual.TheVariants as quals
 use Rattle.kl_syntax.specs.declared.tree.Word.{Word}
-use Rattle.kl_syntax.specs.Syntax.{Pat, Pats, no_pats, pats, shape, Exp, call, fields, coll, comp, choice, bind, select, chain, Exps, no_exps, exps, no_flds, flds, Quals, no_quals, Branches, no_branches, branch, Steps, no_steps, step}
+use Rattle.kl_syntax.specs.Syntax.{Pat, Pats, no_pats, pats, shape, Exp, Call, Rec, Coll, Comp, If, Let, Case, Chain, Exps, no_exps, exps, no_flds, flds, Quals, no_quals, Branches, no_branches, branch, Steps, no_steps, step}
 use Rattle.kl_syntax.specs.View.{view, exps_view, exps_of, fields_view, field_view, flds_of, quals_view, qual_view, quals_of, steps_view, steps_of, step_view, branch_view, branches_of, rest_of, pattern_view, patterns_view, pats_of, pattern_pair}
 use Rattle.kl_scope.specs.declared.walk.Walk.{Walk}
 use Rattle.kl_scope.specs.declared.names.Sense.{Sense}
@@ -114,7 +114,7 @@ record_walked ps qs w v u same labels k =
 -- ---- expressions
 
 pub call_walked : (f g : Word) (es : List Expr) (b : Exps) (sense : Option Sense) (given : ℕ) (w v u : Walk) → v.names ≡ w.names → sense ≡ called w.names f.text → given ≡ length es → g ≡ meant sense f
-    → v.findings ≡ gathered w.findings (used sense f given) → ItemsWalk (exps_view es) b v u → ExprWalk (call f (exps_view es)) (call g b) w u
+    → v.findings ≡ gathered w.findings (used sense f given) → ItemsWalk (exps_view es) b v u → ExprWalk (Call f (exps_view es)) (Call g b) w u
 call_walked f g es b sense given w v u same is many mean found k =
     let now : v.findings ≡ gathered w.findings (used (called w.names f.text) f (count (exps_view es))) = found ∙ rw (is, many, exps_count es) refl in
     record {
@@ -123,17 +123,17 @@ call_walked f g es b sense given w v u same is many mean found k =
       scope = k.scope ∙ same;
     }
 
-pub fields_walked : (es fs : List (Word × Expr)) (w v u : Walk) → v.names ≡ w.names → v.findings ≡ gathered w.findings (repeated [] (map (λ f. f.0) es)) → FieldsFront es fs v u → ExprWalk (fields (fields_view es)) (fields (fields_view fs)) w u
+pub fields_walked : (es fs : List (Word × Expr)) (w v u : Walk) → v.names ≡ w.names → v.findings ≡ gathered w.findings (repeated [] (map (λ f. f.0) es)) → FieldsFront es fs v u → ExprWalk (Rec (fields_view es)) (Rec (fields_view fs)) w u
 fields_walked es fs w v u same labels k =
     let walked : Walked resolved_fields findings_fields same_scope (fields_view es) (fields_view fs) v u = flds_walked es fs v u k in
     record {
-      tree = ap fields (walked.tree ∙ ap (resolved_fields (fields_view es)) same);
+      tree = ap Rec (walked.tree ∙ ap (resolved_fields (fields_view es)) same);
       found = walked.found ∙ rw (labels, same, ← flds_labels es) (sym (gathered_append w.findings (repeated [] (field_labels (fields_view es))) (findings_fields (fields_view es) w.names)));
       scope = walked.scope ∙ same;
     }
 
 pub comp_walked : (k : Kind) (qs rs : Quals) (e f : Exp) (depth : ℕ) (w v u : Walk) (last : Scope) → depth ≡ length w.names.variables → QualsWalk qs rs w v → ExprWalk e f v u
-    → last ≡ record u.names { variables = drop (length u.names.variables - depth) u.names.variables } → ExprWalk (comp k e qs) (comp k f rs) w (record { alloc = u.alloc; names = last; findings = u.findings })
+    → last ≡ record u.names { variables = drop (length u.names.variables - depth) u.names.variables } → ExprWalk (Comp k e qs) (Comp k f rs) w (record { alloc = u.alloc; names = last; findings = u.findings })
 comp_walked k qs rs e f depth w v u last deep q h left =
     let next : v.names ≡ behind qs w.names = q.scope in
     record {
@@ -160,7 +160,7 @@ bound_walked p q e f depth w v u last deep k h left =
       scope = left_is w.names (within p w.names) last depth (within_more p w.names) deep (subst (λ (s : Scope). last ≡ record s { variables = drop (length s.variables - depth) s.variables }) (h.scope ∙ next) left);
     }
 
-pub choice_walked : (a b c d e f : Exp) (w v u z : Walk) → ExprWalk a d w v → ExprWalk b e v u → ExprWalk c f u z → ExprWalk (choice a b c) (choice d e f) w z
+pub choice_walked : (a b c d e f : Exp) (w v u z : Walk) → ExprWalk a d w v → ExprWalk b e v u → ExprWalk c f u z → ExprWalk (If a b c) (If d e f) w z
 choice_walked a b c d e f w v u z h k j =
     let one : v.names ≡ w.names = h.scope in
     let two : u.names ≡ w.names = k.scope ∙ one in
@@ -171,7 +171,7 @@ choice_walked a b c d e f w v u z h k j =
       scope = j.scope ∙ two;
     }
 
-pub bind_walked : (p q : Pat) (a b c d : Exp) (w v u : Walk) → ExprWalk a c w v → Bound p b q d v u → ExprWalk (bind p a b) (bind q c d) w u
+pub bind_walked : (p q : Pat) (a b c d : Exp) (w v u : Walk) → ExprWalk a c w v → Bound p b q d v u → ExprWalk (Let p a b) (Let q c d) w u
 bind_walked p q a b c d w v u h k =
     let one : v.names ≡ w.names = h.scope in
     record {
@@ -197,7 +197,7 @@ branches_walked bs cs w v u same labels k = record {
 }
 
 pub case_walked : (a b : Exp) (bs cs : List Branch) (c d : Option Expr) (w v u z : Walk) → ExprWalk a b w v → BranchesWalk bs cs v u → RestWalk c d u z
-    → ExprWalk (select a (onto branch_view bs (rest_of (option_map view c)))) (select b (onto branch_view cs (rest_of (option_map view d)))) w z
+    → ExprWalk (Case a (onto branch_view bs (rest_of (option_map view c)))) (Case b (onto branch_view cs (rest_of (option_map view d)))) w z
 case_walked a b bs cs c d w v u z h k r =
     let one : v.names ≡ w.names = h.scope in
     let rest = rest_of (option_map view c) in
@@ -210,7 +210,7 @@ case_walked a b bs cs c d w v u z h k r =
       scope = r.scope ∙ k.scope ∙ one;
     }
 
-pub chain_walked : (a b : Exp) (ss ts : Steps) (w v u : Walk) → ExprWalk a b w v → StepsWalk ss ts v u → ExprWalk (chain a ss) (chain b ts) w u
+pub chain_walked : (a b : Exp) (ss ts : Steps) (w v u : Walk) → ExprWalk a b w v → StepsWalk ss ts v u → ExprWalk (Chain a ss) (Chain b ts) w u
 chain_walked a b ss ts w v u h k =
     let one : v.names ≡ w.names = h.scope in
     record {
@@ -245,26 +245,26 @@ variables_rec p ps zs dots pe pz = rw pz (sym (ap variables (ap pattern_view pe 
 seen_as : (r : Result (Unit {0}) NoMemory) (e g : Expr) (a b : Exp) (w u : Walk) → view e ≡ a → view g ≡ b → IfOk r (λ _. ExprWalk a b w u) → IfOk r (λ _. ExprWalk (view e) (view g) w u)
 seen_as r e g a b w u p q h = rw (p, q) h
 
-pub call_ok : (r : Result (Unit {0}) NoMemory) (e g : Expr) (f k y : Word) (es fs zs : List Expr) (w u : Walk) → e ≡ expr.Call f es → g ≡ expr.Call k fs → y ≡ f → zs ≡ es → IfOk r (λ _. ExprWalk (call y (exps_view zs)) (call k (exps_view fs)) w u)
+pub call_ok : (r : Result (Unit {0}) NoMemory) (e g : Expr) (f k y : Word) (es fs zs : List Expr) (w u : Walk) → e ≡ expr.Call f es → g ≡ expr.Call k fs → y ≡ f → zs ≡ es → IfOk r (λ _. ExprWalk (Call y (exps_view zs)) (Call k (exps_view fs)) w u)
     → IfOk r (λ _. ExprWalk (view e) (view g) w u)
 call_ok r e g f k y es fs zs w u pe pg py pz h =
-    seen_as r e g (call f (exps_view es)) (call k (exps_view fs)) w u (ap view pe ∙ view_Call f es) (ap view pg ∙ view_Call k fs)
-    (subst (λ (x : Word). IfOk r (λ _. ExprWalk (call x (exps_view es)) (call k (exps_view fs)) w u)) py
-    (subst (λ (x : List Expr). IfOk r (λ _. ExprWalk (call y (exps_view x)) (call k (exps_view fs)) w u)) pz h))
+    seen_as r e g (Call f (exps_view es)) (Call k (exps_view fs)) w u (ap view pe ∙ view_Call f es) (ap view pg ∙ view_Call k fs)
+    (subst (λ (x : Word). IfOk r (λ _. ExprWalk (Call x (exps_view es)) (Call k (exps_view fs)) w u)) py
+    (subst (λ (x : List Expr). IfOk r (λ _. ExprWalk (Call y (exps_view x)) (Call k (exps_view fs)) w u)) pz h))
 
-pub fields_ok : (r : Result (Unit {0}) NoMemory) (e g : Expr) (es fs zs : List (Word × Expr)) (w u : Walk) → e ≡ expr.Rec es → g ≡ expr.Rec fs → zs ≡ es → IfOk r (λ _. ExprWalk (fields (fields_view zs)) (fields (fields_view fs)) w u)
+pub fields_ok : (r : Result (Unit {0}) NoMemory) (e g : Expr) (es fs zs : List (Word × Expr)) (w u : Walk) → e ≡ expr.Rec es → g ≡ expr.Rec fs → zs ≡ es → IfOk r (λ _. ExprWalk (Rec (fields_view zs)) (Rec (fields_view fs)) w u)
     → IfOk r (λ _. ExprWalk (view e) (view g) w u)
 fields_ok r e g es fs zs w u pe pg pz h =
-    seen_as r e g (fields (fields_view es)) (fields (fields_view fs)) w u (ap view pe ∙ view_Rec es) (ap view pg ∙ view_Rec fs)
-    (subst (λ (x : List (Word × Expr)). IfOk r (λ _. ExprWalk (fields (fields_view x)) (fields (fields_view fs)) w u)) pz h)
+    seen_as r e g (Rec (fields_view es)) (Rec (fields_view fs)) w u (ap view pe ∙ view_Rec es) (ap view pg ∙ view_Rec fs)
+    (subst (λ (x : List (Word × Expr)). IfOk r (λ _. ExprWalk (Rec (fields_view x)) (Rec (fields_view fs)) w u)) pz h)
 
 pub coll_ok : (r : Result (Unit {0}) NoMemory) (e g : Expr) (k : Kind) (es fs zs : List Expr) (w u : Walk) → e ≡ expr.Coll k es → g ≡ expr.Coll k fs → zs ≡ es → IfOk r (λ _. ItemsWalk (exps_view zs) (exps_view fs) w u)
     → IfOk r (λ _. ExprWalk (view e) (view g) w u)
 coll_ok r e g k es fs zs w u pe pg pz h =
-    seen_as r e g (coll k (exps_view es)) (coll k (exps_view fs)) w u (ap view pe ∙ view_Coll k es) (ap view pg ∙ view_Coll k fs)
+    seen_as r e g (Coll k (exps_view es)) (Coll k (exps_view fs)) w u (ap view pe ∙ view_Coll k es) (ap view pg ∙ view_Coll k fs)
     (if_ok r (λ j.
     let walked : ItemsWalk (exps_view es) (exps_view fs) w u = subst (λ (x : List Expr). ItemsWalk (exps_view x) (exps_view fs) w u) pz j in
-    record { tree = ap (coll k) walked.tree; found = walked.found; scope = walked.scope }) h)
+    record { tree = ap (Coll k) walked.tree; found = walked.found; scope = walked.scope }) h)
 
 -- the same where the part was reached
 seen : (e g : Expr) (a b : Exp) (w u : Walk) → view e ≡ a → view g ≡ b → ExprWalk a b w u → ExprWalk (view e) (view g) w u
@@ -274,14 +274,14 @@ pub comp_is : (e g : Expr) (k : Kind) (a b y : Expr) (qs rs zs : List Qual) (dep
     → QualsWalk (quals_view zs) (quals_view rs) w v → ExprWalk (view y) (view b) v u → last ≡ record u.names { variables = drop (length u.names.variables - depth) u.names.variables }
     → ExprWalk (view e) (view g) w (record { alloc = u.alloc; names = last; findings = u.findings })
 comp_is e g k a b y qs rs zs depth w v u last pe pg py pz deep q h left =
-    seen e g (comp k (view a) (quals_view qs)) (comp k (view b) (quals_view rs)) w _ (ap view pe ∙ view_Comp k a qs) (ap view pg ∙ view_Comp k b rs)
+    seen e g (Comp k (view a) (quals_view qs)) (Comp k (view b) (quals_view rs)) w _ (ap view pe ∙ view_Comp k a qs) (ap view pg ∙ view_Comp k b rs)
     (comp_walked k (quals_view qs) (quals_view rs) (view a) (view b) depth w v u last deep (subst (λ (x : List Qual). QualsWalk (quals_view x) (quals_view rs) w v) pz q)
     (subst (λ (x : Expr). ExprWalk (view x) (view b) v u) py h) left)
 
 pub if_is : (e g : Expr) (a b c x y z d f j : Expr) (w v u o : Walk) → e ≡ expr.If a b c → g ≡ expr.If d f j → x ≡ a → y ≡ b → z ≡ c
     → ExprWalk (view x) (view d) w v → ExprWalk (view y) (view f) v u → ExprWalk (view z) (view j) u o → ExprWalk (view e) (view g) w o
 if_is e g a b c x y z d f j w v u o pe pg px py pz h k l =
-    seen e g (choice (view a) (view b) (view c)) (choice (view d) (view f) (view j)) w o (ap view pe ∙ view_If a b c) (ap view pg ∙ view_If d f j)
+    seen e g (If (view a) (view b) (view c)) (If (view d) (view f) (view j)) w o (ap view pe ∙ view_If a b c) (ap view pg ∙ view_If d f j)
     (choice_walked (view a) (view b) (view c) (view d) (view f) (view j) w v u o (subst (λ (t : Expr). ExprWalk (view t) (view d) w v) px h) (subst (λ (t : Expr). ExprWalk (view t) (view f) v u) py k)
     (subst (λ (t : Expr). ExprWalk (view t) (view j) u o) pz l))
 
@@ -290,21 +290,21 @@ pub let_is : (e g : Expr) (p q m : Pattern) (a b c d x y : Expr) (depth : ℕ) (
     → ExprWalk (view e) (view g) w (record { alloc = o.alloc; names = last; findings = o.findings })
 let_is e g p q m a b c d x y depth w v u o last pe pg pm px py deep h s k left =
     let last_walk : Walk = record { alloc = o.alloc; names = last; findings = o.findings } in
-    seen e g (bind (pattern_view p) (view a) (view b)) (bind (pattern_view q) (view c) (view d)) w last_walk (ap view pe ∙ view_Let p a b) (ap view pg ∙ view_Let q c d)
+    seen e g (Let (pattern_view p) (view a) (view b)) (Let (pattern_view q) (view c) (view d)) w last_walk (ap view pe ∙ view_Let p a b) (ap view pg ∙ view_Let q c d)
     (bind_walked (pattern_view p) (pattern_view q) (view a) (view b) (view c) (view d) w v last_walk (subst (λ (t : Expr). ExprWalk (view t) (view c) w v) px h)
     (bound_walked (pattern_view p) (pattern_view q) (view b) (view d) depth v u o last deep (subst (λ (t : Pattern). SureWalk (pattern_view t) (pattern_view q) v u) pm s) (subst (λ (t : Expr). ExprWalk (view t) (view d) u o) py k) left))
 
 pub case_is : (e g : Expr) (a b x : Expr) (bs cs zs : List Branch) (c d y : Option Expr) (w v u o : Walk) → e ≡ expr.Case a bs c → g ≡ expr.Case b cs d → x ≡ a → zs ≡ bs → y ≡ c
     → ExprWalk (view x) (view b) w v → BranchesWalk zs cs v u → RestWalk y d u o → ExprWalk (view e) (view g) w o
 case_is e g a b x bs cs zs c d y w v u o pe pg px pz py h k r =
-    seen e g (select (view a) (onto branch_view bs (rest_of (option_map view c)))) (select (view b) (onto branch_view cs (rest_of (option_map view d)))) w o
-    (ap view pe ∙ view_Case a bs c ∙ ap (select (view a)) (sym (branches_onto bs (rest_of (option_map view c))))) (ap view pg ∙ view_Case b cs d ∙ ap (select (view b)) (sym (branches_onto cs (rest_of (option_map view d)))))
+    seen e g (Case (view a) (onto branch_view bs (rest_of (option_map view c)))) (Case (view b) (onto branch_view cs (rest_of (option_map view d)))) w o
+    (ap view pe ∙ view_Case a bs c ∙ ap (Case (view a)) (sym (branches_onto bs (rest_of (option_map view c))))) (ap view pg ∙ view_Case b cs d ∙ ap (Case (view b)) (sym (branches_onto cs (rest_of (option_map view d)))))
     (case_walked (view a) (view b) bs cs c d w v u o (subst (λ (t : Expr). ExprWalk (view t) (view b) w v) px h) (subst (λ (t : List Branch). BranchesWalk t cs v u) pz k) (subst (λ (t : Option Expr). RestWalk t d u o) py r))
 
 pub chain_is : (e g : Expr) (a b x : Expr) (ss ts zs : List (Op × Expr)) (w v u : Walk) → e ≡ expr.Chain a ss → g ≡ expr.Chain b ts → x ≡ a → zs ≡ ss
     → ExprWalk (view x) (view b) w v → StepsWalk (steps_view zs) (steps_view ts) v u → ExprWalk (view e) (view g) w u
 chain_is e g a b x ss ts zs w v u pe pg px pz h k =
-    seen e g (chain (view a) (steps_view ss)) (chain (view b) (steps_view ts)) w u (ap view pe ∙ view_Chain a ss) (ap view pg ∙ view_Chain b ts)
+    seen e g (Chain (view a) (steps_view ss)) (Chain (view b) (steps_view ts)) w u (ap view pe ∙ view_Chain a ss) (ap view pg ∙ view_Chain b ts)
     (chain_walked (view a) (view b) (steps_view ss) (steps_view ts) w v u (subst (λ (t : Expr). ExprWalk (view t) (view b) w v) px h) (subst (λ (t : List (Op × Expr)). StepsWalk (steps_view t) (steps_view ts) v u) pz k))
 
 pub gen_is : (e g : Qual) (p q m : Pattern) (a b x : Expr) (w v u : Walk) → e ≡ quals.Gen p a → g ≡ quals.Gen q b → m ≡ p → x ≡ a

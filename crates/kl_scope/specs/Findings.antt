@@ -4,7 +4,7 @@ use Rattle.std.specs.List.{list_any}
 use Rattle.kl_syntax.specs.declared.tree.Meaning.{Meaning}
 use Rattle.kl_syntax.specs.declared.tree.Meaning.TheVariants.{Source}
 use Rattle.kl_syntax.specs.declared.tree.Word.{Word}
-use Rattle.kl_syntax.specs.Syntax.{Pat, catch, any, same, is, shape, variant, Pats, no_pats, pats, Exp, con, name, call, fields, inject, coll, comp, choice, bind, select, path, invert, minus, chain, Exps, no_exps, exps, Flds, no_flds, flds, Quals, no_quals, draw, test, Branches, no_branches, otherwise, branch, Steps, no_steps, step, Decls, no_decls, constant, function}
+use Rattle.kl_syntax.specs.Syntax.{Pat, catch, any, same, is, shape, variant, Pats, no_pats, pats, Exp, Const, name, Call, Rec, Inj, Coll, Comp, If, Let, Case, Path, Not, Neg, Chain, Exps, no_exps, exps, Flds, no_flds, flds, Quals, no_quals, draw, test, Branches, no_branches, otherwise, branch, Steps, no_steps, step, Decls, no_decls, constant, function}
 use Rattle.kl_scope.specs.declared.refusal.ScopeError.{ScopeError}
 use Rattle.kl_scope.specs.declared.refusal.ScopeError.TheVariants.{Unknown, Twice, Misapplied, Refutable}
 use Rattle.kl_scope.specs.declared.names.Sense.{Sense}
@@ -94,20 +94,20 @@ behind (test e qs) s = behind qs s
 
 abbrev mutual
   pub findings : Exp → Scope → List Finding
-  findings (con v) s = []
+  findings (Const v) s = []
   findings (name w) s = used (named s w.text) w 0
-  findings (call f es) s = used (called s f.text) f (count es) ++ findings_all es s
-  findings (fields fs) s = repeated [] (field_labels fs) ++ findings_fields fs s
-  findings (inject l e) s = findings e s
-  findings (coll k es) s = findings_all es s
-  findings (comp k e qs) s = findings_quals qs s ++ findings e (behind qs s)
-  findings (choice a b c) s = findings a s ++ (findings b s ++ findings c s)
-  findings (bind p a b) s = findings a s ++ (sure_findings p s ++ findings b (within p s))
-  findings (select e bs) s = findings e s ++ (repeated [] (branch_labels bs) ++ findings_branches bs s)
-  findings (path e ls) s = findings e s
-  findings (invert e) s = findings e s
-  findings (minus e) s = findings e s
-  findings (chain e ss) s = findings e s ++ findings_steps ss s
+  findings (Call f es) s = used (called s f.text) f (count es) ++ findings_all es s
+  findings (Rec fs) s = repeated [] (field_labels fs) ++ findings_fields fs s
+  findings (Inj l e) s = findings e s
+  findings (Coll k es) s = findings_all es s
+  findings (Comp k e qs) s = findings_quals qs s ++ findings e (behind qs s)
+  findings (If a b c) s = findings a s ++ (findings b s ++ findings c s)
+  findings (Let p a b) s = findings a s ++ (sure_findings p s ++ findings b (within p s))
+  findings (Case e bs) s = findings e s ++ (repeated [] (branch_labels bs) ++ findings_branches bs s)
+  findings (Path e ls) s = findings e s
+  findings (Not e) s = findings e s
+  findings (Neg e) s = findings e s
+  findings (Chain e ss) s = findings e s ++ findings_steps ss s
 
   pub findings_all : Exps → Scope → List Finding
   findings_all no_exps s = []

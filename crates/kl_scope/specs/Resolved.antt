@@ -1,7 +1,7 @@
 -- Trees whose names carry their meanings; all else is as it was.
 use Rattle.std.specs.Prelude.{true, false, Option, Some, None}
 use Rattle.kl_syntax.specs.declared.tree.Word.{Word}
-use Rattle.kl_syntax.specs.Syntax.{Pat, catch, any, same, is, shape, variant, Pats, no_pats, pats, Exp, con, name, call, fields, inject, coll, comp, choice, bind, select, path, invert, minus, chain, Exps, no_exps, exps, Flds, no_flds, flds, Quals, no_quals, draw, test, Branches, no_branches, otherwise, branch, Steps, no_steps, step, Decls, no_decls, constant, function}
+use Rattle.kl_syntax.specs.Syntax.{Pat, catch, any, same, is, shape, variant, Pats, no_pats, pats, Exp, Const, name, Call, Rec, Inj, Coll, Comp, If, Let, Case, Path, Not, Neg, Chain, Exps, no_exps, exps, Flds, no_flds, flds, Quals, no_quals, draw, test, Branches, no_branches, otherwise, branch, Steps, no_steps, step, Decls, no_decls, constant, function}
 use Rattle.kl_scope.specs.declared.names.Sense.{Sense}
 use Rattle.kl_scope.specs.Senses.{Scope, named, called, defined}
 use Rattle.kl_scope.specs.Patterns.{within}
@@ -27,20 +27,20 @@ abbrev mutual
 
 abbrev mutual
   pub resolved : Exp → Scope → Exp
-  resolved (con v) s = con v
+  resolved (Const v) s = Const v
   resolved (name w) s = name (meant (named s w.text) w)
-  resolved (call f es) s = call (meant (called s f.text) f) (resolved_all es s)
-  resolved (fields fs) s = fields (resolved_fields fs s)
-  resolved (inject l e) s = inject l (resolved e s)
-  resolved (coll k es) s = coll k (resolved_all es s)
-  resolved (comp k e qs) s = comp k (resolved e (behind qs s)) (resolved_quals qs s)
-  resolved (choice a b c) s = choice (resolved a s) (resolved b s) (resolved c s)
-  resolved (bind p a b) s = bind (resolved_pat p s) (resolved a s) (resolved b (within p s))
-  resolved (select e bs) s = select (resolved e s) (resolved_branches bs s)
-  resolved (path e ls) s = path (resolved e s) ls
-  resolved (invert e) s = invert (resolved e s)
-  resolved (minus e) s = minus (resolved e s)
-  resolved (chain e ss) s = chain (resolved e s) (resolved_steps ss s)
+  resolved (Call f es) s = Call (meant (called s f.text) f) (resolved_all es s)
+  resolved (Rec fs) s = Rec (resolved_fields fs s)
+  resolved (Inj l e) s = Inj l (resolved e s)
+  resolved (Coll k es) s = Coll k (resolved_all es s)
+  resolved (Comp k e qs) s = Comp k (resolved e (behind qs s)) (resolved_quals qs s)
+  resolved (If a b c) s = If (resolved a s) (resolved b s) (resolved c s)
+  resolved (Let p a b) s = Let (resolved_pat p s) (resolved a s) (resolved b (within p s))
+  resolved (Case e bs) s = Case (resolved e s) (resolved_branches bs s)
+  resolved (Path e ls) s = Path (resolved e s) ls
+  resolved (Not e) s = Not (resolved e s)
+  resolved (Neg e) s = Neg (resolved e s)
+  resolved (Chain e ss) s = Chain (resolved e s) (resolved_steps ss s)
 
   pub resolved_all : Exps → Scope → Exps
   resolved_all no_exps s = no_exps

@@ -5,7 +5,7 @@ use Rattle.kl_syntax.specs.declared.tree.Meaning.TheVariants.{Definition}
 use Rattle.kl_syntax.specs.declared.tree.Op.{Op}
 use Rattle.kl_syntax.specs.declared.tree.Op.TheVariants as op
 use Rattle.kl_syntax.specs.declared.tree.Word.{Word}
-use Rattle.kl_syntax.specs.Syntax.{Pat, catch, any, same, is, shape, variant, Pats, no_pats, pats, Exp, con, name, call, fields, inject, coll, comp, choice, bind, select, path, invert, minus, chain, Exps, no_exps, exps, Flds, no_flds, flds, Quals, no_quals, draw, test, Branches, no_branches, otherwise, branch, Steps, no_steps, step, Decls, no_decls, constant, function}
+use Rattle.kl_syntax.specs.Syntax.{Pat, catch, any, same, is, shape, variant, Pats, no_pats, pats, Exp, Const, name, Call, Rec, Inj, Coll, Comp, If, Let, Case, Path, Not, Neg, Chain, Exps, no_exps, exps, Flds, no_flds, flds, Quals, no_quals, draw, test, Branches, no_branches, otherwise, branch, Steps, no_steps, step, Decls, no_decls, constant, function}
 use Rattle.kl_scope.specs.declared.terms.Size.{Size}
 
 -- ---- terms, of which only nodes and depth are known
@@ -71,22 +71,22 @@ third _ = no_parts
 
 abbrev mutual
   pub sized : Exp → List Size → Size
-  sized (con v) ds = leaf
+  sized (Const v) ds = leaf
   sized (name w) ds = named w.means ds
   -- Let(x = the argument, the function's match), or Prim(code, the arguments)
-  sized (call f es) ds = node (beside (sized_all es ds) (callee f.means ds))
-  sized (fields fs) ds = node (sized_fields fs ds)
-  sized (inject l e) ds = node (sized e ds)
-  sized (coll k es) ds = node (sized_all es ds)
+  sized (Call f es) ds = node (beside (sized_all es ds) (callee f.means ds))
+  sized (Rec fs) ds = node (sized_fields fs ds)
+  sized (Inj l e) ds = node (sized e ds)
+  sized (Coll k es) ds = node (sized_all es ds)
   -- behind the last qualifier a collection of one item
-  sized (comp k e qs) ds = qualified qs (node (sized e ds)) ds
-  sized (choice a b c) ds = node (beside (sized a ds) (beside (sized b ds) (sized c ds)))
-  sized (bind p a b) ds = node (beside (sized a ds) (matched p leaf (sized b ds) ds))
-  sized (select e bs) ds = node (beside (sized e ds) (sized_branches bs ds))
-  sized (path e ls) ds = projected (sized e ds) ls
-  sized (invert e) ds = node (sized e ds)
-  sized (minus e) ds = node (sized e ds)
-  sized (chain e ss) ds = chained (sized e ds) ss ds
+  sized (Comp k e qs) ds = qualified qs (node (sized e ds)) ds
+  sized (If a b c) ds = node (beside (sized a ds) (beside (sized b ds) (sized c ds)))
+  sized (Let p a b) ds = node (beside (sized a ds) (matched p leaf (sized b ds) ds))
+  sized (Case e bs) ds = node (beside (sized e ds) (sized_branches bs ds))
+  sized (Path e ls) ds = projected (sized e ds) ls
+  sized (Not e) ds = node (sized e ds)
+  sized (Neg e) ds = node (sized e ds)
+  sized (Chain e ss) ds = chained (sized e ds) ss ds
 
   pub sized_all : Exps → List Size → Size
   sized_all no_exps ds = no_parts

@@ -1,7 +1,8 @@
 //! How large the core terms of a program are, counted without making them.
 ghost use Rattle.std.specs.Prelude.{◌≡◌, get_or, map, IfOk};
 ghost use Rattle.kl_syntax.specs.Syntax.{Quals, Branches};
-ghost use Rattle.kl_syntax.specs.View.{view, qual_view, branch_view, branches_of, rest_of, exps_view, fields_view, quals_view, steps_view, pattern_view, patterns_view};
+ghost use Rattle.kl_syntax.specs.View.{view, qual_view, branch_view, branches_of, rest_of, exps_view, fields_view, quals_view, steps_view};
+ghost use Rattle.kl_syntax.specs.View.{pattern_view, patterns_view};
 ghost use Rattle.kl_scope.specs.Caps.{capped, decl_size, Judges};
 ghost use Rattle.kl_scope.specs.Limits.{Tells, program_sizes};
 ghost use Rattle.kl_scope.specs.Sizes as size;
@@ -222,7 +223,8 @@ fn quals(quals: &[Qual], last: Size, known: &[Size]) -> Size
 
 #[cycle(expr)]
 fn qual(qual: &Qual, after: Size, known: &[Size]) -> Size
-    ensures { (rest : Quals) (last : Size) → after ≡ capped (size.qualified rest last known.now) → result ≡ capped (size.qualified (qual_view qual.now rest) last known.now) }
+    ensures { (rest : Quals) (last : Size) → after ≡ capped (size.qualified rest last known.now)
+        → result ≡ capped (size.qualified (qual_view qual.now rest) last known.now) }
 {
     match qual {
         Qual::Gen(pattern, e) => {
@@ -236,7 +238,8 @@ fn qual(qual: &Qual, after: Size, known: &[Size]) -> Size
 /// Branches before others.
 #[cycle(expr)]
 fn branches(branches: &[Branch], last: Size, known: &[Size]) -> Size
-    ensures { (rest : Branches) → last ≡ capped (sized_branches rest known.now) → result ≡ capped (sized_branches (branches_of (map branch_view branches.now) rest) known.now) }
+    ensures { (rest : Branches) → last ≡ capped (sized_branches rest known.now)
+        → result ≡ capped (sized_branches (branches_of (map branch_view branches.now) rest) known.now) }
 {
     let mut size = last;
     'branches: for i in (0..branches.len()).rev() {

@@ -121,7 +121,8 @@ impl Findings {
     // Finds the word where it is among those before it, and puts it there.
     fn look(&mut self, before: &mut BTreeSet<Label>, word: &Word) -> Result<(), NoMemory>
         ensures before { IfOk result (λ _. Updates bytes_cmp before.old before.new word.now.text true) }
-        ensures found { IfOk result (λ _. self.new ≡ gathered self.old (only_if (contains bytes_cmp before.old word.now.text) (breach (Twice word.now.text word.now.token)))) }
+        ensures found { IfOk result (λ _. self.new ≡ gathered self.old
+            (only_if (contains bytes_cmp before.old word.now.text) (breach (Twice word.now.text word.now.token)))) }
     {
         if before.insert(word.text.dup()?)? {
             Ok(())

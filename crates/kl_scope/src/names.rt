@@ -204,7 +204,8 @@ fn add_source(
     name: &Label,
     place: usize,
 ) -> Result<(), NoMemory>
-    ensures { IfOk result (λ _. (x : Name) → get bytes_cmp fixed.new x ≡ option_or (get bytes_cmp fixed.old x) (if bytes_eq name.now x then Some (sense.sense (Source place) 0) else None)) }
+    ensures { IfOk result (λ _. (x : Name) → get bytes_cmp fixed.new x ≡ option_or (get bytes_cmp fixed.old x)
+        (if bytes_eq name.now x then Some (sense.sense (Source place) 0) else None)) }
 {
     if fixed.get(name).is_some() {
         return Ok(());

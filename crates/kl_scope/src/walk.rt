@@ -1,11 +1,12 @@
 //! The walk through a program: it writes into each name what it means, and finds what breaks the rules.
 ghost use Rattle.std.specs.Prelude.{◌≡◌, [], IfOk};
-ghost use Rattle.kl_syntax.specs.Syntax.{call, fields};
+ghost use Rattle.kl_syntax.specs.Syntax.{Call, Rec};
 ghost use Rattle.kl_syntax.specs.View.{view, qual_view, branch_view, exps_view, fields_view, quals_view, steps_view, pattern_view, patterns_view};
 ghost use Rattle.kl_scope.specs.Findings.{taken, repeated};
 ghost use Rattle.kl_scope.specs.Patterns.{variables, within};
 ghost use Rattle.kl_scope.specs.Gathering.{gathered};
-ghost use Rattle.kl_scope.specs.Walks.{PatternWalk, PatternsWalk, DrawnWalk, SureWalk, ExprWalk, ItemsWalk, QualsWalk, QualFront, BranchesWalk, BranchFront, RestWalk, StepsWalk, DeclWalk, DeclsWalk, ProgramWalk, Whole};
+ghost use Rattle.kl_scope.specs.Walks.{PatternWalk, PatternsWalk, DrawnWalk, SureWalk, ExprWalk, ItemsWalk, QualsWalk, QualFront, BranchesWalk};
+ghost use Rattle.kl_scope.specs.Walks.{BranchFront, RestWalk, StepsWalk, DeclWalk, DeclsWalk, ProgramWalk, Whole};
 
 use crate::findings::Findings;
 use crate::names::Names;
@@ -149,7 +150,7 @@ impl Walk {
 
     #[cycle(walk)]
     fn call(&mut self, word: &mut Word, args: &mut Exprs) -> Result<(), NoMemory>
-        ensures { IfOk result (λ _. ExprWalk (call word.old (exps_view args.old)) (call word.new (exps_view args.new)) self.old self.new) }
+        ensures { IfOk result (λ _. ExprWalk (Call word.old (exps_view args.old)) (Call word.new (exps_view args.new)) self.old self.new) }
     {
         let sense = self.names.called(&word.text);
         self.findings.name(sense, word, args.slice().len())?;
@@ -159,7 +160,7 @@ impl Walk {
 
     #[cycle(walk)]
     fn record(&mut self, entries: &mut ExprFields) -> Result<(), NoMemory>
-        ensures { IfOk result (λ _. ExprWalk (fields (fields_view entries.old)) (fields (fields_view entries.new)) self.old self.new) }
+        ensures { IfOk result (λ _. ExprWalk (Rec (fields_view entries.old)) (Rec (fields_view entries.new)) self.old self.new) }
     {
         self.findings.labels(self.alloc, entries.slice())?;
         let entries = entries.slice_mut();

@@ -11,49 +11,49 @@ use Rattle.kl_syntax.specs.declared.tree.Pattern.TheVariants as code
 use Rattle.kl_syntax.specs.declared.tree.Qual.{Qual, the_lemmas as qual_lemmas}
 use Rattle.kl_syntax.specs.declared.tree.Qual.TheVariants as quals
 use Rattle.kl_syntax.specs.declared.tree.Word.{Word}
-use Rattle.kl_syntax.specs.Syntax.{Pat, shape, con, name, call, fields, inject, coll, comp, choice, bind, select, path, invert, minus, chain, Quals, draw, test, Branches, branch}
+use Rattle.kl_syntax.specs.Syntax.{Pat, shape, Const, name, Call, Rec, Inj, Coll, Comp, If, Let, Case, Path, Not, Neg, Chain, Quals, draw, test, Branches, branch}
 use Rattle.kl_syntax.specs.View.{view, qual_view, branch_view, branches_view, exps_view, fields_view, quals_view, steps_view, pattern_view, patterns_view}
 
-pub view_Const : (v : Value) → view (expr.Const v) ≡ con v
+pub view_Const : (v : Value) → view (expr.Const v) ≡ Const v
 view_Const v = search (rules, the_lemmas)
 
 pub view_Name : (x : Word) → view (expr.Name x) ≡ name x
 view_Name x = search (rules, the_lemmas)
 
-pub view_Call : (f : Word) (es : List Expr) → view (expr.Call f es) ≡ call f (exps_view es)
+pub view_Call : (f : Word) (es : List Expr) → view (expr.Call f es) ≡ Call f (exps_view es)
 view_Call f es = search (rules, the_lemmas)
 
-pub view_Rec : (fs : List (Word × Expr)) → view (expr.Rec fs) ≡ fields (fields_view fs)
+pub view_Rec : (fs : List (Word × Expr)) → view (expr.Rec fs) ≡ Rec (fields_view fs)
 view_Rec fs = search (rules, the_lemmas)
 
-pub view_Inj : (l : Word) (a : Expr) → view (expr.Inj l a) ≡ inject l (view a)
+pub view_Inj : (l : Word) (a : Expr) → view (expr.Inj l a) ≡ Inj l (view a)
 view_Inj l a = search (rules, the_lemmas)
 
-pub view_Coll : (k : Kind) (es : List Expr) → view (expr.Coll k es) ≡ coll k (exps_view es)
+pub view_Coll : (k : Kind) (es : List Expr) → view (expr.Coll k es) ≡ Coll k (exps_view es)
 view_Coll k es = search (rules, the_lemmas)
 
-pub view_Comp : (k : Kind) (e : Expr) (qs : List Qual) → view (expr.Comp k e qs) ≡ comp k (view e) (quals_view qs)
+pub view_Comp : (k : Kind) (e : Expr) (qs : List Qual) → view (expr.Comp k e qs) ≡ Comp k (view e) (quals_view qs)
 view_Comp k e qs = search (rules, the_lemmas)
 
-pub view_If : (a b c : Expr) → view (expr.If a b c) ≡ choice (view a) (view b) (view c)
+pub view_If : (a b c : Expr) → view (expr.If a b c) ≡ If (view a) (view b) (view c)
 view_If a b c = search (rules, the_lemmas)
 
-pub view_Let : (p : Pattern) (a b : Expr) → view (expr.Let p a b) ≡ bind (pattern_view p) (view a) (view b)
+pub view_Let : (p : Pattern) (a b : Expr) → view (expr.Let p a b) ≡ Let (pattern_view p) (view a) (view b)
 view_Let p a b = search (rules, the_lemmas)
 
-pub view_Case : (a : Expr) (bs : List Branch) (c : Option Expr) → view (expr.Case a bs c) ≡ select (view a) (branches_view bs c)
+pub view_Case : (a : Expr) (bs : List Branch) (c : Option Expr) → view (expr.Case a bs c) ≡ Case (view a) (branches_view bs c)
 view_Case a bs c = search (rules, the_lemmas)
 
-pub view_Path : (a : Expr) (ls : List Word) → view (expr.Path a ls) ≡ path (view a) ls
+pub view_Path : (a : Expr) (ls : List Word) → view (expr.Path a ls) ≡ Path (view a) ls
 view_Path a ls = search (rules, the_lemmas)
 
-pub view_Not : (a : Expr) → view (expr.Not a) ≡ invert (view a)
+pub view_Not : (a : Expr) → view (expr.Not a) ≡ Not (view a)
 view_Not a = search (rules, the_lemmas)
 
-pub view_Neg : (a : Expr) → view (expr.Neg a) ≡ minus (view a)
+pub view_Neg : (a : Expr) → view (expr.Neg a) ≡ Neg (view a)
 view_Neg a = search (rules, the_lemmas)
 
-pub view_Chain : (a : Expr) (ss : List (Op × Expr)) → view (expr.Chain a ss) ≡ chain (view a) (steps_view ss)
+pub view_Chain : (a : Expr) (ss : List (Op × Expr)) → view (expr.Chain a ss) ≡ Chain (view a) (steps_view ss)
 view_Chain a ss = search (rules, the_lemmas)
 
 pub view_Gen : (p : Pattern) (e : Expr) → qual_view (quals.Gen p e) ≡ draw (pattern_view p) (view e)

@@ -22,20 +22,20 @@ mutual
 
 mutual
   pub data Exp : Type 0 where
-    con : Value → Exp
+    Const : Value → Exp
     name : Word → Exp
-    call : Word → Exps → Exp
-    fields : Flds → Exp
-    inject : Word → Exp → Exp
-    coll : Kind → Exps → Exp
-    comp : Kind → Exp → Quals → Exp
-    choice : Exp → Exp → Exp → Exp
-    bind : Pat → Exp → Exp → Exp
-    select : Exp → Branches → Exp
-    path : Exp → List Word → Exp
-    invert : Exp → Exp
-    minus : Exp → Exp
-    chain : Exp → Steps → Exp
+    Call : Word → Exps → Exp
+    Rec : Flds → Exp
+    Inj : Word → Exp → Exp
+    Coll : Kind → Exps → Exp
+    Comp : Kind → Exp → Quals → Exp
+    If : Exp → Exp → Exp → Exp
+    Let : Pat → Exp → Exp → Exp
+    Case : Exp → Branches → Exp
+    Path : Exp → List Word → Exp
+    Not : Exp → Exp
+    Neg : Exp → Exp
+    Chain : Exp → Steps → Exp
 
   pub data Exps : Type 0 where
     no_exps : Exps

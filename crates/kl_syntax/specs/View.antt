@@ -9,7 +9,7 @@ use Rattle.kl_syntax.specs.declared.tree.Qual.{Qual, fold-Qual}
 use Rattle.kl_syntax.specs.declared.tree.Branch.{Branch, fold-Branch}
 use Rattle.kl_syntax.specs.declared.tree.Expr.TheOpen.{Expr-F, Qual-F, Branch-F}
 use Rattle.kl_syntax.specs.declared.tree.Decl.{Decl}
-use Rattle.kl_syntax.specs.Syntax.{Pat, catch, any, same, is, shape, variant, Pats, no_pats, pats, Exp, con, name, call, fields, inject, coll, comp, choice, bind, select, path, invert, minus, chain, Exps, no_exps, exps, Flds, no_flds, flds, Quals, no_quals, draw, test, Branches, no_branches, otherwise, branch, Steps, no_steps, step, Decls, no_decls, constant, function}
+use Rattle.kl_syntax.specs.Syntax.{Pat, catch, any, same, is, shape, variant, Pats, no_pats, pats, Exp, Const, name, Call, Rec, Inj, Coll, Comp, If, Let, Case, Path, Not, Neg, Chain, Exps, no_exps, exps, Flds, no_flds, flds, Quals, no_quals, draw, test, Branches, no_branches, otherwise, branch, Steps, no_steps, step, Decls, no_decls, constant, function}
 
 abbrev pub pats_of : List (Word × Pat) → Pats
 pats_of [] = no_pats
@@ -58,20 +58,20 @@ branches_of [] last = last
 branches_of (b ∷ bs) last = b (branches_of bs last)
 
 abbrev pub expr_layer : Expr-F Exp Front Arm → Exp
-expr_layer (Expr-F.Const v) = con v
+expr_layer (Expr-F.Const v) = Const v
 expr_layer (Expr-F.Name x) = name x
-expr_layer (Expr-F.Call f es) = call f (exps_of es)
-expr_layer (Expr-F.Rec fs) = fields (flds_of fs)
-expr_layer (Expr-F.Inj l a) = inject l a
-expr_layer (Expr-F.Coll k es) = coll k (exps_of es)
-expr_layer (Expr-F.Comp k e qs) = comp k e (quals_of qs)
-expr_layer (Expr-F.If a b c) = choice a b c
-expr_layer (Expr-F.Let p a b) = bind (pattern_view p) a b
-expr_layer (Expr-F.Case a bs c) = select a (branches_of bs (rest_of c))
-expr_layer (Expr-F.Path a ls) = path a ls
-expr_layer (Expr-F.Not a) = invert a
-expr_layer (Expr-F.Neg a) = minus a
-expr_layer (Expr-F.Chain a ss) = chain a (steps_of ss)
+expr_layer (Expr-F.Call f es) = Call f (exps_of es)
+expr_layer (Expr-F.Rec fs) = Rec (flds_of fs)
+expr_layer (Expr-F.Inj l a) = Inj l a
+expr_layer (Expr-F.Coll k es) = Coll k (exps_of es)
+expr_layer (Expr-F.Comp k e qs) = Comp k e (quals_of qs)
+expr_layer (Expr-F.If a b c) = If a b c
+expr_layer (Expr-F.Let p a b) = Let (pattern_view p) a b
+expr_layer (Expr-F.Case a bs c) = Case a (branches_of bs (rest_of c))
+expr_layer (Expr-F.Path a ls) = Path a ls
+expr_layer (Expr-F.Not a) = Not a
+expr_layer (Expr-F.Neg a) = Neg a
+expr_layer (Expr-F.Chain a ss) = Chain a (steps_of ss)
 
 abbrev pub qual_layer : Qual-F Exp Front Arm → Front
 qual_layer (Qual-F.Gen p e) = draw (pattern_view p) e

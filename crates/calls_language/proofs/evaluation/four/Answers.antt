@@ -1,5 +1,5 @@
 use Rattle.std.proofs.Common.{rules, ◌≡◌, pos, [], sym, subst}
-use Rattle.kl_core.specs.Trees.{view, con}
+use Rattle.kl_core.specs.Trees.{view, Const}
 use Rattle.kl_core.specs.Typing.{CoreTypes}
 use Rattle.kl_core.specs.declared.Term.{the_lemmas}
 use Rattle.kl_core.specs.declared.Term.TheVariants as term
@@ -12,7 +12,7 @@ use Rattle.kl_ask.specs.World.{types_of}
 use Rattle.calls_language.proofs.evaluation.four.Goals as goal
 use Rattle.kl_outcome.proofs.PrimLemmas.{has_int}
 
-view_Const : (v : Value) → view (term.Const v) ≡ con v
+view_Const : (v : Value) → view (term.Const v) ≡ Const v
 view_Const v = search (rules, the_lemmas)
 
 pub returns : goal.returns

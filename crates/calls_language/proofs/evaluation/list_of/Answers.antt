@@ -1,5 +1,5 @@
 use Rattle.std.proofs.Common.{◌≡◌, List, [], ◌∷◌, refl, sym, subst, ap, ◌∙◌}
-use Rattle.kl_core.specs.Trees.{view, make, trees_view, trees, no_trees}
+use Rattle.kl_core.specs.Trees.{view, Make, trees_view, trees, no_trees}
 use Rattle.kl_core.specs.Typing.{CoreTypes}
 use Rattle.kl_core.specs.declared.Term.{Term}
 use Rattle.kl_core.specs.declared.Term.TheVariants as term
@@ -10,8 +10,8 @@ use Rattle.kl_value.specs.declared.Kind.TheVariants as kind
 use Rattle.kl_ask.specs.World.{types_of}
 use Rattle.calls_language.proofs.evaluation.list_of.Goals as goal
 
-view_single : (x : Term) (ts : List Term) → ts ≡ x ∷ [] → view (term.Make kind.List ts) ≡ make kind.List (trees (view x) no_trees)
-view_single x ts is = view_Make kind.List ts ∙ ap (λ us. make kind.List (trees_view us)) is
+view_single : (x : Term) (ts : List Term) → ts ≡ x ∷ [] → view (term.Make kind.List ts) ≡ Make kind.List (trees (view x) no_trees)
+view_single x ts is = view_Make kind.List ts ∙ ap (λ us. Make kind.List (trees_view us)) is
 
 pub returns : goal.returns
 returns c env w is ready =

@@ -9,6 +9,6 @@ pub returns : goal.returns
 returns c =
     rw c.of.ensures
     (view_Rec _
-    ∙ ap (λ z. term.rec (term.parts_of z))
+    ∙ ap (λ z. term.Rec (term.parts_of z))
     (sorted_view _ _ (c.in_ok-sort_by.ensures.sorted below below_ranks (answers_always _ _ _ (λ f a r q k. search rules)))
     (c.in_ok-sort_by.ensures.stable below below_ranks (answers_always _ _ _ (λ f a r q k. search rules)))))
