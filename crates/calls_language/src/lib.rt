@@ -7,6 +7,8 @@
 #[cfg(test)]
 mod core_terms;
 #[cfg(test)]
+mod evaluation;
+#[cfg(test)]
 mod forms;
 #[cfg(test)]
 mod inference;

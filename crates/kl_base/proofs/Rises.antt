@@ -2,8 +2,5 @@
 use Rattle.std.proofs.Common.{ℕ, ◌≤◌, arith}
 use Rattle.kl_base.specs.Counts.{Rose}
 
-pub rose_before : (a b c : ℕ) → Rose a b → b ≤ c → Rose a c
-rose_before a b c rose later = omega (arith, rose, later)
-
 pub rose_after : (a b c : ℕ) → a ≤ b → Rose b c → Rose a c
 rose_after a b c later rose = omega (arith, rose, later)

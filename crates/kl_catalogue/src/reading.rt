@@ -25,7 +25,7 @@ use std::alloc::Global;
 use thiserror::Error;
 
 /// A source that a program may name.
-#[derive(Debug, Drop, PartialEq, Eq)]
+#[derive(Drop, PartialEq, Eq)]
 pub struct Entry {
     /// The name by which programs speak of it.
     pub name: Label,

@@ -1,5 +1,5 @@
 -- What holds of what was made of a part that may be wanting.
-use Rattle.std.proofs.Common.{◌≡◌, Result, Ok, Err, IfOk, sym, subst}
+use Rattle.std.proofs.Common.{Result, Ok, Err, IfOk, sym, subst}
 use Rattle.kl_base.specs.declared.NoMemory.{NoMemory}
 use Rattle.kl_core.specs.Building.{Makes}
 

@@ -1,10 +1,9 @@
 -- Each type of a term is proper.
-use Rattle.std.proofs.Common.{◌≡◌, Bool, true, false, cond, nat_eq, List, [], ◌∷◌, Some, IsSome, refl, sym, subst, ⊎_elim, Less}
-use Rattle.std.specs.Cmp.Lexicographic.{pointwise}
+use Rattle.std.proofs.Common.{◌≡◌, List, ◌∷◌, IsSome, refl, sym, subst, ⊎_elim, Less}
 use Rattle.std.specs.List.{AllByRecursion}
 use Rattle.std.specs.List.Sorted.{IsStrictlySortedBy}
 use Rattle.kl_base.specs.Fields.{bytes_cmp}
-use Rattle.kl_type.specs.Ground.{Ground, Row, rec as rec_type, var as var_type, coll, no_row, row, at, labels_in, IsBefore, IsGround, IsRow}
+use Rattle.kl_type.specs.Ground.{Ground, Row, rec as rec_type, var as var_type, no_row, row, at, labels_in, IsBefore, IsGround, IsRow}
 use Rattle.kl_type.proofs.RowLemmas.{same_label, told}
 use Rattle.kl_outcome.specs.Outcome.{Name}
 use Rattle.kl_outcome.proofs.Grounds.{at_ground, prim_ground}

@@ -1,10 +1,8 @@
 -- A record of fields of the types of a row.
-use Rattle.std.proofs.Common.{◌≡◌, ⊎_elim, List, refl, sym, subst, ◌∙◌, Less}
+use Rattle.std.proofs.Common.{List, refl}
 use Rattle.std.specs.List.{AllByRecursion}
-use Rattle.std.specs.List.Sorted.{IsStrictlySortedBy}
-use Rattle.kl_base.specs.Fields.{bytes_cmp, LabelsRise}
-use Rattle.kl_type.specs.Ground.{Ground, Row, no_row, row, IsBefore, IsRow, labels_in}
-use Rattle.kl_type.proofs.RowLemmas.{told, at_here, at_there, never_less}
+use Rattle.kl_base.specs.Fields.{LabelsRise}
+use Rattle.kl_type.specs.Ground.{Ground, Row, IsRow}
 use Rattle.kl_outcome.specs.Outcome.{Name}
 use Rattle.kl_meaning.proofs.Fields.{IsFieldOf, HasAll, along_row}
 use Rattle.kl_core.specs.Trees.{Tree, parts_of}

@@ -6,8 +6,10 @@ pub mod Fielding
 pub mod Fitting
 pub mod Law
 pub mod Matching
+pub mod Naming
 pub mod Ordered
 pub mod Positions
+pub mod Reaching
 pub mod Sense
 pub mod Tidying
 pub mod Views

@@ -14,17 +14,12 @@ use Rattle.kl_outcome.proofs.Refining.{Pairs}
 use Rattle.kl_meaning.specs.Run.{by_label, in_order}
 use Rattle.kl_core.specs.declared.term.Term.{Term}
 use Rattle.kl_core.specs.Trees.{view_part}
-use Rattle.kl_base.proofs.Orders.{tied}
+use Rattle.kl_base.proofs.Orders.{even_turned, tied, ties_of}
 
 neither : (o : Ordering) → is_gt o ≡ false → is_gt (ordering_reverse o) ≡ false → is_eq o ≡ true
 neither Less h k = absurd (true≢false k)
 neither Equal h k = refl
 neither Greater h k = absurd (true≢false h)
-
-ties_of : (o : Ordering) → not (is_lt o) && not (is_lt (ordering_reverse o)) ≡ is_eq o
-ties_of Less = refl
-ties_of Equal = refl
-ties_of Greater = refl
 
 abbrev head_or : {K : Type 0} → K → List K → K
 head_or d [] = d
@@ -88,17 +83,12 @@ module _ {K : Type 0} (R : K → K → Ordering) (total : IsTotalOrder R) where
   tied_heads : (x y : K) (xs ys : List K) → IsRising R (x ∷ xs) → IsRising R (y ∷ ys) → ((q : K) → alike q (x ∷ xs) ≡ alike q (y ∷ ys)) → (b : Bool) → is_eq (R x y) ≡ b → is_eq (R x y) ≡ true
   tied_heads x y xs ys up vp same true e = e
   tied_heads x y xs ys up vp same false e =
-      let other : is_eq (R y x) ≡ false = ap is_eq (total.antisymm y x) ∙ turned (R x y) ∙ e in
+      let other : is_eq (R y x) ≡ false = ap is_eq (total.antisymm y x) ∙ even_turned (R x y) ∙ e in
       let in_ys : x ∷ alike x xs ≡ alike x ys = sym (starts x xs) ∙ same x ∙ ap (λ b. cond b (y ∷ alike x ys) (alike x ys)) e in
       let in_xs : y ∷ alike y ys ≡ alike y xs = sym (starts y ys) ∙ sym (same y) ∙ ap (λ b. cond b (x ∷ alike y xs) (alike y xs)) other in
       let yx : is_gt (R y x) ≡ false = first_has (λ z. is_gt (R y z) ≡ false) x x _ ys in_ys vp.0 in
       let xy : is_gt (R x y) ≡ false = first_has (λ z. is_gt (R x z) ≡ false) y y _ xs in_xs up.0 in
       neither (R x y) xy (ap is_gt (sym (total.antisymm y x)) ∙ yx)
-    where
-      turned : (o : Ordering) → is_eq (ordering_reverse o) ≡ is_eq o
-      turned Less = refl
-      turned Equal = refl
-      turned Greater = refl
 
   -- two rising lists in which those that tie stand in one order are one
   same_from_alike : (xs ys : List K) → IsRising R xs → IsRising R ys → ((q : K) → alike q xs ≡ alike q ys) → xs ≡ ys

@@ -4,3 +4,4 @@ pub mod Opening
 pub mod States
 pub mod Sense
 pub mod Small
+pub mod Reached

@@ -1,4 +1,5 @@
 -- What qualifiers ask.
+-- No public contract cites this.
 use Rattle.std.specs.Prelude.{◌≡◌, List, ◌++◌}
 use Rattle.kl_value.specs.declared.Kind.{Kind}
 use Rattle.kl_syntax.specs.Syntax.{Quals}

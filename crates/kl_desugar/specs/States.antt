@@ -1,4 +1,5 @@
 -- What the code's own types stand for.
+-- No public contract cites this.
 use Rattle.std.specs.Prelude.{◌≡◌, Bool, List, [], ◌∷◌, ◌++◌, cond, map}
 use Rattle.kl_outcome.specs.Outcome.{Name}
 use Rattle.kl_syntax.specs.declared.tree.Branch.{Branch, out-Branch}

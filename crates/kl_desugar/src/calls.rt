@@ -54,50 +54,45 @@ fn truth(alloc: Global, b: bool) -> Result<Box<Term>, NoMemory>
     Box::new(alloc, Term::Const(Value::Bool(b)))
 }
 
-fn both(alloc: Global, a: Term, b: Term) -> Result<Term, NoMemory>
+fn both(alloc: Global, a: Box<Term>, b: Box<Term>) -> Result<Box<Term>, NoMemory>
     ensures { IfOk result (λ t. term.view t ≡ term.choice (term.view a) (term.view b) (term.con (Value.Bool false))) }
 {
     let other = truth(alloc, false)?;
-    let a = Box::new(alloc, a)?;
-    Ok(Term::If(a, Box::new(alloc, b)?, other))
+    Box::new(alloc, Term::If(a, b, other))
 }
 
-fn either(alloc: Global, a: Term, b: Term) -> Result<Term, NoMemory>
+fn either(alloc: Global, a: Box<Term>, b: Box<Term>) -> Result<Box<Term>, NoMemory>
     ensures { IfOk result (λ t. term.view t ≡ term.choice (term.view a) (term.con (Value.Bool true)) (term.view b)) }
 {
-    let a = Box::new(alloc, a)?;
-    let b = Box::new(alloc, b)?;
     let other = truth(alloc, true)?;
-    Ok(Term::If(a, other, b))
-}
-
-fn union(alloc: Global, a: Term, b: Term) -> Result<Term, NoMemory>
-    ensures { IfOk result (λ t. term.view t ≡ term.union (term.view a) (term.view b)) }
-{
-    let a = Box::new(alloc, a)?;
-    Ok(Term::Union(a, Box::new(alloc, b)?))
+    Box::new(alloc, Term::If(a, other, b))
 }
 
 /// A step of a chain.
-pub(crate) fn operate(alloc: Global, op: Op, a: Term, b: Term) -> Result<Term, NoMemory>
+pub(crate) fn operate(
+    alloc: Global,
+    op: Op,
+    a: Box<Term>,
+    b: Box<Term>,
+) -> Result<Box<Term>, NoMemory>
     ensures { IfOk result (λ t. term.view t ≡ operated_tree op (term.view a) (term.view b)) }
 {
     match op {
         Op::And => both(alloc, a, b),
         Op::Or => either(alloc, a, b),
-        Op::Append => union(alloc, a, b),
+        Op::Append => Box::new(alloc, Term::Union(a, b)),
         _ => two(alloc, code_of(op), a, b),
     }
 }
 
 /// Fields one after the other.
-pub(crate) fn project(alloc: Global, words: &[Word], a: Term) -> Result<Term, NoMemory>
+pub(crate) fn project(alloc: Global, words: &[Word], a: Box<Term>) -> Result<Box<Term>, NoMemory>
     ensures { IfOk result (λ t. term.view t ≡ projected words.now (term.view a)) }
 {
     let mut term = a;
     'words: for word in words {
         let label = word.text.dup()?;
-        term = Term::Proj(label, Box::new(alloc, term)?);
+        term = Box::new(alloc, Term::Proj(label, term))?;
     }
     Ok(term)
 }

@@ -7,7 +7,7 @@ ghost use Rattle.kl_desugar.specs.States.{codes_of, found_code};
 
 use crate::scope::{Slot, at_level, level};
 use crate::terms::no_sense;
-use kl_base::{Label, NoMemory};
+use kl_base::{Box, Label, NoMemory};
 use kl_core::Term;
 use kl_meaning::code_named;
 use std::alloc::Global;
@@ -99,4 +99,17 @@ pub(crate) fn name_term(
         Found::Source(number) => Ok(Term::Source(number)),
         _ => Ok(no_sense(alloc)),
     }
+}
+
+/// The same, on the heap.
+pub(crate) fn name_box(
+    alloc: Global,
+    codes: &Codes,
+    outer: &[Slot],
+    name: &Label,
+    count: usize,
+) -> Result<Box<Term>, NoMemory>
+    ensures { IfOk result (λ t. view t ≡ name_tree (codes_of codes.now) outer.now name.now count) }
+{
+    Box::new(alloc, name_term(alloc, codes, outer, name, count)?)
 }

@@ -2,8 +2,8 @@
 ghost use Rattle.std.specs.Prelude.{◌≡◌, ◌∷◌, [], ◌++◌, length, map, IfOk};
 ghost use Rattle.std.specs.Option.{option_map};
 ghost use Rattle.kl_meaning.specs.Run.{in_order};
-ghost use Rattle.kl_syntax.specs.Syntax.{no_quals};
-ghost use Rattle.kl_syntax.specs.View.{pattern_view, qual_view, view, rest_of, quals_view, steps_view};
+ghost use Rattle.kl_syntax.specs.Syntax.{no_quals, call as called, inject};
+ghost use Rattle.kl_syntax.specs.View.{pattern_view, qual_view, view, rest_of, exps_view, quals_view, steps_view};
 ghost use Rattle.kl_core.specs.Trees as term;
 ghost use Rattle.kl_core.specs.Trees.{view_part};
 ghost use Rattle.kl_desugar.specs.Translation.{tree, tree_steps, tree_branches, matched_here, no_sense};
@@ -13,36 +13,40 @@ ghost use Rattle.kl_desugar.specs.Opening.{OpensQuals};
 
 use crate::calls::{call, operate, project};
 use crate::codes::{Codes, name_term};
-use crate::layers::{Layer, ask, enter, wrap};
+use crate::layers::{Entered, Layer, ask, enter, wrap};
 use crate::scope::{Place, Slot, copy};
 use kl_base::{Box, Label, NoMemory, Seq};
 use kl_core::Term;
-use kl_syntax::{Branch, Expr, Op, Pattern, Qual, Word};
+use kl_syntax::{Branch, Expr, Exprs, Op, Pattern, Qual, Word};
 use kl_value::{Kind, dup as dup_value};
 use std::alloc::Global;
 
 #[tactic(auto, using(kl_core::proofs::Views::view_Make))]
-fn made(alloc: Global, kind: Kind, head: Term) -> Result<Term, NoMemory>
+fn made(alloc: Global, kind: Kind, head: Box<Term>) -> Result<Box<Term>, NoMemory>
     ensures { IfOk result (λ t. term.view t ≡ term.make kind (term.trees (term.view head) term.no_trees)) }
 {
-    let mut items = Vec::new(alloc);
-    items.push(head)?;
-    Ok(Term::Make(kind, Seq::of(items)))
+    let items = vec![in alloc; head.into_inner()]?;
+    Box::new(alloc, Term::Make(kind, Seq::of(items)))
 }
 
-fn comprehended(alloc: Global, kind: Kind, layers: Vec<Layer>, head: Term) -> Result<Term, NoMemory>
-    ensures { IfOk result (λ t. term.view t ≡ wrapped (missed (Some kind)) (layers_view layers.items) (term.make kind (term.trees (term.view head) term.no_trees))) }
+fn comprehended(
+    alloc: Global,
+    kind: Kind,
+    layers: Vec<Layer>,
+    head: Box<Term>,
+) -> Result<Term, NoMemory>
+    ensures { IfOk result (λ t. term.view t
+        ≡ wrapped (missed (Some kind)) (layers_view layers.items) (term.make kind (term.trees (term.view head) term.no_trees))) }
 {
     let head = made(alloc, kind, head)?;
-    wrap(alloc, layers, Some(kind), head)
+    Ok(wrap(alloc, layers, Some(kind), head)?.into_inner())
 }
 
 #[tactic(auto, using(kl_core::proofs::Views::view_Prim))]
-fn one(alloc: Global, code: u8, a: Term) -> Result<Term, NoMemory>
+fn one(alloc: Global, code: u8, a: Box<Term>) -> Result<Term, NoMemory>
     ensures { IfOk result (λ t. term.view t ≡ term.prim code (term.trees (term.view a) term.no_trees)) }
 {
-    let mut args = Vec::new(alloc);
-    args.push(a)?;
+    let args = vec![in alloc; a.into_inner()]?;
     Ok(Term::Prim(code, Seq::of(args)))
 }
 
@@ -57,7 +61,6 @@ fn record(fields: Vec<(Label, Term)>) -> Result<Term, NoMemory>
 
 /// The term of an expression.
 #[cycle(tree)]
-#[tactic(auto, using(crate::proofs::Arms::coll_is, crate::proofs::Arms::comp_is, crate::proofs::Arms::let_is, kl_syntax::proofs::Views::view_Name, kl_syntax::proofs::Views::view_Not, kl_syntax::proofs::Views::view_Neg, crate::proofs::Arms::call_is, crate::proofs::Arms::inj_is, crate::proofs::Arms::path_is, crate::proofs::Arms::chain_is, crate::proofs::Arms::case_is, crate::proofs::Arms::within_is))]
 pub(crate) fn tree(alloc: Global, e: &Expr, codes: &Codes, scope: &[Slot]) -> Result<Term, NoMemory>
     ensures { IfOk result (λ t. term.view t ≡ tree (view e.now) (codes_of codes.now) scope.now) }
 {
@@ -69,61 +72,76 @@ pub(crate) fn tree(alloc: Global, e: &Expr, codes: &Codes, scope: &[Slot]) -> Re
             Ok(Term::Make(*kind, Seq::of(items)))
         }
         Expr::Comp(kind, head, quals) => {
-            let mut inner = copy(alloc, scope)?;
-            let mut layers = Vec::new(alloc);
-            tree_quals(alloc, quals.slice(), *kind, codes, &mut inner, &mut layers)?;
-            let head = tree(alloc, head.get(), codes, &inner)?;
-            comprehended(alloc, *kind, layers, head)
+            let opened = tree_opened(alloc, quals.slice(), *kind, codes, scope)?;
+            let head = tree_box(alloc, head.get(), codes, &opened.scope)?;
+            comprehended(alloc, *kind, opened.layers, head)
         }
         Expr::If(a, b, c) => {
-            let a = tree_box(alloc, a, codes, scope)?;
-            let b = tree_box(alloc, b, codes, scope)?;
-            Ok(Term::If(a, b, tree_box(alloc, c, codes, scope)?))
+            let a = tree_box(alloc, a.get(), codes, scope)?;
+            let b = tree_box(alloc, b.get(), codes, scope)?;
+            Ok(Term::If(a, b, tree_box(alloc, c.get(), codes, scope)?))
         }
-        Expr::Let(p, a, b) => {
-            let body = tree_within(alloc, b.get(), p, codes, scope)?;
-            let bound = tree_box(alloc, a, codes, scope)?;
-            Ok(Term::Let(bound, Box::new(alloc, body)?))
+        Expr::Let(pattern, a, b) => {
+            let body = tree_within(alloc, b.get(), pattern, codes, scope)?;
+            let bound = tree_box(alloc, a.get(), codes, scope)?;
+            Ok(Term::Let(bound, body))
         }
-        Expr::Not(a) => one(alloc, 11, tree(alloc, a.get(), codes, scope)?),
-        Expr::Neg(a) => one(alloc, 10, tree(alloc, a.get(), codes, scope)?),
-        Expr::Call(word, args) => {
-            let args = tree_all(alloc, args.slice(), codes, scope)?;
-            call(alloc, codes, &word.text, args)
-        }
-        Expr::Inj(word, a) => {
-            let a = tree_box(alloc, a, codes, scope)?;
-            let label = word.text.dup()?;
-            Ok(Term::Inj(label, a))
-        }
+        Expr::Not(a) => one(alloc, 11, tree_box(alloc, a.get(), codes, scope)?),
+        Expr::Neg(a) => one(alloc, 10, tree_box(alloc, a.get(), codes, scope)?),
+        Expr::Call(word, args) => tree_call(alloc, word, args, codes, scope),
+        Expr::Inj(word, a) => tree_inj(alloc, word, a, codes, scope),
         Expr::Path(a, words) => {
-            let a = tree(alloc, a.get(), codes, scope)?;
-            project(alloc, words.slice(), a)
+            let a = tree_box(alloc, a.get(), codes, scope)?;
+            Ok(project(alloc, words.slice(), a)?.into_inner())
         }
         Expr::Chain(a, steps) => {
-            let a = tree(alloc, a.get(), codes, scope)?;
-            tree_steps(alloc, steps.slice(), a, codes, scope)
+            let a = tree_box(alloc, a.get(), codes, scope)?;
+            Ok(tree_steps(alloc, steps.slice(), a, codes, scope)?.into_inner())
         }
         Expr::Rec(fields) => record(tree_fields(alloc, fields.slice(), codes, scope)?),
         Expr::Case(a, branches, other) => {
             let other = tree_other(alloc, other, codes, scope)?;
+            let a = tree_box(alloc, a.get(), codes, scope)?;
             let branches = tree_branches(alloc, branches.slice(), codes, scope)?;
-            let a = tree_box(alloc, a, codes, scope)?;
             Ok(Term::Case(a, Seq::of(branches), other))
         }
     }
 }
 
 #[cycle(tree)]
-fn tree_box(
-    alloc: Global,
-    e: &Box<Expr>,
-    codes: &Codes,
-    scope: &[Slot],
-) -> Result<Box<Term>, NoMemory>
+fn tree_box(alloc: Global, e: &Expr, codes: &Codes, scope: &[Slot]) -> Result<Box<Term>, NoMemory>
     ensures { IfOk result (λ t. term.view t ≡ tree (view e.now) (codes_of codes.now) scope.now) }
 {
-    Box::new(alloc, tree(alloc, e.get(), codes, scope)?)
+    Box::new(alloc, tree(alloc, e, codes, scope)?)
+}
+
+#[cycle(tree)]
+fn tree_call(
+    alloc: Global,
+    word: &Word,
+    args: &Exprs,
+    codes: &Codes,
+    scope: &[Slot],
+) -> Result<Term, NoMemory>
+    ensures { IfOk result (λ t. term.view t ≡ tree (called word.now (exps_view args.now)) (codes_of codes.now) scope.now) }
+{
+    let args = tree_all(alloc, args.slice(), codes, scope)?;
+    call(alloc, codes, &word.text, args)
+}
+
+#[cycle(tree)]
+fn tree_inj(
+    alloc: Global,
+    word: &Word,
+    a: &Box<Expr>,
+    codes: &Codes,
+    scope: &[Slot],
+) -> Result<Term, NoMemory>
+    ensures { IfOk result (λ t. term.view t ≡ tree (inject word.now (view a.now)) (codes_of codes.now) scope.now) }
+{
+    let a = tree_box(alloc, a.get(), codes, scope)?;
+    let label = word.text.dup()?;
+    Ok(Term::Inj(label, a))
 }
 
 #[cycle(tree)]
@@ -167,11 +185,12 @@ pub(crate) fn tree_within(
     pattern: &Pattern,
     codes: &Codes,
     scope: &[Slot],
-) -> Result<Term, NoMemory>
-    ensures { IfOk result (λ t. term.view t ≡ matched_here (pattern_view pattern.now) (codes_of codes.now) scope.now no_sense (λ R. tree (view body.now) (codes_of codes.now) R)) }
+) -> Result<Box<Term>, NoMemory>
+    ensures { IfOk result (λ t. term.view t
+        ≡ matched_here (pattern_view pattern.now) (codes_of codes.now) scope.now no_sense (λ R. tree (view body.now) (codes_of codes.now) R)) }
 {
     let entered = enter(alloc, pattern, codes, scope)?;
-    let body = tree(alloc, body, codes, &entered.scope)?;
+    let body = tree_box(alloc, body, codes, &entered.scope)?;
     wrap(alloc, entered.layers, None, body)
 }
 
@@ -187,10 +206,8 @@ fn tree_branches(
     let mut terms = Vec::with_capacity(alloc, branches.len())?;
     for branch in branches {
         let label = branch.label.text.dup()?;
-        terms.push((
-            label,
-            tree_within(alloc, &branch.body, &branch.pat, codes, scope)?,
-        ))?;
+        let body = tree_within(alloc, &branch.body, &branch.pat, codes, scope)?;
+        terms.push((label, body.into_inner()))?;
     }
     Ok(terms)
 }
@@ -205,7 +222,7 @@ fn tree_other(
     ensures { IfOk result (λ t. term.rest_of (option_map term.view t) ≡ tree_branches (rest_of (option_map view other.now)) (codes_of codes.now) scope.now) }
 {
     match other {
-        Some(other) => Ok(Some(Box::new(alloc, tree(alloc, other.get(), codes, scope)?)?)),
+        Some(other) => Ok(Some(tree_box(alloc, other.get(), codes, scope)?)),
         None => Ok(None),
     }
 }
@@ -214,18 +231,35 @@ fn tree_other(
 fn tree_steps(
     alloc: Global,
     steps: &[(Op, Expr)],
-    first: Term,
+    first: Box<Term>,
     codes: &Codes,
     scope: &[Slot],
-) -> Result<Term, NoMemory>
+) -> Result<Box<Term>, NoMemory>
     ensures { IfOk result (λ t. term.view t ≡ tree_steps (steps_view steps.now) (term.view first) (codes_of codes.now) scope.now) }
 {
     let mut term = first;
     for step in steps {
-        let right = tree(alloc, &step.1, codes, scope)?;
+        let right = tree_box(alloc, &step.1, codes, scope)?;
         term = operate(alloc, step.0, term, right)?;
     }
     Ok(term)
+}
+
+/// The scope and the layers of qualifiers.
+#[cycle(tree)]
+fn tree_opened(
+    alloc: Global,
+    quals: &[Qual],
+    kind: Kind,
+    codes: &Codes,
+    outer: &[Slot],
+) -> Result<Entered, NoMemory>
+    ensures { IfOk result (λ e. OpensQuals (quals_view quals.now) kind (codes_of codes.now) outer.now e.scope.items [] (layers_view e.layers.items)) }
+{
+    let mut scope = copy(alloc, outer)?;
+    let mut layers = Vec::new(alloc);
+    tree_quals(alloc, quals, kind, codes, &mut scope, &mut layers)?;
+    Ok(Entered { scope, layers })
 }
 
 #[cycle(tree)]
@@ -237,7 +271,8 @@ fn tree_quals(
     scope: &mut Vec<Slot>,
     layers: &mut Vec<Layer>,
 ) -> Result<(), NoMemory>
-    ensures { IfOk result (λ _. OpensQuals (quals_view quals.now) kind (codes_of codes.now) scope.old.items scope.new.items (layers_view layers.old.items) (layers_view layers.new.items)) }
+    ensures { IfOk result (λ _. OpensQuals (quals_view quals.now) kind (codes_of codes.now) scope.old.items scope.new.items
+        (layers_view layers.old.items) (layers_view layers.new.items)) }
 {
     for qual in quals {
         tree_qual(alloc, qual, kind, codes, scope, layers)?;
@@ -254,11 +289,12 @@ fn tree_qual(
     scope: &mut Vec<Slot>,
     layers: &mut Vec<Layer>,
 ) -> Result<(), NoMemory>
-    ensures { IfOk result (λ _. OpensQuals (qual_view qual.now no_quals) kind (codes_of codes.now) scope.old.items scope.new.items (layers_view layers.old.items) (layers_view layers.new.items)) }
+    ensures { IfOk result (λ _. OpensQuals (qual_view qual.now no_quals) kind (codes_of codes.now)
+        scope.old.items scope.new.items (layers_view layers.old.items) (layers_view layers.new.items)) }
 {
     match qual {
         Qual::Gen(pattern, source) => {
-            let source = tree(alloc, source, codes, &*scope)?;
+            let source = tree_box(alloc, source, codes, &*scope)?;
             layers.push(Layer::Drawn(kind, source))?;
             let level = scope.len();
             let outer = copy(alloc, &*scope)?;
@@ -274,7 +310,7 @@ fn tree_qual(
             )
         }
         Qual::Cond(test) => {
-            let test = tree(alloc, test, codes, &*scope)?;
+            let test = tree_box(alloc, test, codes, &*scope)?;
             layers.push(Layer::Guard(test))?;
             Ok(())
         }

@@ -16,9 +16,10 @@ pub fn translation_laws()
     ensures { (ds : Decls) (e : Exp) (sources : List Name) → Means ds e sources (term_of ds e sources) }
 {}
 
-/// The laws of sense: a program that is in scope is tidy, and the term of a tidy program has, as a term, each type that
-/// the program has.
+/// The laws of sense: a program that is in scope is tidy, and the term of a tidy program has, over sources of the
+/// language's types, each type that the program has.
 pub fn sense_laws()
-    ensures tidy { (p : Program) (sources : List Name) (s : Scoped) → Resolves p sources s → IsTidyProgram (decls_of s.program.defs) (view s.program.last) }
+    ensures tidy { (p : Program) (sources : List Name) (s : Scoped) → Resolves p sources s
+        → IsTidyProgram (decls_of s.program.defs) (view s.program.last) }
     ensures makes_sense { (ds : Decls) (e : Exp) (sources : List (Name × Ground)) → MakesSense ds e sources }
 {}

@@ -3,30 +3,30 @@ ghost use Rattle.std.specs.Prelude.{◌≡◌, ◌∷◌, [], ◌++◌, length, 
 ghost use Rattle.kl_core.specs.Trees.{view};
 ghost use Rattle.kl_core.specs.Trees as term;
 ghost use Rattle.kl_syntax.specs.View.{pattern_view};
-ghost use Rattle.kl_desugar.specs.Translation.{here};
-ghost use Rattle.kl_desugar.specs.Layers.{missed, wrap_one, wrapped, equals, after_pat, pat_layers};
+ghost use Rattle.kl_desugar.specs.Translation.{here, place_tree};
+ghost use Rattle.kl_desugar.specs.Layers.{bound, opened, missed, wrap_one, wrapped, equals, after_pat, pat_layers};
 ghost use Rattle.kl_desugar.specs.States.{layer_view, layers_view, place_view, codes_of, AsksPattern};
 
-use crate::codes::{Codes, name_term};
+use crate::codes::{Codes, name_box};
 use crate::scope::{Place, Slot, copy, place_term};
-use crate::terms::{no_sense, two};
+use crate::terms::{constant_box, no_sense, two};
 use kl_base::{Box, Label, NoMemory, Seq};
 use kl_core::Term;
 use kl_syntax::{Pattern, Word};
-use kl_value::{Kind, dup as dup_value};
+use kl_value::Kind;
 use std::alloc::Global;
 
 /// One layer.
 #[derive(Drop)]
 pub(crate) enum Layer {
     /// The value of a term, bound.
-    Bound(Term),
+    Bound(Box<Term>),
     /// A condition, without which nothing fits.
-    Guard(Term),
+    Guard(Box<Term>),
     /// The value under the label of a variant, bound; nothing fits another label.
-    Opened(Term, Label),
+    Opened(Box<Term>, Label),
     /// Each item of a source, bound.
-    Drawn(Kind, Term),
+    Drawn(Kind, Box<Term>),
 }
 
 // What stands where nothing fits.
@@ -39,65 +39,59 @@ fn missed(alloc: Global, at: Option<Kind>) -> Result<Term, NoMemory>
     }
 }
 
-fn bind(alloc: Global, bound: Term, body: Term) -> Result<Term, NoMemory>
-    ensures { IfOk result (λ t. view t ≡ term.bind (view bound) (view body)) }
-{
-    let bound = Box::new(alloc, bound)?;
-    Ok(Term::Let(bound, Box::new(alloc, body)?))
-}
-
-fn draw(alloc: Global, kind: Kind, source: Term, body: Term) -> Result<Term, NoMemory>
-    ensures { IfOk result (λ t. view t ≡ term.ext kind (view body) (view source)) }
-{
-    let body = Box::new(alloc, body)?;
-    Ok(Term::Ext(kind, body, Box::new(alloc, source)?))
-}
-
 fn missed_box(alloc: Global, at: Option<Kind>) -> Result<Box<Term>, NoMemory>
     ensures { IfOk result (λ t. view t ≡ missed at) }
 {
     Box::new(alloc, missed(alloc, at)?)
 }
 
-fn choose(alloc: Global, test: Term, body: Term, at: Option<Kind>) -> Result<Term, NoMemory>
+fn choose(
+    alloc: Global,
+    test: Box<Term>,
+    body: Box<Term>,
+    at: Option<Kind>,
+) -> Result<Box<Term>, NoMemory>
     ensures { IfOk result (λ t. view t ≡ term.choice (view test) (view body) (missed at)) }
 {
-    let test = Box::new(alloc, test)?;
-    let body = Box::new(alloc, body)?;
-    Ok(Term::If(test, body, missed_box(alloc, at)?))
+    let other = missed_box(alloc, at)?;
+    Box::new(alloc, Term::If(test, body, other))
 }
 
-fn one_arm(alloc: Global, label: Label, body: Term) -> Result<Seq<(Label, Term)>, NoMemory>
+fn one_arm(alloc: Global, label: Label, body: Box<Term>) -> Result<Seq<(Label, Term)>, NoMemory>
     ensures { IfOk result (λ arms. arms ≡ (label, body) ∷ []) }
 {
-    let mut arms = Vec::new(alloc);
-    arms.push((label, body))?;
+    let arms = vec![in alloc; (label, body.into_inner())]?;
     Ok(Seq::of(arms))
 }
 
 #[tactic(auto, using(crate::proofs::Views::open_is))]
 fn open(
     alloc: Global,
-    subject: Term,
+    subject: Box<Term>,
     label: Label,
-    body: Term,
+    body: Box<Term>,
     at: Option<Kind>,
-) -> Result<Term, NoMemory>
+) -> Result<Box<Term>, NoMemory>
     ensures { IfOk result (λ t. view t ≡ term.case_of (view subject) (term.arm label (view body) (term.rest (missed at)))) }
 {
-    let subject = Box::new(alloc, subject)?;
+    let other = missed_box(alloc, at)?;
     let arms = one_arm(alloc, label, body)?;
-    Ok(Term::Case(subject, arms, Some(missed_box(alloc, at)?)))
+    Box::new(alloc, Term::Case(subject, arms, Some(other)))
 }
 
-fn wrap_one(alloc: Global, layer: Layer, at: Option<Kind>, body: Term) -> Result<Term, NoMemory>
+fn wrap_one(
+    alloc: Global,
+    layer: Layer,
+    at: Option<Kind>,
+    body: Box<Term>,
+) -> Result<Box<Term>, NoMemory>
     ensures { IfOk result (λ t. view t ≡ wrap_one (missed at) (layer_view layer) (view body)) }
 {
     match layer {
-        Layer::Bound(bound) => bind(alloc, bound, body),
+        Layer::Bound(bound) => Box::new(alloc, Term::Let(bound, body)),
         Layer::Guard(test) => choose(alloc, test, body, at),
         Layer::Opened(subject, label) => open(alloc, subject, label, body, at),
-        Layer::Drawn(kind, source) => draw(alloc, kind, source, body),
+        Layer::Drawn(kind, source) => Box::new(alloc, Term::Ext(kind, body, source)),
     }
 }
 
@@ -107,8 +101,8 @@ pub(crate) fn wrap(
     alloc: Global,
     layers: Vec<Layer>,
     at: Option<Kind>,
-    body: Term,
-) -> Result<Term, NoMemory>
+    body: Box<Term>,
+) -> Result<Box<Term>, NoMemory>
     ensures { IfOk result (λ t. view t ≡ wrapped (missed at) (layers_view layers.items) (view body)) }
 {
     let mut layers = layers;
@@ -119,10 +113,58 @@ pub(crate) fn wrap(
     Ok(term)
 }
 
-fn equals(alloc: Global, a: Term, b: Term) -> Result<Layer, NoMemory>
-    ensures { IfOk result (λ l. layer_view l ≡ equals (view a) (view b)) }
+// Adds that the value at a place equals another one.
+fn ask_equal(
+    alloc: Global,
+    place: &Place,
+    other: Box<Term>,
+    count: usize,
+    layers: &mut Vec<Layer>,
+) -> Result<(), NoMemory>
+    ensures { IfOk result (λ _. layers_view layers.new.items ≡ layers_view layers.old.items
+        ++ equals (place_tree (place_view place.now) count) (view other) ∷ []) }
 {
-    Ok(Layer::Guard(two(alloc, 1, a, b)?))
+    let value = place_term(alloc, place, count)?;
+    layers.push(Layer::Guard(two(alloc, 1, value, other)?))?;
+    Ok(())
+}
+
+// Binds the value at a place.
+fn ask_bound(
+    alloc: Global,
+    word: &Word,
+    place: &Place,
+    scope: &mut Vec<Slot>,
+    layers: &mut Vec<Layer>,
+) -> Result<(), NoMemory>
+    ensures scope { IfOk result (λ _. scope.new.items ≡ Some word.now.text ∷ scope.old.items) }
+    ensures layers { IfOk result (λ _. layers_view layers.new.items ≡ layers_view layers.old.items
+        ++ bound (place_tree (place_view place.now) (length scope.old.items)) ∷ []) }
+{
+    let value = place_term(alloc, place, scope.len())?;
+    layers.push(Layer::Bound(value))?;
+    let name = word.text.dup()?;
+    scope.insert(0, Some(name))?;
+    Ok(())
+}
+
+// Opens the variant at a place.
+fn ask_opened(
+    alloc: Global,
+    word: &Word,
+    place: &Place,
+    scope: &mut Vec<Slot>,
+    layers: &mut Vec<Layer>,
+) -> Result<(), NoMemory>
+    ensures scope { IfOk result (λ _. scope.new.items ≡ none ∷ scope.old.items) }
+    ensures layers { IfOk result (λ _. layers_view layers.new.items ≡ layers_view layers.old.items
+        ++ opened (place_tree (place_view place.now) (length scope.old.items)) word.now.text ∷ []) }
+{
+    let value = place_term(alloc, place, scope.len())?;
+    let label = word.text.dup()?;
+    layers.push(Layer::Opened(value, label))?;
+    scope.insert(0, None)?;
+    Ok(())
 }
 
 /// Adds what a pattern asks of a place, and what it binds.
@@ -135,28 +177,19 @@ pub(crate) fn ask(
     scope: &mut Vec<Slot>,
     layers: &mut Vec<Layer>,
 ) -> Result<(), NoMemory>
-    ensures { IfOk result (λ _. AsksPattern (pattern_view pattern.now) (place_view place.now) (codes_of codes.now) outer.now scope.old.items scope.new.items (layers_view layers.old.items) (layers_view layers.new.items)) }
+    ensures { IfOk result (λ _. AsksPattern (pattern_view pattern.now) (place_view place.now) (codes_of codes.now) outer.now
+        scope.old.items scope.new.items (layers_view layers.old.items) (layers_view layers.new.items)) }
 {
     match pattern {
-        Pattern::Bind(word) => {
-            let value = place_term(alloc, place, scope.len())?;
-            layers.push(Layer::Bound(value))?;
-            let name = word.text.dup()?;
-            scope.insert(0, Some(name))?;
-            Ok(())
-        }
+        Pattern::Bind(word) => ask_bound(alloc, word, place, scope, layers),
         Pattern::Any => Ok(()),
         Pattern::Same(word) => {
-            let value = place_term(alloc, place, scope.len())?;
-            let other = name_term(alloc, codes, outer, &word.text, scope.len())?;
-            layers.push(equals(alloc, value, other)?)?;
-            Ok(())
+            let other = name_box(alloc, codes, outer, &word.text, scope.len())?;
+            ask_equal(alloc, place, other, scope.len(), layers)
         }
         Pattern::Is(other, _) => {
-            let value = place_term(alloc, place, scope.len())?;
-            let other = Term::Const(dup_value(alloc, other)?);
-            layers.push(equals(alloc, value, other)?)?;
-            Ok(())
+            let other = constant_box(alloc, other)?;
+            ask_equal(alloc, place, other, scope.len(), layers)
         }
         Pattern::Rec(fields, _) => {
             'fields: for field in fields.slice() {
@@ -173,11 +206,8 @@ pub(crate) fn ask(
             Ok(())
         }
         Pattern::Inj(word, inner) => {
-            let value = place_term(alloc, place, scope.len())?;
-            let label = word.text.dup()?;
-            layers.push(Layer::Opened(value, label))?;
             let level = scope.len();
-            scope.insert(0, None)?;
+            ask_opened(alloc, word, place, scope, layers)?;
             ask(
                 alloc,
                 inner.get(),
@@ -205,7 +235,8 @@ pub(crate) fn enter(
     codes: &Codes,
     outer: &[Slot],
 ) -> Result<Entered, NoMemory>
-    ensures { IfOk result (λ e. AsksPattern (pattern_view pattern.now) (here (length outer.now)) (codes_of codes.now) outer.now (none ∷ outer.now) e.scope.items [] (layers_view e.layers.items)) }
+    ensures { IfOk result (λ e. AsksPattern (pattern_view pattern.now) (here (length outer.now))
+        (codes_of codes.now) outer.now (none ∷ outer.now) e.scope.items [] (layers_view e.layers.items)) }
 {
     let mut scope = copy(alloc, outer)?;
     let mut layers = Vec::new(alloc);

@@ -1,5 +1,5 @@
 //! Programs as terms.
-ghost use Rattle.std.specs.Prelude.{◌≡◌, ℕ, false, IfOk};
+ghost use Rattle.std.specs.Prelude.{◌≡◌, ℕ, false, map, reverse, IfOk};
 ghost use Rattle.kl_syntax.specs.Syntax.{no_decls};
 ghost use Rattle.kl_syntax.specs.View.{view, decl_of, decls_of};
 ghost use Rattle.kl_core.specs.Positions.{occurs_in};
@@ -11,15 +11,17 @@ ghost use Rattle.kl_desugar.specs.States.{codes_of, definition_code};
 
 use crate::codes::{Codes, Definition};
 use crate::expressions::{tree, tree_within};
+use crate::reach::reached;
 use kl_base::{Label, NoMemory};
 use kl_core::Term;
 use kl_scope::Scoped;
-use kl_syntax::Decl;
+use kl_syntax::{Decl, Program};
 use std::alloc::Global;
 
 // What a definition stands for, over those before it.
 fn define(alloc: Global, def: &Decl, codes: &Codes) -> Result<Definition, NoMemory>
-    ensures { IfOk result (λ d. with_code d.name (definition_code d.function (term.view d.term)) (codes_of codes.now) ≡ codes_after (decl_of def.now.param def.now no_decls) (codes_of codes.now)) }
+    ensures { IfOk result (λ d. with_code d.name (definition_code d.function (term.view d.term)) (codes_of codes.now)
+        ≡ codes_after (decl_of def.now.param def.now no_decls) (codes_of codes.now)) }
 {
     let name = def.name.text.dup()?;
     let scope = Vec::new(alloc);
@@ -27,7 +29,7 @@ fn define(alloc: Global, def: &Decl, codes: &Codes) -> Result<Definition, NoMemo
         Some(param) => Ok(Definition {
             name,
             function: true,
-            term: tree_within(alloc, &def.body, param, codes, &scope)?,
+            term: tree_within(alloc, &def.body, param, codes, &scope)?.into_inner(),
         }),
         None => Ok(Definition {
             name,
@@ -37,24 +39,41 @@ fn define(alloc: Global, def: &Decl, codes: &Codes) -> Result<Definition, NoMemo
     }
 }
 
-// What all definitions stand for.
-#[tactic(auto, using(crate::proofs::Arms::decl_then))]
-fn define_all<'a>(alloc: Global, defs: &[Decl], sources: &'a [Label]) -> Result<Codes<'a>, NoMemory>
-    ensures { IfOk result (λ codes. codes_of codes ≡ codes_after (decls_of defs.now) (codes_first sources.now)) }
+// What definitions stand for, of which the last is first.
+#[tactic(auto, using(crate::proofs::Naming::define_next))]
+fn define_all<'a>(
+    alloc: Global,
+    defs: Vec<&Decl>,
+    sources: &'a [Label],
+) -> Result<Codes<'a>, NoMemory>
+    ensures { IfOk result (λ codes. codes_of codes ≡ codes_after (decls_of (reverse (map (λ d. d.now) defs.entry.items))) (codes_first sources.now)) }
 {
+    let mut defs = defs;
     let mut codes = Codes {
         sources,
         definitions: Vec::new(alloc),
     };
-    'defs: for def in defs {
+    'defs: while let Some(def) = defs.pop() {
         let definition = define(alloc, def, &codes)?;
         codes.definitions.insert(0, definition)?;
     }
     Ok(codes)
 }
 
+// The term of the last expression, over the definitions that it reaches.
+#[tactic(auto, using(crate::proofs::Reaching::reached_term))]
+fn last_term(alloc: Global, program: &Program, sources: &[Label]) -> Result<Term, NoMemory>
+    ensures { IfOk result (λ t. term.view t ≡ term_of (decls_of program.now.defs) (view program.now.last) sources.now) }
+{
+    let defs = reached(alloc, program)?;
+    let codes = define_all(alloc, defs, sources)?;
+    let scope = Vec::new(alloc);
+    tree(alloc, &program.last, &codes, &scope)
+}
+
 /// The term of a program: over values of the program's sources, by their numbers, with which the program makes sense, the
-/// term means what the program means. It has each type that the program has, and no position is free in it. The term of a
+/// term means what the program means. Over sources of the language's types it has each type that the program has, and no
+/// position is free in it. Terms are made of the definitions alone that the last expression reaches. The term of a
 /// definition stands at each of its uses, so that the term of a short program can be too large for any memory: whoever
 /// must not wait for that asks `kl_scope::sizes` first. Where it tells of no declaration, the term is within its limits.
 ///
@@ -68,8 +87,5 @@ pub fn translate(alloc: Global, scoped: &Scoped) -> Result<Term, NoMemory>
     ensures closed { IfOk result (λ t. (n : ℕ) → occurs_in n (term.view t) ≡ false) }
     ensures small { IfOk result (λ t. StaysSmall scoped.now (term.view t)) }
 {
-    let program = scoped.program();
-    let codes = define_all(alloc, program.defs.slice(), scoped.sources())?;
-    let scope = Vec::new(alloc);
-    tree(alloc, &program.last, &codes, &scope)
+    last_term(alloc, scoped.program(), scoped.sources())
 }

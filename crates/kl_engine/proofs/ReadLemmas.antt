@@ -1,12 +1,10 @@
 -- What is read of the text of a program, and that this is all that can be told of it.
 use Rattle.std.proofs.Common.{◌≡◌, inl, inr, ℕ, ◌+◌, ◌≤◌, ◌==◌, if◌then◌else◌, List, [], ◌∷◌, length, Ok, Err, refl, sym, ap, subst, ◌∙◌, arith}
-use Rattle.std.proofs.lemmas.Bool.{cases_order}
 use Rattle.kl_lex.specs.declared.token.Token.{Token}
 use Rattle.kl_lex.specs.Lexing.{Tokens, PlacesRise}
 use Rattle.kl_lex.proofs.OneLexing as lexing
-use Rattle.kl_parse.specs.Parsing.{IsProgram, RefusesProgram}
-use Rattle.kl_parse.specs.declared.program.ParseError.TheVariants.{Syntax}
-use Rattle.kl_parse.proofs.Answer.{unique}
+use Rattle.kl_parse.specs.Parsing.{IsProgram, IsSyntaxPlace, IsDeepPlace}
+use Rattle.kl_parse.proofs.Answer.{unique, one_place}
 use Rattle.kl_syntax.specs.declared.tree.Program.{Program}
 use Rattle.kl_scope.specs.Breaches.{NotAfter, InScope, IsFirstBreach, IsRefusal, Resolves}
 use Rattle.kl_scope.specs.Ranks.{token_of, rule_of}
@@ -14,8 +12,8 @@ use Rattle.kl_scope.specs.Senses.{Name}
 use Rattle.kl_scope.specs.declared.refusal.ScopeError.{ScopeError}
 use Rattle.kl_scope.specs.declared.refusal.ScopeError.TheVariants.{Unknown, Twice, Misapplied, Refutable, NoMemory}
 use Rattle.kl_scope.specs.declared.scoped.Scoped.{Scoped}
-use Rattle.kl_engine.specs.Answering.{unnamed, Alike, one, nested, unnested, renamed}
-use Rattle.kl_engine.specs.Reading.{byte_of, scope_fault, IsBreach, IsWrongAt, NestsTooDeepAt, IsScopeFault, IsTokensFault, IsTextFault, IsProgramOf, ReadsText}
+use Rattle.kl_engine.specs.Answering.{unnamed, Alike, one, renamed}
+use Rattle.kl_engine.specs.Reading.{byte_of, scope_fault, IsBreach, IsScopeFault, IsTokensFault, IsTextFault, IsProgramOf, ReadsText}
 use Rattle.kl_engine.specs.Verdict.{refused}
 use Rattle.kl_engine.specs.declared.fault.Fault.{Fault}
 use Rattle.kl_engine.specs.declared.fault.Fault.TheVariants as fault
@@ -79,22 +77,15 @@ scope_alike L names ts size f g (p, e, reads, breach, first, is) (q, d, again, a
     (ap refused (it ∙ (fault_is ts size d also ∙ ap (λ n. fault.Text (wrong_of d) (byte_of ts n size)) (sym same.0))))
     (unnamed_is e ∙ (ap by_rule same.1 ∙ sym (unnamed_is d)))
 
-one_place : (ts : List Token) (k j : ℕ) → RefusesProgram ts (Err (Syntax k)) → RefusesProgram ts (Err (Syntax j)) → k ≡ j
-one_place ts k j this that = elim (cases_order k j) [
-  | inl same ↦ same
-  | inr (inl less) ↦ absurd (this.no_longer j less that.within that.begins)
-  | inr (inr less) ↦ absurd (that.no_longer k less this.within this.begins)
-]
-
 tokens_alike : (L : Type 0) (names : List Name) (ts : List Token) (size : ℕ) (f g : Fault) → IsTokensFault names ts size f → IsTokensFault names ts size g → Alike L (refused f) (refused g)
 tokens_alike L names ts size f g (inl this) (inl that) = scope_alike L names ts size f g this that
-tokens_alike L names ts size f g (inl (p, e, reads, breach, first, was)) (inr (inl (k, place, it))) = absurd (place.0.not_whole (256, p, reads))
-tokens_alike L names ts size f g (inl (p, e, reads, breach, first, was)) (inr (inr (k, place, it))) = absurd (place.0.not_whole p reads)
-tokens_alike L names ts size f g (inr (inl (k, place, is))) (inl (p, e, reads, breach, first, was)) = absurd (place.0.not_whole (256, p, reads))
-tokens_alike L names ts size f g (inr (inl (k, place, is))) (inr (inl (j, also, it))) = one (ap refused (is ∙ (ap (λ n. fault.Text wrong.Syntax (byte_of ts n size)) (one_place ts k j place.0 also.0) ∙ sym it)))
-tokens_alike L names ts size f g (inr (inl (k, place, is))) (inr (inr (j, also, it))) = nested (byte_of ts k size) (ap refused is) (ap refused it)
-tokens_alike L names ts size f g (inr (inr (k, place, is))) (inl (p, e, reads, breach, first, was)) = absurd (place.0.not_whole p reads)
-tokens_alike L names ts size f g (inr (inr (k, place, is))) (inr (inl (j, also, it))) = unnested (byte_of ts j size) (ap refused is) (ap refused it)
+tokens_alike L names ts size f g (inl (p, e, reads, breach, first, was)) (inr (inl (k, place, it))) = absurd ((one_place ts).no_syntax p k reads place)
+tokens_alike L names ts size f g (inl (p, e, reads, breach, first, was)) (inr (inr (k, place, it))) = absurd ((one_place ts).no_deep p k reads place)
+tokens_alike L names ts size f g (inr (inl (k, place, is))) (inl (p, e, reads, breach, first, was)) = absurd ((one_place ts).no_syntax p k reads place)
+tokens_alike L names ts size f g (inr (inl (k, place, is))) (inr (inl (j, also, it))) = one (ap refused (is ∙ (ap (λ n. fault.Text wrong.Syntax (byte_of ts n size)) ((one_place ts).one_syntax k j place also) ∙ sym it)))
+tokens_alike L names ts size f g (inr (inl (k, place, is))) (inr (inr (j, also, it))) = absurd ((one_place ts).apart k j place also)
+tokens_alike L names ts size f g (inr (inr (k, place, is))) (inl (p, e, reads, breach, first, was)) = absurd ((one_place ts).no_deep p k reads place)
+tokens_alike L names ts size f g (inr (inr (k, place, is))) (inr (inl (j, also, it))) = absurd ((one_place ts).apart j k also place)
 tokens_alike L names ts size f g (inr (inr (k, place, is))) (inr (inr (j, also, it))) = one (ap refused (is ∙ sym it))
 
 pub faults_alike : (L : Type 0) (names : List Name) (bytes : List ℕ) (f g : Fault) → IsTextFault names bytes f → IsTextFault names bytes g → Alike L (refused f) (refused g)
@@ -109,8 +100,8 @@ faults_alike L names bytes f g (inr (byte, none, is)) (inr (byte2, none2, it)) =
 
 tokens_whole : (names : List Name) (ts : List Token) (size : ℕ) (f : Fault) (p : Program) → IsProgram ts p → InScope p names → IsTokensFault names ts size f → ⊥
 tokens_whole names ts size f p reads scope (inl (q, e, again, breach, first, is)) = scope e (subst (λ r. IsFirstBreach r names e) (unique ts q p again reads) first).breaks
-tokens_whole names ts size f p reads scope (inr (inl (k, place, is))) = place.0.not_whole (256, p, reads)
-tokens_whole names ts size f p reads scope (inr (inr (k, place, is))) = place.0.not_whole p reads
+tokens_whole names ts size f p reads scope (inr (inl (k, place, is))) = (one_place ts).no_syntax p k reads place
+tokens_whole names ts size f p reads scope (inr (inr (k, place, is))) = (one_place ts).no_deep p k reads place
 
 pub no_fault : (names : List Name) (bytes : List ℕ) (f : Fault) (p : Program) → IsProgramOf names bytes p → IsTextFault names bytes f → ⊥
 no_fault names bytes f p whole (inl (ts, tokens, ends)) =
@@ -129,12 +120,12 @@ few_tokens place total (t ∷ ts) (after, full, more) = let rest = few_tokens t.
 -- ---- what is found
 
 -- what is found of these tokens, which the layers saw under other names
-pub found_deep : (names : List Name) (text : List ℕ) (ts us : List Token) (k : ℕ) → Tokens text ts → us ≡ ts → NestsTooDeepAt us k → ReadsText names text (Err fault.Nesting)
-found_deep names text ts us k tokens same place = inr (inl (ts, tokens, inr (inr (k, subst (λ r. NestsTooDeepAt r k) same place, refl))))
+pub found_deep : (names : List Name) (text : List ℕ) (ts us : List Token) (k : ℕ) → Tokens text ts → us ≡ ts → IsDeepPlace us k → ReadsText names text (Err fault.Nesting)
+found_deep names text ts us k tokens same place = inr (inl (ts, tokens, inr (inr (k, subst (λ r. IsDeepPlace r k) same place, refl))))
 
-pub found_wrong : (names : List Name) (text : List ℕ) (ts us vs : List Token) (k byte : ℕ) → Tokens text ts → us ≡ ts → vs ≡ ts → IsWrongAt us k → byte ≡ byte_of vs k (length text) → ReadsText names text (Err (fault.Text wrong.Syntax byte))
+pub found_wrong : (names : List Name) (text : List ℕ) (ts us vs : List Token) (k byte : ℕ) → Tokens text ts → us ≡ ts → vs ≡ ts → IsSyntaxPlace us k → byte ≡ byte_of vs k (length text) → ReadsText names text (Err (fault.Text wrong.Syntax byte))
 found_wrong names text ts us vs k byte tokens same also place is =
-    inr (inl (ts, tokens, inr (inl (k, subst (λ r. IsWrongAt r k) same place, ap (fault.Text wrong.Syntax) (is ∙ ap (λ r. byte_of r k (length text)) also)))))
+    inr (inl (ts, tokens, inr (inl (k, subst (λ r. IsSyntaxPlace r k) same place, ap (fault.Text wrong.Syntax) (is ∙ ap (λ r. byte_of r k (length text)) also)))))
 
 pub found_program : (names : List Name) (text : List ℕ) (ts us : List Token) (p : Program) (s : Scoped) → Tokens text ts → us ≡ ts → IsProgram us p → Resolves p names s → ReadsText names text (Ok s)
 found_program names text ts us p s tokens same reads resolves = (p, record { tokens = ts; lexed = tokens; spelled = subst (λ r. IsProgram r p) same reads; in_scope = resolves.in_scope }, resolves)

@@ -102,13 +102,10 @@ unnamed (wrong.Twice name) = wrong.Twice []
 unnamed (wrong.Misapplied name) = wrong.Misapplied []
 unnamed w = w
 
--- Verdicts on the same bytes are one, but for three things. Tokens with which no program goes on, and that nest too deep
--- besides, may be told either way; the same breach at the same token may be told of another name; and where types are
--- listed, other principal schemes of the same instances may be listed for one program.
+-- Verdicts on the same bytes are one, but for two things: the same breach at the same token may be told of another name;
+-- and where types are listed, other principal schemes of the same instances may be listed for one program.
 pub data Alike (Listing : Type 0) (v w : Verdict) : Type 0 where
   one : v ≡ w → Alike Listing v w
-  nested : (byte : ℕ) → v ≡ refused (fault.Text wrong.Syntax byte) → w ≡ refused fault.Nesting → Alike Listing v w
-  unnested : (byte : ℕ) → v ≡ refused fault.Nesting → w ≡ refused (fault.Text wrong.Syntax byte) → Alike Listing v w
   renamed : (x y : Wrong) (byte : ℕ)
       → v ≡ refused (fault.Text x byte) → w ≡ refused (fault.Text y byte) → unnamed x ≡ unnamed y → Alike Listing v w
   retyped : Listing

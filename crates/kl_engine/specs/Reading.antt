@@ -4,8 +4,7 @@ use Rattle.std.specs.List.{slice_get}
 use Rattle.std.specs.Option.{option_map, unwrap_or}
 use Rattle.kl_lex.specs.Lexing.{Tokens, Refused}
 use Rattle.kl_lex.specs.declared.token.Token.{Token}
-use Rattle.kl_parse.specs.Parsing.{IsProgram, RefusesProgram, NestsBehind, Shallow}
-use Rattle.kl_parse.specs.declared.program.ParseError.TheVariants.{Syntax, TooDeep}
+use Rattle.kl_parse.specs.Parsing.{IsProgram, IsSyntaxPlace, IsDeepPlace}
 use Rattle.kl_syntax.specs.declared.tree.Program.{Program}
 use Rattle.kl_syntax.specs.Syntax.{Decls, Exp}
 use Rattle.kl_syntax.specs.View.{view, decls_of}
@@ -37,24 +36,17 @@ abbrev pub IsBreach : ScopeError → Type 0
 IsBreach NoMemory = ⊥
 IsBreach e = ⊤
 
--- at this token no program goes on, and what stands before it begins a program of bounded nesting
-abbrev pub IsWrongAt : List Token → ℕ → Type 0
-IsWrongAt ts k = RefusesProgram ts (Err (Syntax k)) × Shallow ts (Err (Syntax k))
-
--- this token nests too deep: 256 that can nest stand before it
-abbrev pub NestsTooDeepAt : List Token → ℕ → Type 0
-NestsTooDeepAt ts k = RefusesProgram ts (Err (TooDeep k)) × NestsBehind ts (Err (TooDeep k)) × Shallow ts (Err (TooDeep k))
-
 -- the tokens are a program that breaks a rule of scope, and this is its first breach
 abbrev pub IsScopeFault : List Name → List Token → ℕ → Fault → Type 0
 IsScopeFault names ts size f = (p : Program) × (e : ScopeError) × IsProgram ts p × IsBreach e × IsFirstBreach p names e × (f ≡ scope_fault ts size e)
 
--- the tokens break a rule of scope; or at a place no program goes on; or they nest too deep
+-- the tokens break a rule of scope; or at a place no program goes on; or with the token there none that nests at most 256
+-- deep
 abbrev pub IsTokensFault : List Name → List Token → ℕ → Fault → Type 0
 IsTokensFault names ts size f =
     IsScopeFault names ts size f
-    ⊎ ((k : ℕ) × IsWrongAt ts k × (f ≡ fault.Text wrong.Syntax (byte_of ts k size)))
-    ⊎ ((k : ℕ) × NestsTooDeepAt ts k × (f ≡ fault.Nesting))
+    ⊎ ((k : ℕ) × IsSyntaxPlace ts k × (f ≡ fault.Text wrong.Syntax (byte_of ts k size)))
+    ⊎ ((k : ℕ) × IsDeepPlace ts k × (f ≡ fault.Nesting))
 
 -- the bytes are no program in scope, and this is what is told of them
 abbrev pub IsTextFault : List Name → List ℕ → Fault → Type 0

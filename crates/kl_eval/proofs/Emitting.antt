@@ -1,7 +1,6 @@
 -- Items of a body, added to those that were drawn before.
 use Rattle.std.proofs.Common.{◌≡◌, ℕ, ◌<◌, Bool, List, [], ◌∷◌, ◌+◌, length, drop, get_or, Some, Result, Ok, Err, refl, sym, ◌∙◌, ap, subst, append-nil}
 use Rattle.kl_value.proofs.CanonLemmas.{canonical-nil, canonical-one}
-use Rattle.kl_value.specs.Canon.{canonical}
 use Rattle.kl_value.specs.Views.{collection, as_bool, IsCollection}
 use Rattle.kl_value.specs.declared.Kind.{Kind}
 use Rattle.kl_value.specs.declared.Kind.TheVariants as kind
@@ -24,7 +23,7 @@ use Rattle.kl_eval.specs.Comes.{Comes, ItemsCome}
 use Rattle.kl_eval.specs.Sources.{NoSource}
 use Rattle.kl_eval.specs.Evals.{Sense, SenseWhole, PartGives, CallGives, Evals, EvalsPart, EvalsBody, EvalsCall, EvalsInto, AddsAll}
 use Rattle.kl_eval.proofs.Loops.{OnBody}
-use Rattle.kl_eval.specs.Steps.{AppendsAll, AddsItems, Behind, Outside}
+use Rattle.kl_eval.specs.Steps.{AppendsAll, AddsItems, Behind, Outside, TellsTruth}
 use Rattle.kl_eval.proofs.Laws.{comes_typed}
 use Rattle.kl_eval.proofs.Forms.{alone, evals_stop, onto, picked, picked_typed, body_goes, body_over, body_lost, value_if, value_if_stop, at_If, at_Make, at_Prim, at_value, value_let, value_let_stop, at_Let}
 
@@ -63,6 +62,12 @@ module _ (t x y z x' : Term) (env : List Value) (et : t ≡ term.If x y z) (ex :
 
   pub into_if_stop : (e : EvalStop) (h : Halt) (old new : List Value) (a b : World) → EvalsPart (view x') env (Err e) a b → Outside e h → new ≡ old → EvalsInto (view t) env (Err h) old new a b
   into_if_stop e h old new a b p o s = into_stop (view t) env h old new a b (value_if_stop t x y z x' env et ex e h a b p o) s
+
+  pub into_tested : (p : Term) (bit told : Bool) (q : Result Value EvalStop) (r : Result (Unit {0}) Halt) (old new : List Value) (a b c : World) → p ≡ picked bit y z → told ≡ bit → TellsTruth q (Ok told) → EvalsPart (view x') env q a b → EvalsInto (view p) env r old new b c → EvalsInto (view t) env r old new a c
+  into_tested p bit told q r old new a b c ep ey k h m = into_if p k.0 k.0 bit r old new a b c ep refl (k.2 ∙ ap Some ey) (subst (λ z. EvalsPart (view x') env z a b) k.1 h) m
+
+  pub into_tested_stop : (q : Result Value EvalStop) (e : EvalStop) (h : Halt) (old new : List Value) (a b : World) → TellsTruth q (Err e) → EvalsPart (view x') env q a b → Outside e h → new ≡ old → EvalsInto (view t) env (Err h) old new a b
+  into_tested_stop q e h old new a b k p o s = into_if_stop e h old new a b (subst (λ z. EvalsPart (view x') env z a b) k p) o s
 
 -- ---- what is bound
 

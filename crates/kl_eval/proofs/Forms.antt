@@ -1,5 +1,5 @@
 -- Each form of a term, from its parts.
-use Rattle.std.proofs.Common.{◌≡◌, ℕ, ◌<◌, ◌≤◌, ◌+◌, ◌⊎◌, inl, inr, ⊎_elim, Bool, true, false, zero, suc, cond, nat_eq, List, [], ◌∷◌, ◌++◌, map, length, drop, get_or, Option, Result, Vec, Some, None, Ok, Err, IsSome, All, refl, sym, ◌∙◌, ap, subst, append_assoc, append-nil, arith, slice_get}
+use Rattle.std.proofs.Common.{◌≡◌, ℕ, ◌<◌, ◌≤◌, ◌+◌, ◌⊎◌, ⊎_elim, Bool, true, false, zero, suc, cond, nat_eq, List, [], ◌∷◌, ◌++◌, map, length, drop, get_or, Option, Result, Vec, Some, None, Ok, Err, IsSome, All, refl, sym, ◌∙◌, ap, subst, append_assoc, append-nil, arith, slice_get, IfOk}
 use Rattle.std.specs.Cmp.Lexicographic.{pointwise, same_text}
 use Rattle.std.proofs.lemmas.Cmp.{nat_list_eq_equiv}
 use Rattle.std.specs.List.{AllByRecursion}
@@ -20,10 +20,8 @@ use Rattle.kl_value.specs.declared.Value.TheVariants as value
 use Rattle.kl_type.specs.Ground.{Ground, Row, at, bool, rec as rec_type, var as var_type, coll}
 use Rattle.kl_prim.specs.Meaning.{Answer}
 use Rattle.kl_prim.specs.Table.{Fits, meaning, row_at, Row as Primitive}
-use Rattle.kl_prim.specs.declared.rows.Shape.{Shape}
-use Rattle.kl_prim.specs.declared.rows.Shape.TheVariants as shape
 use Rattle.kl_outcome.specs.Outcome.{Name, Outcome, done, over, End, Flow, more, stop, fine, overflow, flow, outcome_of, answered, as_variant, items_of, items_at_all, followed, kept, gathered, collected, joined_to, union_of}
-use Rattle.kl_outcome.specs.Typed.{Inhabits, HaveTypes, OfType, ShapeTypes, RowTypes, PrimTypes}
+use Rattle.kl_outcome.specs.Typed.{Inhabits, HaveTypes, OfType, RowTypes, PrimTypes}
 use Rattle.kl_core.specs.declared.term.Term.{Term}
 use Rattle.kl_core.specs.declared.term.Term.TheVariants as term
 use Rattle.kl_core.specs.Core.{Tables}
@@ -45,7 +43,7 @@ use Rattle.kl_eval.proofs.Stops.{stopped_then}
 use Rattle.kl_eval.specs.Comes.{Picks, OpensVariant, FollowsFlow, Draws, Comes, ItemsCome, ArgsCome, PartsCome, ArmsCome}
 use Rattle.kl_eval.specs.Evals.{Sense, SenseIn, SenseEach, SenseParts, SenseCall, SenseBody, HasSense, ResultGives, PartGives, CallGives, FlowGives, Evals, EvalsPart, EvalsEach, EvalsBody, EvalsFields, EvalsCall, end_of}
 use Rattle.kl_eval.proofs.Loops.{before, OnEach, OnBody, OnFields}
-use Rattle.kl_eval.specs.Steps.{AnswersOutcome, inside_of, Outside, AppendsAll, AddsItems, AddsField, Behind, Gathers, AnswersPrim, place_of}
+use Rattle.kl_eval.specs.Steps.{AnswersOutcome, inside_of, Outside, AppendsAll, AddsItems, AddsField, Behind, Gathers, AnswersPrim, place_of, TellsTruth, Finishes, JoinsItems, Joins}
 use Rattle.kl_eval.proofs.Laws.{comes_typed}
 use Rattle.kl_outcome.proofs.PrimLemmas.{prim_fits, all_canonical, one_or_two}
 
@@ -183,7 +181,7 @@ got (u ∷ G) (v ∷ env) zero s h e = refl
 got (u ∷ G) (v ∷ env) (suc x) s h e = got G env x s h.1 e
 
 pub sense_var : (t : Term) (x : ℕ) (S : SourceTypes) (env : List Value) → t ≡ term.Var x → SenseIn S (view t) env → IsSome (slice_get env x)
-sense_var t x S env e s = let s' = subst (λ q. SenseIn S q env) (ap view e ∙ view_Var x) s in got s'.0 env x s'.1 s'.2 s'.3
+sense_var t x S env e s = let s' = subst (λ q. SenseIn S q env) (ap view e ∙ view_Var x) s in got s'.0 env x s'.1 s'.2 s'.3.0
 
 pub come_var : (t : Term) (x : ℕ) (v : Value) (env : List Value) → t ≡ term.Var x → slice_get env x ≡ Some v → (S : SourceTypes) (T : Tables) → Comes S T env (view t) (done v)
 come_var t x v env e g S T = subst (λ q. Comes S T env q (done v)) (sym (ap view e ∙ view_Var x)) (sym (ap outcome_of g))
@@ -242,7 +240,7 @@ module _ (t : Term) (l m : Name) (x x' : Term) (env : List Value) (et : t ≡ te
   at_Inj = ap view et ∙ view_Inj l x ∙ ap (λ q. inj l (view q)) (sym ex) ∙ ap (λ q. inj q (view x')) (sym em)
 
   pub sense_inj : (a : World) → Sense (view t) env a → Sense (view x') env a
-  sense_inj a s = let s' = subst (λ q. Sense q env a) at_Inj s in (s'.0, s'.3.1, s'.2, s'.3.4, s'.4)
+  sense_inj a s = let s' = subst (λ q. Sense q env a) at_Inj s in (s'.0, s'.3.1, s'.2, s'.3.5, s'.4)
 
   pub value_inj : (v : Value) (r : Result Value Halt) (a b : World) → EvalsPart (view x') env (Ok v) a b → AnswersOutcome (done (value.Inj m v)) r → Evals (view t) env r a b
   value_inj v r a b h k = evals_made (view t) (view x') env v (value.Inj m v) r a b h k (λ S T c. subst (λ q. Comes S T env q (done (value.Inj m v))) (sym at_Inj) (done v, c, refl)) (subst NoSource at_Inj)
@@ -300,11 +298,28 @@ module _ (t x y z x' : Term) (env : List Value) (et : t ≡ term.If x y z) (ex :
   pub value_if_stop : (e : EvalStop) (h : Halt) (a b : World) → EvalsPart (view x') env (Err e) a b → Outside e h → Evals (view t) env (Err h) a b
   value_if_stop e h a b p o = evals_stop (view t) (view x') env e h a b p o come_if_over (λ n. (subst NoSource at_If n).0)
 
+  -- the test, as it is told
+  pub test_told : (q : Result Value EvalStop) (a b : World) → Sense (view t) env a → EvalsPart (view x') env q a b → IfOk q IsBool
+  test_told (Ok v) a b s h = truth_there v v a b refl s h
+  test_told (Err e) a b s h = tt
+
+  pub value_tested : (p : Term) (bit told : Bool) (q : Result Value EvalStop) (r : Result Value Halt) (a b c : World) → p ≡ picked bit y z → told ≡ bit → TellsTruth q (Ok told) → EvalsPart (view x') env q a b → Evals (view p) env r b c → Evals (view t) env r a c
+  value_tested p bit told q r a b c ep ey k h m = value_if p k.0 k.0 bit r a b c ep refl (k.2 ∙ ap Some ey) (subst (λ z. EvalsPart (view x') env z a b) k.1 h) m
+
+  pub value_tested_stop : (q : Result Value EvalStop) (e : EvalStop) (h : Halt) (a b : World) → TellsTruth q (Err e) → EvalsPart (view x') env q a b → Outside e h → Evals (view t) env (Err h) a b
+  value_tested_stop q e h a b k p o = value_if_stop e h a b (subst (λ z. EvalsPart (view x') env z a b) k p) o
+
   pub look_if : (p : Term) (v w : Value) (bit : Bool) (r : Result Value EvalStop) (a b c : World) → p ≡ picked bit y z → w ≡ v → as_bool w ≡ Some bit → EvalsPart (view x') env (Ok v) a b → EvalsPart (view p) env r b c → EvalsPart (view t) env r a c
   look_if p v w bit r a b c ep ew eb h k = part_then (view t) (view x') (view (picked bit y z)) env env v r a b c h (subst (λ q. EvalsPart (view q) env r b c) ep k) (come_if v w bit ew eb) (none_if bit)
 
   pub look_if_stop : (e : EvalStop) (a b : World) → EvalsPart (view x') env (Err e) a b → EvalsPart (view t) env (Err e) a b
   look_if_stop e a b p = part_stop (view t) (view x') env e a b p come_if_over (λ n. (subst NoSource at_If n).0)
+
+  pub look_tested : (p : Term) (bit told : Bool) (q : Result Value EvalStop) (r : Result Value EvalStop) (a b c : World) → p ≡ picked bit y z → told ≡ bit → TellsTruth q (Ok told) → EvalsPart (view x') env q a b → EvalsPart (view p) env r b c → EvalsPart (view t) env r a c
+  look_tested p bit told q r a b c ep ey k h m = look_if p k.0 k.0 bit r a b c ep refl (k.2 ∙ ap Some ey) (subst (λ z. EvalsPart (view x') env z a b) k.1 h) m
+
+  pub look_tested_stop : (q : Result Value EvalStop) (e : EvalStop) (a b : World) → TellsTruth q (Err e) → EvalsPart (view x') env q a b → EvalsPart (view t) env (Err e) a b
+  look_tested_stop q e a b k p = look_if_stop e a b (subst (λ z. EvalsPart (view x') env z a b) k p)
 
 -- ---- `Let`
 
@@ -506,7 +521,7 @@ module _ (t : Term) (k : Kind) (ts us : List Term) (env : List Value) (et : t �
   at_Make = ap view et ∙ view_Make k ts ∙ ap (λ q. make k (trees_view q)) (sym eu)
 
   pub sense_make : (a : World) → Sense (view t) env a → SenseEach (trees_view us) env a
-  sense_make a s = let s' = subst (λ q. Sense q env a) at_Make s in (s'.0, s'.3.0, s'.2, s'.3.2, s'.4)
+  sense_make a s = let s' = subst (λ q. Sense q env a) at_Make s in (s'.0, s'.3.0, s'.2, s'.3.3, s'.4)
 
   pub value_make : (d : Result (Vec Value Global) Halt) (r : Result Value Halt) (a b : World) → EvalsEach (trees_view us) env d a b → Gathers k d r → Evals (view t) env r a b
   value_make d r a b h g =
@@ -567,6 +582,9 @@ items_done v k vs e = ap items_at_all e
 
 -- ---- two collections as one
 
+pub joined_items : (v w : Value) (p : Result Value Halt) (k : Kind) (vs both : List Value) (r : Result Value Halt) → v ≡ collection k vs → p ≡ Ok w → AddsItems w (Ok tt) vs both → AnswersOutcome (done (canonical k both)) r → Joins v p r
+joined_items v w p k vs both r ev ep add end = (k, vs, ev, subst (λ q. JoinsItems k vs q r) (sym ep) (Ok tt, both, add, end))
+
 pub flow_more : (vs ws : List Value) (e : End) → followed (flow vs fine) (flow ws e) ≡ flow (vs ++ ws) e
 flow_more [] ws e = refl
 flow_more (v ∷ vs) ws e = ap (more v) (flow_more vs ws e)
@@ -600,6 +618,10 @@ module _ (t : Term) (x y x' : Term) (env : List Value) (et : t ≡ term.Union x 
       let i : OfType (coll ty.0 ty.1) (done w) = subst (λ q. OfType q (done w)) ty.2 (comes_typed (types_of a) (values_of a) (view y) s'.0 env s'.1 (done w) s'.2 ty.4 h') in
       let d = items_inhabit ty.0 ty.1 w i in
       rw d.1 refl
+
+  pub second_told : (y' : Term) (p : Result Value Halt) (a b c : World) → y' ≡ y → Moved a b → Sense (view t) env a → Evals (view y') env p b c → IfOk p IsCollection
+  second_told y' (Ok w) a b c ey m s h = second_there y' w a b c ey m s h
+  second_told y' (Err e) a b c ey m s h = tt
 
   unites : (v : Value) (k : Kind) (vs : List Value) (q : Outcome) (ws : List Value) (e : End) (S : SourceTypes) (T : Tables) → v ≡ collection k vs → items_of q ≡ flow ws e → Comes S T env (view x') (done v) → Comes S T env (view y) q
       → Comes S T env (view t) (gathered k e (vs ++ ws))
@@ -654,6 +676,14 @@ module _ (t : Term) (x y x' : Term) (env : List Value) (et : t ≡ term.Union x 
   value_union_over y' v k vs halt.NoMemory (halt.Driver l f) r a b c ey ev e h g m = absurd e
   value_union_over y' v k vs halt.NoMemory halt.NoMemory r a b c ey ev e h g m = record { moved = moved_then a b c h.moved g.moved; still = both_still y' a b c ey h.still g.still; gives = subst (ResultGives (Comes (types_of a) (values_of a) env (view t)) a c) (sym m) tt }
 
+  pub value_join : (y' : Term) (v : Value) (p r : Result Value Halt) (a b c : World) → y' ≡ y → Evals (view x') env (Ok v) a b → Evals (view y') env p b c → Joins v p r → Evals (view t) env r a c
+  value_join y' v (Ok w) r a b c ey h g j = joined j.3.0 j.3.2 j.3.3
+    where
+      joined : (q : Result (Unit {0}) Halt) → AddsItems w q j.1 j.3.1 → Finishes j.0 q j.3.1 r → Evals (view t) env r a c
+      joined (Ok u) add end = value_union y' v w j.0 j.1 j.3.1 r a b c ey j.2 add h g end
+      joined (Err e) add end = subst (λ z. Evals (view t) env z a c) (sym end) (value_union_lost y' v w j.1 j.3.1 e a b c ey h g add)
+  value_join y' v (Err e) r a b c ey h g j = value_union_over y' v j.0 j.1 e j.3.0 r a b c ey j.2 j.3.1 h g j.3.2
+
   pub value_union_first : (e : Halt) (a b : World) → Evals (view x') env (Err e) a b → Evals (view t) env (Err e) a b
   value_union_first (halt.Over vs) a b h = record { moved = h.moved; still = λ n. h.still (subst NoSource at_Union n).0; gives = subst (λ z. Comes (types_of a) (values_of a) env z (over vs.items)) (sym at_Union) (over vs.items, h.gives, refl) }
   value_union_first (halt.Driver l e) a b h = record { moved = h.moved; still = λ n. h.still (subst NoSource at_Union n).0; gives = h.gives }
@@ -687,7 +717,7 @@ module _ (t : Term) (i : ℕ) (env : List Value) (et : t ≡ term.Source i) wher
   at_Source = ap view et ∙ view_Source i
 
   pub source_there : (a : World) → Sense (view t) env a → IsSome (types_of a i)
-  source_there a s = let s' = subst (λ q. Sense q env a) at_Source s in rw s'.3 refl
+  source_there a s = let s' = subst (λ q. Sense q env a) at_Source s in rw s'.3.0 refl
 
   pub source_ready : (a : World) → Sense (view t) env a → IsReady a
   source_ready a s = s.4
@@ -713,15 +743,6 @@ module _ (t : Term) (c : ℕ) (ts us : List Term) (env : List Value) (et : t ≡
 
   pub value_prim : (v : Value) (a b : World) → EvalsCall c (trees_view us) env (Ok v) a b → Evals (view t) env (Ok v) a b
   value_prim v a b h = record { moved = h.moved; still = λ n. h.still (subst NoSource at_Prim n); gives = subst (λ z. Comes (types_of a) (values_of a) env z (done v)) (sym at_Prim) h.gives }
-
-  pub value_prim_stop : (e : EvalStop) (h : Halt) (a b : World) → EvalsCall c (trees_view us) env (Err e) a b → Outside e h → Evals (view t) env (Err h) a b
-  value_prim_stop eval_stop.Overflow (halt.Over ws) a b p o = record { moved = p.moved; still = λ n. p.still (subst NoSource at_Prim n); gives = subst (λ z. Comes (types_of a) (values_of a) env (view t) (over z)) (sym o) (subst (λ z. Comes (types_of a) (values_of a) env z (over [])) (sym at_Prim) p.gives) }
-  value_prim_stop eval_stop.Overflow (halt.Driver l e) a b p o = absurd o
-  value_prim_stop eval_stop.Overflow halt.NoMemory a b p o = absurd o
-  value_prim_stop (eval_stop.Driver l e) h a b p o = subst (λ q. Evals (view t) env (Err q) a b) (sym o) (record { moved = p.moved; still = λ n. p.still (subst NoSource at_Prim n); gives = p.gives })
-  value_prim_stop eval_stop.NoMemory (halt.Over ws) a b p o = absurd o
-  value_prim_stop eval_stop.NoMemory (halt.Driver l e) a b p o = absurd o
-  value_prim_stop eval_stop.NoMemory halt.NoMemory a b p o = record { moved = p.moved; still = λ n. p.still (subst NoSource at_Prim n); gives = tt }
 
 -- ---- the arguments of a call
 

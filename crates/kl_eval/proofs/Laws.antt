@@ -63,16 +63,16 @@ opens_typed r t v P o i g h = let c = variant_is r v i in g c.0 c.1 c.2 c.4 c.5 
 module _ (S : SourceTypes) (T : Tables) where
   mutual
     pub comes_typed : (t : Tree) (G : List Ground) (env : List Value) (s : Ground) (o : Outcome) → HaveTypes G env → CoreTypes S G t s → Comes S T env t o → OfType s o
-    comes_typed (var x) G env s o e h c = subst (OfType s) (sym c) (get_typed G env x s e h)
-    comes_typed (con v) G env s o e h c = subst (OfType s) (sym c) h
-    comes_typed (source i) G env s o e h c = subst (OfType s) (sym c.2) (c.1.typed s h)
+    comes_typed (var x) G env s o e h c = subst (OfType s) (sym c) (get_typed G env x s e h.0)
+    comes_typed (con v) G env s o e h c = subst (OfType s) (sym c) h.1
+    comes_typed (source i) G env s o e h c = subst (OfType s) (sym c.2) (c.1.typed s h.0)
     comes_typed (rec ps) G env s o e h c = subst (λ q. OfType q o) (sym h.1) (parts_typed ps G env h.0 (rec_type h.0) (λ fs. done (value.Rec fs)) o e h.3 (λ fs has good. record_typed h.0 fs h.2 has good) c)
     comes_typed (proj l a) G env s o e h c = subst (OfType s) (sym c.2) (part_typed l h.0 s c.0 (comes_typed a G env (rec_type h.0) c.0 e h.1 c.1) h.2)
-    comes_typed (inj l a) G env s o e h c = subst (λ q. OfType q o) (sym h.2) (subst (OfType (var_type h.0)) (sym c.2) (tagged_typed l h.0 h.1 c.0 h.3 (comes_typed a G env h.1 c.0 e h.4 c.1)))
+    comes_typed (inj l a) G env s o e h c = subst (λ q. OfType q o) (sym h.2) (subst (OfType (var_type h.0)) (sym c.2) (tagged_typed l h.0 h.1 c.0 h.4 (comes_typed a G env h.1 c.0 e h.5 c.1)))
     comes_typed (case_of a bs) G env s o e h c =
         then_typed s (var_type h.0) c.0 (λ v. OpensVariant (as_variant v) (λ l w. ArmsCome S T env bs l w)) o (comes_typed a G env (var_type h.0) c.0 e h.1 c.1)
         (λ v i k. opens_typed h.0 s v (λ l w. ArmsCome S T env bs l w) o i (λ l u w f j m. arms_typed bs G env h.0 s l u w o e h.3 f j (h.2 l (rw f refl)) m) k) c.2
-    comes_typed (make k ts) G env s o e h c = subst (λ q. OfType q o) (sym h.1) (subst (OfType (coll k h.0)) (sym c.2) (collected_typed k h.0 c.0 (items_come_typed ts G env h.0 c.0 e h.2 c.1)))
+    comes_typed (make k ts) G env s o e h c = subst (λ q. OfType q o) (sym h.1) (subst (OfType (coll k h.0)) (sym c.2) (collected_typed k h.0 c.0 (items_come_typed ts G env h.0 c.0 e h.3 c.1)))
     comes_typed (union a b) G env s o e h c =
         subst (λ q. OfType q o) (sym h.2)
         (unites_typed h.0 h.1 c.0 (Comes S T env b) o (subst (λ q. OfType q c.0) h.2 (comes_typed a G env s c.0 e h.3 c.1)) (λ q d. subst (λ z. OfType z q) h.2 (comes_typed b G env s q e h.4 d)) c.2)

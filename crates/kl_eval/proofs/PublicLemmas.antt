@@ -1,5 +1,5 @@
 -- The public calls, from what a term may come to.
-use Rattle.std.proofs.Common.{◌≡◌, ◌≢◌, List, ◌++◌, reverse, Result, Some, Ok, Err, IsSome, IfOk, refl, sym, ◌∙◌, ap, subst}
+use Rattle.std.proofs.Common.{◌≡◌, ◌≢◌, List, ◌++◌, reverse, Result, Ok, Err, IsSome, IfOk, refl, sym, ◌∙◌, ap, subst}
 use Rattle.std.specs.List.{AllByRecursion}
 use Rattle.std.proofs.lemmas.Option.{same_Some}
 use Rattle.kl_value.specs.Views.{Collection, as_collection, items_at}

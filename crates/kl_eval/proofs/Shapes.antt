@@ -1,13 +1,13 @@
 -- Canonical records of a type.
-use Rattle.std.proofs.Common.{◌≡◌, List, ◌∷◌, refl, sym, ap, ◌∙◌, subst}
+use Rattle.std.proofs.Common.{List, refl, sym, subst}
 use Rattle.std.specs.List.{AllByRecursion}
 use Rattle.std.specs.List.Sorted.{IsStrictlySortedBy}
-use Rattle.kl_base.specs.Fields.{bytes_cmp, labels_of}
+use Rattle.kl_base.specs.Fields.{bytes_cmp}
 use Rattle.kl_value.specs.IsCanonical.{IsCanonical}
 use Rattle.kl_value.specs.declared.Value.{Value}
 use Rattle.kl_value.specs.declared.Value.TheVariants as value
 use Rattle.kl_value.proofs.IsCanonicalLemmas.{record_made}
-use Rattle.kl_type.specs.Ground.{Row, rec as rec_type, no_row, row, labels_in}
+use Rattle.kl_type.specs.Ground.{Row, rec as rec_type, labels_in}
 use Rattle.kl_outcome.specs.Outcome.{Name, done}
 use Rattle.kl_outcome.specs.Typed.{HasFields, OfType}
 use Rattle.kl_outcome.proofs.OutcomeTypes.{labels_same}

@@ -1,4 +1,5 @@
--- What a term may come to, where a source that is not told may give another value at each reading.
+-- For private functions alone: what a term may come to, where a source that is not told may give another value at each
+-- reading.
 use Rattle.std.specs.Prelude.{◌≡◌, Bool, true, false, List, [], ◌∷◌, Option, Some, None, cond, slice_get, nat_eq}
 use Rattle.std.specs.Cmp.Lexicographic.{pointwise}
 use Rattle.kl_value.specs.Views.{as_bool}

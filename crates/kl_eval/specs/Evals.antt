@@ -32,6 +32,8 @@ SenseIn S t env = (G : List Ground) × (s : Ground) × HaveTypes G env × CoreTy
 abbrev pub Sense : Tree → List Value → World → Type 0
 Sense t env w = (G : List Ground) × (s : Ground) × HaveTypes G env × CoreTypes (types_of w) G t s × IsReady w
 
+-- for private functions alone: the same under some types of sources, and of lists of terms, of fields, of arguments, of
+-- bodies and of whole collections
 abbrev pub HasSense : Tree → List Value → Type 0
 HasSense t env = (S : SourceTypes) × SenseIn S t env
 
@@ -46,7 +48,9 @@ SenseCall c ts env w = (G : List Ground) × (ss : List Ground) × (s : Ground) �
 
 -- a body makes sense at each of some values, and gives a collection there
 abbrev pub SenseBody : Tree → List Value → List Value → World → Type 0
-SenseBody b vs env w = (G : List Ground) × (u : Ground) × (k : Kind) × (s : Ground) × HaveTypes G env × AllByRecursion (Inhabits u) vs × CoreTypes (types_of w) (u ∷ G) b (coll k s) × IsReady w
+SenseBody b vs env w =
+    (G : List Ground) × (u : Ground) × (k : Kind) × (s : Ground) × HaveTypes G env × AllByRecursion (Inhabits u) vs
+    × CoreTypes (types_of w) (u ∷ G) b (coll k s) × IsReady w
 
 -- a term makes sense as a collection
 abbrev pub SenseWhole : Tree → List Value → World → Type 0
@@ -56,7 +60,7 @@ SenseWhole t env w = (G : List Ground) × (k : Kind) × (s : Ground) × HaveType
 abbrev pub SenseList : Tree → List Value → World → Type 0
 SenseList t env w = (G : List Ground) × (s : Ground) × HaveTypes G env × CoreTypes (types_of w) G t (coll kind.List s) × IsReady w
 
--- ---- results
+-- ---- results, for private functions alone
 
 -- P holds of the outcome that a result tells; a stop by a driver has its cause
 abbrev pub ResultGives : (Outcome → Type 0) → World → World → Result Value Halt → Type 0
@@ -90,7 +94,7 @@ FieldsGive ps env a b (Err stop.Overflow) = (go : List (Name × Value) → Outco
 FieldsGive ps env a b (Err (stop.Driver l e)) = StoppedBy l e a b
 FieldsGive ps env a b (Err stop.NoMemory) = ⊤
 
--- ---- evaluations, which leave a session as it is where no source stands in what is evaluated
+-- ---- evaluations, for private functions alone, which leave a session as it is where no source stands in what is evaluated
 
 pub record Evals (t : Tree) (env : List Value) (r : Result Value Halt) (a b : World) : Type 0 where
   pub moved : Moved a b

@@ -1,4 +1,4 @@
--- A whole scan of a source.
+-- For private functions alone: a whole scan of a source.
 use Rattle.std.specs.Prelude.{◌≡◌, ◌≢◌, ℕ, List, [], ◌++◌, Result, Option, Some, None, Ok, Err, Vec, ⊤}
 use Rattle.std.specs.List.{AllByRecursion}
 use Rattle.std.specs.declared.alloc.Global.{Global}

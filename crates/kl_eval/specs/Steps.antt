@@ -1,10 +1,10 @@
--- What the steps of the evaluator make.
-use Rattle.std.specs.Prelude.{◌≡◌, ℕ, suc, List, [], ◌∷◌, ◌++◌, Option, Some, None, Result, Ok, Err, Vec, cond, nat_eq, ⊤}
+-- For private functions alone: what the steps of the evaluator make.
+use Rattle.std.specs.Prelude.{◌≡◌, ℕ, Bool, suc, List, [], ◌∷◌, ◌++◌, Option, Some, None, Result, Ok, Err, Vec, cond, nat_eq, ⊤}
 use Rattle.std.specs.Option.{option_map}
 use Rattle.std.specs.declared.alloc.Global.{Global}
 use Rattle.std.specs.Cmp.Lexicographic.{pointwise}
 use Rattle.kl_value.specs.Canon.{canonical}
-use Rattle.kl_value.specs.Views.{collection}
+use Rattle.kl_value.specs.Views.{as_bool, collection}
 use Rattle.kl_value.specs.declared.Kind.{Kind}
 use Rattle.kl_value.specs.declared.Value.{Value}
 use Rattle.kl_value.specs.declared.Value.TheVariants as value
@@ -87,3 +87,20 @@ AnswersPrim a (Err stop.NoMemory) = ⊤
 abbrev pub place_of : {X : Type 0} → Name → List (Name × X) → Option ℕ
 place_of l [] = None
 place_of l (p ∷ ps) = cond (pointwise nat_eq l p.0) (Some 0) (option_map suc (place_of l ps))
+
+-- the truth value of a test
+abbrev pub TellsTruth : Result Value EvalStop → Result Bool EvalStop → Type 0
+TellsTruth p (Ok b) = (v : Value) × (p ≡ Ok v) × (as_bool v ≡ Some b)
+TellsTruth p (Err e) = p ≡ Err e
+
+-- two collections as one, of the kind of the first
+abbrev pub Finishes : Kind → Result (Unit {0}) Halt → List Value → Result Value Halt → Type 0
+Finishes k (Ok _) both r = AnswersOutcome (done (canonical k both)) r
+Finishes k (Err h) both r = r ≡ Err h
+
+abbrev pub JoinsItems : Kind → List Value → Result Value Halt → Result Value Halt → Type 0
+JoinsItems k vs (Ok w) r = (q : Result (Unit {0}) Halt) × (both : List Value) × AddsItems w q vs both × Finishes k q both r
+JoinsItems k vs (Err h) r = (f : Halt) × Behind vs h f × Gathers k (Err f) r
+
+abbrev pub Joins : Value → Result Value Halt → Result Value Halt → Type 0
+Joins v p r = (k : Kind) × (vs : List Value) × (v ≡ collection k vs) × JoinsItems k vs p r

@@ -17,6 +17,3 @@ mod tables;
 pub use public::{eval, eval_list};
 pub use stop::EvalStop;
 pub use tables::Tables;
-
-#[cfg(test)]
-mod tests;

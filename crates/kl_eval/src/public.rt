@@ -47,7 +47,8 @@ pub fn eval_list(
 ) -> Result<(), EvalStop>
     requires { SenseList (view term.now) (reverse env.old.items) (⟦<Session as Seen>⟧.world session.old) }
     ensures env { env.new.items ≡ env.old.items }
-    ensures items { EvaluatesList (view term.now) (reverse env.old.items) result into.old.items into.new.items (⟦<Session as Seen>⟧.world session.old) (⟦<Session as Seen>⟧.world session.new) }
+    ensures items { EvaluatesList (view term.now) (reverse env.old.items) result into.old.items into.new.items
+        (⟦<Session as Seen>⟧.world session.old) (⟦<Session as Seen>⟧.world session.new) }
 {
     add_list(
         value(alloc, term, &Env::Base(env.as_slice()), session),

@@ -157,7 +157,8 @@ pub fn scan_attached(
     fetch: u32,
 ) -> Result<Value, EvalStop>
     requires place { place < length drivers.old.items }
-    requires can { AtIndex place (λ s. CanStart s (asks.Rows attached.now.source (columns (item_of (ground_of attached.now.ty))) [])) (map (λ d. state d) drivers.old.items) }
+    requires can { AtIndex place (λ s. CanStart s (asks.Rows attached.now.source (columns (item_of (ground_of attached.now.ty))) []))
+        (map (λ d. state d) drivers.old.items) }
     requires room { 0 < fetch }
     ensures { StepsAt place (λ a b. ScansTo attached.now result a b) (map (λ d. state d) drivers.old.items) (map (λ d. state d) drivers.new.items) }
 {

@@ -2,19 +2,21 @@
 ghost use Rattle.std.specs.Prelude.{◌≡◌, Some, IsSome, IfOk, IfSome, All, ◌<◌, length, [], ◌∷◌};
 ghost use Rattle.kl_value.specs.Canon.{canonical};
 ghost use Rattle.kl_value.specs.IsCanonical.{IsCanonical};
-ghost use Rattle.kl_value.specs.Views.{IsCollection, items_at};
+ghost use Rattle.kl_value.specs.Views.{IsBool, IsCollection, items_at};
 ghost use Rattle.kl_value.specs.declared.value.Value.TheVariants as value;
 ghost use Rattle.kl_value.specs.declared.value.Kind.TheVariants as kind;
 ghost use Rattle.kl_prim.specs.Arguments.{values_in};
 ghost use Rattle.kl_prim.specs.Table.{Fits, meaning};
 ghost use Rattle.kl_outcome.specs.Outcome.{done, as_variant};
-ghost use Rattle.kl_eval.specs.Steps.{AnswersOutcome, inside_of, Outside, AppendsAll, AddsItems, AddsField, AddsList, Behind, Gathers, AnswersPrim, place_of};
+ghost use Rattle.kl_eval.specs.Values.{arg_in};
+ghost use Rattle.kl_eval.specs.Steps.{AnswersOutcome, inside_of, Outside, AppendsAll, AddsItems, AddsField, AddsList, Behind, Gathers, AnswersPrim};
+ghost use Rattle.kl_eval.specs.Steps.{place_of, TellsTruth, Joins};
 
 use crate::stop::{EvalStop, Halt};
 use kl_base::{Box, Label, Seq};
 use kl_core::Term;
-use kl_prim::{Args, PrimStop, apply_args};
-use kl_value::{Kind, Value, canon, dup, into_parts};
+use kl_prim::{Arg, Args, PrimStop, apply_args};
+use kl_value::{Kind, Value, bool_of, canon, dup, into_parts};
 use std::alloc::Global;
 
 /// A copy of a value.
@@ -85,6 +87,17 @@ pub fn place(branches: &[(Label, Term)], label: &Label) -> Option<usize>
         }
     }
     None
+}
+
+/// The truth value that a test came to.
+pub fn truth(test: Result<Arg<'_>, EvalStop>) -> Result<bool, EvalStop>
+    requires { IfOk (arg_in test) IsBool }
+    ensures { TellsTruth (arg_in test.entry) result }
+{
+    match test {
+        Ok(test) => Ok(bool_of(test.get())),
+        Err(stop) => Err(stop),
+    }
 }
 
 /// Adds a value.
@@ -197,6 +210,22 @@ pub fn unite(kind: Kind, both: Vec<Value>) -> Result<Value, Halt>
             Err(_) => Err(Halt::NoMemory),
         },
         Kind::List => Ok(Value::List(Seq::of(both))),
+    }
+}
+
+/// Two collections as one, of the kind of the first.
+pub fn join(first: Value, second: Result<Value, Halt>) -> Result<Value, Halt>
+    requires first { IsCollection first }
+    requires second { IfOk second IsCollection }
+    ensures { Joins first second result }
+{
+    let (kind, mut items) = into_parts(first);
+    match second {
+        Ok(second) => match append(second, &mut items) {
+            Ok(()) => unite(kind, items),
+            Err(halt) => Err(halt),
+        },
+        Err(halt) => gather(kind, Err(behind(items, halt))),
     }
 }
 

@@ -4,7 +4,7 @@ use kl_base::Label;
 use kl_value::Value;
 
 /// Why an evaluation has no value.
-#[derive(Debug, Drop, PartialEq, Eq)]
+#[derive(Drop, PartialEq, Eq)]
 pub enum EvalStop {
     /// The outcome is an overflow.
     Overflow,

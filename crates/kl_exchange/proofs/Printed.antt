@@ -6,8 +6,6 @@ use Rattle.kl_outside.specs.Sinks.{SinkState, HasCause, WritesWhole}
 use Rattle.kl_outside.specs.declared.Stop.{Stop}
 use Rattle.kl_value.specs.Written.{with_commas, separator}
 use Rattle.kl_exchange.specs.Printing.{Puts, Prints, AddsBytes, as_stop, error_of, outcome}
-use Rattle.kl_exchange.specs.declared.error.PrintError.{PrintError}
-use Rattle.kl_exchange.specs.declared.error.PrintError.TheVariants as error
 use Rattle.kl_outside.specs.declared.Stop.TheVariants as stop
 use Rattle.kl_exchange.proofs.TextLemmas.{commas_more}
 use Rattle.kl_outside.proofs.SinkLemmas.{append_known-append}

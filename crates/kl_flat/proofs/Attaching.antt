@@ -1,5 +1,5 @@
 -- What attaching says of a file that was read.
-use Rattle.std.proofs.Common.{Result, ◌≡◌, ◌≢◌, ◌⊎◌, ◌<◌, ◌≤◌, ◌+◌, ◌-◌, ◌^◌, min, ℕ, Bool, true, false, List, [], ◌∷◌, ◌++◌, length, Option, Some, None, Ok, Err, IsSome, IsErrOf, refl, sym, ◌∙◌, ap, subst, arith, inl, inr, nat_lt, nat_eq, cond}
+use Rattle.std.proofs.Common.{Result, ◌≡◌, ◌≢◌, ◌⊎◌, ◌<◌, ◌≤◌, ◌+◌, ◌-◌, ◌^◌, min, ℕ, Bool, true, false, List, [], ◌∷◌, ◌++◌, length, Option, Some, None, Ok, Err, IsSome, refl, sym, ◌∙◌, ap, subst, arith, inl, inr, nat_lt, nat_eq, cond}
 use Rattle.std.proofs.lemmas.Bool.Decides.{nat_tests}
 use Rattle.std.specs.List.{AllByRecursion}
 use Rattle.std.specs.Cmp.Lexicographic.{pointwise}
@@ -7,7 +7,7 @@ use Rattle.std.specs.Option.{option_map}
 use Rattle.std.proofs.lemmas.Option.{same_Some}
 use Rattle.kl_base.specs.Counts.{Rose}
 use Rattle.kl_value.specs.declared.Value.{Value}
-use Rattle.kl_type.specs.Ground.{ground_of}
+use Rattle.kl_type.specs.Ground.{IsProper, ground_of}
 use Rattle.kl_type.specs.declared.ground.Ty.{Ty}
 use Rattle.kl_type.proofs.RowLemmas.{same_label}
 use Rattle.kl_outcome.specs.Outcome.{Name}
@@ -15,6 +15,9 @@ use Rattle.kl_outcome.specs.Typed.{Inhabits}
 use Rattle.kl_outside.proofs.FileLemmas.{was_there}
 use Rattle.kl_outside.specs.Files.{FilesState, ReadsWhole, IsWhole, IsMissing}
 use Rattle.kl_outside.specs.declared.files.Whole.{Whole}
+use Rattle.kl_outside.specs.declared.stop.Stop.{Stop}
+use Rattle.kl_outside.specs.declared.stop.Stop.TheVariants as stop
+use Rattle.kl_ask.specs.Asked.{raised_by}
 use Rattle.kl_outside.specs.declared.files.Whole.TheVariants.{Bytes, TooLong}
 use Rattle.kl_ask.specs.Asks.{item_of}
 use Rattle.kl_ask.specs.Driver.{Stored, Missing, Bad, Long, Deep, Rows, Source as Attached, Attaches, CountsUnread, told_rows, stored_by}
@@ -22,6 +25,10 @@ use Rattle.kl_ask.specs.declared.ask.Ask.{Ask}
 use Rattle.kl_ask.specs.declared.ask.DriverError.{DriverError}
 use Rattle.kl_ask.specs.declared.ask.DriverError.TheVariants as error
 use Rattle.kl_ask.proofs.Names.{not_same}
+use Rattle.kl_flat.specs.Attaching.{AddsSource, ReadsRows, RowsOf, unread_by}
+use Rattle.kl_flat.specs.Columns.{is_table_type}
+use Rattle.kl_flat.specs.Fitting.{are_rows}
+use Rattle.kl_flat.proofs.Typing.{are_table_rows, rows_typed}
 use Rattle.kl_flat.specs.Flat.{flat_state, source_at, told_only, attached_of, contents_of, most_bytes, stored_bytes, stored_of, stored_rows}
 use Rattle.kl_flat.specs.Table.{bad_record, table_rows}
 use Rattle.kl_flat.specs.declared.parts.Source.{Source}
@@ -67,6 +74,9 @@ is_missing path ty f is = by f.told refl
     by None none = let e : at_path f.told path ty ≡ None = ap (λ t. at_path t path ty) none in absurd (some_none (sym is ∙ e))
     by (Some files) told = (files, told, at (files path) (sym (ap (λ t. at_path t path ty) told) ∙ is))
 
+missing_at : (path : List ℕ) (ty : Ty) (f : FilesState) → IsMissing f path → at_path f.told path ty ≡ Some Missing
+missing_at path ty f is = ap (λ t. at_path t path ty) is.1 ∙ ap (λ o. Some (stored_of o ty)) is.2
+
 untold : (t : Option (List ℕ → Option (List ℕ))) → t ≡ None → IsSome (contents_of t) → ⊥
 untold None is told = cc
 untold (Some files) is told = some_none is
@@ -85,7 +95,7 @@ unread_cause f (inl p) = inl p
 unread_cause f (inr e) = inr (untold f.told e.0, e.1)
 
 -- a refused `attach`
-pub refused : (e : DriverError) (source path : List ℕ) (ty : Ty) (f f' : FilesState) (sources : List Source) (cursors : List (Option Open)) (asked : List (Ask × ℕ)) (handed unread unread' : ℕ)
+refused : (e : DriverError) (source path : List ℕ) (ty : Ty) (f f' : FilesState) (sources : List Source) (cursors : List (Option Open)) (asked : List (Ask × ℕ)) (handed unread unread' : ℕ)
     → f'.told ≡ f.told → f.faults ≤ f'.faults → unread ≤ unread' → CountsUnread (Err e) unread unread' → CauseOf e (at_path f.told path ty) f f' unread unread'
     → (at_path f.told path ty ≡ Some Missing → (f'.faults ≡ f.faults) × (unread' ≡ unread))
     → Attaches source path ty (Err e) (flat_state f sources cursors asked handed unread) (flat_state f' sources cursors asked handed unread')
@@ -116,16 +126,17 @@ refused e source path ty f f' sources cursors asked handed unread unread' told f
 
 module _ (source path : List ℕ) (ty : Ty) (f f' : FilesState) (sources : List Source) (cursors : List (Option Open)) (asked : List (Ask × ℕ)) (handed unread : ℕ) where
   -- the file was read, and memory wanted then
-  pub no_memory : (whole : Whole) → ReadsWhole path most_bytes (Ok whole) f f' → Attaches source path ty (Err error.NoMemory) (flat_state f sources cursors asked handed unread) (flat_state f' sources cursors asked handed unread)
+  no_memory : (whole : Whole) → ReadsWhole path most_bytes (Ok whole) f f' → Attaches source path ty (Err error.NoMemory) (flat_state f sources cursors asked handed unread) (flat_state f' sources cursors asked handed unread)
   no_memory whole reads = refused error.NoMemory source path ty f f' sources cursors asked handed unread unread reads.told reads.later (omega arith) refl tt (λ is. ((reads.missing (is_missing path ty f is)).1, refl))
 
-  pub no_memory_as : (whole : Whole) (result : Result ℕ DriverError) (sources' : List Source) → ReadsWhole path most_bytes (Ok whole) f f' → sources' ≡ sources → result ≡ Err error.NoMemory
-      → Attaches source path ty result (flat_state f sources cursors asked handed unread) (flat_state f' sources' cursors asked handed unread)
-  no_memory_as whole result sources' reads same is =
-      subst (λ r. Attaches source path ty r (flat_state f sources cursors asked handed unread) (flat_state f' sources' cursors asked handed unread)) (sym is)
-      (subst (λ ss. Attaches source path ty (Err error.NoMemory) (flat_state f sources cursors asked handed unread) (flat_state f' ss cursors asked handed unread)) (sym same) (no_memory whole reads))
+  failed : ReadsWhole path most_bytes (Err stop.Failed) f f' → Attaches source path ty (Err error.Failed) (flat_state f sources cursors asked handed unread) (flat_state f' sources cursors asked handed unread)
+  failed reads = refused error.Failed source path ty f f' sources cursors asked handed unread unread reads.told reads.later (omega arith) refl
+      (elim (reads.failed refl) [ inl none ↦ inl (missing_at path ty f none) | inr rose ↦ inr rose ]) (λ is. ((reads.missing (is_missing path ty f is)).1, refl))
 
-  pub too_long : (unread' : ℕ) → ReadsWhole path most_bytes (Ok TooLong) f f' → unread' ≡ min (unread + 1) (2 ^ 64 - 1) → unread < 2 ^ 64
+  no_room : ReadsWhole path most_bytes (Err stop.NoMemory) f f' → Attaches source path ty (Err error.NoMemory) (flat_state f sources cursors asked handed unread) (flat_state f' sources cursors asked handed unread)
+  no_room reads = refused error.NoMemory source path ty f f' sources cursors asked handed unread unread reads.told reads.later (omega arith) refl tt (λ is. ((reads.missing (is_missing path ty f is)).1, refl))
+
+  too_long : (unread' : ℕ) → ReadsWhole path most_bytes (Ok TooLong) f f' → unread' ≡ min (unread + 1) (2 ^ 64 - 1) → unread < 2 ^ 64
       → Attaches source path ty (Err (error.TooLong most_bytes)) (flat_state f sources cursors asked handed unread) (flat_state f' sources cursors asked handed unread')
   too_long unread' reads rose fits = refused (error.TooLong most_bytes) source path ty f f' sources cursors asked handed unread unread' reads.told reads.later (omega (arith, rose, fits)) (omega (arith, rose, fits))
       (by (stands path ty TooLong f f' reads)) (λ is. let q = (reads.missing (is_missing path ty f is)).0 in absurd cc)
@@ -134,7 +145,7 @@ module _ (source path : List ℕ) (ty : Ty) (f f' : FilesState) (sources : List 
       by (inl none) = inr (none, omega (arith, rose))
       by (inr found) = let long : nat_lt most_bytes (length found.0) ≡ true = grind (arith, nat_tests, found.2) in inl (found.1 ∙ ap Some (rw long refl))
 
-  pub bad_source : (bytes : List ℕ) (place unread' : ℕ) → ReadsWhole path most_bytes (Ok (Bytes bytes)) f f' → bad_record bytes ty ≡ Some place → unread' ≡ min (unread + 1) (2 ^ 64 - 1) → unread < 2 ^ 64
+  bad_source : (bytes : List ℕ) (place unread' : ℕ) → ReadsWhole path most_bytes (Ok (Bytes bytes)) f f' → bad_record bytes ty ≡ Some place → unread' ≡ min (unread + 1) (2 ^ 64 - 1) → unread < 2 ^ 64
       → Attaches source path ty (Err (error.BadSource place)) (flat_state f sources cursors asked handed unread) (flat_state f' sources cursors asked handed unread')
   bad_source bytes place unread' reads bad rose fits = refused (error.BadSource place) source path ty f f' sources cursors asked handed unread unread' reads.told reads.later (omega (arith, rose, fits)) (omega (arith, rose, fits))
       (by (stands path ty (Bytes bytes) f f' reads)) (λ is. let q = (reads.missing (is_missing path ty f is)).0 in absurd cc)
@@ -145,6 +156,51 @@ module _ (source path : List ℕ) (ty : Ty) (f f' : FilesState) (sources : List 
           let short : nat_lt most_bytes (length found.0) ≡ false = grind (arith, nat_tests, found.2.1) in
           let same : bad_record found.0 ty ≡ Some place = ap (λ b. bad_record b ty) (sym found.2.0) ∙ bad in
           inl (found.1 ∙ ap Some (rw short (ap (stored_rows found.0 ty) same)))
+
+  -- the file has no rows, or was not read
+  pub attach_refused : (e : DriverError) (unread' : ℕ) → ReadsRows path ty (Err e) f f' → unread' ≡ unread_by e unread → unread < 2 ^ 64
+      → Attaches source path ty (Err e) (flat_state f sources cursors asked handed unread) (flat_state f' sources cursors asked handed unread')
+  attach_refused e unread' read counted fits = by read.read read.reads read.rows
+    where
+      Refused : DriverError → Type 0
+      Refused e = Attaches source path ty (Err e) (flat_state f sources cursors asked handed unread) (flat_state f' sources cursors asked handed (unread_by e unread))
+
+      is_so : {d : DriverError} → e ≡ d → Refused d → Attaches source path ty (Err e) (flat_state f sources cursors asked handed unread) (flat_state f' sources cursors asked handed unread')
+      is_so is done =
+          subst (λ n. Attaches source path ty (Err e) (flat_state f sources cursors asked handed unread) (flat_state f' sources cursors asked handed n)) (sym counted) (subst Refused (sym is) done)
+
+      by : (whole : Result Whole Stop) → ReadsWhole path most_bytes whole f f' → RowsOf ty whole (Err e)
+          → Attaches source path ty (Err e) (flat_state f sources cursors asked handed unread) (flat_state f' sources cursors asked handed unread')
+      by (Ok (Bytes bytes)) reads (inl none) = is_so none (no_memory (Bytes bytes) reads)
+      by (Ok (Bytes bytes)) reads (inr bad) = is_so bad.1 (bad_source bytes bad.0 (raised_by 1 unread) reads bad.2 refl fits)
+      by (Ok TooLong) reads is = let same : e ≡ error.TooLong most_bytes = cc in is_so same (too_long (raised_by 1 unread) reads refl fits)
+      by (Err stop.Failed) reads is = let same : e ≡ error.Failed = cc in is_so same (failed reads)
+      by (Err stop.NoMemory) reads is = let same : e ≡ error.NoMemory = cc in is_so same (no_room reads)
+
+-- a table that was read
+read_well : (path : List ℕ) (ty : Ty) (rows : List Value) (f f' : FilesState) → ReadsRows path ty (Ok rows) f f'
+    → (bytes : List ℕ) × ReadsWhole path most_bytes (Ok (Bytes bytes)) f f' × (rows ≡ table_rows bytes ty) × (bad_record bytes ty ≡ None)
+read_well path ty rows f f' read = by read.read read.reads read.rows
+  where
+    by : (whole : Result Whole Stop) → ReadsWhole path most_bytes whole f f' → RowsOf ty whole (Ok rows)
+        → (bytes : List ℕ) × ReadsWhole path most_bytes (Ok (Bytes bytes)) f f' × (rows ≡ table_rows bytes ty) × (bad_record bytes ty ≡ None)
+    by (Ok (Bytes bytes)) reads are = (bytes, reads, are.0, are.1)
+    by (Ok TooLong) reads is = absurd cc
+    by (Err stop.Failed) reads is = absurd cc
+    by (Err stop.NoMemory) reads is = absurd cc
+
+pub read_rows_fit : (path : List ℕ) (ty : Ty) (rows : List Value) (f f' : FilesState) → ReadsRows path ty (Ok rows) f f' → is_table_type ty ≡ true → IsProper ty → are_rows ty rows ≡ true
+read_rows_fit path ty rows f f' read suits proper = let well = read_well path ty rows f f' read in ap (are_rows ty) well.2 ∙ are_table_rows well.0 ty suits proper
+
+-- it was read, and memory wanted then
+pub attach_stopped : (source path : List ℕ) (ty : Ty) (rows : List Value) (result : Result ℕ DriverError) (f f' : FilesState) (sources sources' : List Source) (cursors : List (Option Open)) (asked : List (Ask × ℕ)) (handed unread : ℕ)
+    → ReadsRows path ty (Ok rows) f f' → sources' ≡ sources → result ≡ Err error.NoMemory
+    → Attaches source path ty result (flat_state f sources cursors asked handed unread) (flat_state f' sources' cursors asked handed unread)
+attach_stopped source path ty rows result f f' sources sources' cursors asked handed unread read same is =
+    let well = read_well path ty rows f f' read in
+    subst (λ r. Attaches source path ty r (flat_state f sources cursors asked handed unread) (flat_state f' sources' cursors asked handed unread)) (sym is)
+    (subst (λ ss. Attaches source path ty (Err error.NoMemory) (flat_state f sources cursors asked handed unread) (flat_state f' ss cursors asked handed unread)) (sym same)
+    (no_memory source path ty f f' sources cursors asked handed unread (Bytes well.0) well.1))
 
 -- ---- the sources with one more
 
@@ -191,14 +247,19 @@ abbrev mk : Ty → Option (List Value) → ℕ → Attached
 mk t r n = record { ty = t; rows = r; count = n; kept = None }
 
 -- a table that was read and attached
-pub attach_done : (source path bytes : List ℕ) (ty : Ty) (count : ℕ) (s : Source) (f f' : FilesState) (sources sources' : List Source) (cursors : List (Option Open)) (asked : List (Ask × ℕ)) (handed unread : ℕ)
-    → ReadsWhole path most_bytes (Ok (Bytes bytes)) f f' → bad_record bytes ty ≡ None → s.rows ≡ table_rows bytes ty → s.name ≡ source → s.ty ≡ ty → count ≡ length s.rows
-    → AllByRecursion (Inhabits (item_of (ground_of ty))) s.rows → option_map (attached_of f.told) (source_at sources source) ≡ None → sources' ≡ sources ++ s ∷ []
+pub attach_done : (source path : List ℕ) (ty : Ty) (rows : List Value) (count : ℕ) (f f' : FilesState) (sources sources' : List Source) (cursors : List (Option Open)) (asked : List (Ask × ℕ)) (handed unread : ℕ)
+    → ReadsRows path ty (Ok rows) f f' → AddsSource source ty rows sources sources' count → are_rows ty rows ≡ true → option_map (attached_of f.told) (source_at sources source) ≡ None
     → Attaches source path ty (Ok count) (flat_state f sources cursors asked handed unread) (flat_state f' sources' cursors asked handed unread)
-attach_done source path bytes ty count s f f' sources sources' cursors asked handed unread reads fine rows name type size typed fresh grown =
-    let facts = good_rows path ty f bytes s.rows rows fine (stands path ty (Bytes bytes) f f' reads) in
-    let here : source_at (sources ++ s ∷ []) source ≡ Some s = subst (λ n. source_at (sources ++ s ∷ []) n ≡ Some s) name (this_source sources s (subst (λ n. source_at sources n ≡ None) (sym name) (map_none (attached_of f.told) (source_at sources source) fresh))) in
-    let kept : attached_of f.told s ≡ mk ty (told_rows (at_path f.told path ty)) count = λ i. mk (type i) (facts.0 i) (sym size i) in
+attach_done source path ty rows count f f' sources sources' cursors asked handed unread read adds good fresh =
+    let well = read_well path ty rows f f' read in
+    let reads = well.1 in
+    let s = adds.made in
+    let facts = good_rows path ty f well.0 rows well.2 well.3 (stands path ty (Bytes well.0) f f' reads) in
+    let none : source_at sources s.name ≡ None = subst (λ n. source_at sources n ≡ None) (sym adds.named) (map_none (attached_of f.told) (source_at sources source) fresh) in
+    let here : source_at (sources ++ s ∷ []) source ≡ Some s = subst (λ n. source_at (sources ++ s ∷ []) n ≡ Some s) adds.named (this_source sources s none) in
+    let told : told_only f.told s.rows ≡ told_rows (at_path f.told path ty) = ap (told_only f.told) adds.with ∙ facts.0 in
+    let size : length s.rows ≡ count = ap length adds.with ∙ sym adds.size in
+    let kept : attached_of f.told s ≡ mk ty (told_rows (at_path f.told path ty)) count = λ i. mk (adds.of i) (told i) (size i) in
     subst (λ t. Attaches source path ty (Ok count) (flat_state f sources cursors asked handed unread) (flat_state (record { told = t; left = f'.left; faults = f'.faults }) sources' cursors asked handed unread)) (sym reads.told) (record {
       keeps = record { kind = refl; handed = omega arith; faults = reads.later; drifts = omega arith; no_drift = λ is. refl; unread = omega arith };
       cursors = refl;
@@ -206,11 +267,11 @@ attach_done source path bytes ty count s f f' sources sources' cursors asked han
       handed = refl;
       drifts = refl;
       unread = refl;
-      others = λ n ne. ap (option_map (attached_of f.told)) (ap (λ xs. source_at xs n) grown ∙ other_source sources s n (λ is. ne (is ∙ name)));
-      attached = (None, ap (option_map (attached_of f.told)) (ap (λ xs. source_at xs source) grown ∙ here) ∙ ap Some kept);
-      count = λ all is. size ∙ ap length (sym (facts.1 all is));
+      others = λ n ne. ap (option_map (attached_of f.told)) (ap (λ xs. source_at xs n) adds.grown ∙ other_source sources s n (λ is. ne (is ∙ adds.named)));
+      attached = (None, ap (option_map (attached_of f.told)) (ap (λ xs. source_at xs source) adds.grown ∙ here) ∙ ap Some kept);
+      count = λ all is. adds.size ∙ ap length (sym (facts.1 all is));
       unique = λ is_unique is_set. absurd cc;
-      typed = λ all is. subst (AllByRecursion (Inhabits (item_of (ground_of ty)))) (sym (facts.1 all is)) typed;
+      typed = λ all is. subst (AllByRecursion (Inhabits (item_of (ground_of ty)))) (sym (facts.1 all is)) (rows_typed ty rows good);
       refused = tt;
       missing = λ is. absurd (facts.2 is);
       bad = λ place is. facts.3 place is;

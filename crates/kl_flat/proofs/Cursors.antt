@@ -1,5 +1,5 @@
 -- Cursors of a flat driver: how they are opened, what they hand, and how they are closed.
-use Rattle.std.proofs.Common.{Result, zero, suc, ◌≡◌, ◌≢◌, ◌⊎◌, ◌<◌, ◌+◌, ◌^◌, ℕ, Bool, true, false, List, [], ◌∷◌, ◌++◌, length, set, drop, Option, Some, None, Ok, Err, refl, sym, ◌∙◌, ap, subst, arith, inl, inr, slice_get, length-append, nat_lt, IsSome}
+use Rattle.std.proofs.Common.{◌≡◌, ◌≢◌, ◌⊎◌, ◌<◌, ◌+◌, ◌^◌, ℕ, Bool, true, false, List, [], ◌∷◌, ◌++◌, length, set, drop, Option, Some, None, Ok, Err, refl, sym, ◌∙◌, ap, subst, arith, inl, inr, slice_get, length-append, nat_lt, IsSome}
 use Rattle.std.proofs.lemmas.Bool.Decides.{nat_tests}
 use Rattle.std.proofs.lemmas.Grind.{common_steps}
 use Rattle.std.proofs.lemmas.List.Sorted.{IsPermutation-refl}
@@ -19,7 +19,6 @@ use Rattle.kl_ask.specs.Driver.{Cursor, CanStart, Starts, OpensAt, IsFresh, InOr
 use Rattle.kl_ask.specs.declared.ask.Ask.{Ask}
 use Rattle.kl_ask.specs.declared.ask.Ask.TheVariants as asks
 use Rattle.kl_ask.specs.declared.ask.ColTest.{ColTest}
-use Rattle.kl_ask.specs.declared.ask.DriverError.{DriverError}
 use Rattle.kl_ask.specs.declared.ask.DriverError.TheVariants as error
 use Rattle.kl_flat.specs.Answering.{Takes}
 use Rattle.kl_flat.specs.Asked.{keep_of, tests_of}
@@ -102,29 +101,6 @@ start_done ask n f sources cursors cursors' asked asked' handed unread can last 
       failed = λ is. absurd cc;
       no_other = tt;
     }
-
-start_refused : (ask : Ask) (f : FilesState) (sources : List Source) (cursors : List (Option Open)) (asked : List (Ask × ℕ)) (handed unread : ℕ)
-    → Starts ask (Err error.NoMemory) (flat_state f sources cursors asked handed unread) (flat_state f sources cursors asked handed unread)
-start_refused ask f sources cursors asked handed unread = record {
-  keeps = record { kind = refl; handed = omega arith; faults = omega arith; drifts = omega arith; no_drift = λ is. refl; unread = omega arith };
-  attached = refl;
-  handed = refl;
-  drifts = refl;
-  unread = refl;
-  opens = tt;
-  refused = (refl, refl);
-  failed = λ is. absurd cc;
-  no_other = inr refl;
-}
-
--- want of memory opens nothing
-pub start_stopped : (ask : Ask) (result : Result ℕ DriverError) (f : FilesState) (sources : List Source) (cursors cursors' : List (Option Open)) (asked asked' : List (Ask × ℕ)) (handed unread : ℕ)
-    → cursors' ≡ cursors → asked' ≡ asked → result ≡ Err error.NoMemory
-    → Starts ask result (flat_state f sources cursors asked handed unread) (flat_state f sources cursors' asked' handed unread)
-start_stopped ask result f sources cursors cursors' asked asked' handed unread same kept is =
-    subst (λ r. Starts ask r (flat_state f sources cursors asked handed unread) (flat_state f sources cursors' asked' handed unread)) (sym is)
-    (subst (λ os. Starts ask (Err error.NoMemory) (flat_state f sources cursors asked handed unread) (flat_state f sources os asked' handed unread)) (sym same)
-    (subst (λ times. Starts ask (Err error.NoMemory) (flat_state f sources cursors asked handed unread) (flat_state f sources cursors times handed unread)) (sym kept) (start_refused ask f sources cursors asked handed unread)))
 
 -- ---- `pull`
 

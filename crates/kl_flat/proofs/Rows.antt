@@ -1,5 +1,5 @@
 -- Rows of a table, from the places of the columns.
-use Rattle.std.proofs.Common.{◌≡◌, ◌<◌, ◌==◌, ℕ, suc, ◌+◌, Bool, true, false, List, [], ◌∷◌, ◌++◌, map, cond, length, take, drop, get_or, nat_eq, Option, Some, None, refl, sym, ap, ◌∙◌, subst, arith, eq-eqb, add-one, eqb-true, true≢false}
+use Rattle.std.proofs.Common.{◌≡◌, ◌<◌, ◌≤◌, ◌==◌, ℕ, suc, ◌+◌, Bool, true, false, List, [], ◌∷◌, ◌++◌, map, cond, length, take, drop, get_or, nat_eq, Option, Some, None, refl, sym, ap, ◌∙◌, subst, arith, eq-eqb, add-one, eqb-true, true≢false, append_assoc, length-append}
 use Rattle.std.specs.List.{zip}
 use Rattle.std.specs.Option.{option_map, MatchOption, is_some}
 use Rattle.std.specs.Cmp.Lexicographic.{pointwise}
@@ -13,7 +13,7 @@ use Rattle.kl_value.specs.declared.Value.TheVariants as value
 use Rattle.kl_type.specs.declared.ground.Ty.{Ty}
 use Rattle.kl_flat.specs.Cells.{cell_value}
 use Rattle.kl_flat.specs.Places.{ArePlaces}
-use Rattle.kl_flat.specs.Table.{Columns, Record, all_of, is_header, part_in, row_in, times}
+use Rattle.kl_flat.specs.Table.{Columns, Record, all_of, first_missing, front_of, is_header, part_in, row_in, times}
 use Rattle.kl_flat.proofs.Options.{all_of-none, all_of-more}
 use Rattle.kl_flat.proofs.Placing.{cell_at, count_front, count_step}
 
@@ -62,6 +62,12 @@ module _ (columns : Columns) (header entry : Record) (size : length entry ≡ le
       whole : all_of (map part columns) ≡ None
       whole = ap (λ cs. all_of (map part cs)) cut ∙ ap all_of (map-append part (take i columns) (c ∷ drop (i + 1) columns)) ∙ ap (λ o. all_of (map part (take i columns) ++ o ∷ map part (drop (i + 1) columns))) none ∙ all_of-none (map part (take i columns)) _
 
+  pub whole_row : (i : ℕ) (fs : List (List ℕ × Value)) → length columns ≤ i → all_of (map part (take i columns)) ≡ Some fs → Some (value.Rec fs) ≡ row_in columns header entry
+  whole_row i fs all before = sym (row_of_parts (Some fs) (ap (λ cs. all_of (map part cs)) whole ∙ before))
+    where
+      whole : columns ≡ take i columns
+      whole = grind (arith, common_steps)
+
   pub one_more : (i : ℕ) (c : List ℕ × Ty) (f : List ℕ × Value) (fs : List (List ℕ × Value)) → i < length columns → c ≡ get_or columns i c → part c ≡ Some f → all_of (map part (take i columns)) ≡ Some fs → all_of (map part (take (i + 1) columns)) ≡ Some (fs ++ f ∷ [])
   one_more i c f fs lt is some before = ap (λ cs. all_of (map part cs)) longer ∙ ap all_of (map-append part (take i columns) (c ∷ [])) ∙ ap (λ o. all_of (map part (take i columns) ++ o ∷ [])) some ∙ all_of-more (map part (take i columns)) fs f before
     where
@@ -87,3 +93,17 @@ cell_in columns header entry places i c found size lt is = cell_at header entry 
     once false e =
         let bad : is_header columns header ≡ false = list_all_at (λ d. times d.0 header == 1) columns i c lt (ap (λ (d : List ℕ × Ty). times d.0 header == 1) (sym is) ∙ e) in
         absurd (true≢false (sym found.once ∙ bad))
+
+-- ---- one more row is read
+
+module _ (read : Record → Option Value) (left after : List Record) (entry : Record) (row : Value) (rows rows' : List Value) (whole : List (Option Value)) (next : left ≡ entry ∷ after) (is : Some row ≡ read entry) (grown : rows' ≡ rows ++ row ∷ []) where
+  pub front_then : front_of whole ≡ rows ++ front_of (map read left) → front_of whole ≡ rows' ++ front_of (map read after)
+  front_then so_far =
+      so_far ∙ ap (λ rs. rows ++ front_of (map read rs)) next ∙ ap (λ o. rows ++ front_of (o ∷ map read after)) (sym is)
+      ∙ sym (append_assoc rows (row ∷ []) (front_of (map read after))) ∙ ap (λ xs. xs ++ front_of (map read after)) (sym grown)
+
+  pub missing_then : first_missing 1 whole ≡ first_missing (length rows + 1) (map read left) → first_missing 1 whole ≡ first_missing (length rows' + 1) (map read after)
+  missing_then so_far =
+      let size : length rows + 1 ≡ length rows' = omega (arith, length-append rows (row ∷ []), ap length grown) in
+      so_far ∙ ap (λ rs. first_missing (length rows + 1) (map read rs)) next ∙ ap (λ o. first_missing (length rows + 1) (o ∷ map read after)) (sym is)
+      ∙ ap (λ n. first_missing (n + 1) (map read after)) size

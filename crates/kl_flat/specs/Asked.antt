@@ -15,7 +15,7 @@ abbrev pub tests_of : Ask → List ColTest
 tests_of (asks.Rows source keep tests) = tests
 tests_of (asks.Sql text) = []
 
--- the places of the columns that are kept, where the first of all stands at n
+-- the places of the columns that are kept, where the first of all stands at n. No public contract cites this.
 abbrev pub kept_places : List Name → ℕ → Columns → List ℕ
 kept_places keep n [] = []
 kept_places keep n (c ∷ cs) = cond (is_kept keep c.0) (n ∷ kept_places keep (suc n) cs) (kept_places keep (suc n) cs)

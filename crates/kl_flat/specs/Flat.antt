@@ -51,7 +51,7 @@ abbrev pub source_at : List Source → Name → Option Source
 source_at [] name = None
 source_at (source ∷ sources) name = cond (pointwise nat_eq source.name name) (Some source) (source_at sources name)
 
--- the attached source that an ask names
+-- the attached source that an ask names. No public contract cites this.
 abbrev pub asked_source : List Source → Ask → Option Source
 asked_source sources (asks.Rows source keep tests) = source_at sources source
 asked_source sources (asks.Sql text) = None

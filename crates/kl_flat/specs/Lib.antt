@@ -1,5 +1,6 @@
 pub mod Answering
 pub mod Asked
+pub mod Attaching
 pub mod Cells
 pub mod Columns
 pub mod Cursors

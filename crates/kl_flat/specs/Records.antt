@@ -1,4 +1,4 @@
--- What a reader of a whole text has left.
+-- What a reader of a whole text has left. No public contract cites this.
 use Rattle.std.specs.Prelude.{true, ◌≡◌, ℕ, ◌+◌, List, [], length, Option, Some, unwrap_or}
 use Rattle.std.specs.Borrow.{Bor}
 use Rattle.csv.specs.Reading.{Ready, default_config, is_flexible, reader_config, reader_state, reader_trim, records_from, source_of}

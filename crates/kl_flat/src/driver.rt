@@ -1,5 +1,8 @@
 //! The driver of tables.
 ghost use Rattle.std.specs.Prelude.{◌≡◌, ◌≢◌, ◌<◌, ◌^◌, ℕ, [], length, true, IfOk, None, OnErr, OnOk, IsSome};
+ghost use Rattle.kl_type.specs.Ground.{IsProper};
+ghost use Rattle.kl_flat.specs.Attaching.{AddsSource, ReadsRows, unread_by};
+ghost use Rattle.kl_flat.specs.Columns.{is_table_type};
 ghost use Rattle.kl_flat.specs.Cursors.{HandsNext, OpensLast};
 ghost use Rattle.kl_flat.specs.Fitting.{are_rows};
 ghost use Rattle.kl_flat.specs.Flat.{asked_source, flat_state, open_at};
@@ -8,7 +11,7 @@ use crate::answering::next_answers;
 use crate::columns::is_table_type;
 use crate::parts::{Open, Source};
 use crate::sources::{find_asked, opened};
-use crate::table::{Table, read_table};
+use crate::table::read_table;
 use kl_ask::{Abilities, Ask, Driver, DriverError, count_ask, sum_asked};
 use kl_base::{Label, NoMemory, Shared, Text};
 use kl_outside::{Files, Stop, Whole, read_whole};
@@ -73,33 +76,22 @@ impl<F: Files + Drop> Driver for FlatDriver<F> {
     }
 
     fn attach(&mut self, source: &Label, locator: &Text, ty: &Ty) -> Result<u64, DriverError> {
-        let bytes = match read_whole(self.alloc, &mut self.files, locator.slice(), MOST_BYTES) {
-            Ok(Whole::Bytes(bytes)) => bytes,
-            Ok(Whole::TooLong) => {
-                self.unread = self.unread.saturating_add(1);
-                return Err(DriverError::TooLong { most: MOST_BYTES });
+        match rows_of_file(self.alloc, &mut self.files, locator.slice(), ty) {
+            Ok(rows) => Ok(add_source(self.alloc, &mut self.sources, source, ty, rows)?),
+            Err(error) => {
+                self.unread = unread_by(error, self.unread);
+                Err(error)
             }
-            Err(Stop::Failed) => return Err(DriverError::Failed),
-            Err(Stop::NoMemory) => return Err(DriverError::NoMemory),
-        };
-        let Table { rows, bad } = read_table(self.alloc, bytes.slice(), ty)?;
-        if let Some(place) = bad {
-            self.unread = self.unread.saturating_add(1);
-            return Err(DriverError::BadSource { place });
         }
-        let count = rows.len() as u64;
-        let made = new_source(self.alloc, source, ty, rows)?;
-        self.sources.push(made)?;
-        Ok(count)
     }
 
     fn start(&mut self, ask: &Ask) -> Result<u64, DriverError> {
-        let cursor = self.cursors.len() as u64;
+        let cursor = self.cursors.len();
         open_cursor(self.alloc, &self.sources, ask, &mut self.cursors)?;
         match count_ask(self.alloc, &mut self.asked, ask) {
-            Ok(()) => Ok(cursor),
+            Ok(()) => Ok(cursor as u64),
             Err(NoMemory) => {
-                self.cursors.pop();
+                self.cursors.truncate(cursor);
                 Err(DriverError::NoMemory)
             }
         }
@@ -135,6 +127,58 @@ impl<F: Files + Drop> Driver for FlatDriver<F> {
     }
 }
 
+// The rows of a file that is a table.
+fn rows_of_file<F: Files>(
+    alloc: Global,
+    files: &mut F,
+    path: &[u8],
+    ty: &Ty,
+) -> Result<Items, DriverError>
+    requires suits { is_table_type ty.now ≡ true }
+    requires proper { IsProper ty.now }
+    ensures { ReadsRows path.now ty.now result (F.state files.old) (F.state files.new) }
+{
+    let bytes = match read_whole(alloc, files, path, MOST_BYTES) {
+        Ok(Whole::Bytes(bytes)) => bytes,
+        Ok(Whole::TooLong) => return Err(DriverError::TooLong { most: MOST_BYTES }),
+        Err(Stop::Failed) => return Err(DriverError::Failed),
+        Err(Stop::NoMemory) => return Err(DriverError::NoMemory),
+    };
+    let table = read_table(alloc, bytes.slice(), ty)?;
+    match table.bad {
+        Some(place) => Err(DriverError::BadSource { place }),
+        None => Ok(table.rows),
+    }
+}
+
+// The count of unreadable sources after a refusal. It stands still at its greatest value.
+fn unread_by(error: DriverError, unread: u64) -> u64
+    ensures { result ≡ unread_by error unread }
+{
+    match error {
+        DriverError::BadSource { .. } | DriverError::TooLong { .. } => unread.saturating_add(1),
+        _ => unread,
+    }
+}
+
+// Adds a source of this name, with these rows, and says how many they are.
+fn add_source(
+    alloc: Global,
+    sources: &mut Vec<Source>,
+    name: &Label,
+    ty: &Ty,
+    rows: Items,
+) -> Result<u64, NoMemory>
+    requires { are_rows ty.now rows ≡ true }
+    ensures added { IfOk result (AddsSource name.now ty.now rows sources.old.items sources.new.items) }
+    ensures refused { OnErr result (sources.new.items ≡ sources.old.items) }
+{
+    let count = rows.len() as u64;
+    let made = new_source(alloc, name, ty, rows)?;
+    sources.push(made)?;
+    Ok(count)
+}
+
 // A source of this name, with these rows.
 fn new_source(alloc: Global, name: &Label, ty: &Ty, rows: Items) -> Result<Source, NoMemory>
     requires small { length rows < 2 ^ 64 }
@@ -143,9 +187,9 @@ fn new_source(alloc: Global, name: &Label, ty: &Ty, rows: Items) -> Result<Sourc
     ensures ty { IfOk result (λ s. s.ty ≡ ty.now) }
     ensures rows { IfOk result (λ s. s.rows ≡ rows) }
 {
+    let rows = Shared::new(alloc, rows)?;
     let name = name.dup()?;
     let ty = Shared::new(alloc, ty.dup(alloc)?)?;
-    let rows = Shared::new(alloc, rows)?;
     Ok(Source { name, ty, rows })
 }
 

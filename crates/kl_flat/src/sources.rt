@@ -42,11 +42,14 @@ pub fn opened(alloc: Global, source: &Source, ask: &Ask) -> Result<Open, NoMemor
     ensures rows { IfOk result (λ o. o.rows ≡ source.now.rows) }
     ensures start { IfOk result (λ o. o.at ≡ 0) }
 {
+    let ty = source.ty.dup()?;
+    let rows = source.rows.dup()?;
     let places = kept_places(alloc, keep_of(ask), columns_of(source.ty.get()))?;
+    let ask = ask.dup(alloc)?;
     Ok(Open {
-        ask: ask.dup(alloc)?,
-        ty: source.ty.dup()?,
-        rows: source.rows.dup()?,
+        ask,
+        ty,
+        rows,
         places: Seq::of(places),
         at: 0,
     })

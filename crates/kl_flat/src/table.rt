@@ -1,5 +1,5 @@
 //! Reads a table.
-ghost use Rattle.std.specs.Prelude.{◌≡◌, ◌≢◌, [], false, map, IfOk, IsTrue, MatchOption, Some};
+ghost use Rattle.std.specs.Prelude.{◌≡◌, ◌≢◌, ◌∷◌, [], false, map, IfOk, IsTrue, MatchOption, Some};
 ghost use Rattle.csv.specs.Records.{field_at, fields_of};
 ghost use Rattle.std.specs.List.{AllByRecursion};
 ghost use Rattle.kl_type.specs.Ground.{IsProper, ground_of};
@@ -8,7 +8,7 @@ ghost use Rattle.kl_outcome.specs.Typed.{Inhabits};
 ghost use Rattle.kl_flat.specs.Columns.{is_table_type};
 ghost use Rattle.kl_flat.specs.Places.{ArePlaces};
 ghost use Rattle.kl_flat.specs.Records.{IsPlain, records_left};
-ghost use Rattle.kl_flat.specs.Table.{bad_record, first_missing, front_of, is_header, row_in, table_rows, times};
+ghost use Rattle.kl_flat.specs.Table.{bad_in, bad_record, first_missing, front_of, is_header, row_in, rows_in, table_rows, times};
 
 use crate::cells::cell_value;
 use crate::columns::columns_of;
@@ -47,16 +47,42 @@ pub fn read_table(alloc: Global, bytes: &[u8], ty: &Ty) -> Result<Table, NoMemor
     if bytes.starts_with(b"\xEF\xBB\xBF\xEF\xBB\xBF") {
         return Ok(without_header(alloc));
     }
-    let columns = columns_of(ty);
     let mut reader = reader(alloc, bytes);
+    read_records(alloc, &mut reader, columns_of(ty))
+}
+
+// The table whose records are left.
+fn read_records(
+    alloc: Global,
+    reader: &mut Reader<&[u8]>,
+    columns: &[(Label, Ty)],
+) -> Result<Table, NoMemory>
+    requires { IsPlain reader.old }
+    ensures rows { IfOk result (λ t. t.rows ≡ rows_in columns.now (records_left reader.old)) }
+    ensures bad { IfOk result (λ t. t.bad ≡ bad_in columns.now (records_left reader.old)) }
+{
     let mut header = ByteRecord::new(alloc);
-    if !next_record(&mut reader, &mut header)? {
+    if !next_record(reader, &mut header)? {
         return Ok(without_header(alloc));
     }
-    let Some(places) = places_of(alloc, columns, &header)? else {
-        return Ok(without_header(alloc));
-    };
-    read_rows(alloc, &mut reader, columns, &header, &places)
+    read_under(alloc, reader, columns, &header)
+}
+
+// The table whose header this is, and whose other records are left.
+fn read_under(
+    alloc: Global,
+    reader: &mut Reader<&[u8]>,
+    columns: &[(Label, Ty)],
+    header: &ByteRecord,
+) -> Result<Table, NoMemory>
+    requires { IsPlain reader.old }
+    ensures rows { IfOk result (λ t. t.rows ≡ rows_in columns.now (fields_of header.now ∷ records_left reader.old)) }
+    ensures bad { IfOk result (λ t. t.bad ≡ bad_in columns.now (fields_of header.now ∷ records_left reader.old)) }
+{
+    match places_of(alloc, columns, header)? {
+        Some(places) => read_rows(alloc, reader, columns, header, &places),
+        None => Ok(without_header(alloc)),
+    }
 }
 
 // A table whose header is bad.
@@ -76,7 +102,8 @@ fn places_of(
     columns: &[(Label, Ty)],
     header: &ByteRecord,
 ) -> Result<Option<Vec<usize>>, NoMemory>
-    ensures { IfOk result (λ found. MatchOption found (is_header columns.now (fields_of header.now) ≡ false) (λ places. ArePlaces columns.now (fields_of header.now) places.items)) }
+    ensures { IfOk result (λ found. MatchOption found (is_header columns.now (fields_of header.now) ≡ false)
+        (λ places. ArePlaces columns.now (fields_of header.now) places.items)) }
 {
     let mut places = Vec::with_capacity(alloc, columns.len())?;
     for column in columns {
@@ -90,7 +117,8 @@ fn places_of(
 
 // The place of the one field with these bytes.
 fn only_place(header: &ByteRecord, name: &[u8]) -> Option<usize>
-    ensures { MatchOption result (times name.now (fields_of header.now) ≢ 1) (λ i. (times name.now (fields_of header.now) ≡ 1) × (field_at (fields_of header.now) i ≡ Some name.now)) }
+    ensures { MatchOption result (times name.now (fields_of header.now) ≢ 1)
+        (λ i. (times name.now (fields_of header.now) ≡ 1) × (field_at (fields_of header.now) i ≡ Some name.now)) }
 {
     let mut found = None;
     for i in 0..header.len() {

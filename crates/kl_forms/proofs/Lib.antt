@@ -1,4 +1,5 @@
 pub mod Fronts
+pub mod Looking
 pub mod Many
 pub mod Opening
 pub mod OverRows

@@ -152,16 +152,3 @@ refused old new E D r go = record {
   down = λ s h d. (let w = go s d in absurd (r.none s w.0 h w.1 w.2));
   up = λ e s h. absurd_true _ e;
 }
-
--- a number that was there, where a check asks that it is what is said
-pub opens_there : (old new : List Cell) (item : ℕ) (E : Ground → Fact) (D : Fact) → IsType old item → ((s : Assignment) (t : Ground) → E t s → D s × (s.types item ≡ t)) → ((s : Assignment) → D s → E (s.types item) s) → Checks true old new D → OpensItem old new item E
-opens_there old new item E D there go come c = record {
-  fine = c.fine;
-  keeps = c.keeps;
-  sort = c.keeps.sorts item a_type there;
-  down = λ s t h g e.
-      let d = go s t e in
-      let z = (c.down s h d.0).1 in
-      record { to = z.to; agrees = z.agrees; solves = z.solves; holds = z.agrees.types item (type_within old item there) ∙ d.1 };
-  up = λ s h. let w = c.up refl s h in (w.0, come s w.1);
-}

@@ -16,7 +16,7 @@ use Rattle.kl_rows.proofs.ListLemmas.{Label, field_here, field_there, all_at}
 use Rattle.kl_rows.proofs.Advancing.{agrees_on, keeps_on}
 use Rattle.kl_forms.specs.Checks.{Checks, OpensMany}
 use Rattle.kl_forms.specs.Forms.{HasFields, IsRecord}
-use Rattle.kl_forms.specs.Constants.{ValueFields, labelled, row_with, EachHas, TakesFields}
+use Rattle.kl_forms.specs.Constants.{ValueFields, numbered, row_with, EachHas, TakesFields}
 use Rattle.kl_forms.proofs.Opening.{type_within}
 use Rattle.kl_forms.proofs.Fronts.{at_label, others_of}
 
@@ -64,15 +64,15 @@ module _ (g : ℕ → Ground) where
       by l (Some n) e = all_at (λ k v. at k r ≡ Some (g v)) fs l n each e ∙ sym (at_row_by fs l ∙ ap (option_map g) e)
 
 -- labels with numbers
-labels_same : (fs : ValueFields) (is : List ℕ) → length is ≡ length fs → labels_of (labelled fs is) ≡ labels_of fs
+labels_same : (fs : ValueFields) (is : List ℕ) → length is ≡ length fs → labels_of (numbered fs is) ≡ labels_of fs
 labels_same [] is e = refl
 labels_same (f ∷ fs) [] e = absurd (omega arith)
 labels_same (f ∷ fs) (i ∷ is) e = ap (λ ls. f.0 ∷ ls) (labels_same fs is (omega arith))
 
-labelled_rise : (fs : ValueFields) (is : List ℕ) → length is ≡ length fs → LabelsRise fs → LabelsRise (labelled fs is)
+labelled_rise : (fs : ValueFields) (is : List ℕ) → length is ≡ length fs → LabelsRise fs → LabelsRise (numbered fs is)
 labelled_rise fs is e up = subst (IsStrictlySortedBy bytes_cmp) (sym (labels_same fs is e)) up
 
-row_same : (g : ℕ → Ground) (fs : ValueFields) (is : List ℕ) → row_by g (labelled fs is) ≡ row_with fs (map g is)
+row_same : (g : ℕ → Ground) (fs : ValueFields) (is : List ℕ) → row_by g (numbered fs is) ≡ row_with fs (map g is)
 row_same g [] is = refl
 row_same g (f ∷ fs) [] = refl
 row_same g (f ∷ fs) (i ∷ is) = ap (row f.0 (g i)) (row_same g fs is)
@@ -89,20 +89,20 @@ each_ground (t ∷ ts) [] h g = absurd h
 each_ground (t ∷ ts) (f ∷ fs) h g = (g.1, each_ground ts fs h.1 g.2)
 
 -- fresh types, a record of them, and what each has
-module _ (old mid new : List Cell) (fs : ValueFields) (is : List ℕ) (n want : ℕ) (ans : Bool) (lab : Fields) (up : LabelsRise fs) (size : n ≡ length fs) (there : IsType old want) (many : OpensMany old mid is n) (is_lab : lab ≡ labelled fs is) where
+module _ (old mid new : List Cell) (fs : ValueFields) (is : List ℕ) (n want : ℕ) (ans : Bool) (lab : Fields) (up : LabelsRise fs) (size : n ≡ length fs) (there : IsType old want) (many : OpensMany old mid is n) (is_lab : lab ≡ numbered fs is) where
   long : length is ≡ length fs
   long = many.size ∙ size
 
   record_down : (s : Assignment) (ts : List Ground) → s.types want ≡ rec (row_with fs ts) → map s.types is ≡ ts → IsRecord false lab want s
   record_down s ts e k =
-      let same : row_by s.types (labelled fs is) ≡ row_with fs ts = row_same s.types fs is ∙ ap (row_with fs) k in
+      let same : row_by s.types (numbered fs is) ≡ row_with fs ts = row_same s.types fs is ∙ ap (row_with fs) k in
       subst (λ l. IsRecord false l want s) (sym is_lab)
-      (row_by s.types (labelled fs is), e ∙ ap rec (sym same), (each_at s.types (labelled fs is) (labelled_rise fs is long up), λ l. some_field s.types (labelled fs is) l))
+      (row_by s.types (numbered fs is), e ∙ ap rec (sym same), (each_at s.types (numbered fs is) (labelled_rise fs is long up), λ l. some_field s.types (numbered fs is) l))
 
   record_up : (s : Assignment) → IsRecord false lab want s → s.types want ≡ rec (row_with fs (map s.types is))
   record_up s d =
       let k = subst (λ l. HasFields false l d.0 s) is_lab d.2 in
-      d.1 ∙ ap rec (same_row s.types (labelled fs is) d.0 (labelled_rise fs is long up) s.types_ground (subst IsGround d.1 (s.types_ground want)) k.0 k.1 ∙ row_same s.types fs is)
+      d.1 ∙ ap rec (same_row s.types (numbered fs is) d.0 (labelled_rise fs is long up) s.types_ground (subst IsGround d.1 (s.types_ground want)) k.0 k.1 ∙ row_same s.types fs is)
 
   pub record_checks : Checks ans mid new (λ s. IsRecord false lab want s × EachHas (map s.types is) fs) → Checks ans old new (TakesFields fs want)
   record_checks c = record {
@@ -117,32 +117,32 @@ module _ (old mid new : List Cell) (fs : ValueFields) (is : List ℕ) (n want : 
   }
 
 -- a list of labels with numbers, as far as the loop has come
-pub labels_start : (all : Fields) (fs : ValueFields) (is : List ℕ) → all ≡ [] → all ++ labelled (drop 0 fs) (drop 0 is) ≡ labelled fs is
-labels_start all fs is e = ap (λ l. l ++ labelled fs is) e
+pub labels_start : (all : Fields) (fs : ValueFields) (is : List ℕ) → all ≡ [] → all ++ numbered (drop 0 fs) (drop 0 is) ≡ numbered fs is
+labels_start all fs is e = ap (λ l. l ++ numbered fs is) e
 
 pub labels_turn : (all after : Fields) (fs : ValueFields) (is : List ℕ) (k : ℕ) (d : List ℕ × Value) (l : List ℕ) → k < length fs → length is ≡ length fs → l ≡ (get_or fs k d).0 → after ≡ all ++ (l, get_or is k 0) ∷ []
-    → all ++ labelled (drop k fs) (drop k is) ≡ labelled fs is → after ++ labelled (drop (k + 1) fs) (drop (k + 1) is) ≡ labelled fs is
+    → all ++ numbered (drop k fs) (drop k is) ≡ numbered fs is → after ++ numbered (drop (k + 1) fs) (drop (k + 1) is) ≡ numbered fs is
 labels_turn all after fs is k d l lt size same more h =
     let f = get_or fs k d in
     let next : suc k ≡ k + 1 = omega arith in
     let first : drop k fs ≡ f ∷ drop (k + 1) fs = drop-cons fs k d lt ∙ ap (λ j. f ∷ drop j fs) next in
     let second : drop k is ≡ get_or is k 0 ∷ drop (k + 1) is = drop-cons is k 0 (omega arith) ∙ ap (λ j. get_or is k 0 ∷ drop j is) next in
-    let split : labelled (drop k fs) (drop k is) ≡ (l, get_or is k 0) ∷ labelled (drop (k + 1) fs) (drop (k + 1) is)
-    = ap (λ x. labelled x (drop k is)) first ∙ (ap (λ x. labelled (f ∷ drop (k + 1) fs) x) second ∙ ap (λ x. (x, get_or is k 0) ∷ labelled (drop (k + 1) fs) (drop (k + 1) is)) (sym same)) in
-    ap (λ x. x ++ labelled (drop (k + 1) fs) (drop (k + 1) is)) more ∙ (join all (l, get_or is k 0) (labelled (drop (k + 1) fs) (drop (k + 1) is)) ∙ (ap (λ x. all ++ x) (sym split) ∙ h))
+    let split : numbered (drop k fs) (drop k is) ≡ (l, get_or is k 0) ∷ numbered (drop (k + 1) fs) (drop (k + 1) is)
+    = ap (λ x. numbered x (drop k is)) first ∙ (ap (λ x. numbered (f ∷ drop (k + 1) fs) x) second ∙ ap (λ x. (x, get_or is k 0) ∷ numbered (drop (k + 1) fs) (drop (k + 1) is)) (sym same)) in
+    ap (λ x. x ++ numbered (drop (k + 1) fs) (drop (k + 1) is)) more ∙ (join all (l, get_or is k 0) (numbered (drop (k + 1) fs) (drop (k + 1) is)) ∙ (ap (λ x. all ++ x) (sym split) ∙ h))
   where
     join : (xs : Fields) (x : List ℕ × ℕ) (ys : Fields) → (xs ++ x ∷ []) ++ ys ≡ xs ++ x ∷ ys
     join [] x ys = refl
     join (y ∷ xs) x ys = ap (λ l. y ∷ l) (join xs x ys)
 
-pub labels_end : (all : Fields) (fs : ValueFields) (is : List ℕ) (k : ℕ) → length fs ≤ k → all ++ labelled (drop k fs) (drop k is) ≡ labelled fs is → all ≡ labelled fs is
-labels_end all fs is k past h = sym (nil all) ∙ (ap (λ x. all ++ labelled x (drop k is)) (sym (drop_all k fs past)) ∙ h)
+pub labels_end : (all : Fields) (fs : ValueFields) (is : List ℕ) (k : ℕ) → length fs ≤ k → all ++ numbered (drop k fs) (drop k is) ≡ numbered fs is → all ≡ numbered fs is
+labels_end all fs is k past h = sym (nil all) ∙ (ap (λ x. all ++ numbered x (drop k is)) (sym (drop_all k fs past)) ∙ h)
   where
     nil : (xs : Fields) → xs ++ [] ≡ xs
     nil [] = refl
     nil (x ∷ xs) = ap (λ l. x ∷ l) (nil xs)
 
-pub labelled_types : (ns : List Cell) (fs : ValueFields) (is : List ℕ) → AllByRecursion (IsType ns) is → AreTypes ns (labelled fs is)
+pub labelled_types : (ns : List Cell) (fs : ValueFields) (is : List ℕ) → AllByRecursion (IsType ns) is → AreTypes ns (numbered fs is)
 labelled_types ns [] is h = tt
 labelled_types ns (f ∷ fs) [] h = tt
 labelled_types ns (f ∷ fs) (i ∷ is) h = (h.0, labelled_types ns fs is h.1)

@@ -1,20 +1,19 @@
 -- Checks, one after another: what is asked is put together from the last step to the first.
 use Rattle.std.proofs.Common.{◌≡◌, ℕ, Bool, true, false, List, length, refl, sym, ap, ◌∙◌, subst}
 use Rattle.kl_value.specs.declared.value.Kind.{Kind}
-use Rattle.kl_type.specs.Ground.{Ground, Row, IsGround, IsRow}
+use Rattle.kl_type.specs.Ground.{Ground, IsGround}
 use Rattle.kl_rows.specs.declared.cell.TypeNode.{TypeNode}
-use Rattle.kl_rows.specs.declared.cell.RowNode.{RowNode}
 use Rattle.kl_rows.specs.declared.cell.KindNode.{KindNode}
 use Rattle.kl_rows.specs.declared.cell.Cell.{Cell}
-use Rattle.kl_rows.specs.declared.cell.Cell.TheVariants.{OfType, OfRow, OfKind}
+use Rattle.kl_rows.specs.declared.cell.Cell.TheVariants.{OfType, OfKind}
 use Rattle.kl_rows.specs.Places.{IsFine, IsType, sort_at}
-use Rattle.kl_rows.specs.Solutions.{Assignment, TypeSays, RowSays, KindSays, Solves}
+use Rattle.kl_rows.specs.Solutions.{Assignment, TypeSays, KindSays, Solves}
 use Rattle.kl_rows.specs.Steps.{Agrees, Advances}
 use Rattle.kl_rows.specs.Making.{CanMake, AddsCell}
 use Rattle.kl_rows.specs.declared.schemes.Scheme.{Scheme}
 use Rattle.kl_rows.specs.Schemes.{Instance, Instantiates, cells_of, given}
 use Rattle.kl_rows.proofs.Advancing.{Fact, agrees_refl, agrees_on, keeps_refl, keeps_on, absurd_true}
-use Rattle.kl_rows.proofs.Growing.{grown_type, grown_row, grown_kind}
+use Rattle.kl_rows.proofs.Growing.{grown_type, grown_kind}
 use Rattle.kl_forms.specs.Checks.{Checks}
 
 -- D speaks of numbers below n alone
@@ -71,19 +70,6 @@ module _ (old new : List Cell) (i : ℕ) (fine : IsFine old) where
         let z = c.down w.to w.solves (go w.to (subst (λ t. E t w.to) (sym w.holds) (stable d.0 s w.to w.agrees d.3))) in
         (z.0, record { to = z.1.to; agrees = let le = adds.keeps.grows in agrees_on (length old) (length new) s w.to z.1.to le w.agrees z.1.agrees; solves = z.1.solves; holds = tt });
     up = λ t s h. let w = c.up t s h in let z = (adds.solves s).0 w.0 in (z.0, (s.types i, s.types_ground i, z.1, come s w.1));
-  }
-
-  pub with_row : (n : RowNode) → CanMake old (OfRow n) → AddsCell old new (OfRow n) i → (ans : Bool) (end : List Cell) (D : Fact) (E : Row → Fact) → ((r : Row) → Stable (length old) (E r))
-      → ((s : Assignment) → E (s.rows i) s → D s) → ((s : Assignment) → D s → E (s.rows i) s) → Checks ans new end D
-      → Checks ans old end (λ s. (r : Row) × IsRow r × RowSays n s r × E r s)
-  with_row n can adds ans end D E stable go come c = record {
-    fine = c.fine;
-    keeps = keeps_on old new end adds.keeps c.keeps;
-    down = λ s h d.
-        let w = grown_row old new i fine n can adds s h d.0 d.1 d.2 in
-        let z = c.down w.to w.solves (go w.to (subst (λ t. E t w.to) (sym w.holds) (stable d.0 s w.to w.agrees d.3))) in
-        (z.0, record { to = z.1.to; agrees = let le = adds.keeps.grows in agrees_on (length old) (length new) s w.to z.1.to le w.agrees z.1.agrees; solves = z.1.solves; holds = tt });
-    up = λ t s h. let w = c.up t s h in let z = (adds.solves s).0 w.0 in (z.0, (s.rows i, s.rows_ground i, z.1, come s w.1));
   }
 
   pub with_kind : (n : KindNode) → CanMake old (OfKind n) → AddsCell old new (OfKind n) i → (ans : Bool) (end : List Cell) (D : Fact) (E : Kind → Fact) → ((k : Kind) → Stable (length old) (E k))

@@ -19,7 +19,7 @@ use Rattle.kl_rows.specs.Lists.{Fields}
 use Rattle.kl_rows.specs.Places.{IsFine, IsType}
 use Rattle.kl_forms.specs.Checks.{Checks, OpensItem, LeavesNone, OpensMany}
 use Rattle.kl_forms.specs.Forms.{ItemsOf, VariantOf, IsOfType, IsRecord}
-use Rattle.kl_forms.specs.Constants.{ValueFields, TakesItems, TakesFields, EachHas, labelled}
+use Rattle.kl_forms.specs.Constants.{ValueFields, TakesItems, TakesFields, EachHas, numbered}
 use Rattle.kl_forms.proofs.Steps.{never, told}
 use Rattle.kl_forms.proofs.Opening.{opened, refused}
 use Rattle.kl_forms.proofs.Many.{same_all}
@@ -95,7 +95,7 @@ module _ (old mid : List Cell) (want : ℕ) (k : Kind) (vs : List Value) where
   takes_none r = refused old mid (ItemsOf k want) (TakesItems k vs want) r (λ s d. (d.0, items_ground s want k d.0 d.1, d.1))
 
 -- records
-module _ (old mid made : List Cell) (fs : ValueFields) (is : List ℕ) (want : ℕ) (one : Bool) (lab : Fields) (up : LabelsRise fs) (there : IsType old want) (many : OpensMany old mid is (length fs)) (is_lab : lab ≡ labelled fs is) (check : Checks one mid made (IsRecord false lab want)) where
+module _ (old mid made : List Cell) (fs : ValueFields) (is : List ℕ) (want : ℕ) (one : Bool) (lab : Fields) (up : LabelsRise fs) (there : IsType old want) (many : OpensMany old mid is (length fs)) (is_lab : lab ≡ numbered fs is) (check : Checks one mid made (IsRecord false lab want)) where
   pub takes_fields : (new : List Cell) (ans : Bool) (js : List ℕ) → js ≡ is → one ≡ true → Checks ans made new (λ s. EachHas (map s.types js) fs) → Checks ans old new (TakesFields fs want)
   takes_fields new ans js same e c = record_checks old mid new fs is (length fs) want ans lab up refl there many is_lab
       (and_then one ans mid made new _ _ e (λ s u a d. subst (λ ts. EachHas ts fs) (sym (same_all mid s u is a many.sorts)) d) check (subst (λ js. Checks ans made new (λ s. EachHas (map s.types js) fs)) same c))

@@ -15,10 +15,10 @@ abbrev pub TakesItems : Kind → List Value → ℕ → Assignment → Type 0
 TakesItems k vs want s = (a : Ground) × (s.types want ≡ coll k a) × All (Inhabits a) vs
 
 -- the labels of the fields, with numbers, and with types
-abbrev pub labelled : ValueFields → List ℕ → Fields
-labelled [] is = []
-labelled (f ∷ fs) [] = []
-labelled (f ∷ fs) (i ∷ is) = (f.0, i) ∷ labelled fs is
+abbrev pub numbered : ValueFields → List ℕ → Fields
+numbered [] is = []
+numbered (f ∷ fs) [] = []
+numbered (f ∷ fs) (i ∷ is) = (f.0, i) ∷ numbered fs is
 
 abbrev pub row_with : ValueFields → List Ground → Row
 row_with [] ts = no_row

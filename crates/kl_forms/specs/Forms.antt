@@ -28,6 +28,10 @@ FieldOf l want t s = (r : Row) × (s.types want ≡ rec r) × (at l r ≡ Some t
 abbrev pub VariantOf : List ℕ → ℕ → Ground → Assignment → Type 0
 VariantOf l want t s = (r : Row) × (s.types want ≡ var r) × (at l r ≡ Some t)
 
+-- what a row has at a label
+abbrev pub InRow : List ℕ → ℕ → Ground → Assignment → Type 0
+InRow l row t s = at l (s.rows row) ≡ Some t
+
 -- the row has a label only where these have it, unless it is open
 abbrev pub HasNoOthers : Bool → Fields → Row → Type 0
 HasNoOthers true fs r = ⊤

@@ -9,7 +9,7 @@ ghost use Rattle.kl_outcome.specs.Typed.{Inhabits};
 ghost use Rattle.kl_rows.specs.Places.{IsFine, IsType};
 ghost use Rattle.kl_forms.specs.Checks.{Checks};
 ghost use Rattle.kl_forms.specs.Forms.{IsOfType};
-ghost use Rattle.kl_forms.specs.Constants.{TakesItems, TakesFields, EachHas, labelled};
+ghost use Rattle.kl_forms.specs.Constants.{TakesItems, TakesFields, EachHas, numbered};
 
 use crate::collections::{fresh_types, items_of};
 use crate::records::{is_record, variant_of};
@@ -131,7 +131,7 @@ fn with_labels(
     types: &[u64],
 ) -> Result<Vec<(Label, u64)>, NoMemory>
     requires size { length types.now ≡ length fields.now }
-    ensures { IfOk result (λ all. all.items ≡ labelled fields.now types.now) }
+    ensures { IfOk result (λ all. all.items ≡ numbered fields.now types.now) }
 {
     let mut all = Vec::with_capacity(alloc, fields.len())?;
     for i in 0..fields.len() {

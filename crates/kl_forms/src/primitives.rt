@@ -80,7 +80,8 @@ fn takes_two(
     requires first_there { IsType u.old.cells.items first }
     requires second_there { IsType u.old.cells.items second }
     requires there { IsType u.old.cells.items want }
-    ensures { IfOk result (λ holds. Checks holds u.old.cells.items u.new.cells.items (λ s. ShapeTypes shape (s.types first ∷ s.types second ∷ []) (s.types want))) }
+    ensures { IfOk result (λ holds. Checks holds u.old.cells.items u.new.cells.items
+        (λ s. ShapeTypes shape (s.types first ∷ s.types second ∷ []) (s.types want))) }
 {
     match shape {
         Shape::Compare => is_compared(u, first, second, want),
@@ -115,7 +116,8 @@ fn are_scalars(
     requires fine { IsFine u.old.cells.items }
     requires arg_there { IsType u.old.cells.items arg }
     requires there { IsType u.old.cells.items want }
-    ensures { IfOk result (λ holds. Checks holds u.old.cells.items u.new.cells.items (λ s. (s.types arg ≡ scalar_type from) × (s.types want ≡ scalar_type to))) }
+    ensures { IfOk result (λ holds. Checks holds u.old.cells.items u.new.cells.items (λ s. (s.types arg ≡ scalar_type from)
+        × (s.types want ≡ scalar_type to))) }
 {
     let takes = is_scalar(u, from, arg)?;
     if !takes {
@@ -138,7 +140,8 @@ fn are_alike(
     requires first_there { IsType u.old.cells.items first }
     requires second_there { IsType u.old.cells.items second }
     requires there { IsType u.old.cells.items want }
-    ensures { IfOk result (λ holds. Checks holds u.old.cells.items u.new.cells.items (λ s. (s.types first ≡ scalar_type from) × ((s.types second ≡ scalar_type from) × (s.types want ≡ scalar_type to)))) }
+    ensures { IfOk result (λ holds. Checks holds u.old.cells.items u.new.cells.items (λ s. (s.types first ≡ scalar_type from)
+        × ((s.types second ≡ scalar_type from) × (s.types want ≡ scalar_type to)))) }
 {
     let takes = is_scalar(u, from, first)?;
     if !takes {
@@ -154,7 +157,8 @@ fn is_compared(u: &mut Unifier, first: u64, second: u64, want: u64) -> Result<bo
     requires first_there { IsType u.old.cells.items first }
     requires second_there { IsType u.old.cells.items second }
     requires there { IsType u.old.cells.items want }
-    ensures { IfOk result (λ holds. Checks holds u.old.cells.items u.new.cells.items (λ s. (s.types first ≡ s.types second) × (s.types want ≡ scalar_type Scalar.Bool))) }
+    ensures { IfOk result (λ holds. Checks holds u.old.cells.items u.new.cells.items (λ s. (s.types first ≡ s.types second)
+        × (s.types want ≡ scalar_type Scalar.Bool))) }
 {
     let takes = same(u, first, second)?;
     if !takes {
@@ -170,7 +174,8 @@ fn is_member(u: &mut Unifier, item: u64, all: u64, want: u64) -> Result<bool, No
     requires item_there { IsType u.old.cells.items item }
     requires all_there { IsType u.old.cells.items all }
     requires there { IsType u.old.cells.items want }
-    ensures { IfOk result (λ holds. Checks holds u.old.cells.items u.new.cells.items (λ s. (DrawnFrom all (s.types item) s) × (s.types want ≡ scalar_type Scalar.Bool))) }
+    ensures { IfOk result (λ holds. Checks holds u.old.cells.items u.new.cells.items (λ s. (DrawnFrom all (s.types item) s)
+        × (s.types want ≡ scalar_type Scalar.Bool))) }
 {
     let takes = has_any_items(u, item, all)?;
     if !takes {
@@ -199,7 +204,8 @@ fn is_told(u: &mut Unifier, arg: u64, to: Scalar, want: u64) -> Result<bool, NoM
     requires fine { IsFine u.old.cells.items }
     requires arg_there { IsType u.old.cells.items arg }
     requires there { IsType u.old.cells.items want }
-    ensures { IfOk result (λ holds. Checks holds u.old.cells.items u.new.cells.items (λ s. (k : Kind) × (a : Ground) × (s.types arg ≡ coll k a) × (s.types want ≡ scalar_type to))) }
+    ensures { IfOk result (λ holds. Checks holds u.old.cells.items u.new.cells.items (λ s. (k : Kind) × (a : Ground) × (s.types arg ≡ coll k a)
+        × (s.types want ≡ scalar_type to))) }
 {
     let Some(_) = any_items_of(u, arg)? else {
         return Ok(false);
@@ -258,7 +264,8 @@ fn is_turned(u: &mut Unifier, arg: u64, kind: Kind, want: u64) -> Result<bool, N
     requires fine { IsFine u.old.cells.items }
     requires arg_there { IsType u.old.cells.items arg }
     requires there { IsType u.old.cells.items want }
-    ensures { IfOk result (λ holds. Checks holds u.old.cells.items u.new.cells.items (λ s. (k : Kind) × (a : Ground) × (s.types arg ≡ coll k a) × (s.types want ≡ coll kind a))) }
+    ensures { IfOk result (λ holds. Checks holds u.old.cells.items u.new.cells.items (λ s. (k : Kind) × (a : Ground) × (s.types arg ≡ coll k a)
+        × (s.types want ≡ coll kind a))) }
 {
     let Some(item) = any_items_of(u, arg)? else {
         return Ok(false);

@@ -1,15 +1,15 @@
 //! Records and variants.
-ghost use Rattle.std.specs.Prelude.{◌≡◌, [], IfOk, map};
+ghost use Rattle.std.specs.Prelude.{◌≡◌, [], IfOk, map, true};
 ghost use Rattle.kl_base.specs.Fields.{bytes_cmp};
 ghost use Rattle.kl_base.specs.Sorted.{IsRising};
-ghost use Rattle.kl_rows.specs.Places.{IsFine, IsType, AreTypes};
+ghost use Rattle.kl_rows.specs.Places.{IsFine, IsType, IsRowAt, AreTypes};
 ghost use Rattle.kl_forms.specs.Checks.{Checks, Finds};
-ghost use Rattle.kl_forms.specs.Forms.{FieldOf, VariantOf, IsRecord, IsVariant};
+ghost use Rattle.kl_forms.specs.Forms.{FieldOf, VariantOf, HasFields, InRow, IsRecord, IsVariant};
 ghost use Rattle.kl_forms.specs.Rows.{FindsRow, Fronts, next};
 
 use crate::types::same;
 use kl_base::{Label, NoMemory, labels_of};
-use kl_rows::{Node, Unifier};
+use kl_rows::{Node, Spot, TypeNode, Unifier};
 use std::alloc::Global;
 
 // The first number, if it stands at the label.
@@ -129,8 +129,72 @@ pub fn is_variant(
     }
 }
 
+// What a row has at the label. None where it can have none. What is known of the row is not said anew.
+fn in_row(u: &mut Unifier, label: &Label, row: u64) -> Result<Option<u64>, NoMemory>
+    requires fine { IsFine u.old.cells.items }
+    requires there { IsRowAt u.old.cells.items row }
+    ensures { IfOk result (λ found. Finds found u.old.cells.items u.new.cells.items (InRow label.now row)) }
+{
+    match u.spot(row, label) {
+        Spot::At(item) => Ok(Some(item)),
+        Spot::Behind(end) => {
+            let found = at_end(u, label, end)?;
+            Ok(found)
+        }
+    }
+}
+
+// The same of a row that is not known to have the label.
+fn at_end(u: &mut Unifier, label: &Label, end: u64) -> Result<Option<u64>, NoMemory>
+    requires fine { IsFine u.old.cells.items }
+    requires there { IsRowAt u.old.cells.items end }
+    ensures { IfOk result (λ found. Finds found u.old.cells.items u.new.cells.items (InRow label.now end)) }
+{
+    let item = u.fresh_type()?;
+    let fields = vec![in u.alloc; (label.dup()?, item)]?;
+    let holds = has_fields(u, fields, end)?;
+    if !holds {
+        return Ok(None);
+    }
+    Ok(Some(item))
+}
+
+// Whether a row can have these fields, and others.
+fn has_fields(u: &mut Unifier, fields: Vec<(Label, u64)>, end: u64) -> Result<bool, NoMemory>
+    requires fine { IsFine u.old.cells.items }
+    requires there { IsRowAt u.old.cells.items end }
+    requires fields_there { AreTypes u.old.cells.items fields.items }
+    ensures { IfOk result (λ holds. Checks holds u.old.cells.items u.new.cells.items (λ s. HasFields true fields.items (s.rows end) s)) }
+{
+    match row_of(u, fields, true)? {
+        None => Ok(false),
+        Some(row) => {
+            let holds = u.merge(row, end)?;
+            Ok(holds)
+        }
+    }
+}
+
 /// What a record has at the label. None where the type can have none.
 pub fn field_of(u: &mut Unifier, label: &Label, want: u64) -> Result<Option<u64>, NoMemory>
+    requires fine { IsFine u.old.cells.items }
+    requires there { IsType u.old.cells.items want }
+    ensures { IfOk result (λ found. Finds found u.old.cells.items u.new.cells.items (FieldOf label.now want)) }
+{
+    match u.node(want) {
+        TypeNode::Rec(row) => {
+            let found = in_row(u, label, row as u64)?;
+            Ok(found)
+        }
+        _ => {
+            let found = new_field(u, label, want)?;
+            Ok(found)
+        }
+    }
+}
+
+// The same of a type that is not known to be a record.
+fn new_field(u: &mut Unifier, label: &Label, want: u64) -> Result<Option<u64>, NoMemory>
     requires fine { IsFine u.old.cells.items }
     requires there { IsType u.old.cells.items want }
     ensures { IfOk result (λ found. Finds found u.old.cells.items u.new.cells.items (FieldOf label.now want)) }
@@ -146,6 +210,24 @@ pub fn field_of(u: &mut Unifier, label: &Label, want: u64) -> Result<Option<u64>
 
 /// What a variant has at the label. None where the type can have none.
 pub fn variant_of(u: &mut Unifier, label: &Label, want: u64) -> Result<Option<u64>, NoMemory>
+    requires fine { IsFine u.old.cells.items }
+    requires there { IsType u.old.cells.items want }
+    ensures { IfOk result (λ found. Finds found u.old.cells.items u.new.cells.items (VariantOf label.now want)) }
+{
+    match u.node(want) {
+        TypeNode::Var(row) => {
+            let found = in_row(u, label, row as u64)?;
+            Ok(found)
+        }
+        _ => {
+            let found = new_variant(u, label, want)?;
+            Ok(found)
+        }
+    }
+}
+
+// The same of a type that is not known to be a variant.
+fn new_variant(u: &mut Unifier, label: &Label, want: u64) -> Result<Option<u64>, NoMemory>
     requires fine { IsFine u.old.cells.items }
     requires there { IsType u.old.cells.items want }
     ensures { IfOk result (λ found. Finds found u.old.cells.items u.new.cells.items (VariantOf label.now want)) }

@@ -1,15 +1,16 @@
 -- From what was asked to schemes.
-use Rattle.std.proofs.Common.{◌≡◌, inl, inr, ℕ, ◌<◌, ◌≤◌, Bool, true, false, IsTrue, List, [], ◌∷◌, length, slice_get, Option, Some, None, MatchOption, refl, sym, ap, ◌∙◌, subst}
+use Rattle.std.proofs.Common.{◌≡◌, inl, inr, ℕ, ◌≤◌, IsTrue, List, [], ◌∷◌, length, Option, Some, None, MatchOption, refl, sym, ap, ◌∙◌, subst}
 use Rattle.kl_value.specs.declared.Kind.TheVariants as kind
 use Rattle.kl_type.specs.Ground.{Ground, bool, arrow, no_row, IsGround}
 use Rattle.kl_rows.specs.declared.cell.Cell.{Cell}
 use Rattle.kl_rows.specs.declared.cell.Cell.TheVariants.{OfFunction}
 use Rattle.kl_rows.specs.declared.Scheme.{Scheme}
-use Rattle.kl_rows.specs.Places.{Sort, a_type, a_function, a_row, a_kind, sort_at, IsFine, IsType, IsFunction, IsTyped}
+use Rattle.kl_rows.specs.Places.{Sort, a_type, a_function, sort_at, IsFine, IsType, IsFunction, IsTyped}
 use Rattle.kl_rows.specs.Schemes.{Instance, Settles, given}
-use Rattle.kl_rows.specs.Making.{CanMake, AddsCell, HasSort, Same, Unifies}
+use Rattle.kl_rows.specs.Finite.{Solvable}
+use Rattle.kl_rows.specs.Making.{CanMake, AddsCell}
 use Rattle.kl_rows.specs.Solutions.{Assignment, Solves}
-use Rattle.kl_rows.specs.Steps.{Agrees, Grown}
+use Rattle.kl_rows.specs.Steps.{Grown}
 use Rattle.kl_rows.proofs.CellLists.{sort_within}
 use Rattle.kl_rows.proofs.Growing.{grown_function}
 use Rattle.kl_rows.specs.Lists.{Fields}
@@ -21,7 +22,7 @@ use Rattle.kl_infer.specs.Asking.{cells, FollowsTyping, Leaves, Asks, Gets, Gets
 use Rattle.kl_infer.specs.Inferred.{IsPrincipal, IsArrow}
 use Rattle.kl_infer.specs.Names.{IsGood, Ready, meant, sorts}
 use Rattle.kl_infer.specs.declared.scope.Known.{Known}
-use Rattle.kl_infer.proofs.Grounds.{is_type, takes_ground}
+use Rattle.kl_meaning.proofs.Grounds.{takes_ground}
 use Rattle.kl_infer.proofs.Leaving.{told, beside, opens, binds, goes_on, said, ready_on, ready_in, ready_new, still_there}
 use Rattle.kl_infer.proofs.Forms.{first, ground_of_type, known_ground}
 use Rattle.kl_infer.specs.declared.typing.Typing.{Typing}
@@ -38,44 +39,10 @@ arrow_so a b i p q po f e tp tq h = record {
   up = λ s r d. (h.solves s).0 d;
 }
 
-pub root_sort : (ns : List Cell) (i : ℕ) → IsTyped ns i → HasSort ns i i
-root_sort ns i (inl h) = record { sort = a_type; first = h; second = h }
-root_sort ns i (inr h) = record { sort = a_function; first = h; second = h }
-
-same_self : (o : Option Sort) (i : ℕ) (s : Assignment) (q : Sort) → o ≡ Some q → Same o i i s
-same_self (Some a_type) i s q e = refl
-same_self (Some a_function) i s q e = refl
-same_self (Some a_row) i s q e = refl
-same_self (Some a_kind) i s q e = refl
-same_self None i s q e = let d : ⊥ = cc in absurd d
-
-given_agrees : (o : Option Sort) (n i : ℕ) (s u : Assignment) → i < n → Agrees n s u → given o u i ≡ given o s i
-given_agrees (Some a_type) n i s u lt a = a.types i lt
-given_agrees (Some a_function) n i s u lt a = a.functions i lt
-given_agrees (Some a_row) n i s u lt a = a.types i lt
-given_agrees (Some a_kind) n i s u lt a = a.types i lt
-given_agrees None n i s u lt a = a.types i lt
-
-module _ (t : Typing) (new : List Cell) (root : ℕ) (ans : Bool) (sorted : HasSort (cells t) root root) (u : Unifies ans (cells t) new root root) where
-  same : (s : Assignment) → Same (sort_at (cells t) root) root root s
-  same s = same_self (sort_at (cells t) root) root s sorted.sort sorted.first
-
-  pub none_so : ans ≡ false → (s : Assignment) → IsTrue t.possible → Solves (cells t) s → ⊥
-  none_so e s p h = let d : IsTrue ans = u.exact.1 (s, h, same s) in let z : ⊥ = cc in z
-
-  pub concluded_so : (scheme : Scheme) → ans ≡ true → IsTrue t.possible → Settles new root scheme → Concluded t root scheme
-  concluded_so scheme e p h =
-      let sort : sort_at new root ≡ sort_at (cells t) root = let k = u.keeps in k.sorts root sorted.sort sorted.first ∙ sym sorted.first in
-      record {
-        good = h.good;
-        sort = h.sort ∙ sort;
-        possible = p;
-        to = λ s d.
-            let w = u.down s d (same s) in
-            subst (Instance scheme) (ap (λ o. given o w.to root) sort ∙ given_agrees (sort_at (cells t) root) (length (cells t)) root s w.to (sort_within (cells t) root sorted.sort sorted.first) w.agrees) (h.to w.to w.solves);
-        from = λ v i. let w = h.from v i in (w.0, (u.up e w.0 w.1).0, ap (λ o. given o w.0 root) (sym sort) ∙ w.2);
-        solved = let w = u.exact.0 e in (w.0, w.1);
-      }
+-- a scheme that is settled
+pub concludes : (t : Typing) (root : ℕ) (found : Option Scheme) → IsTrue t.possible → MatchOption found (Solvable (cells t) → ⊥) (λ p. Settles (cells t) root p) → Concludes t root found
+concludes t root (Some p) po h = record { good = h.good; sort = h.sort; possible = po; to = h.to; from = h.from; solved = (let w = h.from h.has_one.0 h.has_one.1 in (w.0, w.1)) }
+concludes t root None po h = λ s q g. h (record { by = s; solves = g })
 
 -- ---- a scheme for all types of a declaration
 
@@ -149,12 +116,6 @@ module _ (k : Known) (a b c d f z : Typing) (i j l : ℕ) (p : Pat) (e : Exp) (b
       (beside d f (λ s. Types e (sorts k) (context s (onto bs [])) (s.types j)) (λ s. (s.types i ≡ x) × (s.types j ≡ y))
       (λ q s u ag m. let kp = (g2.follows q).keeps in let pq = (g2.follows q).was in (ag.types i (sort_within (cells d) i a_type (kp.sorts i a_type ((ready_there.wants pq).0))) ∙ m.0, ag.types j (sort_within (cells d) j a_type (g2.sort q)) ∙ m.1)) h2))))
 
-  arrow_first : (x y x2 y2 : Ground) → arrow x y ≡ arrow x2 y2 → x ≡ x2
-  arrow_first x y x2 y2 q = cc
-
-  arrow_second : (x y x2 y2 : Ground) → arrow x y ≡ arrow x2 y2 → y ≡ y2
-  arrow_second x y x2 y2 q = cc
-
   pub function_carries : Carries a z l a_function (IsArrow (FunctionTypes (sorts k) p e))
   function_carries = record {
     sort = g3.sort;
@@ -162,7 +123,7 @@ module _ (k : Known) (a b c d f z : Typing) (i j l : ℕ) (p : Pat) (e : Exp) (b
         let x = h.0 in
         let y = h.1 in
         let ty = ground_of_body x y h.3 in
-        let w = (both_types x y).down s po m (x, h.3.0.0, tt, (refl, (h.3.1, h.3.2, (y, ty s, tt, (refl, h.3.3))))) in
+        let w = (both_types x y).down s po m (x, h.3.0, tt, (refl, (h.3.1, h.3.2, (y, ty s, tt, (refl, h.3.3))))) in
         let v = w.1 in
         let n = g3.down v.to w.0 v.solves in
         let o = n.1 in
@@ -185,7 +146,7 @@ module _ (k : Known) (a b c d f z : Typing) (i j l : ℕ) (p : Pat) (e : Exp) (b
           s.types j,
           n.1,
           (
-            is_type (s.types i) (s.types_ground i),
+            s.types_ground i,
             w.3.1.0,
             subst (λ (t : Ground). Takes p (NameTypes (sorts k) []) t [] w.3.1.0) w.3.0 w.3.1.1,
             subst (λ (t : Ground). Types e (sorts k) w.3.1.0 t) r.3.0 r.3.1,
@@ -194,7 +155,7 @@ module _ (k : Known) (a b c d f z : Typing) (i j l : ℕ) (p : Pat) (e : Exp) (b
   }
     where
       ground_of_body : (x y : Ground) → FunctionTypes (sorts k) p e x y → Assignment → IsGround y
-      ground_of_body x y h s = known_ground k [] a [] ready e h.1 y (takes_ground p (NameTypes (sorts k) []) x [] h.1 h.0.0 tt h.2) h.3
+      ground_of_body x y h s = known_ground k [] a [] ready e h.1 y (takes_ground p (NameTypes (sorts k) []) x [] h.1 h.0 tt h.2) h.3
 
 -- ---- the answer of a search
 

@@ -22,7 +22,8 @@ use Rattle.kl_infer.specs.Asking.{cells, FollowsTyping, Leaves, Asks, Gets, Bind
 use Rattle.kl_infer.specs.Names.{Meant, no_sense, by_value, by_function, by_source, by_code, IsGood, Ready, meant, sort_of, sorts}
 use Rattle.kl_infer.specs.declared.scope.Known.{Known}
 use Rattle.kl_infer.specs.declared.typing.Typing.{Typing}
-use Rattle.kl_infer.proofs.Grounds.{is_type, AreGround, IsGroundSort, types_ground, all_ground}
+use Rattle.kl_meaning.specs.Typing.{AreGround}
+use Rattle.kl_meaning.proofs.Grounds.{IsGroundSort, types_ground, all_ground}
 use Rattle.kl_infer.proofs.Leaving.{told, in_words, beside, opens, binds, goes_on, ready_on, ready_for, said}
 
 -- ---- what is known is ground
@@ -91,21 +92,21 @@ module _ (k : Known) (ns : Fields) where
 
   module _ (a b c : Typing) (w : ℕ) (ready : Ready k a ns (w ∷ [])) where
     pub con_form : (v : Value) → Asks a b (IsOfType v w) → Asks a b (T (con v) w)
-    con_form v f = in_words a b (IsOfType v w) (T (con v) w) (λ s h. h.1) (λ s h. (is_type (s.types w) (s.types_ground w), h)) f
+    con_form v f = in_words a b (IsOfType v w) (T (con v) w) (λ s h. h.1) (λ s h. (s.types_ground w, h)) f
 
     module _ (i : ℕ) where
       pub inject_form : (l : Word) (x : Exp) → Gets a b i (VariantOf l.text w) → Asks b c (T x i) → Asks a c (T (inject l x) w)
       inject_form l x g f =
           steps a b c (T (inject l x) w) _ _
           (λ s h. (h.1, ground_of_type a (w ∷ []) ready x s h.1 h.5, (h.0, h.2, h.4), h.5))
-          (λ s q h. (h.2.0, h.0, h.2.1, is_type (s.types w) (s.types_ground w), h.2.2, h.3))
+          (λ s q h. (h.2.0, h.0, h.2.1, s.types_ground w, h.2.2, h.3))
           (opens a b i (VariantOf l.text w) (λ t s. Types x (sorts k) (context s ns) t) (λ p t. said k a ns (w ∷ []) (λ G ts. Types x (sorts k) G t) ready p) g) f
 
       pub coll_form : (kind : Kind) (es : Exps) → Gets a b i (ItemsOf kind w) → Asks b c (λ s. EachType es (sorts k) (context s ns) (s.types i)) → Asks a c (T (coll kind es) w)
       coll_form kind es g f =
           steps a b c (T (coll kind es) w) _ _
           (λ s h. (h.0, subst IsGround h.1 (s.types_ground w), h.1, h.3))
-          (λ s q h. (h.0, h.2, is_type (s.types w) (s.types_ground w), h.3))
+          (λ s q h. (h.0, h.2, s.types_ground w, h.3))
           (opens a b i (ItemsOf kind w) (λ t s. EachType es (sorts k) (context s ns) t) (λ p t. said k a ns (w ∷ []) (λ G ts. EachType es (sorts k) G t) ready p) g) f
 
   module _ (a b c d : Typing) (w i : ℕ) (ready : Ready k a ns (w ∷ [])) where

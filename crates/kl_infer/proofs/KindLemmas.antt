@@ -65,9 +65,6 @@ pub kind_gives : (s : Scheme) (o : Option Kind) → o ≡ known_kind s → IfSom
 kind_gives s (Some k) e = gives_at s k (slice_get s.nodes s.root) refl (sym e)
 kind_gives s None e = tt
 
-pub known_at : (s : Scheme) (k : ℕ) (r : Option Kind) → kind_place (slice_get s.nodes s.root) ≡ Some k → r ≡ fixed_kind (slice_get s.nodes k) → r ≡ known_kind s
-known_at s k r e is = is ∙ sym (ap (kind_at s.nodes) e)
-
 -- the part that says what a cell says
 get_part : (parts : List Part) (i : ℕ) (c : Cell) → slice_get (cells_of parts) i ≡ Some c → (p : Part) × (slice_get parts i ≡ Some p) × (cell_of p ≡ c)
 get_part [] i c e = let z : ⊥ = cc in absurd z

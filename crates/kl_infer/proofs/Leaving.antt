@@ -1,7 +1,8 @@
 -- What is asked, one thing after another.
-use Rattle.std.proofs.Common.{◌≡◌, ℕ, suc, ◌≤◌, slice_index_or, Bool, true, false, IsTrue, List, [], ◌∷◌, length, map, Option, Some, None, cond, option_map, Result, Ok, Err, IfOk, MatchOption, refl, sym, ap, ◌∙◌, subst, arith}
+use Rattle.std.proofs.Common.{◌≡◌, Bor, ℕ, suc, ◌≤◌, slice_index_or, Bool, true, false, IsTrue, List, [], ◌∷◌, length, map, Option, Some, None, cond, option_map, Result, Ok, Err, IfOk, MatchOption, refl, sym, ap, ◌∙◌, subst, arith}
 use Rattle.std.specs.List.{AllByRecursion}
-use Rattle.kl_type.specs.Ground.{Ground, bool, arrow, IsGround}
+use Rattle.kl_type.specs.Ground.{Ground, bool, arrow, IsGround, IsProper, ground_of}
+use Rattle.kl_type.specs.declared.Ty.{Ty}
 use Rattle.kl_rows.specs.declared.cell.Cell.{Cell}
 use Rattle.kl_rows.specs.Lists.{Fields}
 use Rattle.kl_rows.specs.Places.{Sort, a_type, sort_at, IsFine, IsType, AreTypes}
@@ -19,15 +20,19 @@ use Rattle.kl_outcome.specs.Outcome.{Name}
 use Rattle.kl_rows.proofs.CellLists.{sort_within}
 use Rattle.kl_rows.proofs.Advancing.{Fact, agrees_refl, agrees_on, keeps_refl, keeps_on, types_keep}
 use Rattle.kl_forms.specs.Checks.{Checks, OpensItem, LeavesNone, Finds, OpensMany}
-use Rattle.kl_forms.specs.Forms.{Calls, Applies}
+use Rattle.kl_forms.specs.Forms.{Calls, Applies, IsInstance, IsThis}
 use Rattle.kl_forms.proofs.Steps.{Stable, merges, told as say}
+use Rattle.kl_forms.proofs.Opening.{gives_type, same_types}
+use Rattle.kl_rows.specs.Looking.{KnowsThere}
 use Rattle.kl_base.specs.Fields.{field}
 use Rattle.std.specs.Cmp.Lexicographic.{pointwise}
 use Rattle.std.specs.Prelude.{nat_eq}
 use Rattle.kl_meaning.specs.Typing.{Context, ValueTypes, CallTypes, VariableOr, NameTypes}
 use Rattle.kl_infer.specs.Asking.{cells, FollowsTyping, Leaves, Asks, Gets, GetsMany, Binds, context, onto}
-use Rattle.kl_infer.specs.Names.{Meant, by_function, by_code, Ready, labelled, meant, sort_of, sorts}
+use Rattle.kl_infer.specs.Names.{Meant, by_function, by_code, by_source, by_value, IsGood, Ready, labelled, meant, meant_of, sort_of, sorts}
 use Rattle.kl_infer.specs.declared.scope.Known.{Known}
+use Rattle.kl_infer.specs.declared.scope.Sense.{Sense}
+use Rattle.kl_infer.specs.declared.scope.Sense.TheVariants as sense
 use Rattle.kl_infer.specs.declared.typing.Typing.{Typing}
 use Rattle.kl_forms.proofs.Shapes.{head_is}
 
@@ -46,19 +51,6 @@ begins t D f = record {
   down = λ s p h d. (p, record { to = s; agrees = agrees_refl (length (cells t)) s; solves = h; holds = d });
   up = λ s p h r. (h, r);
 }
-
--- where nothing can be met, anything is asked
-pub skipped : (t : Typing) (D R : Fact) → t.possible ≡ false → Leaves t t D R
-skipped t D R e = record { follows = untrue _ e; down = λ s p h d. untrue _ e p; up = λ s p h r. untrue _ e p }
-
-pub gets_none : (t : Typing) (i : ℕ) (E : Ground → Fact) → t.possible ≡ false → Gets t t i E
-gets_none t i E e = record { follows = untrue _ e; sort = untrue _ e; down = λ s u p h g d. untrue _ e p; up = λ s p h. untrue _ e p }
-
-pub many_none : (t : Typing) (is : List ℕ) (n : ℕ) → t.possible ≡ false → GetsMany t t is n
-many_none t is n e = record { follows = untrue _ e; still = refl; size = untrue _ e; sorts = untrue _ e; down = λ s ts p h l g. untrue _ e p; up = λ s p h. untrue _ e p }
-
-pub skips_pattern : (t : Typing) (bs ns : Fields) (D : Assignment → Context → Context → Type 0) → t.possible ≡ false → Binds t t bs bs ns D
-skips_pattern t bs ns D e = record { follows = untrue _ e; sorts = untrue _ e; down = λ s H p h d. untrue _ e p; up = λ s p h. untrue _ e p }
 
 -- what a call of a form does
 pub asked : (holds : Bool) (a b : Typing) (new : List Cell) (D : Fact) → IsTrue a.possible → b.possible ≡ holds → cells b ≡ new → Checks holds (cells a) new D → Asks a b D
@@ -279,9 +271,46 @@ same_so ans a b new i j p e n q h =
 
 -- ---- names
 
-pub asked_value : (holds : Bool) (a b : Typing) (new : List Cell) (m : Meant) (k : Known) (x : Name) (w : ℕ) → IsTrue a.possible → b.possible ≡ holds → cells b ≡ new → m ≡ meant k x
-    → Checks holds (cells a) new (λ s. ValueTypes (sort_of m) (s.types w)) → Asks a b (λ s. ValueTypes (sorts k x) (s.types w))
-asked_value ans a b new m k x w p e n h c = asked ans a b new (λ s. ValueTypes (sorts k x) (s.types w)) p e n (subst (λ (z : Meant). Checks ans (cells a) new (λ s. ValueTypes (sort_of z) (s.types w))) h c)
+-- a source's type, made anew and known from before
+pub made_so : (holds : Bool) (a b : Typing) (mid new : List Cell) (i w : ℕ) (t u : Ty) → IsTrue a.possible → b.possible ≡ holds → cells b ≡ new → u ≡ t → IsType (cells a) w → GivesType (cells a) mid i (ground_of u)
+    → Advances holds mid new (Same (sort_at mid i) i w) (λ s. Unit {0}) → Asks a b (IsThis t w)
+made_so ans a b mid new i w t u p e n q there g m = asked ans a b new (IsThis t w) p e n (gives_type (cells a) mid new i w ans (ground_of u) (ground_of t) (ap ground_of q) there g (same_types ans mid new i w g.sort m))
+
+pub known_so : (a b : Typing) (i w : ℕ) (t : Ty) (sure : Bool) → sure ≡ true → IsProper t → KnowsThere sure (cells a) i t → Asks a b (λ s. s.types i ≡ s.types w) → Asks a b (IsThis t w)
+known_so a b i w t sure e p h f =
+    let y : IsTrue sure = subst IsTrue (sym e) refl in
+    record {
+      follows = f.follows;
+      down = λ s q g d. f.down s q g (h.says y p s g ∙ d);
+      up = λ s q g r. let z = f.up s q g r in (z.0, sym (h.says y p s z.0) ∙ z.1);
+    }
+
+-- what a name stands for
+pub value_good : (m : Meant) (k : Known) (x : Name) (p : Scheme) → m ≡ meant k x → m ≡ by_value p → ((y : Name) → IsGood (meant k y)) → IsGood (by_value p)
+value_good m k x p e f g = subst IsGood (sym e ∙ f) (g x)
+
+pub source_good : (m : Meant) (k : Known) (x : Name) (t : Ty) → m ≡ meant k x → m ≡ by_source t → ((y : Name) → IsGood (meant k y)) → IsProper t
+source_good m k x t e f g = subst IsGood (sym e ∙ f) (g x)
+
+pub value_named : (a b : Typing) (m : Meant) (k : Known) (x : Name) (p : Scheme) (w : ℕ) → m ≡ meant k x → m ≡ by_value p → Asks a b (IsInstance p w) → Asks a b (λ s. ValueTypes (sorts k x) (s.types w))
+value_named a b m k x p w e f h = subst (λ (z : Meant). Asks a b (λ s. ValueTypes (sort_of z) (s.types w))) (sym f ∙ e) h
+
+pub source_named : (a b : Typing) (m : Meant) (k : Known) (x : Name) (t : Ty) (w : ℕ) → m ≡ meant k x → m ≡ by_source t → Asks a b (IsThis t w) → Asks a b (λ s. ValueTypes (sorts k x) (s.types w))
+source_named a b m k x t w e f h = subst (λ (z : Meant). Asks a b (λ s. ValueTypes (sort_of z) (s.types w))) (sym f ∙ e) h
+
+no_value : (z : Sense) → ((p : Bor Scheme) → z ≡ sense.Value p → ⊥) → ((t : Bor Ty) → z ≡ sense.Source t → ⊥) → (u : Ground) → ValueTypes (sort_of (meant_of z)) u → ⊥
+no_value sense.Nothing f g u h = h
+no_value (sense.Value p) f g u h = f p refl
+no_value (sense.Function p) f g u h = h
+no_value (sense.Source t) f g u h = g t refl
+no_value (sense.Primitive c) f g u h = h
+
+pub none_named : (a b : Typing) (z : Sense) (k : Known) (x : Name) (w : ℕ) → b.possible ≡ false → meant_of z ≡ meant k x → ((p : Bor Scheme) → z ≡ sense.Value p → ⊥) → ((t : Bor Ty) → z ≡ sense.Source t → ⊥) → Asks a b (λ s. ValueTypes (sorts k x) (s.types w))
+none_named a b z k x w e m f g = record {
+  follows = untrue _ e;
+  down = λ s p h d. absurd (no_value z f g (s.types w) (subst (λ (y : Meant). ValueTypes (sort_of y) (s.types w)) (sym m) d));
+  up = λ s p h r. untrue _ e p;
+}
 
 pub asked_call : (holds : Bool) (a b : Typing) (new : List Cell) (m : Meant) (k : Known) (x : Name) (ws : List ℕ) (w : ℕ) → IsTrue a.possible → b.possible ≡ holds → cells b ≡ new → m ≡ meant k x
     → Checks holds (cells a) new (λ s. CallTypes (sort_of m) (map s.types ws) (s.types w)) → Asks a b (λ s. CallTypes (sorts k x) (map s.types ws) (s.types w))

@@ -1,10 +1,10 @@
 pub mod KindLemmas
 pub mod PageLemmas
 pub mod RowLemmas
+pub mod Stable
 pub mod TreeLemmas
 pub mod Writing
 pub mod Leaving
-pub mod Grounds
 pub mod Forms
 pub mod Lists
 pub mod PatternForms

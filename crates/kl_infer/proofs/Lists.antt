@@ -17,7 +17,7 @@ use Rattle.kl_infer.specs.Asking.{Asks, Gets, GetsMany, context}
 use Rattle.kl_infer.specs.Names.{Ready, sorts, ArmsTake, labelled}
 use Rattle.kl_infer.specs.declared.scope.Known.{Known}
 use Rattle.kl_infer.specs.declared.typing.Typing.{Typing}
-use Rattle.kl_infer.proofs.Grounds.{is_type, at_ground}
+use Rattle.kl_outcome.proofs.Grounds.{at_ground}
 use Rattle.kl_infer.proofs.Leaving.{in_words, beside, opens, opens_many, goes_on, ready_on, ready_for, said}
 use Rattle.kl_infer.proofs.Forms.{T, steps, first, second, ground_of_type, ground_of_all, ready_after}
 
@@ -181,7 +181,7 @@ module _ (k : Known) (ns : Fields) (a b c d : Typing) (w : ℕ) (ready : Ready k
         each_ground h.0 ls v.0 (subst IsGround h.1 (s.types_ground w)) v.1,
         ((h.0, h.1, v.1, λ l q. subst IsTrue (has_names fs l) (h.3 l q)), v.2),
       ))
-      (λ s q h. let v = h.3.0 in (v.0, v.1, is_type (s.types w) (s.types_ground w), (λ l z. subst IsTrue (sym (has_names fs l)) (v.3 l z)), fields_join (sorts k) (context s ns) v.0 fs h.0 v.2 h.3.1))
+      (λ s q h. let v = h.3.0 in (v.0, v.1, s.types_ground w, (λ l z. subst IsTrue (sym (has_names fs l)) (v.3 l z)), fields_join (sorts k) (context s ns) v.0 fs h.0 v.2 h.3.1))
       (opens_many a b is (length fs) (λ ts s. RecordAt false ls (s.types w) ts × AllTypes (bodies fs) (sorts k) (context s ns) ts)
       (λ p ts. said k a ns (w ∷ []) (λ G us. RecordAt false ls (first us) ts × AllTypes (bodies fs) (sorts k) G ts) ready p) g)
       (goes_on b c d _ _ _ (beside b c (λ s. RecordAt false ls (s.types w) (map s.types is)) (λ s. AllTypes (bodies fs) (sorts k) (context s ns) (map s.types is))

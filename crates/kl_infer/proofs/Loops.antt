@@ -1,5 +1,5 @@
 -- One part of a list after another.
-use Rattle.std.proofs.Common.{◌≡◌, ℕ, suc, ◌+◌, ◌<◌, ◌≤◌, IsTrue, List, [], ◌∷◌, ◌++◌, length, map, drop, get_or, slice_index_or, refl, sym, ap, ◌∙◌, subst, add-one}
+use Rattle.std.proofs.Common.{◌≡◌, ℕ, ◌+◌, ◌<◌, ◌≤◌, IsTrue, List, [], ◌∷◌, ◌++◌, length, map, drop, get_or, slice_index_or, refl, sym, ap, ◌∙◌, subst, add-one}
 use Rattle.std.proofs.Math.Seq.{drop-cons}
 use Rattle.std.proofs.lemmas.List.{drop_all}
 use Rattle.kl_value.specs.declared.Kind.{Kind}
@@ -19,7 +19,8 @@ use Rattle.kl_infer.specs.Asking.{cells, Leaves, Asks, Gets, Binds, Binding, con
 use Rattle.kl_infer.specs.Names.{Ready, sorts, ArmsTake, TakesAll}
 use Rattle.kl_infer.specs.declared.scope.Known.{Known}
 use Rattle.kl_infer.specs.declared.typing.Typing.{Typing}
-use Rattle.kl_infer.proofs.Grounds.{at_ground, op_ground}
+use Rattle.kl_outcome.proofs.Grounds.{at_ground}
+use Rattle.kl_meaning.proofs.Grounds.{op_ground}
 use Rattle.kl_infer.proofs.Leaving.{told, beside, opens, binds, goes_on, ready_on, ready_for, said, follows_refl, follows_on, begins, same_context}
 use Rattle.kl_infer.proofs.Forms.{T, first, second, third, ground_of_type, ready_after}
 use Rattle.kl_infer.proofs.PatternForms.{Outside, leaves_told, binds_at, binds_by, onto_append, types_append}

@@ -1,6 +1,6 @@
 -- What is written on a page, piece by piece.
 use Rattle.std.specs.Prelude.{OnOk}
-use Rattle.std.proofs.Common.{◌≡◌, Result, Ok, Err, decimal, ℕ, suc, ◌+◌, ◌<◌, ◌≤◌, ◌==◌, Bool, true, false, cond, List, [], ◌∷◌, ◌++◌, length, drop, get_or, refl, sym, ap, ◌∙◌, subst, arith, append_assoc, append-nil, length-append, drop-cons, add-one}
+use Rattle.std.proofs.Common.{◌≡◌, Result, Ok, Err, decimal, ℕ, suc, ◌+◌, ◌<◌, ◌≤◌, ◌==◌, Bool, true, false, cond, List, [], ◌∷◌, ◌++◌, length, drop, refl, sym, ap, ◌∙◌, subst, arith, append_assoc, append-nil, length-append}
 use mathlib.Core.Path.{ap₂}
 use Rattle.std.proofs.lemmas.Bool.Decides.{nat_tests}
 use Rattle.kl_infer.specs.declared.page.Page.{Page}
@@ -74,16 +74,6 @@ nothing page = record {
   longer = λ e f more. clash _ page.full f e;
 }
 
--- nothing more is written on a full page
-pub when_full : (page : Page) (vs : List ℕ) (t : List ℕ → List ℕ) → page.full ≡ true → Writes page page vs t
-when_full page vs t h = record {
-  was = λ e. e;
-  seen = λ e. clash _ page.full h e;
-  written = λ e more. clash _ page.full h e;
-  fits = λ h. h;
-  longer = λ e f more. clash _ page.full h e;
-}
-
 longer_append : (a b c : List ℕ) → limit < length (a ++ b) → limit < length (a ++ (b ++ c))
 longer_append a b c h = omega (arith, h, length-append a b, length-append a (b ++ c), length-append b c)
 
@@ -125,34 +115,6 @@ other_words a b v w t u e same f =
 pub record Looked (seen : List ℕ) (p i : ℕ) : Type 0 where
   pub number : number p seen ≡ i + number p (drop i seen)
   pub has : has p seen ≡ has p (drop i seen)
-
-pub looked_none : (seen : List ℕ) (p : ℕ) → Looked seen p 0
-looked_none seen p = record { number = omega arith; has = refl }
-
-number_front : (p q : ℕ) (b : Bool) (qs : List ℕ) → b ≡ false → (cond b 1 (suc (number p qs)) ≡ 1 + number p qs) × (cond b true (has p qs) ≡ has p qs)
-number_front p q true qs e = clash _ true refl e
-number_front p q false qs e = (omega arith, refl)
-
-pub looked_more : (seen : List ℕ) (p i q : ℕ) → i < length seen → q ≡ get_or seen i q → (p == q) ≡ false → Looked seen p i → Looked seen p (i + 1)
-looked_more seen p i q lt e apart k =
-    let first : drop i seen ≡ q ∷ drop (suc i) seen = drop-cons seen i q lt ∙ ap (λ x. x ∷ drop (suc i) seen) (sym e) in
-    let f = number_front p q (p == q) (drop (suc i) seen) apart in
-    let m : number p (drop i seen) ≡ 1 + number p (drop (suc i) seen) = ap (number p) first ∙ f.0 in
-    rw add-one record { number = let z = k.number in omega (arith, z, m); has = k.has ∙ ap (has p) first ∙ f.1 }
-
-number_same : (p q : ℕ) (b : Bool) (qs : List ℕ) → b ≡ true → (cond b 1 (suc (number p qs)) ≡ 1) × (cond b true (has p qs) ≡ true)
-number_same p q true qs e = (refl, refl)
-number_same p q false qs e = clash _ false e refl
-
-pub looked_here : (seen : List ℕ) (p i q : ℕ) → i < length seen → q ≡ get_or seen i q → (p == q) ≡ true → Looked seen p i → (i + 1 ≡ number p seen) × (has p seen ≡ true)
-looked_here seen p i q lt e same k =
-    let first : drop i seen ≡ q ∷ drop (suc i) seen = drop-cons seen i q lt ∙ ap (λ x. x ∷ drop (suc i) seen) (sym e) in
-    let f = number_same p q (p == q) (drop (suc i) seen) same in
-    let m : number p (drop i seen) ≡ 1 = ap (number p) first ∙ f.0 in
-    (let z = k.number in omega (arith, z, m), k.has ∙ ap (has p) first ∙ f.1)
-
-pub looked_all : (seen : List ℕ) (p i : ℕ) → drop i seen ≡ [] → i ≡ length seen → Looked seen p i → (length seen + 1 ≡ number p seen) × (has p seen ≡ false)
-looked_all seen p i e is k = (let z = k.number in let m : number p (drop i seen) ≡ 1 = ap (number p) e in omega (arith, z, m), k.has ∙ ap (has p) e)
 
 absent_in : (p : ℕ) (b : Bool) (q : ℕ) (qs : List ℕ) → (has p qs ≡ false → number p (qs ++ p ∷ []) ≡ number p qs) → cond b true (has p qs) ≡ false → cond b 1 (suc (number p (qs ++ p ∷ []))) ≡ cond b 1 (suc (number p qs))
 absent_in p true q qs ih h = refl

@@ -19,7 +19,7 @@ use Rattle.kl_infer.specs.Asking.{cells, Leaves, Asks, Gets, GetsMany, Binds, co
 use Rattle.kl_infer.specs.Names.{Ready, sorts, TakesAll, labelled}
 use Rattle.kl_infer.specs.declared.scope.Known.{Known}
 use Rattle.kl_infer.specs.declared.typing.Typing.{Typing}
-use Rattle.kl_infer.proofs.Grounds.{at_ground}
+use Rattle.kl_outcome.proofs.Grounds.{at_ground}
 use Rattle.kl_infer.proofs.Leaving.{told, beside, opens, opens_many, goes_on, ready_on, ready_for, said, follows_refl, begins, same_context}
 use Rattle.kl_infer.proofs.Forms.{first}
 use Rattle.kl_infer.proofs.Lists.{AtEach, Within, RecordAt, each_ground, each_length, has_name, names_of, length_names, record_at}
@@ -81,9 +81,6 @@ module _ (a b : Typing) (bs cs ns : Fields) (D : Assignment → Context → Cont
 -- steps before a pattern
 pub leaves_told : (a b c : Typing) (D E R S : Fact) → ((s : Assignment) → D s → E s) → ((s : Assignment) → Solves (cells a) s → E s → D s) → Leaves a b E R → Leaves b c R S → Leaves a c D S
 leaves_told a b c D E R S go come f g = goes_on a b c D R S (told a b E D R R go come (λ s r. r) (λ s r. r) f) g
-
-pub cut_short : {A : Type 0} (b : Bool) → b ≡ false → IsTrue b → A
-cut_short b e p = let d : ⊥ = cc in absurd d
 
 module _ (k : Known) (ns : Fields) where
   abbrev pub Outside : Assignment → Name → Ground → Type 0

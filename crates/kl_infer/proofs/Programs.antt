@@ -16,7 +16,7 @@ use Rattle.kl_syntax.specs.Syntax.{Exp, Decls, no_decls}
 use Rattle.kl_syntax.specs.View.{view, pattern_view, decls_of, decl_of}
 use Rattle.kl_meaning.specs.Match.{same_name}
 use Rattle.kl_meaning.specs.Run.{code_named}
-use Rattle.kl_meaning.specs.Typing.{Sort, nothing, value_of, function_of, primitive, KnownTypes as Sorts, with_sort, sort_if, sort_at, sort_by_code, types_at_first, types_after, Types, FunctionTypes, EachTyped}
+use Rattle.kl_meaning.specs.Typing.{Sort, value_of, function_of, KnownTypes as Sorts, with_sort, sort_if, sort_at, sort_by_code, types_at_first, types_after, Types, FunctionTypes, EachTyped}
 use Rattle.kl_infer.specs.Declaring.{Declared, NoType, IsAt}
 use Rattle.kl_infer.specs.Inferred.{IsPrincipal, IsArrow, HaveSchemes, FailsAt, Infers, types_of}
 use Rattle.kl_infer.specs.Refusing.{IsRefusal}
@@ -116,12 +116,6 @@ not_each [] d more K g h = no_and_has d.param d K g (each_split d.param d (decls
 not_each (e ∷ ds) d more K g h = not_each ds d more (behind_one e.param e K) (after_back e.param e (decls_of ds) K (λ J. NoType d.param d J) g) (each_split e.param e (decls_of (ds ++ d ∷ more)) K h).1
 
 -- ---- the code's names and the definition's
-
-alike_refl : (k : Sort) → AreAlike k k
-alike_refl nothing = (tt, tt)
-alike_refl (value_of P) = ((λ t h. h), (λ t h. h))
-alike_refl (function_of P) = ((λ a b h. h), (λ a b h. h))
-alike_refl (primitive c) = (refl, refl)
 
 alike_code : (o : Option ℕ) → AreAlike (sort_by_code o) (sort_of (by_maybe_code o))
 alike_code (Some c) = (refl, refl)

@@ -1,5 +1,5 @@
 -- Rows, field by field.
-use Rattle.std.proofs.Common.{◌≡◌, ℕ, zero, suc, ◌+◌, ◌<◌, ◌≤◌, ◌==◌, Bool, true, false, cond, List, [], ◌∷◌, ◌++◌, length, map, take, drop, get_or, slice_get, Some, None, add-one, drop-cons, codes, refl, sym, ap, ◌∙◌, subst, arith, append_assoc, append-nil}
+use Rattle.std.proofs.Common.{◌≡◌, ℕ, zero, suc, ◌+◌, ◌<◌, ◌≤◌, ◌==◌, Bool, true, false, cond, List, [], ◌∷◌, ◌++◌, length, map, take, get_or, slice_get, Some, None, add-one, codes, refl, sym, ap, ◌∙◌, subst, arith, append_assoc, append-nil}
 use mathlib.Core.Path.{ap₂}
 use Rattle.std.proofs.lemmas.Bool.Decides.{nat_tests}
 use Rattle.std.specs.List.{AllByRecursion, flat_map}
@@ -32,19 +32,6 @@ put_in_each h f (g ∷ fs) = put_in_if h (is_gt (by_label f g)) f g fs (put_in_e
 sorted_each : {X : Type 0} (h : List ℕ × ℕ → X) (fs : Fields) → sorted by_label (with_each h fs) ≡ with_each h (sorted by_label fs)
 sorted_each h [] = refl
 sorted_each h (f ∷ fs) = ap (put_in by_label (f.0, h f)) (sorted_each h fs) ∙ put_in_each h f (sorted by_label fs)
-
--- fields are put in, the last first
-abbrev pub put_all : Fields → Fields → Fields
-put_all [] gs = gs
-put_all (f ∷ fs) gs = put_in by_label f (put_all fs gs)
-
-pub put_all_last : (fs : Fields) (f : List ℕ × ℕ) (gs : Fields) → put_all (fs ++ f ∷ []) gs ≡ put_all fs (put_in by_label f gs)
-put_all_last [] f gs = refl
-put_all_last (g ∷ fs) f gs = ap (put_in by_label g) (put_all_last fs f gs)
-
-pub put_all_sorted : (fs : Fields) → put_all fs [] ≡ sorted by_label fs
-put_all_sorted [] = refl
-put_all_sorted (f ∷ fs) = ap (put_in by_label f) (put_all_sorted fs)
 
 module _ (parts : List Part) where
   abbrev pub piece : List ℕ × ℕ → List ℕ → List ℕ
@@ -187,9 +174,6 @@ module _ (parts : List Part) where
     pub falls : AllByRecursion (λ f. f.1 < place) fields
     pub here : end ≤ place
 
-  pub on_row_first : (place : ℕ) → CanPrint parts place → OnRow place [] place
-  on_row_first place can = record { can = can; same = refl; falls = tt; here = omega arith }
-
   fronted_last : (fs : Fields) (f : List ℕ × ℕ) (r : Tree) → fronted parts (fs ++ f ∷ []) r ≡ fronted parts fs (field f.0 (tree_at parts f.1) r)
   fronted_last [] f r = refl
   fronted_last (g ∷ fs) f r = ap (field g.0 (tree_at parts g.1)) (fronted_last fs f r)
@@ -225,35 +209,6 @@ take_last : {X : Type 0} (xs : List X) (i : ℕ) (x : X) → i < length xs → x
 take_last [] i x lt e = absurd (omega arith)
 take_last (y ∷ xs) zero x lt e = ap (λ z. z ∷ []) (sym e)
 take_last (y ∷ xs) (suc i) x lt e = ap (λ zs. y ∷ zs) (take_last xs i x (omega arith) e)
-
-put_behind : (f g : List ℕ × ℕ) (b : Bool) (fs : Fields) → b ≡ true → cond b (g ∷ put_in by_label f fs) (f ∷ g ∷ fs) ≡ g ∷ put_in by_label f fs
-put_behind f g true fs e = refl
-put_behind f g false fs e = let z : ⊥ = cc in absurd z
-
-put_before : (f g : List ℕ × ℕ) (b : Bool) (fs : Fields) → b ≡ false → cond b (g ∷ put_in by_label f fs) (f ∷ g ∷ fs) ≡ f ∷ g ∷ fs
-put_before f g false fs e = refl
-put_before f g true fs e = let z : ⊥ = cc in absurd z
-
-pub put_first : (f : List ℕ × ℕ) (fs : Fields) → take 0 fs ++ put_in by_label f (drop 0 fs) ≡ put_in by_label f fs
-put_first f fs = refl
-
-pub put_last : (f : List ℕ × ℕ) (fs : Fields) (i : ℕ) → drop i fs ≡ [] → take i fs ++ put_in by_label f (drop i fs) ≡ put_in by_label f fs → take i fs ++ f ∷ drop i fs ≡ put_in by_label f fs
-put_last f fs i e h = ap (λ gs. take i fs ++ f ∷ gs) e ∙ (ap (λ gs. take i fs ++ put_in by_label f gs) (sym e) ∙ h)
-
-module _ (f g : List ℕ × ℕ) (fs : Fields) (i : ℕ) (lt : i < length fs) (is : g ≡ get_or fs i g) (before : take i fs ++ put_in by_label f (drop i fs) ≡ put_in by_label f fs) where
-  first : drop i fs ≡ g ∷ drop (suc i) fs
-  first = drop-cons fs i g lt ∙ ap (λ x. x ∷ drop (suc i) fs) (sym is)
-
-  pub put_on : is_gt (by_label f g) ≡ true → take (i + 1) fs ++ put_in by_label f (drop (i + 1) fs) ≡ put_in by_label f fs
-  put_on e = rw add-one
-      (ap (λ t. t ++ put_in by_label f (drop (suc i) fs)) (take_last fs i g lt is)
-      ∙ (append_assoc (take i fs) (g ∷ []) (put_in by_label f (drop (suc i) fs))
-      ∙ (ap (λ t. take i fs ++ t) (sym (ap (put_in by_label f) first ∙ put_behind f g (is_gt (by_label f g)) (drop (suc i) fs) e)) ∙ before)))
-
-  pub put_here : is_gt (by_label f g) ≡ false → take i fs ++ f ∷ drop i fs ≡ put_in by_label f fs
-  put_here e =
-      ap (λ t. take i fs ++ f ∷ t) first
-      ∙ (ap (λ t. take i fs ++ t) (sym (ap (put_in by_label f) first ∙ put_before f g (is_gt (by_label f g)) (drop (suc i) fs) e)) ∙ before)
 
 -- one field more is written
 pub take_more : {X : Type 0} (xs : List X) (i : ℕ) (x : X) → i < length xs → x ≡ get_or xs i x → take (i + 1) xs ≡ take i xs ++ x ∷ []

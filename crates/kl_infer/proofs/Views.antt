@@ -4,13 +4,13 @@ use Rattle.std.specs.Option.{option_map}
 use Rattle.kl_outcome.specs.Outcome.{Name}
 use Rattle.kl_value.specs.declared.value.Kind.{Kind}
 use Rattle.kl_value.specs.declared.value.Value.{Value}
-use Rattle.kl_syntax.specs.declared.tree.Branch.{Branch, out-Branch, the_lemmas as branch_lemmas}
-use Rattle.kl_syntax.specs.declared.tree.Expr.{Expr, the_lemmas}
+use Rattle.kl_syntax.specs.declared.tree.Branch.{Branch, out-Branch}
+use Rattle.kl_syntax.specs.declared.tree.Expr.{Expr}
 use Rattle.kl_syntax.specs.declared.tree.Expr.TheVariants as expr
 use Rattle.kl_syntax.specs.declared.tree.Op.{Op}
 use Rattle.kl_syntax.specs.declared.tree.Pattern.{Pattern, the_lemmas as pattern_lemmas}
 use Rattle.kl_syntax.specs.declared.tree.Pattern.TheVariants as code
-use Rattle.kl_syntax.specs.declared.tree.Qual.{Qual, the_lemmas as qual_lemmas}
+use Rattle.kl_syntax.specs.declared.tree.Qual.{Qual}
 use Rattle.kl_syntax.specs.declared.tree.Qual.TheVariants as quals
 use Rattle.kl_syntax.specs.declared.tree.Word.{Word}
 use Rattle.kl_syntax.specs.Syntax.{Pat, catch, any, same, is, shape, variant, Exp, exps, con, name, call, fields, inject, coll, comp, choice, bind, select, path, invert, minus, chain, Quals, draw, test, Branches, branch}

@@ -121,7 +121,8 @@ impl Typing {
     ) -> Result<(), NoMemory>
         requires ready { Ready known.now self.old (names scope.now) types.now }
         requires size { length types.now ≡ length es.now }
-        ensures { IfOk result (λ _. Asks self.old self.new (λ s. AllTypes (exps_view es.now) (sorts known.now) (context s (names scope.now)) (map s.types types.now))) }
+        ensures { IfOk result (λ _. Asks self.old self.new (λ s. AllTypes (exps_view es.now)
+            (sorts known.now) (context s (names scope.now)) (map s.types types.now))) }
     {
         'es: for i in 0..es.len() {
             self.check(&es[i], known, scope, types[i])?;
@@ -139,7 +140,8 @@ impl Typing {
     ) -> Result<(), NoMemory>
         requires ready { Ready known.now self.old (names scope.now) types.now }
         requires size { length types.now ≡ length fields.now }
-        ensures { IfOk result (λ _. Asks self.old self.new (λ s. AllTypes (exps_of (map (λ f. view f.1) fields.now)) (sorts known.now) (context s (names scope.now)) (map s.types types.now))) }
+        ensures { IfOk result (λ _. Asks self.old self.new (λ s. AllTypes (exps_of (map (λ f. view f.1) fields.now))
+            (sorts known.now) (context s (names scope.now)) (map s.types types.now))) }
     {
         'fields: for i in 0..fields.len() {
             self.check(&fields[i].1, known, scope, types[i])?;
@@ -175,7 +177,8 @@ impl Typing {
         block: &mut Vec<(Label, u64)>,
     ) -> Result<(), NoMemory>
         requires { Ready known.now self.old (onto block.old.items (names scope.now)) [] }
-        ensures { IfOk result (λ _. Binds self.old self.new block.old.items block.new.items (names scope.now) (λ s. QualTypes (quals_view quals.now) (sorts known.now))) }
+        ensures { IfOk result (λ _. Binds self.old self.new block.old.items block.new.items (names scope.now) (λ s. QualTypes (quals_view quals.now)
+            (sorts known.now))) }
     {
         'quals: for i in 0..quals.len() {
             self.check_qual(&quals[i], known, scope, block)?;
@@ -192,7 +195,8 @@ impl Typing {
         block: &mut Vec<(Label, u64)>,
     ) -> Result<(), NoMemory>
         requires { Ready known.now self.old (onto block.old.items (names scope.now)) [] }
-        ensures { IfOk result (λ _. (rest : Quals) → Binding self.old self.new block.old.items block.new.items (names scope.now) (λ s. QualTypes (qual_view qual.now rest) (sorts known.now)) (λ s. QualTypes rest (sorts known.now))) }
+        ensures { IfOk result (λ _. (rest : Quals) → Binding self.old self.new block.old.items block.new.items (names scope.now)
+            (λ s. QualTypes (qual_view qual.now rest) (sorts known.now)) (λ s. QualTypes rest (sorts known.now))) }
     {
         match qual {
             Qual::Gen(p, source) => {
@@ -225,7 +229,8 @@ impl Typing {
     ) -> Result<(), NoMemory>
         requires ready { Ready known.now self.old (names scope.now) (want ∷ types.now) }
         requires size { length types.now ≡ length branches.now }
-        ensures { IfOk result (λ _. Asks self.old self.new (λ s. ArmsTake (branches_of (map branch_view branches.now) no_branches) (sorts known.now) (context s (names scope.now)) (map s.types types.now) (s.types want))) }
+        ensures { IfOk result (λ _. Asks self.old self.new (λ s. ArmsTake (branches_of (map branch_view branches.now) no_branches)
+            (sorts known.now) (context s (names scope.now)) (map s.types types.now) (s.types want))) }
     {
         'branches: for i in 0..branches.len() {
             self.check_branch(&branches[i], known, scope, types[i], want)?;
@@ -243,7 +248,8 @@ impl Typing {
         want: u64,
     ) -> Result<(), NoMemory>
         requires { Ready known.now self.old (names scope.now) (t ∷ want ∷ []) }
-        ensures { IfOk result (λ _. Asks self.old self.new (λ s. ArmsTake (branch_view branch.now no_branches) (sorts known.now) (context s (names scope.now)) (s.types t ∷ []) (s.types want))) }
+        ensures { IfOk result (λ _. Asks self.old self.new (λ s. ArmsTake (branch_view branch.now no_branches)
+            (sorts known.now) (context s (names scope.now)) (s.types t ∷ []) (s.types want))) }
     {
         let mut bound = Vec::new(self.unifier.alloc);
         self.takes(&branch.pat, known, scope, t, &mut bound)?;
@@ -260,7 +266,8 @@ impl Typing {
         want: u64,
     ) -> Result<(), NoMemory>
         requires { Ready known.now self.old (names scope.now) (first ∷ want ∷ []) }
-        ensures { IfOk result (λ _. Asks self.old self.new (λ s. StepTypes (steps_view steps.now) (sorts known.now) (context s (names scope.now)) (s.types first) (s.types want))) }
+        ensures { IfOk result (λ _. Asks self.old self.new (λ s. StepTypes (steps_view steps.now)
+            (sorts known.now) (context s (names scope.now)) (s.types first) (s.types want))) }
     {
         let mut t = first;
         'steps: for i in 0..steps.len() {

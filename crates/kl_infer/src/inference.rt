@@ -111,7 +111,8 @@ fn push(schemes: &mut Vec<Scheme>, scheme: Scheme) -> Result<(), NoMemory>
 // The scheme of a definition. None exactly where it has no type.
 fn declared(alloc: Global, decl: &Decl, known: &Known) -> Result<Option<Scheme>, NoMemory>
     requires { (x : Name) → IsGood (meant known.now x) }
-    ensures { IfOk result (λ found. MatchOption found (NoType decl.now.param decl.now (sorts known.now)) (λ p. Declared decl.now.param decl.now (sorts known.now) p)) }
+    ensures { IfOk result (λ found. MatchOption found (NoType decl.now.param decl.now (sorts known.now)) (λ p. Declared decl.now.param decl.now
+        (sorts known.now) p)) }
 {
     match &decl.param {
         Some(param) => function(alloc, param, &decl.body, known),
@@ -121,7 +122,8 @@ fn declared(alloc: Global, decl: &Decl, known: &Known) -> Result<Option<Scheme>,
 
 fn constant(alloc: Global, e: &Expr, known: &Known) -> Result<Option<Scheme>, NoMemory>
     requires { (x : Name) → IsGood (meant known.now x) }
-    ensures { IfOk result (λ found. MatchOption found ((t : Ground) → Types (view e.now) (sorts known.now) [] t → ⊥) (λ p. IsPrincipal a_type p (Types (view e.now) (sorts known.now) []))) }
+    ensures { IfOk result (λ found. MatchOption found ((t : Ground) → Types (view e.now) (sorts known.now) [] t → ⊥)
+        (λ p. IsPrincipal a_type p (Types (view e.now) (sorts known.now) []))) }
 {
     let mut typing = Typing::new(alloc);
     let t = typing.fresh()?;
@@ -136,7 +138,8 @@ fn function(
     known: &Known,
 ) -> Result<Option<Scheme>, NoMemory>
     requires { (x : Name) → IsGood (meant known.now x) }
-    ensures { IfOk result (λ found. MatchOption found ((s t : Ground) → FunctionTypes (sorts known.now) (pattern_view param.now) (view body.now) s t → ⊥) (λ p. IsPrincipal a_function p (IsArrow (FunctionTypes (sorts known.now) (pattern_view param.now) (view body.now))))) }
+    ensures { IfOk result (λ found. MatchOption found ((s t : Ground) → FunctionTypes (sorts known.now) (pattern_view param.now) (view body.now) s t → ⊥)
+        (λ p. IsPrincipal a_function p (IsArrow (FunctionTypes (sorts known.now) (pattern_view param.now) (view body.now))))) }
 {
     let mut typing = Typing::new(alloc);
     let from = typing.fresh()?;

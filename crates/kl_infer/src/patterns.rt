@@ -23,7 +23,8 @@ impl Typing {
         bound: &mut Vec<(Label, u64)>,
     ) -> Result<(), NoMemory>
         requires { Ready known.now self.old (onto bound.old.items (names outside.now)) (t ∷ []) }
-        ensures { IfOk result (λ _. Binds self.old self.new bound.old.items bound.new.items (names outside.now) (λ s. Takes (pattern_view p.now) (NameTypes (sorts known.now) (context s (names outside.now))) (s.types t))) }
+        ensures { IfOk result (λ _. Binds self.old self.new bound.old.items bound.new.items (names outside.now) (λ s. Takes (pattern_view p.now) (NameTypes
+            (sorts known.now) (context s (names outside.now))) (s.types t))) }
     {
         if !self.possible {
             return Ok(());
@@ -61,7 +62,8 @@ impl Typing {
     ) -> Result<(), NoMemory>
         requires ready { Ready known.now self.old (onto bound.old.items (names outside.now)) types.now }
         requires size { length types.now ≡ length fields.now }
-        ensures { IfOk result (λ _. Binds self.old self.new bound.old.items bound.new.items (names outside.now) (λ s. TakesAll (patterns_view fields.now) (NameTypes (sorts known.now) (context s (names outside.now))) (map s.types types.now))) }
+        ensures { IfOk result (λ _. Binds self.old self.new bound.old.items bound.new.items (names outside.now)
+            (λ s. TakesAll (patterns_view fields.now) (NameTypes (sorts known.now) (context s (names outside.now))) (map s.types types.now))) }
     {
         'fields: for i in 0..fields.len() {
             self.takes(&fields[i].1, known, outside, types[i], bound)?;

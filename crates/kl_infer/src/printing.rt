@@ -1,10 +1,11 @@
 //! The text of a scheme.
-ghost use Rattle.std.specs.Prelude.{◌≡◌, ◌<◌, ◌≤◌, ◌++◌, ◌∷◌, [], length, take, drop, IfOk, OnOk, MatchOption};
+ghost use Rattle.std.specs.Prelude.{◌≡◌, ◌<◌, ◌≤◌, [], length, IfOk, OnOk, MatchOption};
 ghost use Rattle.std.specs.Option.{option_map};
-ghost use Rattle.kl_base.specs.Sorted.{put_in, sorted};
+ghost use Rattle.kl_base.specs.Sorted.{sorted};
 ghost use Rattle.kl_rows.specs.Schemes.{IsScheme};
 ghost use Rattle.kl_infer.specs.Numbers.{Writes, limit};
-ghost use Rattle.kl_infer.specs.Printed.{by_label, opening_text, closing_text, kind_variables, rest_variables, row_variables, row_text, tree_at, text, variables, scheme_text};
+ghost use Rattle.kl_infer.specs.Printed.{by_label, opening_text, closing_text, kind_variables, rest_variables, row_variables, row_text, tree_at};
+ghost use Rattle.kl_infer.specs.Printed.{text, variables, scheme_text};
 ghost use Rattle.kl_infer.specs.Rows.{CanPrint, IsEnd, IsRowOf, front_of, is_open, kind_of, mark_behind};
 
 use crate::page::Page;
@@ -85,7 +86,7 @@ fn write_row(alloc: Global, parts: &[Part], place: usize, page: &mut Page) -> Re
     ensures { OnOk result (Writes page.old page.new (row_variables (tree_at parts.now place)) (row_text (tree_at parts.now place))) }
 {
     let (fields, end) = row_of(alloc, parts, place)?;
-    let fields = by_labels(alloc, fields)?;
+    let fields = by_labels(fields)?;
     'fields: for i in 0..fields.len() {
         page.put(separator(i))?;
         page.put(fields[i].0.slice())?;
@@ -135,36 +136,12 @@ fn front_of(part: &Part) -> Option<Front<'_>>
 }
 
 // The same fields by rising label.
-fn by_labels(alloc: Global, fields: Vec<(Label, usize)>) -> Result<Vec<(Label, usize)>, NoMemory>
+fn by_labels(fields: Vec<(Label, usize)>) -> Result<Vec<(Label, usize)>, NoMemory>
     ensures { IfOk result (λ all. all.items ≡ sorted by_label fields.items) }
 {
-    let mut sorted = Vec::with_capacity(alloc, fields.len())?;
     let mut fields = fields;
-    'fields: while let Some(field) = fields.pop() {
-        put_in(&mut sorted, field)?;
-    }
-    Ok(sorted)
-}
-
-// A field in its place among those that rise.
-fn put_in(fields: &mut Vec<(Label, usize)>, field: (Label, usize)) -> Result<(), NoMemory>
-    ensures { OnOk result (fields.new.items ≡ put_in by_label field fields.old.items) }
-{
-    let at = place_for(fields, &field);
-    fields.insert(at, field)?;
-    Ok(())
-}
-
-fn place_for(fields: &[(Label, usize)], field: &(Label, usize)) -> usize
-    ensures here { take result fields.now ++ field.now ∷ drop result fields.now ≡ put_in by_label field.now fields.now }
-    ensures within { result ≤ length fields.now }
-{
-    'fields: for i in 0..fields.len() {
-        if !field.0.cmp(&fields[i].0).is_gt() {
-            return i;
-        }
-    }
-    fields.len()
+    fields.sort_by(|f, g| f.0.cmp(&g.0))?;
+    Ok(fields)
 }
 
 // The mark of an open row behind so many fields.

@@ -15,7 +15,7 @@ pub type Schemes = Seq<Scheme>;
 
 /// A program's types, as schemes. That of a function has an arrow at its root, from its parameter's type to its
 /// result's.
-#[derive(Debug, Drop)]
+#[derive(Drop)]
 pub struct Typed {
     pub schemes: Schemes,
     /// The scheme of the last expression.
@@ -29,7 +29,8 @@ impl Typed {
     pub fn result_kind(&self) -> Option<Kind>
         ensures table { result ≡ known_kind self.now.result }
         ensures instances { IfSome result (λ k. (t : Ground) → Instance self.now.result t → (s : Ground) × (t ≡ coll k s)) }
-        ensures others { (k : Kind) → IsScheme self.now.result → (t : Ground) → Instance self.now.result t → (result ≡ Some k → ⊥) → HasOther self.now.result k }
+        ensures others { (k : Kind) → IsScheme self.now.result → (t : Ground) → Instance self.now.result t → (result ≡ Some k → ⊥)
+            → HasOther self.now.result k }
     {
         known_kind(&self.result)
     }

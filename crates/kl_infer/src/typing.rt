@@ -2,19 +2,31 @@
 ghost use Rattle.std.specs.Prelude.{◌≡◌, ℕ, IsTrue, Some, false, [], ◌∷◌, length, map, IfOk, MatchOption};
 ghost use Rattle.std.specs.List.{AllByRecursion};
 ghost use Rattle.kl_base.specs.Fields.{field};
-ghost use Rattle.kl_type.specs.Ground.{bool};
+ghost use Rattle.kl_type.specs.Ground.{bool, IsProper};
 ghost use Rattle.kl_rows.specs.Places.{IsFine, IsType, IsTyped, AreTypes};
-ghost use Rattle.kl_forms.specs.Forms.{ItemsOf, DrawnFrom, FieldOf, VariantOf, IsRecord, IsVariant, IsOfType, Applies, Operates};
+ghost use Rattle.kl_forms.specs.Forms.{
+  ItemsOf,
+  DrawnFrom,
+  FieldOf,
+  VariantOf,
+  IsRecord,
+  IsVariant,
+  IsOfType,
+  Applies,
+  Operates,
+  IsThis,
+  IsInstance,
+};
 ghost use Rattle.kl_meaning.specs.Typing.{NameTypes, ValueTypes, CallTypes};
 ghost use Rattle.kl_infer.specs.Asking.{Asks, Concludes, Gets, GetsFunction, GetsMany, context};
 ghost use Rattle.kl_forms.specs.Checks.{Checks};
-ghost use Rattle.kl_infer.specs.Names.{IsGood, Ready, meant_of, names, sort_of, sorts};
+ghost use Rattle.kl_infer.specs.Names.{IsGood, Ready, by_value, meant_of, names, sort_of, sorts};
 
 use crate::scope::{Known, Scope, Sense, stands_for, variable};
 use kl_base::{Label, NoMemory};
 use kl_forms::{
     any_items_of, applied, field_of, fresh_types, is_record, is_variant, items_of, operated,
-    uses_function, uses_type, uses_value, value, variant_of,
+    uses_function, uses_value, value, variant_of,
 };
 use kl_rows::{Node, Scheme, Unifier};
 use kl_syntax::Op;
@@ -28,6 +40,8 @@ pub struct Typing {
     pub unifier: Unifier,
     /// Whether it may be met. Once it can not be met, nothing is asked any more.
     pub possible: bool,
+    /// The sources that were used, with the numbers that their types got.
+    pub made: Vec<(Label, u64)>,
 }
 
 impl Typing {
@@ -39,6 +53,7 @@ impl Typing {
         Typing {
             unifier: Unifier::new(alloc),
             possible: true,
+            made: Vec::new(alloc),
         }
     }
 
@@ -257,11 +272,7 @@ impl Typing {
         if !self.possible {
             return Ok(None);
         }
-        if !self.unifier.unify(root, root)? {
-            return Ok(None);
-        }
-        let scheme = self.unifier.settle(root)?;
-        Ok(Some(scheme))
+        self.unifier.settled(root)
     }
 
     /// The type is one of a name's.
@@ -292,7 +303,57 @@ impl Typing {
         if !self.possible {
             return Ok(());
         }
-        self.possible = can_be(&mut self.unifier, stands_for(known, name), want)?;
+        match stands_for(known, name) {
+            Sense::Value(scheme) => self.value_of(scheme, want),
+            Sense::Source(t) => self.source(name, t, want),
+            _ => {
+                self.possible = false;
+                Ok(())
+            }
+        }
+    }
+
+    // The type is an instance of the scheme.
+    fn value_of(&mut self, scheme: &Scheme, want: u64) -> Result<(), NoMemory>
+        requires fine { IsTrue self.old.possible → IsFine self.old.unifier.cells.items }
+        requires there { IsTrue self.old.possible → IsType self.old.unifier.cells.items want }
+        requires good { IsGood (by_value scheme.now) }
+        ensures { IfOk result (λ _. Asks self.old self.new (IsInstance scheme.now want)) }
+    {
+        if !self.possible {
+            return Ok(());
+        }
+        self.possible = uses_value(&mut self.unifier, scheme, want)?;
+        Ok(())
+    }
+
+    // The type is that of a source, which is made once.
+    fn source(&mut self, name: &Label, t: &Ty, want: u64) -> Result<(), NoMemory>
+        requires fine { IsTrue self.old.possible → IsFine self.old.unifier.cells.items }
+        requires there { IsTrue self.old.possible → IsType self.old.unifier.cells.items want }
+        requires proper { IsProper t.now }
+        ensures { IfOk result (λ _. Asks self.old self.new (IsThis t.now want)) }
+    {
+        if !self.possible {
+            return Ok(());
+        }
+        match made_for(&self.made, name) {
+            Some(number) if self.unifier.knows(number, t) => self.same(number, want),
+            _ => self.make_source(name, t, want),
+        }
+    }
+
+    fn make_source(&mut self, name: &Label, t: &Ty, want: u64) -> Result<(), NoMemory>
+        requires possible { IsTrue self.old.possible }
+        requires fine { IsFine self.old.unifier.cells.items }
+        requires there { IsType self.old.unifier.cells.items want }
+        requires proper { IsProper t.now }
+        ensures { IfOk result (λ _. Asks self.old self.new (IsThis t.now want)) }
+    {
+        let t = t.dup(self.unifier.alloc)?;
+        let number = self.unifier.make(Node::Base(t))?;
+        self.made.push((name.dup()?, number))?;
+        self.possible = self.unifier.merge(number, want)?;
         Ok(())
     }
 
@@ -315,18 +376,16 @@ impl Typing {
     }
 }
 
-// Whether the type can be one of what a name stands for.
-fn can_be(u: &mut Unifier, sense: Sense, want: u64) -> Result<bool, NoMemory>
-    requires fine { IsFine u.old.cells.items }
-    requires there { IsType u.old.cells.items want }
-    requires good { IsGood (meant_of sense) }
-    ensures { IfOk result (λ holds. Checks holds u.old.cells.items u.new.cells.items (λ s. ValueTypes (sort_of (meant_of sense.entry)) (s.types want))) }
+// The number that was made for a name.
+fn made_for(made: &[(Label, u64)], name: &Label) -> Option<u64>
+    ensures { result ≡ field name.now made.now }
 {
-    match sense {
-        Sense::Value(scheme) => uses_value(u, scheme, want),
-        Sense::Source(t) => uses_type(u, t, want),
-        _ => Ok(false),
+    for pair in made {
+        if *name == pair.0 {
+            return Some(pair.1);
+        }
     }
+    None
 }
 
 // Whether a call of what a name stands for can take arguments of these types and give this one.
@@ -335,7 +394,8 @@ fn can_call(u: &mut Unifier, sense: Sense, args: &[u64], want: u64) -> Result<bo
     requires there { IsType u.old.cells.items want }
     requires args_there { AllByRecursion (IsType u.old.cells.items) args.now }
     requires good { IsGood (meant_of sense) }
-    ensures { IfOk result (λ holds. Checks holds u.old.cells.items u.new.cells.items (λ s. CallTypes (sort_of (meant_of sense.entry)) (map s.types args.now) (s.types want))) }
+    ensures { IfOk result (λ holds. Checks holds u.old.cells.items u.new.cells.items
+        (λ s. CallTypes (sort_of (meant_of sense.entry)) (map s.types args.now) (s.types want))) }
 {
     match sense {
         Sense::Function(scheme) => {

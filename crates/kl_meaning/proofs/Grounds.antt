@@ -4,7 +4,7 @@ use Rattle.std.specs.List.{AllByRecursion}
 use Rattle.std.specs.Cmp.Lexicographic.{pointwise}
 use Rattle.std.specs.Prelude.{nat_eq}
 use Rattle.kl_base.specs.Fields.{field}
-use Rattle.kl_type.specs.Ground.{Ground, Row, bool, int, str, rec, var, coll as colls, arrow, no_row, row, at, IsGround, IsRow}
+use Rattle.kl_type.specs.Ground.{Ground, Row, var, coll as colls, no_row, row, at, IsGround, IsRow}
 use Rattle.kl_type.proofs.RowLemmas.{same_label}
 use Rattle.kl_outcome.specs.Outcome.{Name}
 use Rattle.kl_outcome.proofs.Grounds.{at_ground, prim_ground}
@@ -14,7 +14,7 @@ use Rattle.kl_syntax.specs.declared.tree.Word.{Word}
 use Rattle.kl_syntax.specs.Syntax.{Pat, catch, any, same, is, shape as record_of, variant, Pats, no_pats, pats, Exp, con, name, call, fields, inject, coll, comp, choice, bind, select, path, invert, minus, chain, Exps, no_exps, exps, Quals, no_quals, draw, test, Branches, no_branches, otherwise, branch, Steps, no_steps, step, Decls, no_decls, constant, function}
 use Rattle.kl_meaning.specs.Match.{same_name}
 use Rattle.kl_meaning.specs.Run.{code_named}
-use Rattle.kl_meaning.specs.Typing.{Context, AreGround, Sort, nothing, value_of, function_of, primitive, ValueTypes, CallTypes, VariableOr, NameTypes, Takes, TakesFields, OpTypes, PathTypes, Types, AllTypes, QualTypes, BranchTypes, StepTypes, has_branch, sort_at, sort_by_code, sort_if, with_sort, types_at_first, types_after, FunctionTypes, KnownTypes, ProgramTypes}
+use Rattle.kl_meaning.specs.Typing.{Context, AreGround, Sort, nothing, value_of, function_of, primitive, ValueTypes, CallTypes, VariableOr, NameTypes, Takes, TakesFields, OpTypes, PathTypes, Types, AllTypes, QualTypes, BranchTypes, StepTypes, has_branch, sort_at, sort_if, with_sort, types_at_first, types_after, FunctionTypes, KnownTypes, ProgramTypes}
 
 some_ground : (b : Bool) (u t : Ground) (o : Option Ground) → IsGround u → (o ≡ Some t → IsGround t) → cond b (Some u) o ≡ Some t → IsGround t
 some_ground true u t o g k e = let d : u ≡ t = cc in subst IsGround d g

@@ -1,4 +1,5 @@
--- The types of expressions and programs, as derivations over ground types.
+-- The types of expressions and programs, as derivations over ground types. Where a derivation is free to choose a type, it
+-- is one of the language's (`IsGround`): labels rise, a variant has at least one, and no function stands in it.
 use Rattle.std.specs.Prelude.{◌≡◌, ℕ, Bool, true, false, ◌||◌, IsTrue, List, [], ◌∷◌, Option, Some, None, IsSome, ⊤}
 use Rattle.std.specs.List.{AllByRecursion}
 use Rattle.kl_base.specs.Fields.{field}
@@ -13,18 +14,13 @@ use Rattle.kl_syntax.specs.Syntax.{Pat, catch, any, same, is, shape, variant, Pa
 use Rattle.kl_meaning.specs.Match.{Env, same_name, has_label}
 use Rattle.kl_meaning.specs.Run.{code_of, code_named}
 
--- One of the language's types: labels rise, a variant type has at least one, and no function stands in it. Where a
--- derivation is free to choose a type it is one of these.
-abbrev pub IsLanguageType : Ground → Type 0
-IsLanguageType t = IsGround t
-
 -- the type of each variable, the last bound first
 abbrev pub Context : Type 0
 Context = List (Name × Ground)
 
 -- each of them is one of the language's
 abbrev pub AreGround : Context → Type 0
-AreGround G = AllByRecursion (λ b. IsLanguageType b.1) G
+AreGround G = AllByRecursion (λ b. IsGround b.1) G
 
 -- values of these types at the same names, in the same order
 abbrev pub HaveTypesByName : Context → Env → Type 0
@@ -104,13 +100,13 @@ has_branch (branch m p b bs) l = same_name l m.text || has_branch bs l
 
 abbrev mutual
   pub Types : Exp → KnownTypes → Context → Ground → Type 0
-  Types (con v) known G t = IsLanguageType t × Inhabits t v
+  Types (con v) known G t = IsGround t × Inhabits t v
   Types (name x) known G t = NameTypes known G x.text t
   Types (call f es) known G t = (ss : List Ground) × AllTypes es known G ss × CallTypes (known f.text) ss t
   Types (fields fs) known G t =
-      (r : Row) × (t ≡ rec r) × IsLanguageType t × ((l : Name) → IsSome (at l r) → IsTrue (has_field fs l)) × FieldTypes fs known G r
-  Types (inject l a) known G t = (r : Row) × (s : Ground) × (t ≡ var r) × IsLanguageType t × (at l.text r ≡ Some s) × Types a known G s
-  Types (coll k es) known G t = (s : Ground) × (t ≡ colls k s) × IsLanguageType t × EachType es known G s
+      (r : Row) × (t ≡ rec r) × IsGround t × ((l : Name) → IsSome (at l r) → IsTrue (has_field fs l)) × FieldTypes fs known G r
+  Types (inject l a) known G t = (r : Row) × (s : Ground) × (t ≡ var r) × IsGround t × (at l.text r ≡ Some s) × Types a known G s
+  Types (coll k es) known G t = (s : Ground) × (t ≡ colls k s) × IsGround t × EachType es known G s
   Types (comp k e qs) known G t = (s : Ground) × (H : Context) × (t ≡ colls k s) × QualTypes qs known G H × Types e known H s
   Types (choice a b c) known G t = Types a known G bool × Types b known G t × Types c known G t
   Types (bind p a b) known G t = (s : Ground) × (H : Context) × Types a known G s × Takes p (NameTypes known G) s G H × Types b known H t
@@ -175,7 +171,7 @@ with_sort d k known x = sort_if (same_name x d) k (known x)
 
 -- a function has the pairs of a type that its parameter takes and a type that its body has then
 abbrev pub FunctionTypes : KnownTypes → Pat → Exp → Ground → Ground → Type 0
-FunctionTypes known p e s t = IsLanguageType s × (H : Context) × Takes p (NameTypes known []) s [] H × Types e known H t
+FunctionTypes known p e s t = IsGround s × (H : Context) × Takes p (NameTypes known []) s [] H × Types e known H t
 
 -- a definition has the types of its expression over the definitions before it, each use a derivation of its own
 abbrev pub types_after : Decls → KnownTypes → KnownTypes

@@ -1,5 +1,5 @@
 -- A value has a type of the program exactly where it has the ground type that this stands for.
-use Rattle.std.proofs.Common.{◌≡◌, ℕ, Bool, true, false, ◌&&◌, List, [], ◌∷◌, map, Option, Some, None, IsSome, cond, nat_eq, refl, sym, ap, subst, ◌∙◌}
+use Rattle.std.proofs.Common.{◌≡◌, Bool, true, false, ◌&&◌, List, [], ◌∷◌, map, Some, IsSome, cond, nat_eq, refl, sym, ap, subst, ◌∙◌}
 use Rattle.std.specs.Cmp.Lexicographic.{pointwise, same_text}
 use Rattle.std.specs.List.{AllByRecursion, list_all}
 use Rattle.std.specs.Option.{option_map_or}
@@ -10,9 +10,8 @@ use Rattle.kl_value.specs.declared.Kind.{Kind}
 use Rattle.kl_value.specs.declared.Kind.TheVariants as kind
 use Rattle.kl_value.specs.declared.Value.{Value, Value-F, out-Value, roll-Value, roll-out-Value}
 use Rattle.kl_value.specs.declared.Value.TheVariants as value
-use Rattle.kl_type.specs.Ground.{Ground, Row, rec, var, coll, row_by, ground_of}
+use Rattle.kl_type.specs.Ground.{rec, var, coll, row_by, ground_of}
 use Rattle.kl_type.specs.Has.{fields_have, has_layer, has_type}
-use Rattle.kl_type.specs.Parts.{record_of, variant_of, items_of}
 use Rattle.kl_type.specs.declared.ground.Ty.{Ty, Ty-F, roll-Ty, map-Ty, ind-Ty}
 use Rattle.kl_type.specs.declared.ground.Ty.TheVariants as ty
 use Rattle.kl_type.proofs.GroundLemmas.{ground-Bool, ground-Int, ground-Str, ground-Rec, ground-Var, ground-Coll}

@@ -6,25 +6,25 @@ use Rattle.kl_value.specs.declared.value.Kind.{Kind}
 use Rattle.kl_value.specs.declared.value.Kind.TheVariants as kind
 use Rattle.kl_lex.specs.declared.keyword.Keyword.{Keyword}
 use Rattle.kl_lex.specs.declared.keyword.Keyword.TheVariants as key
-use Rattle.kl_syntax.specs.declared.tree.Word.{Word}
 use Rattle.kl_syntax.specs.declared.tree.Expr.{Expr}
 use Rattle.kl_syntax.specs.declared.tree.Expr.TheVariants as expr
 use Rattle.kl_syntax.specs.declared.tree.Qual.TheVariants as qual
 use Rattle.kl_syntax.specs.declared.tree.Pattern.{Pattern}
 use Rattle.kl_syntax.specs.declared.tree.Branch.{Branch}
-use Rattle.kl_parse.specs.Lexemes.{IsSymbol, Symbol, IsKey, Key, Label}
+use Rattle.kl_parse.specs.Lexemes.{Symbol, Key, Label}
 use Rattle.kl_lex.specs.Brackets.{opener, closer}
 use Rattle.kl_parse.specs.Grammar.{inject_of, case_of, let_of, if_of, gen_of, comp_of, Exprs, Args, Group, Field, Rec, Inject, Otherwise, If, AQual, Inside, Coll, Let, Case, Prim}
 use Rattle.kl_parse.specs.Kinds.{among, is_symbol, is_key, one_symbol, one_key, symbol_kind, label_kinds}
 use Rattle.kl_parse.specs.Descent as d
-use Rattle.kl_parse.proofs.KindLemmas.{all_of, none_of, within, symbol_of, key_of, on_symbol, on_key, has_symbol, has_key, has_label}
+use Rattle.kl_parse.proofs.KindLemmas.{all_of, none_of, within, on_symbol, on_key, has_symbol, has_key, has_label}
 use Rattle.kl_parse.proofs.PatGoods.{Free, good_symbol, good_key, good_label, stop, closes, past, past_key}
-use Rattle.kl_parse.proofs.ExprFirsts.{goes_add, goes_whole, on_field, InCase, InLet, InIf, whole_kinds}
+use Rattle.kl_parse.proofs.ExprFirsts.{goes_add, goes_whole, on_field, whole_kinds}
 use Rattle.kl_phrase.specs.Words.{heads, Phrase, Nothing, Then, Behind, Before, Many, Made, Or, Optional, Parted}
 use Rattle.kl_phrase.specs.Readers.{Reader, made, behind, before, chain, nothing, pick, parted}
-use Rattle.kl_phrase.proofs.Theory.{Good, On, Off, Has, Opens, Meets, To, Chain, good_nothing, good_made, good_both, good_before, good_pick, good_follow, good_many, good_parted, good_same, good_chain, meets_many, on_behind, has_behind}
-use Rattle.kl_phrase.proofs.Firsts.{Stops, Heads, Within, on_made, on_parted, off_nothing, meets_on, heads_within, stops_within, has_made, has_then, has_before, has_left, has_right, has_nothing, has_many, has_parted, opens_behind, opens_made}
-use Rattle.kl_phrase.proofs.Commit.{good_choose, good_followed, good_commit, Apart}
+use Rattle.kl_phrase.proofs.Theory.{Good, On, Off, Has, Meets, To, Chain, good_nothing, good_made, good_both, good_before, good_pick, good_follow, good_many, good_parted, good_same, good_chain, meets_many, on_behind, has_behind}
+use Rattle.kl_phrase.proofs.Firsts.{Stops, Heads, Within, on_made, on_parted, off_nothing, meets_on, heads_within, stops_within, has_made, has_then, has_before, has_left, has_right, has_nothing, has_many, has_parted}
+use Rattle.kl_phrase.proofs.Commit.{good_choose, good_followed, Apart}
+use Rattle.kl_phrase.proofs.Deciding.{Flat, good_decide}
 
 -- more may go on: less may follow
 pub looser : (a b : List ℕ) → all_of a b ≡ true → (v : List Token) → Stops (among b) v → Stops (among a) v
@@ -117,11 +117,11 @@ starts_no_closer kind.Set ts h = stop whole_kinds (one_symbol sy.CloseSet) refl 
 starts_no_closer kind.Bag ts h = stop whole_kinds (one_symbol sy.CloseBag) refl ts h
 starts_no_closer kind.List ts h = stop whole_kinds (one_symbol sy.CloseList) refl ts h
 
-module _ (N : ℕ) (P PW : Phrase Token Pattern) (p : Reader Token Pattern) (good_p : Good N P PW Free p) (has_p : Has PW) (E W : Phrase Token Expr) (e : Reader Token Expr) (good : Good N E W (Stops (among goes_whole)) e) (has_in : Has W) (on_e : On (among whole_kinds) E) (apart : Apart N (d.drawn p) (made qual.Cond (d.condition e))) where
+module _ (N : ℕ) (P PW : Phrase Token Pattern) (p : Reader Token Pattern) (good_p : Good N P PW Free p) (has_p : Has PW) (E W : Phrase Token Expr) (e : Reader Token Expr) (good : Good N E W (Stops (among goes_whole)) e) (has_in : Has W) (on_e : On (among whole_kinds) E) (flat_p : (ts : List Token) → Flat (d.drawn p ts)) (flat_q : (ts : List Token) → Flat (made qual.Cond (d.condition e) ts)) (apart : Apart N (d.drawn p) (made qual.Cond (d.condition e))) where
   pub good_qual : Good N (AQual P E) (AQual PW W) (Heads (among d.after_qual)) (d.qualifier p e)
   unfolding d.qualifier
   good_qual =
-      good_commit gen_of e (good_made (good_both {C = Free} (closes sy.Draw good_p (λ v h. tt)) (good_follow (Heads (among d.after_qual)) (stop d.after_qual goes_whole refl) good) has_in (λ n b y v r h. tt)))
+      good_decide gen_of e flat_p flat_q (good_made (good_both {C = Free} (closes sy.Draw good_p (λ v h. tt)) (good_follow (Heads (among d.after_qual)) (stop d.after_qual goes_whole refl) good) has_in (λ n b y v r h. tt)))
       (good_made (good_followed (among d.after_qual) good (stop d.after_qual goes_whole refl))) apart
 
   has_qual : Has (AQual PW W)
@@ -190,36 +190,3 @@ module _ (N : ℕ) (P PW : Phrase Token Pattern) (p : Reader Token Pattern) (goo
     where
       has_value : Has (Then (Before W (Key key.In)) W)
       has_value = has_then (Before W (Key key.In)) W (has_before W (Key key.In) has_in (has_key key.In)) has_in
-
--- ---- an opener begins a text
-
-module _ (W : Phrase Token Expr) (has_in : Has W) where
-  pub opens_args : Opens (is_symbol sy.OpenPar) (Made Some (Args W))
-  opens_args = opens_made (is_symbol sy.OpenPar) Some (Args W) (opens_behind (is_symbol sy.OpenPar) (IsSymbol sy.OpenPar) (Before (Exprs W) (Symbol sy.ClosePar)) (symbol_of sy.OpenPar) (has_before (Exprs W) (Symbol sy.ClosePar) (has_parted (Symbol sy.Comma) W has_in) (has_symbol sy.ClosePar)))
-
-  pub opens_group : Opens (is_symbol sy.OpenPar) (Group W)
-  opens_group = opens_behind (is_symbol sy.OpenPar) (IsSymbol sy.OpenPar) (Before W (Symbol sy.ClosePar)) (symbol_of sy.OpenPar) (has_before W (Symbol sy.ClosePar) has_in (has_symbol sy.ClosePar))
-
-  abbrev Fields : Phrase Token (List (Word × Expr))
-  Fields = Before (Optional [] (Parted (Symbol sy.Comma) (Field W))) (Symbol sy.CloseRec)
-
-  pub opens_rec : Opens (is_symbol sy.OpenRec) (Rec W)
-  opens_rec = opens_made (is_symbol sy.OpenRec) expr.Rec (Behind (Symbol sy.OpenRec) Fields) (opens_behind (is_symbol sy.OpenRec) (IsSymbol sy.OpenRec) Fields (symbol_of sy.OpenRec) (has_before (Optional [] (Parted (Symbol sy.Comma) (Field W))) (Symbol sy.CloseRec) (has_right (Parted (Symbol sy.Comma) (Field W)) (Nothing []) (has_nothing [])) (has_symbol sy.CloseRec)))
-
-  has_one_field : Has (Field W)
-  has_one_field = has_then Label (Behind (Symbol sy.Eq) W) has_label (has_behind (Symbol sy.Eq) W (has_symbol sy.Eq) has_in)
-
-  pub opens_inject : Opens (is_symbol sy.Lt) (Inject W)
-  opens_inject = opens_made (is_symbol sy.Lt) inject_of (Behind (Symbol sy.Lt) (Before (Field W) (Symbol sy.Gt))) (opens_behind (is_symbol sy.Lt) (IsSymbol sy.Lt) (Before (Field W) (Symbol sy.Gt)) (symbol_of sy.Lt) (has_before (Field W) (Symbol sy.Gt) has_one_field (has_symbol sy.Gt)))
-
-  pub opens_if : Opens (is_key key.If) (If W)
-  opens_if = opens_made (is_key key.If) if_of (Behind (Key key.If) (InIf W)) (opens_behind (is_key key.If) (IsKey key.If) (InIf W) (key_of key.If) (has_then (Before W (Key key.Then)) (Then (Before W (Key key.Else)) W) (has_before W (Key key.Then) has_in (has_key key.Then)) (has_then (Before W (Key key.Else)) W (has_before W (Key key.Else) has_in (has_key key.Else)) has_in)))
-
-  pub opens_let : (PW : Phrase Token Pattern) → Has PW → Opens (is_key key.Let) (Let PW W)
-  opens_let PW has_p = opens_made (is_key key.Let) let_of (Behind (Key key.Let) (InLet PW W)) (opens_behind (is_key key.Let) (IsKey key.Let) (InLet PW W) (key_of key.Let) (has_then (Before PW (Symbol sy.Equals)) (Then (Before W (Key key.In)) W) (has_before PW (Symbol sy.Equals) has_p (has_symbol sy.Equals)) (has_then (Before W (Key key.In)) W (has_before W (Key key.In) has_in (has_key key.In)) has_in)))
-
-  pub opens_coll : (PW : Phrase Token Pattern) (k : Kind) → Opens (is_symbol (opener k)) (Coll PW W k)
-  opens_coll PW k = opens_behind (is_symbol (opener k)) (IsSymbol (opener k)) (Before (Inside PW W k) (Symbol (closer k))) (symbol_of (opener k)) (has_before (Inside PW W k) (Symbol (closer k)) (has_left (Made (expr.Coll k) (Optional [] (Exprs W))) (Made (comp_of k) (Then W (Behind (Symbol sy.Bar) (Parted (Symbol sy.Comma) (AQual PW W))))) (has_made (expr.Coll k) (Optional [] (Exprs W)) (has_right (Exprs W) (Nothing []) (has_nothing [])))) (has_symbol (closer k)))
-
-  pub opens_case : (V : Phrase Token Branch) → Has V → Opens (is_key key.Case) (Case W V)
-  opens_case V has_b = opens_made (is_key key.Case) case_of (Behind (Key key.Case) (InCase W V)) (opens_behind (is_key key.Case) (IsKey key.Case) (InCase W V) (key_of key.Case) (has_then (Before W (Key key.Of)) (Then (Parted (Symbol sy.Comma) V) (Before (Otherwise W) (Key key.End))) (has_before W (Key key.Of) has_in (has_key key.Of)) (has_then (Parted (Symbol sy.Comma) V) (Before (Otherwise W) (Key key.End)) (has_parted (Symbol sy.Comma) V has_b) (has_before (Otherwise W) (Key key.End) (has_right (Made Some (Behind (Key key.Otherwise) W)) (Nothing None) (has_nothing None)) (has_key key.End)))))

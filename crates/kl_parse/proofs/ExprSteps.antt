@@ -1,5 +1,5 @@
 -- What the code's steps say of the descent through expressions.
-use Rattle.std.proofs.Common.{◌≡◌, ℕ, zero, suc, ◌<◌, Bool, true, false, IsTrue, List, [], ◌∷◌, ◌++◌, length, Option, Some, None, inl, inr, refl, sym, ap, subst, ◌∙◌, arith}
+use Rattle.std.proofs.Common.{◌≡◌, ℕ, zero, suc, ◌<◌, Bool, true, false, IsTrue, List, [], ◌∷◌, ◌++◌, length, Option, Some, None, refl, sym, ap, subst, ◌∙◌, arith}
 use Rattle.std.proofs.Math.Path.{fun_ext}
 use Rattle.kl_lex.specs.declared.token.Sym.{Sym}
 use Rattle.kl_lex.specs.declared.token.Sym.TheVariants as sy
@@ -23,25 +23,25 @@ use Rattle.kl_syntax.specs.declared.tree.Branch.{Branch}
 use Rattle.kl_phrase.specs.Gives.{Fails}
 use Rattle.kl_lex.specs.Brackets.{opener, closer}
 use Rattle.kl_phrase.specs.Depth.{opens}
-use Rattle.kl_parse.specs.Grammar.{name_of, inject_of, gen_of, comp_of, case_of, path_of, chain_of, compare_of, let_of, if_of, branch_of, function_of, constant_of, Sort, whole, negated, signed, added}
+use Rattle.kl_parse.specs.Grammar.{name_of, inject_of, gen_of, case_of, path_of, compare_of, let_of, if_of, branch_of, function_of, constant_of, Sort, whole, negated, signed, added}
 use Rattle.kl_parse.specs.Kinds.{among, is_symbol, is_key, constant_kinds, big_kinds, op_kinds, a_constant, an_op, a_symbol}
 use Rattle.kl_parse.specs.Descent as d
 use Rattle.kl_parse.specs.Descent.{mark, word_mark}
-use Rattle.kl_parse.proofs.Kepts.{same_reads, same_pat, same_branch, same_qual, keeps_operand, keeps_field, minus_nests}
+use Rattle.kl_parse.proofs.Kepts.{same_reads, same_pat, same_branch, same_qual, keeps_operand, keeps_field}
 use Rattle.kl_parse.proofs.Steps.{Ahead, AheadKey, behind_mark, behind_key, heads_mark, heads_key}
-use Rattle.kl_phrase.proofs.Failures.{fails_after, err_by}
-use Rattle.kl_parse.specs.Parsing.{nests}
+use Rattle.kl_phrase.proofs.Failures.{err_by}
 use Rattle.kl_phrase.specs.Words.{heads}
-use Rattle.kl_phrase.specs.Readers.{Why, bad, deep, Out, ok, fail, Reader, after, one, behind, both, made, followed, instead, turns, pick, nothing, others}
+use Rattle.kl_phrase.specs.Readers.{Why, bad, deep, Out, ok, fail, Reader, after, one, behind, both, made, pick, others}
+use Rattle.kl_phrase.specs.Refusals.{opened_by, refused}
 use Rattle.kl_phrase.proofs.Kept.{Keeps, Rests, Takes, takes_both, takes_one}
-use Rattle.kl_phrase.proofs.Gathered.{Progress, goes_on, stops, parted_on, part_fails}
-use Rattle.kl_phrase.proofs.Exact.{Nested}
+use Rattle.kl_phrase.proofs.Gathered.{Progress, goes_on, stops, part_fails}
+use Rattle.kl_phrase.proofs.Exact.{Each}
 use Rattle.kl_phrase.proofs.Theory.{no}
 
 -- ---- by depth
 
 pub reads_is : (N n : ℕ) (s : Sort) (ts : List Token) → d.reads N n s ts ≡ d.sort_at N n s ts
-unfolding d.reads
+unfolding d.reads_by
 reads_is N zero s ts = refl
 reads_is N (suc n) s ts = refl
 
@@ -75,50 +75,30 @@ Step N n l = both (one (an_op l)) (d.operand_at N n l)
 abbrev pub Others : ℕ → ℕ → Level → List Token → Out Token (List (Op × Expr))
 Others N n l rest = others (among (op_kinds l)) (Step N n l) [] rest
 
-chain_of_two : (a : Expr) (o : Out Token (List (Op × Expr) × Unit {0})) → after {B = Expr} (after {B = Expr × List (Op × Expr)} (after o (λ x r. ok x.0 r)) (λ b s. ok (a, b) s)) (λ x r. ok (chain_of x) r) ≡ after (after {B = List (Op × Expr)} o (λ x r. ok ([] ++ x.0) r)) (λ l s. ok (chain_of (a, l)) s)
-chain_of_two a (ok x r) = refl
-chain_of_two a (fail w r) = refl
-
-pub chain_first : (N n : ℕ) (l : Level) (ts rest : List Token) (a : Expr) → d.operand_at N n l ts ≡ ok a rest → d.chain_at N n l ts ≡ after (Others N n l rest) (λ more s. ok (chain_of (a, more)) s)
-chain_first N n l ts rest a e = rw e (chain_of_two a (turns (pick (among (op_kinds l)) (made inl (Step N n l)) (made inr (nothing (tt {0})))) (suc (length rest)) rest))
-
-pub chain_fails : (N n : ℕ) (l : Level) (ts : List Token) (f : Fault Token) → Fails f (d.operand_at N n l ts) → Fails f (d.chain_at N n l ts)
-chain_fails N n l ts fault.Memory h = tt
-chain_fails N n l ts (fault.Bad r) h = rw h refl
-chain_fails N n l ts (fault.Deep r) h = rw h refl
-
-pub chain_one : (N n : ℕ) (l : Level) (ts rest r : List Token) (a : Expr) (more : List (Op × Expr)) → d.operand_at N n l ts ≡ ok a rest → Others N n l rest ≡ ok more r → length more ≡ 0 → d.chain_at N n l ts ≡ ok a r
-chain_one N n l ts rest r a [] e h z = chain_first N n l ts rest a e ∙ rw h refl
-chain_one N n l ts rest r a (x ∷ more) e h z = absurd (omega arith)
-
-pub chain_more : (N n : ℕ) (l : Level) (ts rest r : List Token) (a : Expr) (more : List (Op × Expr)) → d.operand_at N n l ts ≡ ok a rest → Others N n l rest ≡ ok more r → (length more ≡ 0 → ⊥) → d.chain_at N n l ts ≡ ok (expr.Chain a more) r
-chain_more N n l ts rest r a [] e h z = absurd (z refl)
-chain_more N n l ts rest r a (x ∷ more) e h z = chain_first N n l ts rest a e ∙ rw h refl
-
 pub step_on : (N n : ℕ) (l : Level) (ts more r : List Token) (o : Op) (a : Expr) → one (an_op l) ts ≡ ok o more → d.operand_at N n l more ≡ ok a r → Step N n l ts ≡ ok (o, a) r
 step_on N n l ts more r o a e h = rw (e, h) refl
 
 pub step_fails : (N n : ℕ) (l : Level) (whole_list : Out Token (List (Op × Expr))) (found : List (Op × Expr)) (ts more : List Token) (o : Op) (f : Fault Token) → heads (among (op_kinds l)) ts ≡ true → one (an_op l) ts ≡ ok o more → Fails f (d.operand_at N n l more) → Progress (among (op_kinds l)) (Step N n l) whole_list found ts → Fails f whole_list
 step_fails N n l whole_list found ts more o f hd e = part_fails (among (op_kinds l)) (Step N n l) (d.operand_at N n l more) whole_list found ts f hd (λ w s h. rw (e, h) refl)
 
-keeps_inside : (N n : ℕ) (s : Sort) → IsTrue (opens n) → Keeps (Nested nests) N N (d.inside N n s) (d.inside N n s)
+keeps_inside : (N n : ℕ) (s : Sort) → IsTrue (opens n) → Keeps Each N N (d.inside N n s) (d.inside N n s)
 keeps_inside N zero s i = no i
 keeps_inside N (suc n) s i = same_reads N N n s
 
-keeps_inside_pat : (N n : ℕ) → IsTrue (opens n) → Keeps (Nested nests) N N (d.pat_inside N n) (d.pat_inside N n)
+keeps_inside_pat : (N n : ℕ) → IsTrue (opens n) → Keeps Each N N (d.pat_inside N n) (d.pat_inside N n)
 keeps_inside_pat N zero i = no i
-keeps_inside_pat N (suc n) i = same_pat (Nested nests) N N n
+keeps_inside_pat N (suc n) i = same_pat Each N N n
 
-keeps_inside_branch : (N n : ℕ) → IsTrue (opens n) → Keeps (Nested nests) N N (d.branch_inside N n) (d.branch_inside N n)
+keeps_inside_branch : (N n : ℕ) → IsTrue (opens n) → Keeps Each N N (d.branch_inside N n) (d.branch_inside N n)
 keeps_inside_branch N zero i = no i
 keeps_inside_branch N (suc n) i = same_branch N N n (same_reads N N n whole)
 
-keeps_inside_qual : (N n : ℕ) → IsTrue (opens n) → Keeps (Nested nests) N N (d.qualifier (d.pat_inside N n) (d.inside N n whole)) (d.qualifier (d.pat_inside N n) (d.inside N n whole))
+keeps_inside_qual : (N n : ℕ) → IsTrue (opens n) → Keeps Each N N (d.qualifier (d.pat_inside N n) (d.inside N n whole)) (d.qualifier (d.pat_inside N n) (d.inside N n whole))
 keeps_inside_qual N zero i = no i
 keeps_inside_qual N (suc n) i = same_qual N N n (same_reads N N n whole)
 
 takes_step : (N n : ℕ) (l : Level) → Takes (Step N n l)
-takes_step N n l = takes_both (takes_one (an_op l)) (keeps_operand (Nested nests) N N (d.pat_inside N n) (d.pat_inside N n) (d.inside N n whole) (d.inside N n negated) (d.inside N n signed) (d.inside N n added) (d.inside N n whole) (d.inside N n negated) (d.inside N n signed) (d.inside N n added) (d.branch_inside N n) (d.branch_inside N n) (opens n) (opens n) (keeps_inside_pat N n) (keeps_inside N n whole) (keeps_inside N n negated) (keeps_inside N n signed) (keeps_inside N n added) (keeps_inside_branch N n) (keeps_inside_qual N n) (λ i. i) (λ r h. refl) minus_nests l)
+takes_step N n l = takes_both (takes_one (an_op l)) (keeps_operand Each N N (d.pat_inside N n) (d.pat_inside N n) (d.inside N n whole) (d.inside N n negated) (d.inside N n signed) (d.inside N n added) (d.inside N n whole) (d.inside N n negated) (d.inside N n signed) (d.inside N n added) (d.branch_inside N n) (d.branch_inside N n) (opens n) (opens n) (keeps_inside_pat N n) (keeps_inside N n whole) (keeps_inside N n negated) (keeps_inside N n signed) (keeps_inside N n added) (keeps_inside_branch N n) (keeps_inside_qual N n) (λ i. i) (λ r h. refl) l)
 
 pub step_less : (N n : ℕ) (l : Level) (ts more r : List Token) (o : Op) (a : Expr) → one (an_op l) ts ≡ ok o more → d.operand_at N n l more ≡ ok a r → length r < length ts
 step_less N n l ts more r o a e h = takes_step N n l ts (o, a) r (step_on N n l ts more r o a e h)
@@ -176,21 +156,26 @@ compare_two N n ts rest more a o e h i = rw (e, h, i) (compare_of_two a o (d.ope
 pub compare_ok : (N n : ℕ) (ts rest more r : List Token) (a b : Expr) (o : Op) (l : List (Op × Expr)) → l ≡ (o, b) ∷ [] → d.operand_at N n level.Compare ts ≡ ok a rest → heads (among (op_kinds level.Compare)) rest ≡ true → one (an_op level.Compare) rest ≡ ok o more → d.operand_at N n level.Compare more ≡ ok b r → d.compare_at N n ts ≡ ok (expr.Chain a l) r
 compare_ok N n ts rest more r a b o l z e h i j = compare_two N n ts rest more a o e h i ∙ rw j (ap (λ (y : List (Op × Expr)). ok (expr.Chain a y) r) (sym z))
 
-pub least_found : (N n : ℕ) (ts r : List Token) (a : Expr) → d.is_least ts ≡ true → d.least_at ts ≡ ok a r → d.sort_at N n signed ts ≡ ok a r
-unfolding d.un
-least_found N n ts r a h e = rw h e
+-- what stands behind a minus
+abbrev pub Minus : ℕ → ℕ → Reader Token Expr
+Minus N n = pick (among big_kinds) d.least_at (opened_by deep (opens n) (made expr.Neg (d.inside N n signed)))
 
-pub minus_deep : (N n : ℕ) (ts more : List Token) → n ≡ 0 → d.is_least ts ≡ false → Ahead sy.Sub ts more → d.sort_at N n signed ts ≡ fail deep ts
+minus_at : (N n : ℕ) (ts more : List Token) → Ahead sy.Sub ts more → d.sort_at N n signed ts ≡ Minus N n more
 unfolding d.un
-minus_deep N n ts more z l a = ap (λ m. d.sort_at N m signed ts) z ∙ rw (l, heads_mark sy.Sub ts more a) refl
+minus_at N n ts more a = rw (heads_mark sy.Sub ts more a) (behind_mark sy.Sub (Minus N n) ts more a)
 
-pub minus_at : (N n k : ℕ) (ts more : List Token) → n ≡ suc k → d.is_least ts ≡ false → Ahead sy.Sub ts more → d.sort_at N n signed ts ≡ after (d.sort_at N k signed more) (λ x s. ok (expr.Neg x) s)
-unfolding d.un
-minus_at N n k ts more z l a = ap (λ m. d.sort_at N m signed ts) z ∙ rw (l, heads_mark sy.Sub ts more a) (ap (λ (o : Out Token Expr). after {B = Expr} o (λ x s. ok (expr.Neg x) s)) (behind_mark sy.Sub (d.reads N k signed) ts more a ∙ reads_is N k signed more))
+pub least_found : (N n : ℕ) (ts more r : List Token) (a : Expr) → Ahead sy.Sub ts more → heads (among big_kinds) more ≡ true → d.least_at more ≡ ok a r → d.sort_at N n signed ts ≡ ok a r
+least_found N n ts more r a ahead h e = minus_at N n ts more ahead ∙ rw h e
 
-pub minus_none : (N n : ℕ) (ts : List Token) → d.is_least ts ≡ false → heads (is_symbol sy.Sub) ts ≡ false → d.sort_at N n signed ts ≡ d.post_at N n ts
+pub minus_deep : (N n : ℕ) (ts more : List Token) → n ≡ 0 → Ahead sy.Sub ts more → heads (among big_kinds) more ≡ false → d.sort_at N n signed ts ≡ fail deep more
+minus_deep N n ts more z ahead h = minus_at N n ts more ahead ∙ ap (λ m. Minus N m more) z ∙ rw h refl
+
+pub minus_on : (N n k : ℕ) (ts more : List Token) → n ≡ suc k → Ahead sy.Sub ts more → heads (among big_kinds) more ≡ false → d.sort_at N n signed ts ≡ after (d.sort_at N k signed more) (λ x s. ok (expr.Neg x) s)
+minus_on N n k ts more z ahead h = minus_at N n ts more ahead ∙ ap (λ m. Minus N m more) z ∙ rw h (ap (λ (o : Out Token Expr). after {B = Expr} o (λ x s. ok (expr.Neg x) s)) (reads_is N k signed more))
+
+pub minus_none : (N n : ℕ) (ts : List Token) → heads (is_symbol sy.Sub) ts ≡ false → d.sort_at N n signed ts ≡ d.post_at N n ts
 unfolding d.un
-minus_none N n ts l h = rw (l, h) refl
+minus_none N n ts h = rw h refl
 
 pub path_fails : (N n : ℕ) (ts : List Token) (f : Fault Token) → Fails f (d.prim_at N n ts) → Fails f (d.post_at N n ts)
 unfolding d.post
@@ -344,24 +329,6 @@ module _ (p : Reader Token Pattern) (e : Reader Token Expr) where
   unfolding d.in_coll
   coll_some k ts h = rw h (coll_two (e ts) (d.beyond p e k) (mark (closer k)))
 
-  pub bar_at : (k : Kind) (first : Expr) (ts more : List Token) → Ahead sy.Bar ts more → d.beyond p e k first ts ≡ after (d.quals p e more) (λ found s. ok (expr.Comp k first found) s)
-  bar_at k first ts more a = rw (heads_mark sy.Bar ts more a) (ap (λ (o : Out Token (List Qual)). after {B = Expr} o (λ found s. ok (comp_of k (first, found)) s)) (behind_mark sy.Bar (d.quals p e) ts more a))
-
-  items_two : (k : Kind) (first : Expr) (o : Out Token (List Expr × Unit {0})) → after {B = Expr} (after {B = List Expr} o (λ x r. ok x.0 r)) (λ more s. ok (expr.Coll k (first ∷ more)) s) ≡ after (after {B = List Expr} o (λ x r. ok ((first ∷ []) ++ x.0) r)) (λ l s. ok (expr.Coll k l) s)
-  items_two k first (ok x r) = refl
-  items_two k first (fail w r) = refl
-
-  pub items_at : (k : Kind) (first : Expr) (ts : List Token) → heads (is_symbol sy.Bar) ts ≡ false → d.beyond p e k first ts ≡ after (others (is_symbol sy.Comma) (behind (mark sy.Comma) e) (first ∷ []) ts) (λ l s. ok (expr.Coll k l) s)
-  items_at k first ts h = rw h (items_two k first (turns (pick (is_symbol sy.Comma) (made inl (behind (mark sy.Comma) e)) (made inr (nothing (tt {0})))) (suc (length ts)) ts))
-
-  pub quals_first : (ts rest : List Token) (a : Qual) → d.qualifier p e ts ≡ ok a rest → d.quals p e ts ≡ others (is_symbol sy.Comma) (behind (mark sy.Comma) (d.qualifier p e)) (a ∷ []) rest
-  quals_first ts rest a h = parted_on (is_symbol sy.Comma) (mark sy.Comma) (d.qualifier p e) ts rest a h
-
-  pub quals_fail : (ts : List Token) (f : Fault Token) → Fails f (d.qualifier p e ts) → Fails f (d.quals p e ts)
-  quals_fail ts fault.Memory h = tt
-  quals_fail ts (fault.Bad r) h = rw h refl
-  quals_fail ts (fault.Deep r) h = rw h refl
-
   gen_two : (a : Pattern) (o : Out Token Expr) → after {B = Qual} (after {B = Pattern × Expr} o (λ b s. ok (a, b) s)) (λ x s. ok (gen_of x) s) ≡ after o (λ b s. ok (qual.Gen a b) s)
   gen_two a (ok b r) = refl
   gen_two a (fail w r) = refl
@@ -370,13 +337,11 @@ module _ (p : Reader Token Pattern) (e : Reader Token Expr) where
   unfolding d.qualifier
   gen_at ts rest a h = rw h (gen_two a (e rest))
 
-  cond_two : (w : Why) (r : List Token) (o : Out Token Expr) → instead w r (after {B = Qual} o (λ b s. ok (qual.Cond b) s)) ≡ after (instead w r o) (λ b s. ok (qual.Cond b) s)
+  cond_two : (w : Why) (r : List Token) (o : Out Token Expr) → refused w r (after {B = Qual} o (λ b s. ok (qual.Cond b) s)) ≡ after (refused w r o) (λ b s. ok (qual.Cond b) s)
   cond_two w r (ok b s) = refl
-  cond_two w r (fail deep s) = refl
-  cond_two bad r (fail bad s) = refl
-  cond_two deep r (fail bad s) = refl
+  cond_two w r (fail v s) = refl
 
-  pub cond_at : (ts r : List Token) (w : Why) → d.drawn p ts ≡ fail w r → d.qualifier p e ts ≡ after (instead w r (d.condition e ts)) (λ b s. ok (qual.Cond b) s)
+  pub cond_at : (ts r : List Token) (w : Why) → d.drawn p ts ≡ fail w r → d.qualifier p e ts ≡ after (refused w r (d.condition e ts)) (λ b s. ok (qual.Cond b) s)
   unfolding d.qualifier
   cond_at ts r w h = rw h (cond_two w r (d.condition e ts))
 
@@ -388,23 +353,15 @@ module _ (p : Reader Token Pattern) (e : Reader Token Expr) where
   unfolding d.body
   function_at ts rest a h = rw h (function_two a (e rest))
 
-  plain_two : (w : Why) (r : List Token) (o : Out Token Expr) → instead w r (after {B = Option Pattern × Expr} o (λ b s. ok (constant_of b) s)) ≡ after (instead w r o) (λ b s. ok (None, b) s)
+  plain_two : (w : Why) (r : List Token) (o : Out Token Expr) → refused w r (after {B = Option Pattern × Expr} o (λ b s. ok (constant_of b) s)) ≡ after (refused w r o) (λ b s. ok (None, b) s)
   plain_two w r (ok b s) = refl
-  plain_two w r (fail deep s) = refl
-  plain_two bad r (fail bad s) = refl
-  plain_two deep r (fail bad s) = refl
+  plain_two w r (fail v s) = refl
 
-  pub plain_at : (ts r : List Token) (w : Why) → d.parameter p ts ≡ fail w r → d.body p e ts ≡ after (instead w r (d.plain_body e ts)) (λ b s. ok (None, b) s)
+  pub plain_at : (ts r : List Token) (w : Why) → d.parameter p ts ≡ fail w r → d.body p e ts ≡ after (refused w r (d.plain_body e ts)) (λ b s. ok (None, b) s)
   unfolding d.body
   plain_at ts r w h = rw h (plain_two w r (d.plain_body e ts))
 
 -- ---- what follows
-
-pub followed_no : (test : Token → Bool) (e : Reader Token Expr) (ts rest : List Token) (a : Expr) → e ts ≡ ok a rest → heads test rest ≡ false → followed test e ts ≡ fail bad rest
-followed_no test e ts rest a h i = rw (h, i) refl
-
-pub followed_yes : (test : Token → Bool) (e : Reader Token Expr) (ts rest : List Token) (a : Expr) → e ts ≡ ok a rest → heads test rest ≡ true → followed test e ts ≡ ok a rest
-followed_yes test e ts rest a h i = rw (h, i) refl
 
 -- ---- branches
 
@@ -456,12 +413,6 @@ module _ (N n k : ℕ) (ts more rest : List Token) (a : Word × Pattern) (z : n 
   pub branch_arrow : d.branch_at N n ts ≡ after (behind (mark sy.Arrow) (d.reads N n whole) rest) (λ b s. ok (branch_of (a, b)) s)
   branch_arrow = branch_here N n k ts more z h ∙ rw v refl
 
-  pub branch_arrow_fails : (f : Fault Token) → Fails f (mark sy.Arrow rest) → Fails f (d.branch_at N n ts)
-  branch_arrow_fails f i = err_by f (d.branch_at N n ts) (behind (mark sy.Arrow) (d.reads N n whole) rest) (λ b s. ok (branch_of (a, b)) s) branch_arrow (fails_after f (mark sy.Arrow rest) (λ _ r. d.reads N n whole r) i)
-
-  pub branch_body : (last : List Token) → mark sy.Arrow rest ≡ ok tt last → d.branch_at N n ts ≡ after (d.reads N n whole last) (λ b s. ok (branch_of (a, b)) s)
-  branch_body last i = branch_arrow ∙ rw i refl
-
 pub variant_in_branch_fails : (N n k : ℕ) (ts more : List Token) (f : Fault Token) → n ≡ suc k → mark sy.Lt ts ≡ ok tt more → Fails f (d.in_variant N (d.read_pat N k) more) → Fails f (d.branch_at N n ts)
 variant_in_branch_fails N n k ts more f z h i = err_by f (d.branch_at N n ts) (d.in_variant N (d.read_pat N k) more) (λ a r. after (behind (mark sy.Arrow) (d.reads N n whole) r) (λ b s. ok (branch_of (a, b)) s)) (branch_here N n k ts more z h) i
 
@@ -486,14 +437,8 @@ module _ (p : Reader Token Pattern) (e : Reader Token Expr) (k : Kind) (ts : Lis
       coll_beyond_fails f h = err_by f (d.in_coll p e k ts) (d.beyond p e k a rest) (λ a s. after (mark (closer k) s) (λ _ z. ok a z)) coll_beyond h
 
       module _ (b : Expr) (more : List Token) (found : d.beyond p e k a rest ≡ ok b more) (r : Sym) (also : r ≡ closer k) where
-        coll_close : d.in_coll p e k ts ≡ after (mark (closer k) more) (λ _ z. ok b z)
-        coll_close = coll_beyond ∙ rw found refl
-
-        pub coll_close_fails : (f : Fault Token) → Fails f (mark r more) → Fails f (d.in_coll p e k ts)
-        coll_close_fails f h = err_by f (d.in_coll p e k ts) (mark (closer k) more) (λ _ z. ok b z) coll_close (subst (λ (q : Sym). Fails f (mark q more)) also h)
-
-        pub coll_ok : (last : List Token) → mark r more ≡ ok tt last → d.in_coll p e k ts ≡ ok b last
-        coll_ok last h = coll_close ∙ rw (subst (λ (q : Sym). mark q more ≡ ok tt last) also h) refl
+        pub coll_close : d.in_coll p e k ts ≡ after (mark r more) (λ _ z. ok b z)
+        coll_close = coll_beyond ∙ rw found (ap (λ (q : Sym). after {B = Expr} (mark q more) (λ _ z. ok b z)) (sym also))
 
 -- ---- what is left is a rest
 
@@ -501,7 +446,7 @@ pub rests_whole : (N n : ℕ) (ts : List Token) → Rests ts (d.reads N n whole 
 rests_whole N n ts = (same_reads N N n whole).rests ts
 
 pub rests_field : (N n : ℕ) (ts : List Token) → Rests ts (d.field N (d.reads N n whole) ts)
-rests_field N n ts = (keeps_field (Nested nests) N N (d.reads N n whole) (d.reads N n whole) (same_reads N N n whole)).rests ts
+rests_field N n ts = (keeps_field Each N N (d.reads N n whole) (d.reads N n whole) (same_reads N N n whole)).rests ts
 
 pub rests_qual : (N n : ℕ) (ts : List Token) → Rests ts (d.qualifier (d.read_pat N n) (d.reads N n whole) ts)
 rests_qual N n ts = (same_qual N N n (same_reads N N n whole)).rests ts

@@ -1,5 +1,5 @@
 -- What a first token is, as the code finds it.
-use Rattle.std.proofs.Common.{◌≡◌, ℕ, suc, ◌-◌, ◌<◌, ◌≤◌, Bool, true, false, ◌&&◌, nat_lt, List, [], ◌∷◌, length, take, drop, get_or, Some, None, refl, sym, ap, ◌∙◌, arith}
+use Rattle.std.proofs.Common.{◌≡◌, ℕ, suc, ◌-◌, ◌<◌, ◌≤◌, Bool, true, false, ◌&&◌, nat_lt, List, [], ◌∷◌, length, take, drop, get_or, Some, refl, sym, ap, ◌∙◌, arith}
 use Rattle.std.proofs.lemmas.Bool.{ltb-true, and_parts}
 use Rattle.kl_lex.specs.declared.token.Sym.{Sym}
 use Rattle.kl_lex.specs.declared.token.Tok.{Tok}
@@ -8,7 +8,7 @@ use Rattle.kl_lex.specs.declared.token.Token.{Token}
 use Rattle.kl_parse.specs.declared.operator.Level.{Level}
 use Rattle.kl_syntax.specs.declared.tree.Op.{Op}
 use Rattle.kl_parse.specs.Kinds.{has, kind_at, among, is_symbol, symbol_kind, label_kinds, op_kinds, op_at, of_level, an_op}
-use Rattle.kl_parse.proofs.KindLemmas.{symbol_at, has_or, either, decides_op, op_among, no_op}
+use Rattle.kl_parse.proofs.KindLemmas.{symbol_at, has_or, either, decides_op, op_among}
 use Rattle.kl_phrase.specs.Words.{heads}
 use Rattle.kl_phrase.specs.Readers.{one, ok}
 
@@ -53,9 +53,6 @@ not_word ts t le none = first_false (among label_kinds) ts t le (no_word (get_or
 whole_take : (ts : List Token) → take (length ts) ts ≡ ts
 whole_take [] = refl
 whole_take (t ∷ ts) = ap (λ z. t ∷ z) (whole_take ts)
-
-pub not_op : (l : Level) (ts : List Token) (t : Token) → 1 ≤ length ts → of_level l (op_at (get_or ts 0 t).what) ≡ None → heads (among (op_kinds l)) ts ≡ false
-not_op l ts t le h = first_false (among (op_kinds l)) ts t le (no_op l (get_or ts 0 t) h)
 
 pub is_op_at : (l : Level) (ts : List Token) (t : Token) (o : Op) → 1 ≤ length ts → of_level l (op_at (get_or ts 0 t).what) ≡ Some o → (heads (among (op_kinds l)) ts ≡ true) × (one (an_op l) ts ≡ ok o (take (length ts - 1) (drop 1 ts)))
 is_op_at l [] t o le h = absurd (omega arith)

@@ -1,5 +1,5 @@
 -- The phrases of one token, and what decides them.
-use Rattle.std.proofs.Common.{◌≡◌, ℕ, ◌+◌, ◌<◌, ℤ, pos, negsuc, neg_ℤ, Bool, true, false, ◌||◌, ◌&&◌, not, nat_eq, cond, List, [], ◌∷◌, find, map, Option, Some, None, ◌⊎◌, inl, inr, if◌then◌else◌, refl, sym, ap, subst, ◌∙◌, arith}
+use Rattle.std.proofs.Common.{◌≡◌, ℕ, ◌+◌, ◌<◌, pos, negsuc, neg_ℤ, Bool, true, false, ◌||◌, ◌&&◌, not, nat_eq, cond, List, [], ◌∷◌, find, map, Option, Some, None, ◌⊎◌, inl, inr, if◌then◌else◌, refl, sym, ap, subst, ◌∙◌, arith}
 use Rattle.std.proofs.lemmas.Bool.{eqb-true, eq-eqb, and_parts, not-true}
 use Rattle.std.specs.List.{AllByRecursion}
 use Rattle.std.specs.Cmp.Lexicographic.{pointwise}
@@ -410,17 +410,6 @@ some_op level.Compare w h = one_of level.Compare w (ops_of level.Compare) (refl,
 some_op level.Add w h = one_of level.Add w (ops_of level.Add) (refl, (refl, (refl, (refl, tt)))) h
 some_op level.Mul w h = one_of level.Mul w (ops_of level.Mul) (refl, tt) h
 
--- where the test holds the token says an operator
-pub op_of : (l : Level) (t : Token) → among (op_kinds l) t ≡ true → (o : Op) × (an_op l t ≡ Some o)
-op_of l t h = let k = some_op l t.what h in (k.0, (decides_op l).1 t k.0 (k.1, k.2))
-
-pub no_op : (l : Level) (t : Token) → an_op l t ≡ None → among (op_kinds l) t ≡ false
-no_op l t e = go (among (op_kinds l) t) refl
-  where
-    go : (b : Bool) → among (op_kinds l) t ≡ b → among (op_kinds l) t ≡ false
-    go false i = i
-    go true i = let k = op_of l t i in let f : Path (Option Op) None (Some k.0) = sym e ∙ k.1 in absurd cc
-
 -- ---- some token is one
 
 abbrev a_token : Tok → Token
@@ -435,21 +424,11 @@ has_key k = has_one (IsKey k) (a_token (tok.Word (spelling k))) tt refl
 pub has_label : Has Label
 has_label = has_made word_of (Numbered (One IsLabel)) (has_numbered (One IsLabel) (has_one IsLabel (a_token (tok.Word [])) [] refl))
 
-pub has_constant : Has Constant
-has_constant = let z : ℤ = pos 0 in has_one IsConstant (a_token (tok.Int z)) (value.Int z) refl
-
 pub has_least : Has (One IsLeast)
 has_least = has_one IsLeast (a_token tok.Big) least (refl, refl)
 
 pub has_negative : Has (One IsNegative)
 has_negative = has_one IsNegative (a_token tok.Big) least (inr (refl, refl))
-
-pub has_op : (l : Level) → Has (AnOp l)
-has_op level.Or = has_one (IsOp level.Or) (a_token (written op.Or)) op.Or (refl, refl)
-has_op level.And = has_one (IsOp level.And) (a_token (written op.And)) op.And (refl, refl)
-has_op level.Compare = has_one (IsOp level.Compare) (a_token (written op.Eq)) op.Eq (refl, refl)
-has_op level.Add = has_one (IsOp level.Add) (a_token (written op.Add)) op.Add (refl, refl)
-has_op level.Mul = has_one (IsOp level.Mul) (a_token (written op.Mul)) op.Mul (refl, refl)
 
 unkeyed : (k : Keyword) → [] ≡ spelling k → ⊥
 unkeyed key.And e = cc

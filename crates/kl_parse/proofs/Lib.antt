@@ -3,10 +3,13 @@ pub mod PatGoods
 pub mod ExprFirsts
 pub mod ExprGoods
 pub mod Levels
+pub mod Plains
 pub mod Scan
 pub mod Reading
 pub mod Kepts
+pub mod Agrees
 pub mod Depths
+pub mod NoEnds
 pub mod Steps
 pub mod Ranks
 pub mod FrontSteps

@@ -6,15 +6,16 @@ use Rattle.kl_lex.specs.declared.token.Token.{Token}
 use Rattle.kl_lex.specs.declared.keyword.Keyword.{Keyword}
 use Rattle.kl_syntax.specs.declared.tree.Pattern.{Pattern}
 use Rattle.kl_syntax.specs.declared.tree.Pattern.TheVariants as pattern
-use Rattle.kl_parse.specs.Lexemes.{IsSymbol, Symbol, Key, IsLabel, IsName, Constant, IsNegative, word_of, Label, Name}
+use Rattle.kl_parse.specs.Lexemes.{Symbol, Key, IsLabel, IsName, Constant, IsNegative, word_of, Label, Name}
 use Rattle.kl_parse.specs.Grammar.{is_of, variant_of, shape_of, BindPat, AnyPat, NegativePat, ConstantPat, SamePat, Simple, PatField, ShapeFields, ShapeDots, PatRec, PatVariant, Pat, ReadsPat}
 use Rattle.kl_parse.specs.Kinds.{has, among, is_symbol, one_symbol, name_kinds, label_kinds, constant_kinds}
 use Rattle.kl_parse.specs.Descent as d
-use Rattle.kl_parse.proofs.KindLemmas.{all_of, none_of, within, without, decides_symbol, decides_key, decides_label, decides_name, decides_constant, decides_negative, symbol_of, on_symbol, on_label, on_name, on_constant, has_symbol, has_label, has_name, has_negative}
+use Rattle.kl_parse.proofs.KindLemmas.{all_of, none_of, within, without, decides_symbol, decides_key, decides_label, decides_name, decides_constant, decides_negative, on_symbol, on_label, on_name, on_constant, has_symbol, has_label, has_name, has_negative}
 use Rattle.kl_phrase.specs.Words.{Phrase, One, Nothing, Numbered, Then, Behind, Before, Made, Or, Opened, Never, Tailed}
-use Rattle.kl_phrase.specs.Readers.{Reader, made, both, behind, before}
-use Rattle.kl_phrase.proofs.Theory.{Good, On, Off, Has, Opens, good_one, good_nothing, good_numbered, good_made, good_both, good_behind, good_before, good_pick, good_opening, good_follow, on_behind, has_behind, no}
-use Rattle.kl_phrase.proofs.Firsts.{Stops, Heads, on_or, on_made, on_then, on_numbered, on_opened, on_within, off_on, off_or, off_nothing, meets_on, heads_without, has_made, has_then, has_before, has_left, has_right, has_nothing, opens_behind, opens_made}
+use Rattle.kl_phrase.specs.Readers.{Reader, bad, made, both, behind, before}
+use Rattle.kl_phrase.proofs.Theory.{Good, On, Off, Has, good_one, good_nothing, good_numbered, good_made, good_both, good_behind, good_before, good_pick, good_follow, on_behind, has_behind, no}
+use Rattle.kl_phrase.proofs.Firsts.{Stops, Heads, on_or, on_made, on_then, on_numbered, on_opened, on_within, off_on, off_or, off_nothing, meets_on, heads_without, has_made, has_then, has_before, has_left, has_right, has_nothing}
+use Rattle.kl_phrase.proofs.Deciding.{good_opening_by}
 use Rattle.kl_phrase.proofs.Tails.{good_tailed, has_tailed}
 
 abbrev pub Free : List Token → Type 0
@@ -135,14 +136,8 @@ on_rec P = on_behind (is_symbol sy.OpenRec) (Symbol sy.OpenRec) (Before (Shape P
 abbrev bracket_kinds : List ℕ
 bracket_kinds = one_symbol sy.OpenRec ++ simple_kinds
 
-abbrev pub pat_kinds : List ℕ
-pat_kinds = one_symbol sy.Lt ++ bracket_kinds
-
 on_bracketed : (may : Bool) (P : Phrase Token Pattern) → On (among bracket_kinds) (Or (Opened may (PatRec P)) Simple)
 on_bracketed may P = alt (Opened may (PatRec P)) Simple (one_symbol sy.OpenRec) simple_kinds bracket_kinds refl refl (on_opened (is_symbol sy.OpenRec) may (PatRec P) (on_rec P)) on_simple
-
-pub on_pat : (may : Bool) (P : Phrase Token Pattern) → On (among pat_kinds) (Pat P may)
-on_pat may P = alt (Opened may (Made variant_of (PatVariant P))) (Or (Opened may (PatRec P)) Simple) (one_symbol sy.Lt) bracket_kinds pat_kinds refl refl (on_opened (is_symbol sy.Lt) may (Made variant_of (PatVariant P)) (on_variant P)) (on_bracketed may P)
 
 module _ (N : ℕ) (P W : Phrase Token Pattern) (p : Reader Token Pattern) (good : Good N P W Free p) (has_in : Has W) where
   pub good_pat_field : Good N (PatField P) (PatField W) Free (d.pat_field N p)
@@ -180,25 +175,18 @@ module _ (N : ℕ) (P W : Phrase Token Pattern) (p : Reader Token Pattern) (good
   pub good_variant : Good N (PatVariant P) (PatVariant W) Free (d.pat_variant N p)
   good_variant = past sy.Lt (closes sy.Gt good_pat_field (λ v h. tt)) (has_before (PatField W) (Symbol sy.Gt) has_pat_field (has_symbol sy.Gt))
 
-module _ (W : Phrase Token Pattern) (has_in : Has W) where
-  pub fields_in : Has (PatField W)
-  fields_in = has_then Label (Behind (Symbol sy.Eq) W) has_label (has_behind (Symbol sy.Eq) W (has_symbol sy.Eq) has_in)
-
-  pub opens_variant : Opens (is_symbol sy.Lt) (PatVariant W)
-  opens_variant = opens_behind (is_symbol sy.Lt) (IsSymbol sy.Lt) (Before (PatField W) (Symbol sy.Gt)) (symbol_of sy.Lt) (has_before (PatField W) (Symbol sy.Gt) fields_in (has_symbol sy.Gt))
-
-  opens_rec : Opens (is_symbol sy.OpenRec) (PatRec W)
-  opens_rec = opens_behind (is_symbol sy.OpenRec) (IsSymbol sy.OpenRec) (Before (Shape W) (Symbol sy.CloseRec)) (symbol_of sy.OpenRec) (has_before (Shape W) (Symbol sy.CloseRec) (has_right (ShapeFields W) (Or (ShapeDots W) (Nothing (pattern.Rec [] false))) (has_right (ShapeDots W) (Nothing (pattern.Rec [] false)) (has_nothing (pattern.Rec [] false)))) (has_symbol sy.CloseRec))
+pub fields_in : (W : Phrase Token Pattern) → Has W → Has (PatField W)
+fields_in W has_in = has_then Label (Behind (Symbol sy.Eq) W) has_label (has_behind (Symbol sy.Eq) W (has_symbol sy.Eq) has_in)
 
 pub has_pat : (may : Bool) (P : Phrase Token Pattern) → Has (Pat P may)
 has_pat may P = has_right (Opened may (Made variant_of (PatVariant P))) (Or (Opened may (PatRec P)) Simple) (has_right (Opened may (PatRec P)) Simple has_simple)
 
-good_pat : (N : ℕ) (may : Bool) (P W : Phrase Token Pattern) (p : Reader Token Pattern) → (IsTrue may → Good N P W Free p) → Has W → Good N (Pat P may) (Pat W true) Free (d.pat N p may)
+good_pat : (N : ℕ) (may can : Bool) (P W : Phrase Token Pattern) (p : Reader Token Pattern) → (IsTrue may → IsTrue can) → (IsTrue may → Good N P W Free p) → (IsTrue may → Has W) → Good N (Pat P may) (Pat W can) Free (d.pat N p bad may)
 unfolding d.pat
-good_pat N may P W p good has_in =
-    good_opening (λ i. good_made (good_variant N P W p (good i) has_in))
-    (good_opening (λ i. good_rec N P W p (good i) has_in) good_simple (on_rec P) (off Simple simple_kinds (one_symbol sy.OpenRec) Free refl on_simple) (opens_rec W has_in))
-    (on_variant P) (off (Or (Opened may (PatRec P)) Simple) bracket_kinds (one_symbol sy.Lt) Free refl (on_bracketed may P)) (opens_made (is_symbol sy.Lt) variant_of (PatVariant W) (opens_variant W has_in))
+good_pat N may can P W p i good has_in =
+    good_opening_by {may = may} {can = can} i (λ z. good_made (good_variant N P W p (good z) (has_in z)))
+    (good_opening_by {may = may} {can = can} i (λ z. good_rec N P W p (good z) (has_in z)) good_simple (on_rec P) (off Simple simple_kinds (one_symbol sy.OpenRec) Free refl on_simple))
+    (on_variant P) (off (Or (Opened may (PatRec P)) Simple) bracket_kinds (one_symbol sy.Lt) Free refl (on_bracketed may P))
 
 -- ---- nested at most so deep
 
@@ -206,14 +194,13 @@ pub has_reads_pat : (n : ℕ) → Has (ReadsPat n)
 has_reads_pat zero = has_pat false Never
 has_reads_pat (suc n) = has_pat true (ReadsPat n)
 
--- what begins a pattern has its whole texts one level deeper
-pub good_reads_pat_one : (N n : ℕ) → Good N (ReadsPat n) (ReadsPat (suc n)) Free (d.read_pat N n)
-unfolding d.read_pat
-good_reads_pat_one N zero = good_pat N false Never (ReadsPat 0) d.never no (has_reads_pat 0)
-good_reads_pat_one N (suc n) = good_pat N true (ReadsPat n) (ReadsPat (suc n)) (d.read_pat N n) (λ i. good_reads_pat_one N n) (has_reads_pat (suc n))
+-- what begins a pattern has its whole texts in those nested as deep, and so in those nested two deeper
+pub good_pat_same : (N n : ℕ) → Good N (ReadsPat n) (ReadsPat n) Free (d.pat_by N bad n)
+unfolding d.pat_by
+good_pat_same N zero = good_pat N false false Never Never (d.never bad) (λ i. i) no no
+good_pat_same N (suc n) = good_pat N true true (ReadsPat n) (ReadsPat n) (d.pat_by N bad n) (λ i. i) (λ i. good_pat_same N n) (λ i. has_reads_pat n)
 
--- two levels deeper
-pub good_reads_pat : (N n : ℕ) → Good N (ReadsPat n) (ReadsPat (suc (suc n))) Free (d.read_pat N n)
-unfolding d.read_pat
-good_reads_pat N zero = good_pat N false Never (ReadsPat 1) d.never no (has_reads_pat 1)
-good_reads_pat N (suc n) = good_pat N true (ReadsPat n) (ReadsPat (suc (suc n))) (d.read_pat N n) (λ i. good_reads_pat N n) (has_reads_pat (suc (suc n)))
+pub good_pat_up : (N n : ℕ) → Good N (ReadsPat n) (ReadsPat (suc (suc n))) Free (d.pat_by N bad n)
+unfolding d.pat_by
+good_pat_up N zero = good_pat N false true Never (ReadsPat 1) (d.never bad) (λ i. refl) no no
+good_pat_up N (suc n) = good_pat N true true (ReadsPat n) (ReadsPat (suc (suc n))) (d.pat_by N bad n) (λ i. i) (λ i. good_pat_up N n) (λ i. has_reads_pat (suc (suc n)))

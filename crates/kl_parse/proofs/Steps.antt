@@ -57,17 +57,17 @@ fails_on s p whole found rest more f ahead = part_fails (is_symbol s) (behind (m
 
 -- ---- patterns
 
-pat_suc : (N n k : ℕ) (ts : List Token) → n ≡ suc k → d.read_pat N n ts ≡ d.pat N (d.read_pat N k) true ts
-unfolding d.read_pat
+pat_suc : (N n k : ℕ) (ts : List Token) → n ≡ suc k → d.read_pat N n ts ≡ d.pat N (d.read_pat N k) deep true ts
+unfolding d.pat_by
 pat_suc N n k ts z = ap (λ m. d.read_pat N m ts) z
 
-pat_is : (N n : ℕ) (ts : List Token) → d.read_pat N n ts ≡ d.pat N (d.pat_inside N n) (opens n) ts
-unfolding d.read_pat
+pat_is : (N n : ℕ) (ts : List Token) → d.read_pat N n ts ≡ d.pat N (d.pat_inside N n) deep (opens n) ts
+unfolding d.pat_by
 pat_is N zero ts = refl
 pat_is N (suc n) ts = refl
 
-pat_zero : (N n : ℕ) (ts : List Token) → n ≡ 0 → d.read_pat N n ts ≡ d.pat N d.never false ts
-unfolding d.read_pat
+pat_zero : (N n : ℕ) (ts : List Token) → n ≡ 0 → d.read_pat N n ts ≡ d.pat N (d.never deep) deep false ts
+unfolding d.pat_by
 pat_zero N n ts z = ap (λ m. d.read_pat N m ts) z
 
 pub variant_deep : (N n : ℕ) (ts more : List Token) → n ≡ 0 → Ahead sy.Lt ts more → d.read_pat N n ts ≡ fail deep ts
@@ -106,9 +106,6 @@ fields_at N p ts rest a h e = rw (h, e) (tails_shape a (turns (d.pat_turn N p) (
 
 pub fields_fail : (N : ℕ) (p : Reader Token Pattern) (ts rest : List Token) (a : Word × Pattern) (f : Fault Token) → heads (among label_kinds) ts ≡ true → d.pat_field N p ts ≡ ok a rest → Fails f (tails (d.pat_turn N p) (a ∷ []) rest) → Fails f (d.shape N p ts)
 fields_fail N p ts rest a f h e i = fails_so f (d.shape N p ts) (after (tails (d.pat_turn N p) (a ∷ []) rest) (λ x s. ok (pattern.Rec x.0 x.1) s)) (fields_at N p ts rest a h e) (fails_after f (tails (d.pat_turn N p) (a ∷ []) rest) (λ x s. ok (pattern.Rec x.0 x.1) s) i)
-
-pub fields_ok : (N : ℕ) (p : Reader Token Pattern) (ts rest r : List Token) (a : Word × Pattern) (l : List (Word × Pattern)) (b : Bool) → heads (among label_kinds) ts ≡ true → d.pat_field N p ts ≡ ok a rest → tails (d.pat_turn N p) (a ∷ []) rest ≡ ok (l, b) r → d.shape N p ts ≡ ok (pattern.Rec l b) r
-fields_ok N p ts rest r a l b h e i = fields_at N p ts rest a h e ∙ rw i refl
 
 -- a turn
 turn_item : (N : ℕ) (p : Reader Token Pattern) (rest more r : List Token) (a : Word × Pattern) → Ahead sy.Comma rest more → heads (is_symbol sy.Dots) more ≡ false → d.pat_field N p more ≡ ok a r → d.pat_turn N p rest ≡ ok (inl a) r

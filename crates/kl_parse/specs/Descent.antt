@@ -1,4 +1,5 @@
--- The descent: for each word of the grammar a reader. `total`: how many tokens there are in all.
+-- The descent: for each word of the grammar a reader. `total`: how many tokens there are in all; `w`: how it refuses where
+-- nesting may not go on.
 -- No public contract cites this.
 use Rattle.std.specs.Prelude.{ℕ, zero, suc, Bool, true, false, List, [], ◌∷◌, Option, Some, None, ◌⊎◌}
 use Rattle.kl_lex.specs.declared.token.Sym.{Sym}
@@ -23,9 +24,10 @@ use Rattle.kl_syntax.specs.declared.tree.Program.{Program}
 use Rattle.kl_parse.specs.Lexemes.{word_of}
 use Rattle.kl_lex.specs.Brackets.{opener, closer}
 use Rattle.kl_phrase.specs.Depth.{opens}
-use Rattle.kl_parse.specs.Grammar.{is_of, variant_of, shape_of, name_of, inject_of, gen_of, comp_of, case_of, path_of, chain_of, compare_of, let_of, if_of, branch_of, function_of, constant_of, decl_of, program_of, Sort, whole, negated, signed, added}
+use Rattle.kl_parse.specs.Grammar.{is_of, variant_of, shape_of, name_of, inject_of, gen_of, comp_of, case_of, path_of, chain_of, compare_of, let_of, if_of, branch_of, misses, left_out, function_of, constant_of, decl_of, program_of, Sort, whole, negated, signed, added}
 use Rattle.kl_parse.specs.Kinds.{among, is_symbol, is_key, label_kinds, constant_kinds, big_kinds, op_kinds, symbol_kind, a_symbol, a_key, a_label, a_name, a_constant, a_least, a_negative, an_op}
-use Rattle.kl_phrase.specs.Readers.{Reader, bad, deep, fail, one, nothing, numbered, both, behind, before, chain, made, two, choose, pick, opened, opening, many, parted, tail_turn, tailed, followed, commit}
+use Rattle.kl_phrase.specs.Readers.{Why, bad, deep, Reader, fail, one, nothing, numbered, both, behind, before, chain, made, choose, pick, many, parted, tail_turn, tailed, followed}
+use Rattle.kl_phrase.specs.Refusals.{opened_by, opening_by, decide, may_miss, missed}
 
 abbrev pub mark : Sym → Reader Token (Unit {0})
 mark s = one (a_symbol s)
@@ -33,19 +35,16 @@ mark s = one (a_symbol s)
 abbrev pub word_mark : Keyword → Reader Token (Unit {0})
 word_mark k = one (a_key k)
 
-abbrev pub never : {A : Type 0} → Reader Token A
-never ts = fail deep ts
-
--- a minus and the digits that it makes the least integer
-abbrev pub is_least : List Token → Bool
-is_least = two (is_symbol sym.Sub) (among big_kinds)
+abbrev pub never : {A : Type 0} → Why → Reader Token A
+never w ts = fail w ts
 
 -- what may follow a condition, and a body that is no function
 abbrev pub after_qual : List ℕ
 after_qual = symbol_kind sym.Comma ∷ symbol_kind sym.CloseSet ∷ symbol_kind sym.CloseBag ∷ symbol_kind sym.CloseList ∷ []
 
+-- the digits that a minus makes the least integer
 abbrev pub least_at : Reader Token Expr
-least_at = made expr.Const (behind (mark sym.Sub) (one a_least))
+least_at = made expr.Const (one a_least)
 
 abbrev pub chained : Level → Reader Token Expr → Reader Token Expr
 chained l p = made chain_of (both p (many (among (op_kinds l)) (both (one (an_op l)) p)))
@@ -94,7 +93,7 @@ plain_body e = followed (is_symbol sym.Semi) e
 -- patterns p too
 module _ (p : Reader Token Pattern) (e : Reader Token Expr) where
   unfoldable pub qualifier : Reader Token Qual
-  qualifier = commit gen_of (drawn p) e (made qual.Cond (condition e))
+  qualifier = decide gen_of (drawn p) e (made qual.Cond (condition e))
 
   abbrev pub quals : Reader Token (List Qual)
   quals = parted (is_symbol sym.Comma) (mark sym.Comma) qualifier
@@ -104,7 +103,7 @@ module _ (p : Reader Token Pattern) (e : Reader Token Expr) where
   beyond k first = pick (is_symbol sym.Bar) (made (λ found. comp_of k (first, found)) (behind (mark sym.Bar) quals)) (made (λ more. expr.Coll k (first ∷ more)) (many (is_symbol sym.Comma) (behind (mark sym.Comma) e)))
 
   unfoldable pub body : Reader Token (Option Pattern × Expr)
-  body = commit function_of (parameter p) e (made constant_of (plain_body e))
+  body = decide function_of (parameter p) e (made constant_of (plain_body e))
 
   unfoldable pub in_coll : Kind → Reader Token Expr
   in_coll k = before (pick (is_symbol (closer k)) (nothing (expr.Coll k [])) (chain e (beyond k))) (mark (closer k))
@@ -151,16 +150,16 @@ module _ (total : ℕ) where
     abbrev pub pat_variant : Reader Token (Word × Pattern)
     pat_variant = behind (mark sym.Lt) in_variant
 
-    unfoldable pub pat : Bool → Reader Token Pattern
-    pat may = opening (is_symbol sym.Lt) may (made variant_of pat_variant) (opening (is_symbol sym.OpenRec) may (behind (mark sym.OpenRec) in_shape) simple)
+    unfoldable pub pat : Why → Bool → Reader Token Pattern
+    pat w may = opening_by w (is_symbol sym.Lt) may (made variant_of pat_variant) (opening_by w (is_symbol sym.OpenRec) may (behind (mark sym.OpenRec) in_shape) simple)
 
-  unfoldable pub read_pat : ℕ → Reader Token Pattern
-  read_pat zero = pat never false
-  read_pat (suc depth) = pat (read_pat depth) true
+  unfoldable pub pat_by : Why → ℕ → Reader Token Pattern
+  pat_by w zero = pat (never w) w false
+  pat_by w (suc depth) = pat (pat_by w depth) w true
 
-  abbrev pub pat_inside : ℕ → Reader Token Pattern
-  pat_inside zero = never
-  pat_inside (suc depth) = read_pat depth
+  abbrev pub inside_by : Why → ℕ → Reader Token Pattern
+  inside_by w zero = never w
+  inside_by w (suc depth) = pat_by w depth
 
   abbrev pub field : Reader Token Expr → Reader Token (Word × Expr)
   field e = both label (behind (mark sym.Eq) e)
@@ -171,32 +170,28 @@ module _ (total : ℕ) where
   abbrev pub in_inject : Reader Token Expr → Reader Token (Word × Expr)
   in_inject a = before (field a) (mark sym.Gt)
 
-  -- behind the bracket of a branch: p inside it, e behind the arrow
-  abbrev pub in_branch : Reader Token Pattern → Reader Token Expr → Reader Token Branch
-  in_branch p e = made branch_of (both (in_variant p) (behind (mark sym.Arrow) e))
-
   abbrev pub labels : Reader Token (List Word)
   labels = many (is_symbol sym.Dot) (behind (mark sym.Dot) label)
 
-  unfoldable pub named : Bool → Reader Token Expr → Reader Token Expr
-  named may e = made name_of (both name (opening (is_symbol sym.OpenPar) may (made Some (behind (mark sym.OpenPar) (in_args e))) (nothing None)))
+  unfoldable pub named : Why → Bool → Reader Token Expr → Reader Token Expr
+  named w may e = made name_of (both name (opening_by w (is_symbol sym.OpenPar) may (made Some (behind (mark sym.OpenPar) (in_args e))) (nothing None)))
 
-  module _ (may : Bool) (p : Reader Token Pattern) (e n u a : Reader Token Expr) (b : Reader Token Branch) where
+  module _ (w : Why) (may : Bool) (p : Reader Token Pattern) (e n u a : Reader Token Expr) (b : Reader Token Branch) where
     unfoldable pub prim : Reader Token Expr
     prim = pick (among constant_kinds) (made expr.Const (one a_constant))
-        (opening (is_symbol sym.OpenPar) may (behind (mark sym.OpenPar) (in_group e))
-        (opening (is_symbol sym.OpenRec) may (made expr.Rec (behind (mark sym.OpenRec) (in_rec e)))
-        (opening (is_symbol sym.Lt) may (made inject_of (behind (mark sym.Lt) (in_inject a)))
-        (opening (is_symbol sym.OpenSet) may (coll p e kind.Set)
-        (opening (is_symbol sym.OpenBag) may (coll p e kind.Bag)
-        (opening (is_symbol sym.OpenList) may (coll p e kind.List)
-        (opening (is_key key.Case) may (made case_of (behind (word_mark key.Case) (in_case e b))) (named may e))))))))
+        (opening_by w (is_symbol sym.OpenPar) may (behind (mark sym.OpenPar) (in_group e))
+        (opening_by w (is_symbol sym.OpenRec) may (made expr.Rec (behind (mark sym.OpenRec) (in_rec e)))
+        (opening_by w (is_symbol sym.Lt) may (made inject_of (behind (mark sym.Lt) (in_inject a)))
+        (opening_by w (is_symbol sym.OpenSet) may (coll p e kind.Set)
+        (opening_by w (is_symbol sym.OpenBag) may (coll p e kind.Bag)
+        (opening_by w (is_symbol sym.OpenList) may (coll p e kind.List)
+        (opening_by w (is_key key.Case) may (made case_of (behind (word_mark key.Case) (in_case e b))) (named w may e))))))))
 
     unfoldable pub post : Reader Token Expr
     post = made path_of (both prim labels)
 
     unfoldable pub un : Reader Token Expr
-    un = choose is_least least_at (opening (is_symbol sym.Sub) may (made expr.Neg (behind (mark sym.Sub) u)) post)
+    un = pick (is_symbol sym.Sub) (behind (mark sym.Sub) (pick (among big_kinds) least_at (opened_by w may (made expr.Neg u)))) post
 
     unfoldable pub mul : Reader Token Expr
     mul = chained level.Mul un
@@ -208,7 +203,7 @@ module _ (total : ℕ) where
     compare = made compare_of (both add (pick (among (op_kinds level.Compare)) (made Some (both (one (an_op level.Compare)) add)) (nothing None)))
 
     unfoldable pub negation : Reader Token Expr
-    negation = opening (is_key key.Not) may (made expr.Not (behind (word_mark key.Not) n)) compare
+    negation = opening_by w (is_key key.Not) may (made expr.Not (behind (word_mark key.Not) n)) compare
 
     unfoldable pub and : Reader Token Expr
     and = chained level.And negation
@@ -217,7 +212,7 @@ module _ (total : ℕ) where
     ors = chained level.Or and
 
     unfoldable pub read_whole : Reader Token Expr
-    read_whole = opening (is_key key.Let) may (made let_of (behind (word_mark key.Let) (in_let p e))) (opening (is_key key.If) may (made if_of (behind (word_mark key.If) (in_if e))) ors)
+    read_whole = opening_by w (is_key key.Let) may (made let_of (behind (word_mark key.Let) (in_let p e))) (opening_by w (is_key key.If) may (made if_of (behind (word_mark key.If) (in_if e))) ors)
 
     -- what stands between the operators of a level
     abbrev pub operand : Level → Reader Token Expr
@@ -233,12 +228,21 @@ module _ (total : ℕ) where
     of_sort signed = un
     of_sort added = add
 
-  unfoldable pub branch : Bool → Reader Token Pattern → Reader Token Expr → Reader Token Branch
-  branch may p e = pick (is_symbol sym.Lt) (opened may (made branch_of (both (pat_variant p) (behind (mark sym.Arrow) e)))) (λ ts. fail bad ts)
+  unfoldable pub branch : Why → Bool → Reader Token Pattern → Reader Token Expr → Reader Token Branch
+  branch w may p e = pick (is_symbol sym.Lt) (opened_by w may (made branch_of (both (pat_variant p) (behind (mark sym.Arrow) e)))) (λ ts. fail bad ts)
 
-  unfoldable pub reads : ℕ → Sort → Reader Token Expr
-  reads zero s = of_sort false never never never never never never s
-  reads (suc depth) s = of_sort true (read_pat depth) (reads depth whole) (reads depth negated) (reads depth signed) (reads depth added) (branch (opens depth) (pat_inside depth) (reads depth whole)) s
+  -- a branch, or a token in its place
+  abbrev pub branch_or : List Token → Reader Token Branch → Reader Token Branch
+  branch_or ts b = choose (may_miss (misses ts) total) (missed left_out) b
+
+  unfoldable pub reads_by : Why → ℕ → Sort → Reader Token Expr
+  reads_by w zero s = of_sort w false (never w) (never w) (never w) (never w) (never w) (never w) s
+  reads_by w (suc depth) s = of_sort w true (pat_by w depth) (reads_by w depth whole) (reads_by w depth negated) (reads_by w depth signed) (reads_by w depth added) (branch w (opens depth) (inside_by w depth) (reads_by w depth whole)) s
+
+  -- the same, where a token may stand for a branch
+  unfoldable pub begins_by : List Token → ℕ → Sort → Reader Token Expr
+  begins_by ts zero s = of_sort bad false (never bad) (never bad) (never bad) (never bad) (never bad) (never bad) s
+  begins_by ts (suc depth) s = of_sort bad true (pat_by bad depth) (begins_by ts depth whole) (begins_by ts depth negated) (begins_by ts depth signed) (begins_by ts depth added) (branch_or ts (branch bad (opens depth) (inside_by bad depth) (begins_by ts depth whole))) s
 
   module _ (p : Reader Token Pattern) (e : Reader Token Expr) where
     abbrev pub decl : Reader Token Decl
@@ -247,50 +251,62 @@ module _ (total : ℕ) where
     unfoldable pub read_program : Reader Token Program
     read_program = made program_of (both (many (is_key key.Define) decl) (before e (mark sym.Semi)))
 
-  abbrev pub program : ℕ → Reader Token Program
-  program depth = read_program (read_pat depth) (reads depth whole)
+  abbrev pub program_by : Why → ℕ → Reader Token Program
+  program_by w depth = read_program (pat_by w depth) (reads_by w depth whole)
+
+  abbrev pub begins_program : List Token → ℕ → Reader Token Program
+  begins_program ts depth = read_program (pat_by bad depth) (begins_by ts depth whole)
 
 -- ---- as the code goes, by how deep nesting may go on
 
 module _ (total : ℕ) where
+  abbrev pub read_pat : ℕ → Reader Token Pattern
+  read_pat = pat_by total deep
+
+  abbrev pub pat_inside : ℕ → Reader Token Pattern
+  pat_inside = inside_by total deep
+
+  abbrev pub reads : ℕ → Sort → Reader Token Expr
+  reads = reads_by total deep
+
+  abbrev pub program : ℕ → Reader Token Program
+  program = program_by total deep
+
   abbrev pub inside : ℕ → Sort → Reader Token Expr
-  inside zero s = never
-  inside (suc depth) s = reads total depth s
+  inside zero s = never deep
+  inside (suc depth) s = reads depth s
 
   abbrev pub branch_at : ℕ → Reader Token Branch
-  branch_at depth = branch total (opens depth) (pat_inside total depth) (reads total depth whole)
+  branch_at depth = branch total deep (opens depth) (pat_inside depth) (reads depth whole)
 
   abbrev pub branch_inside : ℕ → Reader Token Branch
-  branch_inside zero = never
+  branch_inside zero = never deep
   branch_inside (suc depth) = branch_at depth
 
-  abbrev pub pat_at : ℕ → Reader Token Pattern
-  pat_at depth = pat total (pat_inside total depth) (opens depth)
-
   abbrev pub named_at : ℕ → Reader Token Expr
-  named_at depth = named total (opens depth) (inside depth whole)
+  named_at depth = named total deep (opens depth) (inside depth whole)
 
   abbrev pub prim_at : ℕ → Reader Token Expr
-  prim_at depth = prim total (opens depth) (pat_inside total depth) (inside depth whole) (inside depth negated) (inside depth signed) (inside depth added) (branch_inside depth)
+  prim_at depth = prim total deep (opens depth) (pat_inside depth) (inside depth whole) (inside depth negated) (inside depth signed) (inside depth added) (branch_inside depth)
 
   abbrev pub post_at : ℕ → Reader Token Expr
-  post_at depth = post total (opens depth) (pat_inside total depth) (inside depth whole) (inside depth negated) (inside depth signed) (inside depth added) (branch_inside depth)
+  post_at depth = post total deep (opens depth) (pat_inside depth) (inside depth whole) (inside depth negated) (inside depth signed) (inside depth added) (branch_inside depth)
 
   abbrev pub sort_at : ℕ → Sort → Reader Token Expr
-  sort_at depth = of_sort total (opens depth) (pat_inside total depth) (inside depth whole) (inside depth negated) (inside depth signed) (inside depth added) (branch_inside depth)
+  sort_at depth = of_sort total deep (opens depth) (pat_inside depth) (inside depth whole) (inside depth negated) (inside depth signed) (inside depth added) (branch_inside depth)
 
   abbrev pub compare_at : ℕ → Reader Token Expr
-  compare_at depth = compare total (opens depth) (pat_inside total depth) (inside depth whole) (inside depth negated) (inside depth signed) (inside depth added) (branch_inside depth)
+  compare_at depth = compare total deep (opens depth) (pat_inside depth) (inside depth whole) (inside depth negated) (inside depth signed) (inside depth added) (branch_inside depth)
 
   abbrev pub operand_at : ℕ → Level → Reader Token Expr
-  operand_at depth = operand total (opens depth) (pat_inside total depth) (inside depth whole) (inside depth negated) (inside depth signed) (inside depth added) (branch_inside depth)
+  operand_at depth = operand total deep (opens depth) (pat_inside depth) (inside depth whole) (inside depth negated) (inside depth signed) (inside depth added) (branch_inside depth)
 
   abbrev pub chain_at : ℕ → Level → Reader Token Expr
   chain_at depth l = chained l (operand_at depth l)
 
   -- what stands behind `define`
   abbrev pub decl_rest : ℕ → Reader Token Decl
-  decl_rest depth = made decl_of (both (name total) (behind (mark sym.Equals) (before (body (read_pat total depth) (reads total depth whole)) (mark sym.Semi))))
+  decl_rest depth = made decl_of (both (name total) (behind (mark sym.Equals) (before (body (read_pat depth) (reads depth whole)) (mark sym.Semi))))
 
   abbrev pub decls : ℕ → Reader Token (List Decl)
-  decls depth = many (is_key key.Define) (decl total (read_pat total depth) (reads total depth whole))
+  decls depth = many (is_key key.Define) (decl total (read_pat depth) (reads depth whole))

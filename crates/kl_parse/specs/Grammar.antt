@@ -1,6 +1,8 @@
 -- The grammar of the language: which tokens spell which tree, nested at most so deep.
-use Rattle.std.specs.Prelude.{ℕ, zero, suc, Bool, true, false, List, [], ◌∷◌, Option, Some, None}
+use Rattle.std.specs.Prelude.{ℕ, zero, suc, Bool, true, false, ◌&&◌, ◌||◌, not, List, [], ◌∷◌, drop, Option, Some, None}
 use Rattle.kl_lex.specs.declared.token.Sym.TheVariants as sym
+use Rattle.kl_lex.specs.declared.token.Tok.{Tok}
+use Rattle.kl_lex.specs.declared.token.Tok.TheVariants as tok
 use Rattle.kl_lex.specs.declared.token.Token.{Token}
 use Rattle.kl_value.specs.declared.value.Kind.{Kind}
 use Rattle.kl_value.specs.declared.value.Kind.TheVariants as kind
@@ -19,10 +21,11 @@ use Rattle.kl_syntax.specs.declared.tree.Qual.TheVariants as qual
 use Rattle.kl_syntax.specs.declared.tree.Branch.{Branch}
 use Rattle.kl_syntax.specs.declared.tree.Decl.{Decl}
 use Rattle.kl_syntax.specs.declared.tree.Program.{Program}
-use Rattle.kl_parse.specs.Lexemes.{Symbol, Key, Label, Name, Constant, IsNegative, IsLeast, AnOp}
+use Rattle.kl_parse.specs.Lexemes.{Symbol, Key, Label, Name, Constant, IsNegative, IsLeast, AnOp, word_of}
 use Rattle.kl_lex.specs.Brackets.{opener, closer}
 use Rattle.kl_phrase.specs.Depth.{opens}
-use Rattle.kl_phrase.specs.Words.{Phrase, One, Nothing, Numbered, Then, Behind, Before, Many, Made, Or, Optional, Opened, Never, Parted, Tailed}
+use Rattle.kl_phrase.specs.Fronts.{Missing}
+use Rattle.kl_phrase.specs.Words.{heads, Phrase, One, Nothing, Numbered, Then, Behind, Before, Many, Made, Or, Optional, Opened, Never, Parted, Tailed}
 
 -- ---- what is made of the parts
 
@@ -297,3 +300,37 @@ module _ (P : Phrase Token Pattern) (E : Phrase Token Expr) where
 -- the tokens are this program, nested at most so deep
 abbrev pub ReadsProgram : ℕ → Phrase Token Program
 ReadsProgram depth = AProgram (ReadsPat depth) (Reads depth whole)
+
+-- ---- What begins a program nested so little. No branch fits the last level, and yet a `case` begins there: so one token may
+-- stand in the place of a branch, a number or a text, where ts has no such token. A front of ts itself leaves out none.
+
+abbrev pub number_at : Tok → Bool
+number_at (tok.Int n) = true
+number_at _ = false
+
+abbrev pub text_at : Tok → Bool
+text_at (tok.Text text) = true
+text_at _ = false
+
+abbrev pub is_number : Token → Bool
+is_number t = number_at t.what
+
+abbrev pub is_text : Token → Bool
+is_text t = text_at t.what
+
+-- a number where ts has none, or a text where it has none
+abbrev pub misses : List Token → ℕ → Token → Bool
+misses ts n t = (is_number t && not (heads is_number (drop n ts))) || (is_text t && not (heads is_text (drop n ts)))
+
+-- what such a token stands for
+abbrev pub left_out : Branch
+left_out = record { label = word_of (0, []); pat = pattern.Any; body = expr.Coll kind.Set [] }
+
+-- the same expressions, but that such a token may stand for a branch
+abbrev pub Begins : List Token → ℕ → Sort → Phrase Token Expr
+Begins ts zero s = of_sort s false Never Never Never Never Never Never
+Begins ts (suc depth) s = of_sort s true (ReadsPat depth) (Begins ts depth whole) (Begins ts depth negated) (Begins ts depth signed) (Begins ts depth added) (Or (Missing (misses ts) left_out) (ABranch (opens depth) (PatInside depth) (Begins ts depth whole)))
+
+-- the same programs, but that such a token may stand for a branch
+abbrev pub BeginsProgram : List Token → ℕ → Phrase Token Program
+BeginsProgram ts depth = AProgram (ReadsPat depth) (Begins ts depth whole)

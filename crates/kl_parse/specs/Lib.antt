@@ -4,3 +4,4 @@ pub mod Parsing
 pub mod Kinds
 pub mod Instead
 pub mod Descent
+pub mod Telling

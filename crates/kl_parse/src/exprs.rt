@@ -6,25 +6,24 @@ ghost use Rattle.kl_syntax.specs.declared.tree.Expr.TheVariants as exprs_of;
 ghost use Rattle.kl_lex.specs.declared.token.Token.{Token as AToken};
 ghost use Rattle.kl_lex.specs.declared.token.Sym.TheVariants as symbols;
 ghost use Rattle.kl_phrase.specs.Words.{heads};
-ghost use Rattle.kl_phrase.specs.Readers.{behind, both, made, one, others, parted};
+ghost use Rattle.kl_phrase.specs.Readers.{before, behind, both, made, ok, one, others, parted};
 ghost use Rattle.kl_parse.specs.declared.operator.Level.TheVariants as levels;
 ghost use Rattle.kl_phrase.specs.Gives.{Gives};
 ghost use Rattle.kl_lex.specs.Brackets.{opener};
-ghost use Rattle.kl_parse.specs.Grammar.{let_of, if_of, inject_of, case_of, whole, negated, signed};
+ghost use Rattle.kl_parse.specs.Grammar.{branch_of, let_of, if_of, inject_of, case_of, whole, negated, signed};
 ghost use Rattle.kl_parse.specs.Kinds.{among, is_symbol, op_kinds, an_op};
 ghost use Rattle.kl_parse.specs.Descent.{mark, read_pat, labels, reads, chain_at, operand_at, sort_at, compare_at, post_at, prim_at, named_at, branch_at, exprs, in_args, in_group, in_rec, in_inject, in_coll, in_let, in_if, in_case, case_end, expr_before, field, condition, qualifier, quals, beyond, otherwise};
 
 use crate::front::{
-    constant, eat, eat_word, is_word, label, least, name, or_bad, or_deep, want, want_word,
+    boxed, closed, closed_word, constant, eat, eat_word, is_word, label, labelled, least, name,
+    or_bad, or_deep, want,
 };
 use crate::operator::{Level, operator};
 use crate::patterns::{pattern_before, variant_rest};
-use kl_base::{Box, NoMemory, Seq};
+use kl_base::{Box, Seq};
 use kl_lex::{Keyword, Sym, Token, closer};
 use kl_phrase::Fault;
-use kl_syntax::{
-    Branch, Branches, Expr, ExprFields, Exprs, Op, Pattern, Qual, Quals, Steps, Word, Words,
-};
+use kl_syntax::{Branch, Branches, Expr, ExprFields, Exprs, Op, Pattern, Qual, Quals, Word};
 use kl_value::Kind;
 use std::alloc::Global;
 
@@ -71,12 +70,18 @@ fn ends_condition(tokens: &[Token]) -> bool
 }
 
 /// A chain of one operator.
-fn compared(alloc: Global, first: Box<Expr>, op: Op, second: Expr) -> Result<Expr, NoMemory>
-    ensures { IfOk result (λ found. found ≡ exprs_of.Chain first ((op, second) ∷ [])) }
+fn compared<'a>(
+    alloc: Global,
+    first: Box<Expr>,
+    op: Op,
+    second: Box<Expr>,
+    rest: &'a [Token],
+) -> Result<(Box<Expr>, &'a [Token]), Fault<'a, Token>>
+    ensures { Gives (λ x. x.0) (λ x. x.1.now) result (ok (exprs_of.Chain first ((op, second) ∷ [])) rest.now) }
 {
     let mut steps = Vec::new(alloc);
-    steps.push((op, second))?;
-    Ok(Expr::Chain(first, Seq::of(steps)))
+    steps.push((op, second.into_inner()))?;
+    boxed(alloc, Expr::Chain(first, Seq::of(steps)), rest)
 }
 
 /// `"let" .. | "if" .. | or`
@@ -86,7 +91,7 @@ pub fn expr(
     total: u32,
     depth: u32,
     tokens: &[Token],
-) -> Result<(Expr, &[Token]), Fault<'_, Token>>
+) -> Result<(Box<Expr>, &[Token]), Fault<'_, Token>>
     ensures { Gives (λ x. x.0) (λ x. x.1.now) result (reads total depth whole tokens.now) }
 {
     if let Some(rest) = eat_word(tokens, Keyword::Let) {
@@ -104,23 +109,9 @@ pub fn expr(
     chain(alloc, total, depth, Level::Or, tokens)
 }
 
-/// An expression, in a box.
+/// An expression and this keyword.
 #[cycle(expr)]
-fn boxed(
-    alloc: Global,
-    total: u32,
-    depth: u32,
-    tokens: &[Token],
-) -> Result<(Box<Expr>, &[Token]), Fault<'_, Token>>
-    ensures { Gives (λ x. x.0) (λ x. x.1.now) result (reads total depth whole tokens.now) }
-{
-    let (found, rest) = expr(alloc, total, depth, tokens)?;
-    Ok((Box::new(alloc, found)?, rest))
-}
-
-/// An expression, in a box, and this keyword.
-#[cycle(expr)]
-fn boxed_before(
+fn expr_before(
     alloc: Global,
     total: u32,
     depth: u32,
@@ -129,9 +120,8 @@ fn boxed_before(
 ) -> Result<(Box<Expr>, &[Token]), Fault<'_, Token>>
     ensures { Gives (λ x. x.0) (λ x. x.1.now) result (expr_before (reads total depth whole) keyword tokens.now) }
 {
-    let (found, rest) = boxed(alloc, total, depth, tokens)?;
-    let rest = want_word(rest, keyword)?;
-    Ok((found, rest))
+    let (found, rest) = expr(alloc, total, depth, tokens)?;
+    closed_word(found, rest, keyword)
 }
 
 /// `pat "==" expr "in" expr`
@@ -141,13 +131,13 @@ fn let_rest(
     total: u32,
     depth: u32,
     tokens: &[Token],
-) -> Result<(Expr, &[Token]), Fault<'_, Token>>
+) -> Result<(Box<Expr>, &[Token]), Fault<'_, Token>>
     ensures { Gives (λ x. x.0) (λ x. x.1.now) result (made let_of (in_let (read_pat total depth) (reads total depth whole)) tokens.now) }
 {
     let (bound, rest) = pattern_before(alloc, total, depth, Sym::Equals, tokens)?;
-    let (value, rest) = boxed_before(alloc, total, depth, Keyword::In, rest)?;
-    let (body, rest) = boxed(alloc, total, depth, rest)?;
-    Ok((Expr::Let(bound, value, body), rest))
+    let (value, rest) = expr_before(alloc, total, depth, Keyword::In, rest)?;
+    let (body, rest) = expr(alloc, total, depth, rest)?;
+    boxed(alloc, Expr::Let(bound.into_inner(), value, body), rest)
 }
 
 /// `expr "then" expr "else" expr`
@@ -157,13 +147,13 @@ fn if_rest(
     total: u32,
     depth: u32,
     tokens: &[Token],
-) -> Result<(Expr, &[Token]), Fault<'_, Token>>
+) -> Result<(Box<Expr>, &[Token]), Fault<'_, Token>>
     ensures { Gives (λ x. x.0) (λ x. x.1.now) result (made if_of (in_if (reads total depth whole)) tokens.now) }
 {
-    let (test, rest) = boxed_before(alloc, total, depth, Keyword::Then, tokens)?;
-    let (yes, rest) = boxed_before(alloc, total, depth, Keyword::Else, rest)?;
-    let (no, rest) = boxed(alloc, total, depth, rest)?;
-    Ok((Expr::If(test, yes, no), rest))
+    let (test, rest) = expr_before(alloc, total, depth, Keyword::Then, tokens)?;
+    let (yes, rest) = expr_before(alloc, total, depth, Keyword::Else, rest)?;
+    let (no, rest) = expr(alloc, total, depth, rest)?;
+    boxed(alloc, Expr::If(test, yes, no), rest)
 }
 
 /// `operand { op operand }`, with the operators of one level.
@@ -174,7 +164,7 @@ fn chain(
     depth: u32,
     level: Level,
     tokens: &[Token],
-) -> Result<(Expr, &[Token]), Fault<'_, Token>>
+) -> Result<(Box<Expr>, &[Token]), Fault<'_, Token>>
     ensures { Gives (λ x. x.0) (λ x. x.1.now) result (chain_at total depth level tokens.now) }
 {
     let (first, rest) = operand(alloc, total, depth, level, tokens)?;
@@ -182,22 +172,7 @@ fn chain(
     if more.is_empty() {
         return Ok((first, rest));
     }
-    Ok((Expr::Chain(Box::new(alloc, first)?, Seq::of(more)), rest))
-}
-
-/// A chain, in a box.
-#[cycle(expr)]
-fn boxed_chain(
-    alloc: Global,
-    total: u32,
-    depth: u32,
-    level: Level,
-    tokens: &[Token],
-) -> Result<(Box<Expr>, &[Token]), Fault<'_, Token>>
-    ensures { Gives (λ x. x.0) (λ x. x.1.now) result (chain_at total depth level tokens.now) }
-{
-    let (found, rest) = chain(alloc, total, depth, level, tokens)?;
-    Ok((Box::new(alloc, found)?, rest))
+    boxed(alloc, Expr::Chain(first, Seq::of(more)), rest)
 }
 
 #[cycle(expr)]
@@ -214,7 +189,7 @@ fn more_steps(
     let mut rest = tokens;
     'steps: while let Some((op, after)) = operator(rest, level) {
         let (next, after) = operand(alloc, total, depth, level, after)?;
-        found.push((op, next))?;
+        found.push((op, next.into_inner()))?;
         rest = after;
     }
     Ok((found, rest))
@@ -228,7 +203,7 @@ fn operand(
     depth: u32,
     level: Level,
     tokens: &[Token],
-) -> Result<(Expr, &[Token]), Fault<'_, Token>>
+) -> Result<(Box<Expr>, &[Token]), Fault<'_, Token>>
     ensures { Gives (λ x. x.0) (λ x. x.1.now) result (operand_at total depth level tokens.now) }
 {
     match level {
@@ -247,7 +222,7 @@ fn negation(
     total: u32,
     depth: u32,
     tokens: &[Token],
-) -> Result<(Expr, &[Token]), Fault<'_, Token>>
+) -> Result<(Box<Expr>, &[Token]), Fault<'_, Token>>
     ensures { Gives (λ x. x.0) (λ x. x.1.now) result (sort_at total depth negated tokens.now) }
 {
     if let Some(rest) = eat_word(tokens, Keyword::Not) {
@@ -255,7 +230,7 @@ fn negation(
             return Err(Fault::Deep(tokens));
         }
         let (inner, rest) = negation(alloc, total, depth - 1, rest)?;
-        return Ok((Expr::Not(Box::new(alloc, inner)?), rest));
+        return boxed(alloc, Expr::Not(inner), rest);
     }
     comparison(alloc, total, depth, tokens)
 }
@@ -267,16 +242,15 @@ fn comparison(
     total: u32,
     depth: u32,
     tokens: &[Token],
-) -> Result<(Expr, &[Token]), Fault<'_, Token>>
+) -> Result<(Box<Expr>, &[Token]), Fault<'_, Token>>
     ensures { Gives (λ x. x.0) (λ x. x.1.now) result (compare_at total depth tokens.now) }
 {
     let (first, rest) = operand(alloc, total, depth, Level::Compare, tokens)?;
     match operator(rest, Level::Compare) {
         None => Ok((first, rest)),
         Some((op, after)) => {
-            let head = Box::new(alloc, first)?;
             let (second, rest) = operand(alloc, total, depth, Level::Compare, after)?;
-            Ok((compared(alloc, head, op, second)?, rest))
+            compared(alloc, first, op, second, rest)
         }
     }
 }
@@ -288,18 +262,18 @@ fn signed(
     total: u32,
     depth: u32,
     tokens: &[Token],
-) -> Result<(Expr, &[Token]), Fault<'_, Token>>
+) -> Result<(Box<Expr>, &[Token]), Fault<'_, Token>>
     ensures { Gives (λ x. x.0) (λ x. x.1.now) result (sort_at total depth signed tokens.now) }
 {
-    if let Some(found) = least(tokens) {
-        return Ok(found);
-    }
     if let Some(rest) = eat(tokens, Sym::Sub) {
+        if let Some((found, rest)) = least(rest) {
+            return boxed(alloc, found, rest);
+        }
         if depth == 0 {
-            return Err(Fault::Deep(tokens));
+            return Err(Fault::Deep(rest));
         }
         let (inner, rest) = signed(alloc, total, depth - 1, rest)?;
-        return Ok((Expr::Neg(Box::new(alloc, inner)?), rest));
+        return boxed(alloc, Expr::Neg(inner), rest);
     }
     path(alloc, total, depth, tokens)
 }
@@ -311,7 +285,7 @@ fn path(
     total: u32,
     depth: u32,
     tokens: &[Token],
-) -> Result<(Expr, &[Token]), Fault<'_, Token>>
+) -> Result<(Box<Expr>, &[Token]), Fault<'_, Token>>
     ensures { Gives (λ x. x.0) (λ x. x.1.now) result (post_at total depth tokens.now) }
 {
     let (first, rest) = primary(alloc, total, depth, tokens)?;
@@ -319,7 +293,7 @@ fn path(
     if words.is_empty() {
         return Ok((first, rest));
     }
-    Ok((Expr::Path(Box::new(alloc, first)?, Seq::of(words)), rest))
+    boxed(alloc, Expr::Path(first, Seq::of(words)), rest)
 }
 
 #[cycle(expr)]
@@ -328,11 +302,11 @@ fn primary(
     total: u32,
     depth: u32,
     tokens: &[Token],
-) -> Result<(Expr, &[Token]), Fault<'_, Token>>
+) -> Result<(Box<Expr>, &[Token]), Fault<'_, Token>>
     ensures { Gives (λ x. x.0) (λ x. x.1.now) result (prim_at total depth tokens.now) }
 {
     if let Some((value, rest)) = constant(alloc, tokens)? {
-        return Ok((Expr::Const(value), rest));
+        return boxed(alloc, Expr::Const(value), rest);
     }
     if let Some(rest) = eat(tokens, Sym::OpenPar) {
         if depth == 0 {
@@ -344,8 +318,7 @@ fn primary(
         if depth == 0 {
             return Err(Fault::Deep(tokens));
         }
-        let (fields, rest) = rec_rest(alloc, total, depth - 1, rest)?;
-        return Ok((Expr::Rec(fields), rest));
+        return rec_rest(alloc, total, depth - 1, rest);
     }
     if let Some(rest) = eat(tokens, Sym::Lt) {
         if depth == 0 {
@@ -375,20 +348,34 @@ fn named(
     total: u32,
     depth: u32,
     tokens: &[Token],
-) -> Result<(Expr, &[Token]), Fault<'_, Token>>
+) -> Result<(Box<Expr>, &[Token]), Fault<'_, Token>>
     ensures { Gives (λ x. x.0) (λ x. x.1.now) result (named_at total depth tokens.now) }
 {
     let (word, rest) = name(total, tokens)?;
     match eat(rest, Sym::OpenPar) {
-        None => Ok((Expr::Name(word), rest)),
+        None => boxed(alloc, Expr::Name(word), rest),
         Some(after) => {
             if depth == 0 {
                 return Err(Fault::Deep(rest));
             }
-            let (args, after) = args_rest(alloc, total, depth - 1, after)?;
-            Ok((Expr::Call(word, args), after))
+            call_rest(alloc, total, depth - 1, word, after)
         }
     }
+}
+
+/// What stands behind the `(` of a call of this name.
+#[cycle(expr)]
+fn call_rest(
+    alloc: Global,
+    total: u32,
+    depth: u32,
+    word: Word,
+    tokens: &[Token],
+) -> Result<(Box<Expr>, &[Token]), Fault<'_, Token>>
+    ensures { Gives (λ x. x.0) (λ x. x.1.now) result (made (λ args. exprs_of.Call word args) (in_args (reads total depth whole)) tokens.now) }
+{
+    let (args, rest) = args_rest(alloc, total, depth, tokens)?;
+    boxed(alloc, Expr::Call(word, args), rest)
 }
 
 /// `exprs ")"`
@@ -403,8 +390,7 @@ fn args_rest(
 {
     let (first, rest) = expr(alloc, total, depth, tokens)?;
     let (found, rest) = more_exprs(alloc, total, depth, first, rest)?;
-    let rest = want(rest, Sym::ClosePar)?;
-    Ok((found, rest))
+    closed(found, rest, Sym::ClosePar)
 }
 
 /// The first expression and those that follow, each behind a comma.
@@ -413,17 +399,17 @@ fn more_exprs(
     alloc: Global,
     total: u32,
     depth: u32,
-    first: Expr,
+    first: Box<Expr>,
     tokens: &[Token],
 ) -> Result<(Exprs, &[Token]), Fault<'_, Token>>
     ensures { Gives (λ x. x.0) (λ x. x.1.now) result (others (is_symbol symbols.Comma) (behind (mark symbols.Comma) (reads total depth whole)) (first ∷ []) tokens.now) }
 {
     let mut found = Vec::new(alloc);
-    found.push(first)?;
+    found.push(first.into_inner())?;
     let mut rest = tokens;
     'exprs: while let Some(after) = eat(rest, Sym::Comma) {
         let (next, after) = expr(alloc, total, depth, after)?;
-        found.push(next)?;
+        found.push(next.into_inner())?;
         rest = after;
     }
     Ok((Seq::of(found), rest))
@@ -436,17 +422,30 @@ fn group_rest(
     total: u32,
     depth: u32,
     tokens: &[Token],
-) -> Result<(Expr, &[Token]), Fault<'_, Token>>
+) -> Result<(Box<Expr>, &[Token]), Fault<'_, Token>>
     ensures { Gives (λ x. x.0) (λ x. x.1.now) result (in_group (reads total depth whole) tokens.now) }
 {
     let (inner, rest) = expr(alloc, total, depth, tokens)?;
-    let rest = want(rest, Sym::ClosePar)?;
-    Ok((inner, rest))
+    closed(inner, rest, Sym::ClosePar)
+}
+
+/// What stands behind the `[` of a record.
+#[cycle(expr)]
+fn rec_rest(
+    alloc: Global,
+    total: u32,
+    depth: u32,
+    tokens: &[Token],
+) -> Result<(Box<Expr>, &[Token]), Fault<'_, Token>>
+    ensures { Gives (λ x. x.0) (λ x. x.1.now) result (made exprs_of.Rec (in_rec total (reads total depth whole)) tokens.now) }
+{
+    let (fields, rest) = fields_rest(alloc, total, depth, tokens)?;
+    boxed(alloc, Expr::Rec(fields), rest)
 }
 
 /// `[ field { "," field } ] "]"`
 #[cycle(expr)]
-fn rec_rest(
+fn fields_rest(
     alloc: Global,
     total: u32,
     depth: u32,
@@ -455,13 +454,11 @@ fn rec_rest(
     ensures { Gives (λ x. x.0) (λ x. x.1.now) result (in_rec total (reads total depth whole) tokens.now) }
 {
     if !is_word(tokens) {
-        let rest = want(tokens, Sym::CloseRec)?;
-        return Ok((Seq::of(Vec::new(alloc)), rest));
+        return closed(Seq::of(Vec::new(alloc)), tokens, Sym::CloseRec);
     }
     let (first, rest) = field(alloc, total, depth, tokens)?;
     let (found, rest) = more_fields(alloc, total, depth, first, rest)?;
-    let rest = want(rest, Sym::CloseRec)?;
-    Ok((found, rest))
+    closed(found, rest, Sym::CloseRec)
 }
 
 #[cycle(expr)]
@@ -473,10 +470,9 @@ fn field(
 ) -> Result<((Word, Expr), &[Token]), Fault<'_, Token>>
     ensures { Gives (λ x. x.0) (λ x. x.1.now) result (field total (reads total depth whole) tokens.now) }
 {
-    let (word, rest) = label(total, tokens)?;
-    let rest = want(rest, Sym::Eq)?;
+    let (word, rest) = labelled(total, tokens)?;
     let (found, rest) = expr(alloc, total, depth, rest)?;
-    Ok(((word, found), rest))
+    Ok(((word, found.into_inner()), rest))
 }
 
 /// The first field and those that follow, each behind a comma.
@@ -508,14 +504,26 @@ fn inject_rest(
     total: u32,
     depth: u32,
     tokens: &[Token],
-) -> Result<(Expr, &[Token]), Fault<'_, Token>>
+) -> Result<(Box<Expr>, &[Token]), Fault<'_, Token>>
     ensures { Gives (λ x. x.0) (λ x. x.1.now) result (made inject_of (in_inject total (chain_at total depth levels.Add)) tokens.now) }
 {
-    let (word, rest) = label(total, tokens)?;
-    let rest = want(rest, Sym::Eq)?;
-    let (found, rest) = boxed_chain(alloc, total, depth, Level::Add, rest)?;
-    let rest = want(rest, Sym::Gt)?;
-    Ok((Expr::Inj(word, found), rest))
+    let (word, rest) = labelled(total, tokens)?;
+    let (found, rest) = injected(alloc, total, depth, rest)?;
+    boxed(alloc, Expr::Inj(word, found), rest)
+}
+
+/// `add ">"`
+#[cycle(expr)]
+fn injected(
+    alloc: Global,
+    total: u32,
+    depth: u32,
+    tokens: &[Token],
+) -> Result<(Box<Expr>, &[Token]), Fault<'_, Token>>
+    ensures { Gives (λ x. x.0) (λ x. x.1.now) result (before (chain_at total depth levels.Add) (mark symbols.Gt) tokens.now) }
+{
+    let (found, rest) = chain(alloc, total, depth, Level::Add, tokens)?;
+    closed(found, rest, Sym::Gt)
 }
 
 /// What stands behind the bracket of a collection.
@@ -526,16 +534,15 @@ fn coll_rest(
     depth: u32,
     kind: Kind,
     tokens: &[Token],
-) -> Result<(Expr, &[Token]), Fault<'_, Token>>
+) -> Result<(Box<Expr>, &[Token]), Fault<'_, Token>>
     ensures { Gives (λ x. x.0) (λ x. x.1.now) result (in_coll (read_pat total depth) (reads total depth whole) kind tokens.now) }
 {
     if let Some(rest) = eat(tokens, closer(kind)) {
-        return Ok((Expr::Coll(kind, Seq::of(Vec::new(alloc))), rest));
+        return boxed(alloc, Expr::Coll(kind, Seq::of(Vec::new(alloc))), rest);
     }
     let (first, rest) = expr(alloc, total, depth, tokens)?;
     let (found, rest) = beyond(alloc, total, depth, kind, first, rest)?;
-    let rest = want(rest, closer(kind))?;
-    Ok((found, rest))
+    closed(found, rest, closer(kind))
 }
 
 /// What follows the first expression of a collection: a bar and qualifiers, or other items.
@@ -545,20 +552,19 @@ fn beyond(
     total: u32,
     depth: u32,
     kind: Kind,
-    first: Expr,
+    first: Box<Expr>,
     tokens: &[Token],
-) -> Result<(Expr, &[Token]), Fault<'_, Token>>
+) -> Result<(Box<Expr>, &[Token]), Fault<'_, Token>>
     ensures { Gives (λ x. x.0) (λ x. x.1.now) result (beyond (read_pat total depth) (reads total depth whole) kind first tokens.now) }
 {
     match eat(tokens, Sym::Bar) {
         Some(after) => {
-            let head = Box::new(alloc, first)?;
             let (found, rest) = qualifiers(alloc, total, depth, after)?;
-            Ok((Expr::Comp(kind, head, found), rest))
+            boxed(alloc, Expr::Comp(kind, first, found), rest)
         }
         None => {
             let (found, rest) = more_exprs(alloc, total, depth, first, tokens)?;
-            Ok((Expr::Coll(kind, found), rest))
+            boxed(alloc, Expr::Coll(kind, found), rest)
         }
     }
 }
@@ -612,16 +618,16 @@ fn qualifier(
     match pattern_before(alloc, total, depth, Sym::Draw, tokens) {
         Ok((bound, rest)) => {
             let (source, rest) = expr(alloc, total, depth, rest)?;
-            Ok((Qual::Gen(bound, source), rest))
+            Ok((Qual::Gen(bound.into_inner(), source.into_inner()), rest))
         }
         Err(Fault::Memory) => Err(Fault::Memory),
         Err(Fault::Bad(place)) => {
             let (found, rest) = or_bad(place, condition(alloc, total, depth, tokens))?;
-            Ok((Qual::Cond(found), rest))
+            Ok((Qual::Cond(found.into_inner()), rest))
         }
         Err(Fault::Deep(place)) => {
             let (found, rest) = or_deep(place, condition(alloc, total, depth, tokens))?;
-            Ok((Qual::Cond(found), rest))
+            Ok((Qual::Cond(found.into_inner()), rest))
         }
     }
 }
@@ -633,7 +639,7 @@ fn condition(
     total: u32,
     depth: u32,
     tokens: &[Token],
-) -> Result<(Expr, &[Token]), Fault<'_, Token>>
+) -> Result<(Box<Expr>, &[Token]), Fault<'_, Token>>
     ensures { Gives (λ x. x.0) (λ x. x.1.now) result (condition (reads total depth whole) tokens.now) }
 {
     let (found, rest) = expr(alloc, total, depth, tokens)?;
@@ -650,13 +656,13 @@ fn case_rest(
     total: u32,
     depth: u32,
     tokens: &[Token],
-) -> Result<(Expr, &[Token]), Fault<'_, Token>>
+) -> Result<(Box<Expr>, &[Token]), Fault<'_, Token>>
     ensures { Gives (λ x. x.0) (λ x. x.1.now) result (made case_of (in_case (reads total depth whole) (branch_at total depth)) tokens.now) }
 {
-    let (subject, rest) = boxed_before(alloc, total, depth, Keyword::Of, tokens)?;
+    let (subject, rest) = expr_before(alloc, total, depth, Keyword::Of, tokens)?;
     let (found, rest) = branches(alloc, total, depth, rest)?;
     let (last, rest) = case_end(alloc, total, depth, rest)?;
-    Ok((Expr::Case(subject, found, last), rest))
+    boxed(alloc, Expr::Case(subject, found, last), rest)
 }
 
 /// `branch { "," branch }`
@@ -684,8 +690,7 @@ fn case_end(
     ensures { Gives (λ x. x.0) (λ x. x.1.now) result (case_end (reads total depth whole) tokens.now) }
 {
     let (found, rest) = otherwise(alloc, total, depth, tokens)?;
-    let rest = want_word(rest, Keyword::End)?;
-    Ok((found, rest))
+    closed_word(found, rest, Keyword::End)
 }
 
 /// `"<" LABEL "=" pat ">" "=>" expr`
@@ -703,8 +708,25 @@ fn branch(
         return Err(Fault::Deep(tokens));
     }
     let ((label, pat), rest) = variant_rest(alloc, total, depth - 1, inner)?;
-    let rest = want(rest, Sym::Arrow)?;
+    branch_rest(alloc, total, depth, label, pat, rest)
+}
+
+/// What stands behind the variant of a branch: `"=>" expr`
+#[cycle(expr)]
+fn branch_rest(
+    alloc: Global,
+    total: u32,
+    depth: u32,
+    label: Word,
+    pat: Box<Pattern>,
+    tokens: &[Token],
+) -> Result<(Branch, &[Token]), Fault<'_, Token>>
+    ensures { Gives (λ x. x.0) (λ x. x.1.now) result (made (λ body. branch_of ((label, pat), body)) (behind (mark symbols.Arrow) (reads total depth whole)) tokens.now) }
+{
+    let rest = want(tokens, Sym::Arrow)?;
     let (body, rest) = expr(alloc, total, depth, rest)?;
+    let pat = pat.into_inner();
+    let body = body.into_inner();
     Ok((Branch { label, pat, body }, rest))
 }
 
@@ -743,7 +765,7 @@ fn otherwise(
     match eat_word(tokens, Keyword::Otherwise) {
         None => Ok((None, tokens)),
         Some(after) => {
-            let (found, rest) = boxed(alloc, total, depth, after)?;
+            let (found, rest) = expr(alloc, total, depth, after)?;
             Ok((Some(found), rest))
         }
     }

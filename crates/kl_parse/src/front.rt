@@ -3,13 +3,14 @@
 ghost use Rattle.std.specs.Prelude.{◌≡◌, ◌-◌, ◌∷◌, length, true, false, MatchOption, IfOk};
 ghost use Rattle.kl_lex.specs.declared.token.Token.{Token as AToken};
 ghost use Rattle.kl_phrase.specs.Words.{heads};
-ghost use Rattle.kl_phrase.specs.Readers.{one, ok, bad, deep, farther};
-ghost use Rattle.kl_parse.specs.Kinds.{is_symbol, is_key, among, label_kinds, constant_kinds, a_constant, a_negative};
+ghost use Rattle.kl_lex.specs.declared.token.Sym.TheVariants as symbols;
+ghost use Rattle.kl_phrase.specs.Readers.{after, before, one, ok, bad, deep, farther};
+ghost use Rattle.kl_parse.specs.Kinds.{is_symbol, is_key, among, label_kinds, constant_kinds, big_kinds, a_constant, a_negative};
 ghost use Rattle.kl_phrase.specs.Gives.{Gives};
 ghost use Rattle.kl_parse.specs.Instead.{Instead};
-ghost use Rattle.kl_parse.specs.Descent.{mark, word_mark, name, label, least_at, is_least};
+ghost use Rattle.kl_parse.specs.Descent.{mark, word_mark, name, label, least_at};
 
-use kl_base::NoMemory;
+use kl_base::{Box, NoMemory};
 use kl_lex::{Keyword, Sym, Tok, Token, keyword_of};
 use kl_phrase::Fault;
 use kl_syntax::{Expr, Meaning, Word};
@@ -62,17 +63,52 @@ pub fn want(tokens: &[Token], symbol: Sym) -> Result<&[Token], Fault<'_, Token>>
     }
 }
 
-/// What stands behind this keyword, which has to come.
+/// What was found, where this symbol comes next, and what stands behind the symbol.
 ///
 /// # Errors
 /// `Fault::Bad` with these tokens, where it does not come.
-pub fn want_word(tokens: &[Token], keyword: Keyword) -> Result<&[Token], Fault<'_, Token>>
-    ensures { Gives (λ x. tt) (λ x. x.now) result (word_mark keyword tokens.now) }
+pub fn closed<'a, X: Drop>(
+    found: X,
+    tokens: &'a [Token],
+    symbol: Sym,
+) -> Result<(X, &'a [Token]), Fault<'a, Token>>
+    ensures { Gives (λ x. x.0) (λ x. x.1.now) result (after (mark symbol tokens.now) (λ _ rest. ok found rest)) }
+{
+    match eat(tokens, symbol) {
+        None => Err(Fault::Bad(tokens)),
+        Some(rest) => Ok((found, rest)),
+    }
+}
+
+/// What was found, where this keyword comes next, and what stands behind the keyword.
+///
+/// # Errors
+/// `Fault::Bad` with these tokens, where it does not come.
+pub fn closed_word<'a, X: Drop>(
+    found: X,
+    tokens: &'a [Token],
+    keyword: Keyword,
+) -> Result<(X, &'a [Token]), Fault<'a, Token>>
+    ensures { Gives (λ x. x.0) (λ x. x.1.now) result (after (word_mark keyword tokens.now) (λ _ rest. ok found rest)) }
 {
     match eat_word(tokens, keyword) {
         None => Err(Fault::Bad(tokens)),
-        Some(rest) => Ok(rest),
+        Some(rest) => Ok((found, rest)),
     }
+}
+
+/// What was found, in a box.
+///
+/// # Errors
+/// `Fault::Memory`.
+pub fn boxed<X: Drop>(
+    alloc: Global,
+    found: X,
+    rest: &[Token],
+) -> Result<(Box<X>, &[Token]), Fault<'_, Token>>
+    ensures { Gives (λ x. x.0) (λ x. x.1.now) result (ok found rest.now) }
+{
+    Ok((Box::new(alloc, found)?, rest))
 }
 
 /// How many tokens stand before these.
@@ -140,6 +176,17 @@ pub fn label(total: u32, tokens: &[Token]) -> Result<(Word, &[Token]), Fault<'_,
     }
 }
 
+/// `LABEL "="`
+///
+/// # Errors
+/// `Fault::Bad` with the tokens that do not begin so. `Fault::Memory`.
+pub fn labelled(total: u32, tokens: &[Token]) -> Result<(Word, &[Token]), Fault<'_, Token>>
+    ensures { Gives (λ x. x.0) (λ x. x.1.now) result (before (label total) (mark symbols.Eq) tokens.now) }
+{
+    let (word, rest) = label(total, tokens)?;
+    closed(word, rest, Sym::Eq)
+}
+
 /// Whether a word comes.
 pub fn is_word(tokens: &[Token]) -> bool
     ensures { result ≡ heads (among label_kinds) tokens.now }
@@ -192,19 +239,14 @@ pub fn negative(tokens: &[Token]) -> Result<(Value, &[Token]), Fault<'_, Token>>
     }
 }
 
-/// The least integer, if the tokens begin with a minus and the digits that it makes this number.
+/// The least integer, if the tokens begin with the digits that a minus makes this number.
 pub fn least(tokens: &[Token]) -> Option<(Expr, &[Token])>
-    ensures { MatchOption result (is_least tokens.now ≡ false) (λ x. (is_least tokens.now ≡ true) × (least_at tokens.now ≡ ok x.0 x.1.now)) }
+    ensures { MatchOption result (heads (among big_kinds) tokens.now ≡ false) (λ x. (heads (among big_kinds) tokens.now ≡ true) × (least_at tokens.now ≡ ok x.0 x.1.now)) }
 {
     match tokens {
-        [
-            Token {
-                what: Tok::Sym(Sym::Sub),
-                ..
-            },
-            Token { what: Tok::Big, .. },
-            rest @ ..,
-        ] => Some((Expr::Const(Value::Int(i64::MIN)), rest)),
+        [Token { what: Tok::Big, .. }, rest @ ..] => {
+            Some((Expr::Const(Value::Int(i64::MIN)), rest))
+        }
         _ => None,
     }
 }
@@ -216,32 +258,33 @@ pub fn farther<'a>(one: &'a [Token], other: &'a [Token]) -> &'a [Token]
     if other.len() < one.len() { other } else { one }
 }
 
-/// What a second reader answers after the first, which no text goes on with from this place.
+/// What a second reader answers after the first, which goes on with no text from this place: the farther of two places.
 pub fn or_bad<'a>(
     place: &'a [Token],
-    second: Result<(Expr, &'a [Token]), Fault<'a, Token>>,
-) -> Result<(Expr, &'a [Token]), Fault<'a, Token>>
+    second: Result<(Box<Expr>, &'a [Token]), Fault<'a, Token>>,
+) -> Result<(Box<Expr>, &'a [Token]), Fault<'a, Token>>
     ensures { Instead (λ x. x.0) (λ x. x.1.now) bad place.now second.entry result }
 {
     match second {
         Err(Fault::Bad(other)) => Err(Fault::Bad(farther(place, other))),
         Err(Fault::Memory) => Err(Fault::Memory),
-        Err(Fault::Deep(other)) => Err(Fault::Deep(other)),
+        Err(Fault::Deep(other)) => Err(Fault::Deep(farther(place, other))),
         Ok(found) => Ok(found),
     }
 }
 
-/// What a second reader answers after the first, which nests too deep at this place.
+/// What a second reader answers after the first, which nests too deep at this place: the farther of two places, which is
+/// then one of nesting.
 pub fn or_deep<'a>(
     place: &'a [Token],
-    second: Result<(Expr, &'a [Token]), Fault<'a, Token>>,
-) -> Result<(Expr, &'a [Token]), Fault<'a, Token>>
+    second: Result<(Box<Expr>, &'a [Token]), Fault<'a, Token>>,
+) -> Result<(Box<Expr>, &'a [Token]), Fault<'a, Token>>
     ensures { Instead (λ x. x.0) (λ x. x.1.now) deep place.now second.entry result }
 {
     match second {
-        Err(Fault::Bad(_)) => Err(Fault::Deep(place)),
+        Err(Fault::Bad(other)) => Err(Fault::Deep(farther(place, other))),
         Err(Fault::Memory) => Err(Fault::Memory),
-        Err(Fault::Deep(other)) => Err(Fault::Deep(other)),
+        Err(Fault::Deep(other)) => Err(Fault::Deep(farther(place, other))),
         Ok(found) => Ok(found),
     }
 }

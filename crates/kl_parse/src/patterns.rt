@@ -5,7 +5,7 @@ ghost use Rattle.kl_phrase.specs.Readers.{tails};
 ghost use Rattle.kl_phrase.specs.Gives.{Gives};
 ghost use Rattle.kl_parse.specs.Descent.{simple, pat_before, pat_field, pat_turn, shape, in_shape, in_variant, read_pat};
 
-use crate::front::{constant, eat, is_word, label, name, negative, number, want};
+use crate::front::{boxed, closed, constant, eat, is_word, labelled, name, negative, number};
 use kl_base::{Box, Seq};
 use kl_lex::{Sym, Token};
 use kl_phrase::Fault;
@@ -54,7 +54,7 @@ pub fn pattern(
             return Err(Fault::Deep(tokens));
         }
         let ((label, inner), rest) = variant_rest(alloc, total, depth - 1, rest)?;
-        return Ok((Pattern::Inj(label, Box::new(alloc, inner)?), rest));
+        return Ok((Pattern::Inj(label, inner), rest));
     }
     if let Some(rest) = eat(tokens, Sym::OpenRec) {
         if depth == 0 {
@@ -72,12 +72,12 @@ pub fn variant_rest(
     total: u32,
     depth: u32,
     tokens: &[Token],
-) -> Result<((Word, Pattern), &[Token]), Fault<'_, Token>>
+) -> Result<((Word, Box<Pattern>), &[Token]), Fault<'_, Token>>
     ensures { Gives (λ x. x.0) (λ x. x.1.now) result (in_variant total (read_pat total depth) tokens.now) }
 {
-    let (found, rest) = pat_field(alloc, total, depth, tokens)?;
-    let rest = want(rest, Sym::Gt)?;
-    Ok((found, rest))
+    let (label, rest) = labelled(total, tokens)?;
+    let (found, rest) = pattern_before(alloc, total, depth, Sym::Gt, rest)?;
+    Ok(((label, found), rest))
 }
 
 /// What stands behind the `[` of a record pattern.
@@ -91,8 +91,7 @@ fn shape_rest(
     ensures { Gives (λ x. x.0) (λ x. x.1.now) result (in_shape total (read_pat total depth) tokens.now) }
 {
     let (found, rest) = shape(alloc, total, depth, tokens)?;
-    let rest = want(rest, Sym::CloseRec)?;
-    Ok((found, rest))
+    closed(found, rest, Sym::CloseRec)
 }
 
 /// `field { "," field } [ "," "..." ] | [ "..." ]`
@@ -125,8 +124,7 @@ fn pat_field(
 ) -> Result<((Word, Pattern), &[Token]), Fault<'_, Token>>
     ensures { Gives (λ x. x.0) (λ x. x.1.now) result (pat_field total (read_pat total depth) tokens.now) }
 {
-    let (word, rest) = label(total, tokens)?;
-    let rest = want(rest, Sym::Eq)?;
+    let (word, rest) = labelled(total, tokens)?;
     let (found, rest) = pattern(alloc, total, depth, rest)?;
     Ok(((word, found), rest))
 }
@@ -157,16 +155,17 @@ fn more_fields(
 }
 
 /// A pattern and this symbol.
+#[cycle(pattern)]
 pub fn pattern_before(
     alloc: Global,
     total: u32,
     depth: u32,
     symbol: Sym,
     tokens: &[Token],
-) -> Result<(Pattern, &[Token]), Fault<'_, Token>>
+) -> Result<(Box<Pattern>, &[Token]), Fault<'_, Token>>
     ensures { Gives (λ x. x.0) (λ x. x.1.now) result (pat_before (read_pat total depth) symbol tokens.now) }
 {
     let (found, rest) = pattern(alloc, total, depth, tokens)?;
-    let rest = want(rest, symbol)?;
-    Ok((found, rest))
+    let (found, rest) = boxed(alloc, found, rest)?;
+    closed(found, rest, symbol)
 }

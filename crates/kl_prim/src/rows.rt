@@ -6,7 +6,7 @@ ghost use Rattle.std.proofs.Props.{props};
 
 /// What a primitive takes and gives, one variant for each different type in the table: t stands for any type, and K
 /// for one kind of collection throughout.
-#[derive(Clone, Copy, Debug, PartialEq, Eq)]
+#[derive(Clone, Copy, PartialEq, Eq)]
 pub enum Shape {
     /// Two values of one type, to a truth value.
     Compare,
@@ -48,7 +48,7 @@ pub enum Shape {
 
 /// A row: a primitive's code and name, how many arguments it takes, what they are, and whether it always has an
 /// answer.
-#[derive(Clone, Copy, Debug)]
+#[derive(Clone, Copy)]
 pub struct PrimRow {
     /// What `apply` knows it by.
     pub code: u8,
@@ -63,7 +63,7 @@ pub struct PrimRow {
 }
 
 /// The rows of N primitives, no two of one code or name.
-#[derive(Clone, Copy, Debug)]
+#[derive(Clone, Copy)]
 pub struct PrimTable<const N: usize> {
     /// Its rows, by rising code.
     pub rows: &'static [PrimRow],

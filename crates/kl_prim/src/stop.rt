@@ -5,7 +5,7 @@ use kl_value::NoMemory;
 use std::alloc::{AllocError, AllocFailed};
 
 /// Why a primitive has no answer.
-#[derive(Clone, Copy, Debug, PartialEq, Eq)]
+#[derive(Clone, Copy, PartialEq, Eq)]
 pub enum PrimStop {
     /// The exact result leaves the 64-bit integers.
     Overflow,

@@ -7,7 +7,7 @@ use Rattle.kl_rows.specs.Lists.{Fields}
 use Rattle.kl_rows.specs.Places.{Sort, a_row, sort_of, sort_at, IsPlaced, chained_one, Ended, Lacks, at_open, at_none, at_front, LacksAs, IsTidy, IsFine}
 use Rattle.kl_rows.specs.Solutions.{Says}
 use Rattle.kl_rows.specs.Steps.{KeepsCells, Advances, Equates}
-use Rattle.kl_rows.specs.Joining.{ArePairs, MeetsRows}
+use Rattle.kl_rows.specs.Joining.{MeetsRows}
 use Rattle.kl_rows.specs.Making.{IsNewTidy, CanMake, AddsCell, HasSort, Same, Unifies}
 use Rattle.kl_rows.specs.Finite.{Solvable}
 use Rattle.kl_rows.proofs.CellLists.{get_last, get_first, get_end, total_push, stands, sort_here, sort_within}
@@ -86,9 +86,6 @@ module _ (ns : List Cell) (d : Cell) (fine : IsFine ns) (can : CanMake ns d) whe
     );
   }))
 
-pub same_sort : (ns : List Cell) (a b : ℕ) (q : Sort) → HasSort ns a b → sort_at ns a ≡ Some q → sort_at ns b ≡ Some q
-same_sort ns a b q h e = h.second ∙ sym h.first ∙ e
-
 pub same_told : (ans : Bool) (ns new : List Cell) (a b : ℕ) (q : Sort) → sort_at ns a ≡ Some q → Advances ans ns new (Same (Some q) a b) (λ s. Unit {0}) → Advances ans ns new (Same (sort_at ns a) a b) (λ s. Unit {0})
 same_told ans ns new a b q e h = subst (λ o. Advances ans ns new (Same o a b) (λ s. Unit {0})) (sym e) h
 
@@ -96,12 +93,6 @@ append_first : (xs ys : List (ℕ × ℕ)) → xs ≡ [] → xs ++ ys ≡ ys
 append_first xs ys e = ap (λ zs. zs ++ ys) e
 
 module _ (old now : List Cell) (a b : ℕ) (before after : List (ℕ × ℕ)) (empty : before ≡ []) where
-  pub rows_within : MeetsRows true old now a b before after → ArePairs now after
-  rows_within m = subst (ArePairs now) (sym (m.added ∙ append_first before m.more empty)) m.within
-
-  pub rows_fail : MeetsRows false old now a b before after → Advances false old now (λ s. s.rows a ≡ s.rows b) (λ s. Unit {0})
-  rows_fail m = (let x = m.step in record { fine = x.fine; keeps = x.keeps; fewer = x.fewer; down = λ s h d. absurd_true _ (x.down s h d).0; up = λ t. absurd_true _ t })
-
   pub rows_merge : (ans : Bool) (new : List Cell) → MeetsRows true old now a b before after → Advances ans now new (Equates after) (λ s. Unit {0}) → Advances ans old new (λ s. s.rows a ≡ s.rows b) (λ s. Unit {0})
   rows_merge ans new m h =
       let x = m.step in

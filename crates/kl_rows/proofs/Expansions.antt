@@ -93,24 +93,20 @@ gives_coll old one two new j a i t k u v e f q x p = record {
       (λ s h. grown_then old one two s _ _ (let m = kind.keeps in m.grows) (grown_kind old one j fine (Fixed k) (record { placed = tt; tidy = tt }) kind s h k refl) (λ w d z. grown_map one two w _ _ (λ b c l. tt) (g.down w d))));
 }
 
--- the fields of a row, one after another
-abbrev pub TyField : Type 0
-TyField = List ℕ × Ty
-
-abbrev append_row : Row → Row → Row
+abbrev pub append_row : Row → Row → Row
 append_row no_row q = q
 append_row (row l t r) q = row l t (append_row r q)
 
-row_append : {X : Type 0} (g : X → Ground) (xs ys : List (List ℕ × X)) → row_by g (xs ++ ys) ≡ append_row (row_by g xs) (row_by g ys)
+pub row_append : {X : Type 0} (g : X → Ground) (xs ys : List (List ℕ × X)) → row_by g (xs ++ ys) ≡ append_row (row_by g xs) (row_by g ys)
 row_append g [] ys = refl
 row_append g (x ∷ xs) ys = ap (row x.0 (g x.1)) (row_append g xs ys)
 
-field_proper : (fs : List (List ℕ × Ty)) (k : ℕ) (f : List ℕ × Ty) → k < length fs → f ≡ get_or fs k f → IsRow (row_by ground_of fs) → IsProper f.1
+pub field_proper : (fs : List (List ℕ × Ty)) (k : ℕ) (f : List ℕ × Ty) → k < length fs → f ≡ get_or fs k f → IsRow (row_by ground_of fs) → IsProper f.1
 field_proper [] k f lt e h = absurd (omega arith)
 field_proper (g ∷ fs) zero f lt e h = subst (λ x. IsProper x.1) (sym e) h.1
 field_proper (g ∷ fs) (suc k) f lt e h = field_proper fs k f (omega arith) e h.2
 
-take_more : (fs : List (List ℕ × Ty)) (k : ℕ) (f : List ℕ × Ty) → k < length fs → f ≡ get_or fs k f → take (k + 1) fs ≡ take k fs ++ f ∷ []
+pub take_more : {X : Type 0} (fs : List (List ℕ × X)) (k : ℕ) (f : List ℕ × X) → k < length fs → f ≡ get_or fs k f → take (k + 1) fs ≡ take k fs ++ f ∷ []
 take_more [] k f lt e = absurd (omega arith)
 take_more (g ∷ fs) zero f lt e = ap (λ x. x ∷ []) (sym e)
 take_more (g ∷ fs) (suc k) f lt e = let s : suc k + 1 ≡ suc (k + 1) = omega arith in rw s (ap (λ x. g ∷ x) (take_more fs k f (omega arith) e))
@@ -170,10 +166,10 @@ front_others types ((m, t) ∷ fs) l h =
     let off : l ≢ m = λ e. none_some t ⊥ (sym h ∙ field_here l m t fs e) in
     at_there l m (types t) (row_by types fs) off ∙ front_others types fs l (sym (field_there l m t fs off) ∙ h)
 
-front_splits : (types : ℕ → Ground) (fs : Fields) → IsRow (row_by types fs) → Splits fs types (row_by types fs) no_row
+pub front_splits : (types : ℕ → Ground) (fs : Fields) → IsRow (row_by types fs) → Splits fs types (row_by types fs) no_row
 front_splits types fs h = record { fronts = front_fronts types fs h; others = λ l e. front_others types fs l e }
 
-split_same : (types : ℕ → Ground) (fs : Fields) (w v e : Row) → IsRow w → IsRow v → Splits fs types w e → Splits fs types v e → w ≡ v
+pub split_same : (types : ℕ → Ground) (fs : Fields) (w v e : Row) → IsRow w → IsRow v → Splits fs types w e → Splits fs types v e → w ≡ v
 split_same types fs w v e g h a b = one_row w v g h (λ l. go l (look l fs))
   where
     go : (l : Label) → Looked l fs → at l w ≡ at l v

@@ -1,7 +1,6 @@
 pub mod Adding
 pub mod Advancing
 pub mod Assigning
-pub mod Cases
 pub mod CellLists
 pub mod Choosing
 pub mod Copies
@@ -22,5 +21,7 @@ pub mod RowJoins
 pub mod RowMeets
 pub mod SchemeLemmas
 pub mod Settlements
+pub mod Spots
+pub mod Sureness
 pub mod TypeJoins
 pub mod Walking

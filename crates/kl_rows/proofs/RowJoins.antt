@@ -186,9 +186,6 @@ module _ (ns : List Cell) (ls : List Label) (fine : IsFine ns) where
   pub pushed_end : EndsAt pushed (length ns)
   pushed_end = record { node = AnyRow ls; here = get_end ns (OfRow (AnyRow ls)); is_end = tt }
 
-  pub pushed_ends : (i : ℕ) → EndsAt ns i → EndsAt pushed i
-  pushed_ends i h = record { node = h.node; here = get_first ns (OfRow (AnyRow ls)) i (OfRow h.node) h.here; is_end = h.is_end }
-
   ended_in : (i : ℕ) (c : Cell) → sort_of c ≡ a_row → (slice_get ns i ≡ Some c) ⊎ ((i ≡ length ns) × (c ≡ OfRow (AnyRow ls))) → Ended pushed i
   ended_in i c q (inl e) =
       let old = fine.ended i (sort_here ns i c e ∙ ap Some q) in
@@ -433,9 +430,6 @@ module _ (ns : List Cell) (a b : ℕ) (fs gs : Fields) (ls ms : List Label) (fin
       one (found t e) = at_rest ty hs w r l t h e
       one (missing e) = sym (h.others l e) ∙ k.0
 
-  abbrev Both : Fact
-  Both s = Splits fs s.types (s.rows a) (s.rows (length ns)) × Splits gs s.types (s.rows b) (s.rows (length ns)) × Unit {0}
-
   push_step : Goes true ns fresh (Shares fs gs a b) (λ s. Splits fs s.types (s.rows a) (s.rows (length ns)) × (Splits gs s.types (s.rows b) (s.rows (length ns)) × Unit {0}))
   push_step = pushes ns (ls ++ ms) fine _ _
       (λ s h d. (
@@ -483,9 +477,6 @@ told_open ns ns' i b h e q =
 
 pub end_within : (ns : List Cell) (i : ℕ) → EndsAt ns i → i < length ns
 end_within ns i h = slice_get_within ns i (OfRow h.node) h.here
-
-Ends : Bool → List Cell → List Cell → Fields → Fields → ℕ → ℕ → Type 0
-Ends ans ns new fs gs a b = Advances ans ns new (Shares fs gs a b) (λ s. Unit {0})
 
 module _ (ns : List Cell) (a b : ℕ) (fs gs : Fields) (fine : IsFine ns) where
   pub arm_same : (c : Bool) → a ≡ b → AreApart fs gs → c ≡ (is_empty fs && is_empty gs) → Advances c ns ns (Shares fs gs a b) (λ s. Unit {0})
@@ -572,6 +563,3 @@ lacks_none (Front fs r) off = refl
 
 pub no_lacks : (ns : List Cell) (i : ℕ) (n : RowNode) (xs : List Label) → slice_get ns i ≡ Some (OfRow n) → ((ls : List Label) → n ≡ AnyRow ls → ⊥) → xs ≡ xs ++ lacks_at (cell_at ns i)
 no_lacks ns i n xs h off = sym (ap (λ c. xs ++ lacks_at (or_no_row c)) h ∙ ap (λ ys. xs ++ ys) (lacks_none n off) ∙ append-nil xs)
-
-pub some_lacks : (ns : List Cell) (i : ℕ) (n : RowNode) (xs ys ls : List Label) → slice_get ns i ≡ Some (OfRow n) → n ≡ AnyRow ls → ys ≡ xs ++ ls → ys ≡ xs ++ lacks_at (cell_at ns i)
-some_lacks ns i n xs ys ls h e f = f ∙ sym (ap (λ c. xs ++ lacks_at (or_no_row c)) h ∙ ap (λ m. xs ++ lacks_at (OfRow m)) e)

@@ -2,15 +2,14 @@
 use Rattle.std.proofs.Common.{◌≡◌, ℕ, ◌<◌, Bool, true, List, [], length, Option, Some, None, slice_get, inl, inr, refl, sym, ap, ◌∙◌, subst, arith}
 use Rattle.std.specs.List.{AllByRecursion}
 use Rattle.std.proofs.lemmas.Option.{same_Some, slice_get_within}
-use Rattle.kl_type.specs.Ground.{Ground, arrow, IsGround}
 use Rattle.kl_rows.specs.declared.cell.TypeNode.TheVariants.{Var}
 use Rattle.kl_rows.specs.declared.cell.RowNode.TheVariants.{Front}
 use Rattle.kl_rows.specs.declared.cell.Cell.{Cell}
-use Rattle.kl_rows.specs.declared.cell.Cell.TheVariants.{OfType, OfFunction, OfRow, OfKind}
+use Rattle.kl_rows.specs.declared.cell.Cell.TheVariants.{OfType, OfRow}
 use Rattle.kl_rows.specs.declared.schemes.Part.{Part}
 use Rattle.kl_rows.specs.declared.schemes.Scheme.{Scheme}
 use Rattle.kl_rows.specs.Lists.{Fields}
-use Rattle.kl_rows.specs.Places.{Sort, a_type, a_function, a_row, a_kind, sort_of, sort_at, IsType, IsFunction, IsTyped, Parts, IsPlaced, IsTidy, IsFine}
+use Rattle.kl_rows.specs.Places.{Sort, a_type, a_function, a_row, a_kind, sort_at, IsTyped, Parts, IsPlaced, IsTidy, IsFine}
 use Rattle.kl_rows.specs.Solutions.{Assignment, Solves}
 use Rattle.kl_rows.specs.Finite.{IsOrderOf}
 use Rattle.kl_rows.specs.Keeping.{Needs}
@@ -19,10 +18,7 @@ use Rattle.kl_rows.specs.Schemes.{cells_of, IsBasePart, given, Instance, IsSchem
 use Rattle.kl_rows.proofs.Assigning.{parts_on}
 use Rattle.kl_rows.proofs.CellLists.{stands, sort_here, sort_within}
 use Rattle.kl_rows.proofs.Growing.{grown_map, parts_within}
-use Rattle.kl_rows.proofs.Ordered.{Start, started_solvable}
-
-pub fine_source : (cells : List Cell) → IsFine cells → IsSource cells
-fine_source cells fine = record { placed = fine.placed; tidy = fine.tidy }
+use Rattle.kl_rows.proofs.Ordered.{Start, started_solvable, marked_solvable}
 
 pub empty_fine : (cells : List Cell) → cells ≡ [] → IsFine cells
 empty_fine cells e = subst IsFine (sym e) (record { tidy = λ i fs r h. (let z : ⊥ = cc in absurd z); placed = λ i c h. (let z : ⊥ = cc in absurd z); ended = λ i h. (let z : ⊥ = cc in absurd z) })
@@ -89,6 +85,10 @@ module _ (cells : List Cell) (list : List ℕ) (root : ℕ) (kept : List Bool) (
       let st = typed cells root is_root in
       let sorts : sort_at table (number_in numbers root) ≡ sort_at cells root = x.sorts root st.cell needs.root_in st.here ∙ sym (sort_here cells root st.cell st.here) in
       let root_sort : sort_at (cells_of scheme.nodes) scheme.root ≡ sort_at cells root = ap (λ cs. sort_at cs scheme.root) same ∙ ap (sort_at table) r ∙ sorts in
+      let meets : (s : Assignment) → Solves cells s → Instance scheme (given (sort_at cells root) s root) = λ s h.
+      let g = x.down s s (empty_solved none s e) (λ j c k q. h.each j c q) in
+      let w = g.holds in
+      record { by = g.to; solves = subst (λ cs. Solves cs g.to) (sym same) g.solves; root_is = ap (λ q. given q g.to scheme.root) root_sort ∙ ap (given (sort_at cells root) g.to) r ∙ given_copied (λ j. kept_in kept j ≡ true) cells numbers g.to s root is_root needs.root_in w } in
       record {
         good = record {
           placed = subst (λ cs. (i : ℕ) (c : Cell) → slice_get cs i ≡ Some c → IsPlaced cs i c) (sym same) table_fine.placed;
@@ -98,10 +98,8 @@ module _ (cells : List Cell) (list : List ℕ) (root : ℕ) (kept : List Bool) (
           root_in = typed_as cells (cells_of scheme.nodes) root scheme.root root_sort is_root;
         };
         sort = root_sort;
-        to = λ s h.
-            let g = x.down s s (empty_solved none s e) (λ j c k q. h.each j c q) in
-            let w = g.holds in
-            record { by = g.to; solves = subst (λ cs. Solves cs g.to) (sym same) g.solves; root_is = ap (λ q. given q g.to scheme.root) root_sort ∙ ap (given (sort_at cells root) g.to) r ∙ given_copied (λ j. kept_in kept j ≡ true) cells numbers g.to s root is_root needs.root_in w };
+        to = meets;
+        has_one = let w = marked_solvable cells fine ordered.order ordered.is_order ordered.all in (given (sort_at cells root) w.by root, meets w.by w.solves);
         from = λ u h.
             let v = h.by in
             let solved : Solves table v = subst (λ cs. Solves cs v) same h.solves in
@@ -160,17 +158,3 @@ instantiates scheme table old new n kept numbers i e m g h x r =
           let solved : Solves table v = subst (λ cs. Solves cs v) (sym e) q.solves in
           grown_map old new s _ _ (λ w a one. ap (λ o. given o w i) sorts ∙ ap (given (sort_at table scheme.root) w) r ∙ given_copied (λ j. kept_in kept j ≡ true) table numbers w v scheme.root is_root root_in one ∙ ap (λ o. given o v scheme.root) same ∙ q.root_is) (x.down s v k (λ j c d f. solved.each j c f));
     }
-
--- each instance of a type's scheme is a type
-pub type_instance : (scheme : Scheme) (t : Ground) → IsType (cells_of scheme.nodes) scheme.root → Instance scheme t → IsGround t
-type_instance scheme t e i = subst IsGround (ap (λ q. given q i.by scheme.root) (sym e) ∙ i.root_is) (i.by.types_ground scheme.root)
-
--- and each of a function's goes from a type to a type
-pub function_instance : (scheme : Scheme) (t : Ground) → IsFunction (cells_of scheme.nodes) scheme.root → Instance scheme t → (a : Ground) × (b : Ground) × (t ≡ arrow a b) × IsGround a × IsGround b
-function_instance scheme t e i = let st = stands (cells_of scheme.nodes) scheme.root a_function e in go st.cell st.here st.sort
-  where
-    go : (c : Cell) → slice_get (cells_of scheme.nodes) scheme.root ≡ Some c → sort_of c ≡ a_function → (a : Ground) × (b : Ground) × (t ≡ arrow a b) × IsGround a × IsGround b
-    go (OfFunction a b) h q = (i.by.types a, i.by.types b, sym i.root_is ∙ ap (λ o. given o i.by scheme.root) e ∙ i.solves.each scheme.root (OfFunction a b) h, i.by.types_ground a, i.by.types_ground b)
-    go (OfType n) h q = let z : ⊥ = cc in absurd z
-    go (OfRow n) h q = let z : ⊥ = cc in absurd z
-    go (OfKind n) h q = let z : ⊥ = cc in absurd z

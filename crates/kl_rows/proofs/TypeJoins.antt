@@ -170,9 +170,6 @@ no_row_here : (n : TypeNode) (r : RowNode) → OfType n ≡ OfRow r → ⊥
 no_row_here n r h = cc
 
 module _ (ns : List Cell) (low high : ℕ) (m n : TypeNode) (fine : IsFine ns) (order : low < high) (at_low : HasType ns low m) (at_high : HasType ns high n) (root_m : IsTypeRoot m) (root_n : IsTypeRoot n) where
-  linked : List Cell
-  linked = set ns high (OfType (TypeLink low))
-
   abbrev pub joined_cells : List Cell
   joined_cells = set (set ns high (OfType (TypeLink low))) low (OfType (kept m n))
 
@@ -256,7 +253,7 @@ kind_must kind.Bag kind.List h = let e : ⊥ = cc in absurd e
 kind_must kind.List kind.Set h = let e : ⊥ = cc in absurd e
 kind_must kind.List kind.Bag h = let e : ⊥ = cc in absurd e
 
-kind_enough : (a b : Kind) → IsTrue (same_kind a b) → a ≡ b
+pub kind_enough : (a b : Kind) → IsTrue (same_kind a b) → a ≡ b
 kind_enough kind.Set kind.Set h = refl
 kind_enough kind.Bag kind.Bag h = refl
 kind_enough kind.List kind.List h = refl

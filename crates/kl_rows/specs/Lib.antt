@@ -4,6 +4,7 @@ pub mod Finite
 pub mod Joining
 pub mod Keeping
 pub mod Lists
+pub mod Looking
 pub mod Making
 pub mod Places
 pub mod Schemes

@@ -88,12 +88,13 @@ pub record IsScheme (scheme : Scheme) : Type 0 where
   pub bases : AllByRecursion IsBasePart scheme.nodes
   pub root_in : IsTyped (cells_of scheme.nodes) scheme.root
 
--- a scheme, of the root's sort, whose instances are the types that solutions of the cells give the root
+-- a scheme, of the root's sort, whose instances are the types that solutions of the cells give the root; there is one
 pub record Settles (cells : List Cell) (root : ℕ) (scheme : Scheme) : Type 0 where
   pub good : IsScheme scheme
   pub sort : sort_at (cells_of scheme.nodes) scheme.root ≡ sort_at cells root
   pub to : (s : Assignment) → Solves cells s → Instance scheme (given (sort_at cells root) s root)
   pub from : (t : Ground) → Instance scheme t → (s : Assignment) × Solves cells s × (given (sort_at cells root) s root ≡ t)
+  pub has_one : (t : Ground) × Instance scheme t
 
 -- each new solution is an old one and gives the number an instance, and each old one grows by each instance
 pub record Instantiates (old new : List Cell) (scheme : Scheme) (i : ℕ) : Type 0 where

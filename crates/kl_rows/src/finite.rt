@@ -2,14 +2,16 @@
 ghost use Rattle.std.specs.Prelude.{◌≡◌, ◌≢◌, ◌↔◌, ◌<◌, ℕ, IsTrue, IfOk, OnOk, MatchOption, length, not, slice_set};
 ghost use Rattle.kl_rows.specs.Places.{IsFine};
 ghost use Rattle.kl_rows.specs.declared.finite.Mark.TheVariants.{Unseen};
-ghost use Rattle.kl_rows.specs.Finite.{mark_in, is_seen, all_seen, full_if, next_mark, type_mark, row_mark, kind_mark, Marked, MarksOne, Sofar, Settled, IsOrderOf, Solvable};
+ghost use Rattle.kl_rows.specs.Finite.{mark_in, is_seen, all_seen, full_if, next_mark, type_mark, row_mark, kind_mark, Marked, MarksOne, Sofar};
+ghost use Rattle.kl_rows.specs.Finite.{Settled, IsOrderOf, Solvable};
 
 use crate::cell::{Cell, KindNode, RowNode, TypeNode};
+use crate::copying::is_kept;
 use kl_base::{Label, NoMemory};
 use std::alloc::Global;
 
 /// What is known of a cell: nothing yet, or that it has a finite type, row or kind. A bare row has no label.
-#[derive(Clone, Copy, Debug, PartialEq, Eq)]
+#[derive(Clone, Copy)]
 pub enum Mark {
     /// Nothing yet.
     Unseen,
@@ -168,6 +170,98 @@ fn mark_all(cells: &[Cell], marks: &mut Vec<Mark>, order: &mut Vec<usize>) -> Re
     }
 }
 
+// Tries each cell behind its parts, so that each of which something can be told is marked at once. What is on the way is
+// marked as entered. In which order cells are tried matters for the time alone.
+fn mark_deep(
+    alloc: Global,
+    cells: &[Cell],
+    marks: &mut Vec<Mark>,
+    order: &mut Vec<usize>,
+) -> Result<(), NoMemory>
+    requires { Marked cells.now marks.old.items order.old.items }
+    ensures { OnOk result (Marked cells.now marks.new.items order.new.items) }
+{
+    let mut entered = vec![in alloc; false; cells.len()]?;
+    let mut stack = Vec::new(alloc);
+    'cells: for i in 0..cells.len() {
+        stack.push(i)?;
+        empty(cells, &mut entered, &mut stack, marks, order)?;
+    }
+    Ok(())
+}
+
+fn empty(
+    cells: &[Cell],
+    entered: &mut Vec<bool>,
+    stack: &mut Vec<usize>,
+    marks: &mut Vec<Mark>,
+    order: &mut Vec<usize>,
+) -> Result<(), NoMemory>
+    requires { Marked cells.now marks.old.items order.old.items }
+    ensures { OnOk result (Marked cells.now marks.new.items order.new.items) }
+{
+    'stack: for _turn in 0..u64::MAX {
+        match stack.pop() {
+            Some(at) => visit(cells, entered, stack, marks, order, at)?,
+            None => return Ok(()),
+        }
+    }
+    Ok(())
+}
+
+// The first time a cell's parts are laid upon it, and the second time it is tried.
+fn visit(
+    cells: &[Cell],
+    entered: &mut Vec<bool>,
+    stack: &mut Vec<usize>,
+    marks: &mut Vec<Mark>,
+    order: &mut Vec<usize>,
+    at: usize,
+) -> Result<(), NoMemory>
+    requires { Marked cells.now marks.old.items order.old.items }
+    ensures { OnOk result (Marked cells.now marks.new.items order.new.items) }
+{
+    if at >= cells.len() {
+        return Ok(());
+    }
+    if is_kept(entered, at) {
+        let _marked = mark_one(cells, marks, order, at)?;
+        return Ok(());
+    }
+    if at < entered.len() {
+        entered[at] = true;
+    }
+    stack.push(at)?;
+    add_parts(&cells[at], entered, stack)
+}
+
+fn add_parts(cell: &Cell, entered: &[bool], stack: &mut Vec<usize>) -> Result<(), NoMemory> {
+    match cell {
+        Cell::OfType(TypeNode::Rec(a) | TypeNode::Var(a) | TypeNode::TypeLink(a)) => {
+            add_part(*a, entered, stack)
+        }
+        Cell::OfType(TypeNode::Coll(a, b)) | Cell::OfFunction(a, b) => {
+            add_part(*a, entered, stack)?;
+            add_part(*b, entered, stack)
+        }
+        Cell::OfRow(RowNode::Front(fields, rest)) => {
+            'fields: for field in fields.slice() {
+                add_part(field.1, entered, stack)?;
+            }
+            add_part(*rest, entered, stack)
+        }
+        Cell::OfKind(KindNode::KindLink(a)) => add_part(*a, entered, stack),
+        _ => Ok(()),
+    }
+}
+
+fn add_part(at: usize, entered: &[bool], stack: &mut Vec<usize>) -> Result<(), NoMemory> {
+    if !is_kept(entered, at) {
+        stack.push(at)?;
+    }
+    Ok(())
+}
+
 fn all_marked(marks: &[Mark]) -> bool
     ensures { IsTrue result ↔ ((i : ℕ) → i < length marks.now → mark_in marks.now i ≢ Unseen) }
 {
@@ -187,6 +281,7 @@ pub fn order_of(alloc: Global, cells: &[Cell]) -> Result<Option<Vec<usize>>, NoM
 {
     let mut marks = vec![in alloc; Mark::Unseen; cells.len()]?;
     let mut order = Vec::new(alloc);
+    mark_deep(alloc, cells, &mut marks, &mut order)?;
     mark_all(cells, &mut marks, &mut order)?;
     if all_marked(&marks) {
         Ok(Some(order))

@@ -19,6 +19,8 @@ mod find;
 mod finite;
 mod fresh;
 mod keeping;
+mod knowing;
+mod looking;
 mod meet;
 mod merging;
 mod schemes;
@@ -26,5 +28,6 @@ mod settling;
 mod unifier;
 
 pub use cell::{Cell, KindNode, RowNode, Scalar, TypeNode};
+pub use looking::Spot;
 pub use schemes::{Node, Nodes, Part, Scheme};
 pub use unifier::Unifier;

@@ -8,7 +8,8 @@ ghost use Rattle.kl_rows.specs.declared.cell.RowNode.TheVariants.{AnyRow, Front}
 ghost use Rattle.kl_rows.specs.Places.{IsFine, IsType, IsKind, IsRowAt, IsTidy, AreTypes, EndsAt};
 ghost use Rattle.kl_rows.specs.Walking.{TypeRoot, KindRoot};
 ghost use Rattle.kl_rows.specs.Steps.{Advances, Shares};
-ghost use Rattle.kl_rows.specs.Joining.{AreApart, cell_at, is_empty, may_take, is_open, lacks_at, kept, kept_kind, compared, same_kinds, Joins, Meets, MeetsRows};
+ghost use Rattle.kl_rows.specs.Joining.{AreApart, cell_at, is_empty, may_take, is_open, lacks_at, kept, kept_kind, compared, same_kinds, Joins};
+ghost use Rattle.kl_rows.specs.Joining.{Meets, MeetsRows};
 
 use crate::cell::{Cell, KindNode, RowNode, TypeNode};
 use crate::fields::{add_both, add_labels, look, only};
@@ -18,7 +19,7 @@ use kl_value::Kind;
 use std::alloc::Global;
 
 /// What two cells that stand for one type ask of others.
-#[derive(Clone, Copy, Debug)]
+#[derive(Clone, Copy)]
 pub enum Task {
     Nothing,
     Rows(usize, usize),
@@ -285,7 +286,8 @@ fn shared_rest(
     requires on_first { EndsAt cells.old.items first }
     requires on_second { EndsAt cells.old.items second }
     ensures place { IfOk result (λ rest. rest ≡ length cells.old.items) }
-    ensures added { OnOk result (cells.new.items ≡ cells.old.items ++ OfRow (AnyRow (lacks_at (cell_at cells.old.items first) ++ lacks_at (cell_at cells.old.items second))) ∷ []) }
+    ensures added { OnOk result (cells.new.items ≡ cells.old.items
+        ++ OfRow (AnyRow (lacks_at (cell_at cells.old.items first) ++ lacks_at (cell_at cells.old.items second))) ∷ []) }
 {
     let mut lacks = Vec::new(alloc);
     add_lacks(cells, first, &mut lacks)?;

@@ -13,7 +13,7 @@ use std::alloc::Global;
 
 /// What is said of a new number. The numbers in it are those that the unifier answered, and in a
 /// scheme the places of parts, each of the sort that is needed there.
-#[derive(Debug, Drop)]
+#[derive(Drop)]
 pub enum Node {
     /// This type without variables.
     Base(Ty),
@@ -34,7 +34,7 @@ pub enum Node {
 }
 
 /// A part of a scheme.
-#[derive(Debug, Drop)]
+#[derive(Drop)]
 pub enum Part {
     /// What the node says, with places of parts before this one.
     Is(Node),
@@ -50,7 +50,7 @@ pub enum Part {
 pub type Nodes = Seq<Part>;
 
 /// A type or a function with variables, as a table in which parts are shared. The root is the place of the whole.
-#[derive(Debug, Drop)]
+#[derive(Drop)]
 pub struct Scheme {
     /// The parts, each before the wholes that it is part of.
     pub nodes: Nodes,

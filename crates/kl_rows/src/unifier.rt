@@ -1,6 +1,7 @@
 //! The public calls.
 ghost use Rattle.std.specs.Prelude.{◌≡◌, ℕ, [], IfOk, MatchOption};
-ghost use Rattle.kl_rows.specs.Places.{IsFine, IsTyped, IsRowAt, sort_at};
+ghost use Rattle.kl_rows.specs.Places.{IsFine, IsType, IsTyped, IsRowAt, sort_at};
+ghost use Rattle.kl_rows.specs.Looking.{KnownAs, KnowsThere, Spots};
 ghost use Rattle.kl_rows.specs.Steps.{Advances};
 ghost use Rattle.kl_rows.specs.Finite.{Solvable};
 ghost use Rattle.kl_rows.specs.Schemes.{IsScheme, Settles, Instantiates};
@@ -14,11 +15,14 @@ use crate::cell::{Cell, KindNode, RowNode, TypeNode};
 use crate::fields::add_labels;
 use crate::finite::solvable;
 use crate::fresh::{add, make_type};
+use crate::knowing::knows_there;
+use crate::looking::{Spot, node, spot_of};
 use crate::meet::{meet_kinds, meet_rows};
 use crate::merging::{merge, merge_all, merge_functions};
 use crate::schemes::{Node, Scheme};
 use crate::settling::{instantiate, settled};
 use kl_base::{Label, NoMemory, Seq};
+use kl_type::Ty;
 use std::alloc::Global;
 
 /// Types, functions, rows and kinds by numbers, and what is said of them.
@@ -120,6 +124,33 @@ impl Unifier {
         Ok(at as u64)
     }
 
+    /// What is known of a type.
+    pub fn node(&self, number: u64) -> TypeNode
+        requires fine { IsFine self.now.cells.items }
+        requires there { IsType self.now.cells.items number }
+        ensures { KnownAs self.now.cells.items number result }
+    {
+        node(&self.cells, number as usize)
+    }
+
+    /// Whether the number is a type's that is known to be this one. It takes a step for each part of the type, and
+    /// finds what `make` made of it.
+    pub fn knows(&self, number: u64, t: &Ty) -> bool
+        requires { IsFine self.now.cells.items }
+        ensures { KnowsThere result self.now.cells.items number t.now }
+    {
+        knows_there(&self.cells, number as usize, t)
+    }
+
+    /// Where a row has a label, as far as the row is known.
+    pub fn spot(&self, row: u64, label: &Label) -> Spot
+        requires fine { IsFine self.now.cells.items }
+        requires there { IsRowAt self.now.cells.items row }
+        ensures { Spots result self.now.cells.items row label.now }
+    {
+        spot_of(&self.cells, row as usize, label)
+    }
+
     /// What is said of a type or of a function, as a scheme: its instances are the types that the number can have.
     ///
     /// # Errors
@@ -136,8 +167,8 @@ impl Unifier {
         }
     }
 
-    /// The same, or None exactly where nothing meets what was said, as only infinite types would. It looks once at all
-    /// numbers, so it is asked once for each declaration, after the merges.
+    /// The same, or None exactly where nothing meets what was said, as only infinite types would. Merges leave open whether
+    /// something does. It looks once at all numbers, so it is asked once for each declaration, after the merges.
     ///
     /// # Errors
     /// Want of memory.
@@ -181,7 +212,8 @@ impl Unifier {
     pub fn merge(&mut self, first: u64, second: u64) -> Result<bool, NoMemory>
         requires fine { IsFine self.old.cells.items }
         requires sorts { HasSort self.old.cells.items first second }
-        ensures { IfOk result (λ holds. Advances holds self.old.cells.items self.new.cells.items (Same (sort_at self.old.cells.items first) first second) (λ s. Unit {0})) }
+        ensures { IfOk result (λ holds. Advances holds self.old.cells.items self.new.cells.items (Same (sort_at self.old.cells.items first) first second)
+            (λ s. Unit {0})) }
     {
         let first = first as usize;
         let second = second as usize;

@@ -4,16 +4,16 @@ use Rattle.std.specs.Option.{option_map}
 use Rattle.kl_base.specs.declared.memory.NoMemory.{NoMemory}
 use Rattle.kl_value.specs.declared.value.Kind.{Kind}
 use Rattle.kl_syntax.specs.declared.tree.Branch.{Branch, out-Branch, roll-Branch, the_lemmas as branch_lemmas}
-use Rattle.kl_syntax.specs.declared.tree.Expr.{Expr, the_lemmas}
+use Rattle.kl_syntax.specs.declared.tree.Expr.{Expr}
 use Rattle.kl_syntax.specs.declared.tree.Expr.TheVariants as expr
 use Rattle.kl_syntax.specs.declared.tree.Op.{Op}
-use Rattle.kl_syntax.specs.declared.tree.Pattern.{Pattern, the_lemmas as pattern_lemmas}
+use Rattle.kl_syntax.specs.declared.tree.Pattern.{Pattern}
 use Rattle.kl_syntax.specs.declared.tree.Pattern.TheVariants as code
-use Rattle.kl_syntax.specs.declared.tree.Qual.{Qual, the_lemmas as qual_lemmas}
+use Rattle.kl_syntax.specs.declared.tree.Qual.{Qual}
 use Rattle.kl_syntax.specs.declared.tree.Qual.TheVariants as quals
 use Rattle.kl_syntax.specs.declared.tree.Word.{Word}
-use Rattle.kl_syntax.specs.Syntax.{Pat, draw, test, Pats, no_pats, pats, shape, Exp, call, fields, coll, comp, choice, bind, select, chain, Exps, no_exps, exps, no_flds, flds, Quals, no_quals, Branches, no_branches, branch, Steps, no_steps, step}
-use Rattle.kl_syntax.specs.View.{view, exps_view, branches_view, exps_of, fields_view, field_view, flds_of, quals_view, qual_view, quals_of, steps_view, steps_of, step_view, branch_view, branches_of, rest_of, pattern_view, patterns_view, pats_of, pattern_pair}
+use Rattle.kl_syntax.specs.Syntax.{Pat, Pats, no_pats, pats, shape, Exp, call, fields, coll, comp, choice, bind, select, chain, Exps, no_exps, exps, no_flds, flds, Quals, no_quals, Branches, no_branches, branch, Steps, no_steps, step}
+use Rattle.kl_syntax.specs.View.{view, exps_view, exps_of, fields_view, field_view, flds_of, quals_view, qual_view, quals_of, steps_view, steps_of, step_view, branch_view, branches_of, rest_of, pattern_view, patterns_view, pats_of, pattern_pair}
 use Rattle.kl_scope.specs.declared.walk.Walk.{Walk}
 use Rattle.kl_scope.specs.declared.names.Sense.{Sense}
 use Rattle.kl_scope.specs.Senses.{Scope, called}

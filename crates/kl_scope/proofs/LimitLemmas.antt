@@ -1,5 +1,5 @@
 -- The sizes of the declarations, one after another, against the limits.
-use Rattle.std.proofs.Common.{◌≡◌, ℕ, suc, ◌+◌, ◌<◌, ◌≤◌, min, List, [], ◌∷◌, ◌++◌, length, get_or, drop, All, Option, Some, None, Result, Ok, Err, IfOk, refl, sym, ap, subst, ◌∙◌, arith, append_assoc, length-append}
+use Rattle.std.proofs.Common.{◌≡◌, ℕ, ◌+◌, ◌<◌, ◌≤◌, min, List, [], ◌∷◌, ◌++◌, length, get_or, drop, All, Option, Some, None, Result, Ok, Err, IfOk, refl, sym, ap, subst, ◌∙◌, arith, append_assoc, length-append}
 use Rattle.std.proofs.lemmas.List.{drop_all}
 use Rattle.std.proofs.lemmas.List.Elements.{All-push}
 use Rattle.kl_base.specs.declared.memory.NoMemory.{NoMemory}
@@ -12,7 +12,7 @@ use Rattle.kl_scope.specs.declared.counting.SizeBreach.{SizeBreach}
 use Rattle.kl_scope.specs.declared.counting.SizeBreach.TheVariants.{Nodes, Depth}
 use Rattle.kl_scope.specs.declared.terms.Size.{Size}
 use Rattle.kl_scope.specs.Caps.{most, capped, decl_size, Judges}
-use Rattle.kl_scope.specs.Limits.{HasManyNodes, IsDeep, IsWithin, IsFirstPast, Tells}
+use Rattle.kl_scope.specs.Limits.{HasManyNodes, IsDeep, IsWithin, Tells}
 use Rattle.kl_scope.specs.Sizes.{sized, declared}
 use Rattle.kl_scope.proofs.SizeLemmas.{size_is}
 use Rattle.kl_base.proofs.Places.{drop_at}
@@ -80,9 +80,6 @@ module _ (known : List Size) (i : ℕ) (defs : List Decl) (last : Expr) (d : Dec
         within = All-push IsWithin known s g.within (within c s h j);
         rest = all_is ∙ sym (append_assoc known (s ∷ []) (declared (decls_of (drop (i + 1) defs)) (view last) (known ++ s ∷ [])));
       })
-
-pub going_first : (defs : List Decl) (last : Expr) → Going [] 0 defs last
-going_first defs last = record { number = refl; within = λ k d lt. absurd (omega arith); rest = refl }
 
 pub going_last : (known : List Size) (i : ℕ) (defs : List Decl) (last : Expr) (o : Option SizeBreach) (c : Size) → drop i defs ≡ [] → Going known i defs last → c ≡ capped (sized (view last) known) → Judges o i c → Tells o (declared (decls_of defs) (view last) [])
 going_last known i defs last o c end g h j =

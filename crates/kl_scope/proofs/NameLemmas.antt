@@ -5,7 +5,7 @@ use Rattle.std.proofs.lemmas.List.{length-map, length-reverse, reverse-append, d
 use Rattle.std.proofs.lemmas.Map.Text.{is_eq-slice_cmp}
 use Rattle.std.proofs.lemmas.Slice.Eq.{bytes_eq-Decides}
 use Rattle.std.specs.BTreeMap.{BTreeMap, get, Updates}
-use Rattle.std.specs.Option.{option_map, option_or, option_copied, is_some, IsSome}
+use Rattle.std.specs.Option.{option_map, option_or, option_copied, is_some}
 use Rattle.std.specs.Result.{is_err, OnOk}
 use Rattle.kl_base.specs.Fields.{bytes_cmp}
 use Rattle.kl_syntax.specs.declared.tree.Meaning.TheVariants.{Variable, Definition, Source}
@@ -67,9 +67,6 @@ ok_of (Ok x) h p = p
 ok_of (Err e) h p = absurd cc
 
 -- ---- fewer variables
-
-pub left_first : (s : Scope) → s ≡ record s { variables = drop 0 s.variables }
-left_first s = refl
 
 pub left_more : (s t u : Scope) (k : ℕ) → t ≡ record s { variables = drop k s.variables } → u ≡ record t { variables = drop 1 t.variables } → u ≡ record s { variables = drop (k + 1) s.variables }
 left_more s t u k e f =
@@ -151,10 +148,6 @@ source_step b n (Some i) = refl
 
 pub source_more : (ys : List Name) (y x : Name) → source_in (ys ++ y ∷ []) x ≡ option_or (source_in ys x) (if bytes_eq y x then Some (sense (Source (length ys)) 0) else None)
 source_more ys y x = ap (option_map (λ i. sense (Source i) 0)) (place_more ys y x) ∙ source_step (bytes_eq y x) (length ys) (place_in ys x)
-
-pub found_stays : (o w : Option Sense) (b : Bool) → IsSome o → o ≡ option_or o (if b then w else None)
-found_stays (Some d) w b h = refl
-found_stays None w b h = absurd cc
 
 added_step : (t : Bool) (d : Sense) (o : Option Sense) → (t ≡ true → o ≡ None) → cond t (Some d) o ≡ option_or o (if t then Some d else None)
 added_step true d o none = rw (none refl) refl

@@ -1,5 +1,5 @@
 -- Sizes of the code's own trees, a form each.
-use Rattle.std.proofs.Common.{◌≡◌, ℕ, suc, ◌+◌, ◌-◌, ◌<◌, ◌≤◌, List, [], ◌∷◌, map, drop, length, get_or, Bool, Option, Some, None, refl, sym, ap, ◌∙◌, rules, arith}
+use Rattle.std.proofs.Common.{◌≡◌, ℕ, suc, ◌+◌, ◌-◌, ◌<◌, ◌≤◌, List, ◌∷◌, map, drop, length, get_or, Option, refl, sym, ap, ◌∙◌, rules, arith}
 use Rattle.std.proofs.Math.Seq.{drop-cons}
 use Rattle.std.proofs.lemmas.List.{drop_all}
 use Rattle.kl_value.specs.declared.value.Kind.{Kind}
@@ -14,14 +14,11 @@ use Rattle.kl_syntax.specs.declared.tree.Qual.{Qual, the_lemmas as qual_lemmas}
 use Rattle.kl_syntax.specs.declared.tree.Qual.TheVariants as quals
 use Rattle.kl_syntax.specs.declared.tree.Word.{Word}
 use Rattle.kl_syntax.specs.Syntax.{Quals, Branches}
-use Rattle.kl_syntax.specs.View.{view, qual_view, branch_view, branches_view, branches_of, rest_of, exps_view, fields_view, quals_view, steps_view, pattern_view, patterns_view}
+use Rattle.kl_syntax.specs.View.{view, qual_view, branch_view, branches_view, branches_of, exps_view, fields_view, quals_view, steps_view, pattern_view, patterns_view}
 use Rattle.kl_scope.specs.declared.terms.Size.{Size}
 use Rattle.kl_scope.specs.Caps.{capped}
 use Rattle.kl_scope.specs.Sizes.{beside, node, leaf, no_parts, named, callee, matched, matched_fields, sized, sized_all, sized_fields, qualified, sized_branches, chained, third, projected}
 use Rattle.kl_scope.proofs.SizeLemmas.{alike, no_parts_is, beside_alike, chained_alike, projected_alike, up_node, up_beside, up_matched}
-
-rec_form : (ps : List (Word × Pattern)) (dots : Bool) (t a : Size) (ds : List Size) → matched (pattern_view (code.Rec ps dots)) t a ds ≡ matched_fields (patterns_view ps) t a ds
-rec_form ps dots t a ds = search (rules, pattern_lemmas)
 
 pub call_form : (f : Word) (es : List Expr) (ds : List Size) → sized (view (expr.Call f es)) ds ≡ node (beside (sized_all (exps_view es) ds) (callee f.means ds))
 call_form f es ds = search (rules, the_lemmas)

@@ -1,5 +1,5 @@
 -- Sizes as the code counts them are those of the terms, as far as 32 bits go.
-use Rattle.std.proofs.Common.{◌≡◌, ℕ, suc, ◌+◌, ◌<◌, ◌≤◌, max, min, List, [], ◌∷◌, refl, sym, ap, ◌∙◌, arith}
+use Rattle.std.proofs.Common.{◌≡◌, ℕ, max, min, List, [], ◌∷◌, refl, ap, ◌∙◌, arith}
 use Rattle.kl_syntax.specs.declared.tree.Word.{Word}
 use Rattle.kl_syntax.specs.Syntax.{Pat, catch, any, same, is, shape, variant, Pats, no_pats, pats, Quals, no_quals, draw, test, Steps, no_steps, step}
 use Rattle.kl_scope.specs.declared.terms.Size.{Size}
@@ -29,9 +29,6 @@ twice_capped a = size_is (capped (capped a)) (capped a) (omega arith) (omega ari
 
 pub alike : (p a : Size) → p ≡ capped a → capped p ≡ capped a
 alike p a h = ap capped h ∙ twice_capped a
-
-pub capped_is : (p a : Size) → p ≡ capped a → p ≡ capped p
-capped_is p a h = h ∙ sym (alike p a h)
 
 pub no_parts_is : no_parts ≡ capped no_parts
 unfolding capped

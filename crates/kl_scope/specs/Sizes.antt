@@ -1,5 +1,5 @@
 -- How large the core terms are that the declarations of a program are translated to.
-use Rattle.std.specs.Prelude.{ℕ, suc, ◌+◌, max, min, List, [], ◌∷◌, ◌++◌, get_or}
+use Rattle.std.specs.Prelude.{suc, ◌+◌, max, List, [], ◌∷◌, ◌++◌, get_or}
 use Rattle.kl_syntax.specs.declared.tree.Meaning.{Meaning}
 use Rattle.kl_syntax.specs.declared.tree.Meaning.TheVariants.{Definition}
 use Rattle.kl_syntax.specs.declared.tree.Op.{Op}

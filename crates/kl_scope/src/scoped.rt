@@ -4,14 +4,14 @@ ghost use Rattle.kl_scope.specs.Breaches.{Resolves, IsRefusal, is_marked};
 
 use crate::refusal::ScopeError;
 use crate::walk::{Walk, walk_through};
-use kl_base::{Label, Seq};
+use kl_base::{Box, Label, Seq};
 use kl_syntax::Program;
 use std::alloc::Global;
 
 /// A program in scope, each of whose names carries what it means.
 #[derive(Drop)]
 pub struct Scoped {
-    program: Program,
+    program: Box<Program>,
     sources: Seq<Label>,
     mentioned: Vec<bool>,
 }
@@ -21,7 +21,7 @@ impl Scoped {
     pub fn program(&self) -> &Program
         ensures { result.now ≡ self.now.program }
     {
-        &self.program
+        self.program.get()
     }
 
     /// The names of the sources, in their order. Takes no memory.
@@ -53,19 +53,28 @@ pub fn resolve(alloc: Global, program: Program, sources: &[Label]) -> Result<Sco
     ensures resolved { IfOk result (Resolves program sources.now) }
     ensures refused { IfErr result (IsRefusal program sources.now) }
 {
-    let mut program = program;
-    let Walk {
-        names,
-        findings,
-        ..
-    } = walk_through(alloc, &mut program, sources)?;
-    let (first, mentioned) = findings.into_parts();
+    let mut program = Box::new(alloc, program)?;
+    let (sources, mentioned) = names_found(alloc, program.get_mut(), sources)?;
+    Ok(Scoped {
+        program,
+        sources,
+        mentioned,
+    })
+}
+
+// Writes into the names what they mean, and answers the sources and which of them are named.
+fn names_found(
+    alloc: Global,
+    program: &mut Program,
+    sources: &[Label],
+) -> Result<(Seq<Label>, Vec<bool>), ScopeError>
+    ensures resolved { IfOk result (λ r. Resolves program.old sources.now (record { program = program.new; sources = r.0; mentioned = r.1 })) }
+    ensures refused { IfErr result (IsRefusal program.old sources.now) }
+{
+    let walk = walk_through(alloc, program, sources)?;
+    let (first, mentioned) = walk.findings.into_parts();
     match first {
-        None => Ok(Scoped {
-            program,
-            sources: names.into_sources(),
-            mentioned,
-        }),
+        None => Ok((walk.names.into_sources(), mentioned)),
         Some(first) => Err(first),
     }
 }

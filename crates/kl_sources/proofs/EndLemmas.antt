@@ -189,9 +189,6 @@ module _ (ks : List DriverKind) (marks : ℕ → Bool) (ss : List Source) where
         silent None e h = e
         silent (Some f) e h = absurd cc
 
-    first_place : (s : Source) (w : Stored) → FirstWithout ks marks 0 ss s w → FirstAt ks marks 0 ss s w
-    first_place s w h = first_at ks marks 0 ss s w h
-
     -- a source that is not told, behind ones that are attached
     no_verdict : (n : ℕ) → AllTyped ks marks ss n → (s : Source) → slice_get ss n ≡ Some s → marks n ≡ true → contents ks s ≡ None → NoVerdict ks marks ss
     no_verdict n typed s is mk none = record {

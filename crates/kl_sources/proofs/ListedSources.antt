@@ -1,5 +1,5 @@
 -- What stands in the list of a session, by the sources that it was made of.
-use Rattle.std.proofs.Common.{◌≡◌, ℕ, zero, suc, ◌+◌, Bool, true, false, List, [], ◌∷◌, Option, Some, None, refl, sym, ap, ◌∙◌, arith, slice_get, add-zero}
+use Rattle.std.proofs.Common.{◌≡◌, ℕ, zero, suc, ◌+◌, Bool, true, false, List, [], ◌∷◌, Some, None, refl, sym, ap, ◌∙◌, arith, slice_get, add-zero}
 use Rattle.std.proofs.lemmas.Option.{same_Some}
 use Rattle.kl_ask.specs.declared.session.Attached.{Attached}
 use Rattle.kl_sources.specs.Attaching.{list_of, listed}

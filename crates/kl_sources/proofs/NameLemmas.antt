@@ -1,11 +1,8 @@
 -- Names of sources.
-use Rattle.std.proofs.Common.{◌≡◌, ◌≢◌, ◌<◌, ℕ, zero, suc, Bool, true, false, ◌||◌, List, [], ◌∷◌, map, length, get_or, Some, All, refl, sym, ap, subst, ◌∙◌, arith, slice_get}
+use Rattle.std.proofs.Common.{◌≡◌, ◌≢◌, ℕ, zero, suc, true, false, List, [], ◌∷◌, Some, refl, sym, ap, subst, ◌∙◌, slice_get}
 use Rattle.std.proofs.lemmas.Slice.Eq.{bytes_eq-Decides}
-use Rattle.std.specs.List.{AllByRecursion, Contains, IsDistinct, list_any}
-use Rattle.std.proofs.Math.Bool.{or-true}
+use Rattle.std.specs.List.{AllByRecursion, IsDistinct}
 use Rattle.std.proofs.lemmas.Option.{same_Some}
-use Rattle.kl_prim.specs.declared.rows.PrimRow.{PrimRow}
-use Rattle.kl_prim.specs.Table.{entry_of, rows}
 use Rattle.kl_outcome.specs.Outcome.{Name}
 use Rattle.kl_ask.proofs.Names.{not_same}
 use Rattle.kl_sources.specs.declared.source.Source.{Source}

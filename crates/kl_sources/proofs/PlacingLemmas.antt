@@ -12,7 +12,6 @@ use Rattle.kl_base.proofs.Each.{all_map}
 use Rattle.kl_base.specs.Fields.{bytes_cmp}
 use Rattle.kl_type.specs.Ground.{IsProper, ground_of}
 use Rattle.kl_type.specs.declared.Ty.{Ty}
-use Rattle.kl_prim.specs.Table.{rows}
 use Rattle.kl_outcome.specs.Outcome.{Name}
 use Rattle.kl_ask.specs.Driver.{DriverKind, State, Suits}
 use Rattle.kl_catalogue.specs.declared.reading.Entry.{Entry}

@@ -3,10 +3,6 @@ use Rattle.std.proofs.Common.{◌≡◌, ◌<◌, ℕ, zero, suc, ◌+◌, Bool,
 use Rattle.std.specs.List.{AllByRecursion}
 use Rattle.std.proofs.lemmas.Option.{same_Some}
 use Rattle.kl_value.proofs.CanonLemmas.{canonical-nil}
-use Rattle.kl_value.specs.Canon.{canonical}
-use Rattle.kl_value.specs.Views.{collection}
-use Rattle.kl_value.specs.declared.Kind.{Kind}
-use Rattle.kl_value.specs.declared.Kind.TheVariants as kind
 use Rattle.kl_value.specs.declared.Value.{Value}
 use Rattle.kl_type.specs.Ground.{IsProper, ground_of}
 use Rattle.kl_type.specs.declared.Ty.{Ty}

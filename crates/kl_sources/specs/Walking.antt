@@ -1,5 +1,5 @@
--- Attaching sources one by one: what stands once the first of them are attached, and at a refusal. The laws of the
--- whole call follow.
+-- Attaching sources one by one: what stands once the first of them are attached, and at a refusal. No public contract
+-- cites this; the laws of the whole call follow.
 use Rattle.std.specs.Prelude.{◌≡◌, ◌⊎◌, ℕ, ◌<◌, Bool, true, false, List, length, Some, None, Result, Ok, Err, IsOk, slice_get, ⊤}
 use Rattle.kl_outcome.specs.Outcome.{Name}
 use Rattle.kl_ask.specs.Driver.{DriverKind, State, Stored, KeepsState, Attaches}

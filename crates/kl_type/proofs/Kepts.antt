@@ -13,7 +13,7 @@ use Rattle.kl_type.specs.declared.ground.Ty.TheVariants as ty
 use Rattle.kl_lex.specs.Brackets.{opener, closer}
 use Rattle.kl_type.specs.Descent as d
 use Rattle.kl_type.specs.Descent.{a_symbol, a_base}
-use Rattle.kl_type.proofs.FieldGoods.{FieldList, keeps_field, keeps_fields, takes_comma}
+use Rattle.kl_type.proofs.FieldGoods.{FieldList, keeps_fields, takes_comma}
 use Rattle.kl_phrase.proofs.Theory.{no}
 
 module _ (Q : Why → List Placed → Type 0) (N M : ℕ) where

@@ -9,7 +9,6 @@ use Rattle.kl_lex.specs.contracts.token.Sym.{the_type}
 use Rattle.kl_lex.specs.declared.token.Tok.{Tok}
 use Rattle.kl_lex.specs.declared.token.Tok.TheVariants as tok
 use Rattle.kl_lex.specs.declared.token.Placed.{Placed}
-use Rattle.kl_phrase.specs.Depth.{opens}
 use Rattle.kl_phrase.specs.Readers.{Reader, bad, deep, fail, one, nothing, both, behind, before, chain, made, pick, opening, only}
 use Rattle.kl_value.specs.declared.Kind.{Kind}
 use Rattle.kl_value.specs.declared.Kind.TheVariants as kind

@@ -1,5 +1,5 @@
 -- Which bytes are which type, and where those that are none go wrong.
-use Rattle.std.specs.Prelude.{◌≡◌, ℕ, List, Result, Ok, Err}
+use Rattle.std.specs.Prelude.{ℕ, List, Result, Ok, Err}
 use Rattle.kl_lex.specs.declared.token.Placed.{Placed}
 use Rattle.kl_type.specs.declared.ground.Ty.{Ty}
 use Rattle.kl_type.specs.declared.reading.TypeError.{TypeError}

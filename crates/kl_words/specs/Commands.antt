@@ -120,6 +120,6 @@ KeepsLimits other = ⊤
 abbrev pub AnswersWanted : {T : Type 0} → Option T → Result T WordsError → Type 0
 AnswersWanted wanted result = MatchResult result (λ x. wanted ≡ Some x) (λ e. e ≡ Usage → wanted ≡ None)
 
--- no refusal but for want of memory
+-- no refusal but for want of memory. No public contract cites this.
 abbrev pub OnlyWants : {T : Type 0} → Result T WordsError → Type 0
 OnlyWants result = IfErr result (λ e. e ≡ NoMemory)

@@ -1,8 +1,8 @@
-use Rattle.std.proofs.Common.{◌≡◌, length, Some, true, false, refl, sym, ap, ◌∙◌, rules, arith}
+use Rattle.std.proofs.Common.{◌≡◌, length, true, false, refl, sym, ap, rules, arith}
 use Rattle.kl_core.specs.declared.term.Term.{the_lemmas}
 use Rattle.kl_outcome.specs.Outcome.{done, over, fine, overflow, flow}
-use Rattle.kl_eval.proofs.Forms.{body_fine, body_past, body_starts, call_arity, call_both, call_former_stop, call_latter_stop, call_only, call_only_stop, each_ends, each_goes, each_lost, each_none, each_over, each_refused, each_sense, each_starts, evals_copied, evals_lent, evals_part, fields_ends, fields_goes, fields_lost, fields_sense, fields_starts, fields_stops, first_there, fits_both, fits_only, found, items_done, look_if, look_if_stop, loop_lost, loop_refused, missing, no_branch, over_gives, second_there, sense_body, sense_bound, sense_branch, sense_first, sense_former, sense_inj, sense_items, sense_latter, sense_make, sense_only, sense_other_at, sense_picked, sense_prim, sense_proj, sense_rec, sense_second, sense_source, sense_subject, sense_test, sense_var, source_ready, source_there, source_whole, there_field, truth_there, value_branch, value_case_stop, value_if, value_if_stop, value_inj, value_inj_stop, value_let, value_let_stop, value_loop, value_make, value_other_at, value_prim, value_proj, value_proj_stop, value_rec, value_rec_stop, value_source, value_source_stop, value_union, value_union_first, value_union_lost, value_union_over, value_var, variant_there}
-use Rattle.kl_eval.proofs.Emitting.{body_sense_whole, body_added, body_stops, into_if, into_if_stop, into_none, into_one, into_one_stop, look_prim, sense_of, whole_there, whole_picked, whole_bound, into_let, into_let_stop}
+use Rattle.kl_eval.proofs.Forms.{body_fine, body_past, body_starts, call_arity, call_both, call_former_stop, call_latter_stop, call_only, call_only_stop, each_ends, each_goes, each_lost, each_none, each_over, each_refused, each_sense, each_starts, evals_copied, evals_lent, evals_part, fields_ends, fields_goes, fields_lost, fields_sense, fields_starts, fields_stops, first_there, fits_both, fits_only, found, items_done, loop_lost, loop_refused, missing, no_branch, over_gives, sense_body, sense_bound, sense_branch, sense_first, sense_former, sense_inj, sense_items, sense_latter, sense_make, sense_only, sense_other_at, sense_picked, sense_prim, sense_proj, sense_rec, sense_second, sense_source, sense_subject, sense_test, sense_var, source_ready, source_there, source_whole, there_field, value_branch, value_case_stop, value_tested, value_tested_stop, test_told, second_told, value_join, look_tested, look_tested_stop, value_inj, value_inj_stop, value_let, value_let_stop, value_loop, value_make, value_other_at, value_prim, value_proj, value_proj_stop, value_rec, value_rec_stop, value_source, value_source_stop, value_union_first, value_var, variant_there}
+use Rattle.kl_eval.proofs.Emitting.{body_sense_whole, body_added, body_stops, into_tested, into_tested_stop, into_none, into_one, into_one_stop, look_prim, sense_of, whole_there, whole_picked, whole_bound, into_let, into_let_stop}
 use Rattle.kl_ask.proofs.Worlds.{moved_none}
 use Rattle.kl_eval.proofs.evaluator.+eval.Goals as goal
 
@@ -78,18 +78,6 @@ value-returns-in-Make g t c = value_make _ _ _ _ _ c.in-Make.is c.slice-in-Make.
 pub value-value-requires-in-Union : goal.value-value-requires-in-Union
 value-value-requires-in-Union g t c κs within = (search (rules, the_lemmas, arith), (within, sense_first _ _ _ _ _ c.in-Union.is c.get-in-Union.ensures (g.T.Seen.world c.args.tables.now) c.requires))
 
-pub value-value-requires-in-Ok-value : goal.value-value-requires-in-Ok-value
-value-value-requires-in-Ok-value g t c κs within = (search (rules, the_lemmas, arith), (within, sense_second _ _ _ _ _ c.in-Union.is c.get-in-Union.ensures _ _ _ c.get-in-Ok-value.ensures c.in-Ok-value.ensures.moved c.requires))
-
-pub value-append-requires : goal.value-append-requires
-value-append-requires g t c = second_there _ _ _ _ _ c.in-Union.is c.get-in-Union.ensures _ _ _ _ _ c.get-in-Ok-value.ensures c.in-Ok-value.ensures.moved c.requires c.in-Ok-value-2.ensures
-
-pub value-returns-in-Ok-append : goal.value-returns-in-Ok-append
-value-returns-in-Ok-append g t c = value_union _ _ _ _ _ c.in-Union.is c.get-in-Union.ensures _ _ _ _ _ _ _ _ _ _ c.get-in-Ok-value.ensures c.into_parts-kind.ensures c.in-Ok-append.ensures c.in-Ok-value.ensures c.in-Ok-value-2.ensures c.unite.ensures
-
-pub value-returns-in-Ok-value : goal.value-returns-in-Ok-value
-value-returns-in-Ok-value g t c = value_union_over _ _ _ _ _ c.in-Union.is c.get-in-Union.ensures _ _ _ _ _ _ _ _ _ _ c.get-in-Ok-value.ensures c.into_parts-kind.ensures c.behind.ensures c.in-Ok-value.ensures c.in-Err-value-2.ensures c.gather-in-Err-value-2.ensures
-
 pub value-returns-in-Union : goal.value-returns-in-Union
 value-returns-in-Union g t c = value_union_first _ _ _ _ _ c.in-Union.is c.get-in-Union.ensures _ _ _ c.in-Err-value.ensures
 
@@ -108,47 +96,20 @@ value-returns-in-Some-lent g t c = value_loop _ _ _ _ _ _ _ c.in-Ext.is c.get-in
 pub value-value-requires-in-None-lent : goal.value-value-requires-in-None-lent
 value-value-requires-in-None-lent g t c κs within = (search (rules, the_lemmas, arith), (within, sense_source _ _ _ _ _ _ _ c.in-Ext.is refl c.get-in-None-lent.ensures (g.T.Seen.world c.args.tables.now) c.requires))
 
-pub value-parts_of-requires-in-Ok-value-3 : goal.value-parts_of-requires-in-Ok-value-3
-value-parts_of-requires-in-Ok-value-3 g t c = source_whole _ _ _ _ _ _ _ c.in-Ext.is refl c.get-in-None-lent.ensures _ _ c.requires c.in-Ok-value-3.ensures.gives
+pub value-parts_of-requires-in-Ok-value-2 : goal.value-parts_of-requires-in-Ok-value-2
+value-parts_of-requires-in-Ok-value-2 g t c = source_whole _ _ _ _ _ _ _ c.in-Ext.is refl c.get-in-None-lent.ensures _ _ c.requires c.in-Ok-value-2.ensures.gives
 
-pub value-draw-requires-in-Ok-value-3 : goal.value-draw-requires-in-Ok-value-3
-value-draw-requires-in-Ok-value-3 g t c κs within = (search (rules, the_lemmas, arith), (within, sense_items _ _ _ _ _ _ _ c.in-Ext.is c.get-in-Ok-value-3.ensures c.get-in-None-lent.ensures (done _) _ fine _ _ c.in-Ok-value-3.ensures.moved (items_done _ _ _ c.parts_of-in-Ok-value-3.ensures.reads) c.requires c.in-Ok-value-3.ensures.gives))
+pub value-draw-requires-in-Ok-value-2 : goal.value-draw-requires-in-Ok-value-2
+value-draw-requires-in-Ok-value-2 g t c κs within = (search (rules, the_lemmas, arith), (within, sense_items _ _ _ _ _ _ _ c.in-Ext.is c.get-in-Ok-value-2.ensures c.get-in-None-lent.ensures (done _) _ fine _ _ c.in-Ok-value-2.ensures.moved (items_done _ _ _ c.parts_of-in-Ok-value-2.ensures.reads) c.requires c.in-Ok-value-2.ensures.gives))
 
-pub value-returns-in-Ok-value-3 : goal.value-returns-in-Ok-value-3
-value-returns-in-Ok-value-3 g t c = value_loop _ _ _ _ _ _ _ c.in-Ext.is c.get-in-Ok-value-3.ensures c.get-in-None-lent.ensures (done _) _ fine _ _ _ _ _ c.in-Ok-value-3.ensures.moved c.in-Ok-value-3.ensures.still (items_done _ _ _ c.parts_of-in-Ok-value-3.ensures.reads) c.in-Ok-value-3.ensures.gives c.draw-in-Ok-value-3.ensures c.gather-in-Ok-value-3.ensures
-
-pub value-look-requires-in-If : goal.value-look-requires-in-If
-value-look-requires-in-If g t c κs within = (search (rules, the_lemmas, arith), (within, sense_test _ _ _ _ _ _ c.in-If.is c.get-in-If.ensures (g.T.Seen.world c.args.tables.now) c.requires))
-
-pub value-bool_of-requires : goal.value-bool_of-requires
-value-bool_of-requires g t c = truth_there _ _ _ _ _ _ c.in-If.is c.get-in-If.ensures _ _ _ _ c.get-in-Ok-look-3.ensures c.requires c.in-Ok-look-3.ensures
-
-pub value-value-requires-then-bool_of : goal.value-value-requires-then-bool_of
-value-value-requires-then-bool_of g t c κs within = (search (rules, the_lemmas, arith), (within, sense_picked _ _ _ _ _ _ c.in-If.is c.get-in-If.ensures _ true _ _ c.get-then-bool_of.ensures c.in-Ok-look-3.ensures.moved c.requires))
-
-pub value-returns-then-bool_of : goal.value-returns-then-bool_of
-value-returns-then-bool_of g t c = value_if _ _ _ _ _ _ c.in-If.is c.get-in-If.ensures _ _ _ true _ _ _ _ c.get-then-bool_of.ensures c.get-in-Ok-look-3.ensures (c.bool_of.ensures ∙ ap Some c.if-bool_of.true) c.in-Ok-look-3.ensures c.value-then-bool_of.ensures
-
-pub value-value-requires-else-bool_of : goal.value-value-requires-else-bool_of
-value-value-requires-else-bool_of g t c κs within = (search (rules, the_lemmas, arith), (within, sense_picked _ _ _ _ _ _ c.in-If.is c.get-in-If.ensures _ false _ _ c.get-else-bool_of.ensures c.in-Ok-look-3.ensures.moved c.requires))
-
-pub value-returns-in-Ok-look-3 : goal.value-returns-in-Ok-look-3
-value-returns-in-Ok-look-3 g t c = value_if _ _ _ _ _ _ c.in-If.is c.get-in-If.ensures _ _ _ false _ _ _ _ c.get-else-bool_of.ensures c.get-in-Ok-look-3.ensures (c.bool_of.ensures ∙ ap Some c.if-bool_of.false) c.in-Ok-look-3.ensures c.value-else-bool_of.ensures
-
-pub value-returns-in-If : goal.value-returns-in-If
-value-returns-in-If g t c = value_if_stop _ _ _ _ _ _ c.in-If.is c.get-in-If.ensures _ _ _ _ c.in-Err-look-3.ensures c.outside-in-Err-look-3.ensures
+pub value-returns-in-Ok-value-2 : goal.value-returns-in-Ok-value-2
+value-returns-in-Ok-value-2 g t c = value_loop _ _ _ _ _ _ _ c.in-Ext.is c.get-in-Ok-value-2.ensures c.get-in-None-lent.ensures (done _) _ fine _ _ _ _ _ c.in-Ok-value-2.ensures.moved c.in-Ok-value-2.ensures.still (items_done _ _ _ c.parts_of-in-Ok-value-2.ensures.reads) c.in-Ok-value-2.ensures.gives c.draw-in-Ok-value-2.ensures c.gather-in-Ok-value-2.ensures
 
 pub value-look-requires-in-Let : goal.value-look-requires-in-Let
 value-look-requires-in-Let g t c κs within = (search (rules, the_lemmas, arith), (within, sense_bound _ _ _ _ _ c.in-Let.is c.get-in-Let.ensures (g.T.Seen.world c.args.tables.now) c.requires))
 
-pub value-value-requires-in-Ok-look-4 : goal.value-value-requires-in-Ok-look-4
-value-value-requires-in-Ok-look-4 g t c κs within = (search (rules, the_lemmas, arith), (within, sense_body _ _ _ _ _ c.in-Let.is c.get-in-Let.ensures _ _ _ _ _ c.get-in-Ok-look-4.ensures c.get-in-Ok-look-4-2.ensures c.requires c.in-Ok-look-4.ensures))
-
-pub value-returns-in-Ok-look-4 : goal.value-returns-in-Ok-look-4
-value-returns-in-Ok-look-4 g t c = value_let _ _ _ _ _ c.in-Let.is c.get-in-Let.ensures _ _ _ _ _ _ _ c.get-in-Ok-look-4.ensures c.get-in-Ok-look-4-2.ensures c.in-Ok-look-4.ensures c.value-in-Ok-look-4.ensures
-
 pub value-returns-in-Let : goal.value-returns-in-Let
-value-returns-in-Let g t c = value_let_stop _ _ _ _ _ c.in-Let.is c.get-in-Let.ensures _ _ _ _ c.in-Err-look-4.ensures c.outside-in-Err-look-4.ensures
+value-returns-in-Let g t c = value_let_stop _ _ _ _ _ c.in-Let.is c.get-in-Let.ensures _ _ _ _ c.in-Err-look-3.ensures c.outside-in-Err-look-3.ensures
 
 pub value-call-requires : goal.value-call-requires
 value-call-requires g t c κs within = (search (rules, the_lemmas, arith), (within, sense_prim _ _ _ _ _ c.in-Prim.is c.slice-in-Prim.ensures (g.T.Seen.world c.args.tables.now) c.requires))
@@ -196,22 +157,16 @@ pub draw-returns-else-past : goal.draw-returns-else-past
 draw-returns-else-past g t c = body_fine _ _ _ _ _ _ _ _ _ c.drawn-test.false c.if-past.false c.drawn.invariant
 
 pub value-draw-requires-in-Over : goal.value-draw-requires-in-Over
-value-draw-requires-in-Over g t c κs within = (search (rules, the_lemmas, arith), (within, sense_items _ _ _ _ _ _ _ c.in-Ext.is c.get-in-Over.ensures c.get-in-None-lent.ensures (over _) _ overflow _ _ c.in-Err-value-3.ensures.moved (ap (λ q. flow q overflow) (sym c.deref.ensures.value)) c.requires (over_gives _ _ _ _ _ _ c.in-Over.is c.in-Err-value-3.ensures)))
+value-draw-requires-in-Over g t c κs within = (search (rules, the_lemmas, arith), (within, sense_items _ _ _ _ _ _ _ c.in-Ext.is c.get-in-Over.ensures c.get-in-None-lent.ensures (over _) _ overflow _ _ c.in-Err-value-2.ensures.moved (ap (λ q. flow q overflow) (sym c.deref.ensures.value)) c.requires (over_gives _ _ _ _ _ _ c.in-Over.is c.in-Err-value-2.ensures)))
 
 pub value-returns-in-Over : goal.value-returns-in-Over
-value-returns-in-Over g t c = value_loop _ _ _ _ _ _ _ c.in-Ext.is c.get-in-Over.ensures c.get-in-None-lent.ensures (over _) _ overflow _ _ _ _ _ c.in-Err-value-3.ensures.moved c.in-Err-value-3.ensures.still (ap (λ q. flow q overflow) (sym c.deref.ensures.value)) (over_gives _ _ _ _ _ _ c.in-Over.is c.in-Err-value-3.ensures) c.draw-in-Over.ensures c.gather-in-Over.ensures
+value-returns-in-Over g t c = value_loop _ _ _ _ _ _ _ c.in-Ext.is c.get-in-Over.ensures c.get-in-None-lent.ensures (over _) _ overflow _ _ _ _ _ c.in-Err-value-2.ensures.moved c.in-Err-value-2.ensures.still (ap (λ q. flow q overflow) (sym c.deref.ensures.value)) (over_gives _ _ _ _ _ _ c.in-Over.is c.in-Err-value-2.ensures) c.draw-in-Over.ensures c.gather-in-Over.ensures
 
 pub each-returns-in-Over : goal.each-returns-in-Over
 each-returns-in-Over g t c = each_over _ _ _ _ _ _ _ _ c.terms-test.true c.term-item.is c.terms.invariant _ _ _ _ c.in-Over.is c.in-Err.ensures refl
 
 pub each-returns-in-NoMemory : goal.each-returns-in-NoMemory
 each-returns-in-NoMemory g t c = each_none _ _ _ _ _ _ _ _ c.terms-test.true c.term-item.is c.terms.invariant _ _ c.in-Err.ensures
-
-pub value-into_parts-kind-requires : goal.value-into_parts-kind-requires
-value-into_parts-kind-requires g t c = first_there _ _ _ _ _ c.in-Union.is c.get-in-Union.ensures _ _ _ c.requires c.in-Ok-value.ensures
-
-pub value-returns-in-Ok-value-2 : goal.value-returns-in-Ok-value-2
-value-returns-in-Ok-value-2 g t c = value_union_lost _ _ _ _ _ c.in-Union.is c.get-in-Union.ensures _ _ _ _ _ _ _ _ _ c.get-in-Ok-value.ensures c.in-Ok-value.ensures c.in-Ok-value-2.ensures c.in-Err-append.ensures
 
 pub each-terms-init : goal.each-terms-init
 each-terms-init g t c = each_starts _ _ _ _ c.new-items.ensures.items c.requires
@@ -223,7 +178,7 @@ pub draw-drawn-init : goal.draw-drawn-init
 draw-drawn-init g t c = body_starts _ _ _ _ _ _ c.new-items.ensures.items c.requires
 
 pub value-returns-in-Ext : goal.value-returns-in-Ext
-value-returns-in-Ext g t c = loop_lost _ _ _ _ _ _ _ c.in-Ext.is refl c.get-in-None-lent.ensures _ _ _ c.in-Err-value-3.ensures
+value-returns-in-Ext g t c = loop_lost _ _ _ _ _ _ _ c.in-Ext.is refl c.get-in-None-lent.ensures _ _ _ c.in-Err-value-2.ensures
 
 pub value-unreachable-requires : goal.value-unreachable-requires
 value-unreachable-requires g t c = no_branch _ _ _ _ _ _ _ c.in-Case.is c.get-in-Case.ensures refl _ _ _ _ _ _ c.get-in-Ok-look-2.ensures c.variant.ensures c.requires c.in-Ok-look-2.ensures (missing _ _ _ c.slice-in-Ok-look-2.ensures c.in-None.ensures.place) c.in-None-other.is
@@ -274,7 +229,7 @@ pub value-table-requires-clause-there : goal.value-table-requires-clause-there
 value-table-requires-clause-there g t c = source_there _ _ _ c.in-Source.is (g.T.Seen.world c.args.tables.now) c.requires
 
 pub value-returns-in-Driver : goal.value-returns-in-Driver
-value-returns-in-Driver g t c = loop_refused _ _ _ _ _ _ _ c.in-Ext.is refl c.get-in-None-lent.ensures _ _ _ _ _ c.in-Driver.is c.in-Err-value-3.ensures
+value-returns-in-Driver g t c = loop_refused _ _ _ _ _ _ _ c.in-Ext.is refl c.get-in-None-lent.ensures _ _ _ _ _ c.in-Driver.is c.in-Err-value-2.ensures
 
 pub each-returns-in-Driver : goal.each-returns-in-Driver
 each-returns-in-Driver g t c = each_refused _ _ _ _ _ _ _ _ c.terms-test.true c.term-item.is c.terms.invariant _ _ _ _ c.in-Driver.is c.in-Err.ensures
@@ -288,27 +243,6 @@ draw-drawn-preserved g t c = body_added _ _ _ _ _ _ _ _ _ _ c.drawn-test.true c.
 pub draw-returns-in-Err : goal.draw-returns-in-Err
 draw-returns-in-Err g t c = body_stops _ _ _ _ _ _ _ _ _ _ c.drawn-test.true c.item-item.is c.drawn.invariant _ _ _ _ c.in-Err.ensures c.behind.ensures
 
-pub emit-look-requires : goal.emit-look-requires
-emit-look-requires g t c κs within = (search (rules, the_lemmas, arith), (within, sense_test _ _ _ _ _ _ c.in-If.is c.get.ensures (g.T.Seen.world c.args.tables.now) (sense_of _ _ _ c.requires)))
-
-pub emit-bool_of-requires : goal.emit-bool_of-requires
-emit-bool_of-requires g t c = truth_there _ _ _ _ _ _ c.in-If.is c.get.ensures _ _ _ _ c.get-in-Ok.ensures (sense_of _ _ _ c.requires) c.in-Ok.ensures
-
-pub emit-emit-requires : goal.emit-emit-requires
-emit-emit-requires g t c κs within = (search (rules, the_lemmas, arith), (within, whole_picked _ _ _ _ _ _ c.in-If.is c.get.ensures _ true _ _ c.get-then-bool_of.ensures c.in-Ok.ensures.moved c.requires))
-
-pub emit-returns-then-bool_of : goal.emit-returns-then-bool_of
-emit-returns-then-bool_of g t c = into_if _ _ _ _ _ _ c.in-If.is c.get.ensures _ _ _ true _ _ _ _ _ _ c.get-then-bool_of.ensures c.get-in-Ok.ensures (c.bool_of.ensures ∙ ap Some c.if-bool_of.true) c.in-Ok.ensures c.emit.ensures
-
-pub emit-emit-requires-else-bool_of : goal.emit-emit-requires-else-bool_of
-emit-emit-requires-else-bool_of g t c κs within = (search (rules, the_lemmas, arith), (within, whole_picked _ _ _ _ _ _ c.in-If.is c.get.ensures _ false _ _ c.get-else-bool_of.ensures c.in-Ok.ensures.moved c.requires))
-
-pub emit-returns-in-Ok : goal.emit-returns-in-Ok
-emit-returns-in-Ok g t c = into_if _ _ _ _ _ _ c.in-If.is c.get.ensures _ _ _ false _ _ _ _ _ _ c.get-else-bool_of.ensures c.get-in-Ok.ensures (c.bool_of.ensures ∙ ap Some c.if-bool_of.false) c.in-Ok.ensures c.emit-else-bool_of.ensures
-
-pub emit-returns-in-If : goal.emit-returns-in-If
-emit-returns-in-If g t c = into_if_stop _ _ _ _ _ _ c.in-If.is c.get.ensures _ _ _ _ _ _ c.in-Err.ensures c.outside.ensures refl
-
 pub emit-returns-then-is_empty : goal.emit-returns-then-is_empty
 emit-returns-then-is_empty g t c =
     let none : length c.slice-terms.result.now ≡ 0 = search rules in
@@ -317,8 +251,8 @@ emit-returns-then-is_empty g t c =
 pub emit-returns-in-Ok-inside : goal.emit-returns-in-Ok-inside
 emit-returns-in-Ok-inside g t c = into_one _ _ _ _ _ c.in-Make.is c.slice-terms.ensures _ c.if-terms-eq1.true c.index-terms-0.is _ _ _ _ _ _ (evals_part _ _ _ _ _ _ c.owned.ensures c.in-Ok-inside.ensures) c.push.ensures
 
-pub emit-returns-then-terms-eq1 : goal.emit-returns-then-terms-eq1
-emit-returns-then-terms-eq1 g t c = into_one_stop _ _ _ _ _ c.in-Make.is c.slice-terms.ensures _ c.if-terms-eq1.true c.index-terms-0.is _ _ _ _ _ _ (evals_part _ _ _ _ _ _ c.owned.ensures c.in-Err-inside.ensures) c.outside-in-Err-inside.ensures refl
+pub emit-returns-in-Err-inside : goal.emit-returns-in-Err-inside
+emit-returns-in-Err-inside g t c = into_one_stop _ _ _ _ _ c.in-Make.is c.slice-terms.ensures _ c.if-terms-eq1.true c.index-terms-0.is _ _ _ _ _ _ (evals_part _ _ _ _ _ _ c.owned.ensures c.in-Err-inside.ensures) c.outside-in-Err-inside.ensures refl
 
 pub emit_whole-append-requires : goal.emit_whole-append-requires
 emit_whole-append-requires g t c = whole_there _ _ _ _ _ c.requires c.in-Ok.ensures
@@ -326,20 +260,14 @@ emit_whole-append-requires g t c = whole_there _ _ _ _ _ c.requires c.in-Ok.ensu
 pub look-returns-in-Ok : goal.look-returns-in-Ok
 look-returns-in-Ok g t c = look_prim _ _ _ _ _ c.in-Prim.is c.slice.ensures _ _ _ c.in-Ok.ensures
 
-pub look-returns-in-Prim : goal.look-returns-in-Prim
-look-returns-in-Prim g t c = look_prim _ _ _ _ _ c.in-Prim.is c.slice.ensures _ _ _ c.in-Err.ensures
+pub look-returns-in-Err : goal.look-returns-in-Err
+look-returns-in-Err g t c = look_prim _ _ _ _ _ c.in-Prim.is c.slice.ensures _ _ _ c.in-Err.ensures
 
 pub emit-look-requires-in-Let : goal.emit-look-requires-in-Let
 emit-look-requires-in-Let g t c κs within = (search (rules, the_lemmas, arith), (within, sense_bound _ _ _ _ _ c.in-Let.is c.get-in-Let.ensures (g.T.Seen.world c.args.tables.now) (sense_of _ _ _ c.requires)))
 
-pub emit-emit-requires-in-Ok-look : goal.emit-emit-requires-in-Ok-look
-emit-emit-requires-in-Ok-look g t c κs within = (search (rules, the_lemmas, arith), (within, whole_bound _ _ _ _ _ c.in-Let.is c.get-in-Let.ensures _ _ _ _ _ c.get-in-Ok-look.ensures c.get-in-Ok-look-2.ensures c.requires c.in-Ok-look.ensures))
-
-pub emit-returns-in-Ok-look : goal.emit-returns-in-Ok-look
-emit-returns-in-Ok-look g t c = into_let _ _ _ _ _ c.in-Let.is c.get-in-Let.ensures _ _ _ _ _ _ _ _ _ c.get-in-Ok-look.ensures c.get-in-Ok-look-2.ensures c.in-Ok-look.ensures c.emit-in-Ok-look.ensures
-
-pub emit-returns-in-Let : goal.emit-returns-in-Let
-emit-returns-in-Let g t c = into_let_stop _ _ _ _ _ c.in-Let.is c.get-in-Let.ensures _ _ _ _ _ _ c.in-Err-look.ensures c.outside-in-Err-look.ensures refl
+pub emit-returns-in-Err-look : goal.emit-returns-in-Err-look
+emit-returns-in-Err-look g t c = into_let_stop _ _ _ _ _ c.in-Let.is c.get-in-Let.ensures _ _ _ _ _ _ c.in-Err-look.ensures c.outside-in-Err-look.ensures refl
 
 pub owned-lent-requires : goal.owned-lent-requires
 owned-lent-requires g t c = (_, (c.requires.0, c.requires.1, c.requires.2, c.requires.3))
@@ -347,23 +275,89 @@ owned-lent-requires g t c = (_, (c.requires.0, c.requires.1, c.requires.2, c.req
 pub owned-returns-in-Some : goal.owned-returns-in-Some
 owned-returns-in-Some g t c = evals_copied _ _ _ _ _ (λ S T. c.in-Some.ensures S T) c.copy.ensures
 
+pub value-value-requires-in-Ok-value : goal.value-value-requires-in-Ok-value
+value-value-requires-in-Ok-value g t c κs within = (search (rules, the_lemmas, arith), (within, sense_second _ _ _ _ _ c.in-Union.is c.get-in-Union.ensures _ _ _ c.get-in-Ok-value.ensures c.in-Ok-value.ensures.moved c.requires))
+
+pub value-join-requires-clause-first : goal.value-join-requires-clause-first
+value-join-requires-clause-first g t c = first_there _ _ _ _ _ c.in-Union.is c.get-in-Union.ensures _ _ _ c.requires c.in-Ok-value.ensures
+
+pub value-join-requires-clause-second : goal.value-join-requires-clause-second
+value-join-requires-clause-second g t c = second_told _ _ _ _ _ c.in-Union.is c.get-in-Union.ensures _ _ _ _ _ c.get-in-Ok-value.ensures c.in-Ok-value.ensures.moved c.requires c.value-in-Ok-value.ensures
+
+pub value-returns-in-Ok-value : goal.value-returns-in-Ok-value
+value-returns-in-Ok-value g t c = value_join _ _ _ _ _ c.in-Union.is c.get-in-Union.ensures _ _ _ _ _ _ _ c.get-in-Ok-value.ensures c.in-Ok-value.ensures c.value-in-Ok-value.ensures c.join.ensures
+
+pub value-look-requires-in-If : goal.value-look-requires-in-If
+value-look-requires-in-If g t c κs within = (search (rules, the_lemmas, arith), (within, sense_test _ _ _ _ _ _ c.in-If.is c.get-in-If.ensures (g.T.Seen.world c.args.tables.now) c.requires))
+
+pub value-truth-requires : goal.value-truth-requires
+value-truth-requires g t c = test_told _ _ _ _ _ _ c.in-If.is c.get-in-If.ensures _ _ _ c.requires c.look-in-If.ensures
+
+pub value-value-requires-then-yes : goal.value-value-requires-then-yes
+value-value-requires-then-yes g t c κs within = (search (rules, the_lemmas, arith), (within, sense_picked _ _ _ _ _ _ c.in-If.is c.get-in-If.ensures _ true _ _ c.get-then-yes.ensures c.look-in-If.ensures.moved c.requires))
+
+pub value-returns-then-yes : goal.value-returns-then-yes
+value-returns-then-yes g t c = value_tested _ _ _ _ _ _ c.in-If.is c.get-in-If.ensures _ true _ _ _ _ _ _ c.get-then-yes.ensures c.if-yes.true c.in-Ok-truth.ensures c.look-in-If.ensures c.value-then-yes.ensures
+
+pub value-value-requires-else-yes : goal.value-value-requires-else-yes
+value-value-requires-else-yes g t c κs within = (search (rules, the_lemmas, arith), (within, sense_picked _ _ _ _ _ _ c.in-If.is c.get-in-If.ensures _ false _ _ c.get-else-yes.ensures c.look-in-If.ensures.moved c.requires))
+
+pub value-returns-in-Ok-truth : goal.value-returns-in-Ok-truth
+value-returns-in-Ok-truth g t c = value_tested _ _ _ _ _ _ c.in-If.is c.get-in-If.ensures _ false _ _ _ _ _ _ c.get-else-yes.ensures c.if-yes.false c.in-Ok-truth.ensures c.look-in-If.ensures c.value-else-yes.ensures
+
+pub value-returns-in-If : goal.value-returns-in-If
+value-returns-in-If g t c = value_tested_stop _ _ _ _ _ _ c.in-If.is c.get-in-If.ensures _ _ _ _ _ c.in-Err-truth.ensures c.look-in-If.ensures c.outside-in-Err-truth.ensures
+
+pub value-value_within-requires : goal.value-value_within-requires
+value-value_within-requires g t c κs within = (search (rules, the_lemmas, arith), (within, sense_body _ _ _ _ _ c.in-Let.is c.get-in-Let.ensures _ _ _ _ _ c.get-in-Ok-look-3.ensures refl c.requires c.in-Ok-look-3.ensures))
+
+pub value-returns-in-Ok-look-3 : goal.value-returns-in-Ok-look-3
+value-returns-in-Ok-look-3 g t c = value_let _ _ _ _ _ c.in-Let.is c.get-in-Let.ensures _ _ _ _ _ _ _ c.get-in-Ok-look-3.ensures refl c.in-Ok-look-3.ensures c.value_within.ensures
+
+pub emit-look-requires : goal.emit-look-requires
+emit-look-requires g t c κs within = (search (rules, the_lemmas, arith), (within, sense_test _ _ _ _ _ _ c.in-If.is c.get.ensures (g.T.Seen.world c.args.tables.now) (sense_of _ _ _ c.requires)))
+
+pub emit-truth-requires : goal.emit-truth-requires
+emit-truth-requires g t c = test_told _ _ _ _ _ _ c.in-If.is c.get.ensures _ _ _ (sense_of _ _ _ c.requires) c.look.ensures
+
+pub emit-emit-requires : goal.emit-emit-requires
+emit-emit-requires g t c κs within = (search (rules, the_lemmas, arith), (within, whole_picked _ _ _ _ _ _ c.in-If.is c.get.ensures _ true _ _ c.get-then-yes.ensures c.look.ensures.moved c.requires))
+
+pub emit-returns-then-yes : goal.emit-returns-then-yes
+emit-returns-then-yes g t c = into_tested _ _ _ _ _ _ c.in-If.is c.get.ensures _ true _ _ _ _ _ _ _ _ c.get-then-yes.ensures c.if-yes.true c.in-Ok.ensures c.look.ensures c.emit.ensures
+
+pub emit-emit-requires-else-yes : goal.emit-emit-requires-else-yes
+emit-emit-requires-else-yes g t c κs within = (search (rules, the_lemmas, arith), (within, whole_picked _ _ _ _ _ _ c.in-If.is c.get.ensures _ false _ _ c.get-else-yes.ensures c.look.ensures.moved c.requires))
+
+pub emit-returns-else-yes : goal.emit-returns-else-yes
+emit-returns-else-yes g t c = into_tested _ _ _ _ _ _ c.in-If.is c.get.ensures _ false _ _ _ _ _ _ _ _ c.get-else-yes.ensures c.if-yes.false c.in-Ok.ensures c.look.ensures c.emit-else-yes.ensures
+
+pub emit-returns-in-Err : goal.emit-returns-in-Err
+emit-returns-in-Err g t c = into_tested_stop _ _ _ _ _ _ c.in-If.is c.get.ensures _ _ _ _ _ _ _ c.in-Err.ensures c.look.ensures c.outside.ensures refl
+
+pub emit-emit_within-requires : goal.emit-emit_within-requires
+emit-emit_within-requires g t c κs within = (search (rules, the_lemmas, arith), (within, whole_bound _ _ _ _ _ c.in-Let.is c.get-in-Let.ensures _ _ _ _ _ c.get-in-Ok-look.ensures refl c.requires c.in-Ok-look.ensures))
+
+pub emit-returns-in-Ok-look : goal.emit-returns-in-Ok-look
+emit-returns-in-Ok-look g t c = into_let _ _ _ _ _ c.in-Let.is c.get-in-Let.ensures _ _ _ _ _ _ _ _ _ c.get-in-Ok-look.ensures refl c.in-Ok-look.ensures c.emit_within.ensures
+
 pub look-look-requires : goal.look-look-requires
 look-look-requires g t c κs within = (search (rules, the_lemmas, arith), (within, sense_test _ _ _ _ _ _ c.in-If.is c.get.ensures (g.T.Seen.world c.args.tables.now) c.requires))
 
-pub look-bool_of-requires : goal.look-bool_of-requires
-look-bool_of-requires g t c = truth_there _ _ _ _ _ _ c.in-If.is c.get.ensures _ _ _ _ c.get-in-Ok-look.ensures c.requires c.in-Ok-look.ensures
+pub look-truth-requires : goal.look-truth-requires
+look-truth-requires g t c = test_told _ _ _ _ _ _ c.in-If.is c.get.ensures _ _ _ c.requires c.look.ensures
 
-pub look-look-requires-then-bool_of : goal.look-look-requires-then-bool_of
-look-look-requires-then-bool_of g t c κs within = (search (rules, the_lemmas, arith), (within, sense_picked _ _ _ _ _ _ c.in-If.is c.get.ensures _ true _ _ c.get-then-bool_of.ensures c.in-Ok-look.ensures.moved c.requires))
+pub look-look-requires-then-yes : goal.look-look-requires-then-yes
+look-look-requires-then-yes g t c κs within = (search (rules, the_lemmas, arith), (within, sense_picked _ _ _ _ _ _ c.in-If.is c.get.ensures _ true _ _ c.get-then-yes.ensures c.look.ensures.moved c.requires))
 
-pub look-look-requires-else-bool_of : goal.look-look-requires-else-bool_of
-look-look-requires-else-bool_of g t c κs within = (search (rules, the_lemmas, arith), (within, sense_picked _ _ _ _ _ _ c.in-If.is c.get.ensures _ false _ _ c.get-else-bool_of.ensures c.in-Ok-look.ensures.moved c.requires))
+pub look-look-requires-else-yes : goal.look-look-requires-else-yes
+look-look-requires-else-yes g t c κs within = (search (rules, the_lemmas, arith), (within, sense_picked _ _ _ _ _ _ c.in-If.is c.get.ensures _ false _ _ c.get-else-yes.ensures c.look.ensures.moved c.requires))
 
-pub look-returns-then-bool_of : goal.look-returns-then-bool_of
-look-returns-then-bool_of g t c = look_if _ _ _ _ _ _ c.in-If.is c.get.ensures _ _ _ true _ _ _ _ c.get-then-bool_of.ensures c.get-in-Ok-look.ensures (c.bool_of.ensures ∙ ap Some c.if-bool_of.true) c.in-Ok-look.ensures c.look-then-bool_of.ensures
+pub look-returns-then-yes : goal.look-returns-then-yes
+look-returns-then-yes g t c = look_tested _ _ _ _ _ _ c.in-If.is c.get.ensures _ true _ _ _ _ _ _ c.get-then-yes.ensures c.if-yes.true c.in-Ok-truth.ensures c.look.ensures c.look-then-yes.ensures
 
-pub look-returns-in-Ok-look : goal.look-returns-in-Ok-look
-look-returns-in-Ok-look g t c = look_if _ _ _ _ _ _ c.in-If.is c.get.ensures _ _ _ false _ _ _ _ c.get-else-bool_of.ensures c.get-in-Ok-look.ensures (c.bool_of.ensures ∙ ap Some c.if-bool_of.false) c.in-Ok-look.ensures c.look-else-bool_of.ensures
+pub look-returns-else-yes : goal.look-returns-else-yes
+look-returns-else-yes g t c = look_tested _ _ _ _ _ _ c.in-If.is c.get.ensures _ false _ _ _ _ _ _ c.get-else-yes.ensures c.if-yes.false c.in-Ok-truth.ensures c.look.ensures c.look-else-yes.ensures
 
-pub look-returns-in-If : goal.look-returns-in-If
-look-returns-in-If g t c = look_if_stop _ _ _ _ _ _ c.in-If.is c.get.ensures _ _ _ c.in-Err-look.ensures
+pub look-returns-in-Err-truth : goal.look-returns-in-Err-truth
+look-returns-in-Err-truth g t c = look_tested_stop _ _ _ _ _ _ c.in-If.is c.get.ensures _ _ _ _ c.in-Err-truth.ensures c.look.ensures

@@ -1,5 +1,6 @@
 use Rattle.std.proofs.Common.{◌++◌, ◌∷◌, [], None, Some, sym, ap, ◌∙◌}
-use Rattle.kl_flat.proofs.Rows.{cell_in, no_row, one_more, part_is, part_none}
+use Rattle.kl_value.specs.declared.Value.TheVariants as value
+use Rattle.kl_flat.proofs.Rows.{cell_in, no_row, one_more, part_is, part_none, whole_row}
 use Rattle.kl_flat.proofs.table.row_in.Goals as goal
 
 pub returns-in_default : goal.returns-in_default
@@ -21,3 +22,8 @@ loop-i-preserved c =
     let part = part_is _ c.index-columns-i.result _ (Some c.in-Some-2.value) (there ∙ sym c.in-Some.ensures.value) (sym c.in_ok-value.ensures ∙ c.in-Some-2.is) in
     one_more _ _ _ size c.loop-i.i c.index-columns-i.result _ _ c.loop-i-test.true c.index-columns-i.is part c.loop-i.invariant
     ∙ ap (λ l. Some (c.loop-i.fields.items ++ (l, c.in-Some-2.value) ∷ [])) (sym c.in_ok-label.ensures) ∙ ap Some (sym c.in_ok-push.ensures.items)
+
+pub returns : goal.returns
+returns c =
+    let size = sym c.len.ensures ∙ c.if-len.false ∙ c.len-2.ensures in
+    ap (λ fs. Some (value.Rec fs)) c.of.ensures ∙ whole_row _ _ _ size c.loop-i.i c.loop-i.fields.items c.loop-i-test.false c.loop-i.invariant

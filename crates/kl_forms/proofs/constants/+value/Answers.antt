@@ -2,7 +2,7 @@ use Rattle.std.proofs.Common.{◌<◌, length, sym, ap, subst, ◌∙◌, rules,
 use Rattle.std.specs.List.{AllByRecursion}
 use Rattle.kl_value.specs.declared.Value.{the_lemmas}
 use Rattle.kl_rows.specs.Places.{a_type, IsType, AreTypes}
-use Rattle.kl_forms.specs.Constants.{labelled}
+use Rattle.kl_forms.specs.Constants.{numbered}
 use Rattle.kl_base.proofs.Each.{all_map}
 use Rattle.kl_forms.proofs.Shapes.{finds_some, finds_none}
 use Rattle.kl_forms.proofs.RowShapes.{labelled_types}
@@ -95,11 +95,11 @@ each_has-returns t c = items_end _ _ c.args.items.now c.args.item c.items.v-inde
 
 pub record-is_record-requires-clause-fields_there : goal.record-is_record-requires-clause-fields_there
 record-is_record-requires-clause-fields_there t c =
-    subst (AreTypes c.fresh_types.new.u.cells.items) (sym (c.in_ok-all.ensures ∙ ap (labelled c.args.fields.now) c.deref.ensures.value)) (labelled_types _ c.args.fields.now _ c.in_ok-types.ensures.sorts)
+    subst (AreTypes c.fresh_types.new.u.cells.items) (sym (c.in_ok-all.ensures ∙ ap (numbered c.args.fields.now) c.deref.ensures.value)) (labelled_types _ c.args.fields.now _ c.in_ok-types.ensures.sorts)
 
 pub record-returns-then-not-is_one : goal.record-returns-then-not-is_one
 record-returns-then-not-is_one t c =
-    takes_no_fields _ _ _ c.args.fields.now _ c.args.want _ _ c.requires.rise c.requires.there c.in_ok-types.ensures (c.in_ok-all.ensures ∙ ap (labelled c.args.fields.now) c.deref.ensures.value) c.in_ok-is_one.ensures c.if-not-is_one.true
+    takes_no_fields _ _ _ c.args.fields.now _ c.args.want _ _ c.requires.rise c.requires.there c.in_ok-types.ensures (c.in_ok-all.ensures ∙ ap (numbered c.args.fields.now) c.deref.ensures.value) c.in_ok-is_one.ensures c.if-not-is_one.true
 
 pub record-fields_have-requires : goal.record-fields_have-requires
 record-fields_have-requires t c = (
@@ -115,7 +115,7 @@ record-fields_have-requires t c = (
 
 pub record-returns : goal.record-returns
 record-returns t c =
-    takes_fields _ _ _ c.args.fields.now _ c.args.want _ _ c.requires.rise c.requires.there c.in_ok-types.ensures (c.in_ok-all.ensures ∙ ap (labelled c.args.fields.now) c.deref.ensures.value) c.in_ok-is_one.ensures _ _ _ c.deref-2.ensures.value c.if-not-is_one.false c.in_ok-holds.ensures
+    takes_fields _ _ _ c.args.fields.now _ c.args.want _ _ c.requires.rise c.requires.there c.in_ok-types.ensures (c.in_ok-all.ensures ∙ ap (numbered c.args.fields.now) c.deref.ensures.value) c.in_ok-is_one.ensures _ _ _ c.deref-2.ensures.value c.if-not-is_one.false c.in_ok-holds.ensures
 
 pub fields_have-loop-i-init : goal.fields_have-loop-i-init
 fields_have-loop-i-init t c = turn_none (FieldHas c.args.fields.now c.args.types.now) _ c.requires.fine

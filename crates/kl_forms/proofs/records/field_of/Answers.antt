@@ -1,9 +1,8 @@
-use Rattle.kl_type.specs.Ground.{rec}
-use Rattle.kl_forms.proofs.OverRows.{label_opens, label_refuses}
+use Rattle.kl_forms.proofs.Looking.{record_row, in_record}
 use Rattle.kl_forms.proofs.records.field_of.Goals as goal
 
-pub returns-then-not-holds : goal.returns-then-not-holds
-returns-then-not-holds c = label_refuses rec _ _ _ _ c.args.label.now _ c.args.want _ _ c.requires.fine c.requires.there c.in_ok-item.ensures c.in_ok-fields.ensures.items c.in_ok-dup.ensures c.in_ok-holds.ensures c.if-not-holds.true
+pub in_row-requires-clause-there : goal.in_row-requires-clause-there
+in_row-requires-clause-there c = record_row _ _ _ _ c.node.ensures c.in-Rec.is
 
-pub returns : goal.returns
-returns c = label_opens rec _ _ _ _ c.args.label.now _ c.args.want _ _ c.requires.fine c.requires.there c.in_ok-item.ensures c.in_ok-fields.ensures.items c.in_ok-dup.ensures c.in_ok-holds.ensures c.if-not-holds.false
+pub returns-in_ok-found-in-Rec : goal.returns-in_ok-found-in-Rec
+returns-in_ok-found-in-Rec c = in_record _ _ _ _ _ _ _ c.node.ensures c.in-Rec.is c.in_ok-found-in-Rec.ensures

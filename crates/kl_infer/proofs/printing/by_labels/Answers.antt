@@ -1,11 +1,10 @@
-use Rattle.std.proofs.Common.{rules, ◌≡◌, ◌∙◌, ◌++◌, ◌∷◌, [], sym, ap}
-use Rattle.kl_infer.proofs.RowLemmas.{put_all, put_all_last, put_all_sorted}
+use Rattle.std.proofs.Common.{rules}
+use Rattle.std.proofs.lemmas.List.Sorted.{answers_always}
+use Rattle.kl_infer.proofs.Stable.{below, below_ranks, stable_is}
 use Rattle.kl_infer.proofs.printing.by_labels.Goals as goal
 
-pub fields-init : goal.fields-init
-fields-init c = ap (put_all c.args.fields.items) c.in_ok-sorted.ensures.items ∙ put_all_sorted c.args.fields.items
-
-pub fields-preserved : goal.fields-preserved
-fields-preserved c =
-    let last : c.fields.fields.items ≡ c.pop.new.self.items ++ c.in-Some.field ∷ [] = search rules in
-    ap (put_all c.pop.new.self.items) c.in_ok-put_in.ensures ∙ (sym (put_all_last c.pop.new.self.items c.in-Some.field c.fields.sorted.items) ∙ (ap (λ fs. put_all fs c.fields.sorted.items) (sym last) ∙ c.fields.invariant))
+pub returns : goal.returns
+returns c =
+    stable_is c.args.fields.items _
+    (c.in_ok-sort_by.ensures.sorted below below_ranks (answers_always _ _ _ (λ f a r q k. search rules)))
+    (c.in_ok-sort_by.ensures.stable below below_ranks (answers_always _ _ _ (λ f a r q k. search rules)))

@@ -1,17 +1,18 @@
-use Rattle.std.proofs.Common.{rules, ◌-◌, ◌∷◌, [], arith, refl, ◌∙◌}
+use Rattle.std.proofs.Common.{rules, ◌-◌, ◌∷◌, [], arith, refl, sym, ap, ◌∙◌}
 use Rattle.std.proofs.lemmas.Result.{err_from_is_err_and}
 use Rattle.kl_lex.specs.declared.token.Sym.TheVariants.{Comma}
 use Rattle.kl_parse.specs.declared.operator.Level.TheVariants.{Compare}
 use Rattle.kl_syntax.specs.declared.tree.Expr.TheVariants as expr
 use Rattle.kl_syntax.specs.declared.tree.Qual.TheVariants as qual
-use Rattle.kl_phrase.specs.Readers.{ok, bad, deep, instead, behind, others}
+use Rattle.kl_phrase.specs.Readers.{ok, bad, deep, behind, others}
+use Rattle.kl_phrase.specs.Refusals.{refused}
 use Rattle.kl_phrase.proofs.Gathered.{stops}
-use Rattle.kl_parse.specs.Grammar.{whole, negated, signed, path_of, branch_of}
+use Rattle.kl_parse.specs.Grammar.{whole, negated, signed, path_of}
 use Rattle.kl_parse.specs.Kinds.{is_symbol}
-use Rattle.kl_parse.specs.Descent.{mark, read_pat, reads, labels, field, qualifier, branch_at, operand_at, sort_at, compare_at, post_at, prim_at, named_at, in_rec, in_args, drawn, condition}
+use Rattle.kl_parse.specs.Descent.{mark, read_pat, reads, labels, field, qualifier, branch_at, operand_at, sort_at, compare_at, post_at, drawn, condition}
 use Rattle.kl_parse.proofs.Steps.{less, onward, fails_on}
 use Rattle.kl_phrase.proofs.Failures.{err_by, is_bad, is_deep}
-use Rattle.kl_parse.proofs.ExprSteps.{let_deep, let_at, if_deep, if_at, ors_at, Others, step_fails, step_less, step_onward, step_stops, operand_or, operand_compare, operand_add, not_deep, not_at, not_none, compare_fails, compare_one, compare_two, compare_ok, gen_at, cond_at, least_found, minus_deep, minus_at, minus_none, path_fails, path_first, path_one, path_more, const_found, group_deep, group_at, rec_deep, rec_at, inject_deep, inject_at, coll_deep, coll_at, case_deep, case_at, name_at, named_fails, named_alone, named_deep, named_args, branch_bad, branch_deep, variant_in_branch_fails, branch_arrow_fails, branch_body, coll_empty, coll_first_fails, coll_beyond_fails, coll_close_fails, coll_ok, rests_whole, rests_field, rests_qual, rests_branch}
+use Rattle.kl_parse.proofs.ExprSteps.{let_deep, let_at, if_deep, if_at, ors_at, Others, step_fails, step_less, step_onward, step_stops, operand_or, operand_compare, operand_add, not_deep, not_at, not_none, compare_fails, compare_one, compare_two, compare_ok, gen_at, cond_at, least_found, minus_deep, minus_on, minus_none, path_fails, path_first, path_one, path_more, const_found, group_deep, group_at, rec_deep, rec_at, inject_deep, inject_at, coll_deep, coll_at, case_deep, case_at, name_at, named_fails, named_alone, named_deep, named_args, branch_bad, branch_deep, variant_in_branch_fails, branch_arrow, coll_empty, coll_first_fails, coll_beyond_fails, coll_close, rests_whole, rests_field, rests_qual, rests_branch}
 use Rattle.kl_parse.proofs.exprs.+expr.Goals as goal
 
 pub branch-returns-in_err-inner : goal.branch-returns-in_err-inner
@@ -27,21 +28,11 @@ branch-returns-in_err-label t c =
     let p = err_from_is_err_and c.from_residual-in_err-label.result c.from_residual-in_err-label.ensures.1 in
     rw (p.1, p.2) (variant_in_branch_fails c.args.total c.args.depth (c.args.depth - 1) c.args.tokens.now c.in_ok-inner.inner.now c.in_err-label.field-0.0 (omega arith) c.in_ok-inner.ensures c.in_err-label.ensures)
 
-pub branch-returns-in_err-rest : goal.branch-returns-in_err-rest
-branch-returns-in_err-rest t c =
-    let p = err_from_is_err_and c.from_residual-in_err-rest.result c.from_residual-in_err-rest.ensures.1 in
-    rw (p.1, p.2) (branch_arrow_fails c.args.total c.args.depth (c.args.depth - 1) c.args.tokens.now c.in_ok-inner.inner.now c.in_ok-label.rest.now (c.in_ok-label.label, c.in_ok-label.pat) (omega arith) c.in_ok-inner.ensures c.in_ok-label.ensures c.in_err-rest.field-0.0 c.in_err-rest.ensures)
-
-pub branch-returns-in_err-body : goal.branch-returns-in_err-body
-branch-returns-in_err-body t c =
-    let p = err_from_is_err_and c.from_residual-in_err-body.result c.from_residual-in_err-body.ensures.1 in
-    rw (p.1, p.2) (err_by c.in_err-body.field-0.0 (branch_at c.args.total c.args.depth c.args.tokens.now) (reads c.args.total c.args.depth whole c.in_ok-rest.rest.now) (λ b s. ok (branch_of ((c.in_ok-label.label, c.in_ok-label.pat), b)) s) (branch_body c.args.total c.args.depth (c.args.depth - 1) c.args.tokens.now c.in_ok-inner.inner.now c.in_ok-label.rest.now (c.in_ok-label.label, c.in_ok-label.pat) (omega arith) c.in_ok-inner.ensures c.in_ok-label.ensures c.in_ok-rest.rest.now c.in_ok-rest.ensures) c.in_err-body.ensures)
-
 pub branch-returns : goal.branch-returns
-branch-returns t c = branch_body c.args.total c.args.depth (c.args.depth - 1) c.args.tokens.now c.in_ok-inner.inner.now c.in_ok-label.rest.now (c.in_ok-label.label, c.in_ok-label.pat) (omega arith) c.in_ok-inner.ensures c.in_ok-label.ensures c.in_ok-rest.rest.now c.in_ok-rest.ensures ∙ rw c.in_ok-body.ensures refl
+branch-returns t c = rw (branch_arrow c.args.total c.args.depth (c.args.depth - 1) c.args.tokens.now c.in_ok-inner.inner.now c.in_ok-label.rest.now (c.in_ok-label.label, c.in_ok-label.pat) (omega arith) c.in_ok-inner.ensures c.in_ok-label.ensures) c.branch_rest.ensures
 
 pub coll_rest-returns-in-Some : goal.coll_rest-returns-in-Some
-coll_rest-returns-in-Some t c = coll_empty (read_pat c.args.total c.args.depth) (reads c.args.total c.args.depth whole) c.args.kind c.args.tokens.now c.closer.result c.closer.ensures c.of.result c.in-Some.rest.now (search rules) c.in-Some.ensures
+coll_rest-returns-in-Some t c = rw (coll_empty (read_pat c.args.total c.args.depth) (reads c.args.total c.args.depth whole) c.args.kind c.args.tokens.now c.closer.result c.closer.ensures c.of.result c.in-Some.rest.now (search rules) c.in-Some.ensures) c.boxed.ensures
 
 pub coll_rest-returns-in_err-first : goal.coll_rest-returns-in_err-first
 coll_rest-returns-in_err-first t c =
@@ -53,13 +44,8 @@ coll_rest-returns-in_err-found t c =
     let p = err_from_is_err_and c.from_residual-in_err-found.result c.from_residual-in_err-found.ensures.1 in
     rw (p.1, p.2) (coll_beyond_fails (read_pat c.args.total c.args.depth) (reads c.args.total c.args.depth whole) c.args.kind c.args.tokens.now c.closer.result c.closer.ensures c.in_default.ensures c.in_ok-first.first c.in_ok-first.rest.now c.in_ok-first.ensures c.in_err-found.field-0.0 c.in_err-found.ensures)
 
-pub coll_rest-returns-in_err-rest : goal.coll_rest-returns-in_err-rest
-coll_rest-returns-in_err-rest t c =
-    let p = err_from_is_err_and c.from_residual-in_err-rest.result c.from_residual-in_err-rest.ensures.1 in
-    rw (p.1, p.2) (coll_close_fails (read_pat c.args.total c.args.depth) (reads c.args.total c.args.depth whole) c.args.kind c.args.tokens.now c.closer.result c.closer.ensures c.in_default.ensures c.in_ok-first.first c.in_ok-first.rest.now c.in_ok-first.ensures c.in_ok-found.found c.in_ok-found.rest.now c.in_ok-found.ensures c.closer-2.result c.closer-2.ensures c.in_err-rest.field-0.0 c.in_err-rest.ensures)
-
 pub coll_rest-returns : goal.coll_rest-returns
-coll_rest-returns t c = coll_ok (read_pat c.args.total c.args.depth) (reads c.args.total c.args.depth whole) c.args.kind c.args.tokens.now c.closer.result c.closer.ensures c.in_default.ensures c.in_ok-first.first c.in_ok-first.rest.now c.in_ok-first.ensures c.in_ok-found.found c.in_ok-found.rest.now c.in_ok-found.ensures c.closer-2.result c.closer-2.ensures c.in_ok-rest.rest.now c.in_ok-rest.ensures
+coll_rest-returns t c = rw (coll_close (read_pat c.args.total c.args.depth) (reads c.args.total c.args.depth whole) c.args.kind c.args.tokens.now c.closer.result c.closer.ensures c.in_default.ensures c.in_ok-first.first c.in_ok-first.rest.now c.in_ok-first.ensures c.in_ok-found.found c.in_ok-found.rest.now c.in_ok-found.ensures c.closer-2.result c.closer-2.ensures) c.closed.ensures
 
 pub comparison-returns-in_err-first : goal.comparison-returns-in_err-first
 comparison-returns-in_err-first t c =
@@ -74,8 +60,8 @@ comparison-returns-in_err-second-in-Some t c =
 pub comparison-returns-in-None : goal.comparison-returns-in-None
 comparison-returns-in-None t c = compare_one c.args.total c.args.depth c.args.tokens.now c.in_ok-first.rest.now c.in_ok-first.first c.in_ok-first.ensures c.in-None.ensures
 
-pub comparison-returns-in_ok-compared-in-Some : goal.comparison-returns-in_ok-compared-in-Some
-comparison-returns-in_ok-compared-in-Some t c = rw (c.in_ok-compared-in-Some.ensures, c.in_ok-head-in-Some.ensures) (compare_ok c.args.total c.args.depth c.args.tokens.now c.in_ok-first.rest.now c.in-Some.after.now c.in_ok-second-in-Some.rest.now c.in_ok-first.first c.in_ok-second-in-Some.second c.in-Some.op ((c.in-Some.op, c.in_ok-second-in-Some.second) ∷ []) refl c.in_ok-first.ensures c.in-Some.ensures.0 c.in-Some.ensures.1 c.in_ok-second-in-Some.ensures)
+pub comparison-returns-in_ok-second-in-Some : goal.comparison-returns-in_ok-second-in-Some
+comparison-returns-in_ok-second-in-Some t c = rw (compare_ok c.args.total c.args.depth c.args.tokens.now c.in_ok-first.rest.now c.in-Some.after.now c.in_ok-second-in-Some.rest.now c.in_ok-first.first c.in_ok-second-in-Some.second c.in-Some.op ((c.in-Some.op, c.in_ok-second-in-Some.second) ∷ []) refl c.in_ok-first.ensures c.in-Some.ensures.0 c.in-Some.ensures.1 c.in_ok-second-in-Some.ensures) c.compared.ensures
 
 pub expr-returns-then-depth-eq0 : goal.expr-returns-then-depth-eq0
 expr-returns-then-depth-eq0 t c = let_deep c.args.total c.args.depth c.args.tokens.now c.in-Some.rest.now c.if-depth-eq0.true c.in-Some.ensures
@@ -110,7 +96,7 @@ pub more_exprs-exprs-smaller : goal.more_exprs-exprs-smaller
 more_exprs-exprs-smaller t c = less Comma (reads c.args.total c.args.depth whole) c.exprs.rest.now c.in-Some.after.now c.in_ok-next.after.now c.in_ok-next.next (rests_whole c.args.total c.args.depth) c.in-Some.ensures c.in_ok-next.ensures
 
 pub more_exprs-exprs-preserved : goal.more_exprs-exprs-preserved
-more_exprs-exprs-preserved t c = rw c.in_ok-push-2.ensures.items (onward Comma (reads c.args.total c.args.depth whole) (rests_whole c.args.total c.args.depth) (others (is_symbol Comma) (behind (mark Comma) (reads c.args.total c.args.depth whole)) (c.args.first ∷ []) c.args.tokens.now) c.exprs.found.items c.exprs.rest.now c.in-Some.after.now c.in_ok-next.after.now c.in_ok-next.next c.in-Some.ensures c.in_ok-next.ensures c.exprs.invariant)
+more_exprs-exprs-preserved t c = rw (c.in_ok-push-2.ensures.items, c.into_inner-in-Some.ensures) (onward Comma (reads c.args.total c.args.depth whole) (rests_whole c.args.total c.args.depth) (others (is_symbol Comma) (behind (mark Comma) (reads c.args.total c.args.depth whole)) (c.args.first ∷ []) c.args.tokens.now) c.exprs.found.items c.exprs.rest.now c.in-Some.after.now c.in_ok-next.after.now c.in_ok-next.next c.in-Some.ensures c.in_ok-next.ensures c.exprs.invariant)
 
 pub more_exprs-returns : goal.more_exprs-returns
 more_exprs-returns t c = rw c.of.ensures (stops (is_symbol Comma) (behind (mark Comma) (reads c.args.total c.args.depth whole)) (others (is_symbol Comma) (behind (mark Comma) (reads c.args.total c.args.depth whole)) (c.args.first ∷ []) c.args.tokens.now) c.exprs.found.items c.exprs.rest.now c.in_default.ensures c.exprs.invariant)
@@ -147,7 +133,7 @@ pub more_steps-steps-smaller : goal.more_steps-steps-smaller
 more_steps-steps-smaller t c = step_less c.args.total c.args.depth c.args.level c.steps.rest.now c.in-Some.after.now c.in_ok-next.after.now c.in-Some.op c.in_ok-next.next c.in-Some.ensures.1 c.in_ok-next.ensures
 
 pub more_steps-steps-preserved : goal.more_steps-steps-preserved
-more_steps-steps-preserved t c = rw c.in_ok-push.ensures.items (step_onward c.args.total c.args.depth c.args.level (Others c.args.total c.args.depth c.args.level c.args.tokens.now) c.steps.found.items c.steps.rest.now c.in-Some.after.now c.in_ok-next.after.now c.in-Some.op c.in_ok-next.next c.in-Some.ensures.0 c.in-Some.ensures.1 c.in_ok-next.ensures c.steps.invariant)
+more_steps-steps-preserved t c = rw (c.in_ok-push.ensures.items, c.into_inner.ensures) (step_onward c.args.total c.args.depth c.args.level (Others c.args.total c.args.depth c.args.level c.args.tokens.now) c.steps.found.items c.steps.rest.now c.in-Some.after.now c.in_ok-next.after.now c.in-Some.op c.in_ok-next.next c.in-Some.ensures.0 c.in-Some.ensures.1 c.in_ok-next.ensures c.steps.invariant)
 
 pub more_steps-returns : goal.more_steps-returns
 more_steps-returns t c = step_stops c.args.total c.args.depth c.args.level (Others c.args.total c.args.depth c.args.level c.args.tokens.now) c.steps.found.items c.steps.rest.now c.in_default.ensures c.steps.invariant
@@ -160,16 +146,11 @@ named-returns-in_err-word t c =
 pub named-returns-then-depth-eq0 : goal.named-returns-then-depth-eq0
 named-returns-then-depth-eq0 t c = named_deep c.args.total c.args.depth c.args.tokens.now c.in_ok-word.rest.now c.in-Some.after.now c.in_ok-word.word (omega arith) c.in_ok-word.ensures c.in-Some.ensures
 
-pub named-returns-in_err-args-in-Some : goal.named-returns-in_err-args-in-Some
-named-returns-in_err-args-in-Some t c =
-    let p = err_from_is_err_and c.from_residual-in_err-args-in-Some.result c.from_residual-in_err-args-in-Some.ensures.1 in
-    rw (p.1, p.2) (err_by c.in_err-args-in-Some.field-0.0 (named_at c.args.total c.args.depth c.args.tokens.now) (in_args (reads c.args.total (c.args.depth - 1) whole) c.in-Some.after.now) (λ l s. ok (expr.Call c.in_ok-word.word l) s) (named_args c.args.total c.args.depth (c.args.depth - 1) c.args.tokens.now c.in_ok-word.rest.now c.in-Some.after.now c.in_ok-word.word (omega arith) c.in_ok-word.ensures c.in-Some.ensures) c.in_err-args-in-Some.ensures)
-
 pub named-returns-in-None : goal.named-returns-in-None
-named-returns-in-None t c = named_alone c.args.total c.args.depth c.args.tokens.now c.in_ok-word.rest.now c.in_ok-word.word c.in_ok-word.ensures c.in-None.ensures
+named-returns-in-None t c = rw (named_alone c.args.total c.args.depth c.args.tokens.now c.in_ok-word.rest.now c.in_ok-word.word c.in_ok-word.ensures c.in-None.ensures) c.boxed.ensures
 
-pub named-returns-in_ok-args-in-Some : goal.named-returns-in_ok-args-in-Some
-named-returns-in_ok-args-in-Some t c = (named_args c.args.total c.args.depth (c.args.depth - 1) c.args.tokens.now c.in_ok-word.rest.now c.in-Some.after.now c.in_ok-word.word (omega arith) c.in_ok-word.ensures c.in-Some.ensures) ∙ rw c.in_ok-args-in-Some.ensures refl
+pub named-returns-else-depth-eq0 : goal.named-returns-else-depth-eq0
+named-returns-else-depth-eq0 t c = rw (named_args c.args.total c.args.depth (c.args.depth - 1) c.args.tokens.now c.in_ok-word.rest.now c.in-Some.after.now c.in_ok-word.word (omega arith) c.in_ok-word.ensures c.in-Some.ensures) c.call_rest.ensures
 
 pub negation-returns-then-depth-eq0 : goal.negation-returns-then-depth-eq0
 negation-returns-then-depth-eq0 t c = not_deep c.args.total c.args.depth c.args.tokens.now c.in-Some.rest.now c.if-depth-eq0.true c.in-Some.ensures
@@ -180,7 +161,7 @@ negation-returns-in_err-inner t c =
     rw (p.1, p.2) (err_by c.in_err-inner.field-0.0 (sort_at c.args.total c.args.depth negated c.args.tokens.now) (sort_at c.args.total (c.args.depth - 1) negated c.in-Some.rest.now) (λ x s. ok (expr.Not x) s) (not_at c.args.total c.args.depth (c.args.depth - 1) c.args.tokens.now c.in-Some.rest.now (omega arith) c.in-Some.ensures) c.in_err-inner.ensures)
 
 pub negation-returns-in-Some : goal.negation-returns-in-Some
-negation-returns-in-Some t c = not_at c.args.total c.args.depth (c.args.depth - 1) c.args.tokens.now c.in-Some.rest.now (omega arith) c.in-Some.ensures ∙ rw (c.in_ok-inner.ensures, c.in_ok-new.ensures) refl
+negation-returns-in-Some t c = rw (not_at c.args.total c.args.depth (c.args.depth - 1) c.args.tokens.now c.in-Some.rest.now (omega arith) c.in-Some.ensures, c.in_ok-inner.ensures) c.boxed.ensures
 
 pub negation-returns : goal.negation-returns
 negation-returns t c = rw (not_none c.args.total c.args.depth c.args.tokens.now c.in_default.ensures) c.comparison.ensures
@@ -208,10 +189,10 @@ pub path-returns-then-is_empty : goal.path-returns-then-is_empty
 path-returns-then-is_empty t c = path_one c.args.total c.args.depth c.args.tokens.now c.in_ok-first.rest.now c.in_ok-words.rest.now c.in_ok-first.first c.in_ok-words.words.items c.in_ok-first.ensures c.in_ok-words.ensures (search rules)
 
 pub path-returns : goal.path-returns
-path-returns t c = rw (c.of.ensures, c.in_ok-new.ensures) (path_more c.args.total c.args.depth c.args.tokens.now c.in_ok-first.rest.now c.in_ok-words.rest.now c.in_ok-first.first c.in_ok-words.words.items c.in_ok-first.ensures c.in_ok-words.ensures (search rules))
+path-returns t c = rw (path_more c.args.total c.args.depth c.args.tokens.now c.in_ok-first.rest.now c.in_ok-words.rest.now c.in_ok-first.first c.in_ok-words.words.items c.in_ok-first.ensures c.in_ok-words.ensures (search rules) ∙ ap (λ l. ok (expr.Path c.in_ok-first.first l) c.in_ok-words.rest.now) (sym c.of.ensures)) c.boxed.ensures
 
 pub primary-returns-in-Some : goal.primary-returns-in-Some
-primary-returns-in-Some t c = const_found c.args.total c.args.depth c.args.tokens.now c.in-Some.rest.now c.in-Some.value (search rules) (search rules)
+primary-returns-in-Some t c = rw (const_found c.args.total c.args.depth c.args.tokens.now c.in-Some.rest.now c.in-Some.value (search rules) (search rules)) c.boxed.ensures
 
 pub primary-returns-then-depth-eq0 : goal.primary-returns-then-depth-eq0
 primary-returns-then-depth-eq0 t c = group_deep c.args.total c.args.depth c.args.tokens.now c.in-Some-eat.rest.now c.if-depth-eq0.true (search rules) c.in-Some-eat.ensures
@@ -222,13 +203,8 @@ primary-returns-in-Some-eat t c = rw (group_at c.args.total c.args.depth (c.args
 pub primary-returns-then-depth-eq0-2 : goal.primary-returns-then-depth-eq0-2
 primary-returns-then-depth-eq0-2 t c = rec_deep c.args.total c.args.depth c.args.tokens.now c.in-Some-eat-2.rest.now c.if-depth-eq0-2.true ((search rules), c.in_default-eat.ensures) c.in-Some-eat-2.ensures
 
-pub primary-returns-in_err-fields : goal.primary-returns-in_err-fields
-primary-returns-in_err-fields t c =
-    let p = err_from_is_err_and c.from_residual-in_err-fields.result c.from_residual-in_err-fields.ensures.1 in
-    rw (p.1, p.2) (err_by c.in_err-fields.field-0.0 (prim_at c.args.total c.args.depth c.args.tokens.now) (in_rec c.args.total (reads c.args.total (c.args.depth - 1) whole) c.in-Some-eat-2.rest.now) (λ l s. ok (expr.Rec l) s) (rec_at c.args.total c.args.depth (c.args.depth - 1) c.args.tokens.now c.in-Some-eat-2.rest.now (omega arith) ((search rules), c.in_default-eat.ensures) c.in-Some-eat-2.ensures) c.in_err-fields.ensures)
-
 pub primary-returns-in-Some-eat-2 : goal.primary-returns-in-Some-eat-2
-primary-returns-in-Some-eat-2 t c = (rec_at c.args.total c.args.depth (c.args.depth - 1) c.args.tokens.now c.in-Some-eat-2.rest.now (omega arith) ((search rules), c.in_default-eat.ensures) c.in-Some-eat-2.ensures) ∙ rw c.in_ok-fields.ensures refl
+primary-returns-in-Some-eat-2 t c = rw (rec_at c.args.total c.args.depth (c.args.depth - 1) c.args.tokens.now c.in-Some-eat-2.rest.now (omega arith) ((search rules), c.in_default-eat.ensures) c.in-Some-eat-2.ensures) c.rec_rest.ensures
 
 pub primary-returns-then-depth-eq0-3 : goal.primary-returns-then-depth-eq0-3
 primary-returns-then-depth-eq0-3 t c = inject_deep c.args.total c.args.depth c.args.tokens.now c.in-Some-eat-3.rest.now c.if-depth-eq0-3.true ((search rules), c.in_default-eat.ensures, c.in_default-eat-2.ensures) c.in-Some-eat-3.ensures
@@ -259,35 +235,35 @@ qualifier-returns-in_err-source-in-Ok t c =
 pub qualifier-returns-in_err-found-in-Err-Bad : goal.qualifier-returns-in_err-found-in-Err-Bad
 qualifier-returns-in_err-found-in-Err-Bad t c =
     let p = err_from_is_err_and c.from_residual-in_err-found-in-Err-Bad.result c.from_residual-in_err-found-in-Err-Bad.ensures.1 in
-    rw (p.1, p.2) (err_by c.in_err-found-in-Err-Bad.field-0.0 (qualifier (read_pat c.args.total c.args.depth) (reads c.args.total c.args.depth whole) c.args.tokens.now) (instead bad c.in-Err-Bad.place.now (condition (reads c.args.total c.args.depth whole) c.args.tokens.now)) (λ b s. ok (qual.Cond b) s) (cond_at (read_pat c.args.total c.args.depth) (reads c.args.total c.args.depth whole) c.args.tokens.now c.in-Err-Bad.place.now bad (is_bad c.in-Err-Bad.field-0 c.in-Err-Bad.place (drawn (read_pat c.args.total c.args.depth) c.args.tokens.now) c.in-Err-Bad.field-0-is c.in-Err-Bad.ensures)) (c.in_err-found-in-Err-Bad.ensures (condition (reads c.args.total c.args.depth whole) c.args.tokens.now) c.condition.ensures))
+    rw (p.1, p.2) (err_by c.in_err-found-in-Err-Bad.field-0.0 (qualifier (read_pat c.args.total c.args.depth) (reads c.args.total c.args.depth whole) c.args.tokens.now) (refused bad c.in-Err-Bad.place.now (condition (reads c.args.total c.args.depth whole) c.args.tokens.now)) (λ b s. ok (qual.Cond b) s) (cond_at (read_pat c.args.total c.args.depth) (reads c.args.total c.args.depth whole) c.args.tokens.now c.in-Err-Bad.place.now bad (is_bad c.in-Err-Bad.field-0 c.in-Err-Bad.place (drawn (read_pat c.args.total c.args.depth) c.args.tokens.now) c.in-Err-Bad.field-0-is c.in-Err-Bad.ensures)) (c.in_err-found-in-Err-Bad.ensures (condition (reads c.args.total c.args.depth whole) c.args.tokens.now) c.condition.ensures))
 
 pub qualifier-returns-in_err-found-in-Err-Deep : goal.qualifier-returns-in_err-found-in-Err-Deep
 qualifier-returns-in_err-found-in-Err-Deep t c =
     let p = err_from_is_err_and c.from_residual-in_err-found-in-Err-Deep.result c.from_residual-in_err-found-in-Err-Deep.ensures.1 in
-    rw (p.1, p.2) (err_by c.in_err-found-in-Err-Deep.field-0.0 (qualifier (read_pat c.args.total c.args.depth) (reads c.args.total c.args.depth whole) c.args.tokens.now) (instead deep c.in-Err-Deep.place.now (condition (reads c.args.total c.args.depth whole) c.args.tokens.now)) (λ b s. ok (qual.Cond b) s) (cond_at (read_pat c.args.total c.args.depth) (reads c.args.total c.args.depth whole) c.args.tokens.now c.in-Err-Deep.place.now deep (is_deep c.in-Err-Deep.field-0 c.in-Err-Deep.place (drawn (read_pat c.args.total c.args.depth) c.args.tokens.now) c.in-Err-Deep.field-0-is c.in-Err-Deep.ensures)) (c.in_err-found-in-Err-Deep.ensures (condition (reads c.args.total c.args.depth whole) c.args.tokens.now) c.condition-in-Err-Deep.ensures))
+    rw (p.1, p.2) (err_by c.in_err-found-in-Err-Deep.field-0.0 (qualifier (read_pat c.args.total c.args.depth) (reads c.args.total c.args.depth whole) c.args.tokens.now) (refused deep c.in-Err-Deep.place.now (condition (reads c.args.total c.args.depth whole) c.args.tokens.now)) (λ b s. ok (qual.Cond b) s) (cond_at (read_pat c.args.total c.args.depth) (reads c.args.total c.args.depth whole) c.args.tokens.now c.in-Err-Deep.place.now deep (is_deep c.in-Err-Deep.field-0 c.in-Err-Deep.place (drawn (read_pat c.args.total c.args.depth) c.args.tokens.now) c.in-Err-Deep.field-0-is c.in-Err-Deep.ensures)) (c.in_err-found-in-Err-Deep.ensures (condition (reads c.args.total c.args.depth whole) c.args.tokens.now) c.condition-in-Err-Deep.ensures))
 
 pub qualifier-returns-in_ok-source-in-Ok : goal.qualifier-returns-in_ok-source-in-Ok
-qualifier-returns-in_ok-source-in-Ok t c = (gen_at (read_pat c.args.total c.args.depth) (reads c.args.total c.args.depth whole) c.args.tokens.now c.in-Ok.rest.now c.in-Ok.bound c.in-Ok.ensures) ∙ rw c.in_ok-source-in-Ok.ensures refl
+qualifier-returns-in_ok-source-in-Ok t c = rw (c.into_inner.ensures, c.into_inner-in-Ok.ensures) ((gen_at (read_pat c.args.total c.args.depth) (reads c.args.total c.args.depth whole) c.args.tokens.now c.in-Ok.rest.now c.in-Ok.bound c.in-Ok.ensures) ∙ rw c.in_ok-source-in-Ok.ensures refl)
 
 pub qualifier-returns-in_ok-found-in-Err-Bad : goal.qualifier-returns-in_ok-found-in-Err-Bad
-qualifier-returns-in_ok-found-in-Err-Bad t c = (cond_at (read_pat c.args.total c.args.depth) (reads c.args.total c.args.depth whole) c.args.tokens.now c.in-Err-Bad.place.now bad (is_bad c.in-Err-Bad.field-0 c.in-Err-Bad.place (drawn (read_pat c.args.total c.args.depth) c.args.tokens.now) c.in-Err-Bad.field-0-is c.in-Err-Bad.ensures)) ∙ rw (c.in_ok-found-in-Err-Bad.ensures (condition (reads c.args.total c.args.depth whole) c.args.tokens.now) c.condition.ensures) refl
+qualifier-returns-in_ok-found-in-Err-Bad t c = rw c.into_inner-in-Err-Bad.ensures ((cond_at (read_pat c.args.total c.args.depth) (reads c.args.total c.args.depth whole) c.args.tokens.now c.in-Err-Bad.place.now bad (is_bad c.in-Err-Bad.field-0 c.in-Err-Bad.place (drawn (read_pat c.args.total c.args.depth) c.args.tokens.now) c.in-Err-Bad.field-0-is c.in-Err-Bad.ensures)) ∙ rw (c.in_ok-found-in-Err-Bad.ensures (condition (reads c.args.total c.args.depth whole) c.args.tokens.now) c.condition.ensures) refl)
 
 pub qualifier-returns-in_ok-found-in-Err-Deep : goal.qualifier-returns-in_ok-found-in-Err-Deep
-qualifier-returns-in_ok-found-in-Err-Deep t c = (cond_at (read_pat c.args.total c.args.depth) (reads c.args.total c.args.depth whole) c.args.tokens.now c.in-Err-Deep.place.now deep (is_deep c.in-Err-Deep.field-0 c.in-Err-Deep.place (drawn (read_pat c.args.total c.args.depth) c.args.tokens.now) c.in-Err-Deep.field-0-is c.in-Err-Deep.ensures)) ∙ rw (c.in_ok-found-in-Err-Deep.ensures (condition (reads c.args.total c.args.depth whole) c.args.tokens.now) c.condition-in-Err-Deep.ensures) refl
+qualifier-returns-in_ok-found-in-Err-Deep t c = rw c.into_inner-in-Err-Deep.ensures ((cond_at (read_pat c.args.total c.args.depth) (reads c.args.total c.args.depth whole) c.args.tokens.now c.in-Err-Deep.place.now deep (is_deep c.in-Err-Deep.field-0 c.in-Err-Deep.place (drawn (read_pat c.args.total c.args.depth) c.args.tokens.now) c.in-Err-Deep.field-0-is c.in-Err-Deep.ensures)) ∙ rw (c.in_ok-found-in-Err-Deep.ensures (condition (reads c.args.total c.args.depth whole) c.args.tokens.now) c.condition-in-Err-Deep.ensures) refl)
 
-pub signed-returns-in-Some : goal.signed-returns-in-Some
-signed-returns-in-Some t c = least_found c.args.total c.args.depth c.args.tokens.now c.in-Some.found.1.now c.in-Some.found.0 c.in-Some.ensures.0 c.in-Some.ensures.1
+pub signed-returns-in-Some-least : goal.signed-returns-in-Some-least
+signed-returns-in-Some-least t c = rw (least_found c.args.total c.args.depth c.args.tokens.now c.in-Some.rest.now c.in-Some-least.rest.now c.in-Some-least.found c.in-Some.ensures c.in-Some-least.ensures.0 c.in-Some-least.ensures.1) c.boxed.ensures
 
 pub signed-returns-then-depth-eq0 : goal.signed-returns-then-depth-eq0
-signed-returns-then-depth-eq0 t c = minus_deep c.args.total c.args.depth c.args.tokens.now c.in-Some-eat.rest.now c.if-depth-eq0.true c.in_default.ensures c.in-Some-eat.ensures
+signed-returns-then-depth-eq0 t c = minus_deep c.args.total c.args.depth c.args.tokens.now c.in-Some.rest.now c.if-depth-eq0.true c.in-Some.ensures c.in_default-least.ensures
 
 pub signed-returns-in_err-inner : goal.signed-returns-in_err-inner
 signed-returns-in_err-inner t c =
     let p = err_from_is_err_and c.from_residual.result c.from_residual.ensures.1 in
-    rw (p.1, p.2) (err_by c.in_err-inner.field-0.0 (sort_at c.args.total c.args.depth signed c.args.tokens.now) (sort_at c.args.total (c.args.depth - 1) signed c.in-Some-eat.rest.now) (λ x s. ok (expr.Neg x) s) (minus_at c.args.total c.args.depth (c.args.depth - 1) c.args.tokens.now c.in-Some-eat.rest.now (omega arith) c.in_default.ensures c.in-Some-eat.ensures) c.in_err-inner.ensures)
+    rw (p.1, p.2) (err_by c.in_err-inner.field-0.0 (sort_at c.args.total c.args.depth signed c.args.tokens.now) (sort_at c.args.total (c.args.depth - 1) signed c.in-Some.rest.now) (λ x s. ok (expr.Neg x) s) (minus_on c.args.total c.args.depth (c.args.depth - 1) c.args.tokens.now c.in-Some.rest.now (omega arith) c.in-Some.ensures c.in_default-least.ensures) c.in_err-inner.ensures)
 
-pub signed-returns-in-Some-eat : goal.signed-returns-in-Some-eat
-signed-returns-in-Some-eat t c = (minus_at c.args.total c.args.depth (c.args.depth - 1) c.args.tokens.now c.in-Some-eat.rest.now (omega arith) c.in_default.ensures c.in-Some-eat.ensures) ∙ rw (c.in_ok-inner.ensures, c.in_ok-new.ensures) refl
+pub signed-returns-in-Some : goal.signed-returns-in-Some
+signed-returns-in-Some t c = rw (minus_on c.args.total c.args.depth (c.args.depth - 1) c.args.tokens.now c.in-Some.rest.now (omega arith) c.in-Some.ensures c.in_default-least.ensures, c.in_ok-inner.ensures) c.boxed-in-Some.ensures
 
 pub signed-returns : goal.signed-returns
-signed-returns t c = rw (minus_none c.args.total c.args.depth c.args.tokens.now c.in_default.ensures c.in_default-eat.ensures) c.path.ensures
+signed-returns t c = rw (minus_none c.args.total c.args.depth c.args.tokens.now c.in_default.ensures) c.path.ensures

@@ -66,7 +66,7 @@ abbrev pub decreases-more_fields : goal.decreases-more_fields
 decreases-more_fields l = 40 * l.depth + 23
 
 abbrev pub decreases-rec_rest : goal.decreases-rec_rest
-decreases-rec_rest l = 40 * l.depth + 24
+decreases-rec_rest l = 40 * l.depth + 25
 
 abbrev pub decreases-args_rest : goal.decreases-args_rest
 decreases-args_rest l = 40 * l.depth + 23
@@ -87,13 +87,13 @@ abbrev pub decreases-coll_rest : goal.decreases-coll_rest
 decreases-coll_rest l = 40 * l.depth + 27
 
 abbrev pub decreases-branch : goal.decreases-branch
-decreases-branch l = 40 * l.depth + 22
+decreases-branch l = 40 * l.depth + 23
 
 abbrev pub decreases-more_branches : goal.decreases-more_branches
-decreases-more_branches l = 40 * l.depth + 23
+decreases-more_branches l = 40 * l.depth + 24
 
 abbrev pub decreases-case_rest : goal.decreases-case_rest
-decreases-case_rest l = 40 * l.depth + 25
+decreases-case_rest l = 40 * l.depth + 26
 
 abbrev pub invariant-more_exprs-exprs : goal.invariant-more_exprs-exprs
 invariant-more_exprs-exprs l = Progress (is_symbol Comma) (behind (mark Comma) (reads l.total l.depth whole)) (others (is_symbol Comma) (behind (mark Comma) (reads l.total l.depth whole)) (l.fn.first ∷ []) l.tokens) l.found.items l.rest
@@ -125,17 +125,23 @@ invariant-more_steps-steps l = Progress (among (op_kinds l.level)) (both (one (a
 abbrev pub decreases-more_steps-steps : goal.decreases-more_steps-steps
 decreases-more_steps-steps l = length l.rest
 
-abbrev pub decreases-boxed_chain : goal.decreases-boxed_chain
-decreases-boxed_chain l = 40 * l.depth + (rank l.level + 3)
+abbrev pub decreases-expr_before : goal.decreases-expr_before
+decreases-expr_before l = 40 * l.depth + 22
 
-abbrev pub decreases-boxed : goal.decreases-boxed
-decreases-boxed l = 40 * l.depth + 22
+abbrev pub decreases-call_rest : goal.decreases-call_rest
+decreases-call_rest l = 40 * l.depth + 24
 
-abbrev pub decreases-boxed_before : goal.decreases-boxed_before
-decreases-boxed_before l = 40 * l.depth + 23
+abbrev pub decreases-fields_rest : goal.decreases-fields_rest
+decreases-fields_rest l = 40 * l.depth + 24
+
+abbrev pub decreases-injected : goal.decreases-injected
+decreases-injected l = 40 * l.depth + 21
+
+abbrev pub decreases-branch_rest : goal.decreases-branch_rest
+decreases-branch_rest l = 40 * l.depth + 22
 
 abbrev pub decreases-case_end : goal.decreases-case_end
 decreases-case_end l = 40 * l.depth + 24
 
 abbrev pub decreases-branches : goal.decreases-branches
-decreases-branches l = 40 * l.depth + 24
+decreases-branches l = 40 * l.depth + 25

@@ -15,7 +15,7 @@ pattern-returns-in_err-label t c =
 
 pub pattern-returns-in-Some : goal.pattern-returns-in-Some
 pattern-returns-in-Some t c =
-    rw c.in_ok-new.ensures (variant_ok c.args.total c.args.depth (c.args.depth - 1) c.args.tokens.now c.in-Some.rest.now c.in_ok-label.rest.now c.in_ok-label.label c.in_ok-label.inner (omega arith) c.in-Some.ensures c.in_ok-label.ensures)
+    variant_ok c.args.total c.args.depth (c.args.depth - 1) c.args.tokens.now c.in-Some.rest.now c.in_ok-label.rest.now c.in_ok-label.label c.in_ok-label.inner (omega arith) c.in-Some.ensures c.in_ok-label.ensures
 
 pub pattern-returns-then-depth-eq0-2 : goal.pattern-returns-then-depth-eq0-2
 pattern-returns-then-depth-eq0-2 t c = shape_deep c.args.total c.args.depth c.args.tokens.now c.in-Some-eat.rest.now c.if-depth-eq0-2.true c.in_default.ensures c.in-Some-eat.ensures

@@ -7,6 +7,9 @@ use Rattle.kl_parse.proofs.patterns.+pattern.Given as goal
 abbrev pub decreases-pattern : goal.decreases-pattern
 decreases-pattern l = 20 * l.depth + 0
 
+abbrev pub decreases-pattern_before : goal.decreases-pattern_before
+decreases-pattern_before l = 20 * l.depth + 1
+
 abbrev pub decreases-pat_field : goal.decreases-pat_field
 decreases-pat_field l = 20 * l.depth + 1
 

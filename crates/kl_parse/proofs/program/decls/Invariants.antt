@@ -8,7 +8,7 @@ use Rattle.kl_parse.specs.Descent.{read_pat, reads, decl}
 use Rattle.kl_parse.proofs.program.decls.Given as goal
 
 abbrev pub invariant-decls : goal.invariant-decls
-invariant-decls l = Progress (is_key Define) (decl l.total (read_pat l.total 256) (reads l.total 256 whole)) (others (is_key Define) (decl l.total (read_pat l.total 256) (reads l.total 256 whole)) [] l.tokens) l.found.items l.rest
+invariant-decls l = Progress (is_key Define) (decl l.total (read_pat l.total l.depth) (reads l.total l.depth whole)) (others (is_key Define) (decl l.total (read_pat l.total l.depth) (reads l.total l.depth whole)) [] l.tokens) l.found.items l.rest
 
 abbrev pub decreases-decls : goal.decreases-decls
 decreases-decls l = length l.rest

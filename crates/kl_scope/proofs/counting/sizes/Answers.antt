@@ -1,4 +1,4 @@
-use Rattle.std.proofs.Common.{List, ◌++◌, ◌+◌, length, Option, Some, None, ◌∙◌, ap, sym, subst}
+use Rattle.std.proofs.Common.{List, ◌+◌, Option, Some, ◌∙◌, ap, sym, subst}
 use Rattle.kl_syntax.specs.declared.tree.Program.{Program}
 use Rattle.kl_scope.specs.declared.counting.SizeBreach.{SizeBreach}
 use Rattle.kl_scope.specs.declared.terms.Size.{Size}

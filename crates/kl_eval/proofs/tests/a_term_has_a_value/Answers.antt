@@ -1,5 +1,0 @@
-use Rattle.std.proofs.Common.{ap, reverse}
-use Rattle.kl_eval.proofs.tests.a_term_has_a_value.Goals as goal
-
-pub eval-result-requires : goal.eval-result-requires
-eval-result-requires g c = c.four.ensures _ _ (ap reverse c.new-env.ensures.items) c.session-session.ensures
