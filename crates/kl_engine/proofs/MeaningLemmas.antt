@@ -12,7 +12,7 @@ use Rattle.kl_value.specs.Views.{collection}
 use Rattle.kl_value.specs.declared.Kind.{Kind}
 use Rattle.kl_value.specs.declared.Kind.TheVariants as kind
 use Rattle.kl_value.specs.declared.Value.{Value}
-use Rattle.kl_type.specs.Ground.{Ground, ground_of}
+use Rattle.kl_type.specs.Ground.{Ground, IsProper, ground_of}
 use Rattle.kl_type.specs.declared.Ty.{Ty}
 use Rattle.kl_rows.specs.Schemes.{Instance}
 use Rattle.kl_outcome.specs.Outcome.{Name, Outcome, done, over, stuck}
@@ -24,7 +24,7 @@ use Rattle.kl_scope.specs.Breaches.{is_marked}
 use Rattle.kl_scope.specs.declared.scoped.Scoped.{Scoped}
 use Rattle.kl_meaning.specs.Run.{meaning_of_program}
 use Rattle.kl_meaning.specs.Tidy.{IsTidyProgram}
-use Rattle.kl_meaning.specs.Typing.{HaveTypesByName, ProgramTypes}
+use Rattle.kl_meaning.specs.Typing.{AreGround, HaveTypesByName, ProgramTypes}
 use Rattle.kl_meaning.proofs.Safety.{never_stuck}
 use Rattle.kl_core.specs.Core.{core}
 use Rattle.kl_core.specs.Trees.{Tree}
@@ -343,6 +343,11 @@ module _ (ks : List DriverKind) (marks : ℕ → Bool) where
   values_names n [] vs none = ap (map (λ s. s.0)) none
   values_names n (s ∷ ss) vs (v, rest, is, at, more) = ap (map (λ s. s.0)) is ∙ ap (λ names. s.name ∷ names) (values_names (suc n) ss rest more)
 
+-- the types of sources are types of the language
+are_ground : (ss : List Source) → AllByRecursion (λ s. IsProper s.ty) ss → AreGround (grounds_of ss)
+are_ground [] all = tt
+are_ground (s ∷ ss) all = (all.0, are_ground ss all.1)
+
 grounds_names : (ss : List Source) → map (λ s. s.0) (grounds_of ss) ≡ names_of ss
 grounds_names [] = refl
 grounds_names (s ∷ ss) = ap (λ names. s.name ∷ names) (grounds_names ss)
@@ -435,14 +440,14 @@ module _ (ss : List Source) (program : Decls) (e : Exp) (typed : Typed) (infers 
   outcome_is false of other first stuck v is = is
 
   -- the term, over a session of the sources
-  module _ (tidy : IsTidyProgram program e) (names : List Name) (kept : names ≡ names_of ss) (t : Tree) (is : t ≡ term_of program e names) (ks : List DriverKind) (marks : ℕ → Bool) (w : World) (serves : Serves ks marks ss w) where
+  module _ (tidy : IsTidyProgram program e) (proper : AllByRecursion (λ s. IsProper s.ty) ss) (names : List Name) (kept : names ≡ names_of ss) (t : Tree) (is : t ≡ term_of program e names) (ks : List DriverKind) (marks : ℕ → Bool) (w : World) (serves : Serves ks marks ss w) where
     types_same : types_of w ≡ program_types (grounds_of ss)
     types_same = fun_ext serves.types
 
     sense : (u : Ground) → ProgramTypes program e (grounds_of ss) u → CoreTypes (types_of w) [] t u
     sense u of =
         subst (λ S. CoreTypes S [] t u) (sym types_same)
-        (subst (λ x. CoreTypes (program_types (grounds_of ss)) [] x u) (sym (is ∙ ap (term_of program e) (kept ∙ sym (grounds_names ss)))) (makes_sense program e (grounds_of ss) u tidy of))
+        (subst (λ x. CoreTypes (program_types (grounds_of ss)) [] x u) (sym (is ∙ ap (term_of program e) (kept ∙ sym (grounds_names ss)))) (makes_sense program e (grounds_of ss) u (are_ground ss proper) tidy of))
 
     pub value_sense : Sense t [] w
     value_sense = ([], infers.result.has_one.0, tt, sense infers.result.has_one.0 infers.result.has_one.1, serves.ready)
@@ -477,8 +482,8 @@ module _ (ss : List Source) (program : Decls) (e : Exp) (typed : Typed) (infers 
   answered_ends (inl (vs, have)) =
       let inhabit : HaveTypesByName (grounds_of ss) vs =
       values_typed (kinds_of ds) marks 0 ss vs (λ i s at. (of_all (IsFit (kinds_of ds)) ss i s placed.fit at).2.collection) (λ i s at marked. (stand i s at (ap marks (sym (zero-add i)) ∙ marked)).typed) have in
-      let found = answers.follows (sources_have ss program e typed infers tidy names kept t is (kinds_of ds) marks w serves means vs have inhabit) in
-      let meant : IsTermOutcome listed first (meaning_of_program program e vs) found.0 = subst (λ o. IsTermOutcome listed first o found.0) (core_is ss program e typed infers tidy names kept t is (kinds_of ds) marks w serves means vs have inhabit) found.1 in
+      let found = answers.follows (sources_have ss program e typed infers tidy placed.proper names kept t is (kinds_of ds) marks w serves means vs have inhabit) in
+      let meant : IsTermOutcome listed first (meaning_of_program program e vs) found.0 = subst (λ o. IsTermOutcome listed first o found.0) (core_is ss program e typed infers tidy placed.proper names kept t is (kinds_of ds) marks w serves means vs have inhabit) found.1 in
       followed found.0 (inr (vs, have, outcome_is ss program e typed infers listed of other first (meaning_of_program program e vs) found.0 meant))
       (follows_since (IsNamed ss marks) ds w.drivers last kept_first found.0 end files out out' found.2)
   answered_ends (inr lacks) = untold (none_meant ss marks first program e ds lacks) (none_told ss marks first program e ds lacks) (run_needs first end answers.no_other)
@@ -510,22 +515,22 @@ pub attaches_same : {A : Type 0} (f : A → State) (xs ys : Vec A Global) (marks
 attaches_same f xs ys marks ss r ds same attaches = subst (λ zs. AttachesAll marks ss r ds (map f zs.items)) (sym same) attaches
 
 module _ (ss : List Source) (s : Scoped) (scope : WasInScope (names_of ss) s) (typed : Typed) (infers : Infers (decls_of s.program.defs) (view s.program.last) (grounds_of ss) typed) (t : Tree) (is : t ≡ term_of (decls_of s.program.defs) (view s.program.last) s.sources)
-    (ds mid : List State) (list : List Attached) (attaches : AttachesAll (is_marked s) ss (Ok list) ds mid) (settings : Settings) (trace : Trace) (fetch : 0 < settings.fetch) where
+    (ds mid : List State) (placed : ArePlaced (kinds_of ds) ss) (list : List Attached) (attaches : AttachesAll (is_marked s) ss (Ok list) ds mid) (settings : Settings) (trace : Trace) (fetch : 0 < settings.fetch) where
   session_serves : Serves (kinds_of ds) (is_marked s) ss (world_of mid list settings trace)
   session_serves = attaches.ready settings trace fetch
 
   pub session_sense : Sense t [] (world_of mid list settings trace)
-  session_sense = value_sense ss (decls_of s.program.defs) (view s.program.last) typed infers (tidied (names_of ss) s scope) s.sources scope.1.sources_kept t is (kinds_of ds) (is_marked s) (world_of mid list settings trace) session_serves
+  session_sense = value_sense ss (decls_of s.program.defs) (view s.program.last) typed infers (tidied (names_of ss) s scope) placed.proper s.sources scope.1.sources_kept t is (kinds_of ds) (is_marked s) (world_of mid list settings trace) session_serves
 
   module _ (listed : Bool) (of : listed ≡ true → IsListScheme typed.result) where
     pub session_list : listed ≡ true → SenseList t [] (world_of mid list settings trace)
     session_list true_is =
-        list_sense ss (decls_of s.program.defs) (view s.program.last) typed infers (tidied (names_of ss) s scope) s.sources scope.1.sources_kept t is (kinds_of ds) (is_marked s) (world_of mid list settings trace) session_serves (of true_is)
+        list_sense ss (decls_of s.program.defs) (view s.program.last) typed infers (tidied (names_of ss) s scope) placed.proper s.sources scope.1.sources_kept t is (kinds_of ds) (is_marked s) (world_of mid list settings trace) session_serves (of true_is)
 
-    pub session_done : (means : Means (decls_of s.program.defs) (view s.program.last) s.sources t) (placed : ArePlaced (kinds_of ds) ss) (other : listed ≡ false → IsListScheme typed.result → ⊥) (first : Option ℕ) (end : Ending) (files : FilesState) (last : List State) (out out' : SinkState)
+    pub session_done : (means : Means (decls_of s.program.defs) (view s.program.last) s.sources t) (other : listed ≡ false → IsListScheme typed.result → ⊥) (first : Option ℕ) (end : Ending) (files : FilesState) (last : List State) (out out' : SinkState)
         → AnswersTerm (IsTermOutcome listed first (core (values_of (world_of mid list settings trace)) t [])) (HaveSources (types_of (world_of mid list settings trace)) (values_of (world_of mid list settings trace))) end list (outside_of files mid out) (outside_of files last out')
         → DoneMeaning ss (is_marked s) first (decls_of s.program.defs) (view s.program.last) end (outside_of files ds out) (outside_of files last out')
-    session_done means placed other first end files last out out' answers =
+    session_done means other first end files last out out' answers =
         term_done ss (decls_of s.program.defs) (view s.program.last) typed infers (tidied (names_of ss) s scope) s.sources scope.1.sources_kept t is means ds (is_marked s) (world_of mid list settings trace) session_serves placed attaches.drivers
         attaches.stand listed of other first end files last out out' answers attaches.list attaches.values
 

@@ -9,20 +9,20 @@ attach_sources-requires-clause-clear g c = idle_none _ c.requires.idle
 
 pub answer_term-result-requires-clause-sense : goal.answer_term-result-requires-clause-sense
 answer_term-result-requires-clause-sense g c =
-    session_sense c.args.sources.items c.args.scoped.now c.requires.scope c.args.typed.now c.requires.types _ c.requires.term _ _ _
+    session_sense c.args.sources.items c.args.scoped.now c.requires.scope c.args.typed.now c.requires.types _ c.requires.term _ _ c.requires.placed _
     (attaches_same _ c.replace.result _ _ _ _ _ c.replace.ensures.value (c.in-Ok.ensures (is_marked c.args.scoped.now) (λ i less. refl))) c.args.how.settings c.new-in-Ok.result c.requires.fetch
 
 pub answer_term-result-requires-clause-list : goal.answer_term-result-requires-clause-list
 answer_term-result-requires-clause-list g c =
-    session_list c.args.sources.items c.args.scoped.now c.requires.scope c.args.typed.now c.requires.types _ c.requires.term _ _ _
+    session_list c.args.sources.items c.args.scoped.now c.requires.scope c.args.typed.now c.requires.types _ c.requires.term _ _ c.requires.placed _
     (attaches_same _ c.replace.result _ _ _ _ _ c.replace.ensures.value (c.in-Ok.ensures (is_marked c.args.scoped.now) (λ i less. refl))) c.args.how.settings c.new-in-Ok.result c.requires.fetch
     _ c.gives_list-is_list.ensures.list
 
 pub returns-in-Ok : goal.returns-in-Ok
 returns-in-Ok g c =
-    λ files. session_done c.args.sources.items c.args.scoped.now c.requires.scope c.args.typed.now c.requires.types _ c.requires.term _ _ _
+    λ files. session_done c.args.sources.items c.args.scoped.now c.requires.scope c.args.typed.now c.requires.types _ c.requires.term _ _ c.requires.placed _
     (attaches_same _ c.replace.result _ _ _ _ _ c.replace.ensures.value (c.in-Ok.ensures (is_marked c.args.scoped.now) (λ i less. refl))) c.args.how.settings c.new-in-Ok.result c.requires.fetch
-    _ c.gives_list-is_list.ensures.list c.requires.means c.requires.placed c.gives_list-is_list.ensures.other _ _ files _ _ _ (c.answer_term-result.ensures.prints files)
+    _ c.gives_list-is_list.ensures.list c.requires.means c.gives_list-is_list.ensures.other _ _ files _ _ _ (c.answer_term-result.ensures.prints files)
 
 pub returns-in-Err : goal.returns-in-Err
 returns-in-Err g c =

@@ -1,3 +1,4 @@
+use Rattle.std.proofs.Common.{length, ap, ◌∙◌, arith}
 use Rattle.kl_engine.proofs.StatsLemmas.{counted_none, counted_more, counted_all}
 use Rattle.kl_engine.proofs.stats.rows_handed.Goals as goal
 
