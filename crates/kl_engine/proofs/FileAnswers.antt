@@ -26,40 +26,14 @@ use Rattle.kl_engine.specs.declared.fault.Fault.TheVariants as fault
 -- ---- the text of a catalogue
 
 module _ (ks : List DriverKind) (text : List ℕ) where
-  pub bad_catalogue : (byte : ℕ) → RefusesCatalogue text (Err (Bad byte)) → PlacesCatalogue ks text (Err (fault.Catalogue byte))
-  bad_catalogue byte refuses = record { sources = tt; placed = tt; refused = inr (inl (byte, refuses, refl)); no_other = tt }
-
-  pub deep_catalogue : (byte : ℕ) → RefusesCatalogue text (Err (TooDeep byte)) → PlacesCatalogue ks text (Err fault.Nesting)
-  deep_catalogue byte refuses = record { sources = tt; placed = tt; refused = inr (inr (inl (byte, refuses, refl))); no_other = tt }
-
-  pub catalogue_wanted : PlacesCatalogue ks text (Err fault.NoMemory)
-  catalogue_wanted = record { sources = tt; placed = tt; refused = inl refl; no_other = tt }
 
   -- entries that were read, and that the layer below saw under another name
   module _ (es us : List Entry) (reads : IsCatalogue text es) (same : us ≡ es) where
-    pub catalogue_placed : (ss : Vec Source Global) → AnswersList (sources_of ks [] us) (Ok ss) → ArePlaced ks ss.items → PlacesCatalogue ks text (Ok ss)
-    catalogue_placed ss answers placed = record { sources = (es, reads, ap (sources_of ks []) (sym same) ∙ answers); placed = placed; refused = tt; no_other = tt }
-
-    wrong_entry : (e : PlaceError) → sources_of ks [] us ≡ Err e → IsCatalogueFault ks text (place_fault e)
-    wrong_entry e is = inr (inr (es, e, reads, ap (sources_of ks []) (sym same) ∙ is, refl))
-
-    pub catalogue_misplaced : (e : PlaceError) → AnswersList (sources_of ks [] us) (Err e) → PlacesCatalogue ks text (Err (place_fault e))
-    catalogue_misplaced (place.Twice name) answers = record { sources = tt; placed = tt; refused = inr (wrong_entry (place.Twice name) answers); no_other = tt }
-    catalogue_misplaced (place.NoDriver name) answers = record { sources = tt; placed = tt; refused = inr (wrong_entry (place.NoDriver name) answers); no_other = tt }
-    catalogue_misplaced (place.Unsuited name) answers = record { sources = tt; placed = tt; refused = inr (wrong_entry (place.Unsuited name) answers); no_other = tt }
-    catalogue_misplaced place.NoMemory answers = catalogue_wanted
 
 -- ---- a file
 
 -- A file that was not read is missing, or a count rose.
 module _ (long : Fault) (AreWrong : List ℕ → Fault → Type 0) (path : List ℕ) (f f' : FilesState) (told : List ℕ → Option (List ℕ)) (is : f.told ≡ Some told) where
-  file_failed : ReadsWhole path most_bytes (Err stop.Failed) f f' → Rose f.faults f'.faults ⊎ IsFileFault long AreWrong (told path) fault.Read
-  file_failed reads = elim (reads.failed refl) [ inl missing ↦ inr (is_missing missing) | inr rose ↦ inl rose ]
-    where
-      is_missing : IsMissing f path → IsFileFault long AreWrong (told path) fault.Read
-      is_missing missing =
-          let one : told ≡ missing.0 = let both = sym is ∙ missing.1 in cc in
-          subst (λ o. IsFileFault long AreWrong o fault.Read) (sym (ap (λ t. t path) one ∙ missing.2)) refl
 
   file_long : ReadsWhole path most_bytes (Ok whole.TooLong) f f' → IsFileFault long AreWrong (told path) long
   file_long reads =
@@ -73,10 +47,6 @@ module _ (long : Fault) (AreWrong : List ℕ → Fault → Type 0) (path : List 
 
   file_at : (bytes : List ℕ) → ReadsWhole path most_bytes (Ok (whole.Bytes bytes)) f f' → told path ≡ Some bytes
   file_at bytes reads = let there = was_there path most_bytes (whole.Bytes bytes) f f' told reads is in there.1 ∙ ap Some (sym there.2.0)
-
--- where bytes are not told a file that was not read is no missing one
-untold_failed : (path : List ℕ) (f f' : FilesState) → f.told ≡ None → ReadsWhole path most_bytes (Err stop.Failed) f f' → Rose f.faults f'.faults
-untold_failed path f f' none reads = elim (reads.failed refl) [ inl missing ↦ absurd (let both = sym none ∙ missing.1 in cc) | inr rose ↦ rose ]
 
 -- ---- the sources of a catalogue
 
@@ -147,20 +117,6 @@ sources_end fault.TermDepth has = has
 sources_end fault.SchemeBytes has = has
 
 module _ (path : List ℕ) (ks : List DriverKind) (f f' : FilesState) where
-  pub sources_failed : ReadsWhole path most_bytes (Err stop.Failed) f f' → ReadsSources (Some path) ks (Err fault.Read) f f'
-  sources_failed reads = record {
-    left = reads.left;
-    told = reads.told;
-    later = reads.later;
-    placed = tt;
-    sources = λ told is. tt;
-    refused = λ told is. elim (file_failed fault.CatalogueBytes (IsCatalogueFault ks) path f f' told is reads) [ inl rose ↦ inr (inl (refl, rose)) | inr wrong ↦ inr (inr wrong) ];
-    no_other = tt;
-    read = λ none is. untold_failed path f f' none reads;
-  }
-
-  pub sources_wanted : ReadsWhole path most_bytes (Err stop.NoMemory) f f' → ReadsSources (Some path) ks (Err fault.NoMemory) f f'
-  sources_wanted reads = record { left = reads.left; told = reads.told; later = reads.later; placed = tt; sources = λ told is. tt; refused = λ told is. inl refl; no_other = tt; read = λ none is. absurd cc }
 
   pub sources_long : ReadsWhole path most_bytes (Ok whole.TooLong) f f' → ReadsSources (Some path) ks (Err fault.CatalogueBytes) f f'
   sources_long reads = record {
@@ -204,20 +160,6 @@ module _ (path : List ℕ) (ks : List DriverKind) (f f' : FilesState) where
 
 -- the program was not read
 module _ (path : List ℕ) (catalogue : Option (List ℕ)) (ks : List DriverKind) (f f' : FilesState) where
-  pub inputs_failed : ReadsWhole path most_bytes (Err stop.Failed) f f' → ReadsInputs path catalogue ks (Err fault.Read) f f'
-  inputs_failed reads = record {
-    left = reads.left;
-    told = reads.told;
-    few = tt;
-    placed = tt;
-    inputs = λ told is. tt;
-    refused = λ told is. elim (file_failed fault.ProgramBytes (λ text. IsSourcesFault told ks catalogue) path f f' told is reads) [ inl rose ↦ inr (inl (refl, rose)) | inr wrong ↦ inr (inr wrong) ];
-    no_other = tt;
-    read = λ none is. untold_failed path f f' none reads;
-  }
-
-  pub inputs_wanted : ReadsWhole path most_bytes (Err stop.NoMemory) f f' → ReadsInputs path catalogue ks (Err fault.NoMemory) f f'
-  inputs_wanted reads = record { left = reads.left; told = reads.told; few = tt; placed = tt; inputs = λ told is. tt; refused = λ told is. inl refl; no_other = tt; read = λ none is. absurd cc }
 
   pub inputs_long : ReadsWhole path most_bytes (Ok whole.TooLong) f f' → ReadsInputs path catalogue ks (Err fault.ProgramBytes) f f'
   inputs_long reads = record {

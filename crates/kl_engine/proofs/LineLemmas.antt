@@ -70,9 +70,6 @@ behind_full (b ∷ bs) d is = cc
 one_line : (d : Named) → Fits d → scheme_lines (d ∷ []) ≡ well (scheme_line d ++ [])
 one_line d fits = lines_fit d [] fits
 
-pub lists_none : (old : SinkState) → ListsAll [] old old
-lists_none old = record { fine = refl; writes = writes_nothing {T = Unit {0}} tt old; still = λ is. refl }
-
 module _ (xs : List Named) (out mid new : SinkState) (before : ListsAll xs out mid) where
   -- what comes of more declarations
   with_more : (ys : List Named) → scheme_lines (xs ++ ys) ≡ behind (scheme_lines xs).page (scheme_lines ys)
