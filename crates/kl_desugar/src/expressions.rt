@@ -2,7 +2,7 @@
 ghost use Rattle.std.specs.Prelude.{◌≡◌, ◌∷◌, [], ◌++◌, length, map, IfOk};
 ghost use Rattle.std.specs.Option.{option_map};
 ghost use Rattle.kl_meaning.specs.Run.{in_order};
-ghost use Rattle.kl_syntax.specs.Syntax.{no_quals, call as called, Inj};
+ghost use Rattle.kl_syntax.specs.Syntax.{no_quals, Call as called, Inj};
 ghost use Rattle.kl_syntax.specs.View.{pattern_view, qual_view, view, rest_of, exps_view, quals_view, steps_view};
 ghost use Rattle.kl_core.specs.Trees as term;
 ghost use Rattle.kl_core.specs.Trees.{view_part};
