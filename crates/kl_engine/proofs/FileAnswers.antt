@@ -26,7 +26,6 @@ use Rattle.kl_engine.specs.declared.fault.Fault.TheVariants as fault
 -- ---- the text of a catalogue
 
 module _ (ks : List DriverKind) (text : List ℕ) where
-
   -- entries that were read, and that the layer below saw under another name
   module _ (es us : List Entry) (reads : IsCatalogue text es) (same : us ≡ es) where
 
@@ -34,7 +33,6 @@ module _ (ks : List DriverKind) (text : List ℕ) where
 
 -- A file that was not read is missing, or a count rose.
 module _ (long : Fault) (AreWrong : List ℕ → Fault → Type 0) (path : List ℕ) (f f' : FilesState) (told : List ℕ → Option (List ℕ)) (is : f.told ≡ Some told) where
-
   file_long : ReadsWhole path most_bytes (Ok whole.TooLong) f f' → IsFileFault long AreWrong (told path) long
   file_long reads =
       let there = was_there path most_bytes whole.TooLong f f' told reads is in
@@ -117,7 +115,6 @@ sources_end fault.TermDepth has = has
 sources_end fault.SchemeBytes has = has
 
 module _ (path : List ℕ) (ks : List DriverKind) (f f' : FilesState) where
-
   pub sources_long : ReadsWhole path most_bytes (Ok whole.TooLong) f f' → ReadsSources (Some path) ks (Err fault.CatalogueBytes) f f'
   sources_long reads = record {
     left = reads.left;
@@ -160,7 +157,6 @@ module _ (path : List ℕ) (ks : List DriverKind) (f f' : FilesState) where
 
 -- the program was not read
 module _ (path : List ℕ) (catalogue : Option (List ℕ)) (ks : List DriverKind) (f f' : FilesState) where
-
   pub inputs_long : ReadsWhole path most_bytes (Ok whole.TooLong) f f' → ReadsInputs path catalogue ks (Err fault.ProgramBytes) f f'
   inputs_long reads = record {
     left = reads.left;

@@ -247,7 +247,6 @@ module _ (ss : List Source) (marks : ℕ → Bool) (first : Option ℕ) (program
 -- ---- attaching was refused
 
 module _ (ss : List Source) (marks : ℕ → Bool) (first : Option ℕ) (program : Decls) (exp : Exp) (files : FilesState) (ds mid : List State) (out : SinkState) (e : AttachError) (c : Causes marks ss ds mid e) where
-
   refused_by : (w : Stored) → IsErrorOf w e.error → stored_fault c.refused.name w ≡ Some (fault_of e.source e.error)
   refused_by w of = refusal_fault c.refused.name w e.error of ∙ ap (λ x. Some (fault_of x e.error)) c.named
 
@@ -420,7 +419,6 @@ run_needs first (Some fault.TermDepth) has told = absurd has
 run_needs first (Some fault.SchemeBytes) has told = absurd has
 
 module _ (ss : List Source) (program : Decls) (e : Exp) (typed : Typed) (infers : Infers program e (grounds_of ss) typed) where
-
   gives : IsListScheme typed.result → GivesList (grounds_of ss) program e
   gives lists u of = lists u ((infers.result.instances u).1 of)
 
