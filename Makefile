@@ -1,7 +1,8 @@
 # What people look for. `rt`, of Rattle's kit, has to be on the path; crates.txt says which crate stands on which.
 #
 #   make              the program, proved: crates/kleisli/out/kleisli
-#   make try          the first example, by a program of which nothing is proved, within two minutes
+#   make try          the first example, by a program of which nothing is proved, within two minutes; PROGRAM=.. for another
+#                     without a catalogue
 #   make run          the first example, by the proved program; PROGRAM=.. CATALOGUE=.. for another
 #   make test         what the gate does: every proof, every test, and the repository's own checks
 #   make wrong        tries the wrong bodies that contracts have to refuse; CRATES=.. for some crates
@@ -33,7 +34,7 @@ kleisli:
 	@echo "$@"; mkdir -p crates/$@/out; cd crates/$@ && rt run -- check ../../examples/first.cpl > out/run.log 2>&1 || { grep -v ': proved$$' out/run.log; exit 1; }
 
 try:
-	@cd crates/kleisli && rt try -- run $(addprefix ../../,$(PROGRAM) $(CATALOGUE))
+	@cd crates/kleisli && rt try --data program.cpl=../../$(PROGRAM) -- run program.cpl
 
 run: kleisli
 	@crates/kleisli/out/kleisli run $(PROGRAM) $(CATALOGUE)

@@ -1,33 +1,19 @@
 -- What reading the files of a command answers.
-use Rattle.std.proofs.Common.{◌≡◌, ◌⊎◌, inl, inr, ℕ, List, [], Option, Some, None, Result, Ok, Err, Vec, refl, sym, ap, subst, ◌∙◌, arith}
+use Rattle.std.proofs.Common.{◌≡◌, inl, inr, ℕ, List, [], Option, Some, None, Result, Ok, Err, Vec, refl, sym, ap, subst, ◌∙◌, arith}
 use Rattle.std.specs.declared.alloc.Global.{Global}
 use Rattle.std.specs.List.{IsDistinct}
-use Rattle.kl_outside.specs.Counts.{Rose}
-use Rattle.kl_outside.specs.Files.{FilesState, IsMissing, ReadsWhole}
+use Rattle.kl_outside.specs.Files.{FilesState, ReadsWhole}
 use Rattle.kl_outside.specs.declared.files.Whole.TheVariants as whole
-use Rattle.kl_outside.specs.declared.stop.Stop.TheVariants as stop
 use Rattle.kl_base.proofs.Rises.{rose_after}
 use Rattle.kl_outside.proofs.FileLemmas.{was_there}
 use Rattle.kl_ask.specs.Driver.{DriverKind}
-use Rattle.kl_catalogue.specs.Reading.{IsCatalogue, RefusesCatalogue}
-use Rattle.kl_catalogue.specs.declared.reading.CatalogueError.TheVariants.{Bad, TooDeep}
-use Rattle.kl_catalogue.specs.declared.reading.Entry.{Entry}
-use Rattle.kl_sources.specs.Placing.{AnswersList}
-use Rattle.kl_sources.specs.Sources.{ArePlaced, sources_of}
-use Rattle.kl_sources.specs.declared.placing.PlaceError.{PlaceError}
-use Rattle.kl_sources.specs.declared.placing.PlaceError.TheVariants as place
+use Rattle.kl_sources.specs.Sources.{ArePlaced}
 use Rattle.kl_sources.specs.declared.source.Source.{Source}
-use Rattle.kl_engine.specs.Catalogues.{place_fault, IsCatalogueFault}
+use Rattle.kl_engine.specs.Catalogues.{IsCatalogueFault}
 use Rattle.kl_engine.specs.Inputs.{IsCatalogueEnd, IsSourcesEnd, IsInputsEnd, PlacesCatalogue, ReadsSources, ReadsInputs}
 use Rattle.kl_engine.specs.Verdict.{most_bytes, IsFileFault, IsSourcesFault}
 use Rattle.kl_engine.specs.declared.fault.Fault.{Fault}
 use Rattle.kl_engine.specs.declared.fault.Fault.TheVariants as fault
-
--- ---- the text of a catalogue
-
-module _ (ks : List DriverKind) (text : List ℕ) where
-  -- entries that were read, and that the layer below saw under another name
-  module _ (es us : List Entry) (reads : IsCatalogue text es) (same : us ≡ es) where
 
 -- ---- a file
 
