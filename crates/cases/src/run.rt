@@ -1,5 +1,5 @@
 //! Running a case.
-ghost use Rattle.std.specs.Prelude.{◌<◌, ◌^◌, All, IfOk, length, map};
+ghost use Rattle.std.specs.Prelude.{◌<◌, ◌^◌, All, length, map};
 ghost use Rattle.kl_engine.specs.Answering.{IsIdle};
 
 use crate::case::{Case, Side, read_case};
@@ -38,7 +38,9 @@ fn try_case(alloc: Global, case: &Case) -> Result<Option<Vec<u8>>> {
 // Runs a case where this call fails too. There is no call 0.
 fn try_turn(alloc: Global, case: &Case, call: u64) -> Result<Option<Vec<u8>>> {
     let mut files = files_of(alloc, case, &case.given.fails.files, Side::Files, call)?;
-    let mut drivers = drivers_of(alloc, case, call)?;
+    let tables = files_of(alloc, case, &case.given.fails.driver, Side::Driver, call)?;
+    let driver = Box::new(alloc, FlatDriver::new(alloc, tables))?;
+    let mut drivers = one_driver(alloc, driver)?;
     try_over(alloc, case, call, &mut files, &mut drivers)
 }
 
@@ -86,16 +88,6 @@ fn differs(
 // The call of this side that fails in a turn.
 fn call_of(case: &Case, side: Side, call: u64) -> u64 {
     if case.given.turns.of == side { call } else { 0 }
-}
-
-// The driver of tables, over files of its own.
-fn drivers_of(alloc: Global, case: &Case, call: u64) -> Result<Vec<Box<dyn Driver>>>
-    ensures idle { IfOk result (λ drivers. All IsIdle (map (λ d. state d) drivers.items)) }
-    ensures few { IfOk result (λ drivers. length drivers.items < 2 ^ 32) }
-{
-    let tables = files_of(alloc, case, &case.given.fails.driver, Side::Driver, call)?;
-    let driver = Box::new(alloc, FlatDriver::new(alloc, tables))?;
-    Ok(one_driver(alloc, driver)?)
 }
 
 fn files_of(alloc: Global, case: &Case, fails: &[u64], side: Side, call: u64) -> Result<MemFiles> {
