@@ -11,6 +11,8 @@ mod attaching;
 #[cfg(test)]
 mod catalogues;
 #[cfg(test)]
+mod made;
+#[cfg(test)]
 mod placing;
 #[cfg(test)]
 mod tables;

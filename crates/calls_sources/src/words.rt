@@ -63,3 +63,16 @@ fn an_option_past_its_range_is_refused(rt: HostRuntime) -> Result<(), Fail> {
     assert!(rt; found == Err(WordsError::Usage));
     Ok(())
 }
+
+#[test]
+fn a_seed_and_a_size_are_read(rt: HostRuntime) -> Result<(), Fail> {
+    let found = read(rt.alloc(), "gen 7 1000")?;
+    assert!(rt;
+        found
+            == Ok(Command::Gen {
+                seed: 7,
+                size: 1000
+            })
+    );
+    Ok(())
+}

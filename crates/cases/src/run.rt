@@ -6,7 +6,7 @@ use crate::case::{Case, Side, read_case};
 use crate::pieces::Pieces;
 use anyhow::{Context, Result};
 use kl_ask::Driver;
-use kl_engine::{kleisli, one_driver};
+use kl_engine::{add_driver, kleisli};
 use kl_exchange::print;
 use kl_flat::FlatDriver;
 use kl_outside::{MemFiles, MemSink, write_whole};
@@ -39,8 +39,9 @@ fn try_case(alloc: Global, case: &Case) -> Result<Option<Vec<u8>>> {
 fn try_turn(alloc: Global, case: &Case, call: u64) -> Result<Option<Vec<u8>>> {
     let mut files = files_of(alloc, case, &case.given.fails.files, Side::Files, call)?;
     let tables = files_of(alloc, case, &case.given.fails.driver, Side::Driver, call)?;
+    let mut drivers = Vec::new(alloc);
     let driver = Box::new(alloc, FlatDriver::new(alloc, tables))?;
-    let mut drivers = one_driver(alloc, driver)?;
+    add_driver(&mut drivers, driver)?;
     try_over(alloc, case, call, &mut files, &mut drivers)
 }
 

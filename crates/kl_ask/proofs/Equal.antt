@@ -44,7 +44,7 @@ same_test a b =
     let all = Decides-and (pointwise nat_eq a.left b.left) (comparisons.ghosts.eq a.op b.op && rights.ghosts.eq a.right b.right) (bytes_eq-Decides a.left b.left) later in
     Decides-like (tests.ghosts.eq a b) (λ h i. record { left = h.0 i; op = h.1.0 i; right = h.1.1 i }) (λ e. (ap (λ (t : ColTest). t.left) e, (ap (λ (t : ColTest). t.op) e, ap (λ (t : ColTest). t.right) e))) all
 
-same_names : (ls ms : List Name) → Decides (pointwise (pointwise nat_eq) ls ms) (ls ≡ ms)
+pub same_names : (ls ms : List Name) → Decides (pointwise (pointwise nat_eq) ls ms) (ls ≡ ms)
 same_names ls ms = slice_eq-Decides bytes_eq-Decides ls ms (pointwise (pointwise nat_eq) ls ms) refl
 
 same_tests : (ts us : List ColTest) → Decides (pointwise tests.ghosts.eq ts us) (ts ≡ us)

@@ -3,5 +3,7 @@ pub mod Columns
 pub mod Equal
 pub mod Kept
 pub mod Names
+pub mod Opened
+pub mod Shapes
 pub mod Whole
 pub mod Worlds

@@ -1,11 +1,13 @@
 -- Asks for whole rows without tests.
-use Rattle.std.proofs.Common.{◌≡◌, Bool, true, false, ◌||◌, cond, nat_eq, List, [], ◌∷◌, Option, Some, None, IsSome, refl, sym, ap, subst, ◌∙◌}
+use Rattle.std.proofs.Common.{◌≡◌, ◌==◌, Bool, true, false, ◌&&◌, ◌||◌, length, cond, nat_eq, List, [], ◌∷◌, Option, Some, None, IsSome, refl, sym, ap, subst, ◌∙◌, arith}
 use Rattle.std.specs.Prelude.{filter}
 use Rattle.std.specs.List.{AllByRecursion}
 use Rattle.std.specs.List.Sorted.{IsStrictlySortedBy}
 use Rattle.std.specs.Cmp.Lexicographic.{pointwise}
+use Rattle.std.proofs.lemmas.Bool.{and_parts}
+use Rattle.std.proofs.lemmas.Bool.Decides.{nat_tests}
 use Rattle.std.proofs.lemmas.Cmp.{nat_list_eq_equiv}
-use Rattle.std.proofs.lemmas.List.Sorted.{Contains-permutation, IsPermutation-sym, sum_by-IsPermutation}
+use Rattle.std.proofs.lemmas.List.Sorted.{Contains-permutation, IsPermutation-refl, IsPermutation-sym, sum_by-IsPermutation}
 use Rattle.kl_base.specs.Fields.{bytes_cmp, labels_of}
 use Rattle.kl_value.specs.Canon.{canonical}
 use Rattle.kl_value.specs.Views.{bool_layer, int_layer, bytes_layer, collection}
@@ -19,9 +21,12 @@ use Rattle.kl_type.proofs.RowLemmas.{labels_rise}
 use Rattle.kl_type.specs.declared.Ty.{Ty}
 use Rattle.kl_outcome.specs.Outcome.{Name, as_record, record_layer}
 use Rattle.kl_outcome.specs.Typed.{Has, Inhabits}
-use Rattle.kl_ask.specs.Asks.{item_of, kind_of, columns, column, is_kept, shown_fields, shown, answers, shown_row, shown_type, same_names}
+use Rattle.kl_ask.specs.Asks.{item_of, kind_of, columns, column, is_kept, shown_fields, shown, answers, shown_row, shown_type, is_allowed, same_names}
 use Rattle.kl_ask.specs.Driver.{State, Source, IsColl, CanStart, InOrder}
+use Rattle.kl_ask.specs.declared.ask.Abilities.{Abilities}
 use Rattle.kl_ask.specs.declared.ask.Ask.TheVariants as asks
+use Rattle.kl_ask.specs.declared.ask.ColTest.{ColTest}
+use Rattle.kl_ask.proofs.Equal.{same_names as names_decide}
 use Rattle.kl_outcome.proofs.OutcomeTypes.{labels_same}
 use Rattle.kl_base.proofs.Each.{all_map}
 
@@ -144,6 +149,12 @@ collection_is t h = subst (λ q. q ≡ coll (kind_of q) (item_of q)) (sym h.2) r
 
 -- ---- rows in another order are the same collection
 
+-- rows in their order
+pub in_order : (k : Kind) (rows : List Value) → InOrder k rows rows
+in_order kind.List rows = refl
+in_order kind.Set rows = IsPermutation-refl rows
+in_order kind.Bag rows = IsPermutation-refl rows
+
 pub in_order_canonical : (k : Kind) (rows shown : List Value) → InOrder k rows shown → canonical k shown ≡ canonical k rows
 in_order_canonical kind.Set rows shown h =
     let c = canonical_is kind.Set rows in
@@ -153,3 +164,18 @@ in_order_canonical kind.Bag rows shown h =
     let c = canonical_is kind.Bag rows in
     sym (canonical_only kind.Bag shown (canonical kind.Bag rows) (c.0, c.1, c.2, λ w. c.3 w ∙ sym (sum_by-IsPermutation _ rows shown h)))
 in_order_canonical kind.List rows shown h = ap (canonical kind.List) h
+
+-- a driver that neither selects nor projects is asked whole rows alone
+pub only_whole : (a : Abilities) (t : Ground) (source : Name) (keep : List Name) (tests : List ColTest) → a.select ≡ false → a.project ≡ false
+    → is_allowed a t (asks.Rows source keep tests) ≡ true → (keep ≡ columns (item_of t)) × (tests ≡ [])
+only_whole a t source keep tests no_select no_project allowed =
+    let both = and_parts (length tests == 0 || a.select) (same_names keep (columns (item_of t)) || a.project) allowed in
+    ((names_decide keep (columns (item_of t))).0 (or_false _ _ no_project both.1), none tests (or_false _ _ no_select both.0))
+  where
+    or_false : (b c : Bool) → c ≡ false → b || c ≡ true → b ≡ true
+    or_false true c e h = refl
+    or_false false c e h = let n : false ≡ true = sym e ∙ h in cc
+
+    none : (tests : List ColTest) → length tests == 0 ≡ true → tests ≡ []
+    none [] h = refl
+    none (test ∷ tests) h = let e : length (test ∷ tests) ≡ 0 = grind (arith, nat_tests, h) in absurd (omega (arith, e))

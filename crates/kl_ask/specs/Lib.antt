@@ -1,6 +1,10 @@
 pub mod Asked
 pub mod Asks
+pub mod Cursors
 pub mod Driver
 pub mod Lists
+pub mod Named
+pub mod Settings
+pub mod Tables
 pub mod Trace
 pub mod World

@@ -8,9 +8,12 @@ mod ask;
 mod asked;
 mod asking;
 mod boxed;
+mod cursors;
 mod driver;
+mod named;
 mod session;
 mod settings;
+mod tables;
 
 pub use ask::{Abilities, Ask, Cmp, ColTest, Drift, DriverError, Right};
 pub use asked::{ask_laws, count_ask, sum_asked};
@@ -19,6 +22,9 @@ pub use boxed::{
     abilities_boxed, attach_boxed, finish_boxed, handed_boxed, name_boxed, pull_boxed, start_boxed,
     suits_boxed,
 };
+pub use cursors::close_cursor;
 pub use driver::Driver;
+pub use named::asked_source;
 pub use session::{Attached, Seen, Session};
 pub use settings::{JoinHow, JoinRun, Settings, Trace};
+pub use tables::columns_of;

@@ -1,4 +1,6 @@
 //! How a program is run, and what is counted while it runs.
+ghost use Rattle.std.specs.Prelude.{◌≡◌};
+ghost use Rattle.kl_ask.specs.Settings.{usual_settings};
 ghost use Rattle.kl_ask.specs.Trace.{IsBlank};
 
 use kl_base::Seq;
@@ -28,6 +30,22 @@ pub struct Settings {
     pub rewrite: bool,
     /// Whether work is sent to the drivers that can do it.
     pub delegate: bool,
+}
+
+impl Settings {
+    /// The settings of a run for which none are given.
+    pub fn usual() -> Settings
+        ensures { result ≡ usual_settings }
+    {
+        Settings {
+            block: 256,
+            fetch: 64,
+            cache: 64,
+            join: JoinHow::Index,
+            rewrite: true,
+            delegate: true,
+        }
+    }
 }
 
 /// One execution of a join.

@@ -16,7 +16,7 @@ use Rattle.kl_core.specs.Keeping.{Room, MeansPut, TypedPut}
 use Rattle.kl_core.proofs.Meanings.{subst_keeps}
 use Rattle.kl_core.proofs.TypeLaws.{subst_typed}
 use Rattle.kl_core.specs.Inside.{RoomIn, RoomTrees, RoomParts, RoomArms, RoomUnder}
-use Rattle.kl_core.proofs.Views.{view_Rec, view_Make, view_Prim, view_Case, view_option, arms_view, mapped_trees, mapped_parts, mapped_arms}
+use Rattle.kl_core.proofs.Views.{view_Rec, view_Proj, view_Inj, view_Make, view_Union, view_Ext, view_If, view_Let, view_Prim, view_Case, view_option, arms_view, mapped_trees, mapped_parts, mapped_arms}
 
 -- ---- raising in two steps, and by nothing
 
@@ -191,16 +191,39 @@ room_Prim t c ts us n u w e f h = rw f (All-from_recursion _ ts (trees_room ts n
 pub room_Rec : (t : Term) (ps qs : List (Name × Term)) (n u : ℕ) (w : Tree) → t ≡ term.Rec ps → qs ≡ ps → RoomIn (view t) n u w → All (λ p. RoomIn (view p.1) n u w) qs
 room_Rec t ps qs n u w e f h = rw f (All-from_recursion _ ps (parts_room ps n u w (rw (e, view_Rec) at h)))
 
-case_room : (t a : Term) (ps : List (Name × Term)) (c : Option Term) (n u : ℕ) (w : Tree) → t ≡ term.Case a ps c → RoomIn (view t) n u w → RoomIn (view a) n u w × RoomArms (arms_view ps c) n u w
+pub room_Proj : (t : Term) (l : Name) (a : Term) (n u : ℕ) (w : Tree) → t ≡ term.Proj l a → RoomIn (view t) n u w → RoomIn (view a) n u w
+room_Proj t l a n u w e h = rw (e, view_Proj) at h
+
+pub room_Inj : (t : Term) (l : Name) (a : Term) (n u : ℕ) (w : Tree) → t ≡ term.Inj l a → RoomIn (view t) n u w → RoomIn (view a) n u w
+room_Inj t l a n u w e h = rw (e, view_Inj) at h
+
+pub room_Union : (t a b : Term) (n u : ℕ) (w : Tree) → t ≡ term.Union a b → RoomIn (view t) n u w → RoomIn (view a) n u w × RoomIn (view b) n u w
+room_Union t a b n u w e h = rw (e, view_Union) at h
+
+pub room_Ext : (t : Term) (k : Kind) (b s : Term) (n u : ℕ) (w : Tree) → t ≡ term.Ext k b s → RoomIn (view t) n u w → RoomIn (view s) n u w × RoomUnder (view b) n u w
+room_Ext t k b s n u w e h =
+    let r : RoomIn (view s) n u w × (n + 1 < 2 ^ 32) × RoomIn (view b) (n + 1) (u + 1) w = rw (e, view_Ext) at h in
+    (r.0, (r.1, r.2))
+
+pub room_If : (t a b c : Term) (n u : ℕ) (w : Tree) → t ≡ term.If a b c → RoomIn (view t) n u w → RoomIn (view a) n u w × RoomIn (view b) n u w × RoomIn (view c) n u w
+room_If t a b c n u w e h = rw (e, view_If) at h
+
+pub room_Let : (t a b : Term) (n u : ℕ) (w : Tree) → t ≡ term.Let a b → RoomIn (view t) n u w → RoomIn (view a) n u w × RoomUnder (view b) n u w
+room_Let t a b n u w e h =
+    let r : RoomIn (view a) n u w × (n + 1 < 2 ^ 32) × RoomIn (view b) (n + 1) (u + 1) w = rw (e, view_Let) at h in
+    (r.0, (r.1, r.2))
+
+pub case_room : (t a : Term) (ps : List (Name × Term)) (c : Option Term) (n u : ℕ) (w : Tree) → t ≡ term.Case a ps c → RoomIn (view t) n u w → RoomIn (view a) n u w × RoomArms (arms_view ps c) n u w
 case_room t a ps c n u w e h = along (λ q. RoomIn q n u w) (ap view e ∙ view_Case a ps c) h
 
 pub room_branches : (t a : Term) (ps qs : List (Name × Term)) (c : Option Term) (n u : ℕ) (w : Tree) → t ≡ term.Case a ps c → qs ≡ ps → RoomIn (view t) n u w → All (λ p. RoomUnder (view p.1) n u w) qs
 room_branches t a ps qs c n u w e f h = rw f (All-from_recursion _ ps (arms_room ps (rest_of (view_option c)) n u w (case_room t a ps c n u w e h).1).0)
 
-pub room_other : (t a : Term) (ps : List (Name × Term)) (c : Option Term) (b d : Term) (n u : ℕ) (w : Tree) → t ≡ term.Case a ps c → c ≡ Some b → d ≡ b → RoomIn (view t) n u w → RoomIn (view d) n u w
-room_other t a ps c b d n u w e f g h =
-    let last = (arms_room ps (rest_of (view_option c)) n u w (case_room t a ps c n u w e h).1).1 in
-    rw g (along (λ q. RoomArms (rest_of (view_option q)) n u w) f last)
+pub room_other : (t a : Term) (ps : List (Name × Term)) (c : Option Term) (n u : ℕ) (w : Tree) → t ≡ term.Case a ps c → RoomIn (view t) n u w → RoomArms (rest_of (view_option c)) n u w
+room_other t a ps c n u w e h = (arms_room ps (rest_of (view_option c)) n u w (case_room t a ps c n u w e h).1).1
+
+pub room_rest : (c : Option Term) (b d : Term) (n u : ℕ) (w : Tree) → c ≡ Some b → d ≡ b → RoomArms (rest_of (view_option c)) n u w → RoomIn (view d) n u w
+room_rest c b d n u w e f h = rw f (rw e at h)
 
 -- ---- what is put
 
@@ -213,15 +236,30 @@ put_Prim t c ts us vs n w e f h = rw (e, view_Prim, view_Prim) (ap (Prim c) (map
 pub put_Rec : (t : Term) (ps qs rs : List (Name × Term)) (n : ℕ) (w : Tree) → t ≡ term.Rec ps → rs ≡ ps → map view_part qs ≡ map (λ p. (p.0, subst_of (view p.1) n w)) rs → view (term.Rec qs) ≡ subst_of (view t) n w
 put_Rec t ps qs rs n w e f h = rw (e, view_Rec, view_Rec) (ap Rec (mapped_parts (λ t. subst_of t n w) (λ ps. subst_parts ps n w) refl (λ l t ps. refl) ps qs rs f h))
 
-pub put_Case : (t a b b' : Term) (ps qs rs : List (Name × Term)) (c d : Option Term) (n : ℕ) (w : Tree) → t ≡ term.Case a ps c → b' ≡ b → view b ≡ subst_of (view a) n w → rs ≡ ps
-    → map view_part qs ≡ map (λ p. (p.0, subst_of (view p.1) (n + 1) (shift_of w 0 1))) rs → rest_of (view_option d) ≡ subst_arms (rest_of (view_option c)) n w → view (term.Case b' qs d) ≡ subst_of (view t) n w
-put_Case t a b b' ps qs rs c d n w e j g f h i =
-    view_Case b' qs d
-    ∙ ap₂ Case (ap view j ∙ g) (mapped_arms (λ t. subst_of t (n + 1) (shift_of w 0 1)) (λ bs. subst_arms bs n w) (λ l t bs. refl) ps qs rs (rest_of (view_option c)) (rest_of (view_option d)) f h i)
-    ∙ sym (ap (λ q. subst_of q n w) (ap view e ∙ view_Case a ps c))
+pub put_Proj : (t : Term) (l : Name) (a x : Term) (n : ℕ) (w : Tree) → t ≡ term.Proj l a → view x ≡ subst_of (view a) n w → view (term.Proj l x) ≡ subst_of (view t) n w
+put_Proj t l a x n w e h = rw (e, view_Proj, view_Proj) (ap (Proj l) h)
 
-pub put_other : (c : Option Term) (o d : Term) (n : ℕ) (w : Tree) → c ≡ Some o → view d ≡ subst_of (view o) n w → rest_of (view_option (Some d)) ≡ subst_arms (rest_of (view_option c)) n w
-put_other c o d n w e h = rw e (ap rest h)
+pub put_Inj : (t : Term) (l : Name) (a x : Term) (n : ℕ) (w : Tree) → t ≡ term.Inj l a → view x ≡ subst_of (view a) n w → view (term.Inj l x) ≡ subst_of (view t) n w
+put_Inj t l a x n w e h = rw (e, view_Inj, view_Inj) (ap (Inj l) h)
+
+pub put_Union : (t a b x y : Term) (n : ℕ) (w : Tree) → t ≡ term.Union a b → view x ≡ subst_of (view a) n w → view y ≡ subst_of (view b) n w → view (term.Union x y) ≡ subst_of (view t) n w
+put_Union t a b x y n w e h i = rw (e, view_Union, view_Union) (ap₂ Union h i)
+
+pub put_Ext : (t : Term) (k : Kind) (b s x y : Term) (n : ℕ) (w : Tree) → t ≡ term.Ext k b s → view x ≡ subst_of (view b) (n + 1) (shift_of w 0 1) → view y ≡ subst_of (view s) n w → view (term.Ext k x y) ≡ subst_of (view t) n w
+put_Ext t k b s x y n w e h i = rw (e, view_Ext, view_Ext) (ap₂ (Ext k) h i)
+
+pub put_If : (t a b c x y z : Term) (n : ℕ) (w : Tree) → t ≡ term.If a b c → view x ≡ subst_of (view a) n w → view y ≡ subst_of (view b) n w → view z ≡ subst_of (view c) n w → view (term.If x y z) ≡ subst_of (view t) n w
+put_If t a b c x y z n w e h i j = rw (e, view_If, view_If) (ap (λ q. If q (view y) (view z)) h ∙ ap₂ (If (subst_of (view a) n w)) i j)
+
+pub put_Let : (t a b x y : Term) (n : ℕ) (w : Tree) → t ≡ term.Let a b → view x ≡ subst_of (view a) n w → view y ≡ subst_of (view b) (n + 1) (shift_of w 0 1) → view (term.Let x y) ≡ subst_of (view t) n w
+put_Let t a b x y n w e h i = rw (e, view_Let, view_Let) (ap₂ Let h i)
+
+pub put_Case : (t a x : Term) (ps qs rs : List (Name × Term)) (c d : Option Term) (n : ℕ) (w : Tree) → t ≡ term.Case a ps c → view x ≡ subst_of (view a) n w → rs ≡ ps
+    → map view_part qs ≡ map (λ p. (p.0, subst_of (view p.1) (n + 1) (shift_of w 0 1))) rs → rest_of (view_option d) ≡ subst_arms (rest_of (view_option c)) n w → view (term.Case x qs d) ≡ subst_of (view t) n w
+put_Case t a x ps qs rs c d n w e g f h i =
+    view_Case x qs d
+    ∙ ap₂ Case g (mapped_arms (λ t. subst_of t (n + 1) (shift_of w 0 1)) (λ bs. subst_arms bs n w) (λ l t bs. refl) ps qs rs (rest_of (view_option c)) (rest_of (view_option d)) f h i)
+    ∙ sym (ap (λ q. subst_of q n w) (ap view e ∙ view_Case a ps c))
 
 pub put_nothing : (c : Option Term) (n : ℕ) (w : Tree) → c ≡ None → rest_of (view_option None) ≡ subst_arms (rest_of (view_option c)) n w
 put_nothing c n w e = rw e refl

@@ -15,7 +15,7 @@ use Rattle.kl_core.specs.Typing.{CoreTypes}
 use Rattle.kl_core.specs.Keeping.{MeansShifted, TypedShifted}
 use Rattle.kl_core.proofs.Meanings.{shift_keeps}
 use Rattle.kl_core.proofs.TypeLaws.{shift_typed}
-use Rattle.kl_core.proofs.Views.{view_Rec, view_Make, view_Prim, view_Case, view_option, arms_view, mapped_trees, mapped_parts, mapped_arms}
+use Rattle.kl_core.proofs.Views.{view_Rec, view_Proj, view_Inj, view_Make, view_Union, view_Ext, view_If, view_Let, view_Prim, view_Case, view_option, arms_view, mapped_trees, mapped_parts, mapped_arms}
 
 -- ---- each of a list fits
 
@@ -41,16 +41,35 @@ fit_Prim t c ts us n m e f h = rw f (All-from_recursion _ ts (trees_fit ts n m (
 pub fit_Rec : (t : Term) (ps qs : List (Name × Term)) (n m : ℕ) → t ≡ term.Rec ps → qs ≡ ps → InRange (shift_of (view t) n m) → All (λ p. InRange (shift_of (view p.1) n m)) qs
 fit_Rec t ps qs n m e f h = rw f (All-from_recursion _ ps (parts_fit ps n m (rw (e, view_Rec) at h)))
 
-case_fit : (t a : Term) (ps : List (Name × Term)) (c : Option Term) (n m : ℕ) → t ≡ term.Case a ps c → InRange (shift_of (view t) n m) → InRange (shift_of (view a) n m) × ArmsInRange (shift_arms (arms_view ps c) n m)
+pub fit_Proj : (t : Term) (l : Name) (a : Term) (n m : ℕ) → t ≡ term.Proj l a → InRange (shift_of (view t) n m) → InRange (shift_of (view a) n m)
+fit_Proj t l a n m e h = rw (e, view_Proj) at h
+
+pub fit_Inj : (t : Term) (l : Name) (a : Term) (n m : ℕ) → t ≡ term.Inj l a → InRange (shift_of (view t) n m) → InRange (shift_of (view a) n m)
+fit_Inj t l a n m e h = rw (e, view_Inj) at h
+
+pub fit_Union : (t a b : Term) (n m : ℕ) → t ≡ term.Union a b → InRange (shift_of (view t) n m) → InRange (shift_of (view a) n m) × InRange (shift_of (view b) n m)
+fit_Union t a b n m e h = rw (e, view_Union) at h
+
+pub fit_Ext : (t : Term) (k : Kind) (b s : Term) (n m : ℕ) → t ≡ term.Ext k b s → InRange (shift_of (view t) n m) → InRange (shift_of (view b) (n + 1) m) × InRange (shift_of (view s) n m)
+fit_Ext t k b s n m e h = rw (e, view_Ext) at h
+
+pub fit_If : (t a b c : Term) (n m : ℕ) → t ≡ term.If a b c → InRange (shift_of (view t) n m) → InRange (shift_of (view a) n m) × InRange (shift_of (view b) n m) × InRange (shift_of (view c) n m)
+fit_If t a b c n m e h = rw (e, view_If) at h
+
+pub fit_Let : (t a b : Term) (n m : ℕ) → t ≡ term.Let a b → InRange (shift_of (view t) n m) → InRange (shift_of (view a) n m) × InRange (shift_of (view b) (n + 1) m)
+fit_Let t a b n m e h = rw (e, view_Let) at h
+
+pub case_fit : (t a : Term) (ps : List (Name × Term)) (c : Option Term) (n m : ℕ) → t ≡ term.Case a ps c → InRange (shift_of (view t) n m) → InRange (shift_of (view a) n m) × ArmsInRange (shift_arms (arms_view ps c) n m)
 case_fit t a ps c n m e h = subst (λ q. InRange (shift_of q n m)) (ap view e ∙ view_Case a ps c) h
 
 pub fit_branches : (t a : Term) (ps qs : List (Name × Term)) (c : Option Term) (n m : ℕ) → t ≡ term.Case a ps c → qs ≡ ps → InRange (shift_of (view t) n m) → All (λ p. InRange (shift_of (view p.1) (n + 1) m)) qs
 fit_branches t a ps qs c n m e f h = rw f (All-from_recursion _ ps (arms_fit ps (rest_of (view_option c)) n m (case_fit t a ps c n m e h).1).0)
 
-pub fit_other : (t a : Term) (ps : List (Name × Term)) (c : Option Term) (b d : Term) (n m : ℕ) → t ≡ term.Case a ps c → c ≡ Some b → d ≡ b → InRange (shift_of (view t) n m) → InRange (shift_of (view d) n m)
-fit_other t a ps c b d n m e f g h =
-    let last = (arms_fit ps (rest_of (view_option c)) n m (case_fit t a ps c n m e h).1).1 in
-    rw g (subst (λ q. ArmsInRange (shift_arms (rest_of (view_option q)) n m)) f last)
+pub fit_other : (t a : Term) (ps : List (Name × Term)) (c : Option Term) (n m : ℕ) → t ≡ term.Case a ps c → InRange (shift_of (view t) n m) → ArmsInRange (shift_arms (rest_of (view_option c)) n m)
+fit_other t a ps c n m e h = (arms_fit ps (rest_of (view_option c)) n m (case_fit t a ps c n m e h).1).1
+
+pub fit_rest : (c : Option Term) (b d : Term) (n m : ℕ) → c ≡ Some b → d ≡ b → ArmsInRange (shift_arms (rest_of (view_option c)) n m) → InRange (shift_of (view d) n m)
+fit_rest c b d n m e f h = rw f (rw e at h)
 
 -- ---- what is raised
 
@@ -63,15 +82,30 @@ raise_Prim t c ts us vs n m e f h = rw (e, view_Prim, view_Prim) (ap (Prim c) (m
 pub raise_Rec : (t : Term) (ps qs rs : List (Name × Term)) (n m : ℕ) → t ≡ term.Rec ps → rs ≡ ps → map view_part qs ≡ map (λ p. (p.0, shift_of (view p.1) n m)) rs → view (term.Rec qs) ≡ shift_of (view t) n m
 raise_Rec t ps qs rs n m e f h = rw (e, view_Rec, view_Rec) (ap Rec (mapped_parts (λ t. shift_of t n m) (λ ps. shift_parts ps n m) refl (λ l t ps. refl) ps qs rs f h))
 
-pub raise_Case : (t a b b' : Term) (ps qs rs : List (Name × Term)) (c d : Option Term) (n m : ℕ) → t ≡ term.Case a ps c → b' ≡ b → view b ≡ shift_of (view a) n m → rs ≡ ps
-    → map view_part qs ≡ map (λ p. (p.0, shift_of (view p.1) (n + 1) m)) rs → rest_of (view_option d) ≡ shift_arms (rest_of (view_option c)) n m → view (term.Case b' qs d) ≡ shift_of (view t) n m
-raise_Case t a b b' ps qs rs c d n m e j g f h i =
-    view_Case b' qs d
-    ∙ ap₂ Case (ap view j ∙ g) (mapped_arms (λ t. shift_of t (n + 1) m) (λ bs. shift_arms bs n m) (λ l t bs. refl) ps qs rs (rest_of (view_option c)) (rest_of (view_option d)) f h i)
-    ∙ sym (ap (λ q. shift_of q n m) (ap view e ∙ view_Case a ps c))
+pub raise_Proj : (t : Term) (l : Name) (a x : Term) (n m : ℕ) → t ≡ term.Proj l a → view x ≡ shift_of (view a) n m → view (term.Proj l x) ≡ shift_of (view t) n m
+raise_Proj t l a x n m e h = rw (e, view_Proj, view_Proj) (ap (Proj l) h)
 
-pub raise_other : (c : Option Term) (o d : Term) (n m : ℕ) → c ≡ Some o → view d ≡ shift_of (view o) n m → rest_of (view_option (Some d)) ≡ shift_arms (rest_of (view_option c)) n m
-raise_other c o d n m e h = rw e (ap rest h)
+pub raise_Inj : (t : Term) (l : Name) (a x : Term) (n m : ℕ) → t ≡ term.Inj l a → view x ≡ shift_of (view a) n m → view (term.Inj l x) ≡ shift_of (view t) n m
+raise_Inj t l a x n m e h = rw (e, view_Inj, view_Inj) (ap (Inj l) h)
+
+pub raise_Union : (t a b x y : Term) (n m : ℕ) → t ≡ term.Union a b → view x ≡ shift_of (view a) n m → view y ≡ shift_of (view b) n m → view (term.Union x y) ≡ shift_of (view t) n m
+raise_Union t a b x y n m e h i = rw (e, view_Union, view_Union) (ap₂ Union h i)
+
+pub raise_Ext : (t : Term) (k : Kind) (b s x y : Term) (n m : ℕ) → t ≡ term.Ext k b s → view x ≡ shift_of (view b) (n + 1) m → view y ≡ shift_of (view s) n m → view (term.Ext k x y) ≡ shift_of (view t) n m
+raise_Ext t k b s x y n m e h i = rw (e, view_Ext, view_Ext) (ap₂ (Ext k) h i)
+
+pub raise_If : (t a b c x y z : Term) (n m : ℕ) → t ≡ term.If a b c → view x ≡ shift_of (view a) n m → view y ≡ shift_of (view b) n m → view z ≡ shift_of (view c) n m → view (term.If x y z) ≡ shift_of (view t) n m
+raise_If t a b c x y z n m e h i j = rw (e, view_If, view_If) (ap (λ q. If q (view y) (view z)) h ∙ ap₂ (If (shift_of (view a) n m)) i j)
+
+pub raise_Let : (t a b x y : Term) (n m : ℕ) → t ≡ term.Let a b → view x ≡ shift_of (view a) n m → view y ≡ shift_of (view b) (n + 1) m → view (term.Let x y) ≡ shift_of (view t) n m
+raise_Let t a b x y n m e h i = rw (e, view_Let, view_Let) (ap₂ Let h i)
+
+pub raise_Case : (t a x : Term) (ps qs rs : List (Name × Term)) (c d : Option Term) (n m : ℕ) → t ≡ term.Case a ps c → view x ≡ shift_of (view a) n m → rs ≡ ps
+    → map view_part qs ≡ map (λ p. (p.0, shift_of (view p.1) (n + 1) m)) rs → rest_of (view_option d) ≡ shift_arms (rest_of (view_option c)) n m → view (term.Case x qs d) ≡ shift_of (view t) n m
+raise_Case t a x ps qs rs c d n m e g f h i =
+    view_Case x qs d
+    ∙ ap₂ Case g (mapped_arms (λ t. shift_of t (n + 1) m) (λ bs. shift_arms bs n m) (λ l t bs. refl) ps qs rs (rest_of (view_option c)) (rest_of (view_option d)) f h i)
+    ∙ sym (ap (λ q. shift_of q n m) (ap view e ∙ view_Case a ps c))
 
 pub raise_nothing : (c : Option Term) (n m : ℕ) → c ≡ None → rest_of (view_option None) ≡ shift_arms (rest_of (view_option c)) n m
 raise_nothing c n m e = rw e refl

@@ -33,32 +33,20 @@ pub fn copy(alloc: Global, term: &Term) -> Result<Term, NoMemory>
         Term::Rec(fields) => record(copy_fields(alloc, fields.slice())),
         Term::Proj(label, a) => projection(label, copy_box(alloc, a)),
         Term::Inj(label, a) => injection(label, copy_box(alloc, a)),
-        Term::Case(a, branches, other) => {
-            let a = copy_box(alloc, a)?;
-            let branches = copy_fields(alloc, branches.slice())?;
-            match other {
-                Some(other) => case(a, branches, copy_box(alloc, other)),
-                None => Ok(Term::Case(a, branches, None)),
-            }
-        }
+        Term::Case(a, branches, other) => case(
+            copy_box(alloc, a),
+            copy_fields(alloc, branches.slice()),
+            copy_other(alloc, other),
+        ),
         Term::Make(kind, terms) => collection(*kind, copy_all(alloc, terms.slice())),
-        Term::Union(a, b) => {
-            let a = copy_box(alloc, a)?;
-            union(a, copy_box(alloc, b))
-        }
-        Term::Ext(kind, body, source) => {
-            let body = copy_box(alloc, body)?;
-            extension(*kind, body, copy_box(alloc, source))
-        }
-        Term::If(a, b, c) => {
-            let a = copy_box(alloc, a)?;
-            let b = copy_box(alloc, b)?;
-            test(a, b, copy_box(alloc, c))
-        }
-        Term::Let(a, b) => {
-            let a = copy_box(alloc, a)?;
-            binding(a, copy_box(alloc, b))
-        }
+        Term::Union(a, b) => union(copy_box(alloc, a), copy_box(alloc, b)),
+        Term::Ext(kind, body, source) => extension(
+            *kind,
+            copy_box(alloc, body),
+            copy_box(alloc, source),
+        ),
+        Term::If(a, b, c) => test(copy_box(alloc, a), copy_box(alloc, b), copy_box(alloc, c)),
+        Term::Let(a, b) => binding(copy_box(alloc, a), copy_box(alloc, b)),
         Term::Prim(code, terms) => primitive(*code, copy_all(alloc, terms.slice())),
     }
 }
@@ -68,6 +56,19 @@ fn copy_box(alloc: Global, term: &Box<Term>) -> Result<Box<Term>, NoMemory>
     ensures { IfOk result (λ t. t ≡ term.now) }
 {
     Box::new(alloc, copy(alloc, term.get())?)
+}
+
+#[cycle(copy)]
+fn copy_other(alloc: Global, other: &Option<Box<Term>>) -> Result<Option<Box<Term>>, NoMemory>
+    ensures { IfOk result (λ o. o ≡ other.now) }
+{
+    match other {
+        Some(other) => {
+            let other = copy(alloc, other.get())?;
+            Ok(Some(Box::new(alloc, other)?))
+        }
+        None => Ok(None),
+    }
 }
 
 #[cycle(copy)]

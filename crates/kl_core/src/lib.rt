@@ -4,7 +4,7 @@
 //! refused growth. A test with ample memory calls each of these functions.
 #![tactic(auto)]
 
-mod building;
+pub mod building;
 mod contents;
 mod copy;
 mod laws;

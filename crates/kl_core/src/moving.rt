@@ -1,7 +1,8 @@
 //! Moving the positions of a term.
 ghost use Rattle.std.specs.Prelude.{◌≡◌, ◌+◌, IfOk, All, map};
-ghost use Rattle.kl_core.specs.Trees.{view, view_part};
-ghost use Rattle.kl_core.specs.Positions.{InRange, shift_of};
+ghost use Rattle.std.specs.Option.{option_map};
+ghost use Rattle.kl_core.specs.Trees.{view, view_part, rest_of};
+ghost use Rattle.kl_core.specs.Positions.{InRange, ArmsInRange, shift_of, shift_arms};
 ghost use Rattle.kl_core.specs.Keeping.{MeansShifted, TypedShifted};
 
 use crate::building::{
@@ -40,32 +41,27 @@ pub fn raise(alloc: Global, term: &Term, from: u32, by: u32) -> Result<Term, NoM
         Term::Rec(fields) => record(raise_fields(alloc, fields.slice(), from, by)),
         Term::Proj(label, a) => projection(label, raise_box(alloc, a, from, by)),
         Term::Inj(label, a) => injection(label, raise_box(alloc, a, from, by)),
-        Term::Case(a, branches, other) => {
-            let a = raise_box(alloc, a, from, by)?;
-            let branches = raise_branches(alloc, branches.slice(), from, by)?;
-            match other {
-                Some(other) => case(a, branches, raise_box(alloc, other, from, by)),
-                None => Ok(Term::Case(a, branches, None)),
-            }
-        }
+        Term::Case(a, branches, other) => case(
+            raise_box(alloc, a, from, by),
+            raise_branches(alloc, branches.slice(), from, by),
+            raise_other(alloc, other, from, by),
+        ),
         Term::Make(kind, terms) => collection(*kind, raise_all(alloc, terms.slice(), from, by)),
-        Term::Union(a, b) => {
-            let a = raise_box(alloc, a, from, by)?;
-            union(a, raise_box(alloc, b, from, by))
-        }
-        Term::Ext(kind, body, source) => {
-            let body = raise_body(alloc, body, from, by)?;
-            extension(*kind, body, raise_box(alloc, source, from, by))
-        }
-        Term::If(a, b, c) => {
-            let a = raise_box(alloc, a, from, by)?;
-            let b = raise_box(alloc, b, from, by)?;
-            test(a, b, raise_box(alloc, c, from, by))
-        }
-        Term::Let(a, b) => {
-            let a = raise_box(alloc, a, from, by)?;
-            binding(a, raise_body(alloc, b, from, by))
-        }
+        Term::Union(a, b) => union(raise_box(alloc, a, from, by), raise_box(alloc, b, from, by)),
+        Term::Ext(kind, body, source) => extension(
+            *kind,
+            raise_body(alloc, body, from, by),
+            raise_box(alloc, source, from, by),
+        ),
+        Term::If(a, b, c) => test(
+            raise_box(alloc, a, from, by),
+            raise_box(alloc, b, from, by),
+            raise_box(alloc, c, from, by),
+        ),
+        Term::Let(a, b) => binding(
+            raise_box(alloc, a, from, by),
+            raise_body(alloc, b, from, by),
+        ),
         Term::Prim(code, terms) => primitive(*code, raise_all(alloc, terms.slice(), from, by)),
     }
 }
@@ -76,6 +72,25 @@ fn raise_box(alloc: Global, term: &Box<Term>, from: u32, by: u32) -> Result<Box<
     ensures { IfOk result (λ t. view t ≡ shift_of (view term.now) from by) }
 {
     Box::new(alloc, raise(alloc, term.get(), from, by)?)
+}
+
+#[cycle(raise)]
+fn raise_other(
+    alloc: Global,
+    other: &Option<Box<Term>>,
+    from: u32,
+    by: u32,
+) -> Result<Option<Box<Term>>, NoMemory>
+    requires fits { ArmsInRange (shift_arms (rest_of (option_map view other.now)) from by) }
+    ensures { IfOk result (λ o. rest_of (option_map view o) ≡ shift_arms (rest_of (option_map view other.now)) from by) }
+{
+    match other {
+        Some(other) => {
+            let other = raise(alloc, other.get(), from, by)?;
+            Ok(Some(Box::new(alloc, other)?))
+        }
+        None => Ok(None),
+    }
 }
 
 // Under one more binder. Where that is past the greatest position, no position is raised.

@@ -1,9 +1,10 @@
 //! Putting a term for a position.
 ghost use Rattle.std.specs.Prelude.{◌≡◌, ◌+◌, ◌≤◌, IfOk, All, map};
-ghost use Rattle.kl_core.specs.Trees.{view, view_part};
-ghost use Rattle.kl_core.specs.Positions.{shift_of, subst_of};
+ghost use Rattle.std.specs.Option.{option_map};
+ghost use Rattle.kl_core.specs.Trees.{view, view_part, rest_of};
+ghost use Rattle.kl_core.specs.Positions.{shift_of, subst_of, subst_arms};
 ghost use Rattle.kl_core.specs.Keeping.{MeansPut, TypedPut, Room};
-ghost use Rattle.kl_core.specs.Inside.{RoomIn, RoomUnder};
+ghost use Rattle.kl_core.specs.Inside.{RoomIn, RoomUnder, RoomArms};
 
 use crate::building::{
     binding, case, collection, constant, extension, injection, primitive, projection, record, test,
@@ -50,34 +51,32 @@ fn put(alloc: Global, term: &Term, at: u32, with: &Term, under: u32) -> Result<T
         Term::Rec(fields) => record(put_fields(alloc, fields.slice(), at, with, under)),
         Term::Proj(label, a) => projection(label, put_box(alloc, a, at, with, under)),
         Term::Inj(label, a) => injection(label, put_box(alloc, a, at, with, under)),
-        Term::Case(a, branches, other) => {
-            let a = put_box(alloc, a, at, with, under)?;
-            let branches = put_branches(alloc, branches.slice(), at, with, under)?;
-            match other {
-                Some(other) => case(a, branches, put_box(alloc, other, at, with, under)),
-                None => Ok(Term::Case(a, branches, None)),
-            }
-        }
+        Term::Case(a, branches, other) => case(
+            put_box(alloc, a, at, with, under),
+            put_branches(alloc, branches.slice(), at, with, under),
+            put_other(alloc, other, at, with, under),
+        ),
         Term::Make(kind, terms) => {
             collection(*kind, put_all(alloc, terms.slice(), at, with, under))
         }
-        Term::Union(a, b) => {
-            let a = put_box(alloc, a, at, with, under)?;
-            union(a, put_box(alloc, b, at, with, under))
-        }
-        Term::Ext(kind, body, source) => {
-            let body = put_body(alloc, body, at, with, under)?;
-            extension(*kind, body, put_box(alloc, source, at, with, under))
-        }
-        Term::If(a, b, c) => {
-            let a = put_box(alloc, a, at, with, under)?;
-            let b = put_box(alloc, b, at, with, under)?;
-            test(a, b, put_box(alloc, c, at, with, under))
-        }
-        Term::Let(a, b) => {
-            let a = put_box(alloc, a, at, with, under)?;
-            binding(a, put_body(alloc, b, at, with, under))
-        }
+        Term::Union(a, b) => union(
+            put_box(alloc, a, at, with, under),
+            put_box(alloc, b, at, with, under),
+        ),
+        Term::Ext(kind, body, source) => extension(
+            *kind,
+            put_body(alloc, body, at, with, under),
+            put_box(alloc, source, at, with, under),
+        ),
+        Term::If(a, b, c) => test(
+            put_box(alloc, a, at, with, under),
+            put_box(alloc, b, at, with, under),
+            put_box(alloc, c, at, with, under),
+        ),
+        Term::Let(a, b) => binding(
+            put_box(alloc, a, at, with, under),
+            put_body(alloc, b, at, with, under),
+        ),
         Term::Prim(code, terms) => {
             primitive(*code, put_all(alloc, terms.slice(), at, with, under))
         }
@@ -97,6 +96,27 @@ fn put_box(
     ensures { IfOk result (λ t. view t ≡ subst_of (view term.now) at (shift_of (view with.now) 0 under)) }
 {
     Box::new(alloc, put(alloc, term.get(), at, with, under)?)
+}
+
+#[cycle(put)]
+fn put_other(
+    alloc: Global,
+    other: &Option<Box<Term>>,
+    at: u32,
+    with: &Term,
+    under: u32,
+) -> Result<Option<Box<Term>>, NoMemory>
+    requires room { RoomArms (rest_of (option_map view other.now)) at under (view with.now) }
+    requires inside { under ≤ at }
+    ensures { IfOk result (λ o. rest_of (option_map view o) ≡ subst_arms (rest_of (option_map view other.now)) at (shift_of (view with.now) 0 under)) }
+{
+    match other {
+        Some(other) => {
+            let other = put(alloc, other.get(), at, with, under)?;
+            Ok(Some(Box::new(alloc, other)?))
+        }
+        None => Ok(None),
+    }
 }
 
 #[cycle(put)]

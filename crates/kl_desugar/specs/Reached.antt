@@ -1,6 +1,8 @@
 -- The definitions that a program reaches.
 -- No public contract cites this.
-use Rattle.std.specs.Prelude.{Bool, true, false, List, [], ◌∷◌, ◌++◌, cond, Option, Some, None}
+use Rattle.std.specs.Prelude.{◌≡◌, Bool, true, false, ◌||◌, List, [], ◌∷◌, ◌++◌, cond, Option, Some, None}
+use Rattle.std.specs.BTreeSet.{BTreeSet, contains}
+use Rattle.kl_base.specs.Fields.{bytes_cmp}
 use Rattle.kl_outcome.specs.Outcome.{Name}
 use Rattle.kl_syntax.specs.declared.tree.Decl.{Decl}
 use Rattle.kl_syntax.specs.declared.tree.Pattern.{Pattern}
@@ -70,6 +72,10 @@ decl_names None d = names (view d.body)
 abbrev pub is_among : List Word → Name → Bool
 is_among [] d = false
 is_among (x ∷ xs) d = cond (same_name x.text d) true (is_among xs d)
+
+-- what stands in a set of names, and these besides, stands in another
+abbrev pub NamesAdded : List Word → BTreeSet Name → BTreeSet Name → Type 0
+NamesAdded ws old new = (x : Name) → contains bytes_cmp new x ≡ (is_among ws x || contains bytes_cmp old x)
 
 abbrev pub if_among : Bool → List Word → List Word
 if_among b xs = cond b xs []

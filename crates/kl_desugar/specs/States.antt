@@ -1,6 +1,7 @@
 -- What the code's own types stand for.
 -- No public contract cites this.
-use Rattle.std.specs.Prelude.{◌≡◌, Bool, List, [], ◌∷◌, ◌++◌, cond, map}
+use Rattle.std.specs.Prelude.{◌≡◌, Bool, List, [], ◌∷◌, ◌++◌, cond, map, Result, Ok, Err}
+use Rattle.kl_base.specs.declared.NoMemory.{NoMemory}
 use Rattle.kl_outcome.specs.Outcome.{Name}
 use Rattle.kl_syntax.specs.declared.tree.Branch.{Branch, out-Branch}
 use Rattle.kl_syntax.specs.declared.tree.Expr.{Expr}
@@ -54,6 +55,11 @@ found_code (found.Primitive c) = primitive_by c
 pub record AsksPattern (p : Pat) (t : Place) (codes : Codes) (S : Scope) (old new : Scope) (ls ms : List Layered) : Type 0 where
   pub scope : new ≡ after_pat p old
   pub layers : ms ≡ ls ++ pat_layers p t codes S old
+
+-- what holds of a part that was not wanting
+abbrev pub Given : {A : Type 0} → Result A NoMemory → (A → Type 0) → Type 0
+Given (Ok x) P = P x
+Given (Err e) P = ⊥
 
 -- a field and a branch with their terms
 abbrev pub field_of : Codes → Scope → Word × Expr → Name × Tree

@@ -2,7 +2,7 @@
 ghost use Rattle.std.specs.Prelude.{◌≡◌, true, false, map, IfOk};
 ghost use Rattle.kl_core.specs.Trees as term;
 ghost use Rattle.kl_desugar.specs.Translation.{function_by, called_tree, operated_tree, projected};
-ghost use Rattle.kl_desugar.specs.States.{codes_of};
+ghost use Rattle.kl_desugar.specs.States.{codes_of, Given};
 
 use crate::codes::{Codes, Found, find};
 use crate::terms::{no_sense, two};
@@ -42,7 +42,7 @@ pub(crate) fn call(
     ensures { IfOk result (λ t. term.view t ≡ called_tree (codes_of codes.now name.now) (term.trees_of (map term.view args.items))) }
 {
     match find(codes, name)? {
-        Found::Function(body) => apply_to(alloc, body, args),
+        Found::Function(body) => apply_to(alloc, body.get(), args),
         Found::Primitive(code) => Ok(Term::Prim(code, Seq::of(args))),
         _ => Ok(no_sense(alloc)),
     }
@@ -85,14 +85,18 @@ pub(crate) fn operate(
     }
 }
 
-/// Fields one after the other.
-pub(crate) fn project(alloc: Global, words: &[Word], a: Box<Term>) -> Result<Box<Term>, NoMemory>
-    ensures { IfOk result (λ t. term.view t ≡ projected words.now (term.view a)) }
+/// Fields one after the other, of what may be wanting.
+pub(crate) fn project(
+    alloc: Global,
+    words: &[Word],
+    a: Result<Box<Term>, NoMemory>,
+) -> Result<Term, NoMemory>
+    ensures { IfOk result (λ t. Given a (λ a. term.view t ≡ projected words.now (term.view a))) }
 {
-    let mut term = a;
+    let mut term = a?;
     'words: for word in words {
         let label = word.text.dup()?;
         term = Box::new(alloc, Term::Proj(label, term))?;
     }
-    Ok(term)
+    Ok(term.into_inner())
 }

@@ -7,17 +7,17 @@ ghost use Rattle.kl_desugar.specs.States.{codes_of, found_code};
 
 use crate::scope::{Slot, at_level, level};
 use crate::terms::no_sense;
-use kl_base::{Box, Label, NoMemory};
+use kl_base::{Box, Label, NoMemory, Shared};
 use kl_core::Term;
 use kl_meaning::code_named;
 use std::alloc::Global;
 
-/// A definition: a value, or a function of position 0.
+/// A definition: a value, or a function of position 0. Definitions that are one another's names share a term.
 #[derive(Drop)]
 pub(crate) struct Definition {
     pub(crate) name: Label,
     pub(crate) function: bool,
-    pub(crate) term: Term,
+    pub(crate) term: Shared<Term>,
 }
 
 /// The sources, and the definitions so far, the last first.
@@ -32,8 +32,8 @@ pub(crate) struct Codes<'a> {
 #[derive(Drop)]
 pub(crate) enum Found<'a> {
     Nothing,
-    Value(&'a Term),
-    Function(&'a Term),
+    Value(&'a Shared<Term>),
+    Function(&'a Shared<Term>),
     Source(u32),
     Primitive(u8),
 }
@@ -95,7 +95,7 @@ pub(crate) fn name_term(
         return at_level(level, count);
     }
     match find(codes, name)? {
-        Found::Value(term) => term.dup(alloc),
+        Found::Value(term) => term.get().dup(alloc),
         Found::Source(number) => Ok(Term::Source(number)),
         _ => Ok(no_sense(alloc)),
     }

@@ -2,13 +2,14 @@
 ghost use Rattle.std.specs.Prelude.{◌≡◌, ◌∷◌, [], ◌++◌, length, map, IfOk};
 ghost use Rattle.std.specs.Option.{option_map};
 ghost use Rattle.kl_meaning.specs.Run.{in_order};
-ghost use Rattle.kl_syntax.specs.Syntax.{no_quals, Call as called, Inj};
+ghost use Rattle.kl_syntax.specs.Syntax.{no_quals, Call as called};
 ghost use Rattle.kl_syntax.specs.View.{pattern_view, qual_view, view, rest_of, exps_view, quals_view, steps_view};
+ghost use Rattle.kl_core.specs.declared.term.Term.TheVariants.{Make, Prim};
 ghost use Rattle.kl_core.specs.Trees as term;
 ghost use Rattle.kl_core.specs.Trees.{view_part};
 ghost use Rattle.kl_desugar.specs.Translation.{tree, tree_steps, tree_branches, matched_here, no_sense};
 ghost use Rattle.kl_desugar.specs.Layers.{missed, wrapped};
-ghost use Rattle.kl_desugar.specs.States.{layers_view, codes_of, field_of, arm_of};
+ghost use Rattle.kl_desugar.specs.States.{layers_view, codes_of, field_of, arm_of, Given};
 ghost use Rattle.kl_desugar.specs.Opening.{OpensQuals};
 
 use crate::calls::{call, operate, project};
@@ -16,9 +17,10 @@ use crate::codes::{Codes, name_term};
 use crate::layers::{Entered, Layer, ask, enter, wrap};
 use crate::scope::{Place, Slot, copy};
 use kl_base::{Box, Label, NoMemory, Seq};
-use kl_core::Term;
+use kl_core::building::{binding, case, constant, injection, test};
+use kl_core::{Term, TermBranches};
 use kl_syntax::{Branch, Expr, Exprs, Op, Pattern, Qual, Word};
-use kl_value::{Kind, dup as dup_value};
+use kl_value::Kind;
 use std::alloc::Global;
 
 #[tactic(auto, using(kl_core::proofs::Views::view_Make))]
@@ -29,32 +31,25 @@ fn made(alloc: Global, kind: Kind, head: Box<Term>) -> Result<Box<Term>, NoMemor
     Box::new(alloc, Term::Make(kind, Seq::of(items)))
 }
 
-fn comprehended(
-    alloc: Global,
-    kind: Kind,
-    layers: Vec<Layer>,
-    head: Box<Term>,
-) -> Result<Term, NoMemory>
-    ensures { IfOk result (λ t. term.view t
-        ≡ wrapped (missed (Some kind)) (layers_view layers.items) (term.Make kind (term.trees (term.view head) term.no_trees))) }
+// The functions from here to `record` take a part with its want of memory, so that `tree` holds none where that is told.
+fn coll(kind: Kind, items: Result<Vec<Term>, NoMemory>) -> Result<Term, NoMemory>
+    ensures { IfOk result (λ t. Given items (λ ts. t ≡ Make kind ts.items)) }
 {
-    let head = made(alloc, kind, head)?;
-    Ok(wrap(alloc, layers, Some(kind), head)?.into_inner())
+    Ok(Term::Make(kind, Seq::of(items?)))
 }
 
-#[tactic(auto, using(kl_core::proofs::Views::view_Prim))]
-fn one(alloc: Global, code: u8, a: Box<Term>) -> Result<Term, NoMemory>
-    ensures { IfOk result (λ t. term.view t ≡ term.Prim code (term.trees (term.view a) term.no_trees)) }
+fn one(alloc: Global, code: u8, a: Result<Box<Term>, NoMemory>) -> Result<Term, NoMemory>
+    ensures { IfOk result (λ t. Given a (λ a. t ≡ Prim code (a ∷ []))) }
 {
-    let args = vec![in alloc; a.into_inner()]?;
+    let args = vec![in alloc; a?.into_inner()]?;
     Ok(Term::Prim(code, Seq::of(args)))
 }
 
 // A record of these fields.
-fn record(fields: Vec<(Label, Term)>) -> Result<Term, NoMemory>
-    ensures { IfOk result (λ t. term.view t ≡ term.Rec (term.parts_of (in_order (map view_part fields.items)))) }
+fn record(fields: Result<Vec<(Label, Term)>, NoMemory>) -> Result<Term, NoMemory>
+    ensures { IfOk result (λ t. Given fields (λ fs. term.view t ≡ term.Rec (term.parts_of (in_order (map view_part fs.items))))) }
 {
-    let mut fields = fields;
+    let mut fields = fields?;
     fields.sort_by(|a, b| a.0.cmp(&b.0))?;
     Ok(Term::Rec(Seq::of(fields)))
 }
@@ -65,47 +60,58 @@ pub(crate) fn tree(alloc: Global, e: &Expr, codes: &Codes, scope: &[Slot]) -> Re
     ensures { IfOk result (λ t. term.view t ≡ tree (view e.now) (codes_of codes.now) scope.now) }
 {
     match e {
-        Expr::Const(v) => Ok(Term::Const(dup_value(alloc, v)?)),
+        Expr::Const(v) => constant(alloc, v),
         Expr::Name(word) => name_term(alloc, codes, scope, &word.text, scope.len()),
-        Expr::Coll(kind, items) => {
-            let items = tree_all(alloc, items.slice(), codes, scope)?;
-            Ok(Term::Make(*kind, Seq::of(items)))
-        }
+        Expr::Coll(kind, items) => coll(*kind, tree_all(alloc, items.slice(), codes, scope)),
         Expr::Comp(kind, head, quals) => {
-            let opened = tree_opened(alloc, quals.slice(), *kind, codes, scope)?;
-            let head = tree_box(alloc, head.get(), codes, &opened.scope)?;
-            comprehended(alloc, *kind, opened.layers, head)
+            let opened = tree_opened(alloc, quals.slice(), *kind, codes, scope);
+            tree_head(alloc, head.get(), *kind, opened, codes)
         }
-        Expr::If(a, b, c) => {
-            let a = tree_box(alloc, a.get(), codes, scope)?;
-            let b = tree_box(alloc, b.get(), codes, scope)?;
-            Ok(Term::If(a, b, tree_box(alloc, c.get(), codes, scope)?))
-        }
-        Expr::Let(pattern, a, b) => {
-            let body = tree_within(alloc, b.get(), pattern, codes, scope)?;
-            let bound = tree_box(alloc, a.get(), codes, scope)?;
-            Ok(Term::Let(bound, body))
-        }
-        Expr::Not(a) => one(alloc, 11, tree_box(alloc, a.get(), codes, scope)?),
-        Expr::Neg(a) => one(alloc, 10, tree_box(alloc, a.get(), codes, scope)?),
+        Expr::If(a, b, c) => test(
+            tree_box(alloc, a.get(), codes, scope),
+            tree_box(alloc, b.get(), codes, scope),
+            tree_box(alloc, c.get(), codes, scope),
+        ),
+        Expr::Let(pattern, a, b) => binding(
+            tree_box(alloc, a.get(), codes, scope),
+            tree_within(alloc, b.get(), pattern, codes, scope),
+        ),
+        Expr::Not(a) => one(alloc, 11, tree_box(alloc, a.get(), codes, scope)),
+        Expr::Neg(a) => one(alloc, 10, tree_box(alloc, a.get(), codes, scope)),
         Expr::Call(word, args) => tree_call(alloc, word, args, codes, scope),
-        Expr::Inj(word, a) => tree_inj(alloc, word, a, codes, scope),
+        Expr::Inj(word, a) => injection(&word.text, tree_box(alloc, a.get(), codes, scope)),
         Expr::Path(a, words) => {
-            let a = tree_box(alloc, a.get(), codes, scope)?;
-            Ok(project(alloc, words.slice(), a)?.into_inner())
+            project(alloc, words.slice(), tree_box(alloc, a.get(), codes, scope))
         }
         Expr::Chain(a, steps) => {
-            let a = tree_box(alloc, a.get(), codes, scope)?;
-            Ok(tree_steps(alloc, steps.slice(), a, codes, scope)?.into_inner())
+            let first = tree_box(alloc, a.get(), codes, scope);
+            tree_steps(alloc, steps.slice(), first, codes, scope)
         }
-        Expr::Rec(fields) => record(tree_fields(alloc, fields.slice(), codes, scope)?),
-        Expr::Case(a, branches, other) => {
-            let other = tree_other(alloc, other, codes, scope)?;
-            let a = tree_box(alloc, a.get(), codes, scope)?;
-            let branches = tree_branches(alloc, branches.slice(), codes, scope)?;
-            Ok(Term::Case(a, Seq::of(branches), other))
-        }
+        Expr::Rec(fields) => record(tree_fields(alloc, fields.slice(), codes, scope)),
+        Expr::Case(a, branches, other) => case(
+            tree_box(alloc, a.get(), codes, scope),
+            tree_branches(alloc, branches.slice(), codes, scope),
+            tree_other(alloc, other, codes, scope),
+        ),
     }
+}
+
+// A comprehension, of its head in the scope of its qualifiers.
+#[cycle(tree)]
+fn tree_head(
+    alloc: Global,
+    head: &Expr,
+    kind: Kind,
+    opened: Result<Entered, NoMemory>,
+    codes: &Codes,
+) -> Result<Term, NoMemory>
+    ensures { IfOk result (λ t. Given opened (λ o. term.view t ≡ wrapped (missed (Some kind)) (layers_view o.layers.items)
+        (term.Make kind (term.trees (tree (view head.now) (codes_of codes.now) o.scope.items) term.no_trees)))) }
+{
+    let opened = opened?;
+    let head = tree_box(alloc, head, codes, &opened.scope)?;
+    let items = made(alloc, kind, head)?;
+    Ok(wrap(alloc, opened.layers, Some(kind), items)?.into_inner())
 }
 
 #[cycle(tree)]
@@ -127,21 +133,6 @@ fn tree_call(
 {
     let args = tree_all(alloc, args.slice(), codes, scope)?;
     call(alloc, codes, &word.text, args)
-}
-
-#[cycle(tree)]
-fn tree_inj(
-    alloc: Global,
-    word: &Word,
-    a: &Box<Expr>,
-    codes: &Codes,
-    scope: &[Slot],
-) -> Result<Term, NoMemory>
-    ensures { IfOk result (λ t. term.view t ≡ tree (Inj word.now (view a.now)) (codes_of codes.now) scope.now) }
-{
-    let a = tree_box(alloc, a.get(), codes, scope)?;
-    let label = word.text.dup()?;
-    Ok(Term::Inj(label, a))
 }
 
 #[cycle(tree)]
@@ -200,8 +191,8 @@ fn tree_branches(
     branches: &[Branch],
     codes: &Codes,
     scope: &[Slot],
-) -> Result<Vec<(Label, Term)>, NoMemory>
-    ensures { IfOk result (λ ts. map view_part ts.items ≡ map (arm_of (codes_of codes.now) scope.now) branches.now) }
+) -> Result<TermBranches, NoMemory>
+    ensures { IfOk result (λ ts. map view_part ts ≡ map (arm_of (codes_of codes.now) scope.now) branches.now) }
 {
     let mut terms = Vec::with_capacity(alloc, branches.len())?;
     for branch in branches {
@@ -209,7 +200,7 @@ fn tree_branches(
         let body = tree_within(alloc, &branch.body, &branch.pat, codes, scope)?;
         terms.push((label, body.into_inner()))?;
     }
-    Ok(terms)
+    Ok(Seq::of(terms))
 }
 
 #[cycle(tree)]
@@ -231,18 +222,18 @@ fn tree_other(
 fn tree_steps(
     alloc: Global,
     steps: &[(Op, Expr)],
-    first: Box<Term>,
+    first: Result<Box<Term>, NoMemory>,
     codes: &Codes,
     scope: &[Slot],
-) -> Result<Box<Term>, NoMemory>
-    ensures { IfOk result (λ t. term.view t ≡ tree_steps (steps_view steps.now) (term.view first) (codes_of codes.now) scope.now) }
+) -> Result<Term, NoMemory>
+    ensures { IfOk result (λ t. Given first (λ a. term.view t ≡ tree_steps (steps_view steps.now) (term.view a) (codes_of codes.now) scope.now)) }
 {
-    let mut term = first;
+    let mut term = first?;
     for step in steps {
         let right = tree_box(alloc, &step.1, codes, scope)?;
         term = operate(alloc, step.0, term, right)?;
     }
-    Ok(term)
+    Ok(term.into_inner())
 }
 
 /// The scope and the layers of qualifiers.

@@ -1,21 +1,21 @@
 //! Programs as terms.
-ghost use Rattle.std.specs.Prelude.{◌≡◌, ℕ, false, map, reverse, IfOk};
+ghost use Rattle.std.specs.Prelude.{◌≡◌, ℕ, [], false, map, reverse, IfOk};
 ghost use Rattle.kl_syntax.specs.Syntax.{no_decls};
 ghost use Rattle.kl_syntax.specs.View.{view, decl_of, decls_of};
 ghost use Rattle.kl_core.specs.Positions.{occurs_in};
 ghost use Rattle.kl_core.specs.Trees as term;
 ghost use Rattle.kl_desugar.specs.Sense.{HasSense};
 ghost use Rattle.kl_desugar.specs.Small.{StaysSmall};
-ghost use Rattle.kl_desugar.specs.Translation.{with_code, codes_after, codes_first, term_of, Means};
+ghost use Rattle.kl_desugar.specs.Translation.{tree, with_code, codes_after, codes_first, term_of, Means};
 ghost use Rattle.kl_desugar.specs.States.{codes_of, definition_code};
 
-use crate::codes::{Codes, Definition};
+use crate::codes::{Codes, Definition, Found, find};
 use crate::expressions::{tree, tree_within};
 use crate::reach::reached;
-use kl_base::{Label, NoMemory};
+use kl_base::{Label, NoMemory, Shared};
 use kl_core::Term;
 use kl_scope::Scoped;
-use kl_syntax::{Decl, Program};
+use kl_syntax::{Decl, Expr, Program};
 use std::alloc::Global;
 
 // What a definition stands for, over those before it.
@@ -26,17 +26,34 @@ fn define(alloc: Global, def: &Decl, codes: &Codes) -> Result<Definition, NoMemo
     let name = def.name.text.dup()?;
     let scope = Vec::new(alloc);
     match &def.param {
-        Some(param) => Ok(Definition {
-            name,
-            function: true,
-            term: tree_within(alloc, &def.body, param, codes, &scope)?.into_inner(),
-        }),
+        Some(param) => {
+            let term = tree_within(alloc, &def.body, param, codes, &scope)?;
+            Ok(Definition {
+                name,
+                function: true,
+                term: Shared::new(alloc, term.into_inner())?,
+            })
+        }
         None => Ok(Definition {
             name,
             function: false,
-            term: tree(alloc, &def.body, codes, &scope)?,
+            term: constant(alloc, &def.body, codes)?,
         }),
     }
+}
+
+// The term of a definition without a parameter. Where that is the name of another one, the two share a term.
+#[tactic(auto, using(crate::proofs::Naming::other_name))]
+fn constant(alloc: Global, body: &Expr, codes: &Codes) -> Result<Shared<Term>, NoMemory>
+    ensures { IfOk result (λ t. term.view t ≡ tree (view body.now) (codes_of codes.now) []) }
+{
+    if let Expr::Name(word) = body {
+        if let Found::Value(term) = find(codes, &word.text)? {
+            return term.dup();
+        }
+    }
+    let scope = Vec::new(alloc);
+    Shared::new(alloc, tree(alloc, body, codes, &scope)?)
 }
 
 // What definitions stand for, of which the last is first.

@@ -18,7 +18,7 @@ use Rattle.kl_ask.specs.declared.session.Attached.{Attached}
 use Rattle.kl_eval.specs.Evals.{Tells, Lists}
 use Rattle.kl_eval.specs.declared.stop.EvalStop.TheVariants as stop
 use Rattle.kl_infer.specs.Kinds.{HasOther}
-use Rattle.kl_engine.specs.Answering.{SomeRose, KeepsDrivers, IsOutside, reading, drifting, wanting, PrintsPage, IsOneOf, PrintsNothing}
+use Rattle.kl_engine.specs.Answering.{SomeRose, KeepsDrivers, IsOutside, reading, drifting, wanting, PrintsPage, IsOneOf, EndsSilent}
 use Rattle.kl_engine.specs.Commands.{Program}
 use Rattle.kl_engine.specs.Faults.{Ending}
 use Rattle.kl_engine.specs.Outside.{outside_of}
@@ -168,7 +168,7 @@ module _ (IsOut : Verdict → Type 0) (told : Type 0) (list : List Attached) (fi
   run_fault (Some fault.TermDepth) is = is
   run_fault (Some fault.SchemeBytes) is = is
 
-  never_before : (end : Ending) → IsRunEnd end → PrintsNothing (Program (purpose.Run None) [] None) end → ⊥
+  never_before : (end : Ending) → IsRunEnd end → EndsSilent end → ⊥
   never_before None is nothing = nothing
   never_before (Some fault.Overflow) is nothing = nothing
   never_before (Some fault.Write) is nothing = nothing
@@ -218,9 +218,9 @@ module _ (IsOut : Verdict → Type 0) (told : Type 0) (list : List Attached) (fi
       | inr (inr h) ↦ subst (IsOneOf HasRunFault) (sym h) tt
     ];
     nothing = λ is. absurd (elim prints.ends [
-      | inl h ↦ never_before v.ending ended (subst (PrintsNothing (Program (purpose.Run None) [] None)) h is)
-      | inr (inl h) ↦ subst (PrintsNothing (Program (purpose.Run None) [] None)) h.0 is
-      | inr (inr h) ↦ subst (PrintsNothing (Program (purpose.Run None) [] None)) h is
+      | inl h ↦ never_before v.ending ended (subst EndsSilent h is)
+      | inr (inl h) ↦ subst EndsSilent h.0 is
+      | inr (inr h) ↦ subst EndsSilent h is
     ]);
     drivers = keeps;
   }

@@ -26,7 +26,7 @@ use Rattle.kl_ask.specs.Driver.{State}
 use Rattle.kl_sources.specs.Sources.{names_of, grounds_of}
 use Rattle.kl_sources.specs.declared.source.Source.{Source}
 use Rattle.kl_sources.specs.Sources.{kinds_of}
-use Rattle.kl_engine.specs.Answering.{IsStoredFault, AreTold, IsUnreadBy, SomeDrifted, ListsTypes, Alike, one, IsOutside, reading, writing, drifting, wanting, FollowsVerdict, PrintsPage, DoesText, IsDetermined, IsOneOf, HasTextFault, IsUnreadFault, NeedsDrivers, IsMentionedIn, PrintsNothing}
+use Rattle.kl_engine.specs.Answering.{IsStoredFault, AreTold, IsUnreadBy, SomeDrifted, ListsTypes, Alike, one, IsOutside, reading, writing, drifting, wanting, FollowsVerdict, PrintsPage, DoesText, IsDetermined, IsOneOf, HasTextFault, IsUnreadFault, NeedsDrivers, IsMentionedIn, EndsSilent}
 use Rattle.kl_engine.specs.Commands.{Program as AProgram}
 use Rattle.kl_engine.specs.Faults.{Ending}
 use Rattle.kl_engine.specs.Outside.{outside_of}
@@ -85,11 +85,11 @@ module _ (v : Verdict) (end : Ending) (out out' : SinkState) (prints : PrintsPag
       | inr (inr h) ↦ subst (IsOneOf (HasTextFault p)) (sym h) tt
     ]
 
-    pub printed_nothing : PrintsNothing (AProgram p [] None) end → out' ≡ out
+    pub printed_nothing : EndsSilent end → out' ≡ out
     printed_nothing is = elim prints.ends [
-      | inl h ↦ prints.nothing (fair.empty (subst (PrintsNothing (AProgram p [] None)) h is))
-      | inr (inl h) ↦ absurd (subst (PrintsNothing (AProgram p [] None)) h.0 is)
-      | inr (inr h) ↦ absurd (subst (PrintsNothing (AProgram p [] None)) h is)
+      | inl h ↦ prints.nothing (fair.empty (subst EndsSilent h is))
+      | inr (inl h) ↦ absurd (subst EndsSilent h.0 is)
+      | inr (inr h) ↦ absurd (subst EndsSilent h is)
     ]
 
   pub plain_end : (plain : IsOneOf IsPlain v.ending) → IsOneOf IsPlain end
@@ -161,7 +161,7 @@ outside_untold v end files ds ds' out out' told (wanting is) = subst IsDetermine
 -- of a verdict that ends as an end that is not told nothing is printed
 untold_empty : (p : Purpose) (v : Verdict) (end : Ending) → Fair p v → (IsDetermined end → ⊥) → v.ending ≡ end → v.page ≡ []
 untold_empty p v None fair never is = absurd (never tt)
-untold_empty p v (Some fault.Read) fair never is = fair.empty (subst (PrintsNothing (AProgram p [] None)) (sym is) tt)
+untold_empty p v (Some fault.Read) fair never is = fair.empty (subst EndsSilent (sym is) tt)
 untold_empty p v (Some fault.Write) fair never is = absurd (subst IsOfVerdict is fair.told)
 untold_empty p v (Some (fault.Changed name)) fair never is = absurd (subst IsOfVerdict is fair.told)
 untold_empty p v (Some fault.NoMemory) fair never is = absurd (subst IsOfVerdict is fair.told)

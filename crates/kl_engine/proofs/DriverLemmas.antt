@@ -1,8 +1,10 @@
 -- Drivers that stay as they were.
-use Rattle.std.proofs.Common.{◌≡◌, ℕ, List, Some, refl, sym, subst, ◌∙◌, slice_get, arith}
+use Rattle.std.proofs.Common.{◌≡◌, ℕ, List, [], ◌∷◌, ◌++◌, Some, refl, sym, subst, ◌∙◌, slice_get, arith}
+use Rattle.std.specs.List.{All}
+use Rattle.std.proofs.lemmas.List.Elements.{All-push}
 use Rattle.kl_outcome.specs.Outcome.{Name}
 use Rattle.kl_ask.specs.Driver.{State, KeepsState}
-use Rattle.kl_engine.specs.Answering.{KeepsDriver, KeepsDrivers}
+use Rattle.kl_engine.specs.Answering.{AddsDriver, IsIdle, KeepsDriver, KeepsDrivers}
 
 keeps_itself : (d : State) → KeepsState d d
 keeps_itself d = record { kind = refl; handed = omega arith; faults = omega arith; drifts = omega arith; no_drift = λ is. refl; unread = omega arith }
@@ -25,3 +27,7 @@ keeps_wider Named Wider old new wider keeps = record {
     attached = λ name none. kept.attached name (λ named. none (wider name named));
   };
 }
+
+-- one more that is idle behind others that are
+pub adds_driver : (d : State) (ds es : List State) → es ≡ ds ++ d ∷ [] → All IsIdle ds → IsIdle d → AddsDriver d ds es
+adds_driver d ds es is all idle = record { added = is; idle = subst (All IsIdle) (sym is) (All-push IsIdle ds d all idle) }

@@ -15,7 +15,7 @@ use Rattle.kl_infer.specs.Printed.{scheme_text}
 use Rattle.kl_ask.specs.Driver.{DriverKind, Stored, Missing, Bad, Long, Deep, Rows}
 use Rattle.kl_sources.specs.Sources.{names_of, grounds_of}
 use Rattle.kl_sources.specs.declared.source.Source.{Source}
-use Rattle.kl_engine.specs.Answering.{IsOneOf, HasTextFault, IsTyping, PrintsNothing}
+use Rattle.kl_engine.specs.Answering.{IsOneOf, HasTextFault, IsTyping, EndsSilent}
 use Rattle.kl_engine.specs.Commands.{Program as AProgram}
 use Rattle.kl_engine.specs.Faults.{Ending}
 use Rattle.kl_engine.specs.Reading.{definitions, last}
@@ -39,7 +39,7 @@ IsOfVerdict (Some f) = ⊤
 pub record Fair (p : Purpose) (v : Verdict) : Type 0 where
   pub told : IsOfVerdict v.ending
   pub has : IsOneOf (HasTextFault p) v.ending
-  pub empty : PrintsNothing (AProgram p [] None) v.ending → v.page ≡ []
+  pub empty : EndsSilent v.ending → v.page ≡ []
 
 fair_at : (p : Purpose) (v w : Verdict) → v ≡ w → Fair p w → Fair p v
 fair_at p v w same fair = subst (Fair p) (sym same) fair
@@ -62,20 +62,20 @@ module _ (p : Purpose) (typing : IsTyping p) (ds : Decls) (e : Exp) where
       pick (Some f) at same = fair_at p v (refused f) same (sized_faults (λ g. Fair p (refused g)) (fair_fault p fault.TermNodes tt typing) (fair_fault p fault.TermDepth tt typing) (declared ds e []) f at)
       pick None at goes = fair v goes
 
-ends_at : (long : Bool) (d : Name × Scheme) (v : Verdict) (f : Fault) → (v.ending ≡ Some f → PrintsNothing (AProgram purpose.Types [] None) (Some f) → ⊥)
-    → (if long then refused fault.SchemeBytes else behind (scheme_line d) v).ending ≡ Some f → PrintsNothing (AProgram purpose.Types [] None) (Some f) → ⊥
-ends_at true d v f more is before = let same : Some f ≡ Some fault.SchemeBytes = sym is in subst (PrintsNothing (AProgram purpose.Types [] None)) same before
+ends_at : (long : Bool) (d : Name × Scheme) (v : Verdict) (f : Fault) → (v.ending ≡ Some f → EndsSilent (Some f) → ⊥)
+    → (if long then refused fault.SchemeBytes else behind (scheme_line d) v).ending ≡ Some f → EndsSilent (Some f) → ⊥
+ends_at true d v f more is before = let same : Some f ≡ Some fault.SchemeBytes = sym is in subst EndsSilent same before
 ends_at false d v f more is before = more is before
 
-line_ends : (ds : List (Name × Scheme)) (f : Fault) → (scheme_lines ds).ending ≡ Some f → PrintsNothing (AProgram purpose.Types [] None) (Some f) → ⊥
+line_ends : (ds : List (Name × Scheme)) (f : Fault) → (scheme_lines ds).ending ≡ Some f → EndsSilent (Some f) → ⊥
 line_ends [] f is before = absurd cc
 line_ends (d ∷ ds) f is before = ends_at (nat_lt limit (length (scheme_text d.1))) d (scheme_lines ds) f (line_ends ds f) is before
 
-fair_behind : (front : List ℕ) (v : Verdict) (end : Ending) → v.ending ≡ end → ((f : Fault) → v.ending ≡ Some f → PrintsNothing (AProgram purpose.Types [] None) (Some f) → ⊥) → Fair purpose.Types v → Fair purpose.Types (behind front v)
-fair_behind front v None at ends fair = record { told = fair.told; has = fair.has; empty = λ is. absurd (subst (PrintsNothing (AProgram purpose.Types [] None)) at is) }
-fair_behind front v (Some f) at ends fair = record { told = fair.told; has = fair.has; empty = λ is. absurd (ends f at (subst (PrintsNothing (AProgram purpose.Types [] None)) at is)) }
+fair_behind : (front : List ℕ) (v : Verdict) (end : Ending) → v.ending ≡ end → ((f : Fault) → v.ending ≡ Some f → EndsSilent (Some f) → ⊥) → Fair purpose.Types v → Fair purpose.Types (behind front v)
+fair_behind front v None at ends fair = record { told = fair.told; has = fair.has; empty = λ is. absurd (subst EndsSilent at is) }
+fair_behind front v (Some f) at ends fair = record { told = fair.told; has = fair.has; empty = λ is. absurd (ends f at (subst EndsSilent at is)) }
 
-fair_line : (long : Bool) (d : Name × Scheme) (v : Verdict) → ((f : Fault) → v.ending ≡ Some f → PrintsNothing (AProgram purpose.Types [] None) (Some f) → ⊥) → Fair purpose.Types v
+fair_line : (long : Bool) (d : Name × Scheme) (v : Verdict) → ((f : Fault) → v.ending ≡ Some f → EndsSilent (Some f) → ⊥) → Fair purpose.Types v
     → Fair purpose.Types (if long then refused fault.SchemeBytes else behind (scheme_line d) v)
 fair_line true d v ends fair = record { told = tt; has = refl; empty = λ is. refl }
 fair_line false d v ends fair = fair_behind (scheme_line d) v v.ending refl ends fair

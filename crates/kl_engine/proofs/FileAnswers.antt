@@ -10,7 +10,9 @@ use Rattle.kl_ask.specs.Driver.{DriverKind}
 use Rattle.kl_sources.specs.Sources.{ArePlaced}
 use Rattle.kl_sources.specs.declared.source.Source.{Source}
 use Rattle.kl_engine.specs.Catalogues.{IsCatalogueFault}
-use Rattle.kl_engine.specs.Inputs.{IsCatalogueEnd, IsSourcesEnd, IsInputsEnd, PlacesCatalogue, ReadsSources, ReadsInputs}
+use Rattle.kl_tools.specs.Texts.{catalogue_text}
+use Rattle.kl_engine.specs.Commands.{Files, Made}
+use Rattle.kl_engine.specs.Inputs.{IsCatalogueEnd, IsSourcesEnd, IsFilesEnd, PlacesCatalogue, ReadsSources, ReadsInputs}
 use Rattle.kl_engine.specs.Verdict.{most_bytes, IsFileFault, IsSourcesFault}
 use Rattle.kl_engine.specs.declared.fault.Fault.{Fault}
 use Rattle.kl_engine.specs.declared.fault.Fault.TheVariants as fault
@@ -76,7 +78,7 @@ catalogue_end fault.TermDepth has = has
 catalogue_end fault.SchemeBytes has = has
 
 -- and those of both files
-sources_end : (g : Fault) → IsSourcesEnd g → IsInputsEnd g
+sources_end : (g : Fault) → IsSourcesEnd g → IsFilesEnd g
 sources_end fault.NoMemory has = tt
 sources_end (fault.Catalogue byte) has = tt
 sources_end fault.Nesting has = tt
@@ -143,7 +145,7 @@ module _ (path : List ℕ) (ks : List DriverKind) (f f' : FilesState) where
 
 -- the program was not read
 module _ (path : List ℕ) (catalogue : Option (List ℕ)) (ks : List DriverKind) (f f' : FilesState) where
-  pub inputs_long : ReadsWhole path most_bytes (Ok whole.TooLong) f f' → ReadsInputs path catalogue ks (Err fault.ProgramBytes) f f'
+  pub inputs_long : ReadsWhole path most_bytes (Ok whole.TooLong) f f' → ReadsInputs (Files path catalogue) ks (Err fault.ProgramBytes) f f'
   inputs_long reads = record {
     left = reads.left;
     told = reads.told;
@@ -160,7 +162,7 @@ module _ (path : List ℕ) (catalogue : Option (List ℕ)) (ks : List DriverKind
   told_still : (told : List ℕ → Option (List ℕ)) → f.told ≡ Some told → f'.told ≡ Some told
   told_still told is = reads.told ∙ is
 
-  pub inputs_read : (ss : Vec Source Global) → ReadsSources catalogue ks (Ok ss) f' f'' → ReadsInputs path catalogue ks (Ok (record { text = text; sources = ss.items })) f f''
+  pub inputs_read : (ss : Vec Source Global) → ReadsSources catalogue ks (Ok ss) f' f'' → ReadsInputs (Files path catalogue) ks (Ok (record { text = text; sources = ss.items })) f f''
   inputs_read ss found = record {
     left = found.left ∙ reads.left;
     told = found.told ∙ reads.told;
@@ -176,7 +178,7 @@ module _ (path : List ℕ) (catalogue : Option (List ℕ)) (ks : List DriverKind
     read = λ none. tt;
   }
 
-  pub inputs_refused : (g : Fault) → ReadsSources catalogue ks (Err g) f' f'' → ReadsInputs path catalogue ks (Err g) f f''
+  pub inputs_refused : (g : Fault) → ReadsSources catalogue ks (Err g) f' f'' → ReadsInputs (Files path catalogue) ks (Err g) f f''
   inputs_refused g found = record {
     left = found.left ∙ reads.left;
     told = found.told ∙ reads.told;
@@ -191,3 +193,19 @@ module _ (path : List ℕ) (catalogue : Option (List ℕ)) (ks : List DriverKind
     no_other = sources_end g found.no_other;
     read = λ none is. rose_after f.faults f'.faults f''.faults reads.later (found.read (reads.told ∙ none) is);
   }
+
+-- ---- made rows
+
+-- the catalogue over made rows was refused
+pub made_refused : (seed size : ℕ) (ks : List DriverKind) (f : FilesState) (catalogue : List ℕ) (g : Fault) → catalogue ≡ catalogue_text seed size
+    → PlacesCatalogue ks catalogue (Err g) → ReadsInputs (Made seed size) ks (Err g) f f
+made_refused seed size ks f catalogue g same found = record {
+  left = refl;
+  told = refl;
+  few = tt;
+  placed = tt;
+  inputs = λ told is. tt;
+  refused = λ told is. elim found.refused [ inl none ↦ inl none | inr wrong ↦ inr (inr (subst (λ bs. IsCatalogueFault ks bs g) same wrong)) ];
+  no_other = found.no_other;
+  read = λ none is. absurd (subst IsCatalogueEnd is found.no_other);
+}

@@ -8,7 +8,9 @@ use Rattle.kl_sources.specs.declared.source.Source.{Source}
 use Rattle.kl_sources.specs.declared.placing.PlaceError.{PlaceError}
 use Rattle.kl_sources.specs.declared.placing.PlaceError.TheVariants as place
 use Rattle.kl_engine.specs.Catalogues.{place_fault, IsCatalogueFault, IsCatalogueOf}
-use Rattle.kl_engine.specs.Verdict.{most_bytes, IsFileFault, IsSourcesFault, HasSources, IsInputsFault, HasInputs}
+use Rattle.kl_tools.specs.Texts.{catalogue_text}
+use Rattle.kl_engine.specs.Commands.{Origin, Files, Made}
+use Rattle.kl_engine.specs.Verdict.{most_bytes, IsFileFault, IsSourcesFault, HasSources, IsFilesFault, HasFiles, IsInputsFault, HasInputs}
 use Rattle.kl_engine.specs.declared.fault.Fault.{Fault}
 use Rattle.kl_engine.specs.declared.fault.Fault.TheVariants as fault
 
@@ -95,15 +97,33 @@ module _ (told : List ℕ → Option (List ℕ)) (ks : List DriverKind) where
   sources_verdict (Some path) f this wants = file_verdict fault.CatalogueBytes (IsCatalogueFault ks) (λ is. absurd cc) (catalogue_verdict ks) (told path) f this wants
 
   module _ (path : List ℕ) (catalogue : Option (List ℕ)) where
-    pub inputs_one : (text others : List ℕ) (ss ts : List Source) → HasInputs told ks path catalogue text ss → HasInputs told ks path catalogue others ts → (text ≡ others) × (ss ≡ ts)
-    inputs_one text others ss ts this that =
+    files_one : (text others : List ℕ) (ss ts : List Source) → HasFiles told ks path catalogue text ss → HasFiles told ks path catalogue others ts → (text ≡ others) × (ss ≡ ts)
+    files_one text others ss ts this that =
         (let both : Some text ≡ Some others = sym this.at ∙ that.at in cc, sources_one catalogue ss ts this.sources that.sources)
 
-    pub inputs_well : (text : List ℕ) (ss : List Source) (f : Fault) → HasInputs told ks path catalogue text ss → IsInputsFault told ks path catalogue f → ⊥
-    inputs_well text ss f has wrong = file_well fault.ProgramBytes (λ bytes. IsSourcesFault told ks catalogue) (told path) text f has.at has.few (sources_well catalogue ss f has.sources) wrong
+    files_well : (text : List ℕ) (ss : List Source) (f : Fault) → HasFiles told ks path catalogue text ss → IsFilesFault told ks path catalogue f → ⊥
+    files_well text ss f has wrong = file_well fault.ProgramBytes (λ bytes. IsSourcesFault told ks catalogue) (told path) text f has.at has.few (sources_well catalogue ss f has.sources) wrong
 
-    pub inputs_fault_one : (f g : Fault) → IsInputsFault told ks path catalogue f → IsInputsFault told ks path catalogue g → f ≡ g
-    inputs_fault_one f g this that = file_one fault.ProgramBytes (λ bytes. IsSourcesFault told ks catalogue) (λ bytes. sources_fault_one catalogue) (told path) f g this that
+    files_fault_one : (f g : Fault) → IsFilesFault told ks path catalogue f → IsFilesFault told ks path catalogue g → f ≡ g
+    files_fault_one f g this that = file_one fault.ProgramBytes (λ bytes. IsSourcesFault told ks catalogue) (λ bytes. sources_fault_one catalogue) (told path) f g this that
 
-    pub inputs_verdict : (f : Fault) → IsInputsFault told ks path catalogue f → f ≡ fault.NoMemory → ⊥
-    inputs_verdict f this wants = file_verdict fault.ProgramBytes (λ bytes. IsSourcesFault told ks catalogue) (λ is. absurd cc) (λ bytes. sources_verdict catalogue) (told path) f this wants
+    files_verdict : (f : Fault) → IsFilesFault told ks path catalogue f → f ≡ fault.NoMemory → ⊥
+    files_verdict f this wants = file_verdict fault.ProgramBytes (λ bytes. IsSourcesFault told ks catalogue) (λ is. absurd cc) (λ bytes. sources_verdict catalogue) (told path) f this wants
+
+  -- ---- a program's text and its sources, wherever they come from
+
+  pub inputs_one : (from : Origin) (text others : List ℕ) (ss ts : List Source) → HasInputs told ks from text ss → HasInputs told ks from others ts → (text ≡ others) × (ss ≡ ts)
+  inputs_one (Files path catalogue) text others ss ts this that = files_one path catalogue text others ss ts this that
+  inputs_one (Made seed size) text others ss ts this that = (this.0 ∙ sym that.0, catalogue_one ks (catalogue_text seed size) ss ts this.1 that.1)
+
+  pub inputs_well : (from : Origin) (text : List ℕ) (ss : List Source) (f : Fault) → HasInputs told ks from text ss → IsInputsFault told ks from f → ⊥
+  inputs_well (Files path catalogue) text ss f has wrong = files_well path catalogue text ss f has wrong
+  inputs_well (Made seed size) text ss f has wrong = catalogue_well ks (catalogue_text seed size) ss f has.1 wrong
+
+  pub inputs_fault_one : (from : Origin) (f g : Fault) → IsInputsFault told ks from f → IsInputsFault told ks from g → f ≡ g
+  inputs_fault_one (Files path catalogue) f g this that = files_fault_one path catalogue f g this that
+  inputs_fault_one (Made seed size) f g this that = catalogue_fault_one ks (catalogue_text seed size) f g this that
+
+  pub inputs_verdict : (from : Origin) (f : Fault) → IsInputsFault told ks from f → f ≡ fault.NoMemory → ⊥
+  inputs_verdict (Files path catalogue) f this wants = files_verdict path catalogue f this wants
+  inputs_verdict (Made seed size) f this wants = catalogue_verdict ks (catalogue_text seed size) f this wants

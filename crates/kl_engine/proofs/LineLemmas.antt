@@ -169,6 +169,10 @@ pairs defs schemes = zip (map name_of defs) schemes
 size_of : (defs : List Decl) (schemes : List Scheme) → length (pairs defs schemes) ≡ min (length defs) (length schemes)
 size_of defs schemes = length-zip (map name_of defs) schemes ∙ ap (λ n. min n (length schemes)) (length-map defs name_of)
 
+-- what its owners share
+pub scheme_at : (schemes : List Scheme) (i : ℕ) (owned scheme : Scheme) → owned ≡ get_or schemes i owned → scheme ≡ owned → scheme ≡ get_or schemes i scheme
+scheme_at schemes i owned scheme h e = subst (λ (z : Scheme). z ≡ get_or schemes i z) (sym e) h
+
 module _ (defs : List Decl) (schemes : List Scheme) (end i : ℕ) (d : Decl) (scheme : Scheme) (name : Name) (end_is : end ≡ min (length defs) (length schemes)) (within : i < end) (scheme_is : scheme ≡ get_or schemes i scheme) (name_is : name ≡ (get_or defs i d).name.text) where
   inside : i < length (pairs defs schemes)
   inside = let size = size_of defs schemes in omega (arith, within, end_is, size)

@@ -58,7 +58,7 @@ use Rattle.kl_sources.proofs.Agreement.{values_agree, first_agrees}
 use Rattle.kl_sources.proofs.ListedSources.{listed_source}
 use Rattle.kl_sources.proofs.Lists.{of_all}
 use Rattle.kl_sources.specs.Sources.{kinds_of}
-use Rattle.kl_engine.specs.Answering.{SomeRose, KeepsDrivers, IsIdle, IsStoredFault, AreTold, IsUnreadBy, SomeDrifted, IsOf, IsOutside, reading, writing, drifting, wanting, FollowsVerdict, IsDetermined, IsOneOf, HasTextFault, PrintsNothing, IsUnreadFault, NeedsDrivers}
+use Rattle.kl_engine.specs.Answering.{SomeRose, KeepsDrivers, IsIdle, IsStoredFault, AreTold, IsUnreadBy, SomeDrifted, IsOf, IsOutside, reading, writing, drifting, wanting, FollowsVerdict, IsDetermined, IsOneOf, HasTextFault, IsUnreadFault, NeedsDrivers}
 use Rattle.kl_engine.specs.Commands.{Program}
 use Rattle.kl_engine.specs.Faults.{Ending}
 use Rattle.kl_engine.specs.Outside.{outside_of}
@@ -361,10 +361,6 @@ by_place (b ∷ G) (c ∷ vs) have (suc i) t is = by_place G vs have.2 i t is
 pub tidied : (names : List Name) (s : Scoped) → WasInScope names s → IsTidyProgram (decls_of s.program.defs) (view s.program.last)
 tidied names s scope = resolved_tidy scope.0 names s scope.1
 
-before_any : (p q : List ℕ) (first : Option ℕ) (end : Ending) → PrintsNothing (Program (purpose.Run first) p None) end → PrintsNothing (Program (purpose.Run None) q None) end
-before_any p q first None is = is
-before_any p q first (Some f) is = is
-
 run_has : (first : Option ℕ) (end : Ending) → IsOneOf HasRunFault end → IsOneOf (HasTextFault (purpose.Run first)) end
 run_has first None has = tt
 run_has first (Some fault.Overflow) has = tt
@@ -497,7 +493,7 @@ module _ (ss : List Source) (program : Decls) (e : Exp) (typed : Typed) (infers 
     unread = λ f is un. absurd (run_unread f (subst (IsOneOf HasRunFault) is answers.no_other) un);
     changed = λ name is. drifted name (answers.changed name is);
     no_other = run_has first end answers.no_other;
-    nothing = λ is. answers.nothing (before_any [] [] first end is);
+    nothing = answers.nothing;
     drivers = keeps_through (IsNamed ss marks) ds w.drivers last kept_first answers.drivers;
     still = λ none. absurd (none tt);
   }

@@ -34,18 +34,18 @@ file_is (Some bytes) v of is = end_is of.1 (ap (λ w. w.ending) (sym of.3) ∙ i
 
 never_wanted : (told : List ℕ → Option (List ℕ)) (ks : List DriverKind) (command : Command) (v : Verdict) → IsVerdict told ks command v → v.ending ≡ Some fault.NoMemory → ⊥
 never_wanted told ks NoneNamed v of is = let both : Some fault.Usage ≡ Some fault.NoMemory = ap (λ w. w.ending) (sym of) ∙ is in cc
-never_wanted told ks (Program p path catalogue) v (inl h) is = inputs_verdict told ks path catalogue h.0 h.1 (let both : Some h.0 ≡ Some fault.NoMemory = ap (λ w. w.ending) (sym h.2) ∙ is in cc)
-never_wanted told ks (Program p path catalogue) v (inr h) is = subst IsOfVerdict is (fair_text ks h.1 p h.0 v h.3).told
+never_wanted told ks (Program p from) v (inl h) is = inputs_verdict told ks from h.0 h.1 (let both : Some h.0 ≡ Some fault.NoMemory = ap (λ w. w.ending) (sym h.2) ∙ is in cc)
+never_wanted told ks (Program p from) v (inr h) is = subst IsOfVerdict is (fair_text ks h.1 p h.0 v h.3).told
 never_wanted told ks (Show path) v of is = file_is (told path) v of is
 
 wants_fault : (command : Command) → HasFault command fault.NoMemory
 wants_fault NoneNamed = tt
-wants_fault (Program p path catalogue) = tt
+wants_fault (Program p from) = tt
 wants_fault (Show path) = tt
 
 unread_wanted : (command : Command) (o : Outside) → UnreadCause command (Some fault.NoMemory) o o
 unread_wanted NoneNamed o = tt
-unread_wanted (Program p path catalogue) o = λ f is un. absurd (let same : fault.NoMemory ≡ f = cc in subst IsUnreadFault (sym same) un)
+unread_wanted (Program p from) o = λ f is un. absurd (let same : fault.NoMemory ≡ f = cc in subst IsUnreadFault (sym same) un)
 unread_wanted (Show path) o = tt
 
 pub wanted_does : (command : Command) (o : Outside) → Does command (Some fault.NoMemory) o o

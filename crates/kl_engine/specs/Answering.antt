@@ -1,5 +1,5 @@
 -- What a command does: how it ends, what it prints, the cause of each fault, and what stays as it was.
-use Rattle.std.specs.Prelude.{◌≡◌, ◌≢◌, ◌⊎◌, ℕ, List, [], Option, Some, None, slice_get, IsSome, ⊤}
+use Rattle.std.specs.Prelude.{◌≡◌, ◌≢◌, ◌⊎◌, ℕ, List, [], ◌∷◌, ◌++◌, All, Option, Some, None, slice_get, IsSome, ⊤}
 use Rattle.std.specs.Io.KnownBytes.{append_known}
 use Rattle.kl_outside.specs.Counts.{Rose}
 use Rattle.kl_outside.specs.Files.{FilesState}
@@ -14,7 +14,7 @@ use Rattle.kl_ask.specs.Lists.{EachSteps}
 use Rattle.kl_sources.specs.Attaching.{RoseAt}
 use Rattle.kl_sources.specs.Sources.{kinds_of, names_of, contents}
 use Rattle.kl_sources.specs.declared.source.Source.{Source}
-use Rattle.kl_engine.specs.Commands.{Command, NoneNamed, Program, Show}
+use Rattle.kl_engine.specs.Commands.{Command, NoneNamed, Program, Show, Origin, Files, Made, Tell, TellTo}
 use Rattle.kl_engine.specs.Faults.{Ending}
 use Rattle.kl_engine.specs.Outside.{Outside}
 use Rattle.kl_engine.specs.Reading.{IsProgramOf}
@@ -44,6 +44,11 @@ KeepsDrivers Named old new = EachSteps (KeepsDriver Named) old new
 -- nothing is attached, and no cursor is open
 abbrev pub IsIdle : State → Type 0
 IsIdle d = ((name : Name) → d.attached name ≡ None) × ((k : ℕ) → d.cursors k ≡ None)
+
+-- one driver more, behind the others, and all are idle
+pub record AddsDriver (d : State) (old new : List State) : Type 0 where
+  pub added : new ≡ old ++ d ∷ []
+  pub idle : All IsIdle new
 
 -- ---- sources, where Named is what holds of their names
 
@@ -152,19 +157,23 @@ HasTextFault p fault.FileBytes = IsRun p
 HasTextFault p fault.ItemNesting = IsRun p
 HasTextFault p f = ⊥
 
+abbrev pub AreFiles : Origin → Type 0
+AreFiles (Files path catalogue) = ⊤
+AreFiles (Made seed size) = ⊥
+
 -- the faults of each command
 abbrev pub HasFault : Command → Fault → Type 0
 HasFault NoneNamed fault.Usage = ⊤
 HasFault NoneNamed fault.NoMemory = ⊤
 HasFault NoneNamed f = ⊥
 HasFault command fault.Read = ⊤
-HasFault (Program p path catalogue) fault.ProgramBytes = ⊤
-HasFault (Program p path catalogue) fault.CatalogueBytes = ⊤
-HasFault (Program p path catalogue) (fault.Catalogue byte) = ⊤
-HasFault (Program p path catalogue) (fault.NameTwice name) = ⊤
-HasFault (Program p path catalogue) (fault.NoDriver name) = ⊤
-HasFault (Program p path catalogue) (fault.Unsuited name) = ⊤
-HasFault (Program p path catalogue) f = HasTextFault p f
+HasFault (Program p from) fault.ProgramBytes = AreFiles from
+HasFault (Program p from) fault.CatalogueBytes = AreFiles from
+HasFault (Program p from) (fault.Catalogue byte) = ⊤
+HasFault (Program p from) (fault.NameTwice name) = ⊤
+HasFault (Program p from) (fault.NoDriver name) = ⊤
+HasFault (Program p from) (fault.Unsuited name) = ⊤
+HasFault (Program p from) f = HasTextFault p f
 HasFault (Show path) fault.Write = ⊤
 HasFault (Show path) fault.NoMemory = ⊤
 HasFault (Show path) (fault.BadFile place) = ⊤
@@ -186,10 +195,13 @@ IsSilent fault.Overflow = ⊥
 IsSilent fault.SchemeBytes = ⊥
 IsSilent f = ⊤
 
+abbrev pub EndsSilent : Ending → Type 0
+EndsSilent None = ⊥
+EndsSilent (Some f) = IsSilent f
+
 abbrev pub PrintsNothing : Command → Ending → Type 0
 PrintsNothing (Show path) end = ⊥
-PrintsNothing command None = ⊥
-PrintsNothing command (Some f) = IsSilent f
+PrintsNothing command end = EndsSilent end
 
 -- a source was found unreadable, too long or nested too deep
 abbrev pub IsUnreadFault : Fault → Type 0
@@ -206,7 +218,7 @@ NeedsDrivers (purpose.Run first) (Some f) = IsUnreadFault f
 NeedsDrivers p end = ⊥
 
 abbrev pub CommandNeedsDrivers : Command → Ending → Type 0
-CommandNeedsDrivers (Program p path catalogue) end = NeedsDrivers p end
+CommandNeedsDrivers (Program p from) end = NeedsDrivers p end
 CommandNeedsDrivers command end = ⊥
 
 -- ---- what is done with a program's text
@@ -236,7 +248,7 @@ pub record DoesText (ss : List Source) (p : Purpose) (text : List ℕ) (end : En
   pub changed : (name : Name) → end ≡ Some (fault.Changed name)
       → SomeDrifted ss (λ x. IsMentionedIn ss text x × (x ≡ name)) old.drivers new.drivers
   pub no_other : IsOneOf (HasTextFault p) end
-  pub nothing : PrintsNothing (Program p [] None) end → new.out ≡ old.out
+  pub nothing : EndsSilent end → new.out ≡ old.out
   pub drivers : KeepsDrivers (IsMentionedIn ss text) old.drivers new.drivers
   pub still : (IsRun p → ⊥) → new.drivers ≡ old.drivers
 
@@ -248,9 +260,9 @@ LacksFile command files ks = (told : _) × (files.told ≡ Some told) × IsVerdi
 
 -- P holds of a run's text and its sources, which are those of its files where these are told
 abbrev pub OfRun : Command → FilesState → List DriverKind → (List ℕ → List Source → Type 0) → Type 0
-OfRun (Program (purpose.Run first) path catalogue) files ks P =
+OfRun (Program (purpose.Run first) from) files ks P =
     (text : List ℕ) × (ss : List Source)
-    × ((told : _) → files.told ≡ Some told → HasInputs told ks path catalogue text ss) × P text ss
+    × ((told : _) → TellTo from files told → HasInputs told ks from text ss) × P text ss
 OfRun command files ks P = ⊥
 
 -- a driver tells that a source which the run's program mentions is missing
@@ -280,29 +292,29 @@ pub record IsCaused (command : Command) (end : Ending) (old new : Outside) : Typ
 
 -- The same of a source of a program that is unreadable, too long or nested too deep.
 abbrev pub UnreadCause : Command → Ending → Outside → Outside → Type 0
-UnreadCause (Program p path catalogue) end old new =
+UnreadCause (Program p from) end old new =
     (f : Fault) → end ≡ Some f → IsUnreadFault f
-    → OfRun (Program p path catalogue) old.files (kinds_of old.drivers) (λ text ss. IsUnreadBy ss (IsMentionedIn ss text) f old.drivers new.drivers)
+    → OfRun (Program p from) old.files (kinds_of old.drivers) (λ text ss. IsUnreadBy ss (IsMentionedIn ss text) f old.drivers new.drivers)
 UnreadCause command end old new = ⊤
 
 -- a name that the program of a command mentions
 abbrev pub IsMentioned : (List ℕ → Option (List ℕ)) → List DriverKind → Command → Name → Type 0
-IsMentioned told ks (Program p path catalogue) name =
-    (text : List ℕ) × (ss : List Source) × HasInputs told ks path catalogue text ss × IsMentionedIn ss text name
+IsMentioned told ks (Program p from) name =
+    (text : List ℕ) × (ss : List Source) × HasInputs told ks from text ss × IsMentionedIn ss text name
 IsMentioned told ks command name = ⊥
 
 -- the drivers of the sources that the program of a command mentions tell what they hold
 abbrev pub AreMentionedTold : (List ℕ → Option (List ℕ)) → List DriverKind → Command → Type 0
-AreMentionedTold told ks (Program p path catalogue) =
-    (text : List ℕ) (ss : List Source) → HasInputs told ks path catalogue text ss → AreTold ks ss (IsMentionedIn ss text)
+AreMentionedTold told ks (Program p from) =
+    (text : List ℕ) (ss : List Source) → HasInputs told ks from text ss → AreTold ks ss (IsMentionedIn ss text)
 AreMentionedTold told ks command = ⊤
 
 abbrev pub IsRunning : Command → Type 0
-IsRunning (Program p path catalogue) = IsRun p
+IsRunning (Program p from) = IsRun p
 IsRunning command = ⊥
 
 abbrev pub CommandListsTypes : Command → Type 0
-CommandListsTypes (Program p path catalogue) = ListsTypes p
+CommandListsTypes (Program p from) = ListsTypes p
 CommandListsTypes command = ⊥
 
 -- No file and no cursor is open that was not, and the same bytes are told. Only a run attaches sources, and none but
@@ -312,16 +324,16 @@ pub record IsClosed (command : Command) (old new : Outside) : Type 0 where
   pub told : new.files.told ≡ old.files.told
   pub drivers : KeepsDrivers (λ name. ⊤) old.drivers new.drivers
   pub still : (IsRunning command → ⊥) → new.drivers ≡ old.drivers
-  pub mentioned : (told : _) → old.files.told ≡ Some told
+  pub mentioned : (told : _) → Tell command old.files told
       → KeepsDrivers (IsMentioned told (kinds_of old.drivers) command) old.drivers new.drivers
 
 -- what a command does
 pub record Does (command : Command) (end : Ending) (old new : Outside) : Type 0 where
-  pub told : (told : _) → old.files.told ≡ Some told
+  pub told : (told : _) → Tell command old.files told
       → (v : Verdict) → IsVerdict told (kinds_of old.drivers) command v
       → (w : Verdict) × IsVerdict told (kinds_of old.drivers) command w × Alike (CommandListsTypes command) v w × FollowsVerdict w end old new
   -- the way back
-  pub meant : (told : _) → old.files.told ≡ Some told
+  pub meant : (told : _) → Tell command old.files told
       → IsDetermined end → (CommandNeedsDrivers command end → AreMentionedTold told (kinds_of old.drivers) command)
       → (v : Verdict) × IsVerdict told (kinds_of old.drivers) command v × (v.ending ≡ end)
   pub caused : IsCaused command end old new

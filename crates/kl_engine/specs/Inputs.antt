@@ -1,4 +1,4 @@
--- What reading a command's files answers. No public contract cites this.
+-- What reading a command's files, or making its texts, answers. No public contract cites this.
 use Rattle.std.specs.Prelude.{◌≡◌, ◌⊎◌, ℕ, ◌≤◌, List, length, Option, Some, None, Result, Vec, IfOk, IfErr, ⊤}
 use Rattle.std.specs.declared.alloc.Global.{Global}
 use Rattle.kl_outside.specs.Counts.{Rose}
@@ -7,6 +7,7 @@ use Rattle.kl_ask.specs.Driver.{DriverKind}
 use Rattle.kl_sources.specs.Sources.{ArePlaced}
 use Rattle.kl_sources.specs.declared.source.Source.{Source}
 use Rattle.kl_engine.specs.Catalogues.{IsCatalogueFault, IsCatalogueOf}
+use Rattle.kl_engine.specs.Commands.{Origin, Files, Made, TellTo}
 use Rattle.kl_engine.specs.Verdict.{most_bytes, IsSourcesFault, HasSources, IsInputsFault, HasInputs}
 use Rattle.kl_engine.specs.declared.inputs.Inputs.{Inputs}
 use Rattle.kl_engine.specs.declared.fault.Fault.{Fault}
@@ -47,18 +48,23 @@ pub record ReadsSources (catalogue : Option (List ℕ)) (ks : List DriverKind) (
   pub read : (files.told ≡ None) → IfErr result (λ f. f ≡ fault.Read → Rose files.faults files'.faults)
 
 -- the faults of both files
-abbrev pub IsInputsEnd : Fault → Type 0
-IsInputsEnd fault.ProgramBytes = ⊤
-IsInputsEnd f = IsSourcesEnd f
+abbrev pub IsFilesEnd : Fault → Type 0
+IsFilesEnd fault.ProgramBytes = ⊤
+IsFilesEnd f = IsSourcesEnd f
 
-pub record ReadsInputs (path : List ℕ) (catalogue : Option (List ℕ)) (ks : List DriverKind) (result : Result Inputs Fault) (files files' : FilesState)
+-- and those of what a program and its sources come from
+abbrev pub IsInputsEnd : Origin → Fault → Type 0
+IsInputsEnd (Files path catalogue) f = IsFilesEnd f
+IsInputsEnd (Made seed size) f = IsCatalogueEnd f
+
+pub record ReadsInputs (from : Origin) (ks : List DriverKind) (result : Result Inputs Fault) (files files' : FilesState)
     : Type 0 where
   pub left : files'.left ≡ files.left
   pub told : files'.told ≡ files.told
   pub few : IfOk result (λ i. length i.text ≤ most_bytes)
   pub placed : IfOk result (λ i. ArePlaced ks i.sources)
-  pub inputs : (told : _) → files.told ≡ Some told → IfOk result (λ i. HasInputs told ks path catalogue i.text i.sources)
-  pub refused : (told : _) → files.told ≡ Some told
-      → IfErr result (λ f. (f ≡ fault.NoMemory) ⊎ ((f ≡ fault.Read) × Rose files.faults files'.faults) ⊎ IsInputsFault told ks path catalogue f)
-  pub no_other : IfErr result IsInputsEnd
+  pub inputs : (told : _) → TellTo from files told → IfOk result (λ i. HasInputs told ks from i.text i.sources)
+  pub refused : (told : _) → TellTo from files told
+      → IfErr result (λ f. (f ≡ fault.NoMemory) ⊎ ((f ≡ fault.Read) × Rose files.faults files'.faults) ⊎ IsInputsFault told ks from f)
+  pub no_other : IfErr result (IsInputsEnd from)
   pub read : files.told ≡ None → IfErr result (λ f. f ≡ fault.Read → Rose files.faults files'.faults)

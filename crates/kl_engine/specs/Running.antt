@@ -18,8 +18,7 @@ use Rattle.kl_sources.specs.Sources.{kinds_of, names_of}
 use Rattle.kl_sources.specs.declared.source.Source.{Source}
 use Rattle.kl_engine.specs.Answering.{SomeRose, KeepsDrivers, IsStoredFault, AreTold, IsUnreadBy, SomeDrifted}
 use Rattle.kl_engine.specs.Answering.{FollowsVerdict, PrintsPage, IsOutside, IsDetermined, IsRun}
-use Rattle.kl_engine.specs.Answering.{HasTextFault, IsOneOf, PrintsNothing, IsUnreadFault, NeedsDrivers}
-use Rattle.kl_engine.specs.Commands.{Program}
+use Rattle.kl_engine.specs.Answering.{HasTextFault, IsOneOf, EndsSilent, IsUnreadFault, NeedsDrivers}
 use Rattle.kl_engine.specs.Faults.{Ending}
 use Rattle.kl_engine.specs.Outside.{Outside}
 use Rattle.kl_infer.specs.Numbers.{limit}
@@ -80,7 +79,7 @@ pub record AnswersTerm (IsOut : Verdict → Type 0) (told : Type 0) (end : Endin
   pub write : end ≡ Some fault.Write → Rose old.out.faults new.out.faults
   pub changed : (name : Name) → end ≡ Some (fault.Changed name) → DriftsAt list name old.drivers new.drivers
   pub no_other : IsOneOf HasRunFault end
-  pub nothing : PrintsNothing (Program (purpose.Run None) [] None) end → new.out ≡ old.out
+  pub nothing : EndsSilent end → new.out ≡ old.out
   pub drivers : KeepsDrivers (λ name. ⊥) old.drivers new.drivers
 
 -- a name of the sources that is mentioned
@@ -111,7 +110,7 @@ pub record DoneBy (IsVerdict : (ℕ → Bool) → Verdict → Type 0) (ss : List
   pub changed : (name : Name) → end ≡ Some (fault.Changed name)
       → SomeDrifted ss (λ x. IsNamed ss marks x × (x ≡ name)) old.drivers new.drivers
   pub no_other : IsOneOf (HasTextFault p) end
-  pub nothing : PrintsNothing (Program p [] None) end → new.out ≡ old.out
+  pub nothing : EndsSilent end → new.out ≡ old.out
   pub drivers : KeepsDrivers (IsNamed ss marks) old.drivers new.drivers
   pub still : (IsRun p → ⊥) → new.drivers ≡ old.drivers
 

@@ -26,7 +26,8 @@ use Rattle.kl_sources.specs.Sources.{names_of, grounds_of, HaveValues, FirstWith
 use Rattle.kl_sources.specs.declared.source.Source.{Source}
 use Rattle.kl_engine.specs.Catalogues.{IsCatalogueFault, IsCatalogueOf}
 use Rattle.kl_engine.specs.Reading.{IsTextFault, IsProgramOf, definitions, last}
-use Rattle.kl_engine.specs.Commands.{Command, NoneNamed, Program as AProgram, Show}
+use Rattle.kl_tools.specs.Texts.{catalogue_text, program_text}
+use Rattle.kl_engine.specs.Commands.{Command, NoneNamed, Program as AProgram, Show, Origin, Files, Made}
 use Rattle.kl_engine.specs.Faults.{Ending}
 use Rattle.kl_engine.specs.declared.fault.Fault.{Fault}
 use Rattle.kl_engine.specs.declared.fault.Fault.TheVariants as fault
@@ -196,7 +197,7 @@ IsTextVerdict ks ss p bytes v =
     × IsProgramOf (names_of ss) bytes q × AreMarks q (names_of ss) marks
     × IsDone ks ss marks p (definitions (names_of ss) q) (last (names_of ss) q) v)
 
--- ---- files
+-- ---- files, and made rows
 
 -- what is wrong with a file: it is missing, or has too many bytes, or its bytes are wrong
 abbrev pub IsFileFault : Fault → (List ℕ → Fault → Type 0) → Option (List ℕ) → Fault → Type 0
@@ -213,22 +214,32 @@ abbrev pub HasSources : (List ℕ → Option (List ℕ)) → List DriverKind →
 HasSources told ks None ss = ss ≡ []
 HasSources told ks (Some path) ss = (bytes : List ℕ) × (told path ≡ Some bytes) × (length bytes ≤ most_bytes) × IsCatalogueOf ks bytes ss
 
--- what is wrong with the files of a command: first with its program, and then with its catalogue
-abbrev pub IsInputsFault : (List ℕ → Option (List ℕ)) → List DriverKind → List ℕ → Option (List ℕ) → Fault → Type 0
-IsInputsFault told ks path catalogue f = IsFileFault fault.ProgramBytes (λ text. IsSourcesFault told ks catalogue) (told path) f
+-- what is wrong with the files of a program: first with its own, and then with its catalogue
+abbrev pub IsFilesFault : (List ℕ → Option (List ℕ)) → List DriverKind → List ℕ → Option (List ℕ) → Fault → Type 0
+IsFilesFault told ks path catalogue f = IsFileFault fault.ProgramBytes (λ text. IsSourcesFault told ks catalogue) (told path) f
 
--- a command has this text and these sources
-pub record HasInputs (told : List ℕ → Option (List ℕ)) (ks : List DriverKind) (path : List ℕ) (catalogue : Option (List ℕ)) (text : List ℕ)
+-- files have this text and these sources
+pub record HasFiles (told : List ℕ → Option (List ℕ)) (ks : List DriverKind) (path : List ℕ) (catalogue : Option (List ℕ)) (text : List ℕ)
     (ss : List Source) : Type 0 where
   pub at : told path ≡ Some text
   pub few : length text ≤ most_bytes
   pub sources : HasSources told ks catalogue ss
 
--- what is wrong with its files is told first, and then what its text comes to
-abbrev pub IsProgramVerdict : (List ℕ → Option (List ℕ)) → List DriverKind → Purpose → List ℕ → Option (List ℕ) → Verdict → Type 0
-IsProgramVerdict told ks p path catalogue v =
-    ((f : Fault) × IsInputsFault told ks path catalogue f × (v ≡ refused f))
-    ⊎ ((text : List ℕ) × (ss : List Source) × HasInputs told ks path catalogue text ss × IsTextVerdict ks ss p text v)
+-- what is wrong before a program's text is read; over made rows, that their catalogue has no such sources
+abbrev pub IsInputsFault : (List ℕ → Option (List ℕ)) → List DriverKind → Origin → Fault → Type 0
+IsInputsFault told ks (Files path catalogue) f = IsFilesFault told ks path catalogue f
+IsInputsFault told ks (Made seed size) f = IsCatalogueFault ks (catalogue_text seed size) f
+
+-- a program has this text and these sources
+abbrev pub HasInputs : (List ℕ → Option (List ℕ)) → List DriverKind → Origin → List ℕ → List Source → Type 0
+HasInputs told ks (Files path catalogue) text ss = HasFiles told ks path catalogue text ss
+HasInputs told ks (Made seed size) text ss = (text ≡ program_text) × IsCatalogueOf ks (catalogue_text seed size) ss
+
+-- what is wrong before is told first, and then what its text comes to
+abbrev pub IsProgramVerdict : (List ℕ → Option (List ℕ)) → List DriverKind → Purpose → Origin → Verdict → Type 0
+IsProgramVerdict told ks p from v =
+    ((f : Fault) × IsInputsFault told ks from f × (v ≡ refused f))
+    ⊎ ((text : List ℕ) × (ss : List Source) × HasInputs told ks from text ss × IsTextVerdict ks ss p text v)
 
 abbrev pub IsFile : (List ℕ → Verdict → Type 0) → Option (List ℕ) → Verdict → Type 0
 IsFile AreBytes None v = v ≡ refused fault.Read
@@ -237,5 +248,5 @@ IsFile AreBytes (Some bytes) v = AreBytes bytes v
 -- the verdict on a command, over files with these bytes and drivers of these kinds
 abbrev pub IsVerdict : (List ℕ → Option (List ℕ)) → List DriverKind → Command → Verdict → Type 0
 IsVerdict told ks NoneNamed v = v ≡ refused fault.Usage
-IsVerdict told ks (AProgram p path catalogue) v = IsProgramVerdict told ks p path catalogue v
+IsVerdict told ks (AProgram p from) v = IsProgramVerdict told ks p from v
 IsVerdict told ks (Show path) v = IsFile IsShowing (told path) v

@@ -1,25 +1,25 @@
 //! The drivers that are handed in.
-ghost use Rattle.std.specs.Prelude.{◌≡◌, IfOk, All, ◌<◌, ◌^◌, [], ◌∷◌, length, map};
+ghost use Rattle.std.specs.Prelude.{◌≡◌, All, ◌<◌, ◌+◌, ◌^◌, length, map, OnOk};
 ghost use Rattle.kl_ask.specs.Driver.{State};
-ghost use Rattle.kl_engine.specs.Answering.{IsIdle};
+ghost use Rattle.kl_engine.specs.Answering.{AddsDriver, IsIdle};
 
 use kl_ask::Driver;
-use std::alloc::{AllocError, Global};
+use std::alloc::AllocError;
 
-/// One driver, as the list that `kleisli` takes.
+/// Adds a driver behind the others, to the list that `kleisli` takes.
 ///
 /// # Errors
-/// Want of memory.
-pub fn one_driver(
-    alloc: Global,
+/// Want of memory; the driver is dropped then.
+pub fn add_driver(
+    drivers: &mut Vec<Box<dyn Driver>>,
     driver: Box<dyn Driver>,
-) -> Result<Vec<Box<dyn Driver>>, AllocError>
-    requires { IsIdle (state driver) }
-    ensures alone { IfOk result (λ drivers. map (λ d. state d) drivers.items ≡ state driver ∷ []) }
-    ensures idle { IfOk result (λ drivers. All IsIdle (map (λ d. state d) drivers.items)) }
-    ensures few { IfOk result (λ drivers. length drivers.items < 2 ^ 32) }
+) -> Result<(), AllocError>
+    requires idle { IsIdle (state driver) }
+    requires others { All IsIdle (map (λ d. state d) drivers.old.items) }
+    requires few { length drivers.old.items + 1 < 2 ^ 32 }
+    ensures added { OnOk result (AddsDriver (state driver) (map (λ d. state d) drivers.old.items) (map (λ d. state d) drivers.new.items)) }
+    ensures count { OnOk result (length drivers.new.items ≡ length drivers.old.items + 1) }
 {
-    let mut drivers = Vec::new(alloc);
     drivers.push(driver)?;
-    Ok(drivers)
+    Ok(())
 }

@@ -3,14 +3,17 @@ ghost use Rattle.std.specs.Prelude.{◌≡◌, ◌<◌, ◌≤◌, ◌^◌, leng
 ghost use Rattle.kl_ask.specs.Driver.{State};
 ghost use Rattle.kl_sources.specs.Sources.{kinds_of};
 ghost use Rattle.kl_engine.specs.Catalogues.{place_fault};
+ghost use Rattle.kl_outside.specs.Files.{FilesState};
+ghost use Rattle.kl_engine.specs.Commands.{Files as FromFiles, Made};
 ghost use Rattle.kl_engine.specs.Inputs.{ReadsInputs, ReadsSources, PlacesCatalogue};
 
 use crate::fault::Fault;
 use kl_ask::Driver;
-use kl_base::{Seq, Text};
+use kl_base::{NoMemory, Seq, Text};
 use kl_catalogue::{CatalogueError, read_catalogue};
 use kl_outside::{Files, Stop, Whole, read_whole};
 use kl_sources::{PlaceError, Source, place_sources};
+use kl_tools::gen_texts;
 use std::alloc::Global;
 
 // How many bytes a program and a catalogue may have.
@@ -36,7 +39,7 @@ pub fn read_inputs<F: Files>(
     files: &mut F,
 ) -> Result<Inputs, Fault>
     requires { length drivers.now.items < 2 ^ 32 }
-    ensures { ReadsInputs program.now catalogue.now (kinds_of (map (λ d. (Driver-box d).state d.value) drivers.now.items))
+    ensures { ReadsInputs (FromFiles program.now catalogue.now) (kinds_of (map (λ d. (Driver-box d).state d.value) drivers.now.items))
         result (F.state files.old) (F.state files.new) }
 {
     match read_whole(alloc, files, program.slice(), MOST) {
@@ -50,6 +53,31 @@ pub fn read_inputs<F: Files>(
         Ok(Whole::TooLong) => Err(Fault::ProgramBytes),
         Err(Stop::Failed) => Err(Fault::Read),
         Err(Stop::NoMemory) => Err(Fault::NoMemory),
+    }
+}
+
+/// The text of the program over so many made rows of a seed, and its sources.
+///
+/// # Errors
+/// No driver makes rows of their type; want of memory.
+pub fn made_inputs(
+    alloc: Global,
+    seed: u32,
+    size: u32,
+    drivers: &Vec<Box<dyn Driver>>,
+) -> Result<Inputs, Fault>
+    requires { length drivers.now.items < 2 ^ 32 }
+    ensures { (files : FilesState) → ReadsInputs (Made seed size) (kinds_of (map (λ d. (Driver-box d).state d.value) drivers.now.items)) result files files }
+{
+    match gen_texts(alloc, seed, size) {
+        Ok(texts) => match catalogue_of(alloc, texts.catalogue.slice(), drivers) {
+            Ok(sources) => Ok(Inputs {
+                text: texts.program,
+                sources: Seq::of(sources),
+            }),
+            Err(fault) => Err(fault),
+        },
+        Err(NoMemory) => Err(Fault::NoMemory),
     }
 }
 

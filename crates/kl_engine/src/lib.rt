@@ -17,6 +17,6 @@ mod stats;
 mod top;
 mod types;
 
-pub use drivers::one_driver;
+pub use drivers::add_driver;
 pub use fault::{Fault, Wrong};
 pub use top::{Answer, Purpose, kleisli};

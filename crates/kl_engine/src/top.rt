@@ -2,8 +2,9 @@
 ghost use Rattle.std.specs.Prelude.{◌≡◌, ◌<◌, ◌^◌, None, All, length, map, string_bytes};
 ghost use Rattle.kl_words.specs.Commands.{command_of};
 ghost use Rattle.kl_ask.specs.Driver.{State};
+ghost use Rattle.kl_outside.specs.Files.{FilesState};
 ghost use Rattle.kl_engine.specs.Answering.{Does, IsIdle};
-ghost use Rattle.kl_engine.specs.Commands.{Program, asked, path_of, wants_stats};
+ghost use Rattle.kl_engine.specs.Commands.{Files as FromFiles, Made, Program, asked, path_of, wants_stats};
 ghost use Rattle.kl_engine.specs.Faults.{TookLine, ending, status_of};
 ghost use Rattle.kl_engine.specs.Outside.{outside_of};
 ghost use Rattle.kl_ask.specs.Trace.{IsBlank};
@@ -12,12 +13,12 @@ ghost use Rattle.kl_engine.specs.declared.top.Purpose.TheVariants.{Run, Check, T
 
 use crate::check::check;
 use crate::fault::{Fault, status, tell};
-use crate::inputs::{Inputs, read_inputs};
+use crate::inputs::{Inputs, made_inputs, read_inputs};
 use crate::run::{How, run};
 use crate::show::show;
 use crate::stats::{rows_handed, tell_counts};
 use crate::types::types;
-use kl_ask::{Driver, Trace};
+use kl_ask::{Driver, Settings, Trace};
 use kl_base::Text;
 use kl_outside::{Files, Sink};
 use kl_words::{Command, Job, WordsError, read_words};
@@ -113,6 +114,10 @@ pub fn kleisli<F: Files, S: Sink, E: Sink>(
             let result = show(alloc, file.slice(), files, out);
             end(alloc, result, file.slice(), false, 0, err)
         }
+        Ok(Command::Gen { seed, size }) => {
+            let result = do_gen(alloc, seed, size, drivers, out);
+            end(alloc, result, b"", false, 0, err)
+        }
         Err(WordsError::Usage) => end(alloc, Err(Fault::Usage), b"", false, 0, err),
         Err(WordsError::NoMemory) => end(alloc, Err(Fault::NoMemory), b"", false, 0, err),
     }
@@ -177,7 +182,7 @@ fn do_run<F: Files, S: Sink>(
     requires idle { All IsIdle (map (λ d. (Driver-box d).state d.value) drivers.old.items) }
     requires few { length drivers.old.items < 2 ^ 32 }
     requires fetch { 0 < job.now.settings.fetch }
-    ensures { Does (Program (Run job.now.first) job.now.program job.now.catalogue) (ending result)
+    ensures { Does (Program (Run job.now.first) (FromFiles job.now.program job.now.catalogue)) (ending result)
         (outside_of (F.state files.old) (map (λ d. (Driver-box d).state d.value) drivers.old.items) (S.state out.old))
         (outside_of (F.state files.new) (map (λ d. (Driver-box d).state d.value) drivers.new.items) (S.state out.new)) }
 {
@@ -186,6 +191,32 @@ fn do_run<F: Files, S: Sink>(
             let how = How {
                 settings: job.settings,
                 first: job.first,
+            };
+            run(alloc, text.slice(), sources.into_vec(), how, drivers, out)
+        }
+        Err(fault) => Err(fault),
+    }
+}
+
+// Runs the program over so many made rows of a seed.
+fn do_gen<S: Sink>(
+    alloc: Global,
+    seed: u32,
+    size: u32,
+    drivers: &mut Vec<Box<dyn Driver>>,
+    out: &mut S,
+) -> Result<(), Fault>
+    requires idle { All IsIdle (map (λ d. (Driver-box d).state d.value) drivers.old.items) }
+    requires few { length drivers.old.items < 2 ^ 32 }
+    ensures { (files : FilesState) → Does (Program (Run None) (Made seed size)) (ending result)
+        (outside_of files (map (λ d. (Driver-box d).state d.value) drivers.old.items) (S.state out.old))
+        (outside_of files (map (λ d. (Driver-box d).state d.value) drivers.new.items) (S.state out.new)) }
+{
+    match made_inputs(alloc, seed, size, drivers) {
+        Ok(Inputs { text, sources }) => {
+            let how = How {
+                settings: Settings::usual(),
+                first: None,
             };
             run(alloc, text.slice(), sources.into_vec(), how, drivers, out)
         }
@@ -203,7 +234,7 @@ fn do_types<F: Files, S: Sink>(
     out: &mut S,
 ) -> Result<(), Fault>
     requires { length drivers.now.items < 2 ^ 32 }
-    ensures { Does (Program Types program.now catalogue.now) (ending result)
+    ensures { Does (Program Types (FromFiles program.now catalogue.now)) (ending result)
         (outside_of (F.state files.old) (map (λ d. (Driver-box d).state d.value) drivers.now.items) (S.state out.old))
         (outside_of (F.state files.new) (map (λ d. (Driver-box d).state d.value) drivers.now.items) (S.state out.new)) }
 {
@@ -223,7 +254,7 @@ fn do_check<F: Files, S: Sink>(
     out: &mut S,
 ) -> Result<(), Fault>
     requires { length drivers.now.items < 2 ^ 32 }
-    ensures { Does (Program Check program.now catalogue.now) (ending result)
+    ensures { Does (Program Check (FromFiles program.now catalogue.now)) (ending result)
         (outside_of (F.state files.old) (map (λ d. (Driver-box d).state d.value) drivers.now.items) (S.state out.old))
         (outside_of (F.state files.new) (map (λ d. (Driver-box d).state d.value) drivers.now.items) (S.state out.new)) }
 {

@@ -15,6 +15,7 @@ ghost use Rattle.kl_engine.specs.declared.top.Purpose.TheVariants.{Types};
 
 use crate::fault::Fault;
 use crate::read::{infer_over, read_over};
+use kl_base::Shared;
 use kl_infer::{Typed, print_scheme};
 use kl_outside::{Sink, Stop, write_whole};
 use kl_rows::Scheme;
@@ -79,14 +80,14 @@ fn list<S: Sink>(alloc: Global, scoped: &Scoped, typed: &Typed, out: &mut S) -> 
 fn list_definitions<S: Sink>(
     alloc: Global,
     defs: &[Decl],
-    schemes: &[Scheme],
+    schemes: &[Shared<Scheme>],
     out: &mut S,
 ) -> Result<(), Fault>
     requires { All IsScheme schemes.now }
     ensures { ListsFront (zip (map (λ d. d.name.text) defs.now) schemes.now) result (S.state out.old) (S.state out.new) }
 {
     'lines: for i in 0..defs.len().min(schemes.len()) {
-        match list_one(alloc, defs[i].name.text.slice(), &schemes[i], out) {
+        match list_one(alloc, defs[i].name.text.slice(), schemes[i].get(), out) {
             Ok(()) => {}
             Err(fault) => return Err(fault),
         }

@@ -9,6 +9,7 @@ use Rattle.kl_ask.specs.Driver.{State, Cursor, Pulls, source_of}
 use Rattle.kl_ask.specs.declared.ask.Ask.{Ask}
 use Rattle.kl_ask.specs.declared.ask.Ask.TheVariants as asks
 use Rattle.kl_ask.specs.declared.DriverError.{DriverError}
+use Rattle.kl_ask.proofs.Opened.{some_of}
 use Rattle.kl_ask.proofs.Worlds.{keeps_none, keeps_then}
 use Rattle.kl_eval.specs.Scans.{Draining, Drained, Stopped, bound_of}
 use Rattle.kl_eval.proofs.Stops.{cause_then}
@@ -25,10 +26,6 @@ begins cursor into s = record {
   others = λ k ne. refl;
   rows = λ first is. record { then = first; rows = []; now = is; ask = refl; ty = refl; appended = sym (append-nil into); typed = tt; left = λ all has. (all, refl, has) };
 }
-
-pub some_of : {T : Type 0} (o : Option T) → IsSome o → (x : T) × (o ≡ Some x)
-some_of None h = absurd cc
-some_of (Some x) h = (x, refl)
 
 typed_on : (t u : Ground) (xs ys : List Value) → u ≡ t → AllByRecursion (Inhabits t) xs → AllByRecursion (Inhabits u) ys → AllByRecursion (Inhabits t) (xs ++ ys)
 typed_on t u xs ys same all more = all_append (Inhabits t) xs ys all (subst (λ ty. AllByRecursion (Inhabits ty) ys) same more)

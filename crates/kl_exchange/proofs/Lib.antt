@@ -4,14 +4,16 @@ pub mod Completes
 pub mod Fetching
 pub mod FileItems
 pub mod FileReading
+pub mod Founds
 pub mod LabelSets
 pub mod OneAnswer
 pub mod Pairs
 pub mod Printed
-pub mod ReadsBack
 pub mod Reading
+pub mod ReadsBack
 pub mod Runs
 pub mod Scanning
+pub mod SpanLemmas
 pub mod StoredLemmas
 pub mod TextLemmas
 pub mod Totals

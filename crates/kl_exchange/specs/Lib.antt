@@ -2,6 +2,7 @@ pub mod Fields
 pub mod Fetching
 pub mod FileItems
 pub mod FileReading
+pub mod Found
 pub mod Gathered
 pub mod Grammar
 pub mod Machine

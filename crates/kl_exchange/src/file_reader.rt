@@ -1,5 +1,5 @@
 //! The items of an open file.
-ghost use Rattle.std.specs.Prelude.{◌≡◌, ◌+◌, ◌<◌, ◌≤◌, [], None, false, length, IsSome};
+ghost use Rattle.std.specs.Prelude.{◌≡◌, ◌+◌, ◌<◌, ◌≤◌, [], None, Ok, true, false, length, IsSome};
 ghost use Rattle.kl_exchange.specs.FileItems.{most_read};
 ghost use Rattle.kl_exchange.specs.FileReading.{HandsOut, Fetches, NextItem};
 ghost use Rattle.kl_exchange.specs.Reading.{Waits};
@@ -63,6 +63,20 @@ impl FileReader {
             reader: Reader::new(alloc),
             past: false,
         }
+    }
+
+    /// The number of bytes in the items read so far.
+    pub fn place(&self) -> u64
+        ensures { result ≡ self.now.text.place }
+    {
+        self.reader.place()
+    }
+
+    /// The number of bytes that were fetched.
+    pub fn total(&self) -> u64
+        ensures { result ≡ self.now.text.place + length self.now.text.left }
+    {
+        self.reader.total()
     }
 
     /// The next item among the bytes that were fetched, as `Reader::next`. It reads no file.
@@ -143,7 +157,9 @@ impl FileReader {
     /// - `NoMemory`: want of memory.
     pub fn next<F: Files>(&mut self, files: &mut F) -> Result<Option<Value>, FileError>
         requires { IsSome ((F.state files.old).left self.old.file) }
-        ensures { NextItem result self.old self.new (F.state files.old) (F.state files.new) }
+        ensures reads { NextItem result self.old self.new (F.state files.old) (F.state files.new) }
+        // Where none is left, all bytes of the file were fetched.
+        ensures ended { result ≡ Ok None → self.new.text.finished ≡ true }
     {
         'pieces: loop {
             match self.next_held() {

@@ -1,10 +1,12 @@
 //! Laws of exchange text, for the layers above to cite.
 ghost use Rattle.std.specs.Prelude.{◌≡◌, ◌≢◌, ◌≤◌, ◌++◌, [], ℕ, List, Result, Some, false, codes};
+ghost use Rattle.kl_value.specs.IsCanonical.{IsCanonical};
 ghost use Rattle.kl_value.specs.Shape.{depth_of};
 ghost use Rattle.kl_value.specs.Written.{text_of};
 ghost use Rattle.kl_value.specs.declared.Value.{Value};
 ghost use Rattle.kl_exchange.specs.FileItems.{FileEnd, Shows, reading};
 ghost use Rattle.kl_exchange.specs.FileReading.{FileReading, HasRead, Left};
+ghost use Rattle.kl_exchange.specs.Found.{IsFound, file_items, values_of};
 ghost use Rattle.kl_exchange.specs.Grammar.{IsItem};
 ghost use Rattle.kl_exchange.specs.Reading.{ReadsNext};
 ghost use Rattle.kl_exchange.specs.State.{State};
@@ -13,14 +15,15 @@ ghost use Rattle.kl_exchange.specs.declared.error.ReadError.TheVariants as error
 ghost use Rattle.kl_exchange.specs.declared.reader.Item.{Item};
 
 /// No item's spelling begins another's, and each spells one value, whatever follows. So a state has one answer that
-/// is no want of memory: each answer comes exactly where its cause is. A value that was read is no deeper than the
-/// brackets that it was read in, and its canonical text with a `;` is an item of it again.
+/// is no want of memory: each answer comes exactly where its cause is. A value that was read is canonical and no deeper
+/// than the brackets that it was read in, and its canonical text with a `;` is an item of it again.
 pub fn reading_laws()
     ensures one_item { (m n : ℕ) (a b x y : List ℕ) (v w : Value)
         → IsItem m a v → IsItem n b w → a ++ x ≡ b ++ y → (a ≡ b) × (v ≡ w) }
     ensures one_answer { (old new other : State) (r s : Result Item ReadError)
         → ReadsNext old r new → ReadsNext old s other → r ≢ Err error.NoMemory → s ≢ Err error.NoMemory
         → (r ≡ s) × (new ≡ other) }
+    ensures canonical { (n : ℕ) (bytes : List ℕ) (v : Value) → IsItem n bytes v → IsCanonical v }
     ensures nests { (n : ℕ) (bytes : List ℕ) (v : Value) → IsItem n bytes v → depth_of v ≤ n }
     ensures again { (n : ℕ) (bytes : List ℕ) (v : Value) → IsItem n bytes v → IsItem n (text_of v ++ codes ";") v }
 {}
@@ -34,4 +37,10 @@ pub fn file_laws()
         → Shows limit bytes vs e → Shows limit bytes ws f → (vs ≡ ws) × (e ≡ f) }
     ensures front { (first : Left) (vs ws : List Value) (now : FileReading) (left : Left) (bytes : List ℕ) (end : FileEnd)
         → HasRead first vs now left → first ≡ Some (Some bytes) → Shows now.limit bytes ws end → (us : List Value) × (ws ≡ vs ++ us) }
+{}
+
+/// The items of a file are a function of its bytes: each file has one list of items at their places, and one end.
+pub fn found_laws()
+    ensures is { (limit : ℕ) (bytes : List ℕ) → IsFound limit bytes (file_items limit bytes) }
+    ensures shows { (limit : ℕ) (bytes : List ℕ) → Shows limit bytes (values_of (file_items limit bytes).items) (file_items limit bytes).behind }
 {}

@@ -11,8 +11,9 @@
 //!
 //! The grammar stands in `specs/Grammar.antt`, as a relation between bytes and values by recursion on the brackets that
 //! may be open. What a reader answers is said by it alone, in `specs/Reading.antt`. The code is a machine that takes one
-//! byte at a time: `specs/Machine.antt` says what a byte makes of it, for contracts of private functions. A reader holds
-//! the bytes of the item that is not whole, and what they have come to.
+//! byte at a time: `specs/Machine.antt` says what a byte makes of it, for contracts of private functions. Texts, numbers,
+//! labels, commas and brackets it takes in spans, which come to the same (`src/spans.rt`). A reader holds the bytes of the
+//! item that is not whole, and what they have come to.
 //!
 //! The contracts let through bodies that answer want of memory, which no contract of this project ties to a refused
 //! growth, and other words in `Display`.
@@ -27,10 +28,11 @@ mod memo;
 mod printing;
 mod reader;
 mod scan;
+mod spans;
 mod stack;
 
 pub use error::{FileError, PrintError, ReadError};
 pub use file_reader::{FileReader, MOST_READ};
-pub use laws::{file_laws, reading_laws};
+pub use laws::{file_laws, found_laws, reading_laws};
 pub use printing::{Page, print};
 pub use reader::{Item, Reader};

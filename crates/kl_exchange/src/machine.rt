@@ -34,7 +34,7 @@ pub enum Frame {
     Variant(Label),
 }
 
-type Brackets = Stack<Frame>;
+pub type Brackets = Stack<Frame>;
 
 /// The bytes of an item so far: the brackets that are open, and where the innermost one stands.
 #[derive(Drop)]
@@ -369,7 +369,7 @@ fn in_name(
 }
 
 // Whether the record has a field of the label already.
-fn has_named(holder: &Holder, label: &Label) -> bool
+pub fn has_named(holder: &Holder, label: &Label) -> bool
     ensures { result ≡ has_named holder.now label.now }
 {
     match holder {
@@ -392,7 +392,7 @@ fn named(stack: &mut Brackets, holder: Holder, label: Label, byte: u8) -> Result
     }
 }
 
-fn frame_of(holder: Holder, label: Label) -> Frame
+pub fn frame_of(holder: Holder, label: Label) -> Frame
     ensures { result ≡ frame_of holder label }
 {
     match holder {
@@ -435,7 +435,7 @@ fn behind_minus(byte: u8) -> Result<Next, Stop>
 }
 
 // The value of a decimal digit.
-fn digit_of(byte: u8) -> u64
+pub fn digit_of(byte: u8) -> u64
     requires { IsTrue (is_ascii_digit byte) }
     ensures { result ≡ digit_value byte }
 {
@@ -474,7 +474,7 @@ fn in_digits(
 }
 
 // The magnitude with one more digit, where it is in range.
-fn with_digit(negative: bool, magnitude: u64, digit: u64) -> Option<u64>
+pub fn with_digit(negative: bool, magnitude: u64, digit: u64) -> Option<u64>
     ensures { result ≡ with_digit negative magnitude digit }
 {
     let longer = magnitude.checked_mul(10)?.checked_add(digit)?;
@@ -485,7 +485,7 @@ fn with_digit(negative: bool, magnitude: u64, digit: u64) -> Option<u64>
     }
 }
 
-fn signed(negative: bool, magnitude: u64) -> i64
+pub fn signed(negative: bool, magnitude: u64) -> i64
     requires { magnitude ≤ greatest_magnitude negative }
     ensures { result ≡ signed negative magnitude }
 {

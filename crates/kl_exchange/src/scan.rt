@@ -1,13 +1,11 @@
 //! A machine over several bytes.
-ghost use Rattle.std.specs.Prelude.{◌≡◌, ◌≤◌, true, length, take, IfOk};
-ghost use Rattle.std.specs.List.{list_all};
-ghost use Rattle.kl_base.specs.Word.{is_word_byte};
-ghost use Rattle.kl_exchange.specs.Grammar.{is_blank};
-ghost use Rattle.kl_exchange.specs.Machine.{IsSound, run, more, is_plain, stays_on_blank};
+ghost use Rattle.std.specs.Prelude.{◌≡◌};
+ghost use Rattle.kl_exchange.specs.Machine.{IsSound, run};
 ghost use Rattle.kl_exchange.specs.Scan.{Scans};
 
-use crate::machine::{Machine, Phase, Stop, advance, is_blank};
+use crate::machine::{Machine, Stop, advance};
 use crate::memo::Memo;
+use crate::spans::take_span;
 use kl_base::NoMemory;
 use kl_value::Value;
 use std::alloc::Global;
@@ -50,9 +48,10 @@ pub fn scan(
 {
     let mut at = 0;
     'bytes: while at < bytes.len() {
-        at += skip(machine, &bytes[at..])?;
-        if at == bytes.len() {
-            return Ok(Scanned::More);
+        let count = take_span(alloc, memo, machine, &bytes[at..])?;
+        at += count;
+        if count > 0 {
+            continue;
         }
         match advance(alloc, memo, machine, bytes[at]) {
             Ok(None) => at += 1,
@@ -63,81 +62,4 @@ pub fn scan(
         }
     }
     Ok(Scanned::More)
-}
-
-// Takes the bytes at the front that only lengthen a name or a text, or change nothing, and answers how many.
-fn skip(machine: &mut Machine, bytes: &[u8]) -> Result<usize, NoMemory>
-    ensures within { IfOk result (λ count. count ≤ length bytes.now) }
-    ensures met { IfOk result (λ count. run 256 (take count bytes.now) machine.old ≡ more machine.new) }
-{
-    if stays_on_blank(&machine.phase) {
-        return Ok(blanks(bytes));
-    }
-    match &mut machine.phase {
-        Phase::Name(_, name) => {
-            let count = word_bytes(bytes);
-            name.extend(&bytes[..count])?;
-            Ok(count)
-        }
-        Phase::Text(text) => {
-            let count = plain_bytes(bytes);
-            text.extend(&bytes[..count])?;
-            Ok(count)
-        }
-        _ => Ok(0),
-    }
-}
-
-// Whether a blank changes nothing.
-fn stays_on_blank(phase: &Phase) -> bool
-    ensures { result ≡ stays_on_blank phase.now }
-{
-    match phase {
-        Phase::Value
-        | Phase::Opened(_)
-        | Phase::RecordOpened
-        | Phase::Label(_)
-        | Phase::Named(_, _)
-        | Phase::After(_) => true,
-        _ => false,
-    }
-}
-
-// How many blanks stand at the front.
-fn blanks(bytes: &[u8]) -> usize
-    ensures within { result ≤ length bytes.now }
-    ensures all { list_all is_blank (take result bytes.now) ≡ true }
-{
-    for (i, byte) in bytes.iter().enumerate() {
-        if !is_blank(*byte) {
-            return i;
-        }
-    }
-    bytes.len()
-}
-
-// How many bytes at the front go on a name.
-fn word_bytes(bytes: &[u8]) -> usize
-    ensures within { result ≤ length bytes.now }
-    ensures all { list_all is_word_byte (take result bytes.now) ≡ true }
-{
-    for (i, byte) in bytes.iter().enumerate() {
-        if !(byte.is_ascii_alphanumeric() || *byte == b'_') {
-            return i;
-        }
-    }
-    bytes.len()
-}
-
-// How many bytes at the front stand for themselves in a text.
-fn plain_bytes(bytes: &[u8]) -> usize
-    ensures within { result ≤ length bytes.now }
-    ensures all { list_all is_plain (take result bytes.now) ≡ true }
-{
-    for (i, byte) in bytes.iter().enumerate() {
-        if *byte == b'"' || *byte == b'\\' {
-            return i;
-        }
-    }
-    bytes.len()
 }

@@ -36,6 +36,13 @@ impl<T> Stack<T> {
         self.items.len()
     }
 
+    /// The top item.
+    pub fn top(&self) -> Option<&T>
+        ensures { MatchOption result (self.now ≡ []) (λ item. (rest : _) × (self.now ≡ item.now ∷ rest)) }
+    {
+        self.items.last()
+    }
+
     /// Takes the top item off.
     pub fn pop(&mut self) -> Option<T>
         ensures { MatchOption result ((self.old ≡ []) × (self.new ≡ [])) (λ item. self.old ≡ item ∷ self.new) }

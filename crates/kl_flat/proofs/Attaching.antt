@@ -25,7 +25,9 @@ use Rattle.kl_ask.specs.declared.ask.Ask.{Ask}
 use Rattle.kl_ask.specs.declared.ask.DriverError.{DriverError}
 use Rattle.kl_ask.specs.declared.ask.DriverError.TheVariants as error
 use Rattle.kl_ask.proofs.Names.{not_same}
+use Rattle.kl_ask.proofs.Opened.{unseen}
 use Rattle.kl_flat.specs.Attaching.{AddsSource, ReadsRows, RowsOf, unread_by}
+use Rattle.kl_flat.specs.ColumnTable.{rows_of}
 use Rattle.kl_flat.specs.Columns.{is_table_type}
 use Rattle.kl_flat.specs.Fitting.{are_rows}
 use Rattle.kl_flat.proofs.Typing.{are_table_rows, rows_typed}
@@ -216,10 +218,6 @@ this_source (t ∷ sources) s none = by (pointwise nat_eq t.name s.name) refl (�
     by true is more = let e = rw is at none in absurd (some_none e)
     by false is more = let e = rw is at none in rw is (more e)
 
-map_none : {A B : Type 0} (g : A → B) (o : Option A) → option_map g o ≡ None → o ≡ None
-map_none g None is = refl
-map_none g (Some x) is = absurd (some_none is)
-
 abbrev Good : Option (List ℕ → Option (List ℕ)) → List ℕ → Ty → List Value → Type 0
 Good told path ty rows = (told_only told rows ≡ told_rows (at_path told path ty)) × ((all : List Value) → at_path told path ty ≡ Some (Rows all) → all ≡ rows)
     × (at_path told path ty ≡ Some Missing → ⊥) × ((place : ℕ) → at_path told path ty ≡ Some (Bad place) → ⊥) × ((most : ℕ) → at_path told path ty ≡ Some (Long most) → ⊥) × ((place : ℕ) → at_path told path ty ≡ Some (Deep place) → ⊥)
@@ -255,10 +253,10 @@ attach_done source path ty rows count f f' sources sources' cursors asked handed
     let reads = well.1 in
     let s = adds.made in
     let facts = good_rows path ty f well.0 rows well.2 well.3 (stands path ty (Bytes well.0) f f' reads) in
-    let none : source_at sources s.name ≡ None = subst (λ n. source_at sources n ≡ None) (sym adds.named) (map_none (attached_of f.told) (source_at sources source) fresh) in
+    let none : source_at sources s.name ≡ None = subst (λ n. source_at sources n ≡ None) (sym adds.named) (unseen (attached_of f.told) (source_at sources source) fresh) in
     let here : source_at (sources ++ s ∷ []) source ≡ Some s = subst (λ n. source_at (sources ++ s ∷ []) n ≡ Some s) adds.named (this_source sources s none) in
-    let told : told_only f.told s.rows ≡ told_rows (at_path f.told path ty) = ap (told_only f.told) adds.with ∙ facts.0 in
-    let size : length s.rows ≡ count = ap length adds.with ∙ sym adds.size in
+    let told : told_only f.told (rows_of s.table) ≡ told_rows (at_path f.told path ty) = ap (told_only f.told) adds.with ∙ facts.0 in
+    let size : length (rows_of s.table) ≡ count = ap length adds.with ∙ sym adds.size in
     let kept : attached_of f.told s ≡ mk ty (told_rows (at_path f.told path ty)) count = λ i. mk (adds.of i) (told i) (size i) in
     subst (λ t. Attaches source path ty (Ok count) (flat_state f sources cursors asked handed unread) (flat_state (record { told = t; left = f'.left; faults = f'.faults }) sources' cursors asked handed unread)) (sym reads.told) (record {
       keeps = record { kind = refl; handed = omega arith; faults = reads.later; drifts = omega arith; no_drift = λ is. refl; unread = omega arith };

@@ -20,32 +20,24 @@ use Rattle.kl_ask.specs.declared.ask.Ask.{Ask}
 use Rattle.kl_ask.specs.declared.ask.Ask.TheVariants as asks
 use Rattle.kl_ask.specs.declared.ask.ColTest.{ColTest}
 use Rattle.kl_ask.specs.declared.ask.DriverError.TheVariants as error
+use Rattle.kl_ask.specs.Cursors.{open_at}
+use Rattle.kl_ask.proofs.Opened.{added_free, added_now, added_others, changed_now, changed_others, replaced_other}
+use Rattle.kl_ask.proofs.Whole.{in_order}
 use Rattle.kl_flat.specs.Answering.{Takes}
 use Rattle.kl_flat.specs.Asked.{keep_of, tests_of}
+use Rattle.kl_flat.specs.ColumnTable.{rows_of}
 use Rattle.kl_flat.specs.Cursors.{HandsNext, OpensLast}
-use Rattle.kl_flat.specs.Flat.{asked_source, flat_state, told_only, attached_of, cursor_of, left_of, open_at}
+use Rattle.kl_flat.specs.Flat.{asked_source, flat_state, told_only, attached_of, cursor_of, left_of}
 use Rattle.kl_flat.specs.declared.parts.Source.{Source}
 use Rattle.kl_flat.specs.declared.parts.Open.{Open}
 use Rattle.kl_flat.proofs.Suiting.{item_flat}
 use Rattle.kl_flat.proofs.Typing.{rows_suit, rows_typed}
 use Rattle.kl_flat.proofs.Shown.{all_drop, all_front, answers_typed, answers-all, answers-few}
-use Rattle.kl_base.proofs.Places.{get-set_other, get-set_same}
-
-get-push_other : {T : Type 0} (xs : List T) (i : ℕ) (y : T) → i ≢ length xs → slice_get (xs ++ y ∷ []) i ≡ slice_get xs i
-get-push_other xs i y ne = grind (arith, gets, common_steps)
-
-get-push_same : {T : Type 0} (xs : List T) (i : ℕ) (y : T) → i ≡ length xs → slice_get (xs ++ y ∷ []) i ≡ Some y
-get-push_same xs i y is = grind (arith, gets, common_steps)
 
 abbrev seen_as : {A : Type 0} → Option A → Option Open → Option Cursor
 seen_as told o = option_map (cursor_of told) o
 
 -- ---- `start`
-
-in_order : (k : Kind) (rows : List Value) → InOrder k rows rows
-in_order kind.List rows = refl
-in_order kind.Set rows = IsPermutation-refl rows
-in_order kind.Bag rows = IsPermutation-refl rows
 
 shows : {A : Type 0} (told : Option A) (k : Kind) (keep : List Name) (tests : List ColTest) (rows : List Value) → Shows k keep tests (told_only told rows) (told_only told (answers rows keep tests))
 shows None k keep tests rows = refl
@@ -57,22 +49,22 @@ told_size (Some t) rows shown is = ap length (same_Some _ _ is)
 
 opens_at : (ask : Ask) (s : Source) (o : Open) (f : FilesState) (sources : List Source) (cursors : List (Option Open)) (asked : List (Ask × ℕ)) (handed unread : ℕ)
     → CanStart (flat_state f sources cursors asked handed unread) ask → asked_source sources ask ≡ Some s
-    → o.ask ≡ ask → o.ty ≡ s.ty → o.rows ≡ s.rows → o.at ≡ 0 → length o.rows < 2 ^ 64
+    → o.ask ≡ ask → o.ty ≡ s.ty → o.table ≡ s.table → o.at ≡ 0 → length (rows_of o.table) < 2 ^ 64
     → OpensAt ask (flat_state f sources cursors asked handed unread) (cursor_of f.told o)
 opens_at (asks.Sql text) s o f sources cursors asked handed unread can found ask_is ty_is rows_is at_is small = absurd can.answerable
 opens_at (asks.Rows source keep tests) s o f sources cursors asked handed unread can found ask_is ty_is rows_is at_is small = λ a is.
     let same : attached_of f.told s ≡ a = same_Some _ _ (sym (ap (option_map (attached_of f.told)) found) ∙ is) in
     let keep_is : keep_of o.ask ≡ keep = ap keep_of ask_is in
-    let left_is : left_of o ≡ answers s.rows keep tests =
-    (λ i. answers (drop (at_is i) (rows_is i)) (keep_of (ask_is i)) (tests_of (ask_is i))) in
-    let few = answers-few keep tests s.rows in
+    let left_is : left_of o ≡ answers (rows_of s.table) keep tests =
+    (λ i. answers (drop (at_is i) (rows_of (rows_is i))) (keep_of (ask_is i)) (tests_of (ask_is i))) in
+    let few = answers-few keep tests (rows_of s.table) in
     subst (λ a. IsFresh keep tests a (cursor_of f.told o)) same (record {
       ty = λ i. shown_type (keep_is i) (item_of (ground_of (ty_is i)));
-      left = subst (λ rows. Shows (kind_of (ground_of s.ty)) keep tests (told_only f.told s.rows) (told_only f.told rows)) (sym left_is) (shows f.told (kind_of (ground_of s.ty)) keep tests s.rows);
+      left = subst (λ rows. Shows (kind_of (ground_of s.ty)) keep tests (told_only f.told (rows_of s.table)) (told_only f.told rows)) (sym left_is) (shows f.told (kind_of (ground_of s.ty)) keep tests (rows_of s.table));
       most = omega (arith, few, ap length left_is);
-      whole = λ none. ap length left_is ∙ answers-all keep tests s.rows none;
+      whole = λ none. ap length left_is ∙ answers-all keep tests (rows_of s.table) none;
       told = λ shown is. told_size f.told (left_of o) shown is;
-      bound = omega (arith, few, ap length left_is, ap length rows_is, small);
+      bound = omega (arith, few, ap length left_is, ap (λ t. length (rows_of t)) rows_is, small);
     })
 
 pub start_done : (ask : Ask) (n : ℕ) (f : FilesState) (sources : List Source) (cursors cursors' : List (Option Open)) (asked asked' : List (Ask × ℕ)) (handed unread : ℕ)
@@ -80,8 +72,6 @@ pub start_done : (ask : Ask) (n : ℕ) (f : FilesState) (sources : List Source) 
     → Starts ask (Ok n) (flat_state f sources cursors asked handed unread) (flat_state f sources cursors' asked' handed unread)
 start_done ask n f sources cursors cursors' asked asked' handed unread can last opens counted =
     let o = opens.made in
-    let now : slice_get cursors' n ≡ Some (Some o) = ap (λ xs. slice_get xs n) opens.grown ∙ get-push_same cursors n (Some o) last in
-    let past : slice_get cursors n ≡ None = grind (arith, gets, common_steps) in
     record {
       keeps = record { kind = refl; handed = omega arith; faults = omega arith; drifts = omega arith; no_drift = λ is. refl; unread = omega arith };
       attached = refl;
@@ -89,12 +79,12 @@ start_done ask n f sources cursors cursors' asked asked' handed unread can last 
       drifts = refl;
       unread = refl;
       opens = record {
-        free = ap (λ x. seen_as f.told (option_flatten x)) past;
+        free = ap (seen_as f.told) (added_free cursors cursors' n o last opens.grown);
         opened = cursor_of f.told o;
-        now = ap (λ x. seen_as f.told (option_flatten x)) now;
+        now = ap (seen_as f.told) (added_now cursors cursors' n o last opens.grown);
         ask_kept = opens.ask_is;
-        fresh = opens_at ask opens.source o f sources cursors asked handed unread can opens.found opens.ask_is opens.ty opens.rows opens.start o.small;
-        others = λ k ne. ap (λ x. seen_as f.told (option_flatten x)) (ap (λ xs. slice_get xs k) opens.grown ∙ get-push_other cursors k (Some o) (λ is. ne (is ∙ sym last)));
+        fresh = opens_at ask opens.source o f sources cursors asked handed unread can opens.found opens.ask_is opens.ty opens.table opens.start o.small;
+        others = λ k ne. ap (seen_as f.told) (added_others cursors cursors' n o last opens.grown k ne);
         asked = counted;
       };
       refused = tt;
@@ -105,31 +95,31 @@ start_done ask n f sources cursors cursors' asked asked' handed unread can last 
 -- ---- `pull`
 
 abbrev Same : Open → Open → Type 0
-Same o o' = (o'.ask ≡ o.ask) × (o'.ty ≡ o.ty) × (o'.rows ≡ o.rows)
+Same o o' = (o'.ask ≡ o.ask) × (o'.ty ≡ o.ty) × (o'.table ≡ o.table)
 
-module _ (most to : ℕ) (taken : List Value) (o o' : Open) (same : Same o o') (at : o'.at ≡ to) (takes : Takes o.rows o.at (keep_of o.ask) (tests_of o.ask) most taken to) where
-  rest_is : left_of o' ≡ answers (drop to o.rows) (keep_of o.ask) (tests_of o.ask)
-  rest_is = λ i. answers (drop (at i) (same.2 i)) (keep_of (same.0 i)) (tests_of (same.0 i))
+module _ (most to : ℕ) (taken : List Value) (o o' : Open) (same : Same o o') (at : o'.at ≡ to) (takes : Takes (rows_of o.table) o.at (keep_of o.ask) (tests_of o.ask) most taken to) where
+  rest_is : left_of o' ≡ answers (drop to (rows_of o.table)) (keep_of o.ask) (tests_of o.ask)
+  rest_is = λ i. answers (drop (at i) (rows_of (same.2 i))) (keep_of (same.0 i)) (tests_of (same.0 i))
 
   split_is : left_of o ≡ taken ++ left_of o'
   split_is = takes.split ∙ ap (λ rows. taken ++ rows) (sym rest_is)
 
-  none_left : to ≡ length o.rows → left_of o' ≡ []
+  none_left : to ≡ length (rows_of o.table) → left_of o' ≡ []
   none_left e = rest_is ∙ ap (λ rows. answers rows (keep_of o.ask) (tests_of o.ask)) past
     where
-      past : drop to o.rows ≡ []
+      past : drop to (rows_of o.table) ≡ []
       past = grind (arith, common_steps)
 
   sizes : length (left_of o) ≡ length taken + length (left_of o')
   sizes = ap length split_is ∙ length-append taken (left_of o')
 
-  hands : {A : Type 0} (told : Option A) → 0 < length taken → IsFlat (item_of (ground_of o.ty)) → AllByRecursion (Inhabits (item_of (ground_of o.ty))) o.rows → Hands most taken (cursor_of told o) (cursor_of told o')
+  hands : {A : Type 0} (told : Option A) → 0 < length taken → IsFlat (item_of (ground_of o.ty)) → AllByRecursion (Inhabits (item_of (ground_of o.ty))) (rows_of o.table) → Hands most taken (cursor_of told o) (cursor_of told o')
   hands told some flat typed = record {
     ask = same.0;
     ty = λ i. shown_type (keep_of (same.0 i)) (item_of (ground_of (same.1 i)));
     some = some;
     most = takes.most;
-    typed = all_front _ taken (left_of o') (subst (AllByRecursion (Inhabits (shown_type (keep_of o.ask) (item_of (ground_of o.ty))))) split_is (answers_typed (keep_of o.ask) (tests_of o.ask) (item_of (ground_of o.ty)) flat (drop o.at o.rows) (all_drop _ o.at o.rows typed)));
+    typed = all_front _ taken (left_of o') (subst (AllByRecursion (Inhabits (shown_type (keep_of o.ask) (item_of (ground_of o.ty))))) split_is (answers_typed (keep_of o.ask) (tests_of o.ask) (item_of (ground_of o.ty)) flat (drop o.at (rows_of o.table)) (all_drop _ o.at (rows_of o.table) typed)));
     bound = omega (arith, sizes);
     left = left told;
     untold = untold told;
@@ -145,7 +135,7 @@ module _ (most to : ℕ) (taken : List Value) (o o' : Open) (same : Same o o') (
 
   -- no answer was left
   module _ (few : length taken ≡ 0) (room : 0 < most) where
-    all_looked : to ≡ length o.rows
+    all_looked : to ≡ length (rows_of o.table)
     all_looked = elim (takes.all) [ inl e ↦ absurd (omega (arith, e, few, room)) | inr e ↦ e ]
 
     none_then : left_of o' ≡ []
@@ -170,18 +160,12 @@ module _ (most to : ℕ) (taken : List Value) (o o' : Open) (same : Same o o') (
     spent (Some t) all is = sym (same_Some _ _ is) ∙ none_now
 
 module _ (cursor : ℕ) (o o' : Open) (f : FilesState) (sources : List Source) (cursors cursors' : List (Option Open)) (asked : List (Ask × ℕ)) (is : slice_get cursors cursor ≡ Some (Some o)) (made : cursors' ≡ set cursors cursor (Some o')) where
-  is_now : open_at cursors' cursor ≡ Some o'
-  is_now = ap (λ xs. open_at xs cursor) made ∙ ap option_flatten (get-set_same cursors cursor (Some o') (slice_get_within cursors cursor (Some o) is))
-
-  others_stay : (k : ℕ) → k ≢ cursor → open_at cursors' k ≡ open_at cursors k
-  others_stay k ne = ap option_flatten (ap (λ xs. slice_get xs k) made ∙ get-set_other cursors cursor k (Some o') ne)
-
   cursor_is : (c : Cursor) → seen_as f.told (open_at cursors cursor) ≡ Some c → cursor_of f.told o ≡ c
   cursor_is c has = same_Some _ _ (sym (ap (λ x. seen_as f.told (option_flatten x)) is) ∙ has)
 
   module _ (most n : ℕ) (into into' : List Value) (hand : HandsNext most into into' o o' n) (handed handed' unread : ℕ) (count : handed' ≡ raised_by n handed) (fits : handed < 2 ^ 64) (room : 0 < most) where
     same : Same o o'
-    same = (hand.ask, hand.ty, hand.rows)
+    same = (hand.ask, hand.ty, hand.table)
 
     more : 0 < n → (c : Cursor) → seen_as f.told (open_at cursors cursor) ≡ Some c
         → PullsMore cursor most into into' c (flat_state f sources cursors asked handed unread) (flat_state f sources cursors' asked handed' unread)
@@ -190,8 +174,8 @@ module _ (cursor : ℕ) (o o' : Open) (f : FilesState) (sources : List Source) (
           rows = hand.taken;
           then = cursor_of f.told o';
           appended = hand.appended;
-          now = ap (seen_as f.told) is_now;
-          hands = hands most o'.at hand.taken o o' same refl hand.takes f.told (omega (arith, some, hand.size)) (item_flat o.ty (rows_suit o.ty o.rows o.typed)) (rows_typed o.ty o.rows o.typed);
+          now = ap (seen_as f.told) (changed_now cursors cursors' cursor o o' is made);
+          hands = hands most o'.at hand.taken o o' same refl hand.takes f.told (omega (arith, some, hand.size)) (item_flat o.ty (rows_suit o.ty (rows_of o.table) o.typed)) (rows_typed o.ty (rows_of o.table) o.typed);
           handed = count ∙ ap (λ n. raised_by n handed) hand.size;
         })
 
@@ -203,7 +187,7 @@ module _ (cursor : ℕ) (o o' : Open) (f : FilesState) (sources : List Source) (
           same = grind (arith, common_steps);
           spent = spent most o'.at hand.taken o o' same refl hand.takes few room f.told;
           over = inl (ap length (none_now most o'.at hand.taken o o' same refl hand.takes few room));
-          now = ap (seen_as f.told) is_now ∙ ap Some (emptied_is most o'.at hand.taken o o' same refl hand.takes few room f.told);
+          now = ap (seen_as f.told) (changed_now cursors cursors' cursor o o' is made) ∙ ap Some (emptied_is most o'.at hand.taken o o' same refl hand.takes few room f.told);
           handed = omega (arith, count, fits, nothing);
         })
 
@@ -220,7 +204,7 @@ module _ (cursor : ℕ) (o o' : Open) (f : FilesState) (sources : List Source) (
       asked = refl;
       drifts = refl;
       unread = refl;
-      others = λ k ne. ap (seen_as f.told) (others_stay k ne);
+      others = λ k ne. ap (seen_as f.told) (changed_others cursors cursors' cursor o o' is made k ne);
       answer = answer (nat_lt 0 n) refl;
     }
 
@@ -234,7 +218,7 @@ pull_stopped cursor most into into' o f sources cursors cursors' asked handed un
   asked = refl;
   drifts = refl;
   unread = refl;
-  others = λ k ne. ap (seen_as f.told) (others k ne ∙ ap option_flatten (get-set_other cursors cursor k o ne));
+  others = λ k ne. ap (seen_as f.told) (others k ne ∙ replaced_other cursors cursor k o ne);
   answer = λ c has. record {
     same = same;
     closed = ap (seen_as f.told) closed;
@@ -243,18 +227,3 @@ pull_stopped cursor most into into' o f sources cursors cursors' asked handed un
     drifted = λ d drift. absurd cc;
   };
 }
-
--- an open cursor is in its place
-pub there : {A : Type 0} (told : Option A) (cursors : List (Option Open)) (k : ℕ) → IsSome (option_map (cursor_of told) (open_at cursors k)) → (o : Open) × (slice_get cursors k ≡ Some (Some o))
-there told cursors k is = by (slice_get cursors k) refl
-  where
-    no_some : IsSome {T = Cursor} None → ⊥
-    no_some h = cc
-
-    by : (x : Option (Option Open)) → slice_get cursors k ≡ x → (o : Open) × (slice_get cursors k ≡ Some (Some o))
-    by None e = absurd (no_some (rw e at is))
-    by (Some None) e = absurd (no_some (rw e at is))
-    by (Some (Some o)) e = (o, e)
-
-pub is_within : {A : Type 0} (told : Option A) (cursors : List (Option Open)) (k : ℕ) → IsSome (option_map (cursor_of told) (open_at cursors k)) → k < length cursors
-is_within told cursors k is = let at = (there told cursors k is).1 in grind (arith, gets, common_steps)

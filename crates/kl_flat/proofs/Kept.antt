@@ -1,20 +1,14 @@
 -- The columns that an ask keeps, by their places in a row.
-use Rattle.std.proofs.Common.{◌≡◌, ◌<◌, ℕ, zero, suc, ◌+◌, Bool, true, false, ◌&&◌, List, [], ◌∷◌, ◌++◌, map, filter, length, take, get_or, nat_eq, Some, All, refl, sym, ap, ◌∙◌, arith, add-one, slice_get, length-append, append_assoc}
-use Rattle.std.specs.Cmp.Lexicographic.{pointwise, same_text}
+use Rattle.std.proofs.Common.{◌≡◌, ◌<◌, ℕ, zero, suc, ◌+◌, Bool, true, false, List, [], ◌∷◌, ◌++◌, map, filter, length, take, get_or, Some, All, refl, sym, ap, ◌∙◌, arith, add-one, slice_get, length-append, append_assoc}
 use Rattle.std.proofs.lemmas.Grind.{common_steps}
 use Rattle.std.proofs.lemmas.List.{map-append}
 use Rattle.std.proofs.lemmas.Option.{slice_get_read, slice_get_within, same_Some}
-use Rattle.std.proofs.lemmas.Bool.{and_parts}
-use Rattle.kl_value.specs.declared.Value.{Value, out-Value}
+use Rattle.kl_base.specs.Fields.{labels_of}
+use Rattle.kl_value.specs.declared.Value.{Value}
 use Rattle.kl_value.specs.declared.Value.TheVariants as value
-use Rattle.kl_type.specs.declared.ground.Ty.{out-Ty}
 use Rattle.kl_outcome.specs.Outcome.{Name, record_layer}
 use Rattle.kl_ask.specs.Asks.{is_kept, shown, shown_fields}
-use Rattle.kl_flat.specs.Asked.{keep_of, kept_places}
-use Rattle.kl_flat.specs.Columns.{columns_of}
-use Rattle.kl_flat.specs.Fitting.{fit_fields, fits_base, fits_layer}
-use Rattle.kl_flat.specs.Table.{Columns}
-use Rattle.kl_flat.specs.declared.parts.Open.{Open}
+use Rattle.kl_flat.specs.Asked.{kept_places}
 
 abbrev Fields : Type 0
 Fields = List (Name × Value)
@@ -27,20 +21,16 @@ here [] x after = refl
 here (y ∷ before) x after = here before x after
 
 module _ (keep : List Name) where
-  kept_at : (before : Fields) (cs : Columns) (fs : Fields) → fit_fields cs fs ≡ true → map (slice_get (before ++ fs)) (kept_places keep (length before) cs) ≡ map Some (kept keep fs)
-  kept_at before [] [] e = refl
-  kept_at before [] (f ∷ fs) e = cc
-  kept_at before (c ∷ cs) [] e = cc
-  kept_at before (c ∷ cs) (f ∷ fs) e =
-      let parts = and_parts (pointwise nat_eq f.0 c.0 && fits_base (out-Value f.1) (out-Ty c.1)) (fit_fields cs fs) e in
-      let label : f.0 ≡ c.0 = same_text f.0 c.0 (sym (and_parts (pointwise nat_eq f.0 c.0) (fits_base (out-Value f.1) (out-Ty c.1)) parts.0).0) in
+  kept_at : (before fs : Fields) → map (slice_get (before ++ fs)) (kept_places keep (length before) (labels_of fs)) ≡ map Some (kept keep fs)
+  kept_at before [] = refl
+  kept_at before (f ∷ fs) =
       let size : length (before ++ f ∷ []) ≡ suc (length before) = length-append before (f ∷ []) ∙ add-one (length before) in
-      by (is_kept keep c.0) refl (ap (is_kept keep) label) ((λ i. map (slice_get (sym (append_assoc before (f ∷ []) fs) i)) (kept_places keep (sym size i) cs)) ∙ kept_at (before ++ f ∷ []) cs fs parts.1)
+      by (is_kept keep f.0) refl ((λ i. map (slice_get (sym (append_assoc before (f ∷ []) fs) i)) (kept_places keep (sym size i) (labels_of fs))) ∙ kept_at (before ++ f ∷ []) fs)
     where
-      by : (b : Bool) → is_kept keep c.0 ≡ b → is_kept keep f.0 ≡ is_kept keep c.0 → map (slice_get (before ++ f ∷ fs)) (kept_places keep (suc (length before)) cs) ≡ map Some (kept keep fs)
-          → map (slice_get (before ++ f ∷ fs)) (kept_places keep (length before) (c ∷ cs)) ≡ map Some (kept keep (f ∷ fs))
-      by true is same more = rw (same, is) (λ i. here before f fs i ∷ more i)
-      by false is same more = rw (same, is) more
+      by : (b : Bool) → is_kept keep f.0 ≡ b → map (slice_get (before ++ f ∷ fs)) (kept_places keep (suc (length before)) (labels_of fs)) ≡ map Some (kept keep fs)
+          → map (slice_get (before ++ f ∷ fs)) (kept_places keep (length before) (labels_of (f ∷ fs))) ≡ map Some (kept keep (f ∷ fs))
+      by true is more = rw is (λ i. here before f fs i ∷ more i)
+      by false is more = rw is more
 
 all_within : {T : Type 0} (xs : List T) (places : List ℕ) (ys : List T) → map (slice_get xs) places ≡ map Some ys → All (λ p. p < length xs) places
 all_within xs [] ys e k d lt = absurd (omega arith)
@@ -67,15 +57,15 @@ one_more fs places i f l v copies after lt within is label same more so_far =
     ap (map Some) more ∙ map-append Some copies ((l, v) ∷ []) ∙ (λ k. so_far k ++ Some (label k, same k) ∷ []) ∙ ap (λ o. map (slice_get fs) (take i places) ++ o ∷ []) (sym there)
     ∙ sym (map-append (slice_get fs) (take i places) (p ∷ [])) ∙ ap (map (slice_get fs)) (sym longer)
 
--- a record that fits the columns of a cursor
-module _ (o : Open) (v : Value) (fs : Fields) (is : v ≡ value.Rec fs) (fits : fits_layer (columns_of o.ty) (out-Value v) ≡ true) (places : List ℕ) (same : places ≡ o.places) where
-  kept_here : map (slice_get fs) places ≡ map Some (kept (keep_of o.ask) fs)
-  kept_here = ap (map (slice_get fs)) (same ∙ o.placed) ∙ kept_at (keep_of o.ask) [] (columns_of o.ty) fs (ap (fits_layer (columns_of o.ty)) (sym (value.outs-Rec fs) ∙ ap out-Value (sym is)) ∙ fits)
+-- the kept fields of a record
+module _ (keep : List Name) (fs : Fields) (places : List ℕ) (same : places ≡ kept_places keep 0 (labels_of fs)) where
+  kept_here : map (slice_get fs) places ≡ map Some (kept keep fs)
+  kept_here = ap (map (slice_get fs)) same ∙ kept_at keep [] fs
 
   pub places_within : All (λ p. p < length fs) places
-  places_within = all_within fs places (kept (keep_of o.ask) fs) kept_here
+  places_within = all_within fs places (kept keep fs) kept_here
 
-  pub shown_record : (copies : Fields) → map Some copies ≡ map (slice_get fs) places → value.Rec copies ≡ shown (keep_of o.ask) v
+  pub shown_record : (copies : Fields) → map Some copies ≡ map (slice_get fs) places → value.Rec copies ≡ shown keep (value.Rec fs)
   shown_record copies e =
-      ap value.Rec (same_items copies (kept (keep_of o.ask) fs) (e ∙ kept_here))
-      ∙ ap (shown_fields v (keep_of o.ask)) (ap record_layer (sym (value.outs-Rec fs) ∙ ap out-Value (sym is)))
+      ap value.Rec (same_items copies (kept keep fs) (e ∙ kept_here))
+      ∙ ap (shown_fields (value.Rec fs) keep) (ap record_layer (sym (value.outs-Rec fs)))

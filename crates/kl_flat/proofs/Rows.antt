@@ -1,5 +1,5 @@
 -- Rows of a table, from the places of the columns.
-use Rattle.std.proofs.Common.{◌≡◌, ◌<◌, ◌≤◌, ◌==◌, ℕ, suc, ◌+◌, Bool, true, false, List, [], ◌∷◌, ◌++◌, map, cond, length, take, drop, get_or, nat_eq, Option, Some, None, refl, sym, ap, ◌∙◌, subst, arith, eq-eqb, add-one, eqb-true, true≢false, append_assoc, length-append}
+use Rattle.std.proofs.Common.{◌≡◌, ◌<◌, ◌≤◌, ◌==◌, ℕ, suc, ◌+◌, Bool, true, false, List, [], ◌∷◌, ◌++◌, map, cond, length, take, drop, get_or, nat_eq, Option, Some, None, refl, sym, ap, ◌∙◌, subst, arith, eq-eqb, add-one, eqb-true, true≢false, append-nil, append_assoc}
 use Rattle.std.specs.List.{zip}
 use Rattle.std.specs.Option.{option_map, MatchOption, is_some}
 use Rattle.std.specs.Cmp.Lexicographic.{pointwise}
@@ -94,16 +94,20 @@ cell_in columns header entry places i c found size lt is = cell_at header entry 
         let bad : is_header columns header ≡ false = list_all_at (λ d. times d.0 header == 1) columns i c lt (ap (λ (d : List ℕ × Ty). times d.0 header == 1) (sym is) ∙ e) in
         absurd (true≢false (sym found.once ∙ bad))
 
--- ---- one more row is read
+-- ---- one more record is read
 
-module _ (read : Record → Option Value) (left after : List Record) (entry : Record) (row : Value) (rows rows' : List Value) (whole : List (Option Value)) (next : left ≡ entry ∷ after) (is : Some row ≡ read entry) (grown : rows' ≡ rows ++ row ∷ []) where
-  pub front_then : front_of whole ≡ rows ++ front_of (map read left) → front_of whole ≡ rows' ++ front_of (map read after)
-  front_then so_far =
-      so_far ∙ ap (λ rs. rows ++ front_of (map read rs)) next ∙ ap (λ o. rows ++ front_of (o ∷ map read after)) (sym is)
+module _ (read : Record → Option Value) (left after : List Record) (entry : Record) (whole : List (Option Value)) (next : left ≡ entry ∷ after) where
+  pub front_then : (row : Value) (rows rows' : List Value) → read entry ≡ Some row → rows' ≡ rows ++ row ∷ [] → front_of whole ≡ rows ++ front_of (map read left) → front_of whole ≡ rows' ++ front_of (map read after)
+  front_then row rows rows' is grown so_far =
+      so_far ∙ ap (λ rs. rows ++ front_of (map read rs)) next ∙ ap (λ o. rows ++ front_of (o ∷ map read after)) is
       ∙ sym (append_assoc rows (row ∷ []) (front_of (map read after))) ∙ ap (λ xs. xs ++ front_of (map read after)) (sym grown)
 
-  pub missing_then : first_missing 1 whole ≡ first_missing (length rows + 1) (map read left) → first_missing 1 whole ≡ first_missing (length rows' + 1) (map read after)
-  missing_then so_far =
-      let size : length rows + 1 ≡ length rows' = omega (arith, length-append rows (row ∷ []), ap length grown) in
-      so_far ∙ ap (λ rs. first_missing (length rows + 1) (map read rs)) next ∙ ap (λ o. first_missing (length rows + 1) (o ∷ map read after)) (sym is)
-      ∙ ap (λ n. first_missing (n + 1) (map read after)) size
+  pub missing_then : (row : Value) (n : ℕ) → read entry ≡ Some row → first_missing 1 whole ≡ first_missing n (map read left) → first_missing 1 whole ≡ first_missing (n + 1) (map read after)
+  missing_then row n is so_far = so_far ∙ ap (λ rs. first_missing n (map read rs)) next ∙ ap (λ o. first_missing n (o ∷ map read after)) is
+
+  module _ (none : read entry ≡ None) where
+    pub front_stops : (rows : List Value) → front_of whole ≡ rows ++ front_of (map read left) → rows ≡ front_of whole
+    front_stops rows so_far = sym (so_far ∙ ap (λ rs. rows ++ front_of (map read rs)) next ∙ ap (λ o. rows ++ front_of (o ∷ map read after)) none ∙ append-nil rows)
+
+    pub missing_stops : (n : ℕ) → first_missing 1 whole ≡ first_missing n (map read left) → Some n ≡ first_missing 1 whole
+    missing_stops n so_far = sym (so_far ∙ ap (λ rs. first_missing n (map read rs)) next ∙ ap (λ o. first_missing n (o ∷ map read after)) none)

@@ -9,7 +9,9 @@ use Rattle.kl_type.specs.declared.ground.Ty.TheVariants as ty
 use Rattle.kl_type.proofs.GroundLemmas.{ground-Bool, ground-Int, ground-Str, ground-Rec, ground-Coll}
 use Rattle.kl_ask.specs.Asks.{item_of}
 use Rattle.kl_ask.specs.Driver.{IsBase, AllBase, IsFlat, Suits}
-use Rattle.kl_flat.specs.Columns.{columns_of, fields_layer, items_layer, is_base, is_table_type, base_layer}
+use Rattle.kl_ask.specs.Tables.{columns_of}
+use Rattle.kl_ask.proofs.Shapes.{Shape, columns_shape}
+use Rattle.kl_flat.specs.Columns.{is_base, is_table_type, base_layer}
 use Rattle.kl_flat.specs.Table.{Columns}
 
 base_by : (x : Ty-F Ty) → base_layer x ≡ true → IsBase (ground_of (roll-Ty x))
@@ -29,17 +31,6 @@ flat_row : (columns : Columns) → (length columns ≡ 0 → ⊥) → list_all (
 flat_row [] some e = absurd (some refl)
 flat_row (c ∷ columns) some e = all_base (c ∷ columns) e
 
-fields_shape : (x : Ty-F Ty) → (length (fields_layer x) ≡ 0 → ⊥) → ground_of (roll-Ty x) ≡ rec (row_by ground_of (fields_layer x))
-fields_shape (Ty-F.Rec fs) some = ap ground_of (ty.rolls-Rec fs) ∙ ground-Rec fs
-fields_shape x some = absurd (some refl)
-
-abbrev Shape : Ground → Columns → Type 0
-Shape t columns = (k : Kind) × (t ≡ coll k (rec (row_by ground_of columns)))
-
-items_shape : (x : Ty-F Ty) → (length (items_layer x) ≡ 0 → ⊥) → Shape (ground_of (roll-Ty x)) (items_layer x)
-items_shape (Ty-F.Coll k u) some = (k, ap ground_of (ty.rolls-Coll k u) ∙ ground-Coll k u ∙ ap (coll k) (ap ground_of (sym (roll-out-Ty u)) ∙ fields_shape (out-Ty u) some))
-items_shape x some = absurd (some refl)
-
 not_none : (n : ℕ) → not (n == 0) ≡ true → n ≡ 0 → ⊥
 not_none n h e = let f = rw e at h in cc
 
@@ -47,7 +38,7 @@ table_shape : (t : Ty) → is_table_type t ≡ true → Shape (ground_of t) (col
 table_shape t e =
     let parts = and_parts (not (length (columns_of t) == 0)) (list_all (λ c. is_base c.1) (columns_of t)) e in
     let some = not_none (length (columns_of t)) parts.0 in
-    (subst (λ u. Shape (ground_of u) (columns_of t)) (roll-out-Ty t) (items_shape (out-Ty t) some), flat_row (columns_of t) some parts.1)
+    (columns_shape t some, flat_row (columns_of t) some parts.1)
 
 pub item_is : (t : Ty) → is_table_type t ≡ true → item_of (ground_of t) ≡ rec (row_by ground_of (columns_of t))
 item_is t e = ap item_of (table_shape t e).0.1

@@ -1,6 +1,5 @@
 -- The rows of a table are canonical records of its type.
-use Rattle.std.proofs.Common.{◌≡◌, ℕ, Bool, true, false, ◌&&◌, List, [], ◌∷◌, map, length, cond, nat_eq, Option, Some, None, IsSome, refl, ap, sym, ◌∙◌, subst, ⊎_elim, ℤ, IfOk, Result, Ok, Err}
-use Rattle.kl_flat.specs.declared.table.Table.{Table}
+use Rattle.std.proofs.Common.{◌≡◌, ℕ, Bool, true, false, ◌&&◌, List, [], ◌∷◌, map, length, cond, nat_eq, Option, Some, None, IsSome, refl, ap, sym, ◌∙◌, subst, ⊎_elim, ℤ}
 use Rattle.std.specs.Option.{option_map}
 use Rattle.std.specs.List.{AllByRecursion, zip}
 use Rattle.std.specs.List.Sorted.{IsStrictlySortedBy}
@@ -28,7 +27,8 @@ use Rattle.kl_type.proofs.GroundLemmas.{ground-Bool, ground-Int, ground-Str, gro
 use Rattle.kl_type.proofs.RowLemmas.{at_here, at_there, same_label, told}
 use Rattle.kl_outcome.specs.Typed.{HasFields, Inhabits}
 use Rattle.kl_flat.specs.Cells.{cell_layer, cell_value, without_blanks}
-use Rattle.kl_flat.specs.Columns.{columns_of, fields_layer, items_layer, is_table_type}
+use Rattle.kl_ask.specs.Tables.{columns_of, fields_layer, items_layer}
+use Rattle.kl_flat.specs.Columns.{is_table_type}
 use Rattle.kl_flat.specs.Table.{Columns, Record, all_of, front_of, part_in, row_in, rows_in, table_records, table_rows, is_header}
 
 -- ---- the rows of a table fit its columns
@@ -200,7 +200,3 @@ rows_typed t rows e =
     let parts = and_parts (is_table_type t) _ e in
     let rest = and_parts (rises (labels_of (columns_of t))) (all_fit (columns_of t) rows) parts.1 in
     subst (λ g. AllByRecursion (Inhabits g) rows) (sym (item_is t parts.0)) (rows_good (columns_of t) (rise_strictly (labels_of (columns_of t)) rest.0) rows rest.1)
-
-pub typed_table : {E : Type 0} (bytes : List ℕ) (t : Ty) (r : Result Table E) → is_table_type t ≡ true → IsProper t → IfOk r (λ table. table.rows ≡ table_rows bytes t) → IfOk r (λ table. AllByRecursion (Inhabits (item_of (ground_of t))) table.rows)
-typed_table bytes t (Ok table) suits h is = rows_typed t table.rows (ap (are_rows t) is ∙ are_table_rows bytes t suits h)
-typed_table bytes t (Err e) suits h is = tt

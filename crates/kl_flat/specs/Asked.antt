@@ -5,7 +5,6 @@ use Rattle.kl_ask.specs.Asks.{is_kept}
 use Rattle.kl_ask.specs.declared.ask.Ask.{Ask}
 use Rattle.kl_ask.specs.declared.ask.Ask.TheVariants as asks
 use Rattle.kl_ask.specs.declared.ask.ColTest.{ColTest}
-use Rattle.kl_flat.specs.Table.{Columns}
 
 abbrev pub keep_of : Ask → List Name
 keep_of (asks.Rows source keep tests) = keep
@@ -15,7 +14,7 @@ abbrev pub tests_of : Ask → List ColTest
 tests_of (asks.Rows source keep tests) = tests
 tests_of (asks.Sql text) = []
 
--- the places of the columns that are kept, where the first of all stands at n. No public contract cites this.
-abbrev pub kept_places : List Name → ℕ → Columns → List ℕ
+-- the places of the labels that are kept, where the first of all stands at n
+abbrev pub kept_places : List Name → ℕ → List Name → List ℕ
 kept_places keep n [] = []
-kept_places keep n (c ∷ cs) = cond (is_kept keep c.0) (n ∷ kept_places keep (suc n) cs) (kept_places keep (suc n) cs)
+kept_places keep n (l ∷ ls) = cond (is_kept keep l) (n ∷ kept_places keep (suc n) ls) (kept_places keep (suc n) ls)

@@ -11,8 +11,10 @@ use Rattle.kl_outside.specs.declared.stop.Stop.TheVariants as stop
 use Rattle.kl_ask.specs.Asked.{raised_by}
 use Rattle.kl_ask.specs.declared.ask.DriverError.{DriverError}
 use Rattle.kl_ask.specs.declared.ask.DriverError.TheVariants as error
+use Rattle.kl_flat.specs.ColumnTable.{rows_of}
 use Rattle.kl_flat.specs.Flat.{most_bytes}
 use Rattle.kl_flat.specs.Table.{bad_record, table_rows}
+use Rattle.kl_flat.specs.declared.column_table.ColumnTable.{ColumnTable}
 use Rattle.kl_flat.specs.declared.parts.Source.{Source}
 
 -- the rows of a file that was read whole, or why there are none
@@ -29,6 +31,11 @@ pub record ReadsRows (path : List ℕ) (ty : Ty) (result : Result (List Value) D
   pub reads : ReadsWhole path most_bytes read old new
   pub rows : RowsOf ty read result
 
+-- the same with the rows in columns
+abbrev pub ReadsTable : List ℕ → Ty → Result ColumnTable DriverError → FilesState → FilesState → Type 0
+ReadsTable path ty (Ok table) = ReadsRows path ty (Ok (rows_of table))
+ReadsTable path ty (Err e) = ReadsRows path ty (Err e)
+
 -- the count of unreadable sources after a refusal
 abbrev pub unread_by : DriverError → ℕ → ℕ
 unread_by (error.BadSource place) unread = raised_by 1 unread
@@ -41,5 +48,5 @@ pub record AddsSource (name : Name) (ty : Ty) (rows : List Value) (old new : Lis
   pub grown : new ≡ old ++ made ∷ []
   pub named : made.name ≡ name
   pub of : made.ty ≡ ty
-  pub with : made.rows ≡ rows
+  pub with : rows_of made.table ≡ rows
   pub size : count ≡ length rows

@@ -1,19 +1,8 @@
 -- Types of tables.
-use Rattle.std.specs.Prelude.{Bool, true, false, not, ◌&&◌, ◌==◌, ℕ, List, [], length}
+use Rattle.std.specs.Prelude.{Bool, true, false, not, ◌&&◌, ◌==◌, length}
 use Rattle.std.specs.List.{list_all}
 use Rattle.kl_type.specs.declared.ground.Ty.{Ty, Ty-F, out-Ty}
-
-abbrev pub fields_layer : Ty-F Ty → List (List ℕ × Ty)
-fields_layer (Ty-F.Rec fs) = fs
-fields_layer _ = []
-
-abbrev pub items_layer : Ty-F Ty → List (List ℕ × Ty)
-items_layer (Ty-F.Coll k t) = fields_layer (out-Ty t)
-items_layer _ = []
-
--- the labels and types of the columns that a type asks of a table: the fields of a collection of records
-abbrev pub columns_of : Ty → List (List ℕ × Ty)
-columns_of t = items_layer (out-Ty t)
+use Rattle.kl_ask.specs.Tables.{columns_of}
 
 abbrev pub base_layer : Ty-F Ty → Bool
 base_layer Ty-F.Bool = true

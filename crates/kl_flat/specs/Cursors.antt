@@ -4,6 +4,7 @@ use Rattle.kl_value.specs.declared.Value.{Value}
 use Rattle.kl_ask.specs.declared.ask.Ask.{Ask}
 use Rattle.kl_flat.specs.Answering.{Takes}
 use Rattle.kl_flat.specs.Asked.{keep_of, tests_of}
+use Rattle.kl_flat.specs.ColumnTable.{rows_of}
 use Rattle.kl_flat.specs.Flat.{asked_source}
 use Rattle.kl_flat.specs.declared.parts.Open.{Open}
 use Rattle.kl_flat.specs.declared.parts.Source.{Source}
@@ -16,7 +17,7 @@ pub record OpensLast (sources : List Source) (ask : Ask) (old new : List (Option
   pub grown : new ≡ old ++ Some made ∷ []
   pub ask_is : made.ask ≡ ask
   pub ty : made.ty ≡ source.ty
-  pub rows : made.rows ≡ source.rows
+  pub table : made.table ≡ source.table
   pub start : made.at ≡ 0
 
 -- so many next answers of a cursor are appended, and the cursor stands behind them
@@ -24,7 +25,7 @@ pub record HandsNext (most : ℕ) (into into' : List Value) (old new : Open) (co
   pub taken : List Value
   pub size : count ≡ length taken
   pub appended : into' ≡ into ++ taken
-  pub takes : Takes old.rows old.at (keep_of old.ask) (tests_of old.ask) most taken new.at
+  pub takes : Takes (rows_of old.table) old.at (keep_of old.ask) (tests_of old.ask) most taken new.at
   pub ask : new.ask ≡ old.ask
   pub ty : new.ty ≡ old.ty
-  pub rows : new.rows ≡ old.rows
+  pub table : new.table ≡ old.table

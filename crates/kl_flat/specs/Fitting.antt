@@ -5,7 +5,8 @@ use Rattle.std.specs.List.{list_all}
 use Rattle.kl_base.specs.Fields.{labels_of, rises}
 use Rattle.kl_value.specs.declared.Value.{Value, Value-F, out-Value}
 use Rattle.kl_type.specs.declared.ground.Ty.{Ty, Ty-F, out-Ty}
-use Rattle.kl_flat.specs.Columns.{columns_of, is_table_type}
+use Rattle.kl_ask.specs.Tables.{columns_of}
+use Rattle.kl_flat.specs.Columns.{is_table_type}
 
 abbrev pub fits_base : Value-F Value → Ty-F Ty → Bool
 fits_base (Value-F.Bool b) Ty-F.Bool = true

@@ -1,17 +1,19 @@
 -- What a flat driver means.
 use Rattle.std.specs.Prelude.{ℕ, true, false, List, [], ◌∷◌, length, drop, Option, Some, None, cond, slice_get, codes, nat_eq, nat_lt}
 use Rattle.std.specs.Cmp.Lexicographic.{pointwise}
-use Rattle.std.specs.Option.{option_map, option_flatten}
+use Rattle.std.specs.Option.{option_map}
 use Rattle.kl_value.specs.declared.Value.{Value}
 use Rattle.kl_type.specs.Ground.{ground_of}
 use Rattle.kl_type.specs.declared.ground.Ty.{Ty}
 use Rattle.kl_outside.specs.Files.{FilesState}
 use Rattle.kl_outcome.specs.Outcome.{Name}
 use Rattle.kl_ask.specs.Asks.{answers, item_of, shown_type}
+use Rattle.kl_ask.specs.Cursors.{open_at}
 use Rattle.kl_ask.specs.Driver.{State, DriverKind, Stored, Missing, Bad, Long, Rows, Source as Attached, Cursor}
 use Rattle.kl_ask.specs.declared.ask.Ask.{Ask}
 use Rattle.kl_ask.specs.declared.ask.Ask.TheVariants as asks
 use Rattle.kl_flat.specs.Asked.{keep_of, tests_of}
+use Rattle.kl_flat.specs.ColumnTable.{rows_of}
 use Rattle.kl_flat.specs.Columns.{is_table_type}
 use Rattle.kl_flat.specs.Table.{bad_record, table_rows}
 use Rattle.kl_flat.specs.declared.parts.Source.{Source}
@@ -57,11 +59,11 @@ asked_source sources (asks.Rows source keep tests) = source_at sources source
 asked_source sources (asks.Sql text) = None
 
 abbrev pub attached_of : {A : Type 0} → Option A → Source → Attached
-attached_of told source = record { ty = source.ty; rows = told_only told source.rows; count = length source.rows; kept = None }
+attached_of told source = record { ty = source.ty; rows = told_only told (rows_of source.table); count = length (rows_of source.table); kept = None }
 
 -- the answers that a cursor has left
 abbrev pub left_of : Open → List Value
-left_of o = answers (drop o.at o.rows) (keep_of o.ask) (tests_of o.ask)
+left_of o = answers (drop o.at (rows_of o.table)) (keep_of o.ask) (tests_of o.ask)
 
 abbrev pub cursor_of : {A : Type 0} → Option A → Open → Cursor
 cursor_of told o = record {
@@ -70,9 +72,6 @@ cursor_of told o = record {
   left = told_only told (left_of o);
   bound = length (left_of o);
 }
-
-abbrev pub open_at : List (Option Open) → ℕ → Option Open
-open_at cursors k = option_flatten (slice_get cursors k)
 
 -- ---- the driver
 

@@ -2,10 +2,15 @@ pub mod Answering
 pub mod Asked
 pub mod Attaching
 pub mod Cells
+pub mod ColumnTable
 pub mod Columns
 pub mod Cursors
+pub mod Filling
 pub mod Fitting
 pub mod Flat
+pub mod Held
 pub mod Places
 pub mod Records
+pub mod RowTests
 pub mod Table
+pub mod Texts

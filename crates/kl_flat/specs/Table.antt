@@ -9,7 +9,7 @@ use Rattle.kl_value.specs.declared.Value.{Value}
 use Rattle.kl_value.specs.declared.Value.TheVariants as value
 use Rattle.kl_type.specs.declared.ground.Ty.{Ty}
 use Rattle.kl_flat.specs.Cells.{cell_value}
-use Rattle.kl_flat.specs.Columns.{columns_of}
+use Rattle.kl_ask.specs.Tables.{columns_of}
 
 -- the fields of a record
 abbrev pub Record : Type 0

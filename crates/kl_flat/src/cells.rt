@@ -1,41 +1,53 @@
 //! Cells of a table.
-ghost use Rattle.std.specs.Prelude.{◌≡◌, IfOk};
-ghost use Rattle.kl_flat.specs.Cells.{cell_value, is_blank, past_blanks, truth_in, without_blanks};
+ghost use Rattle.std.specs.Prelude.{◌≡◌, IfSome, Some};
+ghost use Rattle.std.specs.Option.{option_map};
+ghost use Rattle.kl_value.specs.declared.Value.TheVariants as value;
+ghost use Rattle.kl_prim.specs.Meaning.{number_in};
+ghost use Rattle.kl_flat.specs.Cells.{is_blank, past_blanks, truth_in, without_blanks};
 
-use kl_base::{NoMemory, Text};
 use kl_prim::number_in;
-use kl_type::Ty;
-use kl_value::Value;
-use std::alloc::Global;
 
-/// The value of a base type that a cell has. None exactly where it has none.
-///
-/// # Errors
-/// Want of memory.
-pub fn cell_value(alloc: Global, bytes: &[u8], ty: &Ty) -> Result<Option<Value>, NoMemory>
-    ensures { IfOk result (λ v. v ≡ cell_value bytes.now ty.now) }
-{
-    match ty {
-        Ty::Bool => Ok(truth_in(bytes)),
-        Ty::Int => match number_in(without_blanks(bytes)) {
-            Some(n) => Ok(Some(Value::Int(n))),
-            None => Ok(None),
-        },
-        Ty::Str => Ok(Some(Value::Text(Text::of(Vec::from_slice(alloc, bytes)?)))),
-        _ => Ok(None),
-    }
-}
+// Ten times as much and a digit are within 64 bits.
+const MOST_BEFORE: u64 = 100_000_000_000_000_000;
 
-fn truth_in(bytes: &[u8]) -> Option<Value>
-    ensures { result ≡ truth_in bytes.now }
+/// The truth value that a cell writes.
+pub fn truth_in(bytes: &[u8]) -> Option<bool>
+    ensures { option_map value.Bool result ≡ truth_in bytes.now }
 {
     if bytes == b"true".as_slice() {
-        Some(Value::Bool(true))
+        Some(true)
     } else if bytes == b"false".as_slice() {
-        Some(Value::Bool(false))
+        Some(false)
     } else {
         None
     }
+}
+
+/// The integer that a cell writes, with blanks around.
+pub fn integer_in(bytes: &[u8]) -> Option<i64>
+    ensures { result ≡ number_in (without_blanks bytes.now) }
+{
+    match short_number(bytes) {
+        Some(number) => Some(number),
+        None => number_in(without_blanks(bytes)),
+    }
+}
+
+// The number that digits alone write, so few of them that it is within 64 bits. None tells nothing.
+fn short_number(bytes: &[u8]) -> Option<i64>
+    ensures { IfSome result (λ number. Some number ≡ number_in (without_blanks bytes.now)) }
+{
+    if bytes.is_empty() {
+        return None;
+    }
+    let mut number: u64 = 0;
+    for byte in bytes {
+        if !byte.is_ascii_digit() || number >= MOST_BEFORE {
+            return None;
+        }
+        number = number * 10 + (*byte - b'0') as u64;
+    }
+    Some(number as i64)
 }
 
 // The bytes without the spaces and tabs at both ends.

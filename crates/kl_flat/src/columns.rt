@@ -1,23 +1,11 @@
 //! The columns that a type asks of a table.
 ghost use Rattle.std.specs.Prelude.{◌≡◌};
 ghost use Rattle.std.specs.List.{list_all};
-ghost use Rattle.kl_flat.specs.Columns.{columns_of, is_base, is_table_type};
+ghost use Rattle.kl_flat.specs.Columns.{is_base, is_table_type};
 
+use kl_ask::columns_of;
 use kl_base::Label;
 use kl_type::Ty;
-
-/// The labels and types of the columns, in rising order; none where the type is not one of tables.
-pub fn columns_of(ty: &Ty) -> &[(Label, Ty)]
-    ensures { result.now ≡ columns_of ty.now }
-{
-    match ty {
-        Ty::Coll(_, item) => match item.get() {
-            Ty::Rec(fields) => fields.slice(),
-            _ => &[],
-        },
-        _ => &[],
-    }
-}
 
 /// Whether a table can have the type: a collection of records with one or more fields, all of base types.
 pub fn is_table_type(ty: &Ty) -> bool

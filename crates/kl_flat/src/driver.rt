@@ -1,22 +1,23 @@
 //! The driver of tables.
 ghost use Rattle.std.specs.Prelude.{◌≡◌, ◌≢◌, ◌<◌, ◌^◌, ℕ, [], length, true, IfOk, None, OnErr, OnOk, IsSome};
-ghost use Rattle.kl_type.specs.Ground.{IsProper};
-ghost use Rattle.kl_flat.specs.Attaching.{AddsSource, ReadsRows, unread_by};
+ghost use Rattle.kl_flat.specs.Attaching.{AddsSource, ReadsTable, unread_by};
+ghost use Rattle.kl_flat.specs.ColumnTable.{rows_of};
 ghost use Rattle.kl_flat.specs.Columns.{is_table_type};
 ghost use Rattle.kl_flat.specs.Cursors.{HandsNext, OpensLast};
 ghost use Rattle.kl_flat.specs.Fitting.{are_rows};
-ghost use Rattle.kl_flat.specs.Flat.{asked_source, flat_state, open_at};
+ghost use Rattle.kl_flat.specs.Flat.{asked_source, flat_state};
 
 use crate::answering::next_answers;
+use crate::column_table::ColumnTable;
 use crate::columns::is_table_type;
 use crate::parts::{Open, Source};
 use crate::sources::{find_asked, opened};
-use crate::table::read_table;
-use kl_ask::{Abilities, Ask, Driver, DriverError, count_ask, sum_asked};
+use crate::table::read_columns;
+use kl_ask::{Abilities, Ask, Driver, DriverError, close_cursor, count_ask, sum_asked};
 use kl_base::{Label, NoMemory, Shared, Text};
 use kl_outside::{Files, Stop, Whole, read_whole};
 use kl_type::Ty;
-use kl_value::{Items, Value};
+use kl_value::Value;
 use std::alloc::Global;
 
 // The greatest length of a table's file.
@@ -76,8 +77,8 @@ impl<F: Files + Drop> Driver for FlatDriver<F> {
     }
 
     fn attach(&mut self, source: &Label, locator: &Text, ty: &Ty) -> Result<u64, DriverError> {
-        match rows_of_file(self.alloc, &mut self.files, locator.slice(), ty) {
-            Ok(rows) => Ok(add_source(self.alloc, &mut self.sources, source, ty, rows)?),
+        match table_of_file(self.alloc, &mut self.files, locator.slice(), ty) {
+            Ok(table) => Ok(add_source(self.alloc, &mut self.sources, source, ty, table)?),
             Err(error) => {
                 self.unread = unread_by(error, self.unread);
                 Err(error)
@@ -108,14 +109,14 @@ impl<F: Files + Drop> Driver for FlatDriver<F> {
                 Ok(count > 0)
             }
             Err(NoMemory) => {
-                close(&mut self.cursors, cursor);
+                close_cursor(&mut self.cursors, cursor);
                 Err(DriverError::NoMemory)
             }
         }
     }
 
     fn finish(&mut self, cursor: u64) {
-        close(&mut self.cursors, cursor as usize);
+        close_cursor(&mut self.cursors, cursor as usize);
     }
 
     fn starts(&self) -> u64 {
@@ -127,16 +128,15 @@ impl<F: Files + Drop> Driver for FlatDriver<F> {
     }
 }
 
-// The rows of a file that is a table.
-fn rows_of_file<F: Files>(
+// The table that a file is.
+fn table_of_file<F: Files>(
     alloc: Global,
     files: &mut F,
     path: &[u8],
     ty: &Ty,
-) -> Result<Items, DriverError>
-    requires suits { is_table_type ty.now ≡ true }
-    requires proper { IsProper ty.now }
-    ensures { ReadsRows path.now ty.now result (F.state files.old) (F.state files.new) }
+) -> Result<ColumnTable, DriverError>
+    requires { is_table_type ty.now ≡ true }
+    ensures { ReadsTable path.now ty.now result (F.state files.old) (F.state files.new) }
 {
     let bytes = match read_whole(alloc, files, path, MOST_BYTES) {
         Ok(Whole::Bytes(bytes)) => bytes,
@@ -144,10 +144,12 @@ fn rows_of_file<F: Files>(
         Err(Stop::Failed) => return Err(DriverError::Failed),
         Err(Stop::NoMemory) => return Err(DriverError::NoMemory),
     };
-    let table = read_table(alloc, bytes.slice(), ty)?;
-    match table.bad {
-        Some(place) => Err(DriverError::BadSource { place }),
-        None => Ok(table.rows),
+    match read_columns(alloc, bytes.slice(), ty) {
+        Ok(front) => match front.bad {
+            Some(place) => Err(DriverError::BadSource { place }),
+            None => Ok(front.table),
+        },
+        Err(NoMemory) => Err(DriverError::NoMemory),
     }
 }
 
@@ -161,36 +163,36 @@ fn unread_by(error: DriverError, unread: u64) -> u64
     }
 }
 
-// Adds a source of this name, with these rows, and says how many they are.
+// Adds a source of this name, with this table, and says how many rows it has.
 fn add_source(
     alloc: Global,
     sources: &mut Vec<Source>,
     name: &Label,
     ty: &Ty,
-    rows: Items,
+    table: ColumnTable,
 ) -> Result<u64, NoMemory>
-    requires { are_rows ty.now rows ≡ true }
-    ensures added { IfOk result (AddsSource name.now ty.now rows sources.old.items sources.new.items) }
+    requires { are_rows ty.now (rows_of table) ≡ true }
+    ensures added { IfOk result (AddsSource name.now ty.now (rows_of table) sources.old.items sources.new.items) }
     ensures refused { OnErr result (sources.new.items ≡ sources.old.items) }
 {
-    let count = rows.len() as u64;
-    let made = new_source(alloc, name, ty, rows)?;
+    let count = table.len() as u64;
+    let made = new_source(alloc, name, ty, table)?;
     sources.push(made)?;
     Ok(count)
 }
 
-// A source of this name, with these rows.
-fn new_source(alloc: Global, name: &Label, ty: &Ty, rows: Items) -> Result<Source, NoMemory>
-    requires small { length rows < 2 ^ 64 }
-    requires typed { are_rows ty.now rows ≡ true }
+// A source of this name, with this table.
+fn new_source(alloc: Global, name: &Label, ty: &Ty, table: ColumnTable) -> Result<Source, NoMemory>
+    requires small { length (rows_of table) < 2 ^ 64 }
+    requires typed { are_rows ty.now (rows_of table) ≡ true }
     ensures name { IfOk result (λ s. s.name ≡ name.now) }
     ensures ty { IfOk result (λ s. s.ty ≡ ty.now) }
-    ensures rows { IfOk result (λ s. s.rows ≡ rows) }
+    ensures table { IfOk result (λ s. s.table ≡ table) }
 {
-    let rows = Shared::new(alloc, rows)?;
+    let table = Shared::new(alloc, table)?;
     let name = name.dup()?;
     let ty = Shared::new(alloc, ty.dup(alloc)?)?;
-    Ok(Source { name, ty, rows })
+    Ok(Source { name, ty, table })
 }
 
 // Opens a cursor for an ask, behind the others.
@@ -227,23 +229,4 @@ fn hand_next(
     into.append(&mut taken)?;
     cursor.at = at;
     Ok(count)
-}
-
-// Closes the cursor at a place.
-fn close(cursors: &mut Vec<Option<Open>>, cursor: usize)
-    requires { cursor < length cursors.old.items }
-    ensures closed { open_at cursors.new.items cursor ≡ None }
-    ensures others { (k : ℕ) → k ≢ cursor → open_at cursors.new.items k ≡ open_at cursors.old.items k }
-{
-    cursors[cursor] = None;
-    close_last(cursors);
-}
-
-// Drops the places of closed cursors behind the last open one, so that they are used again.
-fn close_last(cursors: &mut Vec<Option<Open>>)
-    ensures { (k : ℕ) → open_at cursors.new.items k ≡ open_at cursors.old.items k }
-{
-    'places: while let Some(None) = cursors.last() {
-        cursors.pop();
-    }
 }

@@ -7,13 +7,21 @@
 
 mod answering;
 mod cells;
+mod column_table;
 mod columns;
 mod driver;
+mod held;
 mod parts;
 mod records;
+mod row_tests;
 mod sources;
 mod table;
+mod texts;
 
+pub use column_table::ColumnTable;
 pub use columns::is_table_type;
 pub use driver::FlatDriver;
-pub use table::{Table, read_table};
+pub use held::{Cells, Column};
+pub use row_tests::{Against, RowTest};
+pub use table::{Table, TableFront, read_columns, read_table};
+pub use texts::Texts;

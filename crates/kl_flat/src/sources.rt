@@ -1,14 +1,11 @@
 //! What is asked of attached sources.
 ghost use Rattle.std.specs.Prelude.{◌≡◌, IfOk, MatchOption, Some, None};
-ghost use Rattle.kl_ask.specs.Asks.{is_kept};
-ghost use Rattle.kl_flat.specs.Asked.{keep_of, kept_places, tests_of};
+ghost use Rattle.kl_flat.specs.Asked.{keep_of, tests_of};
 ghost use Rattle.kl_flat.specs.Flat.{asked_source, source_at};
 
-use crate::columns::columns_of;
 use crate::parts::{Open, Source};
 use kl_ask::{Ask, ColTest};
 use kl_base::{Label, NoMemory, Seq};
-use kl_type::Ty;
 use std::alloc::Global;
 
 /// The attached source that is asked. None for a statement of SQL.
@@ -39,48 +36,20 @@ fn find<'a>(sources: &'a [Source], name: &Label) -> Option<&'a Source>
 pub fn opened(alloc: Global, source: &Source, ask: &Ask) -> Result<Open, NoMemory>
     ensures ask { IfOk result (λ o. o.ask ≡ ask.now) }
     ensures ty { IfOk result (λ o. o.ty ≡ source.now.ty) }
-    ensures rows { IfOk result (λ o. o.rows ≡ source.now.rows) }
+    ensures table { IfOk result (λ o. o.table ≡ source.now.table) }
     ensures start { IfOk result (λ o. o.at ≡ 0) }
 {
     let ty = source.ty.dup()?;
-    let rows = source.rows.dup()?;
-    let places = kept_places(alloc, keep_of(ask), columns_of(source.ty.get()))?;
+    let table = source.table.dup()?;
+    let places = source.table.get().places(alloc, keep_of(ask))?;
     let ask = ask.dup(alloc)?;
     Ok(Open {
         ask,
         ty,
-        rows,
+        table,
         places: Seq::of(places),
         at: 0,
     })
-}
-
-// The places of the columns that are kept.
-fn kept_places(
-    alloc: Global,
-    keep: &[Label],
-    columns: &[(Label, Ty)],
-) -> Result<Vec<usize>, NoMemory>
-    ensures { IfOk result (λ places. places.items ≡ kept_places keep.now 0 columns.now) }
-{
-    let mut places = Vec::with_capacity(alloc, keep.len())?;
-    'columns: for place in 0..columns.len() {
-        if is_kept(keep, &columns[place].0) {
-            places.push(place)?;
-        }
-    }
-    Ok(places)
-}
-
-fn is_kept(keep: &[Label], label: &Label) -> bool
-    ensures { result ≡ is_kept keep.now label.now }
-{
-    for kept in keep {
-        if kept == label {
-            return true;
-        }
-    }
-    false
 }
 
 /// The columns that an ask keeps.

@@ -88,9 +88,9 @@ at_spot cells row i l z fine h e =
     record {
       fine = fine;
       keeps = keeps_refl cells;
-      sort = k.0;
-      down = λ s t g ground d. record { to = s; agrees = agrees_refl (length cells) s; solves = g; holds = one_some (sym (k.1 s g) ∙ d) };
-      up = λ s g. (g, k.1 s g);
+      sort = k.there;
+      down = λ s t g ground d. record { to = s; agrees = agrees_refl (length cells) s; solves = g; holds = one_some (sym (k.gives s g) ∙ d) };
+      up = λ s g. (g, k.gives s g);
     }
   where
     one_some : {a b : Ground} → Some a ≡ Some b → a ≡ b
@@ -99,10 +99,10 @@ at_spot cells row i l z fine h e =
 pub behind_spot : (old new : List Cell) (row end : ℕ) (l : List ℕ) (z : Spot) (o : Option ℕ) → Spots z old row l → z ≡ Behind end → Finds o old new (InRow l end) → Finds o old new (InRow l row)
 behind_spot old new row end l z o h e f =
     let k : Spots (Behind end) old row l = subst (λ x. Spots x old row l) e h in
-    finds_as old new (InRow l end) (InRow l row) o (λ t s g d. k.1 s g ∙ d) (λ t s g d. sym (k.1 s g) ∙ d) f
+    finds_as old new (InRow l end) (InRow l row) o (λ t s g d. k.gives s g ∙ d) (λ t s g d. sym (k.gives s g) ∙ d) f
 
 pub end_there : (cells : List Cell) (row end : ℕ) (l : List ℕ) (z : Spot) → Spots z cells row l → z ≡ Behind end → IsRowAt cells end
-end_there cells row end l z h e = (subst (λ x. Spots x cells row l) e h).0
+end_there cells row end l z h e = (subst (λ x. Spots x cells row l) e h).there
 
 -- a record, and a variant, whose row is known
 pub record_row : (cells : List Cell) (t row : ℕ) (n : TypeNode) → KnownAs cells t n → n ≡ Rec row → IsRowAt cells row

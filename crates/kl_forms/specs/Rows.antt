@@ -1,4 +1,4 @@
--- Rows of which fields are said, one label after another.
+-- Rows of which fields are said, one label after another. No public contract cites this.
 use Rattle.std.specs.Prelude.{◌≡◌, ℕ, Bool, true, false, cond, List, [], ◌∷◌, Option, Some, None, IsSome, ⊤, nat_eq}
 use Rattle.std.specs.Cmp.Lexicographic.{pointwise}
 use Rattle.std.specs.List.{AllByRecursion}

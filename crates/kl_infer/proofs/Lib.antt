@@ -16,4 +16,5 @@ pub mod Taking
 pub mod Concluding
 pub mod Alike
 pub mod Programs
+pub mod Sharing
 pub mod Principal

@@ -1,11 +1,12 @@
 -- What forms with many parts ask: calls, records, branches, and lists one part after another.
-use Rattle.std.proofs.Common.{◌≡◌, ℕ, suc, Bool, true, false, ◌||◌, IsTrue, List, [], ◌∷◌, length, map, cond, Option, Some, None, IsSome, refl, sym, ap, ◌∙◌, subst, rules}
+use Rattle.std.proofs.Common.{◌≡◌, ℕ, suc, Bool, true, false, ◌||◌, IsTrue, List, [], ◌∷◌, length, map, cond, Option, Some, None, IsSome, Result, Ok, refl, sym, ap, ◌∙◌, subst, rules}
 use Rattle.std.specs.Prelude.{⊤}
 use Rattle.std.specs.List.{AllByRecursion}
 use Rattle.kl_base.specs.Fields.{field}
 use Rattle.kl_type.specs.Ground.{Ground, Row, rec, var, at, IsGround, IsRow}
 use Rattle.kl_rows.specs.Lists.{Fields}
 use Rattle.kl_rows.specs.Solutions.{Assignment}
+use Rattle.kl_rows.proofs.Advancing.{Fact}
 use Rattle.kl_outcome.specs.Outcome.{Name}
 use Rattle.kl_forms.specs.Forms.{HasNoOthers, IsRecord, IsVariant}
 use Rattle.kl_syntax.specs.declared.tree.Word.{Word}
@@ -13,13 +14,14 @@ use Rattle.kl_syntax.specs.Syntax.{Pat, Exp, Call, Rec, Case, Exps, no_exps, exp
 use Rattle.kl_syntax.specs.View.{exps_of, flds_of}
 use Rattle.kl_meaning.specs.Match.{same_name}
 use Rattle.kl_meaning.specs.Typing.{Sort, Context, CallTypes, Types, AllTypes, FieldTypes, BranchTypes, has_branch, has_field}
-use Rattle.kl_infer.specs.Asking.{Asks, Gets, GetsMany, context}
+use Rattle.kl_infer.specs.Asking.{Leaves, Asks, Asked, Gets, GetsMany, context}
 use Rattle.kl_infer.specs.Names.{Ready, sorts, ArmsTake, labelled}
+use Rattle.kl_infer.specs.declared.refusal.Refusal.{Refusal}
 use Rattle.kl_infer.specs.declared.scope.Known.{Known}
-use Rattle.kl_infer.specs.declared.typing.Typing.{Typing}
+use Rattle.kl_rows.specs.declared.cell.Cell.{Cell}
 use Rattle.kl_outcome.proofs.Grounds.{at_ground}
-use Rattle.kl_infer.proofs.Leaving.{in_words, beside, opens, opens_many, goes_on, ready_on, ready_for, said}
-use Rattle.kl_infer.proofs.Forms.{T, steps, first, second, ground_of_type, ground_of_all, ready_after}
+use Rattle.kl_infer.proofs.Leaving.{Leads, restated, leads_on, in_words, beside, opens, opens_many, goes_on, ready_on, ready_for, ready_many, said}
+use Rattle.kl_infer.proofs.Forms.{T, first, second, ground_of_type, ground_of_all, ready_after}
 
 -- ---- labels with types
 
@@ -99,14 +101,14 @@ RecordAt o ls t ts = (r : Row) × (t ≡ rec r) × AtEach r ls ts × Within o ls
 abbrev VariantAt : Bool → List Name → Ground → List Ground → Type 0
 VariantAt o ls t ts = (r : Row) × (t ≡ var r) × AtEach r ls ts × Within o ls r
 
-module _ (a b : Typing) (o : Bool) (ls : List Name) (is : List ℕ) (w : ℕ) (e : length is ≡ length ls) where
-  pub record_at : Asks a b (IsRecord o (labelled ls is) w) → Asks a b (λ s. RecordAt o ls (s.types w) (map s.types is))
-  record_at f = in_words a b (IsRecord o (labelled ls is) w) (λ s. RecordAt o ls (s.types w) (map s.types is))
+module _ (r : Result (Unit {0}) Refusal) (a b : List Cell) (o : Bool) (ls : List Name) (is : List ℕ) (w : ℕ) (e : length is ≡ length ls) where
+  pub record_at : Asked r a b (IsRecord o (labelled ls is) w) → Asked r a b (λ s. RecordAt o ls (s.types w) (map s.types is))
+  record_at f = in_words r a b (IsRecord o (labelled ls is) w) (λ s. RecordAt o ls (s.types w) (map s.types is))
       (λ s h. (h.0, h.1, (fields_at h.0 ls is s e h.2, named_within o ls is h.0 e h.3)))
       (λ s h. (h.0, h.1, at_fields h.0 ls is s e h.2.0, within_named o ls is h.0 h.2.1)) f
 
-  variant_at : Asks a b (IsVariant o (labelled ls is) w) → Asks a b (λ s. VariantAt o ls (s.types w) (map s.types is))
-  variant_at f = in_words a b (IsVariant o (labelled ls is) w) (λ s. VariantAt o ls (s.types w) (map s.types is))
+  variant_at : Asked r a b (IsVariant o (labelled ls is) w) → Asked r a b (λ s. VariantAt o ls (s.types w) (map s.types is))
+  variant_at f = in_words r a b (IsVariant o (labelled ls is) w) (λ s. VariantAt o ls (s.types w) (map s.types is))
       (λ s h. (h.0, h.1, (fields_at h.0 ls is s e h.2, named_within o ls is h.0 e h.3)))
       (λ s h. (h.0, h.1, at_fields h.0 ls is s e h.2.0, within_named o ls is h.0 h.2.1)) f
 
@@ -120,20 +122,19 @@ all_length : (es : Exps) (K : Name → Sort) (G : Context) (ss : List Ground) �
 all_length no_exps K G ss h = ap length h
 all_length (exps e es) K G ss h = ap length h.2 ∙ ap suc (all_length es K G h.1 h.4)
 
-module _ (k : Known) (ns : Fields) (a b c d : Typing) (w : ℕ) (ready : Ready k a ns (w ∷ [])) (is : List ℕ) (n : ℕ) where
-  many_ready : GetsMany a b is n → Ready k b ns is
-  many_ready g = ready_for k b ns (w ∷ []) is g.sorts (ready_on k a b ns (w ∷ []) g.follows ready)
-
-  pub call_form : (f : Word) (es : Exps) → n ≡ count es → GetsMany a b is n → Asks b c (λ s. CallTypes (sorts k f.text) (map s.types is) (s.types w))
-      → Asks c d (λ s. AllTypes es (sorts k) (context s ns) (map s.types is)) → Asks a d (T k ns (Call f es) w)
-  call_form f es e g h1 h2 =
-      steps a b d (T k ns (Call f es) w) _ _
+module _ (k : Known) (ns : Fields) (r : Result (Unit {0}) Refusal) (a b c : List Cell) (w : ℕ) (ready : Ready k a ns (w ∷ [])) (is : List ℕ) where
+  pub call_asked : (n : ℕ) (f : Word) (es : Exps) → n ≡ count es → GetsMany a b is n → Asked r b c (λ s. CallTypes (sorts k f.text) (map s.types is) (s.types w))
+      → Leads r a c (T k ns (Call f es) w) (λ s. AllTypes es (sorts k) (context s ns) (map s.types is))
+  call_asked n f es e g h =
+      leads_on r a b c _ _ _
+      (goes_on a a b _ _ _
+      (restated a (T k ns (Call f es) w) (λ s. (ts : List Ground) × (length ts ≡ n) × AllByRecursion IsGround ts × (CallTypes (sorts k f.text) ts (s.types w) × AllTypes es (sorts k) (context s ns) ts)) ready.fine
       (λ s h. (h.0, all_length es (sorts k) (context s ns) h.0 h.1 ∙ sym e, ground_of_all k ns a (w ∷ []) ready es s h.0 h.1, (h.2, h.1)))
-      (λ s q h. (h.0, h.3.1, h.3.0))
+      (λ s q h. (h.0, h.3.1, h.3.0)))
       (opens_many a b is n (λ ts s. CallTypes (sorts k f.text) ts (s.types w) × AllTypes es (sorts k) (context s ns) ts)
-      (λ p ts. said k a ns (w ∷ []) (λ G us. CallTypes (sorts k f.text) ts (first us) × AllTypes es (sorts k) G ts) ready p) g)
-      (goes_on b c d _ _ _ (beside b c (λ s. CallTypes (sorts k f.text) (map s.types is) (s.types w)) (λ s. AllTypes es (sorts k) (context s ns) (map s.types is))
-      (λ p. said k b ns is (λ G ts. AllTypes es (sorts k) G ts) (many_ready g) p) h1) h2)
+      (λ ts. said k a ns (w ∷ []) (λ G us. CallTypes (sorts k f.text) ts (first us) × AllTypes es (sorts k) G ts) ready) g))
+      (beside r b c (λ s. CallTypes (sorts k f.text) (map s.types is) (s.types w)) (λ s. AllTypes es (sorts k) (context s ns) (map s.types is))
+      (said k b ns is (λ G ts. AllTypes es (sorts k) G ts) (ready_many k a b ns (w ∷ []) is n g ready)) h)
 
 -- ---- records
 
@@ -167,13 +168,15 @@ pub length_names : {X : Type 0} (fs : List (Word × X)) → length (names_of fs)
 length_names [] = refl
 length_names (f ∷ fs) = ap suc (length_names fs)
 
-module _ (k : Known) (ns : Fields) (a b c d : Typing) (w : ℕ) (ready : Ready k a ns (w ∷ [])) (is : List ℕ) where
-  pub record_form : (fs : List (Word × Exp)) → length is ≡ length fs → GetsMany a b is (length fs) → Asks b c (IsRecord false (labelled (names_of fs) is) w)
-      → Asks c d (λ s. AllTypes (bodies fs) (sorts k) (context s ns) (map s.types is)) → Asks a d (T k ns (Rec (flds_of fs)) w)
-  record_form fs e g h1 h2 =
+module _ (k : Known) (ns : Fields) (r : Result (Unit {0}) Refusal) (a b c : List Cell) (w : ℕ) (ready : Ready k a ns (w ∷ [])) (is : List ℕ) where
+  pub record_asked : (fs : List (Word × Exp)) → GetsMany a b is (length fs) → Asked r b c (IsRecord false (labelled (names_of fs) is) w)
+      → Leads r a c (T k ns (Rec (flds_of fs)) w) (λ s. AllTypes (bodies fs) (sorts k) (context s ns) (map s.types is))
+  record_asked fs g h =
       let ls = names_of fs in
-      let el : length is ≡ length ls = e ∙ sym (length_names fs) in
-      steps a b d (T k ns (Rec (flds_of fs)) w) _ _
+      let el : length is ≡ length ls = g.size ∙ sym (length_names fs) in
+      leads_on r a b c _ _ _
+      (goes_on a a b _ _ _
+      (restated a (T k ns (Rec (flds_of fs)) w) (λ s. (ts : List Ground) × (length ts ≡ length fs) × AllByRecursion IsGround ts × (RecordAt false ls (s.types w) ts × AllTypes (bodies fs) (sorts k) (context s ns) ts)) ready.fine
       (λ s h.
       let v = fields_split (sorts k) (context s ns) h.0 fs h.4 in (
         v.0,
@@ -181,11 +184,11 @@ module _ (k : Known) (ns : Fields) (a b c d : Typing) (w : ℕ) (ready : Ready k
         each_ground h.0 ls v.0 (subst IsGround h.1 (s.types_ground w)) v.1,
         ((h.0, h.1, v.1, λ l q. subst IsTrue (has_names fs l) (h.3 l q)), v.2),
       ))
-      (λ s q h. let v = h.3.0 in (v.0, v.1, s.types_ground w, (λ l z. subst IsTrue (sym (has_names fs l)) (v.3 l z)), fields_join (sorts k) (context s ns) v.0 fs h.0 v.2 h.3.1))
+      (λ s q h. let v = h.3.0 in (v.0, v.1, s.types_ground w, (λ l z. subst IsTrue (sym (has_names fs l)) (v.3 l z)), fields_join (sorts k) (context s ns) v.0 fs h.0 v.2 h.3.1)))
       (opens_many a b is (length fs) (λ ts s. RecordAt false ls (s.types w) ts × AllTypes (bodies fs) (sorts k) (context s ns) ts)
-      (λ p ts. said k a ns (w ∷ []) (λ G us. RecordAt false ls (first us) ts × AllTypes (bodies fs) (sorts k) G ts) ready p) g)
-      (goes_on b c d _ _ _ (beside b c (λ s. RecordAt false ls (s.types w) (map s.types is)) (λ s. AllTypes (bodies fs) (sorts k) (context s ns) (map s.types is))
-      (λ p. said k b ns is (λ G ts. AllTypes (bodies fs) (sorts k) G ts) (many_ready k ns a b c d w ready is (length fs) g) p) (record_at b c false ls is w el h1)) h2)
+      (λ ts. said k a ns (w ∷ []) (λ G us. RecordAt false ls (first us) ts × AllTypes (bodies fs) (sorts k) G ts) ready) g))
+      (beside r b c (λ s. RecordAt false ls (s.types w) (map s.types is)) (λ s. AllTypes (bodies fs) (sorts k) (context s ns) (map s.types is))
+      (said k b ns is (λ G ts. AllTypes (bodies fs) (sorts k) G ts) (ready_many k a b ns (w ∷ []) is (length fs) g ready)) (record_at r b c false ls is w el h))
 
 -- ---- branches
 
@@ -258,33 +261,60 @@ within_arms ms no_branches r none_last h l q = subst IsTrue (sym (has_arms ms l)
 within_arms ms (otherwise e) r (rest_last e') h l q = has_rest ms e l
 within_arms ms (branch _ _ _ _) r x7 h l q = elim x7 [ ]
 
-module _ (k : Known) (ns : Fields) (a b c d e f g : Typing) (w : ℕ) (ready : Ready k a ns (w ∷ [])) (i : ℕ) (is : List ℕ) where
-  pub select_form : (x : Exp) (ms : Arms) (last : Branches) → IsLast last → length is ≡ length ms → GetsMany a b is (length ms) → Gets b c i (λ t s. Unit {0}) → Asks c d (IsVariant (is_rest last) (labelled (names_of ms) is) i)
-      → Asks d e (T k ns x i) → Asks e f (λ s. ArmsTake (with_arms ms no_branches) (sorts k) (context s ns) (map s.types is) (s.types w))
-      → Asks f g (λ s. LastTypes last (sorts k) (context s ns) (s.types w)) → Asks a g (T k ns (Case x (with_arms ms last)) w)
-  select_form x ms last il en g1 g2 h1 h2 h3 h4 =
+-- the subject of a `case`, its branches, and what stands behind them, one after another
+module _ (k : Known) (ns : Fields) (a b c : List Cell) (w : ℕ) (ready : Ready k a ns (w ∷ [])) (i : ℕ) (is : List ℕ) (x : Exp) (ms : Arms) (last : Branches) (il : IsLast last) (g1 : GetsMany a b is (length ms)) (g2 : Gets b c i (λ t s. Unit {0})) where
+  abbrev pub Armed : Fact
+  Armed = λ s. ArmsTake (with_arms ms no_branches) (sorts k) (context s ns) (map s.types is) (s.types w)
+
+  abbrev pub Left : Fact
+  Left = λ s. LastTypes last (sorts k) (context s ns) (s.types w)
+
+  abbrev Subject : Context → Ground → List Ground → Ground → Type 0
+  Subject G t ts u = VariantAt (is_rest last) (names_of ms) t ts × (Types x (sorts k) G t × (ArmsTake (with_arms ms no_branches) (sorts k) G ts u × LastTypes last (sorts k) G u))
+
+  ready_types : Ready k b ns (w ∷ is)
+  ready_types = let q = ready_on k a b ns (w ∷ []) g1.fine g1.keeps ready in ready_for k b ns (w ∷ []) (w ∷ is) (q.wants.0, g1.sorts) q
+
+  ready_subject : Ready k c ns (i ∷ w ∷ is)
+  ready_subject = ready_after k ns b (w ∷ is) ready_types c i (λ t s. Unit {0}) g2
+
+  case_seen : Leaves a c (T k ns (Case x (with_arms ms last)) w) (λ s. Subject (context s ns) (s.types i) (map s.types is) (s.types w))
+  case_seen =
       let ls = names_of ms in
-      let el : length is ≡ length ls = en ∙ sym (length_names ms) in
       let K = sorts k in
-      let r1 : Ready k b ns (w ∷ is) = let q = ready_on k a b ns (w ∷ []) g1.follows ready in ready_for k b ns (w ∷ []) (w ∷ is) (λ p. ((q.wants p).0, g1.sorts p)) q in
-      let r3 : Ready k c ns (i ∷ w ∷ is) = ready_after k ns b (w ∷ is) r1 c i g2.follows g2.sort in
-      let r4 : Ready k d ns (i ∷ w ∷ is) = ready_on k c d ns (i ∷ w ∷ is) h1.follows r3 in
-      let r5 : Ready k e ns (i ∷ w ∷ is) = ready_on k d e ns (i ∷ w ∷ is) h2.follows r4 in
-      steps a b g (T k ns (Case x (with_arms ms last)) w) _ _
+      goes_on a a c _ _ _
+      (restated a _ (λ s. (ts : List Ground) × (length ts ≡ length ms) × AllByRecursion IsGround ts × ((t : Ground) × IsGround t × Unit {0} × Subject (context s ns) t ts (s.types w))) ready.fine
       (λ s h.
       let v = arms_split K (context s ns) h.0 (s.types w) ms last il h.3 in
       let gr : IsGround (var h.0) = ground_of_type k ns a (w ∷ []) ready x s (var h.0) h.1 in
       (v.0, each_length h.0 ls v.0 v.1 ∙ length_names ms, each_ground h.0 ls v.0 gr.1 v.1, (var h.0, gr, tt, ((h.0, refl, v.1, arms_within ms last h.0 il h.2), (h.1, (v.2, v.3))))))
       (λ s q h.
       let v = h.3.3.0 in
-      (v.0, subst (λ (t : Ground). Types x K (context s ns) t) v.1 h.3.3.1.0, within_arms ms last v.0 il v.3, arms_join K (context s ns) v.0 (s.types w) ms last h.0 il v.2 h.3.3.1.1.0 h.3.3.1.1.1))
-      (opens_many a b is (length ms) (λ ts s. (t : Ground) × IsGround t × Unit {0} × (VariantAt (is_rest last) ls t ts × (Types x K (context s ns) t × (ArmsTake (with_arms ms no_branches) K (context s ns) ts (s.types w) × LastTypes last K (context s ns) (s.types w)))))
-      (λ p ts. said k a ns (w ∷ []) (λ G us. (t : Ground) × IsGround t × Unit {0} × (VariantAt (is_rest last) ls t ts × (Types x K G t × (ArmsTake (with_arms ms no_branches) K G ts (first us) × LastTypes last K G (first us))))) ready p) g1)
-      (goes_on b c g _ _ _ (opens b c i (λ t s. Unit {0}) (λ t s. VariantAt (is_rest last) ls t (map s.types is) × (Types x K (context s ns) t × (ArmsTake (with_arms ms no_branches) K (context s ns) (map s.types is) (s.types w) × LastTypes last K (context s ns) (s.types w))))
-      (λ p t. said k b ns (w ∷ is) (λ G us. VariantAt (is_rest last) ls t (behind_one us) × (Types x K G t × (ArmsTake (with_arms ms no_branches) K G (behind_one us) (first us) × LastTypes last K G (first us)))) r1 p) g2)
-      (goes_on c d g _ _ _ (beside c d (λ s. VariantAt (is_rest last) ls (s.types i) (map s.types is)) (λ s. Types x K (context s ns) (s.types i) × (ArmsTake (with_arms ms no_branches) K (context s ns) (map s.types is) (s.types w) × LastTypes last K (context s ns) (s.types w)))
-      (λ p. said k c ns (i ∷ w ∷ is) (λ G us. Types x K G (first us) × (ArmsTake (with_arms ms no_branches) K G (behind_two us) (second us) × LastTypes last K G (second us))) r3 p) (variant_at c d (is_rest last) ls is i el h1))
-      (goes_on d e g _ _ _ (beside d e (T k ns x i) (λ s. ArmsTake (with_arms ms no_branches) K (context s ns) (map s.types is) (s.types w) × LastTypes last K (context s ns) (s.types w))
-      (λ p. said k d ns (i ∷ w ∷ is) (λ G us. ArmsTake (with_arms ms no_branches) K G (behind_two us) (second us) × LastTypes last K G (second us)) r4 p) h2)
-      (goes_on e f g _ _ _ (beside e f (λ s. ArmsTake (with_arms ms no_branches) K (context s ns) (map s.types is) (s.types w)) (λ s. LastTypes last K (context s ns) (s.types w))
-      (λ p. said k e ns (i ∷ w ∷ is) (λ G us. LastTypes last K G (second us)) r5 p) h3) h4))))
+      (v.0, subst (λ (t : Ground). Types x K (context s ns) t) v.1 h.3.3.1.0, within_arms ms last v.0 il v.3, arms_join K (context s ns) v.0 (s.types w) ms last h.0 il v.2 h.3.3.1.1.0 h.3.3.1.1.1)))
+      (goes_on a b c _ _ _
+      (opens_many a b is (length ms) (λ ts s. (t : Ground) × IsGround t × Unit {0} × Subject (context s ns) t ts (s.types w))
+      (λ ts. said k a ns (w ∷ []) (λ G us. (t : Ground) × IsGround t × Unit {0} × Subject G t ts (first us)) ready) g1)
+      (opens b c i (λ t s. Unit {0}) (λ t s. Subject (context s ns) t (map s.types is) (s.types w)) (λ t. said k b ns (w ∷ is) (λ G us. Subject G t (behind_one us) (first us)) ready_types) g2))
+
+  pub case_chosen : (r : Result (Unit {0}) Refusal) (d : List Cell) → Asked r c d (IsVariant (is_rest last) (labelled (names_of ms) is) i) → Leads r a d (T k ns (Case x (with_arms ms last)) w) (λ s. T k ns x i s × (Armed s × Left s))
+  case_chosen r d h =
+      let K = sorts k in
+      leads_on r a c d _ _ _ case_seen
+      (beside r c d (λ s. VariantAt (is_rest last) (names_of ms) (s.types i) (map s.types is)) (λ s. T k ns x i s × (Armed s × Left s))
+      (said k c ns (i ∷ w ∷ is) (λ G us. Types x K G (first us) × (ArmsTake (with_arms ms no_branches) K G (behind_two us) (second us) × LastTypes last K G (second us))) ready_subject)
+      (variant_at r c d (is_rest last) (names_of ms) is i (g1.size ∙ sym (length_names ms)) h))
+
+  module _ (d : List Cell) (h1 : Asks c d (IsVariant (is_rest last) (labelled (names_of ms) is) i)) where
+    ready_chosen : Ready k d ns (i ∷ w ∷ is)
+    ready_chosen = ready_on k c d ns (i ∷ w ∷ is) h1.fine h1.keeps ready_subject
+
+    pub case_checked : (r : Result (Unit {0}) Refusal) (e : List Cell) → Asked r d e (T k ns x i) → Leads r a e (T k ns (Case x (with_arms ms last)) w) (λ s. Armed s × Left s)
+    case_checked r e h =
+        let K = sorts k in
+        leads_on r a d e _ _ _ (case_chosen (Ok tt) d h1)
+        (beside r d e (T k ns x i) (λ s. Armed s × Left s) (said k d ns (i ∷ w ∷ is) (λ G us. ArmsTake (with_arms ms no_branches) K G (behind_two us) (second us) × LastTypes last K G (second us)) ready_chosen) h)
+
+    pub case_armed : (r : Result (Unit {0}) Refusal) (e f : List Cell) → Asks d e (T k ns x i) → Asked r e f Armed → Leads r a f (T k ns (Case x (with_arms ms last)) w) Left
+    case_armed r e f h2 h =
+        leads_on r a e f _ _ _ (case_checked (Ok tt) e h2)
+        (beside r e f Armed Left (said k e ns (i ∷ w ∷ is) (λ G us. LastTypes last (sorts k) G (second us)) (ready_on k d e ns (i ∷ w ∷ is) h2.fine h2.keeps ready_chosen)) h)

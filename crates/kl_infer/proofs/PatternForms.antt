@@ -1,12 +1,13 @@
 -- What patterns and qualifiers ask, and the variables that they bind.
-use Rattle.std.proofs.Common.{◌≡◌, ℕ, Bool, true, false, ◌||◌, IsTrue, List, [], ◌∷◌, ◌++◌, length, map, refl, sym, ap, ◌∙◌, subst}
+use Rattle.std.proofs.Common.{◌≡◌, ℕ, Bool, true, false, ◌||◌, IsTrue, List, [], ◌∷◌, ◌++◌, length, map, Result, Ok, Err, refl, sym, ap, ◌∙◌, subst}
 use Rattle.kl_value.specs.declared.Value.{Value}
 use Rattle.kl_type.specs.Ground.{Ground, Row, IsGround}
 use Rattle.kl_rows.specs.declared.cell.Cell.{Cell}
 use Rattle.kl_rows.specs.Lists.{Fields}
 use Rattle.kl_rows.specs.Places.{IsType, AreTypes}
-use Rattle.kl_rows.specs.Solutions.{Assignment, Solves}
-use Rattle.kl_rows.proofs.Advancing.{Fact, agrees_refl, types_keep}
+use Rattle.kl_rows.specs.Solutions.{Assignment}
+use Rattle.kl_rows.proofs.Advancing.{Fact, agrees_refl, keeps_refl, types_keep}
+use Rattle.std.specs.List.{AllByRecursion}
 use Rattle.kl_outcome.specs.Outcome.{Name}
 use Rattle.kl_forms.specs.Forms.{VariantOf, IsRecord, IsOfType}
 use Rattle.kl_forms.proofs.Steps.{Stable}
@@ -15,12 +16,13 @@ use Rattle.kl_syntax.specs.Syntax.{Pat, catch, any, same, is, shape, variant}
 use Rattle.kl_syntax.specs.View.{pats_of}
 use Rattle.kl_meaning.specs.Match.{same_name, has_label}
 use Rattle.kl_meaning.specs.Typing.{Context, NameTypes, IsWhole, Takes, TakesFields}
-use Rattle.kl_infer.specs.Asking.{cells, Leaves, Asks, Gets, GetsMany, Binds, context, onto}
+use Rattle.kl_infer.specs.Asking.{Leaves, Asks, Refuses, Asked, Gets, GetsMany, Binds, Bound, context, onto}
 use Rattle.kl_infer.specs.Names.{Ready, sorts, TakesAll, labelled}
+use Rattle.kl_infer.specs.declared.refusal.Refusal.{Refusal}
+use Rattle.kl_infer.specs.declared.refusal.Refusal.TheVariants.{NoType, NoMemory}
 use Rattle.kl_infer.specs.declared.scope.Known.{Known}
-use Rattle.kl_infer.specs.declared.typing.Typing.{Typing}
 use Rattle.kl_outcome.proofs.Grounds.{at_ground}
-use Rattle.kl_infer.proofs.Leaving.{told, beside, opens, opens_many, goes_on, ready_on, ready_for, said, follows_refl, begins, same_context}
+use Rattle.kl_infer.proofs.Leaving.{Leads, refuses_more, restated, goes_on, leads_on, beside, opens, opens_none, opens_many, ready_many, ready_nothing, said, same_context}
 use Rattle.kl_infer.proofs.Forms.{first}
 use Rattle.kl_infer.proofs.Lists.{AtEach, Within, RecordAt, each_ground, each_length, has_name, names_of, length_names, record_at}
 
@@ -47,87 +49,92 @@ types_split ts [] ns h = (tt, h)
 types_split ts (b ∷ bs) ns h = let w = types_split ts bs (b ∷ ns) h in ((w.1.0, w.0), w.1.1)
 
 -- what stands outside a pattern, and what it has bound so far
-pub ready_out : (k : Known) (a : Typing) (bs ns : Fields) (ws : List ℕ) → Ready k a (onto bs ns) ws → Ready k a ns ws
-ready_out k a bs ns ws r = record { good = r.good; fine = r.fine; bound = λ p. (types_split (cells a) bs ns (r.bound p)).1; wants = r.wants }
+pub ready_out : (k : Known) (a : List Cell) (bs ns : Fields) (ws : List ℕ) → Ready k a (onto bs ns) ws → Ready k a ns ws
+ready_out k a bs ns ws r = record { good = r.good; fine = r.fine; bound = (types_split a bs ns r.bound).1; wants = r.wants }
 
-pub bound_so_far : (k : Known) (a : Typing) (bs ns : Fields) (ws : List ℕ) → Ready k a (onto bs ns) ws → IsTrue a.possible → AreTypes (cells a) bs
-bound_so_far k a bs ns ws r p = (types_split (cells a) bs ns (r.bound p)).0
+pub bound_so_far : (k : Known) (a : List Cell) (bs ns : Fields) (ws : List ℕ) → Ready k a (onto bs ns) ws → AreTypes a bs
+bound_so_far k a bs ns ws r = (types_split a bs ns r.bound).0
 
-module _ (a b : Typing) (bs cs ns : Fields) (D : Assignment → Context → Context → Type 0) where
-  pub binds_by : (IsTrue b.possible → AreTypes (cells a) bs → AreTypes (cells b) cs) → ((H : Context) → Leaves a b (λ s. D s (context s (onto bs ns)) H) (λ u. context u (onto cs ns) ≡ H)) → Binds a b bs cs ns D
-  binds_by sorts f = record {
-    follows = (f []).follows;
-    sorts = sorts;
-    down = λ s H p h d. (f H).down s p h d;
-    up = λ s p h. (f (context s (onto cs ns))).up s p h refl;
-  }
+module _ (a b : List Cell) (bs cs ns : Fields) (D : Assignment → Context → Context → Type 0) where
+  pub binds_by : (AreTypes a bs → AreTypes b cs) → ((H : Context) → Leaves a b (λ s. D s (context s (onto bs ns)) H) (λ u. context u (onto cs ns) ≡ H)) → Binds a b bs cs ns D
+  binds_by sorts f = let one = f [] in record { fine = one.fine; keeps = one.keeps; sorts = sorts; down = λ s H h d. (f H).down s h d; up = λ s h. (f (context s (onto cs ns))).up s h refl }
 
-  pub binds_at : Binds a b bs cs ns D → (H : Context) → Leaves a b (λ s. D s (context s (onto bs ns)) H) (λ u. context u (onto cs ns) ≡ H)
-  binds_at g H = record {
-    follows = g.follows;
-    down = λ s p h d. g.down s H p h d;
-    up = λ s p h r. let z = g.up s p h in (z.0, subst (λ (I : Context). D s (context s (onto bs ns)) I) r z.1);
-  }
+  pub binds_at : (r : Result (Unit {0}) Refusal) → Bound r a b bs cs ns D → (H : Context) → Leads r a b (λ s. D s (context s (onto bs ns)) H) (λ u. context u (onto cs ns) ≡ H)
+  binds_at (Ok u) g H = record { fine = g.fine; keeps = g.keeps; down = λ s h d. g.down s H h d; up = λ s h r. let z = g.up s h in (z.0, subst (λ (I : Context). D s (context s (onto bs ns)) I) r z.1) }
+  binds_at (Err e) g H = refuses_more a _ (λ s. (H : Context) × D s (context s (onto bs ns)) H) e (λ s d. (H, d)) g
 
-  -- the same in other words
-  pub binds_told : (E : Assignment → Context → Context → Type 0) → ((s : Assignment) (G H : Context) → E s G H → D s G H) → ((s : Assignment) (G H : Context) → Solves (cells a) s → D s G H → E s G H) → Binds a b bs cs ns D → Binds a b bs cs ns E
-  binds_told E go come g = record {
-    follows = g.follows;
-    sorts = g.sorts;
-    down = λ s H p h d. g.down s H p h (go s _ H d);
-    up = λ s p h. let z = g.up s p h in (z.0, come s _ _ z.0 z.1);
-  }
+-- no context is left
+pub refuses_each : (a : List Cell) (P : Assignment → Context → Type 0) (e : Refusal) → ((H : Context) → Refuses a (λ s. P s H) e) → Refuses a (λ s. (H : Context) × P s H) e
+refuses_each a P NoType f = λ s h d. f d.0 s h d.1
+refuses_each a P NoMemory f = tt
+
+-- the same in other words
+pub bound_told : (r : Result (Unit {0}) Refusal) (a b : List Cell) (bs cs ns : Fields) (D E : Assignment → Context → Context → Type 0) → ((s : Assignment) (H : Context) → E s (context s (onto bs ns)) H → D s (context s (onto bs ns)) H)
+    → ((s : Assignment) (H : Context) → D s (context s (onto bs ns)) H → E s (context s (onto bs ns)) H) → Bound r a b bs cs ns D → Bound r a b bs cs ns E
+bound_told (Ok u) a b bs cs ns D E go come g = let one = binds_at a b bs cs ns D (Ok u) g in binds_by a b bs cs ns E g.sorts
+    (λ H. let f = one H in record { fine = f.fine; keeps = f.keeps; down = λ s h d. f.down s h (go s H d); up = λ s h r. let z = f.up s h r in (z.0, come s H z.1) })
+bound_told (Err e) a b bs cs ns D E go come g = refuses_more a _ (λ s. (H : Context) × D s (context s (onto bs ns)) H) e (λ s d. (d.0, go s d.0 d.1)) g
 
 -- steps before a pattern
-pub leaves_told : (a b c : Typing) (D E R S : Fact) → ((s : Assignment) → D s → E s) → ((s : Assignment) → Solves (cells a) s → E s → D s) → Leaves a b E R → Leaves b c R S → Leaves a c D S
-leaves_told a b c D E R S go come f g = goes_on a b c D R S (told a b E D R R go come (λ s r. r) (λ s r. r) f) g
+pub bound_on : (r : Result (Unit {0}) Refusal) (a b c : List Cell) (bs cs ns : Fields) (D E : Assignment → Context → Context → Type 0) → ((H : Context) → Leaves a b (λ s. D s (context s (onto bs ns)) H) (λ s. E s (context s (onto bs ns)) H))
+    → Bound r b c bs cs ns E → Bound r a c bs cs ns D
+bound_on (Ok u) a b c bs cs ns D E f g = let one = f [] in binds_by a c bs cs ns D (λ h. g.sorts (types_keep a b bs one.keeps h)) (λ H. goes_on a b c _ _ _ (f H) (binds_at b c bs cs ns E (Ok u) g H))
+bound_on (Err e) a b c bs cs ns D E f g = refuses_each a (λ s. D s (context s (onto bs ns))) e (λ H. leads_on (Err e) a b c _ _ (λ s. Unit {0}) (f H) (binds_at b c bs cs ns E (Err e) g H))
 
 module _ (k : Known) (ns : Fields) where
   abbrev pub Outside : Assignment → Name → Ground → Type 0
   Outside s = NameTypes (sorts k) (context s ns)
 
-  module _ (a : Typing) (bs : Fields) (t : ℕ) (ready : Ready k a (onto bs ns) (t ∷ [])) where
+  module _ (a : List Cell) (bs : Fields) (ready : Ready k a (onto bs ns) []) where
     -- what binds nothing
-    pub tests_only : (b : Typing) (E : Fact) → Asks a b E → Binds a b bs bs ns (λ s G H. E s × (H ≡ G))
-    tests_only b E f = record {
-      follows = f.follows;
-      sorts = λ p h. let w = f.follows p in types_keep (cells a) (cells b) bs w.keeps h;
-      down = λ s H p h d.
-          let w = f.down s p h d.0 in
-          let u = w.1 in
-          (w.0, record { to = u.to; agrees = u.agrees; solves = u.solves; holds = same_context (cells a) (onto bs ns) s u.to (ready.bound p) u.agrees ∙ sym d.1 });
-      up = λ s p h. let z = f.up s p h tt in (z.0, (z.1, refl));
+    pub tests_only : (r : Result (Unit {0}) Refusal) (b : List Cell) (E : Fact) → Asked r a b E → Bound r a b bs bs ns (λ s G H. E s × (H ≡ G))
+    tests_only (Ok o) b E f = record {
+      fine = f.fine;
+      keeps = f.keeps;
+      sorts = λ h. types_keep a b bs f.keeps h;
+      down = λ s H h d. let u = f.down s h d.0 in record { to = u.to; agrees = u.agrees; solves = u.solves; holds = same_context a (onto bs ns) s u.to ready.bound u.agrees ∙ sym d.1 };
+      up = λ s h. let z = f.up s h tt in (z.0, (z.1, refl));
     }
+    tests_only (Err e) b E f = refuses_more a _ E e (λ s d. d.1.0) f
+
+  module _ (a : List Cell) (bs : Fields) (t : ℕ) (ready : Ready k a (onto bs ns) (t ∷ [])) where
+    tests : (r : Result (Unit {0}) Refusal) (b : List Cell) (E : Fact) → Asked r a b E → Bound r a b bs bs ns (λ s G H. E s × (H ≡ G))
+    tests = tests_only a bs (ready_nothing k a (onto bs ns) (t ∷ []) ready)
 
     pub any_pattern : Binds a a bs bs ns (λ s. Takes any (Outside s) (s.types t))
-    any_pattern = binds_told a a bs bs ns (λ s G H. Unit {0} × (H ≡ G)) (λ s. Takes any (Outside s) (s.types t)) (λ s G H d. (tt, d)) (λ s G H q d. d.1)
-        (tests_only a (λ s. Unit {0}) (begins a (λ s. Unit {0}) ready.fine))
+    any_pattern = record { fine = ready.fine; keeps = keeps_refl a; sorts = λ h. h; down = λ s H h d. record { to = s; agrees = agrees_refl _ s; solves = h; holds = sym d }; up = λ s h. (h, refl) }
 
-    pub same_pattern : (x : Word) (b : Typing) → Asks a b (λ s. NameTypes (sorts k) (context s ns) x.text (s.types t)) → Binds a b bs bs ns (λ s. Takes (same x) (Outside s) (s.types t))
-    same_pattern x b f = tests_only b (λ s. NameTypes (sorts k) (context s ns) x.text (s.types t)) f
+    pub same_pattern : (r : Result (Unit {0}) Refusal) (x : Word) (b : List Cell) → Asked r a b (λ s. NameTypes (sorts k) (context s ns) x.text (s.types t)) → Bound r a b bs bs ns (λ s. Takes (same x) (Outside s) (s.types t))
+    same_pattern r x b f = tests r b (λ s. NameTypes (sorts k) (context s ns) x.text (s.types t)) f
 
-    pub is_pattern : (v : Value) (n : ℕ) (b : Typing) → Asks a b (IsOfType v t) → Binds a b bs bs ns (λ s. Takes (is v n) (Outside s) (s.types t))
-    is_pattern v n b f = tests_only b (IsOfType v t) f
+    pub is_pattern : (r : Result (Unit {0}) Refusal) (v : Value) (n : ℕ) (b : List Cell) → Asked r a b (IsOfType v t) → Bound r a b bs bs ns (λ s. Takes (is v n) (Outside s) (s.types t))
+    is_pattern r v n b f = tests r b (IsOfType v t) f
 
     pub catch_pattern : (x : Word) → Binds a a bs (bs ++ (x.text, t) ∷ []) ns (λ s. Takes (catch x) (Outside s) (s.types t))
     catch_pattern x = record {
-      follows = λ p. follows_refl a (ready.fine p) p;
-      sorts = λ p h. types_push (cells a) bs (x.text, t) h (ready.wants p).0;
-      down = λ s H p h d. (p, record { to = s; agrees = agrees_refl _ s; solves = h; holds = ap (context s) (onto_push bs ns (x.text, t)) ∙ sym d });
-      up = λ s p h. (h, ap (context s) (onto_push bs ns (x.text, t)));
+      fine = ready.fine;
+      keeps = keeps_refl a;
+      sorts = λ h. types_push a bs (x.text, t) h ready.wants.0;
+      down = λ s H h d. record { to = s; agrees = agrees_refl _ s; solves = h; holds = ap (context s) (onto_push bs ns (x.text, t)) ∙ sym d };
+      up = λ s h. (h, ap (context s) (onto_push bs ns (x.text, t)));
     }
 
-    module _ (b c : Typing) (cs : Fields) where
-      pub variant_pattern : (l : Word) (q : Pat) (i : ℕ) → Gets a b i (VariantOf l.text t) → Binds b c bs cs ns (λ s. Takes q (Outside s) (s.types i)) → Binds a c bs cs ns (λ s. Takes (variant l q) (Outside s) (s.types t))
-      variant_pattern l q i g h = binds_by a c bs cs ns (λ s. Takes (variant l q) (Outside s) (s.types t))
-          (λ p k2. let w = g.follows (h.follows p).was in h.sorts p (types_keep (cells a) (cells b) bs w.keeps k2))
-          (λ H. leaves_told a b c _ _ _ _
+    module _ (l : Word) (q : Pat) where
+      variant_seen : (H : Context) → Leaves a a (λ s. Takes (variant l q) (Outside s) (s.types t) (context s (onto bs ns)) H) (λ s. (u : Ground) × IsGround u × VariantOf l.text t u s × Takes q (Outside s) u (context s (onto bs ns)) H)
+      variant_seen H = restated a _ _ ready.fine
           (λ s e. (e.1, at_ground l.text e.0 e.1 (subst IsGround e.2 (s.types_ground t)).1 e.3, (e.0, e.2, e.3), e.4))
           (λ s z e. (e.2.0, e.0, e.2.1, e.2.2, e.3))
+
+      pub variant_refused : (e : Refusal) → Refuses a (λ s. (u : Ground) × IsGround u × VariantOf l.text t u s) e → Refuses a (λ s. (H : Context) × Takes (variant l q) (Outside s) (s.types t) (context s (onto bs ns)) H) e
+      variant_refused e f = refuses_each a (λ s. Takes (variant l q) (Outside s) (s.types t) (context s (onto bs ns))) e
+          (λ H. leads_on (Err e) a a a _ _ (λ s. Unit {0}) (variant_seen H) (opens_none a (VariantOf l.text t) (λ u s. Takes q (Outside s) u (context s (onto bs ns)) H) e f))
+
+      pub variant_pattern : (r : Result (Unit {0}) Refusal) (b c : List Cell) (cs : Fields) (i : ℕ) → Gets a b i (VariantOf l.text t) → Bound r b c bs cs ns (λ s. Takes q (Outside s) (s.types i)) → Bound r a c bs cs ns (λ s. Takes (variant l q) (Outside s) (s.types t))
+      variant_pattern r b c cs i g h = bound_on r a b c bs cs ns (λ s. Takes (variant l q) (Outside s) (s.types t)) (λ s. Takes q (Outside s) (s.types i))
+          (λ H. goes_on a a b _ _ _ (variant_seen H)
           (opens a b i (VariantOf l.text t) (λ u s. Takes q (Outside s) u (context s (onto bs ns)) H)
-          (λ p u s v ag d. subst (λ (G : Context). Takes q (NameTypes (sorts k) G) u (context v (onto bs ns)) H) (sym (same_context (cells a) ns s v ((types_split (cells a) bs ns (ready.bound p)).1) ag))
-          (subst (λ (G : Context). Takes q (NameTypes (sorts k) (context s ns)) u G H) (sym (same_context (cells a) (onto bs ns) s v (ready.bound p) ag)) d)) g)
-          (binds_at b c bs cs ns (λ s. Takes q (Outside s) (s.types i)) h H))
+          (λ u s v ag d. subst (λ (G : Context). Takes q (NameTypes (sorts k) G) u (context v (onto bs ns)) H) (sym (same_context a ns s v ((types_split a bs ns ready.bound).1) ag))
+          (subst (λ (G : Context). Takes q (NameTypes (sorts k) (context s ns)) u G H) (sym (same_context a (onto bs ns) s v ready.bound ag)) d)) g)) h
 
 -- ---- record patterns
 
@@ -157,32 +164,34 @@ module _ (out : Name → Ground → Type 0) (r : Row) where
   takes_join (p ∷ ps) [] G H h k = absurd h
   takes_join (p ∷ ps) (t ∷ ts) G H h k = (t, k.0, h.0, k.1, takes_join ps ts k.0 H h.1 k.2)
 
-module _ (k : Known) (ns : Fields) (a b c d : Typing) (bs cs : Fields) (t : ℕ) (ready : Ready k a (onto bs ns) (t ∷ [])) (is : List ℕ) where
+module _ (k : Known) (ns : Fields) (a : List Cell) (bs : Fields) (t : ℕ) (ready : Ready k a (onto bs ns) (t ∷ [])) (is : List ℕ) where
   -- two contexts at once
-  said_twice : (x : Typing) (ws : List ℕ) (P : Context → Context → List Ground → Type 0) → Ready k x (onto bs ns) ws → IsTrue x.possible → Stable (length (cells x)) (λ s. P (context s ns) (context s (onto bs ns)) (map s.types ws))
-  said_twice x ws P r p s u ag d =
-      subst (λ (G : Context). P G (context u (onto bs ns)) (map u.types ws)) (sym (same_context (cells x) ns s u ((types_split (cells x) bs ns (r.bound p)).1) ag))
-      (said k x (onto bs ns) ws (λ G ts. P (context s ns) G ts) r p s u ag d)
+  said_twice : (x : List Cell) (ws : List ℕ) (P : Context → Context → List Ground → Type 0) → Ready k x (onto bs ns) ws → Stable (length x) (λ s. P (context s ns) (context s (onto bs ns)) (map s.types ws))
+  said_twice x ws P r s u ag d =
+      subst (λ (G : Context). P G (context u (onto bs ns)) (map u.types ws)) (sym (same_context x ns s u ((types_split x bs ns r.bound).1) ag))
+      (said k x (onto bs ns) ws (λ G ts. P (context s ns) G ts) r s u ag d)
 
-  pub record_pattern : (ps : PatList) (dots : Bool) → length is ≡ length ps → GetsMany a b is (length ps) → Asks b c (IsRecord dots (labelled (names_of ps) is) t)
-      → Binds c d bs cs ns (λ s. TakesAll (pats_of ps) (Outside k ns s) (map s.types is)) → Binds a d bs cs ns (λ s. Takes (shape (pats_of ps) dots) (Outside k ns s) (s.types t))
-  record_pattern ps dots e g f h =
-      let ls = names_of ps in
-      let el : length is ≡ length ls = e ∙ sym (length_names ps) in
-      let rb : Ready k b (onto bs ns) is = ready_for k b (onto bs ns) (t ∷ []) is g.sorts (ready_on k a b (onto bs ns) (t ∷ []) g.follows ready) in
-      binds_by a d bs cs ns (λ s. Takes (shape (pats_of ps) dots) (Outside k ns s) (s.types t))
-      (λ p k2.
-      let w = h.follows p in
-      let v = f.follows w.was in
-      let u = g.follows v.was in
-      h.sorts p (types_keep (cells b) (cells c) bs v.keeps (types_keep (cells a) (cells b) bs u.keeps k2)))
-      (λ H. leaves_told a b d _ _ _ _
-      (λ s o.
-      let v = takes_split (Outside k ns s) o.0 ps (context s (onto bs ns)) H o.3 in
-      (v.0, each_length o.0 ls v.0 v.1 ∙ length_names ps, each_ground o.0 ls v.0 (subst IsGround o.1 (s.types_ground t)) v.1, ((o.0, o.1, v.1, whole_within dots ps o.0 o.2), v.2)))
-      (λ s z o. let v = o.3.0 in (v.0, v.1, within_whole dots ps v.0 v.3, takes_join (Outside k ns s) v.0 ps o.0 (context s (onto bs ns)) H v.2 o.3.1))
-      (opens_many a b is (length ps) (λ ts s. RecordAt dots ls (s.types t) ts × TakesAll (pats_of ps) (Outside k ns s) ts (context s (onto bs ns)) H)
-      (λ p ts. said_twice a (t ∷ []) (λ G G2 us. RecordAt dots ls (first us) ts × TakesAll (pats_of ps) (NameTypes (sorts k) G) ts G2 H) ready p) g)
-      (goes_on b c d _ _ _ (beside b c (λ s. RecordAt dots ls (s.types t) (map s.types is)) (λ s. TakesAll (pats_of ps) (Outside k ns s) (map s.types is) (context s (onto bs ns)) H)
-      (λ p. said_twice b is (λ G G2 us. TakesAll (pats_of ps) (NameTypes (sorts k) G) us G2 H) rb p) (record_at b c dots ls is t el f))
-      (binds_at c d bs cs ns (λ s. TakesAll (pats_of ps) (Outside k ns s) (map s.types is)) h H)))
+  module _ (b : List Cell) (ps : PatList) (dots : Bool) (g : GetsMany a b is (length ps)) where
+    pub record_asked : (r : Result (Unit {0}) Refusal) (c : List Cell) (H : Context) → Asked r b c (IsRecord dots (labelled (names_of ps) is) t)
+        → Leads r a c (λ s. Takes (shape (pats_of ps) dots) (Outside k ns s) (s.types t) (context s (onto bs ns)) H) (λ s. TakesAll (pats_of ps) (Outside k ns s) (map s.types is) (context s (onto bs ns)) H)
+    record_asked r c H f =
+        let ls = names_of ps in
+        let el : length is ≡ length ls = g.size ∙ sym (length_names ps) in
+        leads_on r a b c _ _ _
+        (goes_on a a b _ _ _
+        (restated a _ (λ s. (ts : List Ground) × (length ts ≡ length ps) × AllByRecursion IsGround ts × (RecordAt dots ls (s.types t) ts × TakesAll (pats_of ps) (Outside k ns s) ts (context s (onto bs ns)) H)) ready.fine
+        (λ s o.
+        let v = takes_split (Outside k ns s) o.0 ps (context s (onto bs ns)) H o.3 in
+        (v.0, each_length o.0 ls v.0 v.1 ∙ length_names ps, each_ground o.0 ls v.0 (subst IsGround o.1 (s.types_ground t)) v.1, ((o.0, o.1, v.1, whole_within dots ps o.0 o.2), v.2)))
+        (λ s z o. let v = o.3.0 in (v.0, v.1, within_whole dots ps v.0 v.3, takes_join (Outside k ns s) v.0 ps o.0 (context s (onto bs ns)) H v.2 o.3.1)))
+        (opens_many a b is (length ps) (λ ts s. RecordAt dots ls (s.types t) ts × TakesAll (pats_of ps) (Outside k ns s) ts (context s (onto bs ns)) H)
+        (λ ts. said_twice a (t ∷ []) (λ G G2 us. RecordAt dots ls (first us) ts × TakesAll (pats_of ps) (NameTypes (sorts k) G) ts G2 H) ready) g))
+        (beside r b c (λ s. RecordAt dots ls (s.types t) (map s.types is)) (λ s. TakesAll (pats_of ps) (Outside k ns s) (map s.types is) (context s (onto bs ns)) H)
+        (said_twice b is (λ G G2 us. TakesAll (pats_of ps) (NameTypes (sorts k) G) us G2 H) (ready_many k a b (onto bs ns) (t ∷ []) is (length ps) g ready)) (record_at r b c dots ls is t el f))
+
+    pub record_refused : (c : List Cell) (e : Refusal) → Refuses b (IsRecord dots (labelled (names_of ps) is) t) e → Refuses a (λ s. (H : Context) × Takes (shape (pats_of ps) dots) (Outside k ns s) (s.types t) (context s (onto bs ns)) H) e
+    record_refused c e f = refuses_each a (λ s. Takes (shape (pats_of ps) dots) (Outside k ns s) (s.types t) (context s (onto bs ns))) e (λ H. record_asked (Err e) c H f)
+
+    pub record_pattern : (r : Result (Unit {0}) Refusal) (c d : List Cell) (cs : Fields) → Asks b c (IsRecord dots (labelled (names_of ps) is) t)
+        → Bound r c d bs cs ns (λ s. TakesAll (pats_of ps) (Outside k ns s) (map s.types is)) → Bound r a d bs cs ns (λ s. Takes (shape (pats_of ps) dots) (Outside k ns s) (s.types t))
+    record_pattern r c d cs f h = bound_on r a c d bs cs ns (λ s. Takes (shape (pats_of ps) dots) (Outside k ns s) (s.types t)) (λ s. TakesAll (pats_of ps) (Outside k ns s) (map s.types is)) (λ H. record_asked (Ok tt) c H f) h

@@ -1,5 +1,5 @@
 -- One declaration after another.
-use Rattle.std.proofs.Common.{◌≡◌, inl, inr, ℕ, suc, ◌+◌, ◌<◌, ◌≤◌, Bool, true, false, List, [], ◌∷◌, ◌++◌, cond, length, take, drop, get_or, Option, Some, None, MatchOption, option_map, refl, sym, ap, ◌∙◌, subst, arith}
+use Rattle.std.proofs.Common.{◌≡◌, inl, inr, ℕ, suc, ◌+◌, ◌<◌, ◌≤◌, Bool, true, false, List, [], ◌∷◌, ◌++◌, cond, length, take, drop, get_or, Option, Some, None, option_map, refl, sym, ap, ◌∙◌, subst, arith}
 use Rattle.std.specs.Prelude.{nat_eq, All}
 use Rattle.std.proofs.lemmas.List.Elements.{All-head, All-tail}
 use Rattle.std.proofs.lemmas.List.{take-append-drop, length-take, take_more, take_all}
@@ -17,7 +17,10 @@ use Rattle.kl_syntax.specs.View.{view, pattern_view, decls_of, decl_of}
 use Rattle.kl_meaning.specs.Match.{same_name}
 use Rattle.kl_meaning.specs.Run.{code_named}
 use Rattle.kl_meaning.specs.Typing.{Sort, value_of, function_of, KnownTypes as Sorts, with_sort, sort_if, sort_at, sort_by_code, types_at_first, types_after, Types, FunctionTypes, EachTyped}
-use Rattle.kl_infer.specs.Declaring.{Declared, NoType, IsAt}
+use Rattle.kl_infer.specs.Asking.{OnNoType}
+use Rattle.kl_infer.specs.Declaring.{Declared, HasNoType, IsAt}
+use Rattle.kl_infer.specs.declared.refusal.Refusal.{Refusal}
+use Rattle.kl_infer.specs.declared.refusal.Refusal.TheVariants.{NoType, NoMemory as WantOfMemory}
 use Rattle.kl_infer.specs.Inferred.{IsPrincipal, IsArrow, HaveSchemes, FailsAt, Infers, types_of}
 use Rattle.kl_infer.specs.Refusing.{IsRefusal}
 use Rattle.kl_infer.specs.declared.typed.Typed.{Typed}
@@ -73,7 +76,7 @@ declared_type None d K p h = h.has_one
 
 -- ---- where a program fails
 
-fails_here : (o : Option Pattern) (d : Decl) (ds : Decls) (last : Exp) (K : Sorts) → NoType o d K → FailsAt (decl_of o d ds) last K 0
+fails_here : (o : Option Pattern) (d : Decl) (ds : Decls) (last : Exp) (K : Sorts) → HasNoType o d K → FailsAt (decl_of o d ds) last K 0
 fails_here (Some q) d ds last K h = inl (refl, h)
 fails_here None d ds last K h = inl (refl, h)
 
@@ -81,11 +84,11 @@ fails_behind : (o : Option Pattern) (d : Decl) (ds : Decls) (last : Exp) (K : So
 fails_behind (Some q) d ds last K n h f = inr (n, refl, h, f)
 fails_behind None d ds last K n h f = inr (n, refl, h, f)
 
-pub fails_at : (ds : List Decl) (d : Decl) (more : List Decl) (last : Exp) (K : Sorts) (ss : List Scheme) → HaveSchemes (decls_of ds) K ss → NoType d.param d (behind_all ds K) → FailsAt (decls_of (ds ++ d ∷ more)) last K (length ds)
+pub fails_at : (ds : List Decl) (d : Decl) (more : List Decl) (last : Exp) (K : Sorts) (ss : List Scheme) → HaveSchemes (decls_of ds) K ss → HasNoType d.param d (behind_all ds K) → FailsAt (decls_of (ds ++ d ∷ more)) last K (length ds)
 fails_at [] d more last K ss h g = fails_here d.param d (decls_of more) last K g
 fails_at (e ∷ ds) d more last K ss h g =
     let w = have_split e.param e (decls_of ds) K ss h in
-    fails_behind e.param e (decls_of (ds ++ d ∷ more)) last K (length ds) (declared_type e.param e K w.0 w.3) (fails_at ds d more last (behind_one e.param e K) w.1 w.4 (after_back e.param e (decls_of ds) K (λ J. NoType d.param d J) g))
+    fails_behind e.param e (decls_of (ds ++ d ∷ more)) last K (length ds) (declared_type e.param e K w.0 w.3) (fails_at ds d more last (behind_one e.param e K) w.1 w.4 (after_back e.param e (decls_of ds) K (λ J. HasNoType d.param d J) g))
 
 pub fails_last : (ds : List Decl) (last : Exp) (K : Sorts) (ss : List Scheme) → HaveSchemes (decls_of ds) K ss → ((t : Ground) → Types last (behind_all ds K) [] t → ⊥) → FailsAt (decls_of ds) last K (length ds)
 fails_last [] last K ss h g = (refl, g)
@@ -107,13 +110,13 @@ each_typed (e ∷ ds) K ss h =
     let w = have_split e.param e (decls_of ds) K ss h in
     each_join e.param e (decls_of ds) K (declared_type e.param e K w.0 w.3) (each_typed ds (behind_one e.param e K) w.1 w.4)
 
-no_and_has : (o : Option Pattern) (d : Decl) (K : Sorts) → NoType o d K → HasType o d K → ⊥
+no_and_has : (o : Option Pattern) (d : Decl) (K : Sorts) → HasNoType o d K → HasType o d K → ⊥
 no_and_has (Some q) d K h j = h j.0 j.1 j.2
 no_and_has None d K h j = h j.0 j.1
 
-pub not_each : (ds : List Decl) (d : Decl) (more : List Decl) (K : Sorts) → NoType d.param d (behind_all ds K) → EachTyped (decls_of (ds ++ d ∷ more)) K → ⊥
+pub not_each : (ds : List Decl) (d : Decl) (more : List Decl) (K : Sorts) → HasNoType d.param d (behind_all ds K) → EachTyped (decls_of (ds ++ d ∷ more)) K → ⊥
 not_each [] d more K g h = no_and_has d.param d K g (each_split d.param d (decls_of more) K h).0
-not_each (e ∷ ds) d more K g h = not_each ds d more (behind_one e.param e K) (after_back e.param e (decls_of ds) K (λ J. NoType d.param d J) g) (each_split e.param e (decls_of (ds ++ d ∷ more)) K h).1
+not_each (e ∷ ds) d more K g h = not_each ds d more (behind_one e.param e K) (after_back e.param e (decls_of ds) K (λ J. HasNoType d.param d J) g) (each_split e.param e (decls_of (ds ++ d ∷ more)) K h).1
 
 -- ---- the code's names and the definition's
 
@@ -174,7 +177,7 @@ good_if false m n h g = g
 
 good_declared : (o : Option Pattern) (d : Decl) (K : Sorts) (p : Scheme) → Declared o d K p → IsGood (defined o p)
 good_declared (Some q) d K p h = (h.good, h.sort_is)
-good_declared None d K p h = (h.good, h.sort_is)
+good_declared None d K p h = (h.good, h.sort_is, (h.has_one.0, (h.instances h.has_one.0).1 h.has_one.1))
 
 pub good_after : (ds more : List Decl) (K : Sorts) (ss : List Scheme) (x : Name) (m : Meant) → HaveSchemes (decls_of ds) K ss → IsGood m → IsGood (meant_over x (ds ++ more) ss m)
 good_after [] more K ss x m h g = subst (λ (z : List Scheme). IsGood (meant_over x more z m)) (sym h) (subst IsGood (sym (over_none x more m)) g)
@@ -239,7 +242,7 @@ module _ (K J : Sorts) (alike : (x : Name) → AreAlike (K x) (J x)) where
       (arrow_map (FunctionTypes K (pattern_view q) (view d.body)) (FunctionTypes J (pattern_view q) (view d.body)) (function_within K J (λ x. (alike x).0) (pattern_view q) (view d.body))) h
   declared_alike None d p h = principal_alike (view d.body) p h
 
-  pub none_alike : (o : Option Pattern) (d : Decl) → NoType o d J → NoType o d K
+  pub none_alike : (o : Option Pattern) (d : Decl) → HasNoType o d J → HasNoType o d K
   none_alike (Some q) d h = λ s t f. h s t (function_within K J (λ x. (alike x).0) (pattern_view q) (view d.body) s t f)
   none_alike None d h = λ t f. h t (forth (view d.body) t f)
 
@@ -266,9 +269,10 @@ module _ (known : Known) (defs : List Decl) (ss : List Scheme) (sources : List (
   split_at : (d : Decl) → n < length defs → d ≡ get_or defs n d → take n defs ++ d ∷ drop (n + 1) defs ≡ defs
   split_at d lt e = ap (λ (z : List Decl). take n defs ++ z) (sym (drop_at defs n d lt e)) ∙ take-append-drop n defs
 
-  pub refuses : (d : Decl) (last : Exp) (why : InferError) → n < length defs → d ≡ get_or defs n d → NoType d.param d (sorts known) → IsAt n why → IsRefusal (decls_of defs) last (types_of sources) why
-  refuses d last NoMemory lt e h at = tt
-  refuses d last (IllTyped m) lt e h at =
+  pub refuses : (d : Decl) (last : Exp) (why : InferError) (refusal : Refusal) → n < length defs → d ≡ get_or defs n d → OnNoType refusal (HasNoType d.param d (sorts known)) → IsAt n refusal why → IsRefusal (decls_of defs) last (types_of sources) why
+  refuses d last NoMemory refusal lt e h at = tt
+  refuses d last (IllTyped m) WantOfMemory lt e h at = absurd at
+  refuses d last (IllTyped m) NoType lt e h at =
       let K = types_at_first (types_of sources) in
       let none = none_alike (behind_all (take n defs) K) (sorts known) known_alike d.param d h in
       let long : length (take n defs) ≡ n = length-take n defs ∙ omega arith in
@@ -292,9 +296,10 @@ module _ (known : Known) (defs : List Decl) (ss : List Scheme) (sources : List (
         has_typing = (each_typed defs K ss all, main.has_one);
       }
 
-  pub refuses_last : (last : Exp) (why : InferError) → length defs ≤ n → ((t : Ground) → Types last (sorts known) [] t → ⊥) → IsAt (length defs) why → IsRefusal (decls_of defs) last (types_of sources) why
-  refuses_last last NoMemory le h at = tt
-  refuses_last last (IllTyped m) le h at =
+  pub refuses_last : (last : Exp) (why : InferError) (refusal : Refusal) → length defs ≤ n → OnNoType refusal ((t : Ground) → Types last (sorts known) [] t → ⊥) → IsAt (length defs) refusal why → IsRefusal (decls_of defs) last (types_of sources) why
+  refuses_last last NoMemory refusal le h at = tt
+  refuses_last last (IllTyped m) WantOfMemory le h at = absurd at
+  refuses_last last (IllTyped m) NoType le h at =
       let K = types_at_first (types_of sources) in
       let all = subst (λ (z : List Decl). HaveSchemes (decls_of z) K ss) (at_end le) have in
       let none : (t : Ground) → Types last (types_after (decls_of defs) K) [] t → ⊥ = subst (λ (z : List Decl). (t : Ground) → Types last (types_after (decls_of z) K) [] t → ⊥) (at_end le) (λ t f. h t (forth (behind_all (take n defs) K) (sorts known) known_alike last t f)) in
@@ -302,9 +307,3 @@ module _ (known : Known) (defs : List Decl) (ss : List Scheme) (sources : List (
         fails = subst (λ (z : ℕ). FailsAt (decls_of defs) last K z) (sym at) (fails_last defs last K ss all none);
         none = λ t. none t.1.0 t.1.1;
       }
-
-pub at_none : (o : Option Scheme) (A : Type 0) (B : Scheme → Type 0) → o ≡ None → MatchOption o A B → A
-at_none o A B e h = subst (λ (z : Option Scheme). MatchOption z A B) e h
-
-pub at_some : (o : Option Scheme) (p : Scheme) (A : Type 0) (B : Scheme → Type 0) → o ≡ Some p → MatchOption o A B → B p
-at_some o p A B e h = subst (λ (z : Option Scheme). MatchOption z A B) e h

@@ -1,5 +1,5 @@
--- What names stand for.
-use Rattle.std.specs.Prelude.{◌≡◌, ℕ, IsTrue, List, [], ◌∷◌, cond, Option, Some, None, ⊤}
+-- What names stand for. No public contract cites this.
+use Rattle.std.specs.Prelude.{◌≡◌, ℕ, List, [], ◌∷◌, cond, Option, Some, None, ⊤}
 use Rattle.std.specs.List.{AllByRecursion}
 use Rattle.kl_base.specs.Fields.{field}
 use Rattle.kl_type.specs.Ground.{Ground, IsProper, arrow, ground_of}
@@ -15,8 +15,8 @@ use Rattle.kl_meaning.specs.Match.{same_name}
 use Rattle.kl_meaning.specs.Run.{code_named}
 use Rattle.kl_syntax.specs.Syntax.{Pats, no_pats, pats, Branches, no_branches, branch}
 use Rattle.kl_meaning.specs.Typing.{Sort, nothing, value_of, function_of, primitive, Context, NameTypes, Takes, Types}
-use Rattle.kl_infer.specs.Asking.{cells, onto}
-use Rattle.kl_infer.specs.declared.typing.Typing.{Typing}
+use Rattle.kl_rows.specs.declared.cell.Cell.{Cell}
+use Rattle.kl_infer.specs.Asking.{onto}
 use Rattle.kl_infer.specs.declared.scope.Scope.{Scope}
 use Rattle.kl_infer.specs.declared.scope.Scope.TheVariants.{Empty, Block'}
 use Rattle.kl_infer.specs.declared.scope.Known.{Known}
@@ -85,17 +85,17 @@ sorts k x = sort_of (meant k x)
 
 abbrev pub IsGood : Meant → Type 0
 IsGood no_sense = Unit {0}
-IsGood (by_value s) = IsScheme s × (sort_at (cells_of s.nodes) s.root ≡ Some a_type)
+IsGood (by_value s) = IsScheme s × (sort_at (cells_of s.nodes) s.root ≡ Some a_type) × ((t : Ground) × Instance s t)
 IsGood (by_function s) = IsScheme s × (sort_at (cells_of s.nodes) s.root ≡ Some a_function)
 IsGood (by_source t) = IsProper t
 IsGood (by_code c) = Unit {0}
 
 -- schemes are of the right sorts, and so are the numbers of the variables and these
-pub record Ready (known : Known) (t : Typing) (ns : Fields) (ws : List ℕ) : Type 0 where
+pub record Ready (known : Known) (cells : List Cell) (ns : Fields) (ws : List ℕ) : Type 0 where
   pub good : (x : Name) → IsGood (meant known x)
-  pub fine : IsTrue t.possible → IsFine (cells t)
-  pub bound : IsTrue t.possible → AreTypes (cells t) ns
-  pub wants : IsTrue t.possible → AllByRecursion (IsType (cells t)) ws
+  pub fine : IsFine cells
+  pub bound : AreTypes cells ns
+  pub wants : AllByRecursion (IsType cells) ws
 
 -- labels with numbers, one each
 abbrev pub labelled : List Name → List ℕ → Fields

@@ -1,4 +1,4 @@
--- Rows in a scheme's table.
+-- Rows in a scheme's table. No public contract cites this.
 use Rattle.std.specs.Prelude.{◌≡◌, ℕ, ◌<◌, ◌≤◌, Bool, true, false, Option, None, List, [], ◌∷◌, ◌++◌, length, Some, slice_get, codes}
 use Rattle.std.specs.List.{AllByRecursion}
 use Rattle.kl_value.specs.declared.Kind.{Kind}

@@ -1,14 +1,15 @@
 //! Types of expressions.
-ghost use Rattle.std.specs.Prelude.{◌≡◌, IsTrue, ◌∷◌, [], IfOk, length, map};
+ghost use Rattle.std.specs.Prelude.{◌≡◌, ◌∷◌, [], IfOk, length, map};
 ghost use Rattle.kl_rows.specs.Places.{IsFine, IsType};
 ghost use Rattle.kl_syntax.specs.declared.tree.Branch.{out-Branch};
-ghost use Rattle.kl_syntax.specs.Syntax.{Quals, no_branches};
+ghost use Rattle.kl_syntax.specs.Syntax.{no_branches, no_quals};
 ghost use Rattle.kl_syntax.specs.View.{view, qual_view, branch_view, exps_of, exps_view, quals_view, branches_of, steps_view};
 ghost use Rattle.kl_meaning.specs.Typing.{Types, AllTypes, EachType, PathTypes, QualTypes, StepTypes};
-ghost use Rattle.kl_infer.specs.Asking.{Asks, Binds, Binding, context, onto};
+ghost use Rattle.kl_infer.specs.Asking.{Asked, Bound, cells, context, onto};
 ghost use Rattle.kl_infer.specs.Names.{Ready, ArmsTake, labelled, names, sorts};
 
 use crate::patterns::labelled;
+use crate::refusal::Refusal;
 use crate::scope::{Known, Scope};
 use crate::typing::Typing;
 use kl_base::{Label, NoMemory};
@@ -24,13 +25,10 @@ impl Typing {
         known: &Known,
         scope: &Scope,
         want: u64,
-    ) -> Result<(), NoMemory>
-        requires { Ready known.now self.old (names scope.now) (want ∷ []) }
-        ensures { IfOk result (λ _. Asks self.old self.new (λ s. Types (view e.now) (sorts known.now) (context s (names scope.now)) (s.types want))) }
+    ) -> Result<(), Refusal>
+        requires { Ready known.now (cells self.old) (names scope.now) (want ∷ []) }
+        ensures { Asked result (cells self.old) (cells self.new) (λ s. Types (view e.now) (sorts known.now) (context s (names scope.now)) (s.types want)) }
     {
-        if !self.possible {
-            return Ok(());
-        }
         match e {
             Expr::Const(v) => self.value(v, want),
             Expr::Name(x) => self.name(&x.text, known, scope, want),
@@ -118,11 +116,11 @@ impl Typing {
         known: &Known,
         scope: &Scope,
         types: &[u64],
-    ) -> Result<(), NoMemory>
-        requires ready { Ready known.now self.old (names scope.now) types.now }
+    ) -> Result<(), Refusal>
+        requires ready { Ready known.now (cells self.old) (names scope.now) types.now }
         requires size { length types.now ≡ length es.now }
-        ensures { IfOk result (λ _. Asks self.old self.new (λ s. AllTypes (exps_view es.now)
-            (sorts known.now) (context s (names scope.now)) (map s.types types.now))) }
+        ensures { Asked result (cells self.old) (cells self.new) (λ s. AllTypes (exps_view es.now)
+            (sorts known.now) (context s (names scope.now)) (map s.types types.now)) }
     {
         'es: for i in 0..es.len() {
             self.check(&es[i], known, scope, types[i])?;
@@ -137,11 +135,11 @@ impl Typing {
         known: &Known,
         scope: &Scope,
         types: &[u64],
-    ) -> Result<(), NoMemory>
-        requires ready { Ready known.now self.old (names scope.now) types.now }
+    ) -> Result<(), Refusal>
+        requires ready { Ready known.now (cells self.old) (names scope.now) types.now }
         requires size { length types.now ≡ length fields.now }
-        ensures { IfOk result (λ _. Asks self.old self.new (λ s. AllTypes (exps_of (map (λ f. view f.1) fields.now))
-            (sorts known.now) (context s (names scope.now)) (map s.types types.now))) }
+        ensures { Asked result (cells self.old) (cells self.new) (λ s. AllTypes (exps_of (map (λ f. view f.1) fields.now))
+            (sorts known.now) (context s (names scope.now)) (map s.types types.now)) }
     {
         'fields: for i in 0..fields.len() {
             self.check(&fields[i].1, known, scope, types[i])?;
@@ -157,9 +155,10 @@ impl Typing {
         known: &Known,
         scope: &Scope,
         item: u64,
-    ) -> Result<(), NoMemory>
-        requires { Ready known.now self.old (names scope.now) (item ∷ []) }
-        ensures { IfOk result (λ _. Asks self.old self.new (λ s. EachType (exps_view es.now) (sorts known.now) (context s (names scope.now)) (s.types item))) }
+    ) -> Result<(), Refusal>
+        requires { Ready known.now (cells self.old) (names scope.now) (item ∷ []) }
+        ensures { Asked result (cells self.old) (cells self.new) (λ s. EachType (exps_view es.now)
+            (sorts known.now) (context s (names scope.now)) (s.types item)) }
     {
         'es: for i in 0..es.len() {
             self.check(&es[i], known, scope, item)?;
@@ -175,10 +174,10 @@ impl Typing {
         known: &Known,
         scope: &Scope,
         block: &mut Vec<(Label, u64)>,
-    ) -> Result<(), NoMemory>
-        requires { Ready known.now self.old (onto block.old.items (names scope.now)) [] }
-        ensures { IfOk result (λ _. Binds self.old self.new block.old.items block.new.items (names scope.now) (λ s. QualTypes (quals_view quals.now)
-            (sorts known.now))) }
+    ) -> Result<(), Refusal>
+        requires { Ready known.now (cells self.old) (onto block.old.items (names scope.now)) [] }
+        ensures { Bound result (cells self.old) (cells self.new) block.old.items block.new.items (names scope.now)
+            (λ s. QualTypes (quals_view quals.now) (sorts known.now)) }
     {
         'quals: for i in 0..quals.len() {
             self.check_qual(&quals[i], known, scope, block)?;
@@ -193,10 +192,10 @@ impl Typing {
         known: &Known,
         scope: &Scope,
         block: &mut Vec<(Label, u64)>,
-    ) -> Result<(), NoMemory>
-        requires { Ready known.now self.old (onto block.old.items (names scope.now)) [] }
-        ensures { IfOk result (λ _. (rest : Quals) → Binding self.old self.new block.old.items block.new.items (names scope.now)
-            (λ s. QualTypes (qual_view qual.now rest) (sorts known.now)) (λ s. QualTypes rest (sorts known.now))) }
+    ) -> Result<(), Refusal>
+        requires { Ready known.now (cells self.old) (onto block.old.items (names scope.now)) [] }
+        ensures { Bound result (cells self.old) (cells self.new) block.old.items block.new.items (names scope.now)
+            (λ s. QualTypes (qual_view qual.now no_quals) (sorts known.now)) }
     {
         match qual {
             Qual::Gen(p, source) => {
@@ -226,11 +225,11 @@ impl Typing {
         scope: &Scope,
         types: &[u64],
         want: u64,
-    ) -> Result<(), NoMemory>
-        requires ready { Ready known.now self.old (names scope.now) (want ∷ types.now) }
+    ) -> Result<(), Refusal>
+        requires ready { Ready known.now (cells self.old) (names scope.now) (want ∷ types.now) }
         requires size { length types.now ≡ length branches.now }
-        ensures { IfOk result (λ _. Asks self.old self.new (λ s. ArmsTake (branches_of (map branch_view branches.now) no_branches)
-            (sorts known.now) (context s (names scope.now)) (map s.types types.now) (s.types want))) }
+        ensures { Asked result (cells self.old) (cells self.new) (λ s. ArmsTake (branches_of (map branch_view branches.now) no_branches)
+            (sorts known.now) (context s (names scope.now)) (map s.types types.now) (s.types want)) }
     {
         'branches: for i in 0..branches.len() {
             self.check_branch(&branches[i], known, scope, types[i], want)?;
@@ -246,10 +245,10 @@ impl Typing {
         scope: &Scope,
         t: u64,
         want: u64,
-    ) -> Result<(), NoMemory>
-        requires { Ready known.now self.old (names scope.now) (t ∷ want ∷ []) }
-        ensures { IfOk result (λ _. Asks self.old self.new (λ s. ArmsTake (branch_view branch.now no_branches)
-            (sorts known.now) (context s (names scope.now)) (s.types t ∷ []) (s.types want))) }
+    ) -> Result<(), Refusal>
+        requires { Ready known.now (cells self.old) (names scope.now) (t ∷ want ∷ []) }
+        ensures { Asked result (cells self.old) (cells self.new) (λ s. ArmsTake (branch_view branch.now no_branches)
+            (sorts known.now) (context s (names scope.now)) (s.types t ∷ []) (s.types want)) }
     {
         let mut bound = Vec::new(self.unifier.alloc);
         self.takes(&branch.pat, known, scope, t, &mut bound)?;
@@ -264,10 +263,10 @@ impl Typing {
         scope: &Scope,
         first: u64,
         want: u64,
-    ) -> Result<(), NoMemory>
-        requires { Ready known.now self.old (names scope.now) (first ∷ want ∷ []) }
-        ensures { IfOk result (λ _. Asks self.old self.new (λ s. StepTypes (steps_view steps.now)
-            (sorts known.now) (context s (names scope.now)) (s.types first) (s.types want))) }
+    ) -> Result<(), Refusal>
+        requires { Ready known.now (cells self.old) (names scope.now) (first ∷ want ∷ []) }
+        ensures { Asked result (cells self.old) (cells self.new) (λ s. StepTypes (steps_view steps.now)
+            (sorts known.now) (context s (names scope.now)) (s.types first) (s.types want)) }
     {
         let mut t = first;
         'steps: for i in 0..steps.len() {
@@ -279,11 +278,11 @@ impl Typing {
     }
 
     // From a record over labels to what stands at the last.
-    fn follow(&mut self, labels: &[Word], from: u64, want: u64) -> Result<(), NoMemory>
-        requires fine { IsTrue self.old.possible → IsFine self.old.unifier.cells.items }
-        requires from_there { IsTrue self.old.possible → IsType self.old.unifier.cells.items from }
-        requires there { IsTrue self.old.possible → IsType self.old.unifier.cells.items want }
-        ensures { IfOk result (λ _. Asks self.old self.new (λ s. PathTypes labels.now (s.types from) (s.types want))) }
+    fn follow(&mut self, labels: &[Word], from: u64, want: u64) -> Result<(), Refusal>
+        requires fine { IsFine (cells self.old) }
+        requires from_there { IsType (cells self.old) from }
+        requires there { IsType (cells self.old) want }
+        ensures { Asked result (cells self.old) (cells self.new) (λ s. PathTypes labels.now (s.types from) (s.types want)) }
     {
         let mut t = from;
         'labels: for i in 0..labels.len() {

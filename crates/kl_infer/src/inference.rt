@@ -1,23 +1,29 @@
 //! Types of programs.
-ghost use Rattle.std.specs.Prelude.{◌≡◌, ◌++◌, ◌∷◌, [], IfOk, IfErr, MatchOption, All, ⊤};
+ghost use Rattle.std.specs.Prelude.{◌≡◌, ◌++◌, ◌∷◌, [], IfOk, IfErr, MatchResult, OnOk, Ok, Err, All};
 ghost use Rattle.kl_type.specs.Ground.{Ground};
 ghost use Rattle.kl_rows.specs.Places.{a_type, a_function};
 ghost use Rattle.kl_outcome.specs.Outcome.{Name};
 ghost use Rattle.kl_syntax.specs.View.{pattern_view};
 ghost use Rattle.kl_meaning.specs.Typing.{Types, FunctionTypes};
-ghost use Rattle.kl_infer.specs.Declaring.{Declared, NoType, IsAt};
+ghost use Rattle.kl_infer.specs.Asking.{OnNoType};
+ghost use Rattle.kl_infer.specs.Declaring.{AreMade, Concluded, Declared, HasNoType, IsAt, IsMade};
 ghost use Rattle.kl_infer.specs.Inferred.{IsPrincipal, IsArrow};
 ghost use Rattle.kl_infer.specs.Names.{IsGood, meant, sorts};
+ghost use Rattle.kl_infer.specs.declared.refusal.Refusal.TheVariants.{NoType, NoMemory as TypeWantsMemory};
+ghost use Rattle.kl_base.specs.Fields.{field};
+ghost use Rattle.std.specs.Option.{option_copied};
+ghost use Rattle.kl_rows.specs.declared.Scheme.{Scheme};
 ghost use Rattle.kl_infer.specs.declared.inference.InferError.TheVariants.{NoMemory as WantOfMemory};
 ghost use Rattle.kl_type.specs.Ground.{IsProper};
 ghost use Rattle.kl_syntax.specs.View.{view, decls_of};
 ghost use Rattle.kl_infer.specs.Inferred.{Infers, types_of};
 ghost use Rattle.kl_infer.specs.Refusing.{IsRefusal};
 
-use crate::scope::{Known, Scope};
+use crate::refusal::Refusal;
+use crate::scope::{Known, Scope, Sense, stands_for};
 use crate::typed::Typed;
 use crate::typing::Typing;
-use kl_base::{Label, NoMemory, Seq};
+use kl_base::{Label, NoMemory, Seq, Shared};
 use kl_rows::Scheme;
 use kl_scope::Scoped;
 use kl_syntax::{Decl, Expr, Pattern};
@@ -58,6 +64,7 @@ pub fn infer(alloc: Global, scoped: &Scoped, sources: &[(Label, Ty)]) -> Result<
     let program = scoped.program();
     let defs = program.defs.slice();
     let mut schemes = Vec::new(alloc);
+    let mut made = Vec::new(alloc);
     'defs: for i in 0..defs.len() {
         let found = declared(
             alloc,
@@ -67,10 +74,11 @@ pub fn infer(alloc: Global, scoped: &Scoped, sources: &[(Label, Ty)]) -> Result<
                 schemes: &schemes,
                 sources,
             },
-        )?;
+            &mut made,
+        );
         match found {
-            Some(scheme) => push(&mut schemes, scheme)?,
-            None => return Err(ill_typed(i)),
+            Ok(scheme) => push(&mut schemes, scheme)?,
+            Err(refusal) => return Err(refused(i, refusal)),
         }
     }
     let found = constant(
@@ -81,49 +89,128 @@ pub fn infer(alloc: Global, scoped: &Scoped, sources: &[(Label, Ty)]) -> Result<
             schemes: &schemes,
             sources,
         },
-    )?;
+    );
     match found {
-        Some(result) => Ok(Typed {
+        Ok(result) => Ok(Typed {
             schemes: Seq::of(schemes),
             result,
         }),
-        None => Err(ill_typed(defs.len())),
+        Err(refusal) => Err(refused(defs.len(), refusal)),
     }
 }
 
 // The refusal of the declaration at a place.
-fn ill_typed(place: usize) -> InferError
-    ensures { IsAt place result }
+fn refused(place: usize, refusal: Refusal) -> InferError
+    ensures { IsAt place refusal result }
 {
-    match u32::try_from(place) {
-        Ok(decl) => InferError::IllTyped { decl },
-        Err(_) => InferError::NoMemory,
+    match refusal {
+        Refusal::NoType => match u32::try_from(place) {
+            Ok(decl) => InferError::IllTyped { decl },
+            Err(_) => InferError::NoMemory,
+        },
+        Refusal::NoMemory => InferError::NoMemory,
     }
 }
 
-fn push(schemes: &mut Vec<Scheme>, scheme: Scheme) -> Result<(), NoMemory>
+fn push(schemes: &mut Vec<Shared<Scheme>>, scheme: Shared<Scheme>) -> Result<(), NoMemory>
     ensures { IfOk result (λ _. schemes.new.items ≡ schemes.old.items ++ scheme ∷ []) }
 {
     schemes.push(scheme)?;
     Ok(())
 }
 
-// The scheme of a definition. None exactly where it has no type.
-fn declared(alloc: Global, decl: &Decl, known: &Known) -> Result<Option<Scheme>, NoMemory>
-    requires { (x : Name) → IsGood (meant known.now x) }
-    ensures { IfOk result (λ found. MatchOption found (NoType decl.now.param decl.now (sorts known.now)) (λ p. Declared decl.now.param decl.now
-        (sorts known.now) p)) }
+// The scheme of a definition.
+fn declared(
+    alloc: Global,
+    decl: &Decl,
+    known: &Known,
+    made: &mut Vec<(Label, Shared<Scheme>)>,
+) -> Result<Shared<Scheme>, Refusal>
+    requires good { (x : Name) → IsGood (meant known.now x) }
+    requires made { AreMade known.now.sources.now made.old.items }
+    ensures made { OnOk result (AreMade known.now.sources.now made.new.items) }
+    ensures scheme { MatchResult result (Declared decl.now.param decl.now (sorts known.now)) (λ e. OnNoType e (HasNoType decl.now.param decl.now
+        (sorts known.now))) }
 {
     match &decl.param {
-        Some(param) => function(alloc, param, &decl.body, known),
-        None => constant(alloc, &decl.body, known),
+        Some(param) => shared(alloc, function(alloc, param, &decl.body, known)),
+        None => value(alloc, &decl.body, known, made),
     }
 }
 
-fn constant(alloc: Global, e: &Expr, known: &Known) -> Result<Option<Scheme>, NoMemory>
+// The scheme of a value. A name has that of what it names, and a source's is made once.
+fn value(
+    alloc: Global,
+    e: &Expr,
+    known: &Known,
+    made: &mut Vec<(Label, Shared<Scheme>)>,
+) -> Result<Shared<Scheme>, Refusal>
+    requires good { (x : Name) → IsGood (meant known.now x) }
+    requires made { AreMade known.now.sources.now made.old.items }
+    ensures made { OnOk result (AreMade known.now.sources.now made.new.items) }
+    ensures scheme { Concluded result (Types (view e.now) (sorts known.now) []) }
+{
+    match e {
+        Expr::Name(x) => match stands_for(known, &x.text) {
+            Sense::Value(scheme) => again(scheme),
+            Sense::Source(_) => match made_for(&*made, &x.text) {
+                Some(scheme) => again(scheme),
+                None => make(alloc, e, &x.text, known, made),
+            },
+            _ => shared(alloc, constant(alloc, e, known)),
+        },
+        _ => shared(alloc, constant(alloc, e, known)),
+    }
+}
+
+// The scheme of a name, which stands for a source of which none was made.
+fn make(
+    alloc: Global,
+    e: &Expr,
+    name: &Label,
+    known: &Known,
+    made: &mut Vec<(Label, Shared<Scheme>)>,
+) -> Result<Shared<Scheme>, Refusal>
+    requires good { (x : Name) → IsGood (meant known.now x) }
+    requires made { AreMade known.now.sources.now made.old.items }
+    requires is_source { (p : Scheme) → IsPrincipal a_type p (Types (view e.now) (sorts known.now) []) → IsMade known.now.sources.now (name.now, p) }
+    ensures made { OnOk result (AreMade known.now.sources.now made.new.items) }
+    ensures scheme { Concluded result (Types (view e.now) (sorts known.now) []) }
+{
+    let scheme = shared(alloc, constant(alloc, e, known))?;
+    made.push((name.dup()?, scheme.dup()?))?;
+    Ok(scheme)
+}
+
+fn made_for<'a>(made: &'a [(Label, Shared<Scheme>)], name: &Label) -> Option<&'a Shared<Scheme>>
+    ensures { option_copied result ≡ field name.now made.now }
+{
+    for pair in made {
+        if *name == pair.0 {
+            return Some(&pair.1);
+        }
+    }
+    None
+}
+
+fn again(scheme: &Shared<Scheme>) -> Result<Shared<Scheme>, Refusal>
+    ensures { MatchResult result (λ s. s ≡ scheme.now) (λ e. e ≡ TypeWantsMemory) }
+{
+    Ok(scheme.dup()?)
+}
+
+fn shared(alloc: Global, found: Result<Scheme, Refusal>) -> Result<Shared<Scheme>, Refusal>
+    ensures { MatchResult result (λ s. found ≡ Ok s) (λ e. OnNoType e (found ≡ Err NoType)) }
+{
+    match found {
+        Ok(scheme) => Ok(Shared::new(alloc, scheme)?),
+        Err(refusal) => Err(refusal),
+    }
+}
+
+fn constant(alloc: Global, e: &Expr, known: &Known) -> Result<Scheme, Refusal>
     requires { (x : Name) → IsGood (meant known.now x) }
-    ensures { IfOk result (λ found. MatchOption found ((t : Ground) → Types (view e.now) (sorts known.now) [] t → ⊥)
-        (λ p. IsPrincipal a_type p (Types (view e.now) (sorts known.now) []))) }
+    ensures { Concluded result (Types (view e.now) (sorts known.now) []) }
 {
     let mut typing = Typing::new(alloc);
     let t = typing.fresh()?;
@@ -131,15 +218,10 @@ fn constant(alloc: Global, e: &Expr, known: &Known) -> Result<Option<Scheme>, No
     typing.conclude(t)
 }
 
-fn function(
-    alloc: Global,
-    param: &Pattern,
-    body: &Expr,
-    known: &Known,
-) -> Result<Option<Scheme>, NoMemory>
+fn function(alloc: Global, param: &Pattern, body: &Expr, known: &Known) -> Result<Scheme, Refusal>
     requires { (x : Name) → IsGood (meant known.now x) }
-    ensures { IfOk result (λ found. MatchOption found ((s t : Ground) → FunctionTypes (sorts known.now) (pattern_view param.now) (view body.now) s t → ⊥)
-        (λ p. IsPrincipal a_function p (IsArrow (FunctionTypes (sorts known.now) (pattern_view param.now) (view body.now))))) }
+    ensures { MatchResult result (λ p. IsPrincipal a_function p (IsArrow (FunctionTypes (sorts known.now) (pattern_view param.now) (view body.now))))
+        (λ refusal. OnNoType refusal ((s t : Ground) → FunctionTypes (sorts known.now) (pattern_view param.now) (view body.now) s t → ⊥)) }
 {
     let mut typing = Typing::new(alloc);
     let from = typing.fresh()?;

@@ -6,8 +6,8 @@
 //! the first declaration without a type: `IsIllTyped` there.
 //!
 //! An expression is checked against a number of a type. What is asked of numbers is a fact of the assignments that solve
-//! them, and one thing is asked after another: `Leaves` in `specs/Asking.antt`. Once nothing meets what was asked, nothing
-//! is asked any more.
+//! them, and one thing is asked after another: `Leaves` in `specs/Asking.antt`. Where nothing meets what is asked, that is
+//! refused.
 //!
 //! A scheme is a table whose parts are shared. Its text is that of the tree of its parts: `scheme_text` in
 //! `specs/Printed.antt`. Each variable has a number there, from 1 in the order of first appearance: `number` in
@@ -22,6 +22,7 @@ mod inference;
 mod page;
 mod patterns;
 mod printing;
+mod refusal;
 mod scope;
 mod typed;
 mod typing;

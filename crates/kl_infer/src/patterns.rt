@@ -2,9 +2,10 @@
 ghost use Rattle.std.specs.Prelude.{◌≡◌, ◌∷◌, [], IfOk, length, map};
 ghost use Rattle.kl_syntax.specs.View.{pattern_view, patterns_view};
 ghost use Rattle.kl_meaning.specs.Typing.{NameTypes, Takes};
-ghost use Rattle.kl_infer.specs.Asking.{Binds, context, onto};
+ghost use Rattle.kl_infer.specs.Asking.{Bound, cells, context, onto};
 ghost use Rattle.kl_infer.specs.Names.{Ready, TakesAll, labelled, names, sorts};
 
+use crate::refusal::Refusal;
 use crate::scope::{Known, Scope};
 use crate::typing::Typing;
 use kl_base::{Label, NoMemory};
@@ -21,14 +22,11 @@ impl Typing {
         outside: &Scope,
         t: u64,
         bound: &mut Vec<(Label, u64)>,
-    ) -> Result<(), NoMemory>
-        requires { Ready known.now self.old (onto bound.old.items (names outside.now)) (t ∷ []) }
-        ensures { IfOk result (λ _. Binds self.old self.new bound.old.items bound.new.items (names outside.now) (λ s. Takes (pattern_view p.now) (NameTypes
-            (sorts known.now) (context s (names outside.now))) (s.types t))) }
+    ) -> Result<(), Refusal>
+        requires { Ready known.now (cells self.old) (onto bound.old.items (names outside.now)) (t ∷ []) }
+        ensures { Bound result (cells self.old) (cells self.new) bound.old.items bound.new.items (names outside.now) (λ s. Takes (pattern_view p.now) (NameTypes
+            (sorts known.now) (context s (names outside.now))) (s.types t)) }
     {
-        if !self.possible {
-            return Ok(());
-        }
         match p {
             Pattern::Bind(x) => {
                 bound.push((x.text.dup()?, t))?;
@@ -59,11 +57,11 @@ impl Typing {
         outside: &Scope,
         types: &[u64],
         bound: &mut Vec<(Label, u64)>,
-    ) -> Result<(), NoMemory>
-        requires ready { Ready known.now self.old (onto bound.old.items (names outside.now)) types.now }
+    ) -> Result<(), Refusal>
+        requires ready { Ready known.now (cells self.old) (onto bound.old.items (names outside.now)) types.now }
         requires size { length types.now ≡ length fields.now }
-        ensures { IfOk result (λ _. Binds self.old self.new bound.old.items bound.new.items (names outside.now)
-            (λ s. TakesAll (patterns_view fields.now) (NameTypes (sorts known.now) (context s (names outside.now))) (map s.types types.now))) }
+        ensures { Bound result (cells self.old) (cells self.new) bound.old.items bound.new.items (names outside.now)
+            (λ s. TakesAll (patterns_view fields.now) (NameTypes (sorts known.now) (context s (names outside.now))) (map s.types types.now)) }
     {
         'fields: for i in 0..fields.len() {
             self.takes(&fields[i].1, known, outside, types[i], bound)?;

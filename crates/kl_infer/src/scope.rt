@@ -4,7 +4,7 @@ ghost use Rattle.kl_base.specs.Fields.{field};
 ghost use Rattle.kl_meaning.specs.Match.{same_name};
 ghost use Rattle.kl_infer.specs.Names.{names, last_from, meant, meant_of, meant_first, defined};
 
-use kl_base::Label;
+use kl_base::{Label, Shared};
 use kl_meaning::code_named;
 use kl_rows::Scheme;
 use kl_syntax::Decl;
@@ -44,7 +44,7 @@ fn last_from(block: &[(Label, u64)], name: &Label, outside: Option<u64>) -> Opti
 #[derive(Drop)]
 pub struct Known<'a> {
     pub defs: &'a [Decl],
-    pub schemes: &'a [Scheme],
+    pub schemes: &'a [Shared<Scheme>],
     pub sources: &'a [(Label, Ty)],
 }
 
@@ -52,8 +52,8 @@ pub struct Known<'a> {
 #[derive(Drop)]
 pub enum Sense<'a> {
     Nothing,
-    Value(&'a Scheme),
-    Function(&'a Scheme),
+    Value(&'a Shared<Scheme>),
+    Function(&'a Shared<Scheme>),
     Source(&'a Ty),
     Primitive(u8),
 }
@@ -72,7 +72,12 @@ pub fn stands_for<'a>(known: &Known<'a>, name: &Label) -> Sense<'a>
 }
 
 // What the name stands for behind a definition.
-fn hiding<'a>(decl: &Decl, scheme: &'a Scheme, name: &Label, outside: Sense<'a>) -> Sense<'a>
+fn hiding<'a>(
+    decl: &Decl,
+    scheme: &'a Shared<Scheme>,
+    name: &Label,
+    outside: Sense<'a>,
+) -> Sense<'a>
     ensures { meant_of result ≡ cond (same_name name.now decl.now.name.text) (defined decl.now.param scheme.now) (meant_of outside.entry) }
 {
     if *name == decl.name.text {
@@ -82,7 +87,7 @@ fn hiding<'a>(decl: &Decl, scheme: &'a Scheme, name: &Label, outside: Sense<'a>)
     }
 }
 
-fn defined<'a>(decl: &Decl, scheme: &'a Scheme) -> Sense<'a>
+fn defined<'a>(decl: &Decl, scheme: &'a Shared<Scheme>) -> Sense<'a>
     ensures { meant_of result ≡ defined decl.now.param scheme.now }
 {
     match &decl.param {

@@ -6,12 +6,12 @@ ghost use Rattle.kl_rows.specs.Schemes.{Instance, IsScheme};
 ghost use Rattle.kl_infer.specs.Kinds.{known_kind, kind_place, fixed_kind, HasOther};
 ghost use Rattle.std.specs.Option.{option_copied};
 
-use kl_base::Seq;
+use kl_base::{Seq, Shared};
 use kl_rows::{Node, Part, Scheme};
 use kl_value::Kind;
 
-/// The schemes of definitions, in their order.
-pub type Schemes = Seq<Scheme>;
+/// The schemes of definitions, in their order. Definitions that are one name share its scheme.
+pub type Schemes = Seq<Shared<Scheme>>;
 
 /// A program's types, as schemes. That of a function has an arrow at its root, from its parameter's type to its
 /// result's.

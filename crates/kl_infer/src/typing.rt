@@ -1,9 +1,10 @@
 //! What is asked of numbers of types, one thing after another.
-ghost use Rattle.std.specs.Prelude.{◌≡◌, ℕ, IsTrue, Some, false, [], ◌∷◌, length, map, IfOk, MatchOption};
+ghost use Rattle.std.specs.Prelude.{◌≡◌, ℕ, [], ◌∷◌, map, IfOk, MatchResult};
 ghost use Rattle.std.specs.List.{AllByRecursion};
 ghost use Rattle.kl_base.specs.Fields.{field};
 ghost use Rattle.kl_type.specs.Ground.{bool, IsProper};
 ghost use Rattle.kl_rows.specs.Places.{IsFine, IsType, IsTyped, AreTypes};
+ghost use Rattle.kl_rows.specs.Schemes.{Settles};
 ghost use Rattle.kl_forms.specs.Forms.{
   ItemsOf,
   DrawnFrom,
@@ -18,10 +19,11 @@ ghost use Rattle.kl_forms.specs.Forms.{
   IsInstance,
 };
 ghost use Rattle.kl_meaning.specs.Typing.{NameTypes, ValueTypes, CallTypes};
-ghost use Rattle.kl_infer.specs.Asking.{Asks, Concludes, Gets, GetsFunction, GetsMany, context};
+ghost use Rattle.kl_infer.specs.Asking.{Asked, Found, Gets, GetsFunction, GetsMany, Refuses, cells, context};
 ghost use Rattle.kl_forms.specs.Checks.{Checks};
 ghost use Rattle.kl_infer.specs.Names.{IsGood, Ready, by_value, meant_of, names, sort_of, sorts};
 
+use crate::refusal::{Refusal, found, met};
 use crate::scope::{Known, Scope, Sense, stands_for, variable};
 use kl_base::{Label, NoMemory};
 use kl_forms::{
@@ -38,8 +40,6 @@ use std::alloc::Global;
 #[derive(Drop)]
 pub struct Typing {
     pub unifier: Unifier,
-    /// Whether it may be met. Once it can not be met, nothing is asked any more.
-    pub possible: bool,
     /// The sources that were used, with the numbers that their types got.
     pub made: Vec<(Label, u64)>,
 }
@@ -47,154 +47,101 @@ pub struct Typing {
 impl Typing {
     /// Nothing is asked.
     pub fn new(alloc: Global) -> Typing
-        ensures cells { result.unifier.cells.items ≡ [] }
-        ensures possible { IsTrue result.possible }
+        ensures { cells result ≡ [] }
     {
         Typing {
             unifier: Unifier::new(alloc),
-            possible: true,
             made: Vec::new(alloc),
         }
     }
 
     /// A type of which nothing is said.
     pub fn fresh(&mut self) -> Result<u64, NoMemory>
-        requires { IsTrue self.old.possible → IsFine self.old.unifier.cells.items }
-        ensures { IfOk result (λ i. Gets self.old self.new i (λ t s. Unit {0})) }
+        requires { IsFine (cells self.old) }
+        ensures { IfOk result (λ i. Gets (cells self.old) (cells self.new) i (λ t s. Unit {0})) }
     {
-        if !self.possible {
-            return Ok(0);
-        }
         self.unifier.fresh_type()
     }
 
     /// So many types of which nothing is said.
     pub fn fresh_many(&mut self, count: usize) -> Result<Vec<u64>, NoMemory>
-        requires { IsTrue self.old.possible → IsFine self.old.unifier.cells.items }
-        ensures { IfOk result (λ items. GetsMany self.old self.new items.items count) }
+        requires { IsFine (cells self.old) }
+        ensures { IfOk result (λ items. GetsMany (cells self.old) (cells self.new) items.items count) }
     {
-        if !self.possible {
-            return Ok(Vec::new(self.unifier.alloc));
-        }
         fresh_types(&mut self.unifier, count)
     }
 
     /// The type of truth values.
     pub fn truth(&mut self) -> Result<u64, NoMemory>
-        requires { IsTrue self.old.possible → IsFine self.old.unifier.cells.items }
-        ensures { IfOk result (λ i. Gets self.old self.new i (λ t s. t ≡ bool)) }
+        requires { IsFine (cells self.old) }
+        ensures { IfOk result (λ i. Gets (cells self.old) (cells self.new) i (λ t s. t ≡ bool)) }
     {
-        if !self.possible {
-            return Ok(0);
-        }
         self.unifier.make(Node::Base(Ty::Bool))
     }
 
     /// Two types are one.
-    pub fn same(&mut self, first: u64, second: u64) -> Result<(), NoMemory>
-        requires fine { IsTrue self.old.possible → IsFine self.old.unifier.cells.items }
-        requires first_there { IsTrue self.old.possible → IsType self.old.unifier.cells.items first }
-        requires second_there { IsTrue self.old.possible → IsType self.old.unifier.cells.items second }
-        ensures { IfOk result (λ _. Asks self.old self.new (λ s. s.types first ≡ s.types second)) }
+    pub fn same(&mut self, first: u64, second: u64) -> Result<(), Refusal>
+        requires fine { IsFine (cells self.old) }
+        requires first_there { IsType (cells self.old) first }
+        requires second_there { IsType (cells self.old) second }
+        ensures { Asked result (cells self.old) (cells self.new) (λ s. s.types first ≡ s.types second) }
     {
-        if !self.possible {
-            return Ok(());
-        }
-        self.possible = self.unifier.merge(first, second)?;
-        Ok(())
+        met(self.unifier.merge(first, second)?)
     }
 
     /// The type is a constant's.
-    pub fn value(&mut self, v: &Value, want: u64) -> Result<(), NoMemory>
-        requires fine { IsTrue self.old.possible → IsFine self.old.unifier.cells.items }
-        requires there { IsTrue self.old.possible → IsType self.old.unifier.cells.items want }
-        ensures { IfOk result (λ _. Asks self.old self.new (IsOfType v.now want)) }
+    pub fn value(&mut self, v: &Value, want: u64) -> Result<(), Refusal>
+        requires fine { IsFine (cells self.old) }
+        requires there { IsType (cells self.old) want }
+        ensures { Asked result (cells self.old) (cells self.new) (IsOfType v.now want) }
     {
-        if !self.possible {
-            return Ok(());
-        }
-        self.possible = value(&mut self.unifier, v, want)?;
-        Ok(())
+        met(value(&mut self.unifier, v, want)?)
     }
 
     /// The type of the items of a collection of this kind.
-    pub fn items(&mut self, kind: Kind, want: u64) -> Result<u64, NoMemory>
-        requires fine { IsTrue self.old.possible → IsFine self.old.unifier.cells.items }
-        requires there { IsTrue self.old.possible → IsType self.old.unifier.cells.items want }
-        ensures { IfOk result (λ i. Gets self.old self.new i (ItemsOf kind want)) }
+    pub fn items(&mut self, kind: Kind, want: u64) -> Result<u64, Refusal>
+        requires fine { IsFine (cells self.old) }
+        requires there { IsType (cells self.old) want }
+        ensures { Found result (cells self.old) (cells self.new) (ItemsOf kind want) }
     {
-        if !self.possible {
-            return Ok(0);
-        }
-        let found = items_of(&mut self.unifier, kind, want)?;
-        Ok(self.number(found))
+        found(items_of(&mut self.unifier, kind, want)?)
     }
 
     /// The type of the items of a collection of any kind.
-    pub fn any_items(&mut self, want: u64) -> Result<u64, NoMemory>
-        requires fine { IsTrue self.old.possible → IsFine self.old.unifier.cells.items }
-        requires there { IsTrue self.old.possible → IsType self.old.unifier.cells.items want }
-        ensures { IfOk result (λ i. Gets self.old self.new i (DrawnFrom want)) }
+    pub fn any_items(&mut self, want: u64) -> Result<u64, Refusal>
+        requires fine { IsFine (cells self.old) }
+        requires there { IsType (cells self.old) want }
+        ensures { Found result (cells self.old) (cells self.new) (DrawnFrom want) }
     {
-        if !self.possible {
-            return Ok(0);
-        }
-        let found = any_items_of(&mut self.unifier, want)?;
-        Ok(self.number(found))
+        found(any_items_of(&mut self.unifier, want)?)
     }
 
     /// What a record has at the label.
-    pub fn field(&mut self, label: &Label, want: u64) -> Result<u64, NoMemory>
-        requires fine { IsTrue self.old.possible → IsFine self.old.unifier.cells.items }
-        requires there { IsTrue self.old.possible → IsType self.old.unifier.cells.items want }
-        ensures { IfOk result (λ i. Gets self.old self.new i (FieldOf label.now want)) }
+    pub fn field(&mut self, label: &Label, want: u64) -> Result<u64, Refusal>
+        requires fine { IsFine (cells self.old) }
+        requires there { IsType (cells self.old) want }
+        ensures { Found result (cells self.old) (cells self.new) (FieldOf label.now want) }
     {
-        if !self.possible {
-            return Ok(0);
-        }
-        let found = field_of(&mut self.unifier, label, want)?;
-        Ok(self.number(found))
+        found(field_of(&mut self.unifier, label, want)?)
     }
 
     /// What a variant has at the label.
-    pub fn variant(&mut self, label: &Label, want: u64) -> Result<u64, NoMemory>
-        requires fine { IsTrue self.old.possible → IsFine self.old.unifier.cells.items }
-        requires there { IsTrue self.old.possible → IsType self.old.unifier.cells.items want }
-        ensures { IfOk result (λ i. Gets self.old self.new i (VariantOf label.now want)) }
+    pub fn variant(&mut self, label: &Label, want: u64) -> Result<u64, Refusal>
+        requires fine { IsFine (cells self.old) }
+        requires there { IsType (cells self.old) want }
+        ensures { Found result (cells self.old) (cells self.new) (VariantOf label.now want) }
     {
-        if !self.possible {
-            return Ok(0);
-        }
-        let found = variant_of(&mut self.unifier, label, want)?;
-        Ok(self.number(found))
+        found(variant_of(&mut self.unifier, label, want)?)
     }
 
     /// What an operator gives of two such types.
-    pub fn operated(&mut self, op: Op, first: u64, second: u64) -> Result<u64, NoMemory>
-        requires fine { IsTrue self.old.possible → IsFine self.old.unifier.cells.items }
-        requires first_there { IsTrue self.old.possible → IsType self.old.unifier.cells.items first }
-        requires second_there { IsTrue self.old.possible → IsType self.old.unifier.cells.items second }
-        ensures { IfOk result (λ i. Gets self.old self.new i (Operates op first second)) }
+    pub fn operated(&mut self, op: Op, first: u64, second: u64) -> Result<u64, Refusal>
+        requires fine { IsFine (cells self.old) }
+        requires first_there { IsType (cells self.old) first }
+        requires second_there { IsType (cells self.old) second }
+        ensures { Found result (cells self.old) (cells self.new) (Operates op first second) }
     {
-        if !self.possible {
-            return Ok(0);
-        }
-        let found = operated(&mut self.unifier, op, first, second)?;
-        Ok(self.number(found))
-    }
-
-    // The number that was found; where there is none, nothing is asked any more.
-    fn number(&mut self, found: Option<u64>) -> u64
-        ensures unifier { self.new.unifier ≡ self.old.unifier }
-        ensures found { MatchOption found ((result ≡ 0) × (self.new.possible ≡ false)) (λ n. (result ≡ n) × (self.new.possible ≡ self.old.possible)) }
-    {
-        match found {
-            Some(number) => number,
-            None => {
-                self.possible = false;
-                0
-            }
-        }
+        found(operated(&mut self.unifier, op, first, second)?)
     }
 
     /// The type is a record with these labels and types and, if it is open, others.
@@ -203,17 +150,13 @@ impl Typing {
         fields: Vec<(Label, u64)>,
         open: bool,
         want: u64,
-    ) -> Result<(), NoMemory>
-        requires fine { IsTrue self.old.possible → IsFine self.old.unifier.cells.items }
-        requires there { IsTrue self.old.possible → IsType self.old.unifier.cells.items want }
-        requires fields_there { IsTrue self.old.possible → AreTypes self.old.unifier.cells.items fields.items }
-        ensures { IfOk result (λ _. Asks self.old self.new (IsRecord «open» fields.items want)) }
+    ) -> Result<(), Refusal>
+        requires fine { IsFine (cells self.old) }
+        requires there { IsType (cells self.old) want }
+        requires fields_there { AreTypes (cells self.old) fields.items }
+        ensures { Asked result (cells self.old) (cells self.new) (IsRecord «open» fields.items want) }
     {
-        if !self.possible {
-            return Ok(());
-        }
-        self.possible = is_record(&mut self.unifier, fields, open, want)?;
-        Ok(())
+        met(is_record(&mut self.unifier, fields, open, want)?)
     }
 
     /// The type is a variant with these labels and types and, if it is open, others.
@@ -222,57 +165,45 @@ impl Typing {
         fields: Vec<(Label, u64)>,
         open: bool,
         want: u64,
-    ) -> Result<(), NoMemory>
-        requires fine { IsTrue self.old.possible → IsFine self.old.unifier.cells.items }
-        requires there { IsTrue self.old.possible → IsType self.old.unifier.cells.items want }
-        requires fields_there { IsTrue self.old.possible → AreTypes self.old.unifier.cells.items fields.items }
-        ensures { IfOk result (λ _. Asks self.old self.new (IsVariant «open» fields.items want)) }
+    ) -> Result<(), Refusal>
+        requires fine { IsFine (cells self.old) }
+        requires there { IsType (cells self.old) want }
+        requires fields_there { AreTypes (cells self.old) fields.items }
+        ensures { Asked result (cells self.old) (cells self.new) (IsVariant «open» fields.items want) }
     {
-        if !self.possible {
-            return Ok(());
-        }
-        self.possible = is_variant(&mut self.unifier, fields, open, want)?;
-        Ok(())
+        met(is_variant(&mut self.unifier, fields, open, want)?)
     }
 
     /// The primitive of the code takes arguments of these types and gives this one.
-    pub fn applied(&mut self, code: u8, args: &[u64], want: u64) -> Result<(), NoMemory>
-        requires fine { IsTrue self.old.possible → IsFine self.old.unifier.cells.items }
-        requires there { IsTrue self.old.possible → IsType self.old.unifier.cells.items want }
-        requires args_there { IsTrue self.old.possible → AllByRecursion (IsType self.old.unifier.cells.items) args.now }
-        ensures { IfOk result (λ _. Asks self.old self.new (Applies code args.now want)) }
+    pub fn applied(&mut self, code: u8, args: &[u64], want: u64) -> Result<(), Refusal>
+        requires fine { IsFine (cells self.old) }
+        requires there { IsType (cells self.old) want }
+        requires args_there { AllByRecursion (IsType (cells self.old)) args.now }
+        ensures { Asked result (cells self.old) (cells self.new) (Applies code args.now want) }
     {
-        if !self.possible {
-            return Ok(());
-        }
-        self.possible = applied(&mut self.unifier, code, args, want)?;
-        Ok(())
+        met(applied(&mut self.unifier, code, args, want)?)
     }
 
     /// A function from the one type to the other.
     pub fn arrow(&mut self, from: u64, to: u64) -> Result<u64, NoMemory>
-        requires fine { IsTrue self.old.possible → IsFine self.old.unifier.cells.items }
-        requires from_there { IsTrue self.old.possible → IsType self.old.unifier.cells.items from }
-        requires to_there { IsTrue self.old.possible → IsType self.old.unifier.cells.items to }
-        ensures { IfOk result (λ i. GetsFunction self.old self.new i from to) }
+        requires fine { IsFine (cells self.old) }
+        requires from_there { IsType (cells self.old) from }
+        requires to_there { IsType (cells self.old) to }
+        ensures { IfOk result (λ i. GetsFunction (cells self.old) (cells self.new) i from to) }
     {
-        if !self.possible {
-            return Ok(0);
-        }
         self.unifier.make(Node::Arrow(from, to))
     }
 
-    /// What was asked of a type or of a function, as a scheme. None exactly where nothing meets it: merges leave open
-    /// whether finite types do.
-    pub fn conclude(&mut self, root: u64) -> Result<Option<Scheme>, NoMemory>
-        requires fine { IsTrue self.old.possible → IsFine self.old.unifier.cells.items }
-        requires on_root { IsTrue self.old.possible → IsTyped self.old.unifier.cells.items root }
-        ensures { IfOk result (λ found. Concludes self.old root found) }
+    /// What was asked of a type or of a function, as a scheme. Merges leave open whether finite types meet it.
+    pub fn conclude(&self, root: u64) -> Result<Scheme, Refusal>
+        requires fine { IsFine (cells self.now) }
+        requires on_root { IsTyped (cells self.now) root }
+        ensures { MatchResult result (λ scheme. Settles (cells self.now) root scheme) (Refuses (cells self.now) (λ s. Unit {0})) }
     {
-        if !self.possible {
-            return Ok(None);
+        match self.unifier.settled(root)? {
+            Some(scheme) => Ok(scheme),
+            None => Err(Refusal::NoType),
         }
-        self.unifier.settled(root)
     }
 
     /// The type is one of a name's.
@@ -282,13 +213,10 @@ impl Typing {
         known: &Known,
         scope: &Scope,
         want: u64,
-    ) -> Result<(), NoMemory>
-        requires { Ready known.now self.old (names scope.now) (want ∷ []) }
-        ensures { IfOk result (λ _. Asks self.old self.new (λ s. NameTypes (sorts known.now) (context s (names scope.now)) name.now (s.types want))) }
+    ) -> Result<(), Refusal>
+        requires { Ready known.now (cells self.old) (names scope.now) (want ∷ []) }
+        ensures { Asked result (cells self.old) (cells self.new) (λ s. NameTypes (sorts known.now) (context s (names scope.now)) name.now (s.types want)) }
     {
-        if !self.possible {
-            return Ok(());
-        }
         match variable(scope, name) {
             Some(number) => self.same(number, want),
             None => self.known(name, known, want),
@@ -296,65 +224,50 @@ impl Typing {
     }
 
     // The type is one of a name's that is no variable.
-    fn known(&mut self, name: &Label, known: &Known, want: u64) -> Result<(), NoMemory>
-        requires { Ready known.now self.old [] (want ∷ []) }
-        ensures { IfOk result (λ _. Asks self.old self.new (λ s. ValueTypes (sorts known.now name.now) (s.types want))) }
+    fn known(&mut self, name: &Label, known: &Known, want: u64) -> Result<(), Refusal>
+        requires { Ready known.now (cells self.old) [] (want ∷ []) }
+        ensures { Asked result (cells self.old) (cells self.new) (λ s. ValueTypes (sorts known.now name.now) (s.types want)) }
     {
-        if !self.possible {
-            return Ok(());
-        }
         match stands_for(known, name) {
-            Sense::Value(scheme) => self.value_of(scheme, want),
+            Sense::Value(scheme) => self.value_of(scheme.get(), want),
             Sense::Source(t) => self.source(name, t, want),
-            _ => {
-                self.possible = false;
-                Ok(())
-            }
+            _ => Err(Refusal::NoType),
         }
     }
 
     // The type is an instance of the scheme.
-    fn value_of(&mut self, scheme: &Scheme, want: u64) -> Result<(), NoMemory>
-        requires fine { IsTrue self.old.possible → IsFine self.old.unifier.cells.items }
-        requires there { IsTrue self.old.possible → IsType self.old.unifier.cells.items want }
+    fn value_of(&mut self, scheme: &Scheme, want: u64) -> Result<(), Refusal>
+        requires fine { IsFine (cells self.old) }
+        requires there { IsType (cells self.old) want }
         requires good { IsGood (by_value scheme.now) }
-        ensures { IfOk result (λ _. Asks self.old self.new (IsInstance scheme.now want)) }
+        ensures { Asked result (cells self.old) (cells self.new) (IsInstance scheme.now want) }
     {
-        if !self.possible {
-            return Ok(());
-        }
-        self.possible = uses_value(&mut self.unifier, scheme, want)?;
-        Ok(())
+        met(uses_value(&mut self.unifier, scheme, want)?)
     }
 
     // The type is that of a source, which is made once.
-    fn source(&mut self, name: &Label, t: &Ty, want: u64) -> Result<(), NoMemory>
-        requires fine { IsTrue self.old.possible → IsFine self.old.unifier.cells.items }
-        requires there { IsTrue self.old.possible → IsType self.old.unifier.cells.items want }
+    fn source(&mut self, name: &Label, t: &Ty, want: u64) -> Result<(), Refusal>
+        requires fine { IsFine (cells self.old) }
+        requires there { IsType (cells self.old) want }
         requires proper { IsProper t.now }
-        ensures { IfOk result (λ _. Asks self.old self.new (IsThis t.now want)) }
+        ensures { Asked result (cells self.old) (cells self.new) (IsThis t.now want) }
     {
-        if !self.possible {
-            return Ok(());
-        }
         match made_for(&self.made, name) {
             Some(number) if self.unifier.knows(number, t) => self.same(number, want),
             _ => self.make_source(name, t, want),
         }
     }
 
-    fn make_source(&mut self, name: &Label, t: &Ty, want: u64) -> Result<(), NoMemory>
-        requires possible { IsTrue self.old.possible }
-        requires fine { IsFine self.old.unifier.cells.items }
-        requires there { IsType self.old.unifier.cells.items want }
+    fn make_source(&mut self, name: &Label, t: &Ty, want: u64) -> Result<(), Refusal>
+        requires fine { IsFine (cells self.old) }
+        requires there { IsType (cells self.old) want }
         requires proper { IsProper t.now }
-        ensures { IfOk result (λ _. Asks self.old self.new (IsThis t.now want)) }
+        ensures { Asked result (cells self.old) (cells self.new) (IsThis t.now want) }
     {
         let t = t.dup(self.unifier.alloc)?;
         let number = self.unifier.make(Node::Base(t))?;
         self.made.push((name.dup()?, number))?;
-        self.possible = self.unifier.merge(number, want)?;
-        Ok(())
+        met(self.unifier.merge(number, want)?)
     }
 
     /// A call of the name takes arguments of these types and gives this one.
@@ -364,15 +277,11 @@ impl Typing {
         args: &[u64],
         known: &Known,
         want: u64,
-    ) -> Result<(), NoMemory>
-        requires { Ready known.now self.old [] (want ∷ args.now) }
-        ensures { IfOk result (λ _. Asks self.old self.new (λ s. CallTypes (sorts known.now name.now) (map s.types args.now) (s.types want))) }
+    ) -> Result<(), Refusal>
+        requires { Ready known.now (cells self.old) [] (want ∷ args.now) }
+        ensures { Asked result (cells self.old) (cells self.new) (λ s. CallTypes (sorts known.now name.now) (map s.types args.now) (s.types want)) }
     {
-        if !self.possible {
-            return Ok(());
-        }
-        self.possible = can_call(&mut self.unifier, stands_for(known, name), args, want)?;
-        Ok(())
+        met(can_call(&mut self.unifier, stands_for(known, name), args, want)?)
     }
 }
 
@@ -400,7 +309,7 @@ fn can_call(u: &mut Unifier, sense: Sense, args: &[u64], want: u64) -> Result<bo
     match sense {
         Sense::Function(scheme) => {
             if args.len() == 1 {
-                uses_function(u, scheme, args[0], want)
+                uses_function(u, scheme.get(), args[0], want)
             } else {
                 Ok(false)
             }

@@ -1,5 +1,5 @@
 -- Cells that are copied in an order in which parts stand before wholes. Links are followed, and a block of fields
--- becomes one row for each field.
+-- becomes one row for each field. No public contract cites this.
 use Rattle.std.specs.Prelude.{◌≡◌, ℕ, ◌<◌, Bool, true, false, List, [], ◌∷◌, length, Some, slice_get, slice_index, slice_index_or}
 use Rattle.kl_rows.specs.declared.cell.TypeNode.{TypeNode}
 use Rattle.kl_rows.specs.declared.cell.TypeNode.TheVariants.{AnyType, Base, Rec, Var, Coll, TypeLink}

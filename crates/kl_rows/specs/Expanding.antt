@@ -1,4 +1,4 @@
--- The cells of a type without variables.
+-- The cells of a type without variables. Public contracts cite `GivesType` alone.
 use Rattle.std.specs.Prelude.{◌≡◌, ℕ, List, [], ◌∷◌, ◌++◌, length}
 use Rattle.kl_type.specs.Ground.{Ground, Row, IsRow, IsProper, row_by, ground_of}
 use Rattle.kl_type.specs.declared.Ty.{Ty}

@@ -1,4 +1,4 @@
--- Cells that some finite types, rows and kinds meet.
+-- Cells that some finite types, rows and kinds meet. Public contracts cite `Solvable` alone.
 use Rattle.std.specs.Prelude.{◌≡◌, ◌≢◌, ℕ, ◌+◌, ◌<◌, ◌≤◌, Bool, true, false, ◌&&◌, List, [], ◌∷◌, ◌++◌, length, Option, Some, None, nat_eq, slice_get}
 use Rattle.kl_rows.specs.declared.cell.TypeNode.{TypeNode}
 use Rattle.kl_rows.specs.declared.cell.TypeNode.TheVariants.{AnyType, Base, Rec, Var, Coll, TypeLink}

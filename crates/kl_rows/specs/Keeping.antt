@@ -1,4 +1,4 @@
--- Which cells the scheme of a type needs.
+-- Which cells the scheme of a type needs. No public contract cites this.
 use Rattle.std.specs.Prelude.{◌≡◌, ℕ, ◌+◌, ◌<◌, ◌≤◌, Bool, true, false, List, [], ◌∷◌, length, Some, slice_get}
 use Rattle.std.specs.List.{AllByRecursion}
 use Rattle.kl_rows.specs.declared.cell.TypeNode.TheVariants.{Var}

@@ -1,4 +1,5 @@
 -- Fields whose types are numbers: what one list has more than another, and what both have.
+-- Public contracts cite `Fields` alone.
 use Rattle.std.specs.Prelude.{◌≡◌, ℕ, List, [], ◌∷◌, Option, Some, None, nat_eq}
 use Rattle.std.specs.Cmp.Lexicographic.{pointwise}
 use Rattle.std.specs.declared.hash.FoldHasher.{FoldHasher}

@@ -1,4 +1,5 @@
 -- What a step of a merge does to the solutions.
+-- Public contracts cite `Agrees`, `Grown`, `KeepsCells` and `Advances` alone.
 use Rattle.std.specs.Prelude.{◌≡◌, ℕ, ◌<◌, ◌≤◌, Bool, IsTrue, List, length, Some}
 use Rattle.std.specs.List.{AllByRecursion}
 use Rattle.kl_type.specs.Ground.{Row, IsRow}

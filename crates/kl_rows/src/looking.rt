@@ -16,7 +16,7 @@ pub enum Spot {
     Behind(u64),
 }
 
-/// What is known of a type.
+/// What is known of a type: what its cell says at the end of its links.
 pub fn node(cells: &[Cell], at: usize) -> TypeNode
     requires fine { IsFine cells.now }
     requires there { IsType cells.now at }
@@ -26,7 +26,7 @@ pub fn node(cells: &[Cell], at: usize) -> TypeNode
     type_at(cells, root)
 }
 
-/// Where a row has a label.
+/// Where a row has a label: at the first field of that label on the way to its end, or where the end has it.
 pub fn spot_of(cells: &[Cell], row: usize, label: &Label) -> Spot
     requires fine { IsFine cells.now }
     requires there { IsRowAt cells.now row }
@@ -34,7 +34,7 @@ pub fn spot_of(cells: &[Cell], row: usize, label: &Label) -> Spot
 {
     let mut end = row;
     // A walk has fewer steps than there are cells.
-    'steps: for _step in 0..cells.len() {
+    'steps: for step in 0..cells.len() {
         match row_at(cells, end) {
             RowNode::Front(fields, rest) => match look(fields.slice(), label) {
                 Some(number) => return Spot::At(number as u64),

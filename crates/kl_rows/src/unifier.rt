@@ -124,7 +124,7 @@ impl Unifier {
         Ok(at as u64)
     }
 
-    /// What is known of a type.
+    /// What is known of a type: what its cell says at the end of its links.
     pub fn node(&self, number: u64) -> TypeNode
         requires fine { IsFine self.now.cells.items }
         requires there { IsType self.now.cells.items number }
@@ -133,8 +133,9 @@ impl Unifier {
         node(&self.cells, number as usize)
     }
 
-    /// Whether the number is a type's that is known to be this one. It takes a step for each part of the type, and
-    /// finds what `make` made of it.
+    /// Whether the number is a type's that is known to be this one: where it says so, it is so in each solution, and
+    /// where it does not, it may be so all the same. It takes a step for each part of the type, and finds what `make`
+    /// made of it.
     pub fn knows(&self, number: u64, t: &Ty) -> bool
         requires { IsFine self.now.cells.items }
         ensures { KnowsThere result self.now.cells.items number t.now }
@@ -142,7 +143,7 @@ impl Unifier {
         knows_there(&self.cells, number as usize, t)
     }
 
-    /// Where a row has a label, as far as the row is known.
+    /// Where a row has a label: at the first field of that label on the way to its end, or where the end has it.
     pub fn spot(&self, row: u64, label: &Label) -> Spot
         requires fine { IsFine self.now.cells.items }
         requires there { IsRowAt self.now.cells.items row }

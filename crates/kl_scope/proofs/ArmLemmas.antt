@@ -21,7 +21,7 @@ use Rattle.kl_scope.specs.Patterns.{within, pattern_labels, variables, variables
 use Rattle.kl_scope.specs.Findings.{Finding, may_fail, used, repeated, pattern_findings, patterns_findings, drawn_findings, sure_findings, count, field_labels, branch_labels, behind, findings, findings_all, findings_fields, findings_quals, findings_branches, findings_steps}
 use Rattle.kl_scope.specs.Gathering.{gathered}
 use Rattle.kl_scope.specs.Resolved.{meant, resolved_pat, resolved_pats, resolved, resolved_all, resolved_fields, resolved_quals, resolved_branches, resolved_steps}
-use Rattle.kl_scope.specs.Walks.{Walked, Fronted, onto, same_scope, pattern_front, expr_front, field_front, step_front, PatternWalk, PatternsWalk, PatternsFront, ExprWalk, ItemsWalk, ExprsFront, FieldsFront, QualsFront, BranchesFront, StepsFront, QualFront, QualsWalk, BranchFront, BranchesWalk, RestWalk, StepsWalk, SureWalk, DrawnWalk}
+use Rattle.kl_scope.specs.Walks.{Walked, Fronted, onto, same_scope, pattern_front, expr_front, field_front, step_front, PatternWalk, PatternsWalk, PatternsFront, ExprWalk, ItemsWalk, ExprsFront, FieldsFront, QualsFront, BranchesFront, StepsFront, QualFront, QualsWalk, HeadWalk, Bound, AfterOk, BranchFront, BranchesWalk, RestWalk, StepsWalk, SureWalk, DrawnWalk}
 use Rattle.kl_scope.proofs.StayLemmas.{variables_stay}
 use Rattle.kl_scope.proofs.FindingLemmas.{gathered_append}
 use Rattle.kl_scope.proofs.WalkLemmas.{closed, left_is, behind_more, within_more, draw_in_front, test_in_front}
@@ -99,6 +99,20 @@ pub if_ok : {P Q : Type 0} (r : Result (Unit {0}) NoMemory) → (P → Q) → If
 if_ok (Ok x) f p = f p
 if_ok (Err e) f p = tt
 
+-- what holds of a part and of the one behind it
+pub behind_ok : {P Q R : Type 0} (r s : Result (Unit {0}) NoMemory) → IfOk r (λ _. P) → IfOk s (λ _. AfterOk r Q) → (P → Q → R) → IfOk s (λ _. R)
+behind_ok (Ok x) (Ok y) p q go = go p q
+behind_ok (Err e) (Ok y) p q go = absurd q
+behind_ok r (Err e) p q go = tt
+
+pub behind_both : (P Q : Type 0) (r s : Result (Unit {0}) NoMemory) → IfOk r (λ _. P) → IfOk s (λ _. AfterOk r Q) → IfOk s (λ _. P × Q)
+behind_both P Q (Ok x) (Ok y) p q = (p, q)
+behind_both P Q (Err e) (Ok y) p q = absurd q
+behind_both P Q r (Err e) p q = tt
+
+pub behind_walked : {P : Type 0} (r : Result (Unit {0}) NoMemory) (x : Unit {0}) → r ≡ Ok x → P → AfterOk r P
+behind_walked r x e p = rw e p
+
 -- ---- patterns
 
 pub record_walked : (ps qs : List (Word × Pattern)) (w v u : Walk) → v.names ≡ w.names → v.findings ≡ gathered w.findings (repeated [] (map (λ f. f.0) ps)) → PatternsFront ps qs v u
@@ -132,22 +146,22 @@ fields_walked es fs w v u same labels k =
       scope = walked.scope ∙ same;
     }
 
-pub comp_walked : (k : Kind) (qs rs : Quals) (e f : Exp) (depth : ℕ) (w v u : Walk) (last : Scope) → depth ≡ length w.names.variables → QualsWalk qs rs w v → ExprWalk e f v u
-    → last ≡ record u.names { variables = drop (length u.names.variables - depth) u.names.variables } → ExprWalk (Comp k e qs) (Comp k f rs) w (record { alloc = u.alloc; names = last; findings = u.findings })
-comp_walked k qs rs e f depth w v u last deep q h left =
+head_walked : (e f : Exp) (depth : ℕ) (v u : Walk) (last : Scope) → ExprWalk e f v u → last ≡ record u.names { variables = drop (length u.names.variables - depth) u.names.variables }
+    → HeadWalk e f depth v (record { alloc = u.alloc; names = last; findings = u.findings })
+head_walked e f depth v u last h left = record {
+  tree = h.tree;
+  found = h.found;
+  scope = subst (λ (s : Scope). last ≡ record s { variables = drop (length s.variables - depth) s.variables }) h.scope left;
+}
+
+pub comp_walked : (k : Kind) (qs rs : Quals) (e f : Exp) (depth : ℕ) (w v u : Walk) → depth ≡ length w.names.variables → QualsWalk qs rs w v → HeadWalk e f depth v u → ExprWalk (Comp k e qs) (Comp k f rs) w u
+comp_walked k qs rs e f depth w v u deep q h =
     let next : v.names ≡ behind qs w.names = q.scope in
     record {
       tree = rw (h.tree, q.tree, next) refl;
       found = h.found ∙ rw (q.found, next) (sym (gathered_append w.findings (findings_quals qs w.names) (findings e (behind qs w.names))));
-      scope = left_is w.names (behind qs w.names) last depth (behind_more qs w.names) deep (subst (λ (s : Scope). last ≡ record s { variables = drop (length s.variables - depth) s.variables }) (h.scope ∙ next) left);
+      scope = left_is w.names (behind qs w.names) u.names depth (behind_more qs w.names) deep (subst (λ (s : Scope). u.names ≡ record s { variables = drop (length s.variables - depth) s.variables }) next h.scope);
     }
-
--- a pattern and what it binds variables for
-pub record Bound (p : Pat) (e : Exp) (q : Pat) (f : Exp) (w v : Walk) : Type 0 where
-  pub pattern : q ≡ resolved_pat p w.names
-  pub body : f ≡ resolved e (within p w.names)
-  pub found : v.findings ≡ gathered w.findings (sure_findings p w.names ++ findings e (within p w.names))
-  pub scope : v.names ≡ w.names
 
 pub bound_walked : (p q : Pat) (e f : Exp) (depth : ℕ) (w v u : Walk) (last : Scope) → depth ≡ length w.names.variables → SureWalk p q w v → ExprWalk e f v u
     → last ≡ record u.names { variables = drop (length u.names.variables - depth) u.names.variables } → Bound p e q f w (record { alloc = u.alloc; names = last; findings = u.findings })
@@ -266,17 +280,32 @@ coll_ok r e g k es fs zs w u pe pg pz h =
     let walked : ItemsWalk (exps_view es) (exps_view fs) w u = subst (λ (x : List Expr). ItemsWalk (exps_view x) (exps_view fs) w u) pz j in
     record { tree = ap (Coll k) walked.tree; found = walked.found; scope = walked.scope }) h)
 
+-- a part behind another one
+pub next_ok : (r before : Result (Unit {0}) NoMemory) (x : Unit {0}) (a y : Expr) (b : Exp) (w u : Walk) → before ≡ Ok x → y ≡ a → IfOk r (λ _. ExprWalk (view y) b w u) → IfOk r (λ _. AfterOk before (ExprWalk (view a) b w u))
+next_ok r before x a y b w u first py h = if_ok r (λ k. behind_walked before x first (subst (λ (t : Expr). ExprWalk (view t) b w u) py k)) h
+
+pub head_is : (before : Result (Unit {0}) NoMemory) (x : Unit {0}) (a y f : Expr) (depth : ℕ) (v u : Walk) (last : Scope) → before ≡ Ok x → y ≡ a → ExprWalk (view y) (view f) v u
+    → last ≡ record u.names { variables = drop (length u.names.variables - depth) u.names.variables } → AfterOk before (HeadWalk (view a) (view f) depth v (record { alloc = u.alloc; names = last; findings = u.findings }))
+head_is before x a y f depth v u last first py h left =
+    behind_walked before x first (head_walked (view a) (view f) depth v u last (subst (λ (t : Expr). ExprWalk (view t) (view f) v u) py h) left)
+
+pub body_is : (before : Result (Unit {0}) NoMemory) (x : Unit {0}) (p q : Pattern) (a y f : Expr) (depth : ℕ) (w v u : Walk) (last : Scope) → before ≡ Ok x → y ≡ a → depth ≡ length w.names.variables
+    → SureWalk (pattern_view p) (pattern_view q) w v → ExprWalk (view y) (view f) v u → last ≡ record u.names { variables = drop (length u.names.variables - depth) u.names.variables }
+    → AfterOk before (Bound (pattern_view p) (view a) (pattern_view q) (view f) w (record { alloc = u.alloc; names = last; findings = u.findings }))
+body_is before x p q a y f depth w v u last first py deep s h left =
+    behind_walked before x first
+    (bound_walked (pattern_view p) (pattern_view q) (view a) (view f) depth w v u last deep s (subst (λ (t : Expr). ExprWalk (view t) (view f) v u) py h) left)
+
 -- the same where the part was reached
 seen : (e g : Expr) (a b : Exp) (w u : Walk) → view e ≡ a → view g ≡ b → ExprWalk a b w u → ExprWalk (view e) (view g) w u
 seen e g a b w u p q h = rw (p, q) h
 
-pub comp_is : (e g : Expr) (k : Kind) (a b y : Expr) (qs rs zs : List Qual) (depth : ℕ) (w v u : Walk) (last : Scope) → e ≡ expr.Comp k a qs → g ≡ expr.Comp k b rs → y ≡ a → zs ≡ qs → depth ≡ length w.names.variables
-    → QualsWalk (quals_view zs) (quals_view rs) w v → ExprWalk (view y) (view b) v u → last ≡ record u.names { variables = drop (length u.names.variables - depth) u.names.variables }
-    → ExprWalk (view e) (view g) w (record { alloc = u.alloc; names = last; findings = u.findings })
-comp_is e g k a b y qs rs zs depth w v u last pe pg py pz deep q h left =
-    seen e g (Comp k (view a) (quals_view qs)) (Comp k (view b) (quals_view rs)) w _ (ap view pe ∙ view_Comp k a qs) (ap view pg ∙ view_Comp k b rs)
-    (comp_walked k (quals_view qs) (quals_view rs) (view a) (view b) depth w v u last deep (subst (λ (x : List Qual). QualsWalk (quals_view x) (quals_view rs) w v) pz q)
-    (subst (λ (x : Expr). ExprWalk (view x) (view b) v u) py h) left)
+pub comp_is : (e g : Expr) (k : Kind) (a b y : Expr) (qs rs zs : List Qual) (depth : ℕ) (w v u : Walk) → e ≡ expr.Comp k a qs → g ≡ expr.Comp k b rs → y ≡ a → zs ≡ qs → depth ≡ length w.names.variables
+    → QualsWalk (quals_view zs) (quals_view rs) w v → HeadWalk (view y) (view b) depth v u → ExprWalk (view e) (view g) w u
+comp_is e g k a b y qs rs zs depth w v u pe pg py pz deep q h =
+    seen e g (Comp k (view a) (quals_view qs)) (Comp k (view b) (quals_view rs)) w u (ap view pe ∙ view_Comp k a qs) (ap view pg ∙ view_Comp k b rs)
+    (comp_walked k (quals_view qs) (quals_view rs) (view a) (view b) depth w v u deep (subst (λ (x : List Qual). QualsWalk (quals_view x) (quals_view rs) w v) pz q)
+    (subst (λ (x : Expr). HeadWalk (view x) (view b) depth v u) py h))
 
 pub if_is : (e g : Expr) (a b c x y z d f j : Expr) (w v u o : Walk) → e ≡ expr.If a b c → g ≡ expr.If d f j → x ≡ a → y ≡ b → z ≡ c
     → ExprWalk (view x) (view d) w v → ExprWalk (view y) (view f) v u → ExprWalk (view z) (view j) u o → ExprWalk (view e) (view g) w o
@@ -285,14 +314,12 @@ if_is e g a b c x y z d f j w v u o pe pg px py pz h k l =
     (choice_walked (view a) (view b) (view c) (view d) (view f) (view j) w v u o (subst (λ (t : Expr). ExprWalk (view t) (view d) w v) px h) (subst (λ (t : Expr). ExprWalk (view t) (view f) v u) py k)
     (subst (λ (t : Expr). ExprWalk (view t) (view j) u o) pz l))
 
-pub let_is : (e g : Expr) (p q m : Pattern) (a b c d x y : Expr) (depth : ℕ) (w v u o : Walk) (last : Scope) → e ≡ expr.Let p a b → g ≡ expr.Let q c d → m ≡ p → x ≡ a → y ≡ b → depth ≡ length v.names.variables
-    → ExprWalk (view x) (view c) w v → SureWalk (pattern_view m) (pattern_view q) v u → ExprWalk (view y) (view d) u o → last ≡ record o.names { variables = drop (length o.names.variables - depth) o.names.variables }
-    → ExprWalk (view e) (view g) w (record { alloc = o.alloc; names = last; findings = o.findings })
-let_is e g p q m a b c d x y depth w v u o last pe pg pm px py deep h s k left =
-    let last_walk : Walk = record { alloc = o.alloc; names = last; findings = o.findings } in
-    seen e g (Let (pattern_view p) (view a) (view b)) (Let (pattern_view q) (view c) (view d)) w last_walk (ap view pe ∙ view_Let p a b) (ap view pg ∙ view_Let q c d)
-    (bind_walked (pattern_view p) (pattern_view q) (view a) (view b) (view c) (view d) w v last_walk (subst (λ (t : Expr). ExprWalk (view t) (view c) w v) px h)
-    (bound_walked (pattern_view p) (pattern_view q) (view b) (view d) depth v u o last deep (subst (λ (t : Pattern). SureWalk (pattern_view t) (pattern_view q) v u) pm s) (subst (λ (t : Expr). ExprWalk (view t) (view d) u o) py k) left))
+pub let_is : (e g : Expr) (p q m : Pattern) (a b c d x y : Expr) (w v u : Walk) → e ≡ expr.Let p a b → g ≡ expr.Let q c d → m ≡ p → x ≡ a → y ≡ b
+    → ExprWalk (view x) (view c) w v → Bound (pattern_view m) (view y) (pattern_view q) (view d) v u → ExprWalk (view e) (view g) w u
+let_is e g p q m a b c d x y w v u pe pg pm px py h k =
+    seen e g (Let (pattern_view p) (view a) (view b)) (Let (pattern_view q) (view c) (view d)) w u (ap view pe ∙ view_Let p a b) (ap view pg ∙ view_Let q c d)
+    (bind_walked (pattern_view p) (pattern_view q) (view a) (view b) (view c) (view d) w v u (subst (λ (t : Expr). ExprWalk (view t) (view c) w v) px h)
+    (subst (λ (t : Pattern). Bound (pattern_view t) (view b) (pattern_view q) (view d) v u) pm (subst (λ (t : Expr). Bound (pattern_view m) (view t) (pattern_view q) (view d) v u) py k)))
 
 pub case_is : (e g : Expr) (a b x : Expr) (bs cs zs : List Branch) (c d y : Option Expr) (w v u o : Walk) → e ≡ expr.Case a bs c → g ≡ expr.Case b cs d → x ≡ a → zs ≡ bs → y ≡ c
     → ExprWalk (view x) (view b) w v → BranchesWalk zs cs v u → RestWalk y d u o → ExprWalk (view e) (view g) w o

@@ -13,8 +13,8 @@ use Rattle.kl_scope.specs.Patterns.{within}
 use Rattle.kl_scope.specs.Findings.{taken, sure_findings, findings, decls_findings, behind_decls}
 use Rattle.kl_scope.specs.Gathering.{gathered}
 use Rattle.kl_scope.specs.Resolved.{resolved, resolved_decls}
-use Rattle.kl_scope.specs.Walks.{Walked, Fronted, onto, decl_front, DeclWalk, DeclsWalk, ExprWalk, SureWalk, ProgramWalk}
-use Rattle.kl_scope.proofs.ArmLemmas.{Bound, bound_walked}
+use Rattle.kl_scope.specs.Walks.{Walked, Fronted, onto, decl_front, DeclWalk, DeclsWalk, ExprWalk, SureWalk, Bound, ProgramWalk}
+use Rattle.kl_scope.proofs.ArmLemmas.{bound_walked}
 use Rattle.kl_scope.proofs.FindingLemmas.{gathered_append}
 use Rattle.kl_scope.proofs.WalkLemmas.{closed, put_back}
 

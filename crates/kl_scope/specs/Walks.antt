@@ -1,7 +1,8 @@
 -- What the walk does to a part of a program and to its own state.
 -- No public contract cites this.
-use Rattle.std.specs.Prelude.{◌≡◌, false, List, [], ◌∷◌, ◌++◌, map, length, replicate, Option, None}
+use Rattle.std.specs.Prelude.{◌≡◌, ℕ, ◌-◌, false, List, [], ◌∷◌, ◌++◌, map, length, drop, replicate, Option, None, Result, Ok, Err}
 use Rattle.std.specs.Option.{option_map}
+use Rattle.kl_base.specs.declared.memory.NoMemory.{NoMemory}
 use Rattle.kl_syntax.specs.declared.tree.Branch.{Branch, out-Branch}
 use Rattle.kl_syntax.specs.declared.tree.Decl.{Decl}
 use Rattle.kl_syntax.specs.declared.tree.Expr.{Expr}
@@ -49,6 +50,24 @@ SureWalk = Walked resolved_pat sure_findings within
 
 abbrev pub ExprWalk : Exp → Exp → Walk → Walk → Type 0
 ExprWalk = Walked resolved findings same_scope
+
+-- the same up to a scope that keeps so many variables
+pub record HeadWalk (e f : Exp) (depth : ℕ) (w v : Walk) : Type 0 where
+  pub tree : f ≡ resolved e w.names
+  pub found : v.findings ≡ gathered w.findings (findings e w.names)
+  pub scope : v.names ≡ record w.names { variables = drop (length w.names.variables - depth) w.names.variables }
+
+-- a pattern and what it binds variables for
+pub record Bound (p : Pat) (e : Exp) (q : Pat) (f : Exp) (w v : Walk) : Type 0 where
+  pub pattern : q ≡ resolved_pat p w.names
+  pub body : f ≡ resolved e (within p w.names)
+  pub found : v.findings ≡ gathered w.findings (sure_findings p w.names ++ findings e (within p w.names))
+  pub scope : v.names ≡ w.names
+
+-- behind a part that was walked through
+abbrev pub AfterOk : Result (Unit {0}) NoMemory → Type 0 → Type 0
+AfterOk (Ok x) P = P
+AfterOk (Err e) P = ⊥
 
 abbrev pub RestWalk : Option Expr → Option Expr → Walk → Walk → Type 0
 RestWalk t u = Walked resolved_branches findings_branches same_scope (rest_of (option_map view t)) (rest_of (option_map view u))

@@ -5,8 +5,8 @@ ghost use Rattle.kl_syntax.specs.View.{view, qual_view, branch_view, exps_view, 
 ghost use Rattle.kl_scope.specs.Findings.{taken, repeated};
 ghost use Rattle.kl_scope.specs.Patterns.{variables, within};
 ghost use Rattle.kl_scope.specs.Gathering.{gathered};
-ghost use Rattle.kl_scope.specs.Walks.{PatternWalk, PatternsWalk, DrawnWalk, SureWalk, ExprWalk, ItemsWalk, QualsWalk, QualFront, BranchesWalk};
-ghost use Rattle.kl_scope.specs.Walks.{BranchFront, RestWalk, StepsWalk, DeclWalk, DeclsWalk, ProgramWalk, Whole};
+ghost use Rattle.kl_scope.specs.Walks.{PatternWalk, PatternsWalk, DrawnWalk, SureWalk, Bound, ExprWalk, ItemsWalk, QualsWalk, QualFront, HeadWalk};
+ghost use Rattle.kl_scope.specs.Walks.{BranchesWalk, BranchFront, RestWalk, StepsWalk, DeclWalk, DeclsWalk, ProgramWalk, Whole, AfterOk};
 
 use crate::findings::Findings;
 use crate::names::Names;
@@ -100,41 +100,83 @@ impl Walk {
             Expr::Coll(_, items) => self.items(items),
             Expr::Comp(_, head, quals) => {
                 let depth = self.names.depth();
-                self.quals(quals)?;
-                self.expr(head.get_mut())?;
-                self.names.leave(depth)?;
-                Ok(())
+                let opened = self.quals(quals);
+                self.head(opened, head, depth)
             }
             Expr::If(a, b, c) => {
-                self.expr(a.get_mut())?;
-                self.expr(b.get_mut())?;
-                self.expr(c.get_mut())?;
-                Ok(())
+                let tested = self.boxed(a);
+                let chosen = self.next(tested, b);
+                self.next(chosen, c)
             }
             Expr::Let(pattern, a, b) => {
-                self.expr(a.get_mut())?;
-                let depth = self.names.depth();
-                self.sure(pattern)?;
-                self.expr(b.get_mut())?;
-                self.names.leave(depth)?;
-                Ok(())
+                let bound = self.boxed(a);
+                self.body(bound, b, pattern)
             }
             Expr::Case(subject, branches, rest) => {
-                self.expr(subject.get_mut())?;
-                self.branches(branches)?;
-                self.rest(rest)?;
-                Ok(())
+                let looked = self.boxed(subject);
+                let branched = self.branches(looked, branches);
+                self.rest(branched, rest)
             }
-            Expr::Inj(_, a) => self.expr(a.get_mut()),
-            Expr::Path(a, _) => self.expr(a.get_mut()),
-            Expr::Not(a) => self.expr(a.get_mut()),
-            Expr::Neg(a) => self.expr(a.get_mut()),
+            Expr::Inj(_, a) => self.boxed(a),
+            Expr::Path(a, _) => self.boxed(a),
+            Expr::Not(a) => self.boxed(a),
+            Expr::Neg(a) => self.boxed(a),
             Expr::Chain(first, steps) => {
-                self.expr(first.get_mut())?;
-                self.steps(steps)?;
-                Ok(())
+                let begun = self.boxed(first);
+                self.steps(begun, steps)
             }
         }
+    }
+
+    #[cycle(walk)]
+    fn boxed(&mut self, e: &mut Box<Expr>) -> Result<(), NoMemory>
+        ensures { IfOk result (λ _. ExprWalk (view e.old) (view e.new) self.old self.new) }
+    {
+        self.expr(e.get_mut())
+    }
+
+    // These take what came of the part before theirs, so that the walk of an expression ends in one place for each form.
+    #[cycle(walk)]
+    fn next(&mut self, before: Result<(), NoMemory>, e: &mut Box<Expr>) -> Result<(), NoMemory>
+        ensures { IfOk result (λ _. AfterOk before (ExprWalk (view e.old) (view e.new) self.old self.new)) }
+    {
+        before?;
+        self.expr(e.get_mut())
+    }
+
+    /// The head of a comprehension, whose variables are those above this depth.
+    #[cycle(walk)]
+    fn head(
+        &mut self,
+        before: Result<(), NoMemory>,
+        head: &mut Box<Expr>,
+        depth: usize,
+    ) -> Result<(), NoMemory>
+        ensures { IfOk result (λ _. AfterOk before (HeadWalk (view head.old) (view head.new) depth self.old self.new)) }
+    {
+        before?;
+        self.expr(head.get_mut())?;
+        self.names.leave(depth)?;
+        Ok(())
+    }
+
+    /// The body of a `let` with its pattern.
+    #[cycle(walk)]
+    fn body(
+        &mut self,
+        before: Result<(), NoMemory>,
+        body: &mut Box<Expr>,
+        pattern: &mut Pattern,
+    ) -> Result<(), NoMemory>
+        ensures { IfOk result (λ _. AfterOk before
+            (Bound (pattern_view pattern.old) (view body.old) (pattern_view pattern.new) (view body.new) self.old self.new)) }
+    {
+        before?;
+        let depth = self.names.depth();
+        self.sure(pattern)?;
+        self.expr(body.get_mut())?;
+        self.names.leave(depth)?;
+        Ok(())
     }
 
     #[cycle(walk)]
@@ -200,9 +242,14 @@ impl Walk {
     }
 
     #[cycle(walk)]
-    fn branches(&mut self, branches: &mut Branches) -> Result<(), NoMemory>
-        ensures { IfOk result (λ _. BranchesWalk branches.old branches.new self.old self.new) }
+    fn branches(
+        &mut self,
+        before: Result<(), NoMemory>,
+        branches: &mut Branches,
+    ) -> Result<(), NoMemory>
+        ensures { IfOk result (λ _. AfterOk before (BranchesWalk branches.old branches.new self.old self.new)) }
     {
+        before?;
         self.findings.branch_labels(self.alloc, branches.slice())?;
         let branches = branches.slice_mut();
         'branches: for i in 0..branches.len() {
@@ -223,9 +270,14 @@ impl Walk {
     }
 
     #[cycle(walk)]
-    fn rest(&mut self, rest: &mut Option<Box<Expr>>) -> Result<(), NoMemory>
-        ensures { IfOk result (λ _. RestWalk rest.old rest.new self.old self.new) }
+    fn rest(
+        &mut self,
+        before: Result<(), NoMemory>,
+        rest: &mut Option<Box<Expr>>,
+    ) -> Result<(), NoMemory>
+        ensures { IfOk result (λ _. AfterOk before (RestWalk rest.old rest.new self.old self.new)) }
     {
+        before?;
         match rest {
             Some(e) => self.expr(e.get_mut()),
             None => Ok(()),
@@ -233,9 +285,10 @@ impl Walk {
     }
 
     #[cycle(walk)]
-    fn steps(&mut self, steps: &mut Steps) -> Result<(), NoMemory>
-        ensures { IfOk result (λ _. StepsWalk (steps_view steps.old) (steps_view steps.new) self.old self.new) }
+    fn steps(&mut self, before: Result<(), NoMemory>, steps: &mut Steps) -> Result<(), NoMemory>
+        ensures { IfOk result (λ _. AfterOk before (StepsWalk (steps_view steps.old) (steps_view steps.new) self.old self.new)) }
     {
+        before?;
         let steps = steps.slice_mut();
         'steps: for i in 0..steps.len() {
             self.expr(&mut steps[i].1)?;

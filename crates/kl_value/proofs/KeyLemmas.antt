@@ -1,7 +1,9 @@
 -- A value with a smaller key is smaller, so a sort by key and then value sorts.
-use Rattle.std.proofs.Common.{◌≡◌, ℕ, zero, suc, ◌+◌, ◌-◌, ◌*◌, ◌^◌, ◌<◌, ◌≤◌, ⊎_elim, ℤ, pos, negsuc, Bool, true, false, List, [], ◌∷◌, map, length, get_or, drop, Option, refl, sym, ap, ap₂, subst, ◌∙◌, arith, Ordering, Less, Equal, Greater, is_lt, is_le, IsPermutation, IsSorted, add-one, drop-cons}
+use Rattle.std.proofs.Common.{◌≡◌, ℕ, zero, suc, ◌+◌, ◌-◌, ◌*◌, ◌^◌, ◌<◌, ◌≤◌, ⊎_elim, ℤ, pos, negsuc, Bool, true, false, List, [], ◌∷◌, ◌++◌, map, take, length, get_or, drop, Option, Some, None, inl, inr, ◌⊎◌, refl, sym, ap, ap₂, subst, ◌∙◌, arith, Ordering, Less, Equal, Greater, is_lt, is_le, IsPermutation, IsSorted, add-one, drop-cons}
 use Rattle.std.proofs.Math.Nat.{pow-suc, mul-le-mul_right, pow-le-pow_right}
 use Rattle.std.specs.Cmp.{nat_cmp_is}
+use Rattle.std.specs.Prelude.{FitsSigned}
+use Rattle.std.specs.Int.{w64}
 use Rattle.std.specs.Bool.{OnTrue}
 use Rattle.std.specs.List.{All, AllByRecursion, IsAllAdjacentAnswer}
 use Rattle.std.specs.Ordering.{nat_cmp, int_cmp, ordering_then, ordering_reverse}
@@ -10,14 +12,15 @@ use Rattle.std.proofs.lemmas.Bool.{cases_lt}
 use Rattle.std.proofs.lemmas.Bool.Decides.{nat_tests}
 use Rattle.std.proofs.lemmas.Cmp.{tied_itself, nat_list_cmp_total}
 use Rattle.std.proofs.lemmas.List.{drop_all, get_or_past, get_or-map, length-map}
-use Rattle.std.proofs.lemmas.List.Elements.{recursion_from_All, All-from_recursion}
+use Rattle.std.proofs.Math.Seq.{take-suc}
+use Rattle.std.proofs.lemmas.List.Elements.{All-append, recursion_from_All, All-from_recursion}
 use Rattle.std.proofs.lemmas.List.Sorted.{IsPermutation-map, IsPermutation-refl, All-permutation}
 use Rattle.kl_base.specs.Fields.{bytes_cmp}
 use Rattle.kl_base.specs.Sorted.{sorted}
 use Rattle.kl_base.proofs.SortedLemmas.{sorted_is}
-use Rattle.kl_value.specs.Keys.{front, above_least, room, key_layer, key_of, lead_layer, lead_of, first_label_layer, first_label, BeginAlike}
+use Rattle.kl_value.specs.Keys.{front, counted, second_key, key_layer, key_of, lead_layer, lead_of, second_layer, first_label_layer, second_label_layer, HasKeyLayer, BeginsWith, BeginAlike}
 use Rattle.kl_value.specs.Order.{order_layer, compare}
-use Rattle.kl_value.specs.declared.value.Value.{Value, Value-F, out-Value}
+use Rattle.kl_value.specs.declared.value.Value.{Value, Value-F, out-Value, roll-Value, roll-out-Value}
 use Rattle.kl_value.specs.contracts.value.ValueOrd.TheImpl as derived
 use Rattle.kl_value.proofs.OrderLemmas.{compare-out, compare_total, compare_exact, derived_is}
 use Rattle.kl_base.proofs.Orders.{not_above}
@@ -108,25 +111,25 @@ front_below (suc n) (b ∷ bs) (c ∷ cs) h =
         (λ far. absurd (omega (arith, h, front-far n b bs far, front-far n c cs (omega arith))))
         (cases_lt b 256)
 
-pub low_power : (i : ℕ) → i < 15 → 256 ^ i ≤ 256 ^ 14
-low_power i low = pow-le-pow_right (omega arith) {j = 14} (omega arith)
+pub low_power : (i n : ℕ) → i < n → n ≤ 15 → 256 ^ i ≤ 256 ^ 14
+low_power i n low most = pow-le-pow_right (omega arith) {j = 14} (omega arith)
 
 pub turn_room : (i number b : ℕ) → number < 256 ^ i → b < 256 → number * 256 + b < 256 ^ (i + 1)
 turn_room i number b low byte = rw add-one (omega (arith, low, byte, pow-suc 256 i))
 
-pub turn_value : (bs : List ℕ) (i number b : ℕ) → i < 15 → b ≡ get_or bs i 0 → b < 256 → number * 256 ^ (15 - i) + front (15 - i) (drop i bs) ≡ front 15 bs
-    → (number * 256 + b) * 256 ^ (15 - (i + 1)) + front (15 - (i + 1)) (drop (i + 1) bs) ≡ front 15 bs
-turn_value bs i number b low same byte so_far =
-    let left : 15 - i ≡ suc (15 - (i + 1)) = omega arith in
-    ap (λ d. (number * 256 + d) * 256 ^ (15 - (i + 1)) + front (15 - (i + 1)) (drop (i + 1) bs)) same
-    ∙ (front_turn bs i (15 - (i + 1)) number (subst (λ d. d < 256) same byte)
-    ∙ subst (λ k. number * 256 ^ k + front k (drop i bs) ≡ front 15 bs) left so_far)
+pub turn_value : (n : ℕ) (bs : List ℕ) (i number b : ℕ) → i < n → b ≡ get_or bs i 0 → b < 256 → number * 256 ^ (n - i) + front (n - i) (drop i bs) ≡ front n bs
+    → (number * 256 + b) * 256 ^ (n - (i + 1)) + front (n - (i + 1)) (drop (i + 1) bs) ≡ front n bs
+turn_value n bs i number b low same byte so_far =
+    let left : n - i ≡ suc (n - (i + 1)) = omega arith in
+    ap (λ d. (number * 256 + d) * 256 ^ (n - (i + 1)) + front (n - (i + 1)) (drop (i + 1) bs)) same
+    ∙ (front_turn bs i (n - (i + 1)) number (subst (λ d. d < 256) same byte)
+    ∙ subst (λ k. number * 256 ^ k + front k (drop i bs) ≡ front n bs) left so_far)
 
-pub turn_end : (bs : List ℕ) (i number : ℕ) → 15 ≤ i → number * 256 ^ (15 - i) + front (15 - i) (drop i bs) ≡ front 15 bs → number ≡ front 15 bs
+pub turn_end : (n : ℕ) (bs : List ℕ) (i number : ℕ) → n ≤ i → number * 256 ^ (n - i) + front (n - i) (drop i bs) ≡ front n bs → number ≡ front n bs
 unfolding front
-turn_end bs i number past so_far =
-    let left : 15 - i ≡ 0 = omega arith in
-    let whole : number * 1 + 0 ≡ front 15 bs = subst (λ k. number * 256 ^ k + front k (drop i bs) ≡ front 15 bs) left so_far in
+turn_end n bs i number past so_far =
+    let left : n - i ≡ 0 = omega arith in
+    let whole : number * 1 + 0 ≡ front n bs = subst (λ k. number * 256 ^ k + front k (drop i bs) ≡ front n bs) left so_far in
     omega (arith, whole)
 
 -- ---- tests
@@ -139,114 +142,190 @@ pub rise_is : (vs : List Value) (r : Bool) → IsAllAdjacentAnswer (λ v w b. b 
 rise_is vs true h = λ k d low within. ap is_lt (compare_total.antisymm _ _) ∙ not_above _ (h k d within ∙ ap is_le (derived_is _ _))
 rise_is vs false h = tt
 
+pub all_and_next : {X : Type 0} (P : X → Type 0) (xs : List X) (i : ℕ) (x : X) → i < length xs → x ≡ get_or xs i x → All P (take i xs) → P x → All P (take (i + 1) xs)
+all_and_next P xs i x within at all one =
+    rw add-one
+    (subst (All P) (ap (λ y. take i xs ++ y ∷ []) at ∙ sym (take-suc xs i x within))
+    (All-append P (take i xs) (x ∷ []) all (All-from_recursion P (x ∷ []) (one, tt))))
+
 pub rising_sorted : (vs : List Value) → IsSorted compare vs → vs ≡ sorted compare vs
 rising_sorted vs up = sorted_is compare compare_total compare_exact vs vs (IsPermutation-refl vs) up
 
 -- ---- keys
 
-int_below : (m n : ℤ) → above_least m < above_least n → int_cmp m n ≡ Less
-int_below (pos m) (pos n) h = (let less : m < n = omega arith in grind (arith, nat_tests))
-int_below (pos m) (negsuc n) h = absurd (omega arith)
-int_below (negsuc m) (pos n) h = refl
-int_below (negsuc m) (negsuc n) h = (let less : n < m = omega arith in grind (arith, nat_tests))
+counted_below : (half : ℕ) (m n : ℤ) → counted half m < counted half n → int_cmp m n ≡ Less
+counted_below half (pos m) (pos n) h = (let less : m < n = omega arith in grind (arith, nat_tests))
+counted_below half (pos m) (negsuc n) h = absurd (omega arith)
+counted_below half (negsuc m) (pos n) h = refl
+counted_below half (negsuc m) (negsuc n) h = (let less : n < m = omega arith in grind (arith, nat_tests))
 
-int_room : (n : ℤ) → above_least n < 2 ^ 64
-int_room (pos n) = omega arith
-int_room (negsuc n) = omega arith
+counted_room : (half : ℕ) (n : ℤ) → 0 < half → counted half n < 2 * half
+counted_room half (pos n) some = omega arith
+counted_room half (negsuc n) some = omega arith
 
-pub text_room : (t : List ℕ) → front 15 t < room
+counted_same : (m n : ℤ) → FitsSigned w64 m → FitsSigned w64 n → counted (2 ^ 63) m ≡ counted (2 ^ 63) n → m ≡ n
+counted_same (pos m) (pos n) fm fn e = (let low = fm.sfits in let less = fn.sfits in ap (λ k. pos k) (omega arith))
+counted_same (pos m) (negsuc n) fm fn e = (let low = fm.sfits in let less = fn.sfits in absurd (omega arith))
+counted_same (negsuc m) (pos n) fm fn e = (let low = fm.sfits in let less = fn.sfits in absurd (omega arith))
+counted_same (negsuc m) (negsuc n) fm fn e = (let low = fm.sfits in let less = fn.sfits in ap (λ k. negsuc k) (omega arith))
+
+pub text_room : (t : List ℕ) → front 15 t < 2 ^ 120
 text_room t = front-less 15 t
 
-key_most : (y : Value-F Value) → key_layer y ≤ 3 * room
-key_most (Value-F.Bool b) = omega arith
-key_most (Value-F.Int n) = omega (arith, int_room n)
-key_most (Value-F.Text t) = omega (arith, text_room t)
-key_most y = omega arith
+pub second_text_room : (t : List ℕ) → front 7 t < 2 ^ 56
+second_text_room t = front-less 7 t
 
-layer_below : (x y : Value-F Value) → key_layer x < key_layer y → order_layer compare x y ≡ Less
-layer_below (Value-F.Bool a) (Value-F.Bool b) h = absurd (omega arith)
-layer_below (Value-F.Bool a) y h = refl
-layer_below (Value-F.Int m) (Value-F.Bool b) h = absurd (omega arith)
-layer_below (Value-F.Int m) (Value-F.Int n) h = int_below m n (omega arith)
-layer_below (Value-F.Int m) y h = refl
-layer_below (Value-F.Text s) (Value-F.Bool b) h = absurd (omega arith)
-layer_below (Value-F.Text s) (Value-F.Int n) h = absurd (omega (arith, h, int_room n))
-layer_below (Value-F.Text s) (Value-F.Text t) h = front_below 15 s t (omega (arith, h))
-layer_below (Value-F.Text s) y h = refl
-layer_below x y h = absurd (omega (arith, h, key_most y))
+second_most : (y : Value-F Value) → second_key (Some y) ≤ 3 * 2 ^ 61
+second_most (Value-F.Bool b) = omega arith
+second_most (Value-F.Int n) = omega (arith, counted_room (2 ^ 60) n (omega arith))
+second_most (Value-F.Text t) = omega (arith, second_text_room t)
+second_most _ = omega arith
 
-key_below : (v w : Value) → key_of v < key_of w → compare v w ≡ Less
-key_below v w h = compare-out v w ∙ layer_below (out-Value v) (out-Value w) h
+pub second_room : (y : Option (Value-F Value)) → second_key y < 2 ^ 63
+second_room None = omega arith
+second_room (Some y) = omega (arith, second_most y)
 
-lead_below : (v w : Value) (x y : Value-F Value) → out-Value v ≡ x → out-Value w ≡ y → first_label_layer x ≡ first_label_layer y
-    → compare (lead_layer v x) (lead_layer w y) ≡ Less → order_layer compare x y ≡ Less
-lead_below v w (Value-F.Rec (f ∷ fs)) (Value-F.Rec (g ∷ gs)) ex ey same less =
-    let label : f.0 ≡ g.0 = cc in
+pub first_room : (n : ℤ) → counted (2 ^ 63) n < 2 ^ 64
+first_room n = omega (arith, counted_room (2 ^ 63) n (omega arith))
+
+second_below : (x y : Value-F Value) → second_key (Some x) < second_key (Some y) → order_layer compare x y ≡ Less
+second_below (Value-F.Bool a) (Value-F.Bool b) h = absurd (omega arith)
+second_below (Value-F.Bool a) y h = refl
+second_below (Value-F.Int m) (Value-F.Bool b) h = absurd (omega arith)
+second_below (Value-F.Int m) (Value-F.Int n) h = counted_below (2 ^ 60) m n (omega arith)
+second_below (Value-F.Int m) y h = refl
+second_below (Value-F.Text s) (Value-F.Bool b) h = absurd (omega arith)
+second_below (Value-F.Text s) (Value-F.Int n) h = absurd (omega (arith, h, counted_room (2 ^ 60) n (omega arith)))
+second_below (Value-F.Text s) (Value-F.Text t) h = front_below 7 s t (omega (arith, h))
+second_below (Value-F.Text s) y h = refl
+second_below x y h = absurd (omega (arith, h, second_most y))
+
+-- What smaller keys tell of two values with a key: the first parts are in order, or they are the same and the second
+-- parts have smaller keys.
+abbrev Tells : (x y : Value-F Value) (second other : Option (Value-F Value)) → Type 0
+Tells x y second other = (order_layer compare x y ≡ Less) ⊎ ((x ≡ y) × (second_key second < second_key other))
+
+front_tells : (x y : Value-F Value) (second other : Option (Value-F Value)) → HasKeyLayer x → HasKeyLayer y → key_layer x second < key_layer y other → Tells x y second other
+front_tells (Value-F.Int m) (Value-F.Int n) second other hx hy h =
+    ⊎_elim (λ less. inl (counted_below (2 ^ 63) m n less))
+    (λ most. (let same : counted (2 ^ 63) m ≡ counted (2 ^ 63) n = omega (arith, h, second_room other) in
+    inr (ap (λ k. Value-F.Int k) (counted_same m n hx hy same), omega (arith, h, same))))
+    (cases_lt (counted (2 ^ 63) m) (counted (2 ^ 63) n))
+front_tells (Value-F.Int m) (Value-F.Text t) second other hx hy h = inl refl
+front_tells (Value-F.Text s) (Value-F.Int n) second other hx hy h = absurd (omega (arith, h, first_room n, second_room other))
+front_tells (Value-F.Text s) (Value-F.Text t) second other hx hy h = inl (front_below 15 s t (omega (arith, h)))
+front_tells (Value-F.Int m) y second other hx hy h = absurd hy
+front_tells (Value-F.Text s) y second other hx hy h = absurd hy
+front_tells x y second other hx hy h = absurd hx
+
+abbrev fields_cmp : List ℕ × Value → List ℕ × Value → Ordering
+fields_cmp f g = ordering_then (bytes_cmp f.0 g.0) (compare f.1 g.1)
+
+same_value : (a b : Value) → out-Value a ≡ out-Value b → compare a b ≡ Equal
+same_value a b e = ap (compare a) (sym (sym (roll-out-Value a) ∙ (ap roll-Value e ∙ roll-out-Value b))) ∙ tied_itself compare_total a
+
+field_below : (f g : List ℕ × Value) (fs gs : List (List ℕ × Value)) → f.0 ≡ g.0 → compare f.1 g.1 ≡ Less → slice_cmp fields_cmp (f ∷ fs) (g ∷ gs) ≡ Less
+field_below f g fs gs label less =
     let tie : bytes_cmp f.0 g.0 ≡ Equal = ap (bytes_cmp f.0) (sym label) ∙ tied_itself nat_list_cmp_total f.0 in
-    ap₂ (λ o p. ordering_then (ordering_then o p) (slice_cmp (λ f g. ordering_then (bytes_cmp f.0 g.0) (compare f.1 g.1)) fs gs)) tie less
-lead_below v w (Value-F.Rec (f ∷ fs)) y ex ey same less = cc
-lead_below v w x (Value-F.Rec (g ∷ gs)) ex ey same less = cc
-lead_below v w x y ex ey same less = ap₂ (order_layer compare) (sym ex) (sym ey) ∙ (sym (compare-out v w) ∙ less)
+    ap₂ (λ o p. ordering_then (ordering_then o p) (slice_cmp fields_cmp fs gs)) tie less
 
--- of values that begin alike, one whose front has a smaller key is smaller
-begin_below : (v w : Value) → first_label v ≡ first_label w → key_of (lead_of v) < key_of (lead_of w) → compare v w ≡ Less
-begin_below v w same less =
-    compare-out v w ∙ lead_below v w (out-Value v) (out-Value w) refl refl same (key_below _ _ less)
+field_same : (f g : List ℕ × Value) (fs gs : List (List ℕ × Value)) → f.0 ≡ g.0 → out-Value f.1 ≡ out-Value g.1 → slice_cmp fields_cmp fs gs ≡ Less
+    → slice_cmp fields_cmp (f ∷ fs) (g ∷ gs) ≡ Less
+field_same f g fs gs label same less =
+    let tie : bytes_cmp f.0 g.0 ≡ Equal = ap (bytes_cmp f.0) (sym label) ∙ tied_itself nat_list_cmp_total f.0 in
+    ap₂ (λ o p. ordering_then (ordering_then o p) (slice_cmp fields_cmp fs gs)) tie (same_value f.1 g.1 same) ∙ less
+
+same_some : (l m : List ℕ) → Some l ≡ Some m → l ≡ m
+same_some l m e = cc
+
+rest_below : (f g : List ℕ × Value) (fs gs : List (List ℕ × Value)) → second_label_layer (Value-F.Rec (f ∷ fs)) ≡ second_label_layer (Value-F.Rec (g ∷ gs))
+    → second_key (second_layer (Value-F.Rec (f ∷ fs))) < second_key (second_layer (Value-F.Rec (g ∷ gs))) → slice_cmp fields_cmp fs gs ≡ Less
+rest_below f g [] [] same h = absurd (omega (arith, h))
+rest_below f g [] (j ∷ gs) same h = refl
+rest_below f g (i ∷ fs) [] same h = absurd (omega (arith, h))
+rest_below f g (i ∷ fs) (j ∷ gs) same h =
+    field_below i j fs gs (same_some i.0 j.0 same) (compare-out i.1 j.1 ∙ second_below (out-Value i.1) (out-Value j.1) h)
+
+-- of values that begin alike, one with a smaller key is smaller
+layer_below : (v w : Value) (x y : Value-F Value) → out-Value v ≡ x → out-Value w ≡ y
+    → first_label_layer x ≡ first_label_layer y → second_label_layer x ≡ second_label_layer y
+    → Tells (out-Value (lead_layer v x)) (out-Value (lead_layer w y)) (second_layer x) (second_layer y)
+    → order_layer compare x y ≡ Less
+layer_below v w (Value-F.Rec (f ∷ fs)) (Value-F.Rec (g ∷ gs)) ex ey first second tells =
+    let label : f.0 ≡ g.0 = same_some f.0 g.0 first in
+    ⊎_elim
+    (λ less. field_below f g fs gs label (compare-out f.1 g.1 ∙ less))
+    (λ both. field_same f g fs gs label both.0 (rest_below f g fs gs second both.1))
+    tells
+layer_below v w (Value-F.Rec (f ∷ fs)) y ex ey first second tells = cc
+layer_below v w x (Value-F.Rec (g ∷ gs)) ex ey first second tells = cc
+layer_below v w x y ex ey first second tells =
+    ⊎_elim
+    (λ less. ap₂ (order_layer compare) (sym ex) (sym ey) ∙ less)
+    (λ both. absurd (omega (arith, both.1)))
+    tells
+
+begin_below : (first second : Option (List ℕ)) (v w : Value) → BeginsWith first second v → BeginsWith first second w → key_of v < key_of w → compare v w ≡ Less
+begin_below first second v w bv bw less =
+    compare-out v w
+    ∙ layer_below v w (out-Value v) (out-Value w) refl refl (bv.first_is ∙ sym bw.first_is) (bv.second_is ∙ sym bw.second_is)
+    (front_tells (out-Value (lead_of v)) (out-Value (lead_of w)) (second_layer (out-Value v)) (second_layer (out-Value w)) bv.has_key bw.has_key less)
 
 -- ---- sorts
 
 abbrev pub keyed_as : Value → ℕ × Value
-keyed_as v = (key_of (lead_of v), v)
+keyed_as v = (key_of v, v)
 
 abbrev pair_cmp : ℕ × Value → ℕ × Value → Ordering
 pair_cmp p q = ordering_then (nat_cmp p.0 q.0) (derived.ghosts.cmp p.1 q.1)
 
-abbrev Keyed : Option (List ℕ) → ℕ × Value → Type 0
-Keyed l p = (p.0 ≡ key_of (lead_of p.1)) × (first_label p.1 ≡ l)
+abbrev Keyed : Option (List ℕ) → Option (List ℕ) → ℕ × Value → Type 0
+Keyed l m p = (p.0 ≡ key_of p.1) × BeginsWith l m p.1
 
-all_keyed : (l : Option (List ℕ)) (vs : List Value) → AllByRecursion (λ v. first_label v ≡ l) vs → AllByRecursion (Keyed l) (map keyed_as vs)
-all_keyed l [] all = tt
-all_keyed l (v ∷ vs) all = ((refl, all.0), all_keyed l vs all.1)
+all_keyed : (l m : Option (List ℕ)) (vs : List Value) → AllByRecursion (BeginsWith l m) vs → AllByRecursion (Keyed l m) (map keyed_as vs)
+all_keyed l m [] all = tt
+all_keyed l m (v ∷ vs) all = ((refl, all.0), all_keyed l m vs all.1)
 
 values_of : (vs : List Value) → map (λ (p : ℕ × Value). p.1) (map keyed_as vs) ≡ vs
 values_of [] = refl
 values_of (v ∷ vs) = ap (λ ws. v ∷ ws) (values_of vs)
 
-pair_less : (l : Option (List ℕ)) (p q : ℕ × Value) → Keyed l p → Keyed l q → compare p.1 q.1 ≡ Less → pair_cmp p q ≡ Less
-pair_less l p q kp kq less = go (nat_cmp p.0 q.0) refl
+pair_less : (l m : Option (List ℕ)) (p q : ℕ × Value) → Keyed l m p → Keyed l m q → compare p.1 q.1 ≡ Less → pair_cmp p q ≡ Less
+pair_less l m p q kp kq less = go (nat_cmp p.0 q.0) refl
   where
     go : (o : Ordering) → nat_cmp p.0 q.0 ≡ o → ordering_then o (derived.ghosts.cmp p.1 q.1) ≡ Less
     go Less e = refl
     go Equal e = derived_is p.1 q.1 ∙ less
     go Greater e =
-        let turned : key_of (lead_of q.1) < key_of (lead_of p.1) = omega (arith, nat_greater p.0 q.0 e, kp.0, kq.0) in
-        let back : compare q.1 p.1 ≡ Less = begin_below q.1 p.1 (kq.1 ∙ sym kp.1) turned in
+        let turned : key_of q.1 < key_of p.1 = subst (λ a. a < key_of p.1) kq.0 (subst (λ a. q.0 < a) kp.0 (nat_greater p.0 q.0 e)) in
+        let back : compare q.1 p.1 ≡ Less = begin_below l m q.1 p.1 kq.1 kp.1 turned in
         absurd (let e = compare_total.antisymm p.1 q.1 in let f = ap ordering_reverse back in cc)
 
-not_less : (l : Option (List ℕ)) (p q : ℕ × Value) → Keyed l p → Keyed l q → is_lt (pair_cmp p q) ≡ false → is_lt (compare p.1 q.1) ≡ false
-not_less l p q kp kq h = go (compare p.1 q.1) refl
+not_less : (l m : Option (List ℕ)) (p q : ℕ × Value) → Keyed l m p → Keyed l m q → is_lt (pair_cmp p q) ≡ false → is_lt (compare p.1 q.1) ≡ false
+not_less l m p q kp kq h = go (compare p.1 q.1) refl
   where
     go : (o : Ordering) → compare p.1 q.1 ≡ o → is_lt o ≡ false
-    go Less e = sym (ap is_lt (pair_less l p q kp kq e)) ∙ h
+    go Less e = sym (ap is_lt (pair_less l m p q kp kq e)) ∙ h
     go Equal e = refl
     go Greater e = refl
 
-sorted_values_of : (l : Option (List ℕ)) (ps : List (ℕ × Value)) → All (Keyed l) ps → IsSorted pair_cmp ps → IsSorted compare (map (λ p. p.1) ps)
-sorted_values_of l ps all up k d low within =
+sorted_values_of : (l m : Option (List ℕ)) (ps : List (ℕ × Value)) → All (Keyed l m) ps → IsSorted pair_cmp ps → IsSorted compare (map (λ p. p.1) ps)
+sorted_values_of l m ps all up k d low within =
     let pair : ℕ × Value = keyed_as d in
     let within_pairs : k + 1 < length ps = omega (arith, within, length-map ps (λ (p : ℕ × Value). p.1)) in
     let second : get_or (map (λ (p : ℕ × Value). p.1) ps) (k + 1) d ≡ (get_or ps (k + 1) pair).1 = get_or-map (λ (p : ℕ × Value). p.1) ps (k + 1) pair d within_pairs in
     let first : get_or (map (λ (p : ℕ × Value). p.1) ps) k d ≡ (get_or ps k pair).1 = get_or-map (λ (p : ℕ × Value). p.1) ps k pair d (omega arith) in
     ap₂ (λ v w. is_lt (compare v w)) second first
-    ∙ not_less l _ _ (all (k + 1) pair within_pairs) (all k pair (omega arith)) (up k pair low within_pairs)
+    ∙ not_less l m _ _ (all (k + 1) pair within_pairs) (all k pair (omega arith)) (up k pair low within_pairs)
 
 -- what a sort of the pairs of key and value leaves
 pub sorted_by_keys : (vs : List Value) (qs ps : List (ℕ × Value)) → BeginAlike vs → qs ≡ map keyed_as vs → IsPermutation qs ps → IsSorted pair_cmp ps
     → map (λ p. p.1) ps ≡ sorted compare vs
 sorted_by_keys vs qs ps alike same sorts up =
     let moved : IsPermutation (map keyed_as vs) ps = subst (λ rs. IsPermutation rs ps) same sorts in
-    let all : All (Keyed alike.0) (map keyed_as vs) =
-    All-from_recursion (Keyed alike.0) (map keyed_as vs) (all_keyed alike.0 vs (recursion_from_All (λ v. first_label v ≡ alike.0) vs alike.1)) in
+    let all : All (Keyed alike.0 alike.1) (map keyed_as vs) =
+    All-from_recursion (Keyed alike.0 alike.1) (map keyed_as vs)
+    (all_keyed alike.0 alike.1 vs (recursion_from_All (BeginsWith alike.0 alike.1) vs alike.2)) in
     sorted_is compare compare_total compare_exact vs (map (λ p. p.1) ps)
     (subst (λ ws. IsPermutation ws (map (λ (p : ℕ × Value). p.1) ps)) (values_of vs) (IsPermutation-map (λ (p : ℕ × Value). p.1) (map keyed_as vs) ps moved))
-    (sorted_values_of alike.0 ps (All-permutation (Keyed alike.0) (map keyed_as vs) ps moved all) up)
+    (sorted_values_of alike.0 alike.1 ps (All-permutation (Keyed alike.0 alike.1) (map keyed_as vs) ps moved all) up)

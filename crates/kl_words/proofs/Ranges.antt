@@ -25,8 +25,8 @@ use Rattle.clap.proofs.WalkLemmas.{both, one_text-rows}
 use Rattle.kl_ask.specs.declared.settings.JoinHow.{JoinHow}
 use Rattle.kl_words.specs.declared.command.Job.{Job}
 use Rattle.kl_words.specs.declared.command.WordsError.{WordsError}
-use Rattle.kl_words.specs.Lines.{program_line, run_line}
-use Rattle.kl_words.specs.Commands.{AnswersWanted, AreInRange, job_by, job_of, join_of, number_of, number_told, settings_of}
+use Rattle.kl_words.specs.Lines.{gen_line, program_line, run_line}
+use Rattle.kl_words.specs.Commands.{AnswersWanted, AreInRange, job_by, job_of, join_of, number_of, number_told, numbers_of, settings_of}
 use Rattle.kl_words.proofs.Reading.{told_reads}
 
 -- ---- the one rule of an id
@@ -76,6 +76,18 @@ run_plain = refl
 all_simple : Each (λ r. r.is_simple ≡ true) run_line.top.rules
 unfolding Each run_line program_line
 all_simple = (refl, (refl, (refl, (refl, (refl, (refl, (refl, (refl, (refl, (refl, tt))))))))))
+
+takes_size : Each (TakesOne (codes "size") 0 1000000) gen_line.top.rules
+unfolding Each TakesOne gen_line
+takes_size = (no, (λ e. refl, tt))
+
+gen_plain : gen_line.top.is_plain ≡ true
+unfolding gen_line
+gen_plain = refl
+
+gen_simple : Each (λ r. r.is_simple ≡ true) gen_line.top.rules
+unfolding Each gen_line
+gen_simple = (refl, (refl, tt))
 
 -- what holds of each rule of a command holds of each argument
 of_args : (P : Rule → Type 0) (line : Command) → Each P (app_of line).top.rules → (k : ℕ) (d : Arg) → k < length (args_of line)
@@ -206,12 +218,13 @@ kept : (o : Option ℕ) (least most default : ℕ) → IfSome o (λ n. (least �
 kept None least most default h low high = (low, high)
 kept (Some n) least most default h low high = h
 
-known : (line : Command) (id : Text) (low high : ℕ) → app_of line ≡ run_line → Each (TakesOne id low high) run_line.top.rules
+known : (line : Command) (a : App) (id : Text) (low high : ℕ) → app_of line ≡ a → Each (TakesOne id low high) a.top.rules
+    → Each (λ r. r.is_simple ≡ true) a.top.rules → a.top.is_plain ≡ true
     → bytes_eq (codes "help") id ≡ false → bytes_eq (codes "version") id ≡ false → (id ≡ [] → ⊥) → Knows line id low high
-known line id low high is takes help version name = record {
+known line a id low high is takes simple plain help version name = record {
   takes = subst (λ (a : App). Each (TakesOne id low high) a.top.rules) (sym is) takes;
-  simple = subst (λ (a : App). Each (λ r. r.is_simple ≡ true) a.top.rules) (sym is) all_simple;
-  plain = subst (λ (a : App). a.top.is_plain ≡ true) (sym is) run_plain;
+  simple = subst (λ (a : App). Each (λ r. r.is_simple ≡ true) a.top.rules) (sym is) simple;
+  plain = subst (λ (a : App). a.top.is_plain ≡ true) (sym is) plain;
   no_help = help;
   no_version = version;
   is_named = name;
@@ -220,9 +233,9 @@ known line id low high is takes help version name = record {
 settings_in : (line : Command) (m : ArgMatches) (how : JoinHow) → app_of line ≡ run_line → IsParsedFrom line m
     → AreInRange (settings_of (rows_of (found_of m)) how)
 settings_in line m how is p = record {
-  block = kept _ 1 65536 256 (number_in line m p (codes "block") 1 65536 (known line (codes "block") 1 65536 is takes_block refl refl (λ e. cc)) (omega arith)) (omega arith) (omega arith);
-  fetch = kept _ 1 4096 64 (number_in line m p (codes "fetch") 1 4096 (known line (codes "fetch") 1 4096 is takes_fetch refl refl (λ e. cc)) (omega arith)) (omega arith) (omega arith);
-  cache = (kept _ 0 4096 64 (number_in line m p (codes "cache") 0 4096 (known line (codes "cache") 0 4096 is takes_cache refl refl (λ e. cc)) (omega arith)) (omega arith) (omega arith)).1;
+  block = kept _ 1 65536 256 (number_in line m p (codes "block") 1 65536 (known line run_line (codes "block") 1 65536 is takes_block all_simple run_plain refl refl (λ e. cc)) (omega arith)) (omega arith) (omega arith);
+  fetch = kept _ 1 4096 64 (number_in line m p (codes "fetch") 1 4096 (known line run_line (codes "fetch") 1 4096 is takes_fetch all_simple run_plain refl refl (λ e. cc)) (omega arith)) (omega arith) (omega arith);
+  cache = (kept _ 0 4096 64 (number_in line m p (codes "cache") 0 4096 (known line run_line (codes "cache") 0 4096 is takes_cache all_simple run_plain refl refl (λ e. cc)) (omega arith)) (omega arith) (omega arith)).1;
 }
 
 pub job_in : (line : Command) (m : ArgMatches) (r : Result Job WordsError) → app_of line ≡ run_line → IsParsedFrom line m
@@ -235,3 +248,19 @@ job_in line m (Ok j) is p h = go (join_of (rows_of (found_of m))) h
     go (Some how) e =
         let same : job_by (rows_of (found_of m)) how ≡ j = ap (λ (o : Option Job). unwrap_or o j) e in
         subst (λ (x : Job). AreInRange x.settings) same (settings_in line m how is p)
+
+-- ---- the number of rows
+
+pub size_in : (line : Command) (m : ArgMatches) (r : Result (ℕ × ℕ) WordsError) → app_of line ≡ gen_line → IsParsedFrom line m
+    → AnswersWanted (numbers_of (rows_of (found_of m))) r → IfOk r (λ n. n.1 ≤ 1000000)
+size_in line m (Err e) is p h = tt
+size_in line m (Ok n) is p h =
+    go (number_of (codes "seed") (rows_of (found_of m))) (number_of (codes "size") (rows_of (found_of m)))
+    (number_in line m p (codes "size") 0 1000000 (known line gen_line (codes "size") 0 1000000 is takes_size gen_simple gen_plain refl refl (λ e. cc)) (omega arith)) h
+  where
+    go : (seed size : Option ℕ) → IfSome size (λ k. (0 ≤ k) × (k ≤ 1000000)) → option_and_then (λ k. option_map (λ l. (k, l)) size) seed ≡ Some n → n.1 ≤ 1000000
+    go None size most e = cc
+    go (Some k) None most e = cc
+    go (Some k) (Some l) most e =
+        let same : l ≡ n.1 = ap (λ (o : Option (ℕ × ℕ)). (unwrap_or o n).1) e in
+        omega (arith, most.1, same)

@@ -1,7 +1,7 @@
 -- The command lines are such whose reading clap defines.
 use Rattle.std.proofs.Common.{◌≡◌, true, refl}
 use Rattle.clap.specs.Words.{Text, is_simple_and_free}
-use Rattle.kl_words.specs.Lines.{program_line, run_line, show_line}
+use Rattle.kl_words.specs.Lines.{gen_line, program_line, run_line, show_line}
 
 pub run_simple : is_simple_and_free run_line ≡ true
 unfolding run_line program_line
@@ -14,3 +14,7 @@ program_simple name = refl
 pub show_simple : is_simple_and_free show_line ≡ true
 unfolding show_line
 show_simple = refl
+
+pub gen_simple : is_simple_and_free gen_line ≡ true
+unfolding gen_line
+gen_simple = refl

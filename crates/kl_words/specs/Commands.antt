@@ -6,6 +6,7 @@ use Rattle.std.specs.Str.{bytes_eq}
 use Rattle.std.specs.Str.Parse.{digits_value, without_leading_plus}
 use Rattle.clap.specs.ValueTests.{is_numeral}
 use Rattle.clap.specs.Words.{App, Kinds, Row, Text, fault_of, first_of, matches_of, one_of}
+use Rattle.kl_ask.specs.Settings.{usual_settings}
 use Rattle.kl_ask.specs.declared.settings.Settings.{Settings}
 use Rattle.kl_ask.specs.declared.settings.JoinHow.{JoinHow}
 use Rattle.kl_ask.specs.declared.settings.JoinHow.TheVariants as join
@@ -14,7 +15,7 @@ use Rattle.kl_words.specs.declared.command.Command.TheVariants as command
 use Rattle.kl_words.specs.declared.command.Job.{Job}
 use Rattle.kl_words.specs.declared.command.WordsError.{WordsError}
 use Rattle.kl_words.specs.declared.command.WordsError.TheVariants.{NoMemory, Usage}
-use Rattle.kl_words.specs.Lines.{program_line, run_line, show_line}
+use Rattle.kl_words.specs.Lines.{gen_line, program_line, run_line, show_line}
 
 -- ---- what clap reads
 
@@ -49,15 +50,15 @@ join_named t =
     else if bytes_eq t (codes "index") then Some join.Index
     else None
 
--- the way of joining: by index, where no other is named
+-- the way of joining: the usual one, where none is named
 abbrev pub join_of : List Row → Option JoinHow
-join_of rows = option_map_or join_named (first_of (codes "join") rows) (Some join.Index)
+join_of rows = option_map_or join_named (first_of (codes "join") rows) (Some usual_settings.join)
 
 abbrev pub settings_of : List Row → JoinHow → Settings
 settings_of rows how = record {
-  block = unwrap_or (number_of (codes "block") rows) 256;
-  fetch = unwrap_or (number_of (codes "fetch") rows) 64;
-  cache = unwrap_or (number_of (codes "cache") rows) 64;
+  block = unwrap_or (number_of (codes "block") rows) usual_settings.block;
+  fetch = unwrap_or (number_of (codes "fetch") rows) usual_settings.fetch;
+  cache = unwrap_or (number_of (codes "cache") rows) usual_settings.cache;
   join = how;
   rewrite = not (has_flag (codes "no-rewrite") rows);
   delegate = not (has_flag (codes "no-delegate") rows);
@@ -87,6 +88,10 @@ paths_of rows = (path_at (codes "program") rows, first_of (codes "catalogue") ro
 abbrev pub on_program : Text → List Text → Option (Text × Option Text)
 on_program name words = option_map paths_of (reading (program_line name) words)
 
+-- a seed and a number of rows
+abbrev pub numbers_of : List Row → Option (ℕ × ℕ)
+numbers_of rows = option_and_then (λ seed. option_map (λ size. (seed, size)) (number_of (codes "size") rows)) (number_of (codes "seed") rows)
+
 -- the command that the first word names, of the words behind it, which clap reads with the first before them
 abbrev pub named : Text → List Text → Option Command
 named name words =
@@ -94,6 +99,7 @@ named name words =
     else if bytes_eq name (codes "types") then option_map (λ p. command.Types p.0 p.1) (on_program (codes "types") words)
     else if bytes_eq name (codes "check") then option_map (λ p. command.Check p.0 p.1) (on_program (codes "check") words)
     else if bytes_eq name (codes "show") then option_map command.Show (option_map (path_at (codes "file")) (reading show_line words))
+    else if bytes_eq name (codes "gen") then option_map (λ n. command.Gen n.0 n.1) (option_and_then numbers_of (reading gen_line words))
     else None
 
 -- the command of the words, or nothing: there is no first word, it names no command, clap refuses the words behind it,
@@ -112,6 +118,7 @@ pub record AreInRange (s : Settings) : Type 0 where
 
 abbrev pub KeepsLimits : Command → Type 0
 KeepsLimits (command.Run job) = AreInRange job.settings
+KeepsLimits (command.Gen seed size) = size ≤ 1000000
 KeepsLimits other = ⊤
 
 -- ---- what a call answers

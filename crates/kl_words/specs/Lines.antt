@@ -8,6 +8,10 @@ use Rattle.clap.specs.declared.builder.ValueParser.TheVariants as parser
 abbrev pub place_rule : Text → Bool → Rule
 place_rule name required = record (new_rule name) { required = required }
 
+-- a number from 0 to `most` in its place
+abbrev pub amount_rule : Text → ℤ → Rule
+amount_rule name most = record (new_rule name) { required = true; parser = Some (parser.Signed (pos 0) most) }
+
 -- an option with a number from `least` to `most`
 abbrev pub number_rule : Text → ℤ → ℤ → Rule
 number_rule name least most = record (new_rule name) {
@@ -45,3 +49,7 @@ run_line =
 -- `show`
 unfoldable pub show_line : App
 show_line = with_rule (new_app (codes "show")) (place_rule (codes "file") true)
+
+-- `gen`, with a seed and a number of rows
+unfoldable pub gen_line : App
+gen_line = with_rule (with_rule (new_app (codes "gen")) (amount_rule (codes "seed") (pos 4294967295))) (amount_rule (codes "size") (pos 1000000))

@@ -53,6 +53,11 @@ pub enum Command {
     Show {
         file: Text,
     },
+    /// The program over made rows is run: with this seed, and so many rows, at most 1,000,000.
+    Gen {
+        seed: u32,
+        size: u32,
+    },
 }
 
 /// A program that is to be run.

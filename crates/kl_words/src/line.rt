@@ -1,7 +1,7 @@
 //! The command lines, as `clap` is told them.
 ghost use Rattle.std.specs.Prelude.{◌≡◌, false, IfOk};
 ghost use Rattle.clap.specs.Words.{app_of, rule_of};
-ghost use Rattle.kl_words.specs.Lines.{flag_rule, number_rule, place_rule, program_line, run_line, show_line, text_rule};
+ghost use Rattle.kl_words.specs.Lines.{amount_rule, flag_rule, gen_line, number_rule, place_rule, program_line, run_line, show_line, text_rule};
 
 use clap::builder::ValueParser;
 use clap::{Arg, ArgAction, Command};
@@ -12,6 +12,15 @@ fn place<'a>(alloc: Global, name: &'a str, required: bool) -> Arg<'a>
     ensures local { result.global ≡ false }
 {
     Arg::new(alloc, name).required(required)
+}
+
+fn amount<'a>(alloc: Global, name: &'a str, most: i64) -> Arg<'a>
+    ensures rule { rule_of result ≡ amount_rule name.entry.now most }
+    ensures local { result.global ≡ false }
+{
+    Arg::new(alloc, name)
+        .required(true)
+        .value_parser(ValueParser::signed(0, most))
 }
 
 fn number<'a>(alloc: Global, name: &'a str, least: i64, most: i64) -> Arg<'a>
@@ -75,4 +84,16 @@ pub fn show<'a>(alloc: Global) -> Result<Command<'a>, AllocError>
     ensures { IfOk result (λ line. app_of line ≡ show_line) }
 {
     Command::new(alloc, "show").arg(place(alloc, "file", true))
+}
+
+/// `gen`, with a seed and a number of rows.
+///
+/// # Errors
+/// Want of memory.
+pub fn made<'a>(alloc: Global) -> Result<Command<'a>, AllocError>
+    ensures { IfOk result (λ line. app_of line ≡ gen_line) }
+{
+    Command::new(alloc, "gen")
+        .arg(amount(alloc, "seed", 4_294_967_295))?
+        .arg(amount(alloc, "size", 1_000_000))
 }

@@ -1,9 +1,9 @@
 //! Reads the words.
-ghost use Rattle.std.specs.Prelude.{◌≡◌, ◌≢◌, IfOk, IfErr, codes, map, string_bytes, None, Some, option_and_then, option_map, true};
+ghost use Rattle.std.specs.Prelude.{◌≡◌, ◌≢◌, ◌≤◌, IfOk, IfErr, codes, map, string_bytes, None, Some, option_and_then, option_map, true};
 ghost use Rattle.clap.specs.Words.{app_of, first_of, found_of, IsParsedFrom, is_simple_and_free, kind_of, rows_of};
-ghost use Rattle.kl_words.specs.Lines.{program_line, run_line, show_line};
+ghost use Rattle.kl_words.specs.Lines.{gen_line, program_line, run_line, show_line};
 ghost use Rattle.kl_words.specs.Commands.{AnswersWanted, AreInRange, KeepsLimits, OnlyWants, command_of, reading};
-ghost use Rattle.kl_words.specs.Commands.{has_flag, job_of, join_named, join_of, number_of, on_program, path_at};
+ghost use Rattle.kl_words.specs.Commands.{has_flag, job_of, join_named, join_of, number_of, numbers_of, on_program, path_at};
 
 use crate::command::{Command, Job, WordsError};
 use crate::line;
@@ -97,7 +97,7 @@ fn join(matches: &ArgMatches<'_>) -> Option<JoinHow>
 {
     match matches.get_str("join") {
         Some(name) => join_name(name),
-        None => Some(JoinHow::Index),
+        None => Some(Settings::usual().join),
     }
 }
 
@@ -107,13 +107,14 @@ fn job(alloc: Global, matches: &ArgMatches<'_>) -> Result<Job, WordsError>
     let Some(join) = join(matches) else {
         return Err(WordsError::Usage);
     };
+    let usual = Settings::usual();
     Ok(Job {
         program: path(alloc, matches, "program")?,
         catalogue: optional_path(alloc, matches, "catalogue")?,
         settings: Settings {
-            block: number(matches, "block").unwrap_or(256),
-            fetch: number(matches, "fetch").unwrap_or(64),
-            cache: number(matches, "cache").unwrap_or(64),
+            block: number(matches, "block").unwrap_or(usual.block),
+            fetch: number(matches, "fetch").unwrap_or(usual.fetch),
+            cache: number(matches, "cache").unwrap_or(usual.cache),
             join,
             rewrite: !flag(matches, "no-rewrite"),
             delegate: !flag(matches, "no-delegate"),
@@ -149,12 +150,31 @@ fn file(alloc: Global, words: &[String]) -> Result<Text, WordsError>
     path(alloc, &matches, "file")
 }
 
+// A seed and a number of rows, as the arguments tell them.
+fn numbers(matches: &ArgMatches<'_>) -> Result<(u32, u32), WordsError>
+    ensures { AnswersWanted (numbers_of (rows_of (found_of matches.now))) result }
+{
+    match (number(matches, "seed"), number(matches, "size")) {
+        (Some(seed), Some(size)) => Ok((seed, size)),
+        _ => Err(WordsError::Usage),
+    }
+}
+
+fn made(alloc: Global, words: &[String]) -> Result<(u32, u32), WordsError>
+    ensures meant { AnswersWanted (option_and_then numbers_of (reading gen_line (map string_bytes words.now))) result }
+    ensures within { IfOk result (λ n. n.1 ≤ 1000000) }
+{
+    let matches = read_line(line::made(alloc)?, words)?;
+    numbers(&matches)
+}
+
 /// The command of the words, which leave out the program's own name.
 ///
 /// `run PROGRAM [CATALOGUE]` has the options `--block N` (1 to 65,536; 256 where it is not given), `--fetch N` (1 to
 /// 4,096; 64), `--cache N` (0 to 4,096; 64), `--join block` or `--join index` (the second), `--no-rewrite`,
 /// `--no-delegate`, `--first N` (0 to 4,294,967,295) and `--stats`. `types PROGRAM [CATALOGUE]`, `check PROGRAM
-/// [CATALOGUE]` and `show FILE` have none. A number is digits, with a sign before them or not.
+/// [CATALOGUE]`, `show FILE` and `gen SEED N` (0 to 4,294,967,295; 0 to 1,000,000) have none. A number is digits, with a
+/// sign before them or not.
 ///
 /// # Errors
 /// `Usage` where there is no first word or it names no command, and where the words behind it are not those of that
@@ -177,6 +197,10 @@ pub fn read_words(alloc: Global, words: &[String]) -> Result<Command, WordsError
         [name, ..] if name.as_str() == "show" => {
             let file = file(alloc, words)?;
             Ok(Command::Show { file })
+        }
+        [name, ..] if name.as_str() == "gen" => {
+            let (seed, size) = made(alloc, words)?;
+            Ok(Command::Gen { seed, size })
         }
         _ => Err(WordsError::Usage),
     }

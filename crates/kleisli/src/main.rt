@@ -5,7 +5,7 @@
 //! the system gives no words.
 #![tactic(auto)]
 
-use kl_engine::{kleisli, one_driver};
+use kl_engine::{add_driver, kleisli};
 use kl_flat::FlatDriver;
 use kl_outside::{HostFiles, HostSink};
 use std::alloc::AllocError;
@@ -47,8 +47,9 @@ fn run(rt: HostRuntime, words: &[String]) -> u8 {
 // The status that the top call answers, over the driver of flat files.
 fn answer(rt: HostRuntime, words: &[String]) -> Result<u8, AllocError> {
     let files = HostFiles::new(rt);
+    let mut drivers = Vec::new(rt.alloc());
     let driver = Box::new(rt.alloc(), FlatDriver::new(rt.alloc(), files))?;
-    let mut drivers = one_driver(rt.alloc(), driver)?;
+    add_driver(&mut drivers, driver)?;
     let mut files = HostFiles::new(rt);
     let mut out = HostSink::new(rt.stdout());
     let mut err = HostSink::new(rt.stderr());

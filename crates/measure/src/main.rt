@@ -1,7 +1,20 @@
-//! Measures values: `measure STEP N` builds N records `[title, vol, year]`; with STEP `copy` it copies them, and with
-//! STEP `sort` it makes the set of them. It prints how many records there are and the size of a field, and on the stream
-//! of errors the time of the step alone, in milliseconds; memory is the system's to tell.
+//! Measures values, texts of them and tables.
+//!
+//! `measure STEP N` builds N records `[title, vol, year]`; with STEP `copy` it copies them, and with STEP `sort` it makes
+//! the set of them. With STEP `groups` it makes the set of N records `[group, number, title]` in 100 groups. It prints how
+//! many records there are and the size of a field, and on the stream of errors the time of the step alone, in
+//! milliseconds; memory is the system's to tell.
+//!
+//! `measure show FILE` does what `kleisli show` does: it prints the items of a file of nested values; `measure read FILE`
+//! only reads them.
+//!
+//! `measure records FILE` reads a file and its records by `csv`, and `measure table FILE TYPE` reads it as a table of a
+//! type, into columns. They print how many records or rows there are, and on the stream of errors the milliseconds, and
+//! for a table the pages of memory that the system counts for the program, before and while it is held.
 #![tactic(auto)]
+
+mod items;
+mod tables;
 
 use anyhow::{Context, Result};
 use kl_value::{Fields, Kind, Label, NoMemory, Text, Value, canon, dup};
@@ -13,25 +26,46 @@ use std::time::Instant;
 // The labels of the records, which share them.
 #[derive(Drop)]
 struct Labels {
+    group: Label,
+    number: Label,
     title: Label,
     vol: Label,
     year: Label,
 }
 
+#[derive(Clone, Copy)]
+enum Shape {
+    Titled,
+    Grouped,
+}
+
 fn main(rt: HostRuntime) -> Result<()> {
-    let alloc = rt.alloc();
     let mut words = env::args(&rt)?;
     let _name = words.next();
     let step = words.next().context("no step")?;
-    let count = words.next().context("no number")?.parse::<u32>()?;
-    let records = build(alloc, count)?;
+    let word = words.next().context("no number or file")?;
+    match step.as_str() {
+        "show" => items::show(rt, word.as_bytes()),
+        "read" => items::read(rt, word.as_bytes()),
+        "records" => tables::records(rt, &word),
+        "table" => tables::table(rt, &word, &words.next().context("no type")?),
+        _ => measure(rt, step.as_str(), word.parse::<u32>()?),
+    }
+}
+
+fn measure(rt: HostRuntime, step: &str, count: u32) -> Result<()> {
+    let alloc = rt.alloc();
+    let records = match step {
+        "groups" => build(alloc, count, Shape::Grouped)?,
+        _ => build(alloc, count, Shape::Titled)?,
+    };
     let start = Instant::now(&rt)?;
-    let (items, time) = match step.as_str() {
+    let (items, time) = match step {
         "copy" => {
             let copies = copy(alloc, &records)?;
             (copies.len(), start.elapsed(&rt)?)
         }
-        "sort" => {
+        "sort" | "groups" => {
             let set = canon(Kind::Set, records)?;
             (count_of(&set), start.elapsed(&rt)?)
         }
@@ -52,8 +86,10 @@ fn count_of(value: &Value) -> usize {
     }
 }
 
-fn build(alloc: Global, count: u32) -> Result<Vec<Value>> {
+fn build(alloc: Global, count: u32, shape: Shape) -> Result<Vec<Value>> {
     let labels = Labels {
+        group: label(alloc, b"group")?,
+        number: label(alloc, b"number")?,
         title: label(alloc, b"title")?,
         vol: label(alloc, b"vol")?,
         year: label(alloc, b"year")?,
@@ -63,7 +99,11 @@ fn build(alloc: Global, count: u32) -> Result<Vec<Value>> {
     let mut place: u32 = 0;
     for _ in 0..count {
         place = (place % count).wrapping_add(7919) % count;
-        records.push(record(alloc, &labels, place)?)?;
+        let record = match shape {
+            Shape::Titled => titled(alloc, &labels, place)?,
+            Shape::Grouped => grouped(alloc, &labels, place)?,
+        };
+        records.push(record)?;
     }
     Ok(records)
 }
@@ -72,7 +112,7 @@ fn label(alloc: Global, word: &[u8]) -> Result<Label> {
     Label::new(alloc, word)?.context("no word")
 }
 
-fn record(alloc: Global, labels: &Labels, place: u32) -> Result<Value> {
+fn titled(alloc: Global, labels: &Labels, place: u32) -> Result<Value> {
     let title = format!(in alloc; "Locus {place}")?;
     let pairs = vec![in alloc;
         (
@@ -81,6 +121,19 @@ fn record(alloc: Global, labels: &Labels, place: u32) -> Result<Value> {
         ),
         (labels.vol.dup()?, Value::Int((place % 13) as i64)),
         (labels.year.dup()?, Value::Int(1990 + (place % 30) as i64)),
+    ]?;
+    Ok(Value::Rec(Fields::new(pairs)?.context("a label repeats")?))
+}
+
+fn grouped(alloc: Global, labels: &Labels, place: u32) -> Result<Value> {
+    let title = format!(in alloc; "Locus {place}")?;
+    let pairs = vec![in alloc;
+        (labels.group.dup()?, Value::Int((place % 100) as i64)),
+        (labels.number.dup()?, Value::Int(place as i64)),
+        (
+            labels.title.dup()?,
+            Value::Text(Text::of(title.into_bytes()))
+        ),
     ]?;
     Ok(Value::Rec(Fields::new(pairs)?.context("a label repeats")?))
 }

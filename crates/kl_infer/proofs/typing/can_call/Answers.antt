@@ -1,10 +1,10 @@
-use Rattle.std.proofs.Common.{ap}
-use Rattle.kl_infer.specs.Names.{meant_of}
+use Rattle.std.proofs.Common.{ap, sym, ◌∙◌}
+use Rattle.kl_infer.specs.Names.{meant_of, by_function}
 use Rattle.kl_infer.proofs.Leaving.{when, call_function, call_code}
 use Rattle.kl_infer.proofs.typing.can_call.Goals as goal
 
 pub returns-then-args-eq1 : goal.returns-then-args-eq1
-returns-then-args-eq1 c = when _ _ c.uses_function.result (λ v h. call_function v _ _ _ _ c.args.args.now c.args.want (ap meant_of c.in-Function.is) c.if-args-eq1.true h) c.uses_function.ensures
+returns-then-args-eq1 c = when _ _ c.uses_function.result (λ v h. call_function v _ _ _ _ c.args.args.now c.args.want (ap meant_of c.in-Function.is ∙ ap by_function (sym c.get.ensures)) c.if-args-eq1.true h) c.uses_function.ensures
 
 pub returns-in-Primitive : goal.returns-in-Primitive
 returns-in-Primitive c = when _ _ c.applied.result (λ v h. call_code v _ _ _ _ c.args.args.now c.args.want (ap meant_of c.in-Primitive.is) h) c.applied.ensures

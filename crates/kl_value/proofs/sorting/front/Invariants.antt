@@ -5,5 +5,5 @@ use Rattle.kl_value.proofs.sorting.front.Given as goal
 abbrev pub invariant-loop-i : goal.invariant-loop-i
 invariant-loop-i l = record {
   below : l.number < 256 ^ l.i;
-  so_far : l.number * 256 ^ (15 - l.i) + front (15 - l.i) (drop l.i l.bytes) ≡ front 15 l.bytes;
+  so_far : l.number * 256 ^ (l.count - l.i) + front (l.count - l.i) (drop l.i l.bytes) ≡ front l.count l.bytes;
 }

@@ -1,6 +1,6 @@
 use Rattle.std.proofs.Common.{◌≡◌, map}
-use Rattle.kl_value.specs.Keys.{key_of, lead_of}
+use Rattle.kl_value.specs.Keys.{key_of}
 use Rattle.kl_value.proofs.sorting.keyed.Given as goal
 
 abbrev pub invariant-loop-value : goal.invariant-loop-value
-invariant-loop-value l = l.pairs.items ≡ map (λ v. (key_of (lead_of v), v)) l.yielded
+invariant-loop-value l = l.pairs.items ≡ map (λ v. (key_of v, v)) l.yielded

@@ -1,6 +1,5 @@
-use Rattle.std.proofs.Common.{refl}
 use Rattle.kl_infer.proofs.Leaving.{asked}
 use Rattle.kl_infer.proofs.typing.Typing.choice.Goals as goal
 
 pub returns : goal.returns
-returns c = asked _ c.args.self.now _ _ _ c.if-not-self.false refl refl c.in_ok-self.ensures
+returns c = asked c.met.result _ _ _ _ c.met.ensures c.in_ok-is_variant.ensures

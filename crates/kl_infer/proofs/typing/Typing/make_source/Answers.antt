@@ -1,4 +1,4 @@
-use Rattle.std.proofs.Common.{refl, sym, subst}
+use Rattle.std.proofs.Common.{sym, subst}
 use Rattle.kl_type.specs.Ground.{IsProper}
 use Rattle.kl_rows.specs.Places.{a_type}
 use Rattle.kl_infer.proofs.Leaving.{made_so}
@@ -11,4 +11,4 @@ pub merge-requires-clause-sorts : goal.merge-requires-clause-sorts
 merge-requires-clause-sorts c = let k = c.in_ok-number.ensures.keeps in record { sort = a_type; first = c.in_ok-number.ensures.sort; second = k.sorts c.args.want a_type c.requires.there }
 
 pub returns : goal.returns
-returns c = made_so _ c.args.self.now _ _ _ _ _ _ _ c.requires.possible refl refl c.in_ok-t.ensures c.requires.there c.in_ok-number.ensures c.in_ok-self.ensures
+returns c = made_so c.met.result _ _ _ _ _ _ _ _ c.met.ensures c.in_ok-t.ensures c.requires.there c.in_ok-number.ensures c.in_ok-merge.ensures

@@ -7,7 +7,7 @@ use Rattle.kl_scope.specs.Findings.{findings_all, findings_fields, findings_qual
 use Rattle.kl_scope.specs.Gathering.{gathered}
 use Rattle.kl_scope.specs.Resolved.{resolved_all, resolved_fields, resolved_quals, resolved_branches, resolved_steps}
 use Rattle.kl_scope.specs.Walks.{same_scope, expr_front, field_front, step_front}
-use Rattle.kl_scope.proofs.ArmLemmas.{call_ok, fields_ok, coll_ok, comp_is, if_is, let_is, case_is, chain_is, gen_is, cond_is, exps_walked, call_walked, fields_walked, quals_walked, branches_walked, branch_is, steps_walked}
+use Rattle.kl_scope.proofs.ArmLemmas.{behind_ok, behind_both, behind_walked, next_ok, head_is, body_is, call_ok, fields_ok, coll_ok, comp_is, if_is, let_is, case_is, chain_is, gen_is, cond_is, exps_walked, call_walked, fields_walked, quals_walked, branches_walked, branch_is, steps_walked}
 use Rattle.kl_scope.proofs.WalkLemmas.{item_walked, unvisited_more, unvisited_item, list_walked, expr_in_front, field_in_front, step_in_front}
 use Rattle.kl_scope.proofs.walk.Walk.+walk.Goals as goal
 
@@ -78,8 +78,9 @@ branches-branches-preserved t c = record {
 
 pub branches-returns : goal.branches-returns
 branches-returns t c =
-    branches_walked c.args.branches.now _ c.args.self.now _ c.branches.self refl (c.in_ok-branch_labels.ensures ∙ ap (λ bs. gathered c.args.self.now.findings (repeated [] (map (λ b. (out-Branch b).label) bs))) c.slice.ensures)
-    (list_walked resolved_branches findings_branches same_scope branch_view c.args.branches.now c.slice_mut-branches.result.now c.branches.branches c.branches.i _ c.branches.self c.slice_mut-branches.ensures.value c.branches-test.false c.branches.auto.branches c.branches.invariant.walked)
+    behind_walked _ _ c.in_ok-before.was
+    (branches_walked c.args.branches.now _ c.args.self.now _ c.branches.self refl (c.in_ok-branch_labels.ensures ∙ ap (λ bs. gathered c.args.self.now.findings (repeated [] (map (λ b. (out-Branch b).label) bs))) c.slice.ensures)
+    (list_walked resolved_branches findings_branches same_scope branch_view c.args.branches.now c.slice_mut-branches.result.now c.branches.branches c.branches.i _ c.branches.self c.slice_mut-branches.ensures.value c.branches-test.false c.branches.auto.branches c.branches.invariant.walked))
 
 pub branch-returns : goal.branch-returns
 branch-returns t c =
@@ -96,36 +97,52 @@ steps-steps-preserved t c = record {
 }
 
 pub steps-returns : goal.steps-returns
-steps-returns t c = steps_walked c.args.steps.now _ c.args.self.now c.steps.self (list_walked resolved_steps findings_steps same_scope step_front c.args.steps.now c.slice_mut-steps.result.now c.steps.steps c.steps.i c.args.self.now c.steps.self c.slice_mut-steps.ensures.value c.steps-test.false c.steps.auto.steps c.steps.invariant.walked)
+steps-returns t c = behind_walked _ _ c.in_ok-before.was (steps_walked c.args.steps.now _ c.args.self.now c.steps.self (list_walked resolved_steps findings_steps same_scope step_front c.args.steps.now c.slice_mut-steps.result.now c.steps.steps c.steps.i c.args.self.now c.steps.self c.slice_mut-steps.ensures.value c.steps-test.false c.steps.auto.steps c.steps.invariant.walked))
 
-pub expr-returns-in_ok-leave-in-Comp : goal.expr-returns-in_ok-leave-in-Comp
-expr-returns-in_ok-leave-in-Comp t c =
-    comp_is c.args.e.now _ c.in-Comp.field-0 c.in-Comp.head c.expr.new.e c.get_mut.result.now c.in-Comp.quals c.quals.new.quals _ c.depth-depth.result c.args.self.now c.quals.new.self c.expr.new.self c.leave.new.self
-    c.in-Comp.is (first_of (search rules, search (rules, the_lemmas), search (rules, the_lemmas, c.in-Comp.is))) (c.get_mut.ensures.value ∙ c.in-Comp.head-is) c.in-Comp.quals-is c.depth-depth.ensures c.in_ok-quals-in-Comp.ensures c.in_ok-expr-in-Comp.ensures c.in_ok-leave-in-Comp.ensures
+pub expr-returns-in-Comp : goal.expr-returns-in-Comp
+expr-returns-in-Comp t c =
+    behind_ok c.quals-opened.result c.head.result c.quals-opened.ensures c.head.ensures
+    (comp_is c.args.e.now _ c.in-Comp.field-0 c.in-Comp.head c.head.new.head _ c.in-Comp.quals c.quals-opened.new.quals _ c.depth-depth.result c.args.self.now c.quals-opened.new.self c.head.new.self
+    c.in-Comp.is (first_of (search rules, search (rules, the_lemmas), search (rules, the_lemmas, c.in-Comp.is))) c.in-Comp.head-is c.in-Comp.quals-is c.depth-depth.ensures)
 
-pub expr-returns-in_ok-expr-in-If-3 : goal.expr-returns-in_ok-expr-in-If-3
-expr-returns-in_ok-expr-in-If-3 t c =
-    if_is c.args.e.now _ c.in-If.a c.in-If.b c.in-If.c c.get_mut-in-If.result.now c.get_mut-in-If-2.result.now c.get_mut-in-If-3.result.now c.expr-in-If.new.e c.expr-in-If-2.new.e c.expr-in-If-3.new.e
-    c.args.self.now c.expr-in-If.new.self c.expr-in-If-2.new.self c.expr-in-If-3.new.self c.in-If.is (first_of (search rules, search (rules, the_lemmas), search (rules, the_lemmas, c.in-If.is)))
-    (c.get_mut-in-If.ensures.value ∙ c.in-If.a-is) (c.get_mut-in-If-2.ensures.value ∙ c.in-If.b-is) (c.get_mut-in-If-3.ensures.value ∙ c.in-If.c-is) c.in_ok-expr-in-If.ensures c.in_ok-expr-in-If-2.ensures c.in_ok-expr-in-If-3.ensures
+pub expr-returns-in-If : goal.expr-returns-in-If
+expr-returns-in-If t c =
+    behind_ok c.next-chosen.result c.next.result (behind_both _ _ c.boxed-tested.result c.next-chosen.result c.boxed-tested.ensures c.next-chosen.ensures) c.next.ensures
+    (λ h l. if_is c.args.e.now _ c.in-If.a c.in-If.b c.in-If.c _ _ _ c.boxed-tested.new.e c.next-chosen.new.e c.next.new.e
+    c.args.self.now c.boxed-tested.new.self c.next-chosen.new.self c.next.new.self c.in-If.is (first_of (search rules, search (rules, the_lemmas), search (rules, the_lemmas, c.in-If.is)))
+    c.in-If.a-is c.in-If.b-is c.in-If.c-is h.0 h.1 l)
 
-pub expr-returns-in_ok-leave-in-Let : goal.expr-returns-in_ok-leave-in-Let
-expr-returns-in_ok-leave-in-Let t c =
-    let_is c.args.e.now _ c.in-Let.pattern c.sure.new.pattern _ c.in-Let.a c.in-Let.b c.expr-in-Let.new.e c.expr-in-Let-2.new.e c.get_mut-in-Let.result.now c.get_mut-in-Let-2.result.now c.depth-depth-in-Let.result
-    c.args.self.now c.expr-in-Let.new.self c.sure.new.self c.expr-in-Let-2.new.self c.leave-in-Let.new.self c.in-Let.is (first_of (search rules, search (rules, the_lemmas), search (rules, the_lemmas, c.in-Let.is)))
-    c.in-Let.pattern-is (c.get_mut-in-Let.ensures.value ∙ c.in-Let.a-is) (c.get_mut-in-Let-2.ensures.value ∙ c.in-Let.b-is) c.depth-depth-in-Let.ensures
-    c.in_ok-expr-in-Let.ensures c.in_ok-sure-in-Let.ensures c.in_ok-expr-in-Let-2.ensures c.in_ok-leave-in-Let.ensures
+pub expr-returns-in-Let : goal.expr-returns-in-Let
+expr-returns-in-Let t c =
+    behind_ok c.boxed-bound.result c.body.result c.boxed-bound.ensures c.body.ensures
+    (let_is c.args.e.now _ c.in-Let.pattern c.body.new.pattern _ c.in-Let.a c.in-Let.b c.boxed-bound.new.e c.body.new.body _ _
+    c.args.self.now c.boxed-bound.new.self c.body.new.self c.in-Let.is (first_of (search rules, search (rules, the_lemmas), search (rules, the_lemmas, c.in-Let.is))) c.in-Let.pattern-is c.in-Let.a-is c.in-Let.b-is)
 
-pub expr-returns-in_ok-rest-in-Case : goal.expr-returns-in_ok-rest-in-Case
-expr-returns-in_ok-rest-in-Case t c =
-    case_is c.args.e.now _ c.in-Case.subject c.expr-in-Case.new.e c.get_mut-in-Case.result.now c.in-Case.branches c.branches.new.branches _ c.in-Case.rest c.rest.new.rest _
-    c.args.self.now c.expr-in-Case.new.self c.branches.new.self c.rest.new.self c.in-Case.is (first_of (search rules, search (rules, the_lemmas), search (rules, the_lemmas, c.in-Case.is)))
-    (c.get_mut-in-Case.ensures.value ∙ c.in-Case.subject-is) c.in-Case.branches-is c.in-Case.rest-is c.in_ok-expr-in-Case.ensures c.in_ok-branches-in-Case.ensures c.in_ok-rest-in-Case.ensures
+pub expr-returns-in-Case : goal.expr-returns-in-Case
+expr-returns-in-Case t c =
+    behind_ok c.branches-branched.result c.rest.result (behind_both _ _ c.boxed-looked.result c.branches-branched.result c.boxed-looked.ensures c.branches-branched.ensures) c.rest.ensures
+    (λ h r. case_is c.args.e.now _ c.in-Case.subject c.boxed-looked.new.e _ c.in-Case.branches c.branches-branched.new.branches _ c.in-Case.rest c.rest.new.rest _
+    c.args.self.now c.boxed-looked.new.self c.branches-branched.new.self c.rest.new.self c.in-Case.is (first_of (search rules, search (rules, the_lemmas), search (rules, the_lemmas, c.in-Case.is)))
+    c.in-Case.subject-is c.in-Case.branches-is c.in-Case.rest-is h.0 h.1 r)
 
-pub expr-returns-in_ok-steps-in-Chain : goal.expr-returns-in_ok-steps-in-Chain
-expr-returns-in_ok-steps-in-Chain t c =
-    chain_is c.args.e.now _ c.in-Chain.first c.expr-in-Chain.new.e c.get_mut-in-Chain.result.now c.in-Chain.steps c.steps.new.steps _ c.args.self.now c.expr-in-Chain.new.self c.steps.new.self c.in-Chain.is (first_of (search rules, search (rules, the_lemmas), search (rules, the_lemmas, c.in-Chain.is)))
-    (c.get_mut-in-Chain.ensures.value ∙ c.in-Chain.first-is) c.in-Chain.steps-is c.in_ok-expr-in-Chain.ensures c.in_ok-steps-in-Chain.ensures
+pub expr-returns-in-Chain : goal.expr-returns-in-Chain
+expr-returns-in-Chain t c =
+    behind_ok c.boxed-begun.result c.steps.result c.boxed-begun.ensures c.steps.ensures
+    (chain_is c.args.e.now _ c.in-Chain.first c.boxed-begun.new.e _ c.in-Chain.steps c.steps.new.steps _ c.args.self.now c.boxed-begun.new.self c.steps.new.self c.in-Chain.is (first_of (search rules, search (rules, the_lemmas), search (rules, the_lemmas, c.in-Chain.is)))
+    c.in-Chain.first-is c.in-Chain.steps-is)
+
+pub next-returns : goal.next-returns
+next-returns t c = next_ok c.expr.result c.args.before _ c.args.e.now c.get_mut.result.now _ _ _ c.in_ok-before.was c.get_mut.ensures.value c.expr.ensures
+
+pub head-returns : goal.head-returns
+head-returns t c =
+    head_is c.args.before _ c.args.head.now c.get_mut.result.now c.expr.new.e c.args.depth c.args.self.now c.expr.new.self c.leave.new.self c.in_ok-before.was c.get_mut.ensures.value
+    c.in_ok-expr.ensures c.in_ok-leave.ensures
+
+pub body-returns : goal.body-returns
+body-returns t c =
+    body_is c.args.before _ c.args.pattern.now c.sure.new.pattern c.args.body.now c.get_mut.result.now c.expr.new.e c.depth-depth.result c.args.self.now c.sure.new.self c.expr.new.self c.leave.new.self
+    c.in_ok-before.was c.get_mut.ensures.value c.depth-depth.ensures c.in_ok-sure.ensures c.in_ok-expr.ensures c.in_ok-leave.ensures
 
 pub qual-returns-in_ok-drawn-in-Gen : goal.qual-returns-in_ok-drawn-in-Gen
 qual-returns-in_ok-drawn-in-Gen t c =

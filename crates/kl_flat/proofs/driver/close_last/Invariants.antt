@@ -1,9 +1,0 @@
-use Rattle.std.proofs.Common.{◌≡◌, ℕ, length}
-use Rattle.kl_flat.specs.Flat.{open_at}
-use Rattle.kl_flat.proofs.driver.close_last.Given as goal
-
-abbrev pub invariant-places : goal.invariant-places
-invariant-places l = (k : ℕ) → open_at l.cursors.items k ≡ open_at l.fn.cursors.items k
-
-abbrev pub decreases-places : goal.decreases-places
-decreases-places l = length l.cursors.items

@@ -1,0 +1,168 @@
+-- Rows that are taken one by one, and what a cursor hands.
+use Rattle.std.proofs.Common.{◌≡◌, ◌⊎◌, ℕ, ◌+◌, ◌-◌, ◌≤◌, min, List, [], ◌∷◌, ◌++◌, length, drop, take, IsSome, Ok, Err, refl, sym, ap, subst, ◌∙◌, arith, append_assoc, append-nil, length-append, take_at, inl, inr}
+use Rattle.std.proofs.lemmas.Bool.{cases_lt}
+use Rattle.kl_value.specs.declared.Value.{Value}
+use Rattle.kl_outside.specs.Files.{FilesState}
+use Rattle.kl_exchange.specs.FileReading.{FileReading}
+use Rattle.kl_ask.specs.declared.ask.DriverError.{DriverError}
+use Rattle.kl_ask.specs.declared.ask.DriverError.TheVariants as error
+use Rattle.kl_type.specs.Ground.{ground_of}
+use Rattle.kl_outcome.specs.Typed.{Inhabits}
+use Rattle.kl_ask.specs.Asks.{item_of}
+use Rattle.kl_nested.specs.Desk.{HasTaken, IsKept, IsReading}
+use Rattle.kl_nested.specs.Handing.{AreNext, Hands, MeetsEnd, ReadsOne, Refuses, TakesRow, TakesRows}
+use Rattle.kl_nested.specs.Nested.{Tells, rows_at}
+use Rattle.kl_nested.specs.declared.parts.Source.{Source}
+use Rattle.kl_nested.specs.declared.parts.Open.{Open}
+use Rattle.kl_nested.proofs.Throughs.{all_append}
+
+-- ---- what later calls keep
+
+pub kept_on : (limit : ℕ) (told told' : Tells) (s : Source) → told' ≡ told → IsKept limit told s → IsKept limit told' s
+kept_on limit told told' s same kept = subst (λ t. IsKept limit t s) (sym same) kept
+
+one_then : (a b c : FileReading) (f g h : FilesState) → ReadsOne a b f g → ReadsOne b c g h → ReadsOne a c f h
+one_then a b c f g h m n = record {
+  told = n.told ∙ m.told;
+  others = λ k ne. n.others k (λ is. ne (is ∙ m.same_file)) ∙ m.others k ne;
+  is_open = subst (λ k. IsSome (h.left k)) m.same_file n.is_open;
+  later = omega (arith, m.later, n.later);
+  same_file = n.same_file ∙ m.same_file;
+}
+
+refuses_on : (s : Source) (n : ℕ) (e : DriverError) (f g h : FilesState) → g.told ≡ f.told → f.faults ≤ g.faults → Refuses s n e g h → Refuses s n e f h
+refuses_on s n error.Failed f g h told later cause = omega (arith, later, cause)
+refuses_on s n error.NoMemory f g h told later cause = tt
+refuses_on s n (error.Changed d) f g h told later cause = (sym told ∙ cause.0, cause.1)
+refuses_on s n (error.BadSource p) f g h told later cause = absurd cause
+refuses_on s n (error.TooLong m) f g h told later cause = absurd cause
+refuses_on s n (error.TooDeep p) f g h told later cause = absurd cause
+
+-- ---- the loop
+
+-- rows up to this number were appended
+pub record Taking (limit : ℕ) (s : Source) (taken number : ℕ) (into into' : List Value) (old now : FileReading) (f g : FilesState) : Type 0 where
+  pub reads : ReadsOne old now f g
+  pub rows : List Value
+  pub are_next : AreNext limit s taken rows into into' f
+  pub size : taken + length rows ≡ number
+  pub so_far : HasTaken limit s number now g
+  pub kept : IsKept limit g.told s
+
+module _ (limit : ℕ) (s : Source) (taken : ℕ) (into : List Value) (old : FileReading) (f : FilesState) where
+  pub taking_none : IsKept limit f.told s → HasTaken limit s taken old f → Taking limit s taken taken into into old old f f
+  taking_none kept so_far = record {
+    reads = record { told = refl; others = λ k ne. refl; is_open = so_far.is_open; later = omega arith; same_file = refl };
+    rows = [];
+    are_next = record { appended = sym (append-nil into); typed = tt; next = λ all is. ap (λ n. drop n all) (let n : taken ≡ taken + 0 = omega arith in n) };
+    size = omega arith;
+    so_far = so_far;
+    kept = kept;
+  }
+
+  module _ (number : ℕ) (into' into'' : List Value) (now then : FileReading) (g h : FilesState) (at : Taking limit s taken number into into' old now f g) where
+    pub taking_more : TakesRow limit s number into' into'' (Ok tt) now then g h → Taking limit s taken (number + 1) into into'' old then f h
+    taking_more takes =
+        let row = takes.row in
+        let one = row.1 in
+        record {
+          reads = one_then old now then f g h at.reads takes.reads;
+          rows = at.rows ++ row.0 ∷ [];
+          are_next = record {
+            appended = one.appended ∙ ap (λ xs. xs ++ row.0 ∷ []) at.are_next.appended ∙ append_assoc into at.rows (row.0 ∷ []);
+            typed = all_append (Inhabits (item_of (ground_of s.ty))) at.rows (row.0 ∷ []) at.are_next.typed one.typed;
+            next = λ all is.
+                let here : drop taken all ≡ at.rows ++ drop number all = at.are_next.next all is ∙ ap (λ n. at.rows ++ drop n all) at.size in
+                let after : drop number all ≡ (row.0 ∷ []) ++ drop (number + 1) all = one.next all (ap (λ t. rows_at limit t s) at.reads.told ∙ is) in
+                let long : number + 1 ≡ taken + length (at.rows ++ row.0 ∷ []) = omega (arith, at.size, length-append at.rows (row.0 ∷ [])) in
+                here ∙ ap (λ xs. at.rows ++ xs) after ∙ sym (append_assoc at.rows (row.0 ∷ []) (drop (number + 1) all)) ∙ ap (λ n. (at.rows ++ row.0 ∷ []) ++ drop n all) long;
+          };
+          size = omega (arith, at.size, length-append at.rows (row.0 ∷ []));
+          so_far = row.2;
+          kept = kept_on limit g.told h.told s takes.reads.told at.kept;
+        }
+
+    pub taking_stopped : (count : ℕ) (e : DriverError) → TakesRow limit s number into' into'' (Err e) now then g h → TakesRows limit s taken count into into'' (Err e) old then f h
+    taking_stopped count e takes = record {
+      reads = one_then old now then f g h at.reads takes.reads;
+      rows = at.rows;
+      are_next = record { appended = takes.same ∙ at.are_next.appended; typed = at.are_next.typed; next = at.are_next.next };
+      all = tt;
+      cause = λ d is. subst (λ n. Refuses s n d f h) (sym at.size) (refuses_on s number d f g h at.reads.told at.reads.later (takes.cause d is));
+    }
+
+    pub taking_done : (count : ℕ) → number ≡ taken + count → TakesRows limit s taken count into into' (Ok tt) old now f g
+    taking_done count is = record {
+      reads = at.reads;
+      rows = at.rows;
+      are_next = at.are_next;
+      all = (omega (arith, at.size, is), subst (λ n. HasTaken limit s n now g) is at.so_far);
+      cause = λ e is. absurd cc;
+    }
+
+-- ---- a cursor
+
+-- as many as were asked for, or all that are left
+pub as_many : (whole taken most count : ℕ) → taken ≤ whole → count ≡ min (whole - taken) most → (count ≡ most) ⊎ (taken + count ≡ whole)
+as_many whole taken most count within is = elim (cases_lt most (whole - taken)) [
+  | inl less ↦ inl (omega (arith, less, is))
+  | inr past ↦ inr (omega (arith, past, is, within))
+]
+
+module _ (limit most : ℕ) (into : List Value) (old new : Open) (f g : FilesState) (at : IsReading limit f old)
+    (ask : new.ask ≡ old.ask) (source : new.source ≡ old.source) (file : new.file ≡ old.file) where
+  -- all rows were taken
+  pub handed_none : MeetsEnd limit old.source (Ok tt) old.reader new.reader f g → old.taken ≡ old.source.count → new.taken ≡ old.taken → Hands limit most into into (Ok 0) old new f g
+  handed_none meets spent taken = record {
+    reads = meets.reads;
+    ask = ask;
+    source = source;
+    file = file;
+    handed = record {
+      rows = [];
+      are_next = record { appended = sym (append-nil into); typed = tt; next = λ all is. ap (λ n. drop n all) (let n : old.taken ≡ old.taken + 0 = omega arith in n) };
+      size = refl;
+      few = omega arith;
+      all = inr (taken ∙ spent);
+      after = omega (arith, taken);
+      within = omega (arith, taken, spent);
+      taken = subst (λ n. HasTaken limit old.source n new.reader g) (sym (taken ∙ spent)) meets.taken;
+    };
+    same = tt;
+    cause = λ e is. absurd cc;
+  }
+
+  pub not_ended : (e : DriverError) → MeetsEnd limit old.source (Err e) old.reader new.reader f g → Hands limit most into into (Err e) old new f g
+  not_ended e meets = record { reads = meets.reads; ask = ask; source = source; file = file; handed = tt; same = refl; cause = λ d is. (old.source.count + 1, meets.cause d (let k : e ≡ d = cc in ap Err k)) }
+
+  pub handed_rows : (into' : List Value) (count : ℕ) → TakesRows limit old.source old.taken count into into' (Ok tt) old.reader new.reader f g → new.taken ≡ old.taken + count → count ≤ most
+      → (count ≡ most) ⊎ (old.taken + count ≡ old.source.count) → old.taken + count ≤ old.source.count → Hands limit most into into' (Ok count) old new f g
+  handed_rows into' count takes taken few all within = record {
+    reads = takes.reads;
+    ask = ask;
+    source = source;
+    file = file;
+    handed = record {
+      rows = takes.rows;
+      are_next = takes.are_next;
+      size = takes.all.0;
+      few = few;
+      all = elim all [ inl is ↦ inl is | inr is ↦ inr (taken ∙ is) ];
+      after = taken;
+      within = omega (arith, taken, within);
+      taken = subst (λ n. HasTaken limit old.source n new.reader g) (sym taken) takes.all.1;
+    };
+    same = tt;
+    cause = λ e is. absurd cc;
+  }
+
+  pub not_handed : (into' into'' : List Value) (count : ℕ) (e : DriverError) → TakesRows limit old.source old.taken count into into' (Err e) old.reader new.reader f g → into'' ≡ take (length into) into' → Hands limit most into into'' (Err e) old new f g
+  not_handed into' into'' count e takes cut = record {
+    reads = takes.reads;
+    ask = ask;
+    source = source;
+    file = file;
+    handed = tt;
+    same = cut ∙ ap (take (length into)) takes.are_next.appended ∙ take_at into takes.rows (length into) refl;
+    cause = λ d is. (old.taken + length takes.rows, takes.cause d (let k : e ≡ d = cc in ap Err k));
+  }

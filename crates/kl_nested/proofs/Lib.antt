@@ -1,0 +1,13 @@
+pub mod Attaching
+pub mod Collections
+pub mod Desks
+pub mod Handings
+pub mod Held
+pub mod Openings
+pub mod Places
+pub mod Pulling
+pub mod Standings
+pub mod Starting
+pub mod Steps
+pub mod Takings
+pub mod Throughs

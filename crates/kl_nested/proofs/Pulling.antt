@@ -1,0 +1,232 @@
+-- What a pull, and the end of a cursor, do to what the driver means.
+use Rattle.std.proofs.Common.{◌≡◌, ◌≢◌, ◌⊎◌, inl, inr, ◌<◌, ◌≤◌, ◌+◌, ◌-◌, ◌^◌, ℕ, Bool, true, false, List, [], ◌∷◌, ◌++◌, length, drop, set, Option, Some, None, IsSome, Ok, Err, refl, sym, ◌∙◌, ap, subst, arith, slice_get, nat_lt, append-nil}
+use Rattle.std.specs.Option.{option_map}
+use Rattle.std.proofs.lemmas.Bool.Decides.{nat_tests}
+use Rattle.std.proofs.lemmas.Option.{same_Some}
+use Rattle.kl_value.specs.declared.Value.{Value}
+use Rattle.kl_type.specs.Ground.{ground_of}
+use Rattle.kl_outside.specs.Files.{FilesState}
+use Rattle.kl_ask.specs.Asked.{raised_by}
+use Rattle.kl_ask.specs.Asks.{item_of}
+use Rattle.kl_ask.specs.Cursors.{open_at}
+use Rattle.kl_ask.specs.Driver.{Cause, CountsDrift, Cursor, Finishes, Hands as Hand, HasDrifted, PullResult, Pulls, PullsMore, PullsNone, State, emptied, source_of}
+use Rattle.kl_ask.specs.declared.ask.Ask.{Ask}
+use Rattle.kl_ask.specs.declared.ask.Ask.TheVariants as asks
+use Rattle.kl_ask.specs.declared.ask.Drift.{Drift}
+use Rattle.kl_ask.specs.declared.ask.Drift.TheVariants as drift
+use Rattle.kl_ask.specs.declared.ask.DriverError.{DriverError}
+use Rattle.kl_ask.specs.declared.ask.DriverError.TheVariants as error
+use Rattle.kl_ask.proofs.Opened.{changed_now, changed_others}
+use Rattle.kl_nested.specs.Closing.{ClosesOpen, drifts_by}
+use Rattle.kl_nested.specs.Contents.{contents_of}
+use Rattle.kl_nested.specs.Desk.{IsDesk}
+use Rattle.kl_nested.specs.Handing.{Differs, Hands, Refuses}
+use Rattle.kl_ask.specs.Named.{asked_source}
+use Rattle.kl_nested.specs.Nested.{Sources, Tells, attached_of, cursor_of, nested_state, rows_at}
+use Rattle.kl_nested.specs.declared.parts.Source.{Source}
+use Rattle.kl_nested.specs.declared.parts.Open.{Open}
+use Rattle.kl_nested.proofs.Takings.{knows}
+
+drop_all : {T : Type 0} (xs : List T) → drop (length xs) xs ≡ []
+drop_all [] = refl
+drop_all (x ∷ xs) = drop_all xs
+
+no_rows : {T : Type 0} (xs : List T) → length xs ≡ 0 → xs ≡ []
+no_rows [] h = refl
+no_rows (x ∷ xs) h = absurd (omega (arith, h))
+
+module _ (limit : ℕ) (f : FilesState) (sources : Sources) (cursors : List (Option Open)) (asked : List (Ask × ℕ)) (handed drifts unread cursor : ℕ) (desk : IsDesk limit f sources cursors) where
+  module _ (g : FilesState) (cursors' : List (Option Open)) (handed' most n : ℕ) (into into' : List Value) (o o' : Open) (is : slice_get cursors cursor ≡ Some (Some o)) (made : cursors' ≡ set cursors cursor (Some o')) (hand : Hands limit most into into' (Ok n) o o' f g)
+      (count : handed' ≡ raised_by n handed) (fits : handed < 2 ^ 64) (room : 0 < most) where
+    here : open_at cursors cursor ≡ Some o
+    here = search
+
+    abbrev rows : List Value
+    rows = hand.handed.rows
+
+    abbrev seen : Open → Cursor
+    seen = cursor_of limit f.told
+
+    many : o'.source.count ≡ o.source.count
+    many = ap (λ (s : Source). s.count) hand.source
+
+    left' : (seen o').left ≡ option_map (drop o'.taken) (rows_at limit f.told o.source)
+    left' = ap (λ s. option_map (drop o'.taken) (rows_at limit f.told s)) hand.source
+
+    none_left : (whole : List Value) → rows_at limit f.told o.source ≡ Some whole → o'.taken ≡ o.source.count → drop o'.taken whole ≡ []
+    none_left whole told spent =
+        let k = knows limit f.told o.source (desk.reading cursor o here).kept whole told in
+        ap (λ m. drop m whole) (spent ∙ k.count) ∙ drop_all whole
+
+    left_so : (r : Option (List Value)) → rows_at limit f.told o.source ≡ r → (all : List Value) → (seen o).left ≡ Some all
+        → (rest : List Value) × (all ≡ rows ++ rest) × ((seen o').left ≡ Some rest) × ((length rows ≡ most) ⊎ (rest ≡ []))
+    left_so None told all e = absurd (let k : None ≡ Some all = sym (ap (option_map (drop o.taken)) told) ∙ e in cc)
+    left_so (Some whole) told all e =
+        let this : drop o.taken whole ≡ all = same_Some _ _ (sym (ap (option_map (drop o.taken)) told) ∙ e) in
+        let next = hand.handed.are_next.next whole told in
+        let at : o.taken + length rows ≡ o'.taken = omega (arith, hand.handed.after, hand.handed.size) in
+        (drop o'.taken whole, sym this ∙ next ∙ ap (λ m. rows ++ drop m whole) at, left' ∙ ap (option_map (drop o'.taken)) told, elim hand.handed.all [ inl m ↦ inl (hand.handed.size ∙ m) | inr spent ↦ inr (none_left whole told spent) ])
+
+    untold_so : (r : Option (List Value)) → rows_at limit f.told o.source ≡ r → (seen o).left ≡ None → (seen o').left ≡ None
+    untold_so None told e = left' ∙ ap (option_map (drop o'.taken)) told
+    untold_so (Some whole) told e = absurd (let k : Some (drop o.taken whole) ≡ None = sym (ap (option_map (drop o.taken)) told) ∙ e in cc)
+
+    hands : 0 < n → Hand most rows (seen o) (seen o')
+    hands some = record {
+      ask = hand.ask;
+      ty = ap (λ (s : Source). item_of (ground_of s.ty)) hand.source;
+      some = omega (arith, some, hand.handed.size);
+      most = omega (arith, hand.handed.few, hand.handed.size);
+      typed = hand.handed.are_next.typed;
+      bound = omega (arith, many, hand.handed.after, hand.handed.within, hand.handed.size);
+      left = left_so (rows_at limit f.told o.source) refl;
+      untold = untold_so (rows_at limit f.told o.source) refl;
+    }
+
+    abbrev Told : FilesState
+    Told = record { told = f.told; left = g.left; faults = g.faults }
+
+    cursor_is : (c : Cursor) → option_map seen (open_at cursors cursor) ≡ Some c → seen o ≡ c
+    cursor_is c has = same_Some _ _ (sym (ap (option_map seen) here) ∙ has)
+
+    abbrev Old : State
+    Old = nested_state limit f sources cursors asked handed drifts unread
+
+    abbrev New : State
+    New = nested_state limit Told sources cursors' asked handed' drifts unread
+
+    more : 0 < n → (c : Cursor) → option_map seen (open_at cursors cursor) ≡ Some c → PullsMore cursor most into into' c Old New
+    more some c has = subst (λ c. PullsMore cursor most into into' c Old New) (cursor_is c has) (record {
+      rows = rows;
+      then = seen o';
+      appended = hand.handed.are_next.appended;
+      now = ap (option_map seen) (changed_now cursors cursors' cursor o o' is made);
+      hands = hands some;
+      handed = count ∙ ap (λ k. raised_by k handed) (sym hand.handed.size);
+    })
+
+    none : n ≡ 0 → (c : Cursor) → option_map seen (open_at cursors cursor) ≡ Some c → PullsNone cursor into into' c Old New
+    none zero_is c has =
+        let spent' : o'.taken ≡ o.source.count = elim hand.handed.all [ inl m ↦ absurd (omega (arith, m, zero_is, room)) | inr m ↦ m ] in
+        let same : o'.taken ≡ o.taken = omega (arith, hand.handed.after, zero_is) in
+        let none_rows : rows ≡ [] = no_rows rows (hand.handed.size ∙ zero_is) in
+        subst (λ c. PullsNone cursor into into' c Old New) (cursor_is c has) (record {
+          same = hand.handed.are_next.appended ∙ ap (λ more. into ++ more) none_rows ∙ append-nil into;
+          spent = λ all e. spent_so (rows_at limit f.told o.source) refl same spent' all e;
+          over = inl (omega (arith, spent', same));
+          now = ap (option_map seen) (changed_now cursors cursors' cursor o o' is made) ∙ ap Some (emptied_is same spent');
+          handed = omega (arith, count, fits, zero_is);
+        })
+      where
+        spent_so : (r : Option (List Value)) → rows_at limit f.told o.source ≡ r → o'.taken ≡ o.taken → o'.taken ≡ o.source.count → (all : List Value) → (seen o).left ≡ Some all → all ≡ []
+        spent_so None told same spent' all e = absurd (let k : None ≡ Some all = sym (ap (option_map (drop o.taken)) told) ∙ e in cc)
+        spent_so (Some whole) told same spent' all e =
+            let this : drop o.taken whole ≡ all = same_Some _ _ (sym (ap (option_map (drop o.taken)) told) ∙ e) in
+            sym this ∙ ap (λ m. drop m whole) (sym same) ∙ none_left whole told spent'
+
+        emptied_is : o'.taken ≡ o.taken → o'.taken ≡ o.source.count → seen o' ≡ emptied (seen o)
+        emptied_is same spent' =
+            let over : o'.source.count - o'.taken ≡ 0 = omega (arith, many, spent') in
+            λ i. record {
+              ask = hand.ask i;
+              ty = item_of (ground_of (hand.source i).ty);
+              left = option_map (drop (same i)) (rows_at limit f.told (hand.source i));
+              bound = over i;
+            }
+
+    answer : (some : Bool) → nat_lt 0 n ≡ some → (c : Cursor) → option_map seen (open_at cursors cursor) ≡ Some c → PullResult cursor most into into' c (Ok some) Old New
+    answer true test c has = more (grind (arith, nat_tests)) c has
+    answer false test c has = none (grind (arith, nat_tests)) c has
+
+    -- rows were appended, or none was left
+    pub pull_done : Pulls cursor most into into' (Ok (nat_lt 0 n)) Old (nested_state limit g sources cursors' asked handed' drifts unread)
+    pull_done = subst (λ t. Pulls cursor most into into' (Ok (nat_lt 0 n)) Old (nested_state limit (record { told = t; left = g.left; faults = g.faults }) sources cursors' asked handed' drifts unread)) (sym hand.reads.told) (record {
+      keeps = record { kind = refl; handed = omega (arith, count, fits); faults = hand.reads.later; drifts = omega arith; no_drift = λ is. refl; unread = omega arith };
+      attached = refl;
+      asked = refl;
+      drifts = refl;
+      unread = refl;
+      others = λ k ne. ap (option_map seen) (changed_others cursors cursors' cursor o o' is made k ne);
+      answer = answer (nat_lt 0 n) refl;
+    })
+
+  -- ---- a refused pull
+
+  told_not : (t : Tells) → t ≡ None → IsSome (contents_of limit t) → ⊥
+  told_not None none is = cc
+  told_not (Some files) none is = let k : Some files ≡ None = none in cc
+
+  drifted_so : (o : Open) (found : ℕ) (d : Drift) → Differs o.source found d → HasDrifted (attached_of limit f.told o.source) d
+  drifted_so o found (drift.Bytes kept size) h = (ap Some (sym h.0), h.1)
+  drifted_so o found (drift.Count kept count) h = (sym h.0, h.2)
+  drifted_so o found (drift.Unread place) h = tt
+  drifted_so o found (drift.Misfit item) h = tt
+
+  source_is : (ask : Ask) (s : Source) → asked_source sources ask ≡ Some s → source_of (nested_state limit f sources cursors asked handed drifts unread) ask ≡ Some (attached_of limit f.told s)
+  source_is (asks.Rows name keep tests) s is = ap (option_map (attached_of limit f.told)) is
+  source_is (asks.Sql text) s is = absurd cc
+
+  module _ (g h : FilesState) (cursors' : List (Option Open)) (drifts' most : ℕ) (into into' : List Value) (e : DriverError) (o o' : Open) (here : open_at cursors cursor ≡ Some o) (hand : Hands limit most into into' (Err e) o o' f g)
+      (closed : open_at cursors' cursor ≡ None) (others : (k : ℕ) → k ≢ cursor → open_at cursors' k ≡ open_at cursors k) (told : h.told ≡ g.told) (faults : h.faults ≡ g.faults) (fits : drifts < 2 ^ 64) (counted : drifts' ≡ drifts_by e drifts) where
+    abbrev was : State
+    was = nested_state limit f sources cursors asked handed drifts unread
+
+    abbrev now : ℕ → State
+    now m = nested_state limit (record { told = f.told; left = h.left; faults = h.faults }) sources cursors' asked handed m unread
+
+    cursor_at_is : (c : Cursor) → was.cursors cursor ≡ Some c → cursor_of limit f.told o ≡ c
+    cursor_at_is c has = same_Some _ _ (sym (ap (option_map (cursor_of limit f.told)) here) ∙ has)
+
+    build : (e : DriverError) → drifts ≤ drifts_by e drifts → (IsSome (contents_of limit f.told) → drifts_by e drifts ≡ drifts) → CountsDrift (Err e) drifts (drifts_by e drifts) → Cause e was (now (drifts_by e drifts)) → ((d : Drift) → e ≡ error.Changed d → HasDrifted (attached_of limit f.told o.source) d)
+        → Pulls cursor most into into' (Err e) was (now (drifts_by e drifts))
+    build e up no_drift counts cause drifted = record {
+      keeps = record { kind = refl; handed = omega arith; faults = omega (arith, hand.reads.later, faults); drifts = up; no_drift = no_drift; unread = omega arith };
+      attached = refl;
+      asked = refl;
+      drifts = counts;
+      unread = refl;
+      others = λ k ne. ap (option_map (cursor_of limit f.told)) (others k ne);
+      answer = λ c has. record {
+        same = hand.same;
+        closed = ap (option_map (cursor_of limit f.told)) closed;
+        handed = refl;
+        cause = cause;
+        drifted = λ d is s at.
+            let ask : o.ask ≡ c.ask = ap (λ (c : Cursor). c.ask) (cursor_at_is c has) in
+            let same : attached_of limit f.told o.source ≡ s = same_Some _ _ (sym (source_is o.ask o.source (desk.asked cursor o here)) ∙ ap (source_of was) ask ∙ at) in
+            subst (λ s. HasDrifted s d) same (drifted d is);
+      };
+    }
+
+    by : (e : DriverError) (found : ℕ) → Refuses o.source found e f g → Pulls cursor most into into' (Err e) was (now (drifts_by e drifts))
+    by error.Failed found cause = build error.Failed (omega arith) (λ is. refl) refl (omega (arith, cause, faults)) (λ d is. absurd cc)
+    by error.NoMemory found cause = build error.NoMemory (omega arith) (λ is. refl) refl tt (λ d is. absurd cc)
+    by (error.Changed d) found cause = build (error.Changed d) (omega (arith, fits)) (λ is. absurd (told_not f.told cause.0 is)) (omega (arith, fits)) (told_not f.told cause.0, omega (arith, fits))
+        (λ k is. let same : d ≡ k = cc in subst (HasDrifted (attached_of limit f.told o.source)) same (drifted_so o found d cause.1))
+    by (error.BadSource p) found cause = absurd cause
+    by (error.TooLong m) found cause = absurd cause
+    by (error.TooDeep p) found cause = absurd cause
+
+    pub pull_refused : Pulls cursor most into into' (Err e) was (nested_state limit h sources cursors' asked handed drifts' unread)
+    pull_refused =
+        let c = hand.cause e refl in
+        subst (λ m. Pulls cursor most into into' (Err e) was (nested_state limit h sources cursors' asked handed m unread)) (sym counted)
+        (subst (λ t. Pulls cursor most into into' (Err e) was (nested_state limit (record { told = t; left = h.left; faults = h.faults }) sources cursors' asked handed (drifts_by e drifts) unread)) (sym (told ∙ hand.reads.told)) (by e c.0 c.1))
+
+  -- ---- the end of a cursor
+
+  pub finish_done : (h : FilesState) (cursors' : List (Option Open)) (o : Open) → open_at cursors cursor ≡ Some o → ClosesOpen cursor cursors cursors' f h
+      → Finishes cursor (nested_state limit f sources cursors asked handed drifts unread) (nested_state limit h sources cursors' asked handed drifts unread)
+  finish_done h cursors' o here closes =
+      let file = closes.file o here in
+      subst (λ t. Finishes cursor (nested_state limit f sources cursors asked handed drifts unread) (nested_state limit (record { told = t; left = h.left; faults = h.faults }) sources cursors' asked handed drifts unread)) (sym file.told) (record {
+        keeps = record { kind = refl; handed = omega arith; faults = omega (arith, file.faults); drifts = omega arith; no_drift = λ is. refl; unread = omega arith };
+        attached = refl;
+        asked = refl;
+        handed = refl;
+        faults = file.faults;
+        drifts = refl;
+        unread = refl;
+        closed = ap (option_map (cursor_of limit f.told)) closes.closed;
+        others = λ k ne. ap (option_map (cursor_of limit f.told)) (closes.others k ne);
+      })

@@ -1,0 +1,337 @@
+-- The next rows of a source that was read so far.
+use Rattle.std.proofs.Common.{◌≡◌, ◌≢◌, ℕ, ◌+◌, ◌<◌, ◌≤◌, true, false, List, [], ◌∷◌, ◌++◌, length, drop, Option, Some, None, IsSome, Result, Ok, Err, refl, sym, ap, subst, ◌∙◌, arith, append_assoc, length-append}
+use Rattle.std.proofs.lemmas.Option.{same_Some}
+use Rattle.kl_value.specs.declared.Value.{Value}
+use Rattle.kl_type.specs.Has.{has_type}
+use Rattle.kl_type.specs.declared.ground.Ty.{Ty}
+use Rattle.kl_outside.specs.Files.{FilesState, left_at_first}
+use Rattle.kl_exchange.specs.FileItems.{FileEnd, WholeText, BadAt, TooDeepAt, PastLimit, Shows}
+use Rattle.kl_exchange.specs.FileReading.{FileReading, HasRead, EndsSo, Left, NextItem, Stands}
+use Rattle.kl_exchange.specs.declared.error.FileError.{FileError}
+use Rattle.kl_exchange.specs.declared.error.FileError.TheVariants as fault
+use Rattle.kl_exchange.proofs.FileItems.{one_showing}
+use Rattle.kl_exchange.proofs.FileReading.{first_shown}
+use Rattle.kl_ask.specs.Driver.{Rows, rows_in}
+use Rattle.kl_ask.specs.declared.ask.Drift.TheVariants as drift
+use Rattle.kl_ask.specs.declared.ask.DriverError.{DriverError}
+use Rattle.kl_ask.specs.declared.ask.DriverError.TheVariants as error
+use Rattle.kl_nested.specs.Contents.{item_ty, stored_of}
+use Rattle.kl_nested.specs.Desk.{HasTaken, IsKept}
+use Rattle.kl_nested.specs.Handing.{AllHave, HasBytes, MeetsEnd, Pushes, ReadsOne, Refuses, TakesRow, changed_as, unread_as}
+use Rattle.kl_nested.specs.Nested.{Tells, rows_at}
+use Rattle.kl_nested.specs.Reading.{NextRow, RowOf, SaysWhether, SkipsRow}
+use Rattle.kl_nested.specs.declared.parts.Source.{Source}
+use Rattle.kl_nested.specs.declared.rows.Halt.{Halt}
+use Rattle.kl_nested.specs.declared.rows.Halt.TheVariants as halt
+use Rattle.kl_nested.proofs.Collections.{last_typed}
+use Rattle.kl_nested.proofs.Standings.{holds}
+
+-- ---- lists
+
+drop_front : {T : Type 0} (xs ys : List T) → drop (length xs) (xs ++ ys) ≡ ys
+drop_front [] ys = refl
+drop_front (x ∷ xs) ys = drop_front xs ys
+
+have_at : (t : Ty) (vs : List Value) (v : Value) (us : List Value) → AllHave t (vs ++ v ∷ us) → has_type v t ≡ true
+have_at t [] v us h = h.0
+have_at t (w ∷ vs) v us h = have_at t vs v us h.1
+
+-- ---- what is told of a source
+
+-- the rows of a source that is as it was kept
+pub record Knows (limit : ℕ) (told : Tells) (s : Source) (all : List Value) : Type 0 where
+  pub bytes : List ℕ
+  pub first : Some (left_at_first told s.path) ≡ Some (Some bytes)
+  pub shows : Shows limit bytes all WholeText
+  pub have : AllHave (item_ty s.ty) all
+  pub count : s.count ≡ length all
+  pub size : s.bytes ≡ length bytes
+  pub rows : rows_at limit told s ≡ Some all
+
+module _ (limit : ℕ) (told : Tells) (s : Source) (kept : IsKept limit told s) where
+  knows_so : (files : List ℕ → Option (List ℕ)) → told ≡ Some files → (all : List Value) × Knows limit told s all
+  knows_so files is =
+      let k = kept.known files is in
+      let h = holds limit k.0 (item_ty s.ty) k.1 k.3 in
+      let stored : stored_of limit (files s.path) s.ty ≡ Rows k.1 = ap (λ o. stored_of limit o s.ty) k.2 ∙ k.3 in (
+        k.1,
+        record {
+          bytes = k.0;
+          first = ap Some (ap (λ t. left_at_first t s.path) is ∙ k.2);
+          shows = h.0;
+          have = h.1;
+          count = k.4;
+          size = k.5;
+          rows = ap (λ t. rows_at limit t s) is ∙ ap rows_in stored;
+        },
+      )
+
+  pub knows : (all : List Value) → rows_at limit told s ≡ Some all → Knows limit told s all
+  knows all is = by told refl
+    where
+      by : (t : Tells) → told ≡ t → Knows limit told s all
+      by None none = absurd (let k = rw none at is in cc)
+      by (Some files) some = let k = knows_so files some in subst (Knows limit told s) (same_Some _ _ (sym k.1.rows ∙ is)) k.1
+
+  -- what is told rules it out
+  pub untold : ((all : List Value) → Knows limit told s all → ⊥) → told ≡ None
+  untold never = by told refl
+    where
+      by : (t : Tells) → told ≡ t → told ≡ None
+      by None none = none
+      by (Some files) some = let k = knows_so files some in absurd (never k.0 k.1)
+
+-- ---- one read
+
+module _ (limit : ℕ) (s : Source) (taken : ℕ) (now then : FileReading) (f f' : FilesState) (kept : IsKept limit f.told s) (so_far : HasTaken limit s taken now f) where
+  module _ (found : Result (Option Value) FileError) (next : NextItem found now then f f') where
+    pub reads_one : ReadsOne now then f f'
+    reads_one = record { told = next.leaves.told; others = next.leaves.others; is_open = next.leaves.is_open; later = next.leaves.later; same_file = ap (λ r. r.file) next.same }
+
+    abbrev first : Left
+    first = Some (left_at_first f.told s.path)
+
+    stands : (r : Result (Option Value) FileError) → found ≡ r → Stands first so_far.values r then (f'.left now.file)
+    stands r is = subst (λ r. Stands first so_far.values r then (f'.left now.file)) is (next.goes first so_far.values so_far.has_read)
+
+    limit_on : then.limit ≡ limit
+    limit_on = ap (λ r. r.limit) next.same ∙ so_far.same_limit
+
+    -- the reader after it
+    has_taken : (n : ℕ) (values : List Value) → n ≡ length values → HasRead first values then (f'.left now.file) → HasTaken limit s n then f'
+    has_taken n values counted read = record {
+      values = values;
+      has_read =
+          subst (λ k. HasRead (Some (left_at_first f'.told s.path)) values then (f'.left k)) (sym (ap (λ r. r.file) next.same))
+          (subst (λ t. HasRead (Some (left_at_first t s.path)) values then (f'.left now.file)) (sym next.leaves.told) read);
+      is_open = subst (λ k. IsSome (f'.left k)) (sym (ap (λ r. r.file) next.same)) next.leaves.is_open;
+      counted = counted;
+      same_limit = limit_on;
+    }
+
+    pub one_more : (v : Value) → found ≡ Ok (Some v) → HasTaken limit s (taken + 1) then f'
+    one_more v is =
+        has_taken (taken + 1) (so_far.values ++ v ∷ []) (let a = so_far.counted in let b : length (so_far.values ++ v ∷ []) ≡ length so_far.values + 1 = length-append so_far.values (v ∷ []) in omega arith)
+        (stands (Ok (Some v)) is)
+
+    -- it is the next one of those that are told
+    the_next : (v : Value) → found ≡ Ok (Some v) → (all : List Value) → Knows limit f.told s all → (us : List Value) × (all ≡ so_far.values ++ v ∷ us)
+    the_next v is all k =
+        let shows : Shows then.limit k.bytes all WholeText = subst (λ n. Shows n k.bytes all WholeText) (sym limit_on) k.shows in
+        let front = first_shown first (so_far.values ++ v ∷ []) all then (f'.left now.file) k.bytes WholeText (stands (Ok (Some v)) is) k.first shows in
+        (front.0, front.1 ∙ append_assoc so_far.values (v ∷ []) front.0)
+
+    pub next_told : (v : Value) → found ≡ Ok (Some v) → (all : List Value) → rows_at limit f.told s ≡ Some all → drop taken all ≡ v ∷ drop (taken + 1) all
+    next_told v is all rows =
+        let at = the_next v is all (knows limit f.told s kept all rows) in
+        let here : drop taken all ≡ v ∷ at.0 = (λ i. drop (so_far.counted i) (at.1 i)) ∙ drop_front so_far.values (v ∷ at.0) in
+        let more : taken + 1 ≡ length (so_far.values ++ v ∷ []) = let a = so_far.counted in let b : length (so_far.values ++ v ∷ []) ≡ length so_far.values + 1 = length-append so_far.values (v ∷ []) in omega arith in
+        let behind : drop (taken + 1) all ≡ at.0 = (λ i. drop (more i) ((at.1 ∙ sym (append_assoc so_far.values (v ∷ []) at.0)) i)) ∙ drop_front (so_far.values ++ v ∷ []) at.0 in
+        here ∙ ap (λ us. v ∷ us) (sym behind)
+
+    -- ---- changes, which what is told rules out
+
+    pub misfit_untold : (v : Value) → found ≡ Ok (Some v) → has_type v (item_ty s.ty) ≡ false → f.told ≡ None
+    misfit_untold v is lacks = untold limit f.told s kept (λ all k.
+        let at = the_next v is all k in
+        let has = have_at (item_ty s.ty) so_far.values v at.0 (subst (AllHave (item_ty s.ty)) at.1 k.have) in
+        let differs : false ≡ true = sym lacks ∙ has in
+        cc)
+
+    pub more_untold : (v : Value) → found ≡ Ok (Some v) → s.count ≤ taken → f.told ≡ None
+    more_untold v is past = untold limit f.told s kept (λ all k.
+        let at = the_next v is all k in
+        let size : length all ≡ length so_far.values + length (v ∷ at.0) = ap length at.1 ∙ length-append so_far.values (v ∷ at.0) in
+        let a = so_far.counted in
+        let b = k.count in
+        omega arith)
+
+    one_end : (end : FileEnd) → EndsSo first so_far.values end then (f'.left now.file) → (all : List Value) → Knows limit f.told s all → (so_far.values ≡ all) × (end ≡ WholeText)
+    one_end end so all k = one_showing limit k.bytes so_far.values all end WholeText (subst (λ n. Shows n k.bytes so_far.values end) limit_on (so.1 k.bytes k.first)) k.shows
+
+    pub fewer_untold : found ≡ Ok None → taken < s.count → f.told ≡ None
+    fewer_untold is less = untold limit f.told s kept (λ all k.
+        let one = one_end WholeText (stands (Ok None) is) all k in
+        let size : length so_far.values ≡ length all = ap length one.0 in
+        let a = so_far.counted in
+        let b = k.count in
+        omega arith)
+
+    pub size_untold : (size : ℕ) → found ≡ Ok None → then.text.finished ≡ true → size ≡ then.text.place + length then.text.left → size ≢ s.bytes → f.told ≡ None
+    size_untold size is finished total other = untold limit f.told s kept (λ all k.
+        let so : EndsSo first so_far.values WholeText then (f'.left now.file) = stands (Ok None) is in
+        let r = so.0.remains k.bytes k.first in
+        let a : length k.bytes ≡ length (so.0.read ++ then.text.left) + length (r.beyond ++ r.behind) = ap length r.whole ∙ length-append (so.0.read ++ then.text.left) (r.beyond ++ r.behind) in
+        let b : length (so.0.read ++ then.text.left) ≡ length so.0.read + length then.text.left = length-append so.0.read then.text.left in
+        let c : length (r.beyond ++ r.behind) ≡ 0 = ap length (r.end_met finished) in
+        let d = so.0.place in
+        let e = k.size in
+        other (omega arith))
+
+    pub ended : found ≡ Ok None → HasTaken limit s taken then f'
+    ended is = let so : EndsSo first so_far.values WholeText then (f'.left now.file) = stands (Ok None) is in has_taken taken so_far.values so_far.counted so.0
+
+    not_whole : (end : FileEnd) → EndsSo first so_far.values end then (f'.left now.file) → (end ≡ WholeText → ⊥) → f.told ≡ None
+    not_whole end so other = untold limit f.told s kept (λ all k. other (one_end end so all k).1)
+
+    pub unread_refuses : (n : ℕ) (e : FileError) → found ≡ Err e → Refuses s n (unread_as limit s.bytes e) f f'
+    unread_refuses n (fault.Bad p) is = (not_whole (BadAt p) (stands (Err (fault.Bad p)) is) (λ e. cc), tt)
+    unread_refuses n (fault.TooDeep p) is = (not_whole (TooDeepAt p) (stands (Err (fault.TooDeep p)) is) (λ e. cc), tt)
+    unread_refuses n fault.TooLong is = (not_whole PastLimit (stands (Err fault.TooLong) is) (λ e. cc), (refl, λ e. let a = kept.short in omega (arith, a, e)))
+    unread_refuses n fault.Read is = next.leaves.failed (rw is refl)
+    unread_refuses n fault.NoMemory is = tt
+
+  -- ---- the next row
+
+  module _ (into into' : List Value) where
+    took : (v : Value) → NextRow (item_ty s.ty) (Ok (Some v)) now then f f' → into' ≡ into ++ v ∷ [] → TakesRow limit s taken into into' (Ok tt) now then f f'
+    took v n appended = by n.found n.next n.row
+      where
+        by : (r : Result (Option Value) FileError) → NextItem r now then f f' → RowOf (item_ty s.ty) r (Ok (Some v)) then → TakesRow limit s taken into into' (Ok tt) now then f f'
+        by (Ok (Some w)) next row = record {
+          reads = reads_one (Ok (Some w)) next;
+          row = (
+            w,
+            record {
+              appended = appended ∙ ap (λ x. into ++ x ∷ []) row.0;
+              typed = (last_typed s.ty _ so_far.values w (stands (Ok (Some w)) next (Ok (Some w)) refl).items row.1, tt);
+              next = next_told (Ok (Some w)) next w refl;
+            },
+            one_more (Ok (Some w)) next w refl,
+          );
+          same = tt;
+          cause = λ e is. absurd cc;
+        }
+        by (Ok None) next row = absurd row
+        by (Err e) next row = absurd row
+
+    no_room : (v : Value) → NextRow (item_ty s.ty) (Ok (Some v)) now then f f' → into' ≡ into → TakesRow limit s taken into into' (Err error.NoMemory) now then f f'
+    no_room v n same = record { reads = reads_one n.found n.next; row = tt; same = same; cause = λ e is. let k : e ≡ error.NoMemory = cc in subst (λ e. Refuses s taken e f f') (sym k) tt }
+
+    pub pushed : (v : Value) (result : Result (Unit {0}) DriverError) → NextRow (item_ty s.ty) (Ok (Some v)) now then f f' → Pushes v into into' result → TakesRow limit s taken into into' result now then f f'
+    pushed v (Ok done) n pushes = took v n pushes
+    pushed v (Err e) n pushes = subst (λ e. TakesRow limit s taken into into' (Err e) now then f f') (sym pushes.1) (no_room v n pushes.0)
+
+    pub fewer : NextRow (item_ty s.ty) (Ok None) now then f f' → into' ≡ into → taken < s.count → TakesRow limit s taken into into' (Err (error.Changed (drift.Count s.count taken))) now then f f'
+    fewer n same less = by n.found n.next n.row
+      where
+        by : (r : Result (Option Value) FileError) → NextItem r now then f f' → RowOf (item_ty s.ty) r (Ok None) then → TakesRow limit s taken into into' (Err (error.Changed (drift.Count s.count taken))) now then f f'
+        by (Ok None) next row = record {
+          reads = reads_one (Ok None) next;
+          row = tt;
+          same = same;
+          cause = λ e is.
+              let k : error.Changed (drift.Count s.count taken) ≡ e = cc in
+              subst (λ e. Refuses s taken e f f') k (fewer_untold (Ok None) next refl less, (refl, refl, λ e. omega (arith, e, less)));
+        }
+        by (Ok (Some v)) next row = absurd row
+        by (Err e) next row = absurd row
+
+    pub halted : (h : Halt) (e : DriverError) → NextRow (item_ty s.ty) (Err h) now then f f' → into' ≡ into → e ≡ changed_as limit s.bytes taken h → TakesRow limit s taken into into' (Err e) now then f f'
+    halted h e n same is = record {
+      reads = reads_one n.found n.next;
+      row = tt;
+      same = same;
+      cause = λ d at. let k : d ≡ changed_as limit s.bytes taken h = let j : d ≡ e = cc in j ∙ is in subst (λ d. Refuses s taken d f f') (sym k) (by n.found h n.next n.row);
+    }
+      where
+        by : (r : Result (Option Value) FileError) (h : Halt) → NextItem r now then f f' → RowOf (item_ty s.ty) r (Err h) then → Refuses s taken (changed_as limit s.bytes taken h) f f'
+        by (Ok (Some v)) halt.Misfit next row = (misfit_untold (Ok (Some v)) next v refl row, refl)
+        by (Ok (Some v)) (halt.Unread why) next row = absurd row
+        by (Ok None) halt.Misfit next row = absurd row
+        by (Ok None) (halt.Unread why) next row = absurd row
+        by (Err e) halt.Misfit next row = absurd row
+        by (Err e) (halt.Unread why) next row = subst (λ w. Refuses s taken (unread_as limit s.bytes w) f f') (sym row) (unread_refuses (Err e) next taken e refl)
+
+-- ---- the end
+
+module _ (limit : ℕ) (s : Source) (now then : FileReading) (f f' : FilesState) (kept : IsKept limit f.told s) (so_far : HasTaken limit s s.count now f) where
+  met : (r : Result (Option Value) FileError) (e : DriverError) → NextItem r now then f f' → Refuses s (s.count + 1) e f f' → MeetsEnd limit s (Err e) now then f f'
+  met r e next cause = record {
+    reads = reads_one limit s s.count now then f f' kept so_far r next;
+    taken = tt;
+    cause = λ d is. let k : e ≡ d = cc in subst (λ d. Refuses s (s.count + 1) d f f') k cause;
+  }
+
+  abbrev one_more_counted : DriverError
+  one_more_counted = error.Changed (drift.Count s.count (s.count + 1))
+
+  meets_item : (v : Value) → NextItem (Ok (Some v)) now then f f' → MeetsEnd limit s (Err one_more_counted) now then f f'
+  meets_item v next = met (Ok (Some v)) one_more_counted next (more_untold limit s s.count now then f f' kept so_far (Ok (Some v)) next v refl (omega arith), (refl, refl, λ e. omega (arith, e)))
+
+  row_met : (v : Value) → NextRow (item_ty s.ty) (Ok (Some v)) now then f f' → MeetsEnd limit s (Err one_more_counted) now then f f'
+  row_met v n = by n.found n.next n.row
+    where
+      by : (r : Result (Option Value) FileError) → NextItem r now then f f' → RowOf (item_ty s.ty) r (Ok (Some v)) then → MeetsEnd limit s (Err one_more_counted) now then f f'
+      by (Ok (Some w)) next row = meets_item w next
+      by (Ok None) next row = absurd row
+      by (Err e) next row = absurd row
+
+  -- one row more
+  pub meets_more : SkipsRow (item_ty s.ty) (Ok true) now then f f' → MeetsEnd limit s (Err one_more_counted) now then f f'
+  meets_more skips = by skips.row skips.next skips.says
+    where
+      by : (r : Result (Option Value) Halt) → NextRow (item_ty s.ty) r now then f f' → SaysWhether r (Ok true) → MeetsEnd limit s (Err one_more_counted) now then f f'
+      by (Ok (Some v)) n says = row_met v n
+      by (Ok None) n says = absurd cc
+      by (Err h) n says = absurd says
+
+  halt_met : (h : Halt) → NextRow (item_ty s.ty) (Err h) now then f f' → (r : Result (Option Value) FileError) → NextItem r now then f f' → RowOf (item_ty s.ty) r (Err h) then
+      → (h ≡ halt.Misfit → MeetsEnd limit s (Err one_more_counted) now then f f') × ((e : FileError) → h ≡ halt.Unread e → MeetsEnd limit s (Err (unread_as limit s.bytes e)) now then f f')
+  halt_met halt.Misfit n (Ok (Some v)) next row = (λ is. meets_item v next, λ e is. absurd cc)
+  halt_met (halt.Unread why) n (Ok (Some v)) next row = absurd row
+  halt_met halt.Misfit n (Ok None) next row = absurd row
+  halt_met (halt.Unread why) n (Ok None) next row = absurd row
+  halt_met halt.Misfit n (Err e) next row = absurd row
+  halt_met (halt.Unread why) n (Err e) next row = (
+    λ is. absurd cc,
+    λ d is.
+        let same : e ≡ d = sym row ∙ (let k : why ≡ d = cc in k) in
+        subst (λ d. MeetsEnd limit s (Err (unread_as limit s.bytes d)) now then f f') same (met (Err e) (unread_as limit s.bytes e) next (unread_refuses limit s s.count now then f f' kept so_far (Err e) next (s.count + 1) e refl)),
+  )
+
+  skip_halted : (h : Halt) → SkipsRow (item_ty s.ty) (Err h) now then f f'
+      → (h ≡ halt.Misfit → MeetsEnd limit s (Err one_more_counted) now then f f') × ((e : FileError) → h ≡ halt.Unread e → MeetsEnd limit s (Err (unread_as limit s.bytes e)) now then f f')
+  skip_halted h skips = by skips.row skips.next skips.says
+    where
+      Halts : Halt → Type 0
+      Halts h = (h ≡ halt.Misfit → MeetsEnd limit s (Err one_more_counted) now then f f') × ((e : FileError) → h ≡ halt.Unread e → MeetsEnd limit s (Err (unread_as limit s.bytes e)) now then f f')
+
+      by : (r : Result (Option Value) Halt) → NextRow (item_ty s.ty) r now then f f' → SaysWhether r (Err h) → Halts h
+      by (Ok (Some v)) n says = absurd says
+      by (Ok None) n says = absurd says
+      by (Err why) n says = subst Halts (sym says) (halt_met why n n.found n.next n.row)
+
+  -- one item more, which lacks the type
+  pub meets_misfit : SkipsRow (item_ty s.ty) (Err halt.Misfit) now then f f' → MeetsEnd limit s (Err one_more_counted) now then f f'
+  meets_misfit skips = (skip_halted halt.Misfit skips).0 refl
+
+  pub meets_fault : (e : FileError) (d : DriverError) → SkipsRow (item_ty s.ty) (Err (halt.Unread e)) now then f f' → d ≡ unread_as limit s.bytes e → MeetsEnd limit s (Err d) now then f f'
+  meets_fault e d skips is = subst (λ d. MeetsEnd limit s (Err d) now then f f') (sym is) ((skip_halted (halt.Unread e) skips).1 e refl)
+
+  -- the end, with these bytes
+  pub meets_end : (result : Result (Unit {0}) DriverError) (size : ℕ) → SkipsRow (item_ty s.ty) (Ok false) now then f f' → size ≡ then.text.place + length then.text.left → HasBytes s.bytes size result
+      → MeetsEnd limit s result now then f f'
+  meets_end result size skips total has = by skips.row skips.next skips.says
+    where
+      Met : Result (Unit {0}) DriverError → Type 0
+      Met result = MeetsEnd limit s result now then f f'
+
+      at : (result : Result (Unit {0}) DriverError) → NextItem (Ok None) now then f f' → then.text.finished ≡ true → HasBytes s.bytes size result → Met result
+      at (Ok done) next finished has = record {
+        reads = reads_one limit s s.count now then f f' kept so_far (Ok None) next;
+        taken = ended limit s s.count now then f f' kept so_far (Ok None) next refl;
+        cause = λ e is. absurd cc;
+      }
+      at (Err e) next finished has = subst (λ e. Met (Err e)) (sym has.0)
+          (met (Ok None) (error.Changed (drift.Bytes s.bytes size)) next (size_untold limit s s.count now then f f' kept so_far (Ok None) next size refl finished total has.1, (refl, has.1)))
+
+      item : (r : Result (Option Value) FileError) → NextItem r now then f f' → RowOf (item_ty s.ty) r (Ok None) then → Met result
+      item (Ok None) next row = at result next row has
+      item (Ok (Some v)) next row = absurd row
+      item (Err e) next row = absurd row
+
+      by : (r : Result (Option Value) Halt) → NextRow (item_ty s.ty) r now then f f' → SaysWhether r (Ok false) → Met result
+      by (Ok None) n says = item n.found n.next n.row
+      by (Ok (Some v)) n says = absurd cc
+      by (Err h) n says = absurd says

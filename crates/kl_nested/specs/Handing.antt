@@ -1,0 +1,129 @@
+-- Steps of handing rows. No public contract cites this.
+use Rattle.std.specs.Prelude.{◌≡◌, ◌≢◌, ◌⊎◌, ℕ, ◌+◌, ◌≤◌, true, List, [], ◌∷◌, ◌++◌, length, drop, set, slice_get, Option, Some, None, IsSome, Result, Ok, Err, IfOk, OnOk, OnErr, ⊤}
+use Rattle.std.specs.List.{AllByRecursion}
+use Rattle.kl_base.specs.Counts.{Rose}
+use Rattle.kl_value.specs.declared.Value.{Value}
+use Rattle.kl_type.specs.Ground.{ground_of}
+use Rattle.kl_type.specs.Has.{has_type}
+use Rattle.kl_type.specs.declared.ground.Ty.{Ty}
+use Rattle.kl_outside.specs.Files.{FilesState, OtherFiles}
+use Rattle.kl_exchange.specs.FileReading.{FileReading}
+use Rattle.kl_exchange.specs.declared.error.FileError.{FileError}
+use Rattle.kl_exchange.specs.declared.error.FileError.TheVariants as fault
+use Rattle.kl_outcome.specs.Typed.{Inhabits}
+use Rattle.kl_ask.specs.Asks.{item_of}
+use Rattle.kl_ask.specs.declared.ask.Drift.{Drift}
+use Rattle.kl_ask.specs.declared.ask.Drift.TheVariants as drift
+use Rattle.kl_ask.specs.declared.ask.DriverError.{DriverError}
+use Rattle.kl_ask.specs.declared.ask.DriverError.TheVariants as error
+use Rattle.kl_nested.specs.Desk.{HasTaken}
+use Rattle.kl_nested.specs.Nested.{rows_at}
+use Rattle.kl_nested.specs.declared.parts.Source.{Source}
+use Rattle.kl_nested.specs.declared.parts.Open.{Open}
+use Rattle.kl_nested.specs.declared.rows.Halt.{Halt}
+use Rattle.kl_nested.specs.declared.rows.Halt.TheVariants as halt
+
+-- ---- handing
+
+abbrev pub AllHave : Ty → List Value → Type 0
+AllHave t vs = AllByRecursion (λ v. has_type v t ≡ true) vs
+
+-- What is told of a file that is not as it was, where so many bytes were kept of it and so many items were read: of one
+-- that has more bytes than are looked at, one byte more than these.
+abbrev pub unread_as : ℕ → ℕ → FileError → DriverError
+unread_as limit kept (fault.Bad place) = error.Changed (drift.Unread place)
+unread_as limit kept (fault.TooDeep place) = error.Changed (drift.Unread place)
+unread_as limit kept fault.TooLong = error.Changed (drift.Bytes kept (limit + 1))
+unread_as limit kept fault.Read = error.Failed
+unread_as limit kept fault.NoMemory = error.NoMemory
+
+abbrev pub changed_as : ℕ → ℕ → ℕ → Halt → DriverError
+changed_as limit kept taken halt.Misfit = error.Changed (drift.Misfit taken)
+changed_as limit kept taken (halt.Unread why) = unread_as limit kept why
+
+-- what was kept of a source and what was found differ, where so many items were found
+abbrev pub Differs : Source → ℕ → Drift → Type 0
+Differs s found (drift.Bytes kept size) = (kept ≡ s.bytes) × (size ≢ kept)
+Differs s found (drift.Count kept count) = (kept ≡ s.count) × (count ≡ found) × (count ≢ kept)
+Differs s found (drift.Unread place) = ⊤
+Differs s found (drift.Misfit item) = item ≡ found
+
+-- the cause of a refusal
+abbrev pub Refuses : Source → ℕ → DriverError → FilesState → FilesState → Type 0
+Refuses s found error.Failed old new = Rose old.faults new.faults
+Refuses s found error.NoMemory old new = ⊤
+Refuses s found (error.Changed d) old new = (old.told ≡ None) × Differs s found d
+Refuses s found _ old new = ⊥
+
+-- a reader read its file, and nothing else
+pub record ReadsOne (old new : FileReading) (files files' : FilesState) : Type 0 where
+  pub told : files'.told ≡ files.told
+  pub others : OtherFiles old.file files files'
+  pub is_open : IsSome (files'.left old.file)
+  pub later : files.faults ≤ files'.faults
+  pub same_file : new.file ≡ old.file
+
+-- rows that were appended are the next ones of a source of which so many were taken
+pub record AreNext (limit : ℕ) (s : Source) (taken : ℕ) (rows into into' : List Value) (files : FilesState) : Type 0 where
+  pub appended : into' ≡ into ++ rows
+  pub typed : AllByRecursion (Inhabits (item_of (ground_of s.ty))) rows
+  pub next : (all : List Value) → rows_at limit files.told s ≡ Some all → drop taken all ≡ rows ++ drop (taken + length rows) all
+
+-- a row is appended, or nothing
+abbrev pub Pushes : Value → List Value → List Value → Result (Unit {0}) DriverError → Type 0
+Pushes row into into' (Ok done) = into' ≡ into ++ row ∷ []
+Pushes row into into' (Err e) = (into' ≡ into) × (e ≡ error.NoMemory)
+
+-- the next row is appended
+pub record TakesRow (limit : ℕ) (s : Source) (taken : ℕ) (into into' : List Value) (result : Result (Unit {0}) DriverError) (old new : FileReading) (files files' : FilesState) : Type 0 where
+  pub reads : ReadsOne old new files files'
+  pub row : OnOk result ((v : Value) × AreNext limit s taken (v ∷ []) into into' files × HasTaken limit s (taken + 1) new files')
+  pub same : OnErr result (into' ≡ into)
+  pub cause : (e : DriverError) → result ≡ Err e → Refuses s taken e files files'
+
+-- so many next rows are appended
+pub record TakesRows (limit : ℕ) (s : Source) (taken count : ℕ) (into into' : List Value) (result : Result (Unit {0}) DriverError) (old new : FileReading) (files files' : FilesState) : Type 0 where
+  pub reads : ReadsOne old new files files'
+  pub rows : List Value
+  pub are_next : AreNext limit s taken rows into into' files
+  pub all : OnOk result ((length rows ≡ count) × HasTaken limit s (taken + count) new files')
+  pub cause : (e : DriverError) → result ≡ Err e → Refuses s (taken + length rows) e files files'
+
+-- as many bytes were found as were kept
+abbrev pub HasBytes : ℕ → ℕ → Result (Unit {0}) DriverError → Type 0
+HasBytes kept found (Ok done) = found ≡ kept
+HasBytes kept found (Err e) = (e ≡ error.Changed (drift.Bytes kept found)) × (found ≢ kept)
+
+-- a file of which all rows were read that were kept has ended, and has as many bytes as were kept
+pub record MeetsEnd (limit : ℕ) (s : Source) (result : Result (Unit {0}) DriverError) (old new : FileReading) (files files' : FilesState) : Type 0 where
+  pub reads : ReadsOne old new files files'
+  pub taken : OnOk result (HasTaken limit s s.count new files')
+  pub cause : (e : DriverError) → result ≡ Err e → Refuses s (s.count + 1) e files files'
+
+-- so many next rows of a cursor are appended, as many as were asked for or all that are left, and it stands behind them
+pub record HandsNext (limit most : ℕ) (into into' : List Value) (old new : Open) (files files' : FilesState) (count : ℕ) : Type 0 where
+  pub rows : List Value
+  pub are_next : AreNext limit old.source old.taken rows into into' files
+  pub size : length rows ≡ count
+  pub few : count ≤ most
+  pub all : (count ≡ most) ⊎ (new.taken ≡ old.source.count)
+  pub after : new.taken ≡ old.taken + count
+  pub within : new.taken ≤ old.source.count
+  pub taken : HasTaken limit old.source new.taken new.reader files'
+
+pub record Hands (limit most : ℕ) (into into' : List Value) (result : Result ℕ DriverError) (old new : Open) (files files' : FilesState) : Type 0 where
+  pub reads : ReadsOne old.reader new.reader files files'
+  pub ask : new.ask ≡ old.ask
+  pub source : new.source ≡ old.source
+  pub file : new.file ≡ old.file
+  pub handed : IfOk result (HandsNext limit most into into' old new files files')
+  pub same : OnErr result (into' ≡ into)
+  pub cause : (e : DriverError) → result ≡ Err e → (found : ℕ) × Refuses old.source found e files files'
+
+-- the cursor at a place hands rows, and no other
+pub record HandsAt (limit cursor most : ℕ) (into into' : List Value) (result : Result ℕ DriverError) (cursors cursors' : List (Option Open)) (files files' : FilesState) : Type 0 where
+  pub old : Open
+  pub new : Open
+  pub here : slice_get cursors cursor ≡ Some (Some old)
+  pub made : cursors' ≡ set cursors cursor (Some new)
+  pub hands : Hands limit most into into' result old new files files'

@@ -1,0 +1,25 @@
+//! The parts of the driver of files of values: attached sources and open cursors.
+use kl_ask::Ask;
+use kl_base::{Shared, Text};
+use kl_exchange::FileReader;
+use kl_type::Ty;
+
+/// A source: the path of its file, its type, and how many bytes and items the file had when it was attached.
+#[derive(Drop)]
+pub struct Source {
+    pub path: Text,
+    pub ty: Ty,
+    pub bytes: u64,
+    pub count: u64,
+}
+
+/// An open cursor: its ask, its source, the number under which its file is open, the reader of that file, and how many of
+/// its items were taken.
+#[derive(Drop)]
+pub struct Open {
+    pub ask: Ask,
+    pub source: Shared<Source>,
+    pub file: u64,
+    pub reader: FileReader,
+    pub taken: u64,
+}

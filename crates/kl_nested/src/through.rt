@@ -1,0 +1,86 @@
+//! The reading of a whole file, which is what attaching does.
+ghost use Rattle.std.specs.Prelude.{◌≡◌, ◌<◌, ◌^◌, IsSome};
+ghost use Rattle.kl_nested.specs.Reading.{ReadsFile, ReadsThrough, unreadable};
+ghost use Rattle.kl_nested.specs.Opening.{stopped_as};
+
+use crate::rows::{Halt, skip_row};
+use kl_ask::DriverError;
+use kl_exchange::{FileError, FileReader};
+use kl_outside::{Files, Stop};
+use kl_type::Ty;
+use std::alloc::Global;
+
+/// How many bytes are fetched at a time.
+pub const PIECE: usize = 65_536;
+
+/// Reads the file at a path from its start to its end, of which at most `limit` bytes are looked at, and answers how many
+/// bytes and how many items of the type it has. The file is closed in every case.
+///
+/// # Errors
+/// As `Driver::attach`, whichever stands first in the file.
+pub fn read_file<F: Files>(
+    alloc: Global,
+    files: &mut F,
+    path: &[u8],
+    limit: u64,
+    item: &Ty,
+) -> Result<(u64, u64), DriverError>
+    requires { limit < 2 ^ 63 }
+    ensures { ReadsFile limit path.now item.now result (F.state files.old) (F.state files.new) }
+{
+    let file = match files.open_path(path) {
+        Ok(file) => file,
+        Err(stop) => return Err(stopped(stop)),
+    };
+    let result = read_through(alloc, files, file, limit, item);
+    files.close(file);
+    result
+}
+
+/// The refusal of a driver whose files stopped.
+pub fn stopped(stop: Stop) -> DriverError
+    ensures { result ≡ stopped_as stop }
+{
+    match stop {
+        Stop::Failed => DriverError::Failed,
+        Stop::NoMemory => DriverError::NoMemory,
+    }
+}
+
+// Reads an open file to its end.
+fn read_through<F: Files>(
+    alloc: Global,
+    files: &mut F,
+    file: u64,
+    limit: u64,
+    item: &Ty,
+) -> Result<(u64, u64), DriverError>
+    requires is_open { IsSome ((F.state files.old).left file) }
+    requires room { limit < 2 ^ 63 }
+    ensures { ReadsThrough limit file item.now result (F.state files.old) (F.state files.new) }
+{
+    let mut reader = FileReader::new(alloc, file, limit, PIECE);
+    let mut count = 0u64;
+    'items: loop {
+        let place = reader.place();
+        match skip_row(&mut reader, files, item) {
+            Ok(true) => count += 1,
+            Ok(false) => return Ok((reader.total(), count)),
+            Err(halt) => return Err(unreadable(halt, place, limit)),
+        }
+    }
+}
+
+// Why a source is not attached, where so many bytes of items stand before what is no row.
+fn unreadable(halt: Halt, place: u64, limit: u64) -> DriverError
+    ensures { result ≡ unreadable limit place halt }
+{
+    match halt {
+        Halt::Misfit => DriverError::BadSource { place },
+        Halt::Unread(FileError::Bad { place }) => DriverError::BadSource { place },
+        Halt::Unread(FileError::TooDeep { place }) => DriverError::TooDeep { place },
+        Halt::Unread(FileError::TooLong) => DriverError::TooLong { most: limit },
+        Halt::Unread(FileError::Read) => DriverError::Failed,
+        Halt::Unread(FileError::NoMemory) => DriverError::NoMemory,
+    }
+}

@@ -1,0 +1,17 @@
+use Rattle.std.proofs.Common.{◌≡◌, ◌<◌, Some, rules, refl, length, slice_get}
+use Rattle.std.proofs.lemmas.Option.{slice_get_read}
+use Rattle.kl_ask.proofs.Opened.{is_within}
+use Rattle.kl_tools.specs.Driver.{cursor_of}
+use Rattle.kl_tools.proofs.Driving.{pull_done, pull_stopped}
+use Rattle.kl_tools.proofs.driver.MadeDriverDriver.pull.Goals as goal
+
+pub returns-in-Ok : goal.returns-in-Ok
+returns-in-Ok c =
+    let cursors = c.args.self.now.cursors.items in
+    let within : c.args.cursor < length cursors = is_within cursor_of cursors _ c.requires.is_open in
+    let there : slice_get cursors c.args.cursor ≡ Some (Some c.in-Some.open) = slice_get_read cursors (length cursors) c.args.cursor (Some c.in-Some.open) refl within (search rules) in
+    pull_done c.args.self.now.sources cursors _ _ _ _ c.args.cursor c.args.most c.in-Ok.count _ _ c.in-Some.open c.hand_next.new.cursor there refl c.in-Ok.ensures.handed c.saturating_add-self.ensures (search rules) c.requires.room
+
+pub returns-in-Err : goal.returns-in-Err
+returns-in-Err c =
+    pull_stopped c.args.self.now.sources c.args.self.now.cursors.items _ (Some c.hand_next.new.cursor) _ _ c.args.cursor c.args.most _ _ c.close_cursor.ensures.closed c.close_cursor.ensures.others c.in-Err.ensures.refused

@@ -1,0 +1,6 @@
+use Rattle.std.proofs.Common.{ap}
+use Rattle.kl_ask.specs.Driver.{State}
+use Rattle.measure.proofs.tables.attached.Goals as goal
+
+pub attach-requires-clause-fresh : goal.attach-requires-clause-fresh
+attach-requires-clause-fresh c = ap (λ (s : State). s.attached c.args.name.now) c.new-driver.ensures
