@@ -13,7 +13,11 @@ mod catalogues;
 #[cfg(test)]
 mod made;
 #[cfg(test)]
+mod nested;
+#[cfg(test)]
 mod placing;
+#[cfg(test)]
+mod statements;
 #[cfg(test)]
 mod tables;
 #[cfg(test)]

@@ -2,12 +2,12 @@ ghost use Rattle.std.specs.Prelude.{◌≡◌, true, IfOk};
 ghost use Rattle.kl_type.specs.Ground.{IsProper};
 ghost use Rattle.kl_flat.specs.Columns.{is_table_type};
 
-use kl_ask::Driver;
+use kl_ask::{Cmp, ColTest, Driver, Right};
 use kl_base::{Box, Label, Seq, Text};
-use kl_flat::{FlatDriver, Table, read_table};
+use kl_flat::{ColumnTable, FlatDriver, Table, read_columns, read_table};
 use kl_outside::MemFiles;
 use kl_type::Ty;
-use kl_value::Kind;
+use kl_value::{Kind, Value};
 use std::alloc::Global;
 use std::test::Fail;
 
@@ -32,6 +32,40 @@ fn a_table_is_read(rt: HostRuntime) -> Result<(), Fail> {
     let table = table(rt.alloc())?;
     assert_eq!(rt; table.rows.len(), 2);
     assert!(rt; table.bad == Some(3));
+    Ok(())
+}
+
+fn columns(alloc: Global) -> Result<ColumnTable, Fail> {
+    let ty = counts(alloc)?;
+    Ok(read_columns(alloc, b"n\n-3\n7\n", &ty)?.table)
+}
+
+// `n = 7`
+fn seven(alloc: Global) -> Result<ColTest, Fail> {
+    Ok(ColTest {
+        left: Label::new(alloc, b"n")?.ok_or("no word")?,
+        op: Cmp::Eq,
+        right: Right::Const(Value::Int(7)),
+    })
+}
+
+// Whether a row, and a row of which no column is kept, are made.
+fn has_rows(alloc: Global, table: &ColumnTable) -> Result<bool, Fail> {
+    if table.len() < 2 {
+        return Ok(false);
+    }
+    let places = table.places(alloc, &[])?;
+    let whole = table.whole_row(alloc, 1)?;
+    let shown = table.row(alloc, 1, &[])?;
+    Ok(places.is_empty() && whole != shown)
+}
+
+#[test]
+fn a_table_is_held_in_columns(rt: HostRuntime) -> Result<(), Fail> {
+    let table = columns(rt.alloc())?;
+    let test = seven(rt.alloc())?;
+    assert!(rt; table.len() == 2 && table.test(&test).is_some());
+    assert!(rt; has_rows(rt.alloc(), &table)?);
     Ok(())
 }
 

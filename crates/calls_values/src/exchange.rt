@@ -1,7 +1,9 @@
 ghost use Rattle.std.specs.Prelude.{◌≡◌, IsSome};
 
 use kl_base::Text;
-use kl_exchange::{FileReader, Item, MOST_READ, Page, Reader, file_laws, print, reading_laws};
+use kl_exchange::{
+    FileReader, Item, MOST_READ, Page, Reader, file_laws, found_laws, print, reading_laws,
+};
 use kl_outside::{Files, MemFiles, MemSink};
 use kl_value::Value;
 use std::alloc::Global;
@@ -89,8 +91,10 @@ fn the_items_of_a_file_are_read(rt: HostRuntime) -> Result<(), Fail> {
     let file = files.open_path(b"a").expect(&rt, "a is there");
     let mut reader = FileReader::new(rt.alloc(), file, MOST_READ, 4);
     assert!(rt; reads_two(&mut reader, &mut files));
+    assert!(rt; reader.place() == 7 && reader.total() == 8);
     files.close(file);
     file_laws();
+    found_laws();
     Ok(())
 }
 

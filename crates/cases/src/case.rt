@@ -13,10 +13,11 @@ use std::alloc::Global;
 /// - `out` and `err`: what they took, nothing if it is left out. `front` in place of `out`: of what `out` took this is
 ///   the page, and it took a front of it.
 /// - `piece`: how many bytes of a piece `out` and `err` take at most; all if it is left out.
-/// - `files_fail`, `driver_fails`, `out_fails`, `err_fails`: lists of the calls that fail, counted from 1. The driver of
-///   flat files reads the same files, but counts its own calls.
+/// - `files_fail`, `flat_fails`, `nested_fails`, `sql_fails`, `out_fails`, `err_fails`: lists of the calls that fail,
+///   counted from 1. The drivers of tables, of files of values and of SQL read the same files, but each counts its own
+///   calls.
 /// - `turns`: `<files=3>` has the case run three times, where one call of files fails each time, from the first to the
-///   third. So does `<driver=3>` with the driver's files, and `<out=3>` and `<err=3>` with writes.
+///   third. So do `<flat=3>`, `<nested=3>` and `<sql=3>` with a driver's files, and `<out=3>` and `<err=3>` with writes.
 ///
 /// A text is a text, or a list of parts one behind the other: each a text, or a record `[text="{", times=256]`.
 #[derive(Drop)]
@@ -70,7 +71,9 @@ impl Took {
 #[derive(Drop)]
 pub struct Fails {
     pub files: Vec<u64>,
-    pub driver: Vec<u64>,
+    pub flat: Vec<u64>,
+    pub nested: Vec<u64>,
+    pub sql: Vec<u64>,
     pub out: Vec<u64>,
     pub err: Vec<u64>,
 }
@@ -86,13 +89,15 @@ pub struct Turns {
 #[derive(Clone, Copy, PartialEq, Eq)]
 pub enum Side {
     Files,
-    Driver,
+    Flat,
+    Nested,
+    Sql,
     Out,
     Err,
 }
 
 // The fields of a case.
-const LABELS: [&[u8]; 13] = [
+const LABELS: [&[u8]; 15] = [
     b"shows",
     b"words",
     b"files",
@@ -102,7 +107,9 @@ const LABELS: [&[u8]; 13] = [
     b"err",
     b"piece",
     b"files_fail",
-    b"driver_fails",
+    b"flat_fails",
+    b"nested_fails",
+    b"sql_fails",
     b"out_fails",
     b"err_fails",
     b"turns",
@@ -173,12 +180,16 @@ fn read_piece(fields: &[(Label, Value)]) -> Result<usize> {
 
 fn read_fails(alloc: Global, fields: &[(Label, Value)]) -> Result<Fails> {
     let files = read_calls(alloc, items_at(fields, b"files_fail")?)?;
-    let driver = read_calls(alloc, items_at(fields, b"driver_fails")?)?;
+    let flat = read_calls(alloc, items_at(fields, b"flat_fails")?)?;
+    let nested = read_calls(alloc, items_at(fields, b"nested_fails")?)?;
+    let sql = read_calls(alloc, items_at(fields, b"sql_fails")?)?;
     let out = read_calls(alloc, items_at(fields, b"out_fails")?)?;
     let err = read_calls(alloc, items_at(fields, b"err_fails")?)?;
     Ok(Fails {
         files,
-        driver,
+        flat,
+        nested,
+        sql,
         out,
         err,
     })
@@ -202,8 +213,12 @@ fn read_turns(fields: &[(Label, Value)]) -> Result<Turns> {
 fn read_side(label: &[u8]) -> Result<Side> {
     if label == b"files".as_slice() {
         Ok(Side::Files)
-    } else if label == b"driver".as_slice() {
-        Ok(Side::Driver)
+    } else if label == b"flat".as_slice() {
+        Ok(Side::Flat)
+    } else if label == b"nested".as_slice() {
+        Ok(Side::Nested)
+    } else if label == b"sql".as_slice() {
+        Ok(Side::Sql)
     } else if label == b"out".as_slice() {
         Ok(Side::Out)
     } else if label == b"err".as_slice() {

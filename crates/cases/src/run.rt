@@ -9,7 +9,10 @@ use kl_ask::Driver;
 use kl_engine::{add_driver, kleisli};
 use kl_exchange::print;
 use kl_flat::FlatDriver;
+use kl_nested::NestedDriver;
 use kl_outside::{MemFiles, MemSink, write_whole};
+use kl_sqlserve::SqlServer;
+use kl_tools::MadeDriver;
 use kl_value::{Text, Value};
 use std::alloc::Global;
 
@@ -38,10 +41,18 @@ fn try_case(alloc: Global, case: &Case) -> Result<Option<Vec<u8>>> {
 // Runs a case where this call fails too. There is no call 0.
 fn try_turn(alloc: Global, case: &Case, call: u64) -> Result<Option<Vec<u8>>> {
     let mut files = files_of(alloc, case, &case.given.fails.files, Side::Files, call)?;
-    let tables = files_of(alloc, case, &case.given.fails.driver, Side::Driver, call)?;
+    let tables = files_of(alloc, case, &case.given.fails.flat, Side::Flat, call)?;
+    let items = files_of(alloc, case, &case.given.fails.nested, Side::Nested, call)?;
+    let served = files_of(alloc, case, &case.given.fails.sql, Side::Sql, call)?;
+    let flat = Box::new(alloc, FlatDriver::new(alloc, tables))?;
+    let nested = Box::new(alloc, NestedDriver::new(alloc, items))?;
+    let sql = Box::new(alloc, SqlServer::new(alloc, served))?;
+    let made = Box::new(alloc, MadeDriver::new(alloc))?;
     let mut drivers = Vec::new(alloc);
-    let driver = Box::new(alloc, FlatDriver::new(alloc, tables))?;
-    add_driver(&mut drivers, driver)?;
+    add_driver(&mut drivers, flat)?;
+    add_driver(&mut drivers, nested)?;
+    add_driver(&mut drivers, sql)?;
+    add_driver(&mut drivers, made)?;
     try_over(alloc, case, call, &mut files, &mut drivers)
 }
 

@@ -1,5 +1,5 @@
 -- What a driver means, and what each call does to it.
-use Rattle.std.specs.Prelude.{◌≡◌, ◌≢◌, ◌⊎◌, ◌<◌, ◌≤◌, ℕ, ◌+◌, ◌^◌, Bool, true, false, List, [], ◌++◌, length, Option, Some, None, IsSome, ⊤}
+use Rattle.std.specs.Prelude.{◌≡◌, ◌≢◌, ◌⊎◌, ◌<◌, ◌≤◌, ℕ, ◌+◌, ◌^◌, Bool, true, false, List, [], ◌++◌, length, Contains, Option, Some, None, IsSome, ⊤}
 use Rattle.std.specs.Prelude.{Result, Ok, Err, IfOk, OnOk, OnErr, IsErrOf}
 use Rattle.std.specs.List.{AllByRecursion, IsDistinct}
 use Rattle.std.specs.List.Sorted.{IsPermutation}
@@ -15,6 +15,10 @@ use Rattle.kl_outcome.specs.Outcome.{Name}
 use Rattle.kl_outcome.specs.Typed.{Inhabits}
 use Rattle.kl_ask.specs.Asked.{with_ask, raised_by}
 use Rattle.kl_ask.specs.Asks.{item_of, kind_of, answers, shown_type, is_allowed, AskFits}
+use Rattle.kl_ask.specs.Statements.{RowTypes, SqlFits, sql_type}
+use Rattle.kl_sqltext.specs.Meaning.{spj}
+use Rattle.kl_sqltext.specs.Reading.{SqlReads}
+use Rattle.kl_sqltext.specs.declared.ast.Spj.{Spj}
 use Rattle.kl_ask.specs.declared.ask.Abilities.{Abilities}
 use Rattle.kl_ask.specs.declared.ask.Ask.{Ask}
 use Rattle.kl_ask.specs.declared.ask.Ask.TheVariants as asks
@@ -182,13 +186,21 @@ pub record Attaches (source : Name) (locator : List ℕ) (ty : Ty) (result : Res
 
 -- ---- `start`
 
+abbrev pub row_type : Option Source → Option Ground
+row_type (Some a) = Some (item_of (ground_of a.ty))
+row_type None = None
+
+-- the types of the rows of the attached sources, by their names
+abbrev pub row_types : State → RowTypes
+row_types s l = row_type (s.attached l)
+
 -- An ask of rows may be started where its source is attached, the driver is able to answer it, and its columns and tests
--- fit the type. No driver joins, so none is asked SQL.
+-- fit the type. One of SQL may be where the driver joins, and the text is a statement that fits the attached sources.
 abbrev pub IsAnswerable : State → Ask → Type 0
 IsAnswerable s (asks.Rows source keep tests) =
     (a : Source) × (s.attached source ≡ Some a)
     × (is_allowed s.kind.abilities (ground_of a.ty) (asks.Rows source keep tests) ≡ true) × AskFits (ground_of a.ty) keep tests
-IsAnswerable s (asks.Sql text) = ⊥
+IsAnswerable s (asks.Sql text) = (q : Spj) × SqlReads text q × (s.kind.abilities.join ≡ true) × SqlFits (row_types s) q
 
 pub record CanStart (s : State) (ask : Ask) : Type 0 where
   pub answerable : IsAnswerable s ask
@@ -213,9 +225,22 @@ pub record IsFresh (keep : List Name) (tests : List ColTest) (source : Source) (
   pub told : (shown : List Value) → cursor.left ≡ Some shown → cursor.bound ≡ length shown
   pub bound : cursor.bound ≤ 2 ^ 64
 
+-- what is told of the rows of these tables is this
+abbrev pub AreRows : State → (Name → List Value) → List Name → Type 0
+AreRows s rows tables = AllByRecursion (λ l. (a : Source) × (s.attached l ≡ Some a) × (a.rows ≡ Some (rows l))) tables
+
+-- A cursor over a statement that has handed nothing yet: where contents are told, it may hand exactly the rows that the
+-- statement means, in some order.
+pub record IsJoined (q : Spj) (s : State) (cursor : Cursor) : Type 0 where
+  pub ty : cursor.ty ≡ sql_type (row_types s) q
+  pub left : (rows : Name → List Value) → AreRows s rows q.tables → (shown : List Value) × (cursor.left ≡ Some shown) × IsPermutation (spj rows q) shown
+  pub untold : (IsTold s → ⊥) → cursor.left ≡ None
+  pub told : (shown : List Value) → cursor.left ≡ Some shown → cursor.bound ≡ length shown
+  pub bound : cursor.bound ≤ (2 ^ 64) ^ length q.tables
+
 abbrev pub OpensAt : Ask → State → Cursor → Type 0
 OpensAt (asks.Rows source keep tests) old cursor = (a : Source) → old.attached source ≡ Some a → IsFresh keep tests a cursor
-OpensAt (asks.Sql text) old cursor = ⊥
+OpensAt (asks.Sql text) old cursor = (q : Spj) → SqlReads text q → IsJoined q old cursor
 
 pub record OpensCursor (ask : Ask) (cursor : ℕ) (old new : State) : Type 0 where
   pub free : old.cursors cursor ≡ None
@@ -258,7 +283,7 @@ IsSpent c = (all : List Value) → c.left ≡ Some all → all ≡ []
 
 abbrev pub HasTests : Ask → Type 0
 HasTests (asks.Rows source keep tests) = tests ≢ []
-HasTests (asks.Sql text) = ⊥
+HasTests (asks.Sql text) = (q : Spj) × SqlReads text q × (q.tests ≢ [])
 
 -- a cursor that has no row left from now on
 abbrev pub emptied : Cursor → Cursor
@@ -280,7 +305,7 @@ pub record PullsNone (cursor : ℕ) (into into' : List Value) (c : Cursor) (old 
   pub now : new.cursors cursor ≡ Some (emptied c)
   pub handed : new.handed ≡ old.handed
 
--- the attached source that an ask names
+-- the attached source that an ask of rows names
 abbrev pub source_of : State → Ask → Option Source
 source_of s (asks.Rows source keep tests) = s.attached source
 source_of s (asks.Sql text) = None
@@ -292,6 +317,19 @@ HasDrifted s (drift.Bytes kept found) = (s.kept ≡ Some kept) × (found ≢ kep
 HasDrifted s (drift.Count kept found) = (s.count ≡ kept) × (found ≢ kept)
 HasDrifted s (drift.Unread place) = ⊤
 HasDrifted s (drift.Misfit item) = ⊤
+
+-- an ask is for this statement
+abbrev pub IsAskedSql : Ask → Spj → Type 0
+IsAskedSql (asks.Rows source keep tests) q = ⊥
+IsAskedSql (asks.Sql text) q = SqlReads text q
+
+-- one of the tables of a statement is not what it was
+pub record HasDriftedTable (s : State) (q : Spj) (d : Drift) : Type 0 where
+  pub name : Name
+  pub source : Source
+  pub named : Contains q.tables name
+  pub is_attached : s.attached name ≡ Some source
+  pub drifted : HasDrifted source d
 
 -- the cause of a refusal
 abbrev pub Cause : DriverError → State → State → Type 0
@@ -306,6 +344,7 @@ pub record PullRefused (cursor : ℕ) (e : DriverError) (into into' : List Value
   pub handed : new.handed ≡ old.handed
   pub cause : Cause e old new
   pub drifted : (d : Drift) → e ≡ error.Changed d → (s : Source) → source_of old c.ask ≡ Some s → HasDrifted s d
+  pub joined_drifted : (d : Drift) → e ≡ error.Changed d → (q : Spj) → IsAskedSql c.ask q → HasDriftedTable old q d
 
 abbrev pub PullResult : ℕ → ℕ → List Value → List Value → Cursor → Result Bool DriverError → State → State → Type 0
 PullResult cursor most into into' c (Ok true) old new = PullsMore cursor most into into' c old new

@@ -1,6 +1,7 @@
 pub mod Asked
 pub mod Asks
 pub mod Cursors
+pub mod Statements
 pub mod Driver
 pub mod Lists
 pub mod Named

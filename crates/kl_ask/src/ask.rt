@@ -57,7 +57,7 @@ pub enum Ask {
         keep: Seq<Label>,
         tests: Seq<ColTest>,
     },
-    /// The rows of a statement of SQL.
+    /// The rows that a statement of SQL means, as `read_sql` of `kl_sqltext` reads it.
     Sql {
         text: Text,
     },

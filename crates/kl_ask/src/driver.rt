@@ -52,7 +52,11 @@ pub trait Driver: Drop {
 
     /// Opens a cursor for an ask, and answers its number, which no open cursor has. Without tests the cursor may hand as
     /// many rows as `attach` answered, and with tests at most as many; where contents are told, it has the rows that the
-    /// ask answers, of a list in order. The ask is counted once more. Of the other counts that of faults alone may rise.
+    /// ask answers, of a list in order. An ask of SQL is of a driver that joins, for a statement whose tables are attached
+    /// and whose columns are there, none of them shown under one label with another, with one type on both sides of each
+    /// test. Its cursor has the rows that the statement means (`kl_sqltext`), in some order, and of n tables at most 2^64 to
+    /// the n, a table named twice counting twice. The ask is counted once more. Of the other counts that of faults alone may
+    /// rise.
     ///
     /// # Errors
     /// `Failed` on a fault; `NoMemory`. Nothing is opened or counted then.
@@ -61,9 +65,9 @@ pub trait Driver: Drop {
         ensures { Starts ask.now result (state self.old) (state self.new) };
 
     /// Appends the next rows of an open cursor, at least one and at most `most`, or answers false: no row is left. Where
-    /// contents are told, it appends `most` rows, or all that are left. Where they are not, an ask with tests may answer
-    /// false while more rows were possible, and none is left from then on. The count of rows handed rises by the number
-    /// of rows appended, that of faults may rise, and with `Changed` that of drifts.
+    /// contents are told, it appends `most` rows, or all that are left. Where they are not, an ask with tests, or of a
+    /// statement with WHERE, may answer false while more rows were possible, and none is left from then on. The count of rows
+    /// handed rises by the number of rows appended, that of faults may rise, and with `Changed` that of drifts.
     ///
     /// # Errors
     /// `Failed` on a fault; `Changed`, with what differs from what was kept at attaching, or where the source no longer

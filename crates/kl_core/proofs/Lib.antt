@@ -8,3 +8,6 @@ pub mod Safety
 pub mod Sizes
 pub mod Holding
 pub mod Made
+pub mod Totals
+pub mod Lowering
+pub mod DrawnOrder

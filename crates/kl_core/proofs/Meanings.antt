@@ -31,7 +31,7 @@ raised_get {A} pre mid post x = ⊎_elim low high (cases_lt x (length pre))
         rw (le-ltb x (length pre) h)
         (get_right pre (mid ++ post) (x + length mid) (length mid + n) (omega arith) ∙ get_right mid post (length mid + n) n refl ∙ sym (get_right pre post x n (omega arith)))
 
-choice_same : (a b c d e f : Outcome) → a ≡ d → b ≡ e → c ≡ f → if_then a b c ≡ if_then d e f
+pub choice_same : (a b c d e f : Outcome) → a ≡ d → b ≡ e → c ≡ f → if_then a b c ≡ if_then d e f
 choice_same a b c d e f p q r = ap (λ o. if_then o b c) p ∙ ap₂ (λ o u. if_then d o u) q r
 
 module _ (T : Tables) where

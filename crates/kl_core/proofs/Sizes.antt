@@ -1,10 +1,11 @@
--- The size and the depth of a record and of a case, as they are counted.
-use Rattle.std.proofs.Common.{◌≡◌, ℕ, ◌+◌, ◌-◌, ◌^◌, min, max, List, [], ◌∷◌, map, Option, Some, None, refl, sym, ap, ◌∙◌, arith}
+-- The size and the depth of a record and of a case, as they are counted, and the binders among its nodes.
+use Rattle.std.proofs.Common.{◌≡◌, ℕ, ◌+◌, ◌-◌, ◌^◌, ◌≤◌, min, max, List, [], ◌∷◌, map, Option, Some, None, refl, sym, ap, ◌∙◌, arith}
 use Rattle.kl_outcome.specs.Outcome.{Name}
 use Rattle.kl_core.specs.declared.term.Term.{Term}
 use Rattle.kl_core.specs.declared.term.Term.TheVariants as term
-use Rattle.kl_core.specs.Trees.{Arms, arms_of, rest_of, view, view_part, parts_view}
-use Rattle.kl_core.specs.Counts.{nodes_of, nodes_parts, nodes_arms, depth_of, depth_parts, depth_arms}
+use Rattle.kl_core.specs.Trees.{Tree, Var, Const, Source, Rec, Proj, Inj, Case, Make, Union, Ext, If, Let, Prim, Trees, no_trees, trees, Parts, no_parts, parts, Arms, no_arms, rest, arm, arms_of, rest_of, view, view_part, parts_view}
+use Rattle.kl_core.specs.Positions.{binders, binders_trees, binders_parts, binders_arms}
+use Rattle.kl_core.specs.Counts.{nodes_of, nodes_trees, nodes_parts, nodes_arms, depth_of, depth_parts, depth_arms}
 use Rattle.kl_core.proofs.Views.{view_Rec, view_Case, view_option}
 
 nodes_branches : (ps : List (Name × Term)) (last : Arms) → nodes_arms (arms_of (map view_part ps) last) ≡ nodes_parts (parts_view ps) + nodes_arms last
@@ -66,3 +67,33 @@ pub depth_nothing : (t a b : Term) (ps qs : List (Name × Term)) (c : Option Ter
 depth_nothing t a b ps qs c x y q r e f g h hx hy hq hr =
     let i : depth_of (view t) ≡ 1 + max (depth_of (view b)) (max (depth_parts (parts_view qs)) 0) = depth_case t a b ps qs c None e f g h in
     omega arith
+
+-- each binder round a place is a node of its own
+mutual
+  pub few_binders : (t : Tree) → binders t + 1 ≤ nodes_of t
+  few_binders (Var x) = omega arith
+  few_binders (Const v) = omega arith
+  few_binders (Source i) = omega arith
+  few_binders (Rec ps) = omega (arith, few_in_parts ps)
+  few_binders (Proj l a) = omega (arith, few_binders a)
+  few_binders (Inj l a) = omega (arith, few_binders a)
+  few_binders (Case a bs) = omega (arith, few_binders a, few_in_arms bs)
+  few_binders (Make k ts) = omega (arith, few_in_trees ts)
+  few_binders (Union a b) = omega (arith, few_binders a, few_binders b)
+  few_binders (Ext k b s) = omega (arith, few_binders b, few_binders s)
+  few_binders (If a b c) = omega (arith, few_binders a, few_binders b, few_binders c)
+  few_binders (Let a b) = omega (arith, few_binders a, few_binders b)
+  few_binders (Prim c ts) = omega (arith, few_in_trees ts)
+
+  few_in_trees : (ts : Trees) → binders_trees ts ≤ nodes_trees ts
+  few_in_trees no_trees = omega arith
+  few_in_trees (trees t ts) = omega (arith, few_binders t, few_in_trees ts)
+
+  few_in_parts : (ps : Parts) → binders_parts ps ≤ nodes_parts ps
+  few_in_parts no_parts = omega arith
+  few_in_parts (parts l t ps) = omega (arith, few_binders t, few_in_parts ps)
+
+  few_in_arms : (bs : Arms) → binders_arms bs ≤ nodes_arms bs
+  few_in_arms no_arms = omega arith
+  few_in_arms (rest c) = omega (arith, few_binders c)
+  few_in_arms (arm l b bs) = omega (arith, few_binders b, few_in_arms bs)

@@ -21,8 +21,9 @@ use Rattle.kl_desugar.specs.Translation.{Scope, Code, value_by, function_by, pri
 use Rattle.kl_desugar.specs.Translation as translation
 use Rattle.kl_desugar.proofs.Positions.{Held, scope, values, names, grows_none}
 use Rattle.kl_desugar.proofs.Ordered.{order_up}
+use Rattle.kl_outcome.proofs.Drawing.{kept_none}
 use Rattle.kl_desugar.proofs.Drawing.{draw_from_up}
-use Rattle.kl_desugar.proofs.Matching.{must_is, if_is, kept_none, Meets, AllMeet, name_up, here_up}
+use Rattle.kl_desugar.proofs.Matching.{must_is, if_is, Meets, AllMeet, name_up, here_up}
 
 either : (b : Bool) (o q o' q' : Outcome) → Refines o o' → Refines q q' → Refines (cond b o q) (cond b o' q')
 either true o q o' q' h k = h

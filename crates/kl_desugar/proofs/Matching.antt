@@ -9,6 +9,7 @@ use Rattle.kl_value.specs.declared.Value.{Value}
 use Rattle.kl_value.specs.declared.Value.TheVariants as value
 use Rattle.kl_prim.specs.Table.{meaning, row_at, rows}
 use Rattle.kl_value.specs.Views.{as_bool}
+use Rattle.kl_outcome.proofs.Drawing.{kept_none}
 use Rattle.kl_outcome.specs.Outcome.{Outcome, done, over, stuck, Flow, stop, fine, overflow, Name, after, answered, if_then, outcome_of, as_record, as_variant, opened, collected}
 use Rattle.kl_syntax.specs.Syntax.{Pat, catch, any, same, is, shape, variant, Pats, no_pats, pats}
 use Rattle.kl_meaning.specs.Match.{Env, Fit, bound, misses, past, odd, fit_then, same_name, compared, has_label, fit_field, fit_record, fit_variant, fits, fits_fields, if_fits, must_fit}
@@ -32,9 +33,6 @@ must_is (bound env) go = refl
 must_is misses go = refl
 must_is past go = refl
 must_is odd go = refl
-
-pub kept_none : (k : Kind) → collected k (stop overflow) ≡ over []
-kept_none k = elim k as (λ k. collected k (stop overflow) ≡ over []) [ Kind.Set ↦ refl | Kind.Bag ↦ refl | Kind.List ↦ refl ]
 
 pub if_is : (k : Kind) (f : Fit) (go : Env → Flow) → collected k (if_fits f go) ≡ fit_to (collected k (stop fine)) f (λ env. collected k (go env))
 if_is k (bound env) go = refl

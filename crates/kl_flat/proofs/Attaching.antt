@@ -218,7 +218,8 @@ this_source (t ∷ sources) s none = by (pointwise nat_eq t.name s.name) refl (�
     by true is more = let e = rw is at none in absurd (some_none e)
     by false is more = let e = rw is at none in rw is (more e)
 
-abbrev Good : Option (List ℕ → Option (List ℕ)) → List ℕ → Ty → List Value → Type 0
+-- what stands there is these rows, where it is told
+abbrev pub Good : Option (List ℕ → Option (List ℕ)) → List ℕ → Ty → List Value → Type 0
 Good told path ty rows = (told_only told rows ≡ told_rows (at_path told path ty)) × ((all : List Value) → at_path told path ty ≡ Some (Rows all) → all ≡ rows)
     × (at_path told path ty ≡ Some Missing → ⊥) × ((place : ℕ) → at_path told path ty ≡ Some (Bad place) → ⊥) × ((most : ℕ) → at_path told path ty ≡ Some (Long most) → ⊥) × ((place : ℕ) → at_path told path ty ≡ Some (Deep place) → ⊥)
 
@@ -241,6 +242,12 @@ good_rows path ty f bytes rows are good stand = by f.told refl stand
         let all : at_path (Some files) path ty ≡ Some (Rows rows) = found.1 ∙ ap Some (rw short (ap (stored_rows found.0 ty) fine ∙ ap Rows same)) in
         (sym (ap told_rows all), λ xs is. rows_same (sym is ∙ all), λ is. let e : Some (Rows rows) ≡ Some Missing = sym all ∙ is in cc, λ place is. let e : Some (Rows rows) ≡ Some (Bad place) = sym all ∙ is in cc, λ most is. let e : Some (Rows rows) ≡ Some (Long most) = sym all ∙ is in cc, λ place is. let e : Some (Rows rows) ≡ Some (Deep place) = sym all ∙ is in cc)
 
+-- a file that was read as a table holds its rows
+pub good_read : (path : List ℕ) (ty : Ty) (rows : List Value) (f f' : FilesState) → ReadsRows path ty (Ok rows) f f' → Good f.told path ty rows × (f'.told ≡ f.told) × (f.faults ≤ f'.faults)
+good_read path ty rows f f' read =
+    let well = read_well path ty rows f f' read in
+    (good_rows path ty f well.0 rows well.2 well.3 (stands path ty (Bytes well.0) f f' well.1), well.1.told, well.1.later)
+
 abbrev mk : Ty → Option (List Value) → ℕ → Attached
 mk t r n = record { ty = t; rows = r; count = n; kept = None }
 
@@ -252,7 +259,7 @@ attach_done source path ty rows count f f' sources sources' cursors asked handed
     let well = read_well path ty rows f f' read in
     let reads = well.1 in
     let s = adds.made in
-    let facts = good_rows path ty f well.0 rows well.2 well.3 (stands path ty (Bytes well.0) f f' reads) in
+    let facts = (good_read path ty rows f f' read).0 in
     let none : source_at sources s.name ≡ None = subst (λ n. source_at sources n ≡ None) (sym adds.named) (unseen (attached_of f.told) (source_at sources source) fresh) in
     let here : source_at (sources ++ s ∷ []) source ≡ Some s = subst (λ n. source_at (sources ++ s ∷ []) n ≡ Some s) adds.named (this_source sources s none) in
     let told : told_only f.told (rows_of s.table) ≡ told_rows (at_path f.told path ty) = ap (told_only f.told) adds.with ∙ facts.0 in

@@ -43,29 +43,35 @@ shows : {A : Type 0} (told : Option A) (k : Kind) (keep : List Name) (tests : Li
 shows None k keep tests rows = refl
 shows (Some t) k keep tests rows = (answers rows keep tests, refl, in_order k (answers rows keep tests))
 
-told_size : {A : Type 0} (told : Option A) (rows shown : List Value) → told_only told rows ≡ Some shown → length rows ≡ length shown
+pub told_size : {A : Type 0} (told : Option A) (rows shown : List Value) → told_only told rows ≡ Some shown → length rows ≡ length shown
 told_size None rows shown is = absurd cc
 told_size (Some t) rows shown is = ap length (same_Some _ _ is)
+
+-- a cursor before the first row of a source
+pub fresh_over : {A : Type 0} (told : Option A) (source : Name) (keep : List Name) (tests : List ColTest) (s : Source) (o : Open) → o.ask ≡ asks.Rows source keep tests → o.ty ≡ s.ty → o.table ≡ s.table → o.at ≡ 0 → length (rows_of o.table) < 2 ^ 64
+    → IsFresh keep tests (attached_of told s) (cursor_of told o)
+fresh_over told source keep tests s o ask_is ty_is rows_is at_is small =
+    let keep_is : keep_of o.ask ≡ keep = ap keep_of ask_is in
+    let left_is : left_of o ≡ answers (rows_of s.table) keep tests =
+    (λ i. answers (drop (at_is i) (rows_of (rows_is i))) (keep_of (ask_is i)) (tests_of (ask_is i))) in
+    let few = answers-few keep tests (rows_of s.table) in
+    record {
+      ty = λ i. shown_type (keep_is i) (item_of (ground_of (ty_is i)));
+      left = subst (λ rows. Shows (kind_of (ground_of s.ty)) keep tests (told_only told (rows_of s.table)) (told_only told rows)) (sym left_is) (shows told (kind_of (ground_of s.ty)) keep tests (rows_of s.table));
+      most = omega (arith, few, ap length left_is);
+      whole = λ none. ap length left_is ∙ answers-all keep tests (rows_of s.table) none;
+      told = λ shown is. told_size told (left_of o) shown is;
+      bound = omega (arith, few, ap length left_is, ap (λ t. length (rows_of t)) rows_is, small);
+    }
 
 opens_at : (ask : Ask) (s : Source) (o : Open) (f : FilesState) (sources : List Source) (cursors : List (Option Open)) (asked : List (Ask × ℕ)) (handed unread : ℕ)
     → CanStart (flat_state f sources cursors asked handed unread) ask → asked_source sources ask ≡ Some s
     → o.ask ≡ ask → o.ty ≡ s.ty → o.table ≡ s.table → o.at ≡ 0 → length (rows_of o.table) < 2 ^ 64
     → OpensAt ask (flat_state f sources cursors asked handed unread) (cursor_of f.told o)
-opens_at (asks.Sql text) s o f sources cursors asked handed unread can found ask_is ty_is rows_is at_is small = absurd can.answerable
+opens_at (asks.Sql text) s o f sources cursors asked handed unread can found ask_is ty_is rows_is at_is small = absurd (let no : false ≡ true = can.answerable.2 in cc)
 opens_at (asks.Rows source keep tests) s o f sources cursors asked handed unread can found ask_is ty_is rows_is at_is small = λ a is.
     let same : attached_of f.told s ≡ a = same_Some _ _ (sym (ap (option_map (attached_of f.told)) found) ∙ is) in
-    let keep_is : keep_of o.ask ≡ keep = ap keep_of ask_is in
-    let left_is : left_of o ≡ answers (rows_of s.table) keep tests =
-    (λ i. answers (drop (at_is i) (rows_of (rows_is i))) (keep_of (ask_is i)) (tests_of (ask_is i))) in
-    let few = answers-few keep tests (rows_of s.table) in
-    subst (λ a. IsFresh keep tests a (cursor_of f.told o)) same (record {
-      ty = λ i. shown_type (keep_is i) (item_of (ground_of (ty_is i)));
-      left = subst (λ rows. Shows (kind_of (ground_of s.ty)) keep tests (told_only f.told (rows_of s.table)) (told_only f.told rows)) (sym left_is) (shows f.told (kind_of (ground_of s.ty)) keep tests (rows_of s.table));
-      most = omega (arith, few, ap length left_is);
-      whole = λ none. ap length left_is ∙ answers-all keep tests (rows_of s.table) none;
-      told = λ shown is. told_size f.told (left_of o) shown is;
-      bound = omega (arith, few, ap length left_is, ap (λ t. length (rows_of t)) rows_is, small);
-    })
+    subst (λ a. IsFresh keep tests a (cursor_of f.told o)) same (fresh_over f.told source keep tests s o ask_is ty_is rows_is at_is small)
 
 pub start_done : (ask : Ask) (n : ℕ) (f : FilesState) (sources : List Source) (cursors cursors' : List (Option Open)) (asked asked' : List (Ask × ℕ)) (handed unread : ℕ)
     → CanStart (flat_state f sources cursors asked handed unread) ask → n ≡ length cursors → OpensLast sources ask cursors cursors' → asked' ≡ with_ask ask asked
@@ -94,6 +100,12 @@ start_done ask n f sources cursors cursors' asked asked' handed unread can last 
 
 -- ---- `pull`
 
+-- the rows that a cursor has left have the type that its ask shows
+pub left_typed : (o : Open) → AllByRecursion (Inhabits (shown_type (keep_of o.ask) (item_of (ground_of o.ty)))) (left_of o)
+left_typed o =
+    let flat = item_flat o.ty (rows_suit o.ty (rows_of o.table) o.typed) in
+    answers_typed (keep_of o.ask) (tests_of o.ask) (item_of (ground_of o.ty)) flat (drop o.at (rows_of o.table)) (all_drop _ o.at (rows_of o.table) (rows_typed o.ty (rows_of o.table) o.typed))
+
 abbrev Same : Open → Open → Type 0
 Same o o' = (o'.ask ≡ o.ask) × (o'.ty ≡ o.ty) × (o'.table ≡ o.table)
 
@@ -101,10 +113,10 @@ module _ (most to : ℕ) (taken : List Value) (o o' : Open) (same : Same o o') (
   rest_is : left_of o' ≡ answers (drop to (rows_of o.table)) (keep_of o.ask) (tests_of o.ask)
   rest_is = λ i. answers (drop (at i) (rows_of (same.2 i))) (keep_of (same.0 i)) (tests_of (same.0 i))
 
-  split_is : left_of o ≡ taken ++ left_of o'
+  pub split_is : left_of o ≡ taken ++ left_of o'
   split_is = takes.split ∙ ap (λ rows. taken ++ rows) (sym rest_is)
 
-  none_left : to ≡ length (rows_of o.table) → left_of o' ≡ []
+  pub none_left : to ≡ length (rows_of o.table) → left_of o' ≡ []
   none_left e = rest_is ∙ ap (λ rows. answers rows (keep_of o.ask) (tests_of o.ask)) past
     where
       past : drop to (rows_of o.table) ≡ []
@@ -113,13 +125,13 @@ module _ (most to : ℕ) (taken : List Value) (o o' : Open) (same : Same o o') (
   sizes : length (left_of o) ≡ length taken + length (left_of o')
   sizes = ap length split_is ∙ length-append taken (left_of o')
 
-  hands : {A : Type 0} (told : Option A) → 0 < length taken → IsFlat (item_of (ground_of o.ty)) → AllByRecursion (Inhabits (item_of (ground_of o.ty))) (rows_of o.table) → Hands most taken (cursor_of told o) (cursor_of told o')
-  hands told some flat typed = record {
+  hands : {A : Type 0} (told : Option A) → 0 < length taken → Hands most taken (cursor_of told o) (cursor_of told o')
+  hands told some = record {
     ask = same.0;
     ty = λ i. shown_type (keep_of (same.0 i)) (item_of (ground_of (same.1 i)));
     some = some;
     most = takes.most;
-    typed = all_front _ taken (left_of o') (subst (AllByRecursion (Inhabits (shown_type (keep_of o.ask) (item_of (ground_of o.ty))))) split_is (answers_typed (keep_of o.ask) (tests_of o.ask) (item_of (ground_of o.ty)) flat (drop o.at (rows_of o.table)) (all_drop _ o.at (rows_of o.table) typed)));
+    typed = all_front _ taken (left_of o') (subst (AllByRecursion (Inhabits (shown_type (keep_of o.ask) (item_of (ground_of o.ty))))) split_is (left_typed o));
     bound = omega (arith, sizes);
     left = left told;
     untold = untold told;
@@ -175,7 +187,7 @@ module _ (cursor : ℕ) (o o' : Open) (f : FilesState) (sources : List Source) (
           then = cursor_of f.told o';
           appended = hand.appended;
           now = ap (seen_as f.told) (changed_now cursors cursors' cursor o o' is made);
-          hands = hands most o'.at hand.taken o o' same refl hand.takes f.told (omega (arith, some, hand.size)) (item_flat o.ty (rows_suit o.ty (rows_of o.table) o.typed)) (rows_typed o.ty (rows_of o.table) o.typed);
+          hands = hands most o'.at hand.taken o o' same refl hand.takes f.told (omega (arith, some, hand.size));
           handed = count ∙ ap (λ n. raised_by n handed) hand.size;
         })
 
@@ -225,5 +237,6 @@ pull_stopped cursor most into into' o f sources cursors cursors' asked handed un
     handed = refl;
     cause = tt;
     drifted = λ d drift. absurd cc;
+    joined_drifted = λ d drift. absurd cc;
   };
 }

@@ -24,7 +24,7 @@ truth_cell bs = ap (cell_layer bs) ty.outs-Bool
 pub number_cell : (bs : List ℕ) → cell_value bs ty.Int ≡ option_map value.Int (number_in (without_blanks bs))
 number_cell bs = ap (cell_layer bs) ty.outs-Int
 
-text_cell : (bs : List ℕ) → cell_value bs ty.Str ≡ Some (value.Text bs)
+pub text_cell : (bs : List ℕ) → cell_value bs ty.Str ≡ Some (value.Text bs)
 text_cell bs = ap (cell_layer bs) ty.outs-Str
 
 -- ---- one more cell

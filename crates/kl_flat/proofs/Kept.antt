@@ -2,7 +2,7 @@
 use Rattle.std.proofs.Common.{◌≡◌, ◌<◌, ℕ, zero, suc, ◌+◌, Bool, true, false, List, [], ◌∷◌, ◌++◌, map, filter, length, take, get_or, Some, All, refl, sym, ap, ◌∙◌, arith, add-one, slice_get, length-append, append_assoc}
 use Rattle.std.proofs.lemmas.Grind.{common_steps}
 use Rattle.std.proofs.lemmas.List.{map-append}
-use Rattle.std.proofs.lemmas.Option.{slice_get_read, slice_get_within, same_Some}
+use Rattle.std.proofs.lemmas.Option.{get_or_from_slice_get, slice_get-get_or, slice_get_read, slice_get_within, same_Some}
 use Rattle.kl_base.specs.Fields.{labels_of}
 use Rattle.kl_value.specs.declared.Value.{Value}
 use Rattle.kl_value.specs.declared.Value.TheVariants as value
@@ -47,15 +47,26 @@ same_items (x ∷ xs) (y ∷ ys) e =
     let others : map Some xs ≡ map Some ys = cc in
     (λ i. same_Some _ _ first i ∷ same_items xs ys others i)
 
+-- one more item is copied
+pub copies_more : {T : Type 0} (xs : List T) (places : List ℕ) (i : ℕ) (x y : T) (copies after : List T) → i < length places → get_or places i 0 < length xs → x ≡ get_or xs (get_or places i 0) x → y ≡ x → after ≡ copies ++ y ∷ []
+    → map Some copies ≡ map (slice_get xs) (take i places) → map Some after ≡ map (slice_get xs) (take (i + 1) places)
+copies_more xs places i x y copies after lt within is same more so_far =
+    let p : ℕ = get_or places i 0 in
+    let longer : take (i + 1) places ≡ take i places ++ p ∷ [] = grind (arith, common_steps) in
+    let there : slice_get xs p ≡ Some x = slice_get_read xs (length xs) p x refl within is in
+    ap (map Some) more ∙ map-append Some copies (y ∷ []) ∙ (λ k. so_far k ++ Some (same k) ∷ []) ∙ ap (λ o. map (slice_get xs) (take i places) ++ o ∷ []) (sym there)
+    ∙ sym (map-append (slice_get xs) (take i places) (p ∷ [])) ∙ ap (map (slice_get xs)) (sym longer)
+
+pub copies_at : {T : Type 0} (xs : List T) (places : List ℕ) (i : ℕ) (d : T) (copies after : List T) → i < length places → get_or places i 0 < length xs → after ≡ copies ++ get_or xs (get_or places i 0) d ∷ []
+    → map Some copies ≡ map (slice_get xs) (take i places) → map Some after ≡ map (slice_get xs) (take (i + 1) places)
+copies_at xs places i d copies after lt within more so_far =
+    let x = get_or xs (get_or places i 0) d in
+    copies_more xs places i x x copies after lt within (sym (get_or_from_slice_get xs (get_or places i 0) x x (slice_get-get_or xs (get_or places i 0) d within))) refl more so_far
+
 -- one more field is copied
 pub one_more : (fs : Fields) (places : List ℕ) (i : ℕ) (f : Name × Value) (l : Name) (v : Value) (copies after : Fields) → i < length places → get_or places i 0 < length fs → f ≡ get_or fs (get_or places i 0) f → l ≡ f.0 → v ≡ f.1 → after ≡ copies ++ (l, v) ∷ []
     → map Some copies ≡ map (slice_get fs) (take i places) → map Some after ≡ map (slice_get fs) (take (i + 1) places)
-one_more fs places i f l v copies after lt within is label same more so_far =
-    let p : ℕ = get_or places i 0 in
-    let longer : take (i + 1) places ≡ take i places ++ p ∷ [] = grind (arith, common_steps) in
-    let there : slice_get fs p ≡ Some f = slice_get_read fs (length fs) p f refl within is in
-    ap (map Some) more ∙ map-append Some copies ((l, v) ∷ []) ∙ (λ k. so_far k ++ Some (label k, same k) ∷ []) ∙ ap (λ o. map (slice_get fs) (take i places) ++ o ∷ []) (sym there)
-    ∙ sym (map-append (slice_get fs) (take i places) (p ∷ [])) ∙ ap (map (slice_get fs)) (sym longer)
+one_more fs places i f l v copies after lt within is label same more so_far = copies_more fs places i f (l, v) copies after lt within is (λ k. (label k, same k)) more so_far
 
 -- the kept fields of a record
 module _ (keep : List Name) (fs : Fields) (places : List ℕ) (same : places ≡ kept_places keep 0 (labels_of fs)) where

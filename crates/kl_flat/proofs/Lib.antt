@@ -8,6 +8,7 @@ pub mod Kept
 pub mod OneColumn
 pub mod Options
 pub mod Ordering
+pub mod Picking
 pub mod Placing
 pub mod Rows
 pub mod Shown

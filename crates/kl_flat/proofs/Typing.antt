@@ -143,7 +143,7 @@ row_good columns v up (Value-F.Rec fs) e =
     subst (Inhabits (rec (row_by ground_of columns))) (sym (value.rolls-Rec fs)) ((fs, refl, good.0), record_made fs good.1 (subst (IsStrictlySortedBy bytes_cmp) (sym good.2) up))
 row_good columns v up _ e = cc
 
-rows_good : (columns : Columns) → LabelsRise columns → (rows : List Value) → all_fit columns rows ≡ true → AllByRecursion (Inhabits (rec (row_by ground_of columns))) rows
+pub rows_good : (columns : Columns) → LabelsRise columns → (rows : List Value) → all_fit columns rows ≡ true → AllByRecursion (Inhabits (rec (row_by ground_of columns))) rows
 rows_good columns up [] e = tt
 rows_good columns up (v ∷ rows) e =
     let parts = and_parts (fits_layer columns (out-Value v)) (all_fit columns rows) e in

@@ -9,6 +9,7 @@ pub mod Filling
 pub mod Fitting
 pub mod Flat
 pub mod Held
+pub mod Picking
 pub mod Places
 pub mod Records
 pub mod RowTests

@@ -1,7 +1,8 @@
 //! Tables in columns.
-ghost use Rattle.std.specs.Prelude.{◌≤◌, ◌≡◌, All};
+ghost use Rattle.std.specs.Prelude.{◌≤◌, ◌<◌, ◌≡◌, All, IfOk, length};
 ghost use Rattle.kl_ask.specs.Asks.{is_kept};
 ghost use Rattle.kl_flat.specs.Held.{height};
+ghost use Rattle.kl_flat.specs.Picking.{PicksRows};
 
 use crate::held::{Cells, Column};
 use crate::row_tests::{Against, RowTest};
@@ -20,10 +21,10 @@ pub struct ColumnTable {
 }
 
 impl ColumnTable {
-    ghost use Rattle.std.specs.Prelude.{◌≡◌, ◌<◌, ◌∷◌, [], length, IfOk, MatchOption};
+    ghost use Rattle.std.specs.Prelude.{◌≡◌, ◌<◌, ◌∷◌, [], length, map, IfOk, MatchOption};
     ghost use Rattle.kl_flat.specs.Asked.{kept_places};
     ghost use Rattle.kl_flat.specs.ColumnTable.{IsColumn, IsRow, IsShown, LacksColumn, rows_of};
-    ghost use Rattle.kl_flat.specs.Held.{labels_in};
+    ghost use Rattle.kl_flat.specs.Held.{labels_in, row_at};
     ghost use Rattle.kl_flat.specs.RowTests.{NonePasses, SaySame};
 
     /// The table of the first rows of these columns.
@@ -66,8 +67,8 @@ impl ColumnTable {
         Ok(places)
     }
 
-    // The column with a label.
-    fn column(&self, label: &Label) -> Option<&Cells>
+    /// The column with a label.
+    pub fn column(&self, label: &Label) -> Option<&Cells>
         ensures { MatchOption result (LacksColumn self.now label.now) (λ cells. IsColumn self.now label.now cells.now) }
     {
         for column in &self.columns {
@@ -113,6 +114,21 @@ impl ColumnTable {
         Ok(Value::Rec(Seq::of(fields)))
     }
 
+    /// The table of the rows of these numbers, in this order.
+    ///
+    /// # Errors
+    /// Want of memory.
+    pub fn picked(&self, alloc: Global, places: &[usize]) -> Result<ColumnTable, NoMemory>
+        requires { All (λ p. p < length (rows_of self.now)) places.now }
+        ensures { IfOk result (λ t. rows_of t ≡ map (row_at self.now.columns.items) places.now) }
+    {
+        let columns = picked_columns(alloc, self.columns.as_slice(), places)?;
+        Ok(ColumnTable {
+            columns,
+            len: places.len(),
+        })
+    }
+
     /// The row of a number, whole.
     ///
     /// # Errors
@@ -129,6 +145,24 @@ impl ColumnTable {
         }
         Ok(Value::Rec(Seq::of(fields)))
     }
+}
+
+fn picked_columns(
+    alloc: Global,
+    columns: &[Column],
+    places: &[usize],
+) -> Result<Vec<Column>, NoMemory>
+    requires { All (λ c. All (λ p. p < height c.cells) places.now) columns.now }
+    ensures filled { IfOk result (λ picked. All (λ c. length places.now ≤ height c.cells) picked.items) }
+    ensures rows { IfOk result (λ picked. PicksRows places.now columns.now picked.items) }
+{
+    let mut picked = Vec::with_capacity(alloc, columns.len())?;
+    for column in columns {
+        let label = column.label.dup()?;
+        let cells = column.cells.picked(alloc, places)?;
+        picked.push(Column { label, cells })?;
+    }
+    Ok(picked)
 }
 
 fn is_kept(keep: &[Label], label: &Label) -> bool

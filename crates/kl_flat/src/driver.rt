@@ -128,8 +128,11 @@ impl<F: Files + Drop> Driver for FlatDriver<F> {
     }
 }
 
-// The table that a file is.
-fn table_of_file<F: Files>(
+/// The table that a file is, which is read whole.
+///
+/// # Errors
+/// As `Driver::attach`.
+pub fn table_of_file<F: Files>(
     alloc: Global,
     files: &mut F,
     path: &[u8],
@@ -153,8 +156,8 @@ fn table_of_file<F: Files>(
     }
 }
 
-// The count of unreadable sources after a refusal. It stands still at its greatest value.
-fn unread_by(error: DriverError, unread: u64) -> u64
+/// The count of unreadable sources after a refusal. It stands still at its greatest value.
+pub fn unread_by(error: DriverError, unread: u64) -> u64
     ensures { result ≡ unread_by error unread }
 {
     match error {
@@ -181,8 +184,16 @@ fn add_source(
     Ok(count)
 }
 
-// A source of this name, with this table.
-fn new_source(alloc: Global, name: &Label, ty: &Ty, table: ColumnTable) -> Result<Source, NoMemory>
+/// A source of this name, with this table.
+///
+/// # Errors
+/// Want of memory.
+pub fn new_source(
+    alloc: Global,
+    name: &Label,
+    ty: &Ty,
+    table: ColumnTable,
+) -> Result<Source, NoMemory>
     requires small { length (rows_of table) < 2 ^ 64 }
     requires typed { are_rows ty.now (rows_of table) ≡ true }
     ensures name { IfOk result (λ s. s.name ≡ name.now) }
@@ -214,8 +225,11 @@ fn open_cursor(
     Ok(())
 }
 
-// Appends the next answers of a cursor, which then stands behind the last row that was looked at, and says how many.
-fn hand_next(
+/// Appends the next answers of a cursor, which then stands behind the last row that was looked at, and says how many.
+///
+/// # Errors
+/// Want of memory; no row is appended then.
+pub fn hand_next(
     alloc: Global,
     cursor: &mut Open,
     most: u32,

@@ -1,9 +1,10 @@
 //! The columns of a table, as they are held.
-ghost use Rattle.std.specs.Prelude.{◌≡◌, ◌<◌, true, IfOk, MatchBool};
+ghost use Rattle.std.specs.Prelude.{◌≡◌, ◌<◌, true, All, IfOk, MatchBool, Some, length, map, slice_get};
 ghost use Rattle.kl_value.specs.Order.{compare};
 ghost use Rattle.kl_flat.specs.Columns.{is_base};
 ghost use Rattle.kl_flat.specs.Filling.{Gains, Refuses};
 ghost use Rattle.kl_flat.specs.Held.{height, type_of, value_at};
+ghost use Rattle.kl_flat.specs.Picking.{Picks};
 
 use crate::cells::{integer_in, truth_in};
 use crate::texts::Texts;
@@ -86,6 +87,21 @@ impl Cells {
         }
     }
 
+    /// The cells of the rows of these numbers, in this order.
+    ///
+    /// # Errors
+    /// Want of memory.
+    pub(crate) fn picked(&self, alloc: Global, places: &[usize]) -> Result<Cells, NoMemory>
+        requires { All (λ p. p < height self.now) places.now }
+        ensures { IfOk result (Picks places.now (length places.now) self.now) }
+    {
+        match self {
+            Cells::Bool(truths) => Ok(Cells::Bool(truths_at(alloc, truths.as_slice(), places)?)),
+            Cells::Int(numbers) => Ok(Cells::Int(numbers_at(alloc, numbers.as_slice(), places)?)),
+            Cells::Text(texts) => Ok(Cells::Text(texts.picked(alloc, places)?)),
+        }
+    }
+
     /// How the value of a row's cell stands to a value.
     pub fn order(&self, value: &Value, at: usize) -> Ordering
         requires { at < height self.now }
@@ -109,26 +125,50 @@ impl Cells {
         }
     }
 
-    /// How the values of a row's cells in two columns stand.
-    pub fn order_in(&self, other: &Cells, at: usize) -> Ordering
+    /// How the value of a row's cell stands to the value of a row's cell in another column.
+    pub fn order_in(&self, at: usize, other: &Cells, place: usize) -> Ordering
         requires left { at < height self.now }
-        requires right { at < height other.now }
-        ensures { result ≡ compare (value_at self.now at) (value_at other.now at) }
+        requires right { place < height other.now }
+        ensures { result ≡ compare (value_at self.now at) (value_at other.now place) }
     {
         match self {
             Cells::Bool(truths) => match other {
-                Cells::Bool(others) => truths[at].cmp(&others[at]),
+                Cells::Bool(others) => truths[at].cmp(&others[place]),
                 Cells::Int(_) | Cells::Text(_) => Ordering::Less,
             },
             Cells::Int(numbers) => match other {
                 Cells::Bool(_) => Ordering::Greater,
-                Cells::Int(others) => numbers[at].cmp(&others[at]),
+                Cells::Int(others) => numbers[at].cmp(&others[place]),
                 Cells::Text(_) => Ordering::Less,
             },
             Cells::Text(texts) => match other {
                 Cells::Bool(_) | Cells::Int(_) => Ordering::Greater,
-                Cells::Text(others) => texts.get(at).cmp(others.get(at)),
+                Cells::Text(others) => texts.get(at).cmp(others.get(place)),
             },
         }
     }
+}
+
+// The truth values of these places, in this order.
+fn truths_at(alloc: Global, truths: &[bool], places: &[usize]) -> Result<Vec<bool>, NoMemory>
+    requires { All (λ p. p < length truths.now) places.now }
+    ensures { IfOk result (λ copies. map Some copies.items ≡ map (slice_get truths.now) places.now) }
+{
+    let mut copies = Vec::with_capacity(alloc, places.len())?;
+    for place in places {
+        copies.push(truths[*place])?;
+    }
+    Ok(copies)
+}
+
+// The integers of these places, in this order.
+fn numbers_at(alloc: Global, numbers: &[i64], places: &[usize]) -> Result<Vec<i64>, NoMemory>
+    requires { All (λ p. p < length numbers.now) places.now }
+    ensures { IfOk result (λ copies. map Some copies.items ≡ map (slice_get numbers.now) places.now) }
+{
+    let mut copies = Vec::with_capacity(alloc, places.len())?;
+    for place in places {
+        copies.push(numbers[*place])?;
+    }
+    Ok(copies)
 }

@@ -31,7 +31,7 @@ impl RowTest<'_> {
         ensures { result ≡ passes_at self.now at }
     {
         let order = match &self.right {
-            Against::Cells(cells) => self.left.order_in(cells, at),
+            Against::Cells(cells) => self.left.order_in(at, cells, at),
             Against::Value(value) => self.left.order(value, at),
         };
         holds(self.op, order)

@@ -16,8 +16,10 @@ pub struct Texts {
 }
 
 impl Texts {
-    ghost use Rattle.std.specs.Prelude.{[], ◌∷◌, ◌++◌, IfOk};
+    ghost use Rattle.std.specs.Prelude.{[], ◌∷◌, ◌++◌, All, IfOk};
     ghost use Rattle.kl_flat.specs.Held.{text_at};
+    ghost use Rattle.kl_flat.specs.Picking.{Picks};
+    ghost use Rattle.kl_flat.specs.declared.held.Cells.TheVariants as cells;
 
     /// No text.
     pub(crate) fn new(alloc: Global) -> Texts
@@ -51,5 +53,20 @@ impl Texts {
         let start = if at == 0 { 0 } else { self.ends[at - 1] };
         let bytes = self.bytes.as_slice();
         &bytes[start..self.ends[at]]
+    }
+
+    /// The texts of these places, in this order.
+    ///
+    /// # Errors
+    /// Want of memory.
+    pub(crate) fn picked(&self, alloc: Global, places: &[usize]) -> Result<Texts, NoMemory>
+        requires { All (λ p. p < length self.now.ends.items) places.now }
+        ensures { IfOk result (λ picked. Picks places.now (length places.now) (cells.Text self.now) (cells.Text picked)) }
+    {
+        let mut picked = Texts::new(alloc);
+        for place in places {
+            picked.push(self.get(*place))?;
+        }
+        Ok(picked)
     }
 }

@@ -9,7 +9,7 @@ use Rattle.kl_outside.specs.Files.{FilesState}
 use Rattle.kl_ask.specs.Asked.{raised_by}
 use Rattle.kl_ask.specs.Asks.{item_of}
 use Rattle.kl_ask.specs.Cursors.{open_at}
-use Rattle.kl_ask.specs.Driver.{Cause, CountsDrift, Cursor, Finishes, Hands as Hand, HasDrifted, PullResult, Pulls, PullsMore, PullsNone, State, emptied, source_of}
+use Rattle.kl_ask.specs.Driver.{Cause, CountsDrift, Cursor, Finishes, Hands as Hand, HasDrifted, IsAskedSql, PullResult, Pulls, PullsMore, PullsNone, State, emptied, source_of}
 use Rattle.kl_ask.specs.declared.ask.Ask.{Ask}
 use Rattle.kl_ask.specs.declared.ask.Ask.TheVariants as asks
 use Rattle.kl_ask.specs.declared.ask.Drift.{Drift}
@@ -26,6 +26,7 @@ use Rattle.kl_nested.specs.Nested.{Sources, Tells, attached_of, cursor_of, neste
 use Rattle.kl_nested.specs.declared.parts.Source.{Source}
 use Rattle.kl_nested.specs.declared.parts.Open.{Open}
 use Rattle.kl_nested.proofs.Takings.{knows}
+use Rattle.kl_sqltext.specs.declared.ast.Spj.{Spj}
 
 drop_all : {T : Type 0} (xs : List T) → drop (length xs) xs ≡ []
 drop_all [] = refl
@@ -162,6 +163,10 @@ module _ (limit : ℕ) (f : FilesState) (sources : Sources) (cursors : List (Opt
   drifted_so o found (drift.Unread place) h = tt
   drifted_so o found (drift.Misfit item) h = tt
 
+  no_sql : (ask : Ask) (s : Source) (q : Spj) → asked_source sources ask ≡ Some s → IsAskedSql ask q → ⊥
+  no_sql (asks.Rows source keep tests) s q is asked = asked
+  no_sql (asks.Sql text) s q is asked = cc
+
   source_is : (ask : Ask) (s : Source) → asked_source sources ask ≡ Some s → source_of (nested_state limit f sources cursors asked handed drifts unread) ask ≡ Some (attached_of limit f.told s)
   source_is (asks.Rows name keep tests) s is = ap (option_map (attached_of limit f.told)) is
   source_is (asks.Sql text) s is = absurd cc
@@ -195,6 +200,9 @@ module _ (limit : ℕ) (f : FilesState) (sources : Sources) (cursors : List (Opt
             let ask : o.ask ≡ c.ask = ap (λ (c : Cursor). c.ask) (cursor_at_is c has) in
             let same : attached_of limit f.told o.source ≡ s = same_Some _ _ (sym (source_is o.ask o.source (desk.asked cursor o here)) ∙ ap (source_of was) ask ∙ at) in
             subst (λ s. HasDrifted s d) same (drifted d is);
+        joined_drifted = λ d is q asked.
+            let ask : c.ask ≡ o.ask = ap (λ (c : Cursor). c.ask) (sym (cursor_at_is c has)) in
+            absurd (no_sql o.ask o.source q (desk.asked cursor o here) (subst (λ ask. IsAskedSql ask q) ask asked));
       };
     }
 

@@ -1,5 +1,5 @@
 -- What opening a cursor does to what the driver means.
-use Rattle.std.proofs.Common.{◌≡◌, ◌⊎◌, inl, inr, ◌<◌, ◌≤◌, ◌-◌, ◌^◌, ℕ, List, [], ◌∷◌, ◌++◌, length, drop, Option, Some, None, Ok, Err, IsErrOf, refl, sym, ◌∙◌, ap, subst, arith, ⊎_elim}
+use Rattle.std.proofs.Common.{◌≡◌, ◌⊎◌, inl, inr, ◌<◌, ◌≤◌, ◌-◌, ◌^◌, ℕ, true, false, List, [], ◌∷◌, ◌++◌, length, drop, Option, Some, None, Ok, Err, IsErrOf, refl, sym, ◌∙◌, ap, subst, arith, ⊎_elim}
 use Rattle.std.specs.List.{AllByRecursion}
 use Rattle.std.specs.Option.{option_map}
 use Rattle.std.proofs.Math.Path.{fun_ext}
@@ -62,7 +62,7 @@ module _ (limit : ℕ) (room : limit < 2 ^ 63) (f : FilesState) (sources : Sourc
 
   opens_at : (ask : Ask) (s : Source) (g : FilesState) (o : Open) → CanStart (nested_state limit f sources cursors asked handed drifts unread) ask → asked_source sources ask ≡ Some s → OpensOver limit s ask f g o
       → OpensAt ask (nested_state limit f sources cursors asked handed drifts unread) (cursor_of limit f.told o)
-  opens_at (asks.Sql text) s g o can found over = absurd can.answerable
+  opens_at (asks.Sql text) s g o can found over = absurd (let no : false ≡ true = can.answerable.2 in cc)
   opens_at (asks.Rows source keep tests) s g o can found over = λ a is.
       let kept : IsKept limit f.told s = desk.kept source s found in
       let same : attached_of limit f.told s ≡ a = same_Some _ _ (sym (ap (option_map (attached_of limit f.told)) found) ∙ is) in

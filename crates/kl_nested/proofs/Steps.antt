@@ -1,5 +1,5 @@
 -- The calls of a driver, step by step.
-use Rattle.std.proofs.Common.{◌≡◌, ◌≢◌, ◌<◌, ◌≤◌, ◌^◌, ℕ, List, Option, Some, None, IsSome, Result, Ok, Err, length, slice_get, refl, sym, ap, subst, ◌∙◌, nat_lt}
+use Rattle.std.proofs.Common.{◌≡◌, ◌≢◌, ◌<◌, ◌≤◌, ◌^◌, ℕ, true, false, List, Option, Some, None, IsSome, Result, Ok, Err, length, slice_get, refl, sym, ap, subst, ◌∙◌, nat_lt}
 use Rattle.std.specs.HashMap.{IsUnchanged}
 use Rattle.std.specs.Option.{option_map}
 use Rattle.std.proofs.Math.Path.{fun_ext}
@@ -189,7 +189,7 @@ module _ (limit : ℕ) (f : FilesState) (sources : Sources) (cursors : Cursors) 
 
   pub can_ask : (ask : Ask) → CanStart Old ask → IsSome (asked_source sources ask)
   can_ask (asks.Rows source keep tests) can = some_open (attached_of limit f.told) (source_named sources source) (subst IsSome (sym can.answerable.1) refl)
-  can_ask (asks.Sql text) can = absurd can.answerable
+  can_ask (asks.Sql text) can = absurd (let no : false ≡ true = can.answerable.2 in cc)
 
   module _ (desk : IsDesk limit f sources cursors) (g : FilesState) (cursors' : Cursors) (ask : Ask) (room : limit < 2 ^ 63) where
     pub starts_ok : (asked' : List (Ask × ℕ)) (n : ℕ) → CanStart Old ask → n ≡ length cursors → OpensAsked limit sources ask (Ok tt) cursors cursors' f g → asked' ≡ with_ask ask asked

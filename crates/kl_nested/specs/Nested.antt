@@ -1,5 +1,5 @@
 -- What a driver of files of values means.
-use Rattle.std.specs.Prelude.{Bool, true, false, ℕ, ◌-◌, List, Option, Some, None, codes, drop}
+use Rattle.std.specs.Prelude.{Bool, true, false, ℕ, ◌-◌, List, [], Option, Some, None, codes, drop}
 use Rattle.std.specs.Option.{option_map}
 use Rattle.kl_value.specs.declared.Value.{Value}
 use Rattle.kl_type.specs.Ground.{ground_of}
@@ -65,4 +65,17 @@ nested_state limit files sources cursors asked handed drifts unread = record {
   faults = files.faults;
   drifts = drifts;
   unread = unread;
+}
+
+-- nothing is attached, no cursor is open, nothing was asked or handed, and no fault is counted but those of the files
+abbrev pub fresh_state : ℕ → FilesState → State
+fresh_state limit files = record {
+  kind = nested_kind limit files.told;
+  attached = λ name. None;
+  cursors = λ k. None;
+  asked = [];
+  handed = 0;
+  faults = files.faults;
+  drifts = 0;
+  unread = 0;
 }

@@ -1,9 +1,8 @@
 //! The driver of files of values.
-ghost use Rattle.std.specs.Prelude.{◌≡◌, ℕ, [], IsSome, Some, None};
+ghost use Rattle.std.specs.Prelude.{◌≡◌, ℕ, IsSome, Some};
 ghost use Rattle.kl_ask.specs.Cursors.{open_at};
 ghost use Rattle.kl_exchange.specs.FileItems.{most_read};
-ghost use Rattle.kl_outcome.specs.Outcome.{Name};
-ghost use Rattle.kl_nested.specs.Nested.{nested_kind, nested_state};
+ghost use Rattle.kl_nested.specs.Nested.{fresh_state, nested_state};
 ghost use Rattle.kl_nested.specs.Closing.{ClosesOpen, drifts_by, unread_by};
 ghost use Rattle.kl_nested.specs.declared.parts.Open.{Open as Opened};
 
@@ -75,14 +74,7 @@ impl<F: Files + Drop> Model for NestedDriver<F> {
 impl<F: Files + Drop> NestedDriver<F> {
     /// A driver over these files, with nothing attached, no cursor open, and its other counts at 0.
     pub fn new(alloc: Global, files: F) -> NestedDriver<F>
-        ensures kind { (⟦<NestedDriver<F> as Driver>⟧.state result).kind ≡ nested_kind most_read (F.state files).told }
-        ensures attached { (name : Name) → (⟦<NestedDriver<F> as Driver>⟧.state result).attached name ≡ None }
-        ensures cursors { (k : ℕ) → (⟦<NestedDriver<F> as Driver>⟧.state result).cursors k ≡ None }
-        ensures asked { (⟦<NestedDriver<F> as Driver>⟧.state result).asked ≡ [] }
-        ensures handed { (⟦<NestedDriver<F> as Driver>⟧.state result).handed ≡ 0 }
-        ensures faults { (⟦<NestedDriver<F> as Driver>⟧.state result).faults ≡ (F.state files).faults }
-        ensures drifts { (⟦<NestedDriver<F> as Driver>⟧.state result).drifts ≡ 0 }
-        ensures unread { (⟦<NestedDriver<F> as Driver>⟧.state result).unread ≡ 0 }
+        ensures { ⟦<NestedDriver<F> as Driver>⟧.state result ≡ fresh_state most_read (F.state files) }
     {
         NestedDriver {
             alloc,

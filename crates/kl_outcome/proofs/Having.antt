@@ -29,7 +29,7 @@ Such = (t : Ty) × AsGround t
 abbrev FieldsAsGround : List (Name × Ty) → Type 0
 FieldsAsGround = AllByRecursion (λ f. AsGround f.1)
 
-both_true : (a b : Bool) → (a && b) ≡ true → (a ≡ true) × (b ≡ true)
+pub both_true : (a b : Bool) → (a && b) ≡ true → (a ≡ true) × (b ≡ true)
 both_true true b h = (refl, h)
 both_true false b h = cc
 

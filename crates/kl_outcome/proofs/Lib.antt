@@ -1,3 +1,4 @@
+pub mod Drawing
 pub mod Flows
 pub mod Grounds
 pub mod Having

@@ -90,7 +90,7 @@ module _ (source locator : List ℕ) (ty : Ty) (s : Source) (seed rows : ℕ) (s
 
 module _ (sources : Sources) (cursors : List (Option Open)) (asked : List (Ask × ℕ)) (handed : ℕ) where
   opens_at : (ask : Ask) (o : Open) → CanStart (made_state sources cursors asked handed) ask → OpensAt sources ask o → IsOpened ask (made_state sources cursors asked handed) (cursor_of o)
-  opens_at (asks.Sql text) o can opens = absurd can.answerable
+  opens_at (asks.Sql text) o can opens = absurd (let no : false ≡ true = can.answerable.2 in cc)
   opens_at (asks.Rows source keep tests) o can opens = λ a is.
       let s = opens.source in
       let same : attached_of s ≡ a = same_Some _ _ (sym (ap (option_map attached_of) opens.found) ∙ is) in
@@ -240,5 +240,6 @@ pull_stopped sources cursors cursors' o asked handed cursor most into into' clos
     handed = refl;
     cause = tt;
     drifted = λ d drift. absurd cc;
+    joined_drifted = λ d drift. absurd cc;
   };
 }

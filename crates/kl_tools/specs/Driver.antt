@@ -1,5 +1,5 @@
 -- What a driver of made rows means.
-use Rattle.std.specs.Prelude.{◌-◌, ℕ, true, false, List, Option, Some, None, codes}
+use Rattle.std.specs.Prelude.{◌-◌, ℕ, true, false, List, [], Option, Some, None, codes}
 use Rattle.std.specs.Option.{option_map}
 use Rattle.kl_type.specs.Ground.{Ground, int, str, rec, no_row, row}
 use Rattle.kl_value.specs.declared.Value.{Value}
@@ -58,6 +58,19 @@ made_state sources cursors asked handed = record {
   cursors = cursor_at cursors;
   asked = asked;
   handed = handed;
+  faults = 0;
+  drifts = 0;
+  unread = 0;
+}
+
+-- nothing is attached, no cursor is open, and nothing was asked or handed
+abbrev pub fresh_state : State
+fresh_state = record {
+  kind = made_kind;
+  attached = λ name. None;
+  cursors = λ k. None;
+  asked = [];
+  handed = 0;
   faults = 0;
   drifts = 0;
   unread = 0;

@@ -1,7 +1,6 @@
 //! The driver of made rows.
-ghost use Rattle.std.specs.Prelude.{◌≡◌, ℕ, [], None};
-ghost use Rattle.kl_outcome.specs.Outcome.{Name};
-ghost use Rattle.kl_tools.specs.Driver.{made_kind, made_state};
+ghost use Rattle.std.specs.Prelude.{◌≡◌};
+ghost use Rattle.kl_tools.specs.Driver.{fresh_state, made_state};
 
 use crate::handing::hand_next;
 use crate::locator::read_locator;
@@ -31,11 +30,7 @@ pub struct MadeDriver {
 impl MadeDriver {
     /// A driver with nothing attached, no cursor open, and its counts at 0.
     pub fn new(alloc: Global) -> MadeDriver
-        ensures kind { (⟦<MadeDriver as Driver>⟧.state result).kind ≡ made_kind }
-        ensures attached { (name : Name) → (⟦<MadeDriver as Driver>⟧.state result).attached name ≡ None }
-        ensures cursors { (k : ℕ) → (⟦<MadeDriver as Driver>⟧.state result).cursors k ≡ None }
-        ensures asked { (⟦<MadeDriver as Driver>⟧.state result).asked ≡ [] }
-        ensures handed { (⟦<MadeDriver as Driver>⟧.state result).handed ≡ 0 }
+        ensures { ⟦<MadeDriver as Driver>⟧.state result ≡ fresh_state }
     {
         MadeDriver {
             alloc,

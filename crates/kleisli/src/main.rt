@@ -1,4 +1,5 @@
-//! The program `kleisli`: the top call over the system's words, files and streams, and the driver of flat files.
+//! The program `kleisli`: the top call over the system's words, files and streams, and the drivers of tables, of files of
+//! values, of SQL and of made rows.
 //!
 //! It ends with the status that the top call answers. A word that is not UTF-8 is told as words that name no command.
 //! Before that call the program can end with 9, where there is no memory for the words or the drivers, and with 12, where
@@ -7,7 +8,10 @@
 
 use kl_engine::{add_driver, kleisli};
 use kl_flat::FlatDriver;
+use kl_nested::NestedDriver;
 use kl_outside::{HostFiles, HostSink};
+use kl_sqlserve::SqlServer;
+use kl_tools::MadeDriver;
 use std::alloc::AllocError;
 use std::io::ErrorKind;
 use std::process::ExitCode;
@@ -44,22 +48,21 @@ fn run(rt: HostRuntime, words: &[String]) -> u8 {
     }
 }
 
-// The status that the top call answers, over the driver of flat files.
+// The status that the top call answers, over the drivers. Each has files of its own.
 fn answer(rt: HostRuntime, words: &[String]) -> Result<u8, AllocError> {
-    let files = HostFiles::new(rt);
-    let mut drivers = Vec::new(rt.alloc());
-    let driver = Box::new(rt.alloc(), FlatDriver::new(rt.alloc(), files))?;
-    add_driver(&mut drivers, driver)?;
+    let alloc = rt.alloc();
+    let flat = Box::new(alloc, FlatDriver::new(alloc, HostFiles::new(rt)))?;
+    let nested = Box::new(alloc, NestedDriver::new(alloc, HostFiles::new(rt)))?;
+    let sql = Box::new(alloc, SqlServer::new(alloc, HostFiles::new(rt)))?;
+    let made = Box::new(alloc, MadeDriver::new(alloc))?;
+    let mut drivers = Vec::new(alloc);
+    add_driver(&mut drivers, flat)?;
+    add_driver(&mut drivers, nested)?;
+    add_driver(&mut drivers, sql)?;
+    add_driver(&mut drivers, made)?;
     let mut files = HostFiles::new(rt);
     let mut out = HostSink::new(rt.stdout());
     let mut err = HostSink::new(rt.stderr());
-    let answer = kleisli(
-        rt.alloc(),
-        words,
-        &mut files,
-        &mut drivers,
-        &mut out,
-        &mut err,
-    );
+    let answer = kleisli(alloc, words, &mut files, &mut drivers, &mut out, &mut err);
     Ok(answer.status)
 }

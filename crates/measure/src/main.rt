@@ -6,7 +6,7 @@
 //! milliseconds; memory is the system's to tell.
 //!
 //! `measure show FILE` does what `kleisli show` does: it prints the items of a file of nested values; `measure read FILE`
-//! only reads them.
+//! only reads them. `measure scan FILE` attaches a file of sets of texts at the driver of such files, and pulls its rows.
 //!
 //! `measure records FILE` reads a file and its records by `csv`, and `measure table FILE TYPE` reads it as a table of a
 //! type, into columns. They print how many records or rows there are, and on the stream of errors the milliseconds, and
@@ -14,6 +14,7 @@
 #![tactic(auto)]
 
 mod items;
+mod scans;
 mod tables;
 
 use anyhow::{Context, Result};
@@ -47,6 +48,7 @@ fn main(rt: HostRuntime) -> Result<()> {
     match step.as_str() {
         "show" => items::show(rt, word.as_bytes()),
         "read" => items::read(rt, word.as_bytes()),
+        "scan" => scans::scan(rt, &word),
         "records" => tables::records(rt, &word),
         "table" => tables::table(rt, &word, &words.next().context("no type")?),
         _ => measure(rt, step.as_str(), word.parse::<u32>()?),

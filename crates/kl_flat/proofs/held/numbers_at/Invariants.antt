@@ -1,0 +1,5 @@
+use Rattle.std.proofs.Common.{◌≡◌, Some, map, slice_get, take}
+use Rattle.kl_flat.proofs.held.numbers_at.Given as goal
+
+abbrev pub invariant-loop-place : goal.invariant-loop-place
+invariant-loop-place l = map Some l.copies.items ≡ map (slice_get l.numbers) (take l.place-index l.places)

@@ -1,0 +1,12 @@
+pub mod OneType
+pub mod Unpacking
+pub mod RuleLaws
+pub mod Lows
+pub mod Forms
+pub mod Nearest
+pub mod SameTerms
+pub mod Unpacks
+pub mod Walks
+pub mod KnownShapes
+pub mod PlainTerms
+pub mod Rooms

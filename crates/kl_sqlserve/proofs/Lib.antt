@@ -1,0 +1,13 @@
+pub mod Attaches
+pub mod Distinct
+pub mod Fitted
+pub mod Found
+pub mod Goings
+pub mod Grown
+pub mod Joins
+pub mod Keyed
+pub mod Openings
+pub mod Pulls
+pub mod Repeated
+pub mod Starts
+pub mod Typed

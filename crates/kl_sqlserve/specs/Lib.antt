@@ -1,0 +1,12 @@
+pub mod Attaching
+pub mod Handing
+pub mod Hands
+pub mod Joining
+pub mod Keys
+pub mod Left
+pub mod Levels
+pub mod Opening
+pub mod Repeats
+pub mod Server
+pub mod Sides
+pub mod Tests

@@ -1,0 +1,12 @@
+pub mod Flat
+pub mod Runs
+pub mod Bytes
+pub mod Numerals
+pub mod Gaps
+pub mod Texts
+pub mod Goods
+pub mod Rendered
+pub mod Steps
+pub mod Loops
+pub mod Answer
+pub mod Literals
