@@ -17,6 +17,8 @@ mod nested;
 #[cfg(test)]
 mod placing;
 #[cfg(test)]
+mod served;
+#[cfg(test)]
 mod statements;
 #[cfg(test)]
 mod tables;

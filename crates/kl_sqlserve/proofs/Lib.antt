@@ -1,3 +1,4 @@
+pub mod Allowed
 pub mod Attaches
 pub mod Distinct
 pub mod Fitted

@@ -15,6 +15,7 @@ use Rattle.kl_ask.specs.Named.{source_named}
 use Rattle.kl_ask.specs.Statements.{RowTypes, column_in, sql_type, type_of_table}
 use Rattle.kl_ask.specs.Tables.{columns_of}
 use Rattle.kl_flat.specs.ColumnTable.{rows_of}
+use Rattle.kl_flat.specs.Columns.{is_table_type}
 use Rattle.kl_flat.specs.declared.parts.Source.{Source}
 use Rattle.kl_flat.proofs.Cursors.{left_typed}
 use Rattle.kl_flat.proofs.Suiting.{item_is}
@@ -73,9 +74,9 @@ at_field l (c ∷ cs) = by (pointwise nat_eq l c.0) (at_field l cs)
     by true more = refl
     by false more = more
 
--- a column of a source's type
-column_is : (s : Side) (l : Name) → column l (item_of (ground_of s.ty)) ≡ option_map ground_of (field l (columns_of s.ty))
-column_is s l = ap (column l) (item_is s.ty (rows_suit s.ty (rows_of s.index.table) s.typed)) ∙ at_field l (columns_of s.ty)
+-- a column of a type of tables
+pub column_is : (t : Ty) → is_table_type t ≡ true → (l : Name) → column l (item_of (ground_of t)) ≡ option_map ground_of (field l (columns_of t))
+column_is t suits l = ap (column l) (item_is t suits) ∙ at_field l (columns_of t)
 
 -- the types of rows are those of the sources
 abbrev pub TypesOf : RowTypes → Sources → Type 0
@@ -86,7 +87,7 @@ module _ (types : RowTypes) (sources : Sources) (are : TypesOf types sources) wh
   cell_is [] [] h i l = refl
   cell_is [] (s ∷ sides) h i l = absurd h
   cell_is (n ∷ names) [] h i l = absurd h
-  cell_is (n ∷ names) (s ∷ sides) h zero l = ap (λ o. column_in o l) (are n h.0.0 h.0.1) ∙ ap (λ t. column l (item_of (ground_of t))) (sym h.0.2) ∙ column_is s l
+  cell_is (n ∷ names) (s ∷ sides) h zero l = ap (λ o. column_in o l) (are n h.0.0 h.0.1) ∙ ap (λ t. column l (item_of (ground_of t))) (sym h.0.2) ∙ column_is s.ty (rows_suit s.ty (rows_of s.index.table) s.typed) l
   cell_is (n ∷ names) (s ∷ sides) h (suc i) l = cell_is names sides h.1 i l
 
   pub shown_type_is : (q : Spj) (sides : List Side) → AreSides sources q.tables sides → sql_type types q ≡ rec (row_by ground_of (shown_columns (column_type sides) q.columns))

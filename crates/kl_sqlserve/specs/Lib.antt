@@ -1,4 +1,5 @@
 pub mod Attaching
+pub mod Fitting
 pub mod Handing
 pub mod Hands
 pub mod Joining

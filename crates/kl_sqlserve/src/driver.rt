@@ -1,13 +1,17 @@
 //! The server.
-ghost use Rattle.std.specs.Prelude.{◌≡◌, IfOk, OnErr};
+ghost use Rattle.std.specs.Prelude.{◌≡◌, IfOk, IfSome, MatchOption, OnErr};
+ghost use Rattle.std.specs.Option.{is_some};
+ghost use Rattle.kl_ask.specs.Driver.{CanStart};
+ghost use Rattle.kl_ask.specs.declared.ask.Ask.TheVariants as asks;
 ghost use Rattle.kl_sqlserve.specs.Hands.{HandsRows};
 ghost use Rattle.kl_sqlserve.specs.Server.{fresh_state, sql_state};
 
 use crate::asking::is_served;
 use crate::attaching::add_source;
+use crate::fitting::ask_for;
 use crate::handing::hand_joined;
 use crate::joined::Open;
-use crate::opening::open_asked;
+use crate::opening::{find, open_asked};
 use kl_ask::{Abilities, Ask, Driver, DriverError, close_cursor, count_ask, sum_asked};
 use kl_base::{Label, NoMemory, Text};
 use kl_flat::{Source, hand_next, table_of_file, unread_by};
@@ -48,6 +52,27 @@ impl<F: Files + Drop> SqlServer<F> {
             handed: 0,
             unread: 0,
         }
+    }
+
+    /// Whether a source is attached under the name.
+    pub fn is_attached(&self, name: &Label) -> bool
+        ensures { result ≡ is_some ((⟦<SqlServer<F> as Driver>⟧.state self.now).attached name.now) }
+    {
+        find(&self.sources, name).is_some()
+    }
+
+    /// The ask for the statement that the bytes are, as ISO 9075 has it. None exactly where it may not be started: they are no
+    /// statement, a table of it is not attached, a column is not there or shown under one label with another, or the sides
+    /// of a test have two types.
+    ///
+    /// # Errors
+    /// Want of memory.
+    pub fn ask_of(&self, alloc: Global, text: &[u8]) -> Result<Option<Ask>, NoMemory>
+        ensures can { IfOk result (λ found. MatchOption found (CanStart (⟦<SqlServer<F> as Driver>⟧.state self.now) (asks.Sql text.now) → ⊥)
+            (CanStart (⟦<SqlServer<F> as Driver>⟧.state self.now))) }
+        ensures text { IfOk result (λ found. IfSome found (λ ask. ask ≡ asks.Sql text.now)) }
+    {
+        ask_for(alloc, &self.sources, text)
     }
 }
 

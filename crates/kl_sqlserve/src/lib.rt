@@ -11,6 +11,7 @@ mod asking;
 mod attaching;
 mod chosen;
 mod driver;
+mod fitting;
 mod handing;
 mod index;
 mod joined;

@@ -8,6 +8,9 @@
 //! `measure show FILE` does what `kleisli show` does: it prints the items of a file of nested values; `measure read FILE`
 //! only reads them. `measure scan FILE` attaches a file of sets of texts at the driver of such files, and pulls its rows.
 //!
+//! `measure sql STATEMENT (NAME TYPE FILE)..` attaches tables under these names at a server of SQL, asks it the statement, and
+//! pulls the rows. It prints how many there are, and on the stream of errors the milliseconds from the ask to the last row.
+//!
 //! `measure records FILE` reads a file and its records by `csv`, and `measure table FILE TYPE` reads it as a table of a
 //! type, into columns. They print how many records or rows there are, and on the stream of errors the milliseconds, and
 //! for a table the pages of memory that the system counts for the program, before and while it is held.
@@ -15,6 +18,7 @@
 
 mod items;
 mod scans;
+mod statements;
 mod tables;
 
 use anyhow::{Context, Result};
@@ -49,6 +53,7 @@ fn main(rt: HostRuntime) -> Result<()> {
         "show" => items::show(rt, word.as_bytes()),
         "read" => items::read(rt, word.as_bytes()),
         "scan" => scans::scan(rt, &word),
+        "sql" => statements::sql(rt, &word, &mut words),
         "records" => tables::records(rt, &word),
         "table" => tables::table(rt, &word, &words.next().context("no type")?),
         _ => measure(rt, step.as_str(), word.parse::<u32>()?),

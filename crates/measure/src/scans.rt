@@ -57,7 +57,8 @@ fn scan_whole(rt: HostRuntime, name: &Label, path: &Text) -> Result<u64> {
     Ok(driver.handed())
 }
 
-fn pull_all<D: Driver>(alloc: Global, driver: &mut D, ask: &Ask) -> Result<()>
+/// Starts an ask, and pulls its rows, which are dropped.
+pub fn pull_all<D: Driver>(alloc: Global, driver: &mut D, ask: &Ask) -> Result<()>
     requires { CanStart (D.state driver.old) ask.now }
 {
     let Ok(cursor) = driver.start(ask) else {
