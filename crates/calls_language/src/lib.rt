@@ -19,6 +19,10 @@ mod parser;
 #[cfg(test)]
 mod programs;
 #[cfg(test)]
+mod rewriting;
+#[cfg(test)]
+mod rules;
+#[cfg(test)]
 mod translation;
 #[cfg(test)]
 mod unifier;

@@ -122,7 +122,7 @@ const LABELS: [&[u8]; 15] = [
 pub fn read_case(alloc: Global, value: &Value) -> Result<Case> {
     let fields = read_fields(value)?;
     for (label, _) in fields {
-        ensure!(is_known(label.slice()), "a case has no such field");
+        ensure!(is_among(label.slice(), &LABELS), "a case has no such field");
     }
     let shows = text_at(alloc, fields, b"shows")?;
     let given = read_given(alloc, fields)?;
@@ -134,9 +134,9 @@ pub fn read_case(alloc: Global, value: &Value) -> Result<Case> {
     })
 }
 
-fn is_known(label: &[u8]) -> bool {
-    for known in LABELS {
-        if known == label {
+pub fn is_among(label: &[u8], labels: &[&[u8]]) -> bool {
+    for known in labels {
+        if *known == label {
             return true;
         }
     }
@@ -259,8 +259,8 @@ fn read_file(alloc: Global, fields: &[(Label, Value)]) -> Result<(Text, Text)> {
     Ok((Text::of(path), Text::of(text)))
 }
 
-// What stands at a label, or none.
-fn find<'a>(fields: &'a [(Label, Value)], name: &[u8]) -> Option<&'a Value> {
+/// What stands at a label, or none.
+pub fn find<'a>(fields: &'a [(Label, Value)], name: &[u8]) -> Option<&'a Value> {
     for field in fields {
         if field.0.slice() == name {
             return Some(&field.1);
@@ -269,23 +269,23 @@ fn find<'a>(fields: &'a [(Label, Value)], name: &[u8]) -> Option<&'a Value> {
     None
 }
 
-// The text at a label; the empty one where there is none.
-fn text_at(alloc: Global, fields: &[(Label, Value)], name: &[u8]) -> Result<Vec<u8>> {
+/// The text at a label; the empty one where there is none.
+pub fn text_at(alloc: Global, fields: &[(Label, Value)], name: &[u8]) -> Result<Vec<u8>> {
     match find(fields, name) {
         Some(text) => read_text(alloc, text),
         None => Ok(Vec::new(alloc)),
     }
 }
 
-// The items of the list at a label; none where there is no list.
-fn items_at<'a>(fields: &'a [(Label, Value)], name: &[u8]) -> Result<&'a [Value]> {
+/// The items of the list at a label; none where there is no list.
+pub fn items_at<'a>(fields: &'a [(Label, Value)], name: &[u8]) -> Result<&'a [Value]> {
     match find(fields, name) {
         Some(items) => read_items(items),
         None => Ok(&[]),
     }
 }
 
-fn read_fields(value: &Value) -> Result<&[(Label, Value)]> {
+pub fn read_fields(value: &Value) -> Result<&[(Label, Value)]> {
     match value {
         Value::Rec(fields) => Ok(fields.slice()),
         _ => bail!("a record is wanted"),

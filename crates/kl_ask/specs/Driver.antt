@@ -39,11 +39,13 @@ pub data Stored : Type 0 where
   Deep : ℕ → Stored
   Rows : List Value → Stored
 
--- what a driver is and does not change; `stored` is None where contents are not told
+-- what a driver is and does not change; `most` is how many bytes of a source are looked at, where that is bounded; `stored` is
+-- None where contents are not told
 pub record DriverKind : Type 0 where
   pub name : List ℕ
   pub abilities : Abilities
   pub suits : Ty → Bool
+  pub most : Option ℕ
   pub stored : Option (List ℕ → Ty → Stored)
 
 -- an attached source: the type of the whole collection; its rows, where contents are told; how many rows a whole scan
@@ -318,6 +320,29 @@ HasDrifted s (drift.Count kept found) = (s.count ≡ kept) × (found ≢ kept)
 HasDrifted s (drift.Unread place) = ⊤
 HasDrifted s (drift.Misfit item) = ⊤
 
+-- A row of this number, counted from 0, is one of the source; and none from it on was handed, where the ask has no tests, which
+-- may leave rows out.
+pub record IsAhead (s : Source) (c : Cursor) (number : ℕ) : Type 0 where
+  pub within : number < s.count
+  pub ahead : (HasTests c.ask → ⊥) → s.count ≤ number + c.bound
+
+-- one row more was met than the source had, behind its last one
+pub record IsPastEnd (c : Cursor) (kept found : ℕ) : Type 0 where
+  pub over : (HasTests c.ask → ⊥) → c.bound ≡ 0
+  pub next : found ≡ kept + 1
+
+-- More bytes were met than are looked at, and one more than these is told; or the number of bytes was found behind the last row.
+abbrev pub IsSizeMet : Option ℕ → Cursor → ℕ → Type 0
+IsSizeMet most c found = ((n : ℕ) × (most ≡ Some n) × (found ≡ n + 1)) ⊎ ((HasTests c.ask → ⊥) → c.bound ≡ 0)
+
+-- What is told of was met ahead of what the cursor handed: a number of bytes; a row that lacks the type, or the first that is not
+-- there, or one behind the last. A place of bytes that are not told is tied to nothing.
+abbrev pub IsMetAhead : Option ℕ → Source → Cursor → Drift → Type 0
+IsMetAhead most s c (drift.Bytes kept found) = IsSizeMet most c found
+IsMetAhead most s c (drift.Count kept found) = IsAhead s c found ⊎ IsPastEnd c kept found
+IsMetAhead most s c (drift.Unread place) = ⊤
+IsMetAhead most s c (drift.Misfit item) = IsAhead s c item
+
 -- an ask is for this statement
 abbrev pub IsAskedSql : Ask → Spj → Type 0
 IsAskedSql (asks.Rows source keep tests) q = ⊥
@@ -344,6 +369,7 @@ pub record PullRefused (cursor : ℕ) (e : DriverError) (into into' : List Value
   pub handed : new.handed ≡ old.handed
   pub cause : Cause e old new
   pub drifted : (d : Drift) → e ≡ error.Changed d → (s : Source) → source_of old c.ask ≡ Some s → HasDrifted s d
+  pub ahead : (d : Drift) → e ≡ error.Changed d → (s : Source) → source_of old c.ask ≡ Some s → IsMetAhead old.kind.most s c d
   pub joined_drifted : (d : Drift) → e ≡ error.Changed d → (q : Spj) → IsAskedSql c.ask q → HasDriftedTable old q d
 
 abbrev pub PullResult : ℕ → ℕ → List Value → List Value → Cursor → Result Bool DriverError → State → State → Type 0

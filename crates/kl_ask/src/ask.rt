@@ -72,7 +72,7 @@ pub enum Drift {
     Count { kept: u64, found: u64 },
     /// What stands at this byte is no exchange text any more, or nests too deep.
     Unread { place: u64 },
-    /// The item of this number lacks the type.
+    /// The item of this number, counted from 0, lacks the type.
     Misfit { item: u64 },
 }
 

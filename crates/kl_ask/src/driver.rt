@@ -72,7 +72,9 @@ pub trait Driver: Drop {
     /// # Errors
     /// `Failed` on a fault; `Changed`, with what differs from what was kept at attaching, or where the source no longer
     /// reads, where contents are not told and the count of drifts rose; `NoMemory`. The cursor is closed then, and `into`
-    /// is as before.
+    /// is as before. Of an ask without tests `Misfit` and a `Count` that is too small tell a row, counted from 0, of which
+    /// and behind which none was handed; a `Count` that is too great is one more than were kept, and all were handed. So
+    /// they were where `Bytes` tells how many there are, but where it tells one more than are looked at.
     fn pull(&mut self, cursor: u64, most: u32, into: &mut Vec<Value>) -> Result<bool, DriverError>
         requires is_open { IsSome ((state self.old).cursors cursor) }
         requires room { 0 < most }

@@ -53,7 +53,7 @@ impl Settings {
 pub struct JoinRun {
     /// The number of the join.
     pub join: u32,
-    /// How many rows the outer loop had.
+    /// How many rows of the outer loop passed the conditions of the join.
     pub outer: u64,
     /// How often the inner source was started.
     pub starts: u64,

@@ -13,8 +13,10 @@ pub mod InputLemmas
 pub mod FileAnswers
 pub mod AnswerLemmas
 pub mod TermLemmas
+pub mod RewriteLemmas
 pub mod MeaningLemmas
 pub mod ProgramLemmas
+pub mod CountLemmas
 pub mod ShowLemmas
 pub mod TopLemmas
 pub mod UnreadLemmas

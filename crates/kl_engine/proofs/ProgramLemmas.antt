@@ -228,6 +228,18 @@ module _ (p : Purpose) (from : Origin) (f f' : FilesState) where
     };
   }
 
+  -- one of them is missing, or was not read
+  pub read_missing : (g : Fault) (ks : List DriverKind) → ReadsInputs from ks (Err g) f f' → g ≡ fault.Read → LacksFile (Program p from) f ks ⊎ Rose f.faults f'.faults
+  read_missing g ks reads is = pick f.told refl
+    where
+      pick : (found : Option (List ℕ → Option (List ℕ))) → f.told ≡ found → LacksFile (Program p from) f ks ⊎ Rose f.faults f'.faults
+      pick None at = inr (reads.read at is)
+      pick (Some told) at = elim (reads.refused told (tells from f told at)) [
+        | inl none ↦ absurd (let two : fault.Read ≡ fault.NoMemory = sym is ∙ none in cc)
+        | inr (inl failed) ↦ inr failed.1
+        | inr (inr wrong) ↦ inl (told, at, inl (fault.Read, subst (IsInputsFault told ks from) is wrong, refl))
+      ]
+
   -- The files were refused: nothing was printed, and no driver was asked.
   module _ (g : Fault) (ds : List State) (out : SinkState) (reads : ReadsInputs from (kinds_of ds) (Err g) f f') where
     not_usage : g ≡ fault.Usage → ⊥
@@ -304,12 +316,4 @@ module _ (p : Purpose) (from : Origin) (f f' : FilesState) where
         some_one is = cc
 
         read_cause : g ≡ fault.Read → ReadCause
-        read_cause is = pick f.told refl
-          where
-            pick : (found : Option (List ℕ → Option (List ℕ))) → f.told ≡ found → ReadCause
-            pick None at = inr (inr (inl (reads.read at is)))
-            pick (Some told) at = elim (reads.refused told (tells from f told at)) [
-              | inl none ↦ absurd (let two : fault.Read ≡ fault.NoMemory = sym is ∙ none in cc)
-              | inr (inl failed) ↦ inr (inr (inl failed.1))
-              | inr (inr wrong) ↦ inl (told, at, inl (fault.Read, subst (IsInputsFault told (kinds_of ds) from) is wrong, refl))
-            ]
+        read_cause is = elim (read_missing g (kinds_of ds) reads is) [ inl lacks ↦ inl lacks | inr rose ↦ inr (inr (inl rose)) ]

@@ -1,9 +1,10 @@
 -- The first declaration whose term is too large.
-use Rattle.std.proofs.Common.{◌≡◌, ℕ, ◌<◌, ◌≤◌, nat_lt, Bool, true, false, if◌then◌else◌, List, [], ◌∷◌, ◌++◌, Option, Some, None, refl, ap, subst, ◌∙◌}
+use Rattle.std.proofs.Common.{◌≡◌, arith, ℕ, ◌<◌, ◌≤◌, nat_lt, Bool, true, false, if◌then◌else◌, List, [], ◌∷◌, ◌++◌, Option, Some, None, refl, ap, subst, ◌∙◌}
 use Rattle.std.specs.Prelude.{All}
 use Rattle.std.specs.Option.{option_map}
 use Rattle.std.proofs.lemmas.Bool.{lt-ltb, le-ltb}
-use Rattle.std.proofs.lemmas.List.Elements.{All-head, All-tail}
+use Rattle.std.proofs.lemmas.Bool.Decides.{nat_tests}
+use Rattle.std.proofs.lemmas.List.Elements.{All-cons, All-head, All-nil, All-tail}
 use Rattle.kl_scope.specs.Limits.{HasManyNodes, IsDeep, IsWithin, IsFirstPast, Tells}
 use Rattle.kl_scope.specs.declared.counting.SizeBreach.{SizeBreach}
 use Rattle.kl_scope.specs.declared.counting.SizeBreach.TheVariants.{Nodes, Depth}
@@ -51,3 +52,16 @@ module _ (P : Fault → Type 0) (nodes : P fault.TermNodes) (depth : P fault.Ter
   pub sized_faults : (ss : List Size) (f : Fault) → size_fault ss ≡ Some f → P f
   sized_faults [] f is = absurd cc
   sized_faults (s ∷ ss) f is = one_size (nat_lt 4096 s.nodes) (nat_lt 512 s.depth) (size_fault ss) f (sized_faults ss f) is
+
+-- ---- no term is too large
+
+one_within : (x y : Bool) (rest : Option Fault) → (if x then Some fault.TermNodes else if y then Some fault.TermDepth else rest) ≡ None → (x ≡ false) × (y ≡ false) × (rest ≡ None)
+one_within true y rest is = absurd cc
+one_within false true rest is = absurd cc
+one_within false false rest is = (refl, refl, is)
+
+pub all_within : (ss : List Size) → size_fault ss ≡ None → All IsWithin ss
+all_within [] is = All-nil IsWithin
+all_within (s ∷ ss) is =
+    let found = one_within (nat_lt 4096 s.nodes) (nat_lt 512 s.depth) (size_fault ss) is in
+    All-cons IsWithin s ss (grind (arith, nat_tests, found.0), grind (arith, nat_tests, found.1)) (all_within ss found.2)

@@ -8,5 +8,6 @@ pub mod Inputs
 pub mod Stats
 pub mod Typing
 pub mod Answering
+pub mod Rewritten
 pub mod Running
 pub mod Showing

@@ -1,15 +1,18 @@
 //! What `run` does with a program's text: it prints the value that the program means.
-ghost use Rattle.std.specs.Prelude.{◌≡◌, ◌≤◌, ◌<◌, [], All, length, map, true, false};
+ghost use Rattle.std.specs.Prelude.{◌≡◌, ◌≤◌, ◌<◌, [], All, IfOk, length, map, true, false};
 ghost use Rattle.kl_outside.specs.Files.{FilesState};
 ghost use Rattle.kl_ask.specs.Driver.{State};
 ghost use Rattle.kl_ask.specs.World.{Moved, types_of, values_of};
 ghost use Rattle.kl_core.specs.Core.{core};
 ghost use Rattle.kl_core.specs.Trees.{view as term_view};
 ghost use Rattle.kl_core.specs.Typing.{HaveSources};
-ghost use Rattle.kl_desugar.specs.Translation.{Means, term_of};
+ghost use Rattle.kl_desugar.specs.Small.{IsSmall};
+ghost use Rattle.kl_desugar.specs.Translation.{term_of};
 ghost use Rattle.kl_eval.specs.Evals.{Sense, SenseList};
 ghost use Rattle.kl_infer.specs.Inferred.{Infers};
+ghost use Rattle.kl_rewrite.specs.Steps.{IsClosed};
 ghost use Rattle.kl_rows.specs.Schemes.{IsScheme, Instance};
+ghost use Rattle.kl_rules.specs.Preserving.{Preserves};
 ghost use Rattle.kl_scope.specs.Breaches.{is_marked};
 ghost use Rattle.kl_sources.specs.Sources.{ArePlaced, names_of, grounds_of};
 ghost use Rattle.kl_syntax.specs.View.{view, decls_of};
@@ -19,8 +22,10 @@ ghost use Rattle.kl_engine.specs.Answering.{DoesText, IsIdle};
 ghost use Rattle.kl_engine.specs.Faults.{ending};
 ghost use Rattle.kl_engine.specs.Outside.{outside_of};
 ghost use Rattle.kl_engine.specs.Reading.{WasInScope};
+ghost use Rattle.kl_engine.specs.Rewritten.{CountsOf, IsEarly, IsRewrittenIn, IsRewrittenTo, RewritesText};
 ghost use Rattle.kl_engine.specs.Running.{AnswersTerm, DoneWith, DoneMeaning};
 ghost use Rattle.kl_engine.specs.Running.{IsTermOutcome, IsListScheme, IsListOutcome, IsValueOutcome, fault_of};
+ghost use Rattle.kl_engine.specs.Typing.{IsTyped};
 ghost use Rattle.kl_engine.specs.declared.top.Purpose.TheVariants.{Run};
 
 use crate::cut::cut;
@@ -28,12 +33,13 @@ use crate::fault::Fault;
 use crate::page::{print_cut_list, print_value};
 use crate::read::{infer_over, read_over};
 use kl_ask::{Driver, DriverError, Seen, Session, Settings, Trace};
-use kl_base::{Label, Seq};
+use kl_base::{Label, NoMemory, Seq};
 use kl_core::Term;
 use kl_desugar::translate;
 use kl_eval::{EvalStop, eval, eval_list};
 use kl_infer::Typed;
 use kl_outside::Sink;
+use kl_rewrite::{Normal, rewrite};
 use kl_scope::Scoped;
 use kl_sources::{AttachError, Source, attach_sources};
 use kl_value::{Kind, Value};
@@ -47,7 +53,7 @@ pub struct How {
     pub first: Option<u32>,
 }
 
-/// Runs the program that a text is, over these sources.
+/// Runs the program that a text is, over these sources, and tells in how many steps its term was rewritten.
 ///
 /// # Errors
 /// The first that is wrong: the text is no program in scope, the term of a declaration is too large, a declaration has no
@@ -60,17 +66,20 @@ pub fn run<S: Sink>(
     how: How,
     drivers: &mut Vec<Box<dyn Driver>>,
     out: &mut S,
+    steps: &mut u32,
 ) -> Result<(), Fault>
     requires few { length text.now ≤ 65536 }
     requires placed { ArePlaced (kinds_of (map (λ d. (Driver-box d).state d.value) drivers.old.items)) sources.items }
     requires idle { All IsIdle (map (λ d. (Driver-box d).state d.value) drivers.old.items) }
     requires fetch { 0 < how.settings.fetch }
-    ensures { (files : FilesState) → DoesText sources.items (Run how.first) text.now (ending result)
+    requires none { steps.old ≡ 0 }
+    ensures does { (files : FilesState) → DoesText sources.items (Run how.first) text.now (ending result)
         (outside_of files (map (λ d. (Driver-box d).state d.value) drivers.old.items) (S.state out.old))
         (outside_of files (map (λ d. (Driver-box d).state d.value) drivers.new.items) (S.state out.new)) }
+    ensures steps { CountsOf (RewritesText how.settings.rewrite steps.new text.now sources.items) (ending result) steps.new }
 {
     match read_over(alloc, text, &sources) {
-        Ok(scoped) => run_program(alloc, &scoped, sources, how, drivers, out),
+        Ok(scoped) => run_program(alloc, &scoped, sources, how, drivers, out, steps),
         Err(fault) => Err(fault),
     }
 }
@@ -83,18 +92,22 @@ fn run_program<S: Sink>(
     how: How,
     drivers: &mut Vec<Box<dyn Driver>>,
     out: &mut S,
+    steps: &mut u32,
 ) -> Result<(), Fault>
     requires scope { WasInScope (names_of sources.items) scoped.now }
     requires placed { ArePlaced (kinds_of (map (λ d. (Driver-box d).state d.value) drivers.old.items)) sources.items }
     requires idle { All IsIdle (map (λ d. (Driver-box d).state d.value) drivers.old.items) }
     requires fetch { 0 < how.settings.fetch }
-    ensures { (files : FilesState) → DoneWith sources.items (is_marked scoped.now) (Run how.first)
+    requires none { steps.old ≡ 0 }
+    ensures does { (files : FilesState) → DoneWith sources.items (is_marked scoped.now) (Run how.first)
         (decls_of scoped.now.program.defs) (view scoped.now.program.last) (ending result)
         (outside_of files (map (λ d. (Driver-box d).state d.value) drivers.old.items) (S.state out.old))
         (outside_of files (map (λ d. (Driver-box d).state d.value) drivers.new.items) (S.state out.new)) }
+    ensures steps { CountsOf (IsRewrittenIn how.settings.rewrite (term_of (decls_of scoped.now.program.defs) (view scoped.now.program.last) scoped.now.sources) steps.new)
+        (ending result) steps.new }
 {
     match infer_over(alloc, scoped, &sources) {
-        Ok(typed) => answer(alloc, scoped, &typed, sources, how, drivers, out),
+        Ok(typed) => answer(alloc, scoped, &typed, sources, how, drivers, out, steps),
         Err(fault) => Err(fault),
     }
 }
@@ -108,25 +121,68 @@ fn answer<S: Sink>(
     how: How,
     drivers: &mut Vec<Box<dyn Driver>>,
     out: &mut S,
+    steps: &mut u32,
 ) -> Result<(), Fault>
     requires scope { WasInScope (names_of sources.items) scoped.now }
-    requires types { Infers (decls_of scoped.now.program.defs) (view scoped.now.program.last) (grounds_of sources.items) typed.now }
+    requires types { IsTyped (grounds_of sources.items) (decls_of scoped.now.program.defs) (view scoped.now.program.last) typed.now }
     requires placed { ArePlaced (kinds_of (map (λ d. (Driver-box d).state d.value) drivers.old.items)) sources.items }
     requires idle { All IsIdle (map (λ d. (Driver-box d).state d.value) drivers.old.items) }
     requires fetch { 0 < how.settings.fetch }
-    ensures { (files : FilesState) → DoneMeaning sources.items (is_marked scoped.now) how.first
+    requires none { steps.old ≡ 0 }
+    ensures does { (files : FilesState) → DoneMeaning sources.items (is_marked scoped.now) how.first
         (decls_of scoped.now.program.defs) (view scoped.now.program.last) (ending result)
         (outside_of files (map (λ d. (Driver-box d).state d.value) drivers.old.items) (S.state out.old))
         (outside_of files (map (λ d. (Driver-box d).state d.value) drivers.new.items) (S.state out.new)) }
+    ensures steps { CountsOf (IsRewrittenIn how.settings.rewrite (term_of (decls_of scoped.now.program.defs) (view scoped.now.program.last) scoped.now.sources) steps.new)
+        (ending result) steps.new }
 {
     match translate(alloc, scoped) {
-        Ok(term) => answer_translated(alloc, &term, scoped, typed, sources, how, drivers, out),
+        Ok(term) => answer_translated(
+            alloc, term, scoped, typed, sources, how, drivers, out, steps,
+        ),
         Err(_) => Err(Fault::NoMemory),
     }
 }
 
-// Prints what the term of a program comes to, over its sources.
+// Rewrites the term of a program, unless that is not wanted, and prints what it comes to over its sources.
 fn answer_translated<S: Sink>(
+    alloc: Global,
+    term: Term,
+    scoped: &Scoped,
+    typed: &Typed,
+    sources: Vec<Source>,
+    how: How,
+    drivers: &mut Vec<Box<dyn Driver>>,
+    out: &mut S,
+    steps: &mut u32,
+) -> Result<(), Fault>
+    requires scope { WasInScope (names_of sources.items) scoped.now }
+    requires types { Infers (decls_of scoped.now.program.defs) (view scoped.now.program.last) (grounds_of sources.items) typed.now }
+    requires term { term_view term ≡ term_of (decls_of scoped.now.program.defs) (view scoped.now.program.last) scoped.now.sources }
+    requires closed { IsClosed (term_view term) }
+    requires small { IsSmall (term_view term) }
+    requires placed { ArePlaced (kinds_of (map (λ d. (Driver-box d).state d.value) drivers.old.items)) sources.items }
+    requires idle { All IsIdle (map (λ d. (Driver-box d).state d.value) drivers.old.items) }
+    requires fetch { 0 < how.settings.fetch }
+    requires none { steps.old ≡ 0 }
+    ensures does { (files : FilesState) → DoneMeaning sources.items (is_marked scoped.now) how.first
+        (decls_of scoped.now.program.defs) (view scoped.now.program.last) (ending result)
+        (outside_of files (map (λ d. (Driver-box d).state d.value) drivers.old.items) (S.state out.old))
+        (outside_of files (map (λ d. (Driver-box d).state d.value) drivers.new.items) (S.state out.new)) }
+    ensures steps { CountsOf (IsRewrittenIn how.settings.rewrite (term_of (decls_of scoped.now.program.defs) (view scoped.now.program.last) scoped.now.sources) steps.new)
+        (ending result) steps.new }
+{
+    match rewritten(alloc, term, how.settings.rewrite) {
+        Ok(Normal { term, steps: made }) => {
+            *steps = made;
+            answer_over(alloc, &term, scoped, typed, sources, how, drivers, out)
+        }
+        Err(_) => Err(Fault::NoMemory),
+    }
+}
+
+// Prints what a term comes to over the sources of a program, where it keeps what the program's own means.
+fn answer_over<S: Sink>(
     alloc: Global,
     term: &Term,
     scoped: &Scoped,
@@ -138,15 +194,15 @@ fn answer_translated<S: Sink>(
 ) -> Result<(), Fault>
     requires scope { WasInScope (names_of sources.items) scoped.now }
     requires types { Infers (decls_of scoped.now.program.defs) (view scoped.now.program.last) (grounds_of sources.items) typed.now }
-    requires term { term_view term.now ≡ term_of (decls_of scoped.now.program.defs) (view scoped.now.program.last) scoped.now.sources }
-    requires means { Means (decls_of scoped.now.program.defs) (view scoped.now.program.last) scoped.now.sources (term_view term.now) }
+    requires keeps { Preserves (term_of (decls_of scoped.now.program.defs) (view scoped.now.program.last) scoped.now.sources) (term_view term.now) }
     requires placed { ArePlaced (kinds_of (map (λ d. (Driver-box d).state d.value) drivers.old.items)) sources.items }
     requires idle { All IsIdle (map (λ d. (Driver-box d).state d.value) drivers.old.items) }
     requires fetch { 0 < how.settings.fetch }
-    ensures { (files : FilesState) → DoneMeaning sources.items (is_marked scoped.now) how.first
+    ensures does { (files : FilesState) → DoneMeaning sources.items (is_marked scoped.now) how.first
         (decls_of scoped.now.program.defs) (view scoped.now.program.last) (ending result)
         (outside_of files (map (λ d. (Driver-box d).state d.value) drivers.old.items) (S.state out.old))
         (outside_of files (map (λ d. (Driver-box d).state d.value) drivers.new.items) (S.state out.new)) }
+    ensures late { IsEarly (ending result) → ⊥ }
 {
     let is_list = gives_list(typed);
     match attach_sources(alloc, sources, scoped, drivers) {
@@ -163,6 +219,19 @@ fn answer_translated<S: Sink>(
             result
         }
         Err(AttachError { source, error }) => Err(driver_fault(source, error)),
+    }
+}
+
+// The term rewritten, or as it is.
+fn rewritten(alloc: Global, term: Term, on: bool) -> Result<Normal, NoMemory>
+    requires closed { IsClosed (term_view term) }
+    requires small { IsSmall (term_view term) }
+    ensures { IfOk result (λ r. IsRewrittenTo on (term_view term) r.steps (term_view r.term)) }
+{
+    if on {
+        rewrite(alloc, term)
+    } else {
+        Ok(Normal { term, steps: 0 })
     }
 }
 

@@ -1,14 +1,15 @@
 //! The top call.
-ghost use Rattle.std.specs.Prelude.{◌≡◌, ◌<◌, ◌^◌, None, All, length, map, string_bytes};
+ghost use Rattle.std.specs.Prelude.{◌≡◌, ◌<◌, ◌^◌, None, All, length, map, string_bytes, true};
 ghost use Rattle.kl_words.specs.Commands.{command_of};
 ghost use Rattle.kl_ask.specs.Driver.{State};
+ghost use Rattle.kl_sources.specs.Sources.{kinds_of};
 ghost use Rattle.kl_outside.specs.Files.{FilesState};
 ghost use Rattle.kl_engine.specs.Answering.{Does, IsIdle};
 ghost use Rattle.kl_engine.specs.Commands.{Files as FromFiles, Made, Program, asked, path_of, wants_stats};
 ghost use Rattle.kl_engine.specs.Faults.{TookLine, ending, status_of};
 ghost use Rattle.kl_engine.specs.Outside.{outside_of};
-ghost use Rattle.kl_ask.specs.Trace.{IsBlank};
-ghost use Rattle.kl_engine.specs.Stats.{handed_in, told_text};
+ghost use Rattle.kl_engine.specs.Rewritten.{CountsSteps, wants_rewriting};
+ghost use Rattle.kl_engine.specs.Stats.{CountsStepsAlone, handed_in, told_text};
 ghost use Rattle.kl_engine.specs.declared.top.Purpose.TheVariants.{Run, Check, Types};
 
 use crate::check::check;
@@ -39,7 +40,8 @@ pub struct Answer {
     pub status: u8,
     /// Why the command did not end well, or none where it did.
     pub fault: Option<Fault>,
-    /// What was counted while the program ran: of a plain run nothing, so each count is 0.
+    /// What was counted while the program ran: the steps in which its term was rewritten, none with `--no-rewrite`, and
+    /// nothing else, so each other count is 0.
     pub trace: Trace,
 }
 
@@ -66,6 +68,9 @@ pub struct Answer {
 /// other refusal it is empty. After a fault of reading or writing, after a
 /// source that changed and after want of memory `out` took a front of the page.
 ///
+/// A run evaluates the term that its program is rewritten to, unless its words say `--no-rewrite`; what it prints is what the
+/// program means in either case.
+///
 /// The drivers are handed in with no source attached and no cursor open. They are left with no cursor open; the sources that
 /// a run attached stay attached. No file is left open.
 ///
@@ -89,37 +94,49 @@ pub fn kleisli<F: Files, S: Sink, E: Sink>(
         TookLine (told_text (wants_stats command) (path_of (asked command)) result.fault result.trace
         (handed_in (map (λ d. (Driver-box d).state d.value) drivers.old.items) (map (λ d. (Driver-box d).state d.value) drivers.new.items)))
         (E.state err.old) (E.state err.new) }
-    ensures trace { IsBlank result.trace }
+    ensures trace { CountsStepsAlone result.trace }
+    ensures steps { let words = command_of (map (λ w. string_bytes w) words.now) in
+        CountsSteps (wants_rewriting words) (asked words) result.fault result.trace.steps (F.state files.old) (F.state files.new)
+        (kinds_of (map (λ d. (Driver-box d).state d.value) drivers.old.items)) }
     ensures words_first { command_of (map (λ w. string_bytes w) words.now) ≡ None
         → (files.new ≡ files.old)
         × (map (λ d. (Driver-box d).state d.value) drivers.new.items ≡ map (λ d. (Driver-box d).state d.value) drivers.old.items)
         × (out.new ≡ out.old) }
 {
     let before = rows_handed(drivers);
+    let mut steps = 0;
     match read_words(alloc, words) {
         Ok(Command::Run(job)) => {
-            let result = do_run(alloc, &job, files, drivers, out);
+            let result = do_run(alloc, &job, files, drivers, out, &mut steps);
             let handed = rows_handed(drivers).saturating_sub(before);
-            end(alloc, result, job.program.slice(), job.stats, handed, err)
+            end(
+                alloc,
+                result,
+                job.program.slice(),
+                job.stats,
+                steps,
+                handed,
+                err,
+            )
         }
         Ok(Command::Types { program, catalogue }) => {
             let result = do_types(alloc, &program, &catalogue, files, drivers, out);
-            end(alloc, result, program.slice(), false, 0, err)
+            end(alloc, result, program.slice(), false, 0, 0, err)
         }
         Ok(Command::Check { program, catalogue }) => {
             let result = do_check(alloc, &program, &catalogue, files, drivers, out);
-            end(alloc, result, program.slice(), false, 0, err)
+            end(alloc, result, program.slice(), false, 0, 0, err)
         }
         Ok(Command::Show { file }) => {
             let result = show(alloc, file.slice(), files, out);
-            end(alloc, result, file.slice(), false, 0, err)
+            end(alloc, result, file.slice(), false, 0, 0, err)
         }
         Ok(Command::Gen { seed, size }) => {
-            let result = do_gen(alloc, seed, size, drivers, out);
-            end(alloc, result, b"", false, 0, err)
+            let result = do_gen(alloc, seed, size, drivers, out, &mut steps);
+            end(alloc, result, b"", false, steps, 0, err)
         }
-        Err(WordsError::Usage) => end(alloc, Err(Fault::Usage), b"", false, 0, err),
-        Err(WordsError::NoMemory) => end(alloc, Err(Fault::NoMemory), b"", false, 0, err),
+        Err(WordsError::Usage) => end(alloc, Err(Fault::Usage), b"", false, 0, 0, err),
+        Err(WordsError::NoMemory) => end(alloc, Err(Fault::NoMemory), b"", false, 0, 0, err),
     }
 }
 
@@ -140,15 +157,18 @@ fn end<E: Sink>(
     outcome: Result<(), Fault>,
     path: &[u8],
     stats: bool,
+    steps: u32,
     handed: u128,
     err: &mut E,
 ) -> Answer
     ensures fault { result.fault ≡ ending outcome }
     ensures status { result.status ≡ status_of (ending outcome) }
-    ensures trace { IsBlank result.trace }
+    ensures trace { CountsStepsAlone result.trace }
+    ensures steps { result.trace.steps ≡ steps }
     ensures line { TookLine (told_text stats path.now (ending outcome) result.trace handed) (E.state err.old) (E.state err.new) }
 {
-    let trace = Trace::new(alloc);
+    let mut trace = Trace::new(alloc);
+    trace.steps = steps;
     match outcome {
         Ok(()) => {
             if stats {
@@ -178,13 +198,17 @@ fn do_run<F: Files, S: Sink>(
     files: &mut F,
     drivers: &mut Vec<Box<dyn Driver>>,
     out: &mut S,
+    steps: &mut u32,
 ) -> Result<(), Fault>
     requires idle { All IsIdle (map (λ d. (Driver-box d).state d.value) drivers.old.items) }
     requires few { length drivers.old.items < 2 ^ 32 }
     requires fetch { 0 < job.now.settings.fetch }
-    ensures { Does (Program (Run job.now.first) (FromFiles job.now.program job.now.catalogue)) (ending result)
+    requires none { steps.old ≡ 0 }
+    ensures does { Does (Program (Run job.now.first) (FromFiles job.now.program job.now.catalogue)) (ending result)
         (outside_of (F.state files.old) (map (λ d. (Driver-box d).state d.value) drivers.old.items) (S.state out.old))
         (outside_of (F.state files.new) (map (λ d. (Driver-box d).state d.value) drivers.new.items) (S.state out.new)) }
+    ensures steps { CountsSteps job.now.settings.rewrite (Program (Run job.now.first) (FromFiles job.now.program job.now.catalogue))
+        (ending result) steps.new (F.state files.old) (F.state files.new) (kinds_of (map (λ d. (Driver-box d).state d.value) drivers.old.items)) }
 {
     match read_inputs(alloc, &job.program, &job.catalogue, drivers, files) {
         Ok(Inputs { text, sources }) => {
@@ -192,7 +216,15 @@ fn do_run<F: Files, S: Sink>(
                 settings: job.settings,
                 first: job.first,
             };
-            run(alloc, text.slice(), sources.into_vec(), how, drivers, out)
+            run(
+                alloc,
+                text.slice(),
+                sources.into_vec(),
+                how,
+                drivers,
+                out,
+                steps,
+            )
         }
         Err(fault) => Err(fault),
     }
@@ -205,12 +237,16 @@ fn do_gen<S: Sink>(
     size: u32,
     drivers: &mut Vec<Box<dyn Driver>>,
     out: &mut S,
+    steps: &mut u32,
 ) -> Result<(), Fault>
     requires idle { All IsIdle (map (λ d. (Driver-box d).state d.value) drivers.old.items) }
     requires few { length drivers.old.items < 2 ^ 32 }
-    ensures { (files : FilesState) → Does (Program (Run None) (Made seed size)) (ending result)
+    requires none { steps.old ≡ 0 }
+    ensures does { (files : FilesState) → Does (Program (Run None) (Made seed size)) (ending result)
         (outside_of files (map (λ d. (Driver-box d).state d.value) drivers.old.items) (S.state out.old))
         (outside_of files (map (λ d. (Driver-box d).state d.value) drivers.new.items) (S.state out.new)) }
+    ensures steps { (files : FilesState) → CountsSteps true (Program (Run None) (Made seed size)) (ending result) steps.new files files
+        (kinds_of (map (λ d. (Driver-box d).state d.value) drivers.old.items)) }
 {
     match made_inputs(alloc, seed, size, drivers) {
         Ok(Inputs { text, sources }) => {
@@ -218,7 +254,15 @@ fn do_gen<S: Sink>(
                 settings: Settings::usual(),
                 first: None,
             };
-            run(alloc, text.slice(), sources.into_vec(), how, drivers, out)
+            run(
+                alloc,
+                text.slice(),
+                sources.into_vec(),
+                how,
+                drivers,
+                out,
+                steps,
+            )
         }
         Err(fault) => Err(fault),
     }

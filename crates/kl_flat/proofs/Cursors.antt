@@ -237,6 +237,7 @@ pull_stopped cursor most into into' o f sources cursors cursors' asked handed un
     handed = refl;
     cause = tt;
     drifted = λ d drift. absurd cc;
+    ahead = λ d drift. absurd cc;
     joined_drifted = λ d drift. absurd cc;
   };
 }

@@ -80,6 +80,7 @@ flat_kind told = record {
   name = codes "flat";
   abilities = record { select = true; project = true; join = false; unique = false };
   suits = is_table_type;
+  most = Some most_bytes;
   stored = contents_of told;
 }
 

@@ -1,5 +1,5 @@
 -- Rows that are taken one by one, and what a cursor hands.
-use Rattle.std.proofs.Common.{◌≡◌, ◌⊎◌, ℕ, ◌+◌, ◌-◌, ◌≤◌, min, List, [], ◌∷◌, ◌++◌, length, drop, take, IsSome, Ok, Err, refl, sym, ap, subst, ◌∙◌, arith, append_assoc, append-nil, length-append, take_at, inl, inr}
+use Rattle.std.proofs.Common.{◌≡◌, ◌⊎◌, ℕ, ◌+◌, ◌-◌, ◌<◌, ◌≤◌, min, List, [], ◌∷◌, ◌++◌, length, drop, take, IsSome, Ok, Err, refl, sym, ap, subst, ◌∙◌, arith, append_assoc, append-nil, length-append, take_at, inl, inr}
 use Rattle.std.proofs.lemmas.Bool.{cases_lt}
 use Rattle.kl_value.specs.declared.Value.{Value}
 use Rattle.kl_outside.specs.Files.{FilesState}
@@ -30,13 +30,13 @@ one_then a b c f g h m n = record {
   same_file = n.same_file ∙ m.same_file;
 }
 
-refuses_on : (s : Source) (n : ℕ) (e : DriverError) (f g h : FilesState) → g.told ≡ f.told → f.faults ≤ g.faults → Refuses s n e g h → Refuses s n e f h
-refuses_on s n error.Failed f g h told later cause = omega (arith, later, cause)
-refuses_on s n error.NoMemory f g h told later cause = tt
-refuses_on s n (error.Changed d) f g h told later cause = (sym told ∙ cause.0, cause.1)
-refuses_on s n (error.BadSource p) f g h told later cause = absurd cause
-refuses_on s n (error.TooLong m) f g h told later cause = absurd cause
-refuses_on s n (error.TooDeep p) f g h told later cause = absurd cause
+refuses_on : (limit : ℕ) (s : Source) (n : ℕ) (e : DriverError) (f g h : FilesState) → g.told ≡ f.told → f.faults ≤ g.faults → Refuses limit s n e g h → Refuses limit s n e f h
+refuses_on limit s n error.Failed f g h told later cause = omega (arith, later, cause)
+refuses_on limit s n error.NoMemory f g h told later cause = tt
+refuses_on limit s n (error.Changed d) f g h told later cause = (sym told ∙ cause.0, cause.1)
+refuses_on limit s n (error.BadSource p) f g h told later cause = absurd cause
+refuses_on limit s n (error.TooLong m) f g h told later cause = absurd cause
+refuses_on limit s n (error.TooDeep p) f g h told later cause = absurd cause
 
 -- ---- the loop
 
@@ -82,13 +82,14 @@ module _ (limit : ℕ) (s : Source) (taken : ℕ) (into : List Value) (old : Fil
           kept = kept_on limit g.told h.told s takes.reads.told at.kept;
         }
 
-    pub taking_stopped : (count : ℕ) (e : DriverError) → TakesRow limit s number into' into'' (Err e) now then g h → TakesRows limit s taken count into into'' (Err e) old then f h
-    taking_stopped count e takes = record {
+    pub taking_stopped : (count : ℕ) (e : DriverError) → number < taken + count → TakesRow limit s number into' into'' (Err e) now then g h → TakesRows limit s taken count into into'' (Err e) old then f h
+    taking_stopped count e within takes = record {
       reads = one_then old now then f g h at.reads takes.reads;
       rows = at.rows;
       are_next = record { appended = takes.same ∙ at.are_next.appended; typed = at.are_next.typed; next = at.are_next.next };
       all = tt;
-      cause = λ d is. subst (λ n. Refuses s n d f h) (sym at.size) (refuses_on s number d f g h at.reads.told at.reads.later (takes.cause d is));
+      few = omega (arith, at.size, within);
+      cause = λ d is. subst (λ n. Refuses limit s n d f h) (sym at.size) (refuses_on limit s number d f g h at.reads.told at.reads.later (takes.cause d is));
     }
 
     pub taking_done : (count : ℕ) → number ≡ taken + count → TakesRows limit s taken count into into' (Ok tt) old now f g
@@ -97,6 +98,7 @@ module _ (limit : ℕ) (s : Source) (taken : ℕ) (into : List Value) (old : Fil
       rows = at.rows;
       are_next = at.are_next;
       all = (omega (arith, at.size, is), subst (λ n. HasTaken limit s n now g) is at.so_far);
+      few = tt;
       cause = λ e is. absurd cc;
     }
 
@@ -132,8 +134,8 @@ module _ (limit most : ℕ) (into : List Value) (old new : Open) (f g : FilesSta
     cause = λ e is. absurd cc;
   }
 
-  pub not_ended : (e : DriverError) → MeetsEnd limit old.source (Err e) old.reader new.reader f g → Hands limit most into into (Err e) old new f g
-  not_ended e meets = record { reads = meets.reads; ask = ask; source = source; file = file; handed = tt; same = refl; cause = λ d is. (old.source.count + 1, meets.cause d (let k : e ≡ d = cc in ap Err k)) }
+  pub not_ended : (e : DriverError) → old.taken ≡ old.source.count → MeetsEnd limit old.source (Err e) old.reader new.reader f g → Hands limit most into into (Err e) old new f g
+  not_ended e spent meets = record { reads = meets.reads; ask = ask; source = source; file = file; handed = tt; same = refl; cause = λ d is. (old.source.count + 1, inr (spent, refl), meets.cause d (let k : e ≡ d = cc in ap Err k)) }
 
   pub handed_rows : (into' : List Value) (count : ℕ) → TakesRows limit old.source old.taken count into into' (Ok tt) old.reader new.reader f g → new.taken ≡ old.taken + count → count ≤ most
       → (count ≡ most) ⊎ (old.taken + count ≡ old.source.count) → old.taken + count ≤ old.source.count → Hands limit most into into' (Ok count) old new f g
@@ -156,13 +158,13 @@ module _ (limit most : ℕ) (into : List Value) (old new : Open) (f g : FilesSta
     cause = λ e is. absurd cc;
   }
 
-  pub not_handed : (into' into'' : List Value) (count : ℕ) (e : DriverError) → TakesRows limit old.source old.taken count into into' (Err e) old.reader new.reader f g → into'' ≡ take (length into) into' → Hands limit most into into'' (Err e) old new f g
-  not_handed into' into'' count e takes cut = record {
+  pub not_handed : (into' into'' : List Value) (count : ℕ) (e : DriverError) → old.taken + count ≤ old.source.count → TakesRows limit old.source old.taken count into into' (Err e) old.reader new.reader f g → into'' ≡ take (length into) into' → Hands limit most into into'' (Err e) old new f g
+  not_handed into' into'' count e within takes cut = record {
     reads = takes.reads;
     ask = ask;
     source = source;
     file = file;
     handed = tt;
     same = cut ∙ ap (take (length into)) takes.are_next.appended ∙ take_at into takes.rows (length into) refl;
-    cause = λ d is. (old.taken + length takes.rows, takes.cause d (let k : e ≡ d = cc in ap Err k));
+    cause = λ d is. (old.taken + length takes.rows, inl (omega arith, omega (arith, takes.few, within)), takes.cause d (let k : e ≡ d = cc in ap Err k));
   }

@@ -9,7 +9,7 @@ use Rattle.kl_outside.specs.Files.{FilesState}
 use Rattle.kl_ask.specs.Asked.{raised_by}
 use Rattle.kl_ask.specs.Asks.{item_of}
 use Rattle.kl_ask.specs.Cursors.{open_at}
-use Rattle.kl_ask.specs.Driver.{Cause, CountsDrift, Cursor, Finishes, Hands as Hand, HasDrifted, IsAskedSql, PullResult, Pulls, PullsMore, PullsNone, State, emptied, source_of}
+use Rattle.kl_ask.specs.Driver.{Cause, CountsDrift, Cursor, Source as Attached, Finishes, Hands as Hand, HasDrifted, IsAskedSql, IsMetAhead, PullResult, Pulls, PullsMore, PullsNone, State, emptied, source_of}
 use Rattle.kl_ask.specs.declared.ask.Ask.{Ask}
 use Rattle.kl_ask.specs.declared.ask.Ask.TheVariants as asks
 use Rattle.kl_ask.specs.declared.ask.Drift.{Drift}
@@ -20,7 +20,7 @@ use Rattle.kl_ask.proofs.Opened.{changed_now, changed_others}
 use Rattle.kl_nested.specs.Closing.{ClosesOpen, drifts_by}
 use Rattle.kl_nested.specs.Contents.{contents_of}
 use Rattle.kl_nested.specs.Desk.{IsDesk}
-use Rattle.kl_nested.specs.Handing.{Differs, Hands, Refuses}
+use Rattle.kl_nested.specs.Handing.{Differs, Hands, Refuses, StopsBehind}
 use Rattle.kl_ask.specs.Named.{asked_source}
 use Rattle.kl_nested.specs.Nested.{Sources, Tells, attached_of, cursor_of, nested_state, rows_at}
 use Rattle.kl_nested.specs.declared.parts.Source.{Source}
@@ -157,11 +157,26 @@ module _ (limit : ℕ) (f : FilesState) (sources : Sources) (cursors : List (Opt
   told_not None none is = cc
   told_not (Some files) none is = let k : Some files ≡ None = none in cc
 
-  drifted_so : (o : Open) (found : ℕ) (d : Drift) → Differs o.source found d → HasDrifted (attached_of limit f.told o.source) d
+  drifted_so : (o : Open) (found : ℕ) (d : Drift) → Differs limit o.source found d → HasDrifted (attached_of limit f.told o.source) d
   drifted_so o found (drift.Bytes kept size) h = (ap Some (sym h.0), h.1)
   drifted_so o found (drift.Count kept count) h = (sym h.0, h.2)
   drifted_so o found (drift.Unread place) h = tt
   drifted_so o found (drift.Misfit item) h = tt
+
+  ahead_so : (o : Open) (found : ℕ) (d : Drift) → StopsBehind o found → Differs limit o.source found d → IsMetAhead (Some limit) (attached_of limit f.told o.source) (cursor_of limit f.told o) d
+  ahead_so o found (drift.Bytes kept size) stops h = elim h.2 [
+    | inl past ↦ inl (limit, refl, past)
+    | inr behind ↦ inr (λ whole. elim stops [ inl row ↦ absurd (omega (arith, row.1, behind)) | inr past ↦ omega (arith, past.0) ])
+  ]
+  ahead_so o found (drift.Count kept count) stops h = elim stops [
+    | inl row ↦ inl (record { within = omega (arith, row.1, h.1); ahead = λ whole. omega (arith, row.0, row.1, h.1) })
+    | inr past ↦ inr (record { over = λ whole. omega (arith, past.0); next = omega (arith, past.1, h.0, h.1) })
+  ]
+  ahead_so o found (drift.Unread place) stops h = tt
+  ahead_so o found (drift.Misfit item) stops h = elim stops [
+    | inl row ↦ record { within = h.1; ahead = λ whole. omega (arith, row.0, row.1, h.0) }
+    | inr past ↦ absurd (omega (arith, past.1, h.0, h.1))
+  ]
 
   no_sql : (ask : Ask) (s : Source) (q : Spj) → asked_source sources ask ≡ Some s → IsAskedSql ask q → ⊥
   no_sql (asks.Rows source keep tests) s q is asked = asked
@@ -182,9 +197,15 @@ module _ (limit : ℕ) (f : FilesState) (sources : Sources) (cursors : List (Opt
     cursor_at_is : (c : Cursor) → was.cursors cursor ≡ Some c → cursor_of limit f.told o ≡ c
     cursor_at_is c has = same_Some _ _ (sym (ap (option_map (cursor_of limit f.told)) here) ∙ has)
 
+    its_source : (c : Cursor) → was.cursors cursor ≡ Some c → (s : Attached) → source_of was c.ask ≡ Some s → attached_of limit f.told o.source ≡ s
+    its_source c has s at =
+        let ask : o.ask ≡ c.ask = ap (λ (c : Cursor). c.ask) (cursor_at_is c has) in
+        same_Some _ _ (sym (source_is o.ask o.source (desk.asked cursor o here)) ∙ ap (source_of was) ask ∙ at)
+
     build : (e : DriverError) → drifts ≤ drifts_by e drifts → (IsSome (contents_of limit f.told) → drifts_by e drifts ≡ drifts) → CountsDrift (Err e) drifts (drifts_by e drifts) → Cause e was (now (drifts_by e drifts)) → ((d : Drift) → e ≡ error.Changed d → HasDrifted (attached_of limit f.told o.source) d)
+        → ((d : Drift) → e ≡ error.Changed d → IsMetAhead (Some limit) (attached_of limit f.told o.source) (cursor_of limit f.told o) d)
         → Pulls cursor most into into' (Err e) was (now (drifts_by e drifts))
-    build e up no_drift counts cause drifted = record {
+    build e up no_drift counts cause drifted ahead = record {
       keeps = record { kind = refl; handed = omega arith; faults = omega (arith, hand.reads.later, faults); drifts = up; no_drift = no_drift; unread = omega arith };
       attached = refl;
       asked = refl;
@@ -196,30 +217,29 @@ module _ (limit : ℕ) (f : FilesState) (sources : Sources) (cursors : List (Opt
         closed = ap (option_map (cursor_of limit f.told)) closed;
         handed = refl;
         cause = cause;
-        drifted = λ d is s at.
-            let ask : o.ask ≡ c.ask = ap (λ (c : Cursor). c.ask) (cursor_at_is c has) in
-            let same : attached_of limit f.told o.source ≡ s = same_Some _ _ (sym (source_is o.ask o.source (desk.asked cursor o here)) ∙ ap (source_of was) ask ∙ at) in
-            subst (λ s. HasDrifted s d) same (drifted d is);
+        drifted = λ d is s at. subst (λ s. HasDrifted s d) (its_source c has s at) (drifted d is);
+        ahead = λ d is s at. subst (λ s. IsMetAhead (Some limit) s c d) (its_source c has s at) (subst (λ c. IsMetAhead (Some limit) (attached_of limit f.told o.source) c d) (cursor_at_is c has) (ahead d is));
         joined_drifted = λ d is q asked.
             let ask : c.ask ≡ o.ask = ap (λ (c : Cursor). c.ask) (sym (cursor_at_is c has)) in
             absurd (no_sql o.ask o.source q (desk.asked cursor o here) (subst (λ ask. IsAskedSql ask q) ask asked));
       };
     }
 
-    by : (e : DriverError) (found : ℕ) → Refuses o.source found e f g → Pulls cursor most into into' (Err e) was (now (drifts_by e drifts))
-    by error.Failed found cause = build error.Failed (omega arith) (λ is. refl) refl (omega (arith, cause, faults)) (λ d is. absurd cc)
-    by error.NoMemory found cause = build error.NoMemory (omega arith) (λ is. refl) refl tt (λ d is. absurd cc)
-    by (error.Changed d) found cause = build (error.Changed d) (omega (arith, fits)) (λ is. absurd (told_not f.told cause.0 is)) (omega (arith, fits)) (told_not f.told cause.0, omega (arith, fits))
+    by : (e : DriverError) (found : ℕ) → StopsBehind o found → Refuses limit o.source found e f g → Pulls cursor most into into' (Err e) was (now (drifts_by e drifts))
+    by error.Failed found stops cause = build error.Failed (omega arith) (λ is. refl) refl (omega (arith, cause, faults)) (λ d is. absurd cc) (λ d is. absurd cc)
+    by error.NoMemory found stops cause = build error.NoMemory (omega arith) (λ is. refl) refl tt (λ d is. absurd cc) (λ d is. absurd cc)
+    by (error.Changed d) found stops cause = build (error.Changed d) (omega (arith, fits)) (λ is. absurd (told_not f.told cause.0 is)) (omega (arith, fits)) (told_not f.told cause.0, omega (arith, fits))
         (λ k is. let same : d ≡ k = cc in subst (HasDrifted (attached_of limit f.told o.source)) same (drifted_so o found d cause.1))
-    by (error.BadSource p) found cause = absurd cause
-    by (error.TooLong m) found cause = absurd cause
-    by (error.TooDeep p) found cause = absurd cause
+        (λ k is. let same : d ≡ k = cc in subst (IsMetAhead (Some limit) (attached_of limit f.told o.source) (cursor_of limit f.told o)) same (ahead_so o found d stops cause.1))
+    by (error.BadSource p) found stops cause = absurd cause
+    by (error.TooLong m) found stops cause = absurd cause
+    by (error.TooDeep p) found stops cause = absurd cause
 
     pub pull_refused : Pulls cursor most into into' (Err e) was (nested_state limit h sources cursors' asked handed drifts' unread)
     pull_refused =
         let c = hand.cause e refl in
         subst (λ m. Pulls cursor most into into' (Err e) was (nested_state limit h sources cursors' asked handed m unread)) (sym counted)
-        (subst (λ t. Pulls cursor most into into' (Err e) was (nested_state limit (record { told = t; left = h.left; faults = h.faults }) sources cursors' asked handed (drifts_by e drifts) unread)) (sym (told ∙ hand.reads.told)) (by e c.0 c.1))
+        (subst (λ t. Pulls cursor most into into' (Err e) was (nested_state limit (record { told = t; left = h.left; faults = h.faults }) sources cursors' asked handed (drifts_by e drifts) unread)) (sym (told ∙ hand.reads.told)) (by e c.0 c.1 c.2))
 
   -- ---- the end of a cursor
 

@@ -1,5 +1,5 @@
 -- The next rows of a source that was read so far.
-use Rattle.std.proofs.Common.{◌≡◌, ◌≢◌, ℕ, ◌+◌, ◌<◌, ◌≤◌, true, false, List, [], ◌∷◌, ◌++◌, length, drop, Option, Some, None, IsSome, Result, Ok, Err, refl, sym, ap, subst, ◌∙◌, arith, append_assoc, length-append}
+use Rattle.std.proofs.Common.{◌≡◌, ◌≢◌, inl, inr, ℕ, ◌+◌, ◌<◌, ◌≤◌, true, false, List, [], ◌∷◌, ◌++◌, length, drop, Option, Some, None, IsSome, Result, Ok, Err, refl, sym, ap, subst, ◌∙◌, arith, append_assoc, length-append}
 use Rattle.std.proofs.lemmas.Option.{same_Some}
 use Rattle.kl_value.specs.declared.Value.{Value}
 use Rattle.kl_type.specs.Has.{has_type}
@@ -174,10 +174,10 @@ module _ (limit : ℕ) (s : Source) (taken : ℕ) (now then : FileReading) (f f'
     not_whole : (end : FileEnd) → EndsSo first so_far.values end then (f'.left now.file) → (end ≡ WholeText → ⊥) → f.told ≡ None
     not_whole end so other = untold limit f.told s kept (λ all k. other (one_end end so all k).1)
 
-    pub unread_refuses : (n : ℕ) (e : FileError) → found ≡ Err e → Refuses s n (unread_as limit s.bytes e) f f'
+    pub unread_refuses : (n : ℕ) (e : FileError) → found ≡ Err e → Refuses limit s n (unread_as limit s.bytes e) f f'
     unread_refuses n (fault.Bad p) is = (not_whole (BadAt p) (stands (Err (fault.Bad p)) is) (λ e. cc), tt)
     unread_refuses n (fault.TooDeep p) is = (not_whole (TooDeepAt p) (stands (Err (fault.TooDeep p)) is) (λ e. cc), tt)
-    unread_refuses n fault.TooLong is = (not_whole PastLimit (stands (Err fault.TooLong) is) (λ e. cc), (refl, λ e. let a = kept.short in omega (arith, a, e)))
+    unread_refuses n fault.TooLong is = (not_whole PastLimit (stands (Err fault.TooLong) is) (λ e. cc), (refl, (λ e. let a = kept.short in omega (arith, a, e)), inl refl))
     unread_refuses n fault.Read is = next.leaves.failed (rw is refl)
     unread_refuses n fault.NoMemory is = tt
 
@@ -206,7 +206,7 @@ module _ (limit : ℕ) (s : Source) (taken : ℕ) (now then : FileReading) (f f'
         by (Err e) next row = absurd row
 
     no_room : (v : Value) → NextRow (item_ty s.ty) (Ok (Some v)) now then f f' → into' ≡ into → TakesRow limit s taken into into' (Err error.NoMemory) now then f f'
-    no_room v n same = record { reads = reads_one n.found n.next; row = tt; same = same; cause = λ e is. let k : e ≡ error.NoMemory = cc in subst (λ e. Refuses s taken e f f') (sym k) tt }
+    no_room v n same = record { reads = reads_one n.found n.next; row = tt; same = same; cause = λ e is. let k : e ≡ error.NoMemory = cc in subst (λ e. Refuses limit s taken e f f') (sym k) tt }
 
     pub pushed : (v : Value) (result : Result (Unit {0}) DriverError) → NextRow (item_ty s.ty) (Ok (Some v)) now then f f' → Pushes v into into' result → TakesRow limit s taken into into' result now then f f'
     pushed v (Ok done) n pushes = took v n pushes
@@ -222,35 +222,35 @@ module _ (limit : ℕ) (s : Source) (taken : ℕ) (now then : FileReading) (f f'
           same = same;
           cause = λ e is.
               let k : error.Changed (drift.Count s.count taken) ≡ e = cc in
-              subst (λ e. Refuses s taken e f f') k (fewer_untold (Ok None) next refl less, (refl, refl, λ e. omega (arith, e, less)));
+              subst (λ e. Refuses limit s taken e f f') k (fewer_untold (Ok None) next refl less, (refl, refl, λ e. omega (arith, e, less)));
         }
         by (Ok (Some v)) next row = absurd row
         by (Err e) next row = absurd row
 
-    pub halted : (h : Halt) (e : DriverError) → NextRow (item_ty s.ty) (Err h) now then f f' → into' ≡ into → e ≡ changed_as limit s.bytes taken h → TakesRow limit s taken into into' (Err e) now then f f'
-    halted h e n same is = record {
+    pub halted : (h : Halt) (e : DriverError) → NextRow (item_ty s.ty) (Err h) now then f f' → into' ≡ into → taken < s.count → e ≡ changed_as limit s.bytes taken h → TakesRow limit s taken into into' (Err e) now then f f'
+    halted h e n same less is = record {
       reads = reads_one n.found n.next;
       row = tt;
       same = same;
-      cause = λ d at. let k : d ≡ changed_as limit s.bytes taken h = let j : d ≡ e = cc in j ∙ is in subst (λ d. Refuses s taken d f f') (sym k) (by n.found h n.next n.row);
+      cause = λ d at. let k : d ≡ changed_as limit s.bytes taken h = let j : d ≡ e = cc in j ∙ is in subst (λ d. Refuses limit s taken d f f') (sym k) (by n.found h n.next n.row);
     }
       where
-        by : (r : Result (Option Value) FileError) (h : Halt) → NextItem r now then f f' → RowOf (item_ty s.ty) r (Err h) then → Refuses s taken (changed_as limit s.bytes taken h) f f'
-        by (Ok (Some v)) halt.Misfit next row = (misfit_untold (Ok (Some v)) next v refl row, refl)
+        by : (r : Result (Option Value) FileError) (h : Halt) → NextItem r now then f f' → RowOf (item_ty s.ty) r (Err h) then → Refuses limit s taken (changed_as limit s.bytes taken h) f f'
+        by (Ok (Some v)) halt.Misfit next row = (misfit_untold (Ok (Some v)) next v refl row, (refl, less))
         by (Ok (Some v)) (halt.Unread why) next row = absurd row
         by (Ok None) halt.Misfit next row = absurd row
         by (Ok None) (halt.Unread why) next row = absurd row
         by (Err e) halt.Misfit next row = absurd row
-        by (Err e) (halt.Unread why) next row = subst (λ w. Refuses s taken (unread_as limit s.bytes w) f f') (sym row) (unread_refuses (Err e) next taken e refl)
+        by (Err e) (halt.Unread why) next row = subst (λ w. Refuses limit s taken (unread_as limit s.bytes w) f f') (sym row) (unread_refuses (Err e) next taken e refl)
 
 -- ---- the end
 
 module _ (limit : ℕ) (s : Source) (now then : FileReading) (f f' : FilesState) (kept : IsKept limit f.told s) (so_far : HasTaken limit s s.count now f) where
-  met : (r : Result (Option Value) FileError) (e : DriverError) → NextItem r now then f f' → Refuses s (s.count + 1) e f f' → MeetsEnd limit s (Err e) now then f f'
+  met : (r : Result (Option Value) FileError) (e : DriverError) → NextItem r now then f f' → Refuses limit s (s.count + 1) e f f' → MeetsEnd limit s (Err e) now then f f'
   met r e next cause = record {
     reads = reads_one limit s s.count now then f f' kept so_far r next;
     taken = tt;
-    cause = λ d is. let k : e ≡ d = cc in subst (λ d. Refuses s (s.count + 1) d f f') k cause;
+    cause = λ d is. let k : e ≡ d = cc in subst (λ d. Refuses limit s (s.count + 1) d f f') k cause;
   }
 
   abbrev one_more_counted : DriverError
@@ -324,7 +324,7 @@ module _ (limit : ℕ) (s : Source) (now then : FileReading) (f f' : FilesState)
         cause = λ e is. absurd cc;
       }
       at (Err e) next finished has = subst (λ e. Met (Err e)) (sym has.0)
-          (met (Ok None) (error.Changed (drift.Bytes s.bytes size)) next (size_untold limit s s.count now then f f' kept so_far (Ok None) next size refl finished total has.1, (refl, has.1)))
+          (met (Ok None) (error.Changed (drift.Bytes s.bytes size)) next (size_untold limit s s.count now then f f' kept so_far (Ok None) next size refl finished total has.1, (refl, has.1, inr refl)))
 
       item : (r : Result (Option Value) FileError) → NextItem r now then f f' → RowOf (item_ty s.ty) r (Ok None) then → Met result
       item (Ok None) next row = at result next row has

@@ -1,5 +1,5 @@
 -- Steps of handing rows. No public contract cites this.
-use Rattle.std.specs.Prelude.{◌≡◌, ◌≢◌, ◌⊎◌, ℕ, ◌+◌, ◌≤◌, true, List, [], ◌∷◌, ◌++◌, length, drop, set, slice_get, Option, Some, None, IsSome, Result, Ok, Err, IfOk, OnOk, OnErr, ⊤}
+use Rattle.std.specs.Prelude.{◌≡◌, ◌≢◌, ◌⊎◌, ℕ, ◌+◌, ◌<◌, ◌≤◌, true, List, [], ◌∷◌, ◌++◌, length, drop, set, slice_get, Option, Some, None, IsSome, Result, Ok, Err, IfOk, OnOk, OnErr, ⊤}
 use Rattle.std.specs.List.{AllByRecursion}
 use Rattle.kl_base.specs.Counts.{Rose}
 use Rattle.kl_value.specs.declared.Value.{Value}
@@ -41,19 +41,20 @@ abbrev pub changed_as : ℕ → ℕ → ℕ → Halt → DriverError
 changed_as limit kept taken halt.Misfit = error.Changed (drift.Misfit taken)
 changed_as limit kept taken (halt.Unread why) = unread_as limit kept why
 
--- what was kept of a source and what was found differ, where so many items were found
-abbrev pub Differs : Source → ℕ → Drift → Type 0
-Differs s found (drift.Bytes kept size) = (kept ≡ s.bytes) × (size ≢ kept)
-Differs s found (drift.Count kept count) = (kept ≡ s.count) × (count ≡ found) × (count ≢ kept)
-Differs s found (drift.Unread place) = ⊤
-Differs s found (drift.Misfit item) = item ≡ found
+-- What was kept of a source and what was found differ, where so many items were found. Its bytes are more than are looked at, or
+-- they end behind all items that were kept.
+abbrev pub Differs : ℕ → Source → ℕ → Drift → Type 0
+Differs limit s found (drift.Bytes kept size) = (kept ≡ s.bytes) × (size ≢ kept) × ((size ≡ limit + 1) ⊎ (found ≡ s.count + 1))
+Differs limit s found (drift.Count kept count) = (kept ≡ s.count) × (count ≡ found) × (count ≢ kept)
+Differs limit s found (drift.Unread place) = ⊤
+Differs limit s found (drift.Misfit item) = (item ≡ found) × (item < s.count)
 
 -- the cause of a refusal
-abbrev pub Refuses : Source → ℕ → DriverError → FilesState → FilesState → Type 0
-Refuses s found error.Failed old new = Rose old.faults new.faults
-Refuses s found error.NoMemory old new = ⊤
-Refuses s found (error.Changed d) old new = (old.told ≡ None) × Differs s found d
-Refuses s found _ old new = ⊥
+abbrev pub Refuses : ℕ → Source → ℕ → DriverError → FilesState → FilesState → Type 0
+Refuses limit s found error.Failed old new = Rose old.faults new.faults
+Refuses limit s found error.NoMemory old new = ⊤
+Refuses limit s found (error.Changed d) old new = (old.told ≡ None) × Differs limit s found d
+Refuses limit s found _ old new = ⊥
 
 -- a reader read its file, and nothing else
 pub record ReadsOne (old new : FileReading) (files files' : FilesState) : Type 0 where
@@ -79,7 +80,7 @@ pub record TakesRow (limit : ℕ) (s : Source) (taken : ℕ) (into into' : List 
   pub reads : ReadsOne old new files files'
   pub row : OnOk result ((v : Value) × AreNext limit s taken (v ∷ []) into into' files × HasTaken limit s (taken + 1) new files')
   pub same : OnErr result (into' ≡ into)
-  pub cause : (e : DriverError) → result ≡ Err e → Refuses s taken e files files'
+  pub cause : (e : DriverError) → result ≡ Err e → Refuses limit s taken e files files'
 
 -- so many next rows are appended
 pub record TakesRows (limit : ℕ) (s : Source) (taken count : ℕ) (into into' : List Value) (result : Result (Unit {0}) DriverError) (old new : FileReading) (files files' : FilesState) : Type 0 where
@@ -87,7 +88,8 @@ pub record TakesRows (limit : ℕ) (s : Source) (taken count : ℕ) (into into' 
   pub rows : List Value
   pub are_next : AreNext limit s taken rows into into' files
   pub all : OnOk result ((length rows ≡ count) × HasTaken limit s (taken + count) new files')
-  pub cause : (e : DriverError) → result ≡ Err e → Refuses s (taken + length rows) e files files'
+  pub few : OnErr result (length rows < count)
+  pub cause : (e : DriverError) → result ≡ Err e → Refuses limit s (taken + length rows) e files files'
 
 -- as many bytes were found as were kept
 abbrev pub HasBytes : ℕ → ℕ → Result (Unit {0}) DriverError → Type 0
@@ -98,7 +100,7 @@ HasBytes kept found (Err e) = (e ≡ error.Changed (drift.Bytes kept found)) × 
 pub record MeetsEnd (limit : ℕ) (s : Source) (result : Result (Unit {0}) DriverError) (old new : FileReading) (files files' : FilesState) : Type 0 where
   pub reads : ReadsOne old new files files'
   pub taken : OnOk result (HasTaken limit s s.count new files')
-  pub cause : (e : DriverError) → result ≡ Err e → Refuses s (s.count + 1) e files files'
+  pub cause : (e : DriverError) → result ≡ Err e → Refuses limit s (s.count + 1) e files files'
 
 -- so many next rows of a cursor are appended, as many as were asked for or all that are left, and it stands behind them
 pub record HandsNext (limit most : ℕ) (into into' : List Value) (old new : Open) (files files' : FilesState) (count : ℕ) : Type 0 where
@@ -111,6 +113,10 @@ pub record HandsNext (limit most : ℕ) (into into' : List Value) (old new : Ope
   pub within : new.taken ≤ old.source.count
   pub taken : HasTaken limit old.source new.taken new.reader files'
 
+-- a cursor stops at a row that it has not handed, or behind the last of all
+abbrev pub StopsBehind : Open → ℕ → Type 0
+StopsBehind o found = ((o.taken ≤ found) × (found < o.source.count)) ⊎ ((o.taken ≡ o.source.count) × (found ≡ o.source.count + 1))
+
 pub record Hands (limit most : ℕ) (into into' : List Value) (result : Result ℕ DriverError) (old new : Open) (files files' : FilesState) : Type 0 where
   pub reads : ReadsOne old.reader new.reader files files'
   pub ask : new.ask ≡ old.ask
@@ -118,7 +124,7 @@ pub record Hands (limit most : ℕ) (into into' : List Value) (result : Result �
   pub file : new.file ≡ old.file
   pub handed : IfOk result (HandsNext limit most into into' old new files files')
   pub same : OnErr result (into' ≡ into)
-  pub cause : (e : DriverError) → result ≡ Err e → (found : ℕ) × Refuses old.source found e files files'
+  pub cause : (e : DriverError) → result ≡ Err e → (found : ℕ) × StopsBehind old found × Refuses limit old.source found e files files'
 
 -- the cursor at a place hands rows, and no other
 pub record HandsAt (limit cursor most : ℕ) (into into' : List Value) (result : Result ℕ DriverError) (cursors cursors' : List (Option Open)) (files files' : FilesState) : Type 0 where

@@ -31,6 +31,7 @@ nested_kind limit told = record {
   name = codes "nested";
   abilities = record { select = false; project = false; join = false; unique = false };
   suits = is_collection;
+  most = Some limit;
   stored = contents_of limit told;
 }
 

@@ -28,8 +28,8 @@ use std::marker::Model;
 /// It tells its contents exactly where its files tell their bytes, and its count of faults is theirs. Its count of sources
 /// that it could not read rises where an item is none or lacks the type, nests too deep, or the file has too many bytes.
 /// Its count of drifts rises where a cursor finds that its file has changed since it was attached:
-/// - `Unread` and `Misfit` tell what comes in place of the next row: the byte where no item goes on, or the number of the
-///   item that lacks the type.
+/// - `Unread` tells the byte where no item goes on or the 257th bracket opens, in place of the next row or behind the last.
+/// - `Misfit` tells the number of the next item, which lacks the type.
 /// - `Count` tells how many items were read: where the file ended too early all that it has, and where it goes on one
 ///   more than were kept.
 /// - `Bytes` tells how many bytes the file has where its items were as many as were kept, and where it has more bytes

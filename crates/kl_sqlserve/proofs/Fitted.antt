@@ -180,20 +180,20 @@ left_fit cs false seen vs e = e
 
 -- ---- the columns rise
 
+pub above_all : (l m : Name) (ls : List Name) → bytes_cmp l m ≡ Less → AllByRecursion (λ k. bytes_cmp m k ≡ Less) ls → AllByRecursion (λ k. bytes_cmp l k ≡ Less) ls
+above_all l m [] is all = tt
+above_all l m (k ∷ ls) is all = (nat_list_cmp_total.trans l m k is all.0, above_all l m ls is all.1)
+
 module _ {T : Type 0} (l : Name) (t : T) where
-  above_put : (m : Name) (cs : List (Name × T)) → AllByRecursion (λ k. bytes_cmp m k ≡ Less) (labels_of cs) → bytes_cmp m l ≡ Less → AllByRecursion (λ k. bytes_cmp m k ≡ Less) (labels_of (insert_entry bytes_cmp cs l t))
-  above_put m [] all is = (is, tt)
-  above_put m (c ∷ cs) all is = by (bytes_cmp l c.0) (above_put m cs all.1 is)
+  -- what holds of all labels and of one more
+  pub all_put : (P : Name → Type 0) (cs : List (Name × T)) → AllByRecursion P (labels_of cs) → P l → AllByRecursion P (labels_of (insert_entry bytes_cmp cs l t))
+  all_put P [] all is = (is, tt)
+  all_put P (c ∷ cs) all is = by (bytes_cmp l c.0) (all_put P cs all.1 is)
     where
-      by : (o : Ordering) → AllByRecursion (λ k. bytes_cmp m k ≡ Less) (labels_of (insert_entry bytes_cmp cs l t))
-          → AllByRecursion (λ k. bytes_cmp m k ≡ Less) (labels_of (match_ordering o ((l, t) ∷ c ∷ cs) ((c.0, t) ∷ cs) (c ∷ insert_entry bytes_cmp cs l t)))
+      by : (o : Ordering) → AllByRecursion P (labels_of (insert_entry bytes_cmp cs l t)) → AllByRecursion P (labels_of (match_ordering o ((l, t) ∷ c ∷ cs) ((c.0, t) ∷ cs) (c ∷ insert_entry bytes_cmp cs l t)))
       by Less more = (is, all)
       by Equal more = all
       by Greater more = (all.0, more)
-
-  above_all : (m : Name) (ls : List Name) → bytes_cmp l m ≡ Less → AllByRecursion (λ k. bytes_cmp m k ≡ Less) ls → AllByRecursion (λ k. bytes_cmp l k ≡ Less) ls
-  above_all m [] is all = tt
-  above_all m (k ∷ ls) is all = (nat_list_cmp_total.trans l m k is all.0, above_all m ls is all.1)
 
   pub rise_put : (cs : List (Name × T)) → LabelsRise cs → LabelsRise (insert_entry bytes_cmp cs l t)
   unfolding IsStrictlySortedBy
@@ -201,9 +201,9 @@ module _ {T : Type 0} (l : Name) (t : T) where
   rise_put (c ∷ cs) up = by (bytes_cmp l c.0) refl (rise_put cs up.1)
     where
       by : (o : Ordering) → bytes_cmp l c.0 ≡ o → LabelsRise (insert_entry bytes_cmp cs l t) → LabelsRise (match_ordering o ((l, t) ∷ c ∷ cs) ((c.0, t) ∷ cs) (c ∷ insert_entry bytes_cmp cs l t))
-      by Less is more = ((is, above_all c.0 (labels_of cs) is up.0), up)
+      by Less is more = ((is, above_all l c.0 (labels_of cs) is up.0), up)
       by Equal is more = up
-      by Greater is more = (above_put c.0 cs up.0 (nat_list_cmp_total.antisymm c.0 l ∙ ap ordering_reverse is), more)
+      by Greater is more = (all_put (λ k. bytes_cmp c.0 k ≡ Less) cs up.0 (nat_list_cmp_total.antisymm c.0 l ∙ ap ordering_reverse is), more)
 
 pub columns_rise : (sides : List Side) (cs : List SqlColumn) → LabelsRise (shown_columns (column_type sides) cs)
 unfolding IsStrictlySortedBy

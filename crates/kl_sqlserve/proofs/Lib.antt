@@ -8,6 +8,7 @@ pub mod Grown
 pub mod Joins
 pub mod Keyed
 pub mod Openings
+pub mod Ordered
 pub mod Pulls
 pub mod Repeated
 pub mod Starts

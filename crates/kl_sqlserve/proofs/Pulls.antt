@@ -128,6 +128,7 @@ pull_stopped f sources cursors cursors' o asked handed unread cursor most into i
     handed = refl;
     cause = tt;
     drifted = λ d drift. absurd cc;
+    ahead = λ d drift. absurd cc;
     joined_drifted = λ d drift. absurd cc;
   };
 }

@@ -53,19 +53,20 @@ fresh-none seen none vs = (λ i. fresh (λ w. none w i) vs) ∙ fresh_is (λ w. 
 
 -- ---- a row is handed, or left out as a repeat
 
+-- what is equal to one that was seen was seen
+pub absorbed : (row : Value) (seen : Value → Bool) → seen row ≡ true → (w : Value) → (same_value row w || seen w) ≡ seen w
+absorbed row seen old w = by (same_value row w) refl
+  where
+    by : (b : Bool) → same_value row w ≡ b → (b || seen w) ≡ seen w
+    by true e = sym (ap seen (sym (tied row w e)) ∙ old)
+    by false e = refl
+
 pub leaves_new : (row : Value) (seen seen' : Seen) (new : Bool) → new ≡ not (contains same_key seen row) → ((w : Value) → contains same_key seen' w ≡ (same_value row w || contains same_key seen w)) → Leaves true row seen seen' new
 leaves_new row seen seen' new is more rows = by (contains same_key seen row) refl
   where
-    absorbed : contains same_key seen row ≡ true → (w : Value) → (same_value row w || contains same_key seen w) ≡ contains same_key seen w
-    absorbed old w = by_same (same_value row w) refl
-      where
-        by_same : (b : Bool) → same_value row w ≡ b → (b || contains same_key seen w) ≡ contains same_key seen w
-        by_same true e = sym (ap (contains same_key seen) (sym (tied row w e)) ∙ old)
-        by_same false e = refl
-
     by : (b : Bool) → contains same_key seen row ≡ b → cond b (fresh (contains same_key seen) rows) (row ∷ fresh (λ w. same_value row w || contains same_key seen w) rows)
         ≡ cond new (row ∷ fresh (contains same_key seen') rows) (fresh (contains same_key seen') rows)
-    by true old = let no : new ≡ false = is ∙ ap not old in (λ i. fresh (λ w. sym (more w ∙ absorbed old w) i) rows) ∙ ap (λ b. cond b (row ∷ fresh (contains same_key seen') rows) (fresh (contains same_key seen') rows)) (sym no)
+    by true old = let no : new ≡ false = is ∙ ap not old in (λ i. fresh (λ w. sym (more w ∙ absorbed row (contains same_key seen) old w) i) rows) ∙ ap (λ b. cond b (row ∷ fresh (contains same_key seen') rows) (fresh (contains same_key seen') rows)) (sym no)
     by false old = let yes : new ≡ true = is ∙ ap not old in (λ i. row ∷ fresh (λ w. sym (more w) i) rows) ∙ ap (λ b. cond b (row ∷ fresh (contains same_key seen') rows) (fresh (contains same_key seen') rows)) (sym yes)
 
 module _ (q : Query) (tuple : Tuple) (row : Value) (seen seen' : Seen) (taken taken' : List Value) (shown : row ≡ shown_tuple q.statement.columns tuple) where

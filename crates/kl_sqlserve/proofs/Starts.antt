@@ -169,7 +169,7 @@ module _ (f : FilesState) (sources : Sources) (cursors : List (Option Open)) (as
       by : (o : Option Source) {a : Attached} → option_map (attached_of f.told) o ≡ Some a → IsSome o
       by None is = absurd cc
       by (Some s) is = refl
-  can_open (asks.Sql text) can = let a = can.answerable in (a.0, a.1, all_attached a.0.tables a.3.tables)
+  can_open (asks.Sql text) can = let a = can.answerable in (a.0, a.1, all_attached a.0.tables a.3.tables, a.3.apart)
 
   pub start_done : (ask : Ask) (n : ℕ) (o : Open) (cursors' : List (Option Open)) (asked' : List (Ask × ℕ)) → OpensAt sources ask o → n ≡ length cursors → cursors' ≡ cursors ++ Some o ∷ [] → asked' ≡ with_ask ask asked
       → Starts ask (Ok n) now (sql_state f sources cursors' asked' handed unread)

@@ -71,7 +71,8 @@ suit_tests types tests = list_all (λ q. suits_test types (types q.table q.colum
 
 abbrev pub is_fitting : Sources → Spj → Bool
 is_fitting sources q =
-    (are_attached sources q.tables && have_columns (type_at sources q.tables) q.columns) && (shows_apart q.columns && suit_tests (type_at sources q.tables) q.tests)
+    (are_attached sources q.tables && have_columns (type_at sources q.tables) q.columns)
+    && (shows_apart q.columns && suit_tests (type_at sources q.tables) q.tests)
 
 -- the ask for the statement that the bytes are, where it fits; None where they are none that does
 abbrev pub IsAskFor : Sources → List ℕ → Option Ask → Type 0

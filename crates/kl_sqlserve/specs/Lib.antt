@@ -9,5 +9,6 @@ pub mod Levels
 pub mod Opening
 pub mod Repeats
 pub mod Server
+pub mod Showing
 pub mod Sides
 pub mod Tests

@@ -13,7 +13,7 @@ use Rattle.kl_ask.specs.Named.{source_named}
 use Rattle.kl_ask.specs.declared.ask.Ask.{Ask}
 use Rattle.kl_flat.specs.Asked.{keep_of}
 use Rattle.kl_flat.specs.Columns.{is_table_type}
-use Rattle.kl_flat.specs.Flat.{attached_of, contents_of, left_of, told_only}
+use Rattle.kl_flat.specs.Flat.{attached_of, contents_of, left_of, most_bytes, told_only}
 use Rattle.kl_sqltext.specs.Meaning.{without_repeats}
 use Rattle.kl_sqlserve.specs.Handing.{left_of_joined}
 use Rattle.kl_sqlserve.specs.Left.{columns_shown}
@@ -60,6 +60,7 @@ sql_kind told = record {
   name = codes "sql";
   abilities = record { select = true; project = true; join = true; unique = true };
   suits = is_served;
+  most = Some most_bytes;
   stored = kept_contents (contents_of told);
 }
 

@@ -1,9 +1,10 @@
 //! Statements that fit the attached sources.
-ghost use Rattle.std.specs.Prelude.{◌≡◌, IfOk, not};
+ghost use Rattle.std.specs.Prelude.{◌≡◌, IfOk};
 ghost use Rattle.std.specs.Option.{option_copied};
 ghost use Rattle.kl_base.specs.Fields.{field};
 ghost use Rattle.kl_type.specs.declared.ground.Ty.{out-Ty};
-ghost use Rattle.kl_sqlserve.specs.Fitting.{IsAskFor, are_attached, have_columns, is_fitting, is_typed_column, is_unshown, same_base, shows_apart, suit_tests, suits_right, suits_test, type_at};
+ghost use Rattle.kl_sqlserve.specs.Fitting.{IsAskFor, are_attached, have_columns, is_fitting, is_unshown, shows_apart};
+ghost use Rattle.kl_sqlserve.specs.Fitting.{same_base, suit_tests, suits_right, suits_test, type_at};
 
 use crate::opening::find;
 use kl_ask::{Ask, columns_of};

@@ -18,6 +18,9 @@ pub fn is_new(alloc: Global, seen: &mut HashSet<Value>, value: &Value) -> Result
     ensures new { IfOk result (λ new. new ≡ not (contains same_key seen.old value.now)) }
     ensures seen { IfOk result (λ _. (w : AValue) → contains same_key seen.new w ≡ (same_value value.now w || contains same_key seen.old w)) }
 {
+    if seen.contains(value) {
+        return Ok(false);
+    }
     let copy = dup(alloc, value)?;
     Ok(seen.insert(copy)?)
 }

@@ -240,6 +240,7 @@ pull_stopped sources cursors cursors' o asked handed cursor most into into' clos
     handed = refl;
     cause = tt;
     drifted = λ d drift. absurd cc;
+    ahead = λ d drift. absurd cc;
     joined_drifted = λ d drift. absurd cc;
   };
 }

@@ -26,6 +26,7 @@ abbrev pub made_kind : DriverKind
 made_kind = record {
   name = codes "made";
   abilities = record { select = false; project = false; join = false; unique = true };
+  most = None;
   suits = is_made_type;
   stored = Some (λ locator ty. stored_of (made_at locator));
 }

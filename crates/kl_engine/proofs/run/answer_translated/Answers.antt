@@ -1,29 +1,22 @@
-use Rattle.std.proofs.Common.{refl}
+use Rattle.std.proofs.Common.{inl, inr}
+use Rattle.kl_core.specs.Trees.{view as term_view}
 use Rattle.kl_scope.specs.Breaches.{is_marked}
 use Rattle.kl_syntax.specs.View.{view, decls_of}
-use Rattle.kl_engine.proofs.MeaningLemmas.{idle_none, attaches_same, session_sense, session_list, session_done, attach_failed}
+use Rattle.kl_engine.proofs.MeaningLemmas.{meaning_wanted}
+use Rattle.kl_engine.proofs.RewriteLemmas.{keeps_from}
 use Rattle.kl_engine.proofs.run.answer_translated.Goals as goal
 
-pub attach_sources-requires-clause-clear : goal.attach_sources-requires-clause-clear
-attach_sources-requires-clause-clear g c = idle_none _ c.requires.idle
+pub answer_over-requires-clause-keeps : goal.answer_over-requires-clause-keeps
+answer_over-requires-clause-keeps g c = keeps_from c.args.how.settings.rewrite _ _ _ _ c.requires.term c.in-Ok.ensures
 
-pub answer_term-result-requires-clause-sense : goal.answer_term-result-requires-clause-sense
-answer_term-result-requires-clause-sense g c =
-    session_sense c.args.sources.items c.args.scoped.now c.requires.scope c.args.typed.now c.requires.types _ c.requires.term _ _ c.requires.placed _
-    (attaches_same _ c.replace.result _ _ _ _ _ c.replace.ensures.value (c.in-Ok.ensures (is_marked c.args.scoped.now) (λ i less. refl))) c.args.how.settings c.new-in-Ok.result c.requires.fetch
+pub returns-in-Ok-clause-does : goal.returns-in-Ok-clause-does
+returns-in-Ok-clause-does g c = c.answer_over.ensures.does
 
-pub answer_term-result-requires-clause-list : goal.answer_term-result-requires-clause-list
-answer_term-result-requires-clause-list g c =
-    session_list c.args.sources.items c.args.scoped.now c.requires.scope c.args.typed.now c.requires.types _ c.requires.term _ _ c.requires.placed _
-    (attaches_same _ c.replace.result _ _ _ _ _ c.replace.ensures.value (c.in-Ok.ensures (is_marked c.args.scoped.now) (λ i less. refl))) c.args.how.settings c.new-in-Ok.result c.requires.fetch
-    _ c.gives_list-is_list.ensures.list
+pub returns-in-Ok-clause-steps : goal.returns-in-Ok-clause-steps
+returns-in-Ok-clause-steps g c = inl ((_, rw c.requires.term at c.in-Ok.ensures), c.answer_over.ensures.late)
 
-pub returns-in-Ok : goal.returns-in-Ok
-returns-in-Ok g c =
-    λ files. session_done c.args.sources.items c.args.scoped.now c.requires.scope c.args.typed.now c.requires.types _ c.requires.term _ _ c.requires.placed _
-    (attaches_same _ c.replace.result _ _ _ _ _ c.replace.ensures.value (c.in-Ok.ensures (is_marked c.args.scoped.now) (λ i less. refl))) c.args.how.settings c.new-in-Ok.result c.requires.fetch
-    _ c.gives_list-is_list.ensures.list c.requires.means c.gives_list-is_list.ensures.other _ _ files _ _ _ (c.answer_term-result.ensures.prints files)
+pub returns-in-Err-clause-does : goal.returns-in-Err-clause-does
+returns-in-Err-clause-does g c = λ files. meaning_wanted c.args.sources.items (is_marked c.args.scoped.now) _ (decls_of c.args.scoped.now.program.defs) (view c.args.scoped.now.program.last) files _ _
 
-pub returns-in-Err : goal.returns-in-Err
-returns-in-Err g c =
-    λ files. attach_failed c.args.sources.items (is_marked c.args.scoped.now) _ (decls_of c.args.scoped.now.program.defs) (view c.args.scoped.now.program.last) files _ _ _ c.in-Err.field-0 _ (c.in-Err.ensures (is_marked c.args.scoped.now) (λ i less. refl)) c.driver_fault.ensures
+pub returns-in-Err-clause-steps : goal.returns-in-Err-clause-steps
+returns-in-Err-clause-steps g c = inr (c.requires.none, tt)

@@ -1,4 +1,5 @@
 use Rattle.std.proofs.Common.{Some, ap, ◌∙◌}
+use Rattle.kl_engine.proofs.CountLemmas.{gen_counts, run_counts}
 use Rattle.kl_engine.proofs.StatsLemmas.{handed_is, run_told}
 use Rattle.kl_engine.proofs.TopLemmas.{does_found, does_none, does_wanted, show_at}
 use Rattle.kl_engine.proofs.top.kleisli.Goals as goal
@@ -7,7 +8,7 @@ pub returns-in-Ok-Show-clause-does : goal.returns-in-Ok-Show-clause-does
 returns-in-Ok-Show-clause-does g c = does_found _ _ (c.in-Ok-Show.ensures.meant ∙ ap Some c.in-Ok-Show.field-0-is) _ _ _ _ c.end-in-Ok-Show.ensures.fault (show_at c.in-Ok-Show.file _ _ _ _ _ _ _ c.slice-in-Ok-Show.ensures (c.show-result.ensures _))
 
 pub returns-in-Ok-Gen-clause-does : goal.returns-in-Ok-Gen-clause-does
-returns-in-Ok-Gen-clause-does g c = does_found _ _ (c.in-Ok-Gen.ensures.meant ∙ ap Some c.in-Ok-Gen.field-0-is) _ _ _ _ c.end-in-Ok-Gen.ensures.fault (c.do_gen-result.ensures _)
+returns-in-Ok-Gen-clause-does g c = does_found _ _ (c.in-Ok-Gen.ensures.meant ∙ ap Some c.in-Ok-Gen.field-0-is) _ _ _ _ c.end-in-Ok-Gen.ensures.fault (c.do_gen-result.ensures.does _)
 
 pub returns-in-Err-Usage-clause-does : goal.returns-in-Err-Usage-clause-does
 returns-in-Err-Usage-clause-does g c = does_none _ (c.in-Err-Usage.ensures.meant c.in-Err-Usage.field-0-is) _ _ c.end-in-Err-Usage.ensures.fault
@@ -18,5 +19,13 @@ returns-in-Err-NoMemory-clause-does g c = does_wanted _ _ _ c.end-in-Err-NoMemor
 pub returns-in-Ok-Run-clause-line : goal.returns-in-Ok-Run-clause-line
 returns-in-Ok-Run-clause-line g c =
     run_told _ c.in-Ok-Run.job _ _ _ _ c.saturating_sub-handed.result _ _ _ (c.in-Ok-Run.ensures.meant ∙ ap Some c.in-Ok-Run.field-0-is) c.slice.ensures c.end.ensures.fault
-    (handed_is _ _ _ c.rows_handed-before.result c.rows_handed.result c.saturating_sub-handed.result c.do_run-result.ensures.closed.drivers c.rows_handed-before.ensures c.rows_handed.ensures c.saturating_sub-handed.ensures)
+    (handed_is _ _ _ c.rows_handed-before.result c.rows_handed.result c.saturating_sub-handed.result c.do_run-result.ensures.does.closed.drivers c.rows_handed-before.ensures c.rows_handed.ensures c.saturating_sub-handed.ensures)
     c.end.ensures.line
+
+pub returns-in-Ok-Run-clause-steps : goal.returns-in-Ok-Run-clause-steps
+returns-in-Ok-Run-clause-steps g c =
+    run_counts _ c.in-Ok-Run.job _ _ _ _ _ _ _ (c.in-Ok-Run.ensures.meant ∙ ap Some c.in-Ok-Run.field-0-is) c.end.ensures.fault c.end.ensures.steps c.do_run-result.ensures.steps
+
+pub returns-in-Ok-Gen-clause-steps : goal.returns-in-Ok-Gen-clause-steps
+returns-in-Ok-Gen-clause-steps g c =
+    gen_counts _ c.in-Ok-Gen.seed c.in-Ok-Gen.size _ _ _ _ (g.F.Files.state c.args.files.now) _ (c.in-Ok-Gen.ensures.meant ∙ ap Some c.in-Ok-Gen.field-0-is) c.end-in-Ok-Gen.ensures.fault c.end-in-Ok-Gen.ensures.steps (c.do_gen-result.ensures.steps (g.F.Files.state c.args.files.now))

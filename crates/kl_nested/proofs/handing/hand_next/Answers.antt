@@ -1,4 +1,4 @@
-use Rattle.std.proofs.Common.{◌≡◌, ap, arith, length, refl, rules, subst, take, ◌∙◌}
+use Rattle.std.proofs.Common.{◌≡◌, ◌+◌, ◌≤◌, ap, arith, length, refl, rules, subst, take, ◌∙◌}
 use Rattle.kl_nested.specs.Desk.{HasTaken}
 use Rattle.kl_nested.specs.declared.parts.Source.{Source}
 use Rattle.kl_nested.proofs.Handings.{as_many, handed_none, handed_rows, not_ended, not_handed}
@@ -23,7 +23,10 @@ returns-in-Ok g c =
     handed_none c.args.limit c.args.most c.args.into.now.items c.args.cursor.now _ (g.F.Files.state c.args.files.now) _ c.requires.reading refl refl refl (rw c.get-source.ensures at c.in-Ok.ensures) spent refl
 
 pub returns-in-Err : goal.returns-in-Err
-returns-in-Err g c = not_ended c.args.limit c.args.most c.args.into.now.items c.args.cursor.now _ (g.F.Files.state c.args.files.now) _ c.requires.reading refl refl refl c.in-Err.error (rw c.get-source.ensures at c.in-Err.ensures)
+returns-in-Err g c =
+    let whole = ap (λ (s : Source). s.count) c.get-source.ensures in
+    let spent : c.args.cursor.now.taken ≡ c.args.cursor.now.source.count = omega (arith, whole, c.if-count-eq0.true, c.min-count.ensures, c.from.ensures, c.requires.reading.within, c.requires.some) in
+    not_ended c.args.limit c.args.most c.args.into.now.items c.args.cursor.now _ (g.F.Files.state c.args.files.now) _ c.requires.reading refl refl refl c.in-Err.error spent (rw c.get-source.ensures at c.in-Err.ensures)
 
 pub take_rows-requires-clause-kept : goal.take_rows-requires-clause-kept
 take_rows-requires-clause-kept g c = rw c.get-source.ensures c.requires.reading.kept
@@ -47,6 +50,8 @@ returns-in-Ok-take_rows g c =
 
 pub returns-in-Err-take_rows : goal.returns-in-Err-take_rows
 returns-in-Err-take_rows g c =
+    let whole = ap (λ (s : Source). s.count) c.get-source.ensures in
+    let within : c.args.cursor.now.taken + c.min-count.result ≤ c.args.cursor.now.source.count = omega (arith, whole, c.min-count.ensures, c.requires.reading.within) in
     let before : c.len-before.result ≡ length c.args.into.now.items = search rules in
-    not_handed c.args.limit c.args.most c.args.into.now.items c.args.cursor.now _ (g.F.Files.state c.args.files.now) _ c.requires.reading refl refl refl c.take_rows.new.into.items c.truncate.new.self.items c.min-count.result c.in-Err-take_rows.error (rw c.get-source.ensures at c.in-Err-take_rows.ensures)
+    not_handed c.args.limit c.args.most c.args.into.now.items c.args.cursor.now _ (g.F.Files.state c.args.files.now) _ c.requires.reading refl refl refl c.take_rows.new.into.items c.truncate.new.self.items c.min-count.result c.in-Err-take_rows.error within (rw c.get-source.ensures at c.in-Err-take_rows.ensures)
     (c.truncate.ensures.items ∙ ap (λ n. take n c.take_rows.new.into.items) before)

@@ -9,4 +9,4 @@ pub returns-in-Ok-None : goal.returns-in-Ok-None
 returns-in-Ok-None g c = fewer c.args.limit c.args.source.now c.args.number c.args.reader.now c.next_row.new.reader (g.F.Files.state c.args.files.now) (g.F.Files.state c.next_row.new.files) c.requires.kept c.requires.so_far c.args.into.now.items c.args.into.now.items (rw c.in-Ok-None.field-0-is at rw c.item_of.ensures at c.in-Ok-None.ensures) refl c.requires.within
 
 pub returns-in-Err : goal.returns-in-Err
-returns-in-Err g c = halted c.args.limit c.args.source.now c.args.number c.args.reader.now c.next_row.new.reader (g.F.Files.state c.args.files.now) (g.F.Files.state c.next_row.new.files) c.requires.kept c.requires.so_far c.args.into.now.items c.args.into.now.items c.in-Err.halt c.changed.result (rw c.item_of.ensures at c.in-Err.ensures) refl c.changed.ensures
+returns-in-Err g c = halted c.args.limit c.args.source.now c.args.number c.args.reader.now c.next_row.new.reader (g.F.Files.state c.args.files.now) (g.F.Files.state c.next_row.new.files) c.requires.kept c.requires.so_far c.args.into.now.items c.args.into.now.items c.in-Err.halt c.changed.result (rw c.item_of.ensures at c.in-Err.ensures) refl c.requires.within c.changed.ensures

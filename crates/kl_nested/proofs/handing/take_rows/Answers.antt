@@ -18,7 +18,7 @@ pub take_row-requires-clause-so_far : goal.take_row-requires-clause-so_far
 take_row-requires-clause-so_far g c = c.rows.invariant.so_far
 
 pub returns-in-Err : goal.returns-in-Err
-returns-in-Err g c = taking_stopped c.args.limit c.args.source.now c.args.taken c.args.into.now.items c.args.reader.now (g.F.Files.state c.args.files.now) c.rows.number c.rows.into.items c.take_row.new.into.items c.rows.reader c.take_row.new.reader (g.F.Files.state c.rows.files) (g.F.Files.state c.take_row.new.files) c.rows.invariant c.args.count c.in-Err.error c.in-Err.ensures
+returns-in-Err g c = taking_stopped c.args.limit c.args.source.now c.args.taken c.args.into.now.items c.args.reader.now (g.F.Files.state c.args.files.now) c.rows.number c.rows.into.items c.take_row.new.into.items c.rows.reader c.take_row.new.reader (g.F.Files.state c.rows.files) (g.F.Files.state c.take_row.new.files) c.rows.invariant c.args.count c.in-Err.error (omega (arith, c.rows-test.true)) c.in-Err.ensures
 
 pub rows-preserved : goal.rows-preserved
 rows-preserved g c = taking_more c.args.limit c.args.source.now c.args.taken c.args.into.now.items c.args.reader.now (g.F.Files.state c.args.files.now) c.rows.number c.rows.into.items c.take_row.new.into.items c.rows.reader c.take_row.new.reader (g.F.Files.state c.rows.files) (g.F.Files.state c.take_row.new.files) c.rows.invariant c.in-Ok.ensures

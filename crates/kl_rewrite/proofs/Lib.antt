@@ -1,0 +1,12 @@
+pub mod Congruence
+pub mod Sizes
+pub mod Searching
+pub mod StepLaws
+pub mod RuleForms
+pub mod OnePlace
+pub mod Trails
+pub mod Parts
+pub mod Forms
+pub mod Closing
+pub mod Lists
+pub mod Walks

@@ -1,0 +1,6 @@
+pub mod Places
+pub mod Steps
+pub mod Search
+pub mod RuleForms
+pub mod Searched
+pub mod Walking

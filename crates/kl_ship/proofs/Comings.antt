@@ -1,0 +1,182 @@
+-- What a plan comes to against the outcome of a term.
+use Rattle.std.proofs.Common.{◌≡◌, Bool, true, false, cond, List, Option, Some, None, IsSome, refl, sym, ap, subst, ◌∙◌}
+use mathlib.Core.Path.{ap₂}
+use Rattle.kl_value.specs.Views.{as_bool}
+use Rattle.kl_value.specs.declared.Kind.{Kind}
+use Rattle.kl_value.specs.declared.Kind.TheVariants as kind
+use Rattle.kl_value.specs.declared.Value.{Value}
+use Rattle.kl_type.specs.Ground.{Ground, Row, bool, var, coll, at}
+use Rattle.kl_outcome.specs.Outcome.{Name, Outcome, done, over, stuck, Flow, overflow, kept, collected, items_at_all, items_of, followed, drawn, after, chosen, if_then, as_variant, opened, cases, joined_to, union_of}
+use Rattle.kl_outcome.specs.Typed.{Inhabits, OfType, HasItems}
+use Rattle.kl_core.specs.Counts.{fits_in}
+use Rattle.kl_outcome.proofs.OutcomeTypes.{FlowOf, followed_typed, drawn_typed, items_typed, items_inhabit, over_nil, collected_typed, union_typed, variant_is}
+use Rattle.kl_outcome.proofs.Flows.{collected_flow}
+use Rattle.kl_outcome.proofs.Drawing.{cut_short}
+use Rattle.kl_ship.specs.declared.needs.Need.{Need}
+use Rattle.kl_ship.specs.declared.needs.Need.TheVariants as need
+use Rattle.kl_ship.specs.Alike.{Alike}
+use Rattle.kl_ship.specs.Ships.{passed_on}
+use Rattle.kl_ship.specs.Meaning.{Come, one, many, worth, coming, drawn_for, come_after, come_chosen, come_opened, come_union}
+use Rattle.kl_ship.proofs.Likeness.{alike_itself, alike_back, alike_on, alike_followed, alike_drawn, alike_bodies, alike_fits}
+use Rattle.kl_ship.proofs.Collections.{alike_same, alike_items}
+
+-- what a plan comes to is of a type
+abbrev pub ComesAs : Ground → Come → Type 0
+ComesAs s (one o) = OfType s o
+ComesAs s (many k f) = (u : Ground) × (s ≡ coll k u) × FlowOf u f
+
+-- Of a term and its plan: the value is the same; where a loop of a kind draws it, the items are alike there.
+abbrev pub Same : Ground → Outcome → Come → Type 0
+Same s o c = (worth c ≡ o) × ComesAs s c
+
+abbrev pub Shows : Need → Ground → Outcome → Come → Type 0
+Shows (need.Source k) s o c = (j : Kind) (u : Ground) → s ≡ coll j u → Alike k (items_of o) (drawn_for k c) × FlowOf u (drawn_for k c)
+Shows need.Whole s o c = Same s o c
+Shows need.Items s o c = Same s o c
+
+-- what is needed of branches is never a loop's source
+pub passed : (u : Need) (s : Ground) (o : Outcome) (c : Come) → Shows (passed_on u) s o c → Same s o c
+passed need.Whole s o c h = h
+passed need.Items s o c h = h
+passed (need.Source k) s o c h = h
+
+pub same_type : (j k : Kind) (t u : Ground) → coll j t ≡ coll k u → t ≡ u
+same_type j k t u e = cc
+
+pub same_kind : (j k : Kind) (t u : Ground) → coll j t ≡ coll k u → j ≡ k
+same_kind j k t u e = cc
+
+pub worth_typed : (s : Ground) (c : Come) → ComesAs s c → OfType s (worth c)
+worth_typed s (one o) h = h
+worth_typed s (many k f) h = subst (λ q. OfType q (collected k f)) (sym h.1) (collected_typed k h.0 f h.2)
+
+pub coming_typed : (k : Kind) (u : Ground) (c : Come) → ComesAs (coll k u) c → FlowOf u (coming c)
+coming_typed k u (one o) h = items_typed k u o h
+coming_typed k u (many j f) h = subst (λ q. FlowOf q f) (sym (same_type k j u h.0 h.1)) h.2
+
+pub coming_alike : (k : Kind) (u : Ground) (c : Come) → ComesAs (coll k u) c → Alike k (items_of (worth c)) (coming c)
+coming_alike k u (one o) h = alike_itself k (items_of o)
+coming_alike k u (many j f) h =
+    subst (λ q. Alike k (items_of (collected q f)) f) (same_kind k j u h.0 h.1) (alike_back k f (items_of (collected k f)) (alike_items k h.0 f h.2))
+
+pub drawn_alike : (k : Kind) (s : Ground) (c : Come) → ComesAs s c → (j : Kind) (u : Ground) → s ≡ coll j u → Alike k (items_of (worth c)) (drawn_for k c) × FlowOf u (drawn_for k c)
+drawn_alike k s (one o) h j u e = (alike_itself k (items_of o), items_typed j u o (subst (λ q. OfType q o) e h))
+drawn_alike k s (many i f) h j u e =
+    let same : h.0 ≡ u = same_type i j h.0 u (sym h.1 ∙ e) in
+    let typed : FlowOf u f = subst (λ q. FlowOf q f) same h.2 in
+    elim (fits_in i k) as (λ b. fits_in i k ≡ b → Alike k (items_of (collected i f)) (cond b f (items_of (collected i f))) × FlowOf u (cond b f (items_of (collected i f)))) [
+      | true ↦ λ fit. (alike_back k f (items_of (collected i f)) (alike_fits i k f (items_of (collected i f)) fit (alike_items i u f typed)), typed)
+      | false ↦ λ fit. (alike_itself k (items_of (collected i f)), items_typed i u (collected i f) (collected_typed i u f typed))
+    ] refl
+
+pub drawn_for_typed : (k j : Kind) (u : Ground) (c : Come) → ComesAs (coll j u) c → FlowOf u (drawn_for k c)
+drawn_for_typed k j u c h = (drawn_alike k (coll j u) c h j u refl).1
+
+pub lift : (n : Need) (s : Ground) (o : Outcome) (c : Come) → worth c ≡ o → ComesAs s c → Shows n s o c
+lift need.Whole s o c e h = (e, h)
+lift need.Items s o c e h = (e, h)
+lift (need.Source k) s o c e h = λ j u q. let d = drawn_alike k s c h j u q in (subst (λ p. Alike k (items_of p) (drawn_for k c)) e d.0, d.1)
+
+-- ---- after a part
+
+pub after_shows : (s u : Ground) (o : Outcome) (go : Value → Outcome) (to : Value → Come) → OfType u o → ((v : Value) → Inhabits u v → Same s (go v) (to v)) → Same s (after o go) (come_after o to)
+after_shows s u (done v) go to h k = k v h
+after_shows s u (over vs) go to h k = (refl, over_nil s)
+after_shows s u stuck go to h k = absurd h
+
+pub chosen_shows : (s : Ground) (b : Option Bool) (o q : Outcome) (c d : Come) → IsSome b → Same s o c → Same s q d → Same s (chosen b o q) (come_chosen b c d)
+chosen_shows s (Some true) o q c d i h g = h
+chosen_shows s (Some false) o q c d i h g = g
+chosen_shows s None o q c d i h g = cc
+
+pub choice_shows : (s : Ground) (a o q : Outcome) (c d : Come) → OfType bool a → Same s o c → Same s q d → Same s (if_then a o q) (come_after a (λ v. come_chosen (as_bool v) c d))
+choice_shows s a o q c d t h g = after_shows s bool a (λ v. chosen (as_bool v) o q) (λ v. come_chosen (as_bool v) c d) t (λ v i. chosen_shows s (as_bool v) o q c d i.0 h g)
+
+pub cases_shows : (r : Row) (s : Ground) (o : Outcome) (go : Name → Value → Outcome) (to : Name → Value → Come) → OfType (var r) o
+    → ((l : Name) (u : Ground) (v : Value) → at l r ≡ Some u → Inhabits u v → Same s (go l v) (to l v)) → Same s (cases o go) (come_after o (λ v. come_opened (as_variant v) to))
+cases_shows r s o go to h k = after_shows s (var r) o (λ v. opened (as_variant v) go) (λ v. come_opened (as_variant v) to) h got
+  where
+    got : (v : Value) → Inhabits (var r) v → Same s (opened (as_variant v) go) (come_opened (as_variant v) to)
+    got v i =
+        let f = variant_is r v i in
+        subst (λ q. Same s (opened q go) (come_opened q to)) (sym f.3) (k f.0 f.1 f.2 f.4 f.5)
+
+-- ---- two collections as one
+
+kept_all : (k : Kind) (u : Ground) (vs : List Value) → HasItems (coll k u) vs → kept k vs ≡ vs
+kept_all kind.Set u vs h = sym h
+kept_all kind.Bag u vs h = sym h
+kept_all kind.List u vs h = refl
+
+union_is : (k : Kind) (u : Ground) (o q : Outcome) → OfType (coll k u) o → union_of o q ≡ collected k (followed (items_of o) (items_of q))
+union_is k u (done v) q h =
+    let i = items_inhabit k u v h in
+    ap (λ c. joined_to c q) i.1 ∙ sym (ap (λ c. collected k (followed (items_at_all c) (items_of q))) i.1)
+union_is k u (over vs) q h = sym (ap (collected k) (cut_short vs overflow (items_of q) refl) ∙ collected_flow k vs overflow ∙ ap over (kept_all k u vs h))
+union_is k u stuck q h = absurd h
+
+pub union_shows : (k : Kind) (u : Ground) (o q : Outcome) (c d : Come) → Same (coll k u) o c → Same (coll k u) q d → Same (coll k u) (union_of o q) (come_union c d)
+union_shows k u o q (many i f) d h g = subst (λ x. Same (coll k u) (union_of x q) (come_union (many i f) d)) h.0 (subst (λ y. Same (coll k u) (union_of (collected i f) y) (come_union (many i f) d)) g.0 (same, (u, ap (λ z. coll z u) here, typed)))
+  where
+    here : k ≡ i
+    here = same_kind k i u h.1.0 h.1.1
+
+    first : FlowOf u f
+    first = coming_typed k u (many i f) h.1
+
+    second : FlowOf u (coming d)
+    second = coming_typed k u d g.1
+
+    typed : FlowOf u (followed f (coming d))
+    typed = followed_typed u f (coming d) first second
+
+    worths : OfType (coll k u) (collected i f)
+    worths = worth_typed (coll k u) (many i f) h.1
+
+    alike : Alike k (followed (items_of (collected i f)) (items_of (worth d))) (followed f (coming d))
+    alike = alike_followed k (items_of (collected i f)) f (items_of (worth d)) (coming d) (coming_alike k u (many i f) h.1) (coming_alike k u d g.1)
+
+    whole : FlowOf u (followed (items_of (collected i f)) (items_of (worth d)))
+    whole = followed_typed u _ _ (items_typed k u (collected i f) worths) (items_typed k u (worth d) (worth_typed (coll k u) d g.1))
+
+    same : collected i (followed f (coming d)) ≡ union_of (collected i f) (worth d)
+    same = ap (λ z. collected z (followed f (coming d))) (sym here) ∙ alike_same k u _ _ whole typed alike ∙ sym (union_is k u (collected i f) (worth d) worths)
+union_shows k u o q (one p) (many j g) h w = subst (λ x. Same (coll k u) (union_of x q) (come_union (one p) (many j g))) h.0 (subst (λ y. Same (coll k u) (union_of p y) (come_union (one p) (many j g))) w.0 (same, (u, ap (λ z. coll z u) here, typed)))
+  where
+    here : k ≡ j
+    here = same_kind k j u w.1.0 w.1.1
+
+    second : FlowOf u g
+    second = coming_typed k u (many j g) w.1
+
+    typed : FlowOf u (followed (items_of p) g)
+    typed = followed_typed u _ _ (items_typed k u p h.1) second
+
+    alike : Alike k (followed (items_of p) (items_of (collected j g))) (followed (items_of p) g)
+    alike = alike_followed k (items_of p) (items_of p) (items_of (collected j g)) g (alike_itself k (items_of p)) (coming_alike k u (many j g) w.1)
+
+    whole : FlowOf u (followed (items_of p) (items_of (collected j g)))
+    whole = followed_typed u _ _ (items_typed k u p h.1) (items_typed k u (collected j g) (worth_typed (coll k u) (many j g) w.1))
+
+    same : collected j (followed (items_of p) g) ≡ union_of p (collected j g)
+    same = ap (λ z. collected z (followed (items_of p) g)) (sym here) ∙ alike_same k u _ _ whole typed alike ∙ sym (union_is k u p (collected j g) h.1)
+union_shows k u o q (one p) (one r) h w = (ap₂ union_of h.0 w.0, union_typed k u p r h.1 w.1)
+
+-- ---- a loop
+
+pub loop_shows : (k : Kind) (u s : Ground) (o : Outcome) (go : Value → Outcome) (f : Flow) (to : Value → Come)
+    → FlowOf u (items_of o) → Alike k (items_of o) f → FlowOf u f → ((v : Value) → Inhabits u v → Same (coll k s) (go v) (to v))
+    → Same (coll k s) (collected k (drawn (items_of o) (λ v. items_of (go v)))) (many k (drawn f (λ v. coming (to v))))
+loop_shows k u s o go f to source drawing typed h = (alike_same k s _ _ before after_ (alike_on k _ _ _ moved_on bodies), (s, refl, after_))
+  where
+    before : FlowOf s (drawn (items_of o) (λ v. items_of (go v)))
+    before = drawn_typed s u (items_of o) (λ v. items_of (go v)) source (λ v i. items_typed k s (go v) (subst (OfType (coll k s)) (h v i).0 (worth_typed (coll k s) (to v) (h v i).1)))
+
+    after_ : FlowOf s (drawn f (λ v. coming (to v)))
+    after_ = drawn_typed s u f (λ v. coming (to v)) typed (λ v i. coming_typed k s (to v) (h v i).1)
+
+    moved_on : Alike k (drawn (items_of o) (λ v. items_of (go v))) (drawn f (λ v. items_of (go v)))
+    moved_on = alike_drawn k (items_of o) f (λ v. items_of (go v)) drawing
+
+    bodies : Alike k (drawn f (λ v. items_of (go v))) (drawn f (λ v. coming (to v)))
+    bodies = alike_bodies k u f (λ v. items_of (go v)) (λ v. coming (to v)) typed (λ v i. subst (λ x. Alike k (items_of x) (coming (to v))) (h v i).0 (coming_alike k s (to v) (h v i).1))

@@ -1,0 +1,12 @@
+pub mod Likeness
+pub mod Collections
+pub mod Plain
+pub mod Comings
+pub mod Law
+pub mod Typed
+pub mod Grounds
+pub mod Views
+pub mod Sources
+pub mod Shipped
+pub mod Numbering
+pub mod Sense

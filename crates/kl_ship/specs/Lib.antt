@@ -1,0 +1,9 @@
+pub mod Nodes
+pub mod Meaning
+pub mod Ships
+pub mod Shipping
+pub mod Reads
+pub mod Alike
+pub mod Contents
+pub mod Typing
+pub mod Numbers
