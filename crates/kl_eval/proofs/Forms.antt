@@ -1072,16 +1072,16 @@ fields_ends fields i whole env fs a b le inv =
 
 -- ---- the place of a label
 
-next_place : (l : Name) (bs : List (Name × Term)) (i : ℕ) (p : Name × Term) → i < length bs → p ≡ get_or bs i p → drop i bs ≡ p ∷ drop (i + 1) bs
+next_place : {X : Type 0} (l : Name) (bs : List (Name × X)) (i : ℕ) (p : Name × X) → i < length bs → p ≡ get_or bs i p → drop i bs ≡ p ∷ drop (i + 1) bs
 next_place l bs i p lt is = at_drop_more (λ x. x) bs i p lt ∙ ap (λ q. q ∷ drop (i + 1) bs) (sym is)
 
-pub place_here : (l : Name) (bs : List (Name × Term)) (i : ℕ) (p : Name × Term) → i < length bs → p ≡ get_or bs i p → (b : Bool) → b ≡ pointwise nat_eq l (get_or bs i p).0 → b ≡ true → place_of l bs ≡ option_map (λ k. i + k) (place_of l (drop i bs)) → Some i ≡ place_of l bs
+pub place_here : {X : Type 0} (l : Name) (bs : List (Name × X)) (i : ℕ) (p : Name × X) → i < length bs → p ≡ get_or bs i p → (b : Bool) → b ≡ pointwise nat_eq l (get_or bs i p).0 → b ≡ true → place_of l bs ≡ option_map (λ k. i + k) (place_of l (drop i bs)) → Some i ≡ place_of l bs
 place_here l bs i p lt is b eb et inv =
     let e : pointwise nat_eq l p.0 ≡ true = ap (λ q. pointwise nat_eq l q.0) is ∙ sym eb ∙ et in
     let f : place_of l (drop i bs) ≡ Some 0 = ap (place_of l) (next_place l bs i p lt is) ∙ ap (λ b. cond b (Some 0) (option_map suc (place_of l (drop (i + 1) bs)))) e in
     sym (inv ∙ ap (option_map (λ k. i + k)) f ∙ ap Some (grind arith))
 
-pub place_next : (l : Name) (bs : List (Name × Term)) (i : ℕ) (p : Name × Term) → i < length bs → p ≡ get_or bs i p → (b : Bool) → b ≡ pointwise nat_eq l (get_or bs i p).0 → b ≡ false → place_of l bs ≡ option_map (λ k. i + k) (place_of l (drop i bs)) → place_of l bs ≡ option_map (λ k. i + 1 + k) (place_of l (drop (i + 1) bs))
+pub place_next : {X : Type 0} (l : Name) (bs : List (Name × X)) (i : ℕ) (p : Name × X) → i < length bs → p ≡ get_or bs i p → (b : Bool) → b ≡ pointwise nat_eq l (get_or bs i p).0 → b ≡ false → place_of l bs ≡ option_map (λ k. i + k) (place_of l (drop i bs)) → place_of l bs ≡ option_map (λ k. i + 1 + k) (place_of l (drop (i + 1) bs))
 place_next l bs i p lt is b eb et inv =
     let e : pointwise nat_eq l p.0 ≡ false = ap (λ q. pointwise nat_eq l q.0) is ∙ sym eb ∙ et in
     let f : place_of l (drop i bs) ≡ option_map suc (place_of l (drop (i + 1) bs)) = ap (place_of l) (next_place l bs i p lt is) ∙ ap (λ b. cond b (Some 0) (option_map suc (place_of l (drop (i + 1) bs)))) e in
@@ -1091,5 +1091,5 @@ place_next l bs i p lt is b eb et inv =
     go (Some k) = ap Some (grind arith)
     go None = refl
 
-pub place_ends : (l : Name) (bs : List (Name × Term)) (i : ℕ) → length bs ≤ i → place_of l bs ≡ option_map (λ k. i + k) (place_of l (drop i bs)) → None ≡ place_of l bs
+pub place_ends : {X : Type 0} (l : Name) (bs : List (Name × X)) (i : ℕ) → length bs ≤ i → place_of l bs ≡ option_map (λ k. i + k) (place_of l (drop i bs)) → None ≡ place_of l bs
 place_ends l bs i le inv = sym (inv ∙ ap (λ q. option_map (λ k. i + k) (place_of l q)) (drop_all bs i le))

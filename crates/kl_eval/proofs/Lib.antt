@@ -2,6 +2,7 @@ pub mod Emitting
 pub mod Forms
 pub mod Laws
 pub mod Loops
+pub mod PlainTerms
 pub mod PublicLemmas
 pub mod Pulling
 pub mod Reading

@@ -1,5 +1,5 @@
 -- What evaluations answer.
-use Rattle.std.specs.Prelude.{◌≡◌, ◌≢◌, ℕ, List, [], ◌∷◌, ◌++◌, Bool, true, false, Result, Ok, Err, IfOk, Vec, ⊤}
+use Rattle.std.specs.Prelude.{◌≡◌, ◌≢◌, ℕ, List, [], ◌∷◌, ◌++◌, Bool, true, false, None, Result, Ok, Err, IfOk, Vec, ⊤}
 use Rattle.std.specs.List.{AllByRecursion}
 use Rattle.std.specs.declared.alloc.Global.{Global}
 use Rattle.kl_value.specs.declared.Kind.{Kind}
@@ -10,7 +10,7 @@ use Rattle.kl_type.specs.Ground.{Ground, Row, coll}
 use Rattle.kl_prim.specs.Table.{meaning}
 use Rattle.kl_outcome.specs.Outcome.{Name, Outcome, done, over, stuck, End, Flow, fine, overflow, flow, answered}
 use Rattle.kl_outcome.specs.Typed.{Inhabits, HaveTypes, PrimTypes}
-use Rattle.kl_core.specs.Core.{core}
+use Rattle.kl_core.specs.Core.{Tables, core}
 use Rattle.kl_core.specs.Trees.{Tree, Trees, Parts}
 use Rattle.kl_core.specs.Typing.{SourceTypes, CoreTypes, EachType, AllTypes, PartTypes, HaveSources}
 use Rattle.kl_ask.specs.World.{World, IsReady, Moved, types_of, values_of}
@@ -31,6 +31,10 @@ SenseIn S t env = (G : List Ground) × (s : Ground) × HaveTypes G env × CoreTy
 -- a term makes sense under the types of the attached sources and some types of the values of its positions
 abbrev pub Sense : Tree → List Value → World → Type 0
 Sense t env w = (G : List Ground) × (s : Ground) × HaveTypes G env × CoreTypes (types_of w) G t s × IsReady w
+
+-- a term in which no source stands makes sense, whatever sources are attached
+abbrev pub SensePlain : Tree → List Value → World → Type 0
+SensePlain t env w = NoSource t × ((G : List Ground) × (s : Ground) × HaveTypes G env × ((S : SourceTypes) → CoreTypes S G t s)) × IsReady w
 
 -- for private functions alone: the same under some types of sources, and of lists of terms, of fields, of arguments, of
 -- bodies and of whole collections
@@ -192,3 +196,15 @@ pub record EvaluatesList (t : Tree) (env : List Value) (r : Result (Unit {0}) Ev
   pub tells : Lists (core (values_of a) t env) r old new
   pub typed : (G : List Ground) (s : Ground) → HaveTypes G env → CoreTypes (types_of a) G t (coll kind.List s) → Added s r old new
   pub sense : HaveSources (types_of a) (values_of a) → core (values_of a) t env ≢ stuck
+
+-- no source has a value
+abbrev pub no_tables : Tables
+no_tables i = None
+
+-- The result of a term in which no source stands says what its outcome is, with the items before an overflow, unless memory ran out.
+-- Of a driver's stop no more is said than that its cause is there already.
+abbrev pub TellsPlain : World → Tree → List Value → Result Value Halt → Type 0
+TellsPlain w t env (Ok v) = core no_tables t env ≡ done v
+TellsPlain w t env (Err (halt.Over vs)) = core no_tables t env ≡ over vs.items
+TellsPlain w t env (Err (halt.Driver l e)) = StoppedBy l e w w
+TellsPlain w t env (Err halt.NoMemory) = ⊤

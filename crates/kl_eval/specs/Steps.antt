@@ -1,4 +1,4 @@
--- For private functions alone: what the steps of the evaluator make.
+-- What the steps of evaluators make.
 use Rattle.std.specs.Prelude.{◌≡◌, ℕ, Bool, suc, List, [], ◌∷◌, ◌++◌, Option, Some, None, Result, Ok, Err, Vec, cond, nat_eq, ⊤}
 use Rattle.std.specs.Option.{option_map}
 use Rattle.std.specs.declared.alloc.Global.{Global}

@@ -1,4 +1,4 @@
--- For private functions alone: what an environment has.
+-- What an environment has.
 use Rattle.std.specs.Prelude.{List, ◌∷◌, reverse, Result, Ok, Err}
 use Rattle.kl_value.specs.declared.Value.{Value}
 use Rattle.kl_prim.specs.Arguments.{value_in}

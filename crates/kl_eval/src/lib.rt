@@ -14,6 +14,8 @@ mod steps;
 mod stop;
 mod tables;
 
-pub use public::{eval, eval_list};
-pub use stop::EvalStop;
+pub use env::{Env, variable};
+pub use public::{eval, eval_list, plain};
+pub use steps::{append, apply, copy, gather, inside, join, outside, place, push, push_field, tag};
+pub use stop::{EvalStop, Halt};
 pub use tables::Tables;

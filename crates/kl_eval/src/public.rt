@@ -1,12 +1,14 @@
 //! The public calls.
 ghost use Rattle.std.specs.Prelude.{◌≡◌, reverse};
 ghost use Rattle.kl_core.specs.Trees.{view};
-ghost use Rattle.kl_eval.specs.Evals.{Sense, SenseList, Evaluates, EvaluatesList};
+ghost use Rattle.kl_eval.specs.Evals.{Sense, SenseList, SensePlain, Evaluates, EvaluatesList, TellsPlain};
+ghost use Rattle.kl_eval.specs.Values.{values};
 
 use crate::env::Env;
 use crate::evaluator::value;
 use crate::steps::{add_list, inside};
-use crate::stop::EvalStop;
+use crate::stop::{EvalStop, Halt};
+use crate::tables::Tables;
 use kl_ask::{Seen, Session};
 use kl_core::Term;
 use kl_value::Value;
@@ -54,4 +56,22 @@ pub fn eval_list(
         value(alloc, term, &Env::Base(env.as_slice()), session),
         into,
     )
+}
+
+/// The value of a term in which no source stands, and that makes sense whatever sources are attached. Nothing is read: the
+/// session stays as it was.
+///
+/// # Errors
+/// `Over` exactly where the outcome of the term is an overflow, with the items before it; `NoMemory`.
+pub fn plain<T: Tables>(
+    alloc: Global,
+    term: &Term,
+    env: &Env,
+    tables: &mut T,
+) -> Result<Value, Halt>
+    requires { SensePlain (view term.now) (values env.now) (T.world tables.old) }
+    ensures same { T.world tables.new ≡ T.world tables.old }
+    ensures gives { TellsPlain (T.world tables.old) (view term.now) (values env.now) result }
+{
+    value(alloc, term, &*env, tables)
 }

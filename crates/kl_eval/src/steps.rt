@@ -14,7 +14,6 @@ ghost use Rattle.kl_eval.specs.Steps.{place_of, TellsTruth, Joins};
 
 use crate::stop::{EvalStop, Halt};
 use kl_base::{Box, Label, Seq};
-use kl_core::Term;
 use kl_prim::{Arg, Args, PrimStop, apply_args};
 use kl_value::{Kind, Value, bool_of, canon, dup, into_parts};
 use std::alloc::Global;
@@ -77,7 +76,7 @@ pub fn variant(value: &Value) -> (&Label, &Value)
 }
 
 /// The place of the first branch for a label.
-pub fn place(branches: &[(Label, Term)], label: &Label) -> Option<usize>
+pub fn place<T>(branches: &[(Label, T)], label: &Label) -> Option<usize>
     ensures place { result ≡ place_of label.now branches.now }
     ensures within { IfSome result (λ i. i < length branches.now) }
 {
