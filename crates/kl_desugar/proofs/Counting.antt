@@ -1,11 +1,10 @@
 -- The term of a program is not larger than what is counted over the program.
-use Rattle.std.proofs.Common.{◌≡◌, ℕ, suc, ◌+◌, ◌≤◌, max, Bool, true, false, cond, List, [], ◌∷◌, ◌++◌, length, get_or, map, Option, Some, None, Result, Ok, Err, IfOk, refl, sym, ap, subst, ◌∙◌, arith, bytes_eq, append_assoc, append-nil, length-append, is_gt, if◌then◌else◌}
+use Rattle.std.proofs.Common.{◌≡◌, ℕ, suc, ◌+◌, ◌≤◌, max, Bool, true, false, cond, List, [], ◌∷◌, ◌++◌, length, get_or, map, Option, Some, None, Result, Ok, Err, IfOk, refl, sym, ap, subst, ◌∙◌, arith, append_assoc, append-nil, length-append, is_gt, if◌then◌else◌}
 use Rattle.std.specs.List.{AllByRecursion}
 use Rattle.std.specs.Option.{option_map, option_or}
 use Rattle.std.proofs.Math.Seq.{get_or-append_seam}
 use Rattle.std.proofs.lemmas.Bool.{ne_eqb}
 use Rattle.std.proofs.lemmas.List.Elements.{recursion_from_All}
-use Rattle.std.proofs.lemmas.Slice.Eq.{bytes_eq-Decides}
 use Rattle.kl_base.specs.Sorted.{put_in}
 use Rattle.kl_value.specs.declared.Kind.{Kind}
 use Rattle.kl_outcome.specs.Outcome.{Name}
@@ -21,9 +20,9 @@ use Rattle.kl_scope.specs.declared.scoped.Scoped.{Scoped}
 use Rattle.kl_scope.specs.declared.terms.Size.{Size}
 use Rattle.kl_scope.specs.Findings.{breach, only_if, not_as_taken, mention_in, repeated, field_labels, branch_labels, count, used, may_fail, pattern_findings, patterns_findings, drawn_findings, sure_findings, behind, findings, findings_all, findings_fields, findings_quals, findings_branches, findings_steps, taken, decls_findings, behind_decls}
 use Rattle.kl_scope.specs.Limits.{IsWithin, program_sizes}
-use Rattle.kl_scope.specs.Patterns.{variables, variables_all, pattern_labels, tests, within}
+use Rattle.kl_scope.specs.Patterns.{variables, pattern_labels, tests, within}
 use Rattle.kl_scope.specs.Resolved.{meant, resolved_pat, resolved_pats, resolved, resolved_all, resolved_fields, resolved_quals, resolved_branches, resolved_steps, resolved_decls}
-use Rattle.kl_scope.specs.Senses.{Scope as Seen, sense, place_in, definition_in, source_in, primitive_of, named, called, at_first, bound, all_bound, defined}
+use Rattle.kl_scope.specs.Senses.{Scope as Seen, sense, place_in, definition_in, source_in, primitive_of, named, called, at_first, defined}
 use Rattle.kl_scope.specs.Sizes as size
 use Rattle.kl_scope.specs.Sizes.{beside, node, leaf, callee, sized, sized_all, sized_fields, qualified, sized_branches, chained, declared}
 use Rattle.kl_meaning.specs.Match.{same_name}
@@ -36,6 +35,7 @@ use Rattle.kl_desugar.specs.Small.{IsSmall, StaysSmall}
 use Rattle.kl_desugar.specs.Translation.{Scope, level_of, Place, here, inside, place_tree, Code, value_by, function_by, primitive_by, Codes, no_sense, level_tree, name_tree, tested, matched, matched_fields, empty, called_tree, operated_tree, projected, matched_here, tree, tree_all, tree_fields, tree_quals, tree_branches, tree_steps, number_of, code_at, codes_first, with_code, function_tree, codes_after, term_of}
 use Rattle.kl_desugar.specs.Translation as translation
 use Rattle.kl_desugar.specs.Layers.{after_pat, after_pats, after_quals}
+use Rattle.kl_desugar.proofs.Scopes.{text_is, turned, standing, Both, both_more, Matches, here_matches, quals_match, seen}
 use Rattle.kl_desugar.proofs.Tidying.{Clean, first_clean, last_clean, never_breach}
 
 -- ---- so many nodes, so deep
@@ -105,18 +105,6 @@ record_fits ps s h = node_fits _ _ s (rw (order_nodes ps, order_depth ps) h)
 
 -- ---- what names stand for
 
-text_is : (o : Option Sense) (w : Word) → (meant o w).text ≡ w.text
-text_is (Some q) w = refl
-text_is None w = refl
-
-both_true : (a b : Bool) → (a ≡ true → b ≡ true) → (b ≡ true → a ≡ true) → a ≡ b
-both_true true b f g = sym (f refl)
-both_true false true f g = g refl
-both_true false false f g = refl
-
-turned : (x y : Name) → bytes_eq y x ≡ same_name x y
-turned x y = both_true _ _ (λ h. (bytes_eq-Decides x y).1 (sym ((bytes_eq-Decides y x).0 h))) (λ h. (bytes_eq-Decides y x).1 (sym ((bytes_eq-Decides x y).0 h)))
-
 -- a definition or a source, at a size that its term does not pass
 abbrev CodeFits : Option Sense → Code → List Size → Type 0
 CodeFits (Some q) (value_by t) ds = Within t (size.named q.means ds)
@@ -128,34 +116,8 @@ CodeFits None (function_by t) ds = ⊥
 CodeFits None (primitive_by c) ds = Unit {0}
 CodeFits None translation.nothing ds = Unit {0}
 
-abbrev standing : List (Name × Bool) → List Name → Name → Option Sense
-standing defs sources x = option_or (definition_in defs x) (source_in sources x)
-
 abbrev CodesFit : List (Name × Bool) → List Name → Codes → List Size → Type 0
 CodesFit defs sources codes ds = (x : Name) → CodeFits (standing defs sources x) (codes x) ds
-
--- the named positions
-abbrev visible : Scope → List Name
-visible [] = []
-visible (None ∷ S) = visible S
-visible (Some x ∷ S) = x ∷ visible S
-
-abbrev Both : Option ℕ → Option ℕ → Type 0
-Both (Some m) (Some i) = Unit {0}
-Both None None = Unit {0}
-Both _ _ = ⊥
-
-both_more : (b : Bool) (n : ℕ) (m i : Option ℕ) → Both m i → Both (cond b (Some n) m) (if b then Some 0 else option_map suc i)
-both_more true n m i h = tt
-both_more false n (Some m) (Some i) h = tt
-both_more false n None None h = tt
-both_more false n (Some m) None h = absurd h
-both_more false n None (Some i) h = absurd h
-
-level_seen : (x : Name) (S : Scope) → Both (level_of x S) (place_in (visible S) x)
-level_seen x [] = tt
-level_seen x (None ∷ S) = level_seen x S
-level_seen x (Some y ∷ S) = rw (turned x y) (both_more (same_name x y) (length S) (level_of x S) (place_in (visible S) x) (level_seen x S))
 
 misapplied : (q : Sense) (w : Word) (n : ℕ) → not_as_taken q.takes n ≡ true → Clean (used (Some q) w n) → ⊥
 misapplied q w n h clean =
@@ -231,53 +193,18 @@ path_fits : (ls : List Word) (t : Tree) (s : Size) → Within t s → Within (pr
 path_fits [] t s h = h
 path_fits (l ∷ ls) t s h = path_fits ls (term.Proj l.text t) (node s) (node_fits _ _ s h)
 
-all_bound_both : (s : Seen) (vs ws : List Word) → all_bound s (vs ++ ws) ≡ all_bound (all_bound s vs) ws
-all_bound_both s [] ws = refl
-all_bound_both s (v ∷ vs) ws = all_bound_both (bound s v.text) vs ws
-
 module _ (defs : List (Name × Bool)) (sources : List Name) (codes : Codes) (ds : List Size) (fit : CodesFit defs sources codes ds) where
-  -- the two scopes are one
-  abbrev Matches : Scope → Seen → Type 0
-  Matches S s = (visible S ≡ s.variables) × (s.definitions ≡ defs) × (s.sources ≡ sources)
-
-  -- also behind patterns whose names carry their meanings
-  mutual
-    pattern_matches : (p : Pat) (o : Seen) (R : Scope) (s : Seen) → Matches R s → Matches (after_pat (resolved_pat p o) R) (within p s)
-    pattern_matches (catch w) o R s m = (ap (λ xs. w.text ∷ xs) m.0, m.1, m.2)
-    pattern_matches any o R s m = m
-    pattern_matches (same w) o R s m = m
-    pattern_matches (is v n) o R s m = m
-    pattern_matches (shape ps dots) o R s m = patterns_match ps o R s m
-    pattern_matches (variant l p) o R s m = pattern_matches p o (None ∷ R) s m
-
-    patterns_match : (ps : Pats) (o : Seen) (R : Scope) (s : Seen) → Matches R s → Matches (after_pats (resolved_pats ps o) R) (all_bound s (variables_all ps))
-    patterns_match no_pats o R s m = m
-    patterns_match (pats l p ps) o R s m =
-        subst (Matches (after_pats (resolved_pats ps o) (after_pat (resolved_pat p o) R))) (sym (all_bound_both s (variables p) (variables_all ps)))
-        (patterns_match ps o (after_pat (resolved_pat p o) R) (within p s) (pattern_matches p o R s m))
-
-  here_matches : (p : Pat) (S : Scope) (s : Seen) → Matches S s → Matches (after_pat (resolved_pat p s) (None ∷ S)) (within p s)
-  here_matches p S s m = pattern_matches p s (None ∷ S) s m
-
-  quals_match : (qs : Quals) (R : Scope) (s : Seen) → Matches R s → Matches (after_quals (resolved_quals qs s) R) (behind qs s)
-  quals_match no_quals R s m = m
-  quals_match (draw p e qs) R s m = quals_match qs (after_pat (resolved_pat p s) (None ∷ R)) (within p s) (here_matches p R s m)
-  quals_match (test c qs) R s m = quals_match qs R s m
-
-  seen : (S : Scope) (s : Seen) (x : Name) → Matches S s → Both (level_of x S) (place_in s.variables x)
-  seen S s x m = subst (λ ys. Both (level_of x S) (place_in ys x)) m.0 (level_seen x S)
-
-  stands : (S : Scope) (s : Seen) (x : Name) → Matches S s → CodeFits (standing s.definitions s.sources x) (codes x) ds
+  stands : (S : Scope) (s : Seen) (x : Name) → Matches defs sources S s → CodeFits (standing s.definitions s.sources x) (codes x) ds
   stands S s x m = rw (m.1, m.2) (fit x)
 
-  name_fits : (S : Scope) (s : Seen) (w : Word) (n : ℕ) → Matches S s → Clean (used (named s w.text) w 0) → Within (name_tree codes S (meant (named s w.text) w).text n) (size.named (meant (named s w.text) w).means ds)
+  name_fits : (S : Scope) (s : Seen) (w : Word) (n : ℕ) → Matches defs sources S s → Clean (used (named s w.text) w 0) → Within (name_tree codes S (meant (named s w.text) w).text n) (size.named (meant (named s w.text) w).means ds)
   name_fits S s w n m clean =
       subst (λ x. Within (name_tree codes S x n) (size.named (meant (named s w.text) w).means ds)) (sym (text_is (named s w.text) w))
-      (level_fits (level_of w.text S) (place_in s.variables w.text) (standing s.definitions s.sources w.text) (codes w.text) w n ds (seen S s w.text m) (stands S s w.text m) clean)
+      (level_fits (level_of w.text S) (place_in s.variables w.text) (standing s.definitions s.sources w.text) (codes w.text) w n ds (seen defs sources S s w.text m) (stands S s w.text m) clean)
 
   -- ---- patterns
 
-  module _ (S : Scope) (s : Seen) (m : Matches S s) (e : Tree) (missed : Within e leaf) where
+  module _ (S : Scope) (s : Seen) (m : Matches defs sources S s) (e : Tree) (missed : Within e leaf) where
     mutual
       matched_fits : (p : Pat) (t : Place) (R : Scope) (A : Scope → Tree) (a b : Size) → PlaceFits t a → Within (A (after_pat (resolved_pat p s) R)) b → Clean (pattern_findings p s) → Within (matched (resolved_pat p s) t codes S e A R) (size.matched (resolved_pat p s) a b ds)
       matched_fits (catch x) t R A a b h k clean = node_fits _ _ _ (beside_fits _ _ _ _ a b (h (length R)) k)
@@ -306,7 +233,7 @@ module _ (defs : List (Name × Bool)) (sources : List Name) (codes : Codes) (ds 
   -- ---- expressions
 
   mutual
-    tree_fits : (e : Exp) (S : Scope) (s : Seen) → Matches S s → Clean (findings e s) → Within (tree (resolved e s) codes S) (sized (resolved e s) ds)
+    tree_fits : (e : Exp) (S : Scope) (s : Seen) → Matches defs sources S s → Clean (findings e s) → Within (tree (resolved e s) codes S) (sized (resolved e s) ds)
     tree_fits (Const v) S s m h = leaf_fits
     tree_fits (name w) S s m h = name_fits S s w (length S) m h
     tree_fits (Call f es) S s m h =
@@ -318,7 +245,7 @@ module _ (defs : List (Name × Bool)) (sources : List Name) (codes : Codes) (ds 
     tree_fits (Coll k es) S s m h = node_fits _ _ _ (all_fit es S s m h)
     tree_fits (Comp k e qs) S s m h =
         quals_fit qs k (λ R. term.Make k (trees (tree (resolved e (behind qs s)) codes R) no_trees)) S s _ m
-        (node_fits _ _ _ (and_none _ _ _ (tree_fits e (after_quals (resolved_quals qs s) S) (behind qs s) (quals_match qs S s m) (last_clean (findings_quals qs s) _ h))))
+        (node_fits _ _ _ (and_none _ _ _ (tree_fits e (after_quals (resolved_quals qs s) S) (behind qs s) (quals_match defs sources qs S s m) (last_clean (findings_quals qs s) _ h))))
         (first_clean _ (findings e (behind qs s)) h)
     tree_fits (If a b c) S s m h =
         let k = last_clean (findings a s) (findings b s ++ findings c s) h in
@@ -326,7 +253,7 @@ module _ (defs : List (Name × Bool)) (sources : List Name) (codes : Codes) (ds 
     tree_fits (Let p a b) S s m h =
         let k = last_clean (findings a s) (sure_findings p s ++ findings b (within p s)) h in
         node_fits _ _ _ (beside_fits _ _ _ _ _ _ (tree_fits a S s m (first_clean _ (sure_findings p s ++ findings b (within p s)) h))
-        (here_fits S s m no_sense leaf_fits p (λ R. tree (resolved b (within p s)) codes R) _ (tree_fits b (after_pat (resolved_pat p s) (None ∷ S)) (within p s) (here_matches p S s m) (last_clean (sure_findings p s) _ k))
+        (here_fits S s m no_sense leaf_fits p (λ R. tree (resolved b (within p s)) codes R) _ (tree_fits b (after_pat (resolved_pat p s) (None ∷ S)) (within p s) (here_matches defs sources p S s m) (last_clean (sure_findings p s) _ k))
         (sure_clean p s (first_clean _ (findings b (within p s)) k))))
     tree_fits (Case a bs) S s m h =
         let k = last_clean (findings a s) (repeated [] (branch_labels bs) ++ findings_branches bs s) h in
@@ -336,44 +263,44 @@ module _ (defs : List (Name × Bool)) (sources : List Name) (codes : Codes) (ds 
     tree_fits (Neg a) S s m h = node_fits _ _ _ (and_none _ _ _ (tree_fits a S s m h))
     tree_fits (Chain a ss) S s m h = steps_fit ss _ S s _ m (tree_fits a S s m (first_clean _ (findings_steps ss s) h)) (last_clean (findings a s) _ h)
 
-    all_fit : (es : Exps) (S : Scope) (s : Seen) → Matches S s → Clean (findings_all es s) → Fits (nodes_trees (tree_all (resolved_all es s) codes S)) (depth_trees (tree_all (resolved_all es s) codes S)) (sized_all (resolved_all es s) ds)
+    all_fit : (es : Exps) (S : Scope) (s : Seen) → Matches defs sources S s → Clean (findings_all es s) → Fits (nodes_trees (tree_all (resolved_all es s) codes S)) (depth_trees (tree_all (resolved_all es s) codes S)) (sized_all (resolved_all es s) ds)
     all_fit no_exps S s m h = none_fits size.no_parts
     all_fit (exps e es) S s m h = beside_fits _ _ _ _ _ _ (tree_fits e S s m (first_clean _ (findings_all es s) h)) (all_fit es S s m (last_clean (findings e s) _ h))
 
-    parts_fit : (fs : Flds) (S : Scope) (s : Seen) → Matches S s → Clean (findings_fields fs s) → Fits (nodes_parts (term.parts_of (tree_fields (resolved_fields fs s) codes S))) (depth_parts (term.parts_of (tree_fields (resolved_fields fs s) codes S))) (sized_fields (resolved_fields fs s) ds)
+    parts_fit : (fs : Flds) (S : Scope) (s : Seen) → Matches defs sources S s → Clean (findings_fields fs s) → Fits (nodes_parts (term.parts_of (tree_fields (resolved_fields fs s) codes S))) (depth_parts (term.parts_of (tree_fields (resolved_fields fs s) codes S))) (sized_fields (resolved_fields fs s) ds)
     parts_fit no_flds S s m h = none_fits size.no_parts
     parts_fit (flds l e fs) S s m h = beside_fits _ _ _ _ _ _ (tree_fits e S s m (first_clean _ (findings_fields fs s) h)) (parts_fit fs S s m (last_clean (findings e s) _ h))
 
-    quals_fit : (qs : Quals) (k : Kind) (A : Scope → Tree) (S : Scope) (s : Seen) (a : Size) → Matches S s → Within (A (after_quals (resolved_quals qs s) S)) a → Clean (findings_quals qs s) → Within (tree_quals (resolved_quals qs s) k A codes S) (qualified (resolved_quals qs s) a ds)
+    quals_fit : (qs : Quals) (k : Kind) (A : Scope → Tree) (S : Scope) (s : Seen) (a : Size) → Matches defs sources S s → Within (A (after_quals (resolved_quals qs s) S)) a → Clean (findings_quals qs s) → Within (tree_quals (resolved_quals qs s) k A codes S) (qualified (resolved_quals qs s) a ds)
     quals_fit no_quals k A S s a m g h = g
     quals_fit (draw p e qs) k A S s a m g h =
         let j = last_clean (findings e s) (drawn_findings p s ++ findings_quals qs (within p s)) h in
         node_fits _ _ _ (beside_fits _ _ _ _ _ _
-        (here_fits S s m (empty k) leaf_fits p (λ R. tree_quals (resolved_quals qs (within p s)) k A codes R) _ (quals_fit qs k A (after_pat (resolved_pat p s) (None ∷ S)) (within p s) a (here_matches p S s m) g (last_clean (drawn_findings p s) _ j))
+        (here_fits S s m (empty k) leaf_fits p (λ R. tree_quals (resolved_quals qs (within p s)) k A codes R) _ (quals_fit qs k A (after_pat (resolved_pat p s) (None ∷ S)) (within p s) a (here_matches defs sources p S s m) g (last_clean (drawn_findings p s) _ j))
         (drawn_clean p s (first_clean _ (findings_quals qs (within p s)) j)))
         (tree_fits e S s m (first_clean _ (drawn_findings p s ++ findings_quals qs (within p s)) h)))
     quals_fit (test c qs) k A S s a m g h =
         node_fits _ _ _ (beside_fits _ _ _ _ _ _ (tree_fits c S s m (first_clean _ (findings_quals qs s) h)) (beside_fits _ _ _ _ _ leaf (quals_fit qs k A S s a m g (last_clean (findings c s) _ h)) leaf_fits))
 
-    branches_fit : (bs : Branches) (S : Scope) (s : Seen) → Matches S s → Clean (findings_branches bs s) → Fits (nodes_arms (tree_branches (resolved_branches bs s) codes S)) (depth_arms (tree_branches (resolved_branches bs s) codes S)) (sized_branches (resolved_branches bs s) ds)
+    branches_fit : (bs : Branches) (S : Scope) (s : Seen) → Matches defs sources S s → Clean (findings_branches bs s) → Fits (nodes_arms (tree_branches (resolved_branches bs s) codes S)) (depth_arms (tree_branches (resolved_branches bs s) codes S)) (sized_branches (resolved_branches bs s) ds)
     branches_fit no_branches S s m h = none_fits size.no_parts
     branches_fit (otherwise c) S s m h = tree_fits c S s m h
     branches_fit (branch l p e bs) S s m h =
         let k = last_clean (sure_findings p s) (findings e (within p s) ++ findings_branches bs s) h in
         beside_fits _ _ _ _ _ _
-        (here_fits S s m no_sense leaf_fits p (λ R. tree (resolved e (within p s)) codes R) _ (tree_fits e (after_pat (resolved_pat p s) (None ∷ S)) (within p s) (here_matches p S s m) (first_clean _ (findings_branches bs s) k))
+        (here_fits S s m no_sense leaf_fits p (λ R. tree (resolved e (within p s)) codes R) _ (tree_fits e (after_pat (resolved_pat p s) (None ∷ S)) (within p s) (here_matches defs sources p S s m) (first_clean _ (findings_branches bs s) k))
         (sure_clean p s (first_clean _ (findings e (within p s) ++ findings_branches bs s) h)))
         (branches_fit bs S s m (last_clean (findings e (within p s)) _ k))
 
-    steps_fit : (ss : Steps) (a : Tree) (S : Scope) (s : Seen) (b : Size) → Matches S s → Within a b → Clean (findings_steps ss s) → Within (tree_steps (resolved_steps ss s) a codes S) (chained b (resolved_steps ss s) ds)
+    steps_fit : (ss : Steps) (a : Tree) (S : Scope) (s : Seen) (b : Size) → Matches defs sources S s → Within a b → Clean (findings_steps ss s) → Within (tree_steps (resolved_steps ss s) a codes S) (chained b (resolved_steps ss s) ds)
     steps_fit no_steps a S s b m g h = g
     steps_fit (step c e ss) a S s b m g h =
         steps_fit ss _ S s _ m (operated_fits c a _ b _ g (tree_fits e S s m (first_clean _ (findings_steps ss s) h))) (last_clean (findings e s) _ h)
 
   -- a function's parameter
-  function_fits : (p : Pat) (e : Exp) (s : Seen) → Matches [] s → Clean (sure_findings p s) → Clean (findings e (within p s)) → Within (function_tree (resolved_pat p s) (resolved e (within p s)) codes) (size.matched (resolved_pat p s) leaf (sized (resolved e (within p s)) ds) ds)
+  function_fits : (p : Pat) (e : Exp) (s : Seen) → Matches defs sources [] s → Clean (sure_findings p s) → Clean (findings e (within p s)) → Within (function_tree (resolved_pat p s) (resolved e (within p s)) codes) (size.matched (resolved_pat p s) leaf (sized (resolved e (within p s)) ds) ds)
   function_fits p e s m h k =
-      here_fits [] s m no_sense leaf_fits p (λ R. tree (resolved e (within p s)) codes R) _ (tree_fits e (after_pat (resolved_pat p s) (None ∷ [])) (within p s) (here_matches p [] s m) k) (sure_clean p s h)
+      here_fits [] s m no_sense leaf_fits p (λ R. tree (resolved e (within p s)) codes R) _ (tree_fits e (after_pat (resolved_pat p s) (None ∷ [])) (within p s) (here_matches defs sources p [] s m) k) (sure_clean p s h)
 
 -- ---- programs
 

@@ -1,21 +1,10 @@
 -- What is drawn of a collection may be collected before: nothing changes.
-use Rattle.std.proofs.Common.{◌≡◌, ◌+◌, cond, List, [], ◌∷◌, ◌++◌, Option, Some, None, refl, sym, ap, ap₂, subst, ◌∙◌, ⊎_elim}
-use Rattle.std.specs.List.{Contains, dedup}
-use Rattle.std.specs.Ordering.{eq_by_cmp}
-use Rattle.std.proofs.lemmas.List.Elements.{Contains-append_left, Contains-append_right, Contains-append_cases}
-use Rattle.std.proofs.lemmas.List.Sums.{sum_by-append}
-use Rattle.kl_base.specs.Sorted.{count_of, sorted}
-use Rattle.kl_base.proofs.SortedLemmas.{count-sorted, members-to, members-from, IsStrictlySortedBy-dedup_sorted, IsRising-sorted}
+use Rattle.std.proofs.Common.{◌≡◌, List, [], ◌++◌, refl, ap}
 use Rattle.kl_value.specs.Canon.{canonical}
-use Rattle.kl_value.specs.Order.{compare}
-use Rattle.kl_value.proofs.CanonLemmas.{canonical_only}
-use Rattle.kl_value.proofs.OrderLemmas.{compare_total, compare_exact}
 use Rattle.kl_value.specs.declared.Kind.{Kind}
 use Rattle.kl_value.specs.declared.Kind.TheVariants as kind
 use Rattle.kl_value.specs.declared.Value.{Value}
-use Rattle.kl_value.specs.declared.Value.TheVariants as value
-use Rattle.kl_value.specs.Views.{as_collection, Collection}
-use Rattle.kl_outcome.specs.Outcome.{Outcome, done, over, stuck, End, fine, overflow, broken, Flow, more, stop, flow, items_in, end_in, at_end, followed, drawn, items_at_all, items_of, kept, gathered, collected}
+use Rattle.kl_outcome.specs.Outcome.{Outcome, done, over, stuck, End, fine, overflow, broken, Flow, more, stop, flow, items_in, end_in, followed, drawn, items_of, kept, gathered, collected}
 use Rattle.kl_outcome.proofs.Drawing.{members, canonical_both, cut_short, kept_kept, collected_both, items_canonical}
 use Rattle.kl_outcome.proofs.Flows.{flow_is, collected_flow}
 use Rattle.kl_outcome.proofs.Refining.{Refines, refines_same}

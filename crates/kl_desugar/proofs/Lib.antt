@@ -10,6 +10,8 @@ pub mod Naming
 pub mod Ordered
 pub mod Positions
 pub mod Reaching
+pub mod Scopes
+pub mod Mentioned
 pub mod Sense
 pub mod Tidying
 pub mod Views

@@ -10,7 +10,7 @@ use Rattle.kl_value.specs.declared.Value.TheVariants as value
 use Rattle.kl_prim.specs.Table.{meaning, row_at, rows}
 use Rattle.kl_value.specs.Views.{as_bool}
 use Rattle.kl_outcome.proofs.Drawing.{kept_none}
-use Rattle.kl_outcome.specs.Outcome.{Outcome, done, over, stuck, Flow, stop, fine, overflow, Name, after, answered, if_then, outcome_of, as_record, as_variant, opened, collected}
+use Rattle.kl_outcome.specs.Outcome.{Outcome, done, over, stuck, Flow, stop, fine, Name, after, answered, if_then, outcome_of, as_record, as_variant, opened, collected}
 use Rattle.kl_syntax.specs.Syntax.{Pat, catch, any, same, is, shape, variant, Pats, no_pats, pats}
 use Rattle.kl_meaning.specs.Match.{Env, Fit, bound, misses, past, odd, fit_then, same_name, compared, has_label, fit_field, fit_record, fit_variant, fits, fits_fields, if_fits, must_fit}
 use Rattle.kl_meaning.specs.Run.{Meant, nothing, value_of, function_of, primitive, KnownOutcomes, as_value, named, look_up}

@@ -5,3 +5,4 @@ pub mod States
 pub mod Sense
 pub mod Small
 pub mod Reached
+pub mod Mentioned

@@ -6,6 +6,7 @@ ghost use Rattle.kl_core.specs.Positions.{occurs_in};
 ghost use Rattle.kl_core.specs.Trees as term;
 ghost use Rattle.kl_desugar.specs.Sense.{HasSense};
 ghost use Rattle.kl_desugar.specs.Small.{StaysSmall};
+ghost use Rattle.kl_desugar.specs.Mentioned.{ReadsMentioned};
 ghost use Rattle.kl_desugar.specs.Translation.{tree, with_code, codes_after, codes_first, term_of, Means};
 ghost use Rattle.kl_desugar.specs.States.{codes_of, definition_code};
 
@@ -90,19 +91,20 @@ fn last_term(alloc: Global, program: &Program, sources: &[Label]) -> Result<Term
 
 /// The term of a program: over values of the program's sources, by their numbers, with which the program makes sense, the
 /// term means what the program means. Over sources of the language's types it has each type that the program has, and no
-/// position is free in it. Terms are made of the definitions alone that the last expression reaches. The term of a
+/// position is free in it. It reads only sources that the program mentions. Terms are made of the definitions alone that the last expression reaches. The term of a
 /// definition stands at each of its uses, so that the term of a short program can be too large for any memory: whoever
 /// must not wait for that asks `kl_scope::sizes` first. Where it tells of no declaration, the term is within its limits.
 ///
 /// # Errors
 /// Want of memory, and more positions or sources than 32 bits can number.
-#[tactic(auto, using(crate::proofs::Law::means_by, crate::proofs::Sense::sense_by, crate::proofs::Closing::closed_by, crate::proofs::Counting::small_ok))]
+#[tactic(auto, using(crate::proofs::Law::means_by, crate::proofs::Sense::sense_by, crate::proofs::Closing::closed_by, crate::proofs::Counting::small_ok, crate::proofs::Mentioned::reads_ok))]
 pub fn translate(alloc: Global, scoped: &Scoped) -> Result<Term, NoMemory>
     ensures term { IfOk result (λ t. term.view t ≡ term_of (decls_of scoped.now.program.defs) (view scoped.now.program.last) scoped.now.sources) }
     ensures means { IfOk result (λ t. Means (decls_of scoped.now.program.defs) (view scoped.now.program.last) scoped.now.sources (term.view t)) }
     ensures sense { IfOk result (λ t. HasSense (decls_of scoped.now.program.defs) (view scoped.now.program.last) scoped.now.sources (term.view t)) }
     ensures closed { IfOk result (λ t. (n : ℕ) → occurs_in n (term.view t) ≡ false) }
     ensures small { IfOk result (λ t. StaysSmall scoped.now (term.view t)) }
+    ensures mentioned { IfOk result (λ t. ReadsMentioned scoped.now (term.view t)) }
 {
     last_term(alloc, scoped.program(), scoped.sources())
 }
