@@ -154,6 +154,7 @@ module _ (old : List State) (ss : List Source) (placed : ArePlaced (kinds_of old
                 kept = st.kept;
                 counted = st.counted;
                 typed = st.typed;
+                unrepeated = st.unrepeated;
               }
 
       -- the source is attached
@@ -186,6 +187,7 @@ module _ (old : List State) (ss : List Source) (placed : ArePlaced (kinds_of old
                 attached = at.1 ∙ ap (λ (o : Option Stored). Some (record { ty = s.ty; rows = told_rows o; count = count; kept = at.0 })) said;
                 counted = λ rows is_told. f.2.count rows (said ∙ is_told);
                 typed = subst (HasTyped s) said (typed_for f.0 f.2 (stored_at now.1 s.locator s.ty) refl);
+                unrepeated = λ k rows here unique set is_told. f.2.unique (ap (λ (j : DriverKind). j.abilities.unique) (now.4.keeps.kind ∙ same_Some _ _ (sym (get-map (λ (d : State). d.kind) old s.driver now.0 now.2) ∙ here)) ∙ unique) set rows (said ∙ is_told);
               }
 
       -- the source is refused

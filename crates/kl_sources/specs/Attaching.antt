@@ -1,14 +1,15 @@
 -- What comes of attaching the sources that a program mentions.
 use Rattle.std.specs.Prelude.{◌≡◌, ◌≢◌, ◌⊎◌, ℕ, suc, ◌<◌, ◌≤◌, Bool, true, false, List, [], ◌∷◌, length, map, slice_get, Option, Some, None, ⊤}
 use Rattle.std.specs.Prelude.{Result, IfOk, IfErr, OnOk, MatchResult}
-use Rattle.std.specs.List.{AllByRecursion}
+use Rattle.std.specs.List.{AllByRecursion, IsDistinct}
 use Rattle.kl_base.specs.Counts.{Rose}
+use Rattle.kl_value.specs.declared.Kind.TheVariants as kind
 use Rattle.kl_value.specs.declared.Value.{Value}
 use Rattle.kl_type.specs.Ground.{ground_of}
 use Rattle.kl_outcome.specs.Outcome.{Name}
 use Rattle.kl_outcome.specs.Typed.{Inhabits}
-use Rattle.kl_ask.specs.Asks.{item_of}
-use Rattle.kl_ask.specs.Driver.{DriverKind, State, Stored, Missing, Bad, Long, Deep, Rows, KeepsState, told_rows}
+use Rattle.kl_ask.specs.Asks.{item_of, kind_of}
+use Rattle.kl_ask.specs.Driver.{DriverKind, State, Stored, Missing, Bad, Long, Deep, Rows, KeepsState, same_value, told_rows}
 use Rattle.kl_ask.specs.Lists.{EachSteps}
 use Rattle.kl_ask.specs.declared.ask.DriverError.{DriverError}
 use Rattle.kl_ask.specs.declared.ask.DriverError.TheVariants as error
@@ -82,6 +83,9 @@ pub record Stands (ks : List DriverKind) (ds : List State) (s : Source) : Type 0
   pub attached : driver.attached s.name ≡ Some (record { ty = s.ty; rows = told_rows (contents ks s); count = count; kept = kept })
   pub counted : (rows : List Value) → contents ks s ≡ Some (Rows rows) → count ≡ length rows
   pub typed : HasTyped s (contents ks s)
+  -- a driver with `unique` repeats no row of a set
+  pub unrepeated : (k : DriverKind) (rows : List Value) → slice_get ks s.driver ≡ Some k → k.abilities.unique ≡ true → kind_of (ground_of s.ty) ≡ kind.Set
+      → contents ks s ≡ Some (Rows rows) → IsDistinct same_value rows
 
 -- ---- refusals
 
