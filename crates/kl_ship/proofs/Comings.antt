@@ -115,52 +115,25 @@ union_is k u (done v) q h =
 union_is k u (over vs) q h = sym (ap (collected k) (cut_short vs overflow (items_of q) refl) ∙ collected_flow k vs overflow ∙ ap over (kept_all k u vs h))
 union_is k u stuck q h = absurd h
 
-pub union_shows : (k : Kind) (u : Ground) (o q : Outcome) (c d : Come) → Same (coll k u) o c → Same (coll k u) q d → Same (coll k u) (union_of o q) (come_union c d)
-union_shows k u o q (many i f) d h g = subst (λ x. Same (coll k u) (union_of x q) (come_union (many i f) d)) h.0 (subst (λ y. Same (coll k u) (union_of (collected i f) y) (come_union (many i f) d)) g.0 (same, (u, ap (λ z. coll z u) here, typed)))
+-- the values of two parts as one, and their items as they come
+pub union_worth : (k : Kind) (u : Ground) (c d : Come) → ComesAs (coll k u) c → ComesAs (coll k u) d → collected k (followed (coming c) (coming d)) ≡ union_of (worth c) (worth d)
+union_worth k u c d h g = alike_same k u _ _ whole typed alike ∙ sym (union_is k u (worth c) (worth d) (worth_typed (coll k u) c h))
   where
-    here : k ≡ i
-    here = same_kind k i u h.1.0 h.1.1
+    typed : FlowOf u (followed (coming c) (coming d))
+    typed = followed_typed u (coming c) (coming d) (coming_typed k u c h) (coming_typed k u d g)
 
-    first : FlowOf u f
-    first = coming_typed k u (many i f) h.1
+    alike : Alike k (followed (items_of (worth c)) (items_of (worth d))) (followed (coming c) (coming d))
+    alike = alike_followed k (items_of (worth c)) (coming c) (items_of (worth d)) (coming d) (coming_alike k u c h) (coming_alike k u d g)
 
-    second : FlowOf u (coming d)
-    second = coming_typed k u d g.1
+    whole : FlowOf u (followed (items_of (worth c)) (items_of (worth d)))
+    whole = followed_typed u _ _ (items_typed k u (worth c) (worth_typed (coll k u) c h)) (items_typed k u (worth d) (worth_typed (coll k u) d g))
 
-    typed : FlowOf u (followed f (coming d))
-    typed = followed_typed u f (coming d) first second
-
-    worths : OfType (coll k u) (collected i f)
-    worths = worth_typed (coll k u) (many i f) h.1
-
-    alike : Alike k (followed (items_of (collected i f)) (items_of (worth d))) (followed f (coming d))
-    alike = alike_followed k (items_of (collected i f)) f (items_of (worth d)) (coming d) (coming_alike k u (many i f) h.1) (coming_alike k u d g.1)
-
-    whole : FlowOf u (followed (items_of (collected i f)) (items_of (worth d)))
-    whole = followed_typed u _ _ (items_typed k u (collected i f) worths) (items_typed k u (worth d) (worth_typed (coll k u) d g.1))
-
-    same : collected i (followed f (coming d)) ≡ union_of (collected i f) (worth d)
-    same = ap (λ z. collected z (followed f (coming d))) (sym here) ∙ alike_same k u _ _ whole typed alike ∙ sym (union_is k u (collected i f) (worth d) worths)
-union_shows k u o q (one p) (many j g) h w = subst (λ x. Same (coll k u) (union_of x q) (come_union (one p) (many j g))) h.0 (subst (λ y. Same (coll k u) (union_of p y) (come_union (one p) (many j g))) w.0 (same, (u, ap (λ z. coll z u) here, typed)))
-  where
-    here : k ≡ j
-    here = same_kind k j u w.1.0 w.1.1
-
-    second : FlowOf u g
-    second = coming_typed k u (many j g) w.1
-
-    typed : FlowOf u (followed (items_of p) g)
-    typed = followed_typed u _ _ (items_typed k u p h.1) second
-
-    alike : Alike k (followed (items_of p) (items_of (collected j g))) (followed (items_of p) g)
-    alike = alike_followed k (items_of p) (items_of p) (items_of (collected j g)) g (alike_itself k (items_of p)) (coming_alike k u (many j g) w.1)
-
-    whole : FlowOf u (followed (items_of p) (items_of (collected j g)))
-    whole = followed_typed u _ _ (items_typed k u p h.1) (items_typed k u (collected j g) (worth_typed (coll k u) (many j g) w.1))
-
-    same : collected j (followed (items_of p) g) ≡ union_of p (collected j g)
-    same = ap (λ z. collected z (followed (items_of p) g)) (sym here) ∙ alike_same k u _ _ whole typed alike ∙ sym (union_is k u p (collected j g) h.1)
-union_shows k u o q (one p) (one r) h w = (ap₂ union_of h.0 w.0, union_typed k u p r h.1 w.1)
+pub union_shows : (k : Kind) (u : Ground) (i : Option Kind) (o q : Outcome) (c d : Come) → ((j : Kind) → i ≡ Some j → j ≡ k) → Same (coll k u) o c → Same (coll k u) q d → Same (coll k u) (union_of o q) (come_union i c d)
+union_shows k u (Some j) o q c d e h g = (
+  ap (λ z. collected z (followed (coming c) (coming d))) (e j refl) ∙ union_worth k u c d h.1 g.1 ∙ ap₂ union_of h.0 g.0,
+  (u, ap (λ z. coll z u) (sym (e j refl)), followed_typed u (coming c) (coming d) (coming_typed k u c h.1) (coming_typed k u d g.1)),
+)
+union_shows k u None o q c d e h g = (ap₂ union_of h.0 g.0, union_typed k u (worth c) (worth d) (worth_typed (coll k u) c h.1) (worth_typed (coll k u) d g.1))
 
 -- ---- a loop
 

@@ -2,6 +2,7 @@ pub mod Likeness
 pub mod Collections
 pub mod Plain
 pub mod Comings
+pub mod KindLaws
 pub mod Law
 pub mod Typed
 pub mod Grounds
@@ -9,4 +10,6 @@ pub mod Views
 pub mod Sources
 pub mod Shipped
 pub mod Numbering
+pub mod Over
 pub mod Sense
+pub mod Holding

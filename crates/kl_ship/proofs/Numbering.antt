@@ -1,8 +1,9 @@
 -- The numbers of the scans of a plan.
-use Rattle.std.proofs.Common.{◌≡◌, ⊎_elim, ℕ, zero, suc, ◌+◌, ◌<◌, false, nat_eq, List, [], ◌∷◌, ◌++◌, map, Result, Ok, Err, IfOk, refl, sym, ap, ap₂, subst, ◌∙◌, arith}
-use Rattle.std.specs.List.{AllByRecursion, IsDistinct}
+use Rattle.std.proofs.Common.{◌≡◌, ⊎_elim, ℕ, zero, suc, ◌+◌, ◌≤◌, ◌<◌, false, nat_eq, List, [], ◌∷◌, ◌++◌, map, Result, Ok, Err, IfOk, refl, sym, ap, ap₂, subst, ◌∙◌, arith}
+use Rattle.std.specs.List.{AllByRecursion, IsDistinct, Contains}
 use Rattle.std.proofs.lemmas.Bool.{ne_eqb}
 use Rattle.std.proofs.lemmas.List.{map-append}
+use Rattle.std.proofs.lemmas.List.Elements.{Contains-append_cases, Contains-push_cases}
 use Rattle.kl_base.specs.declared.NoMemory.{NoMemory}
 use Rattle.kl_core.specs.Trees as term
 use Rattle.kl_core.specs.Trees.{Tree, Trees, no_trees, trees, Parts, no_parts, parts, Arms, no_arms, arm}
@@ -17,7 +18,7 @@ use Rattle.kl_ship.specs.Ships.{Becomes, TreesBecome, PartsBecome, ArmsBecome, S
 use Rattle.kl_ship.specs.Numbers.{scans_in, scans_of_nodes, scans_of_fields, scans_of_branches, joins_in, joins_of_nodes, joins_of_fields, joins_of_branches, memos_in, memos_of_nodes, memos_of_fields, memos_of_branches, NumbersDiffer}
 
 -- so many numbers from one on
-abbrev from : ℕ → ℕ → List ℕ
+abbrev pub from : ℕ → ℕ → List ℕ
 from n zero = []
 from n (suc k) = n ∷ from (suc n) k
 
@@ -41,8 +42,19 @@ none_distinct : IsDistinct nat_eq []
 unfolding IsDistinct
 none_distinct = tt
 
-abbrev numbers : List Scan → List ℕ
+abbrev pub numbers : List Scan → List ℕ
 numbers = map (λ c. c.number)
+
+within : (cs : List Scan) (n k : ℕ) (c : Scan) → numbers cs ≡ from n k → Contains cs c → (n ≤ c.number) × (c.number < n + k)
+within [] n k c e i = absurd (let below = i.1 in omega arith)
+within (d ∷ cs) n zero c e i = cc
+within (d ∷ cs) n (suc k) c e i =
+    let first : d.number ≡ n = cc in
+    let more : numbers cs ≡ from (suc n) k = cc in
+    ⊎_elim
+    (λ here. ⊎_elim (λ none. absurd (let below = none.1 in omega arith)) (λ same. let s : d.number ≡ c.number = ap (λ x. x.number) same in (omega (arith, first, s), omega (arith, first, s))) (Contains-push_cases [] d c here))
+    (λ there. let h = within cs (suc n) k c more there in let low = h.0 in let high = h.1 in (omega (arith, low), omega (arith, high)))
+    (Contains-append_cases (d ∷ []) cs c i)
 
 -- scans numbered from n on and below m, one after the other, and no joins and memos
 record Numbered (cs : List Scan) (js es : List ℕ) (n m : ℕ) : Type 0 where
@@ -129,6 +141,18 @@ module _ (ss : List ShipSource) where
     counted_arms (arm l b bs) u n p m w =
         subst (λ q. Numbered (scans_of_branches q) (joins_of_branches q) (memos_of_branches q) n m) (sym w.5)
         (both _ _ _ _ _ _ n w.2 m (counted b u n w.0 w.2 w.3) (counted_arms bs u w.2 w.1 m w.4))
+
+  -- the numbers of its scans are those from n on and below m, one after the other
+  pub numbers_are : (t : Tree) (u : Need) (n : ℕ) (p : Node) (m : ℕ) → Becomes ss u t n p m → (k : ℕ) × (m ≡ n + k) × (numbers (scans_in p) ≡ from n k)
+  numbers_are t u n p m w = let c = counted t u n p m w in (c.count, c.last, c.scans)
+
+  pub numbers_within : (t : Tree) (u : Need) (n : ℕ) (p : Node) (m : ℕ) → Becomes ss u t n p m → (c : Scan) → Contains (scans_in p) c → (n ≤ c.number) × (c.number < m)
+  numbers_within t u n p m w c i =
+      let k = counted t u n p m w in
+      let h = within (scans_in p) n k.count c k.scans i in
+      let last = k.last in
+      let high = h.1 in
+      (h.0, omega (arith, last, high))
 
   differ : (p : Node) (n m : ℕ) → Counted p n m → NumbersDiffer p
   differ p n m c = record {

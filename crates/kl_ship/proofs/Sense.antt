@@ -8,7 +8,6 @@ use Rattle.kl_type.specs.Ground.{Ground, Row, bool, rec as rec_type, var as var_
 use Rattle.kl_outcome.specs.Outcome.{Name}
 use Rattle.kl_core.specs.Trees as term
 use Rattle.kl_core.specs.Trees.{Tree, Trees, no_trees, trees, Parts, no_parts, parts, Arms, no_arms, arm}
-use Rattle.kl_core.specs.Leaves.{LeavesOfTrees, LeavesOfParts, LeavesOfArms}
 use Rattle.kl_core.specs.Typing.{SourceTypes, CoreTypes, EachType, AllTypes, PartTypes, ArmTypes, HasArm}
 use Rattle.kl_ask.specs.Asks.{columns, item_of, kind_of, is_allowed, AskFits}
 use Rattle.kl_ask.specs.Driver.{State, Source, IsColl, Suits}
@@ -21,46 +20,11 @@ use Rattle.kl_ship.specs.declared.plan.Scan.{Scan}
 use Rattle.kl_ship.specs.declared.source.ShipSource.{ShipSource}
 use Rattle.kl_ship.specs.Nodes as node
 use Rattle.kl_ship.specs.Nodes.{Node, Nodes, Fields, Branches, view}
-use Rattle.kl_ship.specs.Ships.{Becomes, TreesBecome, PartsBecome, ArmsBecome, Stays, passed_on, IsWholeScan, ground, scan_kind, Anywhere, Nowhere, NoSource}
+use Rattle.kl_ship.specs.Ships.{Becomes, TreesBecome, PartsBecome, ArmsBecome, Stays, passed_on, IsWholeScan, ground, scan_kind, Nowhere}
 use Rattle.kl_ship.specs.Contents.{types_in}
-use Rattle.kl_ship.proofs.Sources.{known}
+use Rattle.kl_ship.proofs.Sources.{Known, known}
+use Rattle.kl_ship.proofs.Over.{types_over}
 use Rattle.kl_ship.specs.Typing.{PlanTypes, EachPlan, PlansOf, FieldTypes, BranchTypes, HasBranch, AskOf, ScanOf, KeepsTypes}
-
--- ---- a term without sources has the same types over all sources
-
-module _ (S U : SourceTypes) where
-  mutual
-    plain_types : (t : Tree) (G : List Ground) (s : Ground) → NoSource t → CoreTypes S G t s → CoreTypes U G t s
-    plain_types (term.Var x) G s n h = h
-    plain_types (term.Const v) G s n h = h
-    plain_types (term.Source i) G s n h = absurd n
-    plain_types (term.Rec ps) G s n h = (h.0, h.1, h.2, plain_parts ps G h.0 n h.3)
-    plain_types (term.Proj l a) G s n h = (h.0, plain_types a G _ n h.1, h.2)
-    plain_types (term.Inj l a) G s n h = (h.0, h.1, h.2, h.3, h.4, plain_types a G h.1 n h.5)
-    plain_types (term.Case a bs) G s n h = (h.0, plain_types a G _ n.0 h.1, h.2, plain_arms bs G h.0 s n.1 h.3)
-    plain_types (term.Make k ts) G s n h = (h.0, h.1, h.2, plain_each ts G h.0 n h.3)
-    plain_types (term.Union a b) G s n h = (h.0, h.1, h.2, plain_types a G s n.0 h.3, plain_types b G s n.1 h.4)
-    plain_types (term.Ext k b a) G s n h = (h.0, h.1, h.2, h.3, plain_types a G _ n.1 h.4, plain_types b (h.2 ∷ G) s n.0 h.5)
-    plain_types (term.If a b c) G s n h = (plain_types a G _ n.0 h.0, plain_types b G s n.1 h.1, plain_types c G s n.2 h.2)
-    plain_types (term.Let a b) G s n h = (h.0, plain_types a G h.0 n.0 h.1, plain_types b (h.0 ∷ G) s n.1 h.2)
-    plain_types (term.Prim c ts) G s n h = (h.0, plain_all ts G h.0 n h.1, h.2)
-
-    plain_each : (ts : Trees) (G : List Ground) (s : Ground) → LeavesOfTrees Anywhere Nowhere ts → EachType S G ts s → EachType U G ts s
-    plain_each no_trees G s n h = tt
-    plain_each (trees t ts) G s n h = (plain_types t G s n.0 h.0, plain_each ts G s n.1 h.1)
-
-    plain_all : (ts : Trees) (G : List Ground) (us : List Ground) → LeavesOfTrees Anywhere Nowhere ts → AllTypes S G ts us → AllTypes U G ts us
-    plain_all no_trees G us n h = h
-    plain_all (trees t ts) G us n h = (h.0, h.1, h.2, plain_types t G h.0 n.0 h.3, plain_all ts G h.1 n.1 h.4)
-
-    plain_parts : (ps : Parts) (G : List Ground) (r : Row) → LeavesOfParts Anywhere Nowhere ps → PartTypes S G ps r → PartTypes U G ps r
-    plain_parts no_parts G r n h = h
-    plain_parts (parts l t ps) G r n h = (h.0, h.1, h.2, plain_types t G h.0 n.0 h.3, plain_parts ps G h.1 n.1 h.4)
-
-    plain_arms : (bs : Arms) (G : List Ground) (r : Row) (s : Ground) → LeavesOfArms Anywhere Nowhere bs → ArmTypes S G bs r s → ArmTypes U G bs r s
-    plain_arms no_arms G r s n h = tt
-    plain_arms (term.rest c) G r s n h = plain_types c G s n h
-    plain_arms (arm l b bs) G r s n h = (h.0, h.1, plain_types b (h.0 ∷ G) s n.0 h.2, plain_arms bs G r s n.1 h.3)
 
 -- ---- a scan of a whole source
 
@@ -122,12 +86,13 @@ whole_scan ss i s u n c at w good = record {
 
 -- ---- plans
 
-module _ (ss : List ShipSource) (collections : (i : ℕ) (s : ShipSource) → slice_get ss i ≡ Some s → IsColl (ground s)) where
-  abbrev S : SourceTypes
-  S = types_in ss
-
+-- over sources of which those that have a type are of the list, and where a scan of one whole makes sense
+module _ (ss : List ShipSource) (S : SourceTypes) (Of : Scan → Ground → Type 0)
+    (collections : (i : ℕ) (t : Ground) (s : ShipSource) → S i ≡ Some t → slice_get ss i ≡ Some s → IsColl (ground s))
+    (knows : (i : ℕ) (t : Ground) → S i ≡ Some t → Known ss i t)
+    (asked : (i : ℕ) (t : Ground) (s : ShipSource) (u : Need) (n : ℕ) (c : Scan) → S i ≡ Some t → slice_get ss i ≡ Some s → IsWholeScan s u n c → IsGround (ground s) → Of c (item_of (ground s))) where
   abbrev Types : List Ground → Node → Ground → Type 0
-  Types = PlanTypes (ScanOf ss)
+  Types = PlanTypes Of
 
   -- of what a loop draws, the kind may be another
   abbrev TypesFor : Need → List Ground → Node → Ground → Type 0
@@ -146,19 +111,19 @@ module _ (ss : List ShipSource) (collections : (i : ℕ) (s : ShipSource) → sl
   for (need.Source k) G p q s e h = λ j u f. (j, subst (λ x. Types G x (coll j u)) (sym e) (subst (Types G q) f h))
 
   stays_typed : (t : Tree) (u : Need) (n : ℕ) (p : Node) (m : ℕ) (G : List Ground) (s : Ground) → CoreTypes S G t s → Stays u t n p m → TypesFor u G p s
-  stays_typed t u n p m G s h w = for u G p (node.Plain t) s w.plan (w.no_source, λ U. plain_types S U t G s w.no_source h)
+  stays_typed t u n p m G s h w = for u G p (node.Plain t) s w.plan (w.no_source, λ U. types_over S U Nowhere (λ i none. absurd none) t G s w.no_source h)
 
   same_items : (j k : Kind) (t u : Ground) → coll j t ≡ coll k u → t ≡ u
   same_items j k t u e = cc
 
-  source_typed : (u : Need) (i : ℕ) (s : ShipSource) (n : ℕ) (c : Scan) (G : List Ground) (t : Ground) → slice_get ss i ≡ Some s → IsWholeScan s u n c → IsGround (ground s) → t ≡ ground s → TypesFor u G (node.Scan c) t
-  source_typed need.Whole i s n c G t at w good e =
-      (item_of (ground s), e ∙ collection_is (ground s) (collections i s at) ∙ ap (λ k. coll k (item_of (ground s))) (sym w.kind), whole_scan ss i s need.Whole n c at w good)
-  source_typed need.Items i s n c G t at w good e =
-      (item_of (ground s), e ∙ collection_is (ground s) (collections i s at) ∙ ap (λ k. coll k (item_of (ground s))) (sym w.kind), whole_scan ss i s need.Items n c at w good)
-  source_typed (need.Source k) i s n c G t at w good e = λ j u f.
-      let same : item_of (ground s) ≡ u = same_items (kind_of (ground s)) j (item_of (ground s)) u (sym (collection_is (ground s) (collections i s at)) ∙ sym e ∙ f) in
-      (c.kind, (item_of (ground s), ap (coll c.kind) (sym same), whole_scan ss i s (need.Source k) n c at w good))
+  source_typed : (u : Need) (i : ℕ) (s : ShipSource) (n : ℕ) (c : Scan) (G : List Ground) (t : Ground) → S i ≡ Some t → slice_get ss i ≡ Some s → IsWholeScan s u n c → IsGround (ground s) → t ≡ ground s → TypesFor u G (node.Scan c) t
+  source_typed need.Whole i s n c G t is at w good e =
+      (item_of (ground s), e ∙ collection_is (ground s) (collections i t s is at) ∙ ap (λ k. coll k (item_of (ground s))) (sym w.kind), asked i t s need.Whole n c is at w good)
+  source_typed need.Items i s n c G t is at w good e =
+      (item_of (ground s), e ∙ collection_is (ground s) (collections i t s is at) ∙ ap (λ k. coll k (item_of (ground s))) (sym w.kind), asked i t s need.Items n c is at w good)
+  source_typed (need.Source k) i s n c G t is at w good e = λ j u f.
+      let same : item_of (ground s) ≡ u = same_items (kind_of (ground s)) j (item_of (ground s)) u (sym (collection_is (ground s) (collections i t s is at)) ∙ sym e ∙ f) in
+      (c.kind, (item_of (ground s), ap (coll c.kind) (sym same), asked i t s (need.Source k) n c is at w good))
 
   has_branch : (l : Name) (u : Need) (bs : Arms) (n : ℕ) (p : Branches) (m : ℕ) → ArmsBecome ss u bs n p m → HasArm l bs → HasBranch l p
   has_branch l u no_arms n p m w h = absurd h
@@ -170,11 +135,11 @@ module _ (ss : List ShipSource) (collections : (i : ℕ) (s : ShipSource) → sl
     typed (term.Var x) u n p m G s h w = ⊎_elim (stays_typed (term.Var x) u n p m G s h) (λ b. for u G p (node.Var x) s b.0 h.0) w
     typed (term.Const v) u n p m G s h w = stays_typed (term.Const v) u n p m G s h w
     typed (term.Source i) u n p m G s h w =
-        let k = known ss i s h.0 in
+        let k = knows i s h.0 in
         let q : Some w.0 ≡ Some k.0 = sym w.2 ∙ k.1 in
         let same : w.0 ≡ k.0 = cc in
         let e : s ≡ ground w.0 = k.2 ∙ ap ground (sym same) in
-        subst (λ x. TypesFor u G x s) (sym w.4) (source_typed u i w.0 n w.1 G s w.2 w.3 (subst IsGround e h.1) e)
+        subst (λ x. TypesFor u G x s) (sym w.4) (source_typed u i w.0 n w.1 G s h.0 w.2 w.3 (subst IsGround e h.1) e)
     typed (term.Rec ps) u n p m G s h w =
         ⊎_elim (stays_typed (term.Rec ps) u n p m G s h) (λ b. for u G p (node.Rec b.0) s b.2 (h.0, h.1, h.2, typed_parts ps n b.0 m G h.0 h.3 b.1)) w
     typed (term.Proj l a) u n p m G s h w =
@@ -207,27 +172,30 @@ module _ (ss : List ShipSource) (collections : (i : ℕ) (s : ShipSource) → sl
     typed (term.Prim c ts) u n p m G s h w =
         ⊎_elim (stays_typed (term.Prim c ts) u n p m G s h) (λ b. for u G p (node.Prim c b.0) s b.2 (h.0, typed_all ts n b.0 m G h.0 h.1 b.1, h.2)) w
 
-    typed_each : (ts : Trees) (n : ℕ) (p : Nodes) (m : ℕ) (G : List Ground) (s : Ground) → EachType S G ts s → TreesBecome ss ts n p m → EachPlan (ScanOf ss) G p s
-    typed_each no_trees n p m G s h w = subst (λ q. EachPlan (ScanOf ss) G q s) (sym w.0) tt
+    typed_each : (ts : Trees) (n : ℕ) (p : Nodes) (m : ℕ) (G : List Ground) (s : Ground) → EachType S G ts s → TreesBecome ss ts n p m → EachPlan Of G p s
+    typed_each no_trees n p m G s h w = subst (λ q. EachPlan Of G q s) (sym w.0) tt
     typed_each (trees t ts) n p m G s h w =
-        subst (λ q. EachPlan (ScanOf ss) G q s) (sym w.5) (typed t need.Whole n w.0 w.2 G s h.0 w.3, typed_each ts w.2 w.1 m G s h.1 w.4)
+        subst (λ q. EachPlan Of G q s) (sym w.5) (typed t need.Whole n w.0 w.2 G s h.0 w.3, typed_each ts w.2 w.1 m G s h.1 w.4)
 
-    typed_all : (ts : Trees) (n : ℕ) (p : Nodes) (m : ℕ) (G : List Ground) (us : List Ground) → AllTypes S G ts us → TreesBecome ss ts n p m → PlansOf (ScanOf ss) G p us
-    typed_all no_trees n p m G us h w = subst (λ q. PlansOf (ScanOf ss) G q us) (sym w.0) h
+    typed_all : (ts : Trees) (n : ℕ) (p : Nodes) (m : ℕ) (G : List Ground) (us : List Ground) → AllTypes S G ts us → TreesBecome ss ts n p m → PlansOf Of G p us
+    typed_all no_trees n p m G us h w = subst (λ q. PlansOf Of G q us) (sym w.0) h
     typed_all (trees t ts) n p m G us h w =
-        subst (λ q. PlansOf (ScanOf ss) G q us) (sym w.5) (h.0, h.1, h.2, typed t need.Whole n w.0 w.2 G h.0 h.3 w.3, typed_all ts w.2 w.1 m G h.1 h.4 w.4)
+        subst (λ q. PlansOf Of G q us) (sym w.5) (h.0, h.1, h.2, typed t need.Whole n w.0 w.2 G h.0 h.3 w.3, typed_all ts w.2 w.1 m G h.1 h.4 w.4)
 
-    typed_parts : (ts : Parts) (n : ℕ) (p : Fields) (m : ℕ) (G : List Ground) (r : Row) → PartTypes S G ts r → PartsBecome ss need.Whole ts n p m → FieldTypes (ScanOf ss) G p r
-    typed_parts no_parts n p m G r h w = subst (λ q. FieldTypes (ScanOf ss) G q r) (sym w.0) h
+    typed_parts : (ts : Parts) (n : ℕ) (p : Fields) (m : ℕ) (G : List Ground) (r : Row) → PartTypes S G ts r → PartsBecome ss need.Whole ts n p m → FieldTypes Of G p r
+    typed_parts no_parts n p m G r h w = subst (λ q. FieldTypes Of G q r) (sym w.0) h
     typed_parts (parts l t ts) n p m G r h w =
-        subst (λ q. FieldTypes (ScanOf ss) G q r) (sym w.5) (h.0, h.1, h.2, typed t need.Whole n w.0 w.2 G h.0 h.3 w.3, typed_parts ts w.2 w.1 m G h.1 h.4 w.4)
+        subst (λ q. FieldTypes Of G q r) (sym w.5) (h.0, h.1, h.2, typed t need.Whole n w.0 w.2 G h.0 h.3 w.3, typed_parts ts w.2 w.1 m G h.1 h.4 w.4)
 
-    typed_arms : (bs : Arms) (u : Need) (n : ℕ) (p : Branches) (m : ℕ) (G : List Ground) (r : Row) (s : Ground) → ArmTypes S G bs r s → ArmsBecome ss (passed_on u) bs n p m → BranchTypes (ScanOf ss) G p r s
-    typed_arms no_arms u n p m G r s h w = subst (λ q. BranchTypes (ScanOf ss) G q r s) (sym w.0) tt
-    typed_arms (term.rest c) u n p m G r s h w = subst (λ q. BranchTypes (ScanOf ss) G q r s) (sym w.2) (passed u G w.0 s (typed c (passed_on u) n w.0 m G s h w.1))
+    typed_arms : (bs : Arms) (u : Need) (n : ℕ) (p : Branches) (m : ℕ) (G : List Ground) (r : Row) (s : Ground) → ArmTypes S G bs r s → ArmsBecome ss (passed_on u) bs n p m → BranchTypes Of G p r s
+    typed_arms no_arms u n p m G r s h w = subst (λ q. BranchTypes Of G q r s) (sym w.0) tt
+    typed_arms (term.rest c) u n p m G r s h w = subst (λ q. BranchTypes Of G q r s) (sym w.2) (passed u G w.0 s (typed c (passed_on u) n w.0 m G s h w.1))
     typed_arms (arm l b bs) u n p m G r s h w =
-        subst (λ q. BranchTypes (ScanOf ss) G q r s) (sym w.5)
+        subst (λ q. BranchTypes Of G q r s) (sym w.5)
         (h.0, h.1, passed u (h.0 ∷ G) w.0 s (typed b (passed_on u) n w.0 w.2 (h.0 ∷ G) s h.2 w.3), typed_arms bs u w.2 w.1 m G r s h.3 w.4)
+
+  pub shipped_types : (t : Tree) (n : ℕ) (p : Node) (m : ℕ) (s : Ground) → CoreTypes S [] t s → Becomes ss need.Items t n p m → PlanTypes Of [] p s
+  shipped_types t n p m s h w = typed t need.Items n p m [] s h w
 
 -- ---- what is shipped
 
@@ -236,5 +204,5 @@ suited_each ss h i s e = subst (λ x. IsColl (ground x)) (get_or_from_slice_get 
 
 pub plan_makes_sense : (ss : List ShipSource) (t : Tree) (n m : ℕ) (r : Result Plan NoMemory) → All (λ s. Suits s.abilities (ground s)) ss → IfOk r (λ p. Becomes ss need.Items t n (view p) m)
     → IfOk r (λ p. KeepsTypes ss t (view p))
-plan_makes_sense ss t n m (Ok p) suited h = λ s c. typed ss (suited_each ss suited) t need.Items n (view p) m [] s c h
+plan_makes_sense ss t n m (Ok p) suited h = λ s c. shipped_types ss (types_in ss) (ScanOf ss) (λ i u x is. suited_each ss suited i x) (known ss) (λ i u x v k q is. whole_scan ss i x v k q) t n (view p) m s c h
 plan_makes_sense ss t n m (Err e) suited h = tt

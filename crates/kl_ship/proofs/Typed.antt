@@ -18,6 +18,8 @@ use Rattle.kl_core.proofs.Safety.{safe, get_typed}
 use Rattle.kl_ship.specs.declared.plan.Scan.{Scan}
 use Rattle.kl_ship.specs.Nodes as node
 use Rattle.kl_ship.specs.Nodes.{Node, Nodes, no_nodes, nodes, Fields, no_fields, fields, Branches, no_branches, rest, branch}
+use Rattle.kl_ship.specs.Kinds.{kind_of_items}
+use Rattle.kl_ship.proofs.KindLaws.{kinds_typed}
 use Rattle.kl_ship.specs.Meaning.{Come, one, many, worth, coming, drawn_for, come_after, come_chosen, come_opened, come_union, Readings, scanned, no_tables, plan, plan_all, plan_items, plan_fields, plan_branches}
 use Rattle.kl_ship.specs.Typing.{PlanTypes, EachPlan, PlansOf, FieldTypes, BranchTypes, HasBranch}
 use Rattle.kl_ship.proofs.Comings.{ComesAs, worth_typed, coming_typed, drawn_for_typed, same_kind}
@@ -42,10 +44,9 @@ chosen_comes s (Some true) c d i h g = h
 chosen_comes s (Some false) c d i h g = g
 chosen_comes s None c d i h g = cc
 
-union_comes : (k : Kind) (u : Ground) (c d : Come) → ComesAs (coll k u) c → ComesAs (coll k u) d → ComesAs (coll k u) (come_union c d)
-union_comes k u (many i f) d h g = (u, ap (λ z. coll z u) (same_kind k i u h.0 h.1), followed_typed u f (coming d) (coming_typed k u (many i f) h) (coming_typed k u d g))
-union_comes k u (one o) (many j g) h w = (u, ap (λ z. coll z u) (same_kind k j u w.0 w.1), followed_typed u (items_of o) g (items_typed k u o h) (coming_typed k u (many j g) w))
-union_comes k u (one o) (one q) h g = union_typed k u o q h g
+union_comes : (k : Kind) (u : Ground) (i : Option Kind) (c d : Come) → ((j : Kind) → i ≡ Some j → j ≡ k) → ComesAs (coll k u) c → ComesAs (coll k u) d → ComesAs (coll k u) (come_union i c d)
+union_comes k u (Some j) c d e h g = (u, ap (λ z. coll z u) (sym (e j refl)), followed_typed u (coming c) (coming d) (coming_typed k u c h) (coming_typed k u d g))
+union_comes k u None c d e h g = union_typed k u (worth c) (worth d) (worth_typed (coll k u) c h) (worth_typed (coll k u) d g)
 
 module _ (Of : Scan → Ground → Type 0) (R : Readings) (reads : (c : Scan) (u : Ground) → Of c u → (rows : List Value) × (R c ≡ Some rows) × FlowOf u (flow rows fine)) where
   mutual
@@ -61,7 +62,7 @@ module _ (Of : Scan → Ground → Type 0) (R : Readings) (reads : (c : Scan) (u
     plan_typed (node.Make k ps) G env s e h = (h.0, h.1, items_flow ps G env h.0 e h.2)
     plan_typed (node.Union a b) G env s e h =
         subst (λ q. ComesAs q (plan R (node.Union a b) env)) (sym h.2)
-        (union_comes h.0 h.1 (plan R a env) (plan R b env) (subst (λ q. ComesAs q (plan R a env)) h.2 (plan_typed a G env s e h.3)) (subst (λ q. ComesAs q (plan R b env)) h.2 (plan_typed b G env s e h.4)))
+        (union_comes h.0 h.1 (kind_of_items (node.Union a b)) (plan R a env) (plan R b env) (λ j is. kinds_typed Of (node.Union a b) G h.0 h.1 j (h.0, h.1, refl, subst (PlanTypes Of G a) h.2 h.3, subst (PlanTypes Of G b) h.2 h.4) is) (subst (λ q. ComesAs q (plan R a env)) h.2 (plan_typed a G env s e h.3)) (subst (λ q. ComesAs q (plan R b env)) h.2 (plan_typed b G env s e h.4)))
     plan_typed (node.Ext k b a) G env s e h = (
       h.0,
       h.3,

@@ -2,8 +2,6 @@
 use Rattle.std.proofs.Common.{◌≡◌, ℕ, List, map, Option, rules}
 use Rattle.kl_value.specs.declared.Kind.{Kind}
 use Rattle.kl_outcome.specs.Outcome.{Name}
-use Rattle.kl_core.specs.declared.term.Term.{Term}
-use Rattle.kl_core.specs.Trees.{view as term_view}
 use Rattle.kl_ship.specs.declared.plan.Scan.{Scan}
 use Rattle.kl_ship.specs.declared.plan.Plan.{Plan, the_lemmas}
 use Rattle.kl_ship.specs.declared.plan.Plan.TheVariants as plan

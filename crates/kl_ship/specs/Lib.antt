@@ -1,4 +1,5 @@
 pub mod Nodes
+pub mod Kinds
 pub mod Meaning
 pub mod Ships
 pub mod Shipping
@@ -7,3 +8,5 @@ pub mod Alike
 pub mod Contents
 pub mod Typing
 pub mod Numbers
+pub mod Reached
+pub mod Holding
