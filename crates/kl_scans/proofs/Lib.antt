@@ -1,0 +1,4 @@
+pub mod Called
+pub mod Counted
+pub mod Moving
+pub mod Stepped

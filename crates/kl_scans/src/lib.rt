@@ -1,0 +1,9 @@
+//! Scans over a session: a cursor of a driver is opened, its rows are pulled, and it is closed; and what is counted of that.
+#![tactic(auto)]
+
+mod counting;
+mod drivers;
+mod scans;
+mod stops;
+
+pub use scans::Scans;

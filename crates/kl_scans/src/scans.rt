@@ -1,0 +1,71 @@
+//! What opens the cursors of scans.
+ghost use Rattle.std.specs.Prelude.{◌≡◌, ◌<◌};
+ghost use Rattle.kl_scans.specs.Held.{Owned, one_at};
+ghost use Rattle.kl_scans.specs.Moves.{Closes};
+ghost use Rattle.kl_scans.specs.Scans.{CanScan, IsOpen, Starts, Pulls};
+
+use crate::counting::count_start;
+use crate::drivers::{finish_at, pull_at, start_at};
+use crate::stops::stop_of;
+use kl_ask::{Seen, Session};
+use kl_eval::{EvalStop, Tables};
+use kl_ship::Scan;
+use kl_value::Value;
+
+/// What gives the rows of scans, some at a time.
+pub trait Scans: Tables {
+    /// How many rows are pulled at once.
+    fn fetch(&self) -> u32
+        ensures { result ≡ (Self.world self.now).settings.fetch };
+
+    /// Opens a cursor of the scan's driver for its ask, and counts that the scan was started, where its number is counted.
+    ///
+    /// # Errors
+    /// `Driver` where the driver refused, with its cause; want of memory; and never an overflow. Nothing is open then that was
+    /// not.
+    fn start(&mut self, scan: &Scan) -> Result<u64, EvalStop>
+        requires { CanScan (Self.world self.old) scan.now }
+        ensures { Starts scan.now result (Self.world self.old) (Self.world self.new) };
+
+    /// Appends the next rows of a cursor of the scan, at most as many as are pulled at once, or answers that none is left.
+    ///
+    /// # Errors
+    /// Those of `start`. The cursor is closed then.
+    fn pull(&mut self, scan: &Scan, cursor: u64, into: &mut Vec<Value>) -> Result<bool, EvalStop>
+        requires scan { CanScan (Self.world self.old) scan.now }
+        requires is_open { IsOpen (Self.world self.old) scan.now cursor }
+        requires room { 0 < (Self.world self.old).settings.fetch }
+        ensures { Pulls scan.now cursor into.old.items into.new.items result (Self.world self.old) (Self.world self.new) };
+
+    /// Closes a cursor of the scan. Takes no memory.
+    fn finish(&mut self, scan: &Scan, cursor: u64)
+        requires { Owned (one_at scan.now.driver cursor) (Self.world self.old) }
+        ensures { Closes (one_at scan.now.driver cursor) (Self.world self.old) (Self.world self.new) };
+}
+
+impl Scans for Session {
+    fn fetch(&self) -> u32 {
+        self.settings.fetch
+    }
+
+    fn start(&mut self, scan: &Scan) -> Result<u64, EvalStop> {
+        match start_at(&mut self.drivers, scan) {
+            Ok(cursor) => {
+                count_start(&mut self.trace.starts, scan.number);
+                Ok(cursor)
+            }
+            Err(error) => Err(stop_of(&scan.source, error)),
+        }
+    }
+
+    fn pull(&mut self, scan: &Scan, cursor: u64, into: &mut Vec<Value>) -> Result<bool, EvalStop> {
+        match pull_at(&mut self.drivers, scan, cursor, self.settings.fetch, into) {
+            Ok(more) => Ok(more),
+            Err(error) => Err(stop_of(&scan.source, error)),
+        }
+    }
+
+    fn finish(&mut self, scan: &Scan, cursor: u64) {
+        finish_at(&mut self.drivers, scan, cursor)
+    }
+}
