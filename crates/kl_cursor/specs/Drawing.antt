@@ -1,0 +1,22 @@
+-- Which parts a loop draws item by item.
+use Rattle.std.specs.Prelude.{Bool, true, false, Option, Some, None}
+use Rattle.kl_value.specs.declared.Kind.{Kind}
+use Rattle.kl_core.specs.Counts.{fits_in}
+use Rattle.kl_ship.specs.Kinds.{kind_of_items}
+use Rattle.kl_ship.specs.Nodes.{Node}
+
+abbrev pub fits_items : Option Kind → Kind → Bool
+fits_items (Some k) into = fits_in k into
+fits_items None into = false
+
+-- whether a loop of a kind draws the items of a plan as they come
+abbrev pub draws : Kind → Node → Bool
+draws into p = fits_items (kind_of_items p) into
+
+abbrev pub is_kind : Option Kind → Bool
+is_kind (Some k) = true
+is_kind None = false
+
+-- whether a plan may come item by item
+abbrev pub comes_by_items : Node → Bool
+comes_by_items p = is_kind (kind_of_items p)

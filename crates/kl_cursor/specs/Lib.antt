@@ -1,0 +1,6 @@
+pub mod Drawing
+pub mod Left
+pub mod Likeness
+pub mod Measure
+pub mod Sense
+pub mod Steps

@@ -1,0 +1,105 @@
+-- Numbers that fall from step to step.
+use Rattle.std.specs.Prelude.{ℕ, ◌+◌, ◌*◌, ◌^◌, max, List, length, Option, Some, None}
+use Rattle.kl_ask.specs.Driver.{Cursor}
+use Rattle.kl_ask.specs.World.{World}
+use Rattle.kl_ship.specs.Nodes as node
+use Rattle.kl_ship.specs.Nodes.{Node, Nodes, no_nodes, nodes, Fields, no_fields, fields, Branches, no_branches, rest, branch}
+use Rattle.kl_scans.specs.Held.{cursor_at}
+use Rattle.kl_cursor.specs.Left.{Snap, fresh, have, pulling, both, bound, outside, inside, made, ended}
+
+-- how deep a plan is
+abbrev mutual
+  pub tall : Node → ℕ
+  tall (node.Plain t) = 1
+  tall (node.Var x) = 1
+  tall (node.Rec ps) = 1 + tall_fields ps
+  tall (node.Proj l a) = 1 + tall a
+  tall (node.Inj l a) = 1 + tall a
+  tall (node.Case a bs) = 1 + max (tall a) (tall_branches bs)
+  tall (node.Make k ps) = 1 + tall_nodes ps
+  tall (node.Union a b) = 1 + max (tall a) (tall b)
+  tall (node.Ext k b s) = 1 + max (tall b) (tall s)
+  tall (node.If a b c) = 1 + max (tall a) (max (tall b) (tall c))
+  tall (node.Let a b) = 1 + max (tall a) (tall b)
+  tall (node.Prim c ps) = 1 + tall_nodes ps
+  tall (node.Scan c) = 1
+  tall (node.Join n k how o cs i q b) = 1
+  tall (node.Memo n frees p) = 1
+
+  pub tall_nodes : Nodes → ℕ
+  tall_nodes no_nodes = 0
+  tall_nodes (nodes p ps) = max (tall p) (tall_nodes ps)
+
+  pub tall_fields : Fields → ℕ
+  tall_fields no_fields = 0
+  tall_fields (fields l p ps) = max (tall p) (tall_fields ps)
+
+  pub tall_branches : Branches → ℕ
+  tall_branches no_branches = 0
+  tall_branches (rest c) = tall c
+  tall_branches (branch l b bs) = max (tall b) (tall_branches bs)
+
+abbrev pub count_nodes : Nodes → ℕ
+count_nodes no_nodes = 0
+count_nodes (nodes p ps) = 1 + count_nodes ps
+
+-- A number that the items of a plan do not pass, and no less than what one value can have.
+abbrev mutual
+  pub size : Node → ℕ
+  size (node.Plain t) = 2 ^ 64
+  size (node.Var x) = 2 ^ 64
+  size (node.Rec ps) = 2 ^ 64
+  size (node.Proj l a) = 2 ^ 64
+  size (node.Inj l a) = 2 ^ 64
+  size (node.Case a bs) = 2 ^ 64 + size_branches bs
+  size (node.Make k ps) = max (count_nodes ps) (2 ^ 64)
+  size (node.Union a b) = size a + size b
+  size (node.Ext k b s) = max (size s) (2 ^ 64) * size b
+  size (node.If a b c) = size b + size c
+  size (node.Let a b) = size b
+  size (node.Prim c ps) = 2 ^ 64
+  size (node.Scan c) = 2 ^ 64
+  size (node.Join n k how o cs i q b) = 2 ^ 64
+  size (node.Memo n frees p) = 2 ^ 64
+
+  pub size_branches : Branches → ℕ
+  size_branches no_branches = 0
+  size_branches (rest c) = size c
+  size_branches (branch l b bs) = size b + size_branches bs
+
+abbrev pub height : Snap → ℕ
+height (fresh p) = tall p
+height (have vs e) = 0
+height (pulling c k rows n) = 0
+height (both s p) = 1 + max (height s) (tall p)
+height (bound v s) = 1 + height s
+height (outside b s) = 1 + max (height s) (tall b)
+height (inside b s v i) = 1 + max (max (height s) (tall b)) (height i)
+height (made ps) = 1 + tall_nodes ps
+height ended = 0
+
+-- a cursor with nothing done yet comes before what it becomes, and a loop inside its body before the same loop outside
+abbrev pub rank : Snap → ℕ
+rank (fresh p) = 3
+rank (inside b s v i) = 1
+rank _ = 0
+
+-- what falls from step to step inside one call
+abbrev pub falling : Snap → ℕ
+falling s = 8 * height s + rank s
+
+abbrev pub bound_in : Option Cursor → ℕ
+bound_in (Some o) = o.bound
+bound_in None = 0
+
+-- a number that the items left do not pass, also where contents are not told
+abbrev pub most : World → Snap → ℕ
+most w (fresh p) = size p
+most w (have vs e) = length vs
+most w (pulling c k rows n) = length rows + bound_in (cursor_at w c.driver k)
+most w (both s p) = most w s + size p
+most w (bound v s) = most w s
+most w (outside b s) = most w s * size b
+most w (inside b s v i) = most w i + most w s * size b
+most w (made ps) = count_nodes ps
+most w ended = 0

@@ -1,0 +1,204 @@
+-- What the steps of a cursor do.
+use Rattle.std.specs.Prelude.{◌≡◌, Bool, true, false, ◌≤◌, ◌<◌, ◌^◌, ◌+◌, ℕ, length, List, [], ◌∷◌, Option, Some, None, Result, Ok, Err, Vec, ⊤}
+use Rattle.std.specs.List.{AllByRecursion, Contains}
+use Rattle.std.specs.declared.alloc.Global.{Global}
+use Rattle.kl_value.specs.declared.Kind.{Kind}
+use Rattle.kl_value.specs.declared.Value.{Value}
+use Rattle.kl_type.specs.Ground.{Ground, Row, no_row, row}
+use Rattle.kl_outcome.specs.Outcome.{Name, Outcome, done, over, stuck, End, more, stop, fine, overflow, flow, items_of, applied, parts_then}
+use Rattle.kl_outcome.specs.Typed.{Inhabits, HaveTypes, OfType, PrimTypes}
+use Rattle.kl_ask.specs.World.{World}
+use Rattle.kl_eval.specs.World.{StoppedBy}
+use Rattle.kl_eval.specs.declared.stop.EvalStop.{EvalStop}
+use Rattle.kl_eval.specs.declared.stop.EvalStop.TheVariants as why
+use Rattle.kl_eval.specs.declared.stop.Halt.{Halt}
+use Rattle.kl_eval.specs.declared.stop.Halt.TheVariants as halt
+use Rattle.kl_ship.specs.Alike.{harm}
+use Rattle.kl_ship.specs.declared.plan.Scan.{Scan}
+use Rattle.kl_ship.specs.Nodes.{Node, Nodes, Fields}
+use Rattle.kl_ship.specs.Meaning.{worth, plan, plan_all, plan_fields}
+use Rattle.kl_ship.specs.Typing.{PlansOf, FieldTypes}
+use Rattle.kl_cursor.specs.declared.state.State.{State}
+use Rattle.kl_scans.specs.Held.{Uses, nothing}
+use Rattle.kl_scans.specs.Log.{Event, scan_in, paid}
+use Rattle.kl_scans.specs.Moves.{Moves}
+use Rattle.kl_scans.specs.Stage.{stage, ScanOf}
+use Rattle.kl_cursor.specs.Left.{Snap, have, ended, snap, uses, left, reading, to_start, ScansLeft}
+use Rattle.kl_ship.specs.Reached.{reached, reached_nodes, reached_fields}
+use Rattle.kl_ship.specs.Holding.{ScansIn, ScansInNodes, ScansInFields}
+use Rattle.kl_cursor.specs.Likeness.{Same}
+use Rattle.kl_cursor.specs.Measure.{height, falling, most}
+use Rattle.kl_cursor.specs.Sense.{TypesAt, IsToldAt, Fits}
+
+-- the scans of some events are all among these
+abbrev pub AreOf : List Scan → List Event → Type 0
+AreOf all es = AllByRecursion (λ e. Contains all (scan_in e)) es
+
+-- of all types that a cursor has where it stands, and where contents are told
+abbrev pub WhereTold : List Value → Snap → World → (Kind → Type 0) → Type 0
+WhereTold env s a P = (G : List Ground) (k : Kind) (u : Ground) → HaveTypes G env → Fits a G k u s → IsToldAt a → P k
+
+-- where all that is left ends well, what was started and is still to be started makes up what was to be started before
+abbrev pub Counts : List Value → Snap → World → List Event → ((Scan → ℕ) → ℕ) → Type 0
+Counts env s a es later = harm (left a s env) ≡ 0 → (price : Scan → ℕ) → paid price es + later price ≡ to_start a price s env
+
+-- from one cursor to another, where nothing was given
+pub record Onward (env : List Value) (s : Snap) (a : World) (t : Snap) (b : World) : Type 0 where
+  pub moves : Moves (uses s) (uses t) a b
+  pub known : (all : List Scan) → ScansLeft all s → AreOf all moves.events × ScansLeft all t
+  pub same : WhereTold env s a (λ k. Same k (left a s env) (left b t env))
+  pub counts : WhereTold env s a (λ k. Counts env s a moves.events (λ price. to_start b price t env))
+  pub typed : (G : List Ground) (k : Kind) (u : Ground) → HaveTypes G env → Fits a G k u s → Fits b G k u t
+  pub lower : height t ≤ height s
+  pub fewer : most b t ≤ most a s
+
+-- The same, where an item was given: of a list the next one, of a set or a bag one of those left.
+pub record Gives (env : List Value) (s : Snap) (a : World) (v : Value) (t : Snap) (b : World) : Type 0 where
+  pub moves : Moves (uses s) (uses t) a b
+  pub known : (all : List Scan) → ScansLeft all s → AreOf all moves.events × ScansLeft all t
+  pub gave : WhereTold env s a (λ k. Same k (left a s env) (more v (left b t env)))
+  pub counts : WhereTold env s a (λ k. Counts env s a moves.events (λ price. to_start b price t env))
+  pub typed : (G : List Ground) (k : Kind) (u : Ground) → HaveTypes G env → Fits a G k u s → Inhabits u v × Fits b G k u t
+  pub lower : height t ≤ height s
+  pub fell : most b t < most a s
+
+-- nothing was left: neither an item, nor an open cursor
+pub record Ends (env : List Value) (s : Snap) (a b : World) : Type 0 where
+  pub moves : Moves (uses s) nothing a b
+  pub known : (all : List Scan) → ScansLeft all s → AreOf all moves.events
+  pub over : WhereTold env s a (λ k. Same k (left a s env) (stop fine))
+  pub counts : WhereTold env s a (λ k. Counts env s a moves.events (λ price. 0))
+
+-- What leaves no cursor open and gives nothing, and why. The scans that were started are those that stood in it.
+pub record Halts (before : Uses) (Holds : List Scan → Type 0) (cause : Type 0) (a b : World) : Type 0 where
+  pub moves : Moves before nothing a b
+  pub known : (all : List Scan) → Holds all → AreOf all moves.events
+  pub reason : cause
+
+-- the end is an overflow, or a driver refused to go on, which has its cause, or memory ran out
+abbrev pub Reason : List Value → Snap → EvalStop → World → World → Type 0
+Reason env s why.Overflow a b = WhereTold env s a (λ k. Same k (left a s env) (stop overflow))
+Reason env s (why.Driver l e) a b = StoppedBy l e a b
+Reason env s why.NoMemory a b = ⊤
+
+abbrev pub Stops : List Value → Snap → EvalStop → World → World → Type 0
+Stops env s e a b = Halts (uses s) (λ all. ScansLeft all s) (Reason env s e a b) a b
+
+abbrev pub Steps : List Value → Snap → Result (Option Value × State) EvalStop → World → World → Type 0
+Steps env s (Ok (Some v, t)) a b = Gives env s a v (snap t) b
+Steps env s (Ok (None, t)) a b = Ends env s a b
+Steps env s (Err e) a b = Stops env s e a b
+
+-- what a plan becomes as it begins
+abbrev pub Begins : List Value → Snap → Result State EvalStop → World → World → Type 0
+Begins env s (Ok t) a b = Onward env s a (snap t) b × (falling (snap t) < falling s)
+Begins env s (Err e) a b = Stops env s e a b
+
+-- ---- all that is left
+
+-- all items that were left, and the end
+pub record Empties (env : List Value) (s : Snap) (vs : List Value) (end : End) (a b : World) : Type 0 where
+  pub moves : Moves (uses s) nothing a b
+  pub known : (all : List Scan) → ScansLeft all s → AreOf all moves.events
+  pub gave : WhereTold env s a (λ k. Same k (left a s env) (flow vs end))
+  pub counts : WhereTold env s a (λ k. Counts env s a moves.events (λ price. 0))
+  pub typed : (G : List Ground) (k : Kind) (u : Ground) → HaveTypes G env → Fits a G k u s → AllByRecursion (Inhabits u) vs
+
+abbrev pub Drains : List Value → Snap → Result (Vec Value Global) Halt → World → World → Type 0
+Drains env s (Ok vs) a b = Empties env s vs.items fine a b
+Drains env s (Err (halt.Over vs)) a b = Empties env s vs.items overflow a b
+Drains env s (Err (halt.Driver l e)) a b = Halts (uses s) (λ all. ScansLeft all s) (StoppedBy l e a b) a b
+Drains env s (Err halt.NoMemory) a b = Halts (uses s) (λ all. ScansLeft all s) ⊤ a b
+
+-- ---- values
+
+-- What parts come to under any types that they have: where contents are told, what is said of it is so, and where that is well,
+-- the starts are paid for; and it has its type in any case.
+pub record Comes {X : Type 0} (Typing : List Ground → X → Type 0) (env : List Value) (Holds : List Scan → Type 0) (cost : (Scan → ℕ) → ℕ)
+    (is well : Type 0) (Typed : X → Type 0) (a b : World) : Type 0 where
+  pub moves : Moves nothing nothing a b
+  pub known : (all : List Scan) → Holds all → AreOf all moves.events
+  pub comes : (G : List Ground) (x : X) → HaveTypes G env → Typing G x → IsToldAt a → is
+  pub counts : (G : List Ground) (x : X) → HaveTypes G env → Typing G x → IsToldAt a → well → (price : Scan → ℕ) → paid price moves.events ≡ cost price
+  pub typed : (G : List Ground) (x : X) → HaveTypes G env → Typing G x → Typed x
+
+abbrev pub IsDone : Outcome → Type 0
+IsDone (done v) = ⊤
+IsDone (over vs) = ⊥
+IsDone stuck = ⊥
+
+-- a plan comes to an outcome
+abbrev pub ComesTo : List Value → Node → Outcome → World → World → Type 0
+ComesTo env p o a b = Comes (λ G s. TypesAt a G p s) env (λ all. ScansIn all p) (λ price. reached (reading a) price p env)
+    (worth (plan (reading a) p env) ≡ o) (IsDone o) (λ s. OfType s o) a b
+
+abbrev pub Fails : (List Scan → Type 0) → Type 0 → World → World → Type 0
+Fails Holds reason a b = Halts nothing Holds reason a b
+
+-- the value of a plan, or an overflow with the items that come before it
+abbrev pub Wholly : List Value → Node → Result Value Halt → World → World → Type 0
+Wholly env p (Ok v) a b = ComesTo env p (done v) a b
+Wholly env p (Err (halt.Over vs)) a b = ComesTo env p (over vs.items) a b
+Wholly env p (Err (halt.Driver l e)) a b = Fails (λ all. ScansIn all p) (StoppedBy l e a b) a b
+Wholly env p (Err halt.NoMemory) a b = Fails (λ all. ScansIn all p) ⊤ a b
+
+-- the same of a part, of which an overflow leaves no items
+abbrev pub Partly : List Value → Node → Result Value EvalStop → World → World → Type 0
+Partly env p (Ok v) a b = ComesTo env p (done v) a b
+Partly env p (Err why.Overflow) a b = (vs : List Value) × ComesTo env p (over vs) a b
+Partly env p (Err (why.Driver l e)) a b = Fails (λ all. ScansIn all p) (StoppedBy l e a b) a b
+Partly env p (Err why.NoMemory) a b = Fails (λ all. ScansIn all p) ⊤ a b
+
+-- the fields of a record
+abbrev pub FieldsHave : List (Name × Value) → Row → Type 0
+FieldsHave [] r = r ≡ no_row
+FieldsHave (f ∷ fs) r = (s : Ground) × (rest : Row) × (r ≡ row f.0 s rest) × Inhabits s f.1 × FieldsHave fs rest
+
+abbrev pub FieldsCome : List Value → Fields → List (Name × Value) → World → World → Type 0
+FieldsCome env ps fs a b = Comes (λ G r. FieldTypes (ScanOf (stage a)) G ps r) env (λ all. ScansInFields all ps) (λ price. reached_fields (reading a) price ps env)
+    ((go : List (Name × Value) → Outcome) → parts_then (plan_fields (reading a) ps env) go ≡ go fs) ⊤ (λ r. FieldsHave fs r) a b
+
+abbrev pub FieldsOver : List Value → Fields → World → World → Type 0
+FieldsOver env ps a b = Comes (λ G r. FieldTypes (ScanOf (stage a)) G ps r) env (λ all. ScansInFields all ps) (λ price. 0)
+    ((go : List (Name × Value) → Outcome) → parts_then (plan_fields (reading a) ps env) go ≡ over []) ⊥ (λ r. ⊤) a b
+
+abbrev pub FieldsGive : List Value → Fields → Result (Vec (Name × Value) Global) EvalStop → World → World → Type 0
+FieldsGive env ps (Ok fs) a b = FieldsCome env ps fs.items a b
+FieldsGive env ps (Err why.Overflow) a b = FieldsOver env ps a b
+FieldsGive env ps (Err (why.Driver l e)) a b = Fails (λ all. ScansInFields all ps) (StoppedBy l e a b) a b
+FieldsGive env ps (Err why.NoMemory) a b = Fails (λ all. ScansInFields all ps) ⊤ a b
+
+-- what a primitive makes of its arguments
+abbrev pub CallTypes : World → List Ground → ℕ → Nodes → Ground → Type 0
+CallTypes w G c ps s = (us : List Ground) × PlansOf (ScanOf (stage w)) G ps us × PrimTypes c us s
+
+abbrev pub CallComes : List Value → ℕ → Nodes → Outcome → World → World → Type 0
+CallComes env c ps o a b = Comes (λ G s. CallTypes a G c ps s) env (λ all. ScansInNodes all ps) (λ price. reached_nodes (reading a) price ps env)
+    (applied c (plan_all (reading a) ps env) ≡ o) (IsDone o) (λ s. OfType s o) a b
+
+abbrev pub CallGives : List Value → ℕ → Nodes → Result Value EvalStop → World → World → Type 0
+CallGives env c ps (Ok v) a b = CallComes env c ps (done v) a b
+CallGives env c ps (Err why.Overflow) a b = CallComes env c ps (over []) a b
+CallGives env c ps (Err (why.Driver l e)) a b = Fails (λ all. ScansInNodes all ps) (StoppedBy l e a b) a b
+CallGives env c ps (Err why.NoMemory) a b = Fails (λ all. ScansInNodes all ps) ⊤ a b
+
+-- ---- what the helpers make
+
+-- the items of a collection, as a cursor
+abbrev pub Opened : Value → Snap → Type 0
+Opened v s = (vs : List Value) × (s ≡ have vs fine) × (items_of (done v) ≡ flow vs fine) × (length vs < 2 ^ 64)
+
+-- what a part that is evaluated whole gives as a cursor
+abbrev pub Halted : Result Value Halt → Result State EvalStop → Type 0
+Halted (Ok v) (Ok s) = Opened v (snap s)
+Halted (Ok v) (Err e) = ⊥
+Halted (Err (halt.Over vs)) (Ok s) = (snap s ≡ have vs.items overflow) × (length vs.items < 2 ^ 64)
+Halted (Err (halt.Over vs)) (Err e) = ⊥
+Halted (Err (halt.Driver l e)) r = r ≡ Err (why.Driver l e)
+Halted (Err halt.NoMemory) r = r ≡ Err why.NoMemory
+
+-- what `next` answers; behind the end a cursor has nothing left
+abbrev pub Nexts : List Value → Snap → Result (Option Value) EvalStop → Snap → World → World → Type 0
+Nexts env s (Ok (Some v)) t a b = Gives env s a v t b
+Nexts env s (Ok None) t a b = Ends env s a b × (t ≡ ended)
+Nexts env s (Err e) t a b = Stops env s e a b × (t ≡ ended)

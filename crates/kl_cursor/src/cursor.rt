@@ -1,0 +1,84 @@
+//! The public calls.
+ghost use Rattle.std.specs.Prelude.{◌≡◌, reverse, IfOk};
+ghost use Rattle.kl_ship.specs.Nodes.{view};
+ghost use Rattle.kl_scans.specs.Held.{Owned};
+ghost use Rattle.kl_scans.specs.Moves.{Closes};
+ghost use Rattle.kl_cursor.specs.Left.{fresh, snap, uses};
+ghost use Rattle.kl_cursor.specs.Sense.{Stands};
+ghost use Rattle.kl_cursor.specs.Steps.{Nexts};
+
+use crate::plan_values::PlanValues;
+use crate::state::State;
+use crate::stepping::{close, step};
+use crate::steps::let_go;
+use kl_base::{NoMemory, Seq};
+use kl_eval::{Env, EvalStop};
+use kl_ship::Plan;
+use kl_value::{Value, dup_items};
+use std::alloc::Global;
+use std::mem;
+
+/// The items of a plan of a collection, drawn one at a time. It borrows the plan, and keeps the values of its positions.
+#[derive(Drop)]
+pub struct Cursor<'p> {
+    alloc: Global,
+    at: State<'p>,
+    env: Seq<Value>,
+}
+
+/// A cursor of a plan, with nothing done yet, where the last value of `env` is the nearest position's. Nothing is opened.
+///
+/// # Errors
+/// Want of memory.
+pub fn open_plan<'p>(alloc: Global, plan: &'p Plan, env: &[Value]) -> Result<Cursor<'p>, NoMemory>
+    ensures { IfOk result (λ c. (snap c.at ≡ fresh (view plan.now)) × (c.env ≡ env.now)) }
+{
+    let values = dup_items(alloc, env)?;
+    Ok(Cursor {
+        alloc,
+        at: State::Fresh(plan),
+        env: Seq::of(values),
+    })
+}
+
+impl<'p> Cursor<'p> {
+    /// The next item, or None at the end. Items of a plan of kind list come in order, those of a set or a bag in any, and of a
+    /// set with repeats.
+    ///
+    /// The cursor's own cursors of drivers are open, as it left them, and it makes sense under the types of what the session
+    /// has attached. Those of other cursors are left as they are.
+    ///
+    /// # Errors
+    /// `Overflow` where no item is left and the end is one, of a set or a bag also earlier; `Driver` where the driver of that
+    /// source refused to go on, with its cause; want of memory. After a stop its scans are closed, and it gives nothing more.
+    pub fn next<C: PlanValues>(&mut self, run: &mut C) -> Result<Option<Value>, EvalStop>
+        requires owned { Owned (uses (snap self.old.at)) (C.world run.old) }
+        requires sense { Stands (C.world run.old) (snap self.old.at) (reverse self.old.env) }
+        ensures env { self.new.env ≡ self.old.env }
+        ensures next { Nexts (reverse self.old.env) (snap self.old.at) result (snap self.new.at) (C.world run.old) (C.world run.new) }
+    {
+        let at = mem::replace(&mut self.at, State::Done);
+        match step(self.alloc, at, &Env::Base(self.env.slice()), run) {
+            Ok((item, rest)) => match item {
+                Some(item) => {
+                    self.at = rest;
+                    Ok(Some(item))
+                }
+                None => {
+                    let_go(rest);
+                    Ok(None)
+                }
+            },
+            Err(stop) => Err(stop),
+        }
+    }
+
+    /// Closes the cursors of drivers that it has open. Takes no memory.
+    pub fn close<C: PlanValues>(self, run: &mut C)
+        requires { Owned (uses (snap self.at)) (C.world run.old) }
+        ensures { Closes (uses (snap self.entry.at)) (C.world run.old) (C.world run.new) }
+    {
+        let Cursor { at, .. } = self;
+        close(at, run);
+    }
+}
