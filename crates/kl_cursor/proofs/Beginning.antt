@@ -1,5 +1,5 @@
 -- What a plan becomes as it begins, where nothing is evaluated first.
-use Rattle.std.proofs.Common.{◌≡◌, ℕ, ◌+◌, ◌*◌, ◌<◌, ◌≤◌, Bool, true, List, [], ◌∷◌, Option, Some, None, Result, Ok, Err, refl, sym, ap, ◌∙◌, subst, arith, Bor}
+use Rattle.std.proofs.Common.{◌≡◌, ℕ, ◌+◌, ◌<◌, Bool, true, List, [], ◌∷◌, Option, Some, None, Result, Ok, Err, refl, sym, ap, ◌∙◌, subst, arith, Bor}
 use mathlib.Core.Path.{ap₂}
 use Rattle.std.proofs.Math.Nat.{mul-le-mul_right}
 use Rattle.circular_buffer.specs.Buffer.{Buffer, buffer}
@@ -29,13 +29,13 @@ use Rattle.kl_scans.proofs.Moving.{moves_none}
 use Rattle.kl_cursor.specs.declared.state.State.{State}
 use Rattle.kl_cursor.specs.declared.state.State.TheVariants as state
 use Rattle.kl_cursor.specs.Drawing.{draws, comes_by_items, is_kind}
-use Rattle.kl_cursor.specs.Left.{Snap, fresh, both, outside, pulling, made, snap, reading, nodes_from}
+use Rattle.kl_cursor.specs.Left.{Snap, fresh, both, outside, pulling, made, snap, reading}
 use Rattle.kl_cursor.specs.Measure.{size, falling}
 use Rattle.kl_cursor.specs.Sense.{HasItems}
-use Rattle.kl_cursor.specs.Steps.{Onward, Begins, Stops}
+use Rattle.kl_cursor.specs.Steps.{Onward, Stops}
 use Rattle.kl_cursor.proofs.Drawn.{draws_fits, drawn_as_comes}
 use Rattle.kl_cursor.proofs.Likes.{same_itself, same_at}
-use Rattle.kl_cursor.proofs.Snaps.{snap_Fresh, snap_Union, snap_Outside, snap_Make, snap_Scan}
+use Rattle.kl_cursor.proofs.Snaps.{snap_Union, snap_Outside, snap_Make, snap_Scan}
 use Rattle.kl_cursor.proofs.Starting.{scan_begins, scan_refused}
 
 -- ---- a literal

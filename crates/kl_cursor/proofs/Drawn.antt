@@ -6,7 +6,7 @@ use Rattle.kl_value.specs.Views.{as_bool}
 use Rattle.kl_value.specs.declared.Kind.{Kind}
 use Rattle.kl_value.specs.declared.Value.{Value}
 use Rattle.kl_type.specs.Ground.{Ground, Row, coll}
-use Rattle.kl_outcome.specs.Outcome.{Name, Outcome, done, over, stuck, items_of, as_variant, followed, collected}
+use Rattle.kl_outcome.specs.Outcome.{Name, Outcome, done, over, stuck, items_of, as_variant, collected}
 use Rattle.kl_core.specs.Counts.{fits_in}
 use Rattle.kl_ship.specs.declared.plan.Scan.{Scan}
 use Rattle.kl_ship.specs.Nodes as node

@@ -1,15 +1,15 @@
 -- Steps after steps.
-use Rattle.std.proofs.Common.{◌≡◌, ℕ, ◌+◌, ◌*◌, ◌<◌, ◌≤◌, List, [], ◌∷◌, ◌++◌, Option, Some, None, Result, Ok, Err, refl, sym, ap, ◌∙◌, subst, arith}
+use Rattle.std.proofs.Common.{◌≡◌, ℕ, ◌+◌, ◌*◌, ◌<◌, ◌≤◌, List, ◌∷◌, ◌++◌, Option, Some, None, Result, Ok, Err, refl, sym, ap, ◌∙◌, subst, arith}
 use Rattle.std.proofs.Math.Nat.{mul-le-mul_right}
 use Rattle.kl_value.specs.declared.Kind.{Kind}
 use Rattle.kl_value.specs.declared.Value.{Value}
 use Rattle.kl_type.specs.Ground.{Ground, coll}
-use Rattle.kl_outcome.specs.Outcome.{Flow, more, stop, fine, overflow, followed, drawn}
+use Rattle.kl_outcome.specs.Outcome.{more, stop, fine, overflow, followed, drawn}
 use Rattle.kl_outcome.specs.Typed.{HaveTypes}
 use Rattle.kl_ask.specs.World.{World}
 use Rattle.kl_eval.specs.declared.stop.EvalStop.{EvalStop}
 use Rattle.kl_eval.specs.declared.stop.EvalStop.TheVariants as why
-use Rattle.kl_ship.specs.Alike.{harm, weight}
+use Rattle.kl_ship.specs.Alike.{harm}
 use Rattle.kl_ship.specs.declared.plan.Scan.{Scan}
 use Rattle.kl_ship.specs.Nodes.{Node}
 use Rattle.kl_ship.specs.Meaning.{coming, plan}
@@ -24,9 +24,9 @@ use Rattle.kl_cursor.specs.Left.{Snap, fresh, both, bound, outside, inside, snap
 use Rattle.kl_cursor.specs.Likeness.{Same}
 use Rattle.kl_cursor.specs.Measure.{height, most, size}
 use Rattle.kl_cursor.specs.Sense.{Fits, IsToldAt}
-use Rattle.kl_cursor.specs.Steps.{AreOf, WhereTold, Counts, Onward, Gives, Ends, Halts, Reason, Stops, Steps}
+use Rattle.kl_cursor.specs.Steps.{AreOf, WhereTold, Counts, Onward, Gives, Ends, Reason, Stops, Steps}
 use Rattle.kl_cursor.proofs.Events.{of_none, of_then}
-use Rattle.kl_cursor.proofs.Likes.{same_itself, same_at, same_on, same_followed, same_drawn, same_fits, same_harm, same_weight, well_first, well_second, well_source, weight_more}
+use Rattle.kl_cursor.proofs.Likes.{same_itself, same_at, same_on, same_followed, same_drawn, same_fits, same_harm, same_weight, well_first, well_source, weight_more}
 use Rattle.kl_cursor.proofs.Still.{Still, still_beside, left_still, start_still, most_still, fits_still, types_on, bodies}
 
 pub told_on : (u v : Uses) (a b : World) → Moves u v a b → IsToldAt a → IsToldAt b

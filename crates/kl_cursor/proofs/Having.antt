@@ -1,5 +1,5 @@
 -- Items that are left, taken one by one.
-use Rattle.std.proofs.Common.{◌≡◌, ℕ, ◌+◌, ◌<◌, length, Bool, true, false, List, [], ◌∷◌, ◌++◌, reverse, Option, Some, None, Result, Ok, Err, refl, sym, ap, ◌∙◌, subst, arith}
+use Rattle.std.proofs.Common.{◌≡◌, ◌<◌, length, Bool, true, false, List, [], ◌∷◌, ◌++◌, reverse, refl, sym, ap, ◌∙◌, subst, arith}
 use Rattle.std.proofs.lemmas.List.{reverse-append}
 use Rattle.kl_value.specs.declared.Value.{Value}
 use Rattle.kl_outcome.specs.Outcome.{End, more, stop, fine, overflow, flow}
@@ -7,10 +7,9 @@ use Rattle.kl_ask.specs.World.{World}
 use Rattle.kl_eval.specs.declared.stop.EvalStop.TheVariants as why
 use Rattle.kl_scans.specs.Held.{nothing}
 use Rattle.kl_scans.proofs.Moving.{moves_none}
-use Rattle.kl_cursor.specs.declared.state.State.{State}
 use Rattle.kl_cursor.specs.declared.state.State.TheVariants as state
 use Rattle.kl_cursor.specs.Left.{have, snap, end_of}
-use Rattle.kl_cursor.specs.Steps.{Gives, Ends, Stops, Steps}
+use Rattle.kl_cursor.specs.Steps.{Gives, Ends, Stops}
 use Rattle.kl_cursor.proofs.Likes.{same_itself}
 use Rattle.kl_cursor.proofs.Snaps.{snap_Have}
 

@@ -12,10 +12,10 @@ use Rattle.kl_eval.specs.declared.stop.EvalStop.{EvalStop}
 use Rattle.kl_eval.specs.declared.stop.EvalStop.TheVariants as why
 use Rattle.kl_ship.specs.declared.plan.Scan.{Scan}
 use Rattle.kl_scans.specs.Held.{cursor_at, count_open, open_at, nothing, one_at, Owned}
-use Rattle.kl_scans.specs.Log.{Event, handed, paid}
-use Rattle.kl_scans.specs.Moves.{Moves, Closes}
+use Rattle.kl_scans.specs.Log.{Event, paid}
+use Rattle.kl_scans.specs.Moves.{Closes}
 use Rattle.kl_scans.specs.Scans.{CanScan, IsOpen, Pulls, PulledMore, PulledNone, NotPulled, Stopped}
-use Rattle.kl_scans.specs.Stage.{stage, ScanOf, IsTold}
+use Rattle.kl_scans.specs.Stage.{ScanOf, IsTold}
 use Rattle.kl_scans.proofs.Moving.{moves_none, moves_then, stage_stays}
 use Rattle.kl_cursor.specs.declared.state.State.{State}
 use Rattle.kl_cursor.specs.declared.state.State.TheVariants as state

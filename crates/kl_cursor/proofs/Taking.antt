@@ -9,7 +9,7 @@ use Rattle.kl_cursor.specs.declared.state.State.{State}
 use Rattle.kl_cursor.specs.declared.state.State.TheVariants as state
 use Rattle.kl_eval.specs.declared.stop.EvalStop.{EvalStop}
 use Rattle.kl_scans.specs.Held.{nothing, beside, Owned}
-use Rattle.kl_scans.specs.Moves.{Moves, Closes}
+use Rattle.kl_scans.specs.Moves.{Closes}
 use Rattle.kl_cursor.specs.Left.{Snap, fresh, have, pulling, both, bound, outside, inside, made, ended, snap, uses, end_of, nodes_from}
 use Rattle.kl_cursor.specs.Measure.{falling, rank, most, tall}
 use Rattle.kl_cursor.specs.Sense.{Stands, HasItems}

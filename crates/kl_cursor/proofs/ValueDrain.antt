@@ -1,48 +1,40 @@
 -- All items that are left, and the collection of them.
-use Rattle.std.proofs.Common.{◌≡◌, ◌⊎◌, ⊎_elim, inl, inr, ℕ, ◌+◌, ◌*◌, ◌≤◌, ◌<◌, List, [], ◌∷◌, ◌++◌, Option, Some, None, Result, Vec, Ok, Err, refl, sym, ap, subst, ◌∙◌, arith, append-nil, append_assoc, Bor}
+use Rattle.std.proofs.Common.{◌≡◌, ◌⊎◌, ⊎_elim, inl, inr, ◌≤◌, List, [], ◌∷◌, ◌++◌, Result, Vec, Ok, Err, refl, sym, ap, subst, ◌∙◌, arith}
 use Rattle.std.specs.Prelude.{⊤}
 use Rattle.std.specs.List.{AllByRecursion}
 use Rattle.std.specs.declared.alloc.Global.{Global}
 use Rattle.kl_value.specs.declared.Kind.{Kind}
 use Rattle.kl_value.specs.declared.Value.{Value}
 use Rattle.kl_type.specs.Ground.{Ground, coll}
-use Rattle.kl_outcome.specs.Outcome.{Name, Outcome, done, over, Flow, more, stop, End, fine, overflow, flow, followed, collected, gathered}
+use Rattle.kl_outcome.specs.Outcome.{Name, Flow, more, stop, End, fine, overflow, flow, followed, collected, gathered}
 use Rattle.kl_outcome.specs.Typed.{Inhabits, HaveTypes, OfType}
 use Rattle.kl_outcome.proofs.Flows.{collected_flow}
 use Rattle.kl_outcome.proofs.OutcomeTypes.{FlowOf, collected_typed}
 use Rattle.kl_ask.specs.World.{World}
 use Rattle.kl_ask.specs.declared.DriverError.{DriverError}
-use Rattle.kl_eval.specs.Steps.{AppendsAll, Gathers}
-use Rattle.kl_eval.specs.declared.stop.EvalStop.{EvalStop}
+use Rattle.kl_eval.specs.Steps.{Gathers}
 use Rattle.kl_eval.specs.declared.stop.EvalStop.TheVariants as why
 use Rattle.kl_eval.specs.declared.stop.Halt.{Halt}
 use Rattle.kl_eval.specs.declared.stop.Halt.TheVariants as halt
 use Rattle.kl_eval.specs.World.{StoppedBy}
 use Rattle.kl_ship.specs.Alike.{harm}
-use Rattle.kl_ship.specs.declared.plan.Plan.{Plan}
 use Rattle.kl_ship.specs.declared.plan.Scan.{Scan}
-use Rattle.kl_ship.specs.Holding.{ScansIn}
-use Rattle.kl_ship.specs.Meaning.{Come, many, worth, coming, plan, scanned}
+use Rattle.kl_ship.specs.Meaning.{many, worth, coming, plan, scanned}
 use Rattle.kl_ship.specs.Nodes as node
 use Rattle.kl_ship.specs.Nodes.{Node, Nodes, view}
-use Rattle.kl_ship.specs.Reached.{reached}
 use Rattle.kl_ship.proofs.Collections.{alike_same}
-use Rattle.kl_ship.proofs.Comings.{coming_typed, same_kind}
+use Rattle.kl_ship.proofs.Comings.{coming_typed}
 use Rattle.kl_scans.specs.Held.{nothing, Owned}
 use Rattle.kl_scans.specs.Moves.{Moves, Closes}
-use Rattle.kl_scans.specs.Stage.{ScanOf}
 use Rattle.kl_scans.proofs.Moving.{moves_none, moves_then, owned_after, stopped_then, ready_stays}
-use Rattle.kl_cursor.specs.declared.state.State.{State}
-use Rattle.kl_cursor.specs.declared.state.State.TheVariants as state
-use Rattle.kl_cursor.specs.Left.{Snap, fresh, snap, uses, left, reading, to_start, ScansLeft}
+use Rattle.kl_cursor.specs.Left.{Snap, fresh, uses, left, reading, to_start, ScansLeft}
 use Rattle.kl_cursor.specs.Likeness.{Same}
-use Rattle.kl_cursor.specs.Measure.{height, most}
+use Rattle.kl_cursor.specs.Measure.{height}
 use Rattle.kl_cursor.specs.Sense.{Fits, TypesAt, IsToldAt, HasWorth, Stands}
-use Rattle.kl_cursor.specs.Steps.{AreOf, WhereTold, Counts, Gives, Ends, Halts, Stops, Steps, Empties, Drains, ComesTo, Wholly, IsDone}
+use Rattle.kl_cursor.specs.Steps.{AreOf, WhereTold, Counts, Gives, Ends, Halts, Stops, Empties, Drains, ComesTo, Wholly, IsDone}
 use Rattle.kl_cursor.proofs.Events.{of_none, of_then}
 use Rattle.kl_cursor.proofs.Forms.{told_on, paid_both}
-use Rattle.kl_cursor.proofs.Likes.{same_itself, same_at, same_on, same_followed, same_harm, same_alike}
-use Rattle.kl_cursor.proofs.Snaps.{snap_Fresh}
+use Rattle.kl_cursor.proofs.Likes.{same_itself, same_on, same_followed, same_harm, same_alike}
 use Rattle.kl_cursor.proofs.Values.{answers, flow_of, told_comes}
 
 -- ---- what was drained so far

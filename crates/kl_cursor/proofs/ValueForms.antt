@@ -1,5 +1,5 @@
 -- Each form of a plan, from its parts.
-use Rattle.std.proofs.Common.{◌≡◌, ◌⊎◌, ⊎_elim, ℕ, ◌+◌, zero, suc, Bool, true, false, cond, nat_eq, List, [], ◌∷◌, ◌++◌, map, Option, Some, None, IsSome, Result, Vec, Ok, Err, slice_get, refl, sym, ap, subst, ◌∙◌, arith}
+use Rattle.std.proofs.Common.{◌≡◌, ⊎_elim, ℕ, ◌+◌, suc, Bool, true, false, cond, nat_eq, List, [], ◌∷◌, ◌++◌, map, Option, Some, None, IsSome, Result, Ok, Err, slice_get, refl, sym, ap, subst, ◌∙◌}
 use Rattle.std.specs.Prelude.{⊤}
 use Rattle.std.specs.Cmp.Lexicographic.{pointwise, same_text}
 use Rattle.std.specs.Option.{option_map}
@@ -12,7 +12,7 @@ use Rattle.kl_value.specs.declared.Kind.{Kind}
 use Rattle.kl_value.specs.declared.Value.{Value}
 use Rattle.kl_value.specs.declared.Value.TheVariants as value
 use Rattle.kl_type.specs.Ground.{Ground, Row, bool, rec as rec_type, var as var_type, coll, at}
-use Rattle.kl_outcome.specs.Outcome.{Name, Outcome, done, over, stuck, Flow, more, End, fine, overflow, flow, followed, outcome_of, part, tagged, as_variant, items_of, items_at_all, gathered, collected, kept, joined_to, union_of}
+use Rattle.kl_outcome.specs.Outcome.{Name, Outcome, done, over, more, End, fine, overflow, flow, followed, outcome_of, part, tagged, as_variant, items_of, items_at_all, gathered, collected, kept, joined_to, union_of}
 use Rattle.kl_outcome.specs.Typed.{Inhabits, HaveTypes, OfType}
 use Rattle.kl_outcome.proofs.Flows.{collected_flow}
 use Rattle.kl_outcome.proofs.OutcomeTypes.{part_typed, part_is, tagged_typed, variant_is, items_inhabit, union_typed}
@@ -23,13 +23,13 @@ use Rattle.kl_core.proofs.Safety.{safe, get_typed}
 use Rattle.kl_ask.specs.World.{World}
 use Rattle.kl_eval.specs.World.{StoppedBy}
 use Rattle.kl_eval.specs.Evals.{TellsPlain, SensePlain}
-use Rattle.kl_eval.specs.Steps.{AnswersOutcome, AppendsAll, AddsItems, Behind, Gathers, place_of, Finishes, JoinsItems, Joins}
+use Rattle.kl_eval.specs.Steps.{AnswersOutcome, AddsItems, Behind, Gathers, place_of, Finishes, Joins}
 use Rattle.kl_eval.specs.declared.stop.Halt.{Halt}
 use Rattle.kl_eval.specs.declared.stop.Halt.TheVariants as halt
 use Rattle.kl_ship.specs.declared.plan.Plan.{Plan}
 use Rattle.kl_ship.specs.declared.plan.Scan.{Scan}
 use Rattle.kl_ship.specs.Holding.{ScansIn, ScansInBranches}
-use Rattle.kl_ship.specs.Meaning.{Come, one, worth, coming, come_after, come_chosen, come_opened, no_tables, plan, plan_branches}
+use Rattle.kl_ship.specs.Meaning.{one, worth, come_after, come_chosen, come_opened, no_tables, plan, plan_branches}
 use Rattle.kl_ship.specs.Nodes as node
 use Rattle.kl_ship.specs.Nodes.{Node, Branches, no_branches, rest, branch, branches_of, view, view_branch}
 use Rattle.kl_ship.specs.Reached.{once, chosen_of, opened_of, reached, reached_branch}
@@ -38,7 +38,6 @@ use Rattle.kl_ship.specs.Kinds.{kind_of_items}
 use Rattle.kl_ship.proofs.Comings.{ComesAs, union_shows}
 use Rattle.kl_ship.proofs.KindLaws.{kinds_typed}
 use Rattle.kl_scans.specs.Held.{nothing}
-use Rattle.kl_scans.specs.Log.{paid}
 use Rattle.kl_scans.specs.Moves.{Moves}
 use Rattle.kl_scans.specs.Stage.{stage, ScanOf}
 use Rattle.kl_scans.proofs.Moving.{moves_none, moves_then, stopped_then}

@@ -1,7 +1,6 @@
 -- The fields of records, and the arguments of primitives.
 use Rattle.std.proofs.Common.{◌≡◌, ◌⊎◌, ⊎_elim, ℕ, ◌+◌, ◌<◌, ◌≤◌, suc, List, [], ◌∷◌, ◌++◌, map, length, drop, get_or, All, Option, Some, None, Result, Vec, Ok, Err, refl, sym, ap, subst, ◌∙◌, arith, append_assoc, append-nil}
 use Rattle.std.specs.Prelude.{⊤}
-use Rattle.std.specs.List.{AllByRecursion}
 use Rattle.std.specs.List.Sorted.{IsStrictlySortedBy}
 use Rattle.std.specs.declared.alloc.Global.{Global}
 use Rattle.std.proofs.Math.Path.{fun_ext}
@@ -12,15 +11,14 @@ use Rattle.kl_base.specs.Fields.{bytes_cmp, labels_of}
 use Rattle.kl_value.specs.IsCanonical.{IsCanonical}
 use Rattle.kl_value.specs.declared.Value.{Value}
 use Rattle.kl_value.specs.declared.Value.TheVariants as value
-use Rattle.kl_type.specs.Ground.{Ground, Row, rec as rec_type, no_row, row, labels_in}
+use Rattle.kl_type.specs.Ground.{Ground, Row, rec as rec_type, row, labels_in}
 use Rattle.kl_prim.specs.Meaning.{Answer}
 use Rattle.kl_prim.specs.Table.{Fits, meaning, row_at, Row as Primitive}
-use Rattle.kl_outcome.specs.Outcome.{Name, Outcome, done, over, stuck, after, answered, applied, args_then, parts_then, recorded}
+use Rattle.kl_outcome.specs.Outcome.{Name, Outcome, done, over, after, answered, parts_then}
 use Rattle.kl_outcome.specs.Typed.{Inhabits, HaveTypes, OfType, RowTypes, PrimTypes}
 use Rattle.kl_outcome.proofs.OutcomeTypes.{PartsOf, recorded_typed, over_nil}
 use Rattle.kl_outcome.proofs.PrimLemmas.{prim_fits, prim_typed, all_canonical, one_or_two}
-use Rattle.kl_ask.specs.World.{World, IsReady}
-use Rattle.kl_ask.specs.declared.DriverError.{DriverError}
+use Rattle.kl_ask.specs.World.{World}
 use Rattle.kl_eval.specs.World.{StoppedBy}
 use Rattle.kl_eval.specs.Steps.{AddsField, AnswersPrim, Outside}
 use Rattle.kl_eval.specs.declared.stop.EvalStop.{EvalStop}
@@ -30,22 +28,22 @@ use Rattle.kl_eval.specs.declared.stop.Halt.TheVariants as halt
 use Rattle.kl_ship.specs.declared.plan.Plan.{Plan}
 use Rattle.kl_ship.specs.declared.plan.Scan.{Scan}
 use Rattle.kl_ship.specs.Holding.{ScansIn, ScansInNodes, ScansInFields}
-use Rattle.kl_ship.specs.Meaning.{worth, plan, plan_all, plan_fields}
+use Rattle.kl_ship.specs.Meaning.{worth, plan, plan_fields}
 use Rattle.kl_ship.specs.Nodes as node
 use Rattle.kl_ship.specs.Nodes.{Node, Nodes, no_nodes, nodes, Fields, no_fields, fields, view, nodes_view, fields_view}
-use Rattle.kl_ship.specs.Reached.{reached, reached_nodes, reached_fields}
+use Rattle.kl_ship.specs.Reached.{reached_fields}
 use Rattle.kl_ship.specs.Typing.{PlansOf, FieldTypes}
 use Rattle.kl_scans.specs.Held.{nothing}
-use Rattle.kl_scans.specs.Log.{Event, paid}
+use Rattle.kl_scans.specs.Log.{paid}
 use Rattle.kl_scans.specs.Moves.{Moves}
-use Rattle.kl_scans.specs.Stage.{stage, ScanOf, readings}
+use Rattle.kl_scans.specs.Stage.{stage, ScanOf}
 use Rattle.kl_scans.proofs.Moving.{moves_none, moves_then, stage_stays, ready_stays, stopped_then, paid_then}
 use Rattle.kl_cursor.specs.Left.{reading}
-use Rattle.kl_cursor.specs.Sense.{TypesAt, IsToldAt, HasWorth, HasFields, HasCall}
-use Rattle.kl_cursor.specs.Steps.{AreOf, IsDone, ComesTo, Fails, Wholly, Partly, FieldsHave, FieldsCome, FieldsOver, FieldsGive, CallTypes, CallComes, CallGives}
+use Rattle.kl_cursor.specs.Sense.{IsToldAt, HasWorth, HasFields, HasCall}
+use Rattle.kl_cursor.specs.Steps.{AreOf, ComesTo, Fails, Wholly, Partly, FieldsHave, FieldsGive, CallTypes, CallComes, CallGives}
 use Rattle.kl_cursor.proofs.Events.{of_then}
-use Rattle.kl_cursor.proofs.Forms.{told_on, paid_both}
-use Rattle.kl_cursor.proofs.Values.{fails_as, fails_then, at_stage, worth_back, cost_back, both_paid}
+use Rattle.kl_cursor.proofs.Forms.{told_on}
+use Rattle.kl_cursor.proofs.Values.{fails_then, at_stage, worth_back, cost_back}
 
 -- ---- the fields of a record
 

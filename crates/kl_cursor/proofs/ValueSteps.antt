@@ -1,16 +1,10 @@
 -- Drains, literals, and what begins evaluated first, from what the code has.
-use Rattle.std.proofs.Common.{◌≡◌, ℕ, ◌+◌, ◌*◌, ◌<◌, ◌≤◌, zero, suc, max, Bool, true, false, cond, List, [], ◌∷◌, ◌++◌, drop, length, map, get_or, Option, Some, None, Result, Vec, Ok, Err, slice_get, refl, sym, ap, subst, ◌∙◌, arith, IfOk, Bor}
-use Rattle.std.specs.Prelude.{⊤}
-use mathlib.Core.Path.{ap₂}
+use Rattle.std.proofs.Common.{◌≡◌, ℕ, ◌+◌, ◌*◌, ◌<◌, ◌≤◌, zero, suc, max, Bool, cond, List, [], ◌∷◌, drop, length, map, get_or, Option, Some, None, Result, Vec, Ok, Err, slice_get, sym, ap, subst, ◌∙◌, arith, Bor}
 use Rattle.std.proofs.lemmas.Grind.{common_steps}
 use Rattle.std.proofs.lemmas.List.{at_drop_more}
 use Rattle.std.specs.declared.alloc.Global.{Global}
-use Rattle.kl_value.specs.Views.{as_bool, IsCollection}
-use Rattle.kl_value.specs.declared.Kind.{Kind}
 use Rattle.kl_value.specs.declared.Value.{Value}
-use Rattle.kl_type.specs.Ground.{Ground, coll}
-use Rattle.kl_outcome.specs.Outcome.{Name, done, over, Flow, more, stop, fine, overflow, as_variant, item_then}
-use Rattle.kl_outcome.specs.Typed.{Inhabits, HaveTypes}
+use Rattle.kl_outcome.specs.Outcome.{Name, done, more, stop, fine, overflow, as_variant, item_then}
 use Rattle.kl_ask.specs.World.{World}
 use Rattle.kl_ask.specs.declared.DriverError.{DriverError}
 use Rattle.kl_eval.specs.Steps.{AppendsAll, inside_of, place_of, TellsTruth}
@@ -20,32 +14,29 @@ use Rattle.kl_eval.specs.declared.stop.Halt.{Halt}
 use Rattle.kl_eval.specs.declared.stop.Halt.TheVariants as halt
 use Rattle.kl_ship.specs.declared.plan.Plan.{Plan}
 use Rattle.kl_ship.specs.declared.plan.Plan.TheVariants as plans
-use Rattle.kl_ship.specs.declared.plan.Scan.{Scan}
-use Rattle.kl_ship.specs.Meaning.{worth, plan, plan_items}
+use Rattle.kl_ship.specs.Meaning.{plan_items}
 use Rattle.kl_ship.specs.Nodes as node
 use Rattle.kl_ship.specs.Nodes.{Node, Nodes, no_nodes, nodes, nodes_of, rest, branches_of, view, view_branch, nodes_view, fields_view}
-use Rattle.kl_ship.specs.Reached.{reached, reached_nodes}
+use Rattle.kl_ship.specs.Reached.{reached_nodes}
 use Rattle.kl_ship.specs.Shipping.{other_node}
 use Rattle.kl_ship.specs.Typing.{EachPlan}
 use Rattle.kl_scans.specs.Held.{nothing}
-use Rattle.kl_scans.specs.Moves.{Moves, Closes}
-use Rattle.kl_scans.specs.Stage.{stage, ScanOf, readings}
+use Rattle.kl_scans.specs.Moves.{Closes}
+use Rattle.kl_scans.specs.Stage.{ScanOf, readings}
 use Rattle.kl_scans.proofs.Moving.{moves_none, stage_stays}
 use Rattle.kl_cursor.specs.declared.state.State.{State}
 use Rattle.kl_cursor.specs.declared.state.State.TheVariants as state
-use Rattle.kl_cursor.specs.Drawing.{draws}
 use Rattle.kl_cursor.specs.Left.{Snap, fresh, have, pulling, both, bound, outside, inside, made, ended, snap, uses, reading, nodes_from}
-use Rattle.kl_cursor.specs.Likeness.{Same}
-use Rattle.kl_cursor.specs.Measure.{tall, tall_nodes, tall_fields, height, rank, falling, most, size}
-use Rattle.kl_cursor.specs.Sense.{HasItems, HasWorth, Stands}
-use Rattle.kl_cursor.specs.Steps.{Onward, Gives, Ends, Stops, Steps, Begins, Empties, Drains, ComesTo, Wholly, Partly, Halted}
+use Rattle.kl_cursor.specs.Measure.{tall, tall_nodes, tall_fields, height, rank, falling, most}
+use Rattle.kl_cursor.specs.Sense.{HasWorth, Stands}
+use Rattle.kl_cursor.specs.Steps.{Onward, Gives, Ends, Stops, Steps, Empties, Drains, ComesTo, Wholly, Partly}
 use Rattle.kl_cursor.proofs.Likes.{same_itself, same_at}
-use Rattle.kl_cursor.proofs.Snaps.{snap_Fresh, snap_Bound, snap_Outside, snap_Make}
-use Rattle.kl_cursor.proofs.Values.{partly, part_value, part_stop, worth_as}
+use Rattle.kl_cursor.proofs.Snaps.{snap_Fresh, snap_Bound, snap_Make}
+use Rattle.kl_cursor.proofs.Values.{part_value, part_stop}
 use Rattle.kl_cursor.proofs.ValueForms.{heads_let, heads_if, heads_case, binds_let, leads_if, binds_branch, leads_rest}
 use Rattle.kl_cursor.proofs.ValueDrain.{Draining, drains_starts, drains_on, drains_ends, drains_over, drains_refused, drains_none, drains_lost}
 use Rattle.kl_cursor.proofs.ValueCode.{at_Let, at_If, at_Case, cond_view}
-use Rattle.kl_cursor.proofs.Whole.{spare, leads_fresh, binds_bound, head_stops, part_lost, whole_made, whole_stops, made_loop, made_loop_falls, source_lost, if_keeps, if_less, if_low, rest_keeps, branch_tall, branch_size, rest_tall, rest_size}
+use Rattle.kl_cursor.proofs.Whole.{spare, leads_fresh, binds_bound, head_stops, part_lost, if_keeps, if_less, if_low, rest_keeps, branch_tall, branch_size, rest_tall, rest_size}
 
 -- ---- measures
 

@@ -1,14 +1,13 @@
 -- What parts come to, one after the other.
-use Rattle.std.proofs.Common.{◌≡◌, ℕ, ◌+◌, List, [], ◌∷◌, ◌++◌, Result, Vec, Ok, Err, refl, sym, ap, subst, ◌∙◌, arith}
+use Rattle.std.proofs.Common.{◌≡◌, ℕ, ◌+◌, List, [], ◌∷◌, ◌++◌, Result, Ok, Err, sym, ap, subst, ◌∙◌, arith}
 use Rattle.std.specs.Prelude.{⊤}
 use Rattle.std.specs.List.{AllByRecursion}
 use Rattle.kl_value.specs.declared.Value.{Value}
 use Rattle.kl_type.specs.Ground.{Ground}
-use Rattle.kl_outcome.specs.Outcome.{Name, Outcome, done, over, stuck, Flow, fine, flow}
+use Rattle.kl_outcome.specs.Outcome.{Outcome, done, over, stuck, fine, flow}
 use Rattle.kl_outcome.specs.Typed.{Inhabits, HaveTypes, OfType}
 use Rattle.kl_outcome.proofs.OutcomeTypes.{FlowOf, over_nil}
-use Rattle.kl_ask.specs.World.{World, IsReady}
-use Rattle.kl_ask.specs.declared.DriverError.{DriverError}
+use Rattle.kl_ask.specs.World.{World}
 use Rattle.kl_eval.specs.World.{StoppedBy}
 use Rattle.kl_eval.specs.Steps.{AnswersOutcome, inside_of, Outside}
 use Rattle.kl_eval.specs.declared.stop.EvalStop.{EvalStop}
@@ -17,7 +16,7 @@ use Rattle.kl_eval.specs.declared.stop.Halt.{Halt}
 use Rattle.kl_eval.specs.declared.stop.Halt.TheVariants as halt
 use Rattle.kl_ship.specs.declared.plan.Scan.{Scan}
 use Rattle.kl_ship.specs.Holding.{ScansIn}
-use Rattle.kl_ship.specs.Meaning.{Come, one, worth, plan}
+use Rattle.kl_ship.specs.Meaning.{one, worth, plan}
 use Rattle.kl_ship.specs.Nodes.{Node}
 use Rattle.kl_ship.specs.Reached.{reached}
 use Rattle.kl_ship.specs.Typing.{PlanTypes}
@@ -30,7 +29,7 @@ use Rattle.kl_scans.specs.Stage.{stage, ScanOf, readings}
 use Rattle.kl_scans.proofs.Moving.{moves_none, moves_then, stage_stays, ready_stays, stopped_then, paid_then}
 use Rattle.kl_cursor.specs.Left.{reading}
 use Rattle.kl_cursor.specs.Sense.{TypesAt, IsToldAt, HasWorth}
-use Rattle.kl_cursor.specs.Steps.{AreOf, Halts, Comes, IsDone, ComesTo, Fails, Wholly, Partly}
+use Rattle.kl_cursor.specs.Steps.{AreOf, ComesTo, Fails, Wholly, Partly}
 use Rattle.kl_cursor.proofs.Events.{of_then}
 use Rattle.kl_cursor.proofs.Forms.{told_on}
 

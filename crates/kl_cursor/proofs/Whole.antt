@@ -1,6 +1,5 @@
 -- What a plan becomes as it begins, where a part of it or all of it is evaluated first.
-use Rattle.std.proofs.Common.{◌≡◌, ℕ, ◌+◌, ◌*◌, ◌^◌, ◌<◌, ◌≤◌, max, Bool, true, false, cond, List, [], ◌∷◌, length, map, Option, Some, None, IsSome, Result, Ok, Err, slice_get, refl, sym, ap, subst, ◌∙◌, arith, IfOk}
-use Rattle.std.specs.Prelude.{⊤}
+use Rattle.std.proofs.Common.{◌≡◌, ℕ, ◌+◌, ◌*◌, ◌^◌, ◌<◌, ◌≤◌, max, Bool, true, false, cond, List, [], ◌∷◌, length, map, Some, None, IsSome, Result, Ok, Err, slice_get, refl, sym, ap, subst, ◌∙◌, arith, IfOk}
 use Rattle.std.proofs.Math.Nat.{mul-le-mul_right}
 use Rattle.std.specs.List.{AllByRecursion}
 use Rattle.kl_value.specs.Views.{IsCollection}
@@ -8,8 +7,8 @@ use Rattle.kl_value.specs.declared.Kind.{Kind}
 use Rattle.kl_value.specs.declared.Kind.TheVariants as kind
 use Rattle.kl_value.specs.declared.Value.{Value}
 use Rattle.kl_type.specs.Ground.{Ground, bool, var as var_type, coll}
-use Rattle.kl_outcome.specs.Outcome.{Name, Outcome, done, over, stuck, as_variant, End, Flow, stop, fine, overflow, flow, drawn, items_of}
-use Rattle.kl_outcome.specs.Typed.{Inhabits, HaveTypes, OfType}
+use Rattle.kl_outcome.specs.Outcome.{Name, Outcome, done, over, as_variant, End, stop, fine, overflow, flow, drawn, items_of}
+use Rattle.kl_outcome.specs.Typed.{Inhabits, HaveTypes}
 use Rattle.kl_outcome.proofs.OutcomeTypes.{FlowOf, items_typed, items_inhabit}
 use Rattle.kl_core.specs.Counts.{fits_in}
 use Rattle.kl_ask.specs.World.{World}
@@ -23,12 +22,11 @@ use Rattle.kl_ship.specs.declared.plan.Scan.{Scan}
 use Rattle.kl_ship.specs.declared.plan.Plan.{Plan}
 use Rattle.kl_ship.specs.Holding.{ScansIn}
 use Rattle.kl_ship.specs.Kinds.{kind_of_items}
-use Rattle.kl_ship.specs.Meaning.{worth, coming, drawn_for, plan}
+use Rattle.kl_ship.specs.Meaning.{coming, drawn_for, plan}
 use Rattle.kl_ship.specs.Nodes as node
 use Rattle.kl_ship.specs.Nodes.{Node, Branches, no_branches, rest, branch, branches_of, view, view_branch}
 use Rattle.kl_ship.specs.Reached.{reached}
 use Rattle.kl_ship.specs.Typing.{BranchTypes}
-use Rattle.kl_ship.proofs.Comings.{same_kind}
 use Rattle.kl_scans.specs.Held.{nothing}
 use Rattle.kl_scans.specs.Moves.{Moves}
 use Rattle.kl_scans.specs.Stage.{stage, ScanOf, readings}
@@ -36,13 +34,12 @@ use Rattle.kl_scans.proofs.Moving.{stage_stays}
 use Rattle.kl_cursor.specs.declared.state.State.{State}
 use Rattle.kl_cursor.specs.Drawing.{draws}
 use Rattle.kl_cursor.specs.Left.{Snap, fresh, have, bound, outside, snap, reading}
-use Rattle.kl_cursor.specs.Likeness.{Same}
 use Rattle.kl_cursor.specs.Measure.{tall, tall_branches, count_nodes, size, size_branches, falling}
 use Rattle.kl_cursor.specs.Sense.{TypesAt, IsToldAt, HasItems, HasWorth}
-use Rattle.kl_cursor.specs.Steps.{Onward, Stops, Begins, ComesTo, IsDone, Wholly, Partly, Halted, Opened}
+use Rattle.kl_cursor.specs.Steps.{Onward, Stops, Begins, ComesTo, IsDone, Wholly, Partly, Halted}
 use Rattle.kl_cursor.proofs.Drawn.{drawn_as_kept, comes_whole}
-use Rattle.kl_cursor.proofs.Likes.{same_itself, same_at, well_source}
-use Rattle.kl_cursor.proofs.Values.{at_stage, cost_back, told_comes, Heads, Leads, Binds}
+use Rattle.kl_cursor.proofs.Likes.{same_at, well_source}
+use Rattle.kl_cursor.proofs.Values.{at_stage, cost_back, Heads, Leads, Binds}
 use Rattle.kl_cursor.proofs.ValueForms.{branch_at, branch_none, carried_in, rest_there}
 
 -- what `whole` takes above the height of a plan: more where it drains the plan

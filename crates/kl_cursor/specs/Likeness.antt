@@ -1,5 +1,5 @@
 -- Drawings that differ in order alone, and of a list not at all.
-use Rattle.std.specs.Prelude.{◌≡◌, ℕ}
+use Rattle.std.specs.Prelude.{◌≡◌}
 use Rattle.kl_value.specs.declared.Kind.{Kind}
 use Rattle.kl_value.specs.declared.Kind.TheVariants as kind
 use Rattle.kl_outcome.specs.Outcome.{Flow}

@@ -1,5 +1,5 @@
 -- Numbers that fall from step to step.
-use Rattle.std.specs.Prelude.{ℕ, ◌+◌, ◌*◌, ◌^◌, max, List, length, Option, Some, None}
+use Rattle.std.specs.Prelude.{ℕ, ◌+◌, ◌*◌, ◌^◌, max, length, Option, Some, None}
 use Rattle.kl_ask.specs.Driver.{Cursor}
 use Rattle.kl_ask.specs.World.{World}
 use Rattle.kl_ship.specs.Nodes as node
