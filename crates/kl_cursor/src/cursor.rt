@@ -4,15 +4,16 @@ ghost use Rattle.kl_ship.specs.Nodes.{view};
 ghost use Rattle.kl_scans.specs.Held.{Owned};
 ghost use Rattle.kl_scans.specs.Moves.{Closes};
 ghost use Rattle.kl_cursor.specs.Left.{fresh, snap, uses};
-ghost use Rattle.kl_cursor.specs.Sense.{Stands};
-ghost use Rattle.kl_cursor.specs.Steps.{Nexts};
+ghost use Rattle.kl_cursor.specs.Sense.{HasWorth, Stands};
+ghost use Rattle.kl_cursor.specs.Steps.{Nexts, Partly};
 
-use crate::plan_values::PlanValues;
 use crate::state::State;
 use crate::stepping::{close, step};
 use crate::steps::let_go;
+use crate::values::whole;
 use kl_base::{NoMemory, Seq};
-use kl_eval::{Env, EvalStop};
+use kl_eval::{Env, EvalStop, inside};
+use kl_scans::Scans;
 use kl_ship::Plan;
 use kl_value::{Value, dup_items};
 use std::alloc::Global;
@@ -24,6 +25,28 @@ pub struct Cursor<'p> {
     alloc: Global,
     at: State<'p>,
     env: Seq<Value>,
+}
+
+/// The value of a plan, of any type, where the last value of `env` is the nearest position's. Of a set or a bag it is the canonical
+/// collection.
+///
+/// The plan makes sense under the types of what the session has attached and those of the values in `env`. Afterwards, also after a
+/// stop, no cursor of a driver is open that was not, and each start and each row handed is counted.
+///
+/// # Errors
+/// `Overflow` exactly where the value is one; `Driver` where the driver of that source refused to go on, with its cause; want of
+/// memory. The last two come first.
+pub fn value_of<C: Scans>(
+    alloc: Global,
+    plan: &Plan,
+    env: &mut Vec<Value>,
+    run: &mut C,
+) -> Result<Value, EvalStop>
+    requires { HasWorth (C.world run.old) (view plan.now) (reverse env.old.items) }
+    ensures env { env.new.items ≡ env.old.items }
+    ensures value { Partly (reverse env.old.items) (view plan.now) result (C.world run.old) (C.world run.new) }
+{
+    inside(whole(alloc, plan, &Env::Base(env.as_slice()), run))
 }
 
 /// A cursor of a plan, with nothing done yet, where the last value of `env` is the nearest position's. Nothing is opened.
@@ -51,7 +74,7 @@ impl<'p> Cursor<'p> {
     /// # Errors
     /// `Overflow` where no item is left and the end is one, of a set or a bag also earlier; `Driver` where the driver of that
     /// source refused to go on, with its cause; want of memory. After a stop its scans are closed, and it gives nothing more.
-    pub fn next<C: PlanValues>(&mut self, run: &mut C) -> Result<Option<Value>, EvalStop>
+    pub fn next<C: Scans>(&mut self, run: &mut C) -> Result<Option<Value>, EvalStop>
         requires owned { Owned (uses (snap self.old.at)) (C.world run.old) }
         requires sense { Stands (C.world run.old) (snap self.old.at) (reverse self.old.env) }
         ensures env { self.new.env ≡ self.old.env }
@@ -74,7 +97,7 @@ impl<'p> Cursor<'p> {
     }
 
     /// Closes the cursors of drivers that it has open. Takes no memory.
-    pub fn close<C: PlanValues>(self, run: &mut C)
+    pub fn close<C: Scans>(self, run: &mut C)
         requires { Owned (uses (snap self.at)) (C.world run.old) }
         ensures { Closes (uses (snap self.entry.at)) (C.world run.old) (C.world run.new) }
     {

@@ -1,5 +1,6 @@
 -- Terms without sources: one means the same over all tables, and what it may come to is that.
-use Rattle.std.proofs.Common.{◌≡◌, List, ◌∷◌, cond, nat_eq, Some, None, Result, Ok, Err, refl, sym, ap, subst}
+use Rattle.std.proofs.Common.{◌≡◌, List, ◌∷◌, cond, nat_eq, Option, Some, None, Result, Ok, Err, refl, sym, ap, subst, Bor}
+use Rattle.std.specs.Prelude.{IfSome}
 use Rattle.std.specs.Cmp.Lexicographic.{pointwise}
 use mathlib.Core.Path.{fun_ext, ap₂}
 use Rattle.kl_value.specs.declared.Value.{Value}
@@ -16,7 +17,7 @@ use Rattle.kl_ask.specs.World.{World, types_of, values_of}
 use Rattle.kl_eval.specs.declared.stop.Halt.{Halt}
 use Rattle.kl_eval.specs.declared.stop.Halt.TheVariants as halt
 use Rattle.kl_eval.specs.Comes.{Comes}
-use Rattle.kl_eval.specs.Evals.{Sense, SensePlain, Evals, TellsPlain, no_tables}
+use Rattle.kl_eval.specs.Evals.{HasSense, Sense, SenseAnywhere, SensePlain, Evals, TellsPlain, no_tables}
 use Rattle.kl_eval.specs.Sources.{Anywhere, Nowhere, NoSource}
 use Rattle.kl_eval.specs.World.{StoppedBy}
 use Rattle.kl_eval.proofs.Laws.{comes_refine}
@@ -67,10 +68,20 @@ no_sources i u e = absurd (not_some u e)
     not_some : (x : Ground) → None ≡ Some x → ⊥
     not_some x h = cc
 
+come_plain : (t : Tree) (env : List Value) (S : SourceTypes) (T : Tables) (o : Outcome) → NoSource t → SenseAnywhere t env → Comes S T env t o → core no_tables t env ≡ o
+come_plain t env S T o n s c =
+    let up : Refines (core no_tables t env) o = subst (λ q. Refines q o) (plain_core T no_tables t env n) (comes_refine S T t env o c) in
+    sym (refines_is (core no_tables t env) o up (never_stuck no_types no_tables no_sources t s.0 env s.1 s.2 (s.3 no_types)))
+
 plain_comes : (t : Tree) (env : List Value) (w : World) (o : Outcome) → SensePlain t env w → Comes (types_of w) (values_of w) env t o → core no_tables t env ≡ o
-plain_comes t env w o s c =
-    let up : Refines (core no_tables t env) o = subst (λ q. Refines q o) (plain_core (values_of w) no_tables t env s.0) (comes_refine (types_of w) (values_of w) t env o c) in
-    sym (refines_is (core no_tables t env) o up (never_stuck no_types no_tables no_sources t s.1.0 env s.1.1 s.1.2 (s.1.3 no_types)))
+plain_comes t env w o s c = come_plain t env (types_of w) (values_of w) o s.0 s.1 c
+
+pub anywhere_sense : (t : Tree) (env : List Value) → SenseAnywhere t env → HasSense t env
+anywhere_sense t env s = (no_types, (s.0, s.1, s.2, s.3 no_types))
+
+pub lent_is : (t : Tree) (env : List Value) (o : Option (Bor Value)) → NoSource t → SenseAnywhere t env → IfSome o (λ v. (S : SourceTypes) (T : Tables) → Comes S T env t (done v.now)) → IfSome o (λ v. core no_tables t env ≡ done v.now)
+lent_is t env (Some v) n s h = come_plain t env no_types no_tables (done v.now) n s (h no_types no_tables)
+lent_is t env None n s h = tt
 
 pub plain_same : (t : Tree) (env : List Value) (r : Result Value Halt) (a b : World) → SensePlain t env a → Evals t env r a b → b ≡ a
 plain_same t env r a b s h = h.still s.0

@@ -33,8 +33,11 @@ abbrev pub Sense : Tree → List Value → World → Type 0
 Sense t env w = (G : List Ground) × (s : Ground) × HaveTypes G env × CoreTypes (types_of w) G t s × IsReady w
 
 -- a term in which no source stands makes sense, whatever sources are attached
+abbrev pub SenseAnywhere : Tree → List Value → Type 0
+SenseAnywhere t env = (G : List Ground) × (s : Ground) × HaveTypes G env × ((S : SourceTypes) → CoreTypes S G t s)
+
 abbrev pub SensePlain : Tree → List Value → World → Type 0
-SensePlain t env w = NoSource t × ((G : List Ground) × (s : Ground) × HaveTypes G env × ((S : SourceTypes) → CoreTypes S G t s)) × IsReady w
+SensePlain t env w = NoSource t × SenseAnywhere t env × IsReady w
 
 -- for private functions alone: the same under some types of sources, and of lists of terms, of fields, of arguments, of
 -- bodies and of whole collections

@@ -15,7 +15,9 @@ mod stop;
 mod tables;
 
 pub use env::{Env, variable};
-pub use public::{eval, eval_list, plain};
-pub use steps::{append, apply, copy, gather, inside, join, outside, place, push, push_field, tag};
+pub use public::{eval, eval_list, lent_plain, plain};
+pub use steps::{
+    append, apply, copy, gather, inside, join, outside, place, push, push_field, tag, truth, variant,
+};
 pub use stop::{EvalStop, Halt};
 pub use tables::Tables;

@@ -1,10 +1,13 @@
 //! The public calls.
-ghost use Rattle.std.specs.Prelude.{◌≡◌, reverse};
+ghost use Rattle.std.specs.Prelude.{◌≡◌, IfSome, reverse};
+ghost use Rattle.kl_core.specs.Core.{core};
 ghost use Rattle.kl_core.specs.Trees.{view};
-ghost use Rattle.kl_eval.specs.Evals.{Sense, SenseList, SensePlain, Evaluates, EvaluatesList, TellsPlain};
+ghost use Rattle.kl_outcome.specs.Outcome.{done};
+ghost use Rattle.kl_eval.specs.Evals.{Sense, SenseAnywhere, SenseList, SensePlain, Evaluates, EvaluatesList, TellsPlain, no_tables};
+ghost use Rattle.kl_eval.specs.Sources.{NoSource};
 ghost use Rattle.kl_eval.specs.Values.{values};
 
-use crate::env::Env;
+use crate::env::{Env, lent};
 use crate::evaluator::value;
 use crate::steps::{add_list, inside};
 use crate::stop::{EvalStop, Halt};
@@ -74,4 +77,14 @@ pub fn plain<T: Tables>(
     ensures gives { TellsPlain (T.world tables.old) (view term.now) (values env.now) result }
 {
     value(alloc, term, &*env, tables)
+}
+
+/// The value of a variable, of a constant, or of a field of one of them, where it stands: of a term in which no source stands, and
+/// that makes sense whatever sources are attached. Takes no memory.
+pub fn lent_plain<'a>(term: &'a Term, env: &'a Env<'a>) -> Option<&'a Value>
+    requires plain { NoSource (view term.now) }
+    requires sense { SenseAnywhere (view term.now) (values env.now) }
+    ensures { IfSome result (λ v. core no_tables (view term.now) (values env.now) ≡ done v.now) }
+{
+    lent(term, env)
 }

@@ -1,0 +1,8 @@
+use Rattle.kl_eval.proofs.PlainTerms.{anywhere_sense, lent_is}
+use Rattle.kl_eval.proofs.public.lent_plain.Goals as goal
+
+pub lent-requires : goal.lent-requires
+lent-requires c = anywhere_sense _ _ c.requires.sense
+
+pub returns : goal.returns
+returns c = lent_is _ _ _ c.requires.plain c.requires.sense c.lent.ensures
