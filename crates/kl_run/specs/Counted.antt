@@ -1,0 +1,69 @@
+-- What is counted of the scans of a plan.
+use Rattle.std.specs.Prelude.{◌≡◌, ℕ, ◌-◌, ◌^◌, ◌&&◌, min, Bool, true, List, [], ◌∷◌, map, Option, Some, None, cond, nat_eq, slice_get}
+use Rattle.std.specs.List.{Contains, sum_by}
+use Rattle.kl_outcome.specs.Outcome.{Name}
+use Rattle.kl_value.specs.declared.Value.{Value}
+use Rattle.kl_ask.specs.Asked.{raised_by, same_ask}
+use Rattle.kl_ask.specs.Asks.{answers}
+use Rattle.kl_ask.specs.Driver.{DriverKind, State, Rows}
+use Rattle.kl_ask.specs.declared.ask.Ask.{Ask}
+use Rattle.kl_ask.specs.declared.ask.Ask.TheVariants as asks
+use Rattle.kl_ask.specs.declared.ask.ColTest.{ColTest}
+use Rattle.kl_ask.specs.declared.settings.Trace.{Trace}
+use Rattle.kl_ship.specs.Meaning.{Readings}
+use Rattle.kl_ship.specs.Nodes.{Node}
+use Rattle.kl_ship.specs.Numbers.{scans_in}
+use Rattle.kl_ship.specs.Reached.{reached}
+use Rattle.kl_ship.specs.declared.plan.Scan.{Scan}
+use Rattle.kl_sources.specs.Sources.{contents}
+use Rattle.kl_sources.specs.declared.source.Source.{Source}
+
+-- a count for each scan, by its number, and nothing is counted but steps
+pub record IsFreshTrace (p : Node) (steps : ℕ) (t : Trace) : Type 0 where
+  pub steps : t.steps ≡ steps
+  pub starts : t.starts ≡ map (λ c. (c.number, 0)) (scans_in p)
+  pub joins : t.joins ≡ []
+  pub hits : t.hits ≡ 0
+  pub misses : t.misses ≡ 0
+  pub peak : t.peak ≡ 0
+
+abbrev pub count_in : Option (ℕ × ℕ) → ℕ
+count_in (Some e) = e.1
+count_in None = 0
+
+-- how often the scan of a number was started
+abbrev pub starts_of : List (ℕ × ℕ) → ℕ → ℕ
+starts_of starts n = count_in (slice_get starts n)
+
+-- how often an ask was asked, by the kept list of a driver
+abbrev pub times_of : Ask → List (Ask × ℕ) → ℕ
+times_of ask [] = 0
+times_of ask (kept ∷ asked) = cond (same_ask kept.0 ask) kept.1 (times_of ask asked)
+
+abbrev pub asks_it : ℕ → Ask → Scan → Bool
+asks_it d ask c = nat_eq c.driver d && same_ask c.ask ask
+
+-- the starts of the scans that ask a driver this
+abbrev pub starts_asking : ℕ → Ask → List Scan → List (ℕ × ℕ) → ℕ
+starts_asking d ask cs starts = sum_by (λ c. cond (asks_it d ask c) (starts_of starts c.number) 0) cs
+
+-- Each driver was asked each ask as often as the scans that ask it were started, and nothing else. (A count stands still at its
+-- greatest value.)
+abbrev pub AsksCounted : Node → List (ℕ × ℕ) → List State → List State → Type 0
+AsksCounted p starts old new =
+    (d : ℕ) (a b : State) (ask : Ask) → slice_get old d ≡ Some a → slice_get new d ≡ Some b
+    → times_of ask b.asked ≡ raised_by (starts_asking d ask (scans_in p) starts) (times_of ask a.asked)
+
+-- what scans of the marked sources read, where contents are told
+abbrev pub ReadsMarked : List DriverKind → List Source → (ℕ → Bool) → Readings → Type 0
+ReadsMarked ks ss marks R =
+    (i : ℕ) (s : Source) (rows : List Value) (c : Scan) (keep : List Name) (tests : List ColTest)
+    → slice_get ss i ≡ Some s → marks i ≡ true → contents ks s ≡ Some (Rows rows) → c.driver ≡ s.driver → c.ask ≡ asks.Rows s.name keep tests
+    → R c ≡ Some (answers rows keep tests)
+
+abbrev pub at_number : ℕ → Scan → ℕ
+at_number n c = cond (nat_eq c.number n) 1 0
+
+-- each scan was started once for each environment that reaches it
+abbrev pub StartsCounted : Readings → Node → List (ℕ × ℕ) → Type 0
+StartsCounted R p starts = (c : Scan) → Contains (scans_in p) c → starts_of starts c.number ≡ min (reached R (at_number c.number) p []) (2 ^ 64 - 1)
