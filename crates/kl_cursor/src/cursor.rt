@@ -7,6 +7,7 @@ ghost use Rattle.kl_cursor.specs.Left.{fresh, snap, uses};
 ghost use Rattle.kl_cursor.specs.Sense.{HasWorth, Stands};
 ghost use Rattle.kl_cursor.specs.Steps.{Nexts, Partly};
 
+use crate::pulling::may_pull;
 use crate::state::State;
 use crate::stepping::{close, step};
 use crate::steps::let_go;
@@ -94,6 +95,12 @@ impl<'p> Cursor<'p> {
             },
             Err(stop) => Err(stop),
         }
+    }
+
+    /// Whether `next` may read on at a source. Where it may not, the next item is at hand, or there is none. Whoever holds back
+    /// what it makes of items lets go of it before a source is waited for.
+    pub fn may_pull(&self) -> bool {
+        may_pull(&self.at)
     }
 
     /// Closes the cursors of drivers that it has open. Takes no memory.

@@ -7,6 +7,7 @@
 mod ahead;
 mod cursor;
 mod drawing;
+mod pulling;
 mod state;
 mod stepping;
 mod steps;

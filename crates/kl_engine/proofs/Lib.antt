@@ -6,6 +6,7 @@ pub mod LineLemmas
 pub mod SizeLemmas
 pub mod StatsLemmas
 pub mod DriverLemmas
+pub mod SilentLemmas
 pub mod AlikeLemmas
 pub mod FairLemmas
 pub mod DoneLemmas
@@ -13,6 +14,7 @@ pub mod InputLemmas
 pub mod FileAnswers
 pub mod AnswerLemmas
 pub mod TermLemmas
+pub mod ListLemmas
 pub mod RewriteLemmas
 pub mod MeaningLemmas
 pub mod ProgramLemmas

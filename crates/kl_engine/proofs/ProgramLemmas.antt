@@ -10,7 +10,7 @@ use Rattle.kl_outcome.specs.Outcome.{Name}
 use Rattle.kl_ask.specs.Driver.{DriverKind, State}
 use Rattle.kl_sources.specs.declared.source.Source.{Source}
 use Rattle.kl_sources.specs.Sources.{kinds_of}
-use Rattle.kl_engine.specs.Answering.{SomeRose, one, IsOutside, reading, writing, drifting, wanting, FollowsVerdict, DoesText, Does, IsDetermined, IsOneOf, HasTextFault, HasFault, IsMentionedIn, IsMentioned, EndsSilent, IsRun, IsUnreadFault, IsUnreadBy, SomeDrifted, OfRun, LacksFile, IsStoredFault}
+use Rattle.kl_engine.specs.Answering.{SomeRose, one, IsOutside, reading, writing, drifting, wanting, FollowsVerdict, DoesText, Does, IsDetermined, IsOneOf, HasTextFault, HasFault, IsMentionedIn, IsMentioned, EndsSilent, IsRun, IsUnreadFault, IsUnreadBy, SomeDrifted, OfRun, LacksFile, IsStoredFault, IsOfList}
 use Rattle.kl_engine.specs.Commands.{Origin, Files, Made, Program, TellTo}
 use Rattle.kl_engine.specs.Faults.{Ending}
 use Rattle.kl_engine.specs.Outside.{Outside, outside_of}
@@ -21,6 +21,7 @@ use Rattle.kl_engine.specs.declared.fault.Fault.TheVariants as fault
 use Rattle.kl_engine.specs.declared.inputs.Inputs.{Inputs}
 use Rattle.kl_engine.specs.declared.top.Purpose.{Purpose}
 use Rattle.kl_engine.specs.declared.top.Purpose.TheVariants as purpose
+use Rattle.kl_engine.proofs.SilentLemmas.{unprinted_where}
 use Rattle.kl_engine.proofs.DriverLemmas.{keeps_same, keeps_wider}
 use Rattle.kl_engine.proofs.FairLemmas.{IsOfVerdict, fair_text}
 use Rattle.kl_engine.proofs.InputLemmas.{inputs_one, inputs_well, inputs_fault_one, inputs_verdict}
@@ -216,7 +217,9 @@ module _ (p : Purpose) (from : Origin) (f f' : FilesState) where
       write = does.write;
       changed = λ name is. of_run p from f (kinds_of ds) (λ text ss. SomeDrifted ss (λ x. IsMentionedIn ss text x × (x ≡ name)) ds ds') (subst (IsOneOf (HasTextFault p)) is does.no_other) i.text i.sources reads.inputs (does.changed name is);
       no_other = of_program p from end does.no_other;
-      nothing = does.nothing;
+      nothing = λ silent. does.nothing (unprinted_where (IsOfList i.sources i.text) (OfRun (Program p from) f (kinds_of ds) (λ text ss. IsOfList ss text)) end
+          (λ is lists. of_run p from f (kinds_of ds) (λ text ss. IsOfList ss text) (subst (IsOneOf (HasTextFault p)) is does.no_other) i.text i.sources reads.inputs lists)
+          (λ name is lists. of_run p from f (kinds_of ds) (λ text ss. IsOfList ss text) (subst (IsOneOf (HasTextFault p)) is does.no_other) i.text i.sources reads.inputs lists) silent);
     };
     unread = λ g is un. of_run p from f (kinds_of ds) (λ text ss. IsUnreadBy ss (IsMentionedIn ss text) g ds ds') (unread_run p g un (subst (IsOneOf (HasTextFault p)) is does.no_other)) i.text i.sources reads.inputs (does.unread g is un);
     closed = record {
