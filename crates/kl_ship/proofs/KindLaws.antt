@@ -1,5 +1,5 @@
 -- The kind as which a plan may come item by item is that of its type.
-use Rattle.std.proofs.Common.{◌≡◌, ⊎_elim, ℕ, Bool, Option, Some, None, List, ◌∷◌, slice_get, refl, sym, ap, subst, ◌∙◌}
+use Rattle.std.proofs.Common.{◌≡◌, ⊎_elim, ℕ, Bool, Option, Some, None, List, ◌∷◌, refl, sym, ap, ◌∙◌}
 use Rattle.kl_value.specs.declared.Kind.{Kind}
 use Rattle.kl_type.specs.Ground.{Ground, Row, coll}
 use Rattle.kl_core.specs.Trees as term

@@ -13,3 +13,4 @@ pub mod Numbering
 pub mod Over
 pub mod Sense
 pub mod Holding
+pub mod Amounts

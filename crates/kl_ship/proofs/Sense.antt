@@ -73,7 +73,7 @@ whole_asked s good =
     let same : w.0 ≡ attached_source s = cc in
     subst (λ a. IsAsked s (ground_of a.ty)) same (w.2, w.3)
 
-whole_scan : (ss : List ShipSource) (i : ℕ) (s : ShipSource) (u : Need) (n : ℕ) (c : Scan) → slice_get ss i ≡ Some s → IsWholeScan s u n c → IsGround (ground s) → ScanOf ss c (item_of (ground s))
+pub whole_scan : (ss : List ShipSource) (i : ℕ) (s : ShipSource) (u : Need) (n : ℕ) (c : Scan) → slice_get ss i ≡ Some s → IsWholeScan s u n c → IsGround (ground s) → ScanOf ss c (item_of (ground s))
 whole_scan ss i s u n c at w good = record {
   place = i;
   source = s;

@@ -10,3 +10,4 @@ pub mod Typing
 pub mod Numbers
 pub mod Reached
 pub mod Holding
+pub mod Joins

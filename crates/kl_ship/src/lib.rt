@@ -5,6 +5,7 @@
 #![tactic(auto)]
 
 mod building;
+mod counting;
 mod laws;
 mod needs;
 mod plan;
@@ -13,6 +14,7 @@ mod scanning;
 mod shipping;
 mod source;
 
+pub use counting::count_scans;
 pub use laws::plan_laws;
 pub use needs::Need;
 pub use plan::{Frees, Join, JoinKey, Plan, PlanBranches, PlanFields, Plans, Scan};
