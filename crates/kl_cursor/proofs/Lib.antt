@@ -10,7 +10,7 @@ pub mod Scanning
 pub mod Starting
 pub mod Drawn
 pub mod Beginning
-pub mod Values
+pub mod Comings
 pub mod ValueForms
 pub mod ValueParts
 pub mod ValueDrain

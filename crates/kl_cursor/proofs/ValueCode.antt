@@ -28,7 +28,7 @@ use Rattle.kl_cursor.specs.Sense.{HasWorth, HasFields, HasCall, Stands}
 use Rattle.kl_cursor.specs.Steps.{ComesTo, Wholly, Drains, FieldsGive, CallGives}
 use Rattle.kl_cursor.proofs.Calls.{owned_nothing}
 use Rattle.kl_cursor.proofs.Snaps.{snap_Fresh}
-use Rattle.kl_cursor.proofs.Values.{part_value, part_stop, whole_as, worth_as, worth_on, head_sense, head_stop, makes, lead_sense, leads, binds_lead}
+use Rattle.kl_cursor.proofs.Comings.{part_value, part_stop, whole_as, worth_as, worth_on, head_sense, head_stop, makes, lead_sense, leads, binds_lead}
 use Rattle.kl_cursor.proofs.ValueForms.{heads_let, heads_if, heads_case, heads_proj, heads_inj, makes_proj, makes_inj, field_there, binds_let, leads_if, test_there, variant_there, binds_branch, no_rest, leads_rest, plain_whole, plain_sense, var_whole, var_there, union_first_sense, union_second_sense, first_there, second_there, union_whole, union_first}
 use Rattle.kl_cursor.proofs.ValueDrain.{make_items, loop_items, scan_items, gathers, items_stand}
 use Rattle.kl_cursor.proofs.ValueParts.{rec_sense, rec_whole, rec_stop, prim_sense, prim_whole, prim_stop}

@@ -35,7 +35,7 @@ use Rattle.kl_cursor.specs.Steps.{AreOf, WhereTold, Counts, Gives, Ends, Halts, 
 use Rattle.kl_cursor.proofs.Events.{of_none, of_then}
 use Rattle.kl_cursor.proofs.Forms.{told_on, paid_both}
 use Rattle.kl_cursor.proofs.Likes.{same_itself, same_on, same_followed, same_harm, same_alike}
-use Rattle.kl_cursor.proofs.Values.{answers, flow_of, told_comes}
+use Rattle.kl_cursor.proofs.Comings.{answers, flow_of, told_comes}
 
 -- ---- what was drained so far
 

@@ -46,7 +46,7 @@ use Rattle.kl_cursor.specs.Sense.{TypesAt, IsToldAt, HasWorth}
 use Rattle.kl_cursor.specs.Steps.{IsDone, ComesTo, Wholly}
 use Rattle.kl_cursor.proofs.Events.{of_then}
 use Rattle.kl_cursor.proofs.Forms.{told_on}
-use Rattle.kl_cursor.proofs.Values.{answers, leaf, fails_as, fails_then, Heads, Makes, Leads, Binds, at_stage, worth_back, cost_back, told_comes, both_paid}
+use Rattle.kl_cursor.proofs.Comings.{answers, leaf, fails_as, fails_then, Heads, Makes, Leads, Binds, at_stage, worth_back, cost_back, told_comes, both_paid}
 
 -- ---- parts that stand first
 

@@ -43,7 +43,7 @@ use Rattle.kl_cursor.specs.Sense.{IsToldAt, HasWorth, HasFields, HasCall}
 use Rattle.kl_cursor.specs.Steps.{AreOf, ComesTo, Fails, Wholly, Partly, FieldsHave, FieldsGive, CallTypes, CallComes, CallGives}
 use Rattle.kl_cursor.proofs.Events.{of_then}
 use Rattle.kl_cursor.proofs.Forms.{told_on}
-use Rattle.kl_cursor.proofs.Values.{fails_then, at_stage, worth_back, cost_back}
+use Rattle.kl_cursor.proofs.Comings.{fails_then, at_stage, worth_back, cost_back}
 
 -- ---- the fields of a record
 

@@ -32,7 +32,7 @@ use Rattle.kl_cursor.specs.Sense.{HasWorth, Stands}
 use Rattle.kl_cursor.specs.Steps.{Onward, Gives, Ends, Stops, Steps, Empties, Drains, ComesTo, Wholly, Partly}
 use Rattle.kl_cursor.proofs.Likes.{same_itself, same_at}
 use Rattle.kl_cursor.proofs.Snaps.{snap_Fresh, snap_Bound, snap_Make}
-use Rattle.kl_cursor.proofs.Values.{part_value, part_stop}
+use Rattle.kl_cursor.proofs.Comings.{part_value, part_stop}
 use Rattle.kl_cursor.proofs.ValueForms.{heads_let, heads_if, heads_case, binds_let, leads_if, binds_branch, leads_rest}
 use Rattle.kl_cursor.proofs.ValueDrain.{Draining, drains_starts, drains_on, drains_ends, drains_over, drains_refused, drains_none, drains_lost}
 use Rattle.kl_cursor.proofs.ValueCode.{at_Let, at_If, at_Case, cond_view}

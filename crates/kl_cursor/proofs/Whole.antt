@@ -39,7 +39,7 @@ use Rattle.kl_cursor.specs.Sense.{TypesAt, IsToldAt, HasItems, HasWorth}
 use Rattle.kl_cursor.specs.Steps.{Onward, Stops, Begins, ComesTo, IsDone, Wholly, Partly, Halted}
 use Rattle.kl_cursor.proofs.Drawn.{drawn_as_kept, comes_whole}
 use Rattle.kl_cursor.proofs.Likes.{same_at, well_source}
-use Rattle.kl_cursor.proofs.Values.{at_stage, cost_back, Heads, Leads, Binds}
+use Rattle.kl_cursor.proofs.Comings.{at_stage, cost_back, Heads, Leads, Binds}
 use Rattle.kl_cursor.proofs.ValueForms.{branch_at, branch_none, carried_in, rest_there}
 
 -- what `whole` takes above the height of a plan: more where it drains the plan
