@@ -1,0 +1,11 @@
+pub mod Means
+pub mod Shown
+pub mod Told
+pub mod Sources
+pub mod Sessions
+pub mod Raises
+pub mod Sums
+pub mod Counts
+pub mod Quiet
+pub mod Traces
+pub mod Shipped

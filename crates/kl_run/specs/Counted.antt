@@ -1,5 +1,5 @@
 -- What is counted of the scans of a plan.
-use Rattle.std.specs.Prelude.{◌≡◌, ℕ, ◌-◌, ◌^◌, ◌&&◌, min, Bool, true, List, [], ◌∷◌, map, Option, Some, None, cond, nat_eq, slice_get}
+use Rattle.std.specs.Prelude.{◌≡◌, ℕ, zero, suc, ◌+◌, ◌-◌, ◌^◌, ◌&&◌, min, Bool, true, List, [], ◌∷◌, map, Option, Some, None, cond, nat_eq, slice_get}
 use Rattle.std.specs.List.{Contains, sum_by}
 use Rattle.kl_outcome.specs.Outcome.{Name}
 use Rattle.kl_value.specs.declared.Value.{Value}
@@ -15,12 +15,13 @@ use Rattle.kl_ship.specs.Nodes.{Node}
 use Rattle.kl_ship.specs.Numbers.{scans_in}
 use Rattle.kl_ship.specs.Reached.{reached}
 use Rattle.kl_ship.specs.declared.plan.Scan.{Scan}
+use Rattle.kl_scans.specs.Log.{Event, started, handed}
 use Rattle.kl_sources.specs.Sources.{contents}
 use Rattle.kl_sources.specs.declared.source.Source.{Source}
 
 -- a count for each scan, by its number, and nothing is counted but steps
-pub record IsFreshTrace (p : Node) (steps : ℕ) (t : Trace) : Type 0 where
-  pub steps : t.steps ≡ steps
+pub record IsFreshTrace (p : Node) (rewriting : ℕ) (t : Trace) : Type 0 where
+  pub steps : t.steps ≡ rewriting
   pub starts : t.starts ≡ map (λ c. (c.number, 0)) (scans_in p)
   pub joins : t.joins ≡ []
   pub hits : t.hits ≡ 0
@@ -30,6 +31,11 @@ pub record IsFreshTrace (p : Node) (steps : ℕ) (t : Trace) : Type 0 where
 abbrev pub count_in : Option (ℕ × ℕ) → ℕ
 count_in (Some e) = e.1
 count_in None = 0
+
+-- A count that was raised so often: it stands still at its greatest value, and one that was never raised is as it was.
+abbrev pub raised : ℕ → ℕ → ℕ
+raised zero count = count
+raised (suc n) count = raised_by (suc n) count
 
 -- how often the scan of a number was started
 abbrev pub starts_of : List (ℕ × ℕ) → ℕ → ℕ
@@ -52,7 +58,7 @@ starts_asking d ask cs starts = sum_by (λ c. cond (asks_it d ask c) (starts_of 
 abbrev pub AsksCounted : Node → List (ℕ × ℕ) → List State → List State → Type 0
 AsksCounted p starts old new =
     (d : ℕ) (a b : State) (ask : Ask) → slice_get old d ≡ Some a → slice_get new d ≡ Some b
-    → times_of ask b.asked ≡ raised_by (starts_asking d ask (scans_in p) starts) (times_of ask a.asked)
+    → times_of ask b.asked ≡ raised (starts_asking d ask (scans_in p) starts) (times_of ask a.asked)
 
 -- what scans of the marked sources read, where contents are told
 abbrev pub ReadsMarked : List DriverKind → List Source → (ℕ → Bool) → Readings → Type 0
@@ -60,6 +66,12 @@ ReadsMarked ks ss marks R =
     (i : ℕ) (s : Source) (rows : List Value) (c : Scan) (keep : List Name) (tests : List ColTest)
     → slice_get ss i ≡ Some s → marks i ≡ true → contents ks s ≡ Some (Rows rows) → c.driver ≡ s.driver → c.ask ≡ asks.Rows s.name keep tests
     → R c ≡ Some (answers rows keep tests)
+
+-- how many rows a driver handed
+abbrev pub rows_by : ℕ → List Event → ℕ
+rows_by d [] = 0
+rows_by d (started c ∷ es) = rows_by d es
+rows_by d (handed c n ∷ es) = cond (nat_eq c.driver d) n 0 + rows_by d es
 
 abbrev pub at_number : ℕ → Scan → ℕ
 at_number n c = cond (nat_eq c.number n) 1 0

@@ -5,7 +5,7 @@ ghost use Rattle.kl_core.specs.Trees.{view as term_view};
 ghost use Rattle.kl_ask.specs.Driver.{State};
 ghost use Rattle.kl_ship.specs.Contents.{MakesSense};
 ghost use Rattle.kl_ship.specs.Nodes.{view};
-ghost use Rattle.kl_sources.specs.Sources.{ArePlaced, kinds_of};
+ghost use Rattle.kl_sources.specs.Sources.{ArePlaced, IsSuited, kinds_of};
 ghost use Rattle.kl_run.specs.Planned.{IsPlanOf, ship_source, ships_of};
 
 use kl_ask::{Driver, Settings, abilities_boxed};
@@ -35,6 +35,24 @@ pub fn plan_of(
     ship(alloc, term, &ships, settings)
 }
 
+// A source, as plans are made for it.
+fn ship_source(
+    alloc: Global,
+    source: &Source,
+    drivers: &Vec<Box<dyn Driver>>,
+) -> Result<ShipSource, NoMemory>
+    requires placed { IsSuited (kinds_of (map (λ d. state d) drivers.now.items)) source.now }
+    ensures { IfOk result (λ s. s ≡ ship_source (kinds_of (map (λ d. state d) drivers.now.items)) source.now) }
+{
+    let abilities = abilities_boxed(&drivers[source.driver as usize]);
+    Ok(ShipSource {
+        ty: source.ty.dup(alloc)?,
+        driver: source.driver,
+        abilities,
+        name: source.name.dup()?,
+    })
+}
+
 fn ship_sources(
     alloc: Global,
     sources: &[Source],
@@ -45,12 +63,7 @@ fn ship_sources(
 {
     let mut ships = Vec::with_capacity(alloc, sources.len())?;
     'sources: for source in sources {
-        ships.push(ShipSource {
-            ty: source.ty.dup(alloc)?,
-            driver: source.driver,
-            abilities: abilities_boxed(&drivers[source.driver as usize]),
-            name: source.name.dup()?,
-        })?;
+        ships.push(ship_source(alloc, source, drivers)?)?;
     }
     Ok(ships)
 }

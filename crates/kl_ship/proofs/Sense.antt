@@ -73,16 +73,14 @@ whole_asked s good =
     let same : w.0 ≡ attached_source s = cc in
     subst (λ a. IsAsked s (ground_of a.ty)) same (w.2, w.3)
 
-pub whole_scan : (ss : List ShipSource) (i : ℕ) (s : ShipSource) (u : Need) (n : ℕ) (c : Scan) → slice_get ss i ≡ Some s → IsWholeScan s u n c → IsGround (ground s) → ScanOf ss c (item_of (ground s))
-whole_scan ss i s u n c at w good = record {
-  place = i;
-  source = s;
-  listed = at;
-  driver = w.driver;
-  named = w.source;
-  ask = let a = whole_asked s good in subst (λ q. AskOf s q c.kind (item_of (ground s))) (sym w.ask)
-      (refl, a.0, a.1, sym (whole_type (item_of (ground s))), λ e. kind_only u (kind_of (ground s)) s.abilities.unique (sym w.kind ∙ e));
-}
+-- a scan of all its rows asks what it can be asked
+pub whole_ask : (s : ShipSource) (u : Need) (n : ℕ) (c : Scan) → IsWholeScan s u n c → IsGround (ground s) → AskOf s c.ask c.kind (item_of (ground s))
+whole_ask s u n c w good =
+    let a = whole_asked s good in
+    subst (λ q. AskOf s q c.kind (item_of (ground s))) (sym w.ask) (refl, a.0, a.1, sym (whole_type (item_of (ground s))), λ e. kind_only u (kind_of (ground s)) s.abilities.unique (sym w.kind ∙ e))
+
+whole_scan : (ss : List ShipSource) (i : ℕ) (s : ShipSource) (u : Need) (n : ℕ) (c : Scan) → slice_get ss i ≡ Some s → IsWholeScan s u n c → IsGround (ground s) → ScanOf ss c (item_of (ground s))
+whole_scan ss i s u n c at w good = record { place = i; source = s; listed = at; driver = w.driver; named = w.source; ask = whole_ask s u n c w good }
 
 -- ---- plans
 

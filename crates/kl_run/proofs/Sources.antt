@@ -1,0 +1,145 @@
+-- What stands in a session at the sources of a catalogue.
+use Rattle.std.proofs.Common.{◌≡◌, ◌<◌, ℕ, zero, suc, ◌+◌, Bool, true, false, List, [], ◌∷◌, length, map, Option, Some, None, slice_get, refl, sym, ap, ◌∙◌, subst, arith, zero-add, add-zero}
+use Rattle.std.specs.List.{AllByRecursion}
+use Rattle.std.proofs.lemmas.Option.{same_Some, slice_get_within}
+use Rattle.kl_value.specs.Canon.{canonical}
+use Rattle.kl_value.specs.declared.Value.{Value}
+use Rattle.kl_type.specs.Ground.{Ground, ground_of}
+use Rattle.kl_outcome.specs.Outcome.{Name}
+use Rattle.kl_ask.specs.Asks.{kind_of, answers}
+use Rattle.kl_ask.specs.Driver.{DriverKind, State, Source as Held, Stored, Missing, Bad, Long, Deep, Rows, IsColl, Suits, told_rows}
+use Rattle.kl_ask.specs.Lists.{EachSteps}
+use Rattle.kl_ask.specs.World.{World, at_driver, at_source, source_at, value_of_rows, value_in, values_of}
+use Rattle.kl_ask.specs.declared.ask.ColTest.{ColTest}
+use Rattle.kl_ask.specs.declared.ask.Ask.TheVariants as asks
+use Rattle.kl_ask.specs.declared.session.Attached.{Attached}
+use Rattle.kl_ask.specs.declared.settings.Settings.{Settings}
+use Rattle.kl_ask.specs.declared.settings.Trace.{Trace}
+use Rattle.kl_ask.proofs.Worlds.{there}
+use Rattle.kl_base.proofs.Places.{get-map}
+use Rattle.kl_ship.specs.Contents.{type_in, types_in}
+use Rattle.kl_ship.specs.declared.plan.Scan.{Scan}
+use Rattle.kl_ship.specs.declared.source.ShipSource.{ShipSource}
+use Rattle.kl_scans.specs.Stage.{stage, answered_by, rows_asked, read_in}
+use Rattle.kl_cursor.specs.Left.{reading}
+use Rattle.kl_sources.specs.Attaching.{HaveNone, MayAttach, IsMarkedName, Stands, list_of, listed, world_of}
+use Rattle.kl_sources.specs.Sources.{ArePlaced, IsFit, kinds_of, contents, grounds_of}
+use Rattle.kl_sources.specs.declared.source.Source.{Source}
+use Rattle.kl_sources.proofs.Lists.{of_all, unmapped}
+use Rattle.kl_sources.proofs.NameLemmas.{one_of_name}
+use Rattle.kl_sources.proofs.SessionLemmas.{shifts}
+use Rattle.kl_run.specs.Counted.{ReadsMarked}
+use Rattle.kl_run.specs.Planned.{abilities_in, ship_source, ships_of}
+use Rattle.kl_run.proofs.Told.{held_of, held_there}
+
+-- ---- lists
+
+listed_at : (marks : ℕ → Bool) (n : ℕ) (ss : List Source) (i : ℕ) (s : Source) → slice_get ss i ≡ Some s → slice_get (list_of marks n ss) i ≡ Some (listed (marks (n + i)) s)
+listed_at marks n [] i s is = absurd cc
+listed_at marks n (x ∷ ss) zero s is = ap (λ (q : Source). Some (listed (marks n) q)) (same_Some _ _ is) ∙ ap (λ b. Some (listed b s)) (ap marks (sym (add-zero n)))
+listed_at marks n (x ∷ ss) (suc i) s is = listed_at marks (suc n) ss i s is ∙ ap (λ b. Some (listed b s)) (shifts marks n i)
+
+-- the types of sources, and those for which plans are made
+pub same_types : (ks : List DriverKind) (ss : List Source) (i : ℕ) → slice_get (map (λ p. p.1) (grounds_of ss)) i ≡ types_in (ships_of ks ss) i
+same_types ks [] i = refl
+same_types ks (s ∷ ss) zero = refl
+same_types ks (s ∷ ss) (suc i) = same_types ks ss i
+
+pub told_is : (o : Option Stored) (rows : List Value) → told_rows o ≡ Some rows → o ≡ Some (Rows rows)
+told_is None rows e = absurd cc
+told_is (Some Missing) rows e = absurd cc
+told_is (Some (Bad place)) rows e = absurd cc
+told_is (Some (Long most)) rows e = absurd cc
+told_is (Some (Deep place)) rows e = absurd cc
+told_is (Some (Rows all)) rows e = ap (λ q. Some (Rows q)) (same_Some _ _ e)
+
+-- ---- drivers
+
+-- the driver of a source before and after attaching
+pub record DriverOf (ds mid : List State) (marks : ℕ → Bool) (ss : List Source) (s : Source) : Type 0 where
+  pub old : State
+  pub was : slice_get ds s.driver ≡ Some old
+  pub now : State
+  pub is : slice_get mid s.driver ≡ Some now
+  pub may : MayAttach marks ss old now
+  pub kind : DriverKind
+  pub known : slice_get (kinds_of ds) s.driver ≡ Some kind
+  pub abilities : kind.abilities ≡ now.kind.abilities
+  pub suits : Suits kind.abilities (ground_of s.ty)
+
+module _ (ds mid : List State) (ss : List Source) (marks : ℕ → Bool) (placed : ArePlaced (kinds_of ds) ss) (none : HaveNone ds) (steps : EachSteps (MayAttach marks ss) ds mid) where
+  pub driver_of : (i : ℕ) (s : Source) → slice_get ss i ≡ Some s → DriverOf ds mid marks ss s
+  driver_of i s at =
+      let fit = of_all (IsFit (kinds_of ds)) ss i s placed.fit at in
+      let old = unmapped (λ d. d.kind) ds s.driver fit.0 fit.1 in
+      let now = there mid s.driver (omega (arith, slice_get_within ds s.driver old.0 old.1, steps.size)) in
+      let may = steps.each s.driver old.0 now.0 old.1 now.1 in
+      record {
+        old = old.0;
+        was = old.1;
+        now = now.0;
+        is = now.1;
+        may = may;
+        kind = fit.0;
+        known = fit.1;
+        abilities = ap (λ k. k.abilities) (sym old.2 ∙ sym may.keeps.kind);
+        suits = fit.2;
+      }
+
+  pub abilities_of : (i : ℕ) (s : Source) (at : slice_get ss i ≡ Some s) → (ship_source (kinds_of ds) s).abilities ≡ (driver_of i s at).now.kind.abilities
+  abilities_of i s at = ap abilities_in (driver_of i s at).known ∙ (driver_of i s at).abilities
+
+  -- a source that is not marked is attached nowhere
+  pub unattached : (i : ℕ) (s : Source) (at : slice_get ss i ≡ Some s) → marks i ≡ false → (driver_of i s at).now.attached s.name ≡ None
+  unattached i s at off =
+      let d = driver_of i s at in
+      d.may.others s.name unmarked ∙ none s.driver d.old d.was s.name
+    where
+      unmarked : IsMarkedName marks ss s.name → ⊥
+      unmarked h =
+          let same : h.0 ≡ i = one_of_name ss h.0 i h.1 s placed.differ h.2 at h.4 in
+          let on : marks i ≡ true = subst (λ k. marks k ≡ true) same h.3 in
+          let no : true ≡ false = sym on ∙ off in
+          cc
+
+  module _ (stand : (i : ℕ) (s : Source) → slice_get ss i ≡ Some s → marks i ≡ true → Stands (kinds_of ds) mid s) (settings : Settings) (trace : Trace) where
+    abbrev w : World
+    w = world_of mid (list_of marks 0 ss) settings trace
+
+    pub entry_of : (i : ℕ) (s : Source) → slice_get ss i ≡ Some s → slice_get w.sources i ≡ Some (listed (marks i) s)
+    entry_of i s at = listed_at marks 0 ss i s at ∙ ap (λ k. Some (listed (marks k) s)) (zero-add i)
+
+    -- ---- what scans read
+
+    reads_at : (x : State) (s : Source) (c : Scan) (keep : List Name) (tests : List ColTest) → slice_get mid s.driver ≡ Some x → c.driver ≡ s.driver → c.ask ≡ asks.Rows s.name keep tests
+        → reading w c ≡ rows_asked (x.attached s.name) keep tests
+    reads_at x s c keep tests is at ask = ap (λ d. read_in ((stage w).held d) c.ask) at ∙ ap (λ a. read_in ((stage w).held s.driver) a) ask ∙ ap (λ o. read_in o (asks.Rows s.name keep tests)) (held_there w s.driver x is)
+
+    pub reads_marked : (i : ℕ) (s : Source) (c : Scan) (keep : List Name) (tests : List ColTest) → slice_get ss i ≡ Some s → marks i ≡ true → c.driver ≡ s.driver → c.ask ≡ asks.Rows s.name keep tests
+        → reading w c ≡ answered_by (told_rows (contents (kinds_of ds) s)) keep tests
+    reads_marked i s c keep tests at on d ask =
+        let st = stand i s at on in
+        reads_at st.driver s c keep tests st.there d ask ∙ ap (λ o. rows_asked o keep tests) st.attached
+
+    pub reads_unmarked : (i : ℕ) (s : Source) (c : Scan) (keep : List Name) (tests : List ColTest) → slice_get ss i ≡ Some s → marks i ≡ false → c.driver ≡ s.driver → c.ask ≡ asks.Rows s.name keep tests
+        → reading w c ≡ Some (answers [] keep tests)
+    reads_unmarked i s c keep tests at off d ask =
+        let here = driver_of i s at in
+        reads_at here.now s c keep tests here.is d ask ∙ ap (λ o. rows_asked o keep tests) (unattached i s at off)
+
+    pub reads : ReadsMarked (kinds_of ds) ss marks (reading w)
+    reads i s rows c keep tests at on is d ask = reads_marked i s c keep tests at on d ask ∙ ap (λ o. answered_by (told_rows o) keep tests) is
+
+    -- ---- values
+
+    value_at : (i : ℕ) (s : Source) (b : Bool) (a : Held) → slice_get ss i ≡ Some s → marks i ≡ b → at_source (Some (listed b s)) mid ≡ Some a → values_of w i ≡ value_of_rows (ground_of a.ty) a.rows
+    unfolding values_of
+    value_at i s b a at is here = ap (λ o. value_in (at_source o mid)) (entry_of i s at ∙ ap (λ m. Some (listed m s)) is) ∙ ap value_in here
+
+    pub value_marked : (i : ℕ) (s : Source) → slice_get ss i ≡ Some s → marks i ≡ true → values_of w i ≡ value_of_rows (ground_of s.ty) (told_rows (contents (kinds_of ds) s))
+    value_marked i s at on =
+        let st = stand i s at on in
+        value_at i s true (record { ty = s.ty; rows = told_rows (contents (kinds_of ds) s); count = st.count; kept = st.kept }) at on (ap (at_driver (listed true s)) st.there ∙ st.attached)
+
+    pub value_unmarked : (i : ℕ) (s : Source) → slice_get ss i ≡ Some s → marks i ≡ false → values_of w i ≡ Some (canonical (kind_of (ground_of s.ty)) [])
+    value_unmarked i s at off = value_at i s false (record { ty = s.ty; rows = Some []; count = 0; kept = None }) at off refl

@@ -1,0 +1,85 @@
+-- Where the values of the sources of a session are told, so is what its scans read.
+use Rattle.std.proofs.Common.{◌≡◌, ℕ, List, Option, Some, None, slice_get, refl, sym, ap, ◌∙◌, subst}
+use Rattle.std.specs.List.{AllByRecursion}
+use Rattle.std.proofs.lemmas.Option.{same_Some}
+use Rattle.kl_value.specs.Canon.{canonical}
+use Rattle.kl_value.specs.declared.Value.{Value}
+use Rattle.kl_type.specs.Ground.{Ground, ground_of}
+use Rattle.kl_outcome.specs.Outcome.{Name}
+use Rattle.kl_outcome.specs.Typed.{Inhabits}
+use Rattle.kl_core.specs.Typing.{HaveSources}
+use Rattle.kl_ask.specs.Asks.{item_of, kind_of, answers}
+use Rattle.kl_ask.specs.Driver.{State, Source}
+use Rattle.kl_ask.specs.World.{World, IsReady, at_driver, at_place, at_source, source_at, type_in, types_of, value_of_rows, value_in, values_of}
+use Rattle.kl_ask.specs.declared.ask.Abilities.{Abilities}
+use Rattle.kl_ask.specs.declared.ask.Ask.{Ask}
+use Rattle.kl_ask.specs.declared.ask.Ask.TheVariants as asks
+use Rattle.kl_ask.specs.declared.session.Attached.{Attached}
+use Rattle.kl_ship.specs.declared.plan.Scan.{Scan}
+use Rattle.kl_scans.specs.Held.{Held, held_in, held_at}
+use Rattle.kl_scans.specs.Stage.{stage, answered_by, rows_asked, read_by, read_in, readings, AskOf, ScanOf}
+use Rattle.kl_cursor.specs.Sense.{IsToldAt}
+use Rattle.kl_run.proofs.Shown.{answers_typed}
+
+abbrev pub held_of : State → Held
+held_of s = record { abilities = s.kind.abilities; attached = s.attached }
+
+pub held_there : (w : World) (d : ℕ) (x : State) → slice_get w.drivers d ≡ Some x → (stage w).held d ≡ Some (held_of x)
+unfolding stage held_at
+held_there w d x is = ap held_in is
+
+abbrev IsHeld : Option State → Held → Type 0
+IsHeld o h = (x : State) × (o ≡ Some x) × (h ≡ held_of x)
+
+held_is : (o : Option State) (h : Held) → held_in o ≡ Some h → IsHeld o h
+held_is (Some x) h e = (x, refl, sym (same_Some _ _ e))
+held_is None h e = absurd cc
+
+holder : (w : World) (d : ℕ) (h : Held) → (stage w).held d ≡ Some h → IsHeld (slice_get w.drivers d) h
+unfolding stage held_at
+holder w d h e = held_is (slice_get w.drivers d) h e
+
+listed_in : (w : World) (i : ℕ) → slice_get (stage w).sources i ≡ slice_get w.sources i
+unfolding stage
+listed_in w i = refl
+
+type_at : (w : World) (i : ℕ) (s : Source) → source_at w i ≡ Some s → types_of w i ≡ Some (ground_of s.ty)
+unfolding types_of
+type_at w i s is = ap type_in is
+
+value_at : (w : World) (i : ℕ) (s : Source) → source_at w i ≡ Some s → values_of w i ≡ value_of_rows (ground_of s.ty) s.rows
+unfolding values_of
+value_at w i s is = ap value_in is
+
+-- a value is that of rows that are told
+pub rows_of : (t : Ground) (o : Option (List Value)) (v : Value) → value_of_rows t o ≡ Some v → (rows : List Value) × (o ≡ Some rows)
+rows_of t (Some rows) v e = (rows, refl)
+rows_of t None v e = absurd cc
+
+-- what an ask reads of an attached source whose rows are told, and of which type that is
+asked_told : (can : Abilities) (h : Held) (name : Name) (a : Source) (u : Ground) (rows : List Value) (c : Scan) → h.attached name ≡ Some a → a.rows ≡ Some rows → AllByRecursion (Inhabits (item_of (ground_of a.ty))) rows
+    → (ask : Ask) → AskOf can name a ask c.kind u → (read : List Value) × (read_by h ask ≡ Some read) × AllByRecursion (Inhabits u) read
+asked_told can h name a u rows c at told typed (asks.Rows source keep tests) f = (
+  answers rows keep tests,
+  ap (λ o. rows_asked o keep tests) (ap h.attached f.0 ∙ at) ∙ ap (λ o. answered_by o keep tests) told,
+  subst (λ t. AllByRecursion (Inhabits t) (answers rows keep tests)) (sym f.3) (answers_typed keep tests (item_of (ground_of a.ty)) rows typed),
+)
+asked_told can h name a u rows c at told typed (asks.Sql text) f = absurd f
+
+-- the source of a scan, as its driver has it attached
+source_here : (w : World) (c : Scan) (place : ℕ) (entry : Attached) (x : State) (h : Held) (a : Source) → slice_get w.sources place ≡ Some entry → entry.driver ≡ Some c.driver → slice_get w.drivers c.driver ≡ Some x → h ≡ held_of x
+    → c.source ≡ entry.source → h.attached c.source ≡ Some a → source_at w place ≡ Some a
+source_here w c place entry x h a at held is same named attached =
+    let has : x.attached entry.source ≡ Some a = ap x.attached (sym named) ∙ ap (λ k. k.attached c.source) (sym same) ∙ attached in
+    ap (λ o. at_source o w.drivers) at ∙ ap (λ o. at_place entry o w.drivers) held ∙ ap (at_driver entry) is ∙ has
+
+pub told_at : (w : World) → IsReady w → HaveSources (types_of w) (values_of w) → IsToldAt w
+told_at w ready have c u f =
+    let x = holder w c.driver f.held f.holds in
+    let at : slice_get w.sources f.place ≡ Some f.entry = sym (listed_in w f.place) ∙ f.listed in
+    let here : source_at w f.place ≡ Some f.source = source_here w c f.place f.entry x.0 f.held f.source at f.driver x.1 x.2 f.named f.attached in
+    let v = have f.place (ground_of f.source.ty) (type_at w f.place f.source here) in
+    let rows = rows_of (ground_of f.source.ty) f.source.rows v.0 (sym (value_at w f.place f.source here) ∙ v.1) in
+    let listed = ready.listed f.place f.entry f.source at here in
+    let read = asked_told f.held.abilities f.held c.source f.source u rows.0 c f.attached rows.1 (listed.typed rows.0 rows.1) c.ask f.ask in
+    (read.0, ap (λ o. read_in o c.ask) f.holds ∙ read.1, read.2)
