@@ -131,7 +131,7 @@ module _ (ss : List ShipSource) (u : Tree) (p : Node) (of : IsPlanOf ss u p) whe
         let each : paid (price_of d ask) m.events ≡ sum_by (λ c. cond (asks_it d ask c) (paid (at_number c.number) m.events) 0) (scans_in p) = paid_each (asks_it d ask) (scans_in p) of.numbers.scans m.events own in
         let capped = sum_capped (asks_it d ask) (λ c. paid (at_number c.number) m.events) (scans_in p) in
         let same : starts_asking d ask (scans_in p) b.trace.starts ≡ sum_by (λ c. cond (asks_it d ask c) (min (paid (at_number c.number) m.events) (2 ^ 64 - 1)) 0) (scans_in p) =
-            sum_same _ _ (scans_in p) (λ c i. ap (λ n. cond (asks_it d ask c) n 0) (starts_at c i)) in
+        sum_same _ _ (scans_in p) (λ c i. ap (λ n. cond (asks_it d ask c) n 0) (starts_at c i)) in
         ap (λ n. raised n count) each ∙ raised_capped _ _ count (sym capped) ∙ sym (ap (λ n. raised n count) same)
 
     -- each driver was asked each ask as often as the scans that ask it were started

@@ -112,6 +112,6 @@ paid_each P cs apart (started c ∷ es) of =
     let first : sum_by (of_one P c) cs ≡ cond (P c) 1 0 = one_of P cs c apart of.0 in
     let rest : paid (λ c. cond (P c) 1 0) es ≡ sum_by (λ c. cond (P c) (paid (at_number c.number) es) 0) cs = paid_each P cs apart es of.1 in
     let all : sum_by (λ d. cond (P d) (at_number d.number c + paid (at_number d.number) es) 0) cs ≡ sum_by (of_one P c) cs + sum_by (λ c. cond (P c) (paid (at_number c.number) es) 0) cs =
-        sum_both (of_one P c) (λ d. cond (P d) (paid (at_number d.number) es) 0) (λ d. cond (P d) (at_number d.number c + paid (at_number d.number) es) 0) cs (λ d. cond_both (P d) (at_number d.number c) (paid (at_number d.number) es)) in
+    sum_both (of_one P c) (λ d. cond (P d) (paid (at_number d.number) es) 0) (λ d. cond (P d) (at_number d.number c + paid (at_number d.number) es) 0) cs (λ d. cond_both (P d) (at_number d.number c) (paid (at_number d.number) es)) in
     omega (arith, first, rest, all)
 paid_each P cs apart (handed c n ∷ es) of = paid_each P cs apart es of.1
