@@ -23,12 +23,12 @@ use Rattle.kl_words.specs.declared.command.Command.TheVariants as read
 use Rattle.kl_words.specs.declared.command.Job.{Job}
 use Rattle.kl_ask.specs.declared.ask.DriverError.{DriverError}
 use Rattle.kl_ask.specs.declared.ask.DriverError.TheVariants as error
-use Rattle.kl_engine.specs.Answering.{IsOneOf, IsRunning, LacksFile}
+use Rattle.kl_engine.specs.Answering.{IsOneOf, IsRunning}
 use Rattle.kl_engine.specs.Commands.{Command, Origin, Files, Made, Program, asked}
 use Rattle.kl_engine.specs.Faults.{Ending}
 use Rattle.kl_engine.specs.Inputs.{IsInputsEnd, ReadsInputs}
 use Rattle.kl_engine.specs.Reading.{ReadsText}
-use Rattle.kl_engine.specs.Planned.{AreStartsOf, AsksOf, CountsScansAlone, HasPlan, IsEarly, IsUnrun, MayBeEarly, MayStop, PlanOf, PlansTerm, PlansText, plan_in}
+use Rattle.kl_engine.specs.Planned.{AreStartsOf, AsksOf, CountsScansAlone, HasPlan, IsEarly, IsUnrun, LacksInput, MayBeEarly, MayStop, PlanOf, PlansTerm, PlansText, plan_in}
 use Rattle.kl_engine.specs.Rewritten.{wants_rewriting}
 use Rattle.kl_engine.specs.declared.run.Ran.{Ran}
 use Rattle.kl_engine.specs.Running.{HasRunFault, fault_of}
@@ -43,7 +43,7 @@ use Rattle.kl_engine.proofs.SizeLemmas.{sized_faults}
 
 -- ---- ends before a term is rewritten
 
-inputs_early : (command : Command) (from : Origin) (f : Fault) (files files' : FilesState) (ks : List DriverKind) → (f ≡ fault.Read → LacksFile command files ks ⊎ Rose files.faults files'.faults) → IsInputsEnd from f → MayBeEarly command (Some f) files files' ks
+inputs_early : (command : Command) (from : Origin) (f : Fault) (files files' : FilesState) (ks : List DriverKind) → (f ≡ fault.Read → LacksInput command files ks ⊎ Rose files.faults files'.faults) → IsInputsEnd from f → MayBeEarly command (Some f) files files' ks
 inputs_early command from fault.Read files files' ks read is = read refl
 inputs_early command from fault.NoMemory files files' ks read is = tt
 inputs_early command from fault.ProgramBytes files files' ks read is = tt

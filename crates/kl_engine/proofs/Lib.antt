@@ -17,6 +17,7 @@ pub mod TermLemmas
 pub mod ListLemmas
 pub mod RewriteLemmas
 pub mod MeaningLemmas
+pub mod PlanLemmas
 pub mod ProgramLemmas
 pub mod CountLemmas
 pub mod ShowLemmas

@@ -537,6 +537,13 @@ module _ (ss : List Source) (s : Scoped) (scope : WasInScope (names_of ss) s) (t
   session_sense : (u : Ground) × CoreTypes (types_of (world_of mid list settings trace)) [] t u
   session_sense = value_sense ss (decls_of s.program.defs) (view s.program.last) typed infers (tidied (names_of ss) s scope) placed.proper s.sources scope.1.sources_kept t is (kinds_of ds) (is_marked s) (world_of mid list settings trace) session_serves
 
+  -- where the sources that it mentions are told, so are those of the session
+  pub session_told : (means : Means (decls_of s.program.defs) (view s.program.last) s.sources t) (vs : List (Name × Value)) → HaveValues (kinds_of ds) (is_marked s) 0 ss vs
+      → HaveSources (types_of (world_of mid list settings trace)) (values_of (world_of mid list settings trace))
+  session_told means vs have =
+      sources_have ss (decls_of s.program.defs) (view s.program.last) typed infers (tidied (names_of ss) s scope) placed.proper s.sources scope.1.sources_kept t is (kinds_of ds) (is_marked s) (world_of mid list settings trace) session_serves means vs have
+      (values_typed (kinds_of ds) (is_marked s) 0 ss vs (λ i s at. (of_all (IsFit (kinds_of ds)) ss i s placed.fit at).2.collection) (λ i x at marked. (attaches.stand i x at (ap (is_marked s) (sym (zero-add i)) ∙ marked)).typed) have)
+
   -- the plan of what the term is rewritten to runs there
   pub plan_runs : (idle : All IsIdle ds) (mentioned : ReadsMentioned s t) (u : Tree) (p : Node) → Preserves t u → IsPlanOf (ships_of (kinds_of ds) ss) u p → Runs (kinds_of ds) ss (is_marked s) t p (world_of mid list settings trace)
   plan_runs idle mentioned u p keeps planned =

@@ -15,6 +15,7 @@ use Rattle.kl_engine.specs.Commands.{Origin, Files, Made, Program, TellTo}
 use Rattle.kl_engine.specs.Faults.{Ending}
 use Rattle.kl_engine.specs.Outside.{Outside, outside_of}
 use Rattle.kl_engine.specs.Inputs.{IsCatalogueEnd, IsFilesEnd, IsInputsEnd, ReadsInputs}
+use Rattle.kl_engine.specs.Planned.{LacksInput}
 use Rattle.kl_engine.specs.Verdict.{Verdict, refused, HasInputs, IsTextVerdict, IsInputsFault, IsProgramVerdict}
 use Rattle.kl_engine.specs.declared.fault.Fault.{Fault}
 use Rattle.kl_engine.specs.declared.fault.Fault.TheVariants as fault
@@ -232,15 +233,15 @@ module _ (p : Purpose) (from : Origin) (f f' : FilesState) where
   }
 
   -- one of them is missing, or was not read
-  pub read_missing : (g : Fault) (ks : List DriverKind) → ReadsInputs from ks (Err g) f f' → g ≡ fault.Read → LacksFile (Program p from) f ks ⊎ Rose f.faults f'.faults
+  pub read_missing : (g : Fault) (ks : List DriverKind) → ReadsInputs from ks (Err g) f f' → g ≡ fault.Read → LacksInput (Program p from) f ks ⊎ Rose f.faults f'.faults
   read_missing g ks reads is = pick f.told refl
     where
-      pick : (found : Option (List ℕ → Option (List ℕ))) → f.told ≡ found → LacksFile (Program p from) f ks ⊎ Rose f.faults f'.faults
+      pick : (found : Option (List ℕ → Option (List ℕ))) → f.told ≡ found → LacksInput (Program p from) f ks ⊎ Rose f.faults f'.faults
       pick None at = inr (reads.read at is)
       pick (Some told) at = elim (reads.refused told (tells from f told at)) [
         | inl none ↦ absurd (let two : fault.Read ≡ fault.NoMemory = sym is ∙ none in cc)
         | inr (inl failed) ↦ inr failed.1
-        | inr (inr wrong) ↦ inl (told, at, inl (fault.Read, subst (IsInputsFault told ks from) is wrong, refl))
+        | inr (inr wrong) ↦ inl (told, at, subst (IsInputsFault told ks from) is wrong)
       ]
 
   -- The files were refused: nothing was printed, and no driver was asked.
@@ -319,4 +320,4 @@ module _ (p : Purpose) (from : Origin) (f f' : FilesState) where
         some_one is = cc
 
         read_cause : g ≡ fault.Read → ReadCause
-        read_cause is = elim (read_missing g (kinds_of ds) reads is) [ inl lacks ↦ inl lacks | inr rose ↦ inr (inr (inl rose)) ]
+        read_cause is = elim (read_missing g (kinds_of ds) reads is) [ inl lacks ↦ inl (lacks.0, lacks.1, inl (fault.Read, lacks.2, refl)) | inr rose ↦ inr (inr (inl rose)) ]

@@ -19,12 +19,12 @@ use Rattle.kl_run.specs.Counted.{AsksCounted, ReadsMarked, StartsCounted}
 use Rattle.kl_run.specs.Planned.{IsPlanOf, MeansTerm, ships_of}
 use Rattle.kl_sources.specs.Sources.{names_of, HaveValues}
 use Rattle.kl_sources.specs.declared.source.Source.{Source}
-use Rattle.kl_engine.specs.Answering.{IsRunning, LacksFile, OfRun}
+use Rattle.kl_engine.specs.Answering.{IsRunning, OfRun}
 use Rattle.kl_engine.specs.Commands.{Command, Program as AProgram}
 use Rattle.kl_engine.specs.Faults.{Ending}
 use Rattle.kl_engine.specs.Reading.{IsProgramOf}
 use Rattle.kl_engine.specs.Rewritten.{IsRewrittenTo, term_in}
-use Rattle.kl_engine.specs.Verdict.{AreMarks}
+use Rattle.kl_engine.specs.Verdict.{AreMarks, IsInputsFault}
 use Rattle.kl_engine.specs.declared.fault.Fault.TheVariants as fault
 use Rattle.kl_engine.specs.declared.run.Ran.{Ran}
 use Rattle.kl_engine.specs.declared.top.Purpose.TheVariants as purpose
@@ -87,10 +87,15 @@ IsEarly (Some fault.ProgramBytes) = ⊤
 IsEarly (Some fault.CatalogueBytes) = ⊤
 IsEarly end = ⊥
 
+-- the file of a command's program, or that of its catalogue, is told to be missing
+abbrev pub LacksInput : Command → FilesState → List DriverKind → Type 0
+LacksInput (AProgram p from) files ks = (told : _) × (files.told ≡ Some told) × IsInputsFault told ks from fault.Read
+LacksInput command files ks = ⊥
+
 -- a run may end so before it has a plan
 abbrev pub MayBeEarly : Command → Ending → FilesState → FilesState → List DriverKind → Type 0
 MayBeEarly command (Some fault.NoMemory) files files' ks = ⊤
-MayBeEarly command (Some fault.Read) files files' ks = LacksFile command files ks ⊎ Rose files.faults files'.faults
+MayBeEarly command (Some fault.Read) files files' ks = LacksInput command files ks ⊎ Rose files.faults files'.faults
 MayBeEarly command end files files' ks = IsEarly end
 
 -- how many of the first items a command wants

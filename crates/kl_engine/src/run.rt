@@ -305,7 +305,8 @@ fn answer_over<S: Sink>(
 fn rewritten(alloc: Global, term: Term, on: bool) -> Result<Normal, NoMemory>
     requires closed { IsClosed (term_view term) }
     requires small { IsSmall (term_view term) }
-    ensures { IfOk result (λ r. IsRewrittenTo on (term_view term) r.steps (term_view r.term)) }
+    ensures rewritten { IfOk result (λ r. IsRewrittenTo on (term_view term) r.steps (term_view r.term)) }
+    ensures small { IfOk result (λ r. nodes_of (term_view r.term) ≤ 16384) }
 {
     if on {
         rewrite(alloc, term)
