@@ -20,14 +20,13 @@ use Rattle.kl_ship.specs.declared.needs.Need.TheVariants as need
 use Rattle.kl_ship.specs.declared.plan.Scan.{Scan}
 use Rattle.kl_ship.specs.declared.source.ShipSource.{ShipSource}
 use Rattle.kl_ship.proofs.Numbering.{from, numbers, numbers_are, numbers_within}
-use Rattle.kl_scans.specs.Held.{Uses}
-use Rattle.kl_scans.specs.Log.{Event, started, handed, scan_in, paid, times_after, asked_after, times_at, asked_at, without_starts}
-use Rattle.kl_scans.specs.Moves.{Moves}
+use Rattle.kl_scans.specs.Log.{Event, started, handed, scan_in, paid, times_after, asked_after, times_at, without_starts, Logged}
 use Rattle.kl_sources.specs.Attaching.{MayAttach}
 use Rattle.kl_sources.specs.declared.source.Source.{Source}
 use Rattle.kl_run.specs.Counted.{count_in, raised, starts_of, times_of, asks_it, starts_asking, AsksCounted, at_number, StartsCounted}
 use Rattle.kl_run.specs.Planned.{IsPlanOf}
 use Rattle.kl_run.proofs.Raises.{raised_new, raised_once, raised_capped}
+use Rattle.kl_run.proofs.Logs.{driver_asked}
 use Rattle.kl_run.proofs.Sums.{sum_same, sum_capped, paid_each}
 use Rattle.kl_run.proofs.Traces.{entry, entry_of, from_length}
 
@@ -80,12 +79,6 @@ asked_raised d ask (started c ∷ es) asked =
     ∙ raised_once (asks_it d ask c) (paid (price_of d ask) es) (times_of ask asked)
 asked_raised d ask (handed c m ∷ es) asked = asked_raised d ask es asked
 
--- ---- of a driver
-
-pub driver_asked : (before after : Uses) (a b : World) (m : Moves before after a b) (d : ℕ) (x y : State) → slice_get a.drivers d ≡ Some x → slice_get b.drivers d ≡ Some y → y.asked ≡ asked_after d m.events x.asked
-driver_asked before after a b m d x y was is =
-    same_Some _ _ (sym (ap (option_map (λ s. s.asked)) is) ∙ m.logged.asked d ∙ ap (λ o. option_map (asked_after d m.events) (option_map (λ s. s.asked) o)) was)
-
 -- ---- of the scans of a plan
 
 counted_in : (o : Option (ℕ × ℕ)) (times : ℕ) → option_map (λ e. e.1) o ≡ Some times → count_in o ≡ times
@@ -118,15 +111,14 @@ module _ (ss : List ShipSource) (u : Tree) (p : Node) (of : IsPlanOf ss u p) whe
       let same : 0 + c.number ≡ c.number = omega arith in
       numbered_at (scans_in p) 0 numbered.0 numbered.2 c.number lt ∙ ap (λ k. Some (entry k)) same
 
-  module _ (before after : Uses) (a b : World) (m : Moves before after a b) (own : AllByRecursion (λ e. Contains (scans_in p) (scan_in e)) m.events)
-      (fresh : a.trace.starts ≡ map entry_of (scans_in p)) where
-    starts_at : (c : Scan) → Contains (scans_in p) c → starts_of b.trace.starts c.number ≡ min (paid (at_number c.number) m.events) (2 ^ 64 - 1)
+  module _ (es : List Event) (a b : World) (log : Logged es a b) (own : AllByRecursion (λ e. Contains (scans_in p) (scan_in e)) es) (fresh : a.trace.starts ≡ map entry_of (scans_in p)) where
+    starts_at : (c : Scan) → Contains (scans_in p) c → starts_of b.trace.starts c.number ≡ min (paid (at_number c.number) es) (2 ^ 64 - 1)
     starts_at c i =
-        let was : times_at a c.number ≡ Some 0 = ap (λ (es : List (ℕ × ℕ)). option_map (λ e. e.1) (slice_get es c.number)) fresh ∙ ap (option_map (λ e. e.1)) (fresh_at c i) in
-        let is : times_at b c.number ≡ Some (times_after c.number m.events 0) = m.logged.starts c.number ∙ ap (option_map (times_after c.number m.events)) was in
-        counted_in (slice_get b.trace.starts c.number) (times_after c.number m.events 0) is ∙ times_raised c.number m.events 0 ∙ raised_new (paid (at_number c.number) m.events)
+        let was : times_at a c.number ≡ Some 0 = ap (λ (starts : List (ℕ × ℕ)). option_map (λ e. e.1) (slice_get starts c.number)) fresh ∙ ap (option_map (λ e. e.1)) (fresh_at c i) in
+        let is : times_at b c.number ≡ Some (times_after c.number es 0) = log.starts c.number ∙ ap (option_map (times_after c.number es)) was in
+        counted_in (slice_get b.trace.starts c.number) (times_after c.number es 0) is ∙ times_raised c.number es 0 ∙ raised_new (paid (at_number c.number) es)
 
-    starts_asked : (d : ℕ) (ask : Ask) (count : ℕ) → raised (paid (price_of d ask) m.events) count ≡ raised (starts_asking d ask (scans_in p) b.trace.starts) count
+    starts_asked : (d : ℕ) (ask : Ask) (count : ℕ) → raised (paid (price_of d ask) es) count ≡ raised (starts_asking d ask (scans_in p) b.trace.starts) count
     starts_asked d ask count =
         let each : paid (price_of d ask) m.events ≡ sum_by (λ c. cond (asks_it d ask c) (paid (at_number c.number) m.events) 0) (scans_in p) = paid_each (asks_it d ask) (scans_in p) of.numbers.scans m.events own in
         let capped = sum_capped (asks_it d ask) (λ c. paid (at_number c.number) m.events) (scans_in p) in
@@ -137,22 +129,22 @@ module _ (ss : List ShipSource) (u : Tree) (p : Node) (of : IsPlanOf ss u p) whe
     -- each driver was asked each ask as often as the scans that ask it were started
     pub asks_counted : AsksCounted p b.trace.starts a.drivers b.drivers
     asks_counted d x y ask was is =
-        ap (times_of ask) (driver_asked before after a b m d x y was is) ∙ asked_raised d ask m.events x.asked ∙ starts_asked d ask (times_of ask x.asked)
+        ap (times_of ask) (driver_asked es a b log d x y was is) ∙ asked_raised d ask es x.asked ∙ starts_asked d ask (times_of ask x.asked)
 
     -- each scan was started once for each environment that reaches it, where what was paid is what is reached
-    pub starts_counted : (R : Readings) → ((price : Scan → ℕ) → paid price m.events ≡ reached R price p []) → StartsCounted R p b.trace.starts
+    pub starts_counted : (R : Readings) → ((price : Scan → ℕ) → paid price es ≡ reached R price p []) → StartsCounted R p b.trace.starts
     starts_counted R paid_is c i = starts_at c i ∙ ap (λ n. min n (2 ^ 64 - 1)) (paid_is (at_number c.number))
 
     -- the counts are of the scans of the plan, in their order
     pub starts_numbered : map (λ e. e.0) b.trace.starts ≡ map (λ c. c.number) (scans_in p)
-    starts_numbered = m.logged.numbers ∙ ap (map (λ e. e.0)) fresh ∙ numbered (scans_in p)
+    starts_numbered = log.numbers ∙ ap (map (λ e. e.0)) fresh ∙ numbered (scans_in p)
       where
         numbered : (cs : List Scan) → map (λ e. e.0) (map entry_of cs) ≡ map (λ c. c.number) cs
         numbered [] = refl
         numbered (c ∷ cs) = ap (λ ns. c.number ∷ ns) (numbered cs)
 
     pub trace_kept : without_starts b.trace ≡ without_starts a.trace
-    trace_kept = m.logged.rest
+    trace_kept = log.rest
 
 -- the same over drivers that were asked nothing more since
 pub asks_since : (p : Node) (starts : List (ℕ × ℕ)) (ds mid last : List State) → length mid ≡ length ds → ((i : ℕ) (x z : State) → slice_get ds i ≡ Some x → slice_get mid i ≡ Some z → z.asked ≡ x.asked)

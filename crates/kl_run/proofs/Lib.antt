@@ -9,3 +9,4 @@ pub mod Counts
 pub mod Quiet
 pub mod Traces
 pub mod Shipped
+pub mod Logs

@@ -44,17 +44,13 @@ use Rattle.kl_sources.proofs.Lists.{unmapped}
 use Rattle.kl_base.proofs.Places.{get-map}
 use Rattle.kl_run.specs.Planned.{IsPlanOf, abilities_in, ship_source, ships_of}
 use Rattle.kl_run.specs.Running.{Runs}
-use Rattle.kl_run.proofs.Means.{means_term}
-use Rattle.kl_run.proofs.Sources.{same_types, told_is, driver_of, abilities_of, entry_of, reads_marked, reads_unmarked, reads, value_marked, value_unmarked}
-use Rattle.kl_run.proofs.Told.{held_of, held_there, rows_of, told_at}
+use Rattle.kl_run.proofs.Means.{means_term, same_types}
+use Rattle.kl_run.proofs.Sources.{told_is, driver_of, abilities_of, entry_of, reads_marked, reads_unmarked, reads, value_marked, value_unmarked}
+use Rattle.kl_run.proofs.Told.{held_of, held_there, listed_in, rows_of, told_at}
 
 none_apart : IsDistinct same_value []
 unfolding IsDistinct
 none_apart = tt
-
-listed_in : (w : World) (i : ℕ) → slice_get (stage w).sources i ≡ slice_get w.sources i
-unfolding stage
-listed_in w i = refl
 
 -- an ask of a source, as plans are made for it, is one of the source that its driver has attached
 ask_of : (s : ShipSource) (can : Abilities) (name : Name) (a : Held) (ask : Ask) (k : Kind) (u : Ground) → s.abilities ≡ can → s.name ≡ name → s.ty ≡ a.ty → ShipAskOf s ask k u → AskOf can name a ask k u

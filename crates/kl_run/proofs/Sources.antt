@@ -1,6 +1,6 @@
 -- What stands in a session at the sources of a catalogue.
 use Rattle.std.proofs.Common.{◌≡◌, ◌<◌, ℕ, zero, suc, ◌+◌, Bool, true, false, List, [], ◌∷◌, length, map, Option, Some, None, slice_get, refl, sym, ap, ◌∙◌, subst, arith, zero-add, add-zero}
-use Rattle.std.specs.List.{AllByRecursion}
+use Rattle.std.specs.Option.{option_map}
 use Rattle.std.proofs.lemmas.Option.{same_Some, slice_get_within}
 use Rattle.kl_value.specs.Canon.{canonical}
 use Rattle.kl_value.specs.declared.Value.{Value}
@@ -17,7 +17,6 @@ use Rattle.kl_ask.specs.declared.settings.Settings.{Settings}
 use Rattle.kl_ask.specs.declared.settings.Trace.{Trace}
 use Rattle.kl_ask.proofs.Worlds.{there}
 use Rattle.kl_base.proofs.Places.{get-map}
-use Rattle.kl_ship.specs.Contents.{type_in, types_in}
 use Rattle.kl_ship.specs.declared.plan.Scan.{Scan}
 use Rattle.kl_ship.specs.declared.source.ShipSource.{ShipSource}
 use Rattle.kl_scans.specs.Stage.{stage, answered_by, rows_asked, read_in}
@@ -34,16 +33,10 @@ use Rattle.kl_run.proofs.Told.{held_of, held_there}
 
 -- ---- lists
 
-listed_at : (marks : ℕ → Bool) (n : ℕ) (ss : List Source) (i : ℕ) (s : Source) → slice_get ss i ≡ Some s → slice_get (list_of marks n ss) i ≡ Some (listed (marks (n + i)) s)
-listed_at marks n [] i s is = absurd cc
-listed_at marks n (x ∷ ss) zero s is = ap (λ (q : Source). Some (listed (marks n) q)) (same_Some _ _ is) ∙ ap (λ b. Some (listed b s)) (ap marks (sym (add-zero n)))
-listed_at marks n (x ∷ ss) (suc i) s is = listed_at marks (suc n) ss i s is ∙ ap (λ b. Some (listed b s)) (shifts marks n i)
-
--- the types of sources, and those for which plans are made
-pub same_types : (ks : List DriverKind) (ss : List Source) (i : ℕ) → slice_get (map (λ p. p.1) (grounds_of ss)) i ≡ types_in (ships_of ks ss) i
-same_types ks [] i = refl
-same_types ks (s ∷ ss) zero = refl
-same_types ks (s ∷ ss) (suc i) = same_types ks ss i
+entry_as : (marks : ℕ → Bool) (n : ℕ) (ss : List Source) (i : ℕ) → slice_get (list_of marks n ss) i ≡ option_map (listed (marks (n + i))) (slice_get ss i)
+entry_as marks n [] i = refl
+entry_as marks n (s ∷ ss) zero = ap (λ k. Some (listed (marks k) s)) (sym (add-zero n))
+entry_as marks n (s ∷ ss) (suc i) = entry_as marks (suc n) ss i ∙ ap (λ b. option_map (listed b) (slice_get ss i)) (shifts marks n i)
 
 pub told_is : (o : Option Stored) (rows : List Value) → told_rows o ≡ Some rows → o ≡ Some (Rows rows)
 told_is None rows e = absurd cc
@@ -107,7 +100,7 @@ module _ (ds mid : List State) (ss : List Source) (marks : ℕ → Bool) (placed
     w = world_of mid (list_of marks 0 ss) settings trace
 
     pub entry_of : (i : ℕ) (s : Source) → slice_get ss i ≡ Some s → slice_get w.sources i ≡ Some (listed (marks i) s)
-    entry_of i s at = listed_at marks 0 ss i s at ∙ ap (λ k. Some (listed (marks k) s)) (zero-add i)
+    entry_of i s at = entry_as marks 0 ss i ∙ ap (option_map (listed (marks (0 + i)))) at ∙ ap (λ k. Some (listed (marks k) s)) (zero-add i)
 
     -- ---- what scans read
 

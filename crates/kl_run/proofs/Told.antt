@@ -39,7 +39,7 @@ holder : (w : World) (d : ℕ) (h : Held) → (stage w).held d ≡ Some h → Is
 unfolding stage held_at
 holder w d h e = held_is (slice_get w.drivers d) h e
 
-listed_in : (w : World) (i : ℕ) → slice_get (stage w).sources i ≡ slice_get w.sources i
+pub listed_in : (w : World) (i : ℕ) → slice_get (stage w).sources i ≡ slice_get w.sources i
 unfolding stage
 listed_in w i = refl
 
@@ -73,6 +73,9 @@ source_here w c place entry x h a at held is same named attached =
     let has : x.attached entry.source ≡ Some a = ap x.attached (sym named) ∙ ap (λ k. k.attached c.source) (sym same) ∙ attached in
     ap (λ o. at_source o w.drivers) at ∙ ap (λ o. at_place entry o w.drivers) held ∙ ap (at_driver entry) is ∙ has
 
+read_there : (o : Option Held) (h : Held) (ask : Ask) (rows : List Value) → o ≡ Some h → read_by h ask ≡ Some rows → read_in o ask ≡ Some rows
+read_there o h ask rows is read = ap (λ q. read_in q ask) is ∙ read
+
 pub told_at : (w : World) → IsReady w → HaveSources (types_of w) (values_of w) → IsToldAt w
 told_at w ready have c u f =
     let x = holder w c.driver f.held f.holds in
@@ -82,4 +85,4 @@ told_at w ready have c u f =
     let rows = rows_of (ground_of f.source.ty) f.source.rows v.0 (sym (value_at w f.place f.source here) ∙ v.1) in
     let listed = ready.listed f.place f.entry f.source at here in
     let read = asked_told f.held.abilities f.held c.source f.source u rows.0 c f.attached rows.1 (listed.typed rows.0 rows.1) c.ask f.ask in
-    (read.0, ap (λ o. read_in o c.ask) f.holds ∙ read.1, read.2)
+    (read.0, read_there ((stage w).held c.driver) f.held c.ask read.0 f.holds read.1, read.2)
