@@ -55,7 +55,7 @@ use Rattle.kl_ship.specs.Contents.{MakesSense, types_in}
 use Rattle.kl_ship.specs.Nodes.{Node}
 use Rattle.kl_run.specs.Planned.{IsPlanOf, ships_of}
 use Rattle.kl_run.specs.Running.{Runs}
-use Rattle.kl_run.proofs.Running.{session_runs}
+use Rattle.kl_run.proofs.Sessions.{session_runs}
 use Rattle.kl_sources.specs.Attaching.{RoseAt, list_of, HaveNone, AttachesAll, world_of, IsErrorOf, IsUnreadable, NoVerdict, MayAttach, Causes, Serves, Stands, HasTyped}
 use Rattle.kl_sources.specs.Sources.{ArePlaced, IsFit, names_of, grounds_of, contents, HasRows, value_of, empty_of, IsValueAt, HaveValues, IsReadable, FirstWithout}
 use Rattle.kl_sources.specs.declared.attaching.AttachError.{AttachError}
@@ -547,7 +547,7 @@ module _ (ss : List Source) (s : Scoped) (scope : WasInScope (names_of ss) s) (t
   -- the plan of what the term is rewritten to runs there
   pub plan_runs : (idle : All IsIdle ds) (mentioned : ReadsMentioned s t) (u : Tree) (p : Node) → Preserves t u → IsPlanOf (ships_of (kinds_of ds) ss) u p → Runs (kinds_of ds) ss (is_marked s) t p (world_of mid list settings trace)
   plan_runs idle mentioned u p keeps planned =
-      session_runs ds mid ss (is_marked s) t u p (world_of mid list settings trace) settings trace placed (idle_none ds idle) attaches.drivers attaches.stand session_serves
+      session_runs ds mid ss (is_marked s) settings trace (world_of mid list settings trace) t u p placed (idle_none ds idle) attaches.drivers attaches.stand session_serves
       (ap (λ l. world_of mid l settings trace) attaches.list) session_sense (mentioned scope.0 (names_of ss) scope.1) keeps planned
 
   module _ (listed : Bool) (of : listed ≡ true → IsListScheme typed.result) where

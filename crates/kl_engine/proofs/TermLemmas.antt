@@ -29,7 +29,7 @@ use Rattle.kl_cursor.specs.Left.{reading}
 use Rattle.kl_cursor.specs.Sense.{HasWorth}
 use Rattle.kl_cursor.specs.Steps.{ComesTo, Partly}
 use Rattle.kl_run.specs.Running.{Runs}
-use Rattle.kl_run.proofs.Running.{moves_quiet}
+use Rattle.kl_run.proofs.Quiet.{moves_quiet}
 use Rattle.kl_engine.specs.Answering.{KeepsDrivers, PrintsPage}
 use Rattle.kl_engine.specs.Faults.{Ending}
 use Rattle.kl_engine.specs.Outside.{outside_of}
