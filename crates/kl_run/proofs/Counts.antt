@@ -120,9 +120,9 @@ module _ (ss : List ShipSource) (u : Tree) (p : Node) (of : IsPlanOf ss u p) whe
 
     starts_asked : (d : ℕ) (ask : Ask) (count : ℕ) → raised (paid (price_of d ask) es) count ≡ raised (starts_asking d ask (scans_in p) b.trace.starts) count
     starts_asked d ask count =
-        let each : paid (price_of d ask) m.events ≡ sum_by (λ c. cond (asks_it d ask c) (paid (at_number c.number) m.events) 0) (scans_in p) = paid_each (asks_it d ask) (scans_in p) of.numbers.scans m.events own in
-        let capped = sum_capped (asks_it d ask) (λ c. paid (at_number c.number) m.events) (scans_in p) in
-        let same : starts_asking d ask (scans_in p) b.trace.starts ≡ sum_by (λ c. cond (asks_it d ask c) (min (paid (at_number c.number) m.events) (2 ^ 64 - 1)) 0) (scans_in p) =
+        let each : paid (price_of d ask) es ≡ sum_by (λ c. cond (asks_it d ask c) (paid (at_number c.number) es) 0) (scans_in p) = paid_each (asks_it d ask) (scans_in p) of.numbers.scans es own in
+        let capped = sum_capped (asks_it d ask) (λ c. paid (at_number c.number) es) (scans_in p) in
+        let same : starts_asking d ask (scans_in p) b.trace.starts ≡ sum_by (λ c. cond (asks_it d ask c) (min (paid (at_number c.number) es) (2 ^ 64 - 1)) 0) (scans_in p) =
         sum_same _ _ (scans_in p) (λ c i. ap (λ n. cond (asks_it d ask c) n 0) (starts_at c i)) in
         ap (λ n. raised n count) each ∙ raised_capped _ _ count (sym capped) ∙ sym (ap (λ n. raised n count) same)
 
