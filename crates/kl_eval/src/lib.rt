@@ -21,4 +21,4 @@ pub use steps::{
     variant,
 };
 pub use stop::{EvalStop, Halt};
-pub use tables::Tables;
+pub use tables::{Tables, table_of};

@@ -43,29 +43,72 @@ pub trait Scans: Tables {
         ensures { Closes (one_at scan.now.driver cursor) (Self.world self.old) (Self.world self.new) };
 }
 
+/// Opens a cursor of a scan over a session, as `Scans::start` says.
+///
+/// # Errors
+/// Those of `Scans::start`.
+pub fn start_scan(session: &mut Session, scan: &Scan) -> Result<u64, EvalStop>
+    requires { CanScan (⟦<Session as Seen>⟧.world session.old) scan.now }
+    ensures { Starts scan.now result (⟦<Session as Seen>⟧.world session.old) (⟦<Session as Seen>⟧.world session.new) }
+{
+    match start_at(&mut session.drivers, scan) {
+        Ok(cursor) => {
+            count_start(&mut session.trace.starts, scan.number);
+            Ok(cursor)
+        }
+        Err(error) => Err(stop_of(&scan.source, error)),
+    }
+}
+
+/// Appends the next rows of a cursor of a scan over a session, as `Scans::pull` says.
+///
+/// # Errors
+/// Those of `Scans::pull`.
+pub fn pull_scan(
+    session: &mut Session,
+    scan: &Scan,
+    cursor: u64,
+    into: &mut Vec<Value>,
+) -> Result<bool, EvalStop>
+    requires scan { CanScan (⟦<Session as Seen>⟧.world session.old) scan.now }
+    requires is_open { IsOpen (⟦<Session as Seen>⟧.world session.old) scan.now cursor }
+    requires room { 0 < (⟦<Session as Seen>⟧.world session.old).settings.fetch }
+    ensures { Pulls scan.now cursor into.old.items into.new.items result (⟦<Session as Seen>⟧.world session.old) (⟦<Session as Seen>⟧.world session.new) }
+{
+    match pull_at(
+        &mut session.drivers,
+        scan,
+        cursor,
+        session.settings.fetch,
+        into,
+    ) {
+        Ok(more) => Ok(more),
+        Err(error) => Err(stop_of(&scan.source, error)),
+    }
+}
+
+/// Closes a cursor of a scan over a session. Takes no memory.
+pub fn finish_scan(session: &mut Session, scan: &Scan, cursor: u64)
+    requires { Owned (one_at scan.now.driver cursor) (⟦<Session as Seen>⟧.world session.old) }
+    ensures { Closes (one_at scan.now.driver cursor) (⟦<Session as Seen>⟧.world session.old) (⟦<Session as Seen>⟧.world session.new) }
+{
+    finish_at(&mut session.drivers, scan, cursor)
+}
+
 impl Scans for Session {
     fn fetch(&self) -> u32 {
         self.settings.fetch
     }
 
     fn start(&mut self, scan: &Scan) -> Result<u64, EvalStop> {
-        match start_at(&mut self.drivers, scan) {
-            Ok(cursor) => {
-                count_start(&mut self.trace.starts, scan.number);
-                Ok(cursor)
-            }
-            Err(error) => Err(stop_of(&scan.source, error)),
-        }
+        start_scan(self, scan)
     }
 
     fn pull(&mut self, scan: &Scan, cursor: u64, into: &mut Vec<Value>) -> Result<bool, EvalStop> {
-        match pull_at(&mut self.drivers, scan, cursor, self.settings.fetch, into) {
-            Ok(more) => Ok(more),
-            Err(error) => Err(stop_of(&scan.source, error)),
-        }
+        pull_scan(self, scan, cursor, into)
     }
 
     fn finish(&mut self, scan: &Scan, cursor: u64) {
-        finish_at(&mut self.drivers, scan, cursor)
+        finish_scan(self, scan, cursor)
     }
 }
