@@ -21,4 +21,3 @@ pub use steps::{
     variant,
 };
 pub use stop::{EvalStop, Halt};
-pub use tables::{Tables, table_of};

@@ -11,7 +11,6 @@ use crate::env::{Env, lent};
 use crate::evaluator::value;
 use crate::steps::{add_list, inside};
 use crate::stop::{EvalStop, Halt};
-use crate::tables::Tables;
 use kl_ask::{Seen, Session};
 use kl_core::Term;
 use kl_value::Value;
@@ -66,17 +65,12 @@ pub fn eval_list(
 ///
 /// # Errors
 /// `Over` exactly where the outcome of the term is an overflow, with the items before it; `NoMemory`.
-pub fn plain<T: Tables>(
-    alloc: Global,
-    term: &Term,
-    env: &Env,
-    tables: &mut T,
-) -> Result<Value, Halt>
-    requires { SensePlain (view term.now) (values env.now) (T.world tables.old) }
-    ensures same { T.world tables.new ≡ T.world tables.old }
-    ensures gives { TellsPlain (T.world tables.old) (view term.now) (values env.now) result }
+pub fn plain(alloc: Global, term: &Term, env: &Env, session: &mut Session) -> Result<Value, Halt>
+    requires { SensePlain (view term.now) (values env.now) (⟦<Session as Seen>⟧.world session.old) }
+    ensures same { ⟦<Session as Seen>⟧.world session.new ≡ ⟦<Session as Seen>⟧.world session.old }
+    ensures gives { TellsPlain (⟦<Session as Seen>⟧.world session.old) (view term.now) (values env.now) result }
 {
-    value(alloc, term, &*env, tables)
+    value(alloc, term, &*env, session)
 }
 
 /// The value of a variable, of a constant, or of a field of one of them, where it stands: of a term in which no source stands, and

@@ -21,30 +21,18 @@ pub trait Tables: Seen {
         ensures { Tabled source result (Self.world self.old) (Self.world self.new) };
 }
 
-/// The value of a source of a session, by its number, which is read anew. One that no driver has attached is empty.
-///
-/// # Errors
-/// `Driver` where the source's driver refused to go on; want of memory; and never an overflow.
-pub fn table_of(session: &mut Session, alloc: Global, source: u32) -> Result<Value, EvalStop>
-    requires ready { IsReady (⟦<Session as Seen>⟧.world session.old) }
-    requires there { IsSome (types_of (⟦<Session as Seen>⟧.world session.old) source) }
-    ensures { Tabled source result (⟦<Session as Seen>⟧.world session.old) (⟦<Session as Seen>⟧.world session.new) }
-{
-    let attached = &session.sources.slice()[source as usize];
-    match attached.driver {
-        Some(place) => scan_attached(
-            alloc,
-            &mut session.drivers,
-            place as usize,
-            attached,
-            session.settings.fetch,
-        ),
-        None => no_rows(alloc, attached),
-    }
-}
-
 impl Tables for Session {
     fn table(&mut self, alloc: Global, source: u32) -> Result<Value, EvalStop> {
-        table_of(self, alloc, source)
+        let attached = &self.sources.slice()[source as usize];
+        match attached.driver {
+            Some(place) => scan_attached(
+                alloc,
+                &mut self.drivers,
+                place as usize,
+                attached,
+                self.settings.fetch,
+            ),
+            None => no_rows(alloc, attached),
+        }
     }
 }

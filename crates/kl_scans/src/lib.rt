@@ -6,4 +6,4 @@ mod drivers;
 mod scans;
 mod stops;
 
-pub use scans::{Scans, finish_scan, pull_scan, start_scan};
+pub use scans::{finish_scan, pull_scan, start_scan};

@@ -1,5 +1,5 @@
-//! What opens the cursors of scans.
-ghost use Rattle.std.specs.Prelude.{◌≡◌, ◌<◌};
+//! Scans over a session.
+ghost use Rattle.std.specs.Prelude.{◌<◌};
 ghost use Rattle.kl_scans.specs.Held.{Owned, one_at};
 ghost use Rattle.kl_scans.specs.Moves.{Closes};
 ghost use Rattle.kl_scans.specs.Scans.{CanScan, IsOpen, Starts, Pulls};
@@ -8,45 +8,14 @@ use crate::counting::count_start;
 use crate::drivers::{finish_at, pull_at, start_at};
 use crate::stops::stop_of;
 use kl_ask::{Seen, Session};
-use kl_eval::{EvalStop, Tables};
+use kl_eval::EvalStop;
 use kl_ship::Scan;
 use kl_value::Value;
 
-/// What gives the rows of scans, some at a time.
-pub trait Scans: Tables {
-    /// How many rows are pulled at once.
-    fn fetch(&self) -> u32
-        ensures { result ≡ (Self.world self.now).settings.fetch };
-
-    /// Opens a cursor of the scan's driver for its ask, and counts that the scan was started, where its number is counted.
-    ///
-    /// # Errors
-    /// `Driver` where the driver refused, with its cause; want of memory; and never an overflow. Nothing is open then that was
-    /// not.
-    fn start(&mut self, scan: &Scan) -> Result<u64, EvalStop>
-        requires { CanScan (Self.world self.old) scan.now }
-        ensures { Starts scan.now result (Self.world self.old) (Self.world self.new) };
-
-    /// Appends the next rows of a cursor of the scan, at most as many as are pulled at once, or answers that none is left.
-    ///
-    /// # Errors
-    /// Those of `start`. The cursor is closed then.
-    fn pull(&mut self, scan: &Scan, cursor: u64, into: &mut Vec<Value>) -> Result<bool, EvalStop>
-        requires scan { CanScan (Self.world self.old) scan.now }
-        requires is_open { IsOpen (Self.world self.old) scan.now cursor }
-        requires room { 0 < (Self.world self.old).settings.fetch }
-        ensures { Pulls scan.now cursor into.old.items into.new.items result (Self.world self.old) (Self.world self.new) };
-
-    /// Closes a cursor of the scan. Takes no memory.
-    fn finish(&mut self, scan: &Scan, cursor: u64)
-        requires { Owned (one_at scan.now.driver cursor) (Self.world self.old) }
-        ensures { Closes (one_at scan.now.driver cursor) (Self.world self.old) (Self.world self.new) };
-}
-
-/// Opens a cursor of a scan over a session, as `Scans::start` says.
+/// Opens a cursor of the scan's driver for its ask, and counts that the scan was started, where its number is counted.
 ///
 /// # Errors
-/// Those of `Scans::start`.
+/// `Driver` where the driver refused, with its cause; want of memory; and never an overflow. Nothing is open then that was not.
 pub fn start_scan(session: &mut Session, scan: &Scan) -> Result<u64, EvalStop>
     requires { CanScan (⟦<Session as Seen>⟧.world session.old) scan.now }
     ensures { Starts scan.now result (⟦<Session as Seen>⟧.world session.old) (⟦<Session as Seen>⟧.world session.new) }
@@ -60,10 +29,10 @@ pub fn start_scan(session: &mut Session, scan: &Scan) -> Result<u64, EvalStop>
     }
 }
 
-/// Appends the next rows of a cursor of a scan over a session, as `Scans::pull` says.
+/// Appends the next rows of a cursor of the scan, at most as many as are pulled at once, or answers that none is left.
 ///
 /// # Errors
-/// Those of `Scans::pull`.
+/// Those of `start_scan`. The cursor is closed then.
 pub fn pull_scan(
     session: &mut Session,
     scan: &Scan,
@@ -87,28 +56,10 @@ pub fn pull_scan(
     }
 }
 
-/// Closes a cursor of a scan over a session. Takes no memory.
+/// Closes a cursor of the scan. Takes no memory.
 pub fn finish_scan(session: &mut Session, scan: &Scan, cursor: u64)
     requires { Owned (one_at scan.now.driver cursor) (⟦<Session as Seen>⟧.world session.old) }
     ensures { Closes (one_at scan.now.driver cursor) (⟦<Session as Seen>⟧.world session.old) (⟦<Session as Seen>⟧.world session.new) }
 {
     finish_at(&mut session.drivers, scan, cursor)
-}
-
-impl Scans for Session {
-    fn fetch(&self) -> u32 {
-        self.settings.fetch
-    }
-
-    fn start(&mut self, scan: &Scan) -> Result<u64, EvalStop> {
-        start_scan(self, scan)
-    }
-
-    fn pull(&mut self, scan: &Scan, cursor: u64, into: &mut Vec<Value>) -> Result<bool, EvalStop> {
-        pull_scan(self, scan, cursor, into)
-    }
-
-    fn finish(&mut self, scan: &Scan, cursor: u64) {
-        finish_scan(self, scan, cursor)
-    }
 }

@@ -1,0 +1,77 @@
+//! What plans are run over.
+ghost use Rattle.std.specs.Prelude.{◌≡◌, ◌<◌};
+ghost use Rattle.kl_core.specs.Trees.{view};
+ghost use Rattle.kl_eval.specs.Evals.{SensePlain, TellsPlain};
+ghost use Rattle.kl_eval.specs.Values.{values};
+ghost use Rattle.kl_scans.specs.Held.{Owned, one_at};
+ghost use Rattle.kl_scans.specs.Moves.{Closes};
+ghost use Rattle.kl_scans.specs.Scans.{CanScan, IsOpen, Starts, Pulls};
+
+use kl_ask::{Seen, Session};
+use kl_core::Term;
+use kl_eval::{Env, EvalStop, Halt, plain};
+use kl_scans::{finish_scan, pull_scan, start_scan};
+use kl_ship::Scan;
+use kl_value::Value;
+use std::alloc::Global;
+
+/// What gives the rows of scans, some at a time, and the values of parts without sources.
+pub trait Scans: Seen {
+    /// How many rows are pulled at once.
+    fn fetch(&self) -> u32
+        ensures { result ≡ (Self.world self.now).settings.fetch };
+
+    /// Opens a cursor of a scan, as `start_scan` does.
+    ///
+    /// # Errors
+    /// Those of `start_scan`.
+    fn start(&mut self, scan: &Scan) -> Result<u64, EvalStop>
+        requires { CanScan (Self.world self.old) scan.now }
+        ensures { Starts scan.now result (Self.world self.old) (Self.world self.new) };
+
+    /// Appends the next rows of a cursor of a scan, as `pull_scan` does.
+    ///
+    /// # Errors
+    /// Those of `pull_scan`.
+    fn pull(&mut self, scan: &Scan, cursor: u64, into: &mut Vec<Value>) -> Result<bool, EvalStop>
+        requires scan { CanScan (Self.world self.old) scan.now }
+        requires is_open { IsOpen (Self.world self.old) scan.now cursor }
+        requires room { 0 < (Self.world self.old).settings.fetch }
+        ensures { Pulls scan.now cursor into.old.items into.new.items result (Self.world self.old) (Self.world self.new) };
+
+    /// Closes a cursor of a scan. Takes no memory.
+    fn finish(&mut self, scan: &Scan, cursor: u64)
+        requires { Owned (one_at scan.now.driver cursor) (Self.world self.old) }
+        ensures { Closes (one_at scan.now.driver cursor) (Self.world self.old) (Self.world self.new) };
+
+    /// The value of a term in which no source stands. Nothing is read.
+    ///
+    /// # Errors
+    /// Those of `kl_eval::plain`.
+    fn plain(&mut self, alloc: Global, term: &Term, env: &Env) -> Result<Value, Halt>
+        requires { SensePlain (view term.now) (values env.now) (Self.world self.old) }
+        ensures same { Self.world self.new ≡ Self.world self.old }
+        ensures gives { TellsPlain (Self.world self.old) (view term.now) (values env.now) result };
+}
+
+impl Scans for Session {
+    fn fetch(&self) -> u32 {
+        self.settings.fetch
+    }
+
+    fn start(&mut self, scan: &Scan) -> Result<u64, EvalStop> {
+        start_scan(self, scan)
+    }
+
+    fn pull(&mut self, scan: &Scan, cursor: u64, into: &mut Vec<Value>) -> Result<bool, EvalStop> {
+        pull_scan(self, scan, cursor, into)
+    }
+
+    fn finish(&mut self, scan: &Scan, cursor: u64) {
+        finish_scan(self, scan, cursor)
+    }
+
+    fn plain(&mut self, alloc: Global, term: &Term, env: &Env) -> Result<Value, Halt> {
+        plain(alloc, term, &*env, self)
+    }
+}
