@@ -2,11 +2,12 @@
 //!
 //! A cursor holds what it has still to do, and only the values that it binds itself: the environment stands on the stack and is
 //! copied by `open_plan` alone. Rows are fetched ahead, so many at once, where none is left of those fetched before.
-#![tactic(auto)]
+// AUTO
 
 mod ahead;
 mod cursor;
 mod drawing;
+mod parts;
 mod state;
 mod stepping;
 mod steps;
