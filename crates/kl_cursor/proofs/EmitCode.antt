@@ -1,5 +1,5 @@
 -- Items that are added to a list, from what the code has.
-use Rattle.std.proofs.Common.{◌≡◌, ℕ, ◌+◌, ◌*◌, ◌<◌, ◌≤◌, max, Bool, true, false, cond, List, [], ◌∷◌, ◌++◌, drop, length, map, get_or, Option, Some, None, IsSome, Result, Vec, Ok, Err, slice_get, refl, sym, ap, subst, ◌∙◌, arith, append-nil, IfOk, Bor}
+use Rattle.std.proofs.Common.{◌≡◌, ℕ, ◌+◌, ◌<◌, ◌≤◌, Bool, true, false, List, [], ◌∷◌, ◌++◌, drop, length, get_or, Option, Some, None, Result, Vec, Ok, Err, slice_get, refl, sym, ap, subst, ◌∙◌, arith, append-nil, IfOk, Bor}
 use Rattle.std.specs.Prelude.{⊤, IfSome}
 use Rattle.std.specs.declared.alloc.Global.{Global}
 use Rattle.std.proofs.lemmas.List.{at_drop_more}
@@ -8,7 +8,7 @@ use Rattle.kl_value.proofs.ViewLemmas.{collection_is}
 use Rattle.kl_value.specs.declared.Kind.{Kind}
 use Rattle.kl_value.specs.declared.Value.{Value}
 use Rattle.kl_type.specs.Ground.{coll}
-use Rattle.kl_outcome.specs.Outcome.{Name, Outcome, done, over, End, fine, overflow, flow, items_of, items_at_all, as_variant}
+use Rattle.kl_outcome.specs.Outcome.{Outcome, done, End, fine, overflow, flow, items_of, items_at_all}
 use Rattle.kl_core.specs.Core.{core}
 use Rattle.kl_core.specs.Trees.{view as term_view}
 use Rattle.kl_core.specs.declared.term.Term.{Term}
@@ -30,16 +30,16 @@ use Rattle.kl_ship.specs.Nodes.{Node, nodes, no_nodes, view, nodes_view}
 use Rattle.kl_ship.proofs.Views.{view_Make, view_Union, view_Ext, view_Scan}
 use Rattle.kl_scans.specs.Held.{nothing, one_at, Owned, cursor_at}
 use Rattle.kl_scans.specs.Moves.{Moves, Closes}
-use Rattle.kl_scans.specs.Scans.{CanScan, IsOpen, Stopped, Started, Starts, NotStarted, Pulls, PulledMore, PulledNone, NotPulled}
+use Rattle.kl_scans.specs.Scans.{CanScan, IsOpen, Stopped, Started, NotStarted, PulledMore, PulledNone, NotPulled}
 use Rattle.kl_scans.proofs.Moving.{owned_after}
 use Rattle.kl_cursor.specs.Drawing.{draws, comes_by_items}
-use Rattle.kl_cursor.specs.Left.{Snap, fresh, have, pulling, both, bound, outside, made, uses, ScansLeft, end_of}
+use Rattle.kl_cursor.specs.Left.{Snap, fresh, have, pulling, both, outside, made, uses, ScansLeft, end_of}
 use Rattle.kl_cursor.specs.Measure.{bound_in}
 use Rattle.kl_cursor.specs.Sense.{HasWorth, Stands}
-use Rattle.kl_cursor.specs.Steps.{Onward, Halts, Stops, Empties, Drains, Emits, EmitsDrawn, DrawnStand, ItemsIn, AddsWhole, ComesTo, Wholly, Partly}
+use Rattle.kl_cursor.specs.Steps.{Onward, Stops, Empties, Drains, Emits, EmitsDrawn, DrawnStand, ItemsIn, AddsWhole, ComesTo, Wholly, Partly}
 use Rattle.kl_cursor.proofs.Beginning.{make_begins, union_begins, loop_begins}
 use Rattle.kl_cursor.proofs.Calls.{owned_nothing, stands_onward, stands_source}
-use Rattle.kl_cursor.proofs.Emitting.{halts_as, onward_drains, gives_drains, ends_empties, stops_emit, ends_emit, starts_emit, onward_emit, drains_emit, bound_emit, both_emit, both_stop, both_stands, outside_drains, Drawing, source_drawing, drawing_stands, drawing_emit, turn_stop, turn_stands, turn_adding, none_left, Adding, adding_starts, adding_from, adding_then, adding_emit, adding_stands}
+use Rattle.kl_cursor.proofs.Emitting.{halts_as, onward_drains, gives_drains, ends_empties, stops_emit, ends_emit, starts_emit, onward_emit, both_emit, both_stop, both_stands, outside_drains, Drawing, source_drawing, drawing_stands, drawing_emit, turn_stop, turn_stands, turn_adding, none_left, Adding, adding_from, adding_then, adding_emit, adding_stands}
 use Rattle.kl_cursor.proofs.Forms.{body_over, loop_end, loop_stop}
 use Rattle.kl_cursor.proofs.Rows.{scan_hands, rows_ahead, pull_falls, rows_still, rows_drawn, rows_stop}
 use Rattle.kl_cursor.proofs.Scanning.{can_pull, open_there, scan_ends, scan_stops}
@@ -69,8 +69,8 @@ pub emits_drain : (env : List Value) (s : Snap) (z : Unit {0}) (none : List Valu
 emits_drain env s z none ws a b e h = subst (λ q. Empties env s q fine a b) (sym (h.1 ∙ ap (λ q. q ++ h.0) e)) h.2
 
 pub emits_over : (env : List Value) (s : Snap) (r : Result (Unit {0}) EvalStop) (e : EvalStop) (none : List Value) (ws : Vec Value Global) (a b : World) → none ≡ [] → r ≡ Err e → e ≡ why.Overflow → Emits env s r none ws.items a b → Drains env s (Err (halt.Over ws)) a b
-emits_over env s r e none ws a b empty is over h =
-    let g : Emits env s (Err why.Overflow) none ws.items a b = subst (λ q. Emits env s (Err q) none ws.items a b) over (subst (λ q. Emits env s q none ws.items a b) is h) in
+emits_over env s r e none ws a b empty is past h =
+    let g : Emits env s (Err why.Overflow) none ws.items a b = subst (λ q. Emits env s (Err q) none ws.items a b) past (subst (λ q. Emits env s q none ws.items a b) is h) in
     subst (λ q. Empties env s q overflow a b) (sym (g.1 ∙ ap (λ q. q ++ g.0) empty)) g.2
 
 -- ---- each form of a plan
@@ -362,9 +362,12 @@ module _ (env : List Value) (s0 : Snap) (p : Node) (q : Scan) (k n : ℕ) (old n
   each_stop e c m = adding_emit env s0 Waiting (Err e) old now now a b c h.0 (any_stop env Waiting e now now b c (never_over q e b c m.cause) (loop_stop env p (pulling q k [] n) e b c (scan_stops env q k n e b c m)))
 
   -- rows were pulled
-  module _ (none rows : List Value) (c : World) (m : PulledMore q k none rows b c) (empty : none ≡ []) where
+  module _ (none rows : List Value) (c : World) (m : PulledMore q k none rows b c) (empty : none ≡ []) (shown : List Value) (same : shown ≡ rows) where
     abbrev Filled : Snap
     Filled = outside p (pulling q k rows n)
+
+    abbrev Shown : Snap
+    Shown = outside p (have shown fine)
 
     handed : Draining env (pulling q k [] n) b rows (pulling q k [] n) c
     handed = subst (λ z. Draining env (pulling q k [] n) b z (pulling q k [] n) c) (sym (m.appended ∙ ap (λ z. z ++ m.rows) empty)) (scan_hands env q k n none rows b c m)
@@ -375,17 +378,25 @@ module _ (env : List Value) (s0 : Snap) (p : Node) (q : Scan) (k n : ℕ) (old n
     owned_then : Owned (one_at q.driver k) c
     owned_then = owned_after (one_at q.driver k) (one_at q.driver k) b c h.1 m.moves
 
-    pub each_draw_stands : Stands a s0 env → Stands c (outside p (have rows fine)) env
-    each_draw_stands i = let j = adding_stands env s0 Filled old now a c filled i in let f = j.4 in (j.0, j.1, j.2, j.3, (f.0, f.1, f.2, f.3.0, f.4), j.5)
+    as_pulled : (r : Result (Unit {0}) EvalStop) (new : List Value) (d : World) → Emits env Shown r now new c d → Emits env (outside p (have rows fine)) r now new c d
+    as_pulled r new d g = subst (λ z. Emits env (outside p (have z fine)) r now new c d) same g
 
-    pub each_owned : (r : Result (Unit {0}) EvalStop) (new : List Value) (d : World) → Emits env (outside p (have rows fine)) r now new c d → Owned (one_at q.driver k) d
-    each_owned r new d g = owned_after (one_at q.driver k) (one_at q.driver k) c d owned_then (body_over (pulling q k [] n) c d (emits_moves env (outside p (have rows fine)) r now new c d g))
+    pub each_draw_stands : Stands a s0 env → Stands c Shown env
+    each_draw_stands i =
+        let j = adding_stands env s0 Filled old now a c filled i in
+        let f = j.4 in
+        subst (λ z. Stands c (outside p (have z fine)) env) (sym same) (j.0, j.1, j.2, j.3, (f.0, f.1, f.2, f.3.0, f.4), j.5)
 
-    pub each_goes : (z : Unit {0}) (new : List Value) (d : World) → Emits env (outside p (have rows fine)) (Ok z) now new c d → Adding env s0 a old new Waiting d × Owned (one_at q.driver k) d
-    each_goes z new d g = (adding_then env s0 Filled Waiting g.0 old now new a c d filled (rows_drawn env p q k n rows c d owned_then z now new g) g.1, each_owned (Ok z) new d g)
+    pub each_owned : (r : Result (Unit {0}) EvalStop) (new : List Value) (d : World) → Emits env Shown r now new c d → Owned (one_at q.driver k) d
+    each_owned r new d g = owned_after (one_at q.driver k) (one_at q.driver k) c d owned_then (body_over (pulling q k [] n) c d (emits_moves env Shown r now new c d g))
 
-    pub each_falls : (z : Unit {0}) (new : List Value) (d : World) → Emits env (outside p (have rows fine)) (Ok z) now new c d → bound_in (cursor_at d q.driver k) < bound_in (cursor_at b q.driver k)
-    each_falls z new d g = let x = pull_falls q k none rows b c m in let y = rows_still env p q k n rows c d owned_then z now new g in omega arith
+    pub each_goes : (z : Unit {0}) (new : List Value) (d : World) → Emits env Shown (Ok z) now new c d → Adding env s0 a old new Waiting d × Owned (one_at q.driver k) d
+    each_goes z new d g =
+        let e = as_pulled (Ok z) new d g in
+        (adding_then env s0 Filled Waiting e.0 old now new a c d filled (rows_drawn env p q k n rows c d owned_then z now new e) e.1, each_owned (Ok z) new d g)
 
-    pub each_lost : (e : EvalStop) (new : List Value) (d l : World) → Emits env (outside p (have rows fine)) (Err e) now new c d → Closes (one_at q.driver k) d l → Emits env s0 (Err e) old new a l
-    each_lost e new d l g x = adding_emit env s0 Filled (Err e) old now new a c l filled (rows_stop env p q k n rows c d owned_then l x e now new g)
+    pub each_falls : (z : Unit {0}) (new : List Value) (d : World) → Emits env Shown (Ok z) now new c d → bound_in (cursor_at d q.driver k) < bound_in (cursor_at b q.driver k)
+    each_falls z new d g = let x = pull_falls q k none rows b c m in let y = rows_still env p q k n rows c d owned_then z now new (as_pulled (Ok z) new d g) in omega arith
+
+    pub each_lost : (e : EvalStop) (new : List Value) (d l : World) → Emits env Shown (Err e) now new c d → Closes (one_at q.driver k) d l → Emits env s0 (Err e) old new a l
+    each_lost e new d l g x = adding_emit env s0 Filled (Err e) old now new a c l filled (rows_stop env p q k n rows c d owned_then l x e now new (as_pulled (Err e) new d g))

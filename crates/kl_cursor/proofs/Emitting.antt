@@ -1,10 +1,10 @@
 -- Items that are added to a list as they come, form by form.
-use Rattle.std.proofs.Common.{◌≡◌, ℕ, ◌+◌, ◌≤◌, Bool, true, false, List, [], ◌∷◌, ◌++◌, Result, Vec, Ok, Err, refl, sym, ap, subst, ◌∙◌, arith, append_assoc, append-nil}
+use Rattle.std.proofs.Common.{◌≡◌, ℕ, ◌+◌, List, [], ◌∷◌, ◌++◌, Result, Vec, Ok, Err, refl, sym, ap, subst, ◌∙◌, arith, append_assoc, append-nil}
 use Rattle.std.specs.Prelude.{⊤}
 use Rattle.std.specs.declared.alloc.Global.{Global}
 use Rattle.kl_value.specs.declared.Kind.{Kind}
 use Rattle.kl_value.specs.declared.Value.{Value}
-use Rattle.kl_type.specs.Ground.{Ground, coll}
+use Rattle.kl_type.specs.Ground.{coll}
 use Rattle.kl_outcome.specs.Outcome.{Flow, more, stop, End, fine, overflow, flow, followed, drawn}
 use Rattle.kl_ask.specs.World.{World}
 use Rattle.kl_eval.specs.World.{StoppedBy}
@@ -21,7 +21,7 @@ use Rattle.kl_scans.specs.Held.{Uses, nothing}
 use Rattle.kl_scans.specs.Log.{paid}
 use Rattle.kl_scans.specs.Stage.{stage, readings}
 use Rattle.kl_scans.proofs.Moving.{moves_none, stage_stays, stopped_then}
-use Rattle.kl_cursor.specs.Left.{Snap, fresh, have, both, bound, outside, uses, left, reading, to_start, ScansLeft, end_of}
+use Rattle.kl_cursor.specs.Left.{Snap, fresh, have, both, bound, outside, uses, left, reading, to_start, ScansLeft}
 use Rattle.kl_cursor.specs.Likeness.{Same}
 use Rattle.kl_cursor.specs.Steps.{Onward, Gives, Ends, Halts, Stops, Empties, Drains, Emits, EmitsDrawn, DrawnStand}
 use Rattle.kl_cursor.specs.Sense.{Stands}

@@ -1,40 +1,38 @@
 -- The rows of a scan, as they go to a list or to a body.
-use Rattle.std.proofs.Common.{◌≡◌, ℕ, ◌+◌, ◌<◌, Bool, true, false, List, [], ◌∷◌, ◌++◌, length, Result, Ok, Err, refl, sym, ap, ◌∙◌, subst, arith}
+use Rattle.std.proofs.Common.{◌≡◌, ℕ, ◌+◌, ◌<◌, List, [], ◌∷◌, ◌++◌, length, Ok, Err, sym, ap, ◌∙◌, subst, arith}
 use Rattle.std.specs.Prelude.{⊤}
 use Rattle.std.specs.List.{AllByRecursion}
 use Rattle.kl_value.specs.declared.Value.{Value}
 use Rattle.kl_type.specs.Ground.{Ground, coll}
-use Rattle.kl_outcome.specs.Outcome.{more, stop, End, fine, overflow, Flow, flow, followed, drawn}
+use Rattle.kl_outcome.specs.Outcome.{fine, overflow, Flow, flow, followed, drawn}
 use Rattle.kl_outcome.specs.Typed.{Inhabits}
 use Rattle.kl_outcome.proofs.Drawing.{drawn_followed}
-use Rattle.kl_ask.specs.Driver.{Cursor}
 use Rattle.kl_ask.specs.World.{World}
 use Rattle.kl_eval.specs.World.{StoppedBy}
 use Rattle.kl_eval.specs.declared.stop.EvalStop.{EvalStop}
 use Rattle.kl_eval.specs.declared.stop.EvalStop.TheVariants as why
-use Rattle.kl_ship.specs.Alike.{harm, weight}
+use Rattle.kl_ship.specs.Alike.{harm}
 use Rattle.kl_ship.specs.declared.plan.Scan.{Scan}
 use Rattle.kl_ship.specs.Meaning.{coming, plan}
-use Rattle.kl_ship.specs.Nodes as node
 use Rattle.kl_ship.specs.Nodes.{Node}
 use Rattle.kl_ship.specs.Reached.{reached}
 use Rattle.kl_ship.proofs.Likeness.{weight_followed}
 use Rattle.kl_scans.specs.Held.{cursor_at, nothing, one_at, Owned}
 use Rattle.kl_scans.specs.Log.{paid}
 use Rattle.kl_scans.specs.Moves.{Closes}
-use Rattle.kl_scans.specs.Scans.{CanScan, IsOpen, Started, Starts, NotStarted, Pulls, PulledMore, PulledNone, NotPulled}
-use Rattle.kl_scans.specs.Stage.{stage, ScanOf, IsTold, readings}
+use Rattle.kl_scans.specs.Scans.{PulledMore}
+use Rattle.kl_scans.specs.Stage.{stage, ScanOf, IsTold}
 use Rattle.kl_scans.proofs.Moving.{moves_then, stage_stays, stopped_before}
-use Rattle.kl_cursor.specs.Left.{Snap, fresh, have, pulling, outside, uses, left, reading, to_start, rows_left, rows_told, ScansLeft}
+use Rattle.kl_cursor.specs.Left.{Snap, have, pulling, outside, left, reading, to_start, rows_left, rows_told, ScansLeft}
 use Rattle.kl_cursor.specs.Likeness.{Same}
 use Rattle.kl_cursor.specs.Measure.{bound_in}
-use Rattle.kl_cursor.specs.Sense.{CursorOf, Stands}
-use Rattle.kl_cursor.specs.Steps.{AreOf, Halts, Stops, Empties, Emits}
-use Rattle.kl_cursor.proofs.Emitting.{onward_drains, outside_drains, ends_emit, stops_emit, starts_emit, not_well, over_stays, Adding, adding_then, adding_emit, adding_from}
+use Rattle.kl_cursor.specs.Sense.{CursorOf}
+use Rattle.kl_cursor.specs.Steps.{AreOf, Halts, Empties, Emits}
+use Rattle.kl_cursor.proofs.Emitting.{not_well, over_stays}
 use Rattle.kl_cursor.proofs.Events.{of_none, of_then}
-use Rattle.kl_cursor.proofs.Forms.{body_owned, body_over, loop_end, loop_stop, loop_still}
+use Rattle.kl_cursor.proofs.Forms.{body_owned, body_over, loop_still}
 use Rattle.kl_cursor.proofs.Likes.{same_itself, same_at, same_on, same_followed, well_first}
-use Rattle.kl_cursor.proofs.Scanning.{rows_of, type_of, ask_of, scan_ends, scan_stops}
+use Rattle.kl_cursor.proofs.Scanning.{rows_of, type_of, ask_of}
 use Rattle.kl_cursor.proofs.Starting.{harm_flow}
 use Rattle.kl_cursor.proofs.Still.{still_beside, start_still, fits_still, types_on, one_self, bodies}
 use Rattle.kl_cursor.proofs.ValueDrain.{Draining, flow_more}

@@ -159,9 +159,6 @@ took env q k before after row w e f =
 pub took_none : (before after : Buffer Value) (o : Option Value) → o ≡ None → o ≡ slice_get before.items 0 → before.items ≡ after.items → after.items ≡ []
 took_none before after o e f g = sym g ∙ none_rows before.items o e f
 
-pub refill_ready : (env : List Value) (q : Scan) (k : ℕ) (before after : Buffer Value) (w : World) → after.capacity ≡ before.capacity → Stands w (pulling q k before.items before.capacity) env → Stands w (pulling q k [] after.capacity) env
-refill_ready env q k before after w e h = (h.0, h.1, h.2, h.3, (tt, h.4.1, h.4.2, e ∙ h.4.3), h.5)
-
 pub refilled : (env : List Value) (q : Scan) (k : ℕ) (before after : Buffer Value) (o : Option Value) (r : Result (Option Value × State) EvalStop) (a b : World) → o ≡ None → o ≡ slice_get before.items 0 → after.capacity ≡ before.capacity → Steps env (pulling q k [] after.capacity) r a b → Steps env (pulling q k before.items before.capacity) r a b
 refilled env q k before after o r a b e f g h =
     subst (λ m. Steps env (pulling q k before.items m) r a b) g (subst (λ xs. Steps env (pulling q k xs after.capacity) r a b) (sym (none_rows before.items o e f)) h)

@@ -1,6 +1,5 @@
 -- All items that are left, and the collection of them.
 use Rattle.std.proofs.Common.{◌≡◌, ◌⊎◌, ⊎_elim, inl, inr, ◌≤◌, List, [], ◌∷◌, ◌++◌, Result, Vec, Ok, Err, refl, sym, ap, subst, ◌∙◌, arith}
-use Rattle.std.specs.Prelude.{⊤}
 use Rattle.std.specs.List.{AllByRecursion}
 use Rattle.std.specs.declared.alloc.Global.{Global}
 use Rattle.kl_value.specs.declared.Kind.{Kind}
@@ -21,9 +20,9 @@ use Rattle.kl_ship.specs.Nodes as node
 use Rattle.kl_ship.specs.Nodes.{Node, Nodes, view}
 use Rattle.kl_ship.proofs.Collections.{alike_same}
 use Rattle.kl_ship.proofs.Comings.{coming_typed}
-use Rattle.kl_scans.specs.Held.{nothing, Owned}
+use Rattle.kl_scans.specs.Held.{nothing}
 use Rattle.kl_scans.specs.Moves.{Moves}
-use Rattle.kl_scans.proofs.Moving.{moves_none, moves_then, owned_after, ready_stays}
+use Rattle.kl_scans.proofs.Moving.{moves_none, moves_then, ready_stays}
 use Rattle.kl_cursor.specs.Left.{Snap, fresh, uses, left, reading, to_start, ScansLeft}
 use Rattle.kl_cursor.specs.Likeness.{Same}
 use Rattle.kl_cursor.specs.Measure.{height}
@@ -122,9 +121,6 @@ module _ (env : List Value) (s0 : Snap) (a : World) (vs : List Value) (s : Snap)
 
   pub drains_stands : Stands a s0 env → Stands b s env
   drains_stands h = (h.0, h.1, h.2, h.3, (d.typed h.0 h.1 h.2 h.3 h.4).1, ready_stays (uses s0) (uses s) a b d.moves h.5)
-
-  pub drains_owned : Owned (uses s0) a → Owned (uses s) b
-  drains_owned o = owned_after (uses s0) (uses s) a b o d.moves
 
 -- ---- the collection
 

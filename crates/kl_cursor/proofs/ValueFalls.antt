@@ -77,9 +77,6 @@ pub picked_low : (t a b c d : Plan) (z : Bool) → t ≡ plans.If a b c → d �
 picked_low t a b c d true et e = then_low t a b c d et e
 picked_low t a b c d false et e = else_low t a b c d et e
 
-pub source_low : (t : Plan) (k : Kind) (b s c : Plan) → t ≡ plans.Ext k b s → c ≡ s → 1 + tall (view c) ≤ tall (view t)
-source_low t k b s c et e = at_node t (node.Ext k (view b) (view c)) _ (ap view et ∙ view_Ext k b s ∙ ap (λ q. node.Ext k (view b) (view q)) (sym e)) (over_second (tall (view b)) (tall (view c)))
-
 module _ (t a : Plan) (ps : List (Name × Plan)) (c : Option Plan) (et : t ≡ plans.Case a ps c) where
   pub subject_low : (b : Plan) → b ≡ a → 1 + tall (view b) ≤ tall (view t)
   subject_low b e = at_node t (node.Case (view b) (branches_of (map view_branch ps) (other_node c))) _ (ap view et ∙ view_Case a ps c ∙ ap (λ q. node.Case (view q) (branches_of (map view_branch ps) (other_node c))) (sym e)) (over_first _ _)

@@ -12,7 +12,7 @@ use Rattle.kl_value.specs.declared.Kind.{Kind}
 use Rattle.kl_value.specs.declared.Value.{Value}
 use Rattle.kl_value.specs.declared.Value.TheVariants as value
 use Rattle.kl_type.specs.Ground.{Ground, Row, bool, rec as rec_type, var as var_type, coll, at}
-use Rattle.kl_outcome.specs.Outcome.{Name, Outcome, done, over, more, End, fine, overflow, flow, followed, outcome_of, part, tagged, as_variant, items_of, items_at_all, gathered, collected, kept, joined_to, union_of}
+use Rattle.kl_outcome.specs.Outcome.{Name, Outcome, done, over, End, fine, overflow, flow, followed, outcome_of, part, tagged, as_variant, items_of, items_at_all, gathered, collected, kept, joined_to, union_of}
 use Rattle.kl_outcome.specs.Typed.{Inhabits, HaveTypes, OfType}
 use Rattle.kl_outcome.proofs.Flows.{collected_flow}
 use Rattle.kl_outcome.proofs.OutcomeTypes.{part_typed, part_is, tagged_typed, variant_is, items_inhabit, union_typed}

@@ -1,17 +1,14 @@
 -- Drains, literals, and what begins evaluated first, from what the code has.
-use Rattle.std.proofs.Common.{◌≡◌, ℕ, ◌+◌, ◌*◌, ◌<◌, ◌≤◌, zero, suc, max, Bool, cond, List, [], ◌∷◌, drop, length, map, get_or, Option, Some, None, Result, Vec, Ok, Err, slice_get, sym, ap, subst, ◌∙◌, arith, Bor}
+use Rattle.std.proofs.Common.{◌≡◌, ℕ, ◌+◌, ◌*◌, ◌<◌, ◌≤◌, zero, suc, max, Bool, cond, List, [], ◌∷◌, drop, length, map, get_or, Option, Some, None, Result, Ok, Err, slice_get, sym, ap, subst, ◌∙◌, arith, Bor}
 use Rattle.std.proofs.lemmas.Grind.{common_steps}
 use Rattle.std.proofs.lemmas.List.{at_drop_more}
-use Rattle.std.specs.declared.alloc.Global.{Global}
 use Rattle.kl_value.specs.declared.Value.{Value}
 use Rattle.kl_outcome.specs.Outcome.{Name, done, more, stop, fine, overflow, as_variant, item_then}
 use Rattle.kl_ask.specs.World.{World}
-use Rattle.kl_ask.specs.declared.DriverError.{DriverError}
-use Rattle.kl_eval.specs.Steps.{AppendsAll, inside_of, place_of, TellsTruth}
+use Rattle.kl_eval.specs.Steps.{inside_of, place_of, TellsTruth}
 use Rattle.kl_eval.specs.declared.stop.EvalStop.{EvalStop}
 use Rattle.kl_eval.specs.declared.stop.EvalStop.TheVariants as why
 use Rattle.kl_eval.specs.declared.stop.Halt.{Halt}
-use Rattle.kl_eval.specs.declared.stop.Halt.TheVariants as halt
 use Rattle.kl_ship.specs.declared.plan.Plan.{Plan}
 use Rattle.kl_ship.specs.declared.plan.Plan.TheVariants as plans
 use Rattle.kl_ship.specs.Meaning.{plan_items}
@@ -21,15 +18,13 @@ use Rattle.kl_ship.specs.Reached.{reached_nodes}
 use Rattle.kl_ship.specs.Shipping.{other_node}
 use Rattle.kl_ship.specs.Typing.{EachPlan}
 use Rattle.kl_scans.specs.Held.{nothing}
-use Rattle.kl_scans.specs.Moves.{Closes}
 use Rattle.kl_scans.specs.Stage.{ScanOf, readings}
 use Rattle.kl_scans.proofs.Moving.{moves_none, stage_stays}
 use Rattle.kl_cursor.specs.declared.state.State.{State}
 use Rattle.kl_cursor.specs.declared.state.State.TheVariants as state
-use Rattle.kl_cursor.specs.Left.{Snap, fresh, have, pulling, both, bound, outside, inside, made, ended, snap, uses, reading, nodes_from}
-use Rattle.kl_cursor.specs.Measure.{tall, tall_nodes, tall_fields, height, rank, falling, most}
-use Rattle.kl_cursor.specs.Sense.{HasWorth, Stands}
-use Rattle.kl_cursor.specs.Steps.{Onward, Gives, Ends, Stops, Steps, Empties, Drains, ComesTo, Wholly, Partly}
+use Rattle.kl_cursor.specs.Left.{Snap, fresh, bound, made, snap, reading, nodes_from}
+use Rattle.kl_cursor.specs.Measure.{tall, tall_nodes, tall_fields, falling}
+use Rattle.kl_cursor.specs.Steps.{Onward, Gives, Ends, Stops, ComesTo, Wholly, Partly}
 use Rattle.kl_cursor.proofs.Likes.{same_itself, same_at}
 use Rattle.kl_cursor.proofs.Snaps.{snap_Fresh, snap_Bound, snap_Make}
 use Rattle.kl_cursor.proofs.Comings.{part_value, part_stop}
@@ -74,10 +69,6 @@ spare_least (node.Scan c) = omega arith
 spare_least (node.Join n k how o cs i q b) = omega arith
 spare_least (node.Memo n frees p) = omega arith
 
--- a part below a plan falls, whether the plan is evaluated or begins
-pub part_falls : (p q : Node) → 1 + tall q ≤ tall p → 16 * tall q + spare q < 16 * tall p + 6
-part_falls p q x = let y = spare_most q in omega arith
-
 pub whole_falls : (p q : Node) → 1 + tall q ≤ tall p → 16 * tall q + spare q < 16 * tall p + spare p
 whole_falls p q x = let y = spare_most q in let z = spare_least p in omega arith
 
@@ -112,12 +103,6 @@ node_tall ps i p lt is =
     omega arith
 
 -- ---- the parts of a literal
-
-pub made_falls : (ps : List Plan) (i : ℕ) (p : Plan) → i < length ps → p ≡ get_or ps i p → 16 * tall (view p) + spare (view p) < 2 * falling (made (nodes_from i ps))
-made_falls ps i p lt is =
-    let f : tall_nodes (nodes_from i ps) ≡ max (tall (view p)) (tall_nodes (nodes_from (i + 1) ps)) = ap tall_nodes (from_place ps i p lt is) in
-    let y = spare_most (view p) in
-    omega arith
 
 pays_next : (e r z y : ℕ) → e ≡ r → z ≡ y → e + z ≡ r + y
 pays_next e r z y x w = omega arith
@@ -157,11 +142,6 @@ made_ends env a = record {
 }
 
 module _ (env : List Value) (ps : Bor (List Plan)) (i : ℕ) (a : World) where
-  pub made_sense : (p : Plan) → i < length ps.now → p ≡ get_or ps.now i p → Stands a (made (nodes_from i ps.now)) env → HasWorth a (view p) env
-  made_sense p lt is h =
-      let s = subst (λ z. Stands a (made z) env) (from_place ps.now i p lt is) h in
-      (s.0, s.2, s.3, s.4.0, s.5)
-
   pub made_gave : (p : Plan) (q : Result Value Halt) (r : Result Value EvalStop) (v : Value) (b : World) → i < length ps.now → p ≡ get_or ps.now i p → Wholly env (view p) q a b → r ≡ inside_of q → r ≡ Ok v
       → Gives env (made (nodes_from i ps.now)) a v (snap (state.Make ps (i + 1))) b
   made_gave p q r v b lt is h e f =

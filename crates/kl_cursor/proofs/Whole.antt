@@ -252,9 +252,6 @@ fits_list kind.List = refl
 max_right : (n m t : ℕ) → n < t → n ≤ max m t
 max_right n m t x = omega arith
 
-pub loop_source : (env : List Value) (k : Kind) (p q : Node) (w : World) → HasItems w (node.Ext k p q) env → HasItems w q env
-loop_source env k p q w h = let t = h.4 in (h.0, t.1, t.2, h.3, t.4, h.5)
-
 weighs : (e r y z : ℕ) → e ≡ r → y ≡ z → e + (0 + y) ≡ r + z
 weighs e r y z x w = omega arith
 
@@ -326,9 +323,6 @@ rest_keeps env a v l u ps last w ev q e el = λ G s h t. (
 )
 
 -- ---- heights of parts
-
-part_low : (a b : ℕ) → b ≤ a → 1 + b ≤ 1 + a
-part_low a b x = omega arith
 
 pub branch_tall : (l : Name) (ps : List (Name × Plan)) (last : Branches) (i : ℕ) (p : Name × Plan) → place_of l ps ≡ Some i → slice_get ps i ≡ Some p → tall (view p.1) ≤ tall_branches (branches_of (map view_branch ps) last)
 branch_tall l ps last i p e g = branch_at l last (λ bs. tall (view p.1) ≤ tall_branches bs) (λ m b bs off h. omega arith) p (λ bs on. omega arith) ps i e g

@@ -2,7 +2,7 @@
 //!
 //! A cursor holds what it has still to do, and only the values that it binds itself: the environment stands on the stack and is
 //! copied by `open_plan` alone. Rows are fetched ahead, so many at once, where none is left of those fetched before.
-// AUTO
+#![tactic(auto)]
 
 mod ahead;
 mod cursor;
