@@ -43,7 +43,7 @@ use Rattle.kl_cursor.proofs.Starting.{scan_begins, scan_refused}
 make_types : (w : World) (G : List Ground) (j k : Kind) (u : Ground) (ps : Nodes) → PlanTypes (ScanOf (stage w)) G (node.Make k ps) (coll j u) → EachPlan (ScanOf (stage w)) G ps u
 make_types w G j k u ps h = subst (EachPlan (ScanOf (stage w)) G ps) (sym (same_type j k u h.0 h.1)) h.2
 
-make_begins : (env : List Value) (k : Kind) (ps : Nodes) (w : World) → Onward env (fresh (node.Make k ps)) w (made ps) w
+pub make_begins : (env : List Value) (k : Kind) (ps : Nodes) (w : World) → Onward env (fresh (node.Make k ps)) w (made ps) w
 make_begins env k ps w = record {
   moves = moves_none nothing w;
   known = λ all h. (tt, h);
@@ -63,7 +63,7 @@ some_kind p e = by (kind_of_items p) refl
     by (Some k) is = (k, is)
     by None is = absurd (let x : is_kind (kind_of_items p) ≡ true = e in let y : is_kind None ≡ true = subst (λ o. is_kind o ≡ true) is x in cc)
 
-union_begins : (env : List Value) (a b : Node) (w : World) → comes_by_items (node.Union a b) ≡ true → Onward env (fresh (node.Union a b)) w (both (fresh a) b) w
+pub union_begins : (env : List Value) (a b : Node) (w : World) → comes_by_items (node.Union a b) ≡ true → Onward env (fresh (node.Union a b)) w (both (fresh a) b) w
 union_begins env a b w e =
     let k = some_kind (node.Union a b) e in
     record {
@@ -82,7 +82,7 @@ union_begins env a b w e =
 zero_more : (m n : ℕ) → m ≡ n → 0 + m ≡ n
 zero_more m n e = omega arith
 
-loop_begins : (env : List Value) (k : Kind) (p q : Node) (w : World) → draws k q ≡ true → Onward env (fresh (node.Ext k p q)) w (outside p (fresh q)) w
+pub loop_begins : (env : List Value) (k : Kind) (p q : Node) (w : World) → draws k q ≡ true → Onward env (fresh (node.Ext k p q)) w (outside p (fresh q)) w
 loop_begins env k p q w fit = record {
   moves = moves_none nothing w;
   known = λ all h. (tt, h);

@@ -1,17 +1,14 @@
 -- What stands where a step calls another.
-use Rattle.std.proofs.Common.{ℕ, ◌≤◌, List, ◌∷◌, arith}
+use Rattle.std.proofs.Common.{List, ◌∷◌, arith}
 use Rattle.kl_value.specs.declared.Value.{Value}
 use Rattle.kl_ask.specs.World.{World}
 use Rattle.kl_ship.specs.Nodes.{Node}
-use Rattle.kl_scans.specs.Held.{Uses, nothing, Owned}
-use Rattle.kl_cursor.specs.Left.{Snap, fresh, both, bound, outside, inside, uses}
+use Rattle.kl_scans.specs.Held.{nothing, Owned}
+use Rattle.kl_cursor.specs.Left.{Snap, fresh, bound, outside, uses}
 use Rattle.kl_cursor.specs.Sense.{Stands}
 use Rattle.kl_cursor.specs.Steps.{Onward}
 use Rattle.kl_scans.proofs.Moving.{ready_stays}
 use Rattle.kl_cursor.proofs.Forms.{Drew}
-
-pub owned_part : (u v : Uses) (w : World) → ((d k : ℕ) → u d k ≤ v d k) → Owned v w → Owned u w
-owned_part u v w h o = record { each = λ d k. let x = h d k in let y = o.each d k in omega arith }
 
 pub owned_nothing : (w : World) → Owned nothing w
 owned_nothing w = record { each = λ d k. omega arith }
@@ -19,14 +16,8 @@ owned_nothing w = record { each = λ d k. omega arith }
 pub stands_onward : (env : List Value) (s t : Snap) (a b : World) → Onward env s a t b → Stands a s env → Stands b t env
 stands_onward env s t a b m h = (h.0, h.1, h.2, h.3, m.typed h.0 h.1 h.2 h.3 h.4, ready_stays (uses s) (uses t) a b m.moves h.5)
 
-pub stands_first : (env : List Value) (s : Snap) (p : Node) (a : World) → Stands a (both s p) env → Stands a s env
-stands_first env s p a h = (h.0, h.1, h.2, h.3, h.4.0, h.5)
-
 pub stands_bound : (env : List Value) (v : Value) (s : Snap) (a : World) → Stands a (bound v s) env → Stands a s (v ∷ env)
 stands_bound env v s a h = (h.4.0 ∷ h.0, h.1, h.2, (h.4.1, h.3), h.4.2, h.5)
-
-pub stands_inner : (env : List Value) (p : Node) (s : Snap) (v : Value) (i : Snap) (a : World) → Stands a (inside p s v i) env → Stands a i (v ∷ env)
-stands_inner env p s v i a h = (h.4.1 ∷ h.0, h.1, h.2, (h.4.5, h.3), h.4.6, h.5)
 
 pub stands_source : (env : List Value) (p : Node) (s : Snap) (a : World) → Stands a (outside p s) env → Stands a s env
 stands_source env p s a h = (h.0, h.4.0, h.4.1, h.3, h.4.3, h.5)

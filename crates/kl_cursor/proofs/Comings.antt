@@ -88,9 +88,6 @@ module _ (env : List Value) (p : Node) (a b : World) where
   pub part_stop : (r : Result Value Halt) (q : Result Value EvalStop) (e : EvalStop) → Wholly env p r a b → q ≡ inside_of r → q ≡ Err e → Partly env p (Err e) a b
   part_stop r q e h i f = subst (λ z. Partly env p z a b) f (partly r q h i)
 
-  pub whole_at : (r q : Result Value Halt) → r ≡ q → Wholly env p r a b → Wholly env p q a b
-  whole_at r q e h = subst (λ z. Wholly env p z a b) e h
-
   -- what nothing was done for
   pub leaf : (o : Outcome) → b ≡ a → ((G : List Ground) (s : Ground) → HaveTypes G env → TypesAt a G p s → worth (plan (reading a) p env) ≡ o) → ((price : Scan → ℕ) → reached (reading a) price p env ≡ 0)
       → ((G : List Ground) (s : Ground) → HaveTypes G env → TypesAt a G p s → OfType s o) → ComesTo env p o a b

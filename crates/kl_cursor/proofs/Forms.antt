@@ -111,7 +111,7 @@ steps_then env s t (Err e) a b c m n = stops_then env s t e a b c m n
 both_sum : (x y z p : ℕ) → x + y ≡ z → x + (y + p) ≡ z + p
 both_sum x y z p e = omega arith
 
-same_price : (H J : Stage) (price : Scan → ℕ) (p : Node) (env : List Value) → J ≡ H → reached (readings J) price p env ≡ reached (readings H) price p env
+pub same_price : (H J : Stage) (price : Scan → ℕ) (p : Node) (env : List Value) → J ≡ H → reached (readings J) price p env ≡ reached (readings H) price p env
 same_price H J price p env e = ap (λ K. reached (readings K) price p env) e
 
 pub union_some : (env : List Value) (s t : Snap) (p : Node) (v : Value) (a b : World) → Gives env s a v t b → Gives env (both s p) a v (both t p) b
@@ -131,7 +131,7 @@ union_some env s t p v a b g =
       fell = let x = g.fell in omega arith;
     }
 
-first_over : (x z p q : ℕ) → x + 0 ≡ z → q ≡ p → x + q ≡ z + p
+pub first_over : (x z p q : ℕ) → x + 0 ≡ z → q ≡ p → x + q ≡ z + p
 first_over x z p q e f = omega arith
 
 pub union_none : (env : List Value) (s : Snap) (p : Node) (a b : World) → Ends env s a b → Onward env (both s p) a (fresh p) b
@@ -191,7 +191,7 @@ bound_stop env x s e a b g = record { moves = g.moves; known = λ all h. g.known
 -- ---- a loop inside its body
 
 -- what the loop has left outside, after its source's cursors stood still
-loop_still : (env : List Value) (k : Kind) (p : Node) (s : Snap) (a b : World) → Still (uses s) a b → Same k (left a (outside p s) env) (left b (outside p s) env)
+pub loop_still : (env : List Value) (k : Kind) (p : Node) (s : Snap) (a b : World) → Still (uses s) a b → Same k (left a (outside p s) env) (left b (outside p s) env)
 loop_still env k p s a b h = same_at k (left a (outside p s) env) (left b (outside p s) env) (sym (left_still (outside p s) a b env h))
 
 inner_sum : (x y z o q : ℕ) → x + y ≡ z → q ≡ o → x + (y + q) ≡ z + o
@@ -310,10 +310,10 @@ drew env p s t v a b g =
 abbrev body_moves : (t i : Snap) (a b : World) → Moves nothing (uses i) a b → Moves (uses t) (beside (uses t) (uses i)) a b
 body_moves t i a b m = moves_same (beside (uses t) nothing) (uses t) (beside (uses t) (uses i)) (beside (uses t) (uses i)) a b (λ d k. omega arith) (λ d k. refl) (moves_beside (uses t) nothing (uses i) a b m)
 
-abbrev body_over : (t : Snap) (a b : World) → Moves nothing nothing a b → Moves (uses t) (uses t) a b
+abbrev pub body_over : (t : Snap) (a b : World) → Moves nothing nothing a b → Moves (uses t) (uses t) a b
 body_over t a b m = moves_same (beside (uses t) nothing) (uses t) (beside (uses t) nothing) (uses t) a b (λ q k. omega arith) (λ q k. omega arith) (moves_beside (uses t) nothing nothing a b m)
 
-body_owned : (t : Snap) (a : World) → Owned (uses t) a → Owned (beside (uses t) nothing) a
+pub body_owned : (t : Snap) (a : World) → Owned (uses t) a → Owned (beside (uses t) nothing) a
 body_owned t a o = record { each = λ d k. let h : uses t d k ≤ open_at a d k = o.each d k in omega arith }
 
 product_falls : (m n i b : ℕ) → n < m → i < b → i + n * b < m * b

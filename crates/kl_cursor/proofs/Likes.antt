@@ -7,7 +7,7 @@ use Rattle.kl_value.specs.declared.Value.{Value}
 use Rattle.kl_outcome.specs.Outcome.{Flow, more, items_in, followed, drawn}
 use Rattle.kl_core.specs.Counts.{fits_in}
 use Rattle.kl_ship.specs.Alike.{harm, weight, Alike}
-use Rattle.kl_ship.proofs.Likeness.{alike_itself, alike_back, alike_on, alike_followed, alike_drawn, harm_followed, harm_drawn}
+use Rattle.kl_ship.proofs.Likeness.{alike_itself, alike_on, alike_followed, alike_drawn, harm_followed, harm_drawn}
 use Rattle.kl_cursor.specs.Likeness.{Same}
 
 pub same_itself : (k : Kind) (f : Flow) → Same k f f
@@ -17,11 +17,6 @@ same_itself kind.List f = refl
 
 pub same_at : (k : Kind) (f g : Flow) → f ≡ g → Same k f g
 same_at k f g e = subst (Same k f) e (same_itself k f)
-
-pub same_back : (k : Kind) (f g : Flow) → Same k f g → Same k g f
-same_back kind.Set f g p = alike_back kind.Bag f g p
-same_back kind.Bag f g p = alike_back kind.Bag f g p
-same_back kind.List f g p = sym p
 
 pub same_on : (k : Kind) (f g h : Flow) → Same k f g → Same k g h → Same k f h
 same_on kind.Set f g h p q = alike_on kind.Bag f g h p q
@@ -68,9 +63,6 @@ same_alike kind.List f g p = p
 
 pub well_first : (f g : Flow) → harm (followed f g) ≡ 0 → harm f ≡ 0
 well_first f g z = omega (arith, harm_followed f g, z)
-
-pub well_second : (f g : Flow) → harm (followed f g) ≡ 0 → harm g ≡ 0
-well_second f g z = omega (arith, harm_followed f g, z)
 
 pub well_source : (f : Flow) (go : Value → Flow) → harm (drawn f go) ≡ 0 → harm f ≡ 0
 well_source f go z = omega (arith, harm_drawn f go, z)

@@ -28,13 +28,13 @@ use Rattle.kl_cursor.proofs.Likes.{same_itself, same_at}
 use Rattle.kl_cursor.proofs.Snaps.{snap_Scan}
 use Rattle.kl_cursor.proofs.Still.{one_self}
 
-rows_of : (w : World) (c : Scan) (o : Option Cursor) (x : Cursor) (u : Ground) → o ≡ Some x → CursorOf w c o u → IsToldAt w → (rows : List Value) × (x.left ≡ Some rows)
+pub rows_of : (w : World) (c : Scan) (o : Option Cursor) (x : Cursor) (u : Ground) → o ≡ Some x → CursorOf w c o u → IsToldAt w → (rows : List Value) × (x.left ≡ Some rows)
 rows_of w c o x u e h told = let y : CursorOf w c (Some x) u = subst (λ q. CursorOf w c q u) e h in y.2 told
 
-type_of : (w : World) (c : Scan) (o : Option Cursor) (x : Cursor) (u : Ground) → o ≡ Some x → CursorOf w c o u → x.ty ≡ u
+pub type_of : (w : World) (c : Scan) (o : Option Cursor) (x : Cursor) (u : Ground) → o ≡ Some x → CursorOf w c o u → x.ty ≡ u
 type_of w c o x u e h = let y : CursorOf w c (Some x) u = subst (λ q. CursorOf w c q u) e h in y.1
 
-ask_of : (w : World) (c : Scan) (o : Option Cursor) (x : Cursor) (u : Ground) → o ≡ Some x → CursorOf w c o u → x.ask ≡ c.ask
+pub ask_of : (w : World) (c : Scan) (o : Option Cursor) (x : Cursor) (u : Ground) → o ≡ Some x → CursorOf w c o u → x.ask ≡ c.ask
 ask_of w c o x u e h = let y : CursorOf w c (Some x) u = subst (λ q. CursorOf w c q u) e h in y.0
 
 -- what a scan that stands somewhere can be asked
@@ -101,10 +101,10 @@ none_first (x ∷ xs) e = cc
 none_rows : (xs : List Value) (o : Option Value) → o ≡ None → o ≡ slice_get xs 0 → xs ≡ []
 none_rows xs o e f = none_first xs (sym f ∙ e)
 
-pulled_more : (q : Scan) (k : ℕ) (into into' : List Value) (r : Result Bool EvalStop) (y : Bool) (a b : World) → r ≡ Ok y → y ≡ true → Pulls q k into into' r a b → PulledMore q k into into' a b
+pub pulled_more : (q : Scan) (k : ℕ) (into into' : List Value) (r : Result Bool EvalStop) (y : Bool) (a b : World) → r ≡ Ok y → y ≡ true → Pulls q k into into' r a b → PulledMore q k into into' a b
 pulled_more q k into into' r y a b e f p = subst (λ z. Pulls q k into into' (Ok z) a b) f (subst (λ z. Pulls q k into into' z a b) e p)
 
-pulled_none : (q : Scan) (k : ℕ) (into into' : List Value) (r : Result Bool EvalStop) (y : Bool) (a b : World) → r ≡ Ok y → y ≡ false → Pulls q k into into' r a b → PulledNone q k into into' a b
+pub pulled_none : (q : Scan) (k : ℕ) (into into' : List Value) (r : Result Bool EvalStop) (y : Bool) (a b : World) → r ≡ Ok y → y ≡ false → Pulls q k into into' r a b → PulledNone q k into into' a b
 pulled_none q k into into' r y a b e f p = subst (λ z. Pulls q k into into' (Ok z) a b) f (subst (λ z. Pulls q k into into' z a b) e p)
 
 reason_of : (env : List Value) (q : Scan) (k n : ℕ) (e : EvalStop) (a b : World) → Stopped q e a b → Reason env (pulling q k [] n) e a b
@@ -112,7 +112,7 @@ reason_of env q k n why.Overflow a b h = absurd h
 reason_of env q k n (why.Driver l x) a b h = h.1
 reason_of env q k n why.NoMemory a b h = tt
 
-scan_stops : (env : List Value) (q : Scan) (k n : ℕ) (e : EvalStop) (a b : World) → NotPulled q k e a b → Stops env (pulling q k [] n) e a b
+pub scan_stops : (env : List Value) (q : Scan) (k n : ℕ) (e : EvalStop) (a b : World) → NotPulled q k e a b → Stops env (pulling q k [] n) e a b
 scan_stops env q k n e a b p = record { moves = p.moves; known = λ all h. of_none all p.moves.events p.none; reason = reason_of env q k n e a b p.cause }
 
 -- ---- where none is left that was fetched ahead, from what the code has
@@ -158,9 +158,6 @@ took env q k before after row w e f =
 
 pub took_none : (before after : Buffer Value) (o : Option Value) → o ≡ None → o ≡ slice_get before.items 0 → before.items ≡ after.items → after.items ≡ []
 took_none before after o e f g = sym g ∙ none_rows before.items o e f
-
-pub refill_ready : (env : List Value) (q : Scan) (k : ℕ) (before after : Buffer Value) (w : World) → after.capacity ≡ before.capacity → Stands w (pulling q k before.items before.capacity) env → Stands w (pulling q k [] after.capacity) env
-refill_ready env q k before after w e h = (h.0, h.1, h.2, h.3, (tt, h.4.1, h.4.2, e ∙ h.4.3), h.5)
 
 pub refilled : (env : List Value) (q : Scan) (k : ℕ) (before after : Buffer Value) (o : Option Value) (r : Result (Option Value × State) EvalStop) (a b : World) → o ≡ None → o ≡ slice_get before.items 0 → after.capacity ≡ before.capacity → Steps env (pulling q k [] after.capacity) r a b → Steps env (pulling q k before.items before.capacity) r a b
 refilled env q k before after o r a b e f g h =

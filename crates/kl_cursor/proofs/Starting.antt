@@ -42,7 +42,7 @@ held_is : (w : World) (d : ℕ) → (stage w).held d ≡ held_at w d
 unfolding stage
 held_is w d = refl
 
-harm_flow : (xs : List Value) → harm (flow xs fine) ≡ 0
+pub harm_flow : (xs : List Value) → harm (flow xs fine) ≡ 0
 harm_flow [] = refl
 harm_flow (x ∷ xs) = harm_flow xs
 

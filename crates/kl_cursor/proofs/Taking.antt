@@ -11,14 +11,14 @@ use Rattle.kl_eval.specs.declared.stop.EvalStop.{EvalStop}
 use Rattle.kl_scans.specs.Held.{nothing, beside, Owned}
 use Rattle.kl_scans.specs.Moves.{Closes}
 use Rattle.kl_cursor.specs.Left.{Snap, fresh, have, pulling, both, bound, outside, inside, made, ended, snap, uses, end_of, nodes_from}
-use Rattle.kl_cursor.specs.Measure.{falling, rank, most, tall}
-use Rattle.kl_cursor.specs.Sense.{Stands, HasItems}
+use Rattle.kl_cursor.specs.Measure.{falling, rank, most}
+use Rattle.kl_cursor.specs.Sense.{Stands}
 use Rattle.kl_cursor.specs.Steps.{Onward, Gives, Ends, Stops, Steps, Begins}
 use Rattle.kl_scans.proofs.Moving.{moves_none, moves_then, moves_same, moves_beside, owned_after}
 use Rattle.kl_outcome.specs.Outcome.{stop, fine}
 use Rattle.kl_cursor.proofs.Likes.{same_itself}
 use Rattle.kl_cursor.proofs.Snaps.{snap_Fresh, snap_Have, snap_Make, snap_Done, snap_Union, snap_Bound, snap_Inside, snap_inside}
-use Rattle.kl_cursor.proofs.Forms.{steps_then, stops_then, union_some, union_none, union_stop, bound_some, bound_none, bound_stop, inside_some, inside_none, inside_stop, Drew, drew, loop_some, loop_none, loop_lost, loop_end, loop_stop, gives_then, ends_then, onward_then}
+use Rattle.kl_cursor.proofs.Forms.{steps_then, stops_then, union_some, union_none, union_stop, bound_some, bound_none, bound_stop, inside_some, inside_none, inside_stop, drew, loop_some, loop_none, loop_lost, loop_end, loop_stop, gives_then, ends_then, onward_then}
 use Rattle.kl_cursor.proofs.Calls.{owned_nothing, stands_onward, stands_source, stands_body}
 
 pub given : (env : List Value) (s1 s rest : State) (i : Option Value) (v : Value) (r : Result (Option Value × State) EvalStop) (a b : World) → s1 ≡ s → r ≡ Ok (i, rest) → i ≡ Some v → Steps env (snap s1) r a b → Gives env (snap s) a v (snap rest) b
@@ -48,12 +48,6 @@ owned_at x y w e h = subst (λ z. Owned (uses z) w) e h
 pub stands_at : (env : List Value) (x y : Snap) (w : World) → x ≡ y → Stands w x env → Stands w y env
 stands_at env x y w e h = subst (λ z. Stands w z env) e h
 
-pub falling_at : (x y : Snap) → x ≡ y → falling x ≡ falling y
-falling_at x y e = ap falling e
-
-pub items_there : (env : List Value) (x : Snap) (p : Node) (w : World) → x ≡ fresh p → Stands w x env → HasItems w p env
-items_there env x p w e h = let y = stands_at env x (fresh p) w e h in (y.0, y.1, y.2, y.3, y.4, y.5)
-
 -- ---- a plan that begins
 
 pub begun_owned : (env : List Value) (p : Node) (t : State) (a b : World) → Begins env (fresh p) (Ok t) a b → Owned (uses (snap t)) b
@@ -71,9 +65,6 @@ nothing_left env x w q e =
     (record { moves = moves_none nothing w; known = λ all h. tt; over = λ G k u h f told. same_itself k (stop fine); counts = λ G k u h f told z price. omega arith })
 
 -- ---- after a loop's turns
-
-pub turn_drew : (env : List Value) (p : Node) (s0 s t : Snap) (v : Value) (a b c : World) → Onward env (outside p s0) a (outside p s) b → Gives env s b v t c → Drew env p s t v b c
-turn_drew env p s0 s t v a b c m g = drew env p s t v b c g
 
 pub turn_some : (env : List Value) (p : Node) (s0 s t i y : Snap) (v w : Value) (a b c d : World) → Owned (uses s) b → Onward env (outside p s0) a (outside p s) b → Gives env s b v t c → Gives (v ∷ env) (fresh p) c w i d → y ≡ inside p t v i → Gives env (outside p s0) a w y d
 turn_some env p s0 s t i y v w a b c d o m g h e =
@@ -247,17 +238,8 @@ pub loop_lose : (env : List Value) (q : Bor Plan) (s0 : Snap) (x s rest : State)
 loop_lose env q s0 x s rest i v w r z a b c d l e f g k on h t m =
     turn_lost env (view q.now) s0 (snap s) (snap rest) v w a b c d l on (given env x s rest i v r b c e f g h) (subst (λ y. Steps (v ∷ env) (fresh (view q.now)) y c d) k (fresh_steps (v ∷ env) q z c d t)) m
 
-pub begin_falls : (x : Snap) (p : Node) → x ≡ fresh p → 16 * tall p + 6 < 2 * falling x + 1
-begin_falls x p e = let g : falling x ≡ falling (fresh p) = ap falling e in omega arith
-
-pub made_falls : (x y : Snap) → x ≡ y → 2 * falling y < 2 * falling x + 1
-made_falls x y e = same_falls x y e
-
 pub closes_at : (x y : Snap) (a b : World) → x ≡ y → Closes (uses y) a b → Closes (uses x) a b
 closes_at x y a b e h = subst (λ z. Closes (uses z) a b) (sym e) h
-
-pub closes_part : (s t : State) (x : Snap) (a b : World) → s ≡ t → x ≡ snap t → Closes (uses (snap s)) a b → Closes (uses x) a b
-closes_part s t x a b e f h = closes_at x (snap t) a b f (subst (λ z. Closes (uses (snap z)) a b) e h)
 
 -- nothing is open
 pub closes_none : (w : World) → Closes nothing w w

@@ -1,5 +1,5 @@
 -- Values of plans, from what the code has.
-use Rattle.std.proofs.Common.{◌≡◌, ℕ, ◌<◌, Bool, true, false, cond, List, ◌∷◌, length, map, get_or, Option, Some, None, IsSome, Result, Vec, Ok, Err, slice_get, refl, sym, ap, subst, ◌∙◌, rules, IfOk, Bor}
+use Rattle.std.proofs.Common.{◌≡◌, ℕ, ◌<◌, Bool, true, false, cond, List, ◌∷◌, length, map, get_or, Option, Some, None, IsSome, Result, Vec, Ok, Err, slice_get, refl, sym, ap, subst, ◌∙◌, rules, IfOk}
 use Rattle.std.specs.declared.alloc.Global.{Global}
 use Rattle.std.proofs.lemmas.Option.{slice_get_read}
 use Rattle.kl_value.specs.Views.{as_bool, field_at, IsBool, IsCollection}
@@ -11,7 +11,7 @@ use Rattle.kl_core.specs.Trees.{view as term_view}
 use Rattle.kl_core.specs.declared.term.Term.{Term}
 use Rattle.kl_ask.specs.World.{World}
 use Rattle.kl_eval.specs.Evals.{TellsPlain, SensePlain}
-use Rattle.kl_eval.specs.Steps.{AnswersOutcome, inside_of, Outside, Gathers, place_of, TellsTruth, Joins}
+use Rattle.kl_eval.specs.Steps.{AnswersOutcome, Outside, Gathers, place_of, TellsTruth, Joins}
 use Rattle.kl_eval.specs.declared.stop.EvalStop.{EvalStop}
 use Rattle.kl_eval.specs.declared.stop.Halt.{Halt}
 use Rattle.kl_ship.specs.declared.plan.Plan.{Plan, the_lemmas}
@@ -21,16 +21,12 @@ use Rattle.kl_ship.specs.Nodes as node
 use Rattle.kl_ship.specs.Nodes.{Node, Branches, no_branches, rest, branches_of, view, view_branch, nodes_view, fields_view}
 use Rattle.kl_ship.specs.Shipping.{other_node}
 use Rattle.kl_ship.proofs.Views.{view_Var, view_Rec, view_Proj, view_Inj, view_Case, view_Make, view_Union, view_Ext, view_If, view_Let, view_Prim, view_Scan}
-use Rattle.kl_scans.specs.Held.{Owned}
-use Rattle.kl_cursor.specs.declared.state.State.TheVariants as state
-use Rattle.kl_cursor.specs.Left.{fresh, snap, uses}
+use Rattle.kl_cursor.specs.Left.{fresh}
 use Rattle.kl_cursor.specs.Sense.{HasWorth, HasFields, HasCall, Stands}
-use Rattle.kl_cursor.specs.Steps.{ComesTo, Wholly, Drains, FieldsGive, CallGives}
-use Rattle.kl_cursor.proofs.Calls.{owned_nothing}
-use Rattle.kl_cursor.proofs.Snaps.{snap_Fresh}
-use Rattle.kl_cursor.proofs.Comings.{part_value, part_stop, whole_as, worth_as, worth_on, head_sense, head_stop, makes, lead_sense, leads, binds_lead}
+use Rattle.kl_cursor.specs.Steps.{ComesTo, Wholly, Partly, Drains, FieldsGive, CallGives}
+use Rattle.kl_cursor.proofs.Comings.{whole_as, worth_as, worth_on, head_sense, head_stop, makes, lead_sense, leads, binds_lead}
 use Rattle.kl_cursor.proofs.ValueForms.{heads_let, heads_if, heads_case, heads_proj, heads_inj, makes_proj, makes_inj, field_there, binds_let, leads_if, test_there, variant_there, binds_branch, no_rest, leads_rest, plain_whole, plain_sense, var_whole, var_there, union_first_sense, union_second_sense, first_there, second_there, union_whole, union_first}
-use Rattle.kl_cursor.proofs.ValueDrain.{make_items, loop_items, scan_items, gathers, items_stand}
+use Rattle.kl_cursor.proofs.ValueDrain.{ComesAsItems, make_items, loop_items, scan_items, gathers, items_stand}
 use Rattle.kl_cursor.proofs.ValueParts.{rec_sense, rec_whole, rec_stop, prim_sense, prim_whole, prim_stop}
 
 -- ---- parts without sources, and values of positions
@@ -47,7 +43,7 @@ code_plain_sense env t m w e h = plain_sense env (term_view m) w (worth_as env (
 pub code_plain : (env : List Value) (t : Plan) (m : Term) (r : Result Value Halt) (w x : World) → t ≡ plans.Plain m → x ≡ w → TellsPlain w (term_view m) env r → Wholly env (view t) r w x
 code_plain env t m r w x e f h = whole_as env (view t) (node.Plain (term_view m)) r w x (at_Plain t m e) (plain_whole env (term_view m) r w x f h)
 
-at_Var : (t : Plan) (x : ℕ) → t ≡ plans.Var x → view t ≡ node.Var x
+pub at_Var : (t : Plan) (x : ℕ) → t ≡ plans.Var x → view t ≡ node.Var x
 at_Var t x e = ap view e ∙ view_Var x
 
 pub code_var_sense : (env : List Value) (t : Plan) (x : ℕ) (w : World) → t ≡ plans.Var x → HasWorth w (view t) env → IsSome (slice_get env x)
@@ -71,34 +67,34 @@ module _ (env : List Value) (t : Plan) (fs gs : List (Name × Plan)) (w : World)
   pub code_rec_stop : (e : EvalStop) (h : Halt) (x : World) → FieldsGive env (fields_view gs) (Err e) w x → Outside e h → Wholly env (view t) (Err h) w x
   code_rec_stop e h x k o = whole_as env (view t) (node.Rec (fields_view gs)) (Err h) w x at_Rec (rec_stop env (fields_view gs) e h w x k o)
 
-module _ (env : List Value) (t : Plan) (l m : Name) (a b : Plan) (w : World) (et : t ≡ plans.Proj l a) (em : m ≡ l) (eb : b ≡ a) where
-  at_Proj : view t ≡ node.Proj m (view b)
-  at_Proj = ap view et ∙ view_Proj l a ∙ ap (λ q. node.Proj l (view q)) (sym eb) ∙ ap (λ q. node.Proj q (view b)) (sym em)
+module _ (env : List Value) (t : Plan) (l : Name) (a b : Plan) (w : World) (et : t ≡ plans.Proj l a) (eb : b ≡ a) where
+  at_Proj : view t ≡ node.Proj l (view b)
+  at_Proj = ap view et ∙ view_Proj l a ∙ ap (λ q. node.Proj l (view q)) (sym eb)
 
   pub code_proj_sense : HasWorth w (view t) env → HasWorth w (view b) env
-  code_proj_sense h = head_sense env (node.Proj m (view b)) (view b) w (heads_proj env m (view b) w) (worth_as env (view t) (node.Proj m (view b)) w at_Proj h)
+  code_proj_sense h = head_sense env (node.Proj l (view b)) (view b) w (heads_proj env l (view b) w) (worth_as env (view t) (node.Proj l (view b)) w at_Proj h)
 
-  pub code_field : (r : Result Value Halt) (q : Result Value EvalStop) (v : Value) (x : World) → HasWorth w (view t) env → Wholly env (view b) r w x → q ≡ inside_of r → q ≡ Ok v → IsSome (field_at m v)
-  code_field r q v x h k e f = field_there env m (view b) v w x (worth_as env (view t) (node.Proj m (view b)) w at_Proj h) (part_value env (view b) w x r q v k e f)
+  pub code_field : (v v' : Value) (x : World) → v' ≡ v → HasWorth w (view t) env → ComesTo env (view b) (done v) w x → IsSome (field_at l v')
+  code_field v v' x e h k = subst (λ z. IsSome (field_at l z)) (sym e) (field_there env l (view b) v w x (worth_as env (view t) (node.Proj l (view b)) w at_Proj h) k)
 
-  pub code_proj : (p : Result Value Halt) (q : Result Value EvalStop) (v u : Value) (r : Result Value Halt) (x : World) → Wholly env (view b) p w x → q ≡ inside_of p → q ≡ Ok v → field_at m v ≡ Some u → AnswersOutcome (done u) r → Wholly env (view t) r w x
-  code_proj p q v u r x h e f g k = whole_as env (view t) (node.Proj m (view b)) r w x at_Proj (makes env (node.Proj m (view b)) (view b) v u r w x (makes_proj env m (view b) v u w g) (part_value env (view b) w x p q v h e f) k)
+  pub code_proj : (v v' u : Value) (r : Result Value Halt) (x : World) → v' ≡ v → ComesTo env (view b) (done v) w x → field_at l v' ≡ Some u → AnswersOutcome (done u) r → Wholly env (view t) r w x
+  code_proj v v' u r x e h g k = whole_as env (view t) (node.Proj l (view b)) r w x at_Proj (makes env (node.Proj l (view b)) (view b) v u r w x (makes_proj env l (view b) v u w (ap (field_at l) (sym e) ∙ g)) h k)
 
-  pub code_proj_stop : (p : Result Value Halt) (q : Result Value EvalStop) (e : EvalStop) (h : Halt) (x : World) → Wholly env (view b) p w x → q ≡ inside_of p → q ≡ Err e → Outside e h → Wholly env (view t) (Err h) w x
-  code_proj_stop p q e h x k i f o = whole_as env (view t) (node.Proj m (view b)) (Err h) w x at_Proj (head_stop env (node.Proj m (view b)) (view b) e h w x (heads_proj env m (view b) w) (part_stop env (view b) w x p q e k i f) o)
+  pub code_proj_stop : (e : EvalStop) (h : Halt) (x : World) → Partly env (view b) (Err e) w x → Outside e h → Wholly env (view t) (Err h) w x
+  code_proj_stop e h x k o = whole_as env (view t) (node.Proj l (view b)) (Err h) w x at_Proj (head_stop env (node.Proj l (view b)) (view b) e h w x (heads_proj env l (view b) w) k o)
 
-module _ (env : List Value) (t : Plan) (l m : Name) (a b : Plan) (w : World) (et : t ≡ plans.Inj l a) (em : m ≡ l) (eb : b ≡ a) where
-  at_Inj : view t ≡ node.Inj m (view b)
-  at_Inj = ap view et ∙ view_Inj l a ∙ ap (λ q. node.Inj l (view q)) (sym eb) ∙ ap (λ q. node.Inj q (view b)) (sym em)
+module _ (env : List Value) (t : Plan) (l : Name) (a b : Plan) (w : World) (et : t ≡ plans.Inj l a) (eb : b ≡ a) where
+  at_Inj : view t ≡ node.Inj l (view b)
+  at_Inj = ap view et ∙ view_Inj l a ∙ ap (λ q. node.Inj l (view q)) (sym eb)
 
   pub code_inj_sense : HasWorth w (view t) env → HasWorth w (view b) env
-  code_inj_sense h = head_sense env (node.Inj m (view b)) (view b) w (heads_inj env m (view b) w) (worth_as env (view t) (node.Inj m (view b)) w at_Inj h)
+  code_inj_sense h = head_sense env (node.Inj l (view b)) (view b) w (heads_inj env l (view b) w) (worth_as env (view t) (node.Inj l (view b)) w at_Inj h)
 
-  pub code_inj : (p : Result Value Halt) (q : Result Value EvalStop) (v : Value) (r : Result Value Halt) (x : World) → Wholly env (view b) p w x → q ≡ inside_of p → q ≡ Ok v → AnswersOutcome (done (value.Inj m v)) r → Wholly env (view t) r w x
-  code_inj p q v r x h e f k = whole_as env (view t) (node.Inj m (view b)) r w x at_Inj (makes env (node.Inj m (view b)) (view b) v (value.Inj m v) r w x (makes_inj env m (view b) v w) (part_value env (view b) w x p q v h e f) k)
+  pub code_inj : (v : Value) (r : Result Value Halt) (x : World) → ComesTo env (view b) (done v) w x → AnswersOutcome (done (value.Inj l v)) r → Wholly env (view t) r w x
+  code_inj v r x h k = whole_as env (view t) (node.Inj l (view b)) r w x at_Inj (makes env (node.Inj l (view b)) (view b) v (value.Inj l v) r w x (makes_inj env l (view b) v w) h k)
 
-  pub code_inj_stop : (p : Result Value Halt) (q : Result Value EvalStop) (e : EvalStop) (h : Halt) (x : World) → Wholly env (view b) p w x → q ≡ inside_of p → q ≡ Err e → Outside e h → Wholly env (view t) (Err h) w x
-  code_inj_stop p q e h x k i f o = whole_as env (view t) (node.Inj m (view b)) (Err h) w x at_Inj (head_stop env (node.Inj m (view b)) (view b) e h w x (heads_inj env m (view b) w) (part_stop env (view b) w x p q e k i f) o)
+  pub code_inj_stop : (e : EvalStop) (h : Halt) (x : World) → Partly env (view b) (Err e) w x → Outside e h → Wholly env (view t) (Err h) w x
+  code_inj_stop e h x k o = whole_as env (view t) (node.Inj l (view b)) (Err h) w x at_Inj (head_stop env (node.Inj l (view b)) (view b) e h w x (heads_inj env l (view b) w) k o)
 
 -- ---- what is bound, and a choice
 
@@ -109,20 +105,28 @@ module _ (env : List Value) (t a b a' : Plan) (w : World) (et : t ≡ plans.Let 
   pub code_let_sense : HasWorth w (view t) env → HasWorth w (view a') env
   code_let_sense h = head_sense env (node.Let (view a') (view b)) (view a') w (heads_let env (view a') (view b) w) (worth_as env (view t) (node.Let (view a') (view b)) w at_Let h)
 
-  pub code_body_sense : (b' : Plan) (p : Result Value Halt) (q : Result Value EvalStop) (v : Value) (x : World) → b' ≡ b → HasWorth w (view t) env → Wholly env (view a') p w x → q ≡ inside_of p → q ≡ Ok v → HasWorth x (view b') (v ∷ env)
-  code_body_sense b' p q v x eb h k e f = subst (λ z. HasWorth x (view z) (v ∷ env)) (sym eb)
-      (lead_sense env (node.Let (view a') (view b)) (view a') v (v ∷ env) (view b) w x (binds_lead env _ _ v v (view b) w (binds_let env (view a') (view b) v w)) (part_value env (view a') w x p q v k e f) (worth_as env (view t) (node.Let (view a') (view b)) w at_Let h))
+  module _ (b' : Plan) (v : Value) (x : World) (eb : b' ≡ b) (k : ComesTo env (view a') (done v) w x) where
+    pub code_body_sense : HasWorth w (view t) env → HasWorth x (view b') (v ∷ env)
+    code_body_sense h = subst (λ z. HasWorth x (view z) (v ∷ env)) (sym eb)
+        (lead_sense env (node.Let (view a') (view b)) (view a') v (v ∷ env) (view b) w x (binds_lead env _ _ v v (view b) w (binds_let env (view a') (view b) v w)) k (worth_as env (view t) (node.Let (view a') (view b)) w at_Let h))
 
-  pub code_let : (b' : Plan) (p : Result Value Halt) (q : Result Value EvalStop) (v : Value) (r : Result Value Halt) (x y : World) → b' ≡ b → Wholly env (view a') p w x → q ≡ inside_of p → q ≡ Ok v → Wholly (v ∷ env) (view b') r x y → Wholly env (view t) r w y
-  code_let b' p q v r x y eb k e f m = whole_as env (view t) (node.Let (view a') (view b)) r w y at_Let
-      (leads env (node.Let (view a') (view b)) (view a') v (v ∷ env) (view b) r w x y (binds_lead env _ _ v v (view b) w (binds_let env (view a') (view b) v w)) (part_value env (view a') w x p q v k e f) (subst (λ z. Wholly (v ∷ env) (view z) r x y) eb m))
+    pub code_let : (r : Result Value Halt) (y : World) → Wholly (v ∷ env) (view b') r x y → Wholly env (view t) r w y
+    code_let r y m = whole_as env (view t) (node.Let (view a') (view b)) r w y at_Let
+        (leads env (node.Let (view a') (view b)) (view a') v (v ∷ env) (view b) r w x y (binds_lead env _ _ v v (view b) w (binds_let env (view a') (view b) v w)) k (subst (λ z. Wholly (v ∷ env) (view z) r x y) eb m))
 
-  pub code_let_stop : (p : Result Value Halt) (q : Result Value EvalStop) (e : EvalStop) (h : Halt) (x : World) → Wholly env (view a') p w x → q ≡ inside_of p → q ≡ Err e → Outside e h → Wholly env (view t) (Err h) w x
-  code_let_stop p q e h x k i f o = whole_as env (view t) (node.Let (view a') (view b)) (Err h) w x at_Let (head_stop env (node.Let (view a') (view b)) (view a') e h w x (heads_let env (view a') (view b) w) (part_stop env (view a') w x p q e k i f) o)
+  pub code_let_stop : (e : EvalStop) (h : Halt) (x : World) → Partly env (view a') (Err e) w x → Outside e h → Wholly env (view t) (Err h) w x
+  code_let_stop e h x k o = whole_as env (view t) (node.Let (view a') (view b)) (Err h) w x at_Let (head_stop env (node.Let (view a') (view b)) (view a') e h w x (heads_let env (view a') (view b) w) k o)
 
 pub cond_view : (y : Bool) (b c : Plan) → view (cond y b c) ≡ cond y (view b) (view c)
 cond_view true b c = refl
 cond_view false b c = refl
+
+-- what a test comes to
+pub tested_value : (env : List Value) (p : Node) (q : Result Value EvalStop) (y : Bool) (w x : World) → Partly env p q w x → (told : TellsTruth q (Ok y)) → ComesTo env p (done told.0) w x
+tested_value env p q y w x h told = subst (λ z. Partly env p z w x) told.1 h
+
+pub tested_stop : (env : List Value) (p : Node) (q : Result Value EvalStop) (e : EvalStop) (w x : World) → Partly env p q w x → TellsTruth q (Err e) → Partly env p (Err e) w x
+tested_stop env p q e w x h told = subst (λ z. Partly env p z w x) told h
 
 module _ (env : List Value) (t a b c a' : Plan) (w : World) (et : t ≡ plans.If a b c) (ea : a' ≡ a) where
   pub at_If : view t ≡ node.If (view a') (view b) (view c)
@@ -131,30 +135,27 @@ module _ (env : List Value) (t a b c a' : Plan) (w : World) (et : t ≡ plans.If
   pub code_if_sense : HasWorth w (view t) env → HasWorth w (view a') env
   code_if_sense h = head_sense env (node.If (view a') (view b) (view c)) (view a') w (heads_if env (view a') (view b) (view c) w) (worth_as env (view t) (node.If (view a') (view b) (view c)) w at_If h)
 
-  pub code_test : (p : Result Value Halt) (q : Result Value EvalStop) (x : World) → HasWorth w (view t) env → Wholly env (view a') p w x → q ≡ inside_of p → IfOk q IsBool
-  code_test p q x h k e = by q e
-    where
-      by : (q : Result Value EvalStop) → q ≡ inside_of p → IfOk q IsBool
-      by (Ok v) e = test_there env (view a') (view b) (view c) v w x (worth_as env (view t) (node.If (view a') (view b) (view c)) w at_If h) (part_value env (view a') w x p (Ok v) v k e refl)
-      by (Err z) e = tt
+  pub code_test : (q : Result Value EvalStop) (x : World) → HasWorth w (view t) env → Partly env (view a') q w x → IfOk q IsBool
+  code_test (Ok v) x h k = test_there env (view a') (view b) (view c) v w x (worth_as env (view t) (node.If (view a') (view b) (view c)) w at_If h) k
+  code_test (Err z) x h k = tt
 
-  module _ (p : Result Value Halt) (q : Result Value EvalStop) (d : Plan) (y z : Bool) (x : World) (ed : d ≡ cond z b c) (ez : y ≡ z) (told : TellsTruth q (Ok y)) (k : Wholly env (view a') p w x) (e : q ≡ inside_of p) where
+  module _ (q : Result Value EvalStop) (d : Plan) (y z : Bool) (x : World) (ed : d ≡ cond z b c) (ez : y ≡ z) (k : Partly env (view a') q w x) (told : TellsTruth q (Ok y)) where
     tested : as_bool told.0 ≡ Some z
     tested = told.2 ∙ ap Some ez
 
     pub code_picked_sense : HasWorth w (view t) env → HasWorth x (view d) env
     code_picked_sense h = subst (λ n. HasWorth x n env) (sym (ap view ed ∙ cond_view z b c))
         (lead_sense env (node.If (view a') (view b) (view c)) (view a') told.0 env (cond z (view b) (view c)) w x (leads_if env (view a') (view b) (view c) told.0 z w tested)
-        (part_value env (view a') w x p q told.0 k e told.1) (worth_as env (view t) (node.If (view a') (view b) (view c)) w at_If h))
+        (tested_value env (view a') q y w x k told) (worth_as env (view t) (node.If (view a') (view b) (view c)) w at_If h))
 
     pub code_if : (r : Result Value Halt) (v : World) → Wholly env (view d) r x v → Wholly env (view t) r w v
     code_if r v m = whole_as env (view t) (node.If (view a') (view b) (view c)) r w v at_If
         (leads env (node.If (view a') (view b) (view c)) (view a') told.0 env (cond z (view b) (view c)) r w x v (leads_if env (view a') (view b) (view c) told.0 z w tested)
-        (part_value env (view a') w x p q told.0 k e told.1) (subst (λ n. Wholly env n r x v) (ap view ed ∙ cond_view z b c) m))
+        (tested_value env (view a') q y w x k told) (subst (λ n. Wholly env n r x v) (ap view ed ∙ cond_view z b c) m))
 
-  pub code_if_stop : (p : Result Value Halt) (q : Result Value EvalStop) (e : EvalStop) (h : Halt) (x : World) → Wholly env (view a') p w x → q ≡ inside_of p → TellsTruth q (Err e) → Outside e h → Wholly env (view t) (Err h) w x
-  code_if_stop p q e h x k i f o = whole_as env (view t) (node.If (view a') (view b) (view c)) (Err h) w x at_If
-      (head_stop env (node.If (view a') (view b) (view c)) (view a') e h w x (heads_if env (view a') (view b) (view c) w) (part_stop env (view a') w x p q e k i f) o)
+  pub code_if_stop : (q : Result Value EvalStop) (e : EvalStop) (h : Halt) (x : World) → Partly env (view a') q w x → TellsTruth q (Err e) → Outside e h → Wholly env (view t) (Err h) w x
+  code_if_stop q e h x k told o = whole_as env (view t) (node.If (view a') (view b) (view c)) (Err h) w x at_If
+      (head_stop env (node.If (view a') (view b) (view c)) (view a') e h w x (heads_if env (view a') (view b) (view c) w) (tested_stop env (view a') q e w x k told) o)
 
 -- ---- branches
 
@@ -175,13 +176,10 @@ module _ (env : List Value) (t a a' : Plan) (ps : List (Name × Plan)) (c : Opti
   pub code_case_sense : HasWorth w (view t) env → HasWorth w (view a') env
   code_case_sense h = head_sense env CaseOf (view a') w (heads_case env (view a') (branches_of (map view_branch ps) (other_node c)) w) (worth_as env (view t) CaseOf w at_Case h)
 
-  pub code_case_stop : (p : Result Value Halt) (q : Result Value EvalStop) (e : EvalStop) (h : Halt) (x : World) → Wholly env (view a') p w x → q ≡ inside_of p → q ≡ Err e → Outside e h → Wholly env (view t) (Err h) w x
-  code_case_stop p q e h x k i f o = whole_as env (view t) CaseOf (Err h) w x at_Case (head_stop env CaseOf (view a') e h w x (heads_case env (view a') (branches_of (map view_branch ps) (other_node c)) w) (part_stop env (view a') w x p q e k i f) o)
+  pub code_case_stop : (e : EvalStop) (h : Halt) (x : World) → Partly env (view a') (Err e) w x → Outside e h → Wholly env (view t) (Err h) w x
+  code_case_stop e h x k o = whole_as env (view t) CaseOf (Err h) w x at_Case (head_stop env CaseOf (view a') e h w x (heads_case env (view a') (branches_of (map view_branch ps) (other_node c)) w) k o)
 
-  module _ (p : Result Value Halt) (q : Result Value EvalStop) (v : Value) (x : World) (k : Wholly env (view a') p w x) (e : q ≡ inside_of p) (f : q ≡ Ok v) where
-    subject : ComesTo env (view a') (done v) w x
-    subject = part_value env (view a') w x p q v k e f
-
+  module _ (v : Value) (x : World) (subject : ComesTo env (view a') (done v) w x) where
     pub code_variant : HasWorth w (view t) env → IsSome (as_variant v)
     code_variant h = variant_there env (view a') (branches_of (map view_branch ps) (other_node c)) v w x (worth_as env (view t) CaseOf w at_Case h) subject
 
@@ -218,11 +216,11 @@ module _ (env : List Value) (t a b a' : Plan) (w : World) (et : t ≡ plans.Unio
   pub code_first_sense : HasWorth w (view t) env → HasWorth w (view a') env
   code_first_sense h = union_first_sense env (view a') (view b) w (there h)
 
-  pub code_first : (v : Value) (p : Result Value Halt) (x : World) → HasWorth w (view t) env → p ≡ Ok v → Wholly env (view a') p w x → IsCollection v
-  code_first v p x h e k = first_there env (view a') (view b) v w x (there h) (subst (λ z. Wholly env (view a') z w x) e k)
+  pub code_first : (v : Value) (x : World) → HasWorth w (view t) env → ComesTo env (view a') (done v) w x → IsCollection v
+  code_first v x h k = first_there env (view a') (view b) v w x (there h) k
 
-  pub code_union_first : (h : Halt) (p : Result Value Halt) (x : World) → p ≡ Err h → Wholly env (view a') p w x → Wholly env (view t) (Err h) w x
-  code_union_first h p x e k = whole_as env (view t) (node.Union (view a') (view b)) (Err h) w x at_Union (union_first env (view a') (view b) h w x (subst (λ z. Wholly env (view a') z w x) e k))
+  pub code_union_first : (h : Halt) (x : World) → Wholly env (view a') (Err h) w x → Wholly env (view t) (Err h) w x
+  code_union_first h x k = whole_as env (view t) (node.Union (view a') (view b)) (Err h) w x at_Union (union_first env (view a') (view b) h w x k)
 
   module _ (b' : Plan) (v : Value) (x : World) (eb : b' ≡ b) (k : ComesTo env (view a') (done v) w x) where
     pub code_second_sense : HasWorth w (view t) env → HasWorth x (view b') env
@@ -239,47 +237,33 @@ module _ (env : List Value) (t a b a' : Plan) (w : World) (et : t ≡ plans.Unio
 
 -- ---- what is drained
 
-pub fresh_ready : (env : List Value) (p : Bor Plan) (w : World) → Stands w (fresh (view p.now)) env → Stands w (snap (state.Fresh p)) env
-fresh_ready env p w h = subst (λ z. Stands w z env) (sym (snap_Fresh p)) h
+module _ (env : List Value) (p : Plan) (q : Node) (k : Kind) (w : World) (at : view p ≡ q) (items : ComesAsItems w q env k) where
+  drained_stands : HasWorth w (view p) env → Stands w (fresh (view p)) env
+  drained_stands h = subst (λ z. Stands w (fresh z) env) (sym at) (items_stand env q k w w items (worth_as env (view p) q w at h))
 
-drains_fresh : (env : List Value) (p : Bor Plan) (r : Result (Vec Value Global) Halt) (w x : World) → Drains env (snap (state.Fresh p)) r w x → Drains env (fresh (view p.now)) r w x
-drains_fresh env p r w x h = subst (λ z. Drains env z r w x) (snap_Fresh p) h
+  drained_whole : (d : Result (Vec Value Global) Halt) (r : Result Value Halt) (x : World) → Drains env (fresh (view p)) d w x → Gathers k d r → Wholly env (view p) r w x
+  drained_whole d r x h g = whole_as env (view p) q r w x at (gathers env q k w x items d r (subst (λ z. Drains env (fresh z) d w x) at h) g)
 
-pub fresh_own : (p : Bor Plan) (w : World) → Owned (uses (snap (state.Fresh p))) w
-fresh_own p w = subst (λ z. Owned (uses z) w) (sym (snap_Fresh p)) (owned_nothing w)
+module _ (env : List Value) (p : Plan) (k : Kind) (ps : List Plan) (w : World) (e : p ≡ plans.Make k ps) where
+  pub code_make_ready : HasWorth w (view p) env → Stands w (fresh (view p)) env
+  code_make_ready = drained_stands env p (node.Make k (nodes_view ps)) k w (ap view e ∙ view_Make k ps) (make_items w k (nodes_view ps) env)
 
-module _ (env : List Value) (p : Bor Plan) (k : Kind) (ps : List Plan) (w : World) (e : p.now ≡ plans.Make k ps) where
-  pub at_Make : view p.now ≡ node.Make k (nodes_view ps)
-  at_Make = ap view e ∙ view_Make k ps
+  pub code_make : (d : Result (Vec Value Global) Halt) (r : Result Value Halt) (x : World) → Drains env (fresh (view p)) d w x → Gathers k d r → Wholly env (view p) r w x
+  code_make = drained_whole env p (node.Make k (nodes_view ps)) k w (ap view e ∙ view_Make k ps) (make_items w k (nodes_view ps) env)
 
-  pub code_make_ready : HasWorth w (view p.now) env → Stands w (snap (state.Fresh p)) env
-  code_make_ready h = fresh_ready env p w (subst (λ z. Stands w (fresh z) env) (sym at_Make) (items_stand env (node.Make k (nodes_view ps)) k w w (make_items w k (nodes_view ps) env) (worth_as env _ _ w at_Make h)))
+module _ (env : List Value) (p : Plan) (k : Kind) (b s : Plan) (w : World) (e : p ≡ plans.Ext k b s) where
+  pub code_loop_ready : HasWorth w (view p) env → Stands w (fresh (view p)) env
+  code_loop_ready = drained_stands env p (node.Ext k (view b) (view s)) k w (ap view e ∙ view_Ext k b s) (loop_items w k (view b) (view s) env)
 
-  pub code_make : (d : Result (Vec Value Global) Halt) (r : Result Value Halt) (x : World) → Drains env (snap (state.Fresh p)) d w x → Gathers k d r → Wholly env (view p.now) r w x
-  code_make d r x h g = whole_as env (view p.now) (node.Make k (nodes_view ps)) r w x at_Make
-      (gathers env (node.Make k (nodes_view ps)) k w x (make_items w k (nodes_view ps) env) d r (subst (λ z. Drains env (fresh z) d w x) at_Make (drains_fresh env p d w x h)) g)
+  pub code_loop : (d : Result (Vec Value Global) Halt) (r : Result Value Halt) (x : World) → Drains env (fresh (view p)) d w x → Gathers k d r → Wholly env (view p) r w x
+  code_loop = drained_whole env p (node.Ext k (view b) (view s)) k w (ap view e ∙ view_Ext k b s) (loop_items w k (view b) (view s) env)
 
-module _ (env : List Value) (p : Bor Plan) (k : Kind) (b s : Plan) (w : World) (e : p.now ≡ plans.Ext k b s) where
-  pub at_Ext : view p.now ≡ node.Ext k (view b) (view s)
-  at_Ext = ap view e ∙ view_Ext k b s
+module _ (env : List Value) (p : Plan) (c : Scan) (w : World) (e : p ≡ plans.Scan c) where
+  pub code_scan_ready : HasWorth w (view p) env → Stands w (fresh (view p)) env
+  code_scan_ready = drained_stands env p (node.Scan c) c.kind w (ap view e ∙ view_Scan c) (scan_items w c env)
 
-  pub code_loop_ready : HasWorth w (view p.now) env → Stands w (snap (state.Fresh p)) env
-  code_loop_ready h = fresh_ready env p w (subst (λ z. Stands w (fresh z) env) (sym at_Ext) (items_stand env (node.Ext k (view b) (view s)) k w w (loop_items w k (view b) (view s) env) (worth_as env _ _ w at_Ext h)))
-
-  pub code_loop : (d : Result (Vec Value Global) Halt) (r : Result Value Halt) (x : World) → Drains env (snap (state.Fresh p)) d w x → Gathers k d r → Wholly env (view p.now) r w x
-  code_loop d r x h g = whole_as env (view p.now) (node.Ext k (view b) (view s)) r w x at_Ext
-      (gathers env (node.Ext k (view b) (view s)) k w x (loop_items w k (view b) (view s) env) d r (subst (λ z. Drains env (fresh z) d w x) at_Ext (drains_fresh env p d w x h)) g)
-
-module _ (env : List Value) (p : Bor Plan) (c : Scan) (w : World) (e : p.now ≡ plans.Scan c) where
-  pub at_Scan : view p.now ≡ node.Scan c
-  at_Scan = ap view e ∙ view_Scan c
-
-  pub code_scan_ready : HasWorth w (view p.now) env → Stands w (snap (state.Fresh p)) env
-  code_scan_ready h = fresh_ready env p w (subst (λ z. Stands w (fresh z) env) (sym at_Scan) (items_stand env (node.Scan c) c.kind w w (scan_items w c env) (worth_as env _ _ w at_Scan h)))
-
-  pub code_scan : (d : Result (Vec Value Global) Halt) (r : Result Value Halt) (x : World) → Drains env (snap (state.Fresh p)) d w x → Gathers c.kind d r → Wholly env (view p.now) r w x
-  code_scan d r x h g = whole_as env (view p.now) (node.Scan c) r w x at_Scan
-      (gathers env (node.Scan c) c.kind w x (scan_items w c env) d r (subst (λ z. Drains env (fresh z) d w x) at_Scan (drains_fresh env p d w x h)) g)
+  pub code_scan : (d : Result (Vec Value Global) Halt) (r : Result Value Halt) (x : World) → Drains env (fresh (view p)) d w x → Gathers c.kind d r → Wholly env (view p) r w x
+  code_scan = drained_whole env p (node.Scan c) c.kind w (ap view e ∙ view_Scan c) (scan_items w c env)
 
 -- ---- a primitive
 

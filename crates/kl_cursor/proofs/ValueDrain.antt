@@ -1,22 +1,18 @@
 -- All items that are left, and the collection of them.
 use Rattle.std.proofs.Common.{◌≡◌, ◌⊎◌, ⊎_elim, inl, inr, ◌≤◌, List, [], ◌∷◌, ◌++◌, Result, Vec, Ok, Err, refl, sym, ap, subst, ◌∙◌, arith}
-use Rattle.std.specs.Prelude.{⊤}
 use Rattle.std.specs.List.{AllByRecursion}
 use Rattle.std.specs.declared.alloc.Global.{Global}
 use Rattle.kl_value.specs.declared.Kind.{Kind}
 use Rattle.kl_value.specs.declared.Value.{Value}
 use Rattle.kl_type.specs.Ground.{Ground, coll}
-use Rattle.kl_outcome.specs.Outcome.{Name, Flow, more, stop, End, fine, overflow, flow, followed, collected, gathered}
+use Rattle.kl_outcome.specs.Outcome.{Flow, more, End, fine, overflow, flow, followed, collected, gathered}
 use Rattle.kl_outcome.specs.Typed.{Inhabits, HaveTypes, OfType}
 use Rattle.kl_outcome.proofs.Flows.{collected_flow}
 use Rattle.kl_outcome.proofs.OutcomeTypes.{FlowOf, collected_typed}
 use Rattle.kl_ask.specs.World.{World}
-use Rattle.kl_ask.specs.declared.DriverError.{DriverError}
 use Rattle.kl_eval.specs.Steps.{Gathers}
-use Rattle.kl_eval.specs.declared.stop.EvalStop.TheVariants as why
 use Rattle.kl_eval.specs.declared.stop.Halt.{Halt}
 use Rattle.kl_eval.specs.declared.stop.Halt.TheVariants as halt
-use Rattle.kl_eval.specs.World.{StoppedBy}
 use Rattle.kl_ship.specs.Alike.{harm}
 use Rattle.kl_ship.specs.declared.plan.Scan.{Scan}
 use Rattle.kl_ship.specs.Meaning.{many, worth, coming, plan, scanned}
@@ -24,15 +20,15 @@ use Rattle.kl_ship.specs.Nodes as node
 use Rattle.kl_ship.specs.Nodes.{Node, Nodes, view}
 use Rattle.kl_ship.proofs.Collections.{alike_same}
 use Rattle.kl_ship.proofs.Comings.{coming_typed}
-use Rattle.kl_scans.specs.Held.{nothing, Owned}
-use Rattle.kl_scans.specs.Moves.{Moves, Closes}
-use Rattle.kl_scans.proofs.Moving.{moves_none, moves_then, owned_after, stopped_then, ready_stays}
+use Rattle.kl_scans.specs.Held.{nothing}
+use Rattle.kl_scans.specs.Moves.{Moves}
+use Rattle.kl_scans.proofs.Moving.{moves_none, moves_then, ready_stays}
 use Rattle.kl_cursor.specs.Left.{Snap, fresh, uses, left, reading, to_start, ScansLeft}
 use Rattle.kl_cursor.specs.Likeness.{Same}
 use Rattle.kl_cursor.specs.Measure.{height}
 use Rattle.kl_cursor.specs.Sense.{Fits, TypesAt, IsToldAt, HasWorth, Stands}
-use Rattle.kl_cursor.specs.Steps.{AreOf, WhereTold, Counts, Gives, Ends, Halts, Stops, Empties, Drains, ComesTo, Wholly, IsDone}
-use Rattle.kl_cursor.proofs.Events.{of_none, of_then}
+use Rattle.kl_cursor.specs.Steps.{AreOf, WhereTold, Counts, Halts, Empties, Drains, ComesTo, Wholly, IsDone}
+use Rattle.kl_cursor.proofs.Events.{of_then}
 use Rattle.kl_cursor.proofs.Forms.{told_on, paid_both}
 use Rattle.kl_cursor.proofs.Likes.{same_itself, same_on, same_followed, same_harm, same_alike}
 use Rattle.kl_cursor.proofs.Comings.{answers, flow_of, told_comes}
@@ -57,21 +53,21 @@ drains_starts env s a = record {
   lower = omega arith;
 }
 
-all_more : (u : Ground) (vs : List Value) (v : Value) → AllByRecursion (Inhabits u) vs → Inhabits u v → AllByRecursion (Inhabits u) (vs ++ v ∷ [])
-all_more u [] v h i = (i, tt)
-all_more u (w ∷ vs) v h i = (h.0, all_more u vs v h.1 i)
+pub all_both : (u : Ground) (vs ws : List Value) → AllByRecursion (Inhabits u) vs → AllByRecursion (Inhabits u) ws → AllByRecursion (Inhabits u) (vs ++ ws)
+all_both u [] ws h i = i
+all_both u (v ∷ vs) ws h i = (h.0, all_both u vs ws h.1 i)
 
 flow_harm : (vs : List Value) (f : Flow) → harm (followed (flow vs fine) f) ≡ harm f
 flow_harm [] f = refl
 flow_harm (v ∷ vs) f = flow_harm vs f
 
-flow_then : (vs : List Value) (v : Value) (f : Flow) → followed (flow vs fine) (more v f) ≡ followed (flow (vs ++ v ∷ []) fine) f
-flow_then [] v f = refl
-flow_then (w ∷ vs) v f = ap (more w) (flow_then vs v f)
+flow_then : (vs ws : List Value) (f : Flow) → followed (flow vs fine) (followed (flow ws fine) f) ≡ followed (flow (vs ++ ws) fine) f
+flow_then [] ws f = refl
+flow_then (v ∷ vs) ws f = ap (more v) (flow_then vs ws f)
 
-flow_stop : (vs : List Value) (e : End) → followed (flow vs fine) (stop e) ≡ flow vs e
-flow_stop [] e = refl
-flow_stop (v ∷ vs) e = ap (more v) (flow_stop vs e)
+pub flow_more : (vs ws : List Value) (e : End) → followed (flow vs fine) (flow ws e) ≡ flow (vs ++ ws) e
+flow_more [] ws e = refl
+flow_more (v ∷ vs) ws e = ap (more v) (flow_more vs ws e)
 
 module _ (env : List Value) (s0 : Snap) (a : World) (vs : List Value) (s : Snap) (b : World) (d : Draining env s0 a vs s b) where
   -- where all that was left ends well, what is left now does
@@ -83,84 +79,48 @@ module _ (env : List Value) (s0 : Snap) (a : World) (vs : List Value) (s : Snap)
   behind k f p q = same_on k (left a s0 env) (followed (flow vs fine) (left b s env)) (followed (flow vs fine) f) p
       (same_followed k (flow vs fine) (flow vs fine) (left b s env) f (same_itself k (flow vs fine)) q)
 
-  pub drains_on : (v : Value) (t : Snap) (c : World) → Gives env s b v t c → Draining env s0 a (vs ++ v ∷ []) t c
-  drains_on v t c g = record {
+  pub drains_then : (ws : List Value) (t : Snap) (c : World) → Draining env s b ws t c → Draining env s0 a (vs ++ ws) t c
+  drains_then ws t c g = record {
     moves = moves_then (uses s0) (uses s) (uses t) a b c d.moves g.moves;
     known = λ all h. let x = d.known all h in let y = g.known all x.1 in (of_then all d.moves.events g.moves.events x.0 y.0, y.1);
     same = λ G k u e f told.
         let n = (d.typed G k u e f).1 in
         let tb = told_on (uses s0) (uses s) a b d.moves told in
-        subst (Same k (left a s0 env)) (flow_then vs v (left c t env)) (behind k (more v (left c t env)) (d.same G k u e f told) (g.gave G k u e n tb));
+        subst (Same k (left a s0 env)) (flow_then vs ws (left c t env)) (behind k (followed (flow ws fine) (left c t env)) (d.same G k u e f told) (g.same G k u e n tb));
     counts = λ G k u e f told z price.
         let n = (d.typed G k u e f).1 in
         let tb = told_on (uses s0) (uses s) a b d.moves told in
         paid_both price d.moves.events g.moves.events (to_start a price s0 env) (to_start b price s env) (to_start c price t env) (d.counts G k u e f told z price)
         (g.counts G k u e n tb (still_well k (d.same G k u e f told) z) price);
-    typed = λ G k u e f. let x = d.typed G k u e f in let y = g.typed G k u e x.1 in (all_more u vs v x.0 y.0, y.1);
+    typed = λ G k u e f. let x = d.typed G k u e f in let y = g.typed G k u e x.1 in (all_both u vs ws x.0 y.0, y.1);
     lower = let x = d.lower in let y = g.lower in omega arith;
   }
 
-  pub drains_ends : (c : World) → Ends env s b c → Empties env s0 vs fine a c
-  drains_ends c g = record {
+  pub drains_empties : (ws : List Value) (end : End) (c : World) → Empties env s ws end b c → Empties env s0 (vs ++ ws) end a c
+  drains_empties ws end c g = record {
     moves = moves_then (uses s0) (uses s) nothing a b c d.moves g.moves;
     known = λ all h. let x = d.known all h in of_then all d.moves.events g.moves.events x.0 (g.known all x.1);
     gave = λ G k u e f told.
         let n = (d.typed G k u e f).1 in
         let tb = told_on (uses s0) (uses s) a b d.moves told in
-        subst (Same k (left a s0 env)) (flow_stop vs fine) (behind k (stop fine) (d.same G k u e f told) (g.over G k u e n tb));
+        subst (Same k (left a s0 env)) (flow_more vs ws end) (behind k (flow ws end) (d.same G k u e f told) (g.gave G k u e n tb));
     counts = λ G k u e f told z price.
         let n = (d.typed G k u e f).1 in
         let tb = told_on (uses s0) (uses s) a b d.moves told in
         paid_both price d.moves.events g.moves.events (to_start a price s0 env) (to_start b price s env) 0 (d.counts G k u e f told z price)
         (g.counts G k u e n tb (still_well k (d.same G k u e f told) z) price);
-    typed = λ G k u e f. (d.typed G k u e f).0;
+    typed = λ G k u e f. let x = d.typed G k u e f in all_both u vs ws x.0 (g.typed G k u e x.1);
   }
 
-  pub drains_over : (c : World) → Stops env s why.Overflow b c → Empties env s0 vs overflow a c
-  drains_over c g = record {
-    moves = moves_then (uses s0) (uses s) nothing a b c d.moves g.moves;
-    known = λ all h. let x = d.known all h in of_then all d.moves.events g.moves.events x.0 (g.known all x.1);
-    gave = λ G k u e f told.
-        let n = (d.typed G k u e f).1 in
-        let tb = told_on (uses s0) (uses s) a b d.moves told in
-        subst (Same k (left a s0 env)) (flow_stop vs overflow) (behind k (stop overflow) (d.same G k u e f told) (g.reason G k u e n tb));
-    counts = λ G k u e f told z price.
-        let n = (d.typed G k u e f).1 in
-        let tb = told_on (uses s0) (uses s) a b d.moves told in
-        let x : harm (left b s env) ≡ 0 = still_well k (d.same G k u e f told) z in
-        let y : harm (stop overflow) ≡ harm (left b s env) = same_harm k (left b s env) (stop overflow) (g.reason G k u e n tb) in
-        absurd (let w : 1 ≡ 0 = y ∙ x in omega (arith, w));
-    typed = λ G k u e f. (d.typed G k u e f).0;
-  }
-
-  drains_halts : (reason back : Type 0) (c : World) → Halts (uses s) (λ all. ScansLeft all s) reason b c → (reason → back) → Halts (uses s0) (λ all. ScansLeft all s0) back a c
+  pub drains_halts : (reason back : Type 0) (c : World) → Halts (uses s) (λ all. ScansLeft all s) reason b c → (reason → back) → Halts (uses s0) (λ all. ScansLeft all s0) back a c
   drains_halts reason back c g f = record {
     moves = moves_then (uses s0) (uses s) nothing a b c d.moves g.moves;
     known = λ all h. let x = d.known all h in of_then all d.moves.events g.moves.events x.0 (g.known all x.1);
     reason = f g.reason;
   }
 
-  pub drains_refused : (l : Name) (e : DriverError) (c : World) → Stops env s (why.Driver l e) b c → Halts (uses s0) (λ all. ScansLeft all s0) (StoppedBy l e a c) a c
-  drains_refused l e c g = drains_halts (StoppedBy l e b c) (StoppedBy l e a c) c g (stopped_then l e (uses s0) (uses s) a b c d.moves)
-
-  pub drains_none : (c : World) → Stops env s why.NoMemory b c → Halts (uses s0) (λ all. ScansLeft all s0) ⊤ a c
-  drains_none c g = drains_halts ⊤ ⊤ c g (λ i. i)
-
-  -- want of memory for an item, where what is left behind it is closed
-  pub drains_lost : (v : Value) (t : Snap) (c l : World) → Gives env s b v t c → Closes (uses t) c l → Halts (uses s0) (λ all. ScansLeft all s0) ⊤ a l
-  drains_lost v t c l g k =
-      let m = drains_on v t c g in
-      record {
-        moves = moves_then (uses s0) (uses t) nothing a c l m.moves k.moves;
-        known = λ all h. of_then all m.moves.events k.moves.events (m.known all h).0 (of_none all k.moves.events k.none);
-        reason = tt;
-      }
-
   pub drains_stands : Stands a s0 env → Stands b s env
   drains_stands h = (h.0, h.1, h.2, h.3, (d.typed h.0 h.1 h.2 h.3 h.4).1, ready_stays (uses s0) (uses s) a b d.moves h.5)
-
-  pub drains_owned : Owned (uses s0) a → Owned (uses s) b
-  drains_owned o = owned_after (uses s0) (uses s) a b o d.moves
 
 -- ---- the collection
 

@@ -1,5 +1,6 @@
 -- Measures of values, from what the code has.
-use Rattle.std.proofs.Common.{◌≡◌, ℕ, ◌+◌, ◌*◌, ◌<◌, ◌≤◌, max, List, map, Option, Some, None, slice_get, refl, sym, ap, ◌∙◌, arith, Bor}
+use Rattle.std.proofs.Common.{◌≡◌, ⊎_elim, ℕ, ◌+◌, ◌*◌, ◌<◌, ◌≤◌, max, Bool, true, false, cond, List, map, Option, Some, None, slice_get, refl, sym, ap, ◌∙◌, arith}
+use mathlib.Core.Logic.{◌⊎◌}
 use Rattle.kl_value.specs.declared.Kind.{Kind}
 use Rattle.kl_outcome.specs.Outcome.{Name}
 use Rattle.kl_eval.specs.Steps.{place_of}
@@ -14,10 +15,7 @@ use Rattle.kl_core.specs.declared.term.Term.{Term}
 use Rattle.kl_ship.specs.Kinds.{kind_of_items}
 use Rattle.kl_cursor.proofs.ValueCode.{view_Plain}
 use Rattle.kl_ship.proofs.Views.{view_Var, view_Rec, view_Proj, view_Inj, view_Case, view_Make, view_Union, view_Ext, view_If, view_Let, view_Prim, view_Scan}
-use Rattle.kl_cursor.specs.declared.state.State.TheVariants as state
-use Rattle.kl_cursor.specs.Left.{snap}
-use Rattle.kl_cursor.specs.Measure.{tall, tall_nodes, tall_fields, height}
-use Rattle.kl_cursor.proofs.Snaps.{snap_Fresh}
+use Rattle.kl_cursor.specs.Measure.{tall, tall_nodes, tall_fields}
 use Rattle.kl_cursor.proofs.Whole.{spare, branch_tall, rest_tall}
 
 over_first : (m n : ℕ) → 1 + m ≤ 1 + max m n
@@ -39,24 +37,12 @@ rec_down t fs gs et eg =
     let g : spare (view t) ≡ 5 = ap spare e in
     omega arith
 
-pub call_down : (t : Plan) (c : ℕ) (ps qs : List Plan) → t ≡ plans.Prim c ps → qs ≡ ps → 16 * tall_nodes (nodes_view qs) + 10 < 16 * tall (view t) + spare (view t)
+pub call_down : (t : Plan) (c : ℕ) (ps qs : List Plan) → t ≡ plans.Prim c ps → qs ≡ ps → 16 * tall_nodes (nodes_view qs) + 11 < 16 * tall (view t) + spare (view t)
 call_down t c ps qs et eq =
     let e : view t ≡ node.Prim c (nodes_view qs) = ap view et ∙ view_Prim c ps ∙ ap (λ q. node.Prim c (nodes_view q)) (sym eq) in
     let f : tall (view t) ≡ 1 + tall_nodes (nodes_view qs) = ap tall e in
     let g : spare (view t) ≡ 5 = ap spare e in
     omega arith
-
-drained_down : (p : Bor Plan) → spare (view p.now) ≡ 9 → 16 * height (snap (state.Fresh p)) + 8 < 16 * tall (view p.now) + spare (view p.now)
-drained_down p e = let f : height (snap (state.Fresh p)) ≡ tall (view p.now) = ap height (snap_Fresh p) in omega arith
-
-pub make_down : (p : Bor Plan) (k : Kind) (ps : List Plan) → p.now ≡ plans.Make k ps → 16 * height (snap (state.Fresh p)) + 8 < 16 * tall (view p.now) + spare (view p.now)
-make_down p k ps e = drained_down p (ap spare (ap view e ∙ view_Make k ps))
-
-pub loop_down : (p : Bor Plan) (k : Kind) (b s : Plan) → p.now ≡ plans.Ext k b s → 16 * height (snap (state.Fresh p)) + 8 < 16 * tall (view p.now) + spare (view p.now)
-loop_down p k b s e = drained_down p (ap spare (ap view e ∙ view_Ext k b s))
-
-pub scan_down : (p : Bor Plan) (c : Scan) → p.now ≡ plans.Scan c → 16 * height (snap (state.Fresh p)) + 8 < 16 * tall (view p.now) + spare (view p.now)
-scan_down p c e = drained_down p (ap spare (ap view e ∙ view_Scan c))
 
 -- ---- parts are lower
 
@@ -81,14 +67,15 @@ union_second_low t a b c et e = at_node t (node.Union (view a) (view c)) _ (ap v
 pub test_low : (t a b c d : Plan) → t ≡ plans.If a b c → d ≡ a → 1 + tall (view d) ≤ tall (view t)
 test_low t a b c d et e = at_node t (node.If (view d) (view b) (view c)) _ (ap view et ∙ view_If a b c ∙ ap (λ q. node.If (view q) (view b) (view c)) (sym e)) (over_first (tall (view d)) (max (tall (view b)) (tall (view c))))
 
-pub then_low : (t a b c d : Plan) → t ≡ plans.If a b c → d ≡ b → 1 + tall (view d) ≤ tall (view t)
+then_low : (t a b c d : Plan) → t ≡ plans.If a b c → d ≡ b → 1 + tall (view d) ≤ tall (view t)
 then_low t a b c d et e = at_node t (node.If (view a) (view d) (view c)) _ (ap view et ∙ view_If a b c ∙ ap (λ q. node.If (view a) (view q) (view c)) (sym e)) (omega arith)
 
-pub else_low : (t a b c d : Plan) → t ≡ plans.If a b c → d ≡ c → 1 + tall (view d) ≤ tall (view t)
+else_low : (t a b c d : Plan) → t ≡ plans.If a b c → d ≡ c → 1 + tall (view d) ≤ tall (view t)
 else_low t a b c d et e = at_node t (node.If (view a) (view b) (view d)) _ (ap view et ∙ view_If a b c ∙ ap (λ q. node.If (view a) (view b) (view q)) (sym e)) (omega arith)
 
-pub source_low : (t : Plan) (k : Kind) (b s c : Plan) → t ≡ plans.Ext k b s → c ≡ s → 1 + tall (view c) ≤ tall (view t)
-source_low t k b s c et e = at_node t (node.Ext k (view b) (view c)) _ (ap view et ∙ view_Ext k b s ∙ ap (λ q. node.Ext k (view b) (view q)) (sym e)) (over_second (tall (view b)) (tall (view c)))
+pub picked_low : (t a b c d : Plan) (z : Bool) → t ≡ plans.If a b c → d ≡ cond z b c → 1 + tall (view d) ≤ tall (view t)
+picked_low t a b c d true et e = then_low t a b c d et e
+picked_low t a b c d false et e = else_low t a b c d et e
 
 module _ (t a : Plan) (ps : List (Name × Plan)) (c : Option Plan) (et : t ≡ plans.Case a ps c) where
   pub subject_low : (b : Plan) → b ≡ a → 1 + tall (view b) ≤ tall (view t)
@@ -109,24 +96,55 @@ Whole t = (kind_of_items (view t) ≡ None) × (spare (view t) ≡ 5)
 whole_node : (t : Plan) (p : Node) → view t ≡ p → kind_of_items p ≡ None → spare p ≡ 5 → Whole t
 whole_node t p e k s = (ap kind_of_items e ∙ k, ap spare e ∙ s)
 
-pub whole_Plain : (t : Plan) (m : Term) → t ≡ plans.Plain m → Whole t
+whole_Plain : (t : Plan) (m : Term) → t ≡ plans.Plain m → Whole t
 whole_Plain t m e = whole_node t (node.Plain (term_view m)) (ap view e ∙ view_Plain m) refl refl
 
-pub whole_Var : (t : Plan) (x : ℕ) → t ≡ plans.Var x → Whole t
+whole_Var : (t : Plan) (x : ℕ) → t ≡ plans.Var x → Whole t
 whole_Var t x e = whole_node t (node.Var x) (ap view e ∙ view_Var x) refl refl
 
-pub whole_Rec : (t : Plan) (fs : List (Name × Plan)) → t ≡ plans.Rec fs → Whole t
+whole_Rec : (t : Plan) (fs : List (Name × Plan)) → t ≡ plans.Rec fs → Whole t
 whole_Rec t fs e = whole_node t (node.Rec (fields_view fs)) (ap view e ∙ view_Rec fs) refl refl
 
-pub whole_Proj : (t : Plan) (l : Name) (a : Plan) → t ≡ plans.Proj l a → Whole t
+whole_Proj : (t : Plan) (l : Name) (a : Plan) → t ≡ plans.Proj l a → Whole t
 whole_Proj t l a e = whole_node t (node.Proj l (view a)) (ap view e ∙ view_Proj l a) refl refl
 
-pub whole_Inj : (t : Plan) (l : Name) (a : Plan) → t ≡ plans.Inj l a → Whole t
+whole_Inj : (t : Plan) (l : Name) (a : Plan) → t ≡ plans.Inj l a → Whole t
 whole_Inj t l a e = whole_node t (node.Inj l (view a)) (ap view e ∙ view_Inj l a) refl refl
 
-pub whole_Prim : (t : Plan) (c : ℕ) (ps : List Plan) → t ≡ plans.Prim c ps → Whole t
+whole_Prim : (t : Plan) (c : ℕ) (ps : List Plan) → t ≡ plans.Prim c ps → Whole t
 whole_Prim t c ps e = whole_node t (node.Prim c (nodes_view ps)) (ap view e ∙ view_Prim c ps) refl refl
 
--- such a plan falls from its beginning to its evaluation
-pub begun_whole_falls : (t : Plan) → spare (view t) ≡ 5 → 16 * tall (view t) + spare (view t) < 16 * tall (view t) + 6
-begun_whole_falls t e = omega arith
+pub plain_whole_form : (p : Plan) → ((t : Term) × (p ≡ plans.Plain t)) ⊎ (((x : ℕ) × (p ≡ plans.Var x)) ⊎ ((fs : List (Name × Plan)) × (p ≡ plans.Rec fs))) → Whole p
+plain_whole_form p = ⊎_elim (λ h. whole_Plain p h.0 h.1) (⊎_elim (λ h. whole_Var p h.0 h.1) (λ h. whole_Rec p h.0 h.1))
+
+pub part_whole_form : (p : Plan) → ((l : Name) × (a : Plan) × (p ≡ plans.Proj l a)) ⊎ (((l : Name) × (a : Plan) × (p ≡ plans.Inj l a)) ⊎ ((c : ℕ) × (ps : List Plan) × (p ≡ plans.Prim c ps))) → Whole p
+part_whole_form p = ⊎_elim (λ h. whole_Proj p h.0 h.1 h.2) (⊎_elim (λ h. whole_Inj p h.0 h.1 h.2) (λ h. whole_Prim p h.0 h.1 h.2))
+
+pub union_spare : (t a b : Plan) → t ≡ plans.Union a b → spare (view t) ≡ 5
+union_spare t a b e = ap spare (ap view e ∙ view_Union a b)
+
+-- plans that are drained where they are evaluated
+pub make_spare : (t : Plan) (k : Kind) (ps : List Plan) → t ≡ plans.Make k ps → spare (view t) ≡ 9
+make_spare t k ps e = ap spare (ap view e ∙ view_Make k ps)
+
+pub loop_spare : (t : Plan) (k : Kind) (b s : Plan) → t ≡ plans.Ext k b s → spare (view t) ≡ 9
+loop_spare t k b s e = ap spare (ap view e ∙ view_Ext k b s)
+
+pub scan_spare : (t : Plan) (c : Scan) → t ≡ plans.Scan c → spare (view t) ≡ 9
+scan_spare t c e = ap spare (ap view e ∙ view_Scan c)
+
+-- ---- what is added to a list
+
+pub parts_down : (t : Plan) (k : Kind) (ps qs : List Plan) → t ≡ plans.Make k ps → qs ≡ ps → 16 * tall_nodes (nodes_view qs) + 10 < 16 * tall (view t) + 7
+parts_down t k ps qs et eq =
+    let f : tall (view t) ≡ 1 + tall_nodes (nodes_view qs) = ap tall (ap view et ∙ view_Make k ps ∙ ap (λ q. node.Make k (nodes_view q)) (sym eq)) in
+    omega arith
+
+pub loop_same : (t : Plan) (k : Kind) (b s b' s' : Plan) → t ≡ plans.Ext k b s → b' ≡ b → s' ≡ s → tall (node.Ext k (view b') (view s')) ≡ tall (view t)
+loop_same t k b s b' s' e eb es = sym (ap tall (ap view e ∙ view_Ext k b s ∙ ap (λ z. node.Ext k (view z) (view s)) (sym eb) ∙ ap (λ z. node.Ext k (view b') (view z)) (sym es)))
+
+pub body_part : (k : Kind) (b s : Node) → 1 + tall b ≤ tall (node.Ext k b s)
+body_part k b s = over_first (tall b) (tall s)
+
+pub source_part : (k : Kind) (b s : Node) → 1 + tall s ≤ tall (node.Ext k b s)
+source_part k b s = over_second (tall b) (tall s)

@@ -12,7 +12,7 @@ use Rattle.kl_value.specs.declared.Kind.{Kind}
 use Rattle.kl_value.specs.declared.Value.{Value}
 use Rattle.kl_value.specs.declared.Value.TheVariants as value
 use Rattle.kl_type.specs.Ground.{Ground, Row, bool, rec as rec_type, var as var_type, coll, at}
-use Rattle.kl_outcome.specs.Outcome.{Name, Outcome, done, over, more, End, fine, overflow, flow, followed, outcome_of, part, tagged, as_variant, items_of, items_at_all, gathered, collected, kept, joined_to, union_of}
+use Rattle.kl_outcome.specs.Outcome.{Name, Outcome, done, over, End, fine, overflow, flow, followed, outcome_of, part, tagged, as_variant, items_of, items_at_all, gathered, collected, kept, joined_to, union_of}
 use Rattle.kl_outcome.specs.Typed.{Inhabits, HaveTypes, OfType}
 use Rattle.kl_outcome.proofs.Flows.{collected_flow}
 use Rattle.kl_outcome.proofs.OutcomeTypes.{part_typed, part_is, tagged_typed, variant_is, items_inhabit, union_typed}
@@ -46,6 +46,7 @@ use Rattle.kl_cursor.specs.Sense.{TypesAt, IsToldAt, HasWorth}
 use Rattle.kl_cursor.specs.Steps.{IsDone, ComesTo, Wholly}
 use Rattle.kl_cursor.proofs.Events.{of_then}
 use Rattle.kl_cursor.proofs.Forms.{told_on}
+use Rattle.kl_cursor.proofs.ValueDrain.{flow_more}
 use Rattle.kl_cursor.proofs.Comings.{answers, leaf, fails_as, fails_then, Heads, Makes, Leads, Binds, at_stage, worth_back, cost_back, told_comes, both_paid}
 
 -- ---- parts that stand first
@@ -270,7 +271,7 @@ no_types i = None
 plain_typed : (env : List Value) (t : Tree) (o : Outcome) (w : World) (G : List Ground) (s : Ground) → core no_tables t env ≡ o → HaveTypes G env → TypesAt w G (node.Plain t) s → OfType s o
 plain_typed env t o w G s e h k = subst (OfType s) e (safe no_types no_tables (λ i y q. absurd cc) t G env s h (k.1 no_types))
 
-plain_comes : (env : List Value) (t : Tree) (o : Outcome) (w x : World) → x ≡ w → core no_tables t env ≡ o → ComesTo env (node.Plain t) o w x
+pub plain_comes : (env : List Value) (t : Tree) (o : Outcome) (w x : World) → x ≡ w → core no_tables t env ≡ o → ComesTo env (node.Plain t) o w x
 plain_comes env t o w x e f = leaf env (node.Plain t) w x o e (λ G s h k. f) (λ price. refl) (λ G s h k. plain_typed env t o w G s f h k)
 
 pub plain_whole : (env : List Value) (t : Tree) (r : Result Value Halt) (w x : World) → x ≡ w → TellsPlain w t env r → Wholly env (node.Plain t) r w x
@@ -282,9 +283,11 @@ plain_whole env t (Err halt.NoMemory) w x e h = subst (λ z. Wholly env (node.Pl
 pub plain_sense : (env : List Value) (t : Tree) (w : World) → HasWorth w (node.Plain t) env → SensePlain t env w
 plain_sense env t w h = (h.3.0, (h.0, h.1, h.2, h.3.1), h.4)
 
+pub var_comes : (env : List Value) (x : ℕ) (v : Value) (w : World) → slice_get env x ≡ Some v → ComesTo env (node.Var x) (done v) w w
+var_comes env x v w e = leaf env (node.Var x) w w (done v) refl (λ G s h t. ap outcome_of e) (λ price. refl) (λ G s h t. subst (OfType s) (ap outcome_of e) (get_typed G env x s h t))
+
 pub var_whole : (env : List Value) (x : ℕ) (v : Value) (r : Result Value Halt) (w : World) → slice_get env x ≡ Some v → AnswersOutcome (done v) r → Wholly env (node.Var x) r w w
-var_whole env x v r w e k =
-    answers env (node.Var x) w w (done v) r (leaf env (node.Var x) w w (done v) refl (λ G s h t. ap outcome_of e) (λ price. refl) (λ G s h t. subst (OfType s) (ap outcome_of e) (get_typed G env x s h t))) k
+var_whole env x v r w e k = answers env (node.Var x) w w (done v) r (var_comes env x v w e) k
 
 pub var_there : (env : List Value) (x : ℕ) (w : World) → HasWorth w (node.Var x) env → IsSome (slice_get env x)
 var_there env x w h = field_some h.1 (slice_get env x) (get_typed h.0 env x h.1 h.2 h.3)
@@ -339,10 +342,6 @@ module _ (env : List Value) (a b : Node) where
         let j : OfType (coll t.0 t.1) q = subst (λ z. OfType z q) t.2 (k.typed G s e (at_stage w x G b s h.moves t.4)) in
         subst (λ z. OfType z o) (sym t.2) (subst (OfType (coll t.0 t.1)) is (union_typed t.0 t.1 (done v) q i j));
   }
-
-  flow_more : (vs ws : List Value) (e : End) → followed (flow vs fine) (flow ws e) ≡ flow (vs ++ ws) e
-  flow_more [] ws e = refl
-  flow_more (v ∷ vs) ws e = ap (more v) (flow_more vs ws e)
 
   united : (v : Value) (k : Kind) (vs : List Value) (q : Outcome) (ws : List Value) (e : End) → v ≡ collection k vs → items_of q ≡ flow ws e → union_of (done v) q ≡ gathered k e (vs ++ ws)
   united v k vs q ws e ev eq =

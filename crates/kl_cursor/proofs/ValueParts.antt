@@ -75,7 +75,7 @@ fields_starts ps env none a e s = subst (λ q. OnFields ps ps env q a a) (sym e)
 have_more : (l : Name) (v : Value) (u : Ground) (fs : List (Name × Value)) (q : Row) → Inhabits u v → FieldsHave fs q → FieldsHave ((l, v) ∷ fs) (row l u q)
 have_more l v u fs q i h = (u, q, refl, i, h)
 
-drop_all : {X : Type 0} (xs : List X) (i : ℕ) → length xs ≤ i → drop i xs ≡ []
+pub drop_all : {X : Type 0} (xs : List X) (i : ℕ) → length xs ≤ i → drop i xs ≡ []
 drop_all xs i le = grind (arith, common_steps)
 
 module _ (ps : List (Name × Plan)) (i : ℕ) (p : Name × Plan) (whole : Fields) (env : List Value) (now : List (Name × Value)) (a b : World) (lt : i < length ps) (is : p ≡ get_or ps i p) (inv : OnFields whole (fields_view (drop i ps)) env now a b) where
@@ -332,15 +332,15 @@ module _ (c : ℕ) (ps : List Plan) (p : Plan) (env : List Value) (a : World) (n
 
 -- two arguments
 module _ (c : ℕ) (ps : List Plan) (p q : Plan) (env : List Value) (a : World) (n : length ps ≡ 2) (is : p ≡ get_or ps 0 p) where
-  pub sense_former : (z : Plan) → z ≡ get_or ps 1 z → HasCall a c (nodes_view ps) env → HasWorth a (view p) env
-  sense_former z js s = let s' = subst (λ y. HasCall a c y env) (ap nodes_view (pair ps p z n is js)) s in (s'.0, s'.4.0, s'.3, s'.4.3, s'.6)
-
   module _ (js : q ≡ get_or ps 1 q) where
     abbrev Two : Nodes
     Two = nodes (view p) (nodes (view q) no_nodes)
 
     two : nodes_view ps ≡ Two
     two = ap nodes_view (pair ps p q n is js)
+
+    sense_former : HasCall a c (nodes_view ps) env → HasWorth a (view p) env
+    sense_former s = let s' = subst (λ y. HasCall a c y env) two s in (s'.0, s'.4.0, s'.3, s'.4.3, s'.6)
 
     pub sense_latter : (v : Value) (b : World) → HasCall a c (nodes_view ps) env → ComesTo env (view p) (done v) a b → HasWorth b (view q) env
     sense_latter v b s h =
@@ -382,7 +382,7 @@ module _ (c : ℕ) (ps : List Plan) (p q : Plan) (env : List Value) (a : World) 
               subst (OfType s) e (prim_typed c y.0 s (v ∷ u ∷ []) y.2 (two_types G s v u y (h.typed G y.1.0 t y.1.3) (k.typed G z.0 t (at_stage a b G (view q) z.0 h.moves z.3))));
         }
 
-    pub call_former_stop : (e : EvalStop) (b : World) → Partly env (view p) (Err e) a b → CallGives env c (nodes_view ps) (Err e) a b
+    call_former_stop : (e : EvalStop) (b : World) → Partly env (view p) (Err e) a b → CallGives env c (nodes_view ps) (Err e) a b
     call_former_stop e b h =
         subst (λ y. CallGives env c y (Err e) a b) (sym two)
         (call_fails env c Two e a a b (λ all. ⊤) (λ all. ScansIn all (view p)) (moves_none nothing a) (λ all i. tt) (view p) h (λ all i. (tt, i.0)) gives)
@@ -414,3 +414,15 @@ module _ (c : ℕ) (ps : List Plan) (p q : Plan) (env : List Value) (a : World) 
           counts = λ G s t y told well price. absurd well;
           typed = λ G s t y. over_nil s;
         }
+
+-- what is known of the first argument alone
+second_there : (ps : List Plan) → length ps ≡ 2 → (q : Plan) × (q ≡ get_or ps 1 q)
+second_there [] n = absurd (omega (arith, n))
+second_there (p ∷ []) n = absurd (omega (arith, n))
+second_there (p ∷ q ∷ ps) n = (q, refl)
+
+pub former_sense : (c : ℕ) (ps : List Plan) (p : Plan) (env : List Value) (a : World) → length ps ≡ 2 → p ≡ get_or ps 0 p → HasCall a c (nodes_view ps) env → HasWorth a (view p) env
+former_sense c ps p env a n is = let q = second_there ps n in sense_former c ps p q.0 env a n is q.1
+
+pub former_stops : (c : ℕ) (ps : List Plan) (p : Plan) (env : List Value) (a : World) → length ps ≡ 2 → p ≡ get_or ps 0 p → (e : EvalStop) (b : World) → Partly env (view p) (Err e) a b → CallGives env c (nodes_view ps) (Err e) a b
+former_stops c ps p env a n is = let q = second_there ps n in call_former_stop c ps p q.0 env a n is q.1

@@ -1,17 +1,14 @@
 -- Drains, literals, and what begins evaluated first, from what the code has.
-use Rattle.std.proofs.Common.{◌≡◌, ℕ, ◌+◌, ◌*◌, ◌<◌, ◌≤◌, zero, suc, max, Bool, cond, List, [], ◌∷◌, drop, length, map, get_or, Option, Some, None, Result, Vec, Ok, Err, slice_get, sym, ap, subst, ◌∙◌, arith, Bor}
+use Rattle.std.proofs.Common.{◌≡◌, ℕ, ◌+◌, ◌*◌, ◌<◌, ◌≤◌, zero, suc, max, Bool, cond, List, [], ◌∷◌, drop, length, map, get_or, Option, Some, None, Result, Ok, Err, slice_get, sym, ap, subst, ◌∙◌, arith, Bor}
 use Rattle.std.proofs.lemmas.Grind.{common_steps}
 use Rattle.std.proofs.lemmas.List.{at_drop_more}
-use Rattle.std.specs.declared.alloc.Global.{Global}
 use Rattle.kl_value.specs.declared.Value.{Value}
 use Rattle.kl_outcome.specs.Outcome.{Name, done, more, stop, fine, overflow, as_variant, item_then}
 use Rattle.kl_ask.specs.World.{World}
-use Rattle.kl_ask.specs.declared.DriverError.{DriverError}
-use Rattle.kl_eval.specs.Steps.{AppendsAll, inside_of, place_of, TellsTruth}
+use Rattle.kl_eval.specs.Steps.{inside_of, place_of, TellsTruth}
 use Rattle.kl_eval.specs.declared.stop.EvalStop.{EvalStop}
 use Rattle.kl_eval.specs.declared.stop.EvalStop.TheVariants as why
 use Rattle.kl_eval.specs.declared.stop.Halt.{Halt}
-use Rattle.kl_eval.specs.declared.stop.Halt.TheVariants as halt
 use Rattle.kl_ship.specs.declared.plan.Plan.{Plan}
 use Rattle.kl_ship.specs.declared.plan.Plan.TheVariants as plans
 use Rattle.kl_ship.specs.Meaning.{plan_items}
@@ -21,21 +18,19 @@ use Rattle.kl_ship.specs.Reached.{reached_nodes}
 use Rattle.kl_ship.specs.Shipping.{other_node}
 use Rattle.kl_ship.specs.Typing.{EachPlan}
 use Rattle.kl_scans.specs.Held.{nothing}
-use Rattle.kl_scans.specs.Moves.{Closes}
 use Rattle.kl_scans.specs.Stage.{ScanOf, readings}
 use Rattle.kl_scans.proofs.Moving.{moves_none, stage_stays}
 use Rattle.kl_cursor.specs.declared.state.State.{State}
 use Rattle.kl_cursor.specs.declared.state.State.TheVariants as state
-use Rattle.kl_cursor.specs.Left.{Snap, fresh, have, pulling, both, bound, outside, inside, made, ended, snap, uses, reading, nodes_from}
-use Rattle.kl_cursor.specs.Measure.{tall, tall_nodes, tall_fields, height, rank, falling, most}
-use Rattle.kl_cursor.specs.Sense.{HasWorth, Stands}
-use Rattle.kl_cursor.specs.Steps.{Onward, Gives, Ends, Stops, Steps, Empties, Drains, ComesTo, Wholly, Partly}
+use Rattle.kl_cursor.specs.Left.{Snap, fresh, bound, made, snap, reading, nodes_from}
+use Rattle.kl_cursor.specs.Measure.{tall, tall_nodes, tall_fields, falling}
+use Rattle.kl_cursor.specs.Steps.{Onward, Gives, Ends, Stops, ComesTo, Wholly, Partly}
 use Rattle.kl_cursor.proofs.Likes.{same_itself, same_at}
 use Rattle.kl_cursor.proofs.Snaps.{snap_Fresh, snap_Bound, snap_Make}
 use Rattle.kl_cursor.proofs.Comings.{part_value, part_stop}
 use Rattle.kl_cursor.proofs.ValueForms.{heads_let, heads_if, heads_case, binds_let, leads_if, binds_branch, leads_rest}
-use Rattle.kl_cursor.proofs.ValueDrain.{Draining, drains_starts, drains_on, drains_ends, drains_over, drains_refused, drains_none, drains_lost}
-use Rattle.kl_cursor.proofs.ValueCode.{at_Let, at_If, at_Case, cond_view}
+use Rattle.kl_cursor.proofs.ValueCode.{at_Let, at_If, at_Case, cond_view, tested_value, tested_stop}
+use Rattle.kl_cursor.proofs.ValueFalls.{let_second_low, picked_low, branch_low, rest_low}
 use Rattle.kl_cursor.proofs.Whole.{spare, leads_fresh, binds_bound, head_stops, part_lost, if_keeps, if_less, if_low, rest_keeps, branch_tall, branch_size, rest_tall, rest_size}
 
 -- ---- measures
@@ -74,29 +69,8 @@ spare_least (node.Scan c) = omega arith
 spare_least (node.Join n k how o cs i q b) = omega arith
 spare_least (node.Memo n frees p) = omega arith
 
--- a part below a plan falls, whether the plan is evaluated or begins
-pub part_falls : (p q : Node) → 1 + tall q ≤ tall p → 16 * tall q + spare q < 16 * tall p + 6
-part_falls p q x = let y = spare_most q in omega arith
-
 pub whole_falls : (p q : Node) → 1 + tall q ≤ tall p → 16 * tall q + spare q < 16 * tall p + spare p
 whole_falls p q x = let y = spare_most q in let z = spare_least p in omega arith
-
-rank_low : (s : Snap) → rank s ≤ 3
-rank_low (fresh p) = omega arith
-rank_low (have vs e) = omega arith
-rank_low (pulling c k rows n) = omega arith
-rank_low (both s p) = omega arith
-rank_low (bound v s) = omega arith
-rank_low (outside b s) = omega arith
-rank_low (inside b s v i) = omega arith
-rank_low (made ps) = omega arith
-rank_low ended = omega arith
-
-pub drain_falls : (env : List Value) (s0 s : Snap) (vs : List Value) (a b : World) → Draining env s0 a vs s b → 2 * falling s + 1 < 16 * height s0 + 8
-drain_falls env s0 s vs a b d = let x = d.lower in let y = rank_low s in omega arith
-
-pub fresh_falls : (p : Bor Plan) → height (snap (state.Fresh p)) ≡ tall (view p.now)
-fresh_falls p = ap height (snap_Fresh p)
 
 fields_low : (ps : List (Name × Plan)) (i : ℕ) → tall_fields (fields_view (drop i ps)) ≤ tall_fields (fields_view ps)
 fields_low [] zero = omega arith
@@ -118,7 +92,7 @@ nodes_low [] (suc i) = omega arith
 nodes_low (p ∷ ps) zero = omega arith
 nodes_low (p ∷ ps) (suc i) = let x = nodes_low ps i in omega arith
 
-from_place : (ps : List Plan) (i : ℕ) (p : Plan) → i < length ps → p ≡ get_or ps i p → nodes_from i ps ≡ nodes (view p) (nodes_from (i + 1) ps)
+pub from_place : (ps : List Plan) (i : ℕ) (p : Plan) → i < length ps → p ≡ get_or ps i p → nodes_from i ps ≡ nodes (view p) (nodes_from (i + 1) ps)
 from_place ps i p lt is = at_drop_more nodes_view ps i p lt ∙ ap (λ q. nodes (view q) (nodes_from (i + 1) ps)) (sym is)
 
 pub node_tall : (ps : List Plan) (i : ℕ) (p : Plan) → i < length ps → p ≡ get_or ps i p → 16 * tall (view p) + spare (view p) < 16 * tall_nodes (nodes_view ps) + 10
@@ -130,16 +104,10 @@ node_tall ps i p lt is =
 
 -- ---- the parts of a literal
 
-pub made_falls : (ps : List Plan) (i : ℕ) (p : Plan) → i < length ps → p ≡ get_or ps i p → 16 * tall (view p) + spare (view p) < 2 * falling (made (nodes_from i ps))
-made_falls ps i p lt is =
-    let f : tall_nodes (nodes_from i ps) ≡ max (tall (view p)) (tall_nodes (nodes_from (i + 1) ps)) = ap tall_nodes (from_place ps i p lt is) in
-    let y = spare_most (view p) in
-    omega arith
-
 pays_next : (e r z y : ℕ) → e ≡ r → z ≡ y → e + z ≡ r + y
 pays_next e r z y x w = omega arith
 
-made_gives : (env : List Value) (p : Node) (ps : Nodes) (v : Value) (a b : World) → ComesTo env p (done v) a b → Gives env (made (nodes p ps)) a v (made ps) b
+pub made_gives : (env : List Value) (p : Node) (ps : Nodes) (v : Value) (a b : World) → ComesTo env p (done v) a b → Gives env (made (nodes p ps)) a v (made ps) b
 made_gives env p ps v a b h =
     let held = stage_stays nothing nothing a b h.moves in
     record {
@@ -154,7 +122,7 @@ made_gives env p ps v a b h =
       fell = omega arith;
     }
 
-made_stops : (env : List Value) (p : Node) (ps : Nodes) (e : EvalStop) (a b : World) → Partly env p (Err e) a b → Stops env (made (nodes p ps)) e a b
+pub made_stops : (env : List Value) (p : Node) (ps : Nodes) (e : EvalStop) (a b : World) → Partly env p (Err e) a b → Stops env (made (nodes p ps)) e a b
 made_stops env p ps why.Overflow a b k =
     let h = k.1 in
     record {
@@ -165,7 +133,7 @@ made_stops env p ps why.Overflow a b k =
 made_stops env p ps (why.Driver l x) a b k = record { moves = k.moves; known = λ all i. k.known all i.0; reason = k.reason }
 made_stops env p ps why.NoMemory a b k = record { moves = k.moves; known = λ all i. k.known all i.0; reason = tt }
 
-made_ends : (env : List Value) (a : World) → Ends env (made no_nodes) a a
+pub made_ends : (env : List Value) (a : World) → Ends env (made no_nodes) a a
 made_ends env a = record {
   moves = moves_none nothing a;
   known = λ all i. tt;
@@ -174,11 +142,6 @@ made_ends env a = record {
 }
 
 module _ (env : List Value) (ps : Bor (List Plan)) (i : ℕ) (a : World) where
-  pub made_sense : (p : Plan) → i < length ps.now → p ≡ get_or ps.now i p → Stands a (made (nodes_from i ps.now)) env → HasWorth a (view p) env
-  made_sense p lt is h =
-      let s = subst (λ z. Stands a (made z) env) (from_place ps.now i p lt is) h in
-      (s.0, s.2, s.3, s.4.0, s.5)
-
   pub made_gave : (p : Plan) (q : Result Value Halt) (r : Result Value EvalStop) (v : Value) (b : World) → i < length ps.now → p ≡ get_or ps.now i p → Wholly env (view p) q a b → r ≡ inside_of q → r ≡ Ok v
       → Gives env (made (nodes_from i ps.now)) a v (snap (state.Make ps (i + 1))) b
   made_gave p q r v b lt is h e f =
@@ -197,49 +160,13 @@ module _ (env : List Value) (ps : Bor (List Plan)) (i : ℕ) (a : World) where
       drop_none : {X : Type 0} (xs : List X) (j : ℕ) → length xs ≤ j → drop j xs ≡ []
       drop_none xs j le = grind (arith, common_steps)
 
--- ---- a drain
-
-pub drain_starts : (env : List Value) (s : Snap) (none : List Value) (a : World) → none ≡ [] → Draining env s a none s a
-drain_starts env s none a e = subst (λ z. Draining env s a z s a) (sym e) (drains_starts env s a)
-
-module _ (env : List Value) (s0 : Snap) (a : World) (now : List Value) (at rest : State) (i : Option Value) (r : Result (Option Value × State) EvalStop) (b c : World) (d : Draining env s0 a now (snap at) b) (h : Steps env (snap at) r b c) where
-  gave : (v : Value) → r ≡ Ok (i, rest) → i ≡ Some v → Gives env (snap at) b v (snap rest) c
-  gave v e f = subst (λ q. Steps env (snap at) (Ok (q, rest)) b c) f (subst (λ q. Steps env (snap at) q b c) e h)
-
-  pub drain_goes : (v : Value) (now' : List Value) → r ≡ Ok (i, rest) → i ≡ Some v → AppendsAll (v ∷ []) (Ok tt) now now' → Draining env s0 a now' (snap rest) c
-  drain_goes v now' e f add = subst (λ z. Draining env s0 a z (snap rest) c) (sym add) (drains_on env s0 a now (snap at) b d v (snap rest) c (gave v e f))
-
-  pub drain_smaller : (v : Value) → r ≡ Ok (i, rest) → i ≡ Some v → most c (snap rest) < most b (snap at)
-  drain_smaller v e f = (gave v e f).fell
-
-  pub drain_lost : (v : Value) (now' : List Value) (x : Halt) (l : World) → r ≡ Ok (i, rest) → i ≡ Some v → AppendsAll (v ∷ []) (Err x) now now' → Closes (uses (snap rest)) c l → Drains env s0 (Err x) a l
-  drain_lost v now' (halt.Over vs) l e f add k = absurd add
-  drain_lost v now' (halt.Driver n x) l e f add k = absurd add
-  drain_lost v now' halt.NoMemory l e f add k = drains_lost env s0 a now (snap at) b d v (snap rest) c l (gave v e f) k
-
-  pub drain_ends : (ws : Vec Value Global) → now ≡ ws.items → r ≡ Ok (i, rest) → i ≡ None → Drains env s0 (Ok ws) a c
-  drain_ends ws w e f = subst (λ z. Empties env s0 z fine a c) w
-      (drains_ends env s0 a now (snap at) b d c (subst (λ q. Steps env (snap at) (Ok (q, rest)) b c) f (subst (λ q. Steps env (snap at) q b c) e h)))
-
-  pub drain_stops : (x : EvalStop) → r ≡ Err x → Stops env (snap at) x b c
-  drain_stops x e = subst (λ q. Steps env (snap at) q b c) e h
-
-  pub drain_overflows : (ws : Vec Value Global) → now ≡ ws.items → r ≡ Err why.Overflow → Drains env s0 (Err (halt.Over ws)) a c
-  drain_overflows ws w e = subst (λ z. Empties env s0 z overflow a c) w (drains_over env s0 a now (snap at) b d c (drain_stops why.Overflow e))
-
-  pub drain_refused : (l : Name) (x : DriverError) → r ≡ Err (why.Driver l x) → Drains env s0 (Err (halt.Driver l x)) a c
-  drain_refused l x e = drains_refused env s0 a now (snap at) b d l x c (drain_stops (why.Driver l x) e)
-
-  pub drain_none : r ≡ Err why.NoMemory → Drains env s0 (Err halt.NoMemory) a c
-  drain_none e = drains_none env s0 a now (snap at) b d c (drain_stops why.NoMemory e)
-
 -- ---- what begins evaluated first
 
 abbrev Goes : List Value → Node → Snap → World → World → Type 0
 Goes env p s w x = Onward env (fresh p) w s x × (falling s < falling (fresh p))
 
-goes_at : (env : List Value) (p q : Node) (s t : Snap) (w x : World) → p ≡ q → s ≡ t → Goes env q t w x → Goes env p s w x
-goes_at env p q s t w x e f h = subst (λ z. Goes env z s w x) (sym e) (subst (λ z. Goes env q z w x) (sym f) h)
+goes_as : (env : List Value) (p : Node) (s t : Snap) (w x : World) → s ≡ t → Goes env p t w x → Goes env p s w x
+goes_as env p s t w x f h = subst (λ z. Goes env p z w x) (sym f) h
 
 stops_at : (env : List Value) (p q : Node) (e : EvalStop) (w x : World) → p ≡ q → Stops env (fresh q) e w x → Stops env (fresh p) e w x
 stops_at env p q e w x is h = subst (λ z. Stops env (fresh z) e w x) (sym is) h
@@ -259,59 +186,67 @@ over_one m n k x = omega arith
 over_some : (m n k : ℕ) → m ≤ k → m ≤ n + k
 over_some m n k x = omega arith
 
-module _ (env : List Value) (t a b a' : Plan) (w : World) (et : t ≡ plans.Let a b) (ea : a' ≡ a) (p : Result Value Halt) (q : Result Value EvalStop) (x : World) (h : Wholly env (view a') p w x) (e : q ≡ inside_of p) where
-  pub let_begun : (v : Value) (b' : Plan) (s : State) → q ≡ Ok v → b' ≡ b → snap s ≡ fresh (view b') → Goes env (view t) (snap (state.Bound v s)) w x
-  let_begun v b' s f eb is =
-      goes_at env (view t) (node.Let (view a') (view b)) (snap (state.Bound v s)) (bound v (fresh (view b))) w x (at_Let env t a b a' w et ea)
-      (snap_Bound v s ∙ ap (bound v) (is ∙ ap (λ z. fresh (view z)) eb))
-      (binds_bound env (node.Let (view a') (view b)) (view a') v v (view b) w x (binds_let env (view a') (view b) v w) (part_value env (view a') w x p q v h e f) (omega arith) (omega arith), bound_lower (node.Let (view a') (view b)) (view b) v (omega arith))
+module _ (env : List Value) (t a b a' : Plan) (w : World) (et : t ≡ plans.Let a b) (ea : a' ≡ a) (x : World) where
+  pub let_onward : (v : Value) (b' : Plan) → b' ≡ b → ComesTo env (view a') (done v) w x → Onward env (fresh (view t)) w (bound v (fresh (view b'))) x
+  let_onward v b' eb h =
+      subst (λ z. Onward env (fresh z) w (bound v (fresh (view b'))) x) (sym (at_Let env t a b a' w et ea))
+      (subst (λ z. Onward env (fresh (node.Let (view a') (view b))) w (bound v (fresh (view z))) x) (sym eb)
+      (binds_bound env (node.Let (view a') (view b)) (view a') v v (view b) w x (binds_let env (view a') (view b) v w) h (omega arith) (omega arith)))
 
-  pub let_lost : (v : Value) → q ≡ Ok v → Stops env (fresh (view t)) why.NoMemory w x
-  let_lost v f = stops_at env (view t) (node.Let (view a') (view b)) why.NoMemory w x (at_Let env t a b a' w et ea) (part_lost env (node.Let (view a') (view b)) (view a') (done v) w x (λ all i. i.0) (part_value env (view a') w x p q v h e f))
+  pub let_begun : (v : Value) (b' : Plan) (s : State) → b' ≡ b → snap s ≡ fresh (view b') → ComesTo env (view a') (done v) w x → Goes env (view t) (snap (state.Bound v s)) w x
+  let_begun v b' s eb is h =
+      goes_as env (view t) (snap (state.Bound v s)) (bound v (fresh (view b'))) w x (snap_Bound v s ∙ ap (bound v) is)
+      (let_onward v b' eb h, bound_lower (view t) (view b') v (let_second_low t a b b' et eb))
 
-  pub let_stopped : (z : EvalStop) → q ≡ Err z → Stops env (fresh (view t)) z w x
-  let_stopped z f = stops_at env (view t) (node.Let (view a') (view b)) z w x (at_Let env t a b a' w et ea) (head_stops env (node.Let (view a') (view b)) (view a') z w x (heads_let env (view a') (view b) w) (part_stop env (view a') w x p q z h e f))
+  pub let_lost : (v : Value) → ComesTo env (view a') (done v) w x → Stops env (fresh (view t)) why.NoMemory w x
+  let_lost v h = stops_at env (view t) (node.Let (view a') (view b)) why.NoMemory w x (at_Let env t a b a' w et ea) (part_lost env (node.Let (view a') (view b)) (view a') (done v) w x (λ all i. i.0) h)
 
-module _ (env : List Value) (t a b c a' : Plan) (w : World) (et : t ≡ plans.If a b c) (ea : a' ≡ a) (p : Result Value Halt) (q : Result Value EvalStop) (x : World) (h : Wholly env (view a') p w x) (e : q ≡ inside_of p) where
+  pub let_stopped : (z : EvalStop) → Partly env (view a') (Err z) w x → Stops env (fresh (view t)) z w x
+  let_stopped z h = stops_at env (view t) (node.Let (view a') (view b)) z w x (at_Let env t a b a' w et ea) (head_stops env (node.Let (view a') (view b)) (view a') z w x (heads_let env (view a') (view b) w) h)
+
+module _ (env : List Value) (t a b c a' : Plan) (w : World) (et : t ≡ plans.If a b c) (ea : a' ≡ a) (q : Result Value EvalStop) (x : World) (h : Partly env (view a') q w x) where
+  pub if_onward : (d : Plan) (y z : Bool) → d ≡ cond z b c → y ≡ z → TellsTruth q (Ok y) → Onward env (fresh (view t)) w (fresh (view d)) x
+  if_onward d y z ed ez told =
+      subst (λ o. Onward env (fresh o) w (fresh (view d)) x) (sym (at_If env t a b c a' w et ea))
+      (subst (λ o. Onward env (fresh (node.If (view a') (view b) (view c))) w (fresh o) x) (sym (ap view ed ∙ cond_view z b c))
+      (leads_fresh env (node.If (view a') (view b) (view c)) (view a') told.0 (cond z (view b) (view c)) w x (leads_if env (view a') (view b) (view c) told.0 z w (told.2 ∙ ap Some ez)) (if_keeps env (view a') (view b) (view c) told.0 z w)
+      (tested_value env (view a') q y w x h told) (if_less (view a') (view b) (view c) z) (no_higher _ _ (if_low (view a') (view b) (view c) z))))
+
   pub if_begun : (d : Bor Plan) (y z : Bool) → d.now ≡ cond z b c → y ≡ z → TellsTruth q (Ok y) → Goes env (view t) (snap (state.Fresh d)) w x
   if_begun d y z ed ez told =
-      let v : Value = told.0 in
-      goes_at env (view t) (node.If (view a') (view b) (view c)) (snap (state.Fresh d)) (fresh (cond z (view b) (view c))) w x (at_If env t a b c a' w et ea)
-      (snap_Fresh d ∙ ap fresh (ap view ed ∙ cond_view z b c)) (
-        leads_fresh env (node.If (view a') (view b) (view c)) (view a') v (cond z (view b) (view c)) w x (leads_if env (view a') (view b) (view c) v z w (told.2 ∙ ap Some ez)) (if_keeps env (view a') (view b) (view c) v z w)
-            (part_value env (view a') w x p q v h e told.1) (if_less (view a') (view b) (view c) z) (no_higher _ _ (if_low (view a') (view b) (view c) z)),
-        fresh_lower (node.If (view a') (view b) (view c)) (cond z (view b) (view c)) (if_low (view a') (view b) (view c) z),
-      )
+      goes_as env (view t) (snap (state.Fresh d)) (fresh (view d.now)) w x (snap_Fresh d) (if_onward d.now y z ed ez told, fresh_lower (view t) (view d.now) (picked_low t a b c d.now z et ed))
 
   pub if_stopped : (z : EvalStop) → TellsTruth q (Err z) → Stops env (fresh (view t)) z w x
-  if_stopped z f = stops_at env (view t) (node.If (view a') (view b) (view c)) z w x (at_If env t a b c a' w et ea) (head_stops env (node.If (view a') (view b) (view c)) (view a') z w x (heads_if env (view a') (view b) (view c) w) (part_stop env (view a') w x p q z h e f))
+  if_stopped z told = stops_at env (view t) (node.If (view a') (view b) (view c)) z w x (at_If env t a b c a' w et ea)
+      (head_stops env (node.If (view a') (view b) (view c)) (view a') z w x (heads_if env (view a') (view b) (view c) w) (tested_stop env (view a') q z w x h told))
 
-module _ (env : List Value) (t a a' : Plan) (ps : List (Name × Plan)) (c : Option Plan) (w : World) (et : t ≡ plans.Case a ps c) (ea : a' ≡ a) (p : Result Value Halt) (q : Result Value EvalStop) (x : World) (h : Wholly env (view a') p w x) (e : q ≡ inside_of p) where
+module _ (env : List Value) (t a a' : Plan) (ps : List (Name × Plan)) (c : Option Plan) (w : World) (et : t ≡ plans.Case a ps c) (ea : a' ≡ a) (x : World) where
   abbrev All : Node
   All = node.Case (view a') (branches_of (map view_branch ps) (other_node c))
 
-  pub case_stopped : (z : EvalStop) → q ≡ Err z → Stops env (fresh (view t)) z w x
-  case_stopped z f = stops_at env (view t) All z w x (at_Case env t a a' ps c w et ea) (head_stops env All (view a') z w x (heads_case env (view a') (branches_of (map view_branch ps) (other_node c)) w) (part_stop env (view a') w x p q z h e f))
+  pub case_stopped : (z : EvalStop) → Partly env (view a') (Err z) w x → Stops env (fresh (view t)) z w x
+  case_stopped z h = stops_at env (view t) All z w x (at_Case env t a a' ps c w et ea) (head_stops env All (view a') z w x (heads_case env (view a') (branches_of (map view_branch ps) (other_node c)) w) h)
 
-  pub case_lost : (v : Value) → q ≡ Ok v → Stops env (fresh (view t)) why.NoMemory w x
-  case_lost v f = stops_at env (view t) All why.NoMemory w x (at_Case env t a a' ps c w et ea) (part_lost env All (view a') (done v) w x (λ all i. i.0) (part_value env (view a') w x p q v h e f))
+  pub case_lost : (v : Value) → ComesTo env (view a') (done v) w x → Stops env (fresh (view t)) why.NoMemory w x
+  case_lost v h = stops_at env (view t) All why.NoMemory w x (at_Case env t a a' ps c w et ea) (part_lost env All (view a') (done v) w x (λ all i. i.0) h)
 
-  module _ (v : Value) (l : Name) (u : Value) (f : q ≡ Ok v) (ev : as_variant v ≡ Some (l, u)) where
+  module _ (v : Value) (l : Name) (u : Value) (h : ComesTo env (view a') (done v) w x) (ev : as_variant v ≡ Some (l, u)) where
+    pub branch_onward : (i : ℕ) (b : Name × Plan) → (place_of l ps ≡ Some i) × (slice_get ps i ≡ Some b) → Onward env (fresh (view t)) w (bound u (fresh (view b.1))) x
+    branch_onward i b g = subst (λ z. Onward env (fresh z) w (bound u (fresh (view b.1))) x) (sym (at_Case env t a a' ps c w et ea))
+        (binds_bound env All (view a') v u (view b.1) w x (binds_branch env (view a') v l u ps (other_node c) w ev i b g.0 g.1) h
+        (over_some _ _ _ (branch_size l ps (other_node c) i b g.0 g.1)) (over_one _ _ _ (branch_tall l ps (other_node c) i b g.0 g.1)))
+
     pub branch_begun : (i : ℕ) (b : Name × Plan) (s : State) → (place_of l ps ≡ Some i) × (slice_get ps i ≡ Some b) → snap s ≡ fresh (view b.1) → Goes env (view t) (snap (state.Bound u s)) w x
     branch_begun i b s g is =
-        let low = branch_tall l ps (other_node c) i b g.0 g.1 in
-        goes_at env (view t) All (snap (state.Bound u s)) (bound u (fresh (view b.1))) w x (at_Case env t a a' ps c w et ea) (snap_Bound u s ∙ ap (bound u) is) (
-          binds_bound env All (view a') v u (view b.1) w x (binds_branch env (view a') v l u ps (other_node c) w ev i b g.0 g.1) (part_value env (view a') w x p q v h e f)
-              (over_some _ _ _ (branch_size l ps (other_node c) i b g.0 g.1)) (over_one _ _ _ low),
-          bound_lower All (view b.1) u (over_one _ _ _ low),
-        )
+        goes_as env (view t) (snap (state.Bound u s)) (bound u (fresh (view b.1))) w x (snap_Bound u s ∙ ap (bound u) is) (branch_onward i b g, bound_lower (view t) (view b.1) u (branch_low t a ps c et l i b g))
+
+    pub rest_onward : (d d' : Plan) → place_of l ps ≡ None → c ≡ Some d → d' ≡ d → Onward env (fresh (view t)) w (fresh (view d')) x
+    rest_onward d d' g ec ed =
+        let el : other_node c ≡ rest (view d') = ap other_node ec ∙ ap (λ z. rest (view z)) (sym ed) in
+        subst (λ z. Onward env (fresh z) w (fresh (view d')) x) (sym (at_Case env t a a' ps c w et ea))
+        (leads_fresh env All (view a') v (view d') w x (leads_rest env (view a') v l u ps (other_node c) w ev (view d') g el) (rest_keeps env (view a') v l u ps (other_node c) w ev (view d') g el) h
+        (over_some _ _ _ (rest_size l ps (other_node c) (view d') g el)) (no_higher _ _ (over_one _ _ _ (rest_tall l ps (other_node c) (view d') g el))))
 
     pub rest_begun : (d : Plan) (d' : Bor Plan) → place_of l ps ≡ None → c ≡ Some d → d'.now ≡ d → Goes env (view t) (snap (state.Fresh d')) w x
     rest_begun d d' g ec ed =
-        let el : other_node c ≡ rest (view d'.now) = ap other_node ec ∙ ap (λ z. rest (view z)) (sym ed) in
-        let low = rest_tall l ps (other_node c) (view d'.now) g el in
-        goes_at env (view t) All (snap (state.Fresh d')) (fresh (view d'.now)) w x (at_Case env t a a' ps c w et ea) (snap_Fresh d') (
-          leads_fresh env All (view a') v (view d'.now) w x (leads_rest env (view a') v l u ps (other_node c) w ev (view d'.now) g el) (rest_keeps env (view a') v l u ps (other_node c) w ev (view d'.now) g el)
-              (part_value env (view a') w x p q v h e f) (over_some _ _ _ (rest_size l ps (other_node c) (view d'.now) g el)) (no_higher _ _ (over_one _ _ _ low)),
-          fresh_lower All (view d'.now) (over_one _ _ _ low),
-        )
+        goes_as env (view t) (snap (state.Fresh d')) (fresh (view d'.now)) w x (snap_Fresh d') (rest_onward d d'.now g ec ed, fresh_lower (view t) (view d'.now) (rest_low t a ps c et l d d'.now g ec ed))

@@ -36,10 +36,11 @@ use Rattle.kl_cursor.specs.Drawing.{draws}
 use Rattle.kl_cursor.specs.Left.{Snap, fresh, have, bound, outside, snap, reading}
 use Rattle.kl_cursor.specs.Measure.{tall, tall_branches, count_nodes, size, size_branches, falling}
 use Rattle.kl_cursor.specs.Sense.{TypesAt, IsToldAt, HasItems, HasWorth}
-use Rattle.kl_cursor.specs.Steps.{Onward, Stops, Begins, ComesTo, IsDone, Wholly, Partly, Halted}
+use Rattle.kl_cursor.specs.Steps.{Onward, Stops, Begins, Empties, ComesTo, IsDone, Wholly, Partly, Halted}
 use Rattle.kl_cursor.proofs.Drawn.{drawn_as_kept, comes_whole}
 use Rattle.kl_cursor.proofs.Likes.{same_at, well_source}
 use Rattle.kl_cursor.proofs.Comings.{at_stage, cost_back, Heads, Leads, Binds}
+use Rattle.kl_cursor.proofs.ValueDrain.{Draining}
 use Rattle.kl_cursor.proofs.ValueForms.{branch_at, branch_none, carried_in, rest_there}
 
 -- what `whole` takes above the height of a plan: more where it drains the plan
@@ -149,23 +150,33 @@ size_big (node.Memo n frees p) = same_size (2 ^ 64)
 
 -- ---- what is evaluated whole
 
-pub record Made (env : List Value) (p : Node) (s : Snap) (a b : World) : Type 0 where
-  pub vs : List Value
-  pub end : End
+-- the items of its value
+pub record Shown (env : List Value) (p : Node) (vs : List Value) (end : End) (a b : World) : Type 0 where
   pub out : Outcome
-  pub is : s ≡ have vs end
   pub comes : ComesTo env p out a b
   pub items : items_of out ≡ flow vs end
   pub well : harm (flow vs end) ≡ 0 → IsDone out
+
+pub record Made (env : List Value) (p : Node) (s : Snap) (a b : World) : Type 0 where
+  pub vs : List Value
+  pub end : End
+  pub is : s ≡ have vs end
+  pub shown : Shown env p vs end a b
   pub small : length vs < 2 ^ 64
 
-over_harm : (vs : List Value) → harm (flow vs overflow) ≡ 1
+pub over_harm : (vs : List Value) → harm (flow vs overflow) ≡ 1
 over_harm [] = refl
 over_harm (v ∷ vs) = over_harm vs
 
+pub done_shown : (env : List Value) (p : Node) (v : Value) (vs : List Value) (a b : World) → ComesTo env p (done v) a b → items_of (done v) ≡ flow vs fine → Shown env p vs fine a b
+done_shown env p v vs a b h e = record { out = done v; comes = h; items = e; well = λ z. tt }
+
+pub over_shown : (env : List Value) (p : Node) (vs : List Value) (a b : World) → ComesTo env p (over vs) a b → Shown env p vs overflow a b
+over_shown env p vs a b h = record { out = over vs; comes = h; items = refl; well = λ z. absurd (let w = over_harm vs in omega arith) }
+
 pub whole_made : (env : List Value) (p : Node) (r : Result Value Halt) (t : State) (a b : World) → Wholly env p r a b → Halted r (Ok t) → Made env p (snap t) a b
-whole_made env p (Ok v) t a b h g = record { vs = g.0; end = fine; out = done v; is = g.1; comes = h; items = g.2; well = λ z. tt; small = g.3 }
-whole_made env p (Err (halt.Over vs)) t a b h g = record { vs = vs.items; end = overflow; out = over vs.items; is = g.0; comes = h; items = refl; well = λ z. absurd (let w = over_harm vs.items in omega arith); small = g.1 }
+whole_made env p (Ok v) t a b h g = record { vs = g.0; end = fine; is = g.1; shown = done_shown env p v g.0 a b h g.2; small = g.3 }
+whole_made env p (Err (halt.Over vs)) t a b h g = record { vs = vs.items; end = overflow; is = g.0; shown = over_shown env p vs.items a b h; small = g.1 }
 whole_made env p (Err (halt.Driver l e)) t a b h g = cc
 whole_made env p (Err halt.NoMemory) t a b h g = cc
 
@@ -173,26 +184,39 @@ all_of : (u : Ground) (vs : List Value) (e : End) → FlowOf u (flow vs e) → A
 all_of u [] e h = tt
 all_of u (v ∷ vs) e h = (h.0, all_of u vs e h.1)
 
-made_typed : (env : List Value) (p : Node) (s : Snap) (a b : World) (m : Made env p s a b) (G : List Ground) (k : Kind) (u : Ground) → HaveTypes G env → TypesAt a G p (coll k u) → AllByRecursion (Inhabits u) m.vs
-made_typed env p s a b m G k u e f = all_of u m.vs m.end (subst (FlowOf u) m.items (items_typed k u m.out (m.comes.typed G (coll k u) e f)))
-
 nothing_more : (e r : ℕ) → e ≡ r → e + 0 ≡ r
 nothing_more e r x = omega arith
 
+module _ (env : List Value) (p : Node) (vs : List Value) (end : End) (a b : World) (m : Shown env p vs end a b) where
+  shown_typed : (G : List Ground) (k : Kind) (u : Ground) → HaveTypes G env → TypesAt a G p (coll k u) → AllByRecursion (Inhabits u) vs
+  shown_typed G k u e f = all_of u vs end (subst (FlowOf u) m.items (items_typed k u m.out (m.comes.typed G (coll k u) e f)))
+
+  -- its items are those that come
+  pub shown_empties : kind_of_items p ≡ None → Empties env (fresh p) vs end a b
+  shown_empties none = record {
+    moves = m.comes.moves;
+    known = m.comes.known;
+    gave = λ G k u e f told. same_at k (coming (plan (reading a) p env)) (flow vs end) (flows G k u e f told);
+    counts = λ G k u e f told z price.
+        nothing_more _ _ (m.comes.counts G (coll k u) e f told (m.well (ap harm (sym (flows G k u e f told)) ∙ z)) price);
+    typed = shown_typed;
+  }
+    where
+      flows : (G : List Ground) (k : Kind) (u : Ground) → HaveTypes G env → TypesAt a G p (coll k u) → IsToldAt a → coming (plan (reading a) p env) ≡ flow vs end
+      flows G k u e f told = comes_whole (ScanOf (stage a)) (reading a) p G env (coll k u) f none ∙ ap items_of (m.comes.comes G (coll k u) e f told) ∙ m.items
+
 made_onward : (env : List Value) (p : Node) (s : Snap) (a b : World) → kind_of_items p ≡ None → Made env p s a b → Onward env (fresh p) a s b
-made_onward env p s a b none m = subst (λ z. Onward env (fresh p) a z b) (sym m.is) (record {
-  moves = m.comes.moves;
-  known = λ all i. (m.comes.known all i, tt);
-  same = λ G k u e f told. same_at k (coming (plan (reading a) p env)) (flow m.vs m.end) (flows G k u e f told);
-  counts = λ G k u e f told z price.
-      nothing_more _ _ (m.comes.counts G (coll k u) e f told (m.well (ap harm (sym (flows G k u e f told)) ∙ z)) price);
-  typed = λ G k u e f. made_typed env p s a b m G k u e f;
-  lower = omega arith;
-  fewer = under (length m.vs) (size p) (2 ^ 64) m.small (size_big p);
-})
-  where
-    flows : (G : List Ground) (k : Kind) (u : Ground) → HaveTypes G env → TypesAt a G p (coll k u) → IsToldAt a → coming (plan (reading a) p env) ≡ flow m.vs m.end
-    flows G k u e f told = comes_whole (ScanOf (stage a)) (reading a) p G env (coll k u) f none ∙ ap items_of (m.comes.comes G (coll k u) e f told) ∙ m.items
+made_onward env p s a b none m =
+    let h = shown_empties env p m.vs m.end a b m.shown none in
+    subst (λ z. Onward env (fresh p) a z b) (sym m.is) (record {
+      moves = h.moves;
+      known = λ all i. (h.known all i, tt);
+      same = h.gave;
+      counts = h.counts;
+      typed = h.typed;
+      lower = omega arith;
+      fewer = under (length m.vs) (size p) (2 ^ 64) m.small (size_big p);
+    })
 
 -- what stops it stops what it stands in
 pub whole_stops : (env : List Value) (p q : Node) (r : Result Value Halt) (x : EvalStop) (a b : World) → ((all : List Scan) → ScansIn all p → ScansIn all q) → Wholly env q r a b → Halted r (Err x) → Stops env (fresh p) x a b
@@ -211,7 +235,7 @@ whole_begins env p r (Ok t) a b none h g =
     (made_onward env p (snap t) a b none m, (let f : falling (snap t) ≡ falling (have m.vs m.end) = ap falling m.is in omega arith))
 whole_begins env p r (Err x) a b none h g = whole_stops env p p r x a b (λ all i. i) h g
 
-collection_of : (k : Kind) (u : Ground) (v : Value) → Inhabits (coll k u) v → IsCollection v
+pub collection_of : (k : Kind) (u : Ground) (v : Value) → Inhabits (coll k u) v → IsCollection v
 collection_of k u v h = let i = items_inhabit k u v h in subst IsSome (sym i.1) refl
 
 pub whole_collection : (env : List Value) (p : Node) (r : Result Value Halt) (a b : World) → HasItems a p env → Wholly env p r a b → IfOk r IsCollection
@@ -228,39 +252,50 @@ fits_list kind.List = refl
 max_right : (n m t : ℕ) → n < t → n ≤ max m t
 max_right n m t x = omega arith
 
-pub loop_source : (env : List Value) (k : Kind) (p q : Node) (w : World) → HasItems w (node.Ext k p q) env → HasItems w q env
-loop_source env k p q w h = let t = h.4 in (h.0, t.1, t.2, h.3, t.4, h.5)
-
 weighs : (e r y z : ℕ) → e ≡ r → y ≡ z → e + (0 + y) ≡ r + z
 weighs e r y z x w = omega arith
 
-module _ (env : List Value) (k : Kind) (p q : Node) (s : Snap) (a b : World) (whole : draws k q ≡ false) (m : Made env q s a b) where
-  source_is : (G : List Ground) (j : Kind) (t : Ground) → HaveTypes G env → TypesAt a G q (coll j t) → IsToldAt a → drawn_for k (plan (reading a) q env) ≡ flow m.vs m.end
+module _ (env : List Value) (k : Kind) (p q : Node) (vs : List Value) (end : End) (a b : World) (whole : draws k q ≡ false) (m : Shown env q vs end a b) where
+  source_is : (G : List Ground) (j : Kind) (t : Ground) → HaveTypes G env → TypesAt a G q (coll j t) → IsToldAt a → drawn_for k (plan (reading a) q env) ≡ flow vs end
   source_is G j t e f told = drawn_as_kept (ScanOf (stage a)) (reading a) q G env (coll j t) k f whole ∙ ap items_of (m.comes.comes G (coll j t) e f told) ∙ m.items
 
-  pub made_loop : Onward env (fresh (node.Ext k p q)) a (outside p s) b
-  made_loop = subst (λ z. Onward env (fresh (node.Ext k p q)) a (outside p z) b) (sym m.is) (record {
+  -- the source of a loop is drained
+  pub shown_loop : Draining env (fresh (node.Ext k p q)) a [] (outside p (have vs end)) b
+  shown_loop = record {
     moves = m.comes.moves;
     known = λ all i. (m.comes.known all i.1, (i.0, tt));
-    same = λ G d u e f told. same_at d (coming (plan (reading a) (node.Ext k p q) env)) (drawn (flow m.vs m.end) (λ v. coming (plan (reading b) p (v ∷ env))))
+    same = λ G d u e f told. same_at d (coming (plan (reading a) (node.Ext k p q) env)) (drawn (flow vs end) (λ v. coming (plan (reading b) p (v ∷ env))))
         (ap (λ g. drawn g (λ v. coming (plan (reading a) p (v ∷ env)))) (source_is G f.1 f.2 e f.4 told)
-        ∙ ap (λ H. drawn (flow m.vs m.end) (λ v. coming (plan (readings H) p (v ∷ env)))) (sym (stage_stays nothing nothing a b m.comes.moves)));
+        ∙ ap (λ H. drawn (flow vs end) (λ v. coming (plan (readings H) p (v ∷ env)))) (sym (stage_stays nothing nothing a b m.comes.moves)));
     counts = λ G d u e f told z price.
         let src = source_is G f.1 f.2 e f.4 told in
         let fine_source : harm (drawn_for k (plan (reading a) q env)) ≡ 0 = well_source (drawn_for k (plan (reading a) q env)) (λ v. coming (plan (reading a) p (v ∷ env))) z in
         weighs _ _ _ _ (m.comes.counts G (coll f.1 f.2) e f.4 told (m.well (ap harm (sym src) ∙ fine_source)) price)
-        (ap (λ H. weight (λ v. reached (readings H) price p (v ∷ env)) (flow m.vs m.end)) (stage_stays nothing nothing a b m.comes.moves)
+        (ap (λ H. weight (λ v. reached (readings H) price p (v ∷ env)) (flow vs end)) (stage_stays nothing nothing a b m.comes.moves)
         ∙ ap (weight (λ v. reached (reading a) price p (v ∷ env))) (sym src));
-    typed = λ G d u e f. (kind.List, f.2, fits_list d, made_typed env q s a b m G f.1 f.2 e f.4, at_stage a b (f.2 ∷ G) p (coll d u) m.comes.moves f.5);
+    typed = λ G d u e f. (tt, (kind.List, f.2, fits_list d, shown_typed env q vs end a b m G f.1 f.2 e f.4, at_stage a b (f.2 ∷ G) p (coll d u) m.comes.moves f.5));
     lower = omega arith;
-    fewer = mul-le-mul_right (size p) (max_right (length m.vs) (size q) (2 ^ 64) m.small);
-  })
+  }
+
+module _ (env : List Value) (k : Kind) (p q : Node) (s : Snap) (a b : World) (whole : draws k q ≡ false) (m : Made env q s a b) where
+  pub made_loop : Onward env (fresh (node.Ext k p q)) a (outside p s) b
+  made_loop =
+      let h = shown_loop env k p q m.vs m.end a b whole m.shown in
+      subst (λ z. Onward env (fresh (node.Ext k p q)) a (outside p z) b) (sym m.is) (record {
+        moves = h.moves;
+        known = h.known;
+        same = h.same;
+        counts = h.counts;
+        typed = λ G d u e f. (h.typed G d u e f).1;
+        lower = h.lower;
+        fewer = mul-le-mul_right (size p) (max_right (length m.vs) (size q) (2 ^ 64) m.small);
+      })
 
   pub made_loop_falls : falling (outside p s) < falling (fresh (node.Ext k p q))
   made_loop_falls = let g : falling (outside p s) ≡ falling (outside p (have m.vs m.end)) = ap (λ z. falling (outside p z)) m.is in omega arith
 
 pub source_lost : (env : List Value) (k : Kind) (p q : Node) (s : Snap) (a b : World) → Made env q s a b → Stops env (fresh (node.Ext k p q)) why.NoMemory a b
-source_lost env k p q s a b m = part_lost env (node.Ext k p q) q m.out a b (λ all i. i.1) m.comes
+source_lost env k p q s a b m = part_lost env (node.Ext k p q) q m.shown.out a b (λ all i. i.1) m.shown.comes
 
 -- ---- what a choice and the rest of branches keep
 
@@ -288,9 +323,6 @@ rest_keeps env a v l u ps last w ev q e el = λ G s h t. (
 )
 
 -- ---- heights of parts
-
-part_low : (a b : ℕ) → b ≤ a → 1 + b ≤ 1 + a
-part_low a b x = omega arith
 
 pub branch_tall : (l : Name) (ps : List (Name × Plan)) (last : Branches) (i : ℕ) (p : Name × Plan) → place_of l ps ≡ Some i → slice_get ps i ≡ Some p → tall (view p.1) ≤ tall_branches (branches_of (map view_branch ps) last)
 branch_tall l ps last i p e g = branch_at l last (λ bs. tall (view p.1) ≤ tall_branches bs) (λ m b bs off h. omega arith) p (λ bs on. omega arith) ps i e g

@@ -7,7 +7,7 @@
 mod ahead;
 mod cursor;
 mod drawing;
-mod pulling;
+mod parts;
 mod state;
 mod stepping;
 mod steps;

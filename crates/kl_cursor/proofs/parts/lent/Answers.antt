@@ -1,0 +1,18 @@
+use Rattle.kl_cursor.proofs.EmitCode.{lends_plain, lends_var}
+use Rattle.kl_cursor.proofs.ValueCode.{code_plain_sense, code_var_sense}
+use Rattle.kl_cursor.proofs.parts.lent.Goals as goal
+
+pub lent_plain-requires-clause-plain : goal.lent_plain-requires-clause-plain
+lent_plain-requires-clause-plain c = (code_plain_sense _ _ _ _ c.in-Plain.is c.requires.1).0
+
+pub lent_plain-requires-clause-sense : goal.lent_plain-requires-clause-sense
+lent_plain-requires-clause-sense c = (code_plain_sense _ _ _ _ c.in-Plain.is c.requires.1).1
+
+pub variable-requires : goal.variable-requires
+variable-requires c = code_var_sense _ _ _ c.requires.0 c.in-Var.is c.requires.1
+
+pub returns-in-Plain : goal.returns-in-Plain
+returns-in-Plain c = lends_plain _ _ _ _ c.in-Plain.is c.lent_plain.ensures
+
+pub returns-in-Var : goal.returns-in-Var
+returns-in-Var c = lends_var _ _ _ _ c.in-Var.is c.variable.ensures
