@@ -12,9 +12,9 @@ use crate::state::State;
 use crate::stepping::{close, step};
 use crate::steps::let_go;
 use crate::values::whole;
+use kl_ask::{Seen, Session};
 use kl_base::{NoMemory, Seq};
 use kl_eval::{Env, EvalStop, inside};
-use kl_scans::Scans;
 use kl_ship::Plan;
 use kl_value::{Value, dup_items};
 use std::alloc::Global;
@@ -37,17 +37,17 @@ pub struct Cursor<'p> {
 /// # Errors
 /// `Overflow` exactly where the value is one; `Driver` where the driver of that source refused to go on, with its cause; want of
 /// memory. The last two come first.
-pub fn value_of<C: Scans>(
+pub fn value_of(
     alloc: Global,
     plan: &Plan,
     env: &mut Vec<Value>,
-    run: &mut C,
+    session: &mut Session,
 ) -> Result<Value, EvalStop>
-    requires { HasWorth (C.world run.old) (view plan.now) (reverse env.old.items) }
+    requires { HasWorth (⟦<Session as Seen>⟧.world session.old) (view plan.now) (reverse env.old.items) }
     ensures env { env.new.items ≡ env.old.items }
-    ensures value { Partly (reverse env.old.items) (view plan.now) result (C.world run.old) (C.world run.new) }
+    ensures value { Partly (reverse env.old.items) (view plan.now) result (⟦<Session as Seen>⟧.world session.old) (⟦<Session as Seen>⟧.world session.new) }
 {
-    inside(whole(alloc, plan, &Env::Base(env.as_slice()), run))
+    inside(whole(alloc, plan, &Env::Base(env.as_slice()), session))
 }
 
 /// A cursor of a plan, with nothing done yet, where the last value of `env` is the nearest position's. Nothing is opened.
@@ -75,14 +75,14 @@ impl<'p> Cursor<'p> {
     /// # Errors
     /// `Overflow` where no item is left and the end is one, of a set or a bag also earlier; `Driver` where the driver of that
     /// source refused to go on, with its cause; want of memory. After a stop its scans are closed, and it gives nothing more.
-    pub fn next<C: Scans>(&mut self, run: &mut C) -> Result<Option<Value>, EvalStop>
-        requires owned { Owned (uses (snap self.old.at)) (C.world run.old) }
-        requires sense { Stands (C.world run.old) (snap self.old.at) (reverse self.old.env) }
+    pub fn next(&mut self, session: &mut Session) -> Result<Option<Value>, EvalStop>
+        requires owned { Owned (uses (snap self.old.at)) (⟦<Session as Seen>⟧.world session.old) }
+        requires sense { Stands (⟦<Session as Seen>⟧.world session.old) (snap self.old.at) (reverse self.old.env) }
         ensures env { self.new.env ≡ self.old.env }
-        ensures next { Nexts (reverse self.old.env) (snap self.old.at) result (snap self.new.at) (C.world run.old) (C.world run.new) }
+        ensures next { Nexts (reverse self.old.env) (snap self.old.at) result (snap self.new.at) (⟦<Session as Seen>⟧.world session.old) (⟦<Session as Seen>⟧.world session.new) }
     {
         let at = mem::replace(&mut self.at, State::Done);
-        match step(self.alloc, at, &Env::Base(self.env.slice()), run) {
+        match step(self.alloc, at, &Env::Base(self.env.slice()), session) {
             Ok((item, rest)) => match item {
                 Some(item) => {
                     self.at = rest;
@@ -104,11 +104,11 @@ impl<'p> Cursor<'p> {
     }
 
     /// Closes the cursors of drivers that it has open. Takes no memory.
-    pub fn close<C: Scans>(self, run: &mut C)
-        requires { Owned (uses (snap self.at)) (C.world run.old) }
-        ensures { Closes (uses (snap self.entry.at)) (C.world run.old) (C.world run.new) }
+    pub fn close(self, session: &mut Session)
+        requires { Owned (uses (snap self.at)) (⟦<Session as Seen>⟧.world session.old) }
+        ensures { Closes (uses (snap self.entry.at)) (⟦<Session as Seen>⟧.world session.old) (⟦<Session as Seen>⟧.world session.new) }
     {
         let Cursor { at, .. } = self;
-        close(at, run);
+        close(at, session);
     }
 }

@@ -8,6 +8,8 @@ mod ahead;
 mod cursor;
 mod drawing;
 mod parts;
+mod pulling;
+mod scans;
 mod state;
 mod stepping;
 mod steps;

@@ -5,8 +5,7 @@ use kl_ship::Plan;
 
 /// Whether a scan stands in a plan.
 #[cycle(scan)]
-fn has_scan(plan: &Plan) -> bool
-{
+fn has_scan(plan: &Plan) -> bool {
     match plan {
         Plan::Plain(_) | Plan::Var(_) => false,
         Plan::Scan(_) | Plan::Join(_) | Plan::Memo(_, _, _) => true,
@@ -35,8 +34,7 @@ fn has_scan(plan: &Plan) -> bool
 }
 
 #[cycle(scan)]
-fn has_scan_all(plans: &[Plan]) -> bool
-{
+fn has_scan_all(plans: &[Plan]) -> bool {
     for plan in plans {
         if has_scan(plan) {
             return true;
@@ -46,8 +44,7 @@ fn has_scan_all(plans: &[Plan]) -> bool
 }
 
 #[cycle(scan)]
-fn has_scan_labelled(parts: &[(Label, Plan)]) -> bool
-{
+fn has_scan_labelled(parts: &[(Label, Plan)]) -> bool {
     for part in parts {
         if has_scan(&part.1) {
             return true;
@@ -57,8 +54,7 @@ fn has_scan_labelled(parts: &[(Label, Plan)]) -> bool
 }
 
 // Whether a plan of a collection gives an item whatever its tests come to.
-fn gives(plan: &Plan) -> bool
-{
+fn gives(plan: &Plan) -> bool {
     match plan {
         Plan::Make(_, parts) => parts.len() > 0,
         Plan::If(_, then, other) => gives(then.get()) && gives(other.get()),
@@ -68,8 +64,7 @@ fn gives(plan: &Plan) -> bool
 }
 
 // Whether a cursor reads on at a source, in this step or in a later one.
-fn reads_on(at: &State) -> bool
-{
+fn reads_on(at: &State) -> bool {
     match at {
         State::Fresh(plan) => has_scan(plan),
         State::Have(_, _) | State::Done => false,
@@ -92,8 +87,7 @@ fn loop_may_pull(body: &Plan, source: &State) -> bool {
 
 /// Whether the next step of a cursor may read on at a source. It does not where an item is at hand.
 #[cycle(pull)]
-pub fn may_pull(at: &State) -> bool
-{
+pub fn may_pull(at: &State) -> bool {
     match at {
         State::Fresh(plan) => has_scan(plan),
         State::Have(_, _) | State::Done => false,

@@ -55,8 +55,8 @@ use Rattle.kl_engine.specs.Verdict.{Verdict, value_page, cut, cut_list, first_of
 use Rattle.kl_engine.specs.declared.fault.Fault.{Fault}
 use Rattle.kl_engine.specs.declared.fault.Fault.TheVariants as fault
 use Rattle.kl_engine.proofs.AnswerLemmas.{IsRunEnd, IsStopped, term_printed, term_behind, term_unwritten, cut_end}
-use Rattle.kl_engine.proofs.PageLemmas.{cut_is, front_full}
-use Rattle.kl_engine.proofs.PutLemmas.{front_more}
+use Rattle.kl_engine.proofs.PageLemmas.{cut_is, front_full, line_full, page_stopped, page_took}
+use Rattle.kl_engine.proofs.PutLemmas.{flush_puts, front_more}
 use Rattle.kl_engine.proofs.TermLemmas.{cause_stops, makes_sense, quiet_keeps}
 
 -- ---- how many are wanted
@@ -88,7 +88,7 @@ first_more first given more (Some n) w = (take n more, ap (λ f. first_of f (giv
 take_all_of : (n : ℕ) (given : List Value) → take (n + length given) given ≡ given
 take_all_of n given = subst (λ vs. take (n + length given) vs ≡ given) (append-nil given) (take_more n given [] ∙ append_none (take n []) (no_more n))
   where
-    no_more : (n : ℕ) → take n ([] : List Value) ≡ []
+    no_more : (n : ℕ) → take {A = Value} n [] ≡ []
     no_more zero = refl
     no_more (suc n) = refl
 
@@ -344,3 +344,17 @@ module _ (p : Node) (first : Option ℕ) (a : World) (given : List Value) (s : S
   stopped_scanned why.NoMemory end b never stops =
       let h = drains_none [] (fresh p) a given s w d b stops in
       record { moves = h.moves; known = h.known (scans_in p) (scans_in_all p); exact = λ well. absurd (never well) }
+
+-- ---- the end of a list
+
+pub list_ended : (given : List Value) (out out' : SinkState) (done : Unit {0}) → WritesWhole (list_front given ++ codes "|]\n") (Ok done) out out' → PrintsPage (value_page (value.List given)) None out out'
+list_ended given out out' done w = page_took (value_page (value.List given)).page (line_full (text_of (value.List given))) out out' done (subst (λ bs. WritesWhole bs (Ok done) out out') (sym (page_text given)) w)
+
+pub list_unended : (given : List Value) (e : PrintError) (out out' : SinkState) → WritesWhole {T = Unit {0}} (list_front given ++ codes "|]\n") (as_stop (Err e)) out out' → PrintsPage (value_page (value.List given)) (Some (write_fault e)) out out'
+list_unended given e out out' w = page_stopped (value_page (value.List given)).page (line_full (text_of (value.List given))) out out' e (subst (λ bs. WritesWhole {T = Unit {0}} bs (as_stop (Err e)) out out') (sym (page_text given)) w)
+
+-- a driver stopped it, and what was printed is written as far as it can be
+pub driver_stops : (given : List Value) (e : EvalStop) (l : Name) (x : DriverError) (f : Fault) (r : Result (Unit {0}) PrintError) (out mid out' : SinkState) (held after : List ℕ) → e ≡ why.Driver l x → f ≡ fault_of l x
+    → Puts {T = Unit {0}} (list_front given) (Ok tt) out [] mid held → WritesWhole {T = Unit {0}} held (as_stop r) mid out' → after ≡ [] → StopsList given e (Some f) out out'
+driver_stops given e l x f r out mid out' held after is same p w none =
+    subst (λ z. StopsList given z (Some f) out out') (sym is) (ap Some same, puts_part given (as_stop r) out out' after (flush_puts r (list_front given) out mid out' [] held after p w none))

@@ -52,7 +52,7 @@ module _ (ships : List ShipSource) (u : Tree) (p : Node) (planned : IsPlanOf shi
     unbegun : w.trace.starts ≡ map (λ c. (c.number, 0)) (scans_in p)
     unbegun = ap (λ (t : Trace). t.starts) at ∙ fresh.starts
 
-    still_moves : Moves nothing nothing w w
+    abbrev still_moves : Moves nothing nothing w w
     still_moves = moves_none nothing w
 
     still_counted : AsksCounted p w.trace.starts w.drivers w.drivers

@@ -1,12 +1,13 @@
 -- What is put on a page, one after the other.
-use Rattle.std.proofs.Common.{◌≡◌, ℕ, ◌+◌, ◌<◌, List, [], ◌∷◌, ◌++◌, codes, length, map, take, drop, get_or, Some, None, Result, Ok, Err, refl, sym, ap, subst, ◌∙◌, append_assoc, append-nil, take-append-drop}
+use Rattle.std.proofs.Common.{◌≡◌, ℕ, suc, ◌+◌, ◌<◌, ◌==◌, List, [], ◌∷◌, ◌++◌, codes, length, map, take, drop, get_or, Some, None, Result, Ok, Err, refl, sym, ap, subst, ◌∙◌, append_assoc, append-nil, take-append-drop, arith, Bool, false, cond, nat_eq, nat_tests}
 use Rattle.std.proofs.lemmas.List.{map-append}
 use Rattle.kl_exchange.specs.Printing.{Puts, as_stop}
 use Rattle.kl_exchange.specs.declared.error.PrintError.{PrintError}
 use Rattle.kl_exchange.specs.declared.error.PrintError.TheVariants as print
 use Rattle.kl_exchange.proofs.Printed.{then}
 use Rattle.kl_exchange.proofs.TextLemmas.{commas_more}
-use Rattle.kl_outside.specs.Sinks.{SinkState}
+use Rattle.kl_outside.specs.Sinks.{SinkState, WritesWhole}
+use Rattle.kl_outside.specs.declared.Stop.{Stop}
 use Rattle.kl_outside.specs.declared.stop.Stop.TheVariants as stop
 use Rattle.kl_value.specs.Written.{text_of, with_commas, separator}
 use Rattle.kl_value.specs.declared.value.Value.{Value}
@@ -51,7 +52,7 @@ take_first (v ∷ given) more = ap (λ vs. v ∷ vs) (take_first given more)
 
 take_whole : (given : List Value) (v : Value) → take (length given + 1) (given ++ v ∷ []) ≡ given ++ v ∷ []
 take_whole [] v = refl
-take_whole (w ∷ given) v = ap (λ vs. w ∷ vs) (take_whole given v)
+take_whole (w ∷ given) v = ap (λ k. take k (w ∷ (given ++ v ∷ []))) (let k : suc (length given) + 1 ≡ suc (length given + 1) = omega arith in k) ∙ ap (λ vs. w ∷ vs) (take_whole given v)
 
 -- an item more
 front_next : (given : List Value) (v : Value) → list_front (given ++ v ∷ []) ≡ list_front given ++ (separator (length given) ++ text_of v)
@@ -71,10 +72,23 @@ IsPlace place given = separator place ≡ separator (length given)
 
 pub place_next : (given : List Value) (v : Value) → IsPlace 1 (given ++ v ∷ [])
 place_next [] v = refl
-place_next (w ∷ given) v = refl
+place_next (w ∷ given) v = ap (λ b. cond b [] (codes ", ")) (sym (past (length (given ++ v ∷ []))))
+  where
+    past : (n : ℕ) → (suc n == 0) ≡ false
+    past n = grind (arith, nat_tests)
 
 pub item_put : (result : Result (Unit {0}) PrintError) (given : List Value) (v : Value) (place : ℕ) (s t u : SinkState) (h k m : List ℕ) → IsPlace place given → Puts {T = Unit {0}} (list_front given) (Ok tt) s h t k
     → Puts (separator place ++ text_of v) (as_stop result) t k u m → Puts (list_front (given ++ v ∷ [])) (as_stop result) s h u m
 item_put result given v place s t u h k m is p q =
     subst (λ bs. Puts bs (as_stop result) s h u m) (sym (front_next given v))
     (puts_line result (list_front given) (separator (length given) ++ text_of v) s t u h k m p (subst (λ sep. Puts (sep ++ text_of v) (as_stop result) t k u m) is q))
+
+-- what is held is written
+flushed : (r : Result (Unit {0}) Stop) (held : List ℕ) (s t : SinkState) → WritesWhole {T = Unit {0}} held r s t → Puts {T = Unit {0}} [] r s held t []
+flushed (Ok x) held s t w = record { done = held; rest = []; all = refl; took = w.took; holds = refl; cause = w.cause }
+flushed (Err e) held s t w = record { done = w.part.done; rest = w.part.rest; all = append-nil held ∙ w.part.all; took = w.part.took; holds = tt; cause = w.cause }
+
+pub flush_puts : (result : Result (Unit {0}) PrintError) (text : List ℕ) (s t v : SinkState) (h k after : List ℕ) → Puts {T = Unit {0}} text (Ok tt) s h t k → WritesWhole {T = Unit {0}} k (as_stop result) t v → after ≡ [] → Puts text (as_stop result) s h v after
+flush_puts result text s t v h k after p w none =
+    subst (λ m. Puts text (as_stop result) s h v m) (sym none)
+    (subst (λ bs. Puts bs (as_stop result) s h v []) (append-nil text) (puts_line result text [] s t v h k [] p (flushed (as_stop result) k t v w)))

@@ -1,5 +1,5 @@
 //! Lists, which are printed as they are drawn.
-ghost use Rattle.std.specs.Prelude.{◌≡◌, ◌++◌, ℕ, Bool, List, [], Ok, Unit, codes, false, ⊤};
+ghost use Rattle.std.specs.Prelude.{◌≡◌, ◌++◌, ℕ, Bool, List, [], Ok, codes, false, ⊤};
 ghost use Rattle.kl_outside.specs.Files.{FilesState};
 ghost use Rattle.kl_outside.specs.Sinks.{SinkState, WritesWhole};
 ghost use Rattle.kl_exchange.specs.Printing.{Puts, as_stop};
@@ -22,7 +22,7 @@ ghost use Rattle.kl_engine.specs.Verdict.{list_front, value_page};
 use crate::fault::Fault;
 use crate::page::{put_item, write_fault};
 use crate::run::driver_fault;
-use kl_ask::Session;
+use kl_ask::{Seen, Session};
 use kl_cursor::{Cursor, open_plan};
 use kl_eval::EvalStop;
 use kl_exchange::{Page, PrintError};
