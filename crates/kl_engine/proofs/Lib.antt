@@ -6,7 +6,6 @@ pub mod LineLemmas
 pub mod SizeLemmas
 pub mod StatsLemmas
 pub mod DriverLemmas
-pub mod SilentLemmas
 pub mod AlikeLemmas
 pub mod FairLemmas
 pub mod DoneLemmas
@@ -14,10 +13,8 @@ pub mod InputLemmas
 pub mod FileAnswers
 pub mod AnswerLemmas
 pub mod TermLemmas
-pub mod ListLemmas
 pub mod RewriteLemmas
 pub mod MeaningLemmas
-pub mod PlanLemmas
 pub mod ProgramLemmas
 pub mod CountLemmas
 pub mod ShowLemmas

@@ -9,7 +9,6 @@ mod cut;
 mod drivers;
 mod fault;
 mod inputs;
-mod listing;
 mod page;
 mod read;
 mod run;
