@@ -15,6 +15,7 @@ pub mod FileAnswers
 pub mod AnswerLemmas
 pub mod TermLemmas
 pub mod ListLemmas
+pub mod DrawLemmas
 pub mod RewriteLemmas
 pub mod MeaningLemmas
 pub mod PlanLemmas

@@ -188,12 +188,18 @@ cut_fronts true first given more left w = value_fronts first given more left w
 cut_fronts false first given more left w = front_more given more
 
 front_verdict : (first : Option ℕ) (given : List Value) (rest : Flow) (o : Outcome) (left : Option ℕ) → Wanted first given left → Begins given rest o → (v : Verdict) × IsListOutcome first o v × IsRunEnd v.ending × Fronts given v
-front_verdict first given rest o left w (whole more at is) =
-    (value_page (cut first (value.List (given ++ more))), subst (λ p. IsListOutcome first p (value_page (cut first (value.List (given ++ more))))) (sym is) refl, tt,
-    subst (λ x. Fronts given (value_page x)) (sym (cut_is first (given ++ more))) (value_fronts first given more left w))
-front_verdict first given rest o left w (part more at is) =
-    (cut_list first (given ++ more), subst (λ p. IsListOutcome first p (cut_list first (given ++ more))) (sym is) refl, cut_end first (suffice first (given ++ more)) (given ++ more),
-    cut_fronts (suffice first (given ++ more)) first given more left w)
+front_verdict first given rest o left w (whole more at is) = (
+  value_page (cut first (value.List (given ++ more))),
+  subst (λ p. IsListOutcome first p (value_page (cut first (value.List (given ++ more))))) (sym is) refl,
+  tt,
+  subst (λ x. Fronts given (value_page x)) (sym (cut_is first (given ++ more))) (value_fronts first given more left w),
+)
+front_verdict first given rest o left w (part more at is) = (
+  cut_list first (given ++ more),
+  subst (λ p. IsListOutcome first p (cut_list first (given ++ more))) (sym is) refl,
+  cut_end first (suffice first (given ++ more)) (given ++ more),
+  cut_fronts (suffice first (given ++ more)) first given more left w,
+)
 
 -- all that is wanted was given
 full_outcome : (first : Option ℕ) (given : List Value) (rest : Flow) (o : Outcome) (left : Option ℕ) → Wanted first given left → are_enough left ≡ true → Begins given rest o → IsListOutcome first o (value_page (value.List given))
@@ -243,9 +249,10 @@ fronts_full given v f none = let is : list_front given ++ f.0 ≡ [] = sym f.1 �
 
 -- what a list that was drained so far leaves behind where it is closed
 pub closed_moves : (p : Node) (a w b : World) (given : List Value) (s : Snap) (d : Draining [] (fresh p) a given s w) → Closes (uses s) w b → (m : Moves nothing nothing a b) × AreOf (scans_in p) m.events
-closed_moves p a w b given s d c =
-    (moves_then nothing (uses s) nothing a w b d.moves c.moves,
-    of_then (scans_in p) d.moves.events c.moves.events (d.known (scans_in p) (scans_in_all p)).0 (of_none (scans_in p) c.moves.events c.none))
+closed_moves p a w b given s d c = (
+  moves_then nothing (uses s) nothing a w b d.moves c.moves,
+  of_then (scans_in p) d.moves.events c.moves.events (d.known (scans_in p) (scans_in_all p)).0 (of_none (scans_in p) c.moves.events c.none),
+)
 
 module _ (ks : List DriverKind) (ss : List Source) (marks : ℕ → Bool) (t : Tree) (p : Node) (first : Option ℕ) (a : World) (files : FilesState) (runs : Runs ks ss marks t p a) (is_list : IsListTerm (types_of a) t) where
   abbrev GivesList : World → Ending → SinkState → SinkState → Type 0

@@ -59,10 +59,10 @@ front_next : (given : List Value) (v : Value) → list_front (given ++ v ∷ [])
 front_next given v =
     let last = last_there given v in
     ap (λ t. codes "[|" ++ t) (
-        ap (λ vs. with_commas (map text_of vs)) (sym (take_whole given v))
-        ∙ commas_more text_of (given ++ v ∷ []) (length given) v last.0 last.1
-        ∙ ap (λ vs. (with_commas (map text_of vs) ++ separator (length given)) ++ text_of v) (take_first given (v ∷ []))
-        ∙ append_assoc (with_commas (map text_of given)) (separator (length given)) (text_of v)
+    ap (λ vs. with_commas (map text_of vs)) (sym (take_whole given v))
+    ∙ commas_more text_of (given ++ v ∷ []) (length given) v last.0 last.1
+    ∙ ap (λ vs. (with_commas (map text_of vs) ++ separator (length given)) ++ text_of v) (take_first given (v ∷ []))
+    ∙ append_assoc (with_commas (map text_of given)) (separator (length given)) (text_of v)
     )
     ∙ sym (append_assoc (codes "[|") (with_commas (map text_of given)) (separator (length given) ++ text_of v))
 

@@ -1,5 +1,5 @@
 //! Lists, which are printed as they are drawn.
-ghost use Rattle.std.specs.Prelude.{◌≡◌, ◌++◌, ℕ, Bool, List, [], Ok, codes, false, ⊤};
+ghost use Rattle.std.specs.Prelude.{◌≡◌, ◌++◌, ℕ, Bool, List, [], None, Ok, codes, false, ⊤};
 ghost use Rattle.kl_outside.specs.Files.{FilesState};
 ghost use Rattle.kl_outside.specs.Sinks.{SinkState, WritesWhole};
 ghost use Rattle.kl_exchange.specs.Printing.{Puts, as_stop};
@@ -187,8 +187,9 @@ fn ready<S: Sink>(cursor: &Cursor<'_>, page: &mut Page, out: &mut S) -> Result<(
 
 // The end of a list that was stopped, behind the items that were drawn.
 fn stopped<S: Sink>(stop: EvalStop, page: &mut Page, out: &mut S) -> Result<(), Fault>
-    ensures { (given : List Value) (first : SinkState) → Puts {T = Unit {0}} (list_front given) (Ok tt) first [] (S.state out.old) page.old
+    ensures stops { (given : List Value) (first : SinkState) → Puts {T = Unit {0}} (list_front given) (Ok tt) first [] (S.state out.old) page.old
         → StopsList given stop (ending result) first (S.state out.new) }
+    ensures never { ending result ≡ None → ⊥ }
 {
     match stop {
         EvalStop::Overflow => match page.flush(out) {

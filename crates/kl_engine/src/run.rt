@@ -49,8 +49,8 @@ use crate::read::{infer_over, read_over};
 use kl_ask::{Driver, DriverError, Seen, Session, Settings, Trace};
 use kl_base::{Label, NoMemory};
 use kl_core::Term;
-use kl_desugar::translate;
 use kl_cursor::value_of;
+use kl_desugar::translate;
 use kl_eval::EvalStop;
 use kl_infer::Typed;
 use kl_outside::Sink;
@@ -172,9 +172,7 @@ fn answer<S: Sink>(
     ensures alone { CountsScansAlone (plan_in ran.new.plan) ran.new.trace }
 {
     match translate(alloc, scoped) {
-        Ok(term) => answer_translated(
-            alloc, term, scoped, typed, sources, how, drivers, out, ran,
-        ),
+        Ok(term) => answer_translated(alloc, term, scoped, typed, sources, how, drivers, out, ran),
         Err(_) => Err(Fault::NoMemory),
     }
 }
@@ -212,13 +210,23 @@ fn answer_translated<S: Sink>(
     ensures alone { CountsScansAlone (plan_in ran.new.plan) ran.new.trace }
 {
     match rewritten(alloc, term, how.settings.rewrite) {
-        Ok(Normal { term, steps }) => match planned(alloc, &term, steps, &sources, drivers, how.settings) {
+        Ok(Normal { term, steps }) => match planned(
+            alloc,
+            &term,
+            steps,
+            &sources,
+            drivers,
+            how.settings,
+        ) {
             Ok((plan, trace)) => {
                 let mut trace = trace;
                 let result = answer_over(
                     alloc, &plan, scoped, typed, sources, how, drivers, out, &mut trace,
                 );
-                *ran = Ran { plan: Some(plan), trace };
+                *ran = Ran {
+                    plan: Some(plan),
+                    trace,
+                };
                 result
             }
             Err(_) => Err(Fault::NoMemory),
