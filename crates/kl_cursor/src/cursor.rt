@@ -8,6 +8,7 @@ ghost use Rattle.kl_cursor.specs.Sense.{HasWorth, Stands};
 ghost use Rattle.kl_cursor.specs.Steps.{Nexts, Partly};
 
 use crate::pulling::may_pull;
+use crate::scans::Scans;
 use crate::state::State;
 use crate::stepping::{close, step};
 use crate::steps::let_go;
@@ -81,8 +82,17 @@ impl<'p> Cursor<'p> {
         ensures env { self.new.env ≡ self.old.env }
         ensures next { Nexts (reverse self.old.env) (snap self.old.at) result (snap self.new.at) (⟦<Session as Seen>⟧.world session.old) (⟦<Session as Seen>⟧.world session.new) }
     {
+        self.advance(session)
+    }
+
+    fn advance<C: Scans>(&mut self, run: &mut C) -> Result<Option<Value>, EvalStop>
+        requires owned { Owned (uses (snap self.old.at)) (C.world run.old) }
+        requires sense { Stands (C.world run.old) (snap self.old.at) (reverse self.old.env) }
+        ensures env { self.new.env ≡ self.old.env }
+        ensures next { Nexts (reverse self.old.env) (snap self.old.at) result (snap self.new.at) (C.world run.old) (C.world run.new) }
+    {
         let at = mem::replace(&mut self.at, State::Done);
-        match step(self.alloc, at, &Env::Base(self.env.slice()), session) {
+        match step(self.alloc, at, &Env::Base(self.env.slice()), run) {
             Ok((item, rest)) => match item {
                 Some(item) => {
                     self.at = rest;

@@ -79,14 +79,12 @@ fn reads_on(at: &State) -> bool {
     }
 }
 
-// A loop reads on at its source where none of the rows that are ahead gives an item.
-#[cycle(pull)]
-fn loop_may_pull(body: &Plan, source: &State) -> bool {
-    may_pull(source) || has_scan(body) || (reads_on(source) && !gives(body))
+// Whether a loop reads on, of whose source an item is at hand: it does in its body, or where the body may give no item.
+fn loop_reads_on(body: &Plan, source: &State) -> bool {
+    has_scan(body) || (reads_on(source) && !gives(body))
 }
 
 /// Whether the next step of a cursor may read on at a source. It does not where an item is at hand.
-#[cycle(pull)]
 pub fn may_pull(at: &State) -> bool {
     match at {
         State::Fresh(plan) => has_scan(plan),
@@ -94,9 +92,11 @@ pub fn may_pull(at: &State) -> bool {
         State::Scan(_, _, ahead) => ahead.is_empty(),
         State::Union(first, second) => may_pull(first.get()) || has_scan(second),
         State::Bound(_, body) => may_pull(body.get()),
-        State::Outside(body, source, _) => loop_may_pull(body, source.get()),
+        State::Outside(body, source, _) => {
+            may_pull(source.get()) || loop_reads_on(body, source.get())
+        }
         State::Inside(body, source, _, inner) => {
-            may_pull(inner.get()) || loop_may_pull(body, source.get())
+            may_pull(inner.get()) || may_pull(source.get()) || loop_reads_on(body, source.get())
         }
         State::Make(parts, _) => has_scan_all(parts.slice()),
     }
