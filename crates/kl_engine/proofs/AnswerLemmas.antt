@@ -3,7 +3,8 @@ use Rattle.std.proofs.Common.{◌≡◌, ◌≢◌, inl, inr, ℕ, Bool, true, f
 use Rattle.std.specs.Bool.{⊤}
 use Rattle.std.proofs.lemmas.Option.{same_Some}
 use Rattle.kl_outside.specs.Files.{FilesState}
-use Rattle.kl_outside.specs.Sinks.{SinkState}
+use Rattle.kl_outside.specs.Counts.{Rose}
+use Rattle.kl_outside.specs.Sinks.{SinkState, TookPart}
 use Rattle.kl_outside.proofs.SinkLemmas.{took_none}
 use Rattle.kl_value.specs.declared.Value.{Value}
 use Rattle.kl_value.specs.declared.Value.TheVariants as value
@@ -15,10 +16,8 @@ use Rattle.kl_rows.specs.Schemes.{IsScheme, Instance}
 use Rattle.kl_outcome.specs.Outcome.{Outcome, done, over, stuck}
 use Rattle.kl_ask.specs.Driver.{State}
 use Rattle.kl_ask.specs.declared.session.Attached.{Attached}
-use Rattle.kl_eval.specs.Evals.{Tells, Lists}
-use Rattle.kl_eval.specs.declared.stop.EvalStop.TheVariants as stop
 use Rattle.kl_infer.specs.Kinds.{HasOther}
-use Rattle.kl_engine.specs.Answering.{SomeRose, KeepsDrivers, IsOutside, reading, drifting, wanting, PrintsPage, IsOneOf, EndsSilent}
+use Rattle.kl_engine.specs.Answering.{SomeRose, KeepsDrivers, IsOutside, reading, writing, drifting, wanting, PrintsPage, IsOneOf, EndsSilent, Unprinted}
 use Rattle.kl_engine.specs.Commands.{Program}
 use Rattle.kl_engine.specs.Faults.{Ending}
 use Rattle.kl_engine.specs.Outside.{outside_of}
@@ -28,6 +27,7 @@ use Rattle.kl_engine.specs.declared.fault.Fault.{Fault}
 use Rattle.kl_engine.specs.declared.fault.Fault.TheVariants as fault
 use Rattle.kl_engine.specs.declared.top.Purpose.TheVariants as purpose
 use Rattle.kl_engine.proofs.DoneLemmas.{follows_prints}
+use Rattle.kl_engine.proofs.SilentLemmas.{silent_of}
 
 -- ---- ends of a run
 
@@ -119,9 +119,9 @@ module _ (list : List Attached) (files : FilesState) (ds ds' : List State) (out 
 
 -- ---- a term's outcome, where it is printed or something came before
 
-module _ (IsOut : Verdict → Type 0) (told : Type 0) (list : List Attached) (files : FilesState) (ds ds' : List State) (keeps : KeepsDrivers (λ name. ⊥) ds ds') where
+module _ (Lists : Type 0) (IsOut : Verdict → Type 0) (told : Type 0) (list : List Attached) (files : FilesState) (ds ds' : List State) (keeps : KeepsDrivers (λ name. ⊥) ds ds') where
   -- a fault of the outside came, and nothing was printed
-  pub term_stopped : (f : Fault) (out : SinkState) → IsStopped list f ds ds' → (told → (v : Verdict) × IsOut v × IsRunEnd v.ending) → AnswersTerm IsOut told (Some f) list (outside_of files ds out) (outside_of files ds' out)
+  pub term_stopped : (f : Fault) (out : SinkState) → IsStopped list f ds ds' → (told → (v : Verdict) × IsOut v × IsRunEnd v.ending) → AnswersTerm Lists IsOut told (Some f) list (outside_of files ds out) (outside_of files ds' out)
   term_stopped f out rose some = record {
     follows = λ is. let found = some is in (
       found.0,
@@ -137,6 +137,69 @@ module _ (IsOut : Verdict → Type 0) (told : Type 0) (list : List Attached) (fi
     changed = λ name is. subst (λ g. IsStopped list g ds ds') (same_Some f (fault.Changed name) is) rose;
     no_other = stopped_fault list files ds ds' out out f rose;
     nothing = λ is. refl;
+    drivers = keeps;
+  }
+
+  -- a fault of the outside came behind items of a list
+  stopped_speaks : Lists → (f : Fault) → IsStopped list f ds ds' → Unprinted Lists (Some f) → ⊥
+  stopped_speaks lists fault.Usage rose is = rose
+  stopped_speaks lists (fault.Text w byte) rose is = rose
+  stopped_speaks lists (fault.IllTyped decl) rose is = rose
+  stopped_speaks lists (fault.Catalogue byte) rose is = rose
+  stopped_speaks lists (fault.NameTwice name) rose is = rose
+  stopped_speaks lists (fault.NoDriver name) rose is = rose
+  stopped_speaks lists (fault.Unsuited name) rose is = rose
+  stopped_speaks lists (fault.BadFile place) rose is = rose
+  stopped_speaks lists (fault.BadSource name place) rose is = rose
+  stopped_speaks lists fault.Overflow rose is = rose
+  stopped_speaks lists fault.Read rose is = is lists
+  stopped_speaks lists (fault.Changed name) rose is = is lists
+  stopped_speaks lists fault.Write rose is = rose
+  stopped_speaks lists fault.NoMemory rose is = is
+  stopped_speaks lists fault.ProgramBytes rose is = rose
+  stopped_speaks lists fault.CatalogueBytes rose is = rose
+  stopped_speaks lists fault.FileBytes rose is = rose
+  stopped_speaks lists fault.Nesting rose is = rose
+  stopped_speaks lists fault.ItemNesting rose is = rose
+  stopped_speaks lists fault.TermNodes rose is = rose
+  stopped_speaks lists fault.TermDepth rose is = rose
+  stopped_speaks lists fault.SchemeBytes rose is = rose
+
+  pub term_behind : Lists → (f : Fault) (out out' : SinkState) → IsStopped list f ds ds' → (told → (v : Verdict) × IsOut v × IsRunEnd v.ending × TookPart v.page out out') → AnswersTerm Lists IsOut told (Some f) list (outside_of files ds out) (outside_of files ds' out')
+  term_behind lists f out out' rose some = record {
+    follows = λ is. let found = some is in (
+      found.0,
+      found.1,
+      record {
+        ends = inr (stopped_outside list files ds ds' out out' found.0 f rose);
+        whole = λ same. absurd (stopped_end list files ds ds' out out' f rose (subst IsRunEnd (sym same) found.2));
+        part = found.3;
+      },
+    );
+    read = λ is. subst (λ g. IsStopped list g ds ds') (same_Some f fault.Read is) rose;
+    write = λ is. absurd (subst (λ g. IsStopped list g ds ds') (same_Some f fault.Write is) rose);
+    changed = λ name is. subst (λ g. IsStopped list g ds ds') (same_Some f (fault.Changed name) is) rose;
+    no_other = stopped_fault list files ds ds' out out' f rose;
+    nothing = λ is. absurd (stopped_speaks lists f rose is);
+    drivers = keeps;
+  }
+
+  pub term_unwritten : (out out' : SinkState) → Rose out.faults out'.faults → (told → (v : Verdict) × IsOut v × IsRunEnd v.ending × (v.page ≢ []) × TookPart v.page out out') → AnswersTerm Lists IsOut told (Some fault.Write) list (outside_of files ds out) (outside_of files ds' out')
+  term_unwritten out out' rose some = record {
+    follows = λ is. let found = some is in (
+      found.0,
+      found.1,
+      record {
+        ends = inr (writing refl rose found.3);
+        whole = λ same. absurd (subst IsRunEnd (sym same) found.2);
+        part = found.4;
+      },
+    );
+    read = λ is. absurd cc;
+    write = λ is. rose;
+    changed = λ name is. absurd cc;
+    no_other = tt;
+    nothing = λ is. absurd is;
     drivers = keeps;
   }
 
@@ -194,7 +257,7 @@ module _ (IsOut : Verdict → Type 0) (told : Type 0) (list : List Attached) (fi
   never_before (Some fault.SchemeBytes) is nothing = is
 
   -- the outcome is printed
-  pub term_printed : (v : Verdict) (end : Ending) (out out' : SinkState) → IsRunEnd v.ending → (told → IsOut v) → PrintsPage v end out out' → AnswersTerm IsOut told end list (outside_of files ds out) (outside_of files ds' out')
+  pub term_printed : (v : Verdict) (end : Ending) (out out' : SinkState) → IsRunEnd v.ending → (told → IsOut v) → PrintsPage v end out out' → AnswersTerm Lists IsOut told end list (outside_of files ds out) (outside_of files ds' out')
   term_printed v end out out' ended of prints = record {
     follows = λ is. (v, of is, follows_prints v end out out' prints files ds ds');
     read = λ is. absurd (elim prints.ends [
@@ -218,9 +281,9 @@ module _ (IsOut : Verdict → Type 0) (told : Type 0) (list : List Attached) (fi
       | inr (inr h) ↦ subst (IsOneOf HasRunFault) (sym h) tt
     ];
     nothing = λ is. absurd (elim prints.ends [
-      | inl h ↦ never_before v.ending ended (subst EndsSilent h is)
-      | inr (inl h) ↦ subst EndsSilent h.0 is
-      | inr (inr h) ↦ subst EndsSilent h is
+      | inl h ↦ never_before v.ending ended (subst EndsSilent h (silent_of Lists end is))
+      | inr (inl h) ↦ subst EndsSilent h.0 (silent_of Lists end is)
+      | inr (inr h) ↦ subst EndsSilent h (silent_of Lists end is)
     ]);
     drivers = keeps;
   }
@@ -242,27 +305,11 @@ value_verdict first (over vs) makes = (refused fault.Overflow, refl, tt)
 value_verdict first stuck makes = absurd (makes refl)
 
 -- the value of an outcome
-pub value_is : (first : Option ℕ) (o : Outcome) (w : Value) → o ≢ stuck → Tells o (Ok w) → IsValueOutcome first o (value_page (cut first w))
-value_is first (done v) w makes told = ap (λ x. value_page (cut first x)) told
-value_is first (over vs) w makes told = absurd told
-value_is first stuck w makes told = absurd (makes refl)
+pub value_is : (first : Option ℕ) (o : Outcome) (w : Value) → o ≡ done w → IsValueOutcome first o (value_page (cut first w))
+value_is first o w is = subst (λ p. IsValueOutcome first p (value_page (cut first w))) (sym is) refl
 
-pub value_past : (first : Option ℕ) (o : Outcome) → o ≢ stuck → Tells o (Err stop.Overflow) → IsValueOutcome first o (refused fault.Overflow)
-value_past first (done v) makes told = absurd told
-value_past first (over vs) makes told = refl
-value_past first stuck makes told = absurd (makes refl)
-
-pub list_is : (first : Option ℕ) (o : Outcome) (x : Unit {0}) (old items : List Value) → old ≡ [] → o ≢ stuck → Lists o (Ok x) old items → IsListOutcome first o (value_page (cut first (value.List items)))
-list_is first (done v) x old items none makes (vs, is, added) =
-    let same : value.List items ≡ v = ap value.List (added ∙ ap (λ xs. xs ++ vs) none) ∙ sym is in
-    ap (λ w. value_page (cut first w)) same
-list_is first (over vs) x old items none makes told = absurd told
-list_is first stuck x old items none makes told = absurd (makes refl)
-
-pub list_cut : (first : Option ℕ) (o : Outcome) (old items : List Value) → old ≡ [] → o ≢ stuck → Lists o (Err stop.Overflow) old items → IsListOutcome first o (cut_list first items)
-list_cut first (done v) old items none makes told = absurd told
-list_cut first (over vs) old items none makes told = ap (cut_list first) (told ∙ ap (λ xs. xs ++ vs) none)
-list_cut first stuck old items none makes told = absurd (makes refl)
+pub value_past : (first : Option ℕ) (o : Outcome) (vs : List Value) → o ≡ over vs → IsValueOutcome first o (refused fault.Overflow)
+value_past first o vs is = subst (λ p. IsValueOutcome first p (refused fault.Overflow)) (sym is) refl
 
 -- ---- the kind of a result
 

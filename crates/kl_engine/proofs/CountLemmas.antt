@@ -1,17 +1,21 @@
--- The steps of rewriting that are counted.
+-- The plan of a program that is run, and what is counted.
 use Rattle.std.proofs.Common.{◌≡◌, ◌⊎◌, inl, inr, ℕ, Bool, true, List, [], Option, Some, None, Result, Ok, Err, refl, sym, ap, subst, ◌∙◌}
+use Rattle.std.proofs.lemmas.Option.{same_Some}
 use Rattle.kl_outside.specs.Counts.{Rose}
 use Rattle.kl_outside.specs.Files.{FilesState}
 use Rattle.kl_outcome.specs.Outcome.{Name}
 use Rattle.kl_type.specs.Ground.{Ground}
 use Rattle.kl_syntax.specs.Syntax.{Decls, Exp}
 use Rattle.kl_syntax.specs.View.{view, decls_of}
-use Rattle.kl_scope.specs.Breaches.{Resolves}
+use Rattle.kl_scope.specs.Breaches.{is_marked}
 use Rattle.kl_scope.specs.Sizes.{declared}
 use Rattle.kl_scope.specs.declared.scoped.Scoped.{Scoped}
 use Rattle.kl_infer.specs.declared.Typed.{Typed}
 use Rattle.kl_desugar.specs.Translation.{term_of}
-use Rattle.kl_ask.specs.Driver.{DriverKind}
+use Rattle.kl_ask.specs.Driver.{DriverKind, State}
+use Rattle.kl_ask.specs.declared.settings.Trace.{Trace}
+use Rattle.kl_ship.specs.Nodes.{Node}
+use Rattle.kl_ship.specs.declared.plan.Plan.{Plan}
 use Rattle.kl_sources.specs.Sources.{names_of}
 use Rattle.kl_sources.specs.declared.source.Source.{Source}
 use Rattle.kl_words.specs.declared.command.Command.{Command as Read}
@@ -19,12 +23,14 @@ use Rattle.kl_words.specs.declared.command.Command.TheVariants as read
 use Rattle.kl_words.specs.declared.command.Job.{Job}
 use Rattle.kl_ask.specs.declared.ask.DriverError.{DriverError}
 use Rattle.kl_ask.specs.declared.ask.DriverError.TheVariants as error
-use Rattle.kl_engine.specs.Answering.{IsOneOf, LacksFile}
+use Rattle.kl_engine.specs.Answering.{IsOneOf, IsRunning}
 use Rattle.kl_engine.specs.Commands.{Command, Origin, Files, Made, Program, asked}
 use Rattle.kl_engine.specs.Faults.{Ending}
 use Rattle.kl_engine.specs.Inputs.{IsInputsEnd, ReadsInputs}
 use Rattle.kl_engine.specs.Reading.{ReadsText}
-use Rattle.kl_engine.specs.Rewritten.{CountsOf, CountsSteps, IsEarly, IsRewrittenIn, MayBeEarly, MayStop, RewritesText, wants_rewriting}
+use Rattle.kl_engine.specs.Planned.{AreStartsOf, AsksOf, CountsScansAlone, HasPlan, IsEarly, IsUnrun, LacksInput, MayBeEarly, MayStop, PlanOf, PlansTerm, PlansText, plan_in}
+use Rattle.kl_engine.specs.Rewritten.{wants_rewriting}
+use Rattle.kl_engine.specs.declared.run.Ran.{Ran}
 use Rattle.kl_engine.specs.Running.{HasRunFault, fault_of}
 use Rattle.kl_engine.specs.Typing.{AnswersTypes}
 use Rattle.kl_engine.specs.declared.fault.Fault.{Fault}
@@ -37,7 +43,7 @@ use Rattle.kl_engine.proofs.SizeLemmas.{sized_faults}
 
 -- ---- ends before a term is rewritten
 
-inputs_early : (command : Command) (from : Origin) (f : Fault) (files files' : FilesState) (ks : List DriverKind) → (f ≡ fault.Read → LacksFile command files ks ⊎ Rose files.faults files'.faults) → IsInputsEnd from f → MayBeEarly command (Some f) files files' ks
+inputs_early : (command : Command) (from : Origin) (f : Fault) (files files' : FilesState) (ks : List DriverKind) → (f ≡ fault.Read → LacksInput command files ks ⊎ Rose files.faults files'.faults) → IsInputsEnd from f → MayBeEarly command (Some f) files files' ks
 inputs_early command from fault.Read files files' ks read is = read refl
 inputs_early command from fault.NoMemory files files' ks read is = tt
 inputs_early command from fault.ProgramBytes files files' ks read is = tt
@@ -81,11 +87,27 @@ typing_stops grounds ds e f (inl is) = subst Stops (sym is) tt
 typing_stops grounds ds e f (inr (inl large)) = sized_faults Stops tt tt (declared ds e []) f large
 typing_stops grounds ds e f (inr (inr (fits, n, none, is))) = subst Stops (sym is) tt
 
-pub unread_counts : (Rewrites : Type 0) (names : List Name) (text : List ℕ) (f : Fault) (steps : ℕ) → steps ≡ 0 → ReadsText names text (Err f) → CountsOf Rewrites (Some f) steps
-unread_counts Rewrites names text f steps none reads = inr (none, text_stops names text f reads)
+pub unread_plan : (Plans : Node → Type 0) (names : List Name) (text : List ℕ) (f : Fault) (ran : Ran) → IsUnrun ran → ReadsText names text (Err f) → PlanOf Plans (Some f) ran.trace.steps (plan_in ran.plan)
+unread_plan Plans names text f ran none reads = inr (ap plan_in none.0, none.1.steps, text_stops names text f reads)
 
-pub untyped_counts : (Rewrites : Type 0) (grounds : List (Name × Ground)) (ds : Decls) (e : Exp) (f : Fault) (steps : ℕ) → steps ≡ 0 → AnswersTypes grounds ds e (Err f) → CountsOf Rewrites (Some f) steps
-untyped_counts Rewrites grounds ds e f steps none types = inr (none, typing_stops grounds ds e f types)
+pub untyped_plan : (Plans : Node → Type 0) (grounds : List (Name × Ground)) (ds : Decls) (e : Exp) (f : Fault) (ran : Ran) → IsUnrun ran → AnswersTypes grounds ds e (Err f) → PlanOf Plans (Some f) ran.trace.steps (plan_in ran.plan)
+untyped_plan Plans grounds ds e f ran none types = inr (ap plan_in none.0, none.1.steps, typing_stops grounds ds e f types)
+
+pub wanted_plan : (Plans : Node → Type 0) (ran : Ran) → IsUnrun ran → PlanOf Plans (Some fault.NoMemory) ran.trace.steps (plan_in ran.plan)
+wanted_plan Plans ran none = inr (ap plan_in none.0, none.1.steps, tt)
+
+-- where there is no plan, nothing was asked and nothing is counted
+pub unrun_asks : (ran : Ran) (ds : List State) → IsUnrun ran → AsksOf (plan_in ran.plan) ran.trace.starts ds ds
+unrun_asks ran ds none = subst (λ o. AsksOf (plan_in o) ran.trace.starts ds ds) (sym none.0) (record { size = refl; each = λ i a b this that. ap (λ (d : State). d.asked) (same_Some b a (sym that ∙ this)) })
+
+pub unrun_alone : (ran : Ran) → IsUnrun ran → CountsScansAlone (plan_in ran.plan) ran.trace
+unrun_alone ran none = record {
+  starts = subst (λ o. AreStartsOf (plan_in o) ran.trace.starts) (sym none.0) none.1.starts;
+  joins = none.1.joins;
+  hits = none.1.hits;
+  misses = none.1.misses;
+  peak = none.1.peak;
+}
 
 -- ---- ends behind it
 
@@ -157,44 +179,69 @@ stops_early command (Some fault.SchemeBytes) f f' ks is = absurd is
 -- ---- from a term to a text, and from a text to a command
 
 -- the term is that of the program which the text is
-pub text_counts : (on : Bool) (ss : List Source) (text : List ℕ) (s : Scoped) (end : Ending) (steps : ℕ) → ReadsText (names_of ss) text (Ok s)
-    → CountsOf (IsRewrittenIn on (term_of (decls_of s.program.defs) (view s.program.last) s.sources) steps) end steps → CountsOf (RewritesText on steps text ss) end steps
-text_counts on ss text s end steps (p, of, resolves) (inr none) = inr none
-text_counts on ss text s end steps (p, of, resolves) (inl rewritten) =
-    inl ((p, of, subst (λ t. IsRewrittenIn on t steps) (λ i. term_of (resolves.defs i) (resolves.last i) (resolves.sources_kept i)) rewritten.0), rewritten.1)
+pub text_plan : (on : Bool) (ks : List DriverKind) (ss : List Source) (text : List ℕ) (s : Scoped) (first : Option ℕ) (end : Ending) (steps : ℕ) (plan : Option Node) (starts : List (ℕ × ℕ)) → ReadsText (names_of ss) text (Ok s)
+    → PlanOf (λ p. PlansTerm on ks ss (is_marked s) first end (term_of (decls_of s.program.defs) (view s.program.last) s.sources) steps p starts) end steps plan
+    → PlanOf (λ p. PlansText on ks ss first end text steps p starts) end steps plan
+text_plan on ks ss text s first end steps plan starts (q, of, resolves) (inr none) = inr none
+text_plan on ks ss text s first end steps plan starts (q, of, resolves) (inl (p, is, plans, late)) =
+    inl (
+      p,
+      is,
+      (q, of, is_marked s, resolves.marks, subst (λ t. PlansTerm on ks ss (is_marked s) first end t steps p starts) (λ i. term_of (resolves.defs i) (resolves.last i) (resolves.sources_kept i)) plans),
+      late,
+    )
 
-module _ (on : Bool) (first : Option ℕ) (from : Origin) (f f' : FilesState) (ks : List DriverKind) (steps : ℕ) where
-  pub command_counts : (i : Inputs) (text : List ℕ) (ss : List Source) (end : Ending) → text ≡ i.text → ss ≡ i.sources → ReadsInputs from ks (Ok i) f f'
-      → CountsOf (RewritesText on steps text ss) end steps → CountsSteps on (Program (purpose.Run first) from) end steps f f' ks
-  command_counts i text ss end is same reads (inr none) = inr (none.0, inr (stops_early (Program (purpose.Run first) from) end f f' ks none.1))
-  command_counts i text ss end is same reads (inl rewrites) =
-      inl ((i.text, i.sources, reads.inputs, subst (λ t. RewritesText on steps t i.sources) is (subst (RewritesText on steps text) same rewrites.0)), rewrites.1)
+module _ (on : Bool) (first : Option ℕ) (from : Origin) (f f' : FilesState) (ks : List DriverKind) (steps : ℕ) (plan : Option Node) (starts : List (ℕ × ℕ)) where
+  pub command_plan : (i : Inputs) (text : List ℕ) (ss : List Source) (end : Ending) → text ≡ i.text → ss ≡ i.sources → ReadsInputs from ks (Ok i) f f'
+      → PlanOf (λ p. PlansText on ks ss first end text steps p starts) end steps plan → HasPlan on (Program (purpose.Run first) from) end steps plan starts f f' ks
+  command_plan i text ss end is same reads (inr none) = inr (none.0, none.1, inr (stops_early (Program (purpose.Run first) from) end f f' ks none.2))
+  command_plan i text ss end is same reads (inl (p, at, plans, late)) =
+      inl (p, at, (i.text, i.sources, reads.inputs, subst (λ t. PlansText on ks i.sources first end t steps p starts) is (subst (λ us. PlansText on ks us first end text steps p starts) same plans)), late)
 
-  pub refused_counts : (g : Fault) → steps ≡ 0 → ReadsInputs from ks (Err g) f f' → CountsSteps on (Program (purpose.Run first) from) (Some g) steps f f' ks
-  refused_counts g none reads = inr (none, inr (inputs_early (Program (purpose.Run first) from) from g f f' ks (read_missing (purpose.Run first) from f f' g ks reads) reads.no_other))
+pub refused_plan : (on : Bool) (first : Option ℕ) (from : Origin) (f f' : FilesState) (ks : List DriverKind) (g : Fault) (ran : Ran) → IsUnrun ran → ReadsInputs from ks (Err g) f f'
+    → HasPlan on (Program (purpose.Run first) from) (Some g) ran.trace.steps (plan_in ran.plan) ran.trace.starts f f' ks
+refused_plan on first from f f' ks g ran none reads =
+    inr (ap plan_in none.0, none.1.steps, inr (inputs_early (Program (purpose.Run first) from) from g f f' ks (read_missing (purpose.Run first) from f f' g ks reads) reads.no_other))
 
 -- ---- at the top
 
 -- the usual settings rewrite
-pub made_counts : (on : Bool) (seed size : ℕ) (f : FilesState) (ks : List DriverKind) (steps : ℕ) (i : Inputs) (text : List ℕ) (ss : List Source) (end : Ending) → on ≡ true → text ≡ i.text → ss ≡ i.sources → ReadsInputs (Made seed size) ks (Ok i) f f
-    → CountsOf (RewritesText on steps text ss) end steps → CountsSteps true (Program (purpose.Run None) (Made seed size)) end steps f f ks
-made_counts on seed size f ks steps i text ss end usual is same reads counts =
-    command_counts true None (Made seed size) f f ks steps i text ss end is same reads (subst (λ b. CountsOf (RewritesText b steps text ss) end steps) usual counts)
+pub made_plan : (on : Bool) (seed size : ℕ) (f : FilesState) (ks : List DriverKind) (steps : ℕ) (plan : Option Node) (starts : List (ℕ × ℕ)) (i : Inputs) (text : List ℕ) (ss : List Source) (end : Ending) → on ≡ true → text ≡ i.text → ss ≡ i.sources
+    → ReadsInputs (Made seed size) ks (Ok i) f f → PlanOf (λ p. PlansText on ks ss None end text steps p starts) end steps plan → HasPlan true (Program (purpose.Run None) (Made seed size)) end steps plan starts f f ks
+made_plan on seed size f ks steps plan starts i text ss end usual is same reads plans =
+    command_plan true None (Made seed size) f f ks steps plan starts i text ss end is same reads (subst (λ b. PlanOf (λ p. PlansText b ks ss None end text steps p starts) end steps plan) usual plans)
 
-module _ (on : Bool) (first : Option ℕ) (from : Origin) (end told : Ending) (steps count : ℕ) (f f' : FilesState) (ks : List DriverKind) (same : told ≡ end) (counted : count ≡ steps) where
-  told_counts : CountsSteps on (Program (purpose.Run first) from) end steps f f' ks → CountsSteps on (Program (purpose.Run first) from) told count f f' ks
-  told_counts counts =
-      subst (λ n. CountsSteps on (Program (purpose.Run first) from) told n f f' ks) (sym counted)
-      (subst (λ e. CountsSteps on (Program (purpose.Run first) from) e steps f f' ks) (sym same) counts)
+module _ (found : Option Read) (end told : Ending) (ran : Ran) (answered : Option Plan) (trace : Trace) (f f' : FilesState) (ks : List DriverKind) (same : told ≡ end) (planned : answered ≡ ran.plan) (counted : trace ≡ ran.trace) where
+  told_plan : (on : Bool) (command : Command) → HasPlan on command end ran.trace.steps (plan_in ran.plan) ran.trace.starts f f' ks → HasPlan on command told trace.steps (plan_in answered) trace.starts f f' ks
+  told_plan on command h =
+      subst (λ z. HasPlan on command told z.steps (plan_in answered) z.starts f f' ks) (sym counted)
+      (subst (λ z. HasPlan on command told ran.trace.steps (plan_in z) ran.trace.starts f f' ks) (sym planned)
+      (subst (λ z. HasPlan on command z ran.trace.steps (plan_in ran.plan) ran.trace.starts f f' ks) (sym same) h))
 
-pub run_counts : (found : Option Read) (job : Job) (end told : Ending) (steps count : ℕ) (f f' : FilesState) (ks : List DriverKind) → found ≡ Some (read.Run job) → told ≡ end → count ≡ steps
-    → CountsSteps job.settings.rewrite (Program (purpose.Run job.first) (Files job.program job.catalogue)) end steps f f' ks → CountsSteps (wants_rewriting found) (asked found) told count f f' ks
-run_counts found job end told steps count f f' ks is same counted counts =
-    subst (λ o. CountsSteps (wants_rewriting o) (asked o) told count f f' ks) (sym is)
-    (told_counts job.settings.rewrite job.first (Files job.program job.catalogue) end told steps count f f' ks same counted counts)
+  pub run_plan : (job : Job) → found ≡ Some (read.Run job)
+      → HasPlan job.settings.rewrite (Program (purpose.Run job.first) (Files job.program job.catalogue)) end ran.trace.steps (plan_in ran.plan) ran.trace.starts f f' ks
+      → HasPlan (wants_rewriting found) (asked found) told trace.steps (plan_in answered) trace.starts f f' ks
+  run_plan job is h = subst (λ o. HasPlan (wants_rewriting o) (asked o) told trace.steps (plan_in answered) trace.starts f f' ks) (sym is) (told_plan job.settings.rewrite (Program (purpose.Run job.first) (Files job.program job.catalogue)) h)
 
-pub gen_counts : (found : Option Read) (seed size : ℕ) (end told : Ending) (steps count : ℕ) (f : FilesState) (ks : List DriverKind) → found ≡ Some (read.Gen seed size) → told ≡ end → count ≡ steps
-    → CountsSteps true (Program (purpose.Run None) (Made seed size)) end steps f f ks → CountsSteps (wants_rewriting found) (asked found) told count f f ks
-gen_counts found seed size end told steps count f ks is same counted counts =
-    subst (λ o. CountsSteps (wants_rewriting o) (asked o) told count f f ks) (sym is)
-    (told_counts true None (Made seed size) end told steps count f f ks same counted counts)
+  pub gen_plan : (seed size : ℕ) → found ≡ Some (read.Gen seed size)
+      → HasPlan true (Program (purpose.Run None) (Made seed size)) end ran.trace.steps (plan_in ran.plan) ran.trace.starts f f' ks
+      → HasPlan (wants_rewriting found) (asked found) told trace.steps (plan_in answered) trace.starts f f' ks
+  gen_plan seed size is h = subst (λ o. HasPlan (wants_rewriting o) (asked o) told trace.steps (plan_in answered) trace.starts f f' ks) (sym is) (told_plan true (Program (purpose.Run None) (Made seed size)) h)
+
+  -- a command that runs nothing has no plan
+  pub no_plan : IsUnrun ran → (IsRunning (asked found) → ⊥) → HasPlan (wants_rewriting found) (asked found) told trace.steps (plan_in answered) trace.starts f f' ks
+  no_plan none idle = told_plan (wants_rewriting found) (asked found) (inr (ap plan_in none.0, none.1.steps, inl idle))
+
+-- memory ran out before the words were read
+pub wanted_has_plan : (found : Option Read) (told : Ending) (ran : Ran) (answered : Option Plan) (trace : Trace) (f : FilesState) (ks : List DriverKind) → told ≡ Some fault.NoMemory → answered ≡ ran.plan → trace ≡ ran.trace → IsUnrun ran
+    → HasPlan (wants_rewriting found) (asked found) told trace.steps (plan_in answered) trace.starts f f ks
+wanted_has_plan found told ran answered trace f ks same planned counted none =
+    told_plan found (Some fault.NoMemory) told ran answered trace f f ks same planned counted (wants_rewriting found) (asked found) (inr (ap plan_in none.0, none.1.steps, inr tt))
+
+-- what holds of a run's plan and counts holds of those that are told
+module _ (ran : Ran) (answered : Option Plan) (trace : Trace) (planned : answered ≡ ran.plan) (counted : trace ≡ ran.trace) where
+  pub told_asks : (old new : List State) → AsksOf (plan_in ran.plan) ran.trace.starts old new → AsksOf (plan_in answered) trace.starts old new
+  told_asks old new h = subst (λ z. AsksOf (plan_in answered) z.starts old new) (sym counted) (subst (λ z. AsksOf (plan_in z) ran.trace.starts old new) (sym planned) h)
+
+  pub told_alone : CountsScansAlone (plan_in ran.plan) ran.trace → CountsScansAlone (plan_in answered) trace
+  told_alone h = subst (λ z. CountsScansAlone (plan_in answered) z) (sym counted) (subst (λ z. CountsScansAlone (plan_in z) ran.trace) (sym planned) h)

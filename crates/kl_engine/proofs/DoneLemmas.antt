@@ -26,14 +26,14 @@ use Rattle.kl_ask.specs.Driver.{State}
 use Rattle.kl_sources.specs.Sources.{names_of, grounds_of}
 use Rattle.kl_sources.specs.declared.source.Source.{Source}
 use Rattle.kl_sources.specs.Sources.{kinds_of}
-use Rattle.kl_engine.specs.Answering.{IsStoredFault, AreTold, IsUnreadBy, SomeDrifted, ListsTypes, Alike, one, IsOutside, reading, writing, drifting, wanting, FollowsVerdict, PrintsPage, DoesText, IsDetermined, IsOneOf, HasTextFault, IsUnreadFault, NeedsDrivers, IsMentionedIn, EndsSilent}
+use Rattle.kl_engine.specs.Answering.{IsStoredFault, AreTold, IsUnreadBy, SomeDrifted, ListsTypes, Alike, one, IsOutside, reading, writing, drifting, wanting, FollowsVerdict, PrintsPage, DoesText, IsDetermined, IsOneOf, HasTextFault, IsUnreadFault, NeedsDrivers, IsMentionedIn, IsOfList, EndsSilent}
 use Rattle.kl_engine.specs.Commands.{Program as AProgram}
 use Rattle.kl_engine.specs.Faults.{Ending}
 use Rattle.kl_engine.specs.Outside.{outside_of}
 use Rattle.kl_engine.specs.Reading.{IsProgramOf, definitions, last, ReadsText}
 use Rattle.kl_engine.specs.Running.{Ends, before, followed, untold, IsNamed, DoneBy, DoneWith, DoneMeaning}
 use Rattle.kl_engine.specs.Typing.{breach_fault, IsTypingFault, IsTyped, AnswersTypes, TypesOfAny}
-use Rattle.kl_engine.specs.Verdict.{Verdict, well, refused, size_fault, AfterSizes, IsSized, IsUntyped, named_schemes, behind, scheme_lines, IsListing, IsMeant, IsDone, AreMarks, IsTextVerdict, scheme_line}
+use Rattle.kl_engine.specs.Verdict.{Verdict, well, refused, size_fault, AfterSizes, IsSized, IsUntyped, named_schemes, behind, scheme_lines, GivesList, IsListing, IsMeant, IsDone, AreMarks, IsTextVerdict, scheme_line}
 use Rattle.kl_engine.specs.declared.fault.Fault.{Fault}
 use Rattle.kl_engine.specs.declared.fault.Fault.TheVariants as fault
 use Rattle.kl_engine.specs.declared.top.Purpose.{Purpose}
@@ -43,6 +43,7 @@ use Rattle.kl_engine.proofs.DriverLemmas.{keeps_same, keeps_wider}
 use Rattle.kl_engine.proofs.FairLemmas.{Fair, IsOfVerdict, fair_done, fair_text}
 use Rattle.kl_engine.proofs.PageLemmas.{prints_refused}
 use Rattle.kl_engine.proofs.ReadLemmas.{any_fault, no_fault, one_program}
+use Rattle.kl_engine.proofs.SilentLemmas.{silent_of, unprinted_on}
 use Rattle.kl_engine.proofs.SizeLemmas.{told_size, sized_faults}
 use Rattle.kl_engine.proofs.UnreadLemmas.{unread_cases}
 
@@ -122,7 +123,7 @@ printed_done ss marks p program e v end files ds out out' of plain prints =
       unread = λ f is un. absurd (plain_no end f plain_too is (λ h. unread_plain f h un));
       changed = λ name is. absurd (plain_no end (fault.Changed name) plain_too is (λ h. h));
       no_other = has_fault v end out out' prints p fair;
-      nothing = printed_nothing v end out out' prints p fair;
+      nothing = λ is. printed_nothing v end out out' prints p fair (silent_of _ end is);
       drivers = keeps_same (IsNamed ss marks) ds;
       still = λ is. refl;
     }
@@ -136,8 +137,8 @@ follows_outside v end files ds ds' out out' p fair same empty outside = record {
 }
 
 -- memory ran out first
-pub wanted_done : (IsVerdict : (ℕ → Bool) → Verdict → Type 0) (ss : List Source) (marks : ℕ → Bool) (p : Purpose) (files : FilesState) (ds : List State) (out : SinkState) → DoneBy IsVerdict ss marks p (Some fault.NoMemory) (outside_of files ds out) (outside_of files ds out)
-wanted_done IsVerdict ss marks p files ds out = record {
+pub wanted_done : (Lists : Type 0) (IsVerdict : (ℕ → Bool) → Verdict → Type 0) (ss : List Source) (marks : ℕ → Bool) (p : Purpose) (files : FilesState) (ds : List State) (out : SinkState) → DoneBy Lists IsVerdict ss marks p (Some fault.NoMemory) (outside_of files ds out) (outside_of files ds out)
+wanted_done Lists IsVerdict ss marks p files ds out = record {
   ends = before refl (λ is. is) (λ v. wanting refl);
   read = λ is. absurd cc;
   write = λ is. absurd cc;
@@ -205,7 +206,7 @@ does_text ss p text v end files ds out out' of plain prints =
       unread = λ f is un. absurd (plain_no end f plain_too is (λ h. unread_plain f h un));
       changed = λ name is. absurd (plain_no end (fault.Changed name) plain_too is (λ h. h));
       no_other = has_fault v end out out' prints p fair;
-      nothing = printed_nothing v end out out' prints p fair;
+      nothing = λ is. printed_nothing v end out out' prints p fair (silent_of _ end is);
       drivers = keeps_same (IsMentionedIn ss text) ds;
       still = λ is. refl;
     }
@@ -289,7 +290,7 @@ module _ (ss : List Source) (p : Purpose) (text : List ℕ) (end : Ending) (file
     unread = λ f is un. unread_wider f (does.unread f is un);
     changed = λ name is. drifted_wider name (does.changed name is);
     no_other = does.no_other;
-    nothing = does.nothing;
+    nothing = λ is. does.nothing (unprinted_on (GivesList (grounds_of ss) (definitions (names_of ss) q) (last (names_of ss) q)) (IsOfList ss text) (λ gives. (q, whole, gives)) end is);
     drivers = keeps_wider (IsNamed ss (is_marked s)) (IsMentionedIn ss text) ds ds' named does.drivers;
     still = does.still;
   }
@@ -322,11 +323,11 @@ checked ss text s end files ds out out' (q, whole, resolves) prints = does_text 
 
 module _ (ss : List Source) (marks : ℕ → Bool) (program : Decls) (e : Exp) (files : FilesState) (ds : List State) where
   pub untyped_types : (f : Fault) (out : SinkState) → AnswersTypes (grounds_of ss) program e (Err f) → DoneWith ss marks purpose.Types program e (Some f) (outside_of files ds out) (outside_of files ds out)
-  untyped_types f out (inl is) = subst (λ g. DoneWith ss marks purpose.Types program e (Some g) (outside_of files ds out) (outside_of files ds out)) (sym is) (wanted_done (λ others. IsDone (kinds_of ds) ss others purpose.Types program e) ss marks purpose.Types files ds out)
+  untyped_types f out (inl is) = subst (λ g. DoneWith ss marks purpose.Types program e (Some g) (outside_of files ds out) (outside_of files ds out)) (sym is) (wanted_done (GivesList (grounds_of ss) program e) (λ others. IsDone (kinds_of ds) ss others purpose.Types program e) ss marks purpose.Types files ds out)
   untyped_types f out (inr of) = printed_done ss marks purpose.Types program e (refused f) (Some f) files ds out out (typing_fault (grounds_of ss) program e f (IsListing (grounds_of ss) program e) of) (plain_typing (grounds_of ss) program e f of) (prints_refused f out)
 
   pub untyped_run : (first : Option ℕ) (f : Fault) (out : SinkState) → AnswersTypes (grounds_of ss) program e (Err f) → DoneWith ss marks (purpose.Run first) program e (Some f) (outside_of files ds out) (outside_of files ds out)
-  untyped_run first f out (inl is) = subst (λ g. DoneWith ss marks (purpose.Run first) program e (Some g) (outside_of files ds out) (outside_of files ds out)) (sym is) (wanted_done (λ others. IsDone (kinds_of ds) ss others (purpose.Run first) program e) ss marks (purpose.Run first) files ds out)
+  untyped_run first f out (inl is) = subst (λ g. DoneWith ss marks (purpose.Run first) program e (Some g) (outside_of files ds out) (outside_of files ds out)) (sym is) (wanted_done (GivesList (grounds_of ss) program e) (λ others. IsDone (kinds_of ds) ss others (purpose.Run first) program e) ss marks (purpose.Run first) files ds out)
   untyped_run first f out (inr of) = printed_done ss marks (purpose.Run first) program e (refused f) (Some f) files ds out out (typing_fault (grounds_of ss) program e f (λ w. HasTyping program e (grounds_of ss) × IsMeant (kinds_of ds) ss marks first program e w) of) (plain_typing (grounds_of ss) program e f of) (prints_refused f out)
 
   pub listed : (typed : Typed) (end : Ending) (out out' : SinkState) → IsTyped (grounds_of ss) program e typed → PrintsPage (scheme_lines (named_schemes program typed)) end out out' → DoneWith ss marks purpose.Types program e end (outside_of files ds out) (outside_of files ds out')

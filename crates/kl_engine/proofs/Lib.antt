@@ -6,6 +6,7 @@ pub mod LineLemmas
 pub mod SizeLemmas
 pub mod StatsLemmas
 pub mod DriverLemmas
+pub mod SilentLemmas
 pub mod AlikeLemmas
 pub mod FairLemmas
 pub mod DoneLemmas
@@ -13,8 +14,12 @@ pub mod InputLemmas
 pub mod FileAnswers
 pub mod AnswerLemmas
 pub mod TermLemmas
+pub mod DrainLemmas
+pub mod ListLemmas
+pub mod DrawLemmas
 pub mod RewriteLemmas
 pub mod MeaningLemmas
+pub mod PlanLemmas
 pub mod ProgramLemmas
 pub mod CountLemmas
 pub mod ShowLemmas

@@ -49,7 +49,13 @@ use Rattle.kl_ask.specs.declared.ask.DriverError.{DriverError}
 use Rattle.kl_ask.specs.declared.ask.DriverError.TheVariants as error
 use Rattle.kl_ask.proofs.Whole.{collection_is}
 use Rattle.kl_ask.proofs.Worlds.{there, keeps_then}
-use Rattle.kl_eval.specs.Evals.{Sense, SenseList}
+use Rattle.kl_desugar.specs.Mentioned.{ReadsMentioned}
+use Rattle.kl_rules.specs.Preserving.{Preserves}
+use Rattle.kl_ship.specs.Contents.{MakesSense, types_in}
+use Rattle.kl_ship.specs.Nodes.{Node}
+use Rattle.kl_run.specs.Planned.{IsPlanOf, ships_of}
+use Rattle.kl_run.specs.Running.{Runs}
+use Rattle.kl_run.proofs.Sessions.{session_runs}
 use Rattle.kl_sources.specs.Attaching.{RoseAt, list_of, HaveNone, AttachesAll, world_of, IsErrorOf, IsUnreadable, NoVerdict, MayAttach, Causes, Serves, Stands, HasTyped}
 use Rattle.kl_sources.specs.Sources.{ArePlaced, IsFit, names_of, grounds_of, contents, HasRows, value_of, empty_of, IsValueAt, HaveValues, IsReadable, FirstWithout}
 use Rattle.kl_sources.specs.declared.attaching.AttachError.{AttachError}
@@ -63,7 +69,7 @@ use Rattle.kl_engine.specs.Commands.{Program}
 use Rattle.kl_engine.specs.Faults.{Ending}
 use Rattle.kl_engine.specs.Outside.{outside_of}
 use Rattle.kl_engine.specs.Reading.{WasInScope}
-use Rattle.kl_engine.specs.Running.{AnswersTerm, DriftsAt, HasRunFault, IsListScheme, IsTermOutcome, fault_of, Ends, before, followed, untold, IsNamed, DoneMeaning}
+use Rattle.kl_engine.specs.Running.{AnswersTerm, DriftsAt, HasRunFault, IsListScheme, IsListTerm, IsTermOutcome, fault_of, Ends, before, followed, untold, IsNamed, DoneMeaning}
 use Rattle.kl_engine.specs.Verdict.{Verdict, refused, GivesList, stored_fault, IsMeant}
 use Rattle.kl_engine.specs.Verdict as verdict
 use Rattle.kl_engine.specs.declared.fault.Fault.{Fault}
@@ -72,6 +78,7 @@ use Rattle.kl_engine.specs.declared.top.Purpose.TheVariants as purpose
 use Rattle.kl_engine.proofs.DoneLemmas.{follows_prints, wanted_done}
 use Rattle.kl_engine.proofs.PageLemmas.{prints_refused}
 use Rattle.kl_base.proofs.Places.{get-map}
+use Rattle.kl_engine.proofs.SilentLemmas.{unprinted_on}
 use Rattle.kl_engine.proofs.UnreadLemmas.{unread_cases}
 
 -- ---- lists
@@ -314,7 +321,7 @@ module _ (ss : List Source) (marks : ℕ → Bool) (first : Option ℕ) (program
 -- ---- memory ran out before sources were attached
 
 pub meaning_wanted : (ss : List Source) (marks : ℕ → Bool) (first : Option ℕ) (program : Decls) (e : Exp) (files : FilesState) (ds : List State) (out : SinkState) → DoneMeaning ss marks first program e (Some fault.NoMemory) (outside_of files ds out) (outside_of files ds out)
-meaning_wanted ss marks first program e files ds out = wanted_done (λ others. IsMeant (kinds_of ds) ss others first program e) ss marks (purpose.Run first) files ds out
+meaning_wanted ss marks first program e files ds out = wanted_done (GivesList (grounds_of ss) program e) (λ others. IsMeant (kinds_of ds) ss others first program e) ss marks (purpose.Run first) files ds out
 
 -- ---- values of sources
 
@@ -439,13 +446,13 @@ module _ (ss : List Source) (program : Decls) (e : Exp) (typed : Typed) (infers 
         subst (λ S. CoreTypes S [] t u) (sym types_same)
         (subst (λ x. CoreTypes (program_types (grounds_of ss)) [] x u) (sym (is ∙ ap (term_of program e) (kept ∙ sym (grounds_names ss)))) (makes_sense program e (grounds_of ss) u (are_ground ss proper) tidy of))
 
-    pub value_sense : Sense t [] w
-    value_sense = ([], infers.result.has_one.0, tt, sense infers.result.has_one.0 infers.result.has_one.1, serves.ready)
+    pub value_sense : (s : Ground) × CoreTypes (types_of w) [] t s
+    value_sense = (infers.result.has_one.0, sense infers.result.has_one.0 infers.result.has_one.1)
 
-    pub list_sense : IsListScheme typed.result → SenseList t [] w
+    pub list_sense : IsListScheme typed.result → IsListTerm (types_of w) t
     list_sense of =
         let list = gives of infers.result.has_one.0 infers.result.has_one.1 in
-        ([], list.0, tt, subst (CoreTypes (types_of w) [] t) list.1 (sense infers.result.has_one.0 infers.result.has_one.1), serves.ready)
+        (list.0, subst (CoreTypes (types_of w) [] t) list.1 (sense infers.result.has_one.0 infers.result.has_one.1))
 
     -- its sources have values
     module _ (means : Means program e names t) (vs : List (Name × Value)) (have : HaveValues ks marks 0 ss vs) (inhabit : HaveTypesByName (grounds_of ss) vs) where
@@ -464,7 +471,7 @@ module _ (ss : List Source) (program : Decls) (e : Exp) (typed : Typed) (infers 
 module _ (ss : List Source) (program : Decls) (e : Exp) (typed : Typed) (infers : Infers program e (grounds_of ss) typed) (tidy : IsTidyProgram program e) (names : List Name) (kept : names ≡ names_of ss) (t : Tree) (is : t ≡ term_of program e names)
     (means : Means program e names t) (ds : List State) (marks : ℕ → Bool) (w : World) (serves : Serves (kinds_of ds) marks ss w) (placed : ArePlaced (kinds_of ds) ss) (steps : EachSteps (MayAttach marks ss) ds w.drivers)
     (stand : (i : ℕ) (s : Source) → slice_get ss i ≡ Some s → marks i ≡ true → Stands (kinds_of ds) w.drivers s) (listed : Bool) (of : listed ≡ true → IsListScheme typed.result) (other : listed ≡ false → IsListScheme typed.result → ⊥)
-    (first : Option ℕ) (end : Ending) (files : FilesState) (last : List State) (out out' : SinkState) (answers : AnswersTerm (IsTermOutcome listed first (core (values_of w) t [])) (HaveSources (types_of w) (values_of w)) end w.sources (outside_of files w.drivers out) (outside_of files last out')) (list_is : w.sources ≡ list_of marks 0 ss) where
+    (first : Option ℕ) (end : Ending) (files : FilesState) (last : List State) (out out' : SinkState) (answers : AnswersTerm (listed ≡ true) (IsTermOutcome listed first (core (values_of w) t [])) (HaveSources (types_of w) (values_of w)) end w.sources (outside_of files w.drivers out) (outside_of files last out')) (list_is : w.sources ≡ list_of marks 0 ss) where
   kept_first : KeepsDrivers (IsNamed ss marks) ds w.drivers
   kept_first = attach_keeps ss marks ds w.drivers steps
 
@@ -493,10 +500,28 @@ module _ (ss : List Source) (program : Decls) (e : Exp) (typed : Typed) (infers 
     unread = λ f is un. absurd (run_unread f (subst (IsOneOf HasRunFault) is answers.no_other) un);
     changed = λ name is. drifted name (answers.changed name is);
     no_other = run_has first end answers.no_other;
-    nothing = answers.nothing;
+    nothing = λ is. answers.nothing (unprinted_on (listed ≡ true) (GivesList (grounds_of ss) program e) (λ h. gives ss program e typed infers (of h)) end is);
     drivers = keeps_through (IsNamed ss marks) ds w.drivers last kept_first answers.drivers;
     still = λ none. absurd (none tt);
   }
+
+-- ---- the plan of a program's term
+
+types_placed : (ks : List DriverKind) (ss : List Source) (i : ℕ) → types_in (ships_of ks ss) i ≡ program_types (grounds_of ss) i
+types_placed ks [] i = refl
+types_placed ks (s ∷ ss) zero = refl
+types_placed ks (s ∷ ss) (suc i) = types_placed ks ss i
+
+-- what a program's term is rewritten to makes sense over the sources
+pub planned_sense : (ss : List Source) (s : Scoped) (ks : List DriverKind) (scope : WasInScope (names_of ss) s) (typed : Typed) (infers : Infers (decls_of s.program.defs) (view s.program.last) (grounds_of ss) typed) (proper : AllByRecursion (λ s. IsProper s.ty) ss)
+    (t u : Tree) → t ≡ term_of (decls_of s.program.defs) (view s.program.last) s.sources → Preserves t u → MakesSense (ships_of ks ss) u
+planned_sense ss s ks scope typed infers proper t u is keeps =
+    let one = infers.result.has_one in
+    let names : s.sources ≡ names_of ss = scope.1.sources_kept in
+    let types : CoreTypes (program_types (grounds_of ss)) [] t one.0 =
+    subst (λ x. CoreTypes (program_types (grounds_of ss)) [] x one.0) (sym (is ∙ ap (term_of (decls_of s.program.defs) (view s.program.last)) (names ∙ sym (grounds_names ss))))
+    (makes_sense (decls_of s.program.defs) (view s.program.last) (grounds_of ss) one.0 (are_ground ss proper) (tidied (names_of ss) s scope) one.1) in
+    (one.0, subst (λ S. CoreTypes S [] u one.0) (sym (fun_ext (types_placed ks ss))) (keeps.typed (program_types (grounds_of ss)) [] one.0 types))
 
 -- ---- a session of the sources
 
@@ -509,16 +534,29 @@ module _ (ss : List Source) (s : Scoped) (scope : WasInScope (names_of ss) s) (t
   session_serves : Serves (kinds_of ds) (is_marked s) ss (world_of mid list settings trace)
   session_serves = attaches.ready settings trace fetch
 
-  pub session_sense : Sense t [] (world_of mid list settings trace)
+  session_sense : (u : Ground) × CoreTypes (types_of (world_of mid list settings trace)) [] t u
   session_sense = value_sense ss (decls_of s.program.defs) (view s.program.last) typed infers (tidied (names_of ss) s scope) placed.proper s.sources scope.1.sources_kept t is (kinds_of ds) (is_marked s) (world_of mid list settings trace) session_serves
 
+  -- where the sources that it mentions are told, so are those of the session
+  pub session_told : (means : Means (decls_of s.program.defs) (view s.program.last) s.sources t) (vs : List (Name × Value)) → HaveValues (kinds_of ds) (is_marked s) 0 ss vs
+      → HaveSources (types_of (world_of mid list settings trace)) (values_of (world_of mid list settings trace))
+  session_told means vs have =
+      sources_have ss (decls_of s.program.defs) (view s.program.last) typed infers (tidied (names_of ss) s scope) placed.proper s.sources scope.1.sources_kept t is (kinds_of ds) (is_marked s) (world_of mid list settings trace) session_serves means vs have
+      (values_typed (kinds_of ds) (is_marked s) 0 ss vs (λ i s at. (of_all (IsFit (kinds_of ds)) ss i s placed.fit at).2.collection) (λ i x at marked. (attaches.stand i x at (ap (is_marked s) (sym (zero-add i)) ∙ marked)).typed) have)
+
+  -- the plan of what the term is rewritten to runs there
+  pub plan_runs : (idle : All IsIdle ds) (mentioned : ReadsMentioned s t) (u : Tree) (p : Node) → Preserves t u → IsPlanOf (ships_of (kinds_of ds) ss) u p → Runs (kinds_of ds) ss (is_marked s) t p (world_of mid list settings trace)
+  plan_runs idle mentioned u p keeps planned =
+      session_runs ds mid ss (is_marked s) settings trace (world_of mid list settings trace) t u p placed (idle_none ds idle) attaches.drivers attaches.stand session_serves
+      (ap (λ l. world_of mid l settings trace) attaches.list) session_sense (mentioned scope.0 (names_of ss) scope.1) keeps planned
+
   module _ (listed : Bool) (of : listed ≡ true → IsListScheme typed.result) where
-    pub session_list : listed ≡ true → SenseList t [] (world_of mid list settings trace)
+    pub session_list : listed ≡ true → IsListTerm (types_of (world_of mid list settings trace)) t
     session_list true_is =
         list_sense ss (decls_of s.program.defs) (view s.program.last) typed infers (tidied (names_of ss) s scope) placed.proper s.sources scope.1.sources_kept t is (kinds_of ds) (is_marked s) (world_of mid list settings trace) session_serves (of true_is)
 
     pub session_done : (means : Means (decls_of s.program.defs) (view s.program.last) s.sources t) (other : listed ≡ false → IsListScheme typed.result → ⊥) (first : Option ℕ) (end : Ending) (files : FilesState) (last : List State) (out out' : SinkState)
-        → AnswersTerm (IsTermOutcome listed first (core (values_of (world_of mid list settings trace)) t [])) (HaveSources (types_of (world_of mid list settings trace)) (values_of (world_of mid list settings trace))) end list (outside_of files mid out) (outside_of files last out')
+        → AnswersTerm (listed ≡ true) (IsTermOutcome listed first (core (values_of (world_of mid list settings trace)) t [])) (HaveSources (types_of (world_of mid list settings trace)) (values_of (world_of mid list settings trace))) end list (outside_of files mid out) (outside_of files last out')
         → DoneMeaning ss (is_marked s) first (decls_of s.program.defs) (view s.program.last) end (outside_of files ds out) (outside_of files last out')
     session_done means other first end files last out out' answers =
         term_done ss (decls_of s.program.defs) (view s.program.last) typed infers (tidied (names_of ss) s scope) s.sources scope.1.sources_kept t is means ds (is_marked s) (world_of mid list settings trace) session_serves placed attaches.drivers

@@ -45,7 +45,7 @@ page_cut v told full stop.NoMemory out out' writes = record { ends = inr (inr re
 
 -- the items of a list up to an overflow
 module _ (vs : List Value) (out out' : SinkState) where
-  front_full : list_front vs ≢ []
+  pub front_full : list_front vs ≢ []
   front_full is = cc
 
   pub cut_took : {T : Type 0} (done : T) → WritesWhole (list_front vs) (Ok done) out out' → PrintsPage (overflowing vs) (Some fault.Overflow) out out'
@@ -59,13 +59,6 @@ module _ (vs : List Value) (out out' : SinkState) where
 pub prints_refused : (f : Fault) (out : SinkState) → PrintsPage (refused f) (Some f) out out
 prints_refused f out = record { ends = inl refl; whole = λ is. sym (append_known-nil out.taken); part = took_none [] out out refl; nothing = λ none. refl }
 
--- items of a list that are all that are wanted, and those that are not
-cut_is : (first : Option ℕ) (vs : List Value) → cut first (value.List vs) ≡ value.List (first_of first vs)
+-- a list that is cut
+pub cut_is : (first : Option ℕ) (vs : List Value) → cut first (value.List vs) ≡ value.List (first_of first vs)
 cut_is first vs = ap (λ x. cut_layer first x (value.List vs)) (value.outs-List vs)
-
-pub printed_enough : (first : Option ℕ) (vs : List Value) (end : Ending) (out out' : SinkState) → suffice first vs ≡ true → PrintsPage (value_page (cut first (value.List vs))) end out out' → PrintsPage (cut_list first vs) end out out'
-printed_enough first vs end out out' is prints =
-    subst (λ b. PrintsPage (if b then value_page (value.List (first_of first vs)) else overflowing vs) end out out') (sym is) (subst (λ v. PrintsPage (value_page v) end out out') (cut_is first vs) prints)
-
-pub printed_short : (first : Option ℕ) (vs : List Value) (end : Ending) (out out' : SinkState) → suffice first vs ≡ false → PrintsPage (overflowing vs) end out out' → PrintsPage (cut_list first vs) end out out'
-printed_short first vs end out out' is prints = subst (λ b. PrintsPage (if b then value_page (value.List (first_of first vs)) else overflowing vs) end out out') (sym is) prints

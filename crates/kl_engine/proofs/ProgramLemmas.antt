@@ -10,17 +10,19 @@ use Rattle.kl_outcome.specs.Outcome.{Name}
 use Rattle.kl_ask.specs.Driver.{DriverKind, State}
 use Rattle.kl_sources.specs.declared.source.Source.{Source}
 use Rattle.kl_sources.specs.Sources.{kinds_of}
-use Rattle.kl_engine.specs.Answering.{SomeRose, one, IsOutside, reading, writing, drifting, wanting, FollowsVerdict, DoesText, Does, IsDetermined, IsOneOf, HasTextFault, HasFault, IsMentionedIn, IsMentioned, EndsSilent, IsRun, IsUnreadFault, IsUnreadBy, SomeDrifted, OfRun, LacksFile, IsStoredFault}
+use Rattle.kl_engine.specs.Answering.{SomeRose, one, IsOutside, reading, writing, drifting, wanting, FollowsVerdict, DoesText, Does, IsDetermined, IsOneOf, HasTextFault, HasFault, IsMentionedIn, IsMentioned, EndsSilent, IsRun, IsUnreadFault, IsUnreadBy, SomeDrifted, OfRun, LacksFile, IsStoredFault, IsOfList}
 use Rattle.kl_engine.specs.Commands.{Origin, Files, Made, Program, TellTo}
 use Rattle.kl_engine.specs.Faults.{Ending}
 use Rattle.kl_engine.specs.Outside.{Outside, outside_of}
 use Rattle.kl_engine.specs.Inputs.{IsCatalogueEnd, IsFilesEnd, IsInputsEnd, ReadsInputs}
+use Rattle.kl_engine.specs.Planned.{LacksInput}
 use Rattle.kl_engine.specs.Verdict.{Verdict, refused, HasInputs, IsTextVerdict, IsInputsFault, IsProgramVerdict}
 use Rattle.kl_engine.specs.declared.fault.Fault.{Fault}
 use Rattle.kl_engine.specs.declared.fault.Fault.TheVariants as fault
 use Rattle.kl_engine.specs.declared.inputs.Inputs.{Inputs}
 use Rattle.kl_engine.specs.declared.top.Purpose.{Purpose}
 use Rattle.kl_engine.specs.declared.top.Purpose.TheVariants as purpose
+use Rattle.kl_engine.proofs.SilentLemmas.{unprinted_where}
 use Rattle.kl_engine.proofs.DriverLemmas.{keeps_same, keeps_wider}
 use Rattle.kl_engine.proofs.FairLemmas.{IsOfVerdict, fair_text}
 use Rattle.kl_engine.proofs.InputLemmas.{inputs_one, inputs_well, inputs_fault_one, inputs_verdict}
@@ -216,7 +218,9 @@ module _ (p : Purpose) (from : Origin) (f f' : FilesState) where
       write = does.write;
       changed = λ name is. of_run p from f (kinds_of ds) (λ text ss. SomeDrifted ss (λ x. IsMentionedIn ss text x × (x ≡ name)) ds ds') (subst (IsOneOf (HasTextFault p)) is does.no_other) i.text i.sources reads.inputs (does.changed name is);
       no_other = of_program p from end does.no_other;
-      nothing = does.nothing;
+      nothing = λ silent. does.nothing (unprinted_where (IsOfList i.sources i.text) (OfRun (Program p from) f (kinds_of ds) (λ text ss. IsOfList ss text)) end
+          (λ is lists. of_run p from f (kinds_of ds) (λ text ss. IsOfList ss text) (subst (IsOneOf (HasTextFault p)) is does.no_other) i.text i.sources reads.inputs lists)
+          (λ name is lists. of_run p from f (kinds_of ds) (λ text ss. IsOfList ss text) (subst (IsOneOf (HasTextFault p)) is does.no_other) i.text i.sources reads.inputs lists) silent);
     };
     unread = λ g is un. of_run p from f (kinds_of ds) (λ text ss. IsUnreadBy ss (IsMentionedIn ss text) g ds ds') (unread_run p g un (subst (IsOneOf (HasTextFault p)) is does.no_other)) i.text i.sources reads.inputs (does.unread g is un);
     closed = record {
@@ -229,15 +233,15 @@ module _ (p : Purpose) (from : Origin) (f f' : FilesState) where
   }
 
   -- one of them is missing, or was not read
-  pub read_missing : (g : Fault) (ks : List DriverKind) → ReadsInputs from ks (Err g) f f' → g ≡ fault.Read → LacksFile (Program p from) f ks ⊎ Rose f.faults f'.faults
+  pub read_missing : (g : Fault) (ks : List DriverKind) → ReadsInputs from ks (Err g) f f' → g ≡ fault.Read → LacksInput (Program p from) f ks ⊎ Rose f.faults f'.faults
   read_missing g ks reads is = pick f.told refl
     where
-      pick : (found : Option (List ℕ → Option (List ℕ))) → f.told ≡ found → LacksFile (Program p from) f ks ⊎ Rose f.faults f'.faults
+      pick : (found : Option (List ℕ → Option (List ℕ))) → f.told ≡ found → LacksInput (Program p from) f ks ⊎ Rose f.faults f'.faults
       pick None at = inr (reads.read at is)
       pick (Some told) at = elim (reads.refused told (tells from f told at)) [
         | inl none ↦ absurd (let two : fault.Read ≡ fault.NoMemory = sym is ∙ none in cc)
         | inr (inl failed) ↦ inr failed.1
-        | inr (inr wrong) ↦ inl (told, at, inl (fault.Read, subst (IsInputsFault told ks from) is wrong, refl))
+        | inr (inr wrong) ↦ inl (told, at, subst (IsInputsFault told ks from) is wrong)
       ]
 
   -- The files were refused: nothing was printed, and no driver was asked.
@@ -316,4 +320,4 @@ module _ (p : Purpose) (from : Origin) (f f' : FilesState) where
         some_one is = cc
 
         read_cause : g ≡ fault.Read → ReadCause
-        read_cause is = elim (read_missing g (kinds_of ds) reads is) [ inl lacks ↦ inl lacks | inr rose ↦ inr (inr (inl rose)) ]
+        read_cause is = elim (read_missing g (kinds_of ds) reads is) [ inl lacks ↦ inl (lacks.0, lacks.1, inl (fault.Read, lacks.2, refl)) | inr rose ↦ inr (inr (inl rose)) ]

@@ -12,13 +12,13 @@ use Rattle.kl_scope.specs.Breaches.{Mentions}
 use Rattle.kl_ask.specs.Driver.{DriverKind, State, Stored, KeepsState}
 use Rattle.kl_ask.specs.Lists.{EachSteps}
 use Rattle.kl_sources.specs.Attaching.{RoseAt}
-use Rattle.kl_sources.specs.Sources.{kinds_of, names_of, contents}
+use Rattle.kl_sources.specs.Sources.{kinds_of, names_of, grounds_of, contents}
 use Rattle.kl_sources.specs.declared.source.Source.{Source}
 use Rattle.kl_engine.specs.Commands.{Command, NoneNamed, Program, Show, Origin, Files, Made, Tell, TellTo}
 use Rattle.kl_engine.specs.Faults.{Ending}
 use Rattle.kl_engine.specs.Outside.{Outside}
-use Rattle.kl_engine.specs.Reading.{IsProgramOf}
-use Rattle.kl_engine.specs.Verdict.{Verdict, refused, stored_fault, IsListing, IsTextVerdict, HasInputs, IsVerdict}
+use Rattle.kl_engine.specs.Reading.{IsProgramOf, definitions, last}
+use Rattle.kl_engine.specs.Verdict.{Verdict, refused, stored_fault, GivesList, IsListing, IsTextVerdict, HasInputs, IsVerdict}
 use Rattle.kl_engine.specs.declared.fault.Fault.{Fault}
 use Rattle.kl_engine.specs.declared.fault.Fault.TheVariants as fault
 use Rattle.kl_engine.specs.declared.fault.Wrong.{Wrong}
@@ -199,9 +199,11 @@ abbrev pub EndsSilent : Ending → Type 0
 EndsSilent None = ⊥
 EndsSilent (Some f) = IsSilent f
 
-abbrev pub PrintsNothing : Command → Ending → Type 0
-PrintsNothing (Show path) end = ⊥
-PrintsNothing command end = EndsSilent end
+-- The same of what a run comes to, where Lists says that it is a list: a driver may fail behind items of it.
+abbrev pub Unprinted : Type 0 → Ending → Type 0
+Unprinted Lists (Some fault.Read) = Lists → ⊥
+Unprinted Lists (Some (fault.Changed name)) = Lists → ⊥
+Unprinted Lists end = EndsSilent end
 
 -- a source was found unreadable, too long or nested too deep
 abbrev pub IsUnreadFault : Fault → Type 0
@@ -235,6 +237,10 @@ abbrev pub IsMentionedIn : List Source → List ℕ → Name → Type 0
 IsMentionedIn ss text name =
     (q : AProgram) × IsProgramOf (names_of ss) text q × (i : ℕ) × (slice_get (names_of ss) i ≡ Some name) × Mentions q (names_of ss) i
 
+-- the program that a text is gives a list
+abbrev pub IsOfList : List Source → List ℕ → Type 0
+IsOfList ss text = (q : AProgram) × IsProgramOf (names_of ss) text q × GivesList (grounds_of ss) (definitions (names_of ss) q) (last (names_of ss) q)
+
 -- What is done with a text over these sources. No public contract cites this.
 pub record DoesText (ss : List Source) (p : Purpose) (text : List ℕ) (end : Ending) (old new : Outside) : Type 0 where
   pub told : (v : Verdict) → IsTextVerdict (kinds_of old.drivers) ss p text v
@@ -248,7 +254,7 @@ pub record DoesText (ss : List Source) (p : Purpose) (text : List ℕ) (end : En
   pub changed : (name : Name) → end ≡ Some (fault.Changed name)
       → SomeDrifted ss (λ x. IsMentionedIn ss text x × (x ≡ name)) old.drivers new.drivers
   pub no_other : IsOneOf (HasTextFault p) end
-  pub nothing : EndsSilent end → new.out ≡ old.out
+  pub nothing : Unprinted (IsOfList ss text) end → new.out ≡ old.out
   pub drivers : KeepsDrivers (IsMentionedIn ss text) old.drivers new.drivers
   pub still : (IsRun p → ⊥) → new.drivers ≡ old.drivers
 
@@ -264,6 +270,11 @@ OfRun (Program (purpose.Run first) from) files ks P =
     (text : List ℕ) × (ss : List Source)
     × ((told : _) → TellTo from files told → HasInputs told ks from text ss) × P text ss
 OfRun command files ks P = ⊥
+
+-- nothing was printed before this end, where a run's program gives no list
+abbrev pub PrintsNothing : Command → FilesState → List DriverKind → Ending → Type 0
+PrintsNothing (Show path) files ks end = ⊥
+PrintsNothing command files ks end = Unprinted (OfRun command files ks (λ text ss. IsOfList ss text)) end
 
 -- a driver tells that a source which the run's program mentions is missing
 abbrev pub LacksSource : Command → Outside → Type 0
@@ -288,7 +299,7 @@ pub record IsCaused (command : Command) (end : Ending) (old new : Outside) : Typ
   pub write : end ≡ Some fault.Write → Rose old.out.faults new.out.faults
   pub changed : (name : Name) → end ≡ Some (fault.Changed name) → Drifted command name old new
   pub no_other : IsOneOf (HasFault command) end
-  pub nothing : PrintsNothing command end → new.out ≡ old.out
+  pub nothing : PrintsNothing command old.files (kinds_of old.drivers) end → new.out ≡ old.out
 
 -- The same of a source of a program that is unreadable, too long or nested too deep.
 abbrev pub UnreadCause : Command → Ending → Outside → Outside → Type 0

@@ -1,5 +1,6 @@
 pub mod Faults
 pub mod Outside
+pub mod Planned
 pub mod Commands
 pub mod Reading
 pub mod Catalogues

@@ -1,29 +1,45 @@
 -- What the private functions of `run` and `types` answer. No public contract cites this.
-use Rattle.std.specs.Prelude.{◌≡◌, ◌⊎◌, ℕ, ◌<◌, nat_lt, Bool, true, false, List, [], ◌++◌, length, Option, Some, None, Result, Ok, Err, slice_get, ⊤}
+use Rattle.std.specs.Prelude.{◌≡◌, ◌⊎◌, ℕ, ◌+◌, ◌==◌, ◌<◌, nat_lt, Bool, true, false, List, [], ◌++◌, length, Option, Some, None, Result, Ok, Err, slice_get, ⊤}
 use Rattle.kl_outside.specs.Counts.{Rose}
-use Rattle.kl_outside.specs.Sinks.{SinkState, WritesWhole}
+use Rattle.kl_outside.specs.Sinks.{SinkState, TookPart, WritesWhole}
 use Rattle.kl_outside.specs.declared.stop.Stop.TheVariants as stop
 use Rattle.kl_value.specs.declared.value.Kind.TheVariants as kind
+use Rattle.kl_value.specs.declared.Value.{Value}
 use Rattle.kl_type.specs.Ground.{Ground, coll}
+use Rattle.kl_core.specs.Trees.{Tree}
+use Rattle.kl_core.specs.Typing.{SourceTypes, CoreTypes}
 use Rattle.kl_rows.specs.Schemes.{Instance}
 use Rattle.kl_outcome.specs.Outcome.{Name, Outcome, done, over, stuck}
 use Rattle.kl_rows.specs.declared.Scheme.{Scheme}
 use Rattle.kl_syntax.specs.Syntax.{Decls, Exp}
 use Rattle.kl_ask.specs.Driver.{State}
+use Rattle.kl_ask.specs.World.{World, IsReady}
+use Rattle.kl_ship.specs.Nodes.{Node}
+use Rattle.kl_ship.specs.Numbers.{scans_in}
+use Rattle.kl_ship.specs.Reached.{reached}
+use Rattle.kl_ship.specs.declared.plan.Scan.{Scan}
+use Rattle.kl_eval.specs.declared.stop.EvalStop.{EvalStop}
+use Rattle.kl_eval.specs.declared.stop.EvalStop.TheVariants as stopped
+use Rattle.kl_scans.specs.Held.{nothing}
+use Rattle.kl_scans.specs.Log.{paid}
+use Rattle.kl_scans.specs.Moves.{Moves}
+use Rattle.kl_cursor.specs.Left.{reading}
+use Rattle.kl_cursor.specs.Sense.{TypesAt, IsToldAt}
+use Rattle.kl_cursor.specs.Steps.{AreOf}
 use Rattle.kl_ask.specs.declared.session.Attached.{Attached}
 use Rattle.kl_ask.specs.declared.ask.DriverError.{DriverError}
 use Rattle.kl_ask.specs.declared.ask.DriverError.TheVariants as error
 use Rattle.kl_sources.specs.Attaching.{RoseAt}
-use Rattle.kl_sources.specs.Sources.{kinds_of, names_of}
+use Rattle.kl_sources.specs.Sources.{kinds_of, names_of, grounds_of}
 use Rattle.kl_sources.specs.declared.source.Source.{Source}
 use Rattle.kl_engine.specs.Answering.{SomeRose, KeepsDrivers, IsStoredFault, AreTold, IsUnreadBy, SomeDrifted}
 use Rattle.kl_engine.specs.Answering.{FollowsVerdict, PrintsPage, IsOutside, IsDetermined, IsRun}
-use Rattle.kl_engine.specs.Answering.{HasTextFault, IsOneOf, EndsSilent, IsUnreadFault, NeedsDrivers}
+use Rattle.kl_engine.specs.Answering.{HasTextFault, IsOneOf, Unprinted, IsUnreadFault, NeedsDrivers}
 use Rattle.kl_engine.specs.Faults.{Ending}
 use Rattle.kl_engine.specs.Outside.{Outside}
 use Rattle.kl_infer.specs.Numbers.{limit}
 use Rattle.kl_infer.specs.Printed.{scheme_text}
-use Rattle.kl_engine.specs.Verdict.{Verdict, value_page, cut, refused, scheme_line, scheme_lines, cut_list, IsMeant, IsDone}
+use Rattle.kl_engine.specs.Verdict.{Verdict, value_page, cut, refused, list_front, overflowing, scheme_line, scheme_lines, cut_list, GivesList, IsMeant, IsDone}
 use Rattle.kl_engine.specs.declared.fault.Fault.{Fault}
 use Rattle.kl_engine.specs.declared.fault.Fault.TheVariants as fault
 use Rattle.kl_engine.specs.declared.top.Purpose.{Purpose}
@@ -73,14 +89,45 @@ DriftsAt list name old new =
     × (slice_get list i ≡ Some a) × (a.source ≡ name) × (a.driver ≡ Some place) × RoseAt place (λ d. d.drifts) old new
 
 -- An outcome is printed. Where the sources are told it is that of the term, and in any case each fault has its cause.
-pub record AnswersTerm (IsOut : Verdict → Type 0) (told : Type 0) (end : Ending) (list : List Attached) (old new : Outside) : Type 0 where
+pub record AnswersTerm (Lists : Type 0) (IsOut : Verdict → Type 0) (told : Type 0) (end : Ending) (list : List Attached) (old new : Outside) : Type 0 where
   pub follows : told → (v : Verdict) × IsOut v × FollowsVerdict v end old new
   pub read : end ≡ Some fault.Read → SomeRose (λ d. d.faults) old.drivers new.drivers
   pub write : end ≡ Some fault.Write → Rose old.out.faults new.out.faults
   pub changed : (name : Name) → end ≡ Some (fault.Changed name) → DriftsAt list name old.drivers new.drivers
   pub no_other : IsOneOf HasRunFault end
-  pub nothing : EndsSilent end → new.out ≡ old.out
+  pub nothing : Unprinted Lists end → new.out ≡ old.out
   pub drivers : KeepsDrivers (λ name. ⊥) old.drivers new.drivers
+
+-- A plan was run: no cursor is left open, only its scans were started, and where it ended well, and all of it was wanted and is
+-- told, each was started once for each environment that reaches it.
+pub record Scanned (p : Node) (end : Ending) (first : Option ℕ) (a b : World) : Type 0 where
+  pub moves : Moves nothing nothing a b
+  pub known : AreOf (scans_in p) moves.events
+  pub exact : end ≡ None → first ≡ None → IsToldAt a → (price : Scan → ℕ) → paid price moves.events ≡ reached (reading a) price p []
+
+-- a plan of a list makes sense in a session
+abbrev pub HasList : World → Node → Type 0
+HasList w p = (u : Ground) × TypesAt w [] p (coll kind.List u) × IsReady w
+
+-- a term has the type of a list
+abbrev pub IsListTerm : SourceTypes → Tree → Type 0
+IsListTerm S t = (u : Ground) × CoreTypes S [] t (coll kind.List u)
+
+-- whether no more items are wanted, where so many more are; and one more than so many
+abbrev pub are_enough : Option ℕ → Bool
+are_enough None = false
+are_enough (Some n) = n == 0
+
+abbrev pub one_more : Option ℕ → Option ℕ
+one_more None = None
+one_more (Some n) = Some (n + 1)
+
+-- Items of a list are printed, and what stopped it: an overflow, which ends the page, or a driver or want of memory, behind which the
+-- rest of the page is not printed.
+abbrev pub StopsList : List Value → EvalStop → Ending → SinkState → SinkState → Type 0
+StopsList given stopped.Overflow end out out' = PrintsPage (overflowing given) end out out'
+StopsList given (stopped.Driver l e) end out out' = (end ≡ Some (fault_of l e)) × TookPart (list_front given) out out'
+StopsList given stopped.NoMemory end out out' = (end ≡ Some fault.NoMemory) × TookPart (list_front given) out out'
 
 -- a name of the sources that is mentioned
 abbrev pub IsNamed : List Source → (ℕ → Bool) → Name → Type 0
@@ -100,7 +147,7 @@ pub data Ends (IsVerdict : (ℕ → Bool) → Verdict → Type 0) (ss : List Sou
   untold : WithoutVerdict IsVerdict ss marks → (AreTold (kinds_of old.drivers) ss (IsNamed ss marks) → ⊥)
       → (IsDetermined end → NeedsDrivers p end) → Ends IsVerdict ss marks p end old new
 
-pub record DoneBy (IsVerdict : (ℕ → Bool) → Verdict → Type 0) (ss : List Source) (marks : ℕ → Bool) (p : Purpose) (end : Ending) (old new : Outside)
+pub record DoneBy (Lists : Type 0) (IsVerdict : (ℕ → Bool) → Verdict → Type 0) (ss : List Source) (marks : ℕ → Bool) (p : Purpose) (end : Ending) (old new : Outside)
     : Type 0 where
   pub ends : Ends IsVerdict ss marks p end old new
   pub read : end ≡ Some fault.Read
@@ -110,18 +157,18 @@ pub record DoneBy (IsVerdict : (ℕ → Bool) → Verdict → Type 0) (ss : List
   pub changed : (name : Name) → end ≡ Some (fault.Changed name)
       → SomeDrifted ss (λ x. IsNamed ss marks x × (x ≡ name)) old.drivers new.drivers
   pub no_other : IsOneOf (HasTextFault p) end
-  pub nothing : EndsSilent end → new.out ≡ old.out
+  pub nothing : Unprinted Lists end → new.out ≡ old.out
   pub drivers : KeepsDrivers (IsNamed ss marks) old.drivers new.drivers
   pub still : (IsRun p → ⊥) → new.drivers ≡ old.drivers
 
 -- what a purpose makes of a program is done
 abbrev pub DoneWith : List Source → (ℕ → Bool) → Purpose → Decls → Exp → Ending → Outside → Outside → Type 0
-DoneWith ss marks p program e end old new = DoneBy (λ others. IsDone (kinds_of old.drivers) ss others p program e) ss marks p end old new
+DoneWith ss marks p program e end old new = DoneBy (GivesList (grounds_of ss) program e) (λ others. IsDone (kinds_of old.drivers) ss others p program e) ss marks p end old new
 
 -- what a run of a program with a typing comes to is done
 abbrev pub DoneMeaning : List Source → (ℕ → Bool) → Option ℕ → Decls → Exp → Ending → Outside → Outside → Type 0
 DoneMeaning ss marks first program e end old new =
-    DoneBy (λ others. IsMeant (kinds_of old.drivers) ss others first program e) ss marks (purpose.Run first) end old new
+    DoneBy (GivesList (grounds_of ss) program e) (λ others. IsMeant (kinds_of old.drivers) ss others first program e) ss marks (purpose.Run first) end old new
 
 -- the line of a declaration is written, or nothing where the text of its scheme is too long
 abbrev pub ListsLine : Name × Scheme → Result (Unit {0}) Fault → SinkState → SinkState → Type 0

@@ -2,13 +2,8 @@
 use Rattle.std.specs.Prelude.{ℕ, ◌-◌, Bool, true, false, List, [], ◌∷◌, ◌++◌, codes, decimal, Some, None, sum, map}
 use Rattle.std.specs.List.{flat_map, zip}
 use Rattle.kl_ask.specs.Driver.{State}
-use Rattle.kl_ask.specs.Trace.{IsBlank}
 use Rattle.kl_ask.specs.declared.settings.Trace.{Trace}
 use Rattle.kl_engine.specs.Faults.{Ending, joined, fault_line}
-
--- nothing but steps of rewriting is counted
-abbrev pub CountsStepsAlone : Trace → Type 0
-CountsStepsAlone t = IsBlank (record { steps = 0; starts = t.starts; joins = t.joins; hits = t.hits; misses = t.misses; peak = t.peak })
 
 -- the rows that some drivers handed since they were made; no public contract cites this
 abbrev pub handed_by : List State → ℕ

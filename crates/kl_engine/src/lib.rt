@@ -9,6 +9,7 @@ mod cut;
 mod drivers;
 mod fault;
 mod inputs;
+mod listing;
 mod page;
 mod read;
 mod run;

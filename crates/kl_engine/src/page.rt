@@ -80,78 +80,8 @@ fn print_line<S: Sink>(value: &Value, out: &mut S) -> Result<(), PrintError>
     }
 }
 
-/// Prints the items of a list that end in an overflow, which it then answers; or the first of them, where these are all
-/// that are wanted.
-///
-/// # Errors
-/// `Overflow`, where more items are wanted than stand before it. `Write`, where the sink refused a piece; want of memory.
-pub(crate) fn print_cut_list<S: Sink>(
-    items: Vec<Value>,
-    first: Option<u32>,
-    out: &mut S,
-) -> Result<(), Fault>
-    ensures { PrintsPage (cut_list first items.items) (ending result) (S.state out.old) (S.state out.new) }
-{
-    if suffice(&items, first) {
-        print_value(&cut(Value::List(Seq::of(items)), first), out)
-    } else {
-        print_overflow(&items, out)
-    }
-}
-
-// Whether these items are all that are wanted.
-fn suffice(items: &[Value], first: Option<u32>) -> bool
-    ensures { result ≡ suffice first items.now }
-{
-    match first {
-        None => false,
-        Some(most) => most as usize <= items.len(),
-    }
-}
-
-fn print_overflow<S: Sink>(items: &[Value], out: &mut S) -> Result<(), Fault>
-    ensures { PrintsPage (overflowing items.now) (ending result) (S.state out.old) (S.state out.new) }
-{
-    match print_front(items, out) {
-        Ok(()) => Err(Fault::Overflow),
-        Err(error) => Err(write_fault(error)),
-    }
-}
-
-fn print_front<S: Sink>(items: &[Value], out: &mut S) -> Result<(), PrintError>
-    ensures { WritesWhole (list_front items.now) (as_stop result) (S.state out.old) (S.state out.new) }
-{
-    let mut page = Page::new();
-    match put_front(items, &mut page, out) {
-        Ok(()) => page.flush(out),
-        Err(error) => Err(error),
-    }
-}
-
-fn put_front<S: Sink>(items: &[Value], page: &mut Page, out: &mut S) -> Result<(), PrintError>
-    ensures { Puts (list_front items.now) (as_stop result) (S.state out.old) page.old (S.state out.new) page.new }
-{
-    match page.put(b"[|", out) {
-        Ok(()) => put_items(items, page, out),
-        Err(error) => Err(error),
-    }
-}
-
-// The items with a comma and a space between them.
-fn put_items<S: Sink>(items: &[Value], page: &mut Page, out: &mut S) -> Result<(), PrintError>
-    ensures { Puts (with_commas (map text_of items.now)) (as_stop result) (S.state out.old) page.old (S.state out.new) page.new }
-{
-    'items: for i in 0..items.len() {
-        match put_item(i, &items[i], page, out) {
-            Ok(()) => {}
-            Err(error) => return Err(error),
-        }
-    }
-    Ok(())
-}
-
 // The item at a place, behind what stands between it and the one before.
-fn put_item<S: Sink>(
+pub fn put_item<S: Sink>(
     place: usize,
     item: &Value,
     page: &mut Page,

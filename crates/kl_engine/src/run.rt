@@ -1,48 +1,65 @@
 //! What `run` does with a program's text: it prints the value that the program means.
-ghost use Rattle.std.specs.Prelude.{◌≡◌, ◌≤◌, ◌<◌, [], All, IfOk, length, map, true, false};
+ghost use Rattle.std.specs.Prelude.{◌≡◌, ◌≤◌, ◌<◌, ℕ, Bool, List, [], All, IfOk, None, Some, length, map, true, false};
 ghost use Rattle.kl_outside.specs.Files.{FilesState};
-ghost use Rattle.kl_ask.specs.Driver.{State};
-ghost use Rattle.kl_ask.specs.World.{Moved, types_of, values_of};
+ghost use Rattle.kl_outcome.specs.Outcome.{Name};
+ghost use Rattle.kl_value.specs.declared.Value.{Value};
+ghost use Rattle.kl_ask.specs.Driver.{DriverKind, State};
+ghost use Rattle.kl_ask.specs.World.{types_of, values_of};
 ghost use Rattle.kl_core.specs.Core.{core};
-ghost use Rattle.kl_core.specs.Trees.{view as term_view};
+ghost use Rattle.kl_core.specs.Counts.{nodes_of};
+ghost use Rattle.kl_core.specs.Trees.{Tree, view as term_view};
 ghost use Rattle.kl_core.specs.Typing.{HaveSources};
+ghost use Rattle.kl_cursor.specs.Sense.{HasWorth};
+ghost use Rattle.kl_desugar.specs.Mentioned.{ReadsMentioned};
 ghost use Rattle.kl_desugar.specs.Small.{IsSmall};
 ghost use Rattle.kl_desugar.specs.Translation.{term_of};
-ghost use Rattle.kl_eval.specs.Evals.{Sense, SenseList};
 ghost use Rattle.kl_infer.specs.Inferred.{Infers};
 ghost use Rattle.kl_rewrite.specs.Steps.{IsClosed};
 ghost use Rattle.kl_rows.specs.Schemes.{IsScheme, Instance};
 ghost use Rattle.kl_rules.specs.Preserving.{Preserves};
+ghost use Rattle.kl_run.specs.Counted.{AsksCounted, IsFreshTrace, ReadsMarked, StartsCounted};
+ghost use Rattle.kl_run.specs.Planned.{IsPlanOf, ships_of};
+ghost use Rattle.kl_run.specs.Running.{Runs};
+ghost use Rattle.kl_scans.specs.Log.{without_starts};
 ghost use Rattle.kl_scope.specs.Breaches.{is_marked};
-ghost use Rattle.kl_sources.specs.Sources.{ArePlaced, names_of, grounds_of};
+ghost use Rattle.kl_ship.specs.Contents.{MakesSense};
+ghost use Rattle.kl_ship.specs.Meaning.{Readings};
+ghost use Rattle.kl_ship.specs.Nodes.{view as plan_view};
+ghost use Rattle.kl_ship.specs.Numbers.{scans_in};
+ghost use Rattle.kl_sources.specs.Sources.{ArePlaced, HaveValues, names_of, grounds_of, kinds_of};
+ghost use Rattle.kl_sources.specs.declared.source.Source.{Source};
 ghost use Rattle.kl_syntax.specs.View.{view, decls_of};
 ghost use Rattle.kl_type.specs.Ground.{Ground, IsProper};
-ghost use Rattle.kl_sources.specs.Sources.{kinds_of};
 ghost use Rattle.kl_engine.specs.Answering.{DoesText, IsIdle};
 ghost use Rattle.kl_engine.specs.Faults.{ending};
 ghost use Rattle.kl_engine.specs.Outside.{outside_of};
+ghost use Rattle.kl_engine.specs.Planned.{AsksOf, CountsScansAlone, IsEarly, IsUnrun, PlanOf, PlansTerm, PlansText, plan_in};
 ghost use Rattle.kl_engine.specs.Reading.{WasInScope};
-ghost use Rattle.kl_engine.specs.Rewritten.{CountsOf, IsEarly, IsRewrittenIn, IsRewrittenTo, RewritesText};
-ghost use Rattle.kl_engine.specs.Running.{AnswersTerm, DoneWith, DoneMeaning};
+ghost use Rattle.kl_engine.specs.Rewritten.{IsRewrittenTo};
+ghost use Rattle.kl_engine.specs.Running.{AnswersTerm, DoneWith, DoneMeaning, HasList, IsListTerm, Scanned};
 ghost use Rattle.kl_engine.specs.Running.{IsTermOutcome, IsListScheme, IsListOutcome, IsValueOutcome, fault_of};
 ghost use Rattle.kl_engine.specs.Typing.{IsTyped};
 ghost use Rattle.kl_engine.specs.declared.top.Purpose.TheVariants.{Run};
 
 use crate::cut::cut;
 use crate::fault::Fault;
-use crate::page::{print_cut_list, print_value};
+use crate::listing::print_list;
+use crate::page::print_value;
 use crate::read::{infer_over, read_over};
 use kl_ask::{Driver, DriverError, Seen, Session, Settings, Trace};
-use kl_base::{Label, NoMemory, Seq};
+use kl_base::{Label, NoMemory};
 use kl_core::Term;
+use kl_cursor::value_of;
 use kl_desugar::translate;
-use kl_eval::{EvalStop, eval, eval_list};
+use kl_eval::EvalStop;
 use kl_infer::Typed;
 use kl_outside::Sink;
 use kl_rewrite::{Normal, rewrite};
+use kl_run::{plan_of, trace_of};
 use kl_scope::Scoped;
+use kl_ship::Plan;
 use kl_sources::{AttachError, Source, attach_sources};
-use kl_value::{Kind, Value};
+use kl_value::Kind;
 use std::alloc::Global;
 use std::mem;
 
@@ -51,6 +68,15 @@ use std::mem;
 pub struct How {
     pub settings: Settings,
     pub first: Option<u32>,
+}
+
+/// What is known of a run beside how it ended.
+#[derive(Drop)]
+pub struct Ran {
+    /// The plan that was run, where it came to one.
+    pub plan: Option<Plan>,
+    /// What was counted.
+    pub trace: Trace,
 }
 
 /// Runs the program that a text is, over these sources, and tells in how many steps its term was rewritten.
@@ -66,20 +92,23 @@ pub fn run<S: Sink>(
     how: How,
     drivers: &mut Vec<Box<dyn Driver>>,
     out: &mut S,
-    steps: &mut u32,
+    ran: &mut Ran,
 ) -> Result<(), Fault>
     requires few { length text.now ≤ 65536 }
     requires placed { ArePlaced (kinds_of (map (λ d. (Driver-box d).state d.value) drivers.old.items)) sources.items }
     requires idle { All IsIdle (map (λ d. (Driver-box d).state d.value) drivers.old.items) }
     requires fetch { 0 < how.settings.fetch }
-    requires none { steps.old ≡ 0 }
+    requires unrun { IsUnrun ran.old }
     ensures does { (files : FilesState) → DoesText sources.items (Run how.first) text.now (ending result)
         (outside_of files (map (λ d. (Driver-box d).state d.value) drivers.old.items) (S.state out.old))
         (outside_of files (map (λ d. (Driver-box d).state d.value) drivers.new.items) (S.state out.new)) }
-    ensures steps { CountsOf (RewritesText how.settings.rewrite steps.new text.now sources.items) (ending result) steps.new }
+    ensures plan { PlanOf (λ p. PlansText how.settings.rewrite (kinds_of (map (λ d. (Driver-box d).state d.value) drivers.old.items)) sources.items how.first (ending result) text.now ran.new.trace.steps p ran.new.trace.starts)
+        (ending result) ran.new.trace.steps (plan_in ran.new.plan) }
+    ensures asks { AsksOf (plan_in ran.new.plan) ran.new.trace.starts (map (λ d. (Driver-box d).state d.value) drivers.old.items) (map (λ d. (Driver-box d).state d.value) drivers.new.items) }
+    ensures alone { CountsScansAlone (plan_in ran.new.plan) ran.new.trace }
 {
     match read_over(alloc, text, &sources) {
-        Ok(scoped) => run_program(alloc, &scoped, sources, how, drivers, out, steps),
+        Ok(scoped) => run_program(alloc, &scoped, sources, how, drivers, out, ran),
         Err(fault) => Err(fault),
     }
 }
@@ -92,22 +121,25 @@ fn run_program<S: Sink>(
     how: How,
     drivers: &mut Vec<Box<dyn Driver>>,
     out: &mut S,
-    steps: &mut u32,
+    ran: &mut Ran,
 ) -> Result<(), Fault>
     requires scope { WasInScope (names_of sources.items) scoped.now }
     requires placed { ArePlaced (kinds_of (map (λ d. (Driver-box d).state d.value) drivers.old.items)) sources.items }
     requires idle { All IsIdle (map (λ d. (Driver-box d).state d.value) drivers.old.items) }
     requires fetch { 0 < how.settings.fetch }
-    requires none { steps.old ≡ 0 }
+    requires unrun { IsUnrun ran.old }
     ensures does { (files : FilesState) → DoneWith sources.items (is_marked scoped.now) (Run how.first)
         (decls_of scoped.now.program.defs) (view scoped.now.program.last) (ending result)
         (outside_of files (map (λ d. (Driver-box d).state d.value) drivers.old.items) (S.state out.old))
         (outside_of files (map (λ d. (Driver-box d).state d.value) drivers.new.items) (S.state out.new)) }
-    ensures steps { CountsOf (IsRewrittenIn how.settings.rewrite (term_of (decls_of scoped.now.program.defs) (view scoped.now.program.last) scoped.now.sources) steps.new)
-        (ending result) steps.new }
+    ensures plan { PlanOf (λ p. PlansTerm how.settings.rewrite (kinds_of (map (λ d. (Driver-box d).state d.value) drivers.old.items)) sources.items (is_marked scoped.now) how.first (ending result)
+        (term_of (decls_of scoped.now.program.defs) (view scoped.now.program.last) scoped.now.sources) ran.new.trace.steps p ran.new.trace.starts)
+        (ending result) ran.new.trace.steps (plan_in ran.new.plan) }
+    ensures asks { AsksOf (plan_in ran.new.plan) ran.new.trace.starts (map (λ d. (Driver-box d).state d.value) drivers.old.items) (map (λ d. (Driver-box d).state d.value) drivers.new.items) }
+    ensures alone { CountsScansAlone (plan_in ran.new.plan) ran.new.trace }
 {
     match infer_over(alloc, scoped, &sources) {
-        Ok(typed) => answer(alloc, scoped, &typed, sources, how, drivers, out, steps),
+        Ok(typed) => answer(alloc, scoped, &typed, sources, how, drivers, out, ran),
         Err(fault) => Err(fault),
     }
 }
@@ -121,30 +153,31 @@ fn answer<S: Sink>(
     how: How,
     drivers: &mut Vec<Box<dyn Driver>>,
     out: &mut S,
-    steps: &mut u32,
+    ran: &mut Ran,
 ) -> Result<(), Fault>
     requires scope { WasInScope (names_of sources.items) scoped.now }
     requires types { IsTyped (grounds_of sources.items) (decls_of scoped.now.program.defs) (view scoped.now.program.last) typed.now }
     requires placed { ArePlaced (kinds_of (map (λ d. (Driver-box d).state d.value) drivers.old.items)) sources.items }
     requires idle { All IsIdle (map (λ d. (Driver-box d).state d.value) drivers.old.items) }
     requires fetch { 0 < how.settings.fetch }
-    requires none { steps.old ≡ 0 }
+    requires unrun { IsUnrun ran.old }
     ensures does { (files : FilesState) → DoneMeaning sources.items (is_marked scoped.now) how.first
         (decls_of scoped.now.program.defs) (view scoped.now.program.last) (ending result)
         (outside_of files (map (λ d. (Driver-box d).state d.value) drivers.old.items) (S.state out.old))
         (outside_of files (map (λ d. (Driver-box d).state d.value) drivers.new.items) (S.state out.new)) }
-    ensures steps { CountsOf (IsRewrittenIn how.settings.rewrite (term_of (decls_of scoped.now.program.defs) (view scoped.now.program.last) scoped.now.sources) steps.new)
-        (ending result) steps.new }
+    ensures plan { PlanOf (λ p. PlansTerm how.settings.rewrite (kinds_of (map (λ d. (Driver-box d).state d.value) drivers.old.items)) sources.items (is_marked scoped.now) how.first (ending result)
+        (term_of (decls_of scoped.now.program.defs) (view scoped.now.program.last) scoped.now.sources) ran.new.trace.steps p ran.new.trace.starts)
+        (ending result) ran.new.trace.steps (plan_in ran.new.plan) }
+    ensures asks { AsksOf (plan_in ran.new.plan) ran.new.trace.starts (map (λ d. (Driver-box d).state d.value) drivers.old.items) (map (λ d. (Driver-box d).state d.value) drivers.new.items) }
+    ensures alone { CountsScansAlone (plan_in ran.new.plan) ran.new.trace }
 {
     match translate(alloc, scoped) {
-        Ok(term) => answer_translated(
-            alloc, term, scoped, typed, sources, how, drivers, out, steps,
-        ),
+        Ok(term) => answer_translated(alloc, term, scoped, typed, sources, how, drivers, out, ran),
         Err(_) => Err(Fault::NoMemory),
     }
 }
 
-// Rewrites the term of a program, unless that is not wanted, and prints what it comes to over its sources.
+// Rewrites the term of a program, unless that is not wanted, makes its plan, and prints what that comes to over its sources.
 fn answer_translated<S: Sink>(
     alloc: Global,
     term: Term,
@@ -154,47 +187,91 @@ fn answer_translated<S: Sink>(
     how: How,
     drivers: &mut Vec<Box<dyn Driver>>,
     out: &mut S,
-    steps: &mut u32,
+    ran: &mut Ran,
 ) -> Result<(), Fault>
     requires scope { WasInScope (names_of sources.items) scoped.now }
     requires types { Infers (decls_of scoped.now.program.defs) (view scoped.now.program.last) (grounds_of sources.items) typed.now }
-    requires term { term_view term ≡ term_of (decls_of scoped.now.program.defs) (view scoped.now.program.last) scoped.now.sources }
+    requires term { term_view term ≡ (term_of (decls_of scoped.now.program.defs) (view scoped.now.program.last) scoped.now.sources) }
+    requires mentioned { ReadsMentioned scoped.now (term_view term) }
     requires closed { IsClosed (term_view term) }
     requires small { IsSmall (term_view term) }
     requires placed { ArePlaced (kinds_of (map (λ d. (Driver-box d).state d.value) drivers.old.items)) sources.items }
     requires idle { All IsIdle (map (λ d. (Driver-box d).state d.value) drivers.old.items) }
     requires fetch { 0 < how.settings.fetch }
-    requires none { steps.old ≡ 0 }
+    requires unrun { IsUnrun ran.old }
     ensures does { (files : FilesState) → DoneMeaning sources.items (is_marked scoped.now) how.first
         (decls_of scoped.now.program.defs) (view scoped.now.program.last) (ending result)
         (outside_of files (map (λ d. (Driver-box d).state d.value) drivers.old.items) (S.state out.old))
         (outside_of files (map (λ d. (Driver-box d).state d.value) drivers.new.items) (S.state out.new)) }
-    ensures steps { CountsOf (IsRewrittenIn how.settings.rewrite (term_of (decls_of scoped.now.program.defs) (view scoped.now.program.last) scoped.now.sources) steps.new)
-        (ending result) steps.new }
+    ensures plan { PlanOf (λ p. PlansTerm how.settings.rewrite (kinds_of (map (λ d. (Driver-box d).state d.value) drivers.old.items)) sources.items (is_marked scoped.now) how.first (ending result)
+        (term_of (decls_of scoped.now.program.defs) (view scoped.now.program.last) scoped.now.sources) ran.new.trace.steps p ran.new.trace.starts)
+        (ending result) ran.new.trace.steps (plan_in ran.new.plan) }
+    ensures asks { AsksOf (plan_in ran.new.plan) ran.new.trace.starts (map (λ d. (Driver-box d).state d.value) drivers.old.items) (map (λ d. (Driver-box d).state d.value) drivers.new.items) }
+    ensures alone { CountsScansAlone (plan_in ran.new.plan) ran.new.trace }
 {
     match rewritten(alloc, term, how.settings.rewrite) {
-        Ok(Normal { term, steps: made }) => {
-            *steps = made;
-            answer_over(alloc, &term, scoped, typed, sources, how, drivers, out)
-        }
+        Ok(Normal { term, steps }) => match planned(
+            alloc,
+            &term,
+            steps,
+            &sources,
+            drivers,
+            how.settings,
+        ) {
+            Ok((plan, trace)) => {
+                let mut trace = trace;
+                let result = answer_over(
+                    alloc, &plan, scoped, typed, sources, how, drivers, out, &mut trace,
+                );
+                *ran = Ran {
+                    plan: Some(plan),
+                    trace,
+                };
+                result
+            }
+            Err(_) => Err(Fault::NoMemory),
+        },
         Err(_) => Err(Fault::NoMemory),
     }
 }
 
-// Prints what a term comes to over the sources of a program, where it keeps what the program's own means.
-fn answer_over<S: Sink>(
+// The plan of a rewritten term, and a trace in which its scans are counted.
+fn planned(
     alloc: Global,
     term: &Term,
+    steps: u32,
+    sources: &[Source],
+    drivers: &Vec<Box<dyn Driver>>,
+    settings: Settings,
+) -> Result<(Plan, Trace), NoMemory>
+    requires sense { MakesSense (ships_of (kinds_of (map (λ d. (Driver-box d).state d.value) drivers.now.items)) sources.now) (term_view term.now) }
+    requires small { nodes_of (term_view term.now) ≤ 16384 }
+    requires placed { ArePlaced (kinds_of (map (λ d. (Driver-box d).state d.value) drivers.now.items)) sources.now }
+    ensures plan { IfOk result (λ r. IsPlanOf (ships_of (kinds_of (map (λ d. (Driver-box d).state d.value) drivers.now.items)) sources.now) (term_view term.now) (plan_view r.0)) }
+    ensures trace { IfOk result (λ r. IsFreshTrace (plan_view r.0) steps r.1) }
+{
+    let plan = plan_of(alloc, term, sources, drivers, &settings)?;
+    let trace = trace_of(alloc, &plan, steps)?;
+    Ok((plan, trace))
+}
+
+// Prints what a plan comes to over the sources of a program.
+fn answer_over<S: Sink>(
+    alloc: Global,
+    plan: &Plan,
     scoped: &Scoped,
     typed: &Typed,
     sources: Vec<Source>,
     how: How,
     drivers: &mut Vec<Box<dyn Driver>>,
     out: &mut S,
+    trace: &mut Trace,
 ) -> Result<(), Fault>
     requires scope { WasInScope (names_of sources.items) scoped.now }
     requires types { Infers (decls_of scoped.now.program.defs) (view scoped.now.program.last) (grounds_of sources.items) typed.now }
-    requires keeps { Preserves (term_of (decls_of scoped.now.program.defs) (view scoped.now.program.last) scoped.now.sources) (term_view term.now) }
+    requires planned { (u : Tree) × IsPlanOf (ships_of (kinds_of (map (λ d. (Driver-box d).state d.value) drivers.old.items)) sources.items) u (plan_view plan.now) × Preserves (term_of (decls_of scoped.now.program.defs) (view scoped.now.program.last) scoped.now.sources) u }
+    requires mentioned { ReadsMentioned scoped.now (term_of (decls_of scoped.now.program.defs) (view scoped.now.program.last) scoped.now.sources) }
+    requires traced { (steps : ℕ) × IsFreshTrace (plan_view plan.now) steps trace.old }
     requires placed { ArePlaced (kinds_of (map (λ d. (Driver-box d).state d.value) drivers.old.items)) sources.items }
     requires idle { All IsIdle (map (λ d. (Driver-box d).state d.value) drivers.old.items) }
     requires fetch { 0 < how.settings.fetch }
@@ -203,6 +280,11 @@ fn answer_over<S: Sink>(
         (outside_of files (map (λ d. (Driver-box d).state d.value) drivers.old.items) (S.state out.old))
         (outside_of files (map (λ d. (Driver-box d).state d.value) drivers.new.items) (S.state out.new)) }
     ensures late { IsEarly (ending result) → ⊥ }
+    ensures asks { AsksCounted (plan_view plan.now) trace.new.starts (map (λ d. (Driver-box d).state d.value) drivers.old.items) (map (λ d. (Driver-box d).state d.value) drivers.new.items) }
+    ensures starts { map (λ e. e.0) trace.new.starts ≡ map (λ c. c.number) (scans_in (plan_view plan.now)) }
+    ensures rest { without_starts trace.new ≡ without_starts trace.old }
+    ensures exact { ending result ≡ None → how.first ≡ None → (vs : List (Name × Value)) × HaveValues (kinds_of (map (λ d. (Driver-box d).state d.value) drivers.old.items)) (is_marked scoped.now) 0 sources.items vs
+        → (R : Readings) × ReadsMarked (kinds_of (map (λ d. (Driver-box d).state d.value) drivers.old.items)) sources.items (is_marked scoped.now) R × StartsCounted R (plan_view plan.now) trace.new.starts }
 {
     let is_list = gives_list(typed);
     match attach_sources(alloc, sources, scoped, drivers) {
@@ -211,11 +293,16 @@ fn answer_over<S: Sink>(
                 drivers: mem::replace(drivers, Vec::new(alloc)),
                 sources: attached,
                 settings: how.settings,
-                trace: Trace::new(alloc),
+                trace: mem::replace(trace, Trace::new(alloc)),
             };
-            let result = answer_term(alloc, term, is_list, how.first, &mut session, out);
-            let Session { drivers: back, .. } = session;
+            let result = answer_plan(alloc, plan, is_list, how.first, &mut session, out);
+            let Session {
+                drivers: back,
+                trace: counted,
+                ..
+            } = session;
             *drivers = back;
+            *trace = counted;
             result
         }
         Err(AttachError { source, error }) => Err(driver_fault(source, error)),
@@ -226,7 +313,8 @@ fn answer_over<S: Sink>(
 fn rewritten(alloc: Global, term: Term, on: bool) -> Result<Normal, NoMemory>
     requires closed { IsClosed (term_view term) }
     requires small { IsSmall (term_view term) }
-    ensures { IfOk result (λ r. IsRewrittenTo on (term_view term) r.steps (term_view r.term)) }
+    ensures rewritten { IfOk result (λ r. IsRewrittenTo on (term_view term) r.steps (term_view r.term)) }
+    ensures small { IfOk result (λ r. nodes_of (term_view r.term) ≤ 16384) }
 {
     if on {
         rewrite(alloc, term)
@@ -235,34 +323,35 @@ fn rewritten(alloc: Global, term: Term, on: bool) -> Result<Normal, NoMemory>
     }
 }
 
-// Prints what a term comes to.
-fn answer_term<S: Sink>(
+// Prints what a plan comes to.
+fn answer_plan<S: Sink>(
     alloc: Global,
-    term: &Term,
+    plan: &Plan,
     is_list: bool,
     first: Option<u32>,
     session: &mut Session,
     out: &mut S,
 ) -> Result<(), Fault>
-    requires sense { Sense (term_view term.now) [] (⟦<Session as Seen>⟧.world session.old) }
-    requires list { is_list ≡ true → SenseList (term_view term.now) [] (⟦<Session as Seen>⟧.world session.old) }
-    ensures prints { (files : FilesState) → AnswersTerm
-        (IsTermOutcome is_list first (core (values_of (⟦<Session as Seen>⟧.world session.old)) (term_view term.now) []))
+    requires sense { HasWorth (⟦<Session as Seen>⟧.world session.old) (plan_view plan.now) [] }
+    requires list { is_list ≡ true → HasList (⟦<Session as Seen>⟧.world session.old) (plan_view plan.now) }
+    ensures prints { (files : FilesState) (ks : List DriverKind) (ss : List Source) (marks : ℕ → Bool) (t : Tree) → Runs ks ss marks t (plan_view plan.now) (⟦<Session as Seen>⟧.world session.old)
+        → (is_list ≡ true → IsListTerm (types_of (⟦<Session as Seen>⟧.world session.old)) t) → AnswersTerm (is_list ≡ true)
+        (IsTermOutcome is_list first (core (values_of (⟦<Session as Seen>⟧.world session.old)) t []))
         (HaveSources (types_of (⟦<Session as Seen>⟧.world session.old)) (values_of (⟦<Session as Seen>⟧.world session.old))) (ending result)
         (⟦<Session as Seen>⟧.world session.old).sources
         (outside_of files (⟦<Session as Seen>⟧.world session.old).drivers (S.state out.old))
         (outside_of files (⟦<Session as Seen>⟧.world session.new).drivers (S.state out.new)) }
-    ensures rest { Moved (⟦<Session as Seen>⟧.world session.old) (⟦<Session as Seen>⟧.world session.new) }
+    ensures scanned { Scanned (plan_view plan.now) (ending result) first (⟦<Session as Seen>⟧.world session.old) (⟦<Session as Seen>⟧.world session.new) }
 {
     if is_list {
-        answer_list(alloc, term, first, session, out)
+        print_list(alloc, plan, first, session, out)
     } else {
-        answer_value(alloc, term, first, session, out)
+        answer_value(alloc, plan, first, session, out)
     }
 }
 
 // The fault of a source that its driver refuses.
-fn driver_fault(source: Label, error: DriverError) -> Fault
+pub fn driver_fault(source: Label, error: DriverError) -> Fault
     ensures { result ≡ fault_of source error }
 {
     match error {
@@ -290,52 +379,25 @@ fn gives_list(typed: &Typed) -> bool
     }
 }
 
-// Prints the items of a list.
-fn answer_list<S: Sink>(
-    alloc: Global,
-    term: &Term,
-    first: Option<u32>,
-    session: &mut Session,
-    out: &mut S,
-) -> Result<(), Fault>
-    requires { SenseList (term_view term.now) [] (⟦<Session as Seen>⟧.world session.old) }
-    ensures prints { (files : FilesState) → AnswersTerm
-        (IsListOutcome first (core (values_of (⟦<Session as Seen>⟧.world session.old)) (term_view term.now) []))
-        (HaveSources (types_of (⟦<Session as Seen>⟧.world session.old)) (values_of (⟦<Session as Seen>⟧.world session.old))) (ending result)
-        (⟦<Session as Seen>⟧.world session.old).sources
-        (outside_of files (⟦<Session as Seen>⟧.world session.old).drivers (S.state out.old))
-        (outside_of files (⟦<Session as Seen>⟧.world session.new).drivers (S.state out.new)) }
-    ensures rest { Moved (⟦<Session as Seen>⟧.world session.old) (⟦<Session as Seen>⟧.world session.new) }
-{
-    let mut env = Vec::new(alloc);
-    let mut items = Vec::new(alloc);
-    match eval_list(alloc, term, &mut env, session, &mut items) {
-        Ok(()) => print_value(&cut(Value::List(Seq::of(items)), first), out),
-        Err(EvalStop::Overflow) => print_cut_list(items, first, out),
-        Err(EvalStop::Driver { source, error }) => Err(driver_fault(source, error)),
-        Err(EvalStop::NoMemory) => Err(Fault::NoMemory),
-    }
-}
-
 // Prints a value that is no list.
 fn answer_value<S: Sink>(
     alloc: Global,
-    term: &Term,
+    plan: &Plan,
     first: Option<u32>,
     session: &mut Session,
     out: &mut S,
 ) -> Result<(), Fault>
-    requires { Sense (term_view term.now) [] (⟦<Session as Seen>⟧.world session.old) }
-    ensures prints { (files : FilesState) → AnswersTerm
-        (IsValueOutcome first (core (values_of (⟦<Session as Seen>⟧.world session.old)) (term_view term.now) []))
+    requires { HasWorth (⟦<Session as Seen>⟧.world session.old) (plan_view plan.now) [] }
+    ensures prints { (files : FilesState) (ks : List DriverKind) (ss : List Source) (marks : ℕ → Bool) (t : Tree) → Runs ks ss marks t (plan_view plan.now) (⟦<Session as Seen>⟧.world session.old) → AnswersTerm ⊥
+        (IsValueOutcome first (core (values_of (⟦<Session as Seen>⟧.world session.old)) t []))
         (HaveSources (types_of (⟦<Session as Seen>⟧.world session.old)) (values_of (⟦<Session as Seen>⟧.world session.old))) (ending result)
         (⟦<Session as Seen>⟧.world session.old).sources
         (outside_of files (⟦<Session as Seen>⟧.world session.old).drivers (S.state out.old))
         (outside_of files (⟦<Session as Seen>⟧.world session.new).drivers (S.state out.new)) }
-    ensures rest { Moved (⟦<Session as Seen>⟧.world session.old) (⟦<Session as Seen>⟧.world session.new) }
+    ensures scanned { Scanned (plan_view plan.now) (ending result) first (⟦<Session as Seen>⟧.world session.old) (⟦<Session as Seen>⟧.world session.new) }
 {
     let mut env = Vec::new(alloc);
-    match eval(alloc, term, &mut env, session) {
+    match value_of(alloc, plan, &mut env, session) {
         Ok(value) => print_value(&cut(value, first), out),
         Err(EvalStop::Overflow) => Err(Fault::Overflow),
         Err(EvalStop::Driver { source, error }) => Err(driver_fault(source, error)),

@@ -8,25 +8,27 @@ ghost use Rattle.kl_engine.specs.Answering.{Does, IsIdle};
 ghost use Rattle.kl_engine.specs.Commands.{Files as FromFiles, Made, Program, asked, path_of, wants_stats};
 ghost use Rattle.kl_engine.specs.Faults.{TookLine, ending, status_of};
 ghost use Rattle.kl_engine.specs.Outside.{outside_of};
-ghost use Rattle.kl_engine.specs.Rewritten.{CountsSteps, wants_rewriting};
-ghost use Rattle.kl_engine.specs.Stats.{CountsStepsAlone, handed_in, told_text};
+ghost use Rattle.kl_engine.specs.Planned.{AsksOf, CountsScansAlone, HasPlan, IsUnrun, plan_in};
+ghost use Rattle.kl_engine.specs.Rewritten.{wants_rewriting};
+ghost use Rattle.kl_engine.specs.Stats.{handed_in, told_text};
 ghost use Rattle.kl_engine.specs.declared.top.Purpose.TheVariants.{Run, Check, Types};
 
 use crate::check::check;
 use crate::fault::{Fault, status, tell};
 use crate::inputs::{Inputs, made_inputs, read_inputs};
-use crate::run::{How, run};
+use crate::run::{How, Ran, run};
 use crate::show::show;
 use crate::stats::{rows_handed, tell_counts};
 use crate::types::types;
 use kl_ask::{Driver, Settings, Trace};
 use kl_base::Text;
 use kl_outside::{Files, Sink};
+use kl_ship::Plan;
 use kl_words::{Command, Job, WordsError, read_words};
 use std::alloc::Global;
 
 /// What the top call answers.
-#[derive(Drop, PartialEq, Eq)]
+#[derive(Drop)]
 pub struct Answer {
     /// 0: well, and all that the command prints was written. Else that of the fault: 1: the words name no command. 2: the
     /// program is none in scope. 3: the program has no typing. 4: the catalogue is none, or an entry of it has a name that
@@ -40,8 +42,11 @@ pub struct Answer {
     pub status: u8,
     /// Why the command did not end well, or none where it did.
     pub fault: Option<Fault>,
-    /// What was counted while the program ran: the steps in which its term was rewritten, none with `--no-rewrite`, and
-    /// nothing else, so each other count is 0.
+    /// The plan by which a program was run, or would have been, had its sources been there. None where a run was refused before, and
+    /// for every other command.
+    pub plan: Option<Plan>,
+    /// What was counted while the program ran: the steps in which its term was rewritten, none with `--no-rewrite`, and how often
+    /// each scan of its plan was started. Each other count is 0.
     pub trace: Trace,
 }
 
@@ -94,49 +99,45 @@ pub fn kleisli<F: Files, S: Sink, E: Sink>(
         TookLine (told_text (wants_stats command) (path_of (asked command)) result.fault result.trace
         (handed_in (map (λ d. (Driver-box d).state d.value) drivers.old.items) (map (λ d. (Driver-box d).state d.value) drivers.new.items)))
         (E.state err.old) (E.state err.new) }
-    ensures trace { CountsStepsAlone result.trace }
-    ensures steps { let words = command_of (map (λ w. string_bytes w) words.now) in
-        CountsSteps (wants_rewriting words) (asked words) result.fault result.trace.steps (F.state files.old) (F.state files.new)
+    ensures plan { let words = command_of (map (λ w. string_bytes w) words.now) in
+        HasPlan (wants_rewriting words) (asked words) result.fault result.trace.steps (plan_in result.plan) result.trace.starts (F.state files.old) (F.state files.new)
         (kinds_of (map (λ d. (Driver-box d).state d.value) drivers.old.items)) }
+    ensures asks { AsksOf (plan_in result.plan) result.trace.starts (map (λ d. (Driver-box d).state d.value) drivers.old.items) (map (λ d. (Driver-box d).state d.value) drivers.new.items) }
+    ensures trace { CountsScansAlone (plan_in result.plan) result.trace }
     ensures words_first { command_of (map (λ w. string_bytes w) words.now) ≡ None
         → (files.new ≡ files.old)
         × (map (λ d. (Driver-box d).state d.value) drivers.new.items ≡ map (λ d. (Driver-box d).state d.value) drivers.old.items)
         × (out.new ≡ out.old) }
 {
     let before = rows_handed(drivers);
-    let mut steps = 0;
+    let mut ran = Ran {
+        plan: None,
+        trace: Trace::new(alloc),
+    };
     match read_words(alloc, words) {
         Ok(Command::Run(job)) => {
-            let result = do_run(alloc, &job, files, drivers, out, &mut steps);
+            let result = do_run(alloc, &job, files, drivers, out, &mut ran);
             let handed = rows_handed(drivers).saturating_sub(before);
-            end(
-                alloc,
-                result,
-                job.program.slice(),
-                job.stats,
-                steps,
-                handed,
-                err,
-            )
+            end(result, job.program.slice(), job.stats, ran, handed, err)
         }
         Ok(Command::Types { program, catalogue }) => {
             let result = do_types(alloc, &program, &catalogue, files, drivers, out);
-            end(alloc, result, program.slice(), false, 0, 0, err)
+            end(result, program.slice(), false, ran, 0, err)
         }
         Ok(Command::Check { program, catalogue }) => {
             let result = do_check(alloc, &program, &catalogue, files, drivers, out);
-            end(alloc, result, program.slice(), false, 0, 0, err)
+            end(result, program.slice(), false, ran, 0, err)
         }
         Ok(Command::Show { file }) => {
             let result = show(alloc, file.slice(), files, out);
-            end(alloc, result, file.slice(), false, 0, 0, err)
+            end(result, file.slice(), false, ran, 0, err)
         }
         Ok(Command::Gen { seed, size }) => {
-            let result = do_gen(alloc, seed, size, drivers, out, &mut steps);
-            end(alloc, result, b"", false, steps, 0, err)
+            let result = do_gen(alloc, seed, size, drivers, out, &mut ran);
+            end(result, b"", false, ran, 0, err)
         }
-        Err(WordsError::Usage) => end(alloc, Err(Fault::Usage), b"", false, 0, 0, err),
-        Err(WordsError::NoMemory) => end(alloc, Err(Fault::NoMemory), b"", false, 0, 0, err),
+        Err(WordsError::Usage) => end(Err(Fault::Usage), b"", false, ran, 0, err),
+        Err(WordsError::NoMemory) => end(Err(Fault::NoMemory), b"", false, ran, 0, err),
     }
 }
 
@@ -153,22 +154,20 @@ pub enum Purpose {
 
 // Tells how a command ended that names this path, or where it ended well what was counted, if that is asked for.
 fn end<E: Sink>(
-    alloc: Global,
     outcome: Result<(), Fault>,
     path: &[u8],
     stats: bool,
-    steps: u32,
+    ran: Ran,
     handed: u128,
     err: &mut E,
 ) -> Answer
     ensures fault { result.fault ≡ ending outcome }
     ensures status { result.status ≡ status_of (ending outcome) }
-    ensures trace { CountsStepsAlone result.trace }
-    ensures steps { result.trace.steps ≡ steps }
+    ensures plan { result.plan ≡ ran.plan }
+    ensures trace { result.trace ≡ ran.trace }
     ensures line { TookLine (told_text stats path.now (ending outcome) result.trace handed) (E.state err.old) (E.state err.new) }
 {
-    let mut trace = Trace::new(alloc);
-    trace.steps = steps;
+    let Ran { plan, trace } = ran;
     match outcome {
         Ok(()) => {
             if stats {
@@ -177,6 +176,7 @@ fn end<E: Sink>(
             Answer {
                 status: 0,
                 fault: None,
+                plan,
                 trace,
             }
         }
@@ -185,6 +185,7 @@ fn end<E: Sink>(
             Answer {
                 status: status(&fault),
                 fault: Some(fault),
+                plan,
                 trace,
             }
         }
@@ -198,17 +199,19 @@ fn do_run<F: Files, S: Sink>(
     files: &mut F,
     drivers: &mut Vec<Box<dyn Driver>>,
     out: &mut S,
-    steps: &mut u32,
+    ran: &mut Ran,
 ) -> Result<(), Fault>
     requires idle { All IsIdle (map (λ d. (Driver-box d).state d.value) drivers.old.items) }
     requires few { length drivers.old.items < 2 ^ 32 }
     requires fetch { 0 < job.now.settings.fetch }
-    requires none { steps.old ≡ 0 }
+    requires unrun { IsUnrun ran.old }
     ensures does { Does (Program (Run job.now.first) (FromFiles job.now.program job.now.catalogue)) (ending result)
         (outside_of (F.state files.old) (map (λ d. (Driver-box d).state d.value) drivers.old.items) (S.state out.old))
         (outside_of (F.state files.new) (map (λ d. (Driver-box d).state d.value) drivers.new.items) (S.state out.new)) }
-    ensures steps { CountsSteps job.now.settings.rewrite (Program (Run job.now.first) (FromFiles job.now.program job.now.catalogue))
-        (ending result) steps.new (F.state files.old) (F.state files.new) (kinds_of (map (λ d. (Driver-box d).state d.value) drivers.old.items)) }
+    ensures plan { HasPlan job.now.settings.rewrite (Program (Run job.now.first) (FromFiles job.now.program job.now.catalogue))
+        (ending result) ran.new.trace.steps (plan_in ran.new.plan) ran.new.trace.starts (F.state files.old) (F.state files.new) (kinds_of (map (λ d. (Driver-box d).state d.value) drivers.old.items)) }
+    ensures asks { AsksOf (plan_in ran.new.plan) ran.new.trace.starts (map (λ d. (Driver-box d).state d.value) drivers.old.items) (map (λ d. (Driver-box d).state d.value) drivers.new.items) }
+    ensures alone { CountsScansAlone (plan_in ran.new.plan) ran.new.trace }
 {
     match read_inputs(alloc, &job.program, &job.catalogue, drivers, files) {
         Ok(Inputs { text, sources }) => {
@@ -223,7 +226,7 @@ fn do_run<F: Files, S: Sink>(
                 how,
                 drivers,
                 out,
-                steps,
+                ran,
             )
         }
         Err(fault) => Err(fault),
@@ -237,16 +240,18 @@ fn do_gen<S: Sink>(
     size: u32,
     drivers: &mut Vec<Box<dyn Driver>>,
     out: &mut S,
-    steps: &mut u32,
+    ran: &mut Ran,
 ) -> Result<(), Fault>
     requires idle { All IsIdle (map (λ d. (Driver-box d).state d.value) drivers.old.items) }
     requires few { length drivers.old.items < 2 ^ 32 }
-    requires none { steps.old ≡ 0 }
+    requires unrun { IsUnrun ran.old }
     ensures does { (files : FilesState) → Does (Program (Run None) (Made seed size)) (ending result)
         (outside_of files (map (λ d. (Driver-box d).state d.value) drivers.old.items) (S.state out.old))
         (outside_of files (map (λ d. (Driver-box d).state d.value) drivers.new.items) (S.state out.new)) }
-    ensures steps { (files : FilesState) → CountsSteps true (Program (Run None) (Made seed size)) (ending result) steps.new files files
-        (kinds_of (map (λ d. (Driver-box d).state d.value) drivers.old.items)) }
+    ensures plan { (files : FilesState) → HasPlan true (Program (Run None) (Made seed size))
+        (ending result) ran.new.trace.steps (plan_in ran.new.plan) ran.new.trace.starts files files (kinds_of (map (λ d. (Driver-box d).state d.value) drivers.old.items)) }
+    ensures asks { AsksOf (plan_in ran.new.plan) ran.new.trace.starts (map (λ d. (Driver-box d).state d.value) drivers.old.items) (map (λ d. (Driver-box d).state d.value) drivers.new.items) }
+    ensures alone { CountsScansAlone (plan_in ran.new.plan) ran.new.trace }
 {
     match made_inputs(alloc, seed, size, drivers) {
         Ok(Inputs { text, sources }) => {
@@ -261,7 +266,7 @@ fn do_gen<S: Sink>(
                 how,
                 drivers,
                 out,
-                steps,
+                ran,
             )
         }
         Err(fault) => Err(fault),

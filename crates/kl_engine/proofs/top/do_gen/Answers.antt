@@ -2,7 +2,7 @@ use Rattle.std.proofs.Common.{None, ap, true}
 use Rattle.kl_ask.specs.declared.settings.Settings.{Settings}
 use Rattle.kl_engine.specs.Commands.{Made}
 use Rattle.kl_engine.specs.declared.top.Purpose.TheVariants as purpose
-use Rattle.kl_engine.proofs.CountLemmas.{made_counts, refused_counts}
+use Rattle.kl_engine.proofs.CountLemmas.{made_plan, refused_plan, unrun_alone, unrun_asks}
 use Rattle.kl_engine.proofs.ProgramLemmas.{does_same, no_files, program_does, program_refused}
 use Rattle.kl_engine.proofs.top.do_gen.Goals as goal
 
@@ -16,12 +16,24 @@ pub returns-in-Ok-clause-does : goal.returns-in-Ok-clause-does
 returns-in-Ok-clause-does g c = λ files.
     program_does (purpose.Run None) (Made c.args.seed c.args.size) files files c.in-Ok.field-0 _ _ _ _ _ (c.in-Ok.ensures files) (does_same _ _ (purpose.Run None) _ _ _ _ _ c.into_vec.ensures c.slice.ensures (c.run.ensures.does files))
 
-pub returns-in-Ok-clause-steps : goal.returns-in-Ok-clause-steps
-returns-in-Ok-clause-steps g c = λ files.
-    made_counts c.usual.result.rewrite c.args.seed c.args.size files _ _ c.in-Ok.field-0 _ _ _ (ap (λ (s : Settings). s.rewrite) c.usual.ensures) c.slice.ensures c.into_vec.ensures (c.in-Ok.ensures files) c.run.ensures.steps
+pub returns-in-Ok-clause-plan : goal.returns-in-Ok-clause-plan
+returns-in-Ok-clause-plan g c = λ files.
+    made_plan c.usual.result.rewrite c.args.seed c.args.size files _ _ _ _ c.in-Ok.field-0 _ _ _ (ap (λ (s : Settings). s.rewrite) c.usual.ensures) c.slice.ensures c.into_vec.ensures (c.in-Ok.ensures files) c.run.ensures.plan
+
+pub returns-in-Ok-clause-asks : goal.returns-in-Ok-clause-asks
+returns-in-Ok-clause-asks g c = c.run.ensures.asks
+
+pub returns-in-Ok-clause-alone : goal.returns-in-Ok-clause-alone
+returns-in-Ok-clause-alone g c = c.run.ensures.alone
 
 pub returns-in-Err-clause-does : goal.returns-in-Err-clause-does
 returns-in-Err-clause-does g c = λ files. program_refused (purpose.Run None) (Made c.args.seed c.args.size) files files c.in-Err.fault _ _ (c.in-Err.ensures files)
 
-pub returns-in-Err-clause-steps : goal.returns-in-Err-clause-steps
-returns-in-Err-clause-steps g c = λ files. refused_counts true None (Made c.args.seed c.args.size) files files _ _ c.in-Err.fault c.requires.none (c.in-Err.ensures files)
+pub returns-in-Err-clause-plan : goal.returns-in-Err-clause-plan
+returns-in-Err-clause-plan g c = λ files. refused_plan true None (Made c.args.seed c.args.size) files files _ c.in-Err.fault _ c.requires.unrun (c.in-Err.ensures files)
+
+pub returns-in-Err-clause-asks : goal.returns-in-Err-clause-asks
+returns-in-Err-clause-asks g c = unrun_asks _ _ c.requires.unrun
+
+pub returns-in-Err-clause-alone : goal.returns-in-Err-clause-alone
+returns-in-Err-clause-alone g c = unrun_alone _ c.requires.unrun

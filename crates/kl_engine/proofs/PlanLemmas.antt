@@ -1,0 +1,110 @@
+-- What is counted of a plan that was run over the sources of a program.
+use Rattle.std.proofs.Common.{inl, ◌≡◌, ℕ, Bool, List, [], ◌∷◌, map, Option, Some, None, Result, Ok, Err, refl, sym, ap, subst, ◌∙◌}
+use Rattle.kl_outcome.specs.Outcome.{Name}
+use Rattle.kl_value.specs.declared.Kind.TheVariants as kind
+use Rattle.kl_value.specs.declared.Value.{Value}
+use Rattle.kl_type.specs.Ground.{coll}
+use Rattle.kl_core.specs.Trees.{Tree}
+use Rattle.kl_rules.specs.Preserving.{Preserves}
+use Rattle.kl_ask.specs.Driver.{DriverKind, State}
+use Rattle.kl_ask.specs.Lists.{EachSteps}
+use Rattle.kl_ask.specs.World.{World, types_of}
+use Rattle.kl_ask.specs.declared.settings.Settings.{Settings}
+use Rattle.kl_ask.specs.declared.settings.Trace.{Trace}
+use Rattle.kl_ship.specs.Meaning.{Readings}
+use Rattle.kl_ship.specs.Nodes.{Node}
+use Rattle.kl_ship.specs.Numbers.{scans_in}
+use Rattle.kl_ship.specs.declared.source.ShipSource.{ShipSource}
+use Rattle.kl_scans.specs.Held.{nothing}
+use Rattle.kl_scans.specs.Log.{without_starts}
+use Rattle.kl_scans.specs.Moves.{Moves}
+use Rattle.kl_scans.proofs.Moving.{moves_none}
+use Rattle.kl_cursor.specs.Left.{reading}
+use Rattle.kl_cursor.specs.Sense.{HasWorth, IsToldAt}
+use Rattle.kl_run.specs.Counted.{AsksCounted, IsFreshTrace, ReadsMarked, StartsCounted}
+use Rattle.kl_run.specs.Planned.{IsPlanOf, ships_of}
+use Rattle.kl_run.specs.Running.{Runs}
+use Rattle.kl_run.proofs.Means.{means_term}
+use Rattle.kl_run.proofs.Counts.{asks_counted, asks_attached, starts_counted, starts_numbered, trace_kept}
+use Rattle.kl_sources.specs.Attaching.{MayAttach, world_of}
+use Rattle.kl_sources.specs.Sources.{HaveValues}
+use Rattle.kl_sources.specs.declared.source.Source.{Source}
+use Rattle.kl_engine.specs.Faults.{Ending}
+use Rattle.kl_engine.specs.Planned.{CountsScansAlone, IsEarly, PlanOf, PlansTerm}
+use Rattle.kl_engine.specs.Rewritten.{IsRewrittenTo}
+use Rattle.kl_engine.specs.Running.{HasList, IsListTerm, Scanned}
+use Rattle.kl_engine.proofs.RewriteLemmas.{rewritten_keeps}
+
+module _ (ships : List ShipSource) (u : Tree) (p : Node) (planned : IsPlanOf ships u p) (steps : ℕ) (was : Trace) (fresh : IsFreshTrace p steps was) where
+  -- over a session in which it began afresh
+  module _ (a b : World) (trace : Trace) (at : a.trace ≡ trace) (same : trace ≡ was) (end : Ending) (first : Option ℕ) (scanned : Scanned p end first a b) where
+    began : a.trace.starts ≡ map (λ c. (c.number, 0)) (scans_in p)
+    began = ap (λ (t : Trace). t.starts) (at ∙ same) ∙ fresh.starts
+
+    pub plan_asks : (marks : ℕ → Bool) (ss : List Source) (ds : List State) → EachSteps (MayAttach marks ss) ds a.drivers → AsksCounted p b.trace.starts ds b.drivers
+    plan_asks marks ss ds attached =
+        asks_attached marks ss p b.trace.starts ds a.drivers b.drivers attached
+        (asks_counted ships u p planned scanned.moves.events a b scanned.moves.logged scanned.known began)
+
+    pub plan_numbers : map (λ e. e.0) b.trace.starts ≡ map (λ c. c.number) (scans_in p)
+    plan_numbers = starts_numbered ships u p planned scanned.moves.events a b scanned.moves.logged scanned.known began
+
+    pub plan_rest : without_starts b.trace ≡ without_starts was
+    plan_rest = trace_kept ships u p planned scanned.moves.events a b scanned.moves.logged scanned.known began ∙ ap without_starts (at ∙ same)
+
+    pub plan_starts : end ≡ None → first ≡ None → IsToldAt a → StartsCounted (reading a) p b.trace.starts
+    plan_starts well all told = starts_counted ships u p planned scanned.moves.events a b scanned.moves.logged scanned.known began (reading a) (scanned.exact well all told)
+
+  -- nothing was started
+  module _ (w : World) (at : w.trace ≡ was) where
+    unbegun : w.trace.starts ≡ map (λ c. (c.number, 0)) (scans_in p)
+    unbegun = ap (λ (t : Trace). t.starts) at ∙ fresh.starts
+
+    abbrev still_moves : Moves nothing nothing w w
+    still_moves = moves_none nothing w
+
+    still_counted : AsksCounted p w.trace.starts w.drivers w.drivers
+    still_counted = asks_counted ships u p planned [] w w still_moves.logged tt unbegun
+
+    still_numbered : map (λ e. e.0) w.trace.starts ≡ map (λ c. c.number) (scans_in p)
+    still_numbered = starts_numbered ships u p planned [] w w still_moves.logged tt unbegun
+
+  pub refused_asks : (marks : ℕ → Bool) (ss : List Source) (settings : Settings) (ds mid : List State) → EachSteps (MayAttach marks ss) ds mid → AsksCounted p was.starts ds mid
+  refused_asks marks ss settings ds mid attached = asks_attached marks ss p was.starts ds mid mid attached (still_counted (world_of mid [] settings was) refl)
+
+  pub refused_numbers : (settings : Settings) → map (λ e. e.0) was.starts ≡ map (λ c. c.number) (scans_in p)
+  refused_numbers settings = still_numbered (world_of [] [] settings was) refl
+
+-- ---- a plan that runs
+
+pub runs_worth : (ks : List DriverKind) (ss : List Source) (marks : ℕ → Bool) (t : Tree) (p : Node) (w : World) → Runs ks ss marks t p w → HasWorth w p []
+runs_worth ks ss marks t p w runs = ([], runs.sense.0, tt, runs.typed runs.sense.0 runs.sense.1, runs.ready)
+
+pub runs_list : (ks : List DriverKind) (ss : List Source) (marks : ℕ → Bool) (t : Tree) (p : Node) (w : World) → Runs ks ss marks t p w → IsListTerm (types_of w) t → HasList w p
+runs_list ks ss marks t p w runs list = (list.0, runs.typed (coll kind.List list.0) list.1, runs.ready)
+
+-- ---- the plan of a term that was rewritten
+
+module _ (ks : List DriverKind) (ss : List Source) (u : Tree) (p : Node) (planned : IsPlanOf (ships_of ks ss) u p) (steps : ℕ) (was trace : Trace) (fresh : IsFreshTrace p steps was) (rest : without_starts trace ≡ without_starts was) where
+  pub translated_plan : (on : Bool) (marks : ℕ → Bool) (first : Option ℕ) (end : Ending) (t given : Tree) → given ≡ t → IsRewrittenTo on given steps u → (IsEarly end → ⊥)
+      → (end ≡ None → first ≡ None → (vs : List (Name × Value)) × HaveValues ks marks 0 ss vs → (R : Readings) × ReadsMarked ks ss marks R × StartsCounted R p trace.starts)
+      → PlanOf (λ q. PlansTerm on ks ss marks first end t trace.steps q trace.starts) end trace.steps (Some p)
+  translated_plan on marks first end t given is rewritten late exact =
+      let same : trace.steps ≡ steps = ap (λ (r : Trace). r.steps) rest ∙ fresh.steps in
+      let led : IsRewrittenTo on t steps u = subst (λ x. IsRewrittenTo on x steps u) is rewritten in
+      inl (p, refl, record {
+        term = u;
+        rewritten = subst (λ n. IsRewrittenTo on t n u) (sym same) led;
+        planned = planned;
+        means = means_term (ships_of ks ss) t u p planned (rewritten_keeps on t u steps led);
+        exact = exact;
+      }, late)
+
+  pub translated_alone : map (λ e. e.0) trace.starts ≡ map (λ c. c.number) (scans_in p) → CountsScansAlone (Some p) trace
+  translated_alone starts = record {
+    starts = starts;
+    joins = ap (λ (r : Trace). r.joins) rest ∙ fresh.joins;
+    hits = ap (λ (r : Trace). r.hits) rest ∙ fresh.hits;
+    misses = ap (λ (r : Trace). r.misses) rest ∙ fresh.misses;
+    peak = ap (λ (r : Trace). r.peak) rest ∙ fresh.peak;
+  }

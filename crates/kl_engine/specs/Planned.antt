@@ -1,0 +1,120 @@
+-- The plan of a program that is run, and what is counted of it.
+use Rattle.std.specs.Prelude.{◌≡◌, ◌⊎◌, ℕ, Bool, List, [], map, Option, Some, None, ⊤}
+use Rattle.std.specs.Option.{option_map}
+use Rattle.kl_outside.specs.Counts.{Rose}
+use Rattle.kl_outside.specs.Files.{FilesState}
+use Rattle.kl_outcome.specs.Outcome.{Name}
+use Rattle.kl_value.specs.declared.Value.{Value}
+use Rattle.kl_core.specs.Trees.{Tree}
+use Rattle.kl_syntax.specs.declared.tree.Program.{Program}
+use Rattle.kl_ask.specs.Driver.{DriverKind, State}
+use Rattle.kl_ask.specs.Lists.{EachSteps}
+use Rattle.kl_ask.specs.Trace.{IsBlank}
+use Rattle.kl_ask.specs.declared.settings.Trace.{Trace}
+use Rattle.kl_ship.specs.Meaning.{Readings}
+use Rattle.kl_ship.specs.Nodes.{Node, view}
+use Rattle.kl_ship.specs.Numbers.{scans_in}
+use Rattle.kl_ship.specs.declared.plan.Plan.{Plan}
+use Rattle.kl_run.specs.Counted.{AsksCounted, ReadsMarked, StartsCounted}
+use Rattle.kl_run.specs.Planned.{IsPlanOf, MeansTerm, ships_of}
+use Rattle.kl_sources.specs.Sources.{names_of, HaveValues}
+use Rattle.kl_sources.specs.declared.source.Source.{Source}
+use Rattle.kl_engine.specs.Answering.{IsRunning, OfRun}
+use Rattle.kl_engine.specs.Commands.{Command, Program as AProgram}
+use Rattle.kl_engine.specs.Faults.{Ending}
+use Rattle.kl_engine.specs.Reading.{IsProgramOf}
+use Rattle.kl_engine.specs.Rewritten.{IsRewrittenTo, term_in}
+use Rattle.kl_engine.specs.Verdict.{AreMarks, IsInputsFault}
+use Rattle.kl_engine.specs.declared.fault.Fault.TheVariants as fault
+use Rattle.kl_engine.specs.declared.run.Ran.{Ran}
+use Rattle.kl_engine.specs.declared.top.Purpose.TheVariants as purpose
+
+abbrev pub plan_in : Option Plan → Option Node
+plan_in plan = option_map view plan
+
+-- there is no plan, and nothing is counted
+abbrev pub IsUnrun : Ran → Type 0
+IsUnrun ran = (ran.plan ≡ None) × IsBlank ran.trace
+
+-- the counts of starts are those of the plan's scans, by their numbers
+abbrev pub AreStartsOf : Option Node → List (ℕ × ℕ) → Type 0
+AreStartsOf (Some p) starts = map (λ e. e.0) starts ≡ map (λ c. c.number) (scans_in p)
+AreStartsOf None starts = starts ≡ []
+
+-- nothing is counted but steps of rewriting and starts of scans
+pub record CountsScansAlone (plan : Option Node) (trace : Trace) : Type 0 where
+  pub starts : AreStartsOf plan trace.starts
+  pub joins : trace.joins ≡ []
+  pub hits : trace.hits ≡ 0
+  pub misses : trace.misses ≡ 0
+  pub peak : trace.peak ≡ 0
+
+-- Drivers were asked what the plan's scans ask, as often as these were started; without a plan they were asked nothing.
+abbrev pub AsksOf : Option Node → List (ℕ × ℕ) → List State → List State → Type 0
+AsksOf (Some p) starts old new = AsksCounted p starts old new
+AsksOf None starts old new = EachSteps (λ a b. b.asked ≡ a.asked) old new
+
+-- The plan of a program's term t, over sources at drivers of these kinds, of which the marked ones are mentioned: that of the term
+-- to which so many steps of rewriting lead from t.
+pub record PlansTerm (on : Bool) (ks : List DriverKind) (ss : List Source) (marks : ℕ → Bool) (first : Option ℕ) (end : Ending) (t : Tree) (steps : ℕ) (p : Node) (starts : List (ℕ × ℕ)) : Type 0 where
+  pub term : Tree
+  pub rewritten : IsRewrittenTo on t steps term
+  pub planned : IsPlanOf (ships_of ks ss) term p
+  pub means : MeansTerm (ships_of ks ss) t p
+  -- where all that the program means is drawn, and the sources that it mentions are told, each scan was started once for each
+  -- environment that reaches it
+  pub exact : end ≡ None → first ≡ None → (vs : List (Name × Value)) × HaveValues ks marks 0 ss vs
+      → (R : Readings) × ReadsMarked ks ss marks R × StartsCounted R p starts
+
+-- the plan of the program that a text is
+abbrev pub PlansText : Bool → List DriverKind → List Source → Option ℕ → Ending → List ℕ → ℕ → Node → List (ℕ × ℕ) → Type 0
+PlansText on ks ss first end text steps p starts =
+    (q : Program) × IsProgramOf (names_of ss) text q × (marks : ℕ → Bool) × AreMarks q (names_of ss) marks × PlansTerm on ks ss marks first end (term_in (names_of ss) q) steps p starts
+
+-- an end to which a run comes before it has a plan
+abbrev pub IsEarly : Ending → Type 0
+IsEarly (Some fault.Usage) = ⊤
+IsEarly (Some (fault.Text w byte)) = ⊤
+IsEarly (Some fault.Nesting) = ⊤
+IsEarly (Some fault.TermNodes) = ⊤
+IsEarly (Some fault.TermDepth) = ⊤
+IsEarly (Some (fault.IllTyped decl)) = ⊤
+IsEarly (Some (fault.Catalogue byte)) = ⊤
+IsEarly (Some (fault.NameTwice name)) = ⊤
+IsEarly (Some (fault.NoDriver name)) = ⊤
+IsEarly (Some (fault.Unsuited name)) = ⊤
+IsEarly (Some fault.ProgramBytes) = ⊤
+IsEarly (Some fault.CatalogueBytes) = ⊤
+IsEarly end = ⊥
+
+-- the file of a command's program, or that of its catalogue, is told to be missing
+abbrev pub LacksInput : Command → FilesState → List DriverKind → Type 0
+LacksInput (AProgram p from) files ks = (told : _) × (files.told ≡ Some told) × IsInputsFault told ks from fault.Read
+LacksInput command files ks = ⊥
+
+-- a run may end so before it has a plan
+abbrev pub MayBeEarly : Command → Ending → FilesState → FilesState → List DriverKind → Type 0
+MayBeEarly command (Some fault.NoMemory) files files' ks = ⊤
+MayBeEarly command (Some fault.Read) files files' ks = LacksInput command files ks ⊎ Rose files.faults files'.faults
+MayBeEarly command end files files' ks = IsEarly end
+
+-- how many of the first items a command wants
+abbrev pub first_of_run : Command → Option ℕ
+first_of_run (AProgram (purpose.Run first) from) = first
+first_of_run command = None
+
+-- The plan and the counts are those of the program that is run, where the run does not end before it has a plan; else there is no
+-- plan, and no step is counted.
+abbrev pub HasPlan : Bool → Command → Ending → ℕ → Option Node → List (ℕ × ℕ) → FilesState → FilesState → List DriverKind → Type 0
+HasPlan on command end steps plan starts files files' ks =
+    ((p : Node) × (plan ≡ Some p) × OfRun command files ks (λ text ss. PlansText on ks ss (first_of_run command) end text steps p starts) × (IsEarly end → ⊥))
+    ⊎ ((plan ≡ None) × (steps ≡ 0) × ((IsRunning command → ⊥) ⊎ MayBeEarly command end files files' ks))
+
+-- ---- for private functions alone: the same where the files are read
+
+abbrev pub MayStop : Ending → Type 0
+MayStop (Some fault.NoMemory) = ⊤
+MayStop end = IsEarly end
+
+abbrev pub PlanOf : (Node → Type 0) → Ending → ℕ → Option Node → Type 0
+PlanOf Plans end steps plan = ((p : Node) × (plan ≡ Some p) × Plans p × (IsEarly end → ⊥)) ⊎ ((plan ≡ None) × (steps ≡ 0) × MayStop end)

@@ -1,0 +1,220 @@
+//! Lists, which are printed as they are drawn.
+ghost use Rattle.std.specs.Prelude.{◌≡◌, ◌++◌, ℕ, Bool, List, [], None, Ok, codes, false, ⊤};
+ghost use Rattle.kl_outside.specs.Files.{FilesState};
+ghost use Rattle.kl_outside.specs.Sinks.{SinkState, WritesWhole};
+ghost use Rattle.kl_exchange.specs.Printing.{Puts, as_stop};
+ghost use Rattle.kl_value.specs.declared.Value.{Value};
+ghost use Rattle.kl_value.specs.declared.value.Value.TheVariants as value;
+ghost use Rattle.kl_value.specs.Written.{separator, text_of};
+ghost use Rattle.kl_core.specs.Core.{core};
+ghost use Rattle.kl_core.specs.Trees.{Tree};
+ghost use Rattle.kl_core.specs.Typing.{HaveSources};
+ghost use Rattle.kl_ask.specs.Driver.{DriverKind};
+ghost use Rattle.kl_ask.specs.World.{types_of, values_of};
+ghost use Rattle.kl_ship.specs.Nodes.{view};
+ghost use Rattle.kl_sources.specs.declared.source.Source.{Source};
+ghost use Rattle.kl_run.specs.Running.{Runs};
+ghost use Rattle.kl_engine.specs.Answering.{PrintsPage};
+ghost use Rattle.kl_engine.specs.Faults.{ending};
+ghost use Rattle.kl_engine.specs.Outside.{outside_of};
+ghost use Rattle.kl_engine.specs.Running.{AnswersTerm, HasList, IsListOutcome, IsListTerm, Scanned, StopsList, are_enough, one_more};
+ghost use Rattle.kl_engine.specs.Verdict.{list_front, value_page};
+
+use crate::fault::Fault;
+use crate::page::{put_item, write_fault};
+use crate::run::driver_fault;
+use kl_ask::{Seen, Session};
+use kl_cursor::{Cursor, open_plan};
+use kl_eval::EvalStop;
+use kl_exchange::{Page, PrintError};
+use kl_outside::Sink;
+use kl_ship::Plan;
+use kl_value::Value;
+use std::alloc::Global;
+
+/// Prints the items of a list as they are drawn, and no more than the first of them, where a number is given: then no more are drawn.
+/// What was drawn is written before a source is waited for.
+///
+/// # Errors
+/// `Overflow`, behind the items that come before it; `Read` and `Changed`, where a driver failed or a source is no longer what it
+/// was; `Write`, where the sink refused a piece; want of memory.
+pub fn print_list<S: Sink>(
+    alloc: Global,
+    plan: &Plan,
+    first: Option<u32>,
+    session: &mut Session,
+    out: &mut S,
+) -> Result<(), Fault>
+    requires { HasList (⟦<Session as Seen>⟧.world session.old) (view plan.now) }
+    ensures prints { (files : FilesState) (ks : List DriverKind) (ss : List Source) (marks : ℕ → Bool) (t : Tree) → Runs ks ss marks t (view plan.now) (⟦<Session as Seen>⟧.world session.old)
+        → IsListTerm (types_of (⟦<Session as Seen>⟧.world session.old)) t → AnswersTerm ⊤
+        (IsListOutcome first (core (values_of (⟦<Session as Seen>⟧.world session.old)) t []))
+        (HaveSources (types_of (⟦<Session as Seen>⟧.world session.old)) (values_of (⟦<Session as Seen>⟧.world session.old))) (ending result)
+        (⟦<Session as Seen>⟧.world session.old).sources
+        (outside_of files (⟦<Session as Seen>⟧.world session.old).drivers (S.state out.old))
+        (outside_of files (⟦<Session as Seen>⟧.world session.new).drivers (S.state out.new)) }
+    ensures scanned { Scanned (view plan.now) (ending result) first (⟦<Session as Seen>⟧.world session.old) (⟦<Session as Seen>⟧.world session.new) }
+{
+    let mut page = Page::new();
+    match begin(&mut page, out) {
+        Ok(()) => {}
+        Err(error) => return Err(write_fault(error)),
+    }
+    if are_enough(first) {
+        return end(&mut page, out);
+    }
+    print_items(alloc, plan, first, &mut page, session, out)
+}
+
+fn begin<S: Sink>(page: &mut Page, out: &mut S) -> Result<(), PrintError>
+    requires { page.old ≡ [] }
+    ensures { Puts (list_front []) (as_stop result) (S.state out.old) [] (S.state out.new) page.new }
+{
+    match page.put(b"[|", out) {
+        Ok(()) => page.flush(out),
+        Err(error) => Err(error),
+    }
+}
+
+// The end of a list that is whole.
+fn end<S: Sink>(page: &mut Page, out: &mut S) -> Result<(), Fault>
+    ensures { (given : List Value) (first : SinkState) → Puts {T = Unit {0}} (list_front given) (Ok tt) first [] (S.state out.old) page.old
+        → PrintsPage (value_page (value.List given)) (ending result) first (S.state out.new) }
+{
+    match close(page, out) {
+        Ok(()) => Ok(()),
+        Err(error) => Err(write_fault(error)),
+    }
+}
+
+fn close<S: Sink>(page: &mut Page, out: &mut S) -> Result<(), PrintError>
+    ensures { (text : List ℕ) (first : SinkState) → Puts {T = Unit {0}} text (Ok tt) first [] (S.state out.old) page.old
+        → WritesWhole (text ++ codes "|]\n") (as_stop result) first (S.state out.new) }
+{
+    match page.put(b"|]\n", out) {
+        Ok(()) => page.flush(out),
+        Err(error) => Err(error),
+    }
+}
+
+// Whether no more items are wanted, where so many more are.
+fn are_enough(left: Option<u32>) -> bool
+    ensures { result ≡ are_enough left }
+{
+    match left {
+        None => false,
+        Some(left) => left == 0,
+    }
+}
+
+// How many more items are wanted behind one more.
+fn fewer(left: Option<u32>) -> Option<u32>
+    requires { are_enough left ≡ false }
+    ensures { left ≡ one_more result }
+{
+    match left {
+        None => None,
+        Some(left) => Some(left - 1),
+    }
+}
+
+// Draws items and prints them, up to the end or until there are enough. That a list begins is printed.
+fn print_items<S: Sink>(
+    alloc: Global,
+    plan: &Plan,
+    first: Option<u32>,
+    page: &mut Page,
+    session: &mut Session,
+    out: &mut S,
+) -> Result<(), Fault>
+    requires sense { HasList (⟦<Session as Seen>⟧.world session.old) (view plan.now) }
+    requires some { are_enough first ≡ false }
+    ensures prints { (files : FilesState) (ks : List DriverKind) (ss : List Source) (marks : ℕ → Bool) (t : Tree) (front : SinkState)
+        → Runs ks ss marks t (view plan.now) (⟦<Session as Seen>⟧.world session.old) → IsListTerm (types_of (⟦<Session as Seen>⟧.world session.old)) t
+        → Puts {T = Unit {0}} (list_front []) (Ok tt) front [] (S.state out.old) page.old → AnswersTerm ⊤
+        (IsListOutcome first (core (values_of (⟦<Session as Seen>⟧.world session.old)) t []))
+        (HaveSources (types_of (⟦<Session as Seen>⟧.world session.old)) (values_of (⟦<Session as Seen>⟧.world session.old))) (ending result)
+        (⟦<Session as Seen>⟧.world session.old).sources
+        (outside_of files (⟦<Session as Seen>⟧.world session.old).drivers front)
+        (outside_of files (⟦<Session as Seen>⟧.world session.new).drivers (S.state out.new)) }
+    ensures scanned { Scanned (view plan.now) (ending result) first (⟦<Session as Seen>⟧.world session.old) (⟦<Session as Seen>⟧.world session.new) }
+{
+    match open_plan(alloc, plan, &[]) {
+        Ok(cursor) => {
+            let mut cursor = cursor;
+            let mut left = first;
+            let mut place: usize = 0;
+            'items: loop {
+                match ready(&cursor, page, out) {
+                    Ok(()) => {}
+                    Err(error) => {
+                        cursor.close(session);
+                        return Err(write_fault(error));
+                    }
+                }
+                match cursor.next(session) {
+                    Ok(Some(item)) => match print_item(place, item, page, out) {
+                        Ok(()) => {
+                            place = 1;
+                            left = fewer(left);
+                            if are_enough(left) {
+                                cursor.close(session);
+                                return end(page, out);
+                            }
+                        }
+                        Err(error) => {
+                            cursor.close(session);
+                            return Err(write_fault(error));
+                        }
+                    },
+                    Ok(None) => return end(page, out),
+                    Err(stop) => return stopped(stop, page, out),
+                }
+            }
+        }
+        Err(_) => Err(Fault::NoMemory),
+    }
+}
+
+// Prints an item, and drops it.
+fn print_item<S: Sink>(
+    place: usize,
+    item: Value,
+    page: &mut Page,
+    out: &mut S,
+) -> Result<(), PrintError>
+    ensures { Puts (separator place ++ text_of item) (as_stop result) (S.state out.old) page.old (S.state out.new) page.new }
+{
+    put_item(place, &item, page, out)
+}
+
+// What is printed is written before the cursor may wait for a source.
+fn ready<S: Sink>(cursor: &Cursor<'_>, page: &mut Page, out: &mut S) -> Result<(), PrintError>
+    ensures { Puts [] (as_stop result) (S.state out.old) page.old (S.state out.new) page.new }
+{
+    if cursor.may_pull() {
+        page.flush(out)
+    } else {
+        Ok(())
+    }
+}
+
+// The end of a list that was stopped, behind the items that were drawn.
+fn stopped<S: Sink>(stop: EvalStop, page: &mut Page, out: &mut S) -> Result<(), Fault>
+    ensures stops { (given : List Value) (first : SinkState) → Puts {T = Unit {0}} (list_front given) (Ok tt) first [] (S.state out.old) page.old
+        → StopsList given stop (ending result) first (S.state out.new) }
+    ensures never { ending result ≡ None → ⊥ }
+{
+    match stop {
+        EvalStop::Overflow => match page.flush(out) {
+            Ok(()) => Err(Fault::Overflow),
+            Err(error) => Err(write_fault(error)),
+        },
+        EvalStop::Driver { source, error } => match page.flush(out) {
+            Ok(()) | Err(_) => Err(driver_fault(source, error)),
+        },
+        EvalStop::NoMemory => match page.flush(out) {
+            Ok(()) | Err(_) => Err(Fault::NoMemory),
+        },
+    }
+}
