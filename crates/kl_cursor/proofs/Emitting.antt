@@ -57,7 +57,7 @@ over_stays (v ∷ vs) f = ap (more v) (over_stays vs f)
 pub not_well : (k : Kind) (f : Flow) (vs : List Value) → Same k f (flow vs overflow) → harm f ≡ 0 → ⊥
 not_well k f vs p z = let x : harm (flow vs overflow) ≡ harm f = same_harm k f (flow vs overflow) p in let y = over_harm vs in omega arith
 
-stops_empties : (env : List Value) (s : Snap) (a b : World) → Stops env s why.Overflow a b → Empties env s [] overflow a b
+pub stops_empties : (env : List Value) (s : Snap) (a b : World) → Stops env s why.Overflow a b → Empties env s [] overflow a b
 stops_empties env s a b g = record {
   moves = g.moves;
   known = g.known;
