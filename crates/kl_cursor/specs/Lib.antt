@@ -3,4 +3,5 @@ pub mod Left
 pub mod Likeness
 pub mod Measure
 pub mod Sense
+pub mod Standing
 pub mod Steps

@@ -85,6 +85,7 @@ impl<'p> Cursor<'p> {
         self.advance(session)
     }
 
+    // Over whatever gives scans, as the steps are: over a session alone a call of them would want its impl from below.
     fn advance<C: Scans>(&mut self, run: &mut C) -> Result<Option<Value>, EvalStop>
         requires owned { Owned (uses (snap self.old.at)) (C.world run.old) }
         requires sense { Stands (C.world run.old) (snap self.old.at) (reverse self.old.env) }

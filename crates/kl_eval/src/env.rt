@@ -6,6 +6,7 @@ ghost use Rattle.kl_core.specs.Typing.{SourceTypes};
 ghost use Rattle.kl_outcome.specs.Outcome.{done};
 ghost use Rattle.kl_eval.specs.Comes.{Comes};
 ghost use Rattle.kl_eval.specs.Evals.{HasSense};
+ghost use Rattle.kl_eval.specs.Standing.{IsStanding};
 ghost use Rattle.kl_eval.specs.Values.{values};
 
 use kl_core::Term;
@@ -38,7 +39,9 @@ pub fn variable<'a>(env: &'a Env<'a>, at: u32) -> &'a Value
 /// The value of a variable, of a constant, or of a field of one of them, where it stands.
 pub fn lent<'a>(term: &'a Term, env: &'a Env<'a>) -> Option<&'a Value>
     requires { HasSense (view term.now) (values env.now) }
-    ensures { IfSome result (λ v. (S : SourceTypes) (T : Tables) → Comes S T (values env.now) (view term.now) (done v.now)) }
+    ensures value { IfSome result (λ v. (S : SourceTypes) (T : Tables) → Comes S T (values env.now) (view term.now) (done v.now)) }
+    ensures lends { IsStanding (view term.now) → IsSome result }
+    ensures no_other { IsSome result → IsStanding (view term.now) }
 {
     match term {
         Term::Var(at) => Some(variable(env, *at)),

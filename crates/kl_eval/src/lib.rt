@@ -2,8 +2,7 @@
 //!
 //! A source is read by a whole scan of its driver, each time anew. Values are looked at where they stand: a variable, a
 //! constant or a field of one of them is copied only where a whole value is made.
-//! That is for speed alone: no clause says which values are lent, so `lent` could answer that it lends none. Nor does a
-//! clause say where memory is wanted: that it is not with ample memory is for tests and cases.
+//! No clause says where memory is wanted: that it is not with ample memory is for tests and cases.
 #![tactic(auto)]
 
 mod env;

@@ -1,10 +1,11 @@
 //! The public calls.
-ghost use Rattle.std.specs.Prelude.{◌≡◌, IfSome, reverse};
+ghost use Rattle.std.specs.Prelude.{◌≡◌, IfSome, IsSome, reverse};
 ghost use Rattle.kl_core.specs.Core.{core};
 ghost use Rattle.kl_core.specs.Trees.{view};
 ghost use Rattle.kl_outcome.specs.Outcome.{done};
 ghost use Rattle.kl_eval.specs.Evals.{Sense, SenseAnywhere, SenseList, SensePlain, Evaluates, EvaluatesList, TellsPlain, no_tables};
 ghost use Rattle.kl_eval.specs.Sources.{NoSource};
+ghost use Rattle.kl_eval.specs.Standing.{IsStanding};
 ghost use Rattle.kl_eval.specs.Values.{values};
 
 use crate::env::{Env, lent};
@@ -73,12 +74,14 @@ pub fn plain(alloc: Global, term: &Term, env: &Env, session: &mut Session) -> Re
     value(alloc, term, &*env, session)
 }
 
-/// The value of a variable, of a constant, or of a field of one of them, where it stands: of a term in which no source stands, and
-/// that makes sense whatever sources are attached. Takes no memory.
+/// The value of a term where it stands, or None exactly where the term is no variable, no constant and no field of one of them. No
+/// source stands in the term, and it makes sense whatever sources are attached. Takes no memory.
 pub fn lent_plain<'a>(term: &'a Term, env: &'a Env<'a>) -> Option<&'a Value>
     requires plain { NoSource (view term.now) }
     requires sense { SenseAnywhere (view term.now) (values env.now) }
-    ensures { IfSome result (λ v. core no_tables (view term.now) (values env.now) ≡ done v.now) }
+    ensures value { IfSome result (λ v. core no_tables (view term.now) (values env.now) ≡ done v.now) }
+    ensures lends { IsStanding (view term.now) → IsSome result }
+    ensures no_other { IsSome result → IsStanding (view term.now) }
 {
     lent(term, env)
 }

@@ -11,8 +11,8 @@ lent_plain-requires-clause-sense c = (code_plain_sense _ _ _ _ c.in-Plain.is c.r
 pub variable-requires : goal.variable-requires
 variable-requires c = code_var_sense _ _ _ c.requires.0 c.in-Var.is c.requires.1
 
-pub returns-in-Plain : goal.returns-in-Plain
-returns-in-Plain c = lends_plain _ _ _ _ c.in-Plain.is c.lent_plain.ensures
+pub returns-in-Plain-clause-value : goal.returns-in-Plain-clause-value
+returns-in-Plain-clause-value c = lends_plain _ _ _ _ c.in-Plain.is c.lent_plain.ensures.value
 
-pub returns-in-Var : goal.returns-in-Var
-returns-in-Var c = lends_var _ _ _ _ c.in-Var.is c.variable.ensures
+pub returns-in-Var-clause-value : goal.returns-in-Var-clause-value
+returns-in-Var-clause-value c = lends_var _ _ _ _ c.in-Var.is c.variable.ensures

@@ -85,13 +85,13 @@ pub value-lent-requires : goal.value-lent-requires
 value-lent-requires g t c = let s = sense_source _ _ _ _ _ _ _ c.in-Ext.is refl c.get-in-Ext.ensures (g.T.Seen.world c.args.tables.now) c.requires in (_, (s.0, s.1, s.2, s.3))
 
 pub value-parts_of-requires : goal.value-parts_of-requires
-value-parts_of-requires g t c = source_whole _ _ _ _ _ _ _ c.in-Ext.is refl c.get-in-Ext.ensures _ (g.T.Seen.world c.args.tables.now) c.requires (c.in-Some-lent.ensures _ _)
+value-parts_of-requires g t c = source_whole _ _ _ _ _ _ _ c.in-Ext.is refl c.get-in-Ext.ensures _ (g.T.Seen.world c.args.tables.now) c.requires (c.in-Some-lent.ensures.value _ _)
 
 pub value-draw-requires : goal.value-draw-requires
-value-draw-requires g t c κs within = (search (rules, the_lemmas, arith), (within, sense_items _ _ _ _ _ _ _ c.in-Ext.is c.get-in-Some-lent.ensures c.get-in-Ext.ensures (done _) _ fine (g.T.Seen.world c.args.tables.now) _ (moved_none _) (items_done _ _ _ c.parts_of.ensures.reads) c.requires (c.in-Some-lent.ensures _ _)))
+value-draw-requires g t c κs within = (search (rules, the_lemmas, arith), (within, sense_items _ _ _ _ _ _ _ c.in-Ext.is c.get-in-Some-lent.ensures c.get-in-Ext.ensures (done _) _ fine (g.T.Seen.world c.args.tables.now) _ (moved_none _) (items_done _ _ _ c.parts_of.ensures.reads) c.requires (c.in-Some-lent.ensures.value _ _)))
 
 pub value-returns-in-Some-lent : goal.value-returns-in-Some-lent
-value-returns-in-Some-lent g t c = value_loop _ _ _ _ _ _ _ c.in-Ext.is c.get-in-Some-lent.ensures c.get-in-Ext.ensures (done _) _ fine _ _ _ _ _ (moved_none _) (λ n. refl) (items_done _ _ _ c.parts_of.ensures.reads) (c.in-Some-lent.ensures _ _) c.draw.ensures c.gather-in-Some-lent.ensures
+value-returns-in-Some-lent g t c = value_loop _ _ _ _ _ _ _ c.in-Ext.is c.get-in-Some-lent.ensures c.get-in-Ext.ensures (done _) _ fine _ _ _ _ _ (moved_none _) (λ n. refl) (items_done _ _ _ c.parts_of.ensures.reads) (c.in-Some-lent.ensures.value _ _) c.draw.ensures c.gather-in-Some-lent.ensures
 
 pub value-value-requires-in-None-lent : goal.value-value-requires-in-None-lent
 value-value-requires-in-None-lent g t c κs within = (search (rules, the_lemmas, arith), (within, sense_source _ _ _ _ _ _ _ c.in-Ext.is refl c.get-in-None-lent.ensures (g.T.Seen.world c.args.tables.now) c.requires))
@@ -121,7 +121,7 @@ pub look-lent-requires : goal.look-lent-requires
 look-lent-requires g t c = (_, (c.requires.0, c.requires.1, c.requires.2, c.requires.3))
 
 pub look-returns-in-Some : goal.look-returns-in-Some
-look-returns-in-Some g t c = evals_lent _ _ _ _ (λ S T. c.in-Some.ensures S T)
+look-returns-in-Some g t c = evals_lent _ _ _ _ (λ S T. c.in-Some.ensures.value S T)
 
 pub each-owned-requires : goal.each-owned-requires
 each-owned-requires g t c κs within = (search (rules, the_lemmas, arith), (within, each_sense _ _ _ _ _ _ _ _ c.terms-test.true c.term-item.is c.terms.invariant))
@@ -273,7 +273,7 @@ pub owned-lent-requires : goal.owned-lent-requires
 owned-lent-requires g t c = (_, (c.requires.0, c.requires.1, c.requires.2, c.requires.3))
 
 pub owned-returns-in-Some : goal.owned-returns-in-Some
-owned-returns-in-Some g t c = evals_copied _ _ _ _ _ (λ S T. c.in-Some.ensures S T) c.copy.ensures
+owned-returns-in-Some g t c = evals_copied _ _ _ _ _ (λ S T. c.in-Some.ensures.value S T) c.copy.ensures
 
 pub value-value-requires-in-Ok-value : goal.value-value-requires-in-Ok-value
 value-value-requires-in-Ok-value g t c κs within = (search (rules, the_lemmas, arith), (within, sense_second _ _ _ _ _ c.in-Union.is c.get-in-Union.ensures _ _ _ c.get-in-Ok-value.ensures c.in-Ok-value.ensures.moved c.requires))

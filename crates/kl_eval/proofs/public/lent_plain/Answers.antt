@@ -4,5 +4,5 @@ use Rattle.kl_eval.proofs.public.lent_plain.Goals as goal
 pub lent-requires : goal.lent-requires
 lent-requires c = anywhere_sense _ _ c.requires.sense
 
-pub returns : goal.returns
-returns c = lent_is _ _ _ c.requires.plain c.requires.sense c.lent.ensures
+pub returns-clause-value : goal.returns-clause-value
+returns-clause-value c = lent_is _ _ _ c.requires.plain c.requires.sense c.lent.ensures.value
