@@ -1,5 +1,5 @@
 -- What is printed of a list by the loop that draws its items.
-use Rattle.std.proofs.Common.{◌≡◌, ℕ, zero, suc, ◌+◌, Bool, true, false, List, [], ◌∷◌, ◌++◌, Option, Some, None, Result, Ok, Err, refl, sym, ap, subst, ◌∙◌, arith, append-nil}
+use Rattle.std.proofs.Common.{◌≡◌, ◌<◌, ℕ, zero, suc, ◌+◌, Bool, true, false, List, [], ◌∷◌, ◌++◌, Option, Some, None, Result, Ok, Err, refl, sym, ap, subst, ◌∙◌, arith, append-nil}
 use Rattle.std.specs.Prelude.{reverse, ⊤}
 use Rattle.kl_outside.specs.Files.{FilesState}
 use Rattle.kl_outside.specs.Sinks.{SinkState}
@@ -38,6 +38,10 @@ use Rattle.kl_engine.specs.declared.fault.Fault.TheVariants as fault
 use Rattle.kl_engine.proofs.DrainLemmas.{drains_on, drains_owned}
 use Rattle.kl_engine.proofs.ListLemmas.{Wanted, closed_moves, closed_scanned, list_enough, list_stopped, list_unwritten, list_wanted, list_whole, puts_part, stopped_scanned, wanted_first, wanted_next, wanted_some, whole_scanned}
 use Rattle.kl_engine.proofs.PutLemmas.{IsPlace, item_put, place_next, puts_line}
+
+-- what a step answers, by what the code read of it
+pub next_is : (env : List Value) (s : Snap) (o q : Option Value) (t : Snap) (a b : World) → o ≡ q → Nexts env s (Ok o) t a b → Nexts env s (Ok q) t a b
+next_is env s o q t a b is next = subst (λ z. Nexts env s (Ok z) t a b) is next
 
 next_wanted : (left : Option ℕ) → are_enough left ≡ false → (after : Option ℕ) × (left ≡ one_more after)
 next_wanted None some = (None, refl)
@@ -94,6 +98,18 @@ module _ (p : Node) (first : Option ℕ) (a : World) (place : ℕ) (left : Optio
     pub draws_fewer : most b t < most w s
     draws_fewer = gives.fell
 
+    pub drew_owned : Owned (uses t) b
+    drew_owned = drains_owned [] (fresh p) a (d.given ++ v ∷ []) t b further (owned_nothing a)
+
+    -- there are enough
+    pub enough_scanned : (left' : Option ℕ) (end : Ending) (c : World) → left ≡ one_more left' → are_enough left' ≡ true → Closes (uses t) b c → Scanned p end first a c
+    enough_scanned left' end c is all closes =
+        closed_scanned p first a (d.given ++ v ∷ []) t b further end c (λ well every. wanted_some first (d.given ++ v ∷ []) left' (wanted_next first d.given v left left' d.wanted is) all every) closes
+
+    -- it was not printed
+    pub unput_scanned : (e : PrintError) (c : World) → Closes (uses t) b c → Scanned p (Some (write_fault e)) first a c
+    unput_scanned e c closes = closed_scanned p first a (d.given ++ v ∷ []) t b further (Some (write_fault e)) c (λ well. absurd cc) closes
+
     module _ (out' : SinkState) (page' : List ℕ) where
       item_of : (r : Result (Unit {0}) PrintError) → Puts (separator place ++ text_of v) (as_stop r) out page out' page' → (front : SinkState) → Puts {T = Unit {0}} (list_front []) (Ok tt) front [] out0 page0
           → Puts (list_front (d.given ++ v ∷ [])) (as_stop r) front [] out' page'
@@ -110,15 +126,6 @@ module _ (p : Node) (first : Option ℕ) (a : World) (place : ℕ) (left : Optio
         printed = item_of (Ok done) put;
       }
 
-      -- there are enough
-      pub enough_scanned : (left' : Option ℕ) (end : Ending) (c : World) → left ≡ one_more left' → are_enough left' ≡ true → Closes (uses t) b c → Scanned p end first a c
-      enough_scanned left' end c is all closes =
-          closed_scanned p first a (d.given ++ v ∷ []) t b further end c (λ well every. wanted_some first (d.given ++ v ∷ []) left' (wanted_next first d.given v left left' d.wanted is) all every) closes
-
-      -- it was not printed
-      pub unput_scanned : (e : PrintError) (c : World) → Closes (uses t) b c → Scanned p (Some (write_fault e)) first a c
-      unput_scanned e c closes = closed_scanned p first a (d.given ++ v ∷ []) t b further (Some (write_fault e)) c (λ well. absurd cc) closes
-
       module _ (ks : List DriverKind) (ss : List Source) (marks : ℕ → Bool) (tree : Tree) (files : FilesState) (runs : Runs ks ss marks tree p a) (is_list : IsListTerm (types_of a) tree) (front : SinkState) (puts : Puts {T = Unit {0}} (list_front []) (Ok tt) front [] out0 page0) where
         pub enough_prints : (left' : Option ℕ) (end : Ending) (c : World) (out'' : SinkState) (done : Unit {0}) → Puts (separator place ++ text_of v) (as_stop (Ok done)) out page out' page' → left ≡ one_more left' → are_enough left' ≡ true → Closes (uses t) b c
             → ((given : List Value) (s : SinkState) → Puts {T = Unit {0}} (list_front given) (Ok tt) s [] out' page' → PrintsPage (value_page (value.List given)) end s out'')
@@ -127,7 +134,7 @@ module _ (p : Node) (first : Option ℕ) (a : World) (place : ℕ) (left : Optio
             list_enough ks ss marks tree p first a files runs is_list (d.given ++ v ∷ []) left' (wanted_next first d.given v left left' d.wanted is) t b further end c front out'' all
             (closed_moves p a b c (d.given ++ v ∷ []) t further closes).0 (ends (d.given ++ v ∷ []) front (item_of (Ok done) put front puts))
 
-        pub unput_prints : (e : PrintError) (c : World) → Puts (separator place ++ text_of v) (as_stop (Err e)) out page out' page' → Closes (uses t) b c
+        pub unput_prints : (e : PrintError) (c : World) → Puts {T = Unit {0}} (separator place ++ text_of v) (as_stop (Err e)) out page out' page' → Closes (uses t) b c
             → AnswersTerm ⊤ (IsListOutcome first (core (values_of a) tree [])) (HaveSources (types_of a) (values_of a)) (Some (write_fault e)) a.sources (outside_of files a.drivers front) (outside_of files c.drivers out')
         unput_prints e c put closes =
             let after = next_wanted left d.some in
@@ -139,8 +146,8 @@ module _ (p : Node) (first : Option ℕ) (a : World) (place : ℕ) (left : Optio
   unready_scanned e c closes = closed_scanned p first a d.given s w d.drained (Some (write_fault e)) c (λ well. absurd cc) closes
 
   -- nothing is left
-  pub whole_counted : (env' : List Value) (t : Snap) (end : Ending) (b : World) → HasList a p → Nexts (reverse env) s (Ok None) t w b → Scanned p end first a b
-  whole_counted env' t end b sense next = whole_scanned p first a d.given s w d.drained end b sense (subst (λ vs. Ends (reverse vs) s w b) d.bare next.0)
+  pub whole_counted : (t : Snap) (end : Ending) (b : World) → HasList a p → Nexts (reverse env) s (Ok None) t w b → Scanned p end first a b
+  whole_counted t end b sense next = whole_scanned p first a d.given s w d.drained end b sense (subst (λ vs. Ends (reverse vs) s w b) d.bare next.0)
 
   -- it was stopped
   pub stop_counted : (t : Snap) (e : EvalStop) (end : Ending) (b : World) → (end ≡ None → ⊥) → Nexts (reverse env) s (Err e) t w b → Scanned p end first a b
@@ -150,7 +157,7 @@ module _ (p : Node) (first : Option ℕ) (a : World) (place : ℕ) (left : Optio
     abbrev Answered : Ending → World → SinkState → Type 0
     Answered end b out' = AnswersTerm ⊤ (IsListOutcome first (core (values_of a) tree [])) (HaveSources (types_of a) (values_of a)) end a.sources (outside_of files a.drivers front) (outside_of files b.drivers out')
 
-    pub unready_prints : (e : PrintError) (c : World) (out' : SinkState) (page' : List ℕ) → Puts [] (as_stop (Err e)) out page out' page' → Closes (uses s) w c → Answered (Some (write_fault e)) c out'
+    pub unready_prints : (e : PrintError) (c : World) (out' : SinkState) (page' : List ℕ) → Puts {T = Unit {0}} [] (as_stop (Err e)) out page out' page' → Closes (uses s) w c → Answered (Some (write_fault e)) c out'
     unready_prints e c out' page' r closes =
         list_unwritten ks ss marks tree p first a files runs is_list d.given left d.wanted s w d.drained e c front out' page' (closed_moves p a w c d.given s d.drained closes).0
         (subst (λ bs. Puts bs (as_stop (Err e)) front [] out' page') (append-nil (list_front d.given)) (puts_line (Err e) (list_front d.given) [] front out out' [] page page' (d.printed front puts) r))

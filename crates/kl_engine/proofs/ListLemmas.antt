@@ -73,7 +73,7 @@ wanted_first (Some n) = ap Some (omega arith)
 
 more_length : (given : List Value) (v : Value) → length (given ++ v ∷ []) ≡ length given + 1
 more_length [] v = refl
-more_length (w ∷ given) v = ap suc (more_length given v)
+more_length (w ∷ given) v = let h = more_length given v in omega (arith, h)
 
 pub wanted_next : (first : Option ℕ) (given : List Value) (v : Value) (wanting wanting' : Option ℕ) → Wanted first given wanting → wanting ≡ one_more wanting' → Wanted first (given ++ v ∷ []) wanting'
 wanted_next first given v wanting None w is = w ∙ ap (option_map (λ n. n + length given)) is
@@ -111,11 +111,16 @@ not_enough first given (Some (suc n)) w some = ap (λ f. suffice f given) w ∙ 
     past : (n m : ℕ) → nat_le (suc n + m) m ≡ false
     past n m = grind (arith, nat_tests)
 
+never_enough : (n : ℕ) → are_enough (Some (suc n)) ≡ true → ⊥
+never_enough n all =
+    let some : (suc n == 0) ≡ false = grind (arith, nat_tests) in
+    let both : true ≡ false = sym all ∙ some in cc
+
 -- all that are wanted were given
 enough_first : (first : Option ℕ) (given others : List Value) (wanting : Option ℕ) → Wanted first given wanting → are_enough wanting ≡ true → first_of first (given ++ others) ≡ given
 enough_first first given others None w all = cc
 enough_first first given others (Some zero) w all = ap (λ f. first_of f (given ++ others)) w ∙ take_more 0 given others ∙ append-nil given
-enough_first first given others (Some (suc n)) w all = absurd (let e = all in cc)
+enough_first first given others (Some (suc n)) w all = absurd (never_enough n all)
 
 enough_suffice : (first : Option ℕ) (given others : List Value) (wanting : Option ℕ) → Wanted first given wanting → are_enough wanting ≡ true → suffice first (given ++ others) ≡ true
 enough_suffice first given others None w all = cc
@@ -127,7 +132,7 @@ enough_suffice first given others (Some zero) w all = ap (λ f. suffice f (given
     grows : (given others : List Value) → length given ≤ length (given ++ others)
     grows [] others = omega arith
     grows (v ∷ given) others = let h = grows given others in omega (arith, h)
-enough_suffice first given others (Some (suc n)) w all = absurd (let e = all in cc)
+enough_suffice first given others (Some (suc n)) w all = absurd (never_enough n all)
 
 -- a number is wanted where no more are
 pub wanted_some : (first : Option ℕ) (given : List Value) (wanting : Option ℕ) → Wanted first given wanting → are_enough wanting ≡ true → first ≡ None → ⊥
@@ -213,7 +218,7 @@ full_outcome first given rest o wanting w all (part others at is) =
     (ap (λ vs. value_page (value.List vs)) (sym (enough_first first given others wanting w all))
     ∙ ap (λ b. if b then value_page (value.List (first_of first (given ++ others))) else overflowing (given ++ others)) (sym (enough_suffice first given others wanting w all)))
 
--- nothing was wanting
+-- nothing was left
 whole_outcome : (first : Option ℕ) (given : List Value) (o : Outcome) (wanting : Option ℕ) → Wanted first given wanting → Begins given (stop fine) o → IsListOutcome first o (value_page (value.List given))
 whole_outcome first given o wanting w (whole [] at is) =
     let all : o ≡ done (value.List given) = is ∙ ap (λ vs. done (value.List vs)) (append-nil given) in
@@ -222,7 +227,7 @@ whole_outcome first given o wanting w (whole (v ∷ others') at is) = absurd cc
 whole_outcome first given o wanting w (part [] at is) = absurd cc
 whole_outcome first given o wanting w (part (v ∷ others') at is) = absurd cc
 
--- an overflow was wanting
+-- an overflow was left
 past_outcome : (first : Option ℕ) (given : List Value) (o : Outcome) (wanting : Option ℕ) → Wanted first given wanting → are_enough wanting ≡ false → Begins given (stop overflow) o → IsListOutcome first o (overflowing given)
 past_outcome first given o wanting w some (part [] at is) =
     let all : o ≡ over given = is ∙ ap over (append-nil given) in
@@ -234,8 +239,8 @@ past_outcome first given o wanting w some (whole (v ∷ others') at is) = absurd
 
 -- ---- what was printed
 
-append_front : (done rest others front : List ℕ) → front ≡ done ++ rest → front ++ others ≡ done ++ (rest ++ others)
-append_front done rest others front is = ap (λ x. x ++ others) is ∙ append_assoc done rest others
+append_front : (taken rest others front : List ℕ) → front ≡ taken ++ rest → front ++ others ≡ taken ++ (rest ++ others)
+append_front taken rest others front is = ap (λ x. x ++ others) is ∙ append_assoc taken rest others
 
 -- of a page that begins so, no more was taken than of its front
 part_taken : (given : List Value) (v : Verdict) (out out' : SinkState) → Fronts given v → TookPart (list_front given) out out' → TookPart v.page out out'
@@ -356,8 +361,8 @@ module _ (p : Node) (first : Option ℕ) (a : World) (given : List Value) (s : S
 
 -- ---- the end of a list
 
-pub list_ended : (given : List Value) (out out' : SinkState) (done : Unit {0}) → WritesWhole (list_front given ++ codes "|]\n") (Ok done) out out' → PrintsPage (value_page (value.List given)) None out out'
-list_ended given out out' done w = page_took (value_page (value.List given)).page (line_full (text_of (value.List given))) out out' done (subst (λ bs. WritesWhole bs (Ok done) out out') (sym (page_text given)) w)
+pub list_ended : (given : List Value) (out out' : SinkState) (unit : Unit {0}) → WritesWhole (list_front given ++ codes "|]\n") (Ok unit) out out' → PrintsPage (value_page (value.List given)) None out out'
+list_ended given out out' unit w = page_took (value_page (value.List given)).page (line_full (text_of (value.List given))) out out' unit (subst (λ bs. WritesWhole bs (Ok unit) out out') (sym (page_text given)) w)
 
 pub list_unended : (given : List Value) (e : PrintError) (out out' : SinkState) → WritesWhole {T = Unit {0}} (list_front given ++ codes "|]\n") (as_stop (Err e)) out out' → PrintsPage (value_page (value.List given)) (Some (write_fault e)) out out'
 list_unended given e out out' w = page_stopped (value_page (value.List given)).page (line_full (text_of (value.List given))) out out' e (subst (λ bs. WritesWhole {T = Unit {0}} bs (as_stop (Err e)) out out') (sym (page_text given)) w)

@@ -3,37 +3,57 @@ use Rattle.kl_scope.specs.Breaches.{is_marked}
 use Rattle.kl_syntax.specs.View.{view, decls_of}
 use Rattle.kl_desugar.proofs.Law.{means}
 use Rattle.kl_engine.proofs.CountLemmas.{answers_late, source_late}
-use Rattle.kl_engine.proofs.MeaningLemmas.{idle_none, attaches_same, session_sense, session_list, session_done, attach_failed}
+use Rattle.kl_engine.proofs.MeaningLemmas.{idle_none, attaches_same, plan_runs, session_list, session_told, session_done, attach_failed}
+use Rattle.kl_engine.proofs.PlanLemmas.{plan_asks, plan_numbers, plan_rest, plan_starts, refused_asks, refused_numbers, runs_list, runs_worth}
 use Rattle.kl_engine.proofs.ProgramLemmas.{no_files}
-use Rattle.kl_engine.proofs.RewriteLemmas.{answers_kept, list_kept, sense_kept}
 use Rattle.kl_engine.proofs.run.answer_over.Goals as goal
 
 pub attach_sources-requires-clause-clear : goal.attach_sources-requires-clause-clear
 attach_sources-requires-clause-clear g c = idle_none _ c.requires.idle
 
-pub answer_term-result-requires-clause-sense : goal.answer_term-result-requires-clause-sense
-answer_term-result-requires-clause-sense g c =
-    sense_kept _ _ _ c.requires.keeps
-    (session_sense c.args.sources.items c.args.scoped.now c.requires.scope c.args.typed.now c.requires.types _ refl _ _ c.requires.placed _
-    (attaches_same _ c.replace.result _ _ _ _ _ c.replace.ensures.value (c.in-Ok.ensures (is_marked c.args.scoped.now) (λ i less. refl))) c.args.how.settings c.new-in-Ok.result c.requires.fetch)
+pub answer_plan-result-requires-clause-sense : goal.answer_plan-result-requires-clause-sense
+answer_plan-result-requires-clause-sense g c =
+    runs_worth _ _ _ _ _ _
+    (plan_runs c.args.sources.items c.args.scoped.now c.requires.scope c.args.typed.now c.requires.types _ refl _ _ c.requires.placed _ (attaches_same _ c.replace.result _ _ _ _ _ c.replace.ensures.value (c.in-Ok.ensures (is_marked c.args.scoped.now) (λ i less. refl))) c.args.how.settings c.replace-in-Ok.result c.requires.fetch c.requires.idle c.requires.mentioned _ _ c.requires.planned.2 c.requires.planned.1)
 
-pub answer_term-result-requires-clause-list : goal.answer_term-result-requires-clause-list
-answer_term-result-requires-clause-list g c is =
-    list_kept _ _ _ c.requires.keeps
-    (session_list c.args.sources.items c.args.scoped.now c.requires.scope c.args.typed.now c.requires.types _ refl _ _ c.requires.placed _
-    (attaches_same _ c.replace.result _ _ _ _ _ c.replace.ensures.value (c.in-Ok.ensures (is_marked c.args.scoped.now) (λ i less. refl))) c.args.how.settings c.new-in-Ok.result c.requires.fetch
-    _ c.gives_list-is_list.ensures.list is)
+pub answer_plan-result-requires-clause-list : goal.answer_plan-result-requires-clause-list
+answer_plan-result-requires-clause-list g c is =
+    runs_list _ _ _ _ _ _
+    (plan_runs c.args.sources.items c.args.scoped.now c.requires.scope c.args.typed.now c.requires.types _ refl _ _ c.requires.placed _ (attaches_same _ c.replace.result _ _ _ _ _ c.replace.ensures.value (c.in-Ok.ensures (is_marked c.args.scoped.now) (λ i less. refl))) c.args.how.settings c.replace-in-Ok.result c.requires.fetch c.requires.idle c.requires.mentioned _ _ c.requires.planned.2 c.requires.planned.1)
+    (session_list c.args.sources.items c.args.scoped.now c.requires.scope c.args.typed.now c.requires.types _ refl _ _ c.requires.placed _ (attaches_same _ c.replace.result _ _ _ _ _ c.replace.ensures.value (c.in-Ok.ensures (is_marked c.args.scoped.now) (λ i less. refl))) c.args.how.settings c.replace-in-Ok.result c.requires.fetch _ c.gives_list-is_list.ensures.list is)
 
 pub returns-in-Ok-clause-does : goal.returns-in-Ok-clause-does
 returns-in-Ok-clause-does g c =
-    let attaches = attaches_same _ c.replace.result _ _ _ _ _ c.replace.ensures.value (c.in-Ok.ensures (is_marked c.args.scoped.now) (λ i less. refl)) in
-    let sense = session_sense c.args.sources.items c.args.scoped.now c.requires.scope c.args.typed.now c.requires.types _ refl _ _ c.requires.placed _ attaches c.args.how.settings c.new-in-Ok.result c.requires.fetch in
-    λ files. session_done c.args.sources.items c.args.scoped.now c.requires.scope c.args.typed.now c.requires.types _ refl _ _ c.requires.placed _ attaches c.args.how.settings c.new-in-Ok.result c.requires.fetch
+    λ files. session_done c.args.sources.items c.args.scoped.now c.requires.scope c.args.typed.now c.requires.types _ refl _ _ c.requires.placed _ (attaches_same _ c.replace.result _ _ _ _ _ c.replace.ensures.value (c.in-Ok.ensures (is_marked c.args.scoped.now) (λ i less. refl))) c.args.how.settings c.replace-in-Ok.result c.requires.fetch
     _ c.gives_list-is_list.ensures.list (means (decls_of c.args.scoped.now.program.defs) (view c.args.scoped.now.program.last) c.args.scoped.now.sources) c.gives_list-is_list.ensures.other _ _ files _ _ _
-    (answers_kept _ _ _ c.requires.keeps _ _ _ _ _ _ sense (c.answer_term-result.ensures.prints files))
+    (c.answer_plan-result.ensures.prints files _ _ _ _
+    (plan_runs c.args.sources.items c.args.scoped.now c.requires.scope c.args.typed.now c.requires.types _ refl _ _ c.requires.placed _ (attaches_same _ c.replace.result _ _ _ _ _ c.replace.ensures.value (c.in-Ok.ensures (is_marked c.args.scoped.now) (λ i less. refl))) c.args.how.settings c.replace-in-Ok.result c.requires.fetch c.requires.idle c.requires.mentioned _ _ c.requires.planned.2 c.requires.planned.1)
+    (λ is. session_list c.args.sources.items c.args.scoped.now c.requires.scope c.args.typed.now c.requires.types _ refl _ _ c.requires.placed _ (attaches_same _ c.replace.result _ _ _ _ _ c.replace.ensures.value (c.in-Ok.ensures (is_marked c.args.scoped.now) (λ i less. refl))) c.args.how.settings c.replace-in-Ok.result c.requires.fetch _ c.gives_list-is_list.ensures.list is))
 
 pub returns-in-Ok-clause-late : goal.returns-in-Ok-clause-late
-returns-in-Ok-clause-late g c = answers_late _ (c.answer_term-result.ensures.prints no_files).no_other
+returns-in-Ok-clause-late g c =
+    answers_late _ (c.answer_plan-result.ensures.prints no_files _ _ _ _
+    (plan_runs c.args.sources.items c.args.scoped.now c.requires.scope c.args.typed.now c.requires.types _ refl _ _ c.requires.placed _ (attaches_same _ c.replace.result _ _ _ _ _ c.replace.ensures.value (c.in-Ok.ensures (is_marked c.args.scoped.now) (λ i less. refl))) c.args.how.settings c.replace-in-Ok.result c.requires.fetch c.requires.idle c.requires.mentioned _ _ c.requires.planned.2 c.requires.planned.1)
+    (λ is. session_list c.args.sources.items c.args.scoped.now c.requires.scope c.args.typed.now c.requires.types _ refl _ _ c.requires.placed _ (attaches_same _ c.replace.result _ _ _ _ _ c.replace.ensures.value (c.in-Ok.ensures (is_marked c.args.scoped.now) (λ i less. refl))) c.args.how.settings c.replace-in-Ok.result c.requires.fetch _ c.gives_list-is_list.ensures.list is)).no_other
+
+pub returns-in-Ok-clause-asks : goal.returns-in-Ok-clause-asks
+returns-in-Ok-clause-asks g c =
+    plan_asks _ _ _ c.requires.planned.1 _ _ c.requires.traced.1 _ _ _ refl c.replace-in-Ok.ensures.value _ _ c.answer_plan-result.ensures.scanned (is_marked c.args.scoped.now) c.args.sources.items _
+    (attaches_same _ c.replace.result _ _ _ _ _ c.replace.ensures.value (c.in-Ok.ensures (is_marked c.args.scoped.now) (λ i less. refl))).drivers
+
+pub returns-in-Ok-clause-starts : goal.returns-in-Ok-clause-starts
+returns-in-Ok-clause-starts g c = plan_numbers _ _ _ c.requires.planned.1 _ _ c.requires.traced.1 _ _ _ refl c.replace-in-Ok.ensures.value _ _ c.answer_plan-result.ensures.scanned
+
+pub returns-in-Ok-clause-rest : goal.returns-in-Ok-clause-rest
+returns-in-Ok-clause-rest g c = plan_rest _ _ _ c.requires.planned.1 _ _ c.requires.traced.1 _ _ _ refl c.replace-in-Ok.ensures.value _ _ c.answer_plan-result.ensures.scanned
+
+pub returns-in-Ok-clause-exact : goal.returns-in-Ok-clause-exact
+returns-in-Ok-clause-exact g c =
+    λ well all have.
+    let runs = plan_runs c.args.sources.items c.args.scoped.now c.requires.scope c.args.typed.now c.requires.types _ refl _ _ c.requires.placed _ (attaches_same _ c.replace.result _ _ _ _ _ c.replace.ensures.value (c.in-Ok.ensures (is_marked c.args.scoped.now) (λ i less. refl))) c.args.how.settings c.replace-in-Ok.result c.requires.fetch c.requires.idle c.requires.mentioned _ _ c.requires.planned.2 c.requires.planned.1 in
+    (_, runs.reads, plan_starts _ _ _ c.requires.planned.1 _ _ c.requires.traced.1 _ _ _ refl c.replace-in-Ok.ensures.value _ _ c.answer_plan-result.ensures.scanned well all
+    (runs.told (session_told c.args.sources.items c.args.scoped.now c.requires.scope c.args.typed.now c.requires.types _ refl _ _ c.requires.placed _ (attaches_same _ c.replace.result _ _ _ _ _ c.replace.ensures.value (c.in-Ok.ensures (is_marked c.args.scoped.now) (λ i less. refl))) c.args.how.settings c.replace-in-Ok.result c.requires.fetch
+    (means (decls_of c.args.scoped.now.program.defs) (view c.args.scoped.now.program.last) c.args.scoped.now.sources) have.0 have.1)))
 
 pub returns-in-Err-clause-does : goal.returns-in-Err-clause-does
 returns-in-Err-clause-does g c =
@@ -41,3 +61,14 @@ returns-in-Err-clause-does g c =
 
 pub returns-in-Err-clause-late : goal.returns-in-Err-clause-late
 returns-in-Err-clause-late g c = source_late _ _ _ c.driver_fault.ensures
+
+pub returns-in-Err-clause-asks : goal.returns-in-Err-clause-asks
+returns-in-Err-clause-asks g c =
+    refused_asks _ _ _ c.requires.planned.1 _ _ c.requires.traced.1 (is_marked c.args.scoped.now) c.args.sources.items c.args.how.settings _ _
+    (c.in-Err.ensures (is_marked c.args.scoped.now) (λ i less. refl)).drivers
+
+pub returns-in-Err-clause-starts : goal.returns-in-Err-clause-starts
+returns-in-Err-clause-starts g c = refused_numbers _ _ _ c.requires.planned.1 _ _ c.requires.traced.1 c.args.how.settings
+
+pub returns-in-Err-clause-exact : goal.returns-in-Err-clause-exact
+returns-in-Err-clause-exact g c = λ well all have. absurd cc

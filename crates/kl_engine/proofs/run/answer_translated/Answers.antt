@@ -1,22 +1,61 @@
-use Rattle.std.proofs.Common.{inl, inr}
-use Rattle.kl_core.specs.Trees.{view as term_view}
+use Rattle.std.proofs.Common.{refl, subst}
 use Rattle.kl_scope.specs.Breaches.{is_marked}
 use Rattle.kl_syntax.specs.View.{view, decls_of}
-use Rattle.kl_engine.proofs.MeaningLemmas.{meaning_wanted}
+use Rattle.kl_desugar.specs.Mentioned.{ReadsMentioned}
+use Rattle.kl_engine.proofs.CountLemmas.{unrun_alone, unrun_asks, wanted_plan}
+use Rattle.kl_engine.proofs.MeaningLemmas.{meaning_wanted, planned_sense}
+use Rattle.kl_engine.proofs.PlanLemmas.{translated_alone, translated_plan}
 use Rattle.kl_engine.proofs.RewriteLemmas.{keeps_from}
 use Rattle.kl_engine.proofs.run.answer_translated.Goals as goal
 
-pub answer_over-requires-clause-keeps : goal.answer_over-requires-clause-keeps
-answer_over-requires-clause-keeps g c = keeps_from c.args.how.settings.rewrite _ _ _ _ c.requires.term c.in-Ok.ensures
+pub planned-requires-clause-sense : goal.planned-requires-clause-sense
+planned-requires-clause-sense g c =
+    planned_sense c.args.sources.items c.args.scoped.now _ c.requires.scope c.args.typed.now c.requires.types c.requires.placed.proper _ _ refl
+    (keeps_from c.args.how.settings.rewrite _ _ _ _ c.requires.term c.in-Ok.ensures.rewritten)
 
-pub returns-in-Ok-clause-does : goal.returns-in-Ok-clause-does
-returns-in-Ok-clause-does g c = c.answer_over.ensures.does
+pub answer_over-result-requires-clause-planned : goal.answer_over-result-requires-clause-planned
+answer_over-result-requires-clause-planned g c = (_, c.in-Ok-planned.ensures.plan, keeps_from c.args.how.settings.rewrite _ _ _ _ c.requires.term c.in-Ok.ensures.rewritten)
 
-pub returns-in-Ok-clause-steps : goal.returns-in-Ok-clause-steps
-returns-in-Ok-clause-steps g c = inl ((_, rw c.requires.term at c.in-Ok.ensures), c.answer_over.ensures.late)
+pub answer_over-result-requires-clause-mentioned : goal.answer_over-result-requires-clause-mentioned
+answer_over-result-requires-clause-mentioned g c = subst (λ t. ReadsMentioned c.args.scoped.now t) c.requires.term c.requires.mentioned
+
+pub answer_over-result-requires-clause-traced : goal.answer_over-result-requires-clause-traced
+answer_over-result-requires-clause-traced g c = (_, c.in-Ok-planned.ensures.trace)
+
+pub returns-in-Ok-planned-clause-does : goal.returns-in-Ok-planned-clause-does
+returns-in-Ok-planned-clause-does g c = c.answer_over-result.ensures.does
+
+pub returns-in-Ok-planned-clause-plan : goal.returns-in-Ok-planned-clause-plan
+returns-in-Ok-planned-clause-plan g c =
+    translated_plan _ _ _ _ c.in-Ok-planned.ensures.plan _ _ _ c.in-Ok-planned.ensures.trace c.answer_over-result.ensures.rest _ _ _ _ _ _ c.requires.term c.in-Ok.ensures.rewritten c.answer_over-result.ensures.late c.answer_over-result.ensures.exact
+
+pub returns-in-Ok-planned-clause-asks : goal.returns-in-Ok-planned-clause-asks
+returns-in-Ok-planned-clause-asks g c = c.answer_over-result.ensures.asks
+
+pub returns-in-Ok-planned-clause-alone : goal.returns-in-Ok-planned-clause-alone
+returns-in-Ok-planned-clause-alone g c =
+    translated_alone _ _ _ _ c.in-Ok-planned.ensures.plan _ _ _ c.in-Ok-planned.ensures.trace c.answer_over-result.ensures.rest c.answer_over-result.ensures.starts
+
+pub returns-in-Err-planned-clause-does : goal.returns-in-Err-planned-clause-does
+returns-in-Err-planned-clause-does g c = λ files. meaning_wanted c.args.sources.items (is_marked c.args.scoped.now) _ (decls_of c.args.scoped.now.program.defs) (view c.args.scoped.now.program.last) files _ _
+
+pub returns-in-Err-planned-clause-plan : goal.returns-in-Err-planned-clause-plan
+returns-in-Err-planned-clause-plan g c = wanted_plan _ _ c.requires.unrun
+
+pub returns-in-Err-planned-clause-asks : goal.returns-in-Err-planned-clause-asks
+returns-in-Err-planned-clause-asks g c = unrun_asks _ _ c.requires.unrun
+
+pub returns-in-Err-planned-clause-alone : goal.returns-in-Err-planned-clause-alone
+returns-in-Err-planned-clause-alone g c = unrun_alone _ c.requires.unrun
 
 pub returns-in-Err-clause-does : goal.returns-in-Err-clause-does
 returns-in-Err-clause-does g c = λ files. meaning_wanted c.args.sources.items (is_marked c.args.scoped.now) _ (decls_of c.args.scoped.now.program.defs) (view c.args.scoped.now.program.last) files _ _
 
-pub returns-in-Err-clause-steps : goal.returns-in-Err-clause-steps
-returns-in-Err-clause-steps g c = inr (c.requires.none, tt)
+pub returns-in-Err-clause-plan : goal.returns-in-Err-clause-plan
+returns-in-Err-clause-plan g c = wanted_plan _ _ c.requires.unrun
+
+pub returns-in-Err-clause-asks : goal.returns-in-Err-clause-asks
+returns-in-Err-clause-asks g c = unrun_asks _ _ c.requires.unrun
+
+pub returns-in-Err-clause-alone : goal.returns-in-Err-clause-alone
+returns-in-Err-clause-alone g c = unrun_alone _ c.requires.unrun
