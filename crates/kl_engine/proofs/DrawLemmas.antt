@@ -160,7 +160,7 @@ module _ (p : Node) (first : Option ℕ) (a : World) (place : ℕ) (left : Optio
     pub unready_prints : (e : PrintError) (c : World) (out' : SinkState) (page' : List ℕ) → Puts {T = Unit {0}} [] (as_stop (Err e)) out page out' page' → Closes (uses s) w c → Answered (Some (write_fault e)) c out'
     unready_prints e c out' page' r closes =
         list_unwritten ks ss marks tree p first a files runs is_list d.given left d.wanted s w d.drained e c front out' page' (closed_moves p a w c d.given s d.drained closes).0
-        (subst (λ bs. Puts bs (as_stop (Err e)) front [] out' page') (append-nil (list_front d.given)) (puts_line (Err e) (list_front d.given) [] front out out' [] page page' (d.printed front puts) r))
+        (subst (λ bs. Puts {T = Unit {0}} bs (as_stop (Err e)) front [] out' page') (append-nil (list_front d.given)) (puts_line (Err e) (list_front d.given) [] front out out' [] page page' (d.printed front puts) r))
 
     pub whole_prints : (t : Snap) (end : Ending) (b : World) (out' : SinkState) → Nexts (reverse env) s (Ok None) t w b
         → ((given : List Value) (s : SinkState) → Puts {T = Unit {0}} (list_front given) (Ok tt) s [] out page → PrintsPage (value_page (value.List given)) end s out') → Answered end b out'

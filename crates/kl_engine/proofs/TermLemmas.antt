@@ -1,6 +1,6 @@
 -- What a plan's value tells of the term that it stands for.
 use Rattle.std.proofs.Common.{◌≡◌, ◌≢◌, inl, inr, ℕ, List, [], Option, Some, None, Bool, true, false, Ok, Err, Result, refl, sym, ap, subst, ◌∙◌}
-use Rattle.std.specs.Prelude.{reverse, ⊤}
+use Rattle.std.specs.Prelude.{⊤}
 use Rattle.kl_outside.specs.Files.{FilesState}
 use Rattle.kl_outside.specs.Sinks.{SinkState}
 use Rattle.kl_value.specs.declared.Value.{Value}
@@ -57,10 +57,6 @@ cause_stops x error.NoMemory old new s = tt
 cause_stops x (error.BadSource place) old new s = absurd s.cause
 cause_stops x (error.TooLong most) old new s = absurd s.cause
 cause_stops x (error.TooDeep place) old new s = absurd s.cause
-
--- in an environment without values
-pub part_bare : (env : List Value) (p : Node) (r : Result Value EvalStop) (a b : World) → env ≡ [] → Partly (reverse env) p r a b → Partly [] p r a b
-part_bare env p r a b is h = subst (λ vs. Partly (reverse vs) p r a b) is h
 
 -- ---- over a session in which the plan of a term runs
 

@@ -8,7 +8,7 @@ use Rattle.kl_engine.proofs.listing.print_items.Given as goal
 
 abbrev pub invariant-items : goal.invariant-items
 invariant-items g l =
-    Drawing (view l.plan) l.first
+    Drawing (view l.plan) l.fn.first
     (record { drivers = map (λ d. (goal.Driver-dyn g (d.vtable, d.value)).state d.value) l.initial.session.drivers.items; sources = l.initial.session.sources; settings = l.initial.session.settings; trace = l.initial.session.trace })
     l.place l.left l.cursor.env (snap l.cursor.at)
     (record { drivers = map (λ d. (goal.Driver-dyn g (d.vtable, d.value)).state d.value) l.session.drivers.items; sources = l.session.sources; settings = l.session.settings; trace = l.session.trace })

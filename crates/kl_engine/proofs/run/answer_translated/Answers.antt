@@ -10,11 +10,12 @@ use Rattle.kl_engine.proofs.run.answer_translated.Goals as goal
 
 pub planned-requires-clause-sense : goal.planned-requires-clause-sense
 planned-requires-clause-sense g c =
-    planned_sense c.args.sources.items c.args.scoped.now _ c.requires.scope c.args.typed.now c.requires.types c.requires.placed.proper _ _ refl
-    (keeps_from c.args.how.settings.rewrite _ _ _ _ c.requires.term c.in-Ok.ensures.rewritten)
+    rw c.deref.ensures.value
+    (planned_sense c.args.sources.items c.args.scoped.now _ c.requires.scope c.args.typed.now c.requires.types c.requires.placed.proper _ _ refl
+    (keeps_from c.args.how.settings.rewrite _ _ _ _ c.requires.term c.in-Ok.ensures.rewritten))
 
 pub answer_over-result-requires-clause-planned : goal.answer_over-result-requires-clause-planned
-answer_over-result-requires-clause-planned g c = (_, c.in-Ok-planned.ensures.plan, keeps_from c.args.how.settings.rewrite _ _ _ _ c.requires.term c.in-Ok.ensures.rewritten)
+answer_over-result-requires-clause-planned g c = (_, rw c.deref.ensures.value at c.in-Ok-planned.ensures.plan, keeps_from c.args.how.settings.rewrite _ _ _ _ c.requires.term c.in-Ok.ensures.rewritten)
 
 pub answer_over-result-requires-clause-mentioned : goal.answer_over-result-requires-clause-mentioned
 answer_over-result-requires-clause-mentioned g c = subst (λ t. ReadsMentioned c.args.scoped.now t) c.requires.term c.requires.mentioned
@@ -27,7 +28,7 @@ returns-in-Ok-planned-clause-does g c = c.answer_over-result.ensures.does
 
 pub returns-in-Ok-planned-clause-plan : goal.returns-in-Ok-planned-clause-plan
 returns-in-Ok-planned-clause-plan g c =
-    translated_plan _ _ _ _ c.in-Ok-planned.ensures.plan _ _ _ c.in-Ok-planned.ensures.trace c.answer_over-result.ensures.rest _ _ _ _ _ _ c.requires.term c.in-Ok.ensures.rewritten c.answer_over-result.ensures.late c.answer_over-result.ensures.exact
+    translated_plan _ _ _ _ (rw c.deref.ensures.value at c.in-Ok-planned.ensures.plan) _ _ _ c.in-Ok-planned.ensures.trace c.answer_over-result.ensures.rest _ _ _ _ _ _ c.requires.term c.in-Ok.ensures.rewritten c.answer_over-result.ensures.late c.answer_over-result.ensures.exact
 
 pub returns-in-Ok-planned-clause-asks : goal.returns-in-Ok-planned-clause-asks
 returns-in-Ok-planned-clause-asks g c = c.answer_over-result.ensures.asks

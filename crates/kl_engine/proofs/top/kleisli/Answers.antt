@@ -1,5 +1,5 @@
 use Rattle.std.proofs.Common.{Some, ap, ◌∙◌}
-use Rattle.kl_engine.proofs.CountLemmas.{gen_counts, run_counts}
+use Rattle.kl_engine.proofs.CountLemmas.{gen_plan, run_plan}
 use Rattle.kl_engine.proofs.StatsLemmas.{handed_is, run_told}
 use Rattle.kl_engine.proofs.TopLemmas.{does_found, does_none, does_wanted, show_at}
 use Rattle.kl_engine.proofs.top.kleisli.Goals as goal
@@ -22,10 +22,11 @@ returns-in-Ok-Run-clause-line g c =
     (handed_is _ _ _ c.rows_handed-before.result c.rows_handed.result c.saturating_sub-handed.result c.do_run-result.ensures.does.closed.drivers c.rows_handed-before.ensures c.rows_handed.ensures c.saturating_sub-handed.ensures)
     c.end.ensures.line
 
-pub returns-in-Ok-Run-clause-steps : goal.returns-in-Ok-Run-clause-steps
-returns-in-Ok-Run-clause-steps g c =
-    run_counts _ c.in-Ok-Run.job _ _ _ _ _ _ _ (c.in-Ok-Run.ensures.meant ∙ ap Some c.in-Ok-Run.field-0-is) c.end.ensures.fault c.end.ensures.steps c.do_run-result.ensures.steps
+pub returns-in-Ok-Run-clause-plan : goal.returns-in-Ok-Run-clause-plan
+returns-in-Ok-Run-clause-plan g c =
+    run_plan _ _ _ _ _ _ _ _ _ c.end.ensures.fault c.end.ensures.plan c.end.ensures.trace c.in-Ok-Run.job (c.in-Ok-Run.ensures.meant ∙ ap Some c.in-Ok-Run.field-0-is) c.do_run-result.ensures.plan
 
-pub returns-in-Ok-Gen-clause-steps : goal.returns-in-Ok-Gen-clause-steps
-returns-in-Ok-Gen-clause-steps g c =
-    gen_counts _ c.in-Ok-Gen.seed c.in-Ok-Gen.size _ _ _ _ (g.F.Files.state c.args.files.now) _ (c.in-Ok-Gen.ensures.meant ∙ ap Some c.in-Ok-Gen.field-0-is) c.end-in-Ok-Gen.ensures.fault c.end-in-Ok-Gen.ensures.steps (c.do_gen-result.ensures.steps (g.F.Files.state c.args.files.now))
+pub returns-in-Ok-Gen-clause-plan : goal.returns-in-Ok-Gen-clause-plan
+returns-in-Ok-Gen-clause-plan g c =
+    gen_plan _ _ _ _ _ _ _ _ _ c.end-in-Ok-Gen.ensures.fault c.end-in-Ok-Gen.ensures.plan c.end-in-Ok-Gen.ensures.trace c.in-Ok-Gen.seed c.in-Ok-Gen.size
+    (c.in-Ok-Gen.ensures.meant ∙ ap Some c.in-Ok-Gen.field-0-is) (c.do_gen-result.ensures.plan (g.F.Files.state c.args.files.now))
