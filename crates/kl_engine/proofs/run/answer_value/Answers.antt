@@ -23,7 +23,7 @@ returns-in-Err-Overflow-clause-scanned g c = stop_scanned _ _ _ _ _ stop.Overflo
 
 pub returns-in-Err-Driver-clause-prints : goal.returns-in-Err-Driver-clause-prints
 returns-in-Err-Driver-clause-prints g c =
-    λ files ks ss marks t runs. value_failed ks ss marks t _ _ _ _ files runs (stop.Driver c.in-Err-Driver.source c.in-Err-Driver.error) _ (rw (c.in-Err-Driver.field-0-is, Partly) at c.in-Err-Driver.ensures.value) c.in-Err-Driver.source c.in-Err-Driver.error _ refl c.driver_fault.ensures
+    λ files ks ss marks t runs. value_failed ks ss marks t _ _ _ _ files runs (stop.Driver c.in-Err-Driver.source c.in-Err-Driver.error) _ (rw (c.in-Err-Driver.field-0-is, Partly) at c.in-Err-Driver.ensures.value) c.in-Err-Driver.source c.in-Err-Driver.error _ refl (rw c.in-Err-Driver.field-0-is at c.driver_fault.ensures)
 
 pub returns-in-Err-Driver-clause-scanned : goal.returns-in-Err-Driver-clause-scanned
 returns-in-Err-Driver-clause-scanned g c = stop_scanned _ _ _ _ _ (stop.Driver c.in-Err-Driver.source c.in-Err-Driver.error) (λ is. cc) (rw (c.in-Err-Driver.field-0-is, Partly) at c.in-Err-Driver.ensures.value)
