@@ -1,5 +1,5 @@
 -- What the outcome of a program's term tells of the program.
-use Rattle.std.proofs.Common.{◌≡◌, ◌≢◌, inl, inr, ℕ, Bool, true, false, if◌then◌else◌, List, [], ◌++◌, Option, Some, None, Ok, Err, refl, sym, ap, subst, ◌∙◌}
+use Rattle.std.proofs.Common.{◌≡◌, ◌≢◌, inl, inr, ℕ, Bool, true, false, if◌then◌else◌, List, [], Option, Some, None, refl, sym, subst, ◌∙◌}
 use Rattle.std.specs.Bool.{⊤}
 use Rattle.std.proofs.lemmas.Option.{same_Some}
 use Rattle.kl_outside.specs.Files.{FilesState}
@@ -18,14 +18,12 @@ use Rattle.kl_ask.specs.Driver.{State}
 use Rattle.kl_ask.specs.declared.session.Attached.{Attached}
 use Rattle.kl_infer.specs.Kinds.{HasOther}
 use Rattle.kl_engine.specs.Answering.{SomeRose, KeepsDrivers, IsOutside, reading, writing, drifting, wanting, PrintsPage, IsOneOf, EndsSilent, Unprinted}
-use Rattle.kl_engine.specs.Commands.{Program}
 use Rattle.kl_engine.specs.Faults.{Ending}
 use Rattle.kl_engine.specs.Outside.{outside_of}
 use Rattle.kl_engine.specs.Running.{AnswersTerm, DriftsAt, HasRunFault, IsListScheme, IsListOutcome, IsValueOutcome}
 use Rattle.kl_engine.specs.Verdict.{Verdict, value_page, refused, cut, cut_list, suffice, first_of, overflowing}
 use Rattle.kl_engine.specs.declared.fault.Fault.{Fault}
 use Rattle.kl_engine.specs.declared.fault.Fault.TheVariants as fault
-use Rattle.kl_engine.specs.declared.top.Purpose.TheVariants as purpose
 use Rattle.kl_engine.proofs.DoneLemmas.{follows_prints}
 use Rattle.kl_engine.proofs.SilentLemmas.{silent_of}
 

@@ -1,7 +1,7 @@
 -- How a call ends that does what is asked for.
-use Rattle.std.proofs.Common.{◌≡◌, ◌⊎◌, inl, inr, ℕ, ◌<◌, nat_lt, if◌then◌else◌, Bool, true, false, List, [], ◌∷◌, codes, length, Option, Some, None, Result, Ok, Err, refl, sym, ap, subst, ◌∙◌, arith}
-use Rattle.std.proofs.lemmas.Option.{gets, slice_get_within}
-use Rattle.std.specs.Prelude.{All, slice_get, ⊤}
+use Rattle.std.proofs.Common.{◌≡◌, ◌⊎◌, inl, inr, ℕ, ◌<◌, nat_lt, if◌then◌else◌, Bool, true, false, List, [], ◌∷◌, codes, length, Option, Some, None, Result, Ok, Err, refl, sym, ap, subst, ◌∙◌}
+use Rattle.std.proofs.lemmas.Option.{slice_get_within}
+use Rattle.std.specs.Prelude.{⊤}
 use Rattle.std.specs.Io.KnownBytes.{append_known}
 use Rattle.kl_outside.specs.Counts.{Rose}
 use Rattle.kl_outside.specs.Files.{FilesState}
@@ -27,7 +27,6 @@ use Rattle.kl_sources.specs.Sources.{names_of, grounds_of}
 use Rattle.kl_sources.specs.declared.source.Source.{Source}
 use Rattle.kl_sources.specs.Sources.{kinds_of}
 use Rattle.kl_engine.specs.Answering.{IsStoredFault, AreTold, IsUnreadBy, SomeDrifted, ListsTypes, Alike, one, IsOutside, reading, writing, drifting, wanting, FollowsVerdict, PrintsPage, DoesText, IsDetermined, IsOneOf, HasTextFault, IsUnreadFault, NeedsDrivers, IsMentionedIn, IsOfList, EndsSilent}
-use Rattle.kl_engine.specs.Commands.{Program as AProgram}
 use Rattle.kl_engine.specs.Faults.{Ending}
 use Rattle.kl_engine.specs.Outside.{outside_of}
 use Rattle.kl_engine.specs.Reading.{IsProgramOf, definitions, last, ReadsText}

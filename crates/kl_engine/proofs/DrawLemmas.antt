@@ -1,5 +1,5 @@
 -- What is printed of a list by the loop that draws its items.
-use Rattle.std.proofs.Common.{◌≡◌, ◌<◌, ℕ, zero, suc, ◌+◌, Bool, true, false, List, [], ◌∷◌, ◌++◌, Option, Some, None, Result, Ok, Err, refl, sym, ap, subst, ◌∙◌, arith, append-nil}
+use Rattle.std.proofs.Common.{◌≡◌, ◌<◌, ℕ, zero, suc, Bool, true, false, List, [], ◌∷◌, ◌++◌, Option, Some, None, Result, Ok, Err, refl, sym, ap, subst, ◌∙◌, arith, append-nil}
 use Rattle.std.specs.Prelude.{reverse, ⊤}
 use Rattle.kl_outside.specs.Files.{FilesState}
 use Rattle.kl_outside.specs.Sinks.{SinkState}
@@ -18,9 +18,9 @@ use Rattle.kl_sources.specs.declared.source.Source.{Source}
 use Rattle.kl_ship.specs.Nodes.{Node}
 use Rattle.kl_eval.specs.declared.stop.EvalStop.{EvalStop}
 use Rattle.kl_scans.specs.Held.{Owned, nothing}
-use Rattle.kl_scans.specs.Moves.{Moves, Closes}
+use Rattle.kl_scans.specs.Moves.{Closes}
 use Rattle.kl_scans.proofs.Moving.{moves_none}
-use Rattle.kl_cursor.specs.Left.{Snap, fresh, uses, snap, ended}
+use Rattle.kl_cursor.specs.Left.{Snap, fresh, uses}
 use Rattle.kl_cursor.specs.Measure.{most}
 use Rattle.kl_cursor.specs.Sense.{Stands}
 use Rattle.kl_cursor.specs.Steps.{Ends, Gives, Nexts, Stops}
@@ -33,7 +33,6 @@ use Rattle.kl_engine.specs.Outside.{outside_of}
 use Rattle.kl_engine.specs.Running.{AnswersTerm, HasList, IsListOutcome, IsListTerm, Scanned, StopsList, are_enough, one_more}
 use Rattle.kl_engine.specs.Showing.{write_fault}
 use Rattle.kl_engine.specs.Verdict.{list_front, value_page}
-use Rattle.kl_engine.specs.declared.fault.Fault.{Fault}
 use Rattle.kl_engine.specs.declared.fault.Fault.TheVariants as fault
 use Rattle.kl_engine.proofs.DrainLemmas.{drains_on, drains_owned}
 use Rattle.kl_engine.proofs.ListLemmas.{Wanted, closed_moves, closed_scanned, list_enough, list_stopped, list_unwritten, list_wanted, list_whole, puts_part, stopped_scanned, wanted_first, wanted_next, wanted_some, whole_scanned}

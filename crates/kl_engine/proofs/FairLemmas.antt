@@ -16,7 +16,6 @@ use Rattle.kl_ask.specs.Driver.{DriverKind, Stored, Missing, Bad, Long, Deep, Ro
 use Rattle.kl_sources.specs.Sources.{names_of, grounds_of}
 use Rattle.kl_sources.specs.declared.source.Source.{Source}
 use Rattle.kl_engine.specs.Answering.{IsOneOf, HasTextFault, IsTyping, EndsSilent}
-use Rattle.kl_engine.specs.Commands.{Program as AProgram}
 use Rattle.kl_engine.specs.Faults.{Ending}
 use Rattle.kl_engine.specs.Reading.{definitions, last}
 use Rattle.kl_engine.specs.Verdict.{Verdict, well, refused, size_fault, AfterSizes, IsSized, IsUntyped, behind, named_schemes, scheme_line, scheme_lines, IsListing, first_of, suffice, value_page, overflowing, cut_list, stored_fault, IsOutcome, IsMeant, IsDone, IsTextVerdict}

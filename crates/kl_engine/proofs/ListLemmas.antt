@@ -1,11 +1,8 @@
 -- What is printed of a list while it is drawn, and what that tells of the term that its plan stands for.
-use Rattle.std.proofs.Common.{◌≡◌, ◌≢◌, inl, inr, ⊎_elim, ℕ, zero, suc, ◌+◌, ◌<◌, ◌≤◌, ◌==◌, nat_le, Bool, true, false, cond, if◌then◌else◌, List, [], ◌∷◌, ◌++◌, codes, length, map, take, drop, get_or, Option, Some, None, Result, Ok, Err, refl, sym, ap, subst, ◌∙◌, arith, append_assoc, append-nil}
+use Rattle.std.proofs.Common.{◌≡◌, ◌≢◌, ℕ, zero, suc, ◌+◌, ◌≤◌, ◌==◌, nat_le, Bool, true, false, if◌then◌else◌, List, [], ◌∷◌, ◌++◌, codes, length, take, Option, Some, None, Result, Ok, Err, refl, sym, ap, subst, ◌∙◌, arith, append_assoc, append-nil}
 use Rattle.std.proofs.lemmas.Bool.Decides.{nat_tests}
 use Rattle.std.specs.Prelude.{⊤}
 use Rattle.std.specs.Option.{option_map}
-use Rattle.std.specs.List.{AllByRecursion}
-use Rattle.std.specs.Io.KnownBytes.{append_known}
-use Rattle.kl_outside.specs.Counts.{Rose}
 use Rattle.kl_outside.specs.Files.{FilesState}
 use Rattle.kl_outside.specs.Sinks.{SinkState, TookPart, WritesWhole}
 use Rattle.kl_outside.specs.declared.stop.Stop.TheVariants as refusal
@@ -13,14 +10,13 @@ use Rattle.kl_exchange.specs.Printing.{Puts, as_stop}
 use Rattle.kl_exchange.specs.declared.error.PrintError.{PrintError}
 use Rattle.kl_exchange.specs.declared.error.PrintError.TheVariants as print
 use Rattle.kl_exchange.proofs.TextLemmas.{text-List}
-use Rattle.kl_value.specs.Views.{collection}
-use Rattle.kl_value.specs.Written.{text_of, with_commas, separator}
+use Rattle.kl_value.specs.Written.{text_of}
 use Rattle.kl_value.proofs.ViewLemmas.{collection_is}
 use Rattle.kl_value.specs.declared.Kind.TheVariants as kind
 use Rattle.kl_value.specs.declared.Value.{Value}
 use Rattle.kl_value.specs.declared.Value.TheVariants as value
 use Rattle.kl_type.specs.Ground.{Ground, coll}
-use Rattle.kl_outcome.specs.Outcome.{Name, Outcome, done, over, stuck, Flow, more, stop, End, fine, overflow, broken, flow, followed, items_in, items_of, items_at_all}
+use Rattle.kl_outcome.specs.Outcome.{Name, Outcome, done, over, stuck, Flow, more, stop, End, fine, overflow, flow, followed, items_in, items_of, items_at_all}
 use Rattle.kl_outcome.specs.Typed.{OfType}
 use Rattle.kl_core.specs.Core.{core}
 use Rattle.kl_core.specs.Trees.{Tree}
@@ -35,15 +31,13 @@ use Rattle.kl_ship.specs.Nodes.{Node}
 use Rattle.kl_ship.specs.Numbers.{scans_in}
 use Rattle.kl_ship.proofs.Holding.{scans_in_all}
 use Rattle.kl_ship.specs.Alike.{harm}
-use Rattle.kl_ship.specs.Holding.{ScansIn}
-use Rattle.kl_ship.specs.declared.plan.Scan.{Scan}
 use Rattle.kl_eval.specs.declared.stop.EvalStop.{EvalStop}
 use Rattle.kl_eval.specs.declared.stop.EvalStop.TheVariants as why
 use Rattle.kl_scans.specs.Held.{nothing}
 use Rattle.kl_scans.specs.Moves.{Moves, Closes}
 use Rattle.kl_scans.proofs.Moving.{moves_then}
 use Rattle.kl_cursor.specs.Left.{Snap, fresh, uses, left, reading}
-use Rattle.kl_cursor.specs.Steps.{AreOf, Ends, Gives, Halts, Stops, Empties}
+use Rattle.kl_cursor.specs.Steps.{AreOf, Ends, Stops}
 use Rattle.kl_cursor.proofs.Events.{of_none, of_then}
 use Rattle.kl_cursor.proofs.ValueDrain.{Draining}
 use Rattle.kl_run.specs.Running.{Runs}
@@ -57,9 +51,9 @@ use Rattle.kl_engine.specs.declared.fault.Fault.{Fault}
 use Rattle.kl_engine.specs.declared.fault.Fault.TheVariants as fault
 use Rattle.kl_engine.proofs.AnswerLemmas.{IsRunEnd, IsStopped, term_printed, term_behind, term_unwritten, cut_end}
 use Rattle.kl_engine.proofs.DrainLemmas.{drains_ends, drains_none, drains_over, drains_refused}
-use Rattle.kl_engine.proofs.PageLemmas.{cut_is, front_full, line_full, page_stopped, page_took}
+use Rattle.kl_engine.proofs.PageLemmas.{cut_is, line_full, page_stopped, page_took}
 use Rattle.kl_engine.proofs.PutLemmas.{flush_puts, front_more}
-use Rattle.kl_engine.proofs.TermLemmas.{cause_stops, makes_sense, quiet_keeps}
+use Rattle.kl_engine.proofs.TermLemmas.{cause_stops, quiet_keeps}
 
 -- ---- how many are wanted
 

@@ -8,13 +8,8 @@ use Rattle.kl_outside.specs.Files.{FilesState}
 use Rattle.kl_outside.specs.Sinks.{SinkState}
 use Rattle.kl_base.proofs.Rises.{rose_after}
 use Rattle.kl_value.specs.Canon.{canonical}
-use Rattle.kl_value.specs.Views.{collection}
-use Rattle.kl_value.specs.declared.Kind.{Kind}
-use Rattle.kl_value.specs.declared.Kind.TheVariants as kind
 use Rattle.kl_value.specs.declared.Value.{Value}
 use Rattle.kl_type.specs.Ground.{Ground, IsProper, ground_of}
-use Rattle.kl_type.specs.declared.Ty.{Ty}
-use Rattle.kl_rows.specs.Schemes.{Instance}
 use Rattle.kl_outcome.specs.Outcome.{Name, Outcome, done, over, stuck}
 use Rattle.kl_outcome.specs.Typed.{Inhabits}
 use Rattle.kl_outcome.proofs.OutcomeTypes.{canonical_inhabits}
@@ -57,7 +52,7 @@ use Rattle.kl_run.specs.Planned.{IsPlanOf, ships_of}
 use Rattle.kl_run.specs.Running.{Runs}
 use Rattle.kl_run.proofs.Sessions.{session_runs}
 use Rattle.kl_sources.specs.Attaching.{RoseAt, list_of, HaveNone, AttachesAll, world_of, IsErrorOf, IsUnreadable, NoVerdict, MayAttach, Causes, Serves, Stands, HasTyped}
-use Rattle.kl_sources.specs.Sources.{ArePlaced, IsFit, names_of, grounds_of, contents, HasRows, value_of, empty_of, IsValueAt, HaveValues, IsReadable, FirstWithout}
+use Rattle.kl_sources.specs.Sources.{ArePlaced, IsFit, names_of, grounds_of, contents, value_of, empty_of, IsValueAt, HaveValues, IsReadable, FirstWithout}
 use Rattle.kl_sources.specs.declared.attaching.AttachError.{AttachError}
 use Rattle.kl_sources.specs.declared.source.Source.{Source}
 use Rattle.kl_sources.proofs.Agreement.{values_agree, first_agrees}
@@ -65,7 +60,6 @@ use Rattle.kl_sources.proofs.ListedSources.{listed_source}
 use Rattle.kl_sources.proofs.Lists.{of_all}
 use Rattle.kl_sources.specs.Sources.{kinds_of}
 use Rattle.kl_engine.specs.Answering.{SomeRose, KeepsDrivers, IsIdle, IsStoredFault, AreTold, IsUnreadBy, SomeDrifted, IsOf, IsOutside, reading, writing, drifting, wanting, FollowsVerdict, IsDetermined, IsOneOf, HasTextFault, IsUnreadFault, NeedsDrivers}
-use Rattle.kl_engine.specs.Commands.{Program}
 use Rattle.kl_engine.specs.Faults.{Ending}
 use Rattle.kl_engine.specs.Outside.{outside_of}
 use Rattle.kl_engine.specs.Reading.{WasInScope}

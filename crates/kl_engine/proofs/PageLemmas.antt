@@ -1,5 +1,5 @@
 -- What is printed of a verdict.
-use Rattle.std.proofs.Common.{◌≡◌, ◌≢◌, inl, inr, ℕ, true, false, if◌then◌else◌, Option, List, [], ◌++◌, codes, length, Some, None, Ok, Err, refl, sym, ap, subst, arith, length-append}
+use Rattle.std.proofs.Common.{◌≡◌, ◌≢◌, inl, inr, ℕ, Option, List, [], ◌++◌, codes, length, Some, None, Ok, Err, refl, sym, ap, subst, arith, length-append}
 use Rattle.kl_outside.specs.Sinks.{SinkState, WritesWhole}
 use Rattle.kl_outside.specs.declared.stop.Stop.{Stop}
 use Rattle.kl_outside.specs.declared.stop.Stop.TheVariants as stop
@@ -11,8 +11,7 @@ use Rattle.kl_value.specs.declared.Value.{Value}
 use Rattle.kl_value.specs.declared.Value.TheVariants as value
 use Rattle.kl_engine.specs.Answering.{PrintsPage, IsDetermined}
 use Rattle.kl_engine.specs.Showing.{write_fault}
-use Rattle.kl_engine.specs.Verdict.{Verdict, well, refused, list_front, overflowing, cut_list, cut, cut_layer, first_of, suffice, value_page}
-use Rattle.kl_engine.specs.Faults.{Ending}
+use Rattle.kl_engine.specs.Verdict.{Verdict, well, refused, list_front, overflowing, cut, cut_layer, first_of}
 use Rattle.kl_engine.specs.declared.fault.Fault.{Fault}
 use Rattle.kl_engine.specs.declared.fault.Fault.TheVariants as fault
 

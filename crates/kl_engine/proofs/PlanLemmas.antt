@@ -1,11 +1,10 @@
 -- What is counted of a plan that was run over the sources of a program.
-use Rattle.std.proofs.Common.{inl, ◌≡◌, ℕ, Bool, List, [], ◌∷◌, map, Option, Some, None, Result, Ok, Err, refl, sym, ap, subst, ◌∙◌}
+use Rattle.std.proofs.Common.{inl, ◌≡◌, ℕ, Bool, List, [], map, Option, Some, None, refl, sym, ap, subst, ◌∙◌}
 use Rattle.kl_outcome.specs.Outcome.{Name}
 use Rattle.kl_value.specs.declared.Kind.TheVariants as kind
 use Rattle.kl_value.specs.declared.Value.{Value}
 use Rattle.kl_type.specs.Ground.{coll}
 use Rattle.kl_core.specs.Trees.{Tree}
-use Rattle.kl_rules.specs.Preserving.{Preserves}
 use Rattle.kl_ask.specs.Driver.{DriverKind, State}
 use Rattle.kl_ask.specs.Lists.{EachSteps}
 use Rattle.kl_ask.specs.World.{World, types_of}

@@ -1,5 +1,5 @@
 -- What a plan's value tells of the term that it stands for.
-use Rattle.std.proofs.Common.{◌≡◌, ◌≢◌, inl, inr, ℕ, List, [], Option, Some, None, Bool, true, false, Ok, Err, Result, refl, sym, ap, subst, ◌∙◌}
+use Rattle.std.proofs.Common.{◌≡◌, ◌≢◌, ℕ, List, [], Option, Some, None, Bool, true, false, Ok, Err, sym, ap, subst, ◌∙◌}
 use Rattle.std.specs.Prelude.{⊤}
 use Rattle.kl_outside.specs.Files.{FilesState}
 use Rattle.kl_outside.specs.Sinks.{SinkState}
@@ -10,22 +10,19 @@ use Rattle.kl_core.specs.Trees.{Tree}
 use Rattle.kl_core.specs.Typing.{HaveSources}
 use Rattle.kl_core.proofs.Safety.{never_stuck}
 use Rattle.kl_ask.specs.Driver.{DriverKind, State}
-use Rattle.kl_ask.specs.Lists.{EachSteps}
-use Rattle.kl_ask.specs.World.{World, Quiet, types_of, values_of}
+use Rattle.kl_ask.specs.World.{World, types_of, values_of}
 use Rattle.kl_ask.specs.declared.session.Attached.{Attached}
 use Rattle.kl_ask.specs.declared.ask.DriverError.{DriverError}
 use Rattle.kl_ask.specs.declared.ask.DriverError.TheVariants as error
 use Rattle.kl_eval.specs.World.{StoppedBy}
 use Rattle.kl_eval.specs.declared.stop.EvalStop.{EvalStop}
 use Rattle.kl_eval.specs.declared.stop.EvalStop.TheVariants as stop
-use Rattle.kl_ship.specs.Meaning.{plan, worth}
 use Rattle.kl_ship.specs.Nodes.{Node}
 use Rattle.kl_ship.specs.Numbers.{scans_in}
 use Rattle.kl_ship.proofs.Holding.{scans_in_all}
 use Rattle.kl_sources.specs.declared.source.Source.{Source}
 use Rattle.kl_scans.specs.Held.{nothing}
 use Rattle.kl_scans.specs.Moves.{Moves}
-use Rattle.kl_cursor.specs.Left.{reading}
 use Rattle.kl_cursor.specs.Sense.{HasWorth}
 use Rattle.kl_cursor.specs.Steps.{ComesTo, Partly}
 use Rattle.kl_run.specs.Running.{Runs}
@@ -33,11 +30,11 @@ use Rattle.kl_run.proofs.Quiet.{moves_quiet}
 use Rattle.kl_engine.specs.Answering.{KeepsDrivers, PrintsPage}
 use Rattle.kl_engine.specs.Faults.{Ending}
 use Rattle.kl_engine.specs.Outside.{outside_of}
-use Rattle.kl_engine.specs.Running.{AnswersTerm, IsListTerm, IsTermOutcome, IsListOutcome, IsValueOutcome, Scanned, fault_of}
-use Rattle.kl_engine.specs.Verdict.{Verdict, value_page, refused, cut}
+use Rattle.kl_engine.specs.Running.{AnswersTerm, IsTermOutcome, IsListOutcome, IsValueOutcome, Scanned, fault_of}
+use Rattle.kl_engine.specs.Verdict.{value_page, refused, cut}
 use Rattle.kl_engine.specs.declared.fault.Fault.{Fault}
 use Rattle.kl_engine.specs.declared.fault.Fault.TheVariants as fault
-use Rattle.kl_engine.proofs.AnswerLemmas.{IsRunEnd, IsStopped, term_stopped, term_printed, value_verdict, value_is, value_past}
+use Rattle.kl_engine.proofs.AnswerLemmas.{IsStopped, term_stopped, term_printed, value_verdict, value_is, value_past}
 use Rattle.kl_engine.proofs.PageLemmas.{prints_refused}
 use Rattle.kl_engine.proofs.SilentLemmas.{unprinted_on}
 

@@ -1,5 +1,4 @@
 use Rattle.std.proofs.Common.{map}
-use Rattle.kl_ask.specs.World.{World}
 use Rattle.kl_ship.specs.Nodes.{view}
 use Rattle.kl_cursor.specs.Left.{snap}
 use Rattle.kl_cursor.specs.Measure.{most}

@@ -1,4 +1,4 @@
-use Rattle.std.proofs.Common.{Some, refl}
+use Rattle.std.proofs.Common.{refl}
 use Rattle.kl_eval.specs.declared.stop.EvalStop.TheVariants as stop
 use Rattle.kl_cursor.specs.Steps.{Partly}
 use Rattle.kl_engine.proofs.TermLemmas.{stop_scanned, value_failed, value_given, value_lost, value_past_end, value_scanned}
