@@ -292,11 +292,6 @@ pub cut_end : (first : Option ℕ) (enough : Bool) (vs : List Value) → IsRunEn
 cut_end first true vs = tt
 cut_end first false vs = tt
 
-pub list_verdict : (first : Option ℕ) (o : Outcome) → o ≢ stuck → (v : Verdict) × IsListOutcome first o v × IsRunEnd v.ending
-list_verdict first (done x) makes = (value_page (cut first x), refl, tt)
-list_verdict first (over vs) makes = (cut_list first vs, refl, cut_end first (suffice first vs) vs)
-list_verdict first stuck makes = absurd (makes refl)
-
 pub value_verdict : (first : Option ℕ) (o : Outcome) → o ≢ stuck → (v : Verdict) × IsValueOutcome first o v × IsRunEnd v.ending
 value_verdict first (done x) makes = (value_page (cut first x), refl, tt)
 value_verdict first (over vs) makes = (refused fault.Overflow, refl, tt)

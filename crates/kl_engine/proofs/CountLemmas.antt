@@ -226,21 +226,3 @@ module _ (found : Option Read) (end told : Ending) (ran : Ran) (answered : Optio
       → HasPlan true (Program (purpose.Run None) (Made seed size)) end ran.trace.steps (plan_in ran.plan) ran.trace.starts f f' ks
       → HasPlan (wants_rewriting found) (asked found) told trace.steps (plan_in answered) trace.starts f f' ks
   gen_plan seed size is h = subst (λ o. HasPlan (wants_rewriting o) (asked o) told trace.steps (plan_in answered) trace.starts f f' ks) (sym is) (told_plan true (Program (purpose.Run None) (Made seed size)) h)
-
-  -- a command that runs nothing has no plan
-  pub no_plan : IsUnrun ran → (IsRunning (asked found) → ⊥) → HasPlan (wants_rewriting found) (asked found) told trace.steps (plan_in answered) trace.starts f f' ks
-  no_plan none idle = told_plan (wants_rewriting found) (asked found) (inr (ap plan_in none.0, none.1.steps, inl idle))
-
--- memory ran out before the words were read
-pub wanted_has_plan : (found : Option Read) (told : Ending) (ran : Ran) (answered : Option Plan) (trace : Trace) (f : FilesState) (ks : List DriverKind) → told ≡ Some fault.NoMemory → answered ≡ ran.plan → trace ≡ ran.trace → IsUnrun ran
-    → HasPlan (wants_rewriting found) (asked found) told trace.steps (plan_in answered) trace.starts f f ks
-wanted_has_plan found told ran answered trace f ks same planned counted none =
-    told_plan found (Some fault.NoMemory) told ran answered trace f f ks same planned counted (wants_rewriting found) (asked found) (inr (ap plan_in none.0, none.1.steps, inr tt))
-
--- what holds of a run's plan and counts holds of those that are told
-module _ (ran : Ran) (answered : Option Plan) (trace : Trace) (planned : answered ≡ ran.plan) (counted : trace ≡ ran.trace) where
-  pub told_asks : (old new : List State) → AsksOf (plan_in ran.plan) ran.trace.starts old new → AsksOf (plan_in answered) trace.starts old new
-  told_asks old new h = subst (λ z. AsksOf (plan_in answered) z.starts old new) (sym counted) (subst (λ z. AsksOf (plan_in z) ran.trace.starts old new) (sym planned) h)
-
-  pub told_alone : CountsScansAlone (plan_in ran.plan) ran.trace → CountsScansAlone (plan_in answered) trace
-  told_alone h = subst (λ z. CountsScansAlone (plan_in answered) z) (sym counted) (subst (λ z. CountsScansAlone (plan_in z) ran.trace) (sym planned) h)

@@ -18,6 +18,7 @@ use Rattle.kl_value.specs.declared.Value.TheVariants as value
 use Rattle.kl_type.specs.Ground.{Ground, coll}
 use Rattle.kl_outcome.specs.Outcome.{Name, Outcome, done, over, stuck, Flow, more, stop, End, fine, overflow, flow, followed, items_in, items_of, items_at_all}
 use Rattle.kl_outcome.specs.Typed.{OfType}
+use Rattle.kl_outcome.proofs.Flows.{flow_items}
 use Rattle.kl_core.specs.Core.{core}
 use Rattle.kl_core.specs.Trees.{Tree}
 use Rattle.kl_core.specs.Typing.{HaveSources}
@@ -138,10 +139,6 @@ wanted_some first given (Some n) w all none = let both : Some (n + length given)
 -- drawn items, and what is behind them
 flow_split : (vs given : List Value) (e : End) (rest : Flow) → followed (flow given fine) rest ≡ flow vs e → (vs ≡ given ++ items_in rest) × (rest ≡ flow (items_in rest) e)
 flow_split vs [] e rest is = (let f : items_in rest ≡ items_in (flow vs e) = ap items_in is in sym (flow_items vs e) ∙ sym f, is ∙ ap (λ us. flow us e) (sym (flow_items vs e) ∙ sym (ap items_in is)))
-  where
-    flow_items : (vs : List Value) (e : End) → items_in (flow vs e) ≡ vs
-    flow_items [] e = refl
-    flow_items (v ∷ vs) e = ap (λ us. v ∷ us) (flow_items vs e)
 flow_split [] (v ∷ given) e rest is = absurd (let w : more v (followed (flow given fine) rest) ≡ stop e = is in cc)
 flow_split (u ∷ vs) (v ∷ given) e rest is =
     let one : v ≡ u = cc in

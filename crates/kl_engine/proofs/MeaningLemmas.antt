@@ -50,6 +50,7 @@ use Rattle.kl_ship.specs.Contents.{MakesSense, types_in}
 use Rattle.kl_ship.specs.Nodes.{Node}
 use Rattle.kl_run.specs.Planned.{IsPlanOf, ships_of}
 use Rattle.kl_run.specs.Running.{Runs}
+use Rattle.kl_run.proofs.Means.{plan_sense}
 use Rattle.kl_run.proofs.Sessions.{session_runs}
 use Rattle.kl_sources.specs.Attaching.{RoseAt, list_of, HaveNone, AttachesAll, world_of, IsErrorOf, IsUnreadable, NoVerdict, MayAttach, Causes, Serves, Stands, HasTyped}
 use Rattle.kl_sources.specs.Sources.{ArePlaced, IsFit, names_of, grounds_of, contents, value_of, empty_of, IsValueAt, HaveValues, IsReadable, FirstWithout}
@@ -501,11 +502,6 @@ module _ (ss : List Source) (program : Decls) (e : Exp) (typed : Typed) (infers 
 
 -- ---- the plan of a program's term
 
-types_placed : (ks : List DriverKind) (ss : List Source) (i : ℕ) → types_in (ships_of ks ss) i ≡ program_types (grounds_of ss) i
-types_placed ks [] i = refl
-types_placed ks (s ∷ ss) zero = refl
-types_placed ks (s ∷ ss) (suc i) = types_placed ks ss i
-
 -- what a program's term is rewritten to makes sense over the sources
 pub planned_sense : (ss : List Source) (s : Scoped) (ks : List DriverKind) (scope : WasInScope (names_of ss) s) (typed : Typed) (infers : Infers (decls_of s.program.defs) (view s.program.last) (grounds_of ss) typed) (proper : AllByRecursion (λ s. IsProper s.ty) ss)
     (t u : Tree) → t ≡ term_of (decls_of s.program.defs) (view s.program.last) s.sources → Preserves t u → MakesSense (ships_of ks ss) u
@@ -515,7 +511,7 @@ planned_sense ss s ks scope typed infers proper t u is keeps =
     let types : CoreTypes (program_types (grounds_of ss)) [] t one.0 =
     subst (λ x. CoreTypes (program_types (grounds_of ss)) [] x one.0) (sym (is ∙ ap (term_of (decls_of s.program.defs) (view s.program.last)) (names ∙ sym (grounds_names ss))))
     (makes_sense (decls_of s.program.defs) (view s.program.last) (grounds_of ss) one.0 (are_ground ss proper) (tidied (names_of ss) s scope) one.1) in
-    (one.0, subst (λ S. CoreTypes S [] u one.0) (sym (fun_ext (types_placed ks ss))) (keeps.typed (program_types (grounds_of ss)) [] one.0 types))
+    plan_sense ks ss (program_types (grounds_of ss)) t u (λ i. refl) keeps (one.0, types)
 
 -- ---- a session of the sources
 

@@ -42,18 +42,6 @@ pub page_cut : (v : Verdict) → IsDetermined v.ending → v.page ≢ [] → (e 
 page_cut v told full stop.Failed out out' writes = record { ends = inr (inl (refl, writes.cause.failed refl, full)); whole = λ is. absurd (subst IsDetermined (sym is) told); part = writes.part; nothing = λ none. absurd (full none) }
 page_cut v told full stop.NoMemory out out' writes = record { ends = inr (inr refl); whole = λ is. absurd (subst IsDetermined (sym is) told); part = writes.part; nothing = λ none. absurd (full none) }
 
--- the items of a list up to an overflow
-module _ (vs : List Value) (out out' : SinkState) where
-  pub front_full : list_front vs ≢ []
-  front_full is = cc
-
-  pub cut_took : {T : Type 0} (done : T) → WritesWhole (list_front vs) (Ok done) out out' → PrintsPage (overflowing vs) (Some fault.Overflow) out out'
-  cut_took done writes = record { ends = inl refl; whole = λ is. writes.took; part = writes.part; nothing = λ none. absurd (front_full none) }
-
-  pub cut_stopped : (e : PrintError) → WritesWhole {T = Unit {0}} (list_front vs) (as_stop (Err e)) out out' → PrintsPage (overflowing vs) (Some (write_fault e)) out out'
-  cut_stopped print.Failed writes = record { ends = inr (inl (refl, writes.cause.failed refl, front_full)); whole = λ is. absurd cc; part = writes.part; nothing = λ none. absurd (front_full none) }
-  cut_stopped print.NoMemory writes = record { ends = inr (inr refl); whole = λ is. absurd cc; part = writes.part; nothing = λ none. absurd (front_full none) }
-
 -- nothing is printed
 pub prints_refused : (f : Fault) (out : SinkState) → PrintsPage (refused f) (Some f) out out
 prints_refused f out = record { ends = inl refl; whole = λ is. sym (append_known-nil out.taken); part = took_none [] out out refl; nothing = λ none. refl }

@@ -29,7 +29,7 @@ use Rattle.kl_sources.specs.Attaching.{MayAttach, world_of}
 use Rattle.kl_sources.specs.Sources.{HaveValues}
 use Rattle.kl_sources.specs.declared.source.Source.{Source}
 use Rattle.kl_engine.specs.Faults.{Ending}
-use Rattle.kl_engine.specs.Planned.{CountsScansAlone, IsEarly, PlanOf, PlansTerm}
+use Rattle.kl_engine.specs.Planned.{AreStartsOf, CountsScansAlone, IsEarly, PlanOf, PlansTerm}
 use Rattle.kl_engine.specs.Rewritten.{IsRewrittenTo}
 use Rattle.kl_engine.specs.Running.{HasList, IsListTerm, Scanned}
 use Rattle.kl_engine.proofs.RewriteLemmas.{rewritten_keeps}
@@ -45,7 +45,7 @@ module _ (ships : List ShipSource) (u : Tree) (p : Node) (planned : IsPlanOf shi
         asks_attached marks ss p b.trace.starts ds a.drivers b.drivers attached
         (asks_counted ships u p planned scanned.moves.events a b scanned.moves.logged scanned.known began)
 
-    pub plan_numbers : map (λ e. e.0) b.trace.starts ≡ map (λ c. c.number) (scans_in p)
+    pub plan_numbers : AreStartsOf (Some p) b.trace.starts
     plan_numbers = starts_numbered ships u p planned scanned.moves.events a b scanned.moves.logged scanned.known began
 
     pub plan_rest : without_starts b.trace ≡ without_starts was

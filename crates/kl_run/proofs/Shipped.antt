@@ -32,13 +32,6 @@ module _ {A : Type 0} (f : A → State) (ds : List A) where
       let same : can ≡ abilities_in (slice_get (kinds_of (map f ds)) s.driver) = e ∙ ap abilities_in (sym here) in
       rw (same, g, i) refl
 
-pub sources_more : (ks : List DriverKind) (ss : List Source) (i : ℕ) (s : Source) (ships more : List ShipSource) (x : ShipSource) → ships ≡ ships_of ks (take i ss) → i < length ss → s ≡ get_or ss i s → x ≡ ship_source ks s → more ≡ ships ++ x ∷ []
-    → more ≡ ships_of ks (take (i + 1) ss)
-sources_more ks ss i s ships more x e lt is made pushed =
-    let one : i + 1 ≡ suc i = omega arith in
-    let front : take (i + 1) ss ≡ take i ss ++ s ∷ [] = ap (λ n. take n ss) one ∙ take-suc ss i s lt ∙ ap (λ q. take i ss ++ q ∷ []) (sym is) in
-    pushed ∙ ap (λ xs. xs ++ x ∷ []) e ∙ ap (λ q. ships_of ks (take i ss) ++ q ∷ []) made ∙ sym (map-append (ship_source ks) (take i ss) (s ∷ [])) ∙ ap (ships_of ks) (sym front)
-
 ships_suit : (ks : List DriverKind) (ss : List Source) → AllByRecursion (IsFit ks) ss → All (λ s. Suits s.abilities (ground s)) (ships_of ks ss)
 ships_suit ks [] h = All-nil (λ s. Suits s.abilities (ground s))
 ships_suit ks (s ∷ ss) h =
