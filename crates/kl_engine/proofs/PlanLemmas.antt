@@ -91,13 +91,18 @@ module _ (ks : List DriverKind) (ss : List Source) (u : Tree) (p : Node) (planne
   translated_plan on marks first end t given is rewritten late exact =
       let same : trace.steps ≡ steps = ap (λ (r : Trace). r.steps) rest ∙ fresh.steps in
       let led : IsRewrittenTo on t steps u = subst (λ x. IsRewrittenTo on x steps u) is rewritten in
-      inl (p, refl, record {
-        term = u;
-        rewritten = subst (λ n. IsRewrittenTo on t n u) (sym same) led;
-        planned = planned;
-        means = means_term (ships_of ks ss) t u p planned (rewritten_keeps on t u steps led);
-        exact = exact;
-      }, late)
+      inl (
+        p,
+        refl,
+        record {
+          term = u;
+          rewritten = subst (λ n. IsRewrittenTo on t n u) (sym same) led;
+          planned = planned;
+          means = means_term (ships_of ks ss) t u p planned (rewritten_keeps on t u steps led);
+          exact = exact;
+        },
+        late,
+      )
 
   pub translated_alone : map (λ e. e.0) trace.starts ≡ map (λ c. c.number) (scans_in p) → CountsScansAlone (Some p) trace
   translated_alone starts = record {

@@ -50,10 +50,13 @@ returns-in-Ok-clause-rest g c = plan_rest _ _ _ c.requires.planned.1 _ _ c.requi
 pub returns-in-Ok-clause-exact : goal.returns-in-Ok-clause-exact
 returns-in-Ok-clause-exact g c =
     λ well all have.
-    let runs = plan_runs c.args.sources.items c.args.scoped.now c.requires.scope c.args.typed.now c.requires.types _ refl _ _ c.requires.placed _ (attaches_same _ c.replace.result _ _ _ _ _ c.replace.ensures.value (c.in-Ok.ensures (is_marked c.args.scoped.now) (λ i less. refl))) c.args.how.settings c.replace-in-Ok.result c.requires.fetch c.requires.idle c.requires.mentioned _ _ c.requires.planned.2 c.requires.planned.1 in
-    (_, runs.reads, plan_starts _ _ _ c.requires.planned.1 _ _ c.requires.traced.1 _ _ _ refl c.replace-in-Ok.ensures.value _ _ c.answer_plan-result.ensures.scanned well all
-    (runs.told (session_told c.args.sources.items c.args.scoped.now c.requires.scope c.args.typed.now c.requires.types _ refl _ _ c.requires.placed _ (attaches_same _ c.replace.result _ _ _ _ _ c.replace.ensures.value (c.in-Ok.ensures (is_marked c.args.scoped.now) (λ i less. refl))) c.args.how.settings c.replace-in-Ok.result c.requires.fetch
-    (means (decls_of c.args.scoped.now.program.defs) (view c.args.scoped.now.program.last) c.args.scoped.now.sources) have.0 have.1)))
+    let runs = plan_runs c.args.sources.items c.args.scoped.now c.requires.scope c.args.typed.now c.requires.types _ refl _ _ c.requires.placed _ (attaches_same _ c.replace.result _ _ _ _ _ c.replace.ensures.value (c.in-Ok.ensures (is_marked c.args.scoped.now) (λ i less. refl))) c.args.how.settings c.replace-in-Ok.result c.requires.fetch c.requires.idle c.requires.mentioned _ _ c.requires.planned.2 c.requires.planned.1 in (
+      _,
+      runs.reads,
+      plan_starts _ _ _ c.requires.planned.1 _ _ c.requires.traced.1 _ _ _ refl c.replace-in-Ok.ensures.value _ _ c.answer_plan-result.ensures.scanned well all
+          (runs.told (session_told c.args.sources.items c.args.scoped.now c.requires.scope c.args.typed.now c.requires.types _ refl _ _ c.requires.placed _ (attaches_same _ c.replace.result _ _ _ _ _ c.replace.ensures.value (c.in-Ok.ensures (is_marked c.args.scoped.now) (λ i less. refl))) c.args.how.settings c.replace-in-Ok.result c.requires.fetch
+          (means (decls_of c.args.scoped.now.program.defs) (view c.args.scoped.now.program.last) c.args.scoped.now.sources) have.0 have.1)),
+    )
 
 pub returns-in-Err-clause-does : goal.returns-in-Err-clause-does
 returns-in-Err-clause-does g c =
