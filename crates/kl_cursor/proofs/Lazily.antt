@@ -1,5 +1,5 @@
 -- Loops over a scan that use no row before its items are asked for.
-use Rattle.std.proofs.Common.{◌≡◌, ℕ, ◌+◌, ◌<◌, ◌≤◌, List, [], ◌∷◌, length, drop, take, refl, sym, ap, ◌∙◌, subst, arith}
+use Rattle.std.proofs.Common.{◌≡◌, ℕ, ◌+◌, ◌<◌, ◌≤◌, List, [], ◌∷◌, suc, length, take, refl, sym, ap, ◌∙◌, subst, arith}
 use Rattle.std.specs.List.{sum_by}
 use Rattle.kl_value.specs.declared.Kind.{Kind}
 use Rattle.kl_value.specs.declared.Kind.TheVariants as kind
@@ -31,27 +31,27 @@ lazy_at R w env p c all asked d e k l s is at h = subst (λ z. Lazy R w env p c 
 
 -- what a way of loops comes to
 abbrev pub Spared : ℕ → List Value → Snap → World → Snap → World → Type 0
-Spared more env s a t b = (R : Readings) (p : Node) (c : Scan) (all : List Value) (drawn handed : ℕ) → ListTold env s a → Lazy R a env p c all (drawn + 1) drawn handed s
-    → (rows : ℕ) × Handed c rows a b × Lazy R b env p c all (drawn + 1) (drawn + more) (handed + rows) t
+Spared count env s a t b = (R : Readings) (p : Node) (c : Scan) (all : List Value) (drawn handed : ℕ) → ListTold env s a → Lazy R a env p c all (drawn + 1) drawn handed s
+    → (rows : ℕ) × Handed c rows a b × Lazy R b env p c all (drawn + 1) (drawn + count) (handed + rows) t
 
 pub spared_none : (env : List Value) (s : Snap) (w : World) → Spared 0 env s w s w
 spared_none env s w = λ R p c all drawn handed told h. (0, handed_none c w, lazy_at R w env p c all (drawn + 1) drawn (drawn + 0) handed (handed + 0) s (omega arith) (omega arith) h)
 
-pub spared_then : (more : ℕ) (env : List Value) (s t r : Snap) (a b d : World) → Onward env s a t b → Spared 0 env s a t b → Spared more env t b r d → Spared more env s a r d
-spared_then more env s t r a b d m f g = λ R p c all drawn handed told h.
+pub spared_then : (count : ℕ) (env : List Value) (s t r : Snap) (a b d : World) → Onward env s a t b → Spared 0 env s a t b → Spared count env t b r d → Spared count env s a r d
+spared_then count env s t r a b d m f g = λ R p c all drawn handed told h.
     let x = f R p c all drawn handed told h in
     let y = g R p c all drawn (handed + x.0) (told_onward env s t a b m told) (lazy_at R b env p c all (drawn + 1) (drawn + 0) drawn (handed + x.0) (handed + x.0) t (omega arith) refl x.2) in
-    (x.0 + y.0, handed_then c x.0 y.0 a b d x.1 y.1, lazy_at R d env p c all (drawn + 1) (drawn + more) (drawn + more) ((handed + x.0) + y.0) (handed + (x.0 + y.0)) r refl (omega arith) y.2)
+    (x.0 + y.0, handed_then c x.0 y.0 a b d x.1 y.1, lazy_at R d env p c all (drawn + 1) (drawn + count) (drawn + count) ((handed + x.0) + y.0) (handed + (x.0 + y.0)) r refl (omega arith) y.2)
 
-pub fetched_then : (more : ℕ) (env : List Value) (s t r : Snap) (a b d : World) → Onward env s a t b → Spares 0 env s a t b → Spares more env t b r d → (c : Scan) (all : List Value) (used handed : ℕ) → ListTold env s a → Fetching a env c all used handed s
-    → (rows : ℕ) × Handed c rows a d × Fetching d env c all (used + more) (handed + rows) r
-fetched_then more env s t r a b d m f g c all used handed told h =
+pub fetched_then : (count : ℕ) (env : List Value) (s t r : Snap) (a b d : World) → Onward env s a t b → Spares 0 env s a t b → Spares count env t b r d → (c : Scan) (all : List Value) (used handed : ℕ) → ListTold env s a → Fetching a env c all used handed s
+    → (rows : ℕ) × Handed c rows a d × Fetching d env c all (used + count) (handed + rows) r
+fetched_then count env s t r a b d m f g c all used handed told h =
     let x = f.scan c all used handed told h in
     let y = g.scan c all used (handed + x.0) (told_onward env s t a b m told) (fetching_at b env c all (used + 0) used (handed + x.0) (handed + x.0) t (omega arith) refl x.2) in
-    (x.0 + y.0, handed_then c x.0 y.0 a b d x.1 y.1, fetching_at d env c all (used + more) (used + more) ((handed + x.0) + y.0) (handed + (x.0 + y.0)) r refl (omega arith) y.2)
+    (x.0 + y.0, handed_then c x.0 y.0 a b d x.1 y.1, fetching_at d env c all (used + count) (used + count) ((handed + x.0) + y.0) (handed + (x.0 + y.0)) r refl (omega arith) y.2)
 
-pub spares_then : (more : ℕ) (env : List Value) (s t r : Snap) (a b d : World) → Onward env s a t b → Spares 0 env s a t b → Spares more env t b r d → Spares more env s a r d
-spares_then more env s t r a b d m f g = record { scan = fetched_then more env s t r a b d m f g; loop = spared_then more env s t r a b d m f.loop g.loop }
+pub spares_then : (count : ℕ) (env : List Value) (s t r : Snap) (a b d : World) → Onward env s a t b → Spares 0 env s a t b → Spares count env t b r d → Spares count env s a r d
+spares_then count env s t r a b d m f g = record { scan = fetched_then count env s t r a b d m f g; loop = spared_then count env s t r a b d m f.loop g.loop }
 
 -- ---- inside the body
 

@@ -165,10 +165,17 @@ no_loop : (p q : Node) → is_loop p ≡ false → is_loop q ≡ true → p ≡ 
 no_loop p q e f g = let x : true ≡ false = sym f ∙ sym (ap is_loop g) ∙ e in cc
 
 -- neither a loop nor a scan
-pub other_begins : (env : List Value) (p q : Node) (r : Result State EvalStop) (a b : World) → is_loop q ≡ false → p ≡ q → BeginsLazily env (fresh p) r a b
-other_begins env p q r a b e f =
-    subst (λ z. BeginsLazily env (fresh z) r a b) (sym f)
-    (never_begins env (fresh q) r a b (λ c h. no_loop q (node.Scan c) e refl h) (λ R w b' c all drawn handed used h. no_loop q (node.Ext kind.List b' (node.Scan c)) e refl h.0))
+no_scan_here : (p q : Node) → p ≡ q → is_loop q ≡ false → NoScan (fresh p)
+no_scan_here p q f e = λ c h. no_loop q (node.Scan c) e refl (sym f ∙ h)
+
+no_loop_here : (env : List Value) (p q : Node) → p ≡ q → is_loop q ≡ false → NoLoop env (fresh p)
+no_loop_here env p q f e = λ R w b c all drawn handed used h. no_loop q (node.Ext kind.List b (node.Scan c)) e refl (sym f ∙ h.0)
+
+pub other_begins : (env : List Value) (p q : Node) (r : Result State EvalStop) (a b : World) → p ≡ q → is_loop q ≡ false → BeginsLazily env (fresh p) r a b
+other_begins env p q r a b f e = never_begins env (fresh p) r a b (no_scan_here p q f e) (no_loop_here env p q f e)
+
+pub other_spares : (env : List Value) (p q : Node) (t : Snap) (a b : World) → p ≡ q → is_loop q ≡ false → Spares 0 env (fresh p) a t b
+other_spares env p q t a b f e = never_spares 0 env (fresh p) t a b (no_scan_here p q f e) (no_loop_here env p q f e)
 
 -- what never comes item by item
 pub whole_begins_lazily : (env : List Value) (p : Node) (r : Result State EvalStop) (a b : World) → kind_of_items p ≡ None → BeginsLazily env (fresh p) r a b

@@ -57,6 +57,9 @@ pub record Drawing (R : Readings) (env : List Value) (b : Node) (c : Scan) (all 
   pub counted : Handed c handed a w
   pub lazy : Lazy R w env b c all drawn drawn handed s
 
+none_times : (n : ℕ) → 0 ≡ 0 * n
+none_times n = omega arith
+
 -- nothing is handed before the first item is drawn
 pub drawing_starts : (env : List Value) (b : Node) (c : Scan) (all : List Value) (w : World) → reading w c ≡ Some all → c.kind ≡ kind.List → 0 < w.settings.fetch → ScansIn [] b
     → Drawing (reading w) env b c all w 0 (fresh (node.Ext kind.List b (node.Scan c))) w
@@ -65,7 +68,7 @@ drawing_starts env b c all w told list fetch still = record {
   counted = handed_none c w;
   lazy = record {
     used = 0;
-    loops = (refl, list, record { scan = refl; rows = ap (λ o. coming (scanned c.kind o)) told; sum = refl; few = fetch; times = inl (0, refl) }, refl);
+    loops = (refl, list, record { scan = refl; rows = ap (λ o. coming (scanned c.kind o)) told; sum = refl; few = fetch; times = inl (0, none_times w.settings.fetch) }, refl);
     before = λ n h. absurd (omega (arith, h));
     reads = refl;
     still = still;

@@ -30,3 +30,4 @@ pub mod Lazily
 pub mod LazyCode
 pub mod LazyLaws
 pub mod Pulls
+pub mod PullCode
