@@ -1,7 +1,9 @@
 pub mod Drawing
+pub mod Laziness
 pub mod Left
 pub mod Likeness
 pub mod Measure
+pub mod Pulling
 pub mod Sense
 pub mod Standing
 pub mod Steps
