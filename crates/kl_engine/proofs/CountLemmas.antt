@@ -12,6 +12,8 @@ use Rattle.kl_scope.specs.Sizes.{declared}
 use Rattle.kl_scope.specs.declared.scoped.Scoped.{Scoped}
 use Rattle.kl_desugar.specs.Translation.{term_of}
 use Rattle.kl_ask.specs.Driver.{DriverKind, State}
+use Rattle.kl_ask.specs.Settings.{usual_settings}
+use Rattle.kl_ask.specs.declared.settings.Settings.{Settings}
 use Rattle.kl_ask.specs.declared.settings.Trace.{Trace}
 use Rattle.kl_ship.specs.Nodes.{Node}
 use Rattle.kl_ship.specs.declared.plan.Plan.{Plan}
@@ -27,8 +29,8 @@ use Rattle.kl_engine.specs.Commands.{Command, Origin, Files, Made, Program, aske
 use Rattle.kl_engine.specs.Faults.{Ending}
 use Rattle.kl_engine.specs.Inputs.{IsInputsEnd, ReadsInputs}
 use Rattle.kl_engine.specs.Reading.{ReadsText}
-use Rattle.kl_engine.specs.Planned.{AreStartsOf, AsksOf, CountsScansAlone, HasPlan, IsEarly, IsUnrun, LacksInput, MayBeEarly, MayStop, PlanOf, PlansTerm, PlansText, plan_in}
-use Rattle.kl_engine.specs.Rewritten.{wants_rewriting}
+use Rattle.kl_engine.specs.Planned.{AreStartsOf, AsksOf, Counts, CountsScansAlone, HasPlan, IsEarly, IsUnrun, LacksInput, MayBeEarly, MayStop, PlanOf, PlansTerm, PlansText, counted, plan_in}
+use Rattle.kl_engine.specs.Rewritten.{fetch_of, wants_rewriting}
 use Rattle.kl_engine.specs.declared.run.Ran.{Ran}
 use Rattle.kl_engine.specs.Running.{HasRunFault, fault_of}
 use Rattle.kl_engine.specs.Typing.{AnswersTypes}
@@ -178,51 +180,56 @@ stops_early command (Some fault.SchemeBytes) f f' ks is = absurd is
 -- ---- from a term to a text, and from a text to a command
 
 -- the term is that of the program which the text is
-pub text_plan : (on : Bool) (ks : List DriverKind) (ss : List Source) (text : List ℕ) (s : Scoped) (first : Option ℕ) (end : Ending) (steps : ℕ) (plan : Option Node) (starts : List (ℕ × ℕ)) → ReadsText (names_of ss) text (Ok s)
-    → PlanOf (λ p. PlansTerm on ks ss (is_marked s) first end (term_of (decls_of s.program.defs) (view s.program.last) s.sources) steps p starts) end steps plan
-    → PlanOf (λ p. PlansText on ks ss first end text steps p starts) end steps plan
-text_plan on ks ss text s first end steps plan starts (q, of, resolves) (inr none) = inr none
-text_plan on ks ss text s first end steps plan starts (q, of, resolves) (inl (p, is, plans, late)) =
+pub text_plan : (on : Bool) (ks : List DriverKind) (ss : List Source) (text : List ℕ) (s : Scoped) (first : Option ℕ) (end : Ending) (steps : ℕ) (plan : Option Node) (counts : Counts) → ReadsText (names_of ss) text (Ok s)
+    → PlanOf (λ p. PlansTerm on ks ss (is_marked s) first end (term_of (decls_of s.program.defs) (view s.program.last) s.sources) steps p counts) end steps plan
+    → PlanOf (λ p. PlansText on ks ss first end text steps p counts) end steps plan
+text_plan on ks ss text s first end steps plan counts (q, of, resolves) (inr none) = inr none
+text_plan on ks ss text s first end steps plan counts (q, of, resolves) (inl (p, is, plans, late)) =
     inl (
       p,
       is,
-      (q, of, is_marked s, resolves.marks, subst (λ t. PlansTerm on ks ss (is_marked s) first end t steps p starts) (λ i. term_of (resolves.defs i) (resolves.last i) (resolves.sources_kept i)) plans),
+      (q, of, is_marked s, resolves.marks, subst (λ t. PlansTerm on ks ss (is_marked s) first end t steps p counts) (λ i. term_of (resolves.defs i) (resolves.last i) (resolves.sources_kept i)) plans),
       late,
     )
 
-module _ (on : Bool) (first : Option ℕ) (from : Origin) (f f' : FilesState) (ks : List DriverKind) (steps : ℕ) (plan : Option Node) (starts : List (ℕ × ℕ)) where
+module _ (on : Bool) (first : Option ℕ) (from : Origin) (f f' : FilesState) (ks : List DriverKind) (steps : ℕ) (plan : Option Node) (counts : Counts) where
   pub command_plan : (i : Inputs) (text : List ℕ) (ss : List Source) (end : Ending) → text ≡ i.text → ss ≡ i.sources → ReadsInputs from ks (Ok i) f f'
-      → PlanOf (λ p. PlansText on ks ss first end text steps p starts) end steps plan → HasPlan on (Program (purpose.Run first) from) end steps plan starts f f' ks
+      → PlanOf (λ p. PlansText on ks ss first end text steps p counts) end steps plan → HasPlan on (Program (purpose.Run first) from) end steps plan counts f f' ks
   command_plan i text ss end is same reads (inr none) = inr (none.0, none.1, inr (stops_early (Program (purpose.Run first) from) end f f' ks none.2))
   command_plan i text ss end is same reads (inl (p, at, plans, late)) =
-      inl (p, at, (i.text, i.sources, reads.inputs, subst (λ t. PlansText on ks i.sources first end t steps p starts) is (subst (λ us. PlansText on ks us first end text steps p starts) same plans)), late)
+      inl (p, at, (i.text, i.sources, reads.inputs, subst (λ t. PlansText on ks i.sources first end t steps p counts) is (subst (λ us. PlansText on ks us first end text steps p counts) same plans)), late)
 
-pub refused_plan : (on : Bool) (first : Option ℕ) (from : Origin) (f f' : FilesState) (ks : List DriverKind) (g : Fault) (ran : Ran) → IsUnrun ran → ReadsInputs from ks (Err g) f f'
-    → HasPlan on (Program (purpose.Run first) from) (Some g) ran.trace.steps (plan_in ran.plan) ran.trace.starts f f' ks
-refused_plan on first from f f' ks g ran none reads =
+pub refused_plan : (on : Bool) (first : Option ℕ) (from : Origin) (f f' : FilesState) (ks : List DriverKind) (g : Fault) (ran : Ran) (counts : Counts) → IsUnrun ran → ReadsInputs from ks (Err g) f f'
+    → HasPlan on (Program (purpose.Run first) from) (Some g) ran.trace.steps (plan_in ran.plan) counts f f' ks
+refused_plan on first from f f' ks g ran counts none reads =
     inr (ap plan_in none.0, none.1.steps, inr (inputs_early (Program (purpose.Run first) from) from g f f' ks (read_missing (purpose.Run first) from f f' g ks reads) reads.no_other))
 
 -- ---- at the top
 
--- the usual settings rewrite
-pub made_plan : (on : Bool) (seed size : ℕ) (f : FilesState) (ks : List DriverKind) (steps : ℕ) (plan : Option Node) (starts : List (ℕ × ℕ)) (i : Inputs) (text : List ℕ) (ss : List Source) (end : Ending) → on ≡ true → text ≡ i.text → ss ≡ i.sources
-    → ReadsInputs (Made seed size) ks (Ok i) f f → PlanOf (λ p. PlansText on ks ss None end text steps p starts) end steps plan → HasPlan true (Program (purpose.Run None) (Made seed size)) end steps plan starts f f ks
-made_plan on seed size f ks steps plan starts i text ss end usual is same reads plans =
-    command_plan true None (Made seed size) f f ks steps plan starts i text ss end is same reads (subst (λ b. PlanOf (λ p. PlansText b ks ss None end text steps p starts) end steps plan) usual plans)
+-- the usual settings
+pub made_plan : (given : Settings) (seed size : ℕ) (f : FilesState) (ks : List DriverKind) (steps : ℕ) (plan : Option Node) (starts : List (ℕ × ℕ)) (old new : List State) (i : Inputs) (text : List ℕ) (ss : List Source) (end : Ending) → given ≡ usual_settings → text ≡ i.text → ss ≡ i.sources
+    → ReadsInputs (Made seed size) ks (Ok i) f f → PlanOf (λ p. PlansText given.rewrite ks ss None end text steps p (counted starts given.fetch old new)) end steps plan
+    → HasPlan true (Program (purpose.Run None) (Made seed size)) end steps plan (counted starts usual_settings.fetch old new) f f ks
+made_plan given seed size f ks steps plan starts old new i text ss end usual is same reads plans =
+    command_plan true None (Made seed size) f f ks steps plan (counted starts usual_settings.fetch old new) i text ss end is same reads
+    (subst (λ z. PlanOf (λ p. PlansText z.rewrite ks ss None end text steps p (counted starts z.fetch old new)) end steps plan) usual plans)
 
-module _ (found : Option Read) (end told : Ending) (ran : Ran) (answered : Option Plan) (trace : Trace) (f f' : FilesState) (ks : List DriverKind) (same : told ≡ end) (planned : answered ≡ ran.plan) (counted : trace ≡ ran.trace) where
-  told_plan : (on : Bool) (command : Command) → HasPlan on command end ran.trace.steps (plan_in ran.plan) ran.trace.starts f f' ks → HasPlan on command told trace.steps (plan_in answered) trace.starts f f' ks
-  told_plan on command h =
-      subst (λ z. HasPlan on command told z.steps (plan_in answered) z.starts f f' ks) (sym counted)
-      (subst (λ z. HasPlan on command told ran.trace.steps (plan_in z) ran.trace.starts f f' ks) (sym planned)
-      (subst (λ z. HasPlan on command z ran.trace.steps (plan_in ran.plan) ran.trace.starts f f' ks) (sym same) h))
+module _ (found : Option Read) (end told : Ending) (ran : Ran) (answered : Option Plan) (trace : Trace) (f f' : FilesState) (ks : List DriverKind) (same : told ≡ end) (planned : answered ≡ ran.plan) (same_trace : trace ≡ ran.trace) (old new : List State) where
+  told_plan : (on : Bool) (fetch : ℕ) (command : Command) → HasPlan on command end ran.trace.steps (plan_in ran.plan) (counted ran.trace.starts fetch old new) f f' ks → HasPlan on command told trace.steps (plan_in answered) (counted trace.starts fetch old new) f f' ks
+  told_plan on fetch command h =
+      subst (λ z. HasPlan on command told z.steps (plan_in answered) (counted z.starts fetch old new) f f' ks) (sym same_trace)
+      (subst (λ z. HasPlan on command told ran.trace.steps (plan_in z) (counted ran.trace.starts fetch old new) f f' ks) (sym planned)
+      (subst (λ z. HasPlan on command z ran.trace.steps (plan_in ran.plan) (counted ran.trace.starts fetch old new) f f' ks) (sym same) h))
+
+  abbrev Found : Option Read → Type 0
+  Found o = HasPlan (wants_rewriting o) (asked o) told trace.steps (plan_in answered) (counted trace.starts (fetch_of o) old new) f f' ks
 
   pub run_plan : (job : Job) → found ≡ Some (read.Run job)
-      → HasPlan job.settings.rewrite (Program (purpose.Run job.first) (Files job.program job.catalogue)) end ran.trace.steps (plan_in ran.plan) ran.trace.starts f f' ks
-      → HasPlan (wants_rewriting found) (asked found) told trace.steps (plan_in answered) trace.starts f f' ks
-  run_plan job is h = subst (λ o. HasPlan (wants_rewriting o) (asked o) told trace.steps (plan_in answered) trace.starts f f' ks) (sym is) (told_plan job.settings.rewrite (Program (purpose.Run job.first) (Files job.program job.catalogue)) h)
+      → HasPlan job.settings.rewrite (Program (purpose.Run job.first) (Files job.program job.catalogue)) end ran.trace.steps (plan_in ran.plan) (counted ran.trace.starts job.settings.fetch old new) f f' ks
+      → Found found
+  run_plan job is h = subst Found (sym is) (told_plan job.settings.rewrite job.settings.fetch (Program (purpose.Run job.first) (Files job.program job.catalogue)) h)
 
   pub gen_plan : (seed size : ℕ) → found ≡ Some (read.Gen seed size)
-      → HasPlan true (Program (purpose.Run None) (Made seed size)) end ran.trace.steps (plan_in ran.plan) ran.trace.starts f f' ks
-      → HasPlan (wants_rewriting found) (asked found) told trace.steps (plan_in answered) trace.starts f f' ks
-  gen_plan seed size is h = subst (λ o. HasPlan (wants_rewriting o) (asked o) told trace.steps (plan_in answered) trace.starts f f' ks) (sym is) (told_plan true (Program (purpose.Run None) (Made seed size)) h)
+      → HasPlan true (Program (purpose.Run None) (Made seed size)) end ran.trace.steps (plan_in ran.plan) (counted ran.trace.starts usual_settings.fetch old new) f f' ks
+      → Found found
+  gen_plan seed size is h = subst Found (sym is) (told_plan true usual_settings.fetch (Program (purpose.Run None) (Made seed size)) h)

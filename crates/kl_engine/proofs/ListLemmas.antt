@@ -66,7 +66,7 @@ pub wanted_first : (first : Option ℕ) → Wanted first [] first
 wanted_first None = refl
 wanted_first (Some n) = ap Some (omega arith)
 
-more_length : (given : List Value) (v : Value) → length (given ++ v ∷ []) ≡ length given + 1
+pub more_length : (given : List Value) (v : Value) → length (given ++ v ∷ []) ≡ length given + 1
 more_length [] v = refl
 more_length (w ∷ given) v = let h = more_length given v in omega (arith, h)
 
@@ -106,7 +106,7 @@ not_enough first given (Some (suc n)) w some = ap (λ f. suffice f given) w ∙ 
     past : (n m : ℕ) → nat_le (suc n + m) m ≡ false
     past n m = grind (arith, nat_tests)
 
-never_enough : (n : ℕ) → are_enough (Some (suc n)) ≡ true → ⊥
+pub never_enough : (n : ℕ) → are_enough (Some (suc n)) ≡ true → ⊥
 never_enough n all =
     let some : (suc n == 0) ≡ false = grind (arith, nat_tests) in
     let both : true ≡ false = sym all ∙ some in cc

@@ -441,6 +441,10 @@ module _ (ss : List Source) (program : Decls) (e : Exp) (typed : Typed) (infers 
         subst (λ S. CoreTypes S [] t u) (sym types_same)
         (subst (λ x. CoreTypes (program_types (grounds_of ss)) [] x u) (sym (is ∙ ap (term_of program e) (kept ∙ sym (grounds_names ss)))) (makes_sense program e (grounds_of ss) u (are_ground ss proper) tidy of))
 
+    -- the result has types of lists alone where the term has
+    pub scheme_lists : ((u : Ground) → CoreTypes (types_of w) [] t u → (s : Ground) × (u ≡ coll kind.List s)) → IsListScheme typed.result
+    scheme_lists all u instance = all u (sense u ((infers.result.instances u).0 instance))
+
     pub value_sense : (s : Ground) × CoreTypes (types_of w) [] t s
     value_sense = (infers.result.has_one.0, sense infers.result.has_one.0 infers.result.has_one.1)
 
@@ -539,6 +543,11 @@ module _ (ss : List Source) (s : Scoped) (scope : WasInScope (names_of ss) s) (t
   plan_runs idle mentioned u p keeps planned =
       session_runs ds mid ss (is_marked s) settings trace (world_of mid list settings trace) t u p placed (idle_none ds idle) attaches.drivers attaches.stand session_serves
       (ap (λ l. world_of mid l settings trace) attaches.list) session_sense (mentioned scope.0 (names_of ss) scope.1) keeps planned
+
+  pub session_lists : (listed : Bool) → (listed ≡ false → IsListScheme typed.result → ⊥) → ((u : Ground) → CoreTypes (types_of (world_of mid list settings trace)) [] t u → (s : Ground) × (u ≡ coll kind.List s)) → listed ≡ true
+  session_lists true other all = refl
+  session_lists false other all =
+      absurd (other refl (scheme_lists ss (decls_of s.program.defs) (view s.program.last) typed infers (tidied (names_of ss) s scope) placed.proper s.sources scope.1.sources_kept t is (kinds_of ds) (is_marked s) (world_of mid list settings trace) session_serves all))
 
   module _ (listed : Bool) (of : listed ≡ true → IsListScheme typed.result) where
     pub session_list : listed ≡ true → IsListTerm (types_of (world_of mid list settings trace)) t

@@ -1,25 +1,32 @@
 -- What is counted of a plan that was run over the sources of a program.
-use Rattle.std.proofs.Common.{inl, ◌≡◌, ℕ, Bool, List, [], map, Option, Some, None, refl, sym, ap, subst, ◌∙◌}
+use Rattle.std.proofs.Common.{inl, ◌≡◌, ℕ, Bool, List, [], map, Option, Some, None, refl, sym, ap, subst, ◌∙◌, arith, slice_get}
 use Rattle.kl_outcome.specs.Outcome.{Name}
 use Rattle.kl_value.specs.declared.Kind.TheVariants as kind
 use Rattle.kl_value.specs.declared.Value.{Value}
-use Rattle.kl_type.specs.Ground.{coll}
+use Rattle.kl_type.specs.Ground.{Ground, coll}
 use Rattle.kl_core.specs.Trees.{Tree}
+use Rattle.kl_core.specs.Typing.{CoreTypes}
 use Rattle.kl_ask.specs.Driver.{DriverKind, State}
 use Rattle.kl_ask.specs.Lists.{EachSteps}
 use Rattle.kl_ask.specs.World.{World, types_of}
+use Rattle.kl_ask.proofs.Worlds.{there}
+use Rattle.std.specs.Option.{option_map}
+use Rattle.std.proofs.lemmas.Option.{same_Some, slice_get_within}
 use Rattle.kl_ask.specs.declared.settings.Settings.{Settings}
 use Rattle.kl_ask.specs.declared.settings.Trace.{Trace}
 use Rattle.kl_ship.specs.Meaning.{Readings}
 use Rattle.kl_ship.specs.Nodes.{Node}
 use Rattle.kl_ship.specs.Numbers.{scans_in}
+use Rattle.kl_ship.specs.declared.plan.Scan.{Scan}
 use Rattle.kl_ship.specs.declared.source.ShipSource.{ShipSource}
 use Rattle.kl_scans.specs.Held.{nothing}
-use Rattle.kl_scans.specs.Log.{without_starts}
+use Rattle.kl_scans.specs.Log.{rows_at, without_starts}
 use Rattle.kl_scans.specs.Moves.{Moves}
 use Rattle.kl_scans.proofs.Moving.{moves_none}
+use Rattle.kl_cursor.specs.Laziness.{Handed}
 use Rattle.kl_cursor.specs.Left.{reading}
-use Rattle.kl_cursor.specs.Sense.{HasWorth, IsToldAt}
+use Rattle.kl_cursor.specs.Sense.{HasWorth, IsToldAt, TypesAt}
+use Rattle.kl_cursor.proofs.LazyLaws.{handed_counts}
 use Rattle.kl_run.specs.Counted.{AsksCounted, IsFreshTrace, ReadsMarked, StartsCounted}
 use Rattle.kl_run.specs.Planned.{IsPlanOf, ships_of}
 use Rattle.kl_run.specs.Running.{Runs}
@@ -29,9 +36,9 @@ use Rattle.kl_sources.specs.Attaching.{MayAttach, world_of}
 use Rattle.kl_sources.specs.Sources.{HaveValues}
 use Rattle.kl_sources.specs.declared.source.Source.{Source}
 use Rattle.kl_engine.specs.Faults.{Ending}
-use Rattle.kl_engine.specs.Planned.{AreStartsOf, CountsScansAlone, IsEarly, PlanOf, PlansTerm}
+use Rattle.kl_engine.specs.Planned.{AreStartsOf, CountsScansAlone, HandsFew, IsEarly, IsLine, PlanOf, PlansTerm, RowsHanded, counted}
 use Rattle.kl_engine.specs.Rewritten.{IsRewrittenTo}
-use Rattle.kl_engine.specs.Running.{HasList, IsListTerm, Scanned}
+use Rattle.kl_engine.specs.Running.{HasList, IsListTerm, Scanned, SparesRows}
 use Rattle.kl_engine.proofs.RewriteLemmas.{rewritten_keeps}
 
 module _ (ships : List ShipSource) (u : Tree) (p : Node) (planned : IsPlanOf ships u p) (steps : ℕ) (was : Trace) (fresh : IsFreshTrace p steps was) where
@@ -87,8 +94,9 @@ runs_list ks ss marks t p w runs list = (list.0, runs.typed (coll kind.List list
 module _ (ks : List DriverKind) (ss : List Source) (u : Tree) (p : Node) (planned : IsPlanOf (ships_of ks ss) u p) (steps : ℕ) (was trace : Trace) (fresh : IsFreshTrace p steps was) (rest : without_starts trace ≡ without_starts was) where
   pub translated_plan : (on : Bool) (marks : ℕ → Bool) (first : Option ℕ) (end : Ending) (t given : Tree) → given ≡ t → IsRewrittenTo on given steps u → (IsEarly end → ⊥)
       → (end ≡ None → first ≡ None → (vs : List (Name × Value)) × HaveValues ks marks 0 ss vs → (R : Readings) × ReadsMarked ks ss marks R × StartsCounted R p trace.starts)
-      → PlanOf (λ q. PlansTerm on ks ss marks first end t trace.steps q trace.starts) end trace.steps (Some p)
-  translated_plan on marks first end t given is rewritten late exact =
+      → (fetch : ℕ) (old new : List State) → (end ≡ None → (vs : List (Name × Value)) × HaveValues ks marks 0 ss vs → (R : Readings) × ReadsMarked ks ss marks R × HandsFew R fetch p first (RowsHanded old new))
+      → PlanOf (λ q. PlansTerm on ks ss marks first end t trace.steps q (counted trace.starts fetch old new)) end trace.steps (Some p)
+  translated_plan on marks first end t given is rewritten late exact fetch old new few =
       let same : trace.steps ≡ steps = ap (λ (r : Trace). r.steps) rest ∙ fresh.steps in
       let led : IsRewrittenTo on t steps u = subst (λ x. IsRewrittenTo on x steps u) is rewritten in
       inl (
@@ -100,6 +108,7 @@ module _ (ks : List DriverKind) (ss : List Source) (u : Tree) (p : Node) (planne
           planned = planned;
           means = means_term (ships_of ks ss) t u p planned (rewritten_keeps on t u steps led);
           exact = exact;
+        few = few;
         },
         late,
       )
@@ -112,3 +121,27 @@ module _ (ks : List DriverKind) (ss : List Source) (u : Tree) (p : Node) (planne
     misses = ap (λ (r : Trace). r.misses) rest ∙ fresh.misses;
     peak = ap (λ (r : Trace). r.peak) rest ∙ fresh.peak;
   }
+
+-- ---- how few rows were handed
+
+-- what was handed of a session's drivers was handed of those that sources were attached at
+pub rows_handed : (marks : ℕ → Bool) (ss : List Source) (ds : List State) (a b : World) → EachSteps (MayAttach marks ss) ds a.drivers → (c : Scan) (rows : ℕ) → Handed c rows a b → RowsHanded ds b.drivers c rows
+rows_handed marks ss ds a b attached c rows h x y was is fits =
+    let z = there a.drivers c.driver (let size = attached.size in let less = slice_get_within ds c.driver x was in omega (arith, size, less)) in
+    let same : z.0.handed ≡ x.handed = (attached.each c.driver x z.0 was z.1).handed in
+    let at : rows_at a c.driver ≡ Some x.handed = ap (option_map (λ s. s.handed)) z.1 ∙ ap Some same in
+    same_Some _ _ (sym (ap (option_map (λ s. s.handed)) is) ∙ handed_counts c rows x.handed a b h at fits)
+
+few_rows : (R : Readings) (fetch : ℕ) (p : Node) (first : Option ℕ) (Was Is : Scan → ℕ → Type 0) → ((c : Scan) (rows : ℕ) → Was c rows → Is c rows) → HandsFew R fetch p first Was → HandsFew R fetch p first Is
+few_rows R fetch p first Was Is more few b c all items line told wanted enough = let h = few b c all items line told wanted enough in (h.0, more c h.0 h.1, h.2)
+
+-- a loop over a scan that makes a list has the type of one alone
+line_lists : (ks : List DriverKind) (ss : List Source) (marks : ℕ → Bool) (t : Tree) (p b : Node) (c : Scan) (w : World) → Runs ks ss marks t p w → IsLine p b c → (s : Ground) → CoreTypes (types_of w) [] t s → (u : Ground) × (s ≡ coll kind.List u)
+line_lists ks ss marks t p b c w runs line s of = let typed = subst (λ q. TypesAt w [] q s) line.0 (runs.typed s of) in (typed.0, typed.3)
+
+pub plan_few : (ks : List DriverKind) (ss : List Source) (marks : ℕ → Bool) (t : Tree) (p : Node) (ds : List State) (a b : World) (end : Ending) (first : Option ℕ) (listed : Bool) → Runs ks ss marks t p a → EachSteps (MayAttach marks ss) ds a.drivers
+    → (((s : Ground) → CoreTypes (types_of a) [] t s → (u : Ground) × (s ≡ coll kind.List u)) → listed ≡ true) → (listed ≡ true → SparesRows p end first a b) → end ≡ None → IsToldAt a
+    → HandsFew (reading a) a.settings.fetch p first (RowsHanded ds b.drivers)
+plan_few ks ss marks t p ds a b end first listed runs attached lists spares well told b' c all items line =
+    few_rows (reading a) a.settings.fetch p first (λ c rows. Handed c rows a b) (RowsHanded ds b.drivers) (rows_handed marks ss ds a b attached)
+    (spares (lists (line_lists ks ss marks t p b' c a runs line)) well told) b' c all items line

@@ -1,9 +1,10 @@
 -- The plan of a program that is run, and what is counted of it.
-use Rattle.std.specs.Prelude.{◌≡◌, ◌⊎◌, ℕ, Bool, List, [], map, Option, Some, None, ⊤}
+use Rattle.std.specs.Prelude.{◌≡◌, ◌≤◌, ◌<◌, ◌^◌, ◌⊎◌, ℕ, ◌+◌, Bool, List, [], length, map, Option, Some, None, slice_get, ⊤}
 use Rattle.std.specs.Option.{option_map}
 use Rattle.kl_outside.specs.Counts.{Rose}
 use Rattle.kl_outside.specs.Files.{FilesState}
-use Rattle.kl_outcome.specs.Outcome.{Name}
+use Rattle.kl_outcome.specs.Outcome.{Name, items_in}
+use Rattle.kl_value.specs.declared.Kind.TheVariants as kind
 use Rattle.kl_value.specs.declared.Value.{Value}
 use Rattle.kl_core.specs.Trees.{Tree}
 use Rattle.kl_syntax.specs.declared.tree.Program.{Program}
@@ -11,10 +12,14 @@ use Rattle.kl_ask.specs.Driver.{DriverKind, State}
 use Rattle.kl_ask.specs.Lists.{EachSteps}
 use Rattle.kl_ask.specs.Trace.{IsBlank}
 use Rattle.kl_ask.specs.declared.settings.Trace.{Trace}
-use Rattle.kl_ship.specs.Meaning.{Readings}
+use Rattle.kl_ship.specs.Holding.{ScansIn}
+use Rattle.kl_ship.specs.Meaning.{Readings, coming, plan}
+use Rattle.kl_ship.specs.Nodes as node
 use Rattle.kl_ship.specs.Nodes.{Node, view}
 use Rattle.kl_ship.specs.Numbers.{scans_in}
 use Rattle.kl_ship.specs.declared.plan.Plan.{Plan}
+use Rattle.kl_ship.specs.declared.plan.Scan.{Scan}
+use Rattle.kl_cursor.specs.Laziness.{ByTimes, IsFront}
 use Rattle.kl_run.specs.Counted.{AsksCounted, ReadsMarked, StartsCounted}
 use Rattle.kl_run.specs.Planned.{IsPlanOf, MeansTerm, ships_of}
 use Rattle.kl_sources.specs.Sources.{names_of, HaveValues}
@@ -54,9 +59,46 @@ abbrev pub AsksOf : Option Node → List (ℕ × ℕ) → List State → List St
 AsksOf (Some p) starts old new = AsksCounted p starts old new
 AsksOf None starts old new = EachSteps (λ a b. b.asked ≡ a.asked) old new
 
+-- ---- how few rows are handed
+
+-- a loop over one scan that makes a list, in whose body no scan stands
+abbrev pub IsLine : Node → Node → Scan → Type 0
+IsLine p b c = (p ≡ node.Ext kind.List b (node.Scan c)) × (c.kind ≡ kind.List) × ScansIn [] b
+
+-- So many rows of all were handed for so many items of such a loop: none for none, and else fewer than are fetched at once more than
+-- the least number of rows whose bodies give these items; each time as many as are fetched at once, or in the end all.
+pub record IsFew (R : Readings) (fetch : ℕ) (b : Node) (all : List Value) (items rows : ℕ) : Type 0 where
+  pub none : items ≡ 0 → rows ≡ 0
+  pub front : ℕ
+  pub least : IsFront R [] b all items front
+  pub few : rows < front + fetch
+  pub times : ByTimes fetch all rows
+
+-- Where so many first items are wanted, and a plan means as many, few rows were handed if it is such a loop.
+abbrev pub HandsFew : Readings → ℕ → Node → Option ℕ → (Scan → ℕ → Type 0) → Type 0
+HandsFew R fetch p first WereHanded =
+    (b : Node) (c : Scan) (all : List Value) (items : ℕ) → IsLine p b c → R c ≡ Some all → first ≡ Some items → items ≤ length (items_in (coming (plan R p [])))
+    → (rows : ℕ) × WereHanded c rows × IsFew R fetch b all items rows
+
+-- a driver's count of rows rose by so many, where it does not come to its greatest value
+abbrev pub RowsHanded : List State → List State → Scan → ℕ → Type 0
+RowsHanded old new c rows = (x y : State) → slice_get old c.driver ≡ Some x → slice_get new c.driver ≡ Some y → x.handed + rows < 2 ^ 64 → y.handed ≡ x.handed + rows
+
+-- what is counted of a plan's scans, and what its drivers counted, where so many rows are fetched at once
+pub record Counts : Type 0 where
+  pub starts : List (ℕ × ℕ)
+  pub fetch : ℕ
+  pub old : List State
+  pub new : List State
+
+abbrev pub counted : List (ℕ × ℕ) → ℕ → List State → List State → Counts
+counted starts fetch old new = record { starts = starts; fetch = fetch; old = old; new = new }
+
+-- ---- the plan of a program
+
 -- The plan of a program's term t, over sources at drivers of these kinds, of which the marked ones are mentioned: that of the term
 -- to which so many steps of rewriting lead from t.
-pub record PlansTerm (on : Bool) (ks : List DriverKind) (ss : List Source) (marks : ℕ → Bool) (first : Option ℕ) (end : Ending) (t : Tree) (steps : ℕ) (p : Node) (starts : List (ℕ × ℕ)) : Type 0 where
+pub record PlansTerm (on : Bool) (ks : List DriverKind) (ss : List Source) (marks : ℕ → Bool) (first : Option ℕ) (end : Ending) (t : Tree) (steps : ℕ) (p : Node) (counts : Counts) : Type 0 where
   pub term : Tree
   pub rewritten : IsRewrittenTo on t steps term
   pub planned : IsPlanOf (ships_of ks ss) term p
@@ -64,12 +106,15 @@ pub record PlansTerm (on : Bool) (ks : List DriverKind) (ss : List Source) (mark
   -- where all that the program means is drawn, and the sources that it mentions are told, each scan was started once for each
   -- environment that reaches it
   pub exact : end ≡ None → first ≡ None → (vs : List (Name × Value)) × HaveValues ks marks 0 ss vs
-      → (R : Readings) × ReadsMarked ks ss marks R × StartsCounted R p starts
+      → (R : Readings) × ReadsMarked ks ss marks R × StartsCounted R p counts.starts
+  -- where only so many first items are drawn, few rows were handed to a loop over one scan
+  pub few : end ≡ None → (vs : List (Name × Value)) × HaveValues ks marks 0 ss vs
+      → (R : Readings) × ReadsMarked ks ss marks R × HandsFew R counts.fetch p first (RowsHanded counts.old counts.new)
 
 -- the plan of the program that a text is
-abbrev pub PlansText : Bool → List DriverKind → List Source → Option ℕ → Ending → List ℕ → ℕ → Node → List (ℕ × ℕ) → Type 0
-PlansText on ks ss first end text steps p starts =
-    (q : Program) × IsProgramOf (names_of ss) text q × (marks : ℕ → Bool) × AreMarks q (names_of ss) marks × PlansTerm on ks ss marks first end (term_in (names_of ss) q) steps p starts
+abbrev pub PlansText : Bool → List DriverKind → List Source → Option ℕ → Ending → List ℕ → ℕ → Node → Counts → Type 0
+PlansText on ks ss first end text steps p counts =
+    (q : Program) × IsProgramOf (names_of ss) text q × (marks : ℕ → Bool) × AreMarks q (names_of ss) marks × PlansTerm on ks ss marks first end (term_in (names_of ss) q) steps p counts
 
 -- an end to which a run comes before it has a plan
 abbrev pub IsEarly : Ending → Type 0
@@ -105,9 +150,9 @@ first_of_run command = None
 
 -- The plan and the counts are those of the program that is run, where the run does not end before it has a plan; else there is no
 -- plan, and no step is counted.
-abbrev pub HasPlan : Bool → Command → Ending → ℕ → Option Node → List (ℕ × ℕ) → FilesState → FilesState → List DriverKind → Type 0
-HasPlan on command end steps plan starts files files' ks =
-    ((p : Node) × (plan ≡ Some p) × OfRun command files ks (λ text ss. PlansText on ks ss (first_of_run command) end text steps p starts) × (IsEarly end → ⊥))
+abbrev pub HasPlan : Bool → Command → Ending → ℕ → Option Node → Counts → FilesState → FilesState → List DriverKind → Type 0
+HasPlan on command end steps plan counts files files' ks =
+    ((p : Node) × (plan ≡ Some p) × OfRun command files ks (λ text ss. PlansText on ks ss (first_of_run command) end text steps p counts) × (IsEarly end → ⊥))
     ⊎ ((plan ≡ None) × (steps ≡ 0) × ((IsRunning command → ⊥) ⊎ MayBeEarly command end files files' ks))
 
 -- ---- for private functions alone: the same where the files are read

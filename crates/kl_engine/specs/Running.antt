@@ -23,6 +23,7 @@ use Rattle.kl_eval.specs.declared.stop.EvalStop.TheVariants as stopped
 use Rattle.kl_scans.specs.Held.{nothing}
 use Rattle.kl_scans.specs.Log.{paid}
 use Rattle.kl_scans.specs.Moves.{Moves}
+use Rattle.kl_cursor.specs.Laziness.{Handed}
 use Rattle.kl_cursor.specs.Left.{reading}
 use Rattle.kl_cursor.specs.Sense.{TypesAt, IsToldAt}
 use Rattle.kl_cursor.specs.Steps.{AreOf}
@@ -37,6 +38,7 @@ use Rattle.kl_engine.specs.Answering.{FollowsVerdict, PrintsPage, IsOutside, IsD
 use Rattle.kl_engine.specs.Answering.{HasTextFault, IsOneOf, Unprinted, IsUnreadFault, NeedsDrivers}
 use Rattle.kl_engine.specs.Faults.{Ending}
 use Rattle.kl_engine.specs.Outside.{Outside}
+use Rattle.kl_engine.specs.Planned.{HandsFew}
 use Rattle.kl_infer.specs.Numbers.{limit}
 use Rattle.kl_infer.specs.Printed.{scheme_text}
 use Rattle.kl_engine.specs.Verdict.{Verdict, value_page, cut, refused, list_front, overflowing, scheme_line, scheme_lines, cut_list, GivesList, IsMeant, IsDone}
@@ -104,6 +106,10 @@ pub record Scanned (p : Node) (end : Ending) (first : Option ℕ) (a b : World) 
   pub moves : Moves nothing nothing a b
   pub known : AreOf (scans_in p) moves.events
   pub exact : end ≡ None → first ≡ None → IsToldAt a → (price : Scan → ℕ) → paid price moves.events ≡ reached (reading a) price p []
+
+-- where a list ends well and contents are told, few rows were handed to a loop over one scan
+abbrev pub SparesRows : Node → Ending → Option ℕ → World → World → Type 0
+SparesRows p end first a b = end ≡ None → IsToldAt a → HandsFew (reading a) a.settings.fetch p first (λ c rows. Handed c rows a b)
 
 -- a plan of a list makes sense in a session
 abbrev pub HasList : World → Node → Type 0

@@ -17,7 +17,7 @@ ghost use Rattle.kl_run.specs.Running.{Runs};
 ghost use Rattle.kl_engine.specs.Answering.{PrintsPage};
 ghost use Rattle.kl_engine.specs.Faults.{ending};
 ghost use Rattle.kl_engine.specs.Outside.{outside_of};
-ghost use Rattle.kl_engine.specs.Running.{AnswersTerm, HasList, IsListOutcome, IsListTerm, Scanned, StopsList, are_enough, one_more};
+ghost use Rattle.kl_engine.specs.Running.{AnswersTerm, HasList, IsListOutcome, IsListTerm, Scanned, SparesRows, StopsList, are_enough, one_more};
 ghost use Rattle.kl_engine.specs.Verdict.{list_front, value_page};
 
 use crate::fault::Fault;
@@ -54,6 +54,7 @@ pub fn print_list<S: Sink>(
         (outside_of files (⟦<Session as Seen>⟧.world session.old).drivers (S.state out.old))
         (outside_of files (⟦<Session as Seen>⟧.world session.new).drivers (S.state out.new)) }
     ensures scanned { Scanned (view plan.now) (ending result) first (⟦<Session as Seen>⟧.world session.old) (⟦<Session as Seen>⟧.world session.new) }
+    ensures spares { SparesRows (view plan.now) (ending result) first (⟦<Session as Seen>⟧.world session.old) (⟦<Session as Seen>⟧.world session.new) }
 {
     let mut page = Page::new();
     match begin(&mut page, out) {
@@ -138,6 +139,7 @@ fn print_items<S: Sink>(
         (outside_of files (⟦<Session as Seen>⟧.world session.old).drivers front)
         (outside_of files (⟦<Session as Seen>⟧.world session.new).drivers (S.state out.new)) }
     ensures scanned { Scanned (view plan.now) (ending result) first (⟦<Session as Seen>⟧.world session.old) (⟦<Session as Seen>⟧.world session.new) }
+    ensures spares { SparesRows (view plan.now) (ending result) first (⟦<Session as Seen>⟧.world session.old) (⟦<Session as Seen>⟧.world session.new) }
 {
     match open_plan(alloc, plan, &[]) {
         Ok(cursor) => {

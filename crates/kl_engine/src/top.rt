@@ -2,14 +2,15 @@
 ghost use Rattle.std.specs.Prelude.{◌≡◌, ◌<◌, ◌^◌, None, All, length, map, string_bytes, true};
 ghost use Rattle.kl_words.specs.Commands.{command_of};
 ghost use Rattle.kl_ask.specs.Driver.{State};
+ghost use Rattle.kl_ask.specs.Settings.{usual_settings};
 ghost use Rattle.kl_sources.specs.Sources.{kinds_of};
 ghost use Rattle.kl_outside.specs.Files.{FilesState};
 ghost use Rattle.kl_engine.specs.Answering.{Does, IsIdle};
 ghost use Rattle.kl_engine.specs.Commands.{Files as FromFiles, Made, Program, asked, path_of, wants_stats};
 ghost use Rattle.kl_engine.specs.Faults.{TookLine, ending, status_of};
 ghost use Rattle.kl_engine.specs.Outside.{outside_of};
-ghost use Rattle.kl_engine.specs.Planned.{AsksOf, CountsScansAlone, HasPlan, IsUnrun, plan_in};
-ghost use Rattle.kl_engine.specs.Rewritten.{wants_rewriting};
+ghost use Rattle.kl_engine.specs.Planned.{AsksOf, CountsScansAlone, HasPlan, IsUnrun, counted, plan_in};
+ghost use Rattle.kl_engine.specs.Rewritten.{fetch_of, wants_rewriting};
 ghost use Rattle.kl_engine.specs.Stats.{handed_in, told_text};
 ghost use Rattle.kl_engine.specs.declared.top.Purpose.TheVariants.{Run, Check, Types};
 
@@ -100,7 +101,7 @@ pub fn kleisli<F: Files, S: Sink, E: Sink>(
         (handed_in (map (λ d. (Driver-box d).state d.value) drivers.old.items) (map (λ d. (Driver-box d).state d.value) drivers.new.items)))
         (E.state err.old) (E.state err.new) }
     ensures plan { let words = command_of (map (λ w. string_bytes w) words.now) in
-        HasPlan (wants_rewriting words) (asked words) result.fault result.trace.steps (plan_in result.plan) result.trace.starts (F.state files.old) (F.state files.new)
+        HasPlan (wants_rewriting words) (asked words) result.fault result.trace.steps (plan_in result.plan) (counted result.trace.starts (fetch_of words) (map (λ d. (Driver-box d).state d.value) drivers.old.items) (map (λ d. (Driver-box d).state d.value) drivers.new.items)) (F.state files.old) (F.state files.new)
         (kinds_of (map (λ d. (Driver-box d).state d.value) drivers.old.items)) }
     ensures asks { AsksOf (plan_in result.plan) result.trace.starts (map (λ d. (Driver-box d).state d.value) drivers.old.items) (map (λ d. (Driver-box d).state d.value) drivers.new.items) }
     ensures trace { CountsScansAlone (plan_in result.plan) result.trace }
@@ -209,7 +210,7 @@ fn do_run<F: Files, S: Sink>(
         (outside_of (F.state files.old) (map (λ d. (Driver-box d).state d.value) drivers.old.items) (S.state out.old))
         (outside_of (F.state files.new) (map (λ d. (Driver-box d).state d.value) drivers.new.items) (S.state out.new)) }
     ensures plan { HasPlan job.now.settings.rewrite (Program (Run job.now.first) (FromFiles job.now.program job.now.catalogue))
-        (ending result) ran.new.trace.steps (plan_in ran.new.plan) ran.new.trace.starts (F.state files.old) (F.state files.new) (kinds_of (map (λ d. (Driver-box d).state d.value) drivers.old.items)) }
+        (ending result) ran.new.trace.steps (plan_in ran.new.plan) (counted ran.new.trace.starts job.now.settings.fetch (map (λ d. (Driver-box d).state d.value) drivers.old.items) (map (λ d. (Driver-box d).state d.value) drivers.new.items)) (F.state files.old) (F.state files.new) (kinds_of (map (λ d. (Driver-box d).state d.value) drivers.old.items)) }
     ensures asks { AsksOf (plan_in ran.new.plan) ran.new.trace.starts (map (λ d. (Driver-box d).state d.value) drivers.old.items) (map (λ d. (Driver-box d).state d.value) drivers.new.items) }
     ensures alone { CountsScansAlone (plan_in ran.new.plan) ran.new.trace }
 {
@@ -249,7 +250,7 @@ fn do_gen<S: Sink>(
         (outside_of files (map (λ d. (Driver-box d).state d.value) drivers.old.items) (S.state out.old))
         (outside_of files (map (λ d. (Driver-box d).state d.value) drivers.new.items) (S.state out.new)) }
     ensures plan { (files : FilesState) → HasPlan true (Program (Run None) (Made seed size))
-        (ending result) ran.new.trace.steps (plan_in ran.new.plan) ran.new.trace.starts files files (kinds_of (map (λ d. (Driver-box d).state d.value) drivers.old.items)) }
+        (ending result) ran.new.trace.steps (plan_in ran.new.plan) (counted ran.new.trace.starts usual_settings.fetch (map (λ d. (Driver-box d).state d.value) drivers.old.items) (map (λ d. (Driver-box d).state d.value) drivers.new.items)) files files (kinds_of (map (λ d. (Driver-box d).state d.value) drivers.old.items)) }
     ensures asks { AsksOf (plan_in ran.new.plan) ran.new.trace.starts (map (λ d. (Driver-box d).state d.value) drivers.old.items) (map (λ d. (Driver-box d).state d.value) drivers.new.items) }
     ensures alone { CountsScansAlone (plan_in ran.new.plan) ran.new.trace }
 {

@@ -1,9 +1,9 @@
 use Rattle.std.proofs.Common.{sym, ◌∙◌}
-use Rattle.kl_engine.proofs.DrawLemmas.{draws_fewer, draws_first, draws_on, draws_owned, draws_ready, draws_stands, drew_owned, enough_prints, enough_scanned, next_is, stop_counted, stop_prints, unopened_prints, unopened_scanned, unput_prints, unput_scanned, unready_prints, unready_scanned, whole_counted, whole_prints}
+use Rattle.kl_engine.proofs.DrawLemmas.{draws_fewer, draws_first, draws_on, draws_owned, draws_ready, draws_stands, drew_owned, enough_prints, enough_scanned, enough_spared, lazy_is, never_spared, next_is, stop_counted, stop_prints, unopened_prints, unopened_scanned, unput_prints, unput_scanned, unready_prints, unready_scanned, whole_counted, whole_prints, whole_spared}
 use Rattle.kl_engine.proofs.listing.print_items.Goals as goal
 
 pub items-init : goal.items-init
-items-init g c = draws_first _ _ _ _ _ _ _ c.requires.some c.in-Ok.ensures.0 c.in-Ok.ensures.1
+items-init g c = draws_first _ _ _ _ _ _ _ c.requires.sense c.requires.some c.in-Ok.ensures.0 c.in-Ok.ensures.1
 
 pub close-requires : goal.close-requires
 close-requires g c = draws_owned _ _ _ _ _ _ _ _ _ _ _ _ c.items.invariant
@@ -55,7 +55,7 @@ returns-in-Err-print_item-clause-scanned g c =
 pub items-preserved : goal.items-preserved
 items-preserved g c =
     draws_on _ _ _ _ _ _ _ _ _ _ _ _ (draws_ready _ _ _ _ _ _ _ _ _ _ _ _ c.items.invariant _ _ _ c.in-Ok-ready.ensures) _ _ _ _ c.in-Ok-Some.ensures.env (next_is _ _ _ _ _ _ _ c.in-Ok-Some.field-0-is c.in-Ok-Some.ensures.next) _ _
-    _ _ c.in-Ok-print_item.ensures c.fewer-left.ensures (sym c.are_enough.ensures ∙ c.if-are_enough.false)
+    c.requires.sense (lazy_is _ _ _ _ _ _ _ c.in-Ok-Some.field-0-is c.in-Ok-Some.ensures.lazy) _ _ c.in-Ok-print_item.ensures c.fewer-left.ensures (sym c.are_enough.ensures ∙ c.if-are_enough.false)
 
 pub items-smaller : goal.items-smaller
 items-smaller g c = draws_fewer _ _ _ _ _ _ _ _ _ _ _ _ c.items.invariant _ _ _ _ c.in-Ok-Some.ensures.env (next_is _ _ _ _ _ _ _ c.in-Ok-Some.field-0-is c.in-Ok-Some.ensures.next)
@@ -82,3 +82,23 @@ returns-clause-prints g c = λ files ks ss marks t front runs list puts. unopene
 
 pub returns-clause-scanned : goal.returns-clause-scanned
 returns-clause-scanned g c = unopened_scanned _ _ _
+
+pub returns-in-Err-ready-clause-spares : goal.returns-in-Err-ready-clause-spares
+returns-in-Err-ready-clause-spares g c = never_spared _ _ _ _ _ (λ is. cc)
+
+pub returns-then-are_enough-clause-spares : goal.returns-then-are_enough-clause-spares
+returns-then-are_enough-clause-spares g c = 
+    enough_spared _ _ _ _ _ _ _ _ _ _ _ _ c.items.invariant _ _ _ _ c.in-Ok-Some.ensures.env (next_is _ _ _ _ _ _ _ c.in-Ok-Some.field-0-is c.in-Ok-Some.ensures.next) c.requires.sense (lazy_is _ _ _ _ _ _ _ c.in-Ok-Some.field-0-is c.in-Ok-Some.ensures.lazy)
+    _ _ _ c.fewer-left.ensures (sym c.are_enough.ensures ∙ c.if-are_enough.true) c.close-then-are_enough.ensures
+
+pub returns-in-Err-print_item-clause-spares : goal.returns-in-Err-print_item-clause-spares
+returns-in-Err-print_item-clause-spares g c = never_spared _ _ _ _ _ (λ is. cc)
+
+pub returns-in-Ok-None-clause-spares : goal.returns-in-Ok-None-clause-spares
+returns-in-Ok-None-clause-spares g c = whole_spared _ _ _ _ _ _ _ _ _ _ _ _ c.items.invariant _ _ _ c.requires.sense (next_is _ _ _ _ _ _ _ c.in-Ok-None.field-0-is c.in-Ok-None.ensures.next)
+
+pub returns-in-Err-next-clause-spares : goal.returns-in-Err-next-clause-spares
+returns-in-Err-next-clause-spares g c = never_spared _ _ _ _ _ c.stopped.ensures.never
+
+pub returns-clause-spares : goal.returns-clause-spares
+returns-clause-spares g c = never_spared _ _ _ _ _ (λ is. cc)

@@ -1,5 +1,5 @@
 use Rattle.std.proofs.Common.{sym, ◌∙◌}
-use Rattle.kl_engine.proofs.DrawLemmas.{none_prints, none_wanted, unbegun_prints, unbegun_scanned}
+use Rattle.kl_engine.proofs.DrawLemmas.{never_spared, none_prints, none_spared, none_wanted, unbegun_prints, unbegun_scanned}
 use Rattle.kl_engine.proofs.listing.print_list.Goals as goal
 
 pub returns-in-Err-clause-prints : goal.returns-in-Err-clause-prints
@@ -17,3 +17,9 @@ returns-then-are_enough-clause-scanned g c = unbegun_scanned _ _ _ _ (none_wante
 
 pub returns-clause-prints : goal.returns-clause-prints
 returns-clause-prints g c = λ files ks ss marks t runs list. c.print_items.ensures.prints files ks ss marks t _ runs list c.in-Ok.ensures
+
+pub returns-in-Err-clause-spares : goal.returns-in-Err-clause-spares
+returns-in-Err-clause-spares g c = never_spared _ _ _ _ _ (λ is. cc)
+
+pub returns-then-are_enough-clause-spares : goal.returns-then-are_enough-clause-spares
+returns-then-are_enough-clause-spares g c = none_spared _ _ _ _ c.requires (sym c.are_enough.ensures ∙ c.if-are_enough.true)

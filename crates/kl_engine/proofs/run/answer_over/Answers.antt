@@ -3,8 +3,8 @@ use Rattle.kl_scope.specs.Breaches.{is_marked}
 use Rattle.kl_syntax.specs.View.{view, decls_of}
 use Rattle.kl_desugar.proofs.Law.{means}
 use Rattle.kl_engine.proofs.CountLemmas.{answers_late, source_late}
-use Rattle.kl_engine.proofs.MeaningLemmas.{idle_none, attaches_same, plan_runs, session_list, session_told, session_done, attach_failed}
-use Rattle.kl_engine.proofs.PlanLemmas.{plan_asks, plan_numbers, plan_rest, plan_starts, refused_asks, refused_numbers, runs_list, runs_worth}
+use Rattle.kl_engine.proofs.MeaningLemmas.{idle_none, attaches_same, plan_runs, session_list, session_lists, session_told, session_done, attach_failed}
+use Rattle.kl_engine.proofs.PlanLemmas.{plan_asks, plan_few, plan_numbers, plan_rest, plan_starts, refused_asks, refused_numbers, runs_list, runs_worth}
 use Rattle.kl_engine.proofs.ProgramLemmas.{no_files}
 use Rattle.kl_engine.proofs.run.answer_over.Goals as goal
 
@@ -58,6 +58,15 @@ returns-in-Ok-clause-exact g c =
           (means (decls_of c.args.scoped.now.program.defs) (view c.args.scoped.now.program.last) c.args.scoped.now.sources) have.0 have.1)),
     )
 
+pub returns-in-Ok-clause-few : goal.returns-in-Ok-clause-few
+returns-in-Ok-clause-few g c =
+    λ well have.
+    let runs = plan_runs c.args.sources.items c.args.scoped.now c.requires.scope c.args.typed.now c.requires.types _ refl _ _ c.requires.placed _ (attaches_same _ c.replace.result _ _ _ _ _ c.replace.ensures.value (c.in-Ok.ensures (is_marked c.args.scoped.now) (λ i less. refl))) c.args.how.settings c.replace-in-Ok.result c.requires.fetch c.requires.idle c.requires.mentioned _ _ c.requires.planned.2 c.requires.planned.1 in
+    (_, runs.reads, plan_few _ _ _ _ _ _ _ _ _ _ _ runs (attaches_same _ c.replace.result _ _ _ _ _ c.replace.ensures.value (c.in-Ok.ensures (is_marked c.args.scoped.now) (λ i less. refl))).drivers
+    (session_lists c.args.sources.items c.args.scoped.now c.requires.scope c.args.typed.now c.requires.types _ refl _ _ c.requires.placed _ (attaches_same _ c.replace.result _ _ _ _ _ c.replace.ensures.value (c.in-Ok.ensures (is_marked c.args.scoped.now) (λ i less. refl))) c.args.how.settings c.replace-in-Ok.result c.requires.fetch _ c.gives_list-is_list.ensures.other) c.answer_plan-result.ensures.spares well
+    (runs.told (session_told c.args.sources.items c.args.scoped.now c.requires.scope c.args.typed.now c.requires.types _ refl _ _ c.requires.placed _ (attaches_same _ c.replace.result _ _ _ _ _ c.replace.ensures.value (c.in-Ok.ensures (is_marked c.args.scoped.now) (λ i less. refl))) c.args.how.settings c.replace-in-Ok.result c.requires.fetch
+    (means (decls_of c.args.scoped.now.program.defs) (view c.args.scoped.now.program.last) c.args.scoped.now.sources) have.0 have.1)))
+
 pub returns-in-Err-clause-does : goal.returns-in-Err-clause-does
 returns-in-Err-clause-does g c =
     λ files. attach_failed c.args.sources.items (is_marked c.args.scoped.now) _ (decls_of c.args.scoped.now.program.defs) (view c.args.scoped.now.program.last) files _ _ _ c.in-Err.field-0 _ (c.in-Err.ensures (is_marked c.args.scoped.now) (λ i less. refl)) c.driver_fault.ensures
@@ -75,3 +84,6 @@ returns-in-Err-clause-starts g c = refused_numbers _ _ _ c.requires.planned.1 _ 
 
 pub returns-in-Err-clause-exact : goal.returns-in-Err-clause-exact
 returns-in-Err-clause-exact g c = λ well all have. absurd cc
+
+pub returns-in-Err-clause-few : goal.returns-in-Err-clause-few
+returns-in-Err-clause-few g c = λ well have. absurd cc

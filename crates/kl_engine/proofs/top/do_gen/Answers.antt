@@ -18,7 +18,7 @@ returns-in-Ok-clause-does g c = λ files.
 
 pub returns-in-Ok-clause-plan : goal.returns-in-Ok-clause-plan
 returns-in-Ok-clause-plan g c = λ files.
-    made_plan c.usual.result.rewrite c.args.seed c.args.size files _ _ _ _ c.in-Ok.field-0 _ _ _ (ap (λ (s : Settings). s.rewrite) c.usual.ensures) c.slice.ensures c.into_vec.ensures (c.in-Ok.ensures files) c.run.ensures.plan
+    made_plan c.usual.result c.args.seed c.args.size files _ _ _ _ _ _ c.in-Ok.field-0 _ _ _ c.usual.ensures c.slice.ensures c.into_vec.ensures (c.in-Ok.ensures files) c.run.ensures.plan
 
 pub returns-in-Ok-clause-asks : goal.returns-in-Ok-clause-asks
 returns-in-Ok-clause-asks g c = c.run.ensures.asks
@@ -30,7 +30,7 @@ pub returns-in-Err-clause-does : goal.returns-in-Err-clause-does
 returns-in-Err-clause-does g c = λ files. program_refused (purpose.Run None) (Made c.args.seed c.args.size) files files c.in-Err.fault _ _ (c.in-Err.ensures files)
 
 pub returns-in-Err-clause-plan : goal.returns-in-Err-clause-plan
-returns-in-Err-clause-plan g c = λ files. refused_plan true None (Made c.args.seed c.args.size) files files _ c.in-Err.fault _ c.requires.unrun (c.in-Err.ensures files)
+returns-in-Err-clause-plan g c = λ files. refused_plan true None (Made c.args.seed c.args.size) files files _ c.in-Err.fault _ _ c.requires.unrun (c.in-Err.ensures files)
 
 pub returns-in-Err-clause-asks : goal.returns-in-Err-clause-asks
 returns-in-Err-clause-asks g c = unrun_asks _ _ c.requires.unrun

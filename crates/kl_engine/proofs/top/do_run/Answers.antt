@@ -20,7 +20,7 @@ pub returns-in-Err-clause-does : goal.returns-in-Err-clause-does
 returns-in-Err-clause-does g c = program_refused (purpose.Run c.args.job.now.first) _ _ _ c.in-Err.fault _ _ c.in-Err.ensures
 
 pub returns-in-Err-clause-plan : goal.returns-in-Err-clause-plan
-returns-in-Err-clause-plan g c = refused_plan c.args.job.now.settings.rewrite c.args.job.now.first _ _ _ _ c.in-Err.fault _ c.requires.unrun c.in-Err.ensures
+returns-in-Err-clause-plan g c = refused_plan c.args.job.now.settings.rewrite c.args.job.now.first _ _ _ _ c.in-Err.fault _ _ c.requires.unrun c.in-Err.ensures
 
 pub returns-in-Err-clause-asks : goal.returns-in-Err-clause-asks
 returns-in-Err-clause-asks g c = unrun_asks _ _ c.requires.unrun
