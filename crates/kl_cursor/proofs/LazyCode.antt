@@ -214,8 +214,8 @@ whole_loop_lazily env p k b s i y t w x e f fit off =
         let z : true ≡ false = sym on ∙ sym is ∙ ap (λ q. draws k (view q)) (sym f) ∙ sym fit ∙ off in
         cc
 
-pub loop_begins_lazily : (env : List Value) (p : Plan) (k : Kind) (b s i j : Plan) (q : Bor Plan) (t slot : State) (w : World) → p ≡ plans.Ext k b s → i ≡ s → j ≡ s → q.now ≡ b → snap t ≡ fresh (view j) → BeginsLazily env (fresh (view p)) (Ok (state.Outside q t slot)) w w
-loop_begins_lazily env p k b s i j q t slot w e f g h is =
+pub loop_begins_lazily : (env : List Value) (p : Plan) (k : Kind) (b s j : Plan) (q : Bor Plan) (t slot : State) (w : World) → p ≡ plans.Ext k b s → j ≡ s → q.now ≡ b → snap t ≡ fresh (view j) → BeginsLazily env (fresh (view p)) (Ok (state.Outside q t slot)) w w
+loop_begins_lazily env p k b s j q t slot w e g h is =
     subst (λ z. Spares 0 env z w (snap (state.Outside q t slot)) w) (sym (ap (λ z. fresh (view z)) e ∙ ap fresh (view_Ext k b s)))
     (subst (λ z. Spares 0 env (fresh (node.Ext k (view b) (view s))) w z w) (sym (snap_Outside q t slot ∙ ap (λ z. outside (view z) (snap t)) h ∙ ap (outside (view b)) (is ∙ ap (λ z. fresh (view z)) g)))
     (loop_spares 0 env (fresh (node.Ext k (view b) (view s))) (outside (view b) (fresh (view s))) w w (λ c z. no_ext k (view b) (view s) c z) (begins_spared env w k (view b) (view s))))

@@ -4,12 +4,11 @@ use Rattle.kl_value.specs.declared.Kind.{Kind}
 use Rattle.kl_outcome.specs.Outcome.{Name}
 use Rattle.kl_ship.specs.Nodes as node
 use Rattle.kl_ship.specs.Joins.{join_view}
-use Rattle.kl_ship.specs.Nodes.{Branches, Key, Node, branches_of, fields_view, join_layer, key_of, nodes_of, nodes_view, view, view_branch}
-use Rattle.kl_ship.specs.Numbers.{scans_in, scans_of_branches, scans_of_fields, scans_of_key, scans_of_nodes}
+use Rattle.kl_ship.specs.Nodes.{Branches, branches_of, fields_view, nodes_view, view, view_branch}
+use Rattle.kl_ship.specs.Numbers.{scans_in, scans_of_branches, scans_of_fields}
 use Rattle.kl_ship.specs.Shipping.{other_node}
 use Rattle.kl_ship.specs.declared.plan.Join.{Join}
 use Rattle.kl_ship.specs.declared.plan.Plan.{Plan, the_lemmas}
-use Rattle.kl_ship.specs.declared.plan.Plan.TheOpen.{Join-F}
 use Rattle.kl_ship.specs.declared.plan.Plan.TheVariants as plans
 use Rattle.kl_ship.specs.declared.plan.Scan.{Scan}
 use Rattle.kl_ship.proofs.Views.{view_Case, view_Make, view_Scan}
@@ -43,10 +42,10 @@ module _ (t a d : Plan) (ps qs : List (Name × Plan)) (c : Option Plan) (x y : B
   case_found on = sym (case_is ∙ ap (λ q. q || some (scans_of_branches (other_node c))) on)
 
   pub case_other : (o i : Plan) (r : Bool) → y ≡ false → c ≡ Some o → i ≡ o → r ≡ has_scan (view i) → r ≡ has_scan (view t)
-  case_other o i r no is at m = m ∙ ap (λ q. has_scan (view q)) at ∙ sym (case_is ∙ ap (λ q. q || some (scans_of_branches (other_node c))) no ∙ ap (λ q. some (scans_of_branches (other_node q))) is)
+  case_other o i r none is at m = m ∙ ap (λ q. has_scan (view q)) at ∙ sym (case_is ∙ ap (λ q. q || some (scans_of_branches (other_node c))) none ∙ ap (λ q. some (scans_of_branches (other_node q))) is)
 
   pub case_none : y ≡ false → c ≡ None → false ≡ has_scan (view t)
-  case_none no is = sym (case_is ∙ ap (λ q. q || some (scans_of_branches (other_node c))) no ∙ ap (λ q. some (scans_of_branches (other_node q))) is)
+  case_none none is = sym (case_is ∙ ap (λ q. q || some (scans_of_branches (other_node c))) none ∙ ap (λ q. some (scans_of_branches (other_node q))) is)
 
 -- a literal gives an item where it has a part
 pub make_gives : (t : Plan) (k : Kind) (ps : List Plan) (n : ℕ) → t ≡ plans.Make k ps → n ≡ length ps → nat_lt 0 n ≡ gives (view t)
@@ -57,21 +56,14 @@ make_gives t k ps n e f = ap (nat_lt 0) f ∙ by_parts ps ∙ sym (ap gives (ap 
     by_parts (q ∷ qs) = grind arith
 
 -- a join reads its inner rows
-any_join : (j : Join-F Node Node Key) → has_scan (join_layer j) ≡ true
-any_join j =
-    some_then (scans_in j.outer) (scans_of_nodes (nodes_of j.conds) ++ (scans_of_key (key_of j.key) ++ (j.inner ∷ scans_in j.body)))
-    ∙ ap (λ y. has_scan j.outer || y) (some_then (scans_of_nodes (nodes_of j.conds)) (scans_of_key (key_of j.key) ++ (j.inner ∷ scans_in j.body)))
-    ∙ ap (λ y. has_scan j.outer || (some (scans_of_nodes (nodes_of j.conds)) || y)) (some_then (scans_of_key (key_of j.key)) (j.inner ∷ scans_in j.body))
-    ∙ ors (has_scan j.outer) (some (scans_of_nodes (nodes_of j.conds))) (some (scans_of_key (key_of j.key)))
-  where
-    ors : (a b c : Bool) → (a || (b || (c || true))) ≡ true
-    ors true b c = refl
-    ors false true c = refl
-    ors false false true = refl
-    ors false false false = refl
+any_parts : (xs ys zs : List Scan) (c : Scan) (ws : List Scan) → some (xs ++ (ys ++ (zs ++ (c ∷ ws)))) ≡ true
+any_parts (x ∷ xs) ys zs c ws = refl
+any_parts [] (y ∷ ys) zs c ws = refl
+any_parts [] [] (z ∷ zs) c ws = refl
+any_parts [] [] [] c ws = refl
 
 join_scans : (j : Join) → has_scan (join_view j) ≡ true
-join_scans j = search (rules, the_lemmas, any_join)
+join_scans j = search (rules, the_lemmas, any_parts)
 
 join_is : (j : Join) → view (plans.Join j) ≡ join_view j
 join_is j = search (rules, the_lemmas)
