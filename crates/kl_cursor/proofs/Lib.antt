@@ -23,3 +23,5 @@ pub mod Rows
 pub mod EmitCode
 pub mod BeginCode
 pub mod KindCode
+pub mod Pulls
+pub mod PullCode

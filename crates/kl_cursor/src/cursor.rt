@@ -4,6 +4,7 @@ ghost use Rattle.kl_ship.specs.Nodes.{view};
 ghost use Rattle.kl_scans.specs.Held.{Owned};
 ghost use Rattle.kl_scans.specs.Moves.{Closes};
 ghost use Rattle.kl_cursor.specs.Left.{fresh, snap, uses};
+ghost use Rattle.kl_cursor.specs.Pulling.{pulls};
 ghost use Rattle.kl_cursor.specs.Sense.{HasWorth, Stands};
 ghost use Rattle.kl_cursor.specs.Steps.{Nexts, Partly};
 
@@ -110,7 +111,9 @@ impl<'p> Cursor<'p> {
 
     /// Whether `next` may read on at a source. Where it may not, the next item is at hand, or there is none. Whoever holds back
     /// what it makes of items lets go of it before a source is waited for.
-    pub fn may_pull(&self) -> bool {
+    pub fn may_pull(&self) -> bool
+        ensures { result ≡ pulls (snap self.now.at) }
+    {
         may_pull(&self.at)
     }
 

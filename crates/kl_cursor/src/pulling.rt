@@ -1,14 +1,24 @@
 //! Whether the next step of a cursor may read on at a source.
+ghost use Rattle.std.specs.Prelude.{◌≡◌, drop};
+ghost use Rattle.kl_ship.specs.Nodes.{fields_view, nodes_view, view};
+ghost use Rattle.kl_ship.specs.Numbers.{scans_of_fields, scans_of_nodes};
+ghost use Rattle.kl_cursor.specs.Left.{snap};
+ghost use Rattle.kl_cursor.specs.Pulling.{some, has_scan, gives, reads_on, loop_reads_on, pulls};
+
 use crate::state::State;
 use kl_base::Label;
 use kl_ship::Plan;
 
 /// Whether a scan stands in a plan.
 #[cycle(scan)]
-fn has_scan(plan: &Plan) -> bool {
+#[tactic(auto, using(crate::proofs::Pulls::some_then))]
+fn has_scan(plan: &Plan) -> bool
+    ensures { result ≡ has_scan (view plan.now) }
+{
     match plan {
         Plan::Plain(_) | Plan::Var(_) => false,
-        Plan::Scan(_) | Plan::Join(_) | Plan::Memo(_, _, _) => true,
+        Plan::Scan(_) | Plan::Join(_) => true,
+        Plan::Memo(_, _, part) => has_scan(part.get()),
         Plan::Rec(fields) => has_scan_labelled(fields.slice()),
         Plan::Proj(_, a) => has_scan(a.get()),
         Plan::Inj(_, a) => has_scan(a.get()),
@@ -26,7 +36,7 @@ fn has_scan(plan: &Plan) -> bool {
         }
         Plan::Make(_, parts) => has_scan_all(parts.slice()),
         Plan::Union(a, b) => has_scan(a.get()) || has_scan(b.get()),
-        Plan::Ext(_, body, source) => has_scan(body.get()) || has_scan(source.get()),
+        Plan::Ext(_, body, source) => has_scan(source.get()) || has_scan(body.get()),
         Plan::If(a, b, c) => has_scan(a.get()) || has_scan(b.get()) || has_scan(c.get()),
         Plan::Let(a, b) => has_scan(a.get()) || has_scan(b.get()),
         Plan::Prim(_, args) => has_scan_all(args.slice()),
@@ -34,8 +44,11 @@ fn has_scan(plan: &Plan) -> bool {
 }
 
 #[cycle(scan)]
-fn has_scan_all(plans: &[Plan]) -> bool {
-    for plan in plans {
+#[tactic(auto, using(crate::proofs::Pulls::some_then))]
+fn has_scan_all(plans: &[Plan]) -> bool
+    ensures { result ≡ some (scans_of_nodes (nodes_view plans.now)) }
+{
+    'plans: for plan in plans {
         if has_scan(plan) {
             return true;
         }
@@ -44,8 +57,11 @@ fn has_scan_all(plans: &[Plan]) -> bool {
 }
 
 #[cycle(scan)]
-fn has_scan_labelled(parts: &[(Label, Plan)]) -> bool {
-    for part in parts {
+#[tactic(auto, using(crate::proofs::Pulls::some_then))]
+fn has_scan_labelled(parts: &[(Label, Plan)]) -> bool
+    ensures { result ≡ some (scans_of_fields (fields_view parts.now)) }
+{
+    'parts: for part in parts {
         if has_scan(&part.1) {
             return true;
         }
@@ -53,8 +69,21 @@ fn has_scan_labelled(parts: &[(Label, Plan)]) -> bool {
     false
 }
 
+// Whether a scan stands in one of the plans from a place on.
+fn has_scan_from(plans: &[Plan], place: usize) -> bool
+    ensures { result ≡ some (scans_of_nodes (nodes_view (drop place plans.now))) }
+{
+    if place < plans.len() {
+        has_scan_all(&plans[place..])
+    } else {
+        false
+    }
+}
+
 // Whether a plan of a collection gives an item whatever its tests come to.
-fn gives(plan: &Plan) -> bool {
+fn gives(plan: &Plan) -> bool
+    ensures { result ≡ gives (view plan.now) }
+{
     match plan {
         Plan::Make(_, parts) => parts.len() > 0,
         Plan::If(_, then, other) => gives(then.get()) && gives(other.get()),
@@ -64,7 +93,9 @@ fn gives(plan: &Plan) -> bool {
 }
 
 // Whether a cursor reads on at a source, in this step or in a later one.
-fn reads_on(at: &State) -> bool {
+fn reads_on(at: &State) -> bool
+    ensures { result ≡ reads_on (snap at.now) }
+{
     match at {
         State::Fresh(plan) => has_scan(plan),
         State::Have(_, _) | State::Done => false,
@@ -75,17 +106,21 @@ fn reads_on(at: &State) -> bool {
         State::Inside(body, source, _, inner) => {
             reads_on(inner.get()) || has_scan(body) || reads_on(source.get())
         }
-        State::Make(parts, _) => has_scan_all(parts.slice()),
+        State::Make(parts, place) => has_scan_from(parts.slice(), *place),
     }
 }
 
 // Whether a loop reads on, of whose source an item is at hand: it does in its body, or where the body may give no item.
-fn loop_reads_on(body: &Plan, source: &State) -> bool {
+fn loop_reads_on(body: &Plan, source: &State) -> bool
+    ensures { result ≡ loop_reads_on (view body.now) (snap source.now) }
+{
     has_scan(body) || (reads_on(source) && !gives(body))
 }
 
 /// Whether the next step of a cursor may read on at a source. It does not where an item is at hand.
-pub fn may_pull(at: &State) -> bool {
+pub fn may_pull(at: &State) -> bool
+    ensures { result ≡ pulls (snap at.now) }
+{
     match at {
         State::Fresh(plan) => has_scan(plan),
         State::Have(_, _) | State::Done => false,
@@ -98,6 +133,6 @@ pub fn may_pull(at: &State) -> bool {
         State::Inside(body, source, _, inner) => {
             may_pull(inner.get()) || may_pull(source.get()) || loop_reads_on(body, source.get())
         }
-        State::Make(parts, _) => has_scan_all(parts.slice()),
+        State::Make(parts, place) => has_scan_from(parts.slice(), *place),
     }
 }

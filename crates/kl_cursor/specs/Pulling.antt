@@ -1,0 +1,48 @@
+-- Which cursors may read on at a source.
+use Rattle.std.specs.Prelude.{Bool, true, false, ◌==◌, ◌&&◌, ◌||◌, not, List, [], ◌∷◌, length}
+use Rattle.kl_ship.specs.Nodes as node
+use Rattle.kl_ship.specs.Nodes.{Node, Nodes, no_nodes, nodes}
+use Rattle.kl_ship.specs.Numbers.{scans_in, scans_of_nodes}
+use Rattle.kl_cursor.specs.Left.{Snap, fresh, pulling, both, bound, outside, inside, made}
+
+-- there is one or more
+abbrev pub some : {X : Type 0} → List X → Bool
+some [] = false
+some (x ∷ xs) = true
+
+abbrev pub has_scan : Node → Bool
+has_scan p = some (scans_in p)
+
+-- a plan of a collection gives an item whatever its tests come to
+abbrev pub gives : Node → Bool
+gives (node.Make k no_nodes) = false
+gives (node.Make k (nodes p ps)) = true
+gives (node.If a b c) = gives b && gives c
+gives (node.Let a b) = gives b
+gives _ = false
+
+-- a cursor reads on at a source, in the next step or in a later one
+abbrev pub reads_on : Snap → Bool
+reads_on (fresh p) = has_scan p
+reads_on (pulling c k rows n) = true
+reads_on (both s p) = reads_on s || has_scan p
+reads_on (bound v s) = reads_on s
+reads_on (outside b s) = has_scan b || reads_on s
+reads_on (inside b s v i) = reads_on i || has_scan b || reads_on s
+reads_on (made ps) = some (scans_of_nodes ps)
+reads_on _ = false
+
+-- a loop does, of whose source an item is at hand: in its body, or where the body may give no item
+abbrev pub loop_reads_on : Node → Snap → Bool
+loop_reads_on b s = has_scan b || (reads_on s && not (gives b))
+
+-- The next step of a cursor may read on at a source. It does not where an item is at hand.
+abbrev pub pulls : Snap → Bool
+pulls (fresh p) = has_scan p
+pulls (pulling c k rows n) = length rows == 0
+pulls (both s p) = pulls s || has_scan p
+pulls (bound v s) = pulls s
+pulls (outside b s) = pulls s || loop_reads_on b s
+pulls (inside b s v i) = pulls i || pulls s || loop_reads_on b s
+pulls (made ps) = some (scans_of_nodes ps)
+pulls _ = false
