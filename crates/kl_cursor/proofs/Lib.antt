@@ -23,5 +23,11 @@ pub mod Rows
 pub mod EmitCode
 pub mod BeginCode
 pub mod KindCode
+pub mod Handing
+pub mod Rowwise
+pub mod Fetching
+pub mod Lazily
+pub mod LazyCode
+pub mod LazyLaws
 pub mod Pulls
 pub mod PullCode

@@ -98,7 +98,7 @@ none_first : (xs : List Value) → slice_get xs 0 ≡ None → xs ≡ []
 none_first [] e = refl
 none_first (x ∷ xs) e = cc
 
-none_rows : (xs : List Value) (o : Option Value) → o ≡ None → o ≡ slice_get xs 0 → xs ≡ []
+pub none_rows : (xs : List Value) (o : Option Value) → o ≡ None → o ≡ slice_get xs 0 → xs ≡ []
 none_rows xs o e f = none_first xs (sym f ∙ e)
 
 pub pulled_more : (q : Scan) (k : ℕ) (into into' : List Value) (r : Result Bool EvalStop) (y : Bool) (a b : World) → r ≡ Ok y → y ≡ true → Pulls q k into into' r a b → PulledMore q k into into' a b

@@ -207,13 +207,13 @@ loop_over env p s0 x s rest i r a b c e f g m h = turn_end env p s0 (snap s) a b
 pub loop_err : (env : List Value) (p : Node) (s0 : Snap) (x s : State) (w : EvalStop) (r : Result (Option Value × State) EvalStop) (a b c : World) → x ≡ s → r ≡ Err w → Onward env (outside p s0) a (outside p (snap s)) b → Steps env (snap x) r b c → Stops env (outside p s0) w a c
 loop_err env p s0 x s w r a b c e f m h = turn_stop env p s0 (snap s) w a b c m (stopped env x s w r b c e f h)
 
-fresh_steps : (env : List Value) (q : Bor Plan) (z : Result (Option Value × State) EvalStop) (c d : World) → Steps env (snap (state.Fresh q)) z c d → Steps env (fresh (view q.now)) z c d
+pub fresh_steps : (env : List Value) (q : Bor Plan) (z : Result (Option Value × State) EvalStop) (c d : World) → Steps env (snap (state.Fresh q)) z c d → Steps env (fresh (view q.now)) z c d
 fresh_steps env q z c d h = at_snap env (fresh (view q.now)) (snap (state.Fresh q)) z c d (sym (snap_Fresh q)) h
 
-fresh_given : (env : List Value) (q : Bor Plan) (rest : State) (i : Option Value) (v : Value) (r : Result (Option Value × State) EvalStop) (a b : World) → r ≡ Ok (i, rest) → i ≡ Some v → Steps env (fresh (view q.now)) r a b → Gives env (fresh (view q.now)) a v (snap rest) b
+pub fresh_given : (env : List Value) (q : Bor Plan) (rest : State) (i : Option Value) (v : Value) (r : Result (Option Value × State) EvalStop) (a b : World) → r ≡ Ok (i, rest) → i ≡ Some v → Steps env (fresh (view q.now)) r a b → Gives env (fresh (view q.now)) a v (snap rest) b
 fresh_given env q rest i v r a b f g h = subst (λ x. Steps env (fresh (view q.now)) (Ok (x, rest)) a b) g (subst (λ x. Steps env (fresh (view q.now)) x a b) f h)
 
-fresh_finished : (env : List Value) (q : Bor Plan) (rest : State) (i : Option Value) (r : Result (Option Value × State) EvalStop) (a b : World) → r ≡ Ok (i, rest) → i ≡ None → Steps env (fresh (view q.now)) r a b → Ends env (fresh (view q.now)) a b
+pub fresh_finished : (env : List Value) (q : Bor Plan) (rest : State) (i : Option Value) (r : Result (Option Value × State) EvalStop) (a b : World) → r ≡ Ok (i, rest) → i ≡ None → Steps env (fresh (view q.now)) r a b → Ends env (fresh (view q.now)) a b
 fresh_finished env q rest i r a b f g h = subst (λ x. Steps env (fresh (view q.now)) (Ok (x, rest)) a b) g (subst (λ x. Steps env (fresh (view q.now)) x a b) f h)
 
 pub loop_gave : (env : List Value) (q : Bor Plan) (s0 : Snap) (x s rest inner n m : State) (i j : Option Value) (v w : Value) (r z : Result (Option Value × State) EvalStop) (a b c d : World) → x ≡ s → r ≡ Ok (i, rest) → i ≡ Some v → z ≡ Ok (j, inner) → j ≡ Some w → n ≡ rest → m ≡ inner

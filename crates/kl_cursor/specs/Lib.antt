@@ -1,4 +1,5 @@
 pub mod Drawing
+pub mod Laziness
 pub mod Left
 pub mod Likeness
 pub mod Measure

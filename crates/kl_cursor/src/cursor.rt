@@ -3,6 +3,7 @@ ghost use Rattle.std.specs.Prelude.{◌≡◌, reverse, IfOk};
 ghost use Rattle.kl_ship.specs.Nodes.{view};
 ghost use Rattle.kl_scans.specs.Held.{Owned};
 ghost use Rattle.kl_scans.specs.Moves.{Closes};
+ghost use Rattle.kl_cursor.specs.Laziness.{NextsLazily};
 ghost use Rattle.kl_cursor.specs.Left.{fresh, snap, uses};
 ghost use Rattle.kl_cursor.specs.Pulling.{pulls};
 ghost use Rattle.kl_cursor.specs.Sense.{HasWorth, Stands};
@@ -71,6 +72,8 @@ impl<'p> Cursor<'p> {
     /// The next item, or None at the end. Items of a plan of kind list come in order, those of a set or a bag in any, and of a
     /// set with repeats.
     ///
+    /// To a loop over a scan that makes a list, no row more is handed before it is needed, but for those that come with it.
+    ///
     /// The cursor's own cursors of drivers are open, as it left them, and it makes sense under the types of what the session
     /// has attached. Those of other cursors are left as they are.
     ///
@@ -82,6 +85,7 @@ impl<'p> Cursor<'p> {
         requires sense { Stands (⟦<Session as Seen>⟧.world session.old) (snap self.old.at) (reverse self.old.env) }
         ensures env { self.new.env ≡ self.old.env }
         ensures next { Nexts (reverse self.old.env) (snap self.old.at) result (snap self.new.at) (⟦<Session as Seen>⟧.world session.old) (⟦<Session as Seen>⟧.world session.new) }
+        ensures lazy { NextsLazily (reverse self.old.env) (snap self.old.at) result (snap self.new.at) (⟦<Session as Seen>⟧.world session.old) (⟦<Session as Seen>⟧.world session.new) }
     {
         self.advance(session)
     }
@@ -92,6 +96,7 @@ impl<'p> Cursor<'p> {
         requires sense { Stands (C.world run.old) (snap self.old.at) (reverse self.old.env) }
         ensures env { self.new.env ≡ self.old.env }
         ensures next { Nexts (reverse self.old.env) (snap self.old.at) result (snap self.new.at) (C.world run.old) (C.world run.new) }
+        ensures lazy { NextsLazily (reverse self.old.env) (snap self.old.at) result (snap self.new.at) (C.world run.old) (C.world run.new) }
     {
         let at = mem::replace(&mut self.at, State::Done);
         match step(self.alloc, at, &Env::Base(self.env.slice()), run) {
