@@ -1,5 +1,5 @@
 -- Scans of which no more rows are fetched than are used, but for those of one time.
-use Rattle.std.proofs.Common.{◌≡◌, ◌⊎◌, ℕ, ◌+◌, ◌<◌, ◌≤◌, Bool, true, List, [], ◌∷◌, ◌++◌, length, drop, refl, sym, ap, ◌∙◌, subst, arith}
+use Rattle.std.proofs.Common.{◌≡◌, ℕ, ◌+◌, ◌<◌, true, List, [], ◌∷◌, ◌++◌, length, drop, sym, ap, ◌∙◌, subst, arith}
 use Rattle.kl_value.specs.declared.Kind.{Kind}
 use Rattle.kl_value.specs.declared.Kind.TheVariants as kind
 use Rattle.kl_value.specs.declared.Value.{Value}
@@ -7,19 +7,18 @@ use Rattle.kl_type.specs.Ground.{Ground}
 use Rattle.kl_outcome.specs.Outcome.{more, fine, flow}
 use Rattle.kl_outcome.specs.Typed.{HaveTypes}
 use Rattle.kl_core.specs.Counts.{fits_in}
-use Rattle.kl_ask.specs.World.{World, IsReady}
+use Rattle.kl_ask.specs.World.{World}
 use Rattle.kl_ship.specs.declared.plan.Scan.{Scan}
 use Rattle.kl_ship.specs.Nodes as node
 use Rattle.kl_ship.specs.Nodes.{Node}
-use Rattle.kl_scans.specs.Held.{cursor_at, nothing, one_at}
-use Rattle.kl_scans.specs.Log as log
+use Rattle.kl_scans.specs.Held.{cursor_at}
 use Rattle.kl_scans.specs.Scans.{Started, PulledMore}
 use Rattle.kl_cursor.specs.Laziness.{rows_in, Handed, ByTimes, Fetching, ahead, ListTold}
 use Rattle.kl_cursor.specs.Left.{Snap, fresh, pulling, outside, uses, left, rows_left, rows_told}
 use Rattle.kl_cursor.specs.Sense.{IsToldAt, Fits, HasItems}
 use Rattle.kl_cursor.specs.Steps.{AreOf, Onward, Gives}
 use Rattle.kl_cursor.proofs.Forms.{told_on}
-use Rattle.kl_cursor.proofs.Handing.{handed_none, of_itself}
+use Rattle.kl_cursor.proofs.Handing.{of_itself}
 use Rattle.kl_cursor.proofs.Rowwise.{flow_rows, next_rows, by_times}
 use Rattle.kl_cursor.proofs.Scanning.{rows_of, scan_gives}
 use Rattle.kl_cursor.proofs.Starting.{scan_begins}

@@ -4,25 +4,24 @@ use Rattle.std.specs.List.{sum_by}
 use Rattle.kl_value.specs.declared.Kind.{Kind}
 use Rattle.kl_value.specs.declared.Kind.TheVariants as kind
 use Rattle.kl_value.specs.declared.Value.{Value}
-use Rattle.kl_outcome.specs.Outcome.{Flow, more, stop, fine, flow, items_in}
+use Rattle.kl_outcome.specs.Outcome.{more, stop, fine, items_in}
 use Rattle.kl_ask.specs.World.{World}
 use Rattle.kl_ship.specs.declared.plan.Scan.{Scan}
 use Rattle.kl_ship.specs.Holding.{ScansIn}
 use Rattle.kl_ship.specs.Meaning.{Readings, coming, plan}
 use Rattle.kl_ship.specs.Nodes as node
 use Rattle.kl_ship.specs.Nodes.{Node}
-use Rattle.kl_scans.specs.Held.{nothing, beside, Owned}
+use Rattle.kl_scans.specs.Held.{nothing, Owned}
 use Rattle.kl_scans.specs.Stage.{readings}
 use Rattle.kl_scans.proofs.Moving.{stage_stays}
-use Rattle.kl_cursor.specs.Laziness.{Handed, Fetching, items_at, Loops, Lazy, ListTold, Spares}
-use Rattle.kl_cursor.specs.Left.{Snap, fresh, outside, inside, uses, left, reading, ScansLeft}
-use Rattle.kl_cursor.specs.Sense.{Fits}
+use Rattle.kl_cursor.specs.Laziness.{Handed, Fetching, items_at, Lazy, ListTold, Spares}
+use Rattle.kl_cursor.specs.Left.{Snap, fresh, outside, inside, uses, left, reading}
 use Rattle.kl_cursor.specs.Steps.{Onward, Gives, Ends}
 use Rattle.kl_cursor.proofs.Fetching.{told_onward, told_source, list_gave, fetching_at, fetching_still}
 use Rattle.kl_cursor.proofs.Forms.{told_on, drew, body_owned}
 use Rattle.kl_cursor.proofs.Handing.{handed_none, handed_then, handed_still}
 use Rattle.kl_cursor.proofs.Rowwise.{next_row, row_more, first_fewer}
-use Rattle.kl_cursor.proofs.Still.{Still, still_beside}
+use Rattle.kl_cursor.proofs.Still.{still_beside}
 
 -- ---- one after the other
 

@@ -24,14 +24,14 @@ use Rattle.kl_cursor.specs.Drawing.{draws}
 use Rattle.kl_cursor.specs.Laziness.{IsScan, Loops, Spares, Lazily, BeginsLazily}
 use Rattle.kl_cursor.specs.Left.{Snap, fresh, pulling, outside, inside, snap, uses}
 use Rattle.kl_cursor.specs.Sense.{HasItems}
-use Rattle.kl_cursor.specs.Steps.{Onward, Gives, Steps, Begins}
+use Rattle.kl_cursor.specs.Steps.{Onward, Steps, Begins}
 use Rattle.kl_cursor.proofs.Beginning.{items_at}
 use Rattle.kl_cursor.proofs.Fetching.{fetching_at, take_fetches, pull_fetches, start_fetches}
 use Rattle.kl_cursor.proofs.Forms.{inside_none}
 use Rattle.kl_cursor.proofs.Handing.{handed_none}
 use Rattle.kl_cursor.proofs.Lazily.{Spared, spared_then, spares_then, inside_spared, outside_spared, loop_spared, loop_goes, begins_spared}
 use Rattle.kl_cursor.proofs.Scanning.{none_rows, pulled_more}
-use Rattle.kl_cursor.proofs.Snaps.{snap_Fresh, snap_Scan, snap_Outside, snap_Inside, snap_inside}
+use Rattle.kl_cursor.proofs.Snaps.{snap_Scan, snap_Outside, snap_Inside, snap_inside}
 use Rattle.kl_cursor.proofs.Taking.{given, finished, fresh_given, fresh_finished, fresh_steps}
 
 -- ---- forms of which nothing is said

@@ -1,10 +1,9 @@
 -- What laziness comes to, over a whole drawing.
-use Rattle.std.proofs.Common.{◌≡◌, ℕ, ◌+◌, ◌<◌, ◌≤◌, ◌^◌, ◌*◌, min, Bool, true, false, List, [], ◌∷◌, length, Option, Some, None, cond, nat_eq, slice_index_or, inl, refl, sym, ap, ◌∙◌, subst, arith}
+use Rattle.std.proofs.Common.{◌≡◌, ℕ, ◌+◌, ◌<◌, ◌≤◌, ◌^◌, ◌*◌, true, List, [], ◌∷◌, length, Some, cond, nat_eq, slice_index_or, inl, refl, sym, ap, ◌∙◌, subst, arith}
 use Rattle.std.specs.Option.{option_map}
 use Rattle.std.specs.List.{Contains}
 use Rattle.kl_value.specs.declared.Kind.TheVariants as kind
 use Rattle.kl_value.specs.declared.Value.{Value}
-use Rattle.kl_outcome.specs.Outcome.{fine, flow}
 use Rattle.kl_ask.specs.Asked.{raised_by}
 use Rattle.kl_ask.specs.World.{World}
 use Rattle.kl_ship.specs.declared.plan.Scan.{Scan}
@@ -14,22 +13,12 @@ use Rattle.kl_ship.specs.Nodes as node
 use Rattle.kl_ship.specs.Nodes.{Node}
 use Rattle.kl_scans.specs.Log as log
 use Rattle.kl_scans.specs.Log.{Event, handed_after, rows_at}
-use Rattle.kl_cursor.specs.Laziness.{rows_in, Handed, ByTimes, Fetching, items_at, IsFront, Loops, Lazy, ListTold, Spares}
+use Rattle.kl_cursor.specs.Laziness.{Fetching, Frugal, Handed, Lazy, ListTold, Loops, Spares, items_at, rows_in}
 use Rattle.kl_cursor.specs.Left.{Snap, fresh, have, pulling, both, bound, outside, inside, made, ended, reading}
 use Rattle.kl_cursor.specs.Steps.{AreOf}
 use Rattle.kl_cursor.proofs.Handing.{handed_none, handed_then}
-use Rattle.kl_cursor.proofs.Lazily.{lazy_at}
 
 -- ---- the promise
-
--- Where so many items were drawn, so many rows were handed: those that it takes for these items, and of what was fetched with the
--- last of them fewer rows than are fetched at once.
-pub record Frugal (R : Readings) (fetch : ℕ) (env : List Value) (b : Node) (all : List Value) (drawn handed : ℕ) : Type 0 where
-  pub rows : ℕ
-  pub front : IsFront R env b all drawn rows
-  pub enough : rows ≤ handed
-  pub few : handed < rows + fetch
-  pub times : ByTimes fetch all handed
 
 module _ (R : Readings) (w : World) (env : List Value) (b : Node) (c : Scan) (all : List Value) (drawn handed : ℕ) where
   frugal_of : (used : ℕ) (s : Snap) → Fetching w env c all used handed s → drawn ≤ items_at R env b all used → ((n : ℕ) → n < used → items_at R env b all n < drawn) → Frugal R w.settings.fetch env b all drawn handed

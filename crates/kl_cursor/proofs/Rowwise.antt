@@ -1,8 +1,8 @@
 -- The rows of a scan, one after the other.
-use Rattle.std.proofs.Common.{◌≡◌, ◌⊎◌, ⊎_elim, inl, inr, ℕ, ◌+◌, ◌-◌, ◌*◌, ◌<◌, ◌≤◌, List, [], ◌∷◌, ◌++◌, length, take, drop, get_or, refl, sym, ap, ◌∙◌, subst, arith}
+use Rattle.std.proofs.Common.{◌≡◌, ◌⊎◌, ⊎_elim, inl, inr, ℕ, ◌+◌, ◌-◌, ◌*◌, ◌<◌, ◌≤◌, List, [], ◌∷◌, ◌++◌, length, take, drop, get_or, sym, ap, ◌∙◌, arith}
 use mathlib.Core.Path.{ap₂}
 use Rattle.std.specs.List.{sum_by}
-use Rattle.std.proofs.lemmas.List.{length-drop, drop-drop, drop_more, take-take, length-append}
+use Rattle.std.proofs.lemmas.List.{length-drop, drop_more, take-take, length-append}
 use Rattle.std.proofs.lemmas.List.Sums.{sum_by_more, sum_by-take-drop}
 use Rattle.kl_value.specs.declared.Value.{Value}
 use Rattle.kl_outcome.specs.Outcome.{Flow, more, fine, flow, items_in, end_in}

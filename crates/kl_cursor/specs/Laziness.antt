@@ -84,6 +84,15 @@ pub record Lazy (R : Readings) (w : World) (env : List Value) (b : Node) (c : Sc
   pub reads : reading w ≡ R
   pub still : ScansIn [] b
 
+-- Where so many items were drawn, so many rows were handed: those that it takes for these items, and of what was fetched with the
+-- last of them fewer rows than are fetched at once.
+pub record Frugal (R : Readings) (fetch : ℕ) (env : List Value) (b : Node) (all : List Value) (drawn handed : ℕ) : Type 0 where
+  pub rows : ℕ
+  pub front : IsFront R env b all drawn rows
+  pub enough : rows ≤ handed
+  pub few : handed < rows + fetch
+  pub times : ByTimes fetch all handed
+
 -- ---- steps
 
 -- a list, all of which is told

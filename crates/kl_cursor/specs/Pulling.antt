@@ -3,7 +3,7 @@ use Rattle.std.specs.Prelude.{Bool, true, false, ◌==◌, ◌&&◌, ◌||◌, n
 use Rattle.kl_ship.specs.Nodes as node
 use Rattle.kl_ship.specs.Nodes.{Node, Nodes, no_nodes, nodes}
 use Rattle.kl_ship.specs.Numbers.{scans_in, scans_of_nodes}
-use Rattle.kl_cursor.specs.Left.{Snap, fresh, have, pulling, both, bound, outside, inside, made, ended}
+use Rattle.kl_cursor.specs.Left.{Snap, fresh, pulling, both, bound, outside, inside, made}
 
 -- there is one or more
 abbrev pub some : {X : Type 0} → List X → Bool
