@@ -114,12 +114,14 @@ few_of R fetch b all items rows none f = record { none = none; front = f.rows; l
 closed_spared : (p : Node) (first : Option ℕ) (a : World) (given : List Value) (left : Option ℕ) → Wanted first given left → (t : Snap) (b c : World) (end : Ending) → (length given ≡ 0 → ⊥) → a.settings ≡ b.settings → Spared p a given t b → are_enough left ≡ true → Closes (uses t) b c → SparesRows p end first a c
 closed_spared p first a given left wanted t b c end some kept spared all closes well told body scan rows items line at is enough =
     let along = spared body scan rows line told at in
-    let number = enough_number first given left wanted all items is in
-    (along.handed + 0, handed_then scan along.handed 0 a b c along.counted (closed_handed (uses t) scan b c closes),
-    few_of (reading a) a.settings.fetch body rows items (along.handed + 0) (λ none. absurd (some (sym number ∙ none)))
-    (subst (λ n. Frugal (reading a) a.settings.fetch [] body rows items n) (plus_none along.handed)
-    (subst (λ n. Frugal (reading a) a.settings.fetch [] body rows n along.handed) (sym number)
-    (subst (λ f. Frugal (reading a) f [] body rows (length given) along.handed) (ap (λ (s : Settings). s.fetch) (sym kept)) (lazy_frugal (reading a) b [] body scan rows (length given) along.handed t along.lazy)))))
+    let number = enough_number first given left wanted all items is in (
+      along.handed + 0,
+      handed_then scan along.handed 0 a b c along.counted (closed_handed (uses t) scan b c closes),
+      few_of (reading a) a.settings.fetch body rows items (along.handed + 0) (λ none. absurd (some (sym number ∙ none)))
+          (subst (λ n. Frugal (reading a) a.settings.fetch [] body rows items n) (plus_none along.handed)
+          (subst (λ n. Frugal (reading a) a.settings.fetch [] body rows n along.handed) (sym number)
+          (subst (λ f. Frugal (reading a) f [] body rows (length given) along.handed) (ap (λ (s : Settings). s.fetch) (sym kept)) (lazy_frugal (reading a) b [] body scan rows (length given) along.handed t along.lazy)))),
+    )
   where
     plus_none : (n : ℕ) → n ≡ n + 0
     plus_none n = omega arith
@@ -127,14 +129,17 @@ closed_spared p first a given left wanted t b c end some kept spared all closes 
 -- nothing was handed where nothing is wanted
 pub none_spared : (p : Node) (first : Option ℕ) (a : World) (end : Ending) → HasList a p → are_enough first ≡ true → SparesRows p end first a a
 none_spared p first a end (u, types, ready) all well told body scan rows items line at is enough =
-    let number : items ≡ 0 = enough_number first [] first (wanted_first first) all items is in
-    (0, handed_none scan a, record {
-      none = λ h. refl;
-      front = 0;
-      least = record { enough = omega (arith, number); least = λ n h. absurd (omega (arith, h)) };
-      few = let f = ready.fetch in omega (arith, f);
-      times = inl (0, none_times a.settings.fetch);
-    })
+    let number : items ≡ 0 = enough_number first [] first (wanted_first first) all items is in (
+      0,
+      handed_none scan a,
+      record {
+        none = λ h. refl;
+        front = 0;
+        least = record { enough = omega (arith, number); least = λ n h. absurd (omega (arith, h)) };
+        few = let f = ready.fetch in omega (arith, f);
+        times = inl (0, none_times a.settings.fetch);
+      },
+    )
   where
     none_times : (n : ℕ) → 0 ≡ 0 * n
     none_times n = omega arith

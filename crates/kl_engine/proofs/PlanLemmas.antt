@@ -108,7 +108,7 @@ module _ (ks : List DriverKind) (ss : List Source) (u : Tree) (p : Node) (planne
           planned = planned;
           means = means_term (ships_of ks ss) t u p planned (rewritten_keeps on t u steps led);
           exact = exact;
-        few = few;
+          few = few;
         },
         late,
       )

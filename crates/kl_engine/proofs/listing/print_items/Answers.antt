@@ -87,7 +87,7 @@ pub returns-in-Err-ready-clause-spares : goal.returns-in-Err-ready-clause-spares
 returns-in-Err-ready-clause-spares g c = never_spared _ _ _ _ _ (λ is. cc)
 
 pub returns-then-are_enough-clause-spares : goal.returns-then-are_enough-clause-spares
-returns-then-are_enough-clause-spares g c = 
+returns-then-are_enough-clause-spares g c =
     enough_spared _ _ _ _ _ _ _ _ _ _ _ _ c.items.invariant _ _ _ _ c.in-Ok-Some.ensures.env (next_is _ _ _ _ _ _ _ c.in-Ok-Some.field-0-is c.in-Ok-Some.ensures.next) c.requires.sense (lazy_is _ _ _ _ _ _ _ c.in-Ok-Some.field-0-is c.in-Ok-Some.ensures.lazy)
     _ _ _ c.fewer-left.ensures (sym c.are_enough.ensures ∙ c.if-are_enough.true) c.close-then-are_enough.ensures
 
