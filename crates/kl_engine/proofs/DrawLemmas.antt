@@ -18,6 +18,7 @@ use Rattle.kl_core.specs.Trees.{Tree}
 use Rattle.kl_core.specs.Typing.{HaveSources}
 use Rattle.kl_ask.specs.Driver.{DriverKind}
 use Rattle.kl_ask.specs.World.{World, types_of, values_of}
+use Rattle.kl_ask.specs.declared.settings.Settings.{Settings}
 use Rattle.kl_sources.specs.declared.source.Source.{Source}
 use Rattle.kl_ship.specs.Meaning.{Readings, coming, plan}
 use Rattle.kl_ship.specs.Nodes.{Node}
@@ -105,7 +106,7 @@ closed_handed u c b d closes = handed_still c u nothing b d closes.moves (of_non
 
 enough_number : (first : Option ℕ) (given : List Value) (left : Option ℕ) → Wanted first given left → are_enough left ≡ true → (items : ℕ) → first ≡ Some items → items ≡ length given
 enough_number first given None w all items is = cc
-enough_number first given (Some zero) w all items is = let both : Some (0 + length given) ≡ Some items = sym w ∙ is in sym (same_Some _ _ both)
+enough_number first given (Some zero) w all items is = let both : Some (0 + length given) ≡ Some items = sym w ∙ is in let same = same_Some _ _ both in omega (arith, same)
 enough_number first given (Some (suc n)) w all items is = absurd (never_enough n all)
 
 few_of : (R : Readings) (fetch : ℕ) (b : Node) (all : List Value) (items rows : ℕ) → (items ≡ 0 → rows ≡ 0) → Frugal R fetch [] b all items rows → IsFew R fetch b all items rows
