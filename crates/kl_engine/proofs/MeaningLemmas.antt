@@ -9,6 +9,7 @@ use Rattle.kl_outside.specs.Sinks.{SinkState}
 use Rattle.kl_base.proofs.Rises.{rose_after}
 use Rattle.kl_value.specs.Canon.{canonical}
 use Rattle.kl_value.specs.declared.Value.{Value}
+use Rattle.kl_value.specs.declared.Kind.TheVariants as kind
 use Rattle.kl_type.specs.Ground.{Ground, IsProper, ground_of, coll}
 use Rattle.kl_outcome.specs.Outcome.{Name, Outcome, done, over, stuck}
 use Rattle.kl_outcome.specs.Typed.{Inhabits}
