@@ -50,36 +50,67 @@ fn gives(cursor: &mut Cursor<'_>, session: &mut Session, item: i64) -> bool
     cursor.next(session) == Ok(Some(Value::Int(item)))
 }
 
+fn ends(cursor: &mut Cursor<'_>, session: &mut Session) -> bool
+    requires owned { Owned (uses (snap cursor.old.at)) (⟦<Session as Seen>⟧.world session.old) }
+    requires sense { Stands (⟦<Session as Seen>⟧.world session.old) (snap cursor.old.at) (reverse cursor.old.env) }
+    ensures { Owned (uses (snap cursor.new.at)) (⟦<Session as Seen>⟧.world session.new) }
+{
+    cursor.next(session) == Ok(None)
+}
+
+// Whether no source is read, and 4, 7 and the end come.
+fn is_drawn(alloc: Global, plan: &Plan, session: &mut Session) -> Result<bool, Fail>
+    requires types { (w : World) → TypesAt w [] (view plan.now) (coll kind.List int) }
+    requires ready { IsReady (⟦<Session as Seen>⟧.world session.old) }
+{
+    let mut cursor = open_plan(alloc, plan, &[])?;
+    let waits = cursor.may_pull();
+    let first = gives(&mut cursor, session, 4);
+    let second = gives(&mut cursor, session, 7);
+    let end = ends(&mut cursor, session);
+    cursor.close(session);
+    Ok(!waits && first && second && end)
+}
+
+fn draws(alloc: Global) -> Result<bool, Fail> {
+    let plan = plan(alloc)?;
+    let mut session = session(alloc);
+    is_drawn(alloc, &plan, &mut session)
+}
+
 #[test]
 fn items_are_drawn(rt: HostRuntime) -> Result<(), Fail> {
-    let plan = plan(rt.alloc())?;
-    let mut session = session(rt.alloc());
-    let mut cursor = open_plan(rt.alloc(), &plan, &[])?;
-    assert!(rt; !cursor.may_pull());
-    let first = gives(&mut cursor, &mut session, 4);
-    let second = gives(&mut cursor, &mut session, 7);
-    assert!(rt; first && second);
-    let end = cursor.next(&mut session);
-    assert!(rt; end == Ok(None));
-    cursor.close(&mut session);
+    assert!(rt; draws(rt.alloc())?);
     Ok(())
 }
 
-fn is_drawn(value: &Value) -> bool {
+fn is_list(value: &Value) -> bool {
     match value {
         Value::List(items) => matches!(items.slice(), [Value::Int(4), Value::Int(7)]),
         _ => false,
     }
 }
 
+// Whether the value is the list of 4 and 7.
+fn has_value(alloc: Global, plan: &Plan, session: &mut Session) -> bool
+    requires types { (w : World) → TypesAt w [] (view plan.now) (coll kind.List int) }
+    requires ready { IsReady (⟦<Session as Seen>⟧.world session.old) }
+{
+    let mut env = Vec::new(alloc);
+    match value_of(alloc, plan, &mut env, session) {
+        Ok(value) => is_list(&value),
+        Err(_) => false,
+    }
+}
+
+fn values(alloc: Global) -> Result<bool, Fail> {
+    let plan = plan(alloc)?;
+    let mut session = session(alloc);
+    Ok(has_value(alloc, &plan, &mut session))
+}
+
 #[test]
 fn a_plan_has_a_value(rt: HostRuntime) -> Result<(), Fail> {
-    let plan = plan(rt.alloc())?;
-    let mut session = session(rt.alloc());
-    let mut env = Vec::new(rt.alloc());
-    match value_of(rt.alloc(), &plan, &mut env, &mut session) {
-        Ok(value) => assert!(rt; is_drawn(&value)),
-        Err(_) => return Err(Fail::from("no value")),
-    }
+    assert!(rt; values(rt.alloc())?);
     Ok(())
 }

@@ -15,7 +15,7 @@ fn is_four(plan: &Plan) -> bool {
 
 // Whether the plan of a constant is that constant, and a trace of it counts no scan.
 fn is_planned(alloc: Global) -> Result<bool, Fail> {
-    let drivers: Vec<std::boxed::Box<dyn Driver>> = Vec::new(alloc);
+    let drivers: Vec<Box<dyn Driver>> = Vec::new(alloc);
     let term = Term::Const(Value::Int(4));
     let plan = plan_of(alloc, &term, &[], &drivers, &Settings::usual())?;
     let trace = trace_of(alloc, &plan, 3)?;
