@@ -1,5 +1,5 @@
 -- Sessions in which a scan of a list of integers can be started.
-use Rattle.std.proofs.Common.{◌≡◌, List, [], ◌∷◌, Some, true, slice_get, refl, sym, ap, ◌∙◌, subst}
+use Rattle.std.proofs.Common.{◌≡◌, List, [], ◌∷◌, ◌++◌, map, Some, true, slice_get, refl, sym, ap, ◌∙◌, subst}
 use Rattle.std.specs.List.Sorted.{IsStrictlySortedBy}
 use Rattle.kl_base.specs.Fields.{bytes_cmp}
 use Rattle.kl_value.specs.declared.Kind.{Kind}
@@ -37,10 +37,11 @@ ask_of can name s k e = (
 abbrev listed_as : Name → Ty → Attached
 listed_as name ty = record { source = name; ty = ty; driver = Some 0 }
 
-pub can_scan : (w : World) (c : Scan) (d : State) (name : Name) (ty : Ty) → w.drivers ≡ d ∷ [] → w.sources ≡ listed_as name ty ∷ [] → name ≡ c.source
-    → (s : Source) × (d.attached c.source ≡ Some s) × (s.ty ≡ ty) → ground_of ty ≡ coll kind.List int → c.driver ≡ 0 → c.ask ≡ asks.Rows c.source [] [] → CanScan w c
+pub can_scan : {A : Type 0} (f : A → State) (w : World) (c : Scan) (xs ys : List A) (x : A) (name : Name) (ty : Ty) → w.drivers ≡ map f xs → xs ≡ ys ++ x ∷ [] → ys ≡ []
+    → w.sources ≡ listed_as name ty ∷ [] → name ≡ c.source → (s : Source) × ((f x).attached c.source ≡ Some s) × (s.ty ≡ ty) → ground_of ty ≡ coll kind.List int
+    → c.driver ≡ 0 → c.ask ≡ asks.Rows c.source [] [] → CanScan w c
 unfolding stage held_at
-can_scan w c d name ty one listed named has ground first ask = (
+can_scan f w c xs ys x name ty seen pushed none listed named has ground first ask = (
   int,
   record {
     place = 0;
@@ -48,10 +49,10 @@ can_scan w c d name ty one listed named has ground first ask = (
     listed = ap (λ ss. slice_get ss 0) listed;
     named = sym named;
     driver = ap Some (sym first);
-    held = record { abilities = d.kind.abilities; attached = d.attached };
-    holds = rw (first, one) refl;
+    held = record { abilities = (f x).kind.abilities; attached = (f x).attached };
+    holds = rw (first, seen, pushed, none) refl;
     source = has.0;
     attached = has.1;
-    ask = subst (λ a. AskOf d.kind.abilities c.source has.0 a c.kind int) (sym ask) (ask_of d.kind.abilities c.source has.0 c.kind (ap ground_of has.2 ∙ ground));
+    ask = subst (λ a. AskOf (f x).kind.abilities c.source has.0 a c.kind int) (sym ask) (ask_of (f x).kind.abilities c.source has.0 c.kind (ap ground_of has.2 ∙ ground));
   },
 )

@@ -34,10 +34,11 @@ fn plan(alloc: Global) -> Result<Plan, Fail>
 {
     let four = Plan::Plain(Term::Const(Value::Int(4)));
     let seven = Plan::Plain(Term::Const(Value::Int(7)));
-    let source = Plan::Make(Kind::List, Seq::of(vec![in alloc; four]?));
-    let body = Plan::Make(Kind::List, Seq::of(vec![in alloc; Plan::Var(0), seven]?));
-    let source = Box::new(alloc, source)?;
-    Ok(Plan::Ext(Kind::List, Box::new(alloc, body)?, source))
+    let outer = vec![in alloc; four]?;
+    let inner = vec![in alloc; Plan::Var(0), seven]?;
+    let source = Box::new(alloc, Plan::Make(Kind::List, Seq::of(outer)))?;
+    let body = Box::new(alloc, Plan::Make(Kind::List, Seq::of(inner)))?;
+    Ok(Plan::Ext(Kind::List, body, source))
 }
 
 // Whether the next item is this integer.

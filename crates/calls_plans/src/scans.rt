@@ -22,7 +22,8 @@ use std::test::Fail;
 fn list_type(alloc: Global) -> Result<Ty, Fail>
     ensures { IfOk result (λ t. ground_of t ≡ coll kind.List int) }
 {
-    Ok(Ty::Coll(Kind::List, Box::new(alloc, Ty::Int)?))
+    let item = Box::new(alloc, Ty::Int)?;
+    Ok(Ty::Coll(Kind::List, item))
 }
 
 // A scan of all rows of a source at the first driver.
@@ -108,7 +109,7 @@ fn starts(session: &mut Session, scan: &Scan) -> Option<u64>
 {
     match start_scan(session, scan) {
         Ok(cursor) => Some(cursor),
-        Err(_) => None,
+        Err(_stop) => None,
     }
 }
 
@@ -124,7 +125,7 @@ fn pulls(
 {
     match pull_scan(session, scan, cursor, into) {
         Ok(more) => Some(more),
-        Err(_) => None,
+        Err(_stop) => None,
     }
 }
 
@@ -152,7 +153,8 @@ fn reads(alloc: Global, session: &mut Session, scan: &Scan) -> bool
 }
 
 fn is_counted(session: &Session) -> bool {
-    matches!(session.trace.starts.slice(), [(0, 1)])
+    let starts = session.trace.starts.slice();
+    matches!(starts, [only] if only.0 == 0 && only.1 == 1)
 }
 
 fn scans(

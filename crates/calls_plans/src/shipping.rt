@@ -21,8 +21,10 @@ fn numbers(alloc: Global) -> Result<ShipSource, Fail>
     ensures ty { IfOk result (λ s. ground s ≡ coll kind.List int) }
     ensures abilities { IfOk result (λ s. s.abilities ≡ record { select = false; project = false; join = false; unique = false }) }
 {
+    let item = Box::new(alloc, Ty::Int)?;
+    let name = Label::new(alloc, b"n")?.ok_or("no word")?;
     Ok(ShipSource {
-        ty: Ty::Coll(Kind::List, Box::new(alloc, Ty::Int)?),
+        ty: Ty::Coll(Kind::List, item),
         driver: 0,
         abilities: Abilities {
             select: false,
@@ -30,7 +32,7 @@ fn numbers(alloc: Global) -> Result<ShipSource, Fail>
             join: false,
             unique: false,
         },
-        name: Label::new(alloc, b"n")?.ok_or("no word")?,
+        name,
     })
 }
 
@@ -39,7 +41,8 @@ fn twice(alloc: Global) -> Result<Term, Fail>
     ensures { IfOk result (λ t. view t ≡ Union (Source 0) (Source 0)) }
 {
     let first = Box::new(alloc, Term::Source(0))?;
-    Ok(Term::Union(first, Box::new(alloc, Term::Source(0))?))
+    let second = Box::new(alloc, Term::Source(0))?;
+    Ok(Term::Union(first, second))
 }
 
 fn is_scan(plan: &Plan, number: u32) -> bool {
@@ -61,8 +64,10 @@ fn is_shipped(alloc: Global, term: &Term, sources: &[ShipSource]) -> Result<bool
 }
 
 fn ships(alloc: Global) -> Result<bool, Fail> {
-    let sources = vec![in alloc; numbers(alloc)?]?;
-    is_shipped(alloc, &twice(alloc)?, &sources)
+    let numbers = numbers(alloc)?;
+    let sources = vec![in alloc; numbers]?;
+    let term = twice(alloc)?;
+    is_shipped(alloc, &term, &sources)
 }
 
 #[test]
