@@ -1,5 +1,6 @@
 -- Terms and plans of constants, and the types that they have.
 use Rattle.std.proofs.Common.{rules, ◌≡◌, ◌≤◌, ℤ, List, [], ◌∷◌, refl, sym, ap, ◌∙◌, subst, arith}
+use Rattle.std.specs.List.{IsDistinct}
 use mathlib.Core.Path.{ap₂}
 use Rattle.kl_value.specs.declared.Value.{Value}
 use Rattle.kl_value.specs.declared.Value.TheVariants as value
@@ -12,6 +13,7 @@ use Rattle.kl_core.specs.Counts.{nodes_of as size_of}
 use Rattle.kl_core.specs.Typing.{SourceTypes, CoreTypes}
 use Rattle.kl_core.specs.declared.term.Term.{Term, the_lemmas}
 use Rattle.kl_core.specs.declared.term.Term.TheVariants as term
+use Rattle.kl_ask.specs.Driver.{DriverKind}
 use Rattle.kl_ask.specs.World.{World}
 use Rattle.kl_ship.specs.Contents.{MakesSense, types_in}
 use Rattle.kl_ship.specs.Nodes as node
@@ -21,6 +23,8 @@ use Rattle.kl_ship.specs.declared.source.ShipSource.{ShipSource}
 use Rattle.kl_ship.specs.declared.plan.Plan as plan_names
 use Rattle.kl_ship.specs.declared.plan.Plan.TheVariants as plan
 use Rattle.kl_ship.proofs.Views.{view_Make, view_Ext}
+use Rattle.kl_sources.specs.Sources.{ArePlaced, same}
+use Rattle.kl_sources.specs.declared.source.Source.{Source}
 use Rattle.kl_cursor.specs.Sense.{TypesAt}
 
 view_Const : (v : Value) → view (term.Const v) ≡ Const v
@@ -34,6 +38,13 @@ constant_makes_sense ss n = (int, integer_types (types_in ss) [] n)
 
 pub constant_small : (v : Value) → size_of (view (term.Const v)) ≤ 16384
 constant_small v = subst (λ t. size_of t ≤ 16384) (sym (view_Const v)) (omega arith)
+
+none_differ : IsDistinct same []
+unfolding IsDistinct
+none_differ = tt
+
+pub none_placed : (ks : List DriverKind) (ss : List Source) → ss ≡ [] → ArePlaced ks ss
+none_placed ks ss none = subst (ArePlaced ks) (sym none) (record { suited = tt; fit = tt; proper = tt; differ = none_differ })
 
 abbrev constant : ℤ → Node
 constant n = node.Plain (Const (value.Int n))

@@ -74,12 +74,7 @@ fn attached(alloc: Global, name: &Label, ty: &Ty) -> Result<NestedDriver<MemFile
 }
 
 // A session of the source of a scan, in which the starts of the scan are counted.
-fn session(
-    alloc: Global,
-    driver: HeapBox<dyn Driver>,
-    ty: Ty,
-    scan: &Scan,
-) -> Result<Session, Fail>
+fn session(alloc: Global, driver: HeapBox<dyn Driver>, ty: Ty, scan: &Scan) -> Result<Session, Fail>
     requires attached { (s : Source) × ((state driver).attached scan.now.source ≡ Some s) × (s.ty ≡ ty) }
     requires ty { ground_of ty ≡ coll kind.List int }
     requires driver { scan.now.driver ≡ 0 }
@@ -114,12 +109,7 @@ fn starts(session: &mut Session, scan: &Scan) -> Option<u64>
 }
 
 // Whether the next pull gives rows.
-fn pulls(
-    session: &mut Session,
-    scan: &Scan,
-    cursor: u64,
-    into: &mut Vec<Value>,
-) -> Option<bool>
+fn pulls(session: &mut Session, scan: &Scan, cursor: u64, into: &mut Vec<Value>) -> Option<bool>
     requires { IsReading (⟦<Session as Seen>⟧.world session.old) scan.now cursor }
     ensures { IfSome result (λ more. IsReading (⟦<Session as Seen>⟧.world session.new) scan.now cursor) }
 {
@@ -157,12 +147,7 @@ fn is_counted(session: &Session) -> bool {
     matches!(starts, [only] if only.0 == 0 && only.1 == 1)
 }
 
-fn scans(
-    alloc: Global,
-    driver: HeapBox<dyn Driver>,
-    ty: Ty,
-    scan: &Scan,
-) -> Result<bool, Fail>
+fn scans(alloc: Global, driver: HeapBox<dyn Driver>, ty: Ty, scan: &Scan) -> Result<bool, Fail>
     requires attached { (s : Source) × ((state driver).attached scan.now.source ≡ Some s) × (s.ty ≡ ty) }
     requires ty { ground_of ty ≡ coll kind.List int }
     requires driver { scan.now.driver ≡ 0 }

@@ -1,4 +1,3 @@
-use Rattle.std.proofs.Common.{refl}
 use Rattle.calls_plans.proofs.Drawing.{fresh_owned, fresh_stands}
 use Rattle.calls_plans.proofs.cursors.is_drawn.Goals as goal
 
