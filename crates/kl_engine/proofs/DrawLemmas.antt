@@ -27,7 +27,7 @@ use Rattle.kl_eval.specs.declared.stop.EvalStop.{EvalStop}
 use Rattle.kl_scans.specs.Held.{Owned, Uses, nothing}
 use Rattle.kl_scans.specs.Moves.{Closes}
 use Rattle.kl_scans.proofs.Moving.{moves_none}
-use Rattle.kl_cursor.specs.Laziness.{Handed, NextsLazily}
+use Rattle.kl_cursor.specs.Laziness.{Frugal, Handed, NextsLazily}
 use Rattle.kl_cursor.specs.Left.{Snap, reading, fresh, uses}
 use Rattle.kl_cursor.specs.Measure.{most}
 use Rattle.kl_cursor.specs.Sense.{IsToldAt, Stands}
@@ -36,13 +36,13 @@ use Rattle.kl_cursor.proofs.Calls.{owned_nothing}
 use Rattle.kl_cursor.proofs.Events.{of_none}
 use Rattle.kl_cursor.proofs.Forms.{told_on}
 use Rattle.kl_cursor.proofs.Handing.{handed_none, handed_still, handed_then}
-use Rattle.kl_cursor.proofs.LazyLaws.{Drawing as Along, Frugal, drawing_goes, drawing_starts, lazy_frugal}
+use Rattle.kl_cursor.proofs.LazyLaws.{Drawing as Along, drawing_goes, drawing_starts, lazy_frugal}
 use Rattle.kl_cursor.proofs.ValueDrain.{Draining, drains_starts, drains_stands}
 use Rattle.kl_run.specs.Running.{Runs}
 use Rattle.kl_engine.specs.Answering.{PrintsPage}
 use Rattle.kl_engine.specs.Faults.{Ending}
 use Rattle.kl_engine.specs.Outside.{outside_of}
-use Rattle.kl_engine.specs.Planned.{IsFew, IsLine}
+use Rattle.kl_engine.specs.Planned.{IsLine}
 use Rattle.kl_engine.specs.Running.{AnswersTerm, HasList, IsListOutcome, IsListTerm, Scanned, SparesRows, StopsList, are_enough, one_more}
 use Rattle.kl_engine.specs.Showing.{write_fault}
 use Rattle.kl_engine.specs.Verdict.{list_front, value_page}
@@ -108,9 +108,6 @@ enough_number : (first : Option ℕ) (given : List Value) (left : Option ℕ) �
 enough_number first given None w all items is = cc
 enough_number first given (Some zero) w all items is = let both : Some (0 + length given) ≡ Some items = sym w ∙ is in let same = same_Some _ _ both in omega (arith, same)
 enough_number first given (Some (suc n)) w all items is = absurd (never_enough n all)
-
-few_of : (R : Readings) (fetch : ℕ) (b : Node) (all : List Value) (items rows : ℕ) → (items ≡ 0 → rows ≡ 0) → Frugal R fetch [] b all items rows → IsFew R fetch b all items rows
-few_of R fetch b all items rows none f = record { none = none; front = f.rows; least = f.front; few = f.few; times = f.times }
 
 closed_spared : (p : Node) (first : Option ℕ) (a : World) (given : List Value) (left : Option ℕ) → Wanted first given left → (t : Snap) (b c : World) (end : Ending) → (length given ≡ 0 → ⊥) → a.settings ≡ b.settings → Spared p a given t b → are_enough left ≡ true → Closes (uses t) b c → SparesRows p end first a c
 closed_spared p first a given left wanted t b c end some kept spared all closes well told body scan rows items line at is enough =

@@ -10,7 +10,8 @@ use Rattle.kl_base.proofs.Rises.{rose_after}
 use Rattle.kl_value.specs.Canon.{canonical}
 use Rattle.kl_value.specs.declared.Value.{Value}
 use Rattle.kl_value.specs.declared.Kind.TheVariants as kind
-use Rattle.kl_type.specs.Ground.{Ground, IsProper, ground_of, coll}
+use Rattle.kl_type.specs.Ground as types
+use Rattle.kl_type.specs.Ground.{Ground, IsProper, ground_of}
 use Rattle.kl_outcome.specs.Outcome.{Name, Outcome, done, over, stuck}
 use Rattle.kl_outcome.specs.Typed.{Inhabits}
 use Rattle.kl_outcome.proofs.OutcomeTypes.{canonical_inhabits}
@@ -443,7 +444,7 @@ module _ (ss : List Source) (program : Decls) (e : Exp) (typed : Typed) (infers 
         (subst (λ x. CoreTypes (program_types (grounds_of ss)) [] x u) (sym (is ∙ ap (term_of program e) (kept ∙ sym (grounds_names ss)))) (makes_sense program e (grounds_of ss) u (are_ground ss proper) tidy of))
 
     -- the result has types of lists alone where the term has
-    pub scheme_lists : ((u : Ground) → CoreTypes (types_of w) [] t u → (s : Ground) × (u ≡ coll kind.List s)) → IsListScheme typed.result
+    pub scheme_lists : ((u : Ground) → CoreTypes (types_of w) [] t u → (s : Ground) × (u ≡ types.coll kind.List s)) → IsListScheme typed.result
     scheme_lists all u instance = all u (sense u ((infers.result.instances u).0 instance))
 
     pub value_sense : (s : Ground) × CoreTypes (types_of w) [] t s
@@ -545,7 +546,7 @@ module _ (ss : List Source) (s : Scoped) (scope : WasInScope (names_of ss) s) (t
       session_runs ds mid ss (is_marked s) settings trace (world_of mid list settings trace) t u p placed (idle_none ds idle) attaches.drivers attaches.stand session_serves
       (ap (λ l. world_of mid l settings trace) attaches.list) session_sense (mentioned scope.0 (names_of ss) scope.1) keeps planned
 
-  pub session_lists : (listed : Bool) → (listed ≡ false → IsListScheme typed.result → ⊥) → ((u : Ground) → CoreTypes (types_of (world_of mid list settings trace)) [] t u → (s : Ground) × (u ≡ coll kind.List s)) → listed ≡ true
+  pub session_lists : (listed : Bool) → (listed ≡ false → IsListScheme typed.result → ⊥) → ((u : Ground) → CoreTypes (types_of (world_of mid list settings trace)) [] t u → (s : Ground) × (u ≡ types.coll kind.List s)) → listed ≡ true
   session_lists true other all = refl
   session_lists false other all =
       absurd (other refl (scheme_lists ss (decls_of s.program.defs) (view s.program.last) typed infers (tidied (names_of ss) s scope) placed.proper s.sources scope.1.sources_kept t is (kinds_of ds) (is_marked s) (world_of mid list settings trace) session_serves all))

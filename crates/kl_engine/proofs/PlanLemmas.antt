@@ -133,7 +133,7 @@ rows_handed marks ss ds a b attached c rows h x y was is fits =
     same_Some _ _ (sym (ap (option_map (λ s. s.handed)) is) ∙ handed_counts c rows x.handed a b h at fits)
 
 few_rows : (R : Readings) (fetch : ℕ) (p : Node) (first : Option ℕ) (Was Is : Scan → ℕ → Type 0) → ((c : Scan) (rows : ℕ) → Was c rows → Is c rows) → HandsFew R fetch p first Was → HandsFew R fetch p first Is
-few_rows R fetch p first Was Is more few b c all items line told wanted enough = let h = few b c all items line told wanted enough in (h.0, more c h.0 h.1, h.2)
+few_rows R fetch p first Was Is more few b c all items line told wanted enough = let h = few b c all items line told wanted enough in (h.0, more c h.0 h.1, h.2, h.3)
 
 -- a loop over a scan that makes a list has the type of one alone
 line_lists : (ks : List DriverKind) (ss : List Source) (marks : ℕ → Bool) (t : Tree) (p b : Node) (c : Scan) (w : World) → Runs ks ss marks t p w → IsLine p b c → (s : Ground) → CoreTypes (types_of w) [] t s → (u : Ground) × (s ≡ coll kind.List u)

@@ -19,7 +19,7 @@ use Rattle.kl_ship.specs.Nodes.{Node, view}
 use Rattle.kl_ship.specs.Numbers.{scans_in}
 use Rattle.kl_ship.specs.declared.plan.Plan.{Plan}
 use Rattle.kl_ship.specs.declared.plan.Scan.{Scan}
-use Rattle.kl_cursor.specs.Laziness.{ByTimes, IsFront}
+use Rattle.kl_cursor.specs.Laziness.{Frugal}
 use Rattle.kl_run.specs.Counted.{AsksCounted, ReadsMarked, StartsCounted}
 use Rattle.kl_run.specs.Planned.{IsPlanOf, MeansTerm, ships_of}
 use Rattle.kl_sources.specs.Sources.{names_of, HaveValues}
@@ -65,20 +65,12 @@ AsksOf None starts old new = EachSteps (λ a b. b.asked ≡ a.asked) old new
 abbrev pub IsLine : Node → Node → Scan → Type 0
 IsLine p b c = (p ≡ node.Ext kind.List b (node.Scan c)) × (c.kind ≡ kind.List) × ScansIn [] b
 
--- So many rows of all were handed for so many items of such a loop: none for none, and else fewer than are fetched at once more than
--- the least number of rows whose bodies give these items; each time as many as are fetched at once, or in the end all.
-pub record IsFew (R : Readings) (fetch : ℕ) (b : Node) (all : List Value) (items rows : ℕ) : Type 0 where
-  pub none : items ≡ 0 → rows ≡ 0
-  pub front : ℕ
-  pub least : IsFront R [] b all items front
-  pub few : rows < front + fetch
-  pub times : ByTimes fetch all rows
-
--- Where so many first items are wanted, and a plan means as many, few rows were handed if it is such a loop.
+-- Where so many first items are wanted of such a loop, and it means as many, its driver handed no more rows than these take, and what
+-- was fetched with the last of them; and none where none is wanted.
 abbrev pub HandsFew : Readings → ℕ → Node → Option ℕ → (Scan → ℕ → Type 0) → Type 0
 HandsFew R fetch p first WereHanded =
     (b : Node) (c : Scan) (all : List Value) (items : ℕ) → IsLine p b c → R c ≡ Some all → first ≡ Some items → items ≤ length (items_in (coming (plan R p [])))
-    → (rows : ℕ) × WereHanded c rows × IsFew R fetch b all items rows
+    → (rows : ℕ) × WereHanded c rows × (items ≡ 0 → rows ≡ 0) × Frugal R fetch [] b all items rows
 
 -- a driver's count of rows rose by so many, where it does not come to its greatest value
 abbrev pub RowsHanded : List State → List State → Scan → ℕ → Type 0
