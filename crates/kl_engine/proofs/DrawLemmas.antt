@@ -115,10 +115,10 @@ closed_spared p first a given left wanted t b c end some kept spared all closes 
     let number = enough_number first given left wanted all items is in (
       along.handed + 0,
       handed_then scan along.handed 0 a b c along.counted (closed_handed (uses t) scan b c closes),
-      few_of (reading a) a.settings.fetch body rows items (along.handed + 0) (λ none. absurd (some (sym number ∙ none)))
-          (subst (λ n. Frugal (reading a) a.settings.fetch [] body rows items n) (plus_none along.handed)
+      (λ none. absurd (some (sym number ∙ none))),
+      subst (λ n. Frugal (reading a) a.settings.fetch [] body rows items n) (plus_none along.handed)
           (subst (λ n. Frugal (reading a) a.settings.fetch [] body rows n along.handed) (sym number)
-          (subst (λ f. Frugal (reading a) f [] body rows (length given) along.handed) (ap (λ (s : Settings). s.fetch) (sym kept)) (lazy_frugal (reading a) b [] body scan rows (length given) along.handed t along.lazy)))),
+          (subst (λ f. Frugal (reading a) f [] body rows (length given) along.handed) (ap (λ (s : Settings). s.fetch) (sym kept)) (lazy_frugal (reading a) b [] body scan rows (length given) along.handed t along.lazy))),
     )
   where
     plus_none : (n : ℕ) → n ≡ n + 0
@@ -130,10 +130,11 @@ none_spared p first a end (u, types, ready) all well told body scan rows items l
     let number : items ≡ 0 = enough_number first [] first (wanted_first first) all items is in (
       0,
       handed_none scan a,
+      (λ h. refl),
       record {
-        none = λ h. refl;
-        front = 0;
-        least = record { enough = omega (arith, number); least = λ n h. absurd (omega (arith, h)) };
+        rows = 0;
+        front = record { enough = omega (arith, number); least = λ n h. absurd (omega (arith, h)) };
+        enough = omega arith;
         few = let f = ready.fetch in omega (arith, f);
         times = inl (0, none_times a.settings.fetch);
       },
