@@ -20,8 +20,8 @@ use Rattle.kl_infer.specs.Kinds.{HasOther}
 use Rattle.kl_engine.specs.Answering.{SomeRose, KeepsDrivers, IsOutside, reading, writing, drifting, wanting, PrintsPage, IsOneOf, EndsSilent, Unprinted}
 use Rattle.kl_engine.specs.Faults.{Ending}
 use Rattle.kl_engine.specs.Outside.{outside_of}
-use Rattle.kl_engine.specs.Running.{AnswersTerm, DriftsAt, HasRunFault, IsListScheme, IsListOutcome, IsValueOutcome}
-use Rattle.kl_engine.specs.Verdict.{Verdict, value_page, refused, cut, cut_list, suffice, first_of, overflowing}
+use Rattle.kl_engine.specs.Running.{AnswersTerm, DriftsAt, HasRunFault, IsListScheme, IsValueOutcome}
+use Rattle.kl_engine.specs.Verdict.{Verdict, value_page, refused, cut, first_of, overflowing}
 use Rattle.kl_engine.specs.declared.fault.Fault.{Fault}
 use Rattle.kl_engine.specs.declared.fault.Fault.TheVariants as fault
 use Rattle.kl_engine.proofs.DoneLemmas.{follows_prints}

@@ -24,7 +24,7 @@ use Rattle.kl_words.specs.declared.command.Command.TheVariants as read
 use Rattle.kl_words.specs.declared.command.Job.{Job}
 use Rattle.kl_ask.specs.declared.ask.DriverError.{DriverError}
 use Rattle.kl_ask.specs.declared.ask.DriverError.TheVariants as error
-use Rattle.kl_engine.specs.Answering.{IsOneOf, IsRunning}
+use Rattle.kl_engine.specs.Answering.{IsOneOf}
 use Rattle.kl_engine.specs.Commands.{Command, Origin, Files, Made, Program, asked}
 use Rattle.kl_engine.specs.Faults.{Ending}
 use Rattle.kl_engine.specs.Inputs.{IsInputsEnd, ReadsInputs}

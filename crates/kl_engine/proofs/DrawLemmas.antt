@@ -20,7 +20,7 @@ use Rattle.kl_ask.specs.Driver.{DriverKind}
 use Rattle.kl_ask.specs.World.{World, types_of, values_of}
 use Rattle.kl_ask.specs.declared.settings.Settings.{Settings}
 use Rattle.kl_sources.specs.declared.source.Source.{Source}
-use Rattle.kl_ship.specs.Meaning.{Readings, coming, plan}
+use Rattle.kl_ship.specs.Meaning.{coming, plan}
 use Rattle.kl_ship.specs.Nodes.{Node}
 use Rattle.kl_ship.specs.declared.plan.Scan.{Scan}
 use Rattle.kl_eval.specs.declared.stop.EvalStop.{EvalStop}

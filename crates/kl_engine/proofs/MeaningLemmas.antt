@@ -48,7 +48,7 @@ use Rattle.kl_ask.proofs.Whole.{collection_is}
 use Rattle.kl_ask.proofs.Worlds.{there, keeps_then}
 use Rattle.kl_desugar.specs.Mentioned.{ReadsMentioned}
 use Rattle.kl_rules.specs.Preserving.{Preserves}
-use Rattle.kl_ship.specs.Contents.{MakesSense, types_in}
+use Rattle.kl_ship.specs.Contents.{MakesSense}
 use Rattle.kl_ship.specs.Nodes.{Node}
 use Rattle.kl_run.specs.Planned.{IsPlanOf, ships_of}
 use Rattle.kl_run.specs.Running.{Runs}

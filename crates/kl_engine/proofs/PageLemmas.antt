@@ -11,7 +11,7 @@ use Rattle.kl_value.specs.declared.Value.{Value}
 use Rattle.kl_value.specs.declared.Value.TheVariants as value
 use Rattle.kl_engine.specs.Answering.{PrintsPage, IsDetermined}
 use Rattle.kl_engine.specs.Showing.{write_fault}
-use Rattle.kl_engine.specs.Verdict.{Verdict, well, refused, list_front, overflowing, cut, cut_layer, first_of}
+use Rattle.kl_engine.specs.Verdict.{Verdict, well, refused, cut, cut_layer, first_of}
 use Rattle.kl_engine.specs.declared.fault.Fault.{Fault}
 use Rattle.kl_engine.specs.declared.fault.Fault.TheVariants as fault
 

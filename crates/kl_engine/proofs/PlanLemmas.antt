@@ -1,5 +1,5 @@
 -- What is counted of a plan that was run over the sources of a program.
-use Rattle.std.proofs.Common.{inl, true, ◌≡◌, ℕ, Bool, List, [], map, Option, Some, None, refl, sym, ap, subst, ◌∙◌, arith, slice_get}
+use Rattle.std.proofs.Common.{inl, true, ◌≡◌, ℕ, Bool, List, [], map, Option, Some, None, refl, sym, ap, subst, ◌∙◌, arith}
 use Rattle.kl_outcome.specs.Outcome.{Name}
 use Rattle.kl_value.specs.declared.Kind.TheVariants as kind
 use Rattle.kl_value.specs.declared.Value.{Value}

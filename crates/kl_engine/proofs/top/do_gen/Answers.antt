@@ -1,5 +1,4 @@
-use Rattle.std.proofs.Common.{None, ap, true}
-use Rattle.kl_ask.specs.declared.settings.Settings.{Settings}
+use Rattle.std.proofs.Common.{None, true}
 use Rattle.kl_engine.specs.Commands.{Made}
 use Rattle.kl_engine.specs.declared.top.Purpose.TheVariants as purpose
 use Rattle.kl_engine.proofs.CountLemmas.{made_plan, refused_plan, unrun_alone, unrun_asks}
