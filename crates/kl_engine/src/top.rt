@@ -74,8 +74,11 @@ pub struct Answer {
 /// other refusal it is empty. After a fault of reading or writing, after a
 /// source that changed and after want of memory `out` took a front of the page.
 ///
-/// A run evaluates the term that its program is rewritten to, unless its words say `--no-rewrite`; what it prints is what the
-/// program means in either case.
+/// A run makes a plan of the term that its program is rewritten to, unless its words say `--no-rewrite`, and runs that; what it
+/// prints is what the program means in either case. A list is printed as it is drawn, and what was printed is written out before
+/// a source is waited for. With `--first N` no more items are drawn, and to a loop over one source its driver hands fewer rows
+/// than are fetched at once more than these items take. The answer tells the plan, in how many steps the term was rewritten, and
+/// how often each scan of the plan was started.
 ///
 /// The drivers are handed in with no source attached and no cursor open. They are left with no cursor open; the sources that
 /// a run attached stay attached. No file is left open.
