@@ -1,5 +1,0 @@
-pub mod Drawing
-pub mod Reading
-pub mod Scannable
-pub mod Sources
-pub mod Terms
