@@ -1,5 +1,5 @@
 -- Terms and plans of constants, and the types that they have.
-use Rattle.std.proofs.Common.{rules, ◌≡◌, ◌≤◌, ℤ, List, [], ◌∷◌, refl, sym, ap, ◌∙◌, subst, arith}
+use Rattle.std.proofs.Common.{rules, ◌≡◌, ◌≤◌, ℕ, ℤ, List, [], ◌∷◌, refl, sym, ap, ◌∙◌, subst, arith}
 use Rattle.std.specs.List.{IsDistinct}
 use mathlib.Core.Path.{ap₂}
 use Rattle.kl_value.specs.declared.Value.{Value}
