@@ -1,0 +1,5 @@
+pub mod Drawing
+pub mod Reading
+pub mod Scannable
+pub mod Sources
+pub mod Terms

@@ -1,0 +1,58 @@
+-- Sessions in which a scan of a list of integers can be started.
+use Rattle.std.proofs.Common.{◌≡◌, List, [], ◌∷◌, ◌++◌, map, Some, true, slice_get, refl, sym, ap, ◌∙◌, subst}
+use Rattle.std.specs.List.Sorted.{IsStrictlySortedBy}
+use Rattle.kl_base.specs.Fields.{bytes_cmp}
+use Rattle.kl_value.specs.declared.Kind.{Kind}
+use Rattle.kl_value.specs.declared.Kind.TheVariants as kind
+use Rattle.kl_type.specs.Ground.{Ground, coll, int, ground_of}
+use Rattle.kl_type.specs.declared.Ty.{Ty}
+use Rattle.kl_outcome.specs.Outcome.{Name}
+use Rattle.kl_ask.specs.Asks.{kind_of, item_of, shown_type, is_allowed, AskFits}
+use Rattle.kl_ask.specs.Driver.{State, Source}
+use Rattle.kl_ask.specs.World.{World}
+use Rattle.kl_ask.specs.declared.ask.Abilities.{Abilities}
+use Rattle.kl_ask.specs.declared.ask.Ask.TheVariants as asks
+use Rattle.kl_ask.specs.declared.session.Attached.{Attached}
+use Rattle.kl_ship.specs.declared.plan.Scan.{Scan}
+use Rattle.kl_scans.specs.Held.{Held, held_in, held_at}
+use Rattle.kl_scans.specs.Scans.{CanScan}
+use Rattle.kl_scans.specs.Stage.{stage, AskOf, ScanOf}
+
+none_rising : IsStrictlySortedBy bytes_cmp []
+unfolding IsStrictlySortedBy
+none_rising = tt
+
+numbers_fit : (g : Ground) → AskFits g [] []
+numbers_fit g = record { rising = none_rising; there = tt; fitting = tt }
+
+ask_of : (can : Abilities) (name : Name) (s : Source) (k : Kind) → ground_of s.ty ≡ coll kind.List int → AskOf can name s (asks.Rows name [] []) k int
+ask_of can name s k e = (
+  refl,
+  subst (λ g. is_allowed can g (asks.Rows name [] []) ≡ true) (sym e) refl,
+  numbers_fit (ground_of s.ty),
+  ap (λ g. shown_type [] (item_of g)) (sym e),
+  λ list. ap kind_of e,
+)
+
+abbrev listed_as : Name → Ty → Attached
+listed_as name ty = record { source = name; ty = ty; driver = Some 0 }
+
+pub can_scan : {A : Type 0} (f : A → State) (w : World) (c : Scan) (xs ys : List A) (x : A) (name : Name) (ty : Ty) → w.drivers ≡ map f xs → xs ≡ ys ++ x ∷ [] → ys ≡ []
+    → w.sources ≡ listed_as name ty ∷ [] → name ≡ c.source → (s : Source) × ((f x).attached c.source ≡ Some s) × (s.ty ≡ ty) → ground_of ty ≡ coll kind.List int
+    → c.driver ≡ 0 → c.ask ≡ asks.Rows c.source [] [] → CanScan w c
+unfolding stage held_at
+can_scan f w c xs ys x name ty seen pushed none listed named has ground first ask = (
+  int,
+  record {
+    place = 0;
+    entry = listed_as name ty;
+    listed = ap (λ ss. slice_get ss 0) listed;
+    named = sym named;
+    driver = ap Some (sym first);
+    held = record { abilities = (f x).kind.abilities; attached = (f x).attached };
+    holds = rw (first, seen, pushed, none) refl;
+    source = has.0;
+    attached = has.1;
+    ask = subst (λ a. AskOf (f x).kind.abilities c.source has.0 a c.kind int) (sym ask) (ask_of (f x).kind.abilities c.source has.0 c.kind (ap ground_of has.2 ∙ ground));
+  },
+)

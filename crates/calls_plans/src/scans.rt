@@ -1,0 +1,168 @@
+ghost use Rattle.std.specs.Prelude.{◌≡◌, ◌<◌, [], Some, IfOk, IfSome};
+ghost use Rattle.kl_value.specs.declared.Kind.TheVariants as kind;
+ghost use Rattle.kl_type.specs.Ground.{coll, int, ground_of};
+ghost use Rattle.kl_ask.specs.Driver.{Source};
+ghost use Rattle.kl_ask.specs.declared.ask.Ask.TheVariants as asks;
+ghost use Rattle.kl_scans.specs.Scans.{CanScan};
+ghost use Rattle.calls_plans.specs.Reading.{IsReading};
+
+use kl_ask::{Ask, Attached, Driver, Seen, Session, Settings, Trace};
+use kl_base::{Box, Label, Seq, Text};
+use kl_nested::NestedDriver;
+use kl_outside::MemFiles;
+use kl_scans::{finish_scan, pull_scan, start_scan};
+use kl_ship::Scan;
+use kl_type::Ty;
+use kl_value::{Kind, Value};
+use std::alloc::Global;
+use std::boxed::Box as HeapBox;
+use std::test::Fail;
+
+// `[|int|]`
+fn list_type(alloc: Global) -> Result<Ty, Fail>
+    ensures { IfOk result (λ t. ground_of t ≡ coll kind.List int) }
+{
+    let item = Box::new(alloc, Ty::Int)?;
+    Ok(Ty::Coll(Kind::List, item))
+}
+
+// A scan of all rows of a source at the first driver.
+fn scan(alloc: Global) -> Result<Scan, Fail>
+    ensures driver { IfOk result (λ c. c.driver ≡ 0) }
+    ensures ask { IfOk result (λ c. c.ask ≡ asks.Rows c.source [] []) }
+{
+    let source = Label::new(alloc, b"n")?.ok_or("no word")?;
+    let ask = Ask::Rows {
+        source: source.dup()?,
+        keep: Seq::of(Vec::new(alloc)),
+        tests: Seq::of(Vec::new(alloc)),
+    };
+    Ok(Scan {
+        number: 0,
+        driver: 0,
+        source,
+        ask,
+        kind: Kind::List,
+    })
+}
+
+fn text(alloc: Global, bytes: &[u8]) -> Result<Text, Fail> {
+    Ok(Text::of(Vec::from_slice(alloc, bytes)?))
+}
+
+// A file of two integers.
+fn files(alloc: Global) -> Result<MemFiles, Fail> {
+    let path = text(alloc, b"n.kx")?;
+    let items = text(alloc, b"4; 5;")?;
+    Ok(MemFiles::new(alloc, vec![in alloc; (path, items)]?))
+}
+
+// A driver at which the file is attached.
+fn attached(alloc: Global, name: &Label, ty: &Ty) -> Result<NestedDriver<MemFiles>, Fail>
+    requires { ground_of ty.now ≡ coll kind.List int }
+    ensures { IfOk result (λ d. (s : Source) × ((⟦<NestedDriver<MemFiles> as Driver>⟧.state d).attached name.now ≡ Some s) × (s.ty ≡ ty.now)) }
+{
+    let path = text(alloc, b"n.kx")?;
+    let mut driver = NestedDriver::new(alloc, files(alloc)?);
+    if !driver.suits(ty) {
+        return Err(Fail::from("not suited"));
+    }
+    match driver.attach(name, &path, ty) {
+        Ok(_) => Ok(driver),
+        Err(_) => Err(Fail::from("not attached")),
+    }
+}
+
+// A session of the source of a scan, in which the starts of the scan are counted.
+fn session(alloc: Global, driver: HeapBox<dyn Driver>, ty: Ty, scan: &Scan) -> Result<Session, Fail>
+    requires attached { (s : Source) × ((state driver).attached scan.now.source ≡ Some s) × (s.ty ≡ ty) }
+    requires ty { ground_of ty ≡ coll kind.List int }
+    requires driver { scan.now.driver ≡ 0 }
+    requires ask { scan.now.ask ≡ asks.Rows scan.now.source [] [] }
+    ensures can { IfOk result (λ s. CanScan (⟦<Session as Seen>⟧.world s) scan.now) }
+    ensures room { IfOk result (λ s. 0 < (⟦<Session as Seen>⟧.world s).settings.fetch) }
+{
+    let mut drivers = Vec::new(alloc);
+    drivers.push(driver)?;
+    let source = scan.source.dup()?;
+    let driver = Some(0);
+    let listed = vec![in alloc; Attached { source, ty, driver }]?;
+    let mut trace = Trace::new(alloc);
+    trace.starts = Seq::of(vec![in alloc; (0, 0)]?);
+    Ok(Session {
+        drivers,
+        sources: Seq::of(listed),
+        settings: Settings::usual(),
+        trace,
+    })
+}
+
+fn starts(session: &mut Session, scan: &Scan) -> Option<u64>
+    requires can { CanScan (⟦<Session as Seen>⟧.world session.old) scan.now }
+    requires room { 0 < (⟦<Session as Seen>⟧.world session.old).settings.fetch }
+    ensures { IfSome result (IsReading (⟦<Session as Seen>⟧.world session.new) scan.now) }
+{
+    match start_scan(session, scan) {
+        Ok(cursor) => Some(cursor),
+        Err(_stop) => None,
+    }
+}
+
+// Whether the next pull gives rows.
+fn pulls(session: &mut Session, scan: &Scan, cursor: u64, into: &mut Vec<Value>) -> Option<bool>
+    requires { IsReading (⟦<Session as Seen>⟧.world session.old) scan.now cursor }
+    ensures { IfSome result (λ more. IsReading (⟦<Session as Seen>⟧.world session.new) scan.now cursor) }
+{
+    match pull_scan(session, scan, cursor, into) {
+        Ok(more) => Some(more),
+        Err(_stop) => None,
+    }
+}
+
+fn are_rows(rows: &[Value]) -> bool {
+    matches!(rows, [Value::Int(4), Value::Int(5)])
+}
+
+// Whether one pull gives all rows, and the next one none.
+fn reads(alloc: Global, session: &mut Session, scan: &Scan) -> bool
+    requires can { CanScan (⟦<Session as Seen>⟧.world session.old) scan.now }
+    requires room { 0 < (⟦<Session as Seen>⟧.world session.old).settings.fetch }
+{
+    let mut rows = Vec::new(alloc);
+    let Some(cursor) = starts(session, scan) else {
+        return false;
+    };
+    let Some(first) = pulls(session, scan, cursor, &mut rows) else {
+        return false;
+    };
+    let Some(second) = pulls(session, scan, cursor, &mut rows) else {
+        return false;
+    };
+    finish_scan(session, scan, cursor);
+    first && !second && are_rows(&rows)
+}
+
+fn is_counted(session: &Session) -> bool {
+    let starts = session.trace.starts.slice();
+    matches!(starts, [only] if only.0 == 0 && only.1 == 1)
+}
+
+fn scans(alloc: Global, driver: HeapBox<dyn Driver>, ty: Ty, scan: &Scan) -> Result<bool, Fail>
+    requires attached { (s : Source) × ((state driver).attached scan.now.source ≡ Some s) × (s.ty ≡ ty) }
+    requires ty { ground_of ty ≡ coll kind.List int }
+    requires driver { scan.now.driver ≡ 0 }
+    requires ask { scan.now.ask ≡ asks.Rows scan.now.source [] [] }
+{
+    let mut session = session(alloc, driver, ty, scan)?;
+    Ok(reads(alloc, &mut session, scan) && is_counted(&session))
+}
+
+#[test]
+fn a_source_is_scanned(rt: HostRuntime) -> Result<(), Fail> {
+    let scan = scan(rt.alloc())?;
+    let ty = list_type(rt.alloc())?;
+    let driver = attached(rt.alloc(), &scan.source, &ty)?;
+    let boxed = HeapBox::new(rt.alloc(), driver)?;
+    assert!(rt; scans(rt.alloc(), boxed, ty, &scan)?);
+    Ok(())
+}
