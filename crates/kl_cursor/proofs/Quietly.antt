@@ -37,6 +37,9 @@ neither : (a b : Bool) → (a || b) ≡ false → (a ≡ false) × (b ≡ false)
 neither false b h = (refl, h)
 neither true b h = absurd cc
 
+nor : (a b : Bool) → a ≡ false → b ≡ false → (a || b) ≡ false
+nor a b e f = ap (λ z. z || b) e ∙ f
+
 unsure : (a b : Bool) → (a && not b) ≡ false → a ≡ true → b ≡ true
 unsure true true h e = refl
 unsure true false h e = absurd cc
@@ -76,8 +79,8 @@ reads_none (both s p) h = let x = neither (reads_on s) (has_scan p) h in (reads_
 reads_none (bound v s) h = reads_none s h
 reads_none (outside b s) h = let x = neither (has_scan b) (reads_on s) h in (no_scan b x.0, reads_none s x.1)
 reads_none (inside b s v i) h =
-    let x = neither (reads_on i) (has_scan b || reads_on s) h in
-    let y = neither (has_scan b) (reads_on s) x.1 in (no_scan b y.0, reads_none s y.1, reads_none i x.0)
+    let x = neither (reads_on i || has_scan b) (reads_on s) h in
+    let y = neither (reads_on i) (has_scan b) x.0 in (no_scan b y.1, reads_none s x.1, reads_none i y.0)
 reads_none (made ps) h = no_scan (node.Make kind.List ps) h
 reads_none ended h = tt
 
@@ -168,10 +171,12 @@ pub bound_calm_err : (v : Value) (s1 s : State) (w : EvalStop) (r : Result (Opti
 bound_calm_err v s1 s w r a b e h = record { quiet = bound_quiet v s1 s r a b e h; sure = tt }
 
 pub inside_quiet : (p : Node) (s : Snap) (v : Value) (j1 j : State) (r : Result (Option Value × State) EvalStop) (a b : World) → j1 ≡ j → Calm (snap j1) r a b → Quiet (inside p s v (snap j)) a b
-inside_quiet p s v j1 j r a b e h = λ n. h.quiet (ap (λ z. pulls (snap z)) e ∙ (neither (pulls (snap j)) (pulls s || loop_reads_on p s) n).0)
+inside_quiet p s v j1 j r a b e h = λ n. h.quiet (ap (λ z. pulls (snap z)) e ∙ (neither (pulls (snap j)) (pulls s) (neither (pulls (snap j) || pulls s) (loop_reads_on p s) n).0).0)
 
 pub inside_quiet_on : (p : Node) (s : Snap) (v : Value) (j1 j : State) (r : Result (Option Value × State) EvalStop) (a b c : World) → j1 ≡ j → Calm (snap j1) r a b → Quiet (outside p s) b c → Quiet (inside p s v (snap j)) a c
-inside_quiet_on p s v j1 j r a b c e h on = λ n. silent_then a b c (inside_quiet p s v j1 j r a b e h n) (on (neither (pulls (snap j)) (pulls s || loop_reads_on p s) n).1)
+inside_quiet_on p s v j1 j r a b c e h on = λ n.
+    let x = neither (pulls (snap j) || pulls s) (loop_reads_on p s) n in
+    silent_then a b c (inside_quiet p s v j1 j r a b e h n) (on (nor (pulls s) (loop_reads_on p s) (neither (pulls (snap j)) (pulls s) x.0).1 x.1))
 
 pub inside_quiet_err : (p : Node) (s : Snap) (v : Value) (j1 j : State) (r : Result (Option Value × State) EvalStop) (u : Uses) (a b c : World) → j1 ≡ j → Calm (snap j1) r a b → Closes u b c → Quiet (inside p s v (snap j)) a c
 inside_quiet_err p s v j1 j r u a b c e h m = λ n. silent_then a b c (inside_quiet p s v j1 j r a b e h n) (closes_silent u b c m)

@@ -1,5 +1,5 @@
 //! Lists, which are printed as they are drawn.
-ghost use Rattle.std.specs.Prelude.{◌≡◌, ◌++◌, ℕ, Bool, List, [], None, Ok, codes, false, ⊤};
+ghost use Rattle.std.specs.Prelude.{◌≡◌, ◌++◌, ℕ, Bool, List, [], None, Ok, codes, false, true, ⊤};
 ghost use Rattle.kl_outside.specs.Files.{FilesState};
 ghost use Rattle.kl_outside.specs.Sinks.{SinkState, WritesWhole};
 ghost use Rattle.kl_exchange.specs.Printing.{Puts, as_stop};

@@ -39,6 +39,7 @@ ghost use Rattle.kl_engine.specs.Rewritten.{IsRewrittenTo};
 ghost use Rattle.kl_engine.specs.Running.{AnswersTerm, DoneWith, DoneMeaning, HasList, IsListTerm, Scanned, SparesRows};
 ghost use Rattle.kl_engine.specs.Running.{IsTermOutcome, IsListScheme, IsListOutcome, IsValueOutcome, fault_of};
 ghost use Rattle.kl_engine.specs.Typing.{IsTyped};
+ghost use Rattle.kl_engine.specs.declared.fault.Fault.TheVariants as fault;
 ghost use Rattle.kl_engine.specs.declared.top.Purpose.TheVariants.{Run};
 
 use crate::cut::cut;
