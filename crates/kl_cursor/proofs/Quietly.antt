@@ -1,35 +1,28 @@
 -- Steps that read on at no source.
-use Rattle.std.proofs.Common.{◌≡◌, ◌==◌, ◌&&◌, ◌||◌, not, ℕ, Bool, true, false, List, [], ◌∷◌, length, Option, Some, None, Result, Ok, Err, slice_get, refl, sym, ap, ◌∙◌, subst, Bor, ◌≤◌, ◌⊎◌, ⊎_elim, cond, drop, arith, common_steps}
-use Rattle.kl_value.specs.declared.Kind.{Kind}
+use Rattle.std.proofs.Common.{◌≡◌, ◌==◌, ◌&&◌, ◌||◌, not, Bool, true, false, List, [], ◌∷◌, length, Option, Some, None, Result, Ok, Err, slice_get, refl, sym, ap, ◌∙◌, subst, Bor}
 use Rattle.kl_value.specs.declared.Kind.TheVariants as kind
 use Rattle.kl_value.specs.declared.Value.{Value}
-use Rattle.circular_buffer.specs.Buffer.{Buffer}
-use Rattle.kl_outcome.specs.Outcome.{Name}
-use Rattle.kl_core.specs.declared.term.Term.{Term}
 use Rattle.kl_ask.specs.World.{World}
 use Rattle.kl_eval.specs.declared.stop.EvalStop.{EvalStop}
-use Rattle.kl_ship.specs.Holding.{ScansIn, ScansInNodes}
+use Rattle.kl_ship.specs.Holding.{ScansIn}
 use Rattle.kl_ship.specs.Nodes as node
-use Rattle.kl_ship.specs.Nodes.{Node, Nodes, no_nodes, nodes, nodes_view, view}
-use Rattle.kl_ship.specs.Numbers.{scans_in, scans_of_nodes}
+use Rattle.kl_ship.specs.Nodes.{Node, Nodes, view}
+use Rattle.kl_ship.specs.Numbers.{scans_in}
 use Rattle.kl_ship.specs.declared.plan.Plan.{Plan}
-use Rattle.kl_ship.specs.declared.plan.Plan.TheVariants as plans
 use Rattle.kl_ship.specs.declared.plan.Scan.{Scan}
 use Rattle.kl_ship.proofs.Holding.{scans_in_all}
-use Rattle.kl_ship.proofs.Views.{view_If, view_Inj, view_Let, view_Make, view_Prim, view_Proj, view_Rec, view_Var}
 use Rattle.kl_scans.specs.Held.{Uses, nothing}
-use Rattle.kl_scans.specs.Log.{Event, Logged}
+use Rattle.kl_scans.specs.Log.{Logged}
 use Rattle.kl_scans.specs.Moves.{Closes, Moves}
 use Rattle.kl_scans.proofs.Moving.{logged_none, logged_then}
 use Rattle.kl_cursor.specs.declared.state.State.{State}
 use Rattle.kl_cursor.specs.declared.state.State.TheVariants as state
-use Rattle.kl_cursor.specs.Left.{Snap, fresh, have, pulling, both, bound, outside, inside, made, ended, snap, uses, nodes_from, ScansLeft}
+use Rattle.kl_cursor.specs.Left.{Snap, fresh, have, pulling, both, bound, outside, inside, made, ended, snap, uses, ScansLeft}
 use Rattle.kl_cursor.specs.Pulling.{some, has_scan, gives, reads_on, loop_reads_on, pulls, Silent, Quiet, is_sure, SureGives, BeginsSure, Calm}
-use Rattle.kl_cursor.specs.Steps.{AreOf, Ends, Gives, Steps, Stops}
+use Rattle.kl_cursor.specs.Steps.{Ends, Gives, Steps, Stops}
 use Rattle.kl_cursor.proofs.Handing.{no_events}
 use Rattle.kl_cursor.proofs.Scanning.{none_rows}
-use Rattle.kl_cursor.proofs.Snaps.{snap_Bound, snap_Fresh, snap_Make}
-use Rattle.kl_cursor.proofs.ValueCode.{view_Plain}
+use Rattle.kl_cursor.proofs.Snaps.{snap_Fresh}
 
 -- ---- truth values
 
@@ -45,7 +38,7 @@ unsure true true h e = refl
 unsure true false h e = absurd cc
 unsure false b h e = absurd cc
 
-pub never : (a : Bool) → a ≡ true → a ≡ false → ⊥
+never : (a : Bool) → a ≡ true → a ≡ false → ⊥
 never a e f = let x : true ≡ false = sym e ∙ f in cc
 
 -- ---- nothing is done
@@ -228,42 +221,3 @@ pub loop_quiet_lost : (env : List Value) (v : Value) (e : EvalStop) (q : Bor Pla
 loop_quiet_lost env v e q s0 x s r y u a b c d l is first h body m stops =
     outside_quiet (view q.now) s0 (snap s) a b l first (stops_silent env (outside (view q.now) s0) e a l stops)
     (λ none n. silent_then b c l (source_quiet x s r b c is h n) (silent_then c d l (fresh_silent (v ∷ env) q y c d none body) (closes_silent u d l m)))
-
--- ---- a plan that is sure to give an item, as it begins
-
-both_true : (a b : Bool) → (a && b) ≡ true → (a ≡ true) × (b ≡ true)
-both_true true b h = (refl, h)
-both_true false b h = absurd cc
-
-pub begins_not : (p : Node) (r : Result State EvalStop) → gives p ≡ false → BeginsSure (fresh p) r
-begins_not p (Ok t) e = λ h. absurd (never (gives p) h e)
-begins_not p (Err x) e = tt
-
-made_sure : (k : Kind) (ps : Nodes) → gives (node.Make k ps) ≡ true → is_sure (made ps) ≡ true
-made_sure k no_nodes h = h
-made_sure k (nodes p ps) h = refl
-
-pub make_sure : (t : Plan) (k : Kind) (ps : Bor (List Plan)) → t ≡ plans.Make k ps.now → gives (view t) ≡ true → is_sure (snap (state.Make ps 0)) ≡ true
-make_sure t k ps e h = ap is_sure (snap_Make ps 0) ∙ made_sure k (nodes_view ps.now) (sym (ap gives (ap view e ∙ view_Make k ps.now)) ∙ h)
-
-pub if_sure : (t a b c : Plan) (d : Bor Plan) (z : Bool) → t ≡ plans.If a b c → d.now ≡ cond z b c → gives (view t) ≡ true → is_sure (snap (state.Fresh d)) ≡ true
-if_sure t a b c d z e is h = ap is_sure (snap_Fresh d) ∙ ap (λ x. gives (view x)) is ∙ picked z (both_true (gives (view b)) (gives (view c)) (sym (ap gives (ap view e ∙ view_If a b c)) ∙ h))
-  where
-    picked : (z : Bool) → (gives (view b) ≡ true) × (gives (view c) ≡ true) → gives (view (cond z b c)) ≡ true
-    picked true x = x.0
-    picked false x = x.1
-
-pub let_sure : (t a b b' : Plan) (v : Value) (s : State) → t ≡ plans.Let a b → b' ≡ b → snap s ≡ fresh (view b') → gives (view t) ≡ true → is_sure (snap (state.Bound v s)) ≡ true
-let_sure t a b b' v s e is at h = ap is_sure (snap_Bound v s) ∙ ap is_sure at ∙ ap (λ x. gives (view x)) is ∙ (sym (ap gives (ap view e ∙ view_Let a b)) ∙ h)
-
-pub plain_gives : (p : Plan) → ((t : Term) × (p ≡ plans.Plain t)) ⊎ (((x : ℕ) × (p ≡ plans.Var x)) ⊎ ((fs : List (Name × Plan)) × (p ≡ plans.Rec fs))) → gives (view p) ≡ false
-plain_gives p = ⊎_elim (λ h. ap gives (ap view h.1 ∙ view_Plain h.0)) (⊎_elim (λ h. ap gives (ap view h.1 ∙ view_Var h.0)) (λ h. ap gives (ap view h.1 ∙ view_Rec h.0)))
-
-pub part_gives : (p : Plan) → ((l : Name) × (a : Plan) × (p ≡ plans.Proj l a)) ⊎ (((l : Name) × (a : Plan) × (p ≡ plans.Inj l a)) ⊎ ((c : ℕ) × (ps : List Plan) × (p ≡ plans.Prim c ps))) → gives (view p) ≡ false
-part_gives p = ⊎_elim (λ h. ap gives (ap view h.2 ∙ view_Proj h.0 h.1)) (⊎_elim (λ h. ap gives (ap view h.2 ∙ view_Inj h.0 h.1)) (λ h. ap gives (ap view h.2 ∙ view_Prim h.0 h.1)))
-
-pub made_over_sure : (ps : List Plan) (i : ℕ) → length ps ≤ i → is_sure (made (nodes_from i ps)) ≡ false
-made_over_sure ps i le = ap (λ qs. is_sure (made (nodes_view qs))) (drop_none ps i le)
-  where
-    drop_none : {X : Type 0} (xs : List X) (j : ℕ) → length xs ≤ j → drop j xs ≡ []
-    drop_none xs j le = grind (arith, common_steps)

@@ -1,7 +1,7 @@
 -- Which cursors may read on at a source.
 use Rattle.std.specs.Prelude.{◌≡◌, Bool, true, false, ◌==◌, ◌&&◌, ◌||◌, not, List, [], ◌∷◌, length, Option, Some, None, Result, Ok, Err, ⊤}
 use Rattle.kl_ship.specs.Nodes as node
-use Rattle.kl_ship.specs.Nodes.{Node, Nodes, no_nodes, nodes}
+use Rattle.kl_ship.specs.Nodes.{Node, no_nodes, nodes}
 use Rattle.kl_ship.specs.Numbers.{scans_in, scans_of_nodes}
 use Rattle.kl_value.specs.declared.Value.{Value}
 use Rattle.kl_ask.specs.World.{World}

@@ -11,14 +11,13 @@ use Rattle.kl_value.specs.Written.{text_of, separator}
 use Rattle.kl_value.specs.declared.Kind.TheVariants as kind
 use Rattle.kl_value.specs.declared.Value.{Value}
 use Rattle.kl_value.specs.declared.Value.TheVariants as value
-use Rattle.kl_outcome.specs.Outcome.{Name, End, fine, overflow, flow, items_in}
+use Rattle.kl_outcome.specs.Outcome.{End, fine, overflow, flow, items_in}
 use Rattle.kl_outcome.proofs.Flows.{flow_items}
 use Rattle.kl_core.specs.Core.{core}
 use Rattle.kl_core.specs.Trees.{Tree}
 use Rattle.kl_core.specs.Typing.{HaveSources}
 use Rattle.kl_ask.specs.Driver.{DriverKind}
 use Rattle.kl_ask.specs.World.{World, types_of, values_of}
-use Rattle.kl_ask.specs.declared.ask.DriverError.{DriverError}
 use Rattle.kl_ask.specs.declared.settings.Settings.{Settings}
 use Rattle.kl_sources.specs.declared.source.Source.{Source}
 use Rattle.kl_ship.specs.Meaning.{coming, plan}
@@ -46,7 +45,7 @@ use Rattle.kl_engine.specs.Answering.{PrintsPage}
 use Rattle.kl_engine.specs.Faults.{Ending}
 use Rattle.kl_engine.specs.Outside.{outside_of}
 use Rattle.kl_engine.specs.Planned.{HandsFew, HandsWritten, IsLine}
-use Rattle.kl_engine.specs.Running.{AnswersTerm, HasList, IsListOutcome, IsListTerm, Scanned, SparesRows, StopsList, TookMore, are_enough, fault_of, one_more}
+use Rattle.kl_engine.specs.Running.{AnswersTerm, HasList, IsListOutcome, IsListTerm, Scanned, SparesRows, StopsList, TookMore, are_enough, one_more}
 use Rattle.kl_engine.specs.Showing.{write_fault}
 use Rattle.kl_engine.specs.Verdict.{list_front, value_page}
 use Rattle.kl_engine.specs.declared.fault.Fault.TheVariants as fault
@@ -195,7 +194,15 @@ module _ (p : Node) (first : Option ℕ) (a : World) (place : ℕ) (left : Optio
       by_case : (y : Bool) → pulls s ≡ y → Ready p first a place left env s w (Fronts out0 page0 out' page')
       by_case true e = record {
         draws = record {
-          given = d.given; out = length d.given; within = omega arith; at = d.at; wanted = d.wanted; some = d.some; bare = d.bare; drained = d.drained; spared = d.spared;
+          given = d.given;
+          out = length d.given;
+          within = omega arith;
+          at = d.at;
+          wanted = d.wanted;
+          some = d.some;
+          bare = d.bare;
+          drained = d.drained;
+          spared = d.spared;
           withheld = withheld_now;
           printed = λ front puts. let q = readied out' page' r front puts in (q, out_all d.given front out' page' (flushed e) q);
         };
@@ -203,7 +210,15 @@ module _ (p : Node) (first : Option ℕ) (a : World) (place : ℕ) (left : Optio
       }
       by_case false e = record {
         draws = record {
-          given = d.given; out = d.out; within = d.within; at = d.at; wanted = d.wanted; some = d.some; bare = d.bare; drained = d.drained; spared = d.spared;
+          given = d.given;
+          out = d.out;
+          within = d.within;
+          at = d.at;
+          wanted = d.wanted;
+          some = d.some;
+          bare = d.bare;
+          drained = d.drained;
+          spared = d.spared;
           withheld = d.withheld;
           printed = λ front puts. (readied out' page' r front puts, out_grows d.given d.out front out out' (d.printed front puts).1 (r.done, r.took));
         };

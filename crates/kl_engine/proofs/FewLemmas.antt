@@ -7,7 +7,7 @@ use Rattle.kl_outside.specs.Sinks.{SinkState, WritesWhole}
 use Rattle.kl_outside.specs.declared.stop.Stop.{Stop}
 use Rattle.kl_exchange.specs.Printing.{Puts}
 use Rattle.kl_value.specs.declared.Value.{Value}
-use Rattle.kl_outcome.specs.Outcome.{Name, Flow, End, more, stop, fine, flow, followed, items_in}
+use Rattle.kl_outcome.specs.Outcome.{Name, Flow, End, more, fine, flow, followed, items_in}
 use Rattle.kl_outcome.proofs.Flows.{flow_items}
 use Rattle.kl_ask.specs.World.{World}
 use Rattle.kl_ask.specs.declared.ask.DriverError.{DriverError}
@@ -19,7 +19,7 @@ use Rattle.kl_scans.specs.Held.{Uses}
 use Rattle.kl_scans.specs.Log.{Logged}
 use Rattle.kl_scans.specs.Moves.{Closes}
 use Rattle.kl_scans.proofs.Moving.{logged_then}
-use Rattle.kl_cursor.specs.Laziness.{ByTimes, Frugal, Handed, IsFront, items_at}
+use Rattle.kl_cursor.specs.Laziness.{ByTimes, Frugal, Handed, items_at}
 use Rattle.kl_cursor.specs.Left.{reading}
 use Rattle.kl_cursor.specs.Pulling.{Silent}
 use Rattle.kl_cursor.specs.Sense.{IsToldAt}
@@ -30,7 +30,7 @@ use Rattle.kl_engine.specs.Running.{HasList, TookMore, fault_of}
 use Rattle.kl_engine.specs.Verdict.{list_front}
 use Rattle.kl_engine.specs.declared.fault.Fault.{Fault}
 use Rattle.kl_engine.specs.declared.fault.Fault.TheVariants as fault
-use Rattle.kl_engine.proofs.PutLemmas.{front_more, take_first}
+use Rattle.kl_engine.proofs.PutLemmas.{front_more}
 
 -- ---- first items
 

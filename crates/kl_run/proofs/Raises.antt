@@ -1,5 +1,5 @@
 -- Counts that are raised one by one.
-use Rattle.std.proofs.Common.{◌≡◌, ℕ, zero, suc, ◌+◌, ◌-◌, ◌^◌, ◌≤◌, Bool, true, false, min, cond, refl, ap, ◌∙◌, arith}
+use Rattle.std.proofs.Common.{◌≡◌, ℕ, zero, suc, ◌+◌, ◌-◌, ◌^◌, Bool, true, false, min, cond, refl, ap, ◌∙◌, arith}
 use Rattle.kl_ask.specs.Asked.{raised_by}
 use Rattle.kl_run.specs.Counted.{raised}
 

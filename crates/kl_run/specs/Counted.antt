@@ -1,5 +1,5 @@
 -- What is counted of the scans of a plan.
-use Rattle.std.specs.Prelude.{◌≡◌, ℕ, zero, suc, ◌+◌, ◌-◌, ◌^◌, ◌&&◌, min, Bool, true, List, [], ◌∷◌, map, Option, Some, None, cond, nat_eq, slice_get}
+use Rattle.std.specs.Prelude.{◌≡◌, ℕ, zero, suc, ◌-◌, ◌^◌, ◌&&◌, min, Bool, true, List, [], ◌∷◌, map, Option, Some, None, cond, nat_eq, slice_get}
 use Rattle.std.specs.List.{Contains, sum_by}
 use Rattle.kl_outcome.specs.Outcome.{Name}
 use Rattle.kl_value.specs.declared.Value.{Value}
