@@ -46,7 +46,7 @@ take_parts (suc k) (suc n) [] h = ([], refl)
 take_parts (suc k) (suc n) (x ∷ xs) h = let r = take_parts k n xs (omega (arith, h)) in (r.0, ap (λ vs. x ∷ vs) r.1)
 
 bytes_both : (xs ys : List ℕ) → length (xs ++ ys) ≡ length xs + length ys
-bytes_both [] ys = refl
+bytes_both [] ys = omega arith
 bytes_both (x ∷ xs) ys = let h = bytes_both xs ys in omega (arith, h)
 
 -- the text of fewer first items is no longer
