@@ -29,7 +29,7 @@ handed_then c m n a b d g h = record {
   sum = rows_then g.events h.events ∙ ap₂ (λ x y. x + y) g.sum h.sum;
 }
 
-no_events : (es : List Event) → AreOf [] es → es ≡ []
+pub no_events : (es : List Event) → AreOf [] es → es ≡ []
 no_events [] h = refl
 no_events (e ∷ es) h = absurd (let k = h.0.1 in omega arith)
 

@@ -30,4 +30,5 @@ pub mod Lazily
 pub mod LazyCode
 pub mod LazyLaws
 pub mod Pulls
+pub mod Quietly
 pub mod PullCode

@@ -1,9 +1,14 @@
 -- Which cursors may read on at a source.
-use Rattle.std.specs.Prelude.{Bool, true, false, ◌==◌, ◌&&◌, ◌||◌, not, List, [], ◌∷◌, length}
+use Rattle.std.specs.Prelude.{◌≡◌, Bool, true, false, ◌==◌, ◌&&◌, ◌||◌, not, List, [], ◌∷◌, length, Option, Some, None, Result, Ok, Err, ⊤}
 use Rattle.kl_ship.specs.Nodes as node
-use Rattle.kl_ship.specs.Nodes.{Node, Nodes, no_nodes, nodes}
+use Rattle.kl_ship.specs.Nodes.{Node, no_nodes, nodes}
 use Rattle.kl_ship.specs.Numbers.{scans_in, scans_of_nodes}
-use Rattle.kl_cursor.specs.Left.{Snap, fresh, pulling, both, bound, outside, inside, made}
+use Rattle.kl_value.specs.declared.Value.{Value}
+use Rattle.kl_ask.specs.World.{World}
+use Rattle.kl_eval.specs.declared.stop.EvalStop.{EvalStop}
+use Rattle.kl_scans.specs.Log.{Logged}
+use Rattle.kl_cursor.specs.declared.state.State.{State}
+use Rattle.kl_cursor.specs.Left.{Snap, fresh, pulling, both, bound, outside, inside, made, snap}
 
 -- there is one or more
 abbrev pub some : {X : Type 0} → List X → Bool
@@ -46,3 +51,34 @@ pulls (outside b s) = pulls s || loop_reads_on b s
 pulls (inside b s v i) = pulls i || pulls s || loop_reads_on b s
 pulls (made ps) = some (scans_of_nodes ps)
 pulls _ = false
+
+-- nothing is started, and nothing handed
+abbrev pub Silent : World → World → Type 0
+Silent a b = Logged [] a b
+
+-- it is silent where a cursor may not read on
+abbrev pub Quiet : Snap → World → World → Type 0
+Quiet s a b = pulls s ≡ false → Silent a b
+
+-- ---- for private functions alone: cursors that are sure to give an item
+
+abbrev pub is_sure : Snap → Bool
+is_sure (fresh p) = gives p
+is_sure (bound v s) = is_sure s
+is_sure (made no_nodes) = false
+is_sure (made (nodes p ps)) = true
+is_sure _ = false
+
+abbrev pub SureGives : Snap → Result (Option Value × State) EvalStop → Type 0
+SureGives s (Ok (Some v, t)) = ⊤
+SureGives s (Ok (None, t)) = is_sure s ≡ false
+SureGives s (Err e) = ⊤
+
+abbrev pub BeginsSure : Snap → Result State EvalStop → Type 0
+BeginsSure s (Ok t) = is_sure s ≡ true → is_sure (snap t) ≡ true
+BeginsSure s (Err e) = ⊤
+
+-- what a step does where it may not read on, and where an item is sure
+pub record Calm (s : Snap) (r : Result (Option Value × State) EvalStop) (a b : World) : Type 0 where
+  pub quiet : Quiet s a b
+  pub sure : SureGives s r

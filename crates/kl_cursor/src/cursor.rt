@@ -5,7 +5,7 @@ ghost use Rattle.kl_scans.specs.Held.{Owned};
 ghost use Rattle.kl_scans.specs.Moves.{Closes};
 ghost use Rattle.kl_cursor.specs.Laziness.{NextsLazily};
 ghost use Rattle.kl_cursor.specs.Left.{fresh, snap, uses};
-ghost use Rattle.kl_cursor.specs.Pulling.{pulls};
+ghost use Rattle.kl_cursor.specs.Pulling.{Quiet, pulls};
 ghost use Rattle.kl_cursor.specs.Sense.{HasWorth, Stands};
 ghost use Rattle.kl_cursor.specs.Steps.{Nexts, Partly};
 
@@ -72,7 +72,8 @@ impl<'p> Cursor<'p> {
     /// The next item, or None at the end. Items of a plan of kind list come in order, those of a set or a bag in any, and of a
     /// set with repeats.
     ///
-    /// To a loop over a scan that makes a list, no row more is handed before it is needed, but for those that come with it.
+    /// To a loop over a scan that makes a list, no row more is handed before it is needed, but for those that come with it. Where
+    /// `may_pull` answers no, nothing is started and nothing handed, whatever the answer is.
     ///
     /// The cursor's own cursors of drivers are open, as it left them, and it makes sense under the types of what the session
     /// has attached. Those of other cursors are left as they are.
@@ -86,6 +87,7 @@ impl<'p> Cursor<'p> {
         ensures env { self.new.env ≡ self.old.env }
         ensures next { Nexts (reverse self.old.env) (snap self.old.at) result (snap self.new.at) (⟦<Session as Seen>⟧.world session.old) (⟦<Session as Seen>⟧.world session.new) }
         ensures lazy { NextsLazily (reverse self.old.env) (snap self.old.at) result (snap self.new.at) (⟦<Session as Seen>⟧.world session.old) (⟦<Session as Seen>⟧.world session.new) }
+        ensures quiet { Quiet (snap self.old.at) (⟦<Session as Seen>⟧.world session.old) (⟦<Session as Seen>⟧.world session.new) }
     {
         self.advance(session)
     }
@@ -97,6 +99,7 @@ impl<'p> Cursor<'p> {
         ensures env { self.new.env ≡ self.old.env }
         ensures next { Nexts (reverse self.old.env) (snap self.old.at) result (snap self.new.at) (C.world run.old) (C.world run.new) }
         ensures lazy { NextsLazily (reverse self.old.env) (snap self.old.at) result (snap self.new.at) (C.world run.old) (C.world run.new) }
+        ensures quiet { Quiet (snap self.old.at) (C.world run.old) (C.world run.new) }
     {
         let at = mem::replace(&mut self.at, State::Done);
         match step(self.alloc, at, &Env::Base(self.env.slice()), run) {
@@ -114,8 +117,8 @@ impl<'p> Cursor<'p> {
         }
     }
 
-    /// Whether `next` may read on at a source. Where it may not, the next item is at hand, or there is none. Whoever holds back
-    /// what it makes of items lets go of it before a source is waited for.
+    /// Whether `next` may read on at a source: where it may not, it starts no scan and is handed no row. Whoever holds back what it
+    /// makes of items lets go of it before a source is waited for.
     pub fn may_pull(&self) -> bool
         ensures { result ≡ pulls (snap self.now.at) }
     {

@@ -207,29 +207,29 @@ refused_plan on first from f f' ks g ran counts none reads =
 -- ---- at the top
 
 -- the usual settings
-pub made_plan : (given : Settings) (seed size : ℕ) (f : FilesState) (ks : List DriverKind) (steps : ℕ) (plan : Option Node) (starts : List (ℕ × ℕ)) (old new : List State) (i : Inputs) (text : List ℕ) (ss : List Source) (end : Ending) → given ≡ usual_settings → text ≡ i.text → ss ≡ i.sources
-    → ReadsInputs (Made seed size) ks (Ok i) f f → PlanOf (λ p. PlansText given.rewrite ks ss None end text steps p (counted starts given.fetch old new)) end steps plan
-    → HasPlan true (Program (purpose.Run None) (Made seed size)) end steps plan (counted starts usual_settings.fetch old new) f f ks
-made_plan given seed size f ks steps plan starts old new i text ss end usual is same reads plans =
-    command_plan true None (Made seed size) f f ks steps plan (counted starts usual_settings.fetch old new) i text ss end is same reads
-    (subst (λ z. PlanOf (λ p. PlansText z.rewrite ks ss None end text steps p (counted starts z.fetch old new)) end steps plan) usual plans)
+pub made_plan : (given : Settings) (seed size : ℕ) (f : FilesState) (ks : List DriverKind) (steps : ℕ) (plan : Option Node) (starts : List (ℕ × ℕ)) (old new : List State) (blank printed : SinkState) (i : Inputs) (text : List ℕ) (ss : List Source) (end : Ending) → given ≡ usual_settings → text ≡ i.text → ss ≡ i.sources
+    → ReadsInputs (Made seed size) ks (Ok i) f f → PlanOf (λ p. PlansText given.rewrite ks ss None end text steps p (counted starts given.fetch old new blank printed)) end steps plan
+    → HasPlan true (Program (purpose.Run None) (Made seed size)) end steps plan (counted starts usual_settings.fetch old new blank printed) f f ks
+made_plan given seed size f ks steps plan starts old new blank printed i text ss end usual is same reads plans =
+    command_plan true None (Made seed size) f f ks steps plan (counted starts usual_settings.fetch old new blank printed) i text ss end is same reads
+    (subst (λ z. PlanOf (λ p. PlansText z.rewrite ks ss None end text steps p (counted starts z.fetch old new blank printed)) end steps plan) usual plans)
 
-module _ (found : Option Read) (end told : Ending) (ran : Ran) (answered : Option Plan) (trace : Trace) (f f' : FilesState) (ks : List DriverKind) (same : told ≡ end) (planned : answered ≡ ran.plan) (same_trace : trace ≡ ran.trace) (old new : List State) where
-  told_plan : (on : Bool) (fetch : ℕ) (command : Command) → HasPlan on command end ran.trace.steps (plan_in ran.plan) (counted ran.trace.starts fetch old new) f f' ks → HasPlan on command told trace.steps (plan_in answered) (counted trace.starts fetch old new) f f' ks
+module _ (found : Option Read) (end told : Ending) (ran : Ran) (answered : Option Plan) (trace : Trace) (f f' : FilesState) (ks : List DriverKind) (same : told ≡ end) (planned : answered ≡ ran.plan) (same_trace : trace ≡ ran.trace) (old new : List State) (blank printed : SinkState) where
+  told_plan : (on : Bool) (fetch : ℕ) (command : Command) → HasPlan on command end ran.trace.steps (plan_in ran.plan) (counted ran.trace.starts fetch old new blank printed) f f' ks → HasPlan on command told trace.steps (plan_in answered) (counted trace.starts fetch old new blank printed) f f' ks
   told_plan on fetch command h =
-      subst (λ z. HasPlan on command told z.steps (plan_in answered) (counted z.starts fetch old new) f f' ks) (sym same_trace)
-      (subst (λ z. HasPlan on command told ran.trace.steps (plan_in z) (counted ran.trace.starts fetch old new) f f' ks) (sym planned)
-      (subst (λ z. HasPlan on command z ran.trace.steps (plan_in ran.plan) (counted ran.trace.starts fetch old new) f f' ks) (sym same) h))
+      subst (λ z. HasPlan on command told z.steps (plan_in answered) (counted z.starts fetch old new blank printed) f f' ks) (sym same_trace)
+      (subst (λ z. HasPlan on command told ran.trace.steps (plan_in z) (counted ran.trace.starts fetch old new blank printed) f f' ks) (sym planned)
+      (subst (λ z. HasPlan on command z ran.trace.steps (plan_in ran.plan) (counted ran.trace.starts fetch old new blank printed) f f' ks) (sym same) h))
 
   abbrev Found : Option Read → Type 0
-  Found o = HasPlan (wants_rewriting o) (asked o) told trace.steps (plan_in answered) (counted trace.starts (fetch_of o) old new) f f' ks
+  Found o = HasPlan (wants_rewriting o) (asked o) told trace.steps (plan_in answered) (counted trace.starts (fetch_of o) old new blank printed) f f' ks
 
   pub run_plan : (job : Job) → found ≡ Some (read.Run job)
-      → HasPlan job.settings.rewrite (Program (purpose.Run job.first) (Files job.program job.catalogue)) end ran.trace.steps (plan_in ran.plan) (counted ran.trace.starts job.settings.fetch old new) f f' ks
+      → HasPlan job.settings.rewrite (Program (purpose.Run job.first) (Files job.program job.catalogue)) end ran.trace.steps (plan_in ran.plan) (counted ran.trace.starts job.settings.fetch old new blank printed) f f' ks
       → Found found
   run_plan job is h = subst Found (sym is) (told_plan job.settings.rewrite job.settings.fetch (Program (purpose.Run job.first) (Files job.program job.catalogue)) h)
 
   pub gen_plan : (seed size : ℕ) → found ≡ Some (read.Gen seed size)
-      → HasPlan true (Program (purpose.Run None) (Made seed size)) end ran.trace.steps (plan_in ran.plan) (counted ran.trace.starts usual_settings.fetch old new) f f' ks
+      → HasPlan true (Program (purpose.Run None) (Made seed size)) end ran.trace.steps (plan_in ran.plan) (counted ran.trace.starts usual_settings.fetch old new blank printed) f f' ks
       → Found found
   gen_plan seed size is h = subst Found (sym is) (told_plan true usual_settings.fetch (Program (purpose.Run None) (Made seed size)) h)

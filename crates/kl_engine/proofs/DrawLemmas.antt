@@ -1,5 +1,5 @@
 -- What is printed of a list by the loop that draws its items.
-use Rattle.std.proofs.Common.{◌≡◌, ◌<◌, ◌≤◌, ℕ, zero, suc, ◌+◌, ◌*◌, inl, length, Bool, true, false, List, [], ◌∷◌, ◌++◌, Option, Some, None, Result, Ok, Err, refl, sym, ap, subst, ◌∙◌, arith, append-nil}
+use Rattle.std.proofs.Common.{◌≡◌, ◌<◌, ◌≤◌, ℕ, zero, suc, ◌+◌, inl, length, Bool, true, false, List, [], ◌∷◌, ◌++◌, Option, Some, None, Result, Ok, Err, refl, sym, ap, subst, ◌∙◌, arith, append-nil}
 use Rattle.std.specs.Prelude.{reverse, ⊤}
 use Rattle.std.specs.Option.{option_map}
 use Rattle.std.proofs.lemmas.Option.{same_Some}
@@ -11,7 +11,7 @@ use Rattle.kl_value.specs.Written.{text_of, separator}
 use Rattle.kl_value.specs.declared.Kind.TheVariants as kind
 use Rattle.kl_value.specs.declared.Value.{Value}
 use Rattle.kl_value.specs.declared.Value.TheVariants as value
-use Rattle.kl_outcome.specs.Outcome.{fine, flow, items_in}
+use Rattle.kl_outcome.specs.Outcome.{End, fine, overflow, flow, items_in}
 use Rattle.kl_outcome.proofs.Flows.{flow_items}
 use Rattle.kl_core.specs.Core.{core}
 use Rattle.kl_core.specs.Trees.{Tree}
@@ -24,12 +24,14 @@ use Rattle.kl_ship.specs.Meaning.{coming, plan}
 use Rattle.kl_ship.specs.Nodes.{Node}
 use Rattle.kl_ship.specs.declared.plan.Scan.{Scan}
 use Rattle.kl_eval.specs.declared.stop.EvalStop.{EvalStop}
+use Rattle.kl_eval.specs.declared.stop.EvalStop.TheVariants as why
 use Rattle.kl_scans.specs.Held.{Owned, Uses, nothing}
 use Rattle.kl_scans.specs.Moves.{Closes}
 use Rattle.kl_scans.proofs.Moving.{moves_none}
 use Rattle.kl_cursor.specs.Laziness.{Frugal, Handed, NextsLazily}
-use Rattle.kl_cursor.specs.Left.{Snap, reading, fresh, uses}
+use Rattle.kl_cursor.specs.Left.{Snap, reading, fresh, uses, left as left_of}
 use Rattle.kl_cursor.specs.Measure.{most}
+use Rattle.kl_cursor.specs.Pulling.{Quiet, pulls}
 use Rattle.kl_cursor.specs.Sense.{IsToldAt, Stands}
 use Rattle.kl_cursor.specs.Steps.{Ends, Gives, Nexts, Stops}
 use Rattle.kl_cursor.proofs.Calls.{owned_nothing}
@@ -42,12 +44,13 @@ use Rattle.kl_run.specs.Running.{Runs}
 use Rattle.kl_engine.specs.Answering.{PrintsPage}
 use Rattle.kl_engine.specs.Faults.{Ending}
 use Rattle.kl_engine.specs.Outside.{outside_of}
-use Rattle.kl_engine.specs.Planned.{IsLine}
-use Rattle.kl_engine.specs.Running.{AnswersTerm, HasList, IsListOutcome, IsListTerm, Scanned, SparesRows, StopsList, are_enough, one_more}
+use Rattle.kl_engine.specs.Planned.{HandsFew, HandsWritten, IsLine}
+use Rattle.kl_engine.specs.Running.{AnswersTerm, HasList, IsListOutcome, IsListTerm, Scanned, SparesRows, StopsList, TookMore, are_enough, one_more}
 use Rattle.kl_engine.specs.Showing.{write_fault}
 use Rattle.kl_engine.specs.Verdict.{list_front, value_page}
 use Rattle.kl_engine.specs.declared.fault.Fault.TheVariants as fault
-use Rattle.kl_engine.proofs.DrainLemmas.{drains_ends, drains_on, drains_owned}
+use Rattle.kl_engine.proofs.DrainLemmas.{drains_ends, drains_on, drains_over, drains_owned}
+use Rattle.kl_engine.proofs.FewLemmas.{IsOut, Withheld, driver_unwritten, items_given, lacking, lacks_none, none_times, nothing_handed, out_all, out_grows, out_more, out_none, seen_frugal, took_then, withheld_closed, withheld_none, withheld_on}
 use Rattle.kl_engine.proofs.ListLemmas.{Wanted, closed_moves, closed_scanned, list_enough, list_stopped, list_unwritten, list_wanted, list_whole, more_length, never_enough, puts_part, stopped_scanned, wanted_first, wanted_next, wanted_some, whole_scanned}
 use Rattle.kl_engine.proofs.PutLemmas.{IsPlace, item_put, place_next, puts_line}
 
@@ -69,35 +72,48 @@ past_all first given left (Some n) w more items is few =
     let both : Some ((n + 1) + length given) ≡ Some items = sym (ap (option_map (λ k. k + length given)) more) ∙ sym w ∙ is in
     let same = same_Some _ _ both in omega (arith, same, few)
 
--- where a list began so, what was printed of it
-abbrev pub Fronts : SinkState → List ℕ → SinkState → List ℕ → List Value → Type 0
-Fronts out page out' page' given = (front : SinkState) → Puts {T = Unit {0}} (list_front []) (Ok tt) front [] out page → Puts {T = Unit {0}} (list_front given) (Ok tt) front [] out' page'
+-- where a list began so, what was printed of it, and how many of its items are out
+abbrev pub Fronts : SinkState → List ℕ → SinkState → List ℕ → List Value → ℕ → Type 0
+Fronts out page out' page' given n =
+    (front : SinkState) → Puts {T = Unit {0}} (list_front []) (Ok tt) front [] out page → Puts {T = Unit {0}} (list_front given) (Ok tt) front [] out' page' × IsOut given n front out'
 
 -- rows were handed lazily so far, if it is a loop over one scan
 abbrev pub Spared : Node → World → List Value → Snap → World → Type 0
 Spared p a given s w = (b : Node) (c : Scan) (all : List Value) → IsLine p b c → IsToldAt a → reading a c ≡ Some all → Along (reading a) [] b c all a (length given) s w
 
 -- before each draw: these items were printed, more are wanted, and the cursor has drained so many
-pub record Drawing (p : Node) (first : Option ℕ) (a : World) (place : ℕ) (left : Option ℕ) (env : List Value) (s : Snap) (w : World) (Printed : List Value → Type 0) : Type 0 where
+pub record Drawing (p : Node) (first : Option ℕ) (a : World) (place : ℕ) (left : Option ℕ) (env : List Value) (s : Snap) (w : World) (Printed : List Value → ℕ → Type 0) : Type 0 where
   pub given : List Value
+  -- how many items are out
+  pub out : ℕ
+  pub within : out ≤ length given
   pub at : IsPlace place given
   pub wanted : Wanted first given left
   pub some : are_enough left ≡ false
   pub bare : env ≡ []
   pub drained : Draining [] (fresh p) a given s w
   pub spared : Spared p a given s w
-  pub printed : Printed given
+  pub withheld : Withheld p a out w
+  pub printed : Printed given out
+
+-- Right before a draw, where all items are out if the cursor may read on.
+pub record Ready (p : Node) (first : Option ℕ) (a : World) (place : ℕ) (left : Option ℕ) (env : List Value) (s : Snap) (w : World) (Printed : List Value → ℕ → Type 0) : Type 0 where
+  pub draws : Drawing p first a place left env s w Printed
+  pub all : pulls s ≡ true → draws.out ≡ length draws.given
 
 pub draws_first : (p : Node) (first : Option ℕ) (a : World) (env : List Value) (s : Snap) (out : SinkState) (page : List ℕ) → HasList a p → are_enough first ≡ false → s ≡ fresh p → env ≡ [] → Drawing p first a 0 first env s a (Fronts out page out page)
 draws_first p first a env s out page (u, types, ready) some is bare = record {
   given = [];
+  out = 0;
+  within = omega arith;
   at = refl;
   wanted = wanted_first first;
   some = some;
   bare = bare;
   drained = subst (λ t. Draining [] (fresh p) a [] t a) (sym is) (drains_starts [] (fresh p) a);
   spared = λ b c all line told at. subst (λ t. Along (reading a) [] b c all a 0 t a) (sym (is ∙ ap fresh line.0)) (drawing_starts [] b c all a at line.1 ready.fetch line.2);
-  printed = λ front puts. puts;
+  withheld = withheld_none p a 0 (u, types, ready);
+  printed = λ front puts. (puts, out_none [] front out);
 }
 
 -- closed where there are enough
@@ -109,8 +125,9 @@ enough_number first given None w all items is = cc
 enough_number first given (Some zero) w all items is = let both : Some (0 + length given) ≡ Some items = sym w ∙ is in let same = same_Some _ _ both in omega (arith, same)
 enough_number first given (Some (suc n)) w all items is = absurd (never_enough n all)
 
-closed_spared : (p : Node) (first : Option ℕ) (a : World) (given : List Value) (left : Option ℕ) → Wanted first given left → (t : Snap) (b c : World) (end : Ending) → (length given ≡ 0 → ⊥) → a.settings ≡ b.settings → Spared p a given t b → are_enough left ≡ true → Closes (uses t) b c → SparesRows p end first a c
-closed_spared p first a given left wanted t b c end some kept spared all closes well told body scan rows items line at is enough =
+closed_few : (p : Node) (first : Option ℕ) (a : World) (given : List Value) (left : Option ℕ) → Wanted first given left → (t : Snap) (b c : World) → (length given ≡ 0 → ⊥) → a.settings ≡ b.settings → Spared p a given t b → are_enough left ≡ true → Closes (uses t) b c → IsToldAt a
+    → HandsFew (reading a) a.settings.fetch p first (λ d rows. Handed d rows a c)
+closed_few p first a given left wanted t b c some kept spared all closes told body scan rows items line at is enough =
     let along = spared body scan rows line told at in
     let number = enough_number first given left wanted all items is in (
       along.handed + 0,
@@ -125,8 +142,8 @@ closed_spared p first a given left wanted t b c end some kept spared all closes 
     plus_none n = omega arith
 
 -- nothing was handed where nothing is wanted
-pub none_spared : (p : Node) (first : Option ℕ) (a : World) (end : Ending) → HasList a p → are_enough first ≡ true → SparesRows p end first a a
-none_spared p first a end (u, types, ready) all well told body scan rows items line at is enough =
+none_few : (p : Node) (first : Option ℕ) (a : World) → HasList a p → are_enough first ≡ true → HandsFew (reading a) a.settings.fetch p first (λ c rows. Handed c rows a a)
+none_few p first a (u, types, ready) all body scan rows items line at is enough =
     let number : items ≡ 0 = enough_number first [] first (wanted_first first) all items is in (
       0,
       handed_none scan a,
@@ -139,13 +156,17 @@ none_spared p first a end (u, types, ready) all well told body scan rows items l
         times = inl (0, none_times a.settings.fetch);
       },
     )
-  where
-    none_times : (n : ℕ) → 0 ≡ 0 * n
-    none_times n = omega arith
 
--- a run that does not end well says nothing of it
-pub never_spared : (p : Node) (first : Option ℕ) (a b : World) (end : Ending) → (end ≡ None → ⊥) → SparesRows p end first a b
-never_spared p first a b end never well = absurd (never well)
+pub none_spared : (p : Node) (first : Option ℕ) (a : World) (end : Ending) (out out' : SinkState) → HasList a p → are_enough first ≡ true → SparesRows p end first a a out out'
+none_spared p first a end out out' list all = record { few = λ well told. none_few p first a list all; written = λ failed told. nothing_handed p a out out' list }
+
+-- nothing is begun
+pub unbegun_spared : (p : Node) (first : Option ℕ) (a : World) (end : Ending) (out out' : SinkState) → HasList a p → (end ≡ None → ⊥) → SparesRows p end first a a out out'
+unbegun_spared p first a end out out' list never = record { few = λ well. absurd (never well); written = λ failed told. nothing_handed p a out out' list }
+
+-- a run that does not end well
+ill_spared : (p : Node) (first : Option ℕ) (a b : World) (end : Ending) (out out' : SinkState) → (end ≡ None → ⊥) → (IsToldAt a → HandsWritten (reading a) a.settings.fetch p out out' (λ c rows. Handed c rows a b)) → SparesRows p end first a b out out'
+ill_spared p first a b end out out' never written = record { few = λ well. absurd (never well); written = λ failed told. written told }
 
 module _ (p : Node) (first : Option ℕ) (a : World) (place : ℕ) (left : Option ℕ) (env : List Value) (s : Snap) (w : World) (out0 : SinkState) (page0 : List ℕ) (out : SinkState) (page : List ℕ) (d : Drawing p first a place left env s w (Fronts out0 page0 out page)) where
   pub draws_owned : Owned (uses s) w
@@ -155,11 +176,66 @@ module _ (p : Node) (first : Option ℕ) (a : World) (place : ℕ) (left : Optio
   draws_stands (u, types, ready) = subst (λ vs. Stands w s (reverse vs)) (sym d.bare) (drains_stands [] (fresh p) a d.given s w d.drained ([], kind.List, u, tt, types, ready))
 
   -- what was held back was written, or not needed to be
-  readied : (out' : SinkState) (page' : List ℕ) → Puts {T = Unit {0}} [] (Ok tt) out page out' page' → Fronts out0 page0 out' page' d.given
-  readied out' page' r = λ front puts. subst (λ bs. Puts bs (Ok tt) front [] out' page') (append-nil (list_front d.given)) (puts_line (Ok tt) (list_front d.given) [] front out out' [] page page' (d.printed front puts) r)
+  readied : (out' : SinkState) (page' : List ℕ) → Puts {T = Unit {0}} [] (Ok tt) out page out' page' → (front : SinkState) → Puts {T = Unit {0}} (list_front []) (Ok tt) front [] out0 page0 → Puts {T = Unit {0}} (list_front d.given) (Ok tt) front [] out' page'
+  readied out' page' r = λ front puts. subst (λ bs. Puts bs (Ok tt) front [] out' page') (append-nil (list_front d.given)) (puts_line (Ok tt) (list_front d.given) [] front out out' [] page page' (d.printed front puts).0 r)
 
-  pub draws_ready : (out' : SinkState) (page' : List ℕ) (done : Unit {0}) → Puts [] (Ok done) out page out' page' → Drawing p first a place left env s w (Fronts out0 page0 out' page')
-  draws_ready out' page' done r = record { given = d.given; at = d.at; wanted = d.wanted; some = d.some; bare = d.bare; drained = d.drained; spared = d.spared; printed = readied out' page' r }
+  frugal_now : (b : Node) (c : Scan) (all : List Value) → (drawn : ℕ) (t : Snap) (x : World) → x.settings ≡ a.settings → (k : Along (reading a) [] b c all a drawn t x) → Frugal (reading a) a.settings.fetch [] b all drawn k.handed
+  frugal_now b c all drawn t x kept k = subst (λ f. Frugal (reading a) f [] b all drawn k.handed) (ap (λ (q : Settings). q.fetch) kept) (lazy_frugal (reading a) x [] b c all drawn k.handed t k.lazy)
+
+  -- all items are out
+  withheld_now : Withheld p a (length d.given) w
+  withheld_now = λ b c all line told at.
+      let k = d.spared b c all line told at in
+      seen_frugal a b c all (length d.given) k.handed (length d.given) w (omega arith) k.counted (frugal_now b c all (length d.given) s w d.drained.moves.settings k)
+
+  pub draws_ready : (out' : SinkState) (page' : List ℕ) (done : Unit {0}) → Puts [] (Ok done) out page out' page' → (pulls s ≡ true → page' ≡ []) → Ready p first a place left env s w (Fronts out0 page0 out' page')
+  draws_ready out' page' done r flushed = by_case (pulls s) refl
+    where
+      by_case : (y : Bool) → pulls s ≡ y → Ready p first a place left env s w (Fronts out0 page0 out' page')
+      by_case true e = record {
+        draws = record {
+          given = d.given;
+          out = length d.given;
+          within = omega arith;
+          at = d.at;
+          wanted = d.wanted;
+          some = d.some;
+          bare = d.bare;
+          drained = d.drained;
+          spared = d.spared;
+          withheld = withheld_now;
+          printed = λ front puts. let q = readied out' page' r front puts in (q, out_all d.given front out' page' (flushed e) q);
+        };
+        all = λ h. refl;
+      }
+      by_case false e = record {
+        draws = record {
+          given = d.given;
+          out = d.out;
+          within = d.within;
+          at = d.at;
+          wanted = d.wanted;
+          some = d.some;
+          bare = d.bare;
+          drained = d.drained;
+          spared = d.spared;
+          withheld = d.withheld;
+          printed = λ front puts. (readied out' page' r front puts, out_grows d.given d.out front out out' (d.printed front puts).1 (r.done, r.took));
+        };
+        all = λ h. let no : false ≡ true = sym e ∙ h in cc;
+      }
+
+  -- what is lacking where fewer items are out
+  lacks_of : (x : World) (front o : SinkState) → HasList a p → Puts {T = Unit {0}} (list_front []) (Ok tt) front [] out0 page0 → TookMore out o → Withheld p a d.out x → IsToldAt a → HandsWritten (reading a) a.settings.fetch p front o (λ c rows. Handed c rows a x)
+  lacks_of x front o (u, types, ready) puts more h told =
+      lacking p a d.given (items_in (left_of w s [])) d.out x front o
+      (ap items_in (sym (d.drained.same [] kind.List u tt types told)) ∙ items_given d.given (left_of w s [])) d.within
+      (out_grows d.given d.out front out o (d.printed front puts).1 more) told h
+
+  -- what was held back could not be written
+  pub unready_spared : (e : PrintError) (c : World) (out' : SinkState) (page' : List ℕ) → HasList a p → Puts {T = Unit {0}} [] (as_stop (Err e)) out page out' page' → Closes (uses s) w c → (front : SinkState) → Puts {T = Unit {0}} (list_front []) (Ok tt) front [] out0 page0
+      → SparesRows p (Some (write_fault e)) first a c front out'
+  unready_spared e c out' page' list r closes front puts = ill_spared p first a c (Some (write_fault e)) front out' (λ h. cc) (λ told. lacks_of c front out' list puts (r.done, r.took) (withheld_closed p a d.out (uses s) w c closes d.withheld) told)
 
   -- an item is drawn
   module _ (env' : List Value) (v : Value) (t : Snap) (b : World) (same : env' ≡ env) (next : Nexts (reverse env) s (Ok (Some v)) t w b) where
@@ -177,10 +253,31 @@ module _ (p : Node) (first : Option ℕ) (a : World) (place : ℕ) (left : Optio
           ([], sense.0, tt, (d.drained.typed [] kind.List sense.0 tt sense.1).1, told_on nothing (uses s) a w d.drained.moves told)
           (subst (λ vs. NextsLazily (reverse vs) s (Ok (Some v)) t w b) d.bare lazy))
 
-      -- there are enough
-      pub enough_spared : (left' : Option ℕ) (end : Ending) (c : World) → left ≡ one_more left' → are_enough left' ≡ true → Closes (uses t) b c → SparesRows p end first a c
-      enough_spared left' end c is all closes =
-          closed_spared p first a (d.given ++ v ∷ []) left' (wanted_next first d.given v left left' d.wanted is) t b c end (λ none. let more = more_length d.given v in omega (arith, more, none)) (sym further.moves.settings) spared_on all closes
+      module _ (settled : pulls s ≡ true → d.out ≡ length d.given) (quiet : Quiet s w b) where
+        -- the rows that were handed then
+        pub withheld_next : Withheld p a d.out b
+        withheld_next = by_case (pulls s) refl
+          where
+            by_case : (y : Bool) → pulls s ≡ y → Withheld p a d.out b
+            by_case false e = withheld_on p a d.out w b (quiet e) d.withheld
+            by_case true e = λ b' c all line told at.
+                let k = spared_on b' c all line told at in
+                let full = settled e in
+                let size = more_length d.given v in
+                seen_frugal a b' c all (length (d.given ++ v ∷ [])) k.handed d.out b (omega (arith, full, size)) k.counted (frugal_now b' c all (length (d.given ++ v ∷ [])) t b further.moves.settings k)
+
+        -- it was not printed
+        pub unput_spared : (e : PrintError) (c : World) (out' : SinkState) (page' : List ℕ) → Puts {T = Unit {0}} (separator place ++ text_of v) (as_stop (Err e)) out page out' page' → Closes (uses t) b c
+            → (front : SinkState) → Puts {T = Unit {0}} (list_front []) (Ok tt) front [] out0 page0 → SparesRows p (Some (write_fault e)) first a c front out'
+        unput_spared e c out' page' r closes front puts = ill_spared p first a c (Some (write_fault e)) front out' (λ h. cc) (λ told. lacks_of c front out' sense puts (r.done, r.took) (withheld_closed p a d.out (uses t) b c closes withheld_next) told)
+
+        -- there are enough
+        pub enough_spared : (left' : Option ℕ) (end : Ending) (c : World) (out' out'' : SinkState) (page' : List ℕ) (done : Unit {0}) → Puts {T = Unit {0}} (separator place ++ text_of v) (as_stop (Ok done)) out page out' page' → left ≡ one_more left' → are_enough left' ≡ true → Closes (uses t) b c → TookMore out' out''
+            → (front : SinkState) → Puts {T = Unit {0}} (list_front []) (Ok tt) front [] out0 page0 → SparesRows p end first a c front out''
+        enough_spared left' end c out' out'' page' done r is all closes more front puts = record {
+          few = λ well told. closed_few p first a (d.given ++ v ∷ []) left' (wanted_next first d.given v left left' d.wanted is) t b c (λ none. let size = more_length d.given v in omega (arith, size, none)) (sym further.moves.settings) spared_on all closes told;
+          written = λ failed told. lacks_of c front out'' sense puts (took_then out out' out'' (r.done, r.took) more) (withheld_closed p a d.out (uses t) b c closes withheld_next) told;
+        }
 
     pub draws_fewer : most b t < most w s
     draws_fewer = gives.fell
@@ -200,18 +297,21 @@ module _ (p : Node) (first : Option ℕ) (a : World) (place : ℕ) (left : Optio
     module _ (out' : SinkState) (page' : List ℕ) where
       item_of : (r : Result (Unit {0}) PrintError) → Puts (separator place ++ text_of v) (as_stop r) out page out' page' → (front : SinkState) → Puts {T = Unit {0}} (list_front []) (Ok tt) front [] out0 page0
           → Puts (list_front (d.given ++ v ∷ [])) (as_stop r) front [] out' page'
-      item_of r put front puts = item_put r d.given v place front out out' [] page page' d.at (d.printed front puts) put
+      item_of r put front puts = item_put r d.given v place front out out' [] page page' d.at (d.printed front puts).0 put
 
-      pub draws_on : HasList a p → NextsLazily (reverse env) s (Ok (Some v)) t w b → (left' : Option ℕ) (done : Unit {0}) → Puts (separator place ++ text_of v) (as_stop (Ok done)) out page out' page' → left ≡ one_more left' → are_enough left' ≡ false → Drawing p first a 1 left' env' t b (Fronts out0 page0 out' page')
-      draws_on sense lazy left' done put is some = record {
+      pub draws_on : HasList a p → NextsLazily (reverse env) s (Ok (Some v)) t w b → (pulls s ≡ true → d.out ≡ length d.given) → Quiet s w b → (left' : Option ℕ) (done : Unit {0}) → Puts (separator place ++ text_of v) (as_stop (Ok done)) out page out' page' → left ≡ one_more left' → are_enough left' ≡ false → Drawing p first a 1 left' env' t b (Fronts out0 page0 out' page')
+      draws_on sense lazy settled quiet left' done put is some = record {
         given = d.given ++ v ∷ [];
+        out = d.out;
+        within = let size = more_length d.given v in let less = d.within in omega (arith, size, less);
         at = place_next d.given v;
         wanted = wanted_next first d.given v left left' d.wanted is;
         some = some;
         bare = same ∙ d.bare;
         drained = further;
         spared = spared_on sense lazy;
-        printed = item_of (Ok done) put;
+        withheld = withheld_next sense lazy settled quiet;
+        printed = λ front puts. (item_of (Ok done) put front puts, out_more d.given (v ∷ []) d.out front out' d.within (out_grows d.given d.out front out out' (d.printed front puts).1 (put.done, put.took)));
       }
 
       module _ (ks : List DriverKind) (ss : List Source) (marks : ℕ → Bool) (tree : Tree) (files : FilesState) (runs : Runs ks ss marks tree p a) (is_list : IsListTerm (types_of a) tree) (front : SinkState) (puts : Puts {T = Unit {0}} (list_front []) (Ok tt) front [] out0 page0) where
@@ -237,13 +337,48 @@ module _ (p : Node) (first : Option ℕ) (a : World) (place : ℕ) (left : Optio
   pub whole_counted : (t : Snap) (end : Ending) (b : World) → HasList a p → Nexts (reverse env) s (Ok None) t w b → Scanned p end first a b
   whole_counted t end b sense next = whole_scanned p first a d.given s w d.drained end b sense (subst (λ vs. Ends (reverse vs) s w b) d.bare next.0)
 
+  -- all items came, and the rows that were handed at the end
+  past_lacks : (e : End) (b : World) (front o : SinkState) → HasList a p → (pulls s ≡ true → d.out ≡ length d.given) → Quiet s w b → Puts {T = Unit {0}} (list_front []) (Ok tt) front [] out0 page0 → TookMore out o → flow d.given e ≡ coming (plan (reading a) p []) → IsToldAt a
+      → HandsWritten (reading a) a.settings.fetch p front o (λ c rows. Handed c rows a b)
+  past_lacks e b front o list settled quiet puts more is told = by_case (pulls s) refl
+    where
+      by_case : (y : Bool) → pulls s ≡ y → HandsWritten (reading a) a.settings.fetch p front o (λ c rows. Handed c rows a b)
+      by_case true at = lacks_none p a d.given e d.out b front o is (settled at) (out_grows d.given d.out front out o (d.printed front puts).1 more)
+      by_case false at = lacks_of b front o list puts more (withheld_on p a d.out w b (quiet at) d.withheld) told
+
   -- all that it means is less than was wanted
-  pub whole_spared : (t : Snap) (end : Ending) (b : World) → HasList a p → Nexts (reverse env) s (Ok None) t w b → SparesRows p end first a b
-  whole_spared t end b (u, types, ready) next well told body scan rows items line at is enough =
+  whole_few : (t : Snap) (b : World) → HasList a p → Nexts (reverse env) s (Ok None) t w b → IsToldAt a → HandsFew (reading a) a.settings.fetch p first (λ c rows. Handed c rows a b)
+  whole_few t b (u, types, ready) next told body scan rows items line at is enough =
       let gave : flow d.given fine ≡ coming (plan (reading a) p []) = (drains_ends [] (fresh p) a d.given s w d.drained b (subst (λ vs. Ends (reverse vs) s w b) d.bare next.0)).gave [] kind.List u tt types told in
       let all : length (items_in (coming (plan (reading a) p []))) ≡ length d.given = ap (λ f. length (items_in f)) (sym gave) ∙ ap length (flow_items d.given fine) in
       let after = next_wanted left d.some in
       absurd (past_all first d.given left after.0 d.wanted after.1 items is (omega (arith, enough, all)))
+
+  pub whole_spared : (t : Snap) (end : Ending) (b : World) (o : SinkState) → HasList a p → (pulls s ≡ true → d.out ≡ length d.given) → Quiet s w b → Nexts (reverse env) s (Ok None) t w b → TookMore out o
+      → (front : SinkState) → Puts {T = Unit {0}} (list_front []) (Ok tt) front [] out0 page0 → SparesRows p end first a b front o
+  whole_spared t end b o list settled quiet next more front puts = record {
+    few = λ well told. whole_few t b list next told;
+    written = λ failed told.
+        past_lacks fine b front o list settled quiet puts more
+        ((drains_ends [] (fresh p) a d.given s w d.drained b (subst (λ vs. Ends (reverse vs) s w b) d.bare next.0)).gave [] kind.List list.0 tt list.1 told) told;
+  }
+
+  -- it was stopped, and only an overflow is followed by what else is written
+  pub stop_spared : (t : Snap) (e : EvalStop) (end : Ending) (b : World) (o : SinkState) → HasList a p → (pulls s ≡ true → d.out ≡ length d.given) → Quiet s w b → (end ≡ None → ⊥) → Nexts (reverse env) s (Err e) t w b → TookMore out o
+      → ((given : List Value) (s : SinkState) → Puts {T = Unit {0}} (list_front given) (Ok tt) s [] out page → StopsList given e end s o)
+      → (front : SinkState) → Puts {T = Unit {0}} (list_front []) (Ok tt) front [] out0 page0 → SparesRows p end first a b front o
+  stop_spared t why.Overflow end b o list settled quiet never next more stops front puts =
+      ill_spared p first a b end front o never (λ told.
+      past_lacks overflow b front o list settled quiet puts more
+      ((drains_over [] (fresh p) a d.given s w d.drained b (subst (λ vs. Stops (reverse vs) s why.Overflow w b) d.bare next.0)).gave [] kind.List list.0 tt list.1 told) told)
+  stop_spared t (why.Driver l x) end b o list settled quiet never next more stops front puts = record {
+    few = λ well. absurd (never well);
+    written = λ failed. absurd (driver_unwritten l x _ refl (sym (stops d.given front (d.printed front puts).0).0 ∙ failed));
+  }
+  stop_spared t why.NoMemory end b o list settled quiet never next more stops front puts = record {
+    few = λ well. absurd (never well);
+    written = λ failed. let both : Some fault.NoMemory ≡ Some fault.Write = sym (stops d.given front (d.printed front puts).0).0 ∙ failed in cc;
+  }
 
   -- it was stopped
   pub stop_counted : (t : Snap) (e : EvalStop) (end : Ending) (b : World) → (end ≡ None → ⊥) → Nexts (reverse env) s (Err e) t w b → Scanned p end first a b
@@ -256,21 +391,24 @@ module _ (p : Node) (first : Option ℕ) (a : World) (place : ℕ) (left : Optio
     pub unready_prints : (e : PrintError) (c : World) (out' : SinkState) (page' : List ℕ) → Puts {T = Unit {0}} [] (as_stop (Err e)) out page out' page' → Closes (uses s) w c → Answered (Some (write_fault e)) c out'
     unready_prints e c out' page' r closes =
         list_unwritten ks ss marks tree p first a files runs is_list d.given left d.wanted s w d.drained e c front out' page' (closed_moves p a w c d.given s d.drained closes).0
-        (subst (λ bs. Puts {T = Unit {0}} bs (as_stop (Err e)) front [] out' page') (append-nil (list_front d.given)) (puts_line (Err e) (list_front d.given) [] front out out' [] page page' (d.printed front puts) r))
+        (subst (λ bs. Puts {T = Unit {0}} bs (as_stop (Err e)) front [] out' page') (append-nil (list_front d.given)) (puts_line (Err e) (list_front d.given) [] front out out' [] page page' (d.printed front puts).0 r))
 
     pub whole_prints : (t : Snap) (end : Ending) (b : World) (out' : SinkState) → Nexts (reverse env) s (Ok None) t w b
         → ((given : List Value) (s : SinkState) → Puts {T = Unit {0}} (list_front given) (Ok tt) s [] out page → PrintsPage (value_page (value.List given)) end s out') → Answered end b out'
     whole_prints t end b out' next ends =
-        list_whole ks ss marks tree p first a files runs is_list d.given left d.wanted s w d.drained end b front out' (subst (λ vs. Ends (reverse vs) s w b) d.bare next.0) (ends d.given front (d.printed front puts))
+        list_whole ks ss marks tree p first a files runs is_list d.given left d.wanted s w d.drained end b front out' (subst (λ vs. Ends (reverse vs) s w b) d.bare next.0) (ends d.given front (d.printed front puts).0)
 
     pub stop_prints : (t : Snap) (e : EvalStop) (end : Ending) (b : World) (out' : SinkState) → Nexts (reverse env) s (Err e) t w b
         → ((given : List Value) (s : SinkState) → Puts {T = Unit {0}} (list_front given) (Ok tt) s [] out page → StopsList given e end s out') → Answered end b out'
     stop_prints t e end b out' next ends =
-        list_stopped ks ss marks tree p first a files runs is_list d.given left d.wanted s w d.drained e end b front out' d.some (subst (λ vs. Stops (reverse vs) s e w b) d.bare next.0) (ends d.given front (d.printed front puts))
+        list_stopped ks ss marks tree p first a files runs is_list d.given left d.wanted s w d.drained e end b front out' d.some (subst (λ vs. Stops (reverse vs) s e w b) d.bare next.0) (ends d.given front (d.printed front puts).0)
 
 -- there is no memory for a cursor
 pub unopened_scanned : (p : Node) (first : Option ℕ) (a : World) → Scanned p (Some fault.NoMemory) first a a
 unopened_scanned p first a = record { moves = moves_none nothing a; known = tt; exact = λ well. absurd cc }
+
+pub unopened_spared : (p : Node) (first : Option ℕ) (a : World) (front o : SinkState) → HasList a p → SparesRows p (Some fault.NoMemory) first a a front o
+unopened_spared p first a front o list = unbegun_spared p first a (Some fault.NoMemory) front o list (λ h. cc)
 
 pub unopened_prints : (p : Node) (first : Option ℕ) (a : World) (out : SinkState) (page : List ℕ) (ks : List DriverKind) (ss : List Source) (marks : ℕ → Bool) (tree : Tree) (files : FilesState) → Runs ks ss marks tree p a → IsListTerm (types_of a) tree → (front : SinkState)
     → Puts {T = Unit {0}} (list_front []) (Ok tt) front [] out page

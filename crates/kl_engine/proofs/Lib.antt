@@ -16,6 +16,7 @@ pub mod AnswerLemmas
 pub mod TermLemmas
 pub mod DrainLemmas
 pub mod ListLemmas
+pub mod FewLemmas
 pub mod DrawLemmas
 pub mod RewriteLemmas
 pub mod MeaningLemmas

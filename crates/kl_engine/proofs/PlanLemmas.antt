@@ -1,5 +1,6 @@
 -- What is counted of a plan that was run over the sources of a program.
 use Rattle.std.proofs.Common.{inl, true, ◌≡◌, ℕ, Bool, List, [], map, Option, Some, None, refl, sym, ap, subst, ◌∙◌, arith}
+use Rattle.kl_outside.specs.Sinks.{SinkState}
 use Rattle.kl_outcome.specs.Outcome.{Name}
 use Rattle.kl_value.specs.declared.Kind.TheVariants as kind
 use Rattle.kl_value.specs.declared.Value.{Value}
@@ -36,7 +37,8 @@ use Rattle.kl_sources.specs.Attaching.{MayAttach, world_of}
 use Rattle.kl_sources.specs.Sources.{HaveValues}
 use Rattle.kl_sources.specs.declared.source.Source.{Source}
 use Rattle.kl_engine.specs.Faults.{Ending}
-use Rattle.kl_engine.specs.Planned.{AreStartsOf, CountsScansAlone, HandsFew, IsEarly, IsLine, PlanOf, PlansTerm, RowsHanded, counted}
+use Rattle.kl_engine.specs.declared.fault.Fault.TheVariants as fault
+use Rattle.kl_engine.specs.Planned.{AreStartsOf, CountsScansAlone, HandsFew, HandsWritten, IsEarly, IsLine, PlanOf, PlansTerm, RowsHanded, counted}
 use Rattle.kl_engine.specs.Rewritten.{IsRewrittenTo}
 use Rattle.kl_engine.specs.Running.{HasList, IsListTerm, Scanned, SparesRows}
 use Rattle.kl_engine.proofs.RewriteLemmas.{rewritten_keeps}
@@ -95,8 +97,9 @@ module _ (ks : List DriverKind) (ss : List Source) (u : Tree) (p : Node) (planne
   pub translated_plan : (on : Bool) (marks : ℕ → Bool) (first : Option ℕ) (end : Ending) (t given : Tree) → given ≡ t → IsRewrittenTo on given steps u → (IsEarly end → ⊥)
       → (end ≡ None → first ≡ None → (vs : List (Name × Value)) × HaveValues ks marks 0 ss vs → (R : Readings) × ReadsMarked ks ss marks R × StartsCounted R p trace.starts)
       → (fetch : ℕ) (old new : List State) → (end ≡ None → (vs : List (Name × Value)) × HaveValues ks marks 0 ss vs → (R : Readings) × ReadsMarked ks ss marks R × HandsFew R fetch p first (RowsHanded old new))
-      → PlanOf (λ q. PlansTerm on ks ss marks first end t trace.steps q (counted trace.starts fetch old new)) end trace.steps (Some p)
-  translated_plan on marks first end t given is rewritten late exact fetch old new few =
+      → (blank printed : SinkState) → (end ≡ Some fault.Write → (vs : List (Name × Value)) × HaveValues ks marks 0 ss vs → (R : Readings) × ReadsMarked ks ss marks R × HandsWritten R fetch p blank printed (RowsHanded old new))
+      → PlanOf (λ q. PlansTerm on ks ss marks first end t trace.steps q (counted trace.starts fetch old new blank printed)) end trace.steps (Some p)
+  translated_plan on marks first end t given is rewritten late exact fetch old new few blank printed written =
       let same : trace.steps ≡ steps = ap (λ (r : Trace). r.steps) rest ∙ fresh.steps in
       let led : IsRewrittenTo on t steps u = subst (λ x. IsRewrittenTo on x steps u) is rewritten in
       inl (
@@ -109,6 +112,7 @@ module _ (ks : List DriverKind) (ss : List Source) (u : Tree) (p : Node) (planne
           means = means_term (ships_of ks ss) t u p planned (rewritten_keeps on t u steps led);
           exact = exact;
           few = few;
+          written = written;
         },
         late,
       )
@@ -139,9 +143,19 @@ few_rows R fetch p first Was Is more few b c all items line told wanted enough =
 line_lists : (ks : List DriverKind) (ss : List Source) (marks : ℕ → Bool) (t : Tree) (p b : Node) (c : Scan) (w : World) → Runs ks ss marks t p w → IsLine p b c → (s : Ground) → CoreTypes (types_of w) [] t s → (u : Ground) × (s ≡ coll kind.List u)
 line_lists ks ss marks t p b c w runs line s of = let typed = subst (λ q. TypesAt w [] q s) line.0 (runs.typed s of) in (typed.0, typed.3)
 
+written_rows : (R : Readings) (fetch : ℕ) (p : Node) (blank printed : SinkState) (Was Is : Scan → ℕ → Type 0) → ((c : Scan) (rows : ℕ) → Was c rows → Is c rows) → HandsWritten R fetch p blank printed Was → HandsWritten R fetch p blank printed Is
+written_rows R fetch p blank printed Was Is more h b c all items line told some fits lacks = let x = h b c all items line told some fits lacks in (x.0, more c x.0 x.1, x.2, x.3)
+
 pub plan_few : (ks : List DriverKind) (ss : List Source) (marks : ℕ → Bool) (t : Tree) (p : Node) (ds : List State) (a b : World) (end : Ending) (first : Option ℕ) (listed : Bool) → Runs ks ss marks t p a → EachSteps (MayAttach marks ss) ds a.drivers
-    → (((s : Ground) → CoreTypes (types_of a) [] t s → (u : Ground) × (s ≡ coll kind.List u)) → listed ≡ true) → (listed ≡ true → SparesRows p end first a b) → end ≡ None → IsToldAt a
+    → (((s : Ground) → CoreTypes (types_of a) [] t s → (u : Ground) × (s ≡ coll kind.List u)) → listed ≡ true) → (out out' : SinkState) → (listed ≡ true → SparesRows p end first a b out out') → end ≡ None → IsToldAt a
     → HandsFew (reading a) a.settings.fetch p first (RowsHanded ds b.drivers)
-plan_few ks ss marks t p ds a b end first listed runs attached lists spares well told b' c all items line =
+plan_few ks ss marks t p ds a b end first listed runs attached lists out out' spares well told b' c all items line =
     few_rows (reading a) a.settings.fetch p first (λ c rows. Handed c rows a b) (RowsHanded ds b.drivers) (rows_handed marks ss ds a b attached)
-    (spares (lists (line_lists ks ss marks t p b' c a runs line)) well told) b' c all items line
+    ((spares (lists (line_lists ks ss marks t p b' c a runs line))).few well told) b' c all items line
+
+pub plan_written : (ks : List DriverKind) (ss : List Source) (marks : ℕ → Bool) (t : Tree) (p : Node) (ds : List State) (a b : World) (end : Ending) (first : Option ℕ) (listed : Bool) → Runs ks ss marks t p a → EachSteps (MayAttach marks ss) ds a.drivers
+    → (((s : Ground) → CoreTypes (types_of a) [] t s → (u : Ground) × (s ≡ coll kind.List u)) → listed ≡ true) → (out out' : SinkState) → (listed ≡ true → SparesRows p end first a b out out') → end ≡ Some fault.Write → IsToldAt a
+    → HandsWritten (reading a) a.settings.fetch p out out' (RowsHanded ds b.drivers)
+plan_written ks ss marks t p ds a b end first listed runs attached lists out out' spares failed told b' c all items line =
+    written_rows (reading a) a.settings.fetch p out out' (λ c rows. Handed c rows a b) (RowsHanded ds b.drivers) (rows_handed marks ss ds a b attached)
+    ((spares (lists (line_lists ks ss marks t p b' c a runs line))).written failed told) b' c all items line

@@ -1,8 +1,9 @@
 -- The plan of a program that is run, and what is counted of it.
-use Rattle.std.specs.Prelude.{◌≡◌, ◌≤◌, ◌<◌, ◌^◌, ◌⊎◌, ℕ, ◌+◌, Bool, List, [], length, map, Option, Some, None, slice_get, ⊤}
+use Rattle.std.specs.Prelude.{◌≡◌, ◌≤◌, ◌<◌, ◌^◌, ◌⊎◌, ℕ, ◌+◌, Bool, List, [], ◌++◌, length, map, take, Option, Some, None, slice_get, ⊤}
 use Rattle.std.specs.Option.{option_map}
 use Rattle.kl_outside.specs.Counts.{Rose}
 use Rattle.kl_outside.specs.Files.{FilesState}
+use Rattle.kl_outside.specs.Sinks.{SinkState}
 use Rattle.kl_outcome.specs.Outcome.{Name, items_in}
 use Rattle.kl_value.specs.declared.Kind.TheVariants as kind
 use Rattle.kl_value.specs.declared.Value.{Value}
@@ -19,7 +20,7 @@ use Rattle.kl_ship.specs.Nodes.{Node, view}
 use Rattle.kl_ship.specs.Numbers.{scans_in}
 use Rattle.kl_ship.specs.declared.plan.Plan.{Plan}
 use Rattle.kl_ship.specs.declared.plan.Scan.{Scan}
-use Rattle.kl_cursor.specs.Laziness.{Frugal}
+use Rattle.kl_cursor.specs.Laziness.{ByTimes, Frugal, IsFront}
 use Rattle.kl_run.specs.Counted.{AsksCounted, ReadsMarked, StartsCounted}
 use Rattle.kl_run.specs.Planned.{IsPlanOf, MeansTerm, ships_of}
 use Rattle.kl_sources.specs.Sources.{names_of, HaveValues}
@@ -29,7 +30,7 @@ use Rattle.kl_engine.specs.Commands.{Command, Program as AProgram}
 use Rattle.kl_engine.specs.Faults.{Ending}
 use Rattle.kl_engine.specs.Reading.{IsProgramOf}
 use Rattle.kl_engine.specs.Rewritten.{IsRewrittenTo, term_in}
-use Rattle.kl_engine.specs.Verdict.{AreMarks, IsInputsFault}
+use Rattle.kl_engine.specs.Verdict.{AreMarks, IsInputsFault, list_front}
 use Rattle.kl_engine.specs.declared.fault.Fault.TheVariants as fault
 use Rattle.kl_engine.specs.declared.run.Ran.{Ran}
 use Rattle.kl_engine.specs.declared.top.Purpose.TheVariants as purpose
@@ -72,19 +73,33 @@ HandsFew R fetch p first WereHanded =
     (b : Node) (c : Scan) (all : List Value) (items : ℕ) → IsLine p b c → R c ≡ Some all → first ≡ Some items → items ≤ length (items_in (coming (plan R p [])))
     → (rows : ℕ) × WereHanded c rows × (items ≡ 0 → rows ≡ 0) × Frugal R fetch [] b all items rows
 
+-- a sink that tells its bytes took fewer of a list than so many first items come to
+abbrev pub LacksItem : List Value → ℕ → SinkState → SinkState → Type 0
+LacksItem vs items old new = (was taken : List ℕ) × (old.taken ≡ Some was) × (new.taken ≡ Some (was ++ taken)) × (length taken < length (list_front (take items vs)))
+
+-- Where the last of so many first items of such a loop was not written whole, its driver handed fewer rows than these take and are
+-- fetched at once.
+abbrev pub HandsWritten : Readings → ℕ → Node → SinkState → SinkState → (Scan → ℕ → Type 0) → Type 0
+HandsWritten R fetch p old new WereHanded =
+    (b : Node) (c : Scan) (all : List Value) (items : ℕ) → IsLine p b c → R c ≡ Some all → 0 < items → items ≤ length (items_in (coming (plan R p [])))
+    → LacksItem (items_in (coming (plan R p []))) items old new
+    → (rows : ℕ) × WereHanded c rows × ((front : ℕ) → IsFront R [] b all items front → rows < front + fetch) × ByTimes fetch all rows
+
 -- a driver's count of rows rose by so many, where it does not come to its greatest value
 abbrev pub RowsHanded : List State → List State → Scan → ℕ → Type 0
 RowsHanded old new c rows = (x y : State) → slice_get old c.driver ≡ Some x → slice_get new c.driver ≡ Some y → x.handed + rows < 2 ^ 64 → y.handed ≡ x.handed + rows
 
--- what is counted of a plan's scans, and what its drivers counted, where so many rows are fetched at once
+-- what is counted of a plan's scans, what its drivers counted, where so many rows are fetched at once, and what was printed
 pub record Counts : Type 0 where
   pub starts : List (ℕ × ℕ)
   pub fetch : ℕ
   pub old : List State
   pub new : List State
+  pub blank : SinkState
+  pub printed : SinkState
 
-abbrev pub counted : List (ℕ × ℕ) → ℕ → List State → List State → Counts
-counted starts fetch old new = record { starts = starts; fetch = fetch; old = old; new = new }
+abbrev pub counted : List (ℕ × ℕ) → ℕ → List State → List State → SinkState → SinkState → Counts
+counted starts fetch old new blank printed = record { starts = starts; fetch = fetch; old = old; new = new; blank = blank; printed = printed }
 
 -- ---- the plan of a program
 
@@ -102,6 +117,9 @@ pub record PlansTerm (on : Bool) (ks : List DriverKind) (ss : List Source) (mark
   -- where only so many first items are drawn, few rows were handed to a loop over one scan
   pub few : end ≡ None → (vs : List (Name × Value)) × HaveValues ks marks 0 ss vs
       → (R : Readings) × ReadsMarked ks ss marks R × HandsFew R counts.fetch p first (RowsHanded counts.old counts.new)
+  -- and where the output fails
+  pub written : end ≡ Some fault.Write → (vs : List (Name × Value)) × HaveValues ks marks 0 ss vs
+      → (R : Readings) × ReadsMarked ks ss marks R × HandsWritten R counts.fetch p counts.blank counts.printed (RowsHanded counts.old counts.new)
 
 -- the plan of the program that a text is
 abbrev pub PlansText : Bool → List DriverKind → List Source → Option ℕ → Ending → List ℕ → ℕ → Node → Counts → Type 0

@@ -1,5 +1,6 @@
 -- What the private functions of `run` and `types` answer. No public contract cites this.
 use Rattle.std.specs.Prelude.{◌≡◌, ◌⊎◌, ℕ, ◌+◌, ◌==◌, ◌<◌, nat_lt, Bool, true, false, List, [], ◌++◌, length, Option, Some, None, Result, Ok, Err, slice_get, ⊤}
+use Rattle.std.specs.Io.KnownBytes.{append_known}
 use Rattle.kl_outside.specs.Counts.{Rose}
 use Rattle.kl_outside.specs.Sinks.{SinkState, TookPart, WritesWhole}
 use Rattle.kl_outside.specs.declared.stop.Stop.TheVariants as stop
@@ -38,7 +39,7 @@ use Rattle.kl_engine.specs.Answering.{FollowsVerdict, PrintsPage, IsOutside, IsD
 use Rattle.kl_engine.specs.Answering.{HasTextFault, IsOneOf, Unprinted, IsUnreadFault, NeedsDrivers}
 use Rattle.kl_engine.specs.Faults.{Ending}
 use Rattle.kl_engine.specs.Outside.{Outside}
-use Rattle.kl_engine.specs.Planned.{HandsFew}
+use Rattle.kl_engine.specs.Planned.{HandsFew, HandsWritten}
 use Rattle.kl_infer.specs.Numbers.{limit}
 use Rattle.kl_infer.specs.Printed.{scheme_text}
 use Rattle.kl_engine.specs.Verdict.{Verdict, value_page, cut, refused, list_front, overflowing, scheme_line, scheme_lines, cut_list, GivesList, IsMeant, IsDone}
@@ -107,9 +108,14 @@ pub record Scanned (p : Node) (end : Ending) (first : Option ℕ) (a b : World) 
   pub known : AreOf (scans_in p) moves.events
   pub exact : end ≡ None → first ≡ None → IsToldAt a → (price : Scan → ℕ) → paid price moves.events ≡ reached (reading a) price p []
 
--- where a list ends well and contents are told, few rows were handed to a loop over one scan
-abbrev pub SparesRows : Node → Ending → Option ℕ → World → World → Type 0
-SparesRows p end first a b = end ≡ None → IsToldAt a → HandsFew (reading a) a.settings.fetch p first (λ c rows. Handed c rows a b)
+-- where a list ends well, or the output fails, and contents are told, few rows were handed to a loop over one scan
+pub record SparesRows (p : Node) (end : Ending) (first : Option ℕ) (a b : World) (out out' : SinkState) : Type 0 where
+  pub few : end ≡ None → IsToldAt a → HandsFew (reading a) a.settings.fetch p first (λ c rows. Handed c rows a b)
+  pub written : end ≡ Some fault.Write → IsToldAt a → HandsWritten (reading a) a.settings.fetch p out out' (λ c rows. Handed c rows a b)
+
+-- a sink took some bytes
+abbrev pub TookMore : SinkState → SinkState → Type 0
+TookMore out out' = (taken : List ℕ) × (out'.taken ≡ append_known out.taken taken)
 
 -- a plan of a list makes sense in a session
 abbrev pub HasList : World → Node → Type 0

@@ -1,5 +1,5 @@
 //! Lists, which are printed as they are drawn.
-ghost use Rattle.std.specs.Prelude.{◌≡◌, ◌++◌, ℕ, Bool, List, [], None, Ok, codes, false, ⊤};
+ghost use Rattle.std.specs.Prelude.{◌≡◌, ◌++◌, ℕ, Bool, List, [], None, Ok, codes, false, true, ⊤};
 ghost use Rattle.kl_outside.specs.Files.{FilesState};
 ghost use Rattle.kl_outside.specs.Sinks.{SinkState, WritesWhole};
 ghost use Rattle.kl_exchange.specs.Printing.{Puts, as_stop};
@@ -12,12 +12,14 @@ ghost use Rattle.kl_core.specs.Typing.{HaveSources};
 ghost use Rattle.kl_ask.specs.Driver.{DriverKind};
 ghost use Rattle.kl_ask.specs.World.{types_of, values_of};
 ghost use Rattle.kl_ship.specs.Nodes.{view};
+ghost use Rattle.kl_cursor.specs.Left.{snap};
+ghost use Rattle.kl_cursor.specs.Pulling.{pulls};
 ghost use Rattle.kl_sources.specs.declared.source.Source.{Source};
 ghost use Rattle.kl_run.specs.Running.{Runs};
 ghost use Rattle.kl_engine.specs.Answering.{PrintsPage};
 ghost use Rattle.kl_engine.specs.Faults.{ending};
 ghost use Rattle.kl_engine.specs.Outside.{outside_of};
-ghost use Rattle.kl_engine.specs.Running.{AnswersTerm, HasList, IsListOutcome, IsListTerm, Scanned, SparesRows, StopsList, are_enough, one_more};
+ghost use Rattle.kl_engine.specs.Running.{AnswersTerm, HasList, IsListOutcome, IsListTerm, Scanned, SparesRows, StopsList, TookMore, are_enough, one_more};
 ghost use Rattle.kl_engine.specs.Verdict.{list_front, value_page};
 
 use crate::fault::Fault;
@@ -54,7 +56,7 @@ pub fn print_list<S: Sink>(
         (outside_of files (⟦<Session as Seen>⟧.world session.old).drivers (S.state out.old))
         (outside_of files (⟦<Session as Seen>⟧.world session.new).drivers (S.state out.new)) }
     ensures scanned { Scanned (view plan.now) (ending result) first (⟦<Session as Seen>⟧.world session.old) (⟦<Session as Seen>⟧.world session.new) }
-    ensures spares { SparesRows (view plan.now) (ending result) first (⟦<Session as Seen>⟧.world session.old) (⟦<Session as Seen>⟧.world session.new) }
+    ensures spares { SparesRows (view plan.now) (ending result) first (⟦<Session as Seen>⟧.world session.old) (⟦<Session as Seen>⟧.world session.new) (S.state out.old) (S.state out.new) }
 {
     let mut page = Page::new();
     match begin(&mut page, out) {
@@ -79,8 +81,9 @@ fn begin<S: Sink>(page: &mut Page, out: &mut S) -> Result<(), PrintError>
 
 // The end of a list that is whole.
 fn end<S: Sink>(page: &mut Page, out: &mut S) -> Result<(), Fault>
-    ensures { (given : List Value) (first : SinkState) → Puts {T = Unit {0}} (list_front given) (Ok tt) first [] (S.state out.old) page.old
+    ensures ends { (given : List Value) (first : SinkState) → Puts {T = Unit {0}} (list_front given) (Ok tt) first [] (S.state out.old) page.old
         → PrintsPage (value_page (value.List given)) (ending result) first (S.state out.new) }
+    ensures more { TookMore (S.state out.old) (S.state out.new) }
 {
     match close(page, out) {
         Ok(()) => Ok(()),
@@ -139,7 +142,8 @@ fn print_items<S: Sink>(
         (outside_of files (⟦<Session as Seen>⟧.world session.old).drivers front)
         (outside_of files (⟦<Session as Seen>⟧.world session.new).drivers (S.state out.new)) }
     ensures scanned { Scanned (view plan.now) (ending result) first (⟦<Session as Seen>⟧.world session.old) (⟦<Session as Seen>⟧.world session.new) }
-    ensures spares { SparesRows (view plan.now) (ending result) first (⟦<Session as Seen>⟧.world session.old) (⟦<Session as Seen>⟧.world session.new) }
+    ensures spares { (front : SinkState) → Puts {T = Unit {0}} (list_front []) (Ok tt) front [] (S.state out.old) page.old
+        → SparesRows (view plan.now) (ending result) first (⟦<Session as Seen>⟧.world session.old) (⟦<Session as Seen>⟧.world session.new) front (S.state out.new) }
 {
     match open_plan(alloc, plan, &[]) {
         Ok(cursor) => {
@@ -192,7 +196,8 @@ fn print_item<S: Sink>(
 
 // What is printed is written before the cursor may wait for a source.
 fn ready<S: Sink>(cursor: &Cursor<'_>, page: &mut Page, out: &mut S) -> Result<(), PrintError>
-    ensures { Puts [] (as_stop result) (S.state out.old) page.old (S.state out.new) page.new }
+    ensures puts { Puts [] (as_stop result) (S.state out.old) page.old (S.state out.new) page.new }
+    ensures flushes { pulls (snap cursor.now.at) ≡ true → page.new ≡ [] }
 {
     if cursor.may_pull() {
         page.flush(out)
@@ -206,6 +211,7 @@ fn stopped<S: Sink>(stop: EvalStop, page: &mut Page, out: &mut S) -> Result<(), 
     ensures stops { (given : List Value) (first : SinkState) → Puts {T = Unit {0}} (list_front given) (Ok tt) first [] (S.state out.old) page.old
         → StopsList given stop (ending result) first (S.state out.new) }
     ensures never { ending result ≡ None → ⊥ }
+    ensures more { TookMore (S.state out.old) (S.state out.new) }
 {
     match stop {
         EvalStop::Overflow => match page.flush(out) {

@@ -33,12 +33,13 @@ ghost use Rattle.kl_type.specs.Ground.{Ground, IsProper};
 ghost use Rattle.kl_engine.specs.Answering.{DoesText, IsIdle};
 ghost use Rattle.kl_engine.specs.Faults.{ending};
 ghost use Rattle.kl_engine.specs.Outside.{outside_of};
-ghost use Rattle.kl_engine.specs.Planned.{AsksOf, CountsScansAlone, HandsFew, IsEarly, IsUnrun, PlanOf, PlansTerm, PlansText, RowsHanded, counted, plan_in};
+ghost use Rattle.kl_engine.specs.Planned.{AsksOf, CountsScansAlone, HandsFew, HandsWritten, IsEarly, IsUnrun, PlanOf, PlansTerm, PlansText, RowsHanded, counted, plan_in};
 ghost use Rattle.kl_engine.specs.Reading.{WasInScope};
 ghost use Rattle.kl_engine.specs.Rewritten.{IsRewrittenTo};
 ghost use Rattle.kl_engine.specs.Running.{AnswersTerm, DoneWith, DoneMeaning, HasList, IsListTerm, Scanned, SparesRows};
 ghost use Rattle.kl_engine.specs.Running.{IsTermOutcome, IsListScheme, IsListOutcome, IsValueOutcome, fault_of};
 ghost use Rattle.kl_engine.specs.Typing.{IsTyped};
+ghost use Rattle.kl_engine.specs.declared.fault.Fault.TheVariants as fault;
 ghost use Rattle.kl_engine.specs.declared.top.Purpose.TheVariants.{Run};
 
 use crate::cut::cut;
@@ -102,7 +103,7 @@ pub fn run<S: Sink>(
     ensures does { (files : FilesState) → DoesText sources.items (Run how.first) text.now (ending result)
         (outside_of files (map (λ d. (Driver-box d).state d.value) drivers.old.items) (S.state out.old))
         (outside_of files (map (λ d. (Driver-box d).state d.value) drivers.new.items) (S.state out.new)) }
-    ensures plan { PlanOf (λ p. PlansText how.settings.rewrite (kinds_of (map (λ d. (Driver-box d).state d.value) drivers.old.items)) sources.items how.first (ending result) text.now ran.new.trace.steps p (counted ran.new.trace.starts how.settings.fetch (map (λ d. (Driver-box d).state d.value) drivers.old.items) (map (λ d. (Driver-box d).state d.value) drivers.new.items)))
+    ensures plan { PlanOf (λ p. PlansText how.settings.rewrite (kinds_of (map (λ d. (Driver-box d).state d.value) drivers.old.items)) sources.items how.first (ending result) text.now ran.new.trace.steps p (counted ran.new.trace.starts how.settings.fetch (map (λ d. (Driver-box d).state d.value) drivers.old.items) (map (λ d. (Driver-box d).state d.value) drivers.new.items) (S.state out.old) (S.state out.new)))
         (ending result) ran.new.trace.steps (plan_in ran.new.plan) }
     ensures asks { AsksOf (plan_in ran.new.plan) ran.new.trace.starts (map (λ d. (Driver-box d).state d.value) drivers.old.items) (map (λ d. (Driver-box d).state d.value) drivers.new.items) }
     ensures alone { CountsScansAlone (plan_in ran.new.plan) ran.new.trace }
@@ -133,7 +134,7 @@ fn run_program<S: Sink>(
         (outside_of files (map (λ d. (Driver-box d).state d.value) drivers.old.items) (S.state out.old))
         (outside_of files (map (λ d. (Driver-box d).state d.value) drivers.new.items) (S.state out.new)) }
     ensures plan { PlanOf (λ p. PlansTerm how.settings.rewrite (kinds_of (map (λ d. (Driver-box d).state d.value) drivers.old.items)) sources.items (is_marked scoped.now) how.first (ending result)
-        (term_of (decls_of scoped.now.program.defs) (view scoped.now.program.last) scoped.now.sources) ran.new.trace.steps p (counted ran.new.trace.starts how.settings.fetch (map (λ d. (Driver-box d).state d.value) drivers.old.items) (map (λ d. (Driver-box d).state d.value) drivers.new.items)))
+        (term_of (decls_of scoped.now.program.defs) (view scoped.now.program.last) scoped.now.sources) ran.new.trace.steps p (counted ran.new.trace.starts how.settings.fetch (map (λ d. (Driver-box d).state d.value) drivers.old.items) (map (λ d. (Driver-box d).state d.value) drivers.new.items) (S.state out.old) (S.state out.new)))
         (ending result) ran.new.trace.steps (plan_in ran.new.plan) }
     ensures asks { AsksOf (plan_in ran.new.plan) ran.new.trace.starts (map (λ d. (Driver-box d).state d.value) drivers.old.items) (map (λ d. (Driver-box d).state d.value) drivers.new.items) }
     ensures alone { CountsScansAlone (plan_in ran.new.plan) ran.new.trace }
@@ -166,7 +167,7 @@ fn answer<S: Sink>(
         (outside_of files (map (λ d. (Driver-box d).state d.value) drivers.old.items) (S.state out.old))
         (outside_of files (map (λ d. (Driver-box d).state d.value) drivers.new.items) (S.state out.new)) }
     ensures plan { PlanOf (λ p. PlansTerm how.settings.rewrite (kinds_of (map (λ d. (Driver-box d).state d.value) drivers.old.items)) sources.items (is_marked scoped.now) how.first (ending result)
-        (term_of (decls_of scoped.now.program.defs) (view scoped.now.program.last) scoped.now.sources) ran.new.trace.steps p (counted ran.new.trace.starts how.settings.fetch (map (λ d. (Driver-box d).state d.value) drivers.old.items) (map (λ d. (Driver-box d).state d.value) drivers.new.items)))
+        (term_of (decls_of scoped.now.program.defs) (view scoped.now.program.last) scoped.now.sources) ran.new.trace.steps p (counted ran.new.trace.starts how.settings.fetch (map (λ d. (Driver-box d).state d.value) drivers.old.items) (map (λ d. (Driver-box d).state d.value) drivers.new.items) (S.state out.old) (S.state out.new)))
         (ending result) ran.new.trace.steps (plan_in ran.new.plan) }
     ensures asks { AsksOf (plan_in ran.new.plan) ran.new.trace.starts (map (λ d. (Driver-box d).state d.value) drivers.old.items) (map (λ d. (Driver-box d).state d.value) drivers.new.items) }
     ensures alone { CountsScansAlone (plan_in ran.new.plan) ran.new.trace }
@@ -204,7 +205,7 @@ fn answer_translated<S: Sink>(
         (outside_of files (map (λ d. (Driver-box d).state d.value) drivers.old.items) (S.state out.old))
         (outside_of files (map (λ d. (Driver-box d).state d.value) drivers.new.items) (S.state out.new)) }
     ensures plan { PlanOf (λ p. PlansTerm how.settings.rewrite (kinds_of (map (λ d. (Driver-box d).state d.value) drivers.old.items)) sources.items (is_marked scoped.now) how.first (ending result)
-        (term_of (decls_of scoped.now.program.defs) (view scoped.now.program.last) scoped.now.sources) ran.new.trace.steps p (counted ran.new.trace.starts how.settings.fetch (map (λ d. (Driver-box d).state d.value) drivers.old.items) (map (λ d. (Driver-box d).state d.value) drivers.new.items)))
+        (term_of (decls_of scoped.now.program.defs) (view scoped.now.program.last) scoped.now.sources) ran.new.trace.steps p (counted ran.new.trace.starts how.settings.fetch (map (λ d. (Driver-box d).state d.value) drivers.old.items) (map (λ d. (Driver-box d).state d.value) drivers.new.items) (S.state out.old) (S.state out.new)))
         (ending result) ran.new.trace.steps (plan_in ran.new.plan) }
     ensures asks { AsksOf (plan_in ran.new.plan) ran.new.trace.starts (map (λ d. (Driver-box d).state d.value) drivers.old.items) (map (λ d. (Driver-box d).state d.value) drivers.new.items) }
     ensures alone { CountsScansAlone (plan_in ran.new.plan) ran.new.trace }
@@ -288,6 +289,9 @@ fn answer_over<S: Sink>(
     ensures few { ending result ≡ None → (vs : List (Name × Value)) × HaveValues (kinds_of (map (λ d. (Driver-box d).state d.value) drivers.old.items)) (is_marked scoped.now) 0 sources.items vs
         → (R : Readings) × ReadsMarked (kinds_of (map (λ d. (Driver-box d).state d.value) drivers.old.items)) sources.items (is_marked scoped.now) R
         × HandsFew R how.settings.fetch (plan_view plan.now) how.first (RowsHanded (map (λ d. (Driver-box d).state d.value) drivers.old.items) (map (λ d. (Driver-box d).state d.value) drivers.new.items)) }
+    ensures written { ending result ≡ Some fault.Write → (vs : List (Name × Value)) × HaveValues (kinds_of (map (λ d. (Driver-box d).state d.value) drivers.old.items)) (is_marked scoped.now) 0 sources.items vs
+        → (R : Readings) × ReadsMarked (kinds_of (map (λ d. (Driver-box d).state d.value) drivers.old.items)) sources.items (is_marked scoped.now) R
+        × HandsWritten R how.settings.fetch (plan_view plan.now) (S.state out.old) (S.state out.new) (RowsHanded (map (λ d. (Driver-box d).state d.value) drivers.old.items) (map (λ d. (Driver-box d).state d.value) drivers.new.items)) }
 {
     let is_list = gives_list(typed);
     match attach_sources(alloc, sources, scoped, drivers) {
@@ -345,7 +349,7 @@ fn answer_plan<S: Sink>(
         (outside_of files (⟦<Session as Seen>⟧.world session.old).drivers (S.state out.old))
         (outside_of files (⟦<Session as Seen>⟧.world session.new).drivers (S.state out.new)) }
     ensures scanned { Scanned (plan_view plan.now) (ending result) first (⟦<Session as Seen>⟧.world session.old) (⟦<Session as Seen>⟧.world session.new) }
-    ensures spares { is_list ≡ true → SparesRows (plan_view plan.now) (ending result) first (⟦<Session as Seen>⟧.world session.old) (⟦<Session as Seen>⟧.world session.new) }
+    ensures spares { is_list ≡ true → SparesRows (plan_view plan.now) (ending result) first (⟦<Session as Seen>⟧.world session.old) (⟦<Session as Seen>⟧.world session.new) (S.state out.old) (S.state out.new) }
 {
     if is_list {
         print_list(alloc, plan, first, session, out)

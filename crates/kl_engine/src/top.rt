@@ -77,7 +77,8 @@ pub struct Answer {
 /// A run makes a plan of the term that its program is rewritten to, unless its words say `--no-rewrite`, and runs that; what it
 /// prints is what the program means in either case. A list is printed as it is drawn, and what was printed is written out before
 /// a source is waited for. With `--first N` no more items are drawn, and to a loop over one source its driver hands fewer rows
-/// than are fetched at once more than these items take. The answer tells the plan, in how many steps the term was rewritten, and
+/// than are fetched at once more than these items take; so it does where `out` fails, of the items of which the last is not whole
+/// on it. The answer tells the plan, in how many steps the term was rewritten, and
 /// how often each scan of the plan was started.
 ///
 /// The drivers are handed in with no source attached and no cursor open. They are left with no cursor open; the sources that
@@ -104,7 +105,7 @@ pub fn kleisli<F: Files, S: Sink, E: Sink>(
         (handed_in (map (λ d. (Driver-box d).state d.value) drivers.old.items) (map (λ d. (Driver-box d).state d.value) drivers.new.items)))
         (E.state err.old) (E.state err.new) }
     ensures plan { let words = command_of (map (λ w. string_bytes w) words.now) in
-        HasPlan (wants_rewriting words) (asked words) result.fault result.trace.steps (plan_in result.plan) (counted result.trace.starts (fetch_of words) (map (λ d. (Driver-box d).state d.value) drivers.old.items) (map (λ d. (Driver-box d).state d.value) drivers.new.items)) (F.state files.old) (F.state files.new)
+        HasPlan (wants_rewriting words) (asked words) result.fault result.trace.steps (plan_in result.plan) (counted result.trace.starts (fetch_of words) (map (λ d. (Driver-box d).state d.value) drivers.old.items) (map (λ d. (Driver-box d).state d.value) drivers.new.items) (S.state out.old) (S.state out.new)) (F.state files.old) (F.state files.new)
         (kinds_of (map (λ d. (Driver-box d).state d.value) drivers.old.items)) }
     ensures asks { AsksOf (plan_in result.plan) result.trace.starts (map (λ d. (Driver-box d).state d.value) drivers.old.items) (map (λ d. (Driver-box d).state d.value) drivers.new.items) }
     ensures trace { CountsScansAlone (plan_in result.plan) result.trace }
@@ -213,7 +214,7 @@ fn do_run<F: Files, S: Sink>(
         (outside_of (F.state files.old) (map (λ d. (Driver-box d).state d.value) drivers.old.items) (S.state out.old))
         (outside_of (F.state files.new) (map (λ d. (Driver-box d).state d.value) drivers.new.items) (S.state out.new)) }
     ensures plan { HasPlan job.now.settings.rewrite (Program (Run job.now.first) (FromFiles job.now.program job.now.catalogue))
-        (ending result) ran.new.trace.steps (plan_in ran.new.plan) (counted ran.new.trace.starts job.now.settings.fetch (map (λ d. (Driver-box d).state d.value) drivers.old.items) (map (λ d. (Driver-box d).state d.value) drivers.new.items)) (F.state files.old) (F.state files.new) (kinds_of (map (λ d. (Driver-box d).state d.value) drivers.old.items)) }
+        (ending result) ran.new.trace.steps (plan_in ran.new.plan) (counted ran.new.trace.starts job.now.settings.fetch (map (λ d. (Driver-box d).state d.value) drivers.old.items) (map (λ d. (Driver-box d).state d.value) drivers.new.items) (S.state out.old) (S.state out.new)) (F.state files.old) (F.state files.new) (kinds_of (map (λ d. (Driver-box d).state d.value) drivers.old.items)) }
     ensures asks { AsksOf (plan_in ran.new.plan) ran.new.trace.starts (map (λ d. (Driver-box d).state d.value) drivers.old.items) (map (λ d. (Driver-box d).state d.value) drivers.new.items) }
     ensures alone { CountsScansAlone (plan_in ran.new.plan) ran.new.trace }
 {
@@ -253,7 +254,7 @@ fn do_gen<S: Sink>(
         (outside_of files (map (λ d. (Driver-box d).state d.value) drivers.old.items) (S.state out.old))
         (outside_of files (map (λ d. (Driver-box d).state d.value) drivers.new.items) (S.state out.new)) }
     ensures plan { (files : FilesState) → HasPlan true (Program (Run None) (Made seed size))
-        (ending result) ran.new.trace.steps (plan_in ran.new.plan) (counted ran.new.trace.starts usual_settings.fetch (map (λ d. (Driver-box d).state d.value) drivers.old.items) (map (λ d. (Driver-box d).state d.value) drivers.new.items)) files files (kinds_of (map (λ d. (Driver-box d).state d.value) drivers.old.items)) }
+        (ending result) ran.new.trace.steps (plan_in ran.new.plan) (counted ran.new.trace.starts usual_settings.fetch (map (λ d. (Driver-box d).state d.value) drivers.old.items) (map (λ d. (Driver-box d).state d.value) drivers.new.items) (S.state out.old) (S.state out.new)) files files (kinds_of (map (λ d. (Driver-box d).state d.value) drivers.old.items)) }
     ensures asks { AsksOf (plan_in ran.new.plan) ran.new.trace.starts (map (λ d. (Driver-box d).state d.value) drivers.old.items) (map (λ d. (Driver-box d).state d.value) drivers.new.items) }
     ensures alone { CountsScansAlone (plan_in ran.new.plan) ran.new.trace }
 {

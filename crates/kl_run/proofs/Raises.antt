@@ -1,11 +1,7 @@
 -- Counts that are raised one by one.
-use Rattle.std.proofs.Common.{◌≡◌, ℕ, zero, suc, ◌+◌, ◌-◌, ◌^◌, ◌≤◌, Bool, true, false, min, cond, refl, ap, ◌∙◌, arith}
+use Rattle.std.proofs.Common.{◌≡◌, ℕ, zero, suc, ◌+◌, ◌-◌, ◌^◌, Bool, true, false, min, cond, refl, ap, ◌∙◌, arith}
 use Rattle.kl_ask.specs.Asked.{raised_by}
 use Rattle.kl_run.specs.Counted.{raised}
-
-pub raised_fits : (n count : ℕ) → count ≤ 2 ^ 64 - 1 → raised n count ≡ raised_by n count
-raised_fits zero count h = omega arith
-raised_fits (suc n) count h = refl
 
 pub raised_new : (n : ℕ) → raised n 0 ≡ min n (2 ^ 64 - 1)
 raised_new zero = refl

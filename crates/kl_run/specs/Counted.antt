@@ -1,5 +1,5 @@
 -- What is counted of the scans of a plan.
-use Rattle.std.specs.Prelude.{◌≡◌, ℕ, zero, suc, ◌+◌, ◌-◌, ◌^◌, ◌&&◌, min, Bool, true, List, [], ◌∷◌, map, Option, Some, None, cond, nat_eq, slice_get}
+use Rattle.std.specs.Prelude.{◌≡◌, ℕ, zero, suc, ◌-◌, ◌^◌, ◌&&◌, min, Bool, true, List, [], ◌∷◌, map, Option, Some, None, cond, nat_eq, slice_get}
 use Rattle.std.specs.List.{Contains, sum_by}
 use Rattle.kl_outcome.specs.Outcome.{Name}
 use Rattle.kl_value.specs.declared.Value.{Value}
@@ -15,7 +15,6 @@ use Rattle.kl_ship.specs.Nodes.{Node}
 use Rattle.kl_ship.specs.Numbers.{scans_in}
 use Rattle.kl_ship.specs.Reached.{reached}
 use Rattle.kl_ship.specs.declared.plan.Scan.{Scan}
-use Rattle.kl_scans.specs.Log.{Event, started, handed}
 use Rattle.kl_sources.specs.Sources.{contents}
 use Rattle.kl_sources.specs.declared.source.Source.{Source}
 
@@ -66,12 +65,6 @@ ReadsMarked ks ss marks R =
     (i : ℕ) (s : Source) (rows : List Value) (c : Scan) (keep : List Name) (tests : List ColTest)
     → slice_get ss i ≡ Some s → marks i ≡ true → contents ks s ≡ Some (Rows rows) → c.driver ≡ s.driver → c.ask ≡ asks.Rows s.name keep tests
     → R c ≡ Some (answers rows keep tests)
-
--- how many rows a driver handed
-abbrev pub rows_by : ℕ → List Event → ℕ
-rows_by d [] = 0
-rows_by d (started c ∷ es) = rows_by d es
-rows_by d (handed c n ∷ es) = cond (nat_eq c.driver d) n 0 + rows_by d es
 
 abbrev pub at_number : ℕ → Scan → ℕ
 at_number n c = cond (nat_eq c.number n) 1 0

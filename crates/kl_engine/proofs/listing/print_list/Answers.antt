@@ -1,5 +1,5 @@
 use Rattle.std.proofs.Common.{sym, ◌∙◌}
-use Rattle.kl_engine.proofs.DrawLemmas.{never_spared, none_prints, none_spared, none_wanted, unbegun_prints, unbegun_scanned}
+use Rattle.kl_engine.proofs.DrawLemmas.{none_prints, none_spared, none_wanted, unbegun_prints, unbegun_scanned, unbegun_spared}
 use Rattle.kl_engine.proofs.listing.print_list.Goals as goal
 
 pub returns-in-Err-clause-prints : goal.returns-in-Err-clause-prints
@@ -10,7 +10,7 @@ returns-in-Err-clause-scanned g c = unbegun_scanned _ _ _ _ (λ well every. cc)
 
 pub returns-then-are_enough-clause-prints : goal.returns-then-are_enough-clause-prints
 returns-then-are_enough-clause-prints g c =
-    λ files ks ss marks t runs list. none_prints _ _ _ _ ks ss marks t files runs list _ _ _ _ _ (sym c.are_enough.ensures ∙ c.if-are_enough.true) c.in-Ok.ensures c.end.ensures
+    λ files ks ss marks t runs list. none_prints _ _ _ _ ks ss marks t files runs list _ _ _ _ _ (sym c.are_enough.ensures ∙ c.if-are_enough.true) c.in-Ok.ensures c.end.ensures.ends
 
 pub returns-then-are_enough-clause-scanned : goal.returns-then-are_enough-clause-scanned
 returns-then-are_enough-clause-scanned g c = unbegun_scanned _ _ _ _ (none_wanted _ (sym c.are_enough.ensures ∙ c.if-are_enough.true) _)
@@ -19,7 +19,10 @@ pub returns-clause-prints : goal.returns-clause-prints
 returns-clause-prints g c = λ files ks ss marks t runs list. c.print_items.ensures.prints files ks ss marks t _ runs list c.in-Ok.ensures
 
 pub returns-in-Err-clause-spares : goal.returns-in-Err-clause-spares
-returns-in-Err-clause-spares g c = never_spared _ _ _ _ _ (λ is. cc)
+returns-in-Err-clause-spares g c = unbegun_spared _ _ _ _ _ _ c.requires (λ is. cc)
 
 pub returns-then-are_enough-clause-spares : goal.returns-then-are_enough-clause-spares
-returns-then-are_enough-clause-spares g c = none_spared _ _ _ _ c.requires (sym c.are_enough.ensures ∙ c.if-are_enough.true)
+returns-then-are_enough-clause-spares g c = none_spared _ _ _ _ _ _ c.requires (sym c.are_enough.ensures ∙ c.if-are_enough.true)
+
+pub returns-clause-spares : goal.returns-clause-spares
+returns-clause-spares g c = c.print_items.ensures.spares _ c.in-Ok.ensures

@@ -4,7 +4,8 @@ use Rattle.kl_syntax.specs.View.{view, decls_of}
 use Rattle.kl_desugar.proofs.Law.{means}
 use Rattle.kl_engine.proofs.CountLemmas.{answers_late, source_late}
 use Rattle.kl_engine.proofs.MeaningLemmas.{idle_none, attaches_same, plan_runs, session_list, session_lists, session_told, session_done, attach_failed}
-use Rattle.kl_engine.proofs.PlanLemmas.{plan_asks, plan_few, plan_numbers, plan_rest, plan_starts, refused_asks, refused_numbers, runs_list, runs_worth}
+use Rattle.kl_engine.proofs.FewLemmas.{driver_unwritten}
+use Rattle.kl_engine.proofs.PlanLemmas.{plan_asks, plan_few, plan_numbers, plan_rest, plan_starts, plan_written, refused_asks, refused_numbers, runs_list, runs_worth}
 use Rattle.kl_engine.proofs.ProgramLemmas.{no_files}
 use Rattle.kl_engine.proofs.run.answer_over.Goals as goal
 
@@ -65,7 +66,19 @@ returns-in-Ok-clause-few g c =
       _,
       runs.reads,
       plan_few _ _ _ _ _ _ _ _ _ _ _ runs (attaches_same _ c.replace.result _ _ _ _ _ c.replace.ensures.value (c.in-Ok.ensures (is_marked c.args.scoped.now) (λ i less. refl))).drivers
-          (session_lists c.args.sources.items c.args.scoped.now c.requires.scope c.args.typed.now c.requires.types _ refl _ _ c.requires.placed _ (attaches_same _ c.replace.result _ _ _ _ _ c.replace.ensures.value (c.in-Ok.ensures (is_marked c.args.scoped.now) (λ i less. refl))) c.args.how.settings c.replace-in-Ok.result c.requires.fetch _ c.gives_list-is_list.ensures.other) c.answer_plan-result.ensures.spares well
+          (session_lists c.args.sources.items c.args.scoped.now c.requires.scope c.args.typed.now c.requires.types _ refl _ _ c.requires.placed _ (attaches_same _ c.replace.result _ _ _ _ _ c.replace.ensures.value (c.in-Ok.ensures (is_marked c.args.scoped.now) (λ i less. refl))) c.args.how.settings c.replace-in-Ok.result c.requires.fetch _ c.gives_list-is_list.ensures.other) _ _ c.answer_plan-result.ensures.spares well
+          (runs.told (session_told c.args.sources.items c.args.scoped.now c.requires.scope c.args.typed.now c.requires.types _ refl _ _ c.requires.placed _ (attaches_same _ c.replace.result _ _ _ _ _ c.replace.ensures.value (c.in-Ok.ensures (is_marked c.args.scoped.now) (λ i less. refl))) c.args.how.settings c.replace-in-Ok.result c.requires.fetch
+          (means (decls_of c.args.scoped.now.program.defs) (view c.args.scoped.now.program.last) c.args.scoped.now.sources) have.0 have.1)),
+    )
+
+pub returns-in-Ok-clause-written : goal.returns-in-Ok-clause-written
+returns-in-Ok-clause-written g c =
+    λ failed have.
+    let runs = plan_runs c.args.sources.items c.args.scoped.now c.requires.scope c.args.typed.now c.requires.types _ refl _ _ c.requires.placed _ (attaches_same _ c.replace.result _ _ _ _ _ c.replace.ensures.value (c.in-Ok.ensures (is_marked c.args.scoped.now) (λ i less. refl))) c.args.how.settings c.replace-in-Ok.result c.requires.fetch c.requires.idle c.requires.mentioned _ _ c.requires.planned.2 c.requires.planned.1 in (
+      _,
+      runs.reads,
+      plan_written _ _ _ _ _ _ _ _ _ _ _ runs (attaches_same _ c.replace.result _ _ _ _ _ c.replace.ensures.value (c.in-Ok.ensures (is_marked c.args.scoped.now) (λ i less. refl))).drivers
+          (session_lists c.args.sources.items c.args.scoped.now c.requires.scope c.args.typed.now c.requires.types _ refl _ _ c.requires.placed _ (attaches_same _ c.replace.result _ _ _ _ _ c.replace.ensures.value (c.in-Ok.ensures (is_marked c.args.scoped.now) (λ i less. refl))) c.args.how.settings c.replace-in-Ok.result c.requires.fetch _ c.gives_list-is_list.ensures.other) _ _ c.answer_plan-result.ensures.spares failed
           (runs.told (session_told c.args.sources.items c.args.scoped.now c.requires.scope c.args.typed.now c.requires.types _ refl _ _ c.requires.placed _ (attaches_same _ c.replace.result _ _ _ _ _ c.replace.ensures.value (c.in-Ok.ensures (is_marked c.args.scoped.now) (λ i less. refl))) c.args.how.settings c.replace-in-Ok.result c.requires.fetch
           (means (decls_of c.args.scoped.now.program.defs) (view c.args.scoped.now.program.last) c.args.scoped.now.sources) have.0 have.1)),
     )
@@ -90,3 +103,6 @@ returns-in-Err-clause-exact g c = λ well all have. absurd cc
 
 pub returns-in-Err-clause-few : goal.returns-in-Err-clause-few
 returns-in-Err-clause-few g c = λ well have. absurd cc
+
+pub returns-in-Err-clause-written : goal.returns-in-Err-clause-written
+returns-in-Err-clause-written g c = λ failed have. absurd (driver_unwritten _ _ _ c.driver_fault.ensures failed)

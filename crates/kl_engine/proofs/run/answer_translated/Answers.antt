@@ -28,7 +28,7 @@ returns-in-Ok-planned-clause-does g c = c.answer_over-result.ensures.does
 
 pub returns-in-Ok-planned-clause-plan : goal.returns-in-Ok-planned-clause-plan
 returns-in-Ok-planned-clause-plan g c =
-    translated_plan _ _ _ _ (rw c.deref.ensures.value at c.in-Ok-planned.ensures.plan) _ _ _ c.in-Ok-planned.ensures.trace c.answer_over-result.ensures.rest _ _ _ _ _ _ c.requires.term c.in-Ok.ensures.rewritten c.answer_over-result.ensures.late c.answer_over-result.ensures.exact _ _ _ c.answer_over-result.ensures.few
+    translated_plan _ _ _ _ (rw c.deref.ensures.value at c.in-Ok-planned.ensures.plan) _ _ _ c.in-Ok-planned.ensures.trace c.answer_over-result.ensures.rest _ _ _ _ _ _ c.requires.term c.in-Ok.ensures.rewritten c.answer_over-result.ensures.late c.answer_over-result.ensures.exact _ _ _ c.answer_over-result.ensures.few _ _ c.answer_over-result.ensures.written
 
 pub returns-in-Ok-planned-clause-asks : goal.returns-in-Ok-planned-clause-asks
 returns-in-Ok-planned-clause-asks g c = c.answer_over-result.ensures.asks

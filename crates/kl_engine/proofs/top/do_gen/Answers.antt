@@ -17,7 +17,7 @@ returns-in-Ok-clause-does g c = λ files.
 
 pub returns-in-Ok-clause-plan : goal.returns-in-Ok-clause-plan
 returns-in-Ok-clause-plan g c = λ files.
-    made_plan c.usual.result c.args.seed c.args.size files _ _ _ _ _ _ c.in-Ok.field-0 _ _ _ c.usual.ensures c.slice.ensures c.into_vec.ensures (c.in-Ok.ensures files) c.run.ensures.plan
+    made_plan c.usual.result c.args.seed c.args.size files _ _ _ _ _ _ _ _ c.in-Ok.field-0 _ _ _ c.usual.ensures c.slice.ensures c.into_vec.ensures (c.in-Ok.ensures files) c.run.ensures.plan
 
 pub returns-in-Ok-clause-asks : goal.returns-in-Ok-clause-asks
 returns-in-Ok-clause-asks g c = c.run.ensures.asks

@@ -24,9 +24,9 @@ returns-in-Ok-Run-clause-line g c =
 
 pub returns-in-Ok-Run-clause-plan : goal.returns-in-Ok-Run-clause-plan
 returns-in-Ok-Run-clause-plan g c =
-    run_plan _ _ _ _ _ _ _ _ _ c.end.ensures.fault c.end.ensures.plan c.end.ensures.trace _ _ c.in-Ok-Run.job (c.in-Ok-Run.ensures.meant ∙ ap Some c.in-Ok-Run.field-0-is) c.do_run-result.ensures.plan
+    run_plan _ _ _ _ _ _ _ _ _ c.end.ensures.fault c.end.ensures.plan c.end.ensures.trace _ _ _ _ c.in-Ok-Run.job (c.in-Ok-Run.ensures.meant ∙ ap Some c.in-Ok-Run.field-0-is) c.do_run-result.ensures.plan
 
 pub returns-in-Ok-Gen-clause-plan : goal.returns-in-Ok-Gen-clause-plan
 returns-in-Ok-Gen-clause-plan g c =
-    gen_plan _ _ _ _ _ _ _ _ _ c.end-in-Ok-Gen.ensures.fault c.end-in-Ok-Gen.ensures.plan c.end-in-Ok-Gen.ensures.trace _ _ c.in-Ok-Gen.seed c.in-Ok-Gen.size
+    gen_plan _ _ _ _ _ _ _ _ _ c.end-in-Ok-Gen.ensures.fault c.end-in-Ok-Gen.ensures.plan c.end-in-Ok-Gen.ensures.trace _ _ _ _ c.in-Ok-Gen.seed c.in-Ok-Gen.size
     (c.in-Ok-Gen.ensures.meant ∙ ap Some c.in-Ok-Gen.field-0-is) (c.do_gen-result.ensures.plan (g.F.Files.state c.args.files.now))
