@@ -1,5 +1,5 @@
 -- Scans that are read in a session of their source.
-use Rattle.std.proofs.Common.{◌≡◌, ◌<◌, ℕ, Bool, true, false, List, Result, Ok, sym, ap, ◌∙◌, subst, arith}
+use Rattle.std.proofs.Common.{◌<◌, ℕ, Bool, true, false, List, Ok, sym, ap, ◌∙◌, subst, arith}
 use Rattle.std.proofs.lemmas.Option.{same_Some}
 use Rattle.kl_value.specs.declared.Value.{Value}
 use Rattle.kl_ask.specs.World.{World}

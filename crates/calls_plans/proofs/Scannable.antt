@@ -14,9 +14,9 @@ use Rattle.kl_ask.specs.declared.ask.Abilities.{Abilities}
 use Rattle.kl_ask.specs.declared.ask.Ask.TheVariants as asks
 use Rattle.kl_ask.specs.declared.session.Attached.{Attached}
 use Rattle.kl_ship.specs.declared.plan.Scan.{Scan}
-use Rattle.kl_scans.specs.Held.{Held, held_in, held_at}
+use Rattle.kl_scans.specs.Held.{held_at}
 use Rattle.kl_scans.specs.Scans.{CanScan}
-use Rattle.kl_scans.specs.Stage.{stage, AskOf, ScanOf}
+use Rattle.kl_scans.specs.Stage.{stage, AskOf}
 
 none_rising : IsStrictlySortedBy bytes_cmp []
 unfolding IsStrictlySortedBy

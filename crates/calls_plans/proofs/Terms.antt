@@ -9,17 +9,14 @@ use Rattle.kl_value.proofs.IsCanonicalLemmas.{int_made}
 use Rattle.kl_type.specs.Ground.{Ground, int, coll}
 use Rattle.kl_outcome.proofs.PrimLemmas.{has_int}
 use Rattle.kl_core.specs.Trees.{view, Const}
-use Rattle.kl_core.specs.Counts.{nodes_of as size_of}
 use Rattle.kl_core.specs.Typing.{SourceTypes, CoreTypes}
-use Rattle.kl_core.specs.declared.term.Term.{Term, the_lemmas}
+use Rattle.kl_core.specs.declared.term.Term.{the_lemmas}
 use Rattle.kl_core.specs.declared.term.Term.TheVariants as term
 use Rattle.kl_ask.specs.Driver.{DriverKind}
 use Rattle.kl_ask.specs.World.{World}
-use Rattle.kl_ship.specs.Contents.{MakesSense, types_in}
 use Rattle.kl_ship.specs.Nodes as node
 use Rattle.kl_ship.specs.Nodes.{Node, no_nodes, nodes, view as plan_view}
 use Rattle.kl_ship.specs.declared.plan.Plan.{Plan}
-use Rattle.kl_ship.specs.declared.source.ShipSource.{ShipSource}
 use Rattle.kl_ship.specs.declared.plan.Plan as plan_names
 use Rattle.kl_ship.specs.declared.plan.Plan.TheVariants as plan
 use Rattle.kl_ship.proofs.Views.{view_Make, view_Ext}
@@ -30,11 +27,8 @@ use Rattle.kl_cursor.specs.Sense.{TypesAt}
 view_Const : (v : Value) → view (term.Const v) ≡ Const v
 view_Const v = search (rules, the_lemmas)
 
-integer_types : (S : SourceTypes) (G : List Ground) (n : ℤ) → CoreTypes S G (view (term.Const (value.Int n))) int
+pub integer_types : (S : SourceTypes) (G : List Ground) (n : ℤ) → CoreTypes S G (view (term.Const (value.Int n))) int
 integer_types S G n = subst (λ t. CoreTypes S G t int) (sym (view_Const (value.Int n))) (tt, (has_int n, int_made n))
-
-pub constant_makes_sense : (ss : List ShipSource) (n : ℤ) → MakesSense ss (view (term.Const (value.Int n)))
-constant_makes_sense ss n = (int, integer_types (types_in ss) [] n)
 
 pub constant_small : (v : Value) → size_of (view (term.Const v)) ≤ 16384
 constant_small v = subst (λ t. size_of t ≤ 16384) (sym (view_Const v)) (omega arith)

@@ -73,6 +73,14 @@ fn attached(alloc: Global, name: &Label, ty: &Ty) -> Result<NestedDriver<MemFile
     }
 }
 
+// A driver of its kind as one of any kind.
+fn boxed(alloc: Global, driver: NestedDriver<MemFiles>) -> Result<HeapBox<dyn Driver>, Fail>
+    ensures { IfOk result (λ d. state d ≡ ⟦<NestedDriver<MemFiles> as Driver>⟧.state driver) }
+{
+    let boxed = HeapBox::new(alloc, driver)?;
+    Ok(boxed)
+}
+
 // A session of the source of a scan, in which the starts of the scan are counted.
 fn session(alloc: Global, driver: HeapBox<dyn Driver>, ty: Ty, scan: &Scan) -> Result<Session, Fail>
     requires attached { (s : Source) × ((state driver).attached scan.now.source ≡ Some s) × (s.ty ≡ ty) }
@@ -162,7 +170,7 @@ fn a_source_is_scanned(rt: HostRuntime) -> Result<(), Fail> {
     let scan = scan(rt.alloc())?;
     let ty = list_type(rt.alloc())?;
     let driver = attached(rt.alloc(), &scan.source, &ty)?;
-    let boxed = HeapBox::new(rt.alloc(), driver)?;
+    let boxed = boxed(rt.alloc(), driver)?;
     assert!(rt; scans(rt.alloc(), boxed, ty, &scan)?);
     Ok(())
 }

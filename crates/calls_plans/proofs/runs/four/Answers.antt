@@ -1,9 +1,10 @@
-use Rattle.std.proofs.Common.{refl}
-use Rattle.calls_plans.proofs.Terms.{constant_makes_sense, constant_small, none_placed}
+use Rattle.std.proofs.Common.{[], refl}
+use Rattle.kl_type.specs.Ground.{int}
+use Rattle.calls_plans.proofs.Terms.{constant_small, integer_types, none_placed}
 use Rattle.calls_plans.proofs.runs.four.Goals as goal
 
 pub plan_of-requires-clause-sense : goal.plan_of-requires-clause-sense
-plan_of-requires-clause-sense c = constant_makes_sense _ _
+plan_of-requires-clause-sense c = (int, integer_types _ [] _)
 
 pub plan_of-requires-clause-small : goal.plan_of-requires-clause-small
 plan_of-requires-clause-small c = constant_small _
