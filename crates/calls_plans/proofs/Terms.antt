@@ -10,6 +10,7 @@ use Rattle.kl_type.specs.Ground.{Ground, int, coll}
 use Rattle.kl_outcome.proofs.PrimLemmas.{has_int}
 use Rattle.kl_core.specs.Trees.{view, Const}
 use Rattle.kl_core.specs.Typing.{SourceTypes, CoreTypes}
+use Rattle.kl_core.specs.Counts.{nodes_of as size_of}
 use Rattle.kl_core.specs.declared.term.Term.{the_lemmas}
 use Rattle.kl_core.specs.declared.term.Term.TheVariants as term
 use Rattle.kl_ask.specs.Driver.{DriverKind}
