@@ -1,4 +1,4 @@
--- Items that are added to a list, from what the code has.
+-- Items that are gathered, from what the code has.
 use Rattle.std.proofs.Common.{◌≡◌, ℕ, ◌+◌, ◌<◌, ◌≤◌, Bool, true, false, List, [], ◌∷◌, ◌++◌, drop, length, get_or, Option, Some, None, Result, Vec, Ok, Err, slice_get, refl, sym, ap, subst, ◌∙◌, arith, append-nil, IfOk, Bor}
 use Rattle.std.specs.Prelude.{⊤, IfSome}
 use Rattle.std.specs.declared.alloc.Global.{Global}
@@ -15,7 +15,6 @@ use Rattle.kl_core.specs.declared.term.Term.{Term}
 use Rattle.kl_ask.specs.World.{World}
 use Rattle.kl_eval.specs.Evals.{no_tables}
 use Rattle.kl_eval.specs.World.{StoppedBy}
-use Rattle.kl_eval.specs.Steps.{AppendsAll}
 use Rattle.kl_eval.specs.declared.stop.EvalStop.{EvalStop}
 use Rattle.kl_eval.specs.declared.stop.EvalStop.TheVariants as why
 use Rattle.kl_eval.specs.declared.stop.Halt.{Halt}
@@ -33,13 +32,16 @@ use Rattle.kl_scans.specs.Moves.{Moves, Closes}
 use Rattle.kl_scans.specs.Scans.{CanScan, IsOpen, Stopped, Started, NotStarted, PulledMore, PulledNone, NotPulled}
 use Rattle.kl_scans.proofs.Moving.{owned_after}
 use Rattle.kl_cursor.specs.Drawing.{draws, comes_by_items}
+use Rattle.kl_cursor.specs.Gathering.{Gathered, listed, IsListed, with_one, with_all}
 use Rattle.kl_cursor.specs.Left.{Snap, fresh, have, pulling, both, outside, made, uses, ScansLeft, end_of}
 use Rattle.kl_cursor.specs.Measure.{bound_in}
 use Rattle.kl_cursor.specs.Sense.{HasWorth, Stands}
 use Rattle.kl_cursor.specs.Steps.{Onward, Stops, Empties, Drains, Emits, EmitsDrawn, DrawnStand, ItemsIn, AddsWhole, ComesTo, Wholly, Partly}
 use Rattle.kl_cursor.proofs.Beginning.{make_begins, union_begins, loop_begins}
 use Rattle.kl_cursor.proofs.Calls.{owned_nothing, stands_onward, stands_source}
+use Rattle.kl_cursor.proofs.Events.{of_none}
 use Rattle.kl_cursor.proofs.Emitting.{halts_as, onward_drains, gives_drains, ends_empties, stops_emit, ends_emit, starts_emit, onward_emit, both_emit, both_stop, both_stands, outside_drains, Drawing, source_drawing, drawing_stands, drawing_emit, turn_stop, turn_stands, turn_adding, none_left, Adding, adding_from, adding_then, adding_emit, adding_stands}
+use Rattle.kl_cursor.proofs.Gatherings.{with_listed}
 use Rattle.kl_cursor.proofs.Forms.{body_over, loop_end, loop_stop}
 use Rattle.kl_cursor.proofs.Rows.{scan_hands, rows_ahead, pull_falls, rows_still, rows_drawn, rows_stop}
 use Rattle.kl_cursor.proofs.Scanning.{can_pull, open_there, scan_ends, scan_stops}
@@ -65,13 +67,28 @@ lends_var env t x v e h = λ w. comes_as env (view t) (node.Var x) (done v) w w 
 
 -- ---- all items in a list of their own
 
-pub emits_drain : (env : List Value) (s : Snap) (z : Unit {0}) (none : List Value) (ws : Vec Value Global) (a b : World) → none ≡ [] → Emits env s (Ok z) none ws.items a b → Drains env s (Ok ws) a b
-emits_drain env s z none ws a b e h = subst (λ q. Empties env s q fine a b) (sym (h.1 ∙ ap (λ q. q ++ h.0) e)) h.2
+listed_is : (us vs : List Value) → listed us ≡ listed vs → us ≡ vs
+listed_is us vs e = cc
 
-pub emits_over : (env : List Value) (s : Snap) (r : Result (Unit {0}) EvalStop) (e : EvalStop) (none : List Value) (ws : Vec Value Global) (a b : World) → none ≡ [] → r ≡ Err e → e ≡ why.Overflow → Emits env s r none ws.items a b → Drains env s (Err (halt.Over ws)) a b
-emits_over env s r e none ws a b empty is past h =
-    let g : Emits env s (Err why.Overflow) none ws.items a b = subst (λ q. Emits env s (Err q) none ws.items a b) past (subst (λ q. Emits env s q none ws.items a b) is h) in
-    subst (λ q. Empties env s q overflow a b) (sym (g.1 ∙ ap (λ q. q ++ g.0) empty)) g.2
+-- what was gathered in a list of its own
+all_listed : (old new : Gathered) (none vs ws : List Value) → old ≡ listed none → none ≡ [] → new ≡ listed ws → new ≡ with_all old vs → ws ≡ vs
+all_listed old new none vs ws from empty to e =
+    listed_is ws vs (sym to ∙ e ∙ ap (λ q. with_all q vs) (from ∙ ap listed empty) ∙ with_listed [] vs)
+
+pub is_listed : (old new : Gathered) (none : List Value) → old ≡ listed none → (vs : List Value) → new ≡ with_all old vs → IsListed new
+is_listed old new none from vs e = subst IsListed (sym (e ∙ ap (λ q. with_all q vs) from ∙ with_listed none vs)) tt
+
+pub emits_drain : (env : List Value) (s : Snap) (z : Unit {0}) (old new : Gathered) (none : List Value) (ws : Vec Value Global) (a b : World) → old ≡ listed none → none ≡ [] → new ≡ listed ws.items → Emits env s (Ok z) old new a b → Drains env s (Ok ws) a b
+emits_drain env s z old new none ws a b from empty to h = subst (λ q. Empties env s q fine a b) (sym (all_listed old new none h.0 ws.items from empty to h.1)) h.2
+
+-- what an overflow left
+pub emits_past : (env : List Value) (s : Snap) (r : Result (Unit {0}) EvalStop) (e : EvalStop) (old new : Gathered) (a b : World) → r ≡ Err e → e ≡ why.Overflow → Emits env s r old new a b → Emits env s (Err why.Overflow) old new a b
+emits_past env s r e old new a b is past h = subst (λ q. Emits env s (Err q) old new a b) past (subst (λ q. Emits env s q old new a b) is h)
+
+pub emits_over : (env : List Value) (s : Snap) (r : Result (Unit {0}) EvalStop) (e : EvalStop) (old new : Gathered) (none : List Value) (ws : Vec Value Global) (a b : World) → old ≡ listed none → none ≡ [] → new ≡ listed ws.items → r ≡ Err e → e ≡ why.Overflow → Emits env s r old new a b → Drains env s (Err (halt.Over ws)) a b
+emits_over env s r e old new none ws a b from empty to is past h =
+    let g = emits_past env s r e old new a b is past h in
+    subst (λ q. Empties env s q overflow a b) (sym (all_listed old new none g.0 ws.items from empty to g.1)) g.2
 
 -- ---- each form of a plan
 
@@ -245,7 +262,7 @@ module _ (env : List Value) (s0 : Snap) (ps : List Plan) (i : ℕ) (p : Plan) (o
   pub part_sense : Stands a s0 env → HasWorth b (view p) env
   part_sense j = let s = adding_stands env s0 (made (nodes (view p) (nodes_view (drop (i + 1) ps)))) old now a b at_part j in (s.0, s.2, s.3, s.4.0, s.5)
 
-  pub part_goes : (v : Value) (new : Gathered) (c : World) → ComesTo env (view p) (done v) b c → AppendsAll (v ∷ []) (Ok tt) now new → Adding env s0 a old new Rest c
+  pub part_goes : (v : Value) (new : Gathered) (c : World) → ComesTo env (view p) (done v) b c → new ≡ with_one now v → Adding env s0 a old new Rest c
   part_goes v new c g e = adding_then env s0 (made (nodes (view p) (nodes_view (drop (i + 1) ps)))) Rest (v ∷ []) old now new a b c at_part
       (gives_drains env (made (nodes (view p) (nodes_view (drop (i + 1) ps)))) v Rest b c (made_gives env (view p) (nodes_view (drop (i + 1) ps)) v b c g)) e
 
@@ -253,8 +270,8 @@ module _ (env : List Value) (s0 : Snap) (ps : List Plan) (i : ℕ) (p : Plan) (o
   part_stops e c g = adding_emit env s0 (made (nodes (view p) (nodes_view (drop (i + 1) ps)))) (Err e) old now now a b c at_part
       (stops_emit env (made (nodes (view p) (nodes_view (drop (i + 1) ps)))) e now b c (made_stops env (view p) (nodes_view (drop (i + 1) ps)) e b c g))
 
-  pub literal_lost : (v : Value) (c : World) → ComesTo env (view p) (done v) b c → Emits env s0 (Err why.NoMemory) old now a c
-  literal_lost v c g = adding_emit env s0 (made (nodes (view p) (nodes_view (drop (i + 1) ps)))) (Err why.NoMemory) old now now a b c at_part (record { moves = g.moves; known = λ all j. g.known all j.0; reason = tt })
+  pub literal_lost : (v : Value) (new : Gathered) (c : World) → ComesTo env (view p) (done v) b c → Emits env s0 (Err why.NoMemory) old new a c
+  literal_lost v new c g = adding_emit env s0 (made (nodes (view p) (nodes_view (drop (i + 1) ps)))) (Err why.NoMemory) old now new a b c at_part (record { moves = g.moves; known = λ all j. g.known all j.0; reason = tt })
 
 pub parts_end : (env : List Value) (s0 : Snap) (ps : List Plan) (i : ℕ) (z : Unit {0}) (old now : Gathered) (a b : World) → length ps ≤ i → Adding env s0 a old now (made (nodes_view (drop i ps))) b → Emits env s0 (Ok z) old now a b
 parts_end env s0 ps i z old now a b le h =
@@ -331,14 +348,35 @@ module _ (env : List Value) (s0 : Snap) (q : Scan) (k n : ℕ) (old now : Gather
   pub all_ready : Stands a s0 env → CanPull q k b
   all_ready i = can_pull_there env q k n b h.1 (adding_stands env s0 Left old now a b h.0 i)
 
-  pub all_goes : (new : Gathered) (c : World) → PulledMore q k now new b c → Adding env s0 a old new Left c × Owned (one_at q.driver k) c
-  all_goes new c p = (adding_then env s0 Left Left p.rows old now new a b c h.0 (scan_hands env q k n now new b c p) p.appended, owned_after (one_at q.driver k) (one_at q.driver k) b c h.1 p.moves)
+  -- these rows were handed
+  all_more : (into into' : List Value) (new : Gathered) (c : World) (p : PulledMore q k into into' b c) → new ≡ with_all now p.rows → Adding env s0 a old new Left c × Owned (one_at q.driver k) c
+  all_more into into' new c p e = (adding_then env s0 Left Left p.rows old now new a b c h.0 (scan_hands env q k n into into' b c p) e, owned_after (one_at q.driver k) (one_at q.driver k) b c h.1 p.moves)
 
-  pub all_end : (z : Unit {0}) (new : Gathered) (c d : World) → PulledNone q k now new b c → Closes (one_at q.driver k) c d → Emits env s0 (Ok z) old new a d
-  all_end z new c d p m = adding_emit env s0 Left (Ok z) old now new a b d h.0 ([], p.same ∙ refl, ends_empties env Left b d (scan_ends env q k n now new b c d p m))
+  -- to a list
+  pub all_goes : (into into' : List Value) (c : World) → now ≡ listed into → PulledMore q k into into' b c → Adding env s0 a old (listed into') Left c × Owned (one_at q.driver k) c
+  all_goes into into' c e p = all_more into into' (listed into') c p (ap listed p.appended ∙ sym (with_listed into p.rows) ∙ ap (λ g. with_all g p.rows) (sym e))
+
+  pub all_end : (z : Unit {0}) (into into' : List Value) (new : Gathered) (c d : World) → new ≡ now → PulledNone q k into into' b c → Closes (one_at q.driver k) c d → Emits env s0 (Ok z) old new a d
+  all_end z into into' new c d e p m = adding_emit env s0 Left (Ok z) old now new a b d h.0 ([], e, ends_empties env Left b d (scan_ends env q k n into into' b c d p m))
 
   pub all_stop : (e : EvalStop) (new : Gathered) (c : World) → NotPulled q k e b c → Emits env s0 (Err e) old new a c
   all_stop e new c p = adding_emit env s0 Left (Err e) old now new a b c h.0 (any_stop env Left e now new b c (never_over q e b c p.cause) (scan_stops env q k n e b c p))
+
+  -- to a tally
+  module _ (into rows : List Value) (c : World) (p : PulledMore q k into rows b c) (empty : into ≡ []) (shown : List Value) (same : shown ≡ rows) where
+    shown_rows : shown ≡ p.rows
+    shown_rows = same ∙ p.appended ∙ ap (λ z. z ++ p.rows) empty
+
+    pub tally_goes : (new : Gathered) → new ≡ with_all now shown → Adding env s0 a old new Left c × Owned (one_at q.driver k) c
+    tally_goes new e = all_more into rows new c p (e ∙ ap (with_all now) shown_rows)
+
+    pub tally_owned : Owned (one_at q.driver k) c
+    tally_owned = owned_after (one_at q.driver k) (one_at q.driver k) b c h.1 p.moves
+
+    pub tally_lost : (new : Gathered) (d : World) → Closes (one_at q.driver k) c d → Emits env s0 (Err why.NoMemory) old new a d
+    tally_lost new d m =
+        let g = all_more into rows (with_all now p.rows) c p refl in
+        adding_emit env s0 Left (Err why.NoMemory) old (with_all now p.rows) new a c d g.0 (record { moves = m.moves; known = λ all i. of_none all m.moves.events m.none; reason = tt })
 
 pub each_begin : (env : List Value) (p : Node) (q : Scan) (k : ℕ) (old : Gathered) (w x : World) → Stands w (outside p (fresh (node.Scan q))) env → Started q k w x
     → Adding env (outside p (fresh (node.Scan q))) w old old (outside p (pulling q k [] w.settings.fetch)) x × Owned (one_at q.driver k) x

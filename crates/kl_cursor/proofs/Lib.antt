@@ -19,6 +19,7 @@ pub mod Whole
 pub mod ValueFalls
 pub mod ValueSteps
 pub mod Gatherings
+pub mod Tallied
 pub mod Emitting
 pub mod Rows
 pub mod EmitCode

@@ -1,53 +1,38 @@
-use Rattle.std.proofs.Common.{rules, IfOk, IfSome, IsSome, [], ◌≡◌, ℕ, ◌+◌, ◌-◌, ◌*◌, ◌<◌, ◌≤◌, length, ◌/◌, ◌%◌, Bool, true, false, nat_eq, nat_lt, List, ◌∷◌, ◌++◌, slice_index_or, slice_set, bit_and, bit_or, Fits, w8, w32, w64, Bor, MutBor}
-use Rattle.kl_value.specs.Views.{IsCollection}
-use Rattle.kl_ask.specs.World.{World}
-use Rattle.kl_eval.specs.Values.{values}
-use Rattle.kl_outcome.specs.Outcome.{done}
-use Rattle.kl_ship.specs.Nodes as node
-use Rattle.kl_ship.specs.Nodes.{view}
-use Rattle.kl_cursor.specs.Gathering.{gathered, listed, tally}
-use Rattle.kl_cursor.specs.Left.{fresh}
-use Rattle.kl_cursor.specs.Sense.{HasWorth, Stands}
-use Rattle.kl_cursor.specs.Standing.{StandsSomewhere}
-use Rattle.kl_cursor.specs.Steps.{ComesTo, ItemsIn, AddsWhole, Emits}
+use Rattle.std.proofs.Common.{refl}
+use Rattle.kl_cursor.proofs.EmitCode.{all_begin, all_ready, all_end, all_stop, scan_refuses, tally_goes, tally_lost, tally_owned}
+use Rattle.kl_cursor.proofs.Rows.{pull_falls}
+use Rattle.kl_cursor.proofs.Scanning.{pulled_more, pulled_none}
 use Rattle.kl_cursor.proofs.parts.pull_tally.Goals as goal
 
--- src/parts.rt:121:13
 pub pulls-init : goal.pulls-init
-pulls-init g c = ?
+pulls-init g c = (let b = all_begin _ _ _ _ _ _ c.requires c.in-Ok.ensures in (b.0, b.1, c.new-rows.ensures.items))
 
--- src/parts.rt:122:23
 pub pull-requires-clause-scan : goal.pull-requires-clause-scan
-pull-requires-clause-scan g c = ?
+pull-requires-clause-scan g c = (all_ready _ _ _ _ _ _ _ _ _ (c.pulls.invariant.0, c.pulls.invariant.1) c.requires).0
 
--- src/parts.rt:122:23
 pub pull-requires-clause-is_open : goal.pull-requires-clause-is_open
-pull-requires-clause-is_open g c = ?
+pull-requires-clause-is_open g c = (all_ready _ _ _ _ _ _ _ _ _ (c.pulls.invariant.0, c.pulls.invariant.1) c.requires).1
 
--- src/parts.rt:122:23
 pub pull-requires-clause-room : goal.pull-requires-clause-room
-pull-requires-clause-room g c = ?
+pull-requires-clause-room g c = (all_ready _ _ _ _ _ _ _ _ _ (c.pulls.invariant.0, c.pulls.invariant.1) c.requires).2
 
--- src/parts.rt:123:34
 pub returns-in-Err-pull : goal.returns-in-Err-pull
-returns-in-Err-pull g c = ?
+returns-in-Err-pull g c = all_stop _ _ _ _ _ _ _ _ _ (c.pulls.invariant.0, c.pulls.invariant.1) _ _ _ c.in-Err-pull.ensures
 
--- src/parts.rt:121:13
 pub pulls-smaller : goal.pulls-smaller
-pulls-smaller g c = ?
+pulls-smaller g c = pull_falls _ _ _ _ _ _ (pulled_more _ _ _ _ _ _ _ _ c.in-Ok-true.is c.in-Ok-true.field-0-test c.pull.ensures)
 
--- src/parts.rt:121:13
 pub pulls-preserved : goal.pulls-preserved
 pulls-preserved g c = ?
 
--- src/parts.rt:132:29
+pub finish-requires : goal.finish-requires
+finish-requires g c = ?
+
 pub returns-in-Err-add_each : goal.returns-in-Err-add_each
 returns-in-Err-add_each g c = ?
 
--- src/parts.rt:126:25
 pub returns-in-Ok-false : goal.returns-in-Ok-false
-returns-in-Ok-false g c = ?
+returns-in-Ok-false g c = all_end _ _ _ _ _ _ _ _ _ (c.pulls.invariant.0, c.pulls.invariant.1) _ _ _ _ _ _ refl (pulled_none _ _ _ _ _ _ _ _ c.in-Ok-false.is c.in-Ok-false.field-0-test c.pull.ensures) c.finish-in-Ok-false.ensures
 
--- src/parts.rt:108:1
 pub returns : goal.returns
-returns g c = ?
+returns g c = scan_refuses _ _ _ _ _ _ _ c.in-Err.ensures
