@@ -1,10 +1,11 @@
 -- What is kept of items, and what primitives make of their collection.
-use Rattle.std.proofs.Common.{◌≡◌, ◌⊎◌, ⊎_elim, ℕ, ◌+◌, ◌<◌, ℤ, pos, ◌+ℤ◌, Bool, true, false, not, ◌||◌, cond, nat_eq, List, [], ◌∷◌, ◌++◌, length, fold, All, Option, Some, None, IsSomeAnd, refl, sym, ap, subst, ◌∙◌, arith, append_assoc, append-nil, Ordering, is_eq, is_gt}
+use Rattle.std.proofs.Common.{◌≡◌, ◌⊎◌, ⊎_elim, ℕ, ◌+◌, ◌<◌, ◌≤◌, ℤ, pos, ◌+ℤ◌, Bool, true, false, not, ◌||◌, cond, nat_eq, List, [], ◌∷◌, ◌++◌, length, take, get_or, fold, All, Option, Some, None, IsSomeAnd, refl, sym, ap, subst, ◌∙◌, arith, append_assoc, append-nil, Ordering, is_eq, is_gt}
 use Rattle.std.specs.List.{Contains, list_any}
 use Rattle.std.specs.Option.{option_and_then}
 use Rattle.std.proofs.lemmas.Int.{ints}
 use Rattle.std.proofs.lemmas.List.Elements.{Contains-append_left, Contains-append_right, Contains-push, Contains-push_cases, Contains-append_cases}
-use Rattle.std.proofs.lemmas.List.Sums.{fold-append}
+use Rattle.std.proofs.lemmas.List.Sums.{fold-append, fold_more}
+use Rattle.std.proofs.lemmas.List.{take_all}
 use Rattle.kl_base.specs.Sorted.{put_in, sorted}
 use Rattle.kl_base.proofs.SortedLemmas.{contains_from_count, count_from_contains, count-sorted, members-to, members-from}
 use Rattle.kl_value.specs.Canon.{canonical}
@@ -21,7 +22,7 @@ use Rattle.kl_prim.specs.Meaning as primitive
 use Rattle.kl_prim.specs.Table.{Fits, meaning, row_at, rows}
 use Rattle.kl_prim.proofs.ItemLemmas.{all_some_is, total_is}
 use Rattle.kl_outcome.proofs.Drawing.{members}
-use Rattle.kl_cursor.specs.Gathering.{Gathered, listed, empty, counted, summed, sought, number, with_one, with_all, answer_in, is_set, Tells}
+use Rattle.kl_cursor.specs.Gathering.{Gathered, listed, empty, counted, summed, sought, number, with_one, with_all, answer_in, is_set, Tells, TellsItems}
 
 -- ---- some items more
 
@@ -206,3 +207,18 @@ tells_sum k e = (tt, λ vs fit.
 pub tells_member : (w : Value) (k : Kind) → Tells 16 (w ∷ []) k (sought w false)
 tells_member w k = (tt, λ vs fit.
     means_member w (canonical k vs) ∙ ap (λ o. with_some o (λ c. truth (is_among w c.items))) (reads k vs) ∙ ap truth (any_member (λ v. is_eq (compare v w)) k vs) ∙ ap answer_in (sym (with_sought w false vs)))
+
+-- ---- items, one after the other
+
+pub each_goes : (old now new : Gathered) (vs : List Value) (i : ℕ) (v : Value) → i < length vs → v ≡ get_or vs i v → now ≡ with_all old (take i vs) → new ≡ with_one now v → new ≡ with_all old (take (i + 1) vs)
+each_goes old now new vs i v lt is so_far e =
+    e ∙ ap (λ g. with_one g v) so_far ∙ ap (with_one (with_all old (take i vs))) is ∙ sym (fold_more with_one old vs i v lt)
+
+pub each_ends : (old now : Gathered) (vs : List Value) (i : ℕ) → length vs ≤ i → now ≡ with_all old (take i vs) → now ≡ with_all old vs
+each_ends old now vs i le so_far = so_far ∙ ap (with_all old) (take_all i vs le)
+
+pub tells_at : (code n : ℕ) (before : List Value) (k : Kind) (g : Gathered) → code ≡ n → Tells n before k g → Tells code before k g
+tells_at code n before k g e h = subst (λ z. Tells z before k g) (sym e) h
+
+pub tells_second : (code : ℕ) (w : Value) (o : Option Kind) (k : Kind) → code ≡ 16 → Some k ≡ o → TellsItems code (w ∷ []) o (sought w false)
+tells_second code w o k e is = subst (λ z. TellsItems code (w ∷ []) z (sought w false)) is (tells_at code 16 (w ∷ []) k (sought w false) e (tells_member w k))

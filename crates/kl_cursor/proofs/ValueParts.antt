@@ -40,7 +40,7 @@ use Rattle.kl_scans.specs.Log.{paid}
 use Rattle.kl_scans.specs.Moves.{Moves}
 use Rattle.kl_scans.specs.Stage.{stage, ScanOf}
 use Rattle.kl_scans.proofs.Moving.{moves_none, moves_then, stage_stays, ready_stays, stopped_then, paid_then}
-use Rattle.kl_cursor.specs.Gathering.{Gathered, TellsItems}
+use Rattle.kl_cursor.specs.Gathering.{Gathered, IsTally, TellsItems}
 use Rattle.kl_cursor.specs.Left.{fresh, reading}
 use Rattle.kl_cursor.specs.Sense.{IsToldAt, HasWorth, HasFields, HasCall, Stands}
 use Rattle.kl_cursor.specs.Steps.{AreOf, ComesTo, Fails, Wholly, Partly, Tallies, FieldsHave, FieldsGive, CallTypes, CallComes, CallGives}
@@ -344,8 +344,8 @@ module _ (c : ℕ) (p : Node) (env : List Value) (a : World) where
 
   -- of which the items are tallied
   module _ (g : Gathered) (tells : TellsItems c [] (kind_of_items p) g) where
-    pub tally_stands : HasCall a c Only env → Stands a (fresh p) env
-    tally_stands s = let k = tells_kind c [] (kind_of_items p) g tells in worth_stands env p k.0 a k.1 (sense_only s)
+    pub tally_ready : HasCall a c Only env → IsTally g × Stands a (fresh p) env
+    tally_ready s = let k = tells_kind c [] (kind_of_items p) g tells in (k.2.0, worth_stands env p k.0 a k.1 (sense_only s))
 
     pub call_tally : (r : Result Value EvalStop) (b : World) → HasCall a c Only env → Tallies env (fresh p) g r a b → CallGives env c Only r a b
     call_tally r b s h =
@@ -435,8 +435,8 @@ module _ (c : ℕ) (p q : Node) (env : List Value) (a : World) where
     there : TellsItems c (v ∷ []) (kind_of_items q) g
     there = subst (λ z. TellsItems c (z ∷ []) (kind_of_items q) g) is tells
 
-    pub second_stands : HasCall a c Two env → Stands b (fresh q) env
-    second_stands s = let k = tells_kind c (v ∷ []) (kind_of_items q) g there in worth_stands env q k.0 b k.1 (sense_latter v b s first)
+    pub second_ready : HasCall a c Two env → IsTally g × Stands b (fresh q) env
+    second_ready s = let k = tells_kind c (v ∷ []) (kind_of_items q) g there in (k.2.0, worth_stands env q k.0 b k.1 (sense_latter v b s first))
 
     pub call_second : (r : Result Value EvalStop) (d : World) → HasCall a c Two env → Tallies env (fresh q) g r b d → CallGives env c Two r a d
     call_second r d s h =
