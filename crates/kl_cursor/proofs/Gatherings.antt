@@ -1,7 +1,9 @@
 -- What is kept of items, and what primitives make of their collection.
-use Rattle.std.proofs.Common.{◌≡◌, ◌⊎◌, ⊎_elim, ℕ, ◌+◌, ◌<◌, ◌≤◌, ℤ, pos, ◌+ℤ◌, Bool, true, false, not, ◌||◌, cond, nat_eq, List, [], ◌∷◌, ◌++◌, length, take, get_or, fold, All, Option, Some, None, IsSomeAnd, refl, sym, ap, subst, ◌∙◌, arith, append_assoc, append-nil, Ordering, is_eq, is_gt}
+use Rattle.std.proofs.Common.{◌≡◌, ◌⊎◌, ⊎_elim, ℕ, ◌+◌, ◌<◌, ◌≤◌, ℤ, pos, ◌+ℤ◌, Bool, true, false, not, ◌||◌, cond, nat_eq, List, [], ◌∷◌, ◌++◌, length, take, get_or, fold, All, Option, Some, None, Vec, IsSomeAnd, refl, sym, ap, subst, ◌∙◌, arith, append_assoc, append-nil, Ordering, is_eq, is_gt}
+use lib.Dec.{eqb-suc-zero}
 use Rattle.std.specs.List.{Contains, list_any}
 use Rattle.std.specs.Option.{option_and_then}
+use Rattle.std.specs.declared.alloc.Global.{Global}
 use Rattle.std.proofs.lemmas.Int.{ints}
 use Rattle.std.proofs.lemmas.List.Elements.{Contains-append_left, Contains-append_right, Contains-push, Contains-push_cases, Contains-append_cases}
 use Rattle.std.proofs.lemmas.List.Sums.{fold-append, fold_more}
@@ -22,7 +24,9 @@ use Rattle.kl_prim.specs.Meaning as primitive
 use Rattle.kl_prim.specs.Table.{Fits, meaning, row_at, rows}
 use Rattle.kl_prim.proofs.ItemLemmas.{all_some_is, total_is}
 use Rattle.kl_outcome.proofs.Drawing.{members}
-use Rattle.kl_cursor.specs.Gathering.{Gathered, listed, empty, counted, summed, sought, number, with_one, with_all, answer_in, is_set, Tells, TellsItems}
+use Rattle.kl_cursor.specs.declared.gathering.Gathering.{Gathering}
+use Rattle.kl_cursor.specs.declared.gathering.Gathering.TheVariants as gathering
+use Rattle.kl_cursor.specs.Gathering.{Gathered, gathered, listed, empty, counted, summed, sought, number, with_one, with_all, answer_in, is_set, Tells, TellsItems}
 
 -- ---- some items more
 
@@ -39,7 +43,7 @@ some_came (v ∷ vs) = some_came vs
 
 with_empty : (vs : List Value) → with_all (empty true) vs ≡ empty (nat_eq (length vs) 0)
 with_empty [] = refl
-with_empty (v ∷ vs) = some_came vs
+with_empty (v ∷ vs) = some_came vs ∙ ap empty (sym (eqb-suc-zero (length vs)))
 
 with_counted : (n : ℕ) (vs : List Value) → with_all (counted n) vs ≡ counted (n + length vs)
 with_counted n [] = ap counted (omega arith)
@@ -66,15 +70,16 @@ with_sought w b (v ∷ vs) = with_sought w (b || is_eq (compare v w)) vs ∙ ap 
 
 -- ---- the items of a collection, some of which pass a test
 
-passes : (p : Value → Bool) (xs : List Value) → list_any p xs ≡ true → (x : Value) × Contains xs x × (p x ≡ true)
+abbrev Passes : (Value → Bool) → List Value → Type 0
+Passes p xs = (x : Value) × Contains xs x × (p x ≡ true)
+
+passes_at : (p : Value → Bool) (x : Value) (xs : List Value) (b : Bool) → p x ≡ b → (list_any p xs ≡ true → Passes p xs) → (p x || list_any p xs) ≡ true → Passes p (x ∷ xs)
+passes_at p x xs true is go e = (x, Contains-append_left (x ∷ []) xs x (Contains-push [] x), is)
+passes_at p x xs false is go e = let h = go (ap (λ b. b || list_any p xs) (sym is) ∙ e) in (h.0, Contains-append_right (x ∷ []) xs h.0 h.1, h.2)
+
+passes : (p : Value → Bool) (xs : List Value) → list_any p xs ≡ true → Passes p xs
 passes p [] e = cc
-passes p (x ∷ xs) e = at (p x) refl
-  where
-    at : (b : Bool) → p x ≡ b → (y : Value) × Contains (x ∷ xs) y × (p y ≡ true)
-    at true is = (x, Contains-append_left (x ∷ []) xs x (Contains-push [] x), is)
-    at false is =
-        let h = passes p xs (ap (λ b. b || list_any p xs) (sym is) ∙ e) in
-        (h.0, Contains-append_right (x ∷ []) xs h.0 h.1, h.2)
+passes p (x ∷ xs) e = passes_at p x xs (p x) refl (λ h. passes p xs h) e
 
 or_left : (a b : Bool) → a ≡ true → (a || b) ≡ true
 or_left a b e = ap (λ c. c || b) e
@@ -117,7 +122,7 @@ any_member p k vs = same_truth (list_any p (members k vs)) (list_any p vs)
 
 none_any : (vs : List Value) → nat_eq (length vs) 0 ≡ not (list_any (λ v. true) vs)
 none_any [] = refl
-none_any (v ∷ vs) = refl
+none_any (v ∷ vs) = eqb-suc-zero (length vs)
 
 none_member : (k : Kind) (vs : List Value) → nat_eq (length (members k vs)) 0 ≡ nat_eq (length vs) 0
 none_member k vs = none_any (members k vs) ∙ ap not (any_member (λ v. true) k vs) ∙ sym (none_any vs)
@@ -193,9 +198,12 @@ pub tells_empty : (k : Kind) → Tells 13 [] k (empty true)
 tells_empty k = (tt, λ vs fit.
     means_empty (canonical k vs) ∙ ap (λ o. with_some o (λ c. truth (nat_eq (length c.items) 0))) (reads k vs) ∙ ap truth (none_member k vs) ∙ ap answer_in (sym (with_empty vs)))
 
+from_none : (n : ℕ) → n ≡ 0 + n
+from_none n = omega arith
+
 pub tells_count : (k : Kind) → is_set k ≡ false → Tells 14 [] k (counted 0)
 tells_count k e = (tt, λ vs fit.
-    means_count (canonical k vs) ∙ ap (λ o. with_some o (λ c. amount (length c.items))) (reads k vs) ∙ ap amount (length_members k vs e) ∙ ap answer_in (sym (with_counted 0 vs)))
+    means_count (canonical k vs) ∙ ap (λ o. with_some o (λ c. amount (length c.items))) (reads k vs) ∙ ap amount (length_members k vs e) ∙ ap amount (from_none (length vs)) ∙ ap answer_in (sym (with_counted 0 vs)))
 
 pub tells_sum : (k : Kind) → is_set k ≡ false → Tells 15 [] k (summed (pos 0))
 tells_sum k e = (tt, λ vs fit.
@@ -207,6 +215,9 @@ tells_sum k e = (tt, λ vs fit.
 pub tells_member : (w : Value) (k : Kind) → Tells 16 (w ∷ []) k (sought w false)
 tells_member w k = (tt, λ vs fit.
     means_member w (canonical k vs) ∙ ap (λ o. with_some o (λ c. truth (is_among w c.items))) (reads k vs) ∙ ap truth (any_member (λ v. is_eq (compare v w)) k vs) ∙ ap answer_in (sym (with_sought w false vs)))
+
+pub appended : (g : Gathering) (ws : Vec Value Global) (new more : List Value) → g ≡ gathering.Items ws → new ≡ ws.items ++ more → listed new ≡ with_all (gathered g) more
+appended g ws new more is e = ap listed e ∙ sym (with_listed ws.items more) ∙ ap (λ q. with_all q more) (sym (ap gathered is))
 
 -- ---- items, one after the other
 

@@ -1,4 +1,4 @@
-use Rattle.std.proofs.Common.{refl, sym, ap}
+use Rattle.std.proofs.Common.{refl, ap}
 use Rattle.kl_cursor.specs.Gathering.{listed}
 use Rattle.kl_cursor.proofs.EmitCode.{all_begin, all_ready, all_goes, all_end, all_stop, scan_refuses}
 use Rattle.kl_cursor.proofs.Scanning.{pulled_more, pulled_none}
