@@ -40,7 +40,7 @@ use Rattle.kl_cursor.specs.Steps.{Onward, Stops, Empties, Drains, Emits, EmitsDr
 use Rattle.kl_cursor.proofs.Beginning.{make_begins, union_begins, loop_begins}
 use Rattle.kl_cursor.proofs.Calls.{owned_nothing, stands_onward, stands_source}
 use Rattle.kl_cursor.proofs.Events.{of_none}
-use Rattle.kl_cursor.proofs.Emitting.{halts_as, onward_drains, gives_drains, ends_empties, stops_emit, ends_emit, starts_emit, onward_emit, both_emit, both_stop, both_stands, outside_drains, Drawing, source_drawing, drawing_stands, drawing_emit, turn_stop, turn_stands, turn_adding, none_left, Adding, adding_from, adding_then, adding_emit, adding_stands}
+use Rattle.kl_cursor.proofs.Emitting.{halts_as, onward_drains, gives_drains, ends_empties, stops_emit, ends_emit, starts_emit, onward_emit, both_emit, both_stop, both_stands, outside_drains, Drawing, source_drawing, drawing_stands, drawing_emit, turn_stop, turn_stands, turn_adding, none_left, Adding, adding_from, adding_starts, adding_then, adding_emit, adding_stands}
 use Rattle.kl_cursor.proofs.Gatherings.{with_listed}
 use Rattle.kl_cursor.proofs.Forms.{body_over, loop_end, loop_stop}
 use Rattle.kl_cursor.proofs.Rows.{scan_hands, rows_ahead, pull_falls, rows_still, rows_drawn, rows_stop}
@@ -277,6 +277,10 @@ pub parts_end : (env : List Value) (s0 : Snap) (ps : List Plan) (i : ℕ) (z : U
 parts_end env s0 ps i z old now a b le h =
     let g = subst (λ q. Adding env s0 a old now (made (nodes_view q)) b) (drop_all ps i le) h in
     adding_emit env s0 (made no_nodes) (Ok z) old now now a b b g (ends_emit env (made no_nodes) z now b b (made_ends env b))
+
+-- a literal of no item
+pub literal_none : (env : List Value) (ps : List Plan) (z : Unit {0}) (old : Gathered) (a : World) → length ps ≡ 0 → Emits env (made (nodes_view ps)) (Ok z) old old a a
+literal_none env ps z old a none = parts_end env (made (nodes_view ps)) ps 0 z old old a a (omega (arith, none)) (adding_starts env (made (nodes_view ps)) a old)
 
 -- ---- the values that a body draws
 
