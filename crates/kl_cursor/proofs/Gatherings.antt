@@ -14,6 +14,7 @@ use Rattle.kl_value.specs.Canon.{canonical}
 use Rattle.kl_value.specs.Order.{compare}
 use Rattle.kl_value.specs.Views.{Collection, as_collection, as_int, collection, IsInt}
 use Rattle.kl_value.proofs.OrderLemmas.{compare_total, compare_exact}
+use Rattle.kl_value.proofs.ViewLemmas.{collection_is}
 use Rattle.kl_value.specs.declared.Kind.{Kind}
 use Rattle.kl_value.specs.declared.Kind.TheVariants as kind
 use Rattle.kl_value.specs.declared.Value.{Value}
@@ -81,25 +82,31 @@ passes : (p : Value → Bool) (xs : List Value) → list_any p xs ≡ true → P
 passes p [] e = cc
 passes p (x ∷ xs) e = passes_at p x xs (p x) refl (λ h. passes p xs h) e
 
-or_left : (a b : Bool) → a ≡ true → (a || b) ≡ true
-or_left a b e = ap (λ c. c || b) e
+any_first : (p : Value → Bool) (y : Value) (ys : List Value) → p y ≡ true → list_any p (y ∷ ys) ≡ true
+any_first p y ys e = ap (λ c. c || list_any p ys) e
 
-or_right : (a b : Bool) → b ≡ true → (a || b) ≡ true
-or_right true b e = refl
-or_right false b e = e
+any_behind : (p : Value → Bool) (y : Value) (ys : List Value) → list_any p ys ≡ true → list_any p (y ∷ ys) ≡ true
+any_behind p y ys e = behind (p y)
+  where
+    behind : (b : Bool) → (b || list_any p ys) ≡ true
+    behind true = refl
+    behind false = e
 
 passed : (p : Value → Bool) (xs : List Value) (x : Value) → Contains xs x → p x ≡ true → list_any p xs ≡ true
 passed p [] x c e = absurd (let below = c.1 in omega arith)
 passed p (y ∷ ys) x c e =
-    ⊎_elim (λ a. or_left (p y) (list_any p ys) (here a)) (λ b. or_right (p y) (list_any p ys) (passed p ys x b e)) (Contains-append_cases (y ∷ []) ys x c)
+    ⊎_elim (λ a. any_first p y ys (here a)) (λ b. any_behind p y ys (passed p ys x b e)) (Contains-append_cases (y ∷ []) ys x c)
   where
     here : Contains (y ∷ []) x → p y ≡ true
     here a = ⊎_elim (λ none. absurd (let below = none.1 in omega arith)) (λ same. ap p same ∙ e) (Contains-push_cases [] y x a)
 
-same_truth : (a b : Bool) → (a ≡ true → b ≡ true) → (b ≡ true → a ≡ true) → a ≡ b
-same_truth true b to from = sym (to refl)
-same_truth false true to from = from refl
-same_truth false false to from = refl
+same_any : (p : Value → Bool) (xs ys : List Value) → (list_any p xs ≡ true → list_any p ys ≡ true) → (list_any p ys ≡ true → list_any p xs ≡ true) → list_any p xs ≡ list_any p ys
+same_any p xs ys to from = by_case (list_any p xs) (list_any p ys) refl refl
+  where
+    by_case : (a b : Bool) → list_any p xs ≡ a → list_any p ys ≡ b → list_any p xs ≡ list_any p ys
+    by_case true b e f = e ∙ sym (to e)
+    by_case false true e f = from f ∙ sym f
+    by_case false false e f = e ∙ sym f
 
 to_members : (k : Kind) (vs : List Value) (x : Value) → Contains vs x → Contains (members k vs) x
 to_members kind.Set vs x c = members-from compare compare_total compare_exact vs x c
@@ -116,7 +123,7 @@ from_members kind.Bag vs x c =
 from_members kind.List vs x c = c
 
 any_member : (p : Value → Bool) (k : Kind) (vs : List Value) → list_any p (members k vs) ≡ list_any p vs
-any_member p k vs = same_truth (list_any p (members k vs)) (list_any p vs)
+any_member p k vs = same_any p (members k vs) vs
     (λ e. let h = passes p (members k vs) e in passed p vs h.0 (from_members k vs h.0 h.1) h.2)
     (λ e. let h = passes p vs e in passed p (members k vs) h.0 (to_members k vs h.0 h.1) h.2)
 
@@ -168,11 +175,11 @@ sum_members kind.List vs e = refl
 
 -- ---- what primitives make of a collection
 
-canonical_parts : (k : Kind) (vs : List Value) → as_collection (canonical k vs) ≡ Some (record { kind = k; items = members k vs })
+canonical_made : (k : Kind) (vs : List Value) → canonical k vs ≡ collection k (members k vs)
 unfolding canonical
-canonical_parts kind.Set vs = rw value.outs-Set refl
-canonical_parts kind.Bag vs = rw value.outs-Bag refl
-canonical_parts kind.List vs = rw value.outs-List refl
+canonical_made kind.Set vs = refl
+canonical_made kind.Bag vs = refl
+canonical_made kind.List vs = refl
 
 means_empty : (v : Value) → meaning 13 (v ∷ []) ≡ with_some (as_collection v) (λ c. truth (nat_eq (length c.items) 0))
 unfolding meaning row_at rows
@@ -198,7 +205,7 @@ pub tells_empty : (k : Kind) → Tells 13 [] k (empty true)
 tells_empty k = (
   tt,
   λ vs fit.
-      means_empty (canonical k vs) ∙ ap (λ o. with_some o (λ c. truth (nat_eq (length c.items) 0))) (canonical_parts k vs) ∙ ap truth (none_member k vs) ∙ ap answer_in (sym (with_empty vs)),
+      means_empty (canonical k vs) ∙ ap (λ o. with_some o (λ c. truth (nat_eq (length c.items) 0))) (ap as_collection (canonical_made k vs) ∙ collection_is k (members k vs)) ∙ ap truth (none_member k vs) ∙ ap answer_in (sym (with_empty vs)),
 )
 
 from_none : (n : ℕ) → n ≡ 0 + n
@@ -208,15 +215,15 @@ pub tells_count : (k : Kind) → is_set k ≡ false → Tells 14 [] k (counted 0
 tells_count k e = (
   tt,
   λ vs fit.
-      means_count (canonical k vs) ∙ ap (λ o. with_some o (λ c. amount (length c.items))) (canonical_parts k vs) ∙ ap amount (length_members k vs e) ∙ ap amount (from_none (length vs)) ∙ ap answer_in (sym (with_counted 0 vs)),
+      means_count (canonical k vs) ∙ ap (λ o. with_some o (λ c. amount (length c.items))) (ap as_collection (canonical_made k vs) ∙ collection_is k (members k vs)) ∙ ap amount (length_members k vs e) ∙ ap amount (from_none (length vs)) ∙ ap answer_in (sym (with_counted 0 vs)),
 )
 
 pub tells_sum : (k : Kind) → is_set k ≡ false → Tells 15 [] k (summed (pos 0))
 tells_sum k e = (
   tt,
   λ vs fit.
-      let ints : All IsInt (members k vs) = subst (λ o. IsSomeAnd o (λ (c : Collection). All IsInt c.items)) (canonical_parts k vs) (fits_sum (canonical k vs) fit) in
-      means_sum (canonical k vs) ∙ ap (λ o. with_some (option_and_then (λ c. all_some as_int c.items) o) (λ ns. exact (total ns))) (canonical_parts k vs)
+      let ints : All IsInt (members k vs) = subst (λ o. IsSomeAnd o (λ (c : Collection). All IsInt c.items)) (ap as_collection (canonical_made k vs) ∙ collection_is k (members k vs)) (fits_sum (canonical k vs) fit) in
+      means_sum (canonical k vs) ∙ ap (λ o. with_some (option_and_then (λ c. all_some as_int c.items) o) (λ ns. exact (total ns))) (ap as_collection (canonical_made k vs) ∙ collection_is k (members k vs))
       ∙ ap (λ o. with_some o (λ ns. exact (total ns))) (all_some_is as_int (pos 0) (members k vs) ints)
       ∙ ap exact (total_is (members k vs) ∙ sum_members k vs e) ∙ ap answer_in (sym (with_summed (pos 0) vs)),
 )
@@ -225,7 +232,7 @@ pub tells_member : (w : Value) (k : Kind) → Tells 16 (w ∷ []) k (sought w fa
 tells_member w k = (
   tt,
   λ vs fit.
-      means_member w (canonical k vs) ∙ ap (λ o. with_some o (λ c. truth (is_among w c.items))) (canonical_parts k vs) ∙ ap truth (any_member (λ v. is_eq (compare v w)) k vs) ∙ ap answer_in (sym (with_sought w false vs)),
+      means_member w (canonical k vs) ∙ ap (λ o. with_some o (λ c. truth (is_among w c.items))) (ap as_collection (canonical_made k vs) ∙ collection_is k (members k vs)) ∙ ap truth (any_member (λ v. is_eq (compare v w)) k vs) ∙ ap answer_in (sym (with_sought w false vs)),
 )
 
 pub appended : (g : Gathering) (ws : Vec Value Global) (new more : List Value) → g ≡ gathering.Items ws → new ≡ ws.items ++ more → listed new ≡ with_all (gathered g) more
