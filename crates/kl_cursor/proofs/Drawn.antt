@@ -19,7 +19,7 @@ use Rattle.kl_cursor.specs.Drawing.{fits_items, draws}
 
 -- ---- the kind is that of the type
 
-abbrev KindIn : Ground → Option Kind → Type 0
+abbrev pub KindIn : Ground → Option Kind → Type 0
 KindIn s (Some k) = (u : Ground) × (s ≡ coll k u)
 KindIn s None = ⊤
 
@@ -71,7 +71,7 @@ scanned_in k None = tt
 
 module _ (Of : Scan → Ground → Type 0) where
   mutual
-    kind_in : (p : Node) (G : List Ground) (s : Ground) → PlanTypes Of G p s → KindIn s (kind_of_items p)
+    pub kind_in : (p : Node) (G : List Ground) (s : Ground) → PlanTypes Of G p s → KindIn s (kind_of_items p)
     kind_in (node.Case a bs) G s h = kind_in_branches bs G h.0 s h.3
     kind_in (node.Make k ps) G s h = (h.0, h.1)
     kind_in (node.Union a b) G s h = first_in s (kind_of_items a) (kind_of_items b) (kind_in a G s h.3) (kind_in b G s h.4)

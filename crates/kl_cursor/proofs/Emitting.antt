@@ -1,5 +1,5 @@
--- Items that are added to a list as they come, form by form.
-use Rattle.std.proofs.Common.{◌≡◌, ℕ, ◌+◌, List, [], ◌∷◌, ◌++◌, Result, Vec, Ok, Err, refl, sym, ap, subst, ◌∙◌, arith, append_assoc, append-nil}
+-- Items that are gathered as they come, form by form.
+use Rattle.std.proofs.Common.{◌≡◌, ℕ, ◌+◌, List, [], ◌∷◌, ◌++◌, Result, Vec, Ok, Err, refl, sym, ap, subst, ◌∙◌, arith}
 use Rattle.std.specs.Prelude.{⊤}
 use Rattle.std.specs.declared.alloc.Global.{Global}
 use Rattle.kl_value.specs.declared.Kind.{Kind}
@@ -21,10 +21,12 @@ use Rattle.kl_scans.specs.Held.{Uses, nothing}
 use Rattle.kl_scans.specs.Log.{paid}
 use Rattle.kl_scans.specs.Stage.{stage, readings}
 use Rattle.kl_scans.proofs.Moving.{moves_none, stage_stays, stopped_then}
+use Rattle.kl_cursor.specs.Gathering.{Gathered, with_one, with_all}
 use Rattle.kl_cursor.specs.Left.{Snap, fresh, have, both, bound, outside, uses, left, reading, to_start, ScansLeft}
 use Rattle.kl_cursor.specs.Likeness.{Same}
 use Rattle.kl_cursor.specs.Steps.{Onward, Gives, Ends, Halts, Stops, Empties, Drains, Emits, EmitsDrawn, DrawnStand}
 use Rattle.kl_cursor.specs.Sense.{Stands}
+use Rattle.kl_cursor.proofs.Gatherings.{with_then}
 use Rattle.kl_cursor.proofs.Forms.{first_over, same_price}
 use Rattle.kl_cursor.proofs.Likes.{same_itself, same_at, same_followed, same_drawn, same_fits, same_harm, same_weight, well_first, well_source, weight_more}
 use Rattle.kl_cursor.proofs.Still.{types_on, bodies}
@@ -66,25 +68,25 @@ stops_empties env s a b g = record {
   typed = λ G k u e f. tt;
 }
 
-pub stops_emit : (env : List Value) (s : Snap) (e : EvalStop) (old : List Value) (a b : World) → Stops env s e a b → Emits env s (Err e) old old a b
-stops_emit env s why.Overflow old a b h = ([], sym (append-nil old), stops_empties env s a b h)
+pub stops_emit : (env : List Value) (s : Snap) (e : EvalStop) (old : Gathered) (a b : World) → Stops env s e a b → Emits env s (Err e) old old a b
+stops_emit env s why.Overflow old a b h = ([], refl, stops_empties env s a b h)
 stops_emit env s (why.Driver l x) old a b h = h
 stops_emit env s why.NoMemory old a b h = h
 
-pub ends_emit : (env : List Value) (s : Snap) (r : Unit {0}) (old : List Value) (a b : World) → Ends env s a b → Emits env s (Ok r) old old a b
-ends_emit env s r old a b h = ([], sym (append-nil old), ends_empties env s a b h)
+pub ends_emit : (env : List Value) (s : Snap) (r : Unit {0}) (old : Gathered) (a b : World) → Ends env s a b → Emits env s (Ok r) old old a b
+ends_emit env s r old a b h = ([], refl, ends_empties env s a b h)
 
 -- what is added behind what was drained
-pub drains_emit : (env : List Value) (s0 s : Snap) (vs : List Value) (a b c : World) (r : Result (Unit {0}) EvalStop) (old mid new : List Value) → mid ≡ old ++ vs → Draining env s0 a vs s b → Emits env s r mid new b c → Emits env s0 r old new a c
-drains_emit env s0 s vs a b c (Ok z) old mid new e d h = (vs ++ h.0, h.1 ∙ ap (λ q. q ++ h.0) e ∙ append_assoc old vs h.0, drains_empties env s0 a vs s b d h.0 fine c h.2)
-drains_emit env s0 s vs a b c (Err why.Overflow) old mid new e d h = (vs ++ h.0, h.1 ∙ ap (λ q. q ++ h.0) e ∙ append_assoc old vs h.0, drains_empties env s0 a vs s b d h.0 overflow c h.2)
+pub drains_emit : (env : List Value) (s0 s : Snap) (vs : List Value) (a b c : World) (r : Result (Unit {0}) EvalStop) (old mid new : Gathered) → mid ≡ with_all old vs → Draining env s0 a vs s b → Emits env s r mid new b c → Emits env s0 r old new a c
+drains_emit env s0 s vs a b c (Ok z) old mid new e d h = (vs ++ h.0, h.1 ∙ ap (λ q. with_all q h.0) e ∙ with_then old vs h.0, drains_empties env s0 a vs s b d h.0 fine c h.2)
+drains_emit env s0 s vs a b c (Err why.Overflow) old mid new e d h = (vs ++ h.0, h.1 ∙ ap (λ q. with_all q h.0) e ∙ with_then old vs h.0, drains_empties env s0 a vs s b d h.0 overflow c h.2)
 drains_emit env s0 s vs a b c (Err (why.Driver l x)) old mid new e d h = drains_halts env s0 a vs s b d (StoppedBy l x b c) (StoppedBy l x a c) c h (stopped_then l x (uses s0) (uses s) a b c d.moves)
 drains_emit env s0 s vs a b c (Err why.NoMemory) old mid new e d h = drains_halts env s0 a vs s b d ⊤ ⊤ c h (λ i. i)
 
-pub starts_emit : (env : List Value) (s0 s : Snap) (a b c : World) (r : Result (Unit {0}) EvalStop) (old new : List Value) → Draining env s0 a [] s b → Emits env s r old new b c → Emits env s0 r old new a c
-starts_emit env s0 s a b c r old new d h = drains_emit env s0 s [] a b c r old old new (sym (append-nil old)) d h
+pub starts_emit : (env : List Value) (s0 s : Snap) (a b c : World) (r : Result (Unit {0}) EvalStop) (old new : Gathered) → Draining env s0 a [] s b → Emits env s r old new b c → Emits env s0 r old new a c
+starts_emit env s0 s a b c r old new d h = drains_emit env s0 s [] a b c r old old new (refl) d h
 
-pub onward_emit : (env : List Value) (s0 s : Snap) (a b c : World) (r : Result (Unit {0}) EvalStop) (old new : List Value) → Onward env s0 a s b → Emits env s r old new b c → Emits env s0 r old new a c
+pub onward_emit : (env : List Value) (s0 s : Snap) (a b c : World) (r : Result (Unit {0}) EvalStop) (old new : Gathered) → Onward env s0 a s b → Emits env s r old new b c → Emits env s0 r old new a c
 onward_emit env s0 s a b c r old new m h = starts_emit env s0 s a b c r old new (onward_drains env s0 s a b m) h
 
 pub halts_as : (u : Uses) (Has Holds : List Scan → Type 0) (reason : Type 0) (a b : World) → ((all : List Scan) → Has all → Holds all) → Halts u Holds reason a b → Halts u Has reason a b
@@ -101,7 +103,7 @@ bound_empties env x s vs end a b g = record {
   typed = λ G k u e f. g.typed (f.0 ∷ G) k u (f.1, e) f.2;
 }
 
-pub bound_emit : (env : List Value) (x : Value) (s : Snap) (r : Result (Unit {0}) EvalStop) (old new : List Value) (a b : World) → Emits (x ∷ env) s r old new a b → Emits env (bound x s) r old new a b
+pub bound_emit : (env : List Value) (x : Value) (s : Snap) (r : Result (Unit {0}) EvalStop) (old new : Gathered) (a b : World) → Emits (x ∷ env) s r old new a b → Emits env (bound x s) r old new a b
 bound_emit env x s (Ok z) old new a b h = (h.0, h.1, bound_empties env x s h.0 fine a b h.2)
 bound_emit env x s (Err why.Overflow) old new a b h = (h.0, h.1, bound_empties env x s h.0 overflow a b h.2)
 bound_emit env x s (Err (why.Driver l e)) old new a b h = h
@@ -134,15 +136,15 @@ both_over env s p vs a b g = record {
   typed = λ G k u e f. g.typed G k u e f.0;
 }
 
-pub both_emit : (env : List Value) (s : Snap) (p : Node) (z : Unit {0}) (r : Result (Unit {0}) EvalStop) (old mid new : List Value) (a b c : World) → Emits env s (Ok z) old mid a b → Emits env (fresh p) r mid new b c → Emits env (both s p) r old new a c
+pub both_emit : (env : List Value) (s : Snap) (p : Node) (z : Unit {0}) (r : Result (Unit {0}) EvalStop) (old mid new : Gathered) (a b c : World) → Emits env s (Ok z) old mid a b → Emits env (fresh p) r mid new b c → Emits env (both s p) r old new a c
 both_emit env s p z r old mid new a b c h k = drains_emit env (both s p) (fresh p) h.0 a b c r old mid new h.1 (both_drains env s p h.0 a b h.2) k
 
-pub both_stop : (env : List Value) (s : Snap) (p : Node) (e : EvalStop) (old new : List Value) (a b : World) → Emits env s (Err e) old new a b → Emits env (both s p) (Err e) old new a b
+pub both_stop : (env : List Value) (s : Snap) (p : Node) (e : EvalStop) (old new : Gathered) (a b : World) → Emits env s (Err e) old new a b → Emits env (both s p) (Err e) old new a b
 both_stop env s p why.Overflow old new a b h = (h.0, h.1, both_over env s p h.0 a b h.2)
 both_stop env s p (why.Driver l x) old new a b h = halts_as (uses s) (λ all. ScansLeft all (both s p)) (λ all. ScansLeft all s) (StoppedBy l x a b) a b (λ all i. i.0) h
 both_stop env s p why.NoMemory old new a b h = halts_as (uses s) (λ all. ScansLeft all (both s p)) (λ all. ScansLeft all s) ⊤ a b (λ all i. i.0) h
 
-pub both_stands : (env : List Value) (s : Snap) (p : Node) (z : Unit {0}) (old new : List Value) (a b : World) → Emits env s (Ok z) old new a b → Stands a (both s p) env → Stands b (fresh p) env
+pub both_stands : (env : List Value) (s : Snap) (p : Node) (z : Unit {0}) (old new : Gathered) (a b : World) → Emits env s (Ok z) old new a b → Stands a (both s p) env → Stands b (fresh p) env
 both_stands env s p z old new a b h = drains_stands env (both s p) a h.0 (fresh p) b (both_drains env s p h.0 a b h.2)
 
 -- ---- a loop, while its source is drained
@@ -200,7 +202,7 @@ drawing_stands env s p (Err (halt.Over vs)) a b h i = drains_stands env s a [] (
 drawing_stands env s p (Err (halt.Driver l e)) a b h i = tt
 drawing_stands env s p (Err halt.NoMemory) a b h i = tt
 
-pub drawing_emit : (env : List Value) (s : Snap) (p : Node) (d : Result (Vec Value Global) Halt) (r : Result (Unit {0}) EvalStop) (old new : List Value) (a b c : World) → Drawing env s p d a b → EmitsDrawn env p d r old new b c → Emits env s r old new a c
+pub drawing_emit : (env : List Value) (s : Snap) (p : Node) (d : Result (Vec Value Global) Halt) (r : Result (Unit {0}) EvalStop) (old new : Gathered) (a b c : World) → Drawing env s p d a b → EmitsDrawn env p d r old new b c → Emits env s r old new a c
 drawing_emit env s p (Ok vs) r old new a b c h k = starts_emit env s (outside p (have vs.items fine)) a b c r old new h k
 drawing_emit env s p (Err (halt.Over vs)) r old new a b c h k = starts_emit env s (outside p (have vs.items overflow)) a b c r old new h k
 drawing_emit env s p (Err (halt.Driver l e)) r old new a b c h k = subst (λ q. Emits env s q old new a c) (sym k.0) (subst (λ w. Halts (uses s) (λ all. ScansLeft all s) (StoppedBy l e a w) a w) (sym k.1) h)
@@ -245,7 +247,7 @@ module _ (env : List Value) (p : Node) (v : Value) (rest : List Value) (end : En
     typed = λ G k u e f. g.typed (f.1 ∷ G) k u (f.3.0, e) f.4;
   }
 
-  pub turn_stop : (e : EvalStop) (old new : List Value) → Emits (v ∷ env) (fresh p) (Err e) old new b c → Emits env Turn (Err e) old new b c
+  pub turn_stop : (e : EvalStop) (old new : Gathered) → Emits (v ∷ env) (fresh p) (Err e) old new b c → Emits env Turn (Err e) old new b c
   turn_stop why.Overflow old new h = (h.0, h.1, turn_over h.0 h.2)
   turn_stop (why.Driver l x) old new h = halts_as nothing (λ all. ScansLeft all Turn) (λ all. ScansLeft all (fresh p)) (StoppedBy l x b c) b c (λ all i. i.0) h
   turn_stop why.NoMemory old new h = halts_as nothing (λ all. ScansLeft all Turn) (λ all. ScansLeft all (fresh p)) ⊤ b c (λ all i. i.0) h
@@ -256,25 +258,25 @@ module _ (env : List Value) (p : Node) (v : Value) (rest : List Value) (end : En
 -- ---- what was added so far
 
 -- of a cursor, of which another is left
-abbrev pub Adding : List Value → Snap → World → List Value → List Value → Snap → World → Type 0
-Adding env s0 a old now s b = (vs : List Value) × (now ≡ old ++ vs) × Draining env s0 a vs s b
+abbrev pub Adding : List Value → Snap → World → Gathered → Gathered → Snap → World → Type 0
+Adding env s0 a old now s b = (vs : List Value) × (now ≡ with_all old vs) × Draining env s0 a vs s b
 
-pub adding_starts : (env : List Value) (s : Snap) (a : World) (old : List Value) → Adding env s a old old s a
-adding_starts env s a old = ([], sym (append-nil old), drains_starts env s a)
+pub adding_starts : (env : List Value) (s : Snap) (a : World) (old : Gathered) → Adding env s a old old s a
+adding_starts env s a old = ([], refl, drains_starts env s a)
 
-pub adding_from : (env : List Value) (s0 s : Snap) (a b : World) (old : List Value) → Draining env s0 a [] s b → Adding env s0 a old old s b
-adding_from env s0 s a b old d = ([], sym (append-nil old), d)
+pub adding_from : (env : List Value) (s0 s : Snap) (a b : World) (old : Gathered) → Draining env s0 a [] s b → Adding env s0 a old old s b
+adding_from env s0 s a b old d = ([], refl, d)
 
-pub adding_then : (env : List Value) (s0 s t : Snap) (ws old now new : List Value) (a b c : World) → Adding env s0 a old now s b → Draining env s b ws t c → new ≡ now ++ ws → Adding env s0 a old new t c
-adding_then env s0 s t ws old now new a b c h d e = (h.0 ++ ws, e ∙ ap (λ q. q ++ ws) h.1 ∙ append_assoc old h.0 ws, drains_then env s0 a h.0 s b h.2 ws t c d)
+pub adding_then : (env : List Value) (s0 s t : Snap) (ws : List Value) (old now new : Gathered) (a b c : World) → Adding env s0 a old now s b → Draining env s b ws t c → new ≡ with_all now ws → Adding env s0 a old new t c
+adding_then env s0 s t ws old now new a b c h d e = (h.0 ++ ws, e ∙ ap (λ q. with_all q ws) h.1 ∙ with_then old h.0 ws, drains_then env s0 a h.0 s b h.2 ws t c d)
 
-pub adding_emit : (env : List Value) (s0 s : Snap) (r : Result (Unit {0}) EvalStop) (old now new : List Value) (a b c : World) → Adding env s0 a old now s b → Emits env s r now new b c → Emits env s0 r old new a c
+pub adding_emit : (env : List Value) (s0 s : Snap) (r : Result (Unit {0}) EvalStop) (old now new : Gathered) (a b c : World) → Adding env s0 a old now s b → Emits env s r now new b c → Emits env s0 r old new a c
 adding_emit env s0 s r old now new a b c h k = drains_emit env s0 s h.0 a b c r old now new h.1 h.2 k
 
-pub adding_stands : (env : List Value) (s0 s : Snap) (old now : List Value) (a b : World) → Adding env s0 a old now s b → Stands a s0 env → Stands b s env
+pub adding_stands : (env : List Value) (s0 s : Snap) (old now : Gathered) (a b : World) → Adding env s0 a old now s b → Stands a s0 env → Stands b s env
 adding_stands env s0 s old now a b h i = drains_stands env s0 a h.0 s b h.2 i
 
-pub turn_adding : (env : List Value) (s0 : Snap) (p : Node) (v : Value) (rest : List Value) (end : End) (z : Unit {0}) (old now new : List Value) (a b c : World) → Adding env s0 a old now (outside p (have (v ∷ rest) end)) b
+pub turn_adding : (env : List Value) (s0 : Snap) (p : Node) (v : Value) (rest : List Value) (end : End) (z : Unit {0}) (old now new : Gathered) (a b c : World) → Adding env s0 a old now (outside p (have (v ∷ rest) end)) b
     → Emits (v ∷ env) (fresh p) (Ok z) now new b c → Adding env s0 a old new (outside p (have rest end)) c
 turn_adding env s0 p v rest end z old now new a b c h k = adding_then env s0 (outside p (have (v ∷ rest) end)) (outside p (have rest end)) k.0 old now new a b c h (turn_drains env p v rest end b c k.0 k.2) k.1
 

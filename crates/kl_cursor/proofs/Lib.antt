@@ -18,6 +18,8 @@ pub mod ValueCode
 pub mod Whole
 pub mod ValueFalls
 pub mod ValueSteps
+pub mod Gatherings
+pub mod Tallied
 pub mod Emitting
 pub mod Rows
 pub mod EmitCode

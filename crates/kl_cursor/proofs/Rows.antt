@@ -23,6 +23,7 @@ use Rattle.kl_scans.specs.Moves.{Closes}
 use Rattle.kl_scans.specs.Scans.{PulledMore}
 use Rattle.kl_scans.specs.Stage.{stage, ScanOf, IsTold}
 use Rattle.kl_scans.proofs.Moving.{moves_then, stage_stays, stopped_before}
+use Rattle.kl_cursor.specs.Gathering.{Gathered}
 use Rattle.kl_cursor.specs.Left.{Snap, have, pulling, outside, left, reading, to_start, rows_left, rows_told, ScansLeft}
 use Rattle.kl_cursor.specs.Likeness.{Same}
 use Rattle.kl_cursor.specs.Measure.{bound_in}
@@ -132,10 +133,10 @@ module _ (env : List Value) (p : Node) (q : Scan) (k n : ℕ) (rows : List Value
       }
 
   -- a draw leaves the cursor as it was
-  pub rows_still : (r : Unit {0}) (old new : List Value) → Emits env Alone (Ok r) old new a b → bound_in (cursor_at b q.driver k) ≡ bound_in (cursor_at a q.driver k)
+  pub rows_still : (r : Unit {0}) (old new : Gathered) → Emits env Alone (Ok r) old new a b → bound_in (cursor_at b q.driver k) ≡ bound_in (cursor_at a q.driver k)
   rows_still r old new h = ap bound_in ((still_beside (one_at q.driver k) nothing nothing a b (body_owned (pulling q k [] n) a o) h.2.moves).each q.driver k (one_self q.driver k))
 
-  pub rows_drawn : (r : Unit {0}) (old new : List Value) (h : Emits env Alone (Ok r) old new a b) → Draining env Rows a h.0 Behind b
+  pub rows_drawn : (r : Unit {0}) (old new : Gathered) (h : Emits env Alone (Ok r) old new a b) → Draining env Rows a h.0 Behind b
   rows_drawn r old new h = rows_drains h.0 h.2
 
   -- a stop of the body closes the cursor
@@ -158,7 +159,7 @@ module _ (env : List Value) (p : Node) (q : Scan) (k n : ℕ) (rows : List Value
       reason = f h.reason;
     }
 
-    pub rows_stop : (e : EvalStop) (old new : List Value) → Emits env Alone (Err e) old new a b → Emits env Rows (Err e) old new a d
+    pub rows_stop : (e : EvalStop) (old new : Gathered) → Emits env Alone (Err e) old new a b → Emits env Rows (Err e) old new a d
     rows_stop why.Overflow old new h = (h.0, h.1, rows_over h.0 h.2)
     rows_stop (why.Driver l x) old new h = rows_halt (StoppedBy l x a b) (StoppedBy l x a d) (λ s. stopped_before l x (one_at q.driver k) nothing a b d s m.moves) h
     rows_stop why.NoMemory old new h = rows_halt ⊤ ⊤ (λ i. i) h

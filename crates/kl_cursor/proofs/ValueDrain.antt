@@ -141,10 +141,10 @@ flow_types : (u : Ground) (vs : List Value) → AllByRecursion (Inhabits u) vs �
 flow_types u [] h = tt
 flow_types u (v ∷ vs) h = (h.0, flow_types u vs h.1)
 
-end_types : (u : Ground) (vs : List Value) (e : End) → (e ≡ fine) ⊎ (e ≡ overflow) → AllByRecursion (Inhabits u) vs → FlowOf u (flow vs e)
+pub end_types : (u : Ground) (vs : List Value) (e : End) → (e ≡ fine) ⊎ (e ≡ overflow) → AllByRecursion (Inhabits u) vs → FlowOf u (flow vs e)
 end_types u vs e c h = ⊎_elim (λ d. subst (λ z. FlowOf u (flow vs z)) (sym d) (flow_of u vs h)) (λ d. subst (λ z. FlowOf u (flow vs z)) (sym d) (flow_types u vs h)) c
 
-well_ends : (e : End) → (e ≡ fine) ⊎ (e ≡ overflow) → (k : Kind) (vs : List Value) → IsDone (gathered k e vs) → harm (flow vs e) ≡ 0
+pub well_ends : (e : End) → (e ≡ fine) ⊎ (e ≡ overflow) → (k : Kind) (vs : List Value) → IsDone (gathered k e vs) → harm (flow vs e) ≡ 0
 well_ends e c k vs i = ⊎_elim (λ d. subst (λ z. harm (flow vs z) ≡ 0) (sym d) (fine_harm vs)) (λ d. absurd (subst (λ z. IsDone (gathered k z vs)) d i)) c
   where
     fine_harm : (vs : List Value) → harm (flow vs fine) ≡ 0

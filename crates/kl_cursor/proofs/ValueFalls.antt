@@ -37,7 +37,7 @@ rec_down t fs gs et eg =
     let g : spare (view t) ≡ 5 = ap spare e in
     omega arith
 
-pub call_down : (t : Plan) (c : ℕ) (ps qs : List Plan) → t ≡ plans.Prim c ps → qs ≡ ps → 16 * tall_nodes (nodes_view qs) + 11 < 16 * tall (view t) + spare (view t)
+pub call_down : (t : Plan) (c : ℕ) (ps qs : List Plan) → t ≡ plans.Prim c ps → qs ≡ ps → 16 * tall_nodes (nodes_view qs) + 12 < 16 * tall (view t) + spare (view t)
 call_down t c ps qs et eq =
     let e : view t ≡ node.Prim c (nodes_view qs) = ap view et ∙ view_Prim c ps ∙ ap (λ q. node.Prim c (nodes_view q)) (sym eq) in
     let f : tall (view t) ≡ 1 + tall_nodes (nodes_view qs) = ap tall e in

@@ -22,8 +22,10 @@ use Rattle.kl_core.specs.Typing.{SourceTypes}
 use Rattle.kl_core.proofs.Safety.{safe, get_typed}
 use Rattle.kl_ask.specs.World.{World}
 use Rattle.kl_eval.specs.World.{StoppedBy}
-use Rattle.kl_eval.specs.Evals.{TellsPlain, SensePlain}
+use Rattle.kl_eval.specs.Evals.{TellsPart, TellsPlain, SensePlain}
 use Rattle.kl_eval.specs.Steps.{AnswersOutcome, AddsItems, Behind, Gathers, place_of, Finishes, Joins}
+use Rattle.kl_eval.specs.declared.stop.EvalStop.{EvalStop}
+use Rattle.kl_eval.specs.declared.stop.EvalStop.TheVariants as why
 use Rattle.kl_eval.specs.declared.stop.Halt.{Halt}
 use Rattle.kl_eval.specs.declared.stop.Halt.TheVariants as halt
 use Rattle.kl_ship.specs.declared.plan.Plan.{Plan}
@@ -43,7 +45,7 @@ use Rattle.kl_scans.specs.Stage.{stage, ScanOf}
 use Rattle.kl_scans.proofs.Moving.{moves_none, moves_then, stopped_then}
 use Rattle.kl_cursor.specs.Left.{reading}
 use Rattle.kl_cursor.specs.Sense.{TypesAt, IsToldAt, HasWorth}
-use Rattle.kl_cursor.specs.Steps.{IsDone, ComesTo, Wholly}
+use Rattle.kl_cursor.specs.Steps.{IsDone, ComesTo, Wholly, Partly}
 use Rattle.kl_cursor.proofs.Events.{of_then}
 use Rattle.kl_cursor.proofs.Forms.{told_on}
 use Rattle.kl_cursor.proofs.ValueDrain.{flow_more}
@@ -279,6 +281,12 @@ plain_whole env t (Ok v) w x e h = plain_comes env t (done v) w x e h
 plain_whole env t (Err (halt.Over vs)) w x e h = plain_comes env t (over vs.items) w x e h
 plain_whole env t (Err (halt.Driver l f)) w x e h = subst (λ z. Wholly env (node.Plain t) (Err (halt.Driver l f)) w z) (sym e) (record { moves = moves_none nothing w; known = λ all i. tt; reason = h })
 plain_whole env t (Err halt.NoMemory) w x e h = subst (λ z. Wholly env (node.Plain t) (Err halt.NoMemory) w z) (sym e) (record { moves = moves_none nothing w; known = λ all i. tt; reason = tt })
+
+pub plain_part : (env : List Value) (t : Tree) (r : Result Value EvalStop) (w x : World) → x ≡ w → TellsPart w t env r → Partly env (node.Plain t) r w x
+plain_part env t (Ok v) w x e h = plain_comes env t (done v) w x e h
+plain_part env t (Err why.Overflow) w x e h = (h.0, plain_comes env t (over h.0) w x e h.1)
+plain_part env t (Err (why.Driver l f)) w x e h = subst (λ z. Partly env (node.Plain t) (Err (why.Driver l f)) w z) (sym e) (record { moves = moves_none nothing w; known = λ all i. tt; reason = h })
+plain_part env t (Err why.NoMemory) w x e h = subst (λ z. Partly env (node.Plain t) (Err why.NoMemory) w z) (sym e) (record { moves = moves_none nothing w; known = λ all i. tt; reason = tt })
 
 pub plain_sense : (env : List Value) (t : Tree) (w : World) → HasWorth w (node.Plain t) env → SensePlain t env w
 plain_sense env t w h = (h.3.0, (h.0, h.1, h.2, h.3.1), h.4)

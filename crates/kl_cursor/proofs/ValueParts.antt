@@ -8,6 +8,7 @@ use Rattle.std.proofs.lemmas.List.{at_drop_more}
 use Rattle.std.proofs.lemmas.Grind.{common_steps}
 use Rattle.std.proofs.lemmas.List.Elements.{All-from_recursion}
 use Rattle.kl_base.specs.Fields.{bytes_cmp, labels_of}
+use Rattle.kl_value.specs.Canon.{canonical}
 use Rattle.kl_value.specs.IsCanonical.{IsCanonical}
 use Rattle.kl_value.specs.declared.Value.{Value}
 use Rattle.kl_value.specs.declared.Value.TheVariants as value
@@ -28,6 +29,7 @@ use Rattle.kl_eval.specs.declared.stop.Halt.TheVariants as halt
 use Rattle.kl_ship.specs.declared.plan.Plan.{Plan}
 use Rattle.kl_ship.specs.declared.plan.Scan.{Scan}
 use Rattle.kl_ship.specs.Holding.{ScansIn, ScansInNodes, ScansInFields}
+use Rattle.kl_ship.specs.Kinds.{kind_of_items}
 use Rattle.kl_ship.specs.Meaning.{worth, plan, plan_fields}
 use Rattle.kl_ship.specs.Nodes as node
 use Rattle.kl_ship.specs.Nodes.{Node, Nodes, no_nodes, nodes, Fields, no_fields, fields, view, nodes_view, fields_view}
@@ -38,11 +40,13 @@ use Rattle.kl_scans.specs.Log.{paid}
 use Rattle.kl_scans.specs.Moves.{Moves}
 use Rattle.kl_scans.specs.Stage.{stage, ScanOf}
 use Rattle.kl_scans.proofs.Moving.{moves_none, moves_then, stage_stays, ready_stays, stopped_then, paid_then}
-use Rattle.kl_cursor.specs.Left.{reading}
-use Rattle.kl_cursor.specs.Sense.{IsToldAt, HasWorth, HasFields, HasCall}
-use Rattle.kl_cursor.specs.Steps.{AreOf, ComesTo, Fails, Wholly, Partly, FieldsHave, FieldsGive, CallTypes, CallComes, CallGives}
+use Rattle.kl_cursor.specs.Gathering.{Gathered, IsTally, TellsItems}
+use Rattle.kl_cursor.specs.Left.{fresh, reading}
+use Rattle.kl_cursor.specs.Sense.{IsToldAt, HasWorth, HasFields, HasCall, Stands}
+use Rattle.kl_cursor.specs.Steps.{AreOf, ComesTo, Fails, Wholly, Partly, Tallies, FieldsHave, FieldsGive, CallTypes, CallComes, CallGives}
 use Rattle.kl_cursor.proofs.Events.{of_then}
 use Rattle.kl_cursor.proofs.Forms.{told_on}
+use Rattle.kl_cursor.proofs.Tallied.{tells_kind, worth_stands, tallied}
 use Rattle.kl_cursor.proofs.Comings.{fails_then, at_stage, worth_back, cost_back}
 
 -- ---- the fields of a record
@@ -283,29 +287,38 @@ call_fails env c ps (why.Driver l e) w x y Has Hold m known p h scans f =
     fails_then (λ all. ScansInNodes all ps) Has (λ all. ScansIn all p) (StoppedBy l e x y) (StoppedBy l e w y) w x y m known h scans (stopped_then l e nothing nothing w x y m)
 call_fails env c ps why.NoMemory w x y Has Hold m known p h scans f = fails_then (λ all. ScansInNodes all ps) Has (λ all. ScansIn all p) ⊤ ⊤ w x y m known h scans (λ i. i)
 
+-- the plans of the arguments, by their places
+pub one_plan : (ps : List Plan) (p : Plan) → length ps ≡ 1 → p ≡ get_or ps 0 p → nodes_view ps ≡ nodes (view p) no_nodes
+one_plan ps p n is = ap nodes_view (alone ps p n is)
+
+pub two_plans : (ps : List Plan) (p q : Plan) → length ps ≡ 2 → p ≡ get_or ps 0 p → q ≡ get_or ps 1 q → nodes_view ps ≡ nodes (view p) (nodes (view q) no_nodes)
+two_plans ps p q n is js = ap nodes_view (pair ps p q n is js)
+
+pub call_sense : (c : ℕ) (ps qs : Nodes) (env : List Value) (a : World) → ps ≡ qs → HasCall a c ps env → HasCall a c qs env
+call_sense c ps qs env a e h = subst (λ z. HasCall a c z env) e h
+
+pub call_as : (c : ℕ) (ps qs : Nodes) (env : List Value) (r : Result Value EvalStop) (a b : World) → ps ≡ qs → CallGives env c qs r a b → CallGives env c ps r a b
+call_as c ps qs env r a b e h = subst (λ z. CallGives env c z r a b) (sym e) h
+
 -- one argument
-module _ (c : ℕ) (ps : List Plan) (p : Plan) (env : List Value) (a : World) (n : length ps ≡ 1) (is : p ≡ get_or ps 0 p) where
+module _ (c : ℕ) (p : Node) (env : List Value) (a : World) where
   abbrev Only : Nodes
-  Only = nodes (view p) no_nodes
+  Only = nodes p no_nodes
 
-  only : nodes_view ps ≡ Only
-  only = ap nodes_view (alone ps p n is)
-
-  pub sense_only : HasCall a c (nodes_view ps) env → HasWorth a (view p) env
-  sense_only s = let s' = subst (λ q. HasCall a c q env) only s in (s'.0, s'.4.0, s'.3, s'.4.3, s'.6)
+  pub sense_only : HasCall a c Only env → HasWorth a p env
+  sense_only s = (s.0, s.4.0, s.3, s.4.3, s.6)
 
   only_types : (G : List Ground) (s : Ground) (v : Value) → (t : CallTypes a G c Only s) → Inhabits t.1.0 v → HaveTypes t.0 (v ∷ [])
   only_types G s v t i = subst (λ q. HaveTypes q (v ∷ [])) (sym (t.1.2 ∙ ap (λ q. t.1.0 ∷ q) t.1.4)) (i, tt)
 
-  pub fits_only : (v : Value) (b : World) → HasCall a c (nodes_view ps) env → ComesTo env (view p) (done v) a b → Fits c (v ∷ []) × All IsCanonical (v ∷ [])
+  pub fits_only : (v : Value) (b : World) → HasCall a c Only env → ComesTo env p (done v) a b → Fits c (v ∷ []) × All IsCanonical (v ∷ [])
   fits_only v b s h =
-      let s' = subst (λ q. HasCall a c q env) only s in
-      let t : CallTypes a s'.0 c Only s'.2 = (s'.1, s'.4, s'.5) in
-      let have = only_types s'.0 s'.2 v t (h.typed s'.0 t.1.0 s'.3 t.1.3) in
-      (prim_fits c t.0 s'.2 (v ∷ []) t.2 have, types_canonical t.0 (v ∷ []) have)
+      let t : CallTypes a s.0 c Only s.2 = (s.1, s.4, s.5) in
+      let have = only_types s.0 s.2 v t (h.typed s.0 t.1.0 s.3 t.1.3) in
+      (prim_fits c t.0 s.2 (v ∷ []) t.2 have, types_canonical t.0 (v ∷ []) have)
 
-  pub call_only : (v : Value) (r : Result Value EvalStop) (b : World) → ComesTo env (view p) (done v) a b → AnswersPrim (meaning c (v ∷ [])) r → CallGives env c (nodes_view ps) r a b
-  call_only v r b h m = subst (λ q. CallGives env c q r a b) (sym only) (call_answers env c Only (meaning c (v ∷ [])) r a b gives m (h.moves, λ all i. h.known all i.0))
+  pub call_only : (v : Value) (r : Result Value EvalStop) (b : World) → ComesTo env p (done v) a b → AnswersPrim (meaning c (v ∷ [])) r → CallGives env c Only r a b
+  call_only v r b h m = call_answers env c Only (meaning c (v ∷ [])) r a b gives m (h.moves, λ all i. h.known all i.0)
     where
       gives : (o : Outcome) → answered (meaning c (v ∷ [])) ≡ o → CallComes env c Only o a b
       gives o e = record {
@@ -316,12 +329,11 @@ module _ (c : ℕ) (ps : List Plan) (p : Plan) (env : List Value) (a : World) (n
         typed = λ G s t y. subst (OfType s) e (prim_typed c y.0 s (v ∷ []) y.2 (only_types G s v y (h.typed G y.1.0 t y.1.3)));
       }
 
-  pub call_only_stop : (e : EvalStop) (b : World) → Partly env (view p) (Err e) a b → CallGives env c (nodes_view ps) (Err e) a b
+  pub call_only_stop : (e : EvalStop) (b : World) → Partly env p (Err e) a b → CallGives env c Only (Err e) a b
   call_only_stop e b h =
-      subst (λ q. CallGives env c q (Err e) a b) (sym only)
-      (call_fails env c Only e a a b (λ all. ⊤) (λ all. ScansIn all (view p)) (moves_none nothing a) (λ all i. tt) (view p) h (λ all i. (tt, i.0)) gives)
+      call_fails env c Only e a a b (λ all. ⊤) (λ all. ScansIn all p) (moves_none nothing a) (λ all i. tt) p h (λ all i. (tt, i.0)) gives
     where
-      gives : (vs : List Value) → ComesTo env (view p) (over vs) a b → CallComes env c Only (over []) a b
+      gives : (vs : List Value) → ComesTo env p (over vs) a b → CallComes env c Only (over []) a b
       gives vs k = record {
         moves = k.moves;
         known = λ all i. k.known all i.0;
@@ -330,99 +342,105 @@ module _ (c : ℕ) (ps : List Plan) (p : Plan) (env : List Value) (a : World) (n
         typed = λ G s t y. over_nil s;
       }
 
+  -- of which the items are tallied
+  module _ (g : Gathered) (tells : TellsItems c [] (kind_of_items p) g) where
+    pub tally_ready : HasCall a c Only env → IsTally g × Stands a (fresh p) env
+    tally_ready s = let k = tells_kind c [] (kind_of_items p) g tells in (k.2.0, worth_stands env p k.0 a k.1 (sense_only s))
+
+    pub call_tally : (r : Result Value EvalStop) (b : World) → HasCall a c Only env → Tallies env (fresh p) g r a b → CallGives env c Only r a b
+    call_tally r b s h =
+        let k = tells_kind c [] (kind_of_items p) g tells in
+        tallied env p k.0 a k.1 b (CallGives env c Only r a b) g r h
+        (λ vs t m. call_only (canonical k.0 vs) r b t (subst (λ z. AnswersPrim z r) (sym (k.2.1 vs (fits_only (canonical k.0 vs) b s t).0)) m))
+        (λ e is t. subst (λ z. CallGives env c Only z a b) (sym is) (call_only_stop e b t))
+
 -- two arguments
-module _ (c : ℕ) (ps : List Plan) (p q : Plan) (env : List Value) (a : World) (n : length ps ≡ 2) (is : p ≡ get_or ps 0 p) where
-  module _ (js : q ≡ get_or ps 1 q) where
-    abbrev Two : Nodes
-    Two = nodes (view p) (nodes (view q) no_nodes)
+module _ (c : ℕ) (p q : Node) (env : List Value) (a : World) where
+  abbrev Two : Nodes
+  Two = nodes p (nodes q no_nodes)
 
-    two : nodes_view ps ≡ Two
-    two = ap nodes_view (pair ps p q n is js)
+  pub sense_former : HasCall a c Two env → HasWorth a p env
+  sense_former s = (s.0, s.4.0, s.3, s.4.3, s.6)
 
-    sense_former : HasCall a c (nodes_view ps) env → HasWorth a (view p) env
-    sense_former s = let s' = subst (λ y. HasCall a c y env) two s in (s'.0, s'.4.0, s'.3, s'.4.3, s'.6)
+  pub sense_latter : (v : Value) (b : World) → HasCall a c Two env → ComesTo env p (done v) a b → HasWorth b q env
+  sense_latter v b s h =
+      (s.0, s.4.4.0, s.3, at_stage a b s.0 q s.4.4.0 h.moves s.4.4.3, ready_stays nothing nothing a b h.moves s.6)
 
-    pub sense_latter : (v : Value) (b : World) → HasCall a c (nodes_view ps) env → ComesTo env (view p) (done v) a b → HasWorth b (view q) env
-    sense_latter v b s h =
-        let s' = subst (λ y. HasCall a c y env) two s in
-        (s'.0, s'.4.4.0, s'.3, at_stage a b s'.0 (view q) s'.4.4.0 h.moves s'.4.4.3, ready_stays nothing nothing a b h.moves s'.6)
+  two_types : (G : List Ground) (s : Ground) (v u : Value) → (t : CallTypes a G c Two s) → Inhabits t.1.0 v → Inhabits t.1.4.0 u → HaveTypes t.0 (v ∷ u ∷ [])
+  two_types G s v u t i j = subst (λ y. HaveTypes y (v ∷ u ∷ [])) (sym (t.1.2 ∙ ap (λ y. t.1.0 ∷ y) (t.1.4.2 ∙ ap (λ y. t.1.4.0 ∷ y) t.1.4.4))) (i, (j, tt))
 
-    two_types : (G : List Ground) (s : Ground) (v u : Value) → (t : CallTypes a G c Two s) → Inhabits t.1.0 v → Inhabits t.1.4.0 u → HaveTypes t.0 (v ∷ u ∷ [])
-    two_types G s v u t i j = subst (λ y. HaveTypes y (v ∷ u ∷ [])) (sym (t.1.2 ∙ ap (λ y. t.1.0 ∷ y) (t.1.4.2 ∙ ap (λ y. t.1.4.0 ∷ y) t.1.4.4))) (i, (j, tt))
+  pub fits_both : (v u : Value) (b d : World) → HasCall a c Two env → ComesTo env p (done v) a b → ComesTo env q (done u) b d → Fits c (v ∷ u ∷ []) × All IsCanonical (v ∷ u ∷ [])
+  fits_both v u b d s h k =
+      let t : CallTypes a s.0 c Two s.2 = (s.1, s.4, s.5) in
+      let have = two_types s.0 s.2 v u t (h.typed s.0 t.1.0 s.3 t.1.3) (k.typed s.0 t.1.4.0 s.3 (at_stage a b s.0 q t.1.4.0 h.moves t.1.4.3)) in
+      (prim_fits c t.0 s.2 (v ∷ u ∷ []) t.2 have, types_canonical t.0 (v ∷ u ∷ []) have)
 
-    pub fits_both : (v u : Value) (b d : World) → HasCall a c (nodes_view ps) env → ComesTo env (view p) (done v) a b → ComesTo env (view q) (done u) b d → Fits c (v ∷ u ∷ []) × All IsCanonical (v ∷ u ∷ [])
-    fits_both v u b d s h k =
-        let s' = subst (λ y. HasCall a c y env) two s in
-        let t : CallTypes a s'.0 c Two s'.2 = (s'.1, s'.4, s'.5) in
-        let have = two_types s'.0 s'.2 v u t (h.typed s'.0 t.1.0 s'.3 t.1.3) (k.typed s'.0 t.1.4.0 s'.3 (at_stage a b s'.0 (view q) t.1.4.0 h.moves t.1.4.3)) in
-        (prim_fits c t.0 s'.2 (v ∷ u ∷ []) t.2 have, types_canonical t.0 (v ∷ u ∷ []) have)
+  pub call_both : (v u : Value) (r : Result Value EvalStop) (b d : World) → ComesTo env p (done v) a b → ComesTo env q (done u) b d → AnswersPrim (meaning c (v ∷ u ∷ [])) r → CallGives env c Two r a d
+  call_both v u r b d h k m =
+      call_answers env c Two (meaning c (v ∷ u ∷ [])) r a d gives m (moves_then nothing nothing nothing a b d h.moves k.moves, λ all i. of_then all h.moves.events k.moves.events (h.known all i.0) (k.known all i.1.0))
+    where
+      gives : (o : Outcome) → answered (meaning c (v ∷ u ∷ [])) ≡ o → CallComes env c Two o a d
+      gives o e = record {
+        moves = moves_then nothing nothing nothing a b d h.moves k.moves;
+        known = λ all i. of_then all h.moves.events k.moves.events (h.known all i.0) (k.known all i.1.0);
+        comes = λ G s t y told.
+            let z = y.1.4 in
+            let f = h.comes G y.1.0 t y.1.3 told in
+            let g = worth_back a b q env (done u) h.moves (k.comes G z.0 t (at_stage a b G q z.0 h.moves z.3) (told_on nothing nothing a b h.moves told)) in
+            ap (λ o. after o (λ x. after (worth (plan (reading a) q env)) (λ y. answered (meaning c (x ∷ y ∷ []))))) f
+            ∙ ap (λ o. after o (λ y. answered (meaning c (v ∷ y ∷ [])))) g ∙ e;
+        counts = λ G s t y told well price.
+            let z = y.1.4 in
+            let f = h.counts G y.1.0 t y.1.3 told tt price in
+            let g = k.counts G z.0 t (at_stage a b G q z.0 h.moves z.3) (told_on nothing nothing a b h.moves told) tt price ∙ cost_back a b price q env h.moves in
+            omega (arith, paid_then price h.moves.events k.moves.events, f, g);
+        typed = λ G s t y.
+            let z = y.1.4 in
+            subst (OfType s) e (prim_typed c y.0 s (v ∷ u ∷ []) y.2 (two_types G s v u y (h.typed G y.1.0 t y.1.3) (k.typed G z.0 t (at_stage a b G q z.0 h.moves z.3))));
+      }
 
-    pub call_both : (v u : Value) (r : Result Value EvalStop) (b d : World) → ComesTo env (view p) (done v) a b → ComesTo env (view q) (done u) b d → AnswersPrim (meaning c (v ∷ u ∷ [])) r → CallGives env c (nodes_view ps) r a d
-    call_both v u r b d h k m =
-        subst (λ y. CallGives env c y r a d) (sym two)
-        (call_answers env c Two (meaning c (v ∷ u ∷ [])) r a d gives m (moves_then nothing nothing nothing a b d h.moves k.moves, λ all i. of_then all h.moves.events k.moves.events (h.known all i.0) (k.known all i.1.0)))
-      where
-        gives : (o : Outcome) → answered (meaning c (v ∷ u ∷ [])) ≡ o → CallComes env c Two o a d
-        gives o e = record {
-          moves = moves_then nothing nothing nothing a b d h.moves k.moves;
-          known = λ all i. of_then all h.moves.events k.moves.events (h.known all i.0) (k.known all i.1.0);
-          comes = λ G s t y told.
-              let z = y.1.4 in
-              let f = h.comes G y.1.0 t y.1.3 told in
-              let g = worth_back a b (view q) env (done u) h.moves (k.comes G z.0 t (at_stage a b G (view q) z.0 h.moves z.3) (told_on nothing nothing a b h.moves told)) in
-              ap (λ o. after o (λ x. after (worth (plan (reading a) (view q) env)) (λ y. answered (meaning c (x ∷ y ∷ []))))) f
-              ∙ ap (λ o. after o (λ y. answered (meaning c (v ∷ y ∷ [])))) g ∙ e;
-          counts = λ G s t y told well price.
-              let z = y.1.4 in
-              let f = h.counts G y.1.0 t y.1.3 told tt price in
-              let g = k.counts G z.0 t (at_stage a b G (view q) z.0 h.moves z.3) (told_on nothing nothing a b h.moves told) tt price ∙ cost_back a b price (view q) env h.moves in
-              omega (arith, paid_then price h.moves.events k.moves.events, f, g);
-          typed = λ G s t y.
-              let z = y.1.4 in
-              subst (OfType s) e (prim_typed c y.0 s (v ∷ u ∷ []) y.2 (two_types G s v u y (h.typed G y.1.0 t y.1.3) (k.typed G z.0 t (at_stage a b G (view q) z.0 h.moves z.3))));
-        }
+  pub call_former_stop : (e : EvalStop) (b : World) → Partly env p (Err e) a b → CallGives env c Two (Err e) a b
+  call_former_stop e b h =
+      call_fails env c Two e a a b (λ all. ⊤) (λ all. ScansIn all p) (moves_none nothing a) (λ all i. tt) p h (λ all i. (tt, i.0)) gives
+    where
+      gives : (vs : List Value) → ComesTo env p (over vs) a b → CallComes env c Two (over []) a b
+      gives vs k = record {
+        moves = k.moves;
+        known = λ all i. k.known all i.0;
+        comes = λ G s t y told. ap (λ o. after o (λ x. after (worth (plan (reading a) q env)) (λ y. answered (meaning c (x ∷ y ∷ []))))) (k.comes G y.1.0 t y.1.3 told);
+        counts = λ G s t y told well price. absurd well;
+        typed = λ G s t y. over_nil s;
+      }
 
-    call_former_stop : (e : EvalStop) (b : World) → Partly env (view p) (Err e) a b → CallGives env c (nodes_view ps) (Err e) a b
-    call_former_stop e b h =
-        subst (λ y. CallGives env c y (Err e) a b) (sym two)
-        (call_fails env c Two e a a b (λ all. ⊤) (λ all. ScansIn all (view p)) (moves_none nothing a) (λ all i. tt) (view p) h (λ all i. (tt, i.0)) gives)
-      where
-        gives : (vs : List Value) → ComesTo env (view p) (over vs) a b → CallComes env c Two (over []) a b
-        gives vs k = record {
-          moves = k.moves;
-          known = λ all i. k.known all i.0;
-          comes = λ G s t y told. ap (λ o. after o (λ x. after (worth (plan (reading a) (view q) env)) (λ y. answered (meaning c (x ∷ y ∷ []))))) (k.comes G y.1.0 t y.1.3 told);
-          counts = λ G s t y told well price. absurd well;
-          typed = λ G s t y. over_nil s;
-        }
+  pub call_latter_stop : (v : Value) (e : EvalStop) (b d : World) → ComesTo env p (done v) a b → Partly env q (Err e) b d → CallGives env c Two (Err e) a d
+  call_latter_stop v e b d h k =
+      call_fails env c Two e a b d (λ all. ScansIn all p) (λ all. ScansIn all q) h.moves h.known q k (λ all i. (i.0, i.1.0)) gives
+    where
+      gives : (vs : List Value) → ComesTo env q (over vs) b d → CallComes env c Two (over []) a d
+      gives vs g = record {
+        moves = moves_then nothing nothing nothing a b d h.moves g.moves;
+        known = λ all i. of_then all h.moves.events g.moves.events (h.known all i.0) (g.known all i.1.0);
+        comes = λ G s t y told.
+            let z = y.1.4 in
+            let f = h.comes G y.1.0 t y.1.3 told in
+            let w = worth_back a b q env (over vs) h.moves (g.comes G z.0 t (at_stage a b G q z.0 h.moves z.3) (told_on nothing nothing a b h.moves told)) in
+            ap (λ o. after o (λ x. after (worth (plan (reading a) q env)) (λ y. answered (meaning c (x ∷ y ∷ []))))) f
+            ∙ ap (λ o. after o (λ y. answered (meaning c (v ∷ y ∷ [])))) w;
+        counts = λ G s t y told well price. absurd well;
+        typed = λ G s t y. over_nil s;
+      }
 
-    pub call_latter_stop : (v : Value) (e : EvalStop) (b d : World) → ComesTo env (view p) (done v) a b → Partly env (view q) (Err e) b d → CallGives env c (nodes_view ps) (Err e) a d
-    call_latter_stop v e b d h k =
-        subst (λ y. CallGives env c y (Err e) a d) (sym two)
-        (call_fails env c Two e a b d (λ all. ScansIn all (view p)) (λ all. ScansIn all (view q)) h.moves h.known (view q) k (λ all i. (i.0, i.1.0)) gives)
-      where
-        gives : (vs : List Value) → ComesTo env (view q) (over vs) b d → CallComes env c Two (over []) a d
-        gives vs g = record {
-          moves = moves_then nothing nothing nothing a b d h.moves g.moves;
-          known = λ all i. of_then all h.moves.events g.moves.events (h.known all i.0) (g.known all i.1.0);
-          comes = λ G s t y told.
-              let z = y.1.4 in
-              let f = h.comes G y.1.0 t y.1.3 told in
-              let w = worth_back a b (view q) env (over vs) h.moves (g.comes G z.0 t (at_stage a b G (view q) z.0 h.moves z.3) (told_on nothing nothing a b h.moves told)) in
-              ap (λ o. after o (λ x. after (worth (plan (reading a) (view q) env)) (λ y. answered (meaning c (x ∷ y ∷ []))))) f
-              ∙ ap (λ o. after o (λ y. answered (meaning c (v ∷ y ∷ [])))) w;
-          counts = λ G s t y told well price. absurd well;
-          typed = λ G s t y. over_nil s;
-        }
+  -- of which the second one's items are tallied
+  module _ (v v' : Value) (b : World) (first : ComesTo env p (done v) a b) (is : v' ≡ v) (g : Gathered) (tells : TellsItems c (v' ∷ []) (kind_of_items q) g) where
+    there : TellsItems c (v ∷ []) (kind_of_items q) g
+    there = subst (λ z. TellsItems c (z ∷ []) (kind_of_items q) g) is tells
 
--- what is known of the first argument alone
-second_there : (ps : List Plan) → length ps ≡ 2 → (q : Plan) × (q ≡ get_or ps 1 q)
-second_there [] n = absurd (omega (arith, n))
-second_there (p ∷ []) n = absurd (omega (arith, n))
-second_there (p ∷ q ∷ ps) n = (q, refl)
+    pub second_ready : HasCall a c Two env → IsTally g × Stands b (fresh q) env
+    second_ready s = let k = tells_kind c (v ∷ []) (kind_of_items q) g there in (k.2.0, worth_stands env q k.0 b k.1 (sense_latter v b s first))
 
-pub former_sense : (c : ℕ) (ps : List Plan) (p : Plan) (env : List Value) (a : World) → length ps ≡ 2 → p ≡ get_or ps 0 p → HasCall a c (nodes_view ps) env → HasWorth a (view p) env
-former_sense c ps p env a n is = let q = second_there ps n in sense_former c ps p q.0 env a n is q.1
-
-pub former_stops : (c : ℕ) (ps : List Plan) (p : Plan) (env : List Value) (a : World) → length ps ≡ 2 → p ≡ get_or ps 0 p → (e : EvalStop) (b : World) → Partly env (view p) (Err e) a b → CallGives env c (nodes_view ps) (Err e) a b
-former_stops c ps p env a n is = let q = second_there ps n in call_former_stop c ps p q.0 env a n is q.1
+    pub call_second : (r : Result Value EvalStop) (d : World) → HasCall a c Two env → Tallies env (fresh q) g r b d → CallGives env c Two r a d
+    call_second r d s h =
+        let k = tells_kind c (v ∷ []) (kind_of_items q) g there in
+        tallied env q k.0 b k.1 d (CallGives env c Two r a d) g r h
+        (λ vs t m. call_both v (canonical k.0 vs) r b d first t (subst (λ z. AnswersPrim z r) (sym (k.2.1 vs (fits_both v (canonical k.0 vs) b d s first t).0)) m))
+        (λ e e_is t. subst (λ z. CallGives env c Two z a d) (sym e_is) (call_latter_stop v e b d first t))

@@ -1,4 +1,5 @@
 pub mod Drawing
+pub mod Gathering
 pub mod Laziness
 pub mod Left
 pub mod Likeness

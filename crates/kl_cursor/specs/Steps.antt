@@ -1,11 +1,12 @@
 -- What the steps of a cursor do.
-use Rattle.std.specs.Prelude.{◌≡◌, ◌≤◌, ◌<◌, ◌^◌, ◌+◌, ℕ, length, List, [], ◌∷◌, ◌++◌, Option, Some, None, Result, Ok, Err, Vec, ⊤}
+use Rattle.std.specs.Prelude.{◌≡◌, ◌⊎◌, ◌≤◌, ◌<◌, ◌^◌, ◌+◌, ℕ, length, List, [], ◌∷◌, ◌++◌, Option, Some, None, Result, Ok, Err, Vec, ⊤}
 use Rattle.std.specs.List.{AllByRecursion, Contains}
 use Rattle.std.specs.declared.alloc.Global.{Global}
 use Rattle.kl_value.specs.Views.{collection}
 use Rattle.kl_value.specs.declared.Kind.{Kind}
 use Rattle.kl_value.specs.declared.Value.{Value}
 use Rattle.kl_type.specs.Ground.{Ground, Row, no_row, row}
+use Rattle.kl_prim.specs.Meaning.{gives, overflows}
 use Rattle.kl_outcome.specs.Outcome.{Name, Outcome, done, over, stuck, End, more, stop, fine, overflow, flow, items_of, applied, parts_then}
 use Rattle.kl_outcome.specs.Typed.{Inhabits, HaveTypes, OfType, PrimTypes}
 use Rattle.kl_ask.specs.World.{World}
@@ -27,6 +28,7 @@ use Rattle.kl_scans.specs.Stage.{stage, ScanOf}
 use Rattle.kl_cursor.specs.Left.{Snap, have, outside, ended, snap, uses, left, reading, to_start, ScansLeft}
 use Rattle.kl_ship.specs.Reached.{reached, reached_nodes, reached_fields}
 use Rattle.kl_ship.specs.Holding.{ScansIn, ScansInNodes, ScansInFields}
+use Rattle.kl_cursor.specs.Gathering.{Gathered, with_all, answer_in}
 use Rattle.kl_cursor.specs.Likeness.{Same}
 use Rattle.kl_cursor.specs.Measure.{height, falling, most}
 use Rattle.kl_cursor.specs.Sense.{TypesAt, IsToldAt, Fits, Stands}
@@ -111,15 +113,22 @@ Drains env s (Err (halt.Over vs)) a b = Empties env s vs.items overflow a b
 Drains env s (Err (halt.Driver l e)) a b = Halts (uses s) (λ all. ScansLeft all s) (StoppedBy l e a b) a b
 Drains env s (Err halt.NoMemory) a b = Halts (uses s) (λ all. ScansLeft all s) ⊤ a b
 
--- the same, at the end of a list
-abbrev pub Adds : List Value → Snap → End → List Value → List Value → World → World → Type 0
-Adds env s end old new a b = (vs : List Value) × (new ≡ old ++ vs) × Empties env s vs end a b
+-- the same, beside what was gathered before
+abbrev pub Adds : List Value → Snap → End → Gathered → Gathered → World → World → Type 0
+Adds env s end old new a b = (vs : List Value) × (new ≡ with_all old vs) × Empties env s vs end a b
 
-abbrev pub Emits : List Value → Snap → Result (Unit {0}) EvalStop → List Value → List Value → World → World → Type 0
+abbrev pub Emits : List Value → Snap → Result (Unit {0}) EvalStop → Gathered → Gathered → World → World → Type 0
 Emits env s (Ok _) old new a b = Adds env s fine old new a b
 Emits env s (Err why.Overflow) old new a b = Adds env s overflow old new a b
 Emits env s (Err (why.Driver l e)) old new a b = Halts (uses s) (λ all. ScansLeft all s) (StoppedBy l e a b) a b
 Emits env s (Err why.NoMemory) old new a b = Halts (uses s) (λ all. ScansLeft all s) ⊤ a b
+
+-- what is answered of all items, which were tallied from this on
+abbrev pub Tallies : List Value → Snap → Gathered → Result Value EvalStop → World → World → Type 0
+Tallies env s g (Ok v) a b = (vs : List Value) × (answer_in (with_all g vs) ≡ gives v) × Empties env s vs fine a b
+Tallies env s g (Err why.Overflow) a b = (vs : List Value) × (Empties env s vs overflow a b ⊎ ((answer_in (with_all g vs) ≡ overflows) × Empties env s vs fine a b))
+Tallies env s g (Err (why.Driver l e)) a b = Halts (uses s) (λ all. ScansLeft all s) (StoppedBy l e a b) a b
+Tallies env s g (Err why.NoMemory) a b = Halts (uses s) (λ all. ScansLeft all s) ⊤ a b
 
 -- a body stands at what was drawn, and its items there; what stopped the drawing stops them
 abbrev pub DrawnStand : List Value → Node → Result (Vec Value Global) Halt → World → Type 0
@@ -128,7 +137,7 @@ DrawnStand env p (Err (halt.Over vs)) a = Stands a (outside p (have vs.items ove
 DrawnStand env p (Err (halt.Driver l e)) a = ⊤
 DrawnStand env p (Err halt.NoMemory) a = ⊤
 
-abbrev pub EmitsDrawn : List Value → Node → Result (Vec Value Global) Halt → Result (Unit {0}) EvalStop → List Value → List Value → World → World → Type 0
+abbrev pub EmitsDrawn : List Value → Node → Result (Vec Value Global) Halt → Result (Unit {0}) EvalStop → Gathered → Gathered → World → World → Type 0
 EmitsDrawn env p (Ok vs) r old new a b = Emits env (outside p (have vs.items fine)) r old new a b
 EmitsDrawn env p (Err (halt.Over vs)) r old new a b = Emits env (outside p (have vs.items overflow)) r old new a b
 EmitsDrawn env p (Err (halt.Driver l e)) r old new a b = (r ≡ Err (why.Driver l e)) × (b ≡ a)
@@ -214,9 +223,9 @@ ItemsIn (Ok v) (Ok vs) = (k : Kind) × (v ≡ collection k vs.items)
 ItemsIn (Ok v) (Err h) = ⊥
 ItemsIn (Err h) r = r ≡ Err h
 
-abbrev pub AddsWhole : Result Value Halt → Result (Unit {0}) EvalStop → List Value → List Value → Type 0
-AddsWhole (Ok v) (Ok _) old new = (k : Kind) × (vs : List Value) × (v ≡ collection k vs) × (new ≡ old ++ vs)
-AddsWhole (Err (halt.Over vs)) (Err why.Overflow) old new = new ≡ old ++ vs.items
+abbrev pub AddsWhole : Result Value Halt → Result (Unit {0}) EvalStop → Gathered → Gathered → Type 0
+AddsWhole (Ok v) (Ok _) old new = (k : Kind) × (vs : List Value) × (v ≡ collection k vs) × (new ≡ with_all old vs)
+AddsWhole (Err (halt.Over vs)) (Err why.Overflow) old new = new ≡ with_all old vs.items
 AddsWhole (Err (halt.Driver l e)) r old new = r ≡ Err (why.Driver l e)
 AddsWhole r (Err why.NoMemory) old new = ⊤
 AddsWhole _ _ old new = ⊥

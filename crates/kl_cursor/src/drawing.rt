@@ -18,9 +18,9 @@ fn first_kind(kind: Option<Kind>, other: Option<Kind>) -> Option<Kind>
     }
 }
 
-// The kind as which a plan of a collection comes item by item, if it ever comes so.
+/// The kind as which a plan of a collection comes item by item, if it ever comes so.
 #[cycle(kind)]
-fn kind_of_items(plan: &Plan) -> Option<Kind>
+pub fn kind_of_items(plan: &Plan) -> Option<Kind>
     ensures { result ≡ kind_of_items (view plan.now) }
 {
     match plan {

@@ -7,6 +7,7 @@
 mod ahead;
 mod cursor;
 mod drawing;
+mod gathering;
 mod parts;
 mod pulling;
 mod scans;

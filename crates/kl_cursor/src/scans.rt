@@ -1,15 +1,16 @@
 //! What plans are run over.
 ghost use Rattle.std.specs.Prelude.{◌≡◌, ◌<◌};
 ghost use Rattle.kl_core.specs.Trees.{view};
-ghost use Rattle.kl_eval.specs.Evals.{SensePlain, TellsPlain};
-ghost use Rattle.kl_eval.specs.Values.{values};
+ghost use Rattle.kl_eval.specs.Evals.{SensePlain, TellsPart, TellsPlain};
+ghost use Rattle.kl_eval.specs.Values.{arg_in, values};
 ghost use Rattle.kl_scans.specs.Held.{Owned, one_at};
 ghost use Rattle.kl_scans.specs.Moves.{Closes};
 ghost use Rattle.kl_scans.specs.Scans.{CanScan, IsOpen, Starts, Pulls};
 
 use kl_ask::{Seen, Session};
 use kl_core::Term;
-use kl_eval::{Env, EvalStop, Halt, plain};
+use kl_eval::{Env, EvalStop, Halt, part, plain};
+use kl_prim::Arg;
 use kl_scans::{finish_scan, pull_scan, start_scan};
 use kl_ship::Scan;
 use kl_value::Value;
@@ -52,6 +53,20 @@ pub trait Scans: Seen {
         requires { SensePlain (view term.now) (values env.now) (Self.world self.old) }
         ensures same { Self.world self.new ≡ Self.world self.old }
         ensures gives { TellsPlain (Self.world self.old) (view term.now) (values env.now) result };
+
+    /// The same where the term is a part: lent where it stands in the term or in the environment.
+    ///
+    /// # Errors
+    /// Those of `kl_eval::part`.
+    fn part<'a>(
+        &mut self,
+        alloc: Global,
+        term: &'a Term,
+        env: &'a Env<'a>,
+    ) -> Result<Arg<'a>, EvalStop>
+        requires { SensePlain (view term.now) (values env.now) (Self.world self.old) }
+        ensures same { Self.world self.new ≡ Self.world self.old }
+        ensures gives { TellsPart (Self.world self.old) (view term.now) (values env.now) (arg_in result) };
 }
 
 impl Scans for Session {
@@ -73,5 +88,14 @@ impl Scans for Session {
 
     fn plain(&mut self, alloc: Global, term: &Term, env: &Env) -> Result<Value, Halt> {
         plain(alloc, term, &*env, self)
+    }
+
+    fn part<'a>(
+        &mut self,
+        alloc: Global,
+        term: &'a Term,
+        env: &'a Env<'a>,
+    ) -> Result<Arg<'a>, EvalStop> {
+        part(alloc, term, env, self)
     }
 }

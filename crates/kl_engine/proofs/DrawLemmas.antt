@@ -12,6 +12,7 @@ use Rattle.kl_value.specs.declared.Kind.TheVariants as kind
 use Rattle.kl_value.specs.declared.Value.{Value}
 use Rattle.kl_value.specs.declared.Value.TheVariants as value
 use Rattle.kl_outcome.specs.Outcome.{End, fine, overflow, flow, items_in}
+use Rattle.kl_outcome.proofs.Drawing.{both_items}
 use Rattle.kl_outcome.proofs.Flows.{flow_items}
 use Rattle.kl_core.specs.Core.{core}
 use Rattle.kl_core.specs.Trees.{Tree}
@@ -50,7 +51,7 @@ use Rattle.kl_engine.specs.Showing.{write_fault}
 use Rattle.kl_engine.specs.Verdict.{list_front, value_page}
 use Rattle.kl_engine.specs.declared.fault.Fault.TheVariants as fault
 use Rattle.kl_engine.proofs.DrainLemmas.{drains_ends, drains_on, drains_over, drains_owned}
-use Rattle.kl_engine.proofs.FewLemmas.{IsOut, Withheld, driver_unwritten, items_given, lacking, lacks_none, none_times, nothing_handed, out_all, out_grows, out_more, out_none, seen_frugal, took_then, withheld_closed, withheld_none, withheld_on}
+use Rattle.kl_engine.proofs.FewLemmas.{IsOut, Withheld, driver_unwritten, lacking, lacks_none, none_times, nothing_handed, out_all, out_grows, out_more, out_none, seen_frugal, took_then, withheld_closed, withheld_none, withheld_on}
 use Rattle.kl_engine.proofs.ListLemmas.{Wanted, closed_moves, closed_scanned, list_enough, list_stopped, list_unwritten, list_wanted, list_whole, more_length, never_enough, puts_part, stopped_scanned, wanted_first, wanted_next, wanted_some, whole_scanned}
 use Rattle.kl_engine.proofs.PutLemmas.{IsPlace, item_put, place_next, puts_line}
 
@@ -229,7 +230,7 @@ module _ (p : Node) (first : Option ℕ) (a : World) (place : ℕ) (left : Optio
   lacks_of : (x : World) (front o : SinkState) → HasList a p → Puts {T = Unit {0}} (list_front []) (Ok tt) front [] out0 page0 → TookMore out o → Withheld p a d.out x → IsToldAt a → HandsWritten (reading a) a.settings.fetch p front o (λ c rows. Handed c rows a x)
   lacks_of x front o (u, types, ready) puts more h told =
       lacking p a d.given (items_in (left_of w s [])) d.out x front o
-      (ap items_in (sym (d.drained.same [] kind.List u tt types told)) ∙ items_given d.given (left_of w s [])) d.within
+      (ap items_in (sym (d.drained.same [] kind.List u tt types told)) ∙ both_items d.given (left_of w s [])) d.within
       (out_grows d.given d.out front out o (d.printed front puts).1 more) told h
 
   -- what was held back could not be written

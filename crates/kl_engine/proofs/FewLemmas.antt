@@ -1,13 +1,14 @@
 -- How few rows were handed to a loop over one scan by when its items are out.
-use Rattle.std.proofs.Common.{◌≡◌, ◌<◌, ◌≤◌, ℕ, zero, suc, ◌+◌, ◌*◌, inl, length, nat_lt, Bool, true, false, List, [], ◌∷◌, ◌++◌, take, Option, Some, None, Result, Ok, codes, refl, sym, ap, subst, ◌∙◌, arith, append_assoc, append-nil}
+use Rattle.std.proofs.Common.{◌≡◌, ◌<◌, ◌≤◌, ℕ, zero, suc, ◌+◌, ◌*◌, inl, length, nat_lt, Bool, true, false, List, [], ◌∷◌, ◌++◌, take, Some, Result, Ok, codes, refl, sym, ap, subst, ◌∙◌, arith, append-nil}
 use Rattle.std.proofs.lemmas.Bool.Decides.{nat_tests}
 use Rattle.std.proofs.lemmas.Option.{same_Some}
 use Rattle.std.specs.Io.KnownBytes.{append_known}
 use Rattle.kl_outside.specs.Sinks.{SinkState, WritesWhole}
 use Rattle.kl_outside.specs.declared.stop.Stop.{Stop}
+use Rattle.kl_outside.proofs.SinkLemmas.{append_known-append, append_known-nil}
 use Rattle.kl_exchange.specs.Printing.{Puts}
 use Rattle.kl_value.specs.declared.Value.{Value}
-use Rattle.kl_outcome.specs.Outcome.{Name, Flow, End, more, fine, flow, followed, items_in}
+use Rattle.kl_outcome.specs.Outcome.{Name, End, more, flow, items_in}
 use Rattle.kl_outcome.proofs.Flows.{flow_items}
 use Rattle.kl_ask.specs.World.{World}
 use Rattle.kl_ask.specs.declared.ask.DriverError.{DriverError}
@@ -63,12 +64,8 @@ front_grows k n vs h =
 abbrev pub IsOut : List Value → ℕ → SinkState → SinkState → Type 0
 IsOut given n front out = 0 < n → (done : List ℕ) × (out.taken ≡ append_known front.taken done) × (length (list_front (take n given)) ≤ length done)
 
-known_then : (o : Option (List ℕ)) (xs ys : List ℕ) → append_known (append_known o xs) ys ≡ append_known o (xs ++ ys)
-known_then (Some was) xs ys = ap Some (append_assoc was xs ys)
-known_then None xs ys = refl
-
 pub took_then : (a b c : SinkState) → TookMore a b → TookMore b c → TookMore a c
-took_then a b c f g = (f.0 ++ g.0, g.1 ∙ ap (λ o. append_known o g.0) f.1 ∙ known_then a.taken f.0 g.0)
+took_then a b c f g = (f.0 ++ g.0, g.1 ∙ ap (λ o. append_known o g.0) f.1 ∙ append_known-append a.taken f.0 g.0)
 
 pub out_none : (given : List Value) (front out : SinkState) → IsOut given 0 front out
 out_none given front out = λ some. absurd (omega (arith, some))
@@ -78,7 +75,7 @@ out_grows given n front out out' h g = λ some.
     let d = h some in
     let e = bytes_both d.0 g.0 in
     let l = d.2 in
-    (d.0 ++ g.0, g.1 ∙ ap (λ o. append_known o g.0) d.1 ∙ known_then front.taken d.0 g.0, omega (arith, e, l))
+    (d.0 ++ g.0, g.1 ∙ ap (λ o. append_known o g.0) d.1 ∙ append_known-append front.taken d.0 g.0, omega (arith, e, l))
 
 pub out_more : (given rest : List Value) (n : ℕ) (front out : SinkState) → n ≤ length given → IsOut given n front out → IsOut (given ++ rest) n front out
 out_more given rest n front out within h = λ some. let d = h some in (d.0, d.1, subst (λ vs. length (list_front vs) ≤ length d.0) (sym (take_within n given rest within)) d.2)
@@ -169,10 +166,6 @@ withheld_none p a out (u, types, ready) = λ b c all line told at. seen_none a b
 
 -- ---- what lacks an item
 
-pub items_given : (given : List Value) (rest : Flow) → items_in (followed (flow given fine) rest) ≡ given ++ items_in rest
-items_given [] rest = refl
-items_given (v ∷ given) rest = ap (λ vs. v ∷ vs) (items_given given rest)
-
 pub lacking : (p : Node) (a : World) (given rest : List Value) (out : ℕ) (x : World) (front o : SinkState) → items_in (coming (plan (reading a) p [])) ≡ given ++ rest → out ≤ length given → IsOut given out front o → IsToldAt a → Withheld p a out x
     → HandsWritten (reading a) a.settings.fetch p front o (λ c rows. Handed c rows a x)
 lacking p a given rest out x front o is within there told h = λ b c all k line at some fits lacks.
@@ -206,16 +199,12 @@ driver_unwritten l x f is failed = no_write x (sym is ∙ same_Some _ _ failed)
 
 -- ---- what the end of a page takes
 
-known_none : (o : Option (List ℕ)) → o ≡ append_known o []
-known_none (Some was) = ap Some (sym (append-nil was))
-known_none None = refl
-
 puts_held : (out : SinkState) (page : List ℕ) → Puts {T = Unit {0}} page (Ok tt) out [] out page
 puts_held out page = record {
   done = [];
   rest = page;
   all = refl;
-  took = known_none out.taken;
+  took = sym (append_known-nil out.taken);
   holds = refl;
   cause = record { later = omega arith; failed = λ h. cc; wants_later = omega arith; wanted = λ h. cc };
 }

@@ -14,10 +14,12 @@ use Rattle.kl_core.specs.Typing.{SourceTypes, HaveSources}
 use Rattle.kl_type.specs.Ground.{Ground}
 use Rattle.kl_core.proofs.Safety.{never_stuck}
 use Rattle.kl_ask.specs.World.{World, types_of, values_of}
+use Rattle.kl_eval.specs.declared.stop.EvalStop.{EvalStop}
+use Rattle.kl_eval.specs.declared.stop.EvalStop.TheVariants as eval_stop
 use Rattle.kl_eval.specs.declared.stop.Halt.{Halt}
 use Rattle.kl_eval.specs.declared.stop.Halt.TheVariants as halt
 use Rattle.kl_eval.specs.Comes.{Comes}
-use Rattle.kl_eval.specs.Evals.{HasSense, Sense, SenseAnywhere, SensePlain, Evals, TellsPlain, no_tables}
+use Rattle.kl_eval.specs.Evals.{HasSense, Sense, SenseAnywhere, SensePlain, Evals, EvalsPart, TellsPart, TellsPlain, no_tables}
 use Rattle.kl_eval.specs.Sources.{Anywhere, Nowhere, NoSource}
 use Rattle.kl_eval.specs.World.{StoppedBy}
 use Rattle.kl_eval.proofs.Laws.{comes_refine}
@@ -91,3 +93,12 @@ plain_tells t env (Ok v) a b s h = plain_comes t env a (done v) s h.gives
 plain_tells t env (Err (halt.Over vs)) a b s h = plain_comes t env a (over vs.items) s h.gives
 plain_tells t env (Err (halt.Driver l e)) a b s h = subst (StoppedBy l e a) (h.still s.0) h.gives
 plain_tells t env (Err halt.NoMemory) a b s h = tt
+
+pub part_same : (t : Tree) (env : List Value) (r : Result Value EvalStop) (a b : World) → SensePlain t env a → EvalsPart t env r a b → b ≡ a
+part_same t env r a b s h = h.still s.0
+
+pub part_tells : (t : Tree) (env : List Value) (r : Result Value EvalStop) (a b : World) → SensePlain t env a → EvalsPart t env r a b → TellsPart a t env r
+part_tells t env (Ok v) a b s h = plain_comes t env a (done v) s h.gives
+part_tells t env (Err eval_stop.Overflow) a b s h = (h.gives.0, plain_comes t env a (over h.gives.0) s h.gives.1)
+part_tells t env (Err (eval_stop.Driver l e)) a b s h = subst (StoppedBy l e a) (h.still s.0) h.gives
+part_tells t env (Err eval_stop.NoMemory) a b s h = tt

@@ -211,3 +211,10 @@ TellsPlain w t env (Ok v) = core no_tables t env ≡ done v
 TellsPlain w t env (Err (halt.Over vs)) = core no_tables t env ≡ over vs.items
 TellsPlain w t env (Err (halt.Driver l e)) = StoppedBy l e w w
 TellsPlain w t env (Err halt.NoMemory) = ⊤
+
+-- the same of a part, of which an overflow leaves no items
+abbrev pub TellsPart : World → Tree → List Value → Result Value EvalStop → Type 0
+TellsPart w t env (Ok v) = core no_tables t env ≡ done v
+TellsPart w t env (Err stop.Overflow) = (vs : List Value) × (core no_tables t env ≡ over vs)
+TellsPart w t env (Err (stop.Driver l e)) = StoppedBy l e w w
+TellsPart w t env (Err stop.NoMemory) = ⊤

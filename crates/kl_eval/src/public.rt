@@ -3,17 +3,18 @@ ghost use Rattle.std.specs.Prelude.{◌≡◌, IfSome, IsSome, reverse};
 ghost use Rattle.kl_core.specs.Core.{core};
 ghost use Rattle.kl_core.specs.Trees.{view};
 ghost use Rattle.kl_outcome.specs.Outcome.{done};
-ghost use Rattle.kl_eval.specs.Evals.{Sense, SenseAnywhere, SenseList, SensePlain, Evaluates, EvaluatesList, TellsPlain, no_tables};
+ghost use Rattle.kl_eval.specs.Evals.{Sense, SenseAnywhere, SenseList, SensePlain, Evaluates, EvaluatesList, TellsPart, TellsPlain, no_tables};
 ghost use Rattle.kl_eval.specs.Sources.{NoSource};
 ghost use Rattle.kl_eval.specs.Standing.{IsStanding};
-ghost use Rattle.kl_eval.specs.Values.{values};
+ghost use Rattle.kl_eval.specs.Values.{arg_in, values};
 
 use crate::env::{Env, lent};
-use crate::evaluator::value;
+use crate::evaluator::{look, value};
 use crate::steps::{add_list, inside};
 use crate::stop::{EvalStop, Halt};
 use kl_ask::{Seen, Session};
 use kl_core::Term;
+use kl_prim::Arg;
 use kl_value::Value;
 use std::alloc::Global;
 
@@ -72,6 +73,24 @@ pub fn plain(alloc: Global, term: &Term, env: &Env, session: &mut Session) -> Re
     ensures gives { TellsPlain (⟦<Session as Seen>⟧.world session.old) (view term.now) (values env.now) result }
 {
     value(alloc, term, &*env, session)
+}
+
+/// The value of such a term where that is a part of another: lent where it stands in the term or in the environment. Nothing is read:
+/// the session stays as it was.
+///
+/// # Errors
+/// `Overflow` exactly where the outcome of the term is an overflow; `NoMemory`.
+pub fn part<'a>(
+    alloc: Global,
+    term: &'a Term,
+    env: &'a Env<'a>,
+    session: &mut Session,
+) -> Result<Arg<'a>, EvalStop>
+    requires { SensePlain (view term.now) (values env.now) (⟦<Session as Seen>⟧.world session.old) }
+    ensures same { ⟦<Session as Seen>⟧.world session.new ≡ ⟦<Session as Seen>⟧.world session.old }
+    ensures gives { TellsPart (⟦<Session as Seen>⟧.world session.old) (view term.now) (values env.now) (arg_in result) }
+{
+    look(alloc, term, env, session)
 }
 
 /// The value of a term where it stands, or None exactly where the term is no variable, no constant and no field of one of them. No
