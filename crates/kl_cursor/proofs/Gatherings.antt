@@ -1,5 +1,5 @@
 -- What is kept of items, and what primitives make of their collection.
-use Rattle.std.proofs.Common.{◌≡◌, ◌⊎◌, ⊎_elim, ℕ, ◌+◌, ◌<◌, ◌≤◌, ℤ, pos, ◌+ℤ◌, Bool, true, false, not, ◌||◌, cond, nat_eq, List, [], ◌∷◌, ◌++◌, length, take, get_or, fold, All, Option, Some, None, Vec, IsSomeAnd, refl, sym, ap, subst, ◌∙◌, arith, append_assoc, append-nil, Ordering, is_eq, is_gt}
+use Rattle.std.proofs.Common.{◌≡◌, ◌⊎◌, ⊎_elim, ℕ, ◌+◌, ◌<◌, ◌≤◌, ℤ, pos, ◌+ℤ◌, Bool, true, false, not, ◌||◌, cond, nat_eq, List, [], ◌∷◌, ◌++◌, length, take, get_or, fold, All, Option, Some, Vec, IsSomeAnd, refl, sym, ap, subst, ◌∙◌, arith, append_assoc, append-nil, is_eq, is_gt}
 use lib.Dec.{eqb-suc-zero}
 use Rattle.std.specs.List.{Contains, list_any}
 use Rattle.std.specs.Option.{option_and_then}
@@ -18,10 +18,8 @@ use Rattle.kl_value.proofs.ViewLemmas.{collection_is}
 use Rattle.kl_value.specs.declared.Kind.{Kind}
 use Rattle.kl_value.specs.declared.Kind.TheVariants as kind
 use Rattle.kl_value.specs.declared.Value.{Value}
-use Rattle.kl_value.specs.declared.Value.TheVariants as value
 use Rattle.kl_prim.specs.Fits.{IsCollectionOfInts}
-use Rattle.kl_prim.specs.Meaning.{Answer, with_some, all_some, as_ints, truth, amount, exact, total}
-use Rattle.kl_prim.specs.Meaning as primitive
+use Rattle.kl_prim.specs.Meaning.{with_some, all_some, as_ints, truth, amount, exact, total}
 use Rattle.kl_prim.specs.Table.{Fits, meaning, row_at, rows}
 use Rattle.kl_prim.proofs.ItemLemmas.{all_some_is, total_is}
 use Rattle.kl_outcome.proofs.Drawing.{members}
@@ -163,7 +161,7 @@ sum-sorted : (z : ℤ) (vs : List Value) → sum_from z (sorted compare vs) ≡ 
 sum-sorted z [] = refl
 sum-sorted z (v ∷ vs) = sum-put_in z v (sorted compare vs) ∙ sum-sorted (z +ℤ number v) vs
 
-length_members : (k : Kind) (vs : List Value) → is_set k ≡ false → length (members k vs) ≡ length vs
+pub length_members : (k : Kind) (vs : List Value) → is_set k ≡ false → length (members k vs) ≡ length vs
 length_members kind.Set vs e = cc
 length_members kind.Bag vs e = length-sorted vs
 length_members kind.List vs e = refl
@@ -211,12 +209,14 @@ tells_empty k = (
 from_none : (n : ℕ) → n ≡ 0 + n
 from_none n = omega arith
 
+pub counts_members : (k : Kind) (vs : List Value) → meaning 14 (canonical k vs ∷ []) ≡ amount (length (members k vs))
+counts_members k vs = means_count (canonical k vs) ∙ ap (λ o. with_some o (λ c. amount (length c.items))) (ap as_collection (canonical_made k vs) ∙ collection_is k (members k vs))
+
+pub counted_all : (vs : List Value) → amount (length vs) ≡ answer_in (with_all (counted 0) vs)
+counted_all vs = ap amount (from_none (length vs)) ∙ ap answer_in (sym (with_counted 0 vs))
+
 pub tells_count : (k : Kind) → is_set k ≡ false → Tells 14 [] k (counted 0)
-tells_count k e = (
-  tt,
-  λ vs fit.
-      means_count (canonical k vs) ∙ ap (λ o. with_some o (λ c. amount (length c.items))) (ap as_collection (canonical_made k vs) ∙ collection_is k (members k vs)) ∙ ap amount (length_members k vs e) ∙ ap amount (from_none (length vs)) ∙ ap answer_in (sym (with_counted 0 vs)),
-)
+tells_count k e = (tt, λ vs fit. counts_members k vs ∙ ap amount (length_members k vs e) ∙ counted_all vs)
 
 pub tells_sum : (k : Kind) → is_set k ≡ false → Tells 15 [] k (summed (pos 0))
 tells_sum k e = (

@@ -20,6 +20,7 @@ pub mod ValueFalls
 pub mod ValueSteps
 pub mod Gatherings
 pub mod Tallied
+pub mod CountedRows
 pub mod Emitting
 pub mod Rows
 pub mod EmitCode

@@ -100,12 +100,12 @@ given_of w x q k u s f told =
 no_more : (n m t : ℕ) → n ≡ m → m ≤ t → 0 + n ≤ t
 no_more n m t e h = omega arith
 
-record ScanTyped (w : World) (c : Scan) (s : Ground) : Type 0 where
-  u : Ground
-  is : s ≡ coll c.kind u
-  of : ScanOf (stage w) c u
+pub record ScanTyped (w : World) (c : Scan) (s : Ground) : Type 0 where
+  pub u : Ground
+  pub is : s ≡ coll c.kind u
+  pub of : ScanOf (stage w) c u
 
-scan_typed : (w : World) (G : List Ground) (c : Scan) (s : Ground) → PlanTypes (ScanOf (stage w)) G (node.Scan c) s → ScanTyped w c s
+pub scan_typed : (w : World) (G : List Ground) (c : Scan) (s : Ground) → PlanTypes (ScanOf (stage w)) G (node.Scan c) s → ScanTyped w c s
 scan_typed w G c s h = record { u = h.0; is = h.1; of = h.2 }
 
 one_paid : (n : ℕ) → (n + 0) + 0 ≡ n

@@ -9,6 +9,11 @@ use Rattle.kl_value.specs.declared.Kind.TheVariants as kind
 use Rattle.kl_value.specs.declared.Value.{Value}
 use Rattle.kl_prim.specs.Meaning.{Answer, senseless, truth, amount, exact}
 use Rattle.kl_prim.specs.Table.{Fits, meaning}
+use Rattle.kl_ask.specs.World.{World}
+use Rattle.kl_ship.specs.declared.plan.Scan.{Scan}
+use Rattle.kl_ship.specs.Nodes as node
+use Rattle.kl_ship.specs.Nodes.{Node}
+use Rattle.kl_scans.specs.Stage.{stage, RepeatsNone}
 use Rattle.kl_cursor.specs.declared.gathering.Gathering.{Gathering}
 use Rattle.kl_cursor.specs.declared.gathering.Gathering.TheVariants as gathering
 use Rattle.kl_cursor.specs.declared.gathering.Tally.{Tally}
@@ -78,3 +83,7 @@ Tells code before k g = IsTally g × ((vs : List Value) → Fits code (before ++
 abbrev pub TellsItems : ℕ → List Value → Option Kind → Gathered → Type 0
 TellsItems code before (Some k) g = Tells code before k g
 TellsItems code before None g = ⊥
+
+-- a primitive that counts the rows of a scan that repeats none
+abbrev pub CountsRows : World → ℕ → Node → Type 0
+CountsRows w code p = (code ≡ 14) × (c : Scan) × (p ≡ node.Scan c) × RepeatsNone (stage w) c

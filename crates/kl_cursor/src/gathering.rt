@@ -1,11 +1,14 @@
 //! What is kept of items as they come: the items, or what a primitive asks of them, so that no collection of them is made.
-ghost use Rattle.std.specs.Prelude.{◌≡◌, [], ◌∷◌, IfSome, OnOk};
+ghost use Rattle.std.specs.Prelude.{◌≡◌, List, [], ◌∷◌, IfSome, OnOk, true};
 ghost use Rattle.kl_ship.specs.Kinds.{kind_of_items};
 ghost use Rattle.kl_ship.specs.Nodes.{view};
 ghost use Rattle.kl_eval.specs.Steps.{AnswersPrim};
-ghost use Rattle.kl_cursor.specs.Gathering.{answer_in, gathered, is_set, IsListed, IsTally, listed, number, tally, Tells, TellsItems, with_all, with_one};
+ghost use Rattle.kl_value.specs.declared.Value.{Value};
+ghost use Rattle.kl_cursor.specs.Sense.{HasWorth};
+ghost use Rattle.kl_cursor.specs.Gathering.{CountsRows, answer_in, gathered, is_set, IsListed, IsTally, listed, number, tally, Tells, TellsItems, with_all, with_one};
 
 use crate::drawing::kind_of_items;
+use crate::scans::Scans;
 use kl_base::NoMemory;
 use kl_eval::EvalStop;
 use kl_ship::Plan;
@@ -232,5 +235,16 @@ pub fn tally_second<'a>(code: u8, first: &'a Value, plan: &Plan) -> Option<Tally
             }
         }
         None => None,
+    }
+}
+
+/// Whether a primitive counts rows of which none is repeated: these tell its answer as they come, of a set also.
+pub fn counts_rows<C: Scans>(code: u8, plan: &Plan, run: &C) -> bool
+    requires { (env : List Value) × HasWorth (C.world run.now) (view plan.now) env }
+    ensures { result ≡ true → CountsRows (C.world run.now) code (view plan.now) }
+{
+    match plan {
+        Plan::Scan(scan) => code == COUNT && run.repeats_none(scan),
+        _ => false,
     }
 }

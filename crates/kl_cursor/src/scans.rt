@@ -1,17 +1,19 @@
 //! What plans are run over.
-ghost use Rattle.std.specs.Prelude.{◌≡◌, ◌<◌};
+ghost use Rattle.std.specs.Prelude.{◌≡◌, ◌<◌, true};
+ghost use Rattle.kl_ask.specs.World.{IsReady};
 ghost use Rattle.kl_core.specs.Trees.{view};
 ghost use Rattle.kl_eval.specs.Evals.{SensePlain, TellsPart, TellsPlain};
 ghost use Rattle.kl_eval.specs.Values.{arg_in, values};
 ghost use Rattle.kl_scans.specs.Held.{Owned, one_at};
 ghost use Rattle.kl_scans.specs.Moves.{Closes};
 ghost use Rattle.kl_scans.specs.Scans.{CanScan, IsOpen, Starts, Pulls};
+ghost use Rattle.kl_scans.specs.Stage.{RepeatsNone, stage};
 
 use kl_ask::{Seen, Session};
 use kl_core::Term;
 use kl_eval::{Env, EvalStop, Halt, part, plain};
 use kl_prim::Arg;
-use kl_scans::{finish_scan, pull_scan, start_scan};
+use kl_scans::{finish_scan, pull_scan, repeats_none, start_scan};
 use kl_ship::Scan;
 use kl_value::Value;
 use std::alloc::Global;
@@ -44,6 +46,12 @@ pub trait Scans: Seen {
     fn finish(&mut self, scan: &Scan, cursor: u64)
         requires { Owned (one_at scan.now.driver cursor) (Self.world self.old) }
         ensures { Closes (one_at scan.now.driver cursor) (Self.world self.old) (Self.world self.new) };
+
+    /// Whether a scan repeats no row, as `repeats_none` tells. Takes no memory.
+    fn repeats_none(&self, scan: &Scan) -> bool
+        requires ready { IsReady (Self.world self.now) }
+        requires scan { CanScan (Self.world self.now) scan.now }
+        ensures { result ≡ true → RepeatsNone (stage (Self.world self.now)) scan.now };
 
     /// The value of a term in which no source stands. Nothing is read.
     ///
@@ -84,6 +92,10 @@ impl Scans for Session {
 
     fn finish(&mut self, scan: &Scan, cursor: u64) {
         finish_scan(self, scan, cursor)
+    }
+
+    fn repeats_none(&self, scan: &Scan) -> bool {
+        repeats_none(self, scan)
     }
 
     fn plain(&mut self, alloc: Global, term: &Term, env: &Env) -> Result<Value, Halt> {

@@ -60,7 +60,7 @@ module _ (w : World) (c : Scan) (can : CanScan w c) where
   unfolding stage
   listed_there = can.1.listed
 
-  has : (of_driver.0).attached c.source ≡ Some can.1.source
+  pub has : (of_driver.0).attached c.source ≡ Some can.1.source
   has = ap (λ h. h.attached c.source) (sym of_driver.2) ∙ can.1.attached
 
   answerable : (ask : Ask) → AskOf can.1.held.abilities c.source can.1.source ask c.kind can.0 → IsAnswerable of_driver.0 ask

@@ -1,4 +1,5 @@
 pub mod Called
 pub mod Counted
 pub mod Moving
+pub mod Repeats
 pub mod Stepped

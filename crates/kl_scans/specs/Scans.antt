@@ -1,11 +1,12 @@
 -- What the calls for scans do.
-use Rattle.std.specs.Prelude.{◌≡◌, ◌≢◌, ℕ, Bool, true, false, List, [], ◌∷◌, ◌++◌, length, Result, Some, Ok, Err, ⊤}
+use Rattle.std.specs.Prelude.{◌≡◌, ◌≢◌, ℕ, Bool, true, false, List, [], ◌∷◌, ◌++◌, length, slice_get, Result, Some, Ok, Err, ⊤}
 use Rattle.kl_value.specs.declared.Value.{Value}
-use Rattle.kl_type.specs.Ground.{Ground}
+use Rattle.kl_type.specs.Ground.{Ground, ground_of}
 use Rattle.kl_ask.specs.Driver.{Source, Cursor, IsFresh, Hands, IsSpent, emptied}
 use Rattle.kl_ask.specs.World.{World}
 use Rattle.kl_ask.specs.declared.ask.Ask.{Ask}
 use Rattle.kl_ask.specs.declared.ask.Ask.TheVariants as asks
+use Rattle.kl_ask.specs.declared.session.Attached.{Attached}
 use Rattle.kl_ask.specs.declared.DriverError.{DriverError}
 use Rattle.kl_ask.specs.declared.DriverError.TheVariants as error
 use Rattle.kl_outcome.specs.Outcome.{Name}
@@ -16,10 +17,17 @@ use Rattle.kl_eval.specs.declared.stop.EvalStop.TheVariants as stop
 use Rattle.kl_scans.specs.Held.{Held, held_at, cursor_at, nothing, one_at}
 use Rattle.kl_scans.specs.Log.{started, handed}
 use Rattle.kl_scans.specs.Moves.{Moves}
-use Rattle.kl_scans.specs.Stage.{stage, ScanOf}
+use Rattle.kl_scans.specs.Stage.{stage, AsksWholeSet, ScanOf}
 
 abbrev pub CanScan : World → Scan → Type 0
 CanScan w c = (u : Ground) × ScanOf (stage w) c u
+
+-- a listed source that is the scan's, a set of which all rows are asked, whole
+abbrev pub IsWholeSet : Attached → Scan → Type 0
+IsWholeSet a c = (a.source ≡ c.source) × (a.driver ≡ Some c.driver) × AsksWholeSet (ground_of a.ty) c.ask
+
+abbrev pub ListsWholeSet : List Attached → Scan → Type 0
+ListsWholeSet all c = (i : ℕ) × (a : Attached) × (slice_get all i ≡ Some a) × IsWholeSet a c
 
 -- Why a scan is stopped: never by an overflow; and where its driver refused to go on, that has its cause.
 abbrev pub Stopped : Scan → EvalStop → World → World → Type 0

@@ -1,6 +1,6 @@
 -- What scans of a session read, where that is told, and which of them make sense.
-use Rattle.std.specs.Prelude.{◌≡◌, ℕ, true, List, [], Option, Some, None, slice_get}
-use Rattle.std.specs.List.{AllByRecursion}
+use Rattle.std.specs.Prelude.{◌≡◌, ℕ, false, true, List, [], Option, Some, None, slice_get}
+use Rattle.std.specs.List.{AllByRecursion, IsDistinct}
 use Rattle.kl_value.specs.declared.Kind.{Kind}
 use Rattle.kl_value.specs.declared.Kind.TheVariants as kind
 use Rattle.kl_value.specs.declared.Value.{Value}
@@ -8,7 +8,7 @@ use Rattle.kl_type.specs.Ground.{Ground, ground_of}
 use Rattle.kl_outcome.specs.Outcome.{Name}
 use Rattle.kl_outcome.specs.Typed.{Inhabits}
 use Rattle.kl_ask.specs.Asks.{item_of, kind_of, shown_type, answers, is_allowed, AskFits}
-use Rattle.kl_ask.specs.Driver.{Source}
+use Rattle.kl_ask.specs.Driver.{Source, same_value}
 use Rattle.kl_ask.specs.World.{World}
 use Rattle.kl_ask.specs.declared.ask.Abilities.{Abilities}
 use Rattle.kl_ask.specs.declared.ask.Ask.{Ask}
@@ -71,6 +71,21 @@ pub record ScanOf (t : Stage) (c : Scan) (u : Ground) : Type 0 where
   pub attached : held.attached c.source ≡ Some source
   pub ask : AskOf held.abilities c.source source c.ask c.kind u
 
--- what all scans read is told, and has its type
+-- an ask for all rows of a set, whole
+abbrev pub AsksWholeSet : Ground → Ask → Type 0
+AsksWholeSet t ask =
+    (kind_of t ≡ kind.Set) × (is_allowed (record { select = false; project = false; join = false; unique = false }) t ask ≡ true)
+
+-- a scan of all rows of a set, at a driver that repeats no row of a set
+pub record RepeatsNone (t : Stage) (c : Scan) : Type 0 where
+  pub held : Held
+  pub holds : t.held c.driver ≡ Some held
+  pub unique : held.abilities.unique ≡ true
+  pub source : Source
+  pub attached : held.attached c.source ≡ Some source
+  pub whole : AsksWholeSet (ground_of source.ty) c.ask
+
+-- what all scans read is told, and has its type; and drivers keep what they say of repeats
 abbrev pub IsTold : Stage → Type 0
 IsTold t = (c : Scan) (u : Ground) → ScanOf t c u → (rows : List Value) × (readings t c ≡ Some rows) × AllByRecursion (Inhabits u) rows
+    × (RepeatsNone t c → IsDistinct same_value rows)

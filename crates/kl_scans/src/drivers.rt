@@ -1,11 +1,21 @@
 //! The calls for scans, of the driver at a place of a list.
-ghost use Rattle.std.specs.Prelude.{◌<◌, IsSome, length, map};
+ghost use Rattle.std.specs.Prelude.{◌≡◌, ◌<◌, IsSome, length, map};
 ghost use Rattle.kl_ask.specs.Driver.{CanStart, Starts, Pulls, Finishes};
 ghost use Rattle.kl_ask.specs.Lists.{AtIndex, StepsAt};
 
-use kl_ask::{Driver, DriverError, finish_boxed, pull_boxed, start_boxed};
+use kl_ask::{
+    Abilities, Driver, DriverError, abilities_boxed, finish_boxed, pull_boxed, start_boxed,
+};
 use kl_ship::Scan;
 use kl_value::Value;
+
+/// What the scan's driver can do.
+pub fn abilities_at(drivers: &[Box<dyn Driver>], scan: &Scan) -> Abilities
+    requires { scan.now.driver < length drivers.now }
+    ensures { AtIndex scan.now.driver (λ s. result ≡ s.kind.abilities) (map (λ d. state d) drivers.now) }
+{
+    abilities_boxed(&drivers[scan.driver as usize])
+}
 
 /// Opens a cursor of the scan's driver for its ask.
 ///

@@ -5,5 +5,7 @@ mod counting;
 mod drivers;
 mod scans;
 mod stops;
+mod unrepeated;
 
 pub use scans::{finish_scan, pull_scan, start_scan};
+pub use unrepeated::repeats_none;
