@@ -15,7 +15,7 @@ use Rattle.kl_ship.specs.declared.source.ShipSource.{ShipSource}
 use Rattle.kl_ship.proofs.Law.{told, law, law_coming}
 use Rattle.kl_sources.specs.Sources.{grounds_of}
 use Rattle.kl_sources.specs.declared.source.Source.{Source}
-use Rattle.kl_run.specs.Planned.{IsPlanOf, MeansTerm, ship_source, ships_of}
+use Rattle.kl_run.specs.Planned.{IsPlanOf, MeansTerm, ships_of}
 
 pub means_term : (ss : List ShipSource) (t u : Tree) (p : Node) → IsPlanOf ss u p → Preserves t u → MeansTerm ss t p
 means_term ss t u p of keeps = record {

@@ -1,15 +1,13 @@
 -- A plan in the session of a catalogue.
-use Rattle.std.proofs.Common.{◌≡◌, ℕ, Bool, true, false, List, [], Option, Some, None, cond, slice_get, refl, sym, ap, ◌∙◌, subst}
+use Rattle.std.proofs.Common.{◌≡◌, ℕ, Bool, true, false, List, [], Some, None, cond, slice_get, refl, sym, ap, ◌∙◌, subst}
 use Rattle.std.specs.Prelude.{⊤}
-use Rattle.std.specs.List.{AllByRecursion, IsDistinct}
+use Rattle.std.specs.List.{IsDistinct}
 use Rattle.std.proofs.lemmas.Option.{same_Some}
-use Rattle.kl_value.specs.Canon.{canonical}
 use Rattle.kl_value.specs.declared.Kind.{Kind}
 use Rattle.kl_value.specs.declared.Kind.TheVariants as kind
 use Rattle.kl_value.specs.declared.Value.{Value}
 use Rattle.kl_type.specs.Ground.{Ground, coll, IsGround, ground_of}
 use Rattle.kl_outcome.specs.Outcome.{Name}
-use Rattle.kl_outcome.specs.Typed.{Inhabits}
 use Rattle.kl_core.specs.Leaves.{Leaves}
 use Rattle.kl_core.specs.Trees.{Tree}
 use Rattle.kl_core.specs.Typing.{SourceTypes, CoreTypes, HaveSources}
@@ -28,7 +26,6 @@ use Rattle.kl_ship.specs.Nodes.{Node}
 use Rattle.kl_ship.specs.Ships.{IsWholeScan, ground}
 use Rattle.kl_ship.specs.Typing.{AskOf as ShipAskOf}
 use Rattle.kl_ship.specs.declared.needs.Need.{Need}
-use Rattle.kl_ship.specs.declared.needs.Need.TheVariants as need
 use Rattle.kl_ship.specs.declared.plan.Scan.{Scan}
 use Rattle.kl_ship.specs.declared.source.ShipSource.{ShipSource}
 use Rattle.kl_ship.proofs.Over.{types_over}
@@ -36,7 +33,7 @@ use Rattle.kl_ship.proofs.Sense.{shipped_types, whole_ask}
 use Rattle.kl_ship.proofs.Sources.{Known, known}
 use Rattle.kl_scans.specs.Stage.{stage, answered_by, AskOf, ScanOf}
 use Rattle.kl_cursor.specs.Left.{reading}
-use Rattle.kl_cursor.specs.Sense.{TypesAt, IsToldAt}
+use Rattle.kl_cursor.specs.Sense.{TypesAt}
 use Rattle.kl_sources.specs.Attaching.{HaveNone, HasTyped, MayAttach, Serves, Stands, list_of, listed, world_of}
 use Rattle.kl_sources.specs.Sources.{ArePlaced, kinds_of, contents}
 use Rattle.kl_sources.specs.declared.source.Source.{Source}
@@ -45,8 +42,8 @@ use Rattle.kl_base.proofs.Places.{get-map}
 use Rattle.kl_run.specs.Planned.{IsPlanOf, abilities_in, ship_source, ships_of}
 use Rattle.kl_run.specs.Running.{Runs}
 use Rattle.kl_run.proofs.Means.{means_term, same_types}
-use Rattle.kl_run.proofs.Sources.{told_is, driver_of, abilities_of, entry_of, reads_marked, reads_unmarked, reads, value_marked, value_unmarked}
-use Rattle.kl_run.proofs.Told.{held_of, held_there, listed_in, rows_of, told_at}
+use Rattle.kl_run.proofs.Sources.{told_is, driver_of, abilities_of, entry_of, entry_from, reads_marked, reads_unmarked, reads, value_marked, value_unmarked}
+use Rattle.kl_run.proofs.Told.{held_of, held_there, listed_in, rows_of, KeepApart, told_at}
 
 none_apart : IsDistinct same_value []
 unfolding IsDistinct
@@ -134,6 +131,28 @@ module _ (ds mid : List State) (ss : List Source) (marks : ℕ → Bool) (placed
 
       -- ---- what the sources hold
 
+      attached_apart : (i : ℕ) (s : Source) (b : Bool) (c : Scan) (u : Ground) (f : ScanOf (stage w) c u) → slice_get ss i ≡ Some s → marks i ≡ b → listed b s ≡ f.entry
+          → (rows : List Value) → f.source.rows ≡ Some rows → f.held.abilities.unique ≡ true → kind_of (ground_of f.source.ty) ≡ kind.Set → IsDistinct same_value rows
+      attached_apart i s true c u f at on entry rows told unique set =
+          let st = stand i s at on in
+          let d = driver_of ds mid ss marks placed none steps i s at in
+          let here : st.driver ≡ d.now = same_Some _ _ (sym st.there ∙ d.is) in
+          let driver : c.driver ≡ s.driver = same_Some _ _ (sym f.driver ∙ ap (λ e. e.driver) (sym entry)) in
+          let named : c.source ≡ s.name = f.named ∙ ap (λ e. e.source) (sym entry) in
+          let held : f.held ≡ held_of st.driver = same_Some _ _ (sym f.holds ∙ held_there w c.driver st.driver (ap (slice_get mid) driver ∙ st.there)) in
+          let source : f.source ≡ record { ty = s.ty; rows = told_rows (contents ks s); count = st.count; kept = st.kept } =
+          same_Some _ _ (sym f.attached ∙ ap (λ k. k.attached c.source) held ∙ ap st.driver.attached named ∙ st.attached) in
+          st.unrepeated d.kind rows d.known
+          (ap (λ (a : Abilities). a.unique) (d.abilities ∙ ap (λ (x : State). x.kind.abilities) (sym here)) ∙ ap (λ k. k.abilities.unique) (sym held) ∙ unique)
+          (ap (λ (x : Held). kind_of (ground_of x.ty)) (sym source) ∙ set)
+          (told_is (contents ks s) rows (ap (λ (x : Held). x.rows) (sym source) ∙ told))
+      attached_apart i s false c u f at off entry rows told unique set = let never : None ≡ Some c.driver = ap (λ e. e.driver) entry ∙ f.driver in absurd cc
+
+      apart_at : KeepApart w
+      apart_at c u f =
+          let e = entry_from ds mid ss marks placed none steps stand settings trace f.place f.entry (sym (listed_in w f.place) ∙ f.listed) in
+          attached_apart f.place e.0 (marks f.place) c u f e.1 refl e.2
+
       module _ (have : HaveSources (types_of w) (values_of w)) where
         holds_at : (i : ℕ) (s : Source) → slice_get ss i ≡ Some s → (b : Bool) → marks i ≡ b → Holds (reading w) (values_of w) i (ship_source ks s)
         holds_at i s at true on =
@@ -171,7 +190,7 @@ module _ (ds mid : List State) (ss : List Source) (marks : ℕ → Bool) (placed
             ready = serves.ready;
             sense = sense;
             typed = typed;
-            told = λ have. told_at w serves.ready have;
+            told = λ have. told_at w serves.ready have apart_at;
             value = λ have s h. means.value (reading w) (values_of w) s (hold_all have) (over_ships s h);
             list = λ have s h. means.list (reading w) (values_of w) (s) (hold_all have) (over_ships (coll kind.List s) h);
             reads = reads ds mid ss marks placed none steps stand settings trace;

@@ -1,35 +1,33 @@
 -- What stands in a session at the sources of a catalogue.
-use Rattle.std.proofs.Common.{◌≡◌, ◌<◌, ℕ, zero, suc, ◌+◌, Bool, true, false, List, [], ◌∷◌, length, map, Option, Some, None, slice_get, refl, sym, ap, ◌∙◌, subst, arith, zero-add, add-zero}
+use Rattle.std.proofs.Common.{◌≡◌, ℕ, zero, suc, ◌+◌, Bool, true, false, List, [], ◌∷◌, Option, Some, None, slice_get, refl, sym, ap, ◌∙◌, subst, arith, zero-add, add-zero}
 use Rattle.std.specs.Option.{option_map}
 use Rattle.std.proofs.lemmas.Option.{same_Some, slice_get_within}
 use Rattle.kl_value.specs.Canon.{canonical}
 use Rattle.kl_value.specs.declared.Value.{Value}
-use Rattle.kl_type.specs.Ground.{Ground, ground_of}
+use Rattle.kl_type.specs.Ground.{ground_of}
 use Rattle.kl_outcome.specs.Outcome.{Name}
 use Rattle.kl_ask.specs.Asks.{kind_of, answers}
-use Rattle.kl_ask.specs.Driver.{DriverKind, State, Source as Held, Stored, Missing, Bad, Long, Deep, Rows, IsColl, Suits, told_rows}
+use Rattle.kl_ask.specs.Driver.{DriverKind, State, Source as Held, Stored, Missing, Bad, Long, Deep, Rows, Suits, told_rows}
 use Rattle.kl_ask.specs.Lists.{EachSteps}
-use Rattle.kl_ask.specs.World.{World, at_driver, at_source, source_at, value_of_rows, value_in, values_of}
+use Rattle.kl_ask.specs.World.{World, at_driver, at_source, value_of_rows, value_in, values_of}
 use Rattle.kl_ask.specs.declared.ask.ColTest.{ColTest}
 use Rattle.kl_ask.specs.declared.ask.Ask.TheVariants as asks
 use Rattle.kl_ask.specs.declared.session.Attached.{Attached}
 use Rattle.kl_ask.specs.declared.settings.Settings.{Settings}
 use Rattle.kl_ask.specs.declared.settings.Trace.{Trace}
 use Rattle.kl_ask.proofs.Worlds.{there}
-use Rattle.kl_base.proofs.Places.{get-map}
 use Rattle.kl_ship.specs.declared.plan.Scan.{Scan}
-use Rattle.kl_ship.specs.declared.source.ShipSource.{ShipSource}
 use Rattle.kl_scans.specs.Stage.{stage, answered_by, rows_asked, read_in}
 use Rattle.kl_cursor.specs.Left.{reading}
 use Rattle.kl_sources.specs.Attaching.{HaveNone, MayAttach, IsMarkedName, Stands, list_of, listed, world_of}
-use Rattle.kl_sources.specs.Sources.{ArePlaced, IsFit, kinds_of, contents, grounds_of}
+use Rattle.kl_sources.specs.Sources.{ArePlaced, IsFit, kinds_of, contents}
 use Rattle.kl_sources.specs.declared.source.Source.{Source}
 use Rattle.kl_sources.proofs.Lists.{of_all, unmapped}
 use Rattle.kl_sources.proofs.NameLemmas.{one_of_name}
 use Rattle.kl_sources.proofs.SessionLemmas.{shifts}
 use Rattle.kl_run.specs.Counted.{ReadsMarked}
-use Rattle.kl_run.specs.Planned.{abilities_in, ship_source, ships_of}
-use Rattle.kl_run.proofs.Told.{held_of, held_there}
+use Rattle.kl_run.specs.Planned.{abilities_in, ship_source}
+use Rattle.kl_run.proofs.Told.{held_there}
 
 -- ---- lists
 
@@ -101,6 +99,14 @@ module _ (ds mid : List State) (ss : List Source) (marks : ℕ → Bool) (placed
 
     pub entry_of : (i : ℕ) (s : Source) → slice_get ss i ≡ Some s → slice_get w.sources i ≡ Some (listed (marks i) s)
     entry_of i s at = entry_as marks 0 ss i ∙ ap (option_map (listed (marks (0 + i)))) at ∙ ap (λ k. Some (listed (marks k) s)) (zero-add i)
+
+    -- what stands in the session is what is made of a source of the catalogue
+    pub entry_from : (i : ℕ) (e : Attached) → slice_get w.sources i ≡ Some e → (s : Source) × (slice_get ss i ≡ Some s) × (listed (marks i) s ≡ e)
+    entry_from i e at = of_some (slice_get ss i) refl (sym (entry_as marks 0 ss i) ∙ at)
+      where
+        of_some : (o : Option Source) → slice_get ss i ≡ o → option_map (listed (marks (0 + i))) o ≡ Some e → (s : Source) × (slice_get ss i ≡ Some s) × (listed (marks i) s ≡ e)
+        of_some (Some s) is same = (s, is, ap (λ k. listed (marks k) s) (sym (zero-add i)) ∙ same_Some _ _ same)
+        of_some None is same = absurd cc
 
     -- ---- what scans read
 

@@ -1,23 +1,25 @@
 -- Where the values of the sources of a session are told, so is what its scans read.
-use Rattle.std.proofs.Common.{◌≡◌, ℕ, List, Option, Some, None, slice_get, refl, sym, ap, ◌∙◌, subst}
-use Rattle.std.specs.List.{AllByRecursion}
+use Rattle.std.proofs.Common.{◌≡◌, ℕ, false, true, List, Option, Some, None, slice_get, refl, sym, ap, ◌∙◌, subst}
+use Rattle.std.specs.List.{AllByRecursion, IsDistinct}
 use Rattle.std.proofs.lemmas.Option.{same_Some}
-use Rattle.kl_value.specs.Canon.{canonical}
+use Rattle.kl_value.specs.declared.Kind.TheVariants as kind
 use Rattle.kl_value.specs.declared.Value.{Value}
 use Rattle.kl_type.specs.Ground.{Ground, ground_of}
 use Rattle.kl_outcome.specs.Outcome.{Name}
 use Rattle.kl_outcome.specs.Typed.{Inhabits}
 use Rattle.kl_core.specs.Typing.{HaveSources}
-use Rattle.kl_ask.specs.Asks.{item_of, kind_of, answers}
-use Rattle.kl_ask.specs.Driver.{State, Source}
+use Rattle.kl_ask.specs.Asks.{item_of, kind_of, columns, answers}
+use Rattle.kl_ask.specs.Driver.{State, Source, same_value}
 use Rattle.kl_ask.specs.World.{World, IsReady, at_driver, at_place, at_source, source_at, type_in, types_of, value_of_rows, value_in, values_of}
 use Rattle.kl_ask.specs.declared.ask.Abilities.{Abilities}
 use Rattle.kl_ask.specs.declared.ask.Ask.{Ask}
 use Rattle.kl_ask.specs.declared.ask.Ask.TheVariants as asks
+use Rattle.kl_ask.specs.declared.ask.ColTest.{ColTest}
 use Rattle.kl_ask.specs.declared.session.Attached.{Attached}
+use Rattle.kl_ask.proofs.Whole.{only_whole, whole_rows}
 use Rattle.kl_ship.specs.declared.plan.Scan.{Scan}
 use Rattle.kl_scans.specs.Held.{Held, held_in, held_at}
-use Rattle.kl_scans.specs.Stage.{stage, answered_by, rows_asked, read_by, read_in, readings, AskOf, ScanOf}
+use Rattle.kl_scans.specs.Stage.{stage, answered_by, rows_asked, read_by, read_in, AskOf, AsksWholeSet, RepeatsNone, ScanOf}
 use Rattle.kl_cursor.specs.Sense.{IsToldAt}
 use Rattle.kl_run.proofs.Shown.{answers_typed}
 
@@ -56,13 +58,20 @@ pub rows_of : (t : Ground) (o : Option (List Value)) (v : Value) → value_of_ro
 rows_of t (Some rows) v e = (rows, refl)
 rows_of t None v e = absurd cc
 
+-- what is read of all rows of a set, whole, are these rows
+whole_read : (t : Ground) (source : Name) (keep : List Name) (tests : List ColTest) (rows : List Value) → AsksWholeSet t (asks.Rows source keep tests) → AllByRecursion (Inhabits (item_of t)) rows → answers rows keep tests ≡ rows
+whole_read t source keep tests rows h typed =
+    let k = only_whole (record { select = false; project = false; join = false; unique = false }) t source keep tests refl refl h.1 in
+    ap (λ ls. answers rows ls tests) k.0 ∙ ap (answers rows (columns (item_of t))) k.1 ∙ whole_rows (item_of t) rows typed
+
 -- what an ask reads of an attached source whose rows are told, and of which type that is
 asked_told : (can : Abilities) (h : Held) (name : Name) (a : Source) (u : Ground) (rows : List Value) (c : Scan) → h.attached name ≡ Some a → a.rows ≡ Some rows → AllByRecursion (Inhabits (item_of (ground_of a.ty))) rows
-    → (ask : Ask) → AskOf can name a ask c.kind u → (read : List Value) × (read_by h ask ≡ Some read) × AllByRecursion (Inhabits u) read
+    → (ask : Ask) → AskOf can name a ask c.kind u → (read : List Value) × (read_by h ask ≡ Some read) × AllByRecursion (Inhabits u) read × (AsksWholeSet (ground_of a.ty) ask → read ≡ rows)
 asked_told can h name a u rows c at told typed (asks.Rows source keep tests) f = (
   answers rows keep tests,
   ap (λ o. rows_asked o keep tests) (ap h.attached f.0 ∙ at) ∙ ap (λ o. answered_by o keep tests) told,
   subst (λ t. AllByRecursion (Inhabits t) (answers rows keep tests)) (sym f.3) (answers_typed keep tests (item_of (ground_of a.ty)) rows typed),
+  λ whole. whole_read (ground_of a.ty) source keep tests rows whole typed,
 )
 asked_told can h name a u rows c at told typed (asks.Sql text) f = absurd f
 
@@ -76,8 +85,12 @@ source_here w c place entry x h a at held is same named attached =
 read_there : (o : Option Held) (h : Held) (ask : Ask) (rows : List Value) → o ≡ Some h → read_by h ask ≡ Some rows → read_in o ask ≡ Some rows
 read_there o h ask rows is read = ap (λ q. read_in q ask) is ∙ read
 
-pub told_at : (w : World) → IsReady w → HaveSources (types_of w) (values_of w) → IsToldAt w
-told_at w ready have c u f =
+-- drivers keep what they say of repeats
+abbrev pub KeepApart : World → Type 0
+KeepApart w = (c : Scan) (u : Ground) (f : ScanOf (stage w) c u) (rows : List Value) → f.source.rows ≡ Some rows → f.held.abilities.unique ≡ true → kind_of (ground_of f.source.ty) ≡ kind.Set → IsDistinct same_value rows
+
+pub told_at : (w : World) → IsReady w → HaveSources (types_of w) (values_of w) → KeepApart w → IsToldAt w
+told_at w ready have apart c u f =
     let x = holder w c.driver f.held f.holds in
     let at : slice_get w.sources f.place ≡ Some f.entry = sym (listed_in w f.place) ∙ f.listed in
     let here : source_at w f.place ≡ Some f.source = source_here w c f.place f.entry x.0 f.held f.source at f.driver x.1 x.2 f.named f.attached in
@@ -85,4 +98,11 @@ told_at w ready have c u f =
     let rows = rows_of (ground_of f.source.ty) f.source.rows v.0 (sym (value_at w f.place f.source here) ∙ v.1) in
     let listed = ready.listed f.place f.entry f.source at here in
     let read = asked_told f.held.abilities f.held c.source f.source u rows.0 c f.attached rows.1 (listed.typed rows.0 rows.1) c.ask f.ask in
-    (read.0, read_there ((stage w).held c.driver) f.held c.ask read.0 f.holds read.1, read.2)
+    (read.0, read_there ((stage w).held c.driver) f.held c.ask read.0 f.holds read.1, read.2, none_twice rows.0 rows.1 read.0 read.3)
+  where
+    none_twice : (rows : List Value) → f.source.rows ≡ Some rows → (read : List Value) → (AsksWholeSet (ground_of f.source.ty) c.ask → read ≡ rows) → RepeatsNone (stage w) c → IsDistinct same_value read
+    none_twice rows told read all h =
+        let held : f.held ≡ h.held = same_Some _ _ (sym f.holds ∙ h.holds) in
+        let source : f.source ≡ h.source = same_Some _ _ (sym f.attached ∙ ap (λ k. k.attached c.source) held ∙ h.attached) in
+        let whole : AsksWholeSet (ground_of f.source.ty) c.ask = subst (λ s. AsksWholeSet (ground_of s.ty) c.ask) (sym source) h.whole in
+        subst (IsDistinct same_value) (sym (all whole)) (apart c u f rows told (ap (λ k. k.abilities.unique) held ∙ h.unique) whole.0)

@@ -1,5 +1,5 @@
 -- The plan of a term over the sources of a catalogue.
-use Rattle.std.specs.Prelude.{◌≡◌, ℕ, false, List, [], map, Option, Some, None, slice_get}
+use Rattle.std.specs.Prelude.{◌≡◌, false, List, [], map, Option, Some, None, slice_get}
 use Rattle.kl_value.specs.declared.Kind.TheVariants as kind
 use Rattle.kl_type.specs.Ground.{Ground, coll}
 use Rattle.kl_outcome.specs.Outcome.{items_of}
