@@ -1,16 +1,16 @@
-ghost use Rattle.std.specs.Prelude.{◌≡◌, ◌<◌, [], Some, IfOk, IfSome};
+ghost use Rattle.std.specs.Prelude.{◌≡◌, ◌<◌, [], IfOk, IfSome};
 ghost use Rattle.kl_value.specs.declared.Kind.TheVariants as kind;
 ghost use Rattle.kl_type.specs.Ground.{coll, int, ground_of};
-ghost use Rattle.kl_ask.specs.Driver.{Source};
+ghost use Rattle.kl_ask.specs.World.{IsReady};
 ghost use Rattle.kl_ask.specs.declared.ask.Ask.TheVariants as asks;
 ghost use Rattle.kl_scans.specs.Scans.{CanScan};
-ghost use Rattle.calls_plans.specs.Reading.{IsReading};
+ghost use Rattle.calls_plans.specs.Reading.{HoldsNumbers, IsReading};
 
 use kl_ask::{Ask, Attached, Driver, Seen, Session, Settings, Trace};
 use kl_base::{Box, Label, Seq, Text};
 use kl_nested::NestedDriver;
 use kl_outside::MemFiles;
-use kl_scans::{finish_scan, pull_scan, start_scan};
+use kl_scans::{finish_scan, pull_scan, repeats_none, start_scan};
 use kl_ship::Scan;
 use kl_type::Ty;
 use kl_value::{Kind, Value};
@@ -60,7 +60,7 @@ fn files(alloc: Global) -> Result<MemFiles, Fail> {
 // A driver at which the file is attached.
 fn attached(alloc: Global, name: &Label, ty: &Ty) -> Result<NestedDriver<MemFiles>, Fail>
     requires { ground_of ty.now ≡ coll kind.List int }
-    ensures { IfOk result (λ d. (s : Source) × ((⟦<NestedDriver<MemFiles> as Driver>⟧.state d).attached name.now ≡ Some s) × (s.ty ≡ ty.now)) }
+    ensures { IfOk result (λ d. HoldsNumbers (⟦<NestedDriver<MemFiles> as Driver>⟧.state d) name.now ty.now) }
 {
     let path = text(alloc, b"n.kx")?;
     let mut driver = NestedDriver::new(alloc, files(alloc)?);
@@ -83,12 +83,12 @@ fn boxed(alloc: Global, driver: NestedDriver<MemFiles>) -> Result<HeapBox<dyn Dr
 
 // A session of the source of a scan, in which the starts of the scan are counted.
 fn session(alloc: Global, driver: HeapBox<dyn Driver>, ty: Ty, scan: &Scan) -> Result<Session, Fail>
-    requires attached { (s : Source) × ((state driver).attached scan.now.source ≡ Some s) × (s.ty ≡ ty) }
+    requires attached { HoldsNumbers (state driver) scan.now.source ty }
     requires ty { ground_of ty ≡ coll kind.List int }
     requires driver { scan.now.driver ≡ 0 }
     requires ask { scan.now.ask ≡ asks.Rows scan.now.source [] [] }
     ensures can { IfOk result (λ s. CanScan (⟦<Session as Seen>⟧.world s) scan.now) }
-    ensures room { IfOk result (λ s. 0 < (⟦<Session as Seen>⟧.world s).settings.fetch) }
+    ensures ready { IfOk result (λ s. IsReady (⟦<Session as Seen>⟧.world s)) }
 {
     let mut drivers = Vec::new(alloc);
     drivers.push(driver)?;
@@ -134,7 +134,7 @@ fn are_rows(rows: &[Value]) -> bool {
 // Whether one pull gives all rows, and the next one none.
 fn reads(alloc: Global, session: &mut Session, scan: &Scan) -> bool
     requires can { CanScan (⟦<Session as Seen>⟧.world session.old) scan.now }
-    requires room { 0 < (⟦<Session as Seen>⟧.world session.old).settings.fetch }
+    requires ready { IsReady (⟦<Session as Seen>⟧.world session.old) }
 {
     let mut rows = Vec::new(alloc);
     let Some(cursor) = starts(session, scan) else {
@@ -156,13 +156,14 @@ fn is_counted(session: &Session) -> bool {
 }
 
 fn scans(alloc: Global, driver: HeapBox<dyn Driver>, ty: Ty, scan: &Scan) -> Result<bool, Fail>
-    requires attached { (s : Source) × ((state driver).attached scan.now.source ≡ Some s) × (s.ty ≡ ty) }
+    requires attached { HoldsNumbers (state driver) scan.now.source ty }
     requires ty { ground_of ty ≡ coll kind.List int }
     requires driver { scan.now.driver ≡ 0 }
     requires ask { scan.now.ask ≡ asks.Rows scan.now.source [] [] }
 {
     let mut session = session(alloc, driver, ty, scan)?;
-    Ok(reads(alloc, &mut session, scan) && is_counted(&session))
+    let may_repeat = !repeats_none(&session, scan);
+    Ok(may_repeat && reads(alloc, &mut session, scan) && is_counted(&session))
 }
 
 #[test]
