@@ -1,5 +1,5 @@
 -- Items that are gathered, from what the code has.
-use Rattle.std.proofs.Common.{◌≡◌, ℕ, ◌+◌, ◌<◌, ◌≤◌, Bool, true, false, List, [], ◌∷◌, ◌++◌, drop, length, get_or, Option, Some, None, Result, Vec, Ok, Err, slice_get, refl, sym, ap, subst, ◌∙◌, arith, append-nil, IfOk, Bor}
+use Rattle.std.proofs.Common.{◌≡◌, ℕ, ◌+◌, ◌<◌, ◌≤◌, Bool, true, false, List, [], ◌∷◌, ◌++◌, drop, length, get_or, Option, Some, None, Result, Vec, Ok, Err, slice_get, refl, sym, ap, subst, ◌∙◌, arith, IfOk, Bor}
 use Rattle.std.specs.Prelude.{⊤, IfSome}
 use Rattle.std.specs.declared.alloc.Global.{Global}
 use Rattle.std.proofs.lemmas.List.{at_drop_more}

@@ -21,7 +21,7 @@ use Rattle.kl_scans.specs.Held.{Uses, nothing}
 use Rattle.kl_scans.specs.Log.{paid}
 use Rattle.kl_scans.specs.Stage.{stage, readings}
 use Rattle.kl_scans.proofs.Moving.{moves_none, stage_stays, stopped_then}
-use Rattle.kl_cursor.specs.Gathering.{Gathered, with_one, with_all}
+use Rattle.kl_cursor.specs.Gathering.{Gathered, with_all}
 use Rattle.kl_cursor.specs.Left.{Snap, fresh, have, both, bound, outside, uses, left, reading, to_start, ScansLeft}
 use Rattle.kl_cursor.specs.Likeness.{Same}
 use Rattle.kl_cursor.specs.Steps.{Onward, Gives, Ends, Halts, Stops, Empties, Drains, Emits, EmitsDrawn, DrawnStand}

@@ -4,7 +4,7 @@ use Rattle.kl_value.specs.Canon.{canonical}
 use Rattle.kl_value.specs.declared.Kind.{Kind}
 use Rattle.kl_value.specs.declared.Value.{Value}
 use Rattle.kl_type.specs.Ground.{Ground, coll}
-use Rattle.kl_outcome.specs.Outcome.{Outcome, done, over, End, fine, overflow, flow, items_of, kept, gathered, collected}
+use Rattle.kl_outcome.specs.Outcome.{done, End, fine, overflow, flow, items_of, kept, gathered, collected}
 use Rattle.kl_outcome.specs.Typed.{OfType}
 use Rattle.kl_outcome.proofs.Drawing.{typed_collected}
 use Rattle.kl_outcome.proofs.Flows.{collected_flow}

@@ -18,7 +18,7 @@ use Rattle.kl_ship.specs.declared.plan.Plan.{Plan, the_lemmas}
 use Rattle.kl_ship.specs.declared.plan.Plan.TheVariants as plans
 use Rattle.kl_ship.specs.declared.plan.Scan.{Scan}
 use Rattle.kl_ship.specs.Nodes as node
-use Rattle.kl_ship.specs.Nodes.{Node, Branches, no_branches, rest, branches_of, view, view_branch, nodes_view, fields_view}
+use Rattle.kl_ship.specs.Nodes.{Node, rest, branches_of, view, view_branch, nodes_view, fields_view}
 use Rattle.kl_ship.specs.Shipping.{other_node}
 use Rattle.kl_ship.proofs.Views.{view_Var, view_Rec, view_Proj, view_Inj, view_Case, view_Make, view_Union, view_Ext, view_If, view_Let, view_Prim, view_Scan}
 use Rattle.kl_cursor.specs.Left.{fresh}

@@ -17,7 +17,7 @@ use Rattle.kl_ship.specs.Alike.{harm}
 use Rattle.kl_ship.specs.declared.plan.Scan.{Scan}
 use Rattle.kl_ship.specs.Meaning.{many, worth, coming, plan, scanned}
 use Rattle.kl_ship.specs.Nodes as node
-use Rattle.kl_ship.specs.Nodes.{Node, Nodes, view}
+use Rattle.kl_ship.specs.Nodes.{Node, Nodes}
 use Rattle.kl_ship.proofs.Collections.{alike_same}
 use Rattle.kl_ship.proofs.Comings.{coming_typed}
 use Rattle.kl_scans.specs.Held.{nothing}

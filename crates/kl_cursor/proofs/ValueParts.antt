@@ -32,7 +32,7 @@ use Rattle.kl_ship.specs.Holding.{ScansIn, ScansInNodes, ScansInFields}
 use Rattle.kl_ship.specs.Kinds.{kind_of_items}
 use Rattle.kl_ship.specs.Meaning.{worth, plan, plan_fields}
 use Rattle.kl_ship.specs.Nodes as node
-use Rattle.kl_ship.specs.Nodes.{Node, Nodes, no_nodes, nodes, Fields, no_fields, fields, view, nodes_view, fields_view}
+use Rattle.kl_ship.specs.Nodes.{Node, Nodes, no_nodes, nodes, Fields, fields, view, nodes_view, fields_view}
 use Rattle.kl_ship.specs.Reached.{reached_fields}
 use Rattle.kl_ship.specs.Typing.{PlansOf, FieldTypes}
 use Rattle.kl_scans.specs.Held.{nothing}

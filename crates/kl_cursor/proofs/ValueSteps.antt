@@ -13,7 +13,7 @@ use Rattle.kl_ship.specs.declared.plan.Plan.{Plan}
 use Rattle.kl_ship.specs.declared.plan.Plan.TheVariants as plans
 use Rattle.kl_ship.specs.Meaning.{plan_items}
 use Rattle.kl_ship.specs.Nodes as node
-use Rattle.kl_ship.specs.Nodes.{Node, Nodes, no_nodes, nodes, nodes_of, rest, branches_of, view, view_branch, nodes_view, fields_view}
+use Rattle.kl_ship.specs.Nodes.{Node, Nodes, no_nodes, nodes, rest, branches_of, view, view_branch, nodes_view, fields_view}
 use Rattle.kl_ship.specs.Reached.{reached_nodes}
 use Rattle.kl_ship.specs.Shipping.{other_node}
 use Rattle.kl_ship.specs.Typing.{EachPlan}

@@ -24,7 +24,7 @@ use Rattle.kl_ship.specs.Holding.{ScansIn}
 use Rattle.kl_ship.specs.Kinds.{kind_of_items}
 use Rattle.kl_ship.specs.Meaning.{coming, drawn_for, plan}
 use Rattle.kl_ship.specs.Nodes as node
-use Rattle.kl_ship.specs.Nodes.{Node, Branches, no_branches, rest, branch, branches_of, view, view_branch}
+use Rattle.kl_ship.specs.Nodes.{Node, Branches, rest, branches_of, view, view_branch}
 use Rattle.kl_ship.specs.Reached.{reached}
 use Rattle.kl_ship.specs.Typing.{BranchTypes}
 use Rattle.kl_scans.specs.Held.{nothing}

@@ -1,5 +1,3 @@
-use Rattle.std.proofs.Common.{subst, sym}
-use Rattle.kl_cursor.specs.Gathering.{TellsItems, sought}
 use Rattle.kl_cursor.proofs.Gatherings.{tells_second}
 use Rattle.kl_cursor.proofs.gathering.tally_second.Goals as goal
 
