@@ -15,6 +15,7 @@ use Rattle.kl_core.specs.declared.term.Term.{Term}
 use Rattle.kl_ask.specs.World.{World}
 use Rattle.kl_eval.specs.Evals.{no_tables}
 use Rattle.kl_eval.specs.World.{StoppedBy}
+use Rattle.kl_eval.specs.Steps.{AnswersOutcome}
 use Rattle.kl_eval.specs.declared.stop.EvalStop.{EvalStop}
 use Rattle.kl_eval.specs.declared.stop.EvalStop.TheVariants as why
 use Rattle.kl_eval.specs.declared.stop.Halt.{Halt}
@@ -179,6 +180,20 @@ emit_whole env p (Err halt.NoMemory) (Ok z) old new a b none h k = absurd k
 emit_whole env p (Err halt.NoMemory) (Err why.Overflow) old new a b none h k = absurd k
 emit_whole env p (Err halt.NoMemory) (Err (why.Driver l e)) old new a b none h k = absurd k
 emit_whole env p (Err halt.NoMemory) (Err why.NoMemory) old new a b none h k = h
+
+-- a copy is added as what it was made of
+pub copied_collection : (v : Value) (r : Result Value Halt) → AnswersOutcome (done v) r → IsCollection v → IfOk r IsCollection
+copied_collection v (Ok u) e i = subst IsCollection (sym e) i
+copied_collection v (Err h) e i = tt
+
+pub copied_whole : (v : Value) (r : Result Value Halt) (z : Result (Unit {0}) EvalStop) (old new : Gathered) → AnswersOutcome (done v) r → AddsWhole r z old new → AddsWhole (Ok v) z old new
+copied_whole v (Ok u) z old new e h = subst (λ q. AddsWhole (Ok q) z old new) e h
+copied_whole v (Err halt.NoMemory) (Ok z) old new e h = absurd h
+copied_whole v (Err halt.NoMemory) (Err why.NoMemory) old new e h = tt
+copied_whole v (Err halt.NoMemory) (Err why.Overflow) old new e h = absurd h
+copied_whole v (Err halt.NoMemory) (Err (why.Driver l f)) old new e h = absurd h
+copied_whole v (Err (halt.Over vs)) z old new e h = absurd e
+copied_whole v (Err (halt.Driver l f)) z old new e h = absurd e
 
 -- ---- how a loop begins
 

@@ -23,6 +23,6 @@ is_kind None = false
 abbrev pub comes_by_items : Node → Bool
 comes_by_items p = is_kind (kind_of_items p)
 
--- for private functions alone: a plan that is no literal, no choice and no binding
+-- for private functions alone: a plan that is no literal, no condition and no binding
 abbrev pub IsOther : Plan → Type 0
 IsOther p = ((k : Kind) (ps : List Plan) → p ≢ plans.Make k ps) × ((a b c : Plan) → p ≢ plans.If a b c) × ((a b : Plan) → p ≢ plans.Let a b)

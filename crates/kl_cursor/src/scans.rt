@@ -47,11 +47,12 @@ pub trait Scans: Seen {
         requires { Owned (one_at scan.now.driver cursor) (Self.world self.old) }
         ensures { Closes (one_at scan.now.driver cursor) (Self.world self.old) (Self.world self.new) };
 
-    /// Whether a scan repeats no row, as `repeats_none` tells. Takes no memory.
+    /// Whether a scan is one of all rows of a set that repeats none, as `repeats_none` tells. Takes no memory.
     fn repeats_none(&self, scan: &Scan) -> bool
         requires ready { IsReady (Self.world self.now) }
         requires scan { CanScan (Self.world self.now) scan.now }
-        ensures { result ≡ true → RepeatsNone (stage (Self.world self.now)) scan.now };
+        ensures yes { result ≡ true → RepeatsNone (stage (Self.world self.now)) scan.now }
+        ensures no { RepeatsNone (stage (Self.world self.now)) scan.now → result ≡ true };
 
     /// The value of a term in which no source stands. Nothing is read.
     ///

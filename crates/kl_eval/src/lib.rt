@@ -16,7 +16,6 @@ mod tables;
 pub use env::{Env, variable};
 pub use public::{eval, eval_list, lent_plain, part, plain};
 pub use steps::{
-    append, apply, copy, gather, inside, join, outside, place, push, push_field, tag, truth,
-    variant,
+    append, apply, copy, gather, inside, join, outside, place, push_field, tag, truth, variant,
 };
 pub use stop::{EvalStop, Halt};

@@ -75,8 +75,8 @@ pub fn plain(alloc: Global, term: &Term, env: &Env, session: &mut Session) -> Re
     value(alloc, term, &*env, session)
 }
 
-/// The value of such a term where that is a part of another: lent where it stands in the term or in the environment. Nothing is read:
-/// the session stays as it was.
+/// The value of a term in which no source stands, as `plain` gives it, for whoever only looks at it: where it stands in the term or in
+/// the environment it is lent, and not copied. Nothing is read: the session stays as it was.
 ///
 /// # Errors
 /// `Overflow` exactly where the outcome of the term is an overflow; `NoMemory`.

@@ -19,7 +19,7 @@ use Rattle.kl_ask.specs.declared.session.Attached.{Attached}
 use Rattle.kl_ask.proofs.Whole.{only_whole, whole_rows}
 use Rattle.kl_ship.specs.declared.plan.Scan.{Scan}
 use Rattle.kl_scans.specs.Held.{Held, held_in, held_at}
-use Rattle.kl_scans.specs.Stage.{stage, answered_by, rows_asked, read_by, read_in, AskOf, AsksWholeSet, RepeatsNone, ScanOf}
+use Rattle.kl_scans.specs.Stage.{stage, answered_by, rows_asked, read_by, read_in, AskOf, AsksWholeSet, RepeatsNone, ScanOf, only_rows}
 use Rattle.kl_cursor.specs.Sense.{IsToldAt}
 use Rattle.kl_run.proofs.Shown.{answers_typed}
 
@@ -61,7 +61,7 @@ rows_of t None v e = absurd cc
 -- what is read of all rows of a set, whole, are these rows
 whole_read : (t : Ground) (source : Name) (keep : List Name) (tests : List ColTest) (rows : List Value) → AsksWholeSet t (asks.Rows source keep tests) → AllByRecursion (Inhabits (item_of t)) rows → answers rows keep tests ≡ rows
 whole_read t source keep tests rows h typed =
-    let k = only_whole (record { select = false; project = false; join = false; unique = false }) t source keep tests refl refl h.1 in
+    let k = only_whole only_rows t source keep tests refl refl h.1 in
     ap (λ ls. answers rows ls tests) k.0 ∙ ap (answers rows (columns (item_of t))) k.1 ∙ whole_rows (item_of t) rows typed
 
 -- what an ask reads of an attached source whose rows are told, and of which type that is
