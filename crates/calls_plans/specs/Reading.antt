@@ -21,4 +21,5 @@ pub record IsReading (w : World) (c : Scan) (k : ℕ) : Type 0 where
 
 -- a driver has a list of integers attached under a name
 abbrev pub HoldsNumbers : State → Name → Ty → Type 0
-HoldsNumbers d name ty = (s : Source) × (d.attached name ≡ Some s) × (s.ty ≡ ty) × ((rows : List Value) → s.rows ≡ Some rows → AllByRecursion (Inhabits int) rows)
+HoldsNumbers d name ty = (s : Source) × (d.attached name ≡ Some s) × (s.ty ≡ ty)
+    × ((rows : List Value) → s.rows ≡ Some rows → AllByRecursion (Inhabits int) rows)

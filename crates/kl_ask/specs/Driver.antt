@@ -1,5 +1,6 @@
 -- What a driver means, and what each call does to it.
-use Rattle.std.specs.Prelude.{◌≡◌, ◌≢◌, ◌⊎◌, ◌<◌, ◌≤◌, ℕ, ◌+◌, ◌^◌, Bool, true, false, List, [], ◌++◌, length, Contains, Option, Some, None, IsSome, ⊤}
+use Rattle.std.specs.Prelude.{◌≡◌, ◌≢◌, ◌⊎◌, ◌<◌, ◌≤◌, ℕ, ◌+◌, ◌^◌, Bool, true, false, List, [], ◌++◌, length, Contains, Option}
+use Rattle.std.specs.Prelude.{Some, None, IsSome, ⊤}
 use Rattle.std.specs.Prelude.{Result, Ok, Err, IfOk, OnOk, OnErr, IsErrOf}
 use Rattle.std.specs.List.{AllByRecursion, IsDistinct}
 use Rattle.std.specs.List.Sorted.{IsPermutation}
@@ -172,7 +173,8 @@ pub record Attaches (source : Name) (locator : List ℕ) (ty : Ty) (result : Res
   -- a driver with `unique` repeats no row of a set
   pub unique : old.kind.abilities.unique ≡ true → kind_of (ground_of ty) ≡ kind.Set
       → OnOk result ((rows : List Value) → stored_at old locator ty ≡ Some (Rows rows) → IsDistinct same_value rows)
-  pub typed : OnOk result ((rows : List Value) → stored_at old locator ty ≡ Some (Rows rows) → AllByRecursion (Inhabits (item_of (ground_of ty))) rows)
+  pub typed : OnOk result ((rows : List Value) → stored_at old locator ty ≡ Some (Rows rows)
+      → AllByRecursion (Inhabits (item_of (ground_of ty))) rows)
   pub refused : OnErr result (new.attached ≡ old.attached)
   -- what contents that are told say is not attached
   pub missing : stored_at old locator ty ≡ Some Missing → OnOk result ⊥ × (new.faults ≡ old.faults) × (new.unread ≡ old.unread)
@@ -235,7 +237,8 @@ AreRows s rows tables = AllByRecursion (λ l. (a : Source) × (s.attached l ≡ 
 -- statement means, in some order.
 pub record IsJoined (q : Spj) (s : State) (cursor : Cursor) : Type 0 where
   pub ty : cursor.ty ≡ sql_type (row_types s) q
-  pub left : (rows : Name → List Value) → AreRows s rows q.tables → (shown : List Value) × (cursor.left ≡ Some shown) × IsPermutation (spj rows q) shown
+  pub left : (rows : Name → List Value) → AreRows s rows q.tables → (shown : List Value) × (cursor.left ≡ Some shown)
+      × IsPermutation (spj rows q) shown
   pub untold : (IsTold s → ⊥) → cursor.left ≡ None
   pub told : (shown : List Value) → cursor.left ≡ Some shown → cursor.bound ≡ length shown
   pub bound : cursor.bound ≤ (2 ^ 64) ^ length q.tables

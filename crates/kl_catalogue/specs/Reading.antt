@@ -17,7 +17,8 @@ IsCatalogue = IsTextOf ReadsCatalogue
 
 -- the tokens are a catalogue, or have a place where no catalogue goes on, or a bracket that nests too deep
 abbrev pub IsToldOf : List Placed → Type 0
-IsToldOf ts = ((c : List Entry) × SpellsCatalogue ts c) ⊎ (((k : ℕ) × IsBadAt ReadsCatalogue ts k) ⊎ ((k : ℕ) × IsDeepAt ReadsCatalogue ts k))
+IsToldOf ts = ((c : List Entry) × SpellsCatalogue ts c)
+    ⊎ (((k : ℕ) × IsBadAt ReadsCatalogue ts k) ⊎ ((k : ℕ) × IsDeepAt ReadsCatalogue ts k))
 
 -- for private functions alone: what is refused of these tokens, of a text of so many bytes
 abbrev pub RefusesTokens : ℕ → List Placed → Result (List Entry) CatalogueError → Type 0

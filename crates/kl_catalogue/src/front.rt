@@ -15,7 +15,8 @@ use std::alloc::Global;
 
 /// What stands behind `source`, if the tokens begin with it.
 pub fn source(tokens: &[Placed]) -> Option<&[Placed]>
-    ensures { MatchOption result (heads is_source tokens.now ≡ false) (λ rest. (t : APlaced) × (tokens.now ≡ t ∷ rest.now) × (is_source t ≡ true)) }
+    ensures { MatchOption result (heads is_source tokens.now ≡ false)
+        (λ rest. (t : APlaced) × (tokens.now ≡ t ∷ rest.now) × (is_source t ≡ true)) }
 {
     match tokens {
         [

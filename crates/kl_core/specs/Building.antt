@@ -12,6 +12,7 @@ abbrev pub MakesOfTwo : {A B C : Type 0} → (A → B → C) → Result A NoMemo
 MakesOfTwo f (Ok a) b r = Makes (f a) b r
 MakesOfTwo f (Err e) b r = IfOk r (λ c. ⊥)
 
-abbrev pub MakesOfThree : {A B C D : Type 0} → (A → B → C → D) → Result A NoMemory → Result B NoMemory → Result C NoMemory → Result D NoMemory → Type 0
+abbrev pub MakesOfThree : {A B C D : Type 0} → (A → B → C → D) → Result A NoMemory → Result B NoMemory → Result C NoMemory
+    → Result D NoMemory → Type 0
 MakesOfThree f (Ok a) b c r = MakesOfTwo (f a) b c r
 MakesOfThree f (Err e) b c r = IfOk r (λ d. ⊥)

@@ -2,8 +2,10 @@
 use Rattle.std.specs.Prelude.{ℕ, List, [], ◌∷◌, Option, cond, slice_get, nat_eq}
 use Rattle.std.specs.Cmp.Lexicographic.{pointwise}
 use Rattle.kl_value.specs.declared.Value.{Value}
-use Rattle.kl_outcome.specs.Outcome.{Outcome, done, stuck, Flow, stop, fine, Name, after, outcome_of, if_then, applied, recorded, tagged, part, cases, items_of, item_then, drawn, collected, union_of}
-use Rattle.kl_core.specs.Trees.{Tree, Var, Const, Source, Rec, Proj, Inj, Case, Make, Union, Ext, If, Let, Prim, Trees, no_trees, trees, Parts, no_parts, parts, Arms, no_arms, rest, arm}
+use Rattle.kl_outcome.specs.Outcome.{Outcome, done, stuck, Flow, stop, fine, Name, after, outcome_of, if_then, applied, recorded}
+use Rattle.kl_outcome.specs.Outcome.{tagged, part, cases, items_of, item_then, drawn, collected, union_of}
+use Rattle.kl_core.specs.Trees.{Tree, Var, Const, Source, Rec, Proj, Inj, Case, Make, Union, Ext, If, Let, Prim, Trees, no_trees}
+use Rattle.kl_core.specs.Trees.{trees, Parts, no_parts, parts, Arms, no_arms, rest, arm}
 
 -- the value of each source, where it is known
 abbrev pub Tables : Type 0

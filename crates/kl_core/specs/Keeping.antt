@@ -11,7 +11,8 @@ use Rattle.kl_core.specs.Positions.{InRange, binders, shift_of}
 -- u means what t means, whatever `by` values are put in at `from`
 abbrev pub MeansShifted : Tree → ℕ → ℕ → Tree → Type 0
 MeansShifted t from by u =
-    (T : Tables) (pre mid post : List Value) → length pre ≡ from → length mid ≡ by → core T u (pre ++ (mid ++ post)) ≡ core T t (pre ++ post)
+    (T : Tables) (pre mid post : List Value) → length pre ≡ from → length mid ≡ by
+        → core T u (pre ++ (mid ++ post)) ≡ core T t (pre ++ post)
 
 -- and has its types
 abbrev pub TypedShifted : Tree → ℕ → ℕ → Tree → Type 0

@@ -108,7 +108,8 @@ fn put_other(
 ) -> Result<Option<Box<Term>>, NoMemory>
     requires room { RoomArms (rest_of (option_map view other.now)) at under (view with.now) }
     requires inside { under ≤ at }
-    ensures { IfOk result (λ o. rest_of (option_map view o) ≡ subst_arms (rest_of (option_map view other.now)) at (shift_of (view with.now) 0 under)) }
+    ensures { IfOk result (λ o. rest_of (option_map view o)
+        ≡ subst_arms (rest_of (option_map view other.now)) at (shift_of (view with.now) 0 under)) }
 {
     match other {
         Some(other) => {
@@ -172,7 +173,8 @@ fn put_fields(
 ) -> Result<TermFields, NoMemory>
     requires room { All (λ f. RoomIn (view f.1) at under (view with.now)) fields.now }
     requires inside { under ≤ at }
-    ensures { IfOk result (λ fs. map view_part fs ≡ map (λ f. (f.0, subst_of (view f.1) at (shift_of (view with.now) 0 under))) fields.now) }
+    ensures { IfOk result (λ fs. map view_part fs
+        ≡ map (λ f. (f.0, subst_of (view f.1) at (shift_of (view with.now) 0 under))) fields.now) }
 {
     let mut made = Vec::with_capacity(alloc, fields.len())?;
     for field in fields {

@@ -1,5 +1,6 @@
 -- What is kept of items as they come.
-use Rattle.std.specs.Prelude.{◌≡◌, ℕ, ◌+◌, ℤ, pos, ◌+ℤ◌, Bool, true, false, ◌||◌, List, [], ◌∷◌, ◌++◌, fold, Option, Some, None, unwrap_or, ⊤}
+use Rattle.std.specs.Prelude.{◌≡◌, ℕ, ◌+◌, ℤ, pos, ◌+ℤ◌, Bool, true, false, ◌||◌, List, [], ◌∷◌, ◌++◌, fold, Option, Some, None}
+use Rattle.std.specs.Prelude.{unwrap_or, ⊤}
 use Rattle.std.specs.Ordering.{is_eq}
 use Rattle.kl_value.specs.Canon.{canonical}
 use Rattle.kl_value.specs.Order.{compare}
@@ -77,7 +78,8 @@ is_set _ = false
 
 -- A tally of the items tells what a primitive makes of their collection of a kind, behind other arguments that it takes.
 abbrev pub Tells : ℕ → List Value → Kind → Gathered → Type 0
-Tells code before k g = IsTally g × ((vs : List Value) → Fits code (before ++ canonical k vs ∷ []) → meaning code (before ++ canonical k vs ∷ []) ≡ answer_in (with_all g vs))
+Tells code before k g = IsTally g × ((vs : List Value) → Fits code (before ++ canonical k vs ∷ [])
+    → meaning code (before ++ canonical k vs ∷ []) ≡ answer_in (with_all g vs))
 
 -- the same of items that come item by item
 abbrev pub TellsItems : ℕ → List Value → Option Kind → Gathered → Type 0

@@ -97,7 +97,8 @@ to_start w price (pulling c k rows n) env = 0
 to_start w price (both s p) env = to_start w price s env + reached (reading w) price p env
 to_start w price (bound v s) env = to_start w price s (v ∷ env)
 to_start w price (outside b s) env = to_start w price s env + weight (λ v. reached (reading w) price b (v ∷ env)) (left w s env)
-to_start w price (inside b s v i) env = to_start w price i (v ∷ env) + (to_start w price s env + weight (λ u. reached (reading w) price b (u ∷ env)) (left w s env))
+to_start w price (inside b s v i) env = to_start w price i (v ∷ env) +
+    (to_start w price s env + weight (λ u. reached (reading w) price b (u ∷ env)) (left w s env))
 to_start w price (made ps) env = reached_nodes (reading w) price ps env
 to_start w price ended env = 0
 

@@ -30,11 +30,13 @@ CursorOf w c None u = ⊤
 abbrev pub Fits : World → List Ground → Kind → Ground → Snap → Type 0
 Fits w G k u (fresh p) = TypesAt w G p (coll k u)
 Fits w G k u (have vs e) = AllByRecursion (Inhabits u) vs
-Fits w G k u (pulling c x rows n) = AllByRecursion (Inhabits u) rows × ScanOf (stage w) c u × CursorOf w c (cursor_at w c.driver x) u × (n ≡ w.settings.fetch)
+Fits w G k u (pulling c x rows n) = AllByRecursion (Inhabits u) rows × ScanOf (stage w) c u
+    × CursorOf w c (cursor_at w c.driver x) u × (n ≡ w.settings.fetch)
 Fits w G k u (both s p) = Fits w G k u s × TypesAt w G p (coll k u)
 Fits w G k u (bound v s) = (t : Ground) × Inhabits t v × Fits w (t ∷ G) k u s
 Fits w G k u (outside b s) = (j : Kind) × (t : Ground) × (fits_in j k ≡ true) × Fits w G j t s × TypesAt w (t ∷ G) b (coll k u)
-Fits w G k u (inside b s v i) = (j : Kind) × (t : Ground) × (fits_in j k ≡ true) × Fits w G j t s × TypesAt w (t ∷ G) b (coll k u) × Inhabits t v × Fits w (t ∷ G) k u i
+Fits w G k u (inside b s v i) = (j : Kind) × (t : Ground) × (fits_in j k ≡ true) × Fits w G j t s × TypesAt w (t ∷ G) b (coll k u)
+    × Inhabits t v × Fits w (t ∷ G) k u i
 Fits w G k u (made ps) = EachPlan (ScanOf (stage w)) G ps u
 Fits w G k u ended = ⊤
 
@@ -54,4 +56,5 @@ abbrev pub HasFields : World → Fields → List Value → Type 0
 HasFields w ps env = (G : List Ground) × (r : Row) × HaveTypes G env × FieldTypes (ScanOf (stage w)) G ps r × IsReady w
 
 abbrev pub HasCall : World → ℕ → Nodes → List Value → Type 0
-HasCall w c ps env = (G : List Ground) × (us : List Ground) × (s : Ground) × HaveTypes G env × PlansOf (ScanOf (stage w)) G ps us × PrimTypes c us s × IsReady w
+HasCall w c ps env = (G : List Ground) × (us : List Ground) × (s : Ground) × HaveTypes G env × PlansOf (ScanOf (stage w)) G ps us
+    × PrimTypes c us s × IsReady w

@@ -126,7 +126,8 @@ Emits env s (Err why.NoMemory) old new a b = Halts (uses s) (λ all. ScansLeft a
 -- what is answered of all items, which were tallied from this on
 abbrev pub Tallies : List Value → Snap → Gathered → Result Value EvalStop → World → World → Type 0
 Tallies env s g (Ok v) a b = (vs : List Value) × (answer_in (with_all g vs) ≡ gives v) × Empties env s vs fine a b
-Tallies env s g (Err why.Overflow) a b = (vs : List Value) × (Empties env s vs overflow a b ⊎ ((answer_in (with_all g vs) ≡ overflows) × Empties env s vs fine a b))
+Tallies env s g (Err why.Overflow) a b = (vs : List Value)
+    × (Empties env s vs overflow a b ⊎ ((answer_in (with_all g vs) ≡ overflows) × Empties env s vs fine a b))
 Tallies env s g (Err (why.Driver l e)) a b = Halts (uses s) (λ all. ScansLeft all s) (StoppedBy l e a b) a b
 Tallies env s g (Err why.NoMemory) a b = Halts (uses s) (λ all. ScansLeft all s) ⊤ a b
 
@@ -137,7 +138,8 @@ DrawnStand env p (Err (halt.Over vs)) a = Stands a (outside p (have vs.items ove
 DrawnStand env p (Err (halt.Driver l e)) a = ⊤
 DrawnStand env p (Err halt.NoMemory) a = ⊤
 
-abbrev pub EmitsDrawn : List Value → Node → Result (Vec Value Global) Halt → Result (Unit {0}) EvalStop → Gathered → Gathered → World → World → Type 0
+abbrev pub EmitsDrawn : List Value → Node → Result (Vec Value Global) Halt → Result (Unit {0}) EvalStop → Gathered → Gathered
+    → World → World → Type 0
 EmitsDrawn env p (Ok vs) r old new a b = Emits env (outside p (have vs.items fine)) r old new a b
 EmitsDrawn env p (Err (halt.Over vs)) r old new a b = Emits env (outside p (have vs.items overflow)) r old new a b
 EmitsDrawn env p (Err (halt.Driver l e)) r old new a b = (r ≡ Err (why.Driver l e)) × (b ≡ a)
@@ -152,7 +154,8 @@ pub record Comes {X : Type 0} (Typing : List Ground → X → Type 0) (env : Lis
   pub moves : Moves nothing nothing a b
   pub known : (all : List Scan) → Holds all → AreOf all moves.events
   pub comes : (G : List Ground) (x : X) → HaveTypes G env → Typing G x → IsToldAt a → is
-  pub counts : (G : List Ground) (x : X) → HaveTypes G env → Typing G x → IsToldAt a → well → (price : Scan → ℕ) → paid price moves.events ≡ cost price
+  pub counts : (G : List Ground) (x : X) → HaveTypes G env → Typing G x → IsToldAt a → well → (price : Scan → ℕ)
+      → paid price moves.events ≡ cost price
   pub typed : (G : List Ground) (x : X) → HaveTypes G env → Typing G x → Typed x
 
 abbrev pub IsDone : Outcome → Type 0
@@ -188,7 +191,8 @@ FieldsHave [] r = r ≡ no_row
 FieldsHave (f ∷ fs) r = (s : Ground) × (rest : Row) × (r ≡ row f.0 s rest) × Inhabits s f.1 × FieldsHave fs rest
 
 abbrev pub FieldsCome : List Value → Fields → List (Name × Value) → World → World → Type 0
-FieldsCome env ps fs a b = Comes (λ G r. FieldTypes (ScanOf (stage a)) G ps r) env (λ all. ScansInFields all ps) (λ price. reached_fields (reading a) price ps env)
+FieldsCome env ps fs a b = Comes (λ G r. FieldTypes (ScanOf (stage a)) G ps r) env (λ all. ScansInFields all ps)
+    (λ price. reached_fields (reading a) price ps env)
     ((go : List (Name × Value) → Outcome) → parts_then (plan_fields (reading a) ps env) go ≡ go fs) ⊤ (λ r. FieldsHave fs r) a b
 
 abbrev pub FieldsOver : List Value → Fields → World → World → Type 0
@@ -206,7 +210,8 @@ abbrev pub CallTypes : World → List Ground → ℕ → Nodes → Ground → Ty
 CallTypes w G c ps s = (us : List Ground) × PlansOf (ScanOf (stage w)) G ps us × PrimTypes c us s
 
 abbrev pub CallComes : List Value → ℕ → Nodes → Outcome → World → World → Type 0
-CallComes env c ps o a b = Comes (λ G s. CallTypes a G c ps s) env (λ all. ScansInNodes all ps) (λ price. reached_nodes (reading a) price ps env)
+CallComes env c ps o a b = Comes (λ G s. CallTypes a G c ps s) env (λ all. ScansInNodes all ps)
+    (λ price. reached_nodes (reading a) price ps env)
     (applied c (plan_all (reading a) ps env) ≡ o) (IsDone o) (λ s. OfType s o) a b
 
 abbrev pub CallGives : List Value → ℕ → Nodes → Result Value EvalStop → World → World → Type 0

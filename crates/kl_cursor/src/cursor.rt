@@ -48,7 +48,8 @@ pub fn value_of(
 ) -> Result<Value, EvalStop>
     requires { HasWorth (⟦<Session as Seen>⟧.world session.old) (view plan.now) (reverse env.old.items) }
     ensures env { env.new.items ≡ env.old.items }
-    ensures value { Partly (reverse env.old.items) (view plan.now) result (⟦<Session as Seen>⟧.world session.old) (⟦<Session as Seen>⟧.world session.new) }
+    ensures value { Partly (reverse env.old.items) (view plan.now) result (⟦<Session as Seen>⟧.world session.old)
+        (⟦<Session as Seen>⟧.world session.new) }
 {
     inside(whole(alloc, plan, &Env::Base(env.as_slice()), session))
 }
@@ -85,8 +86,10 @@ impl<'p> Cursor<'p> {
         requires owned { Owned (uses (snap self.old.at)) (⟦<Session as Seen>⟧.world session.old) }
         requires sense { Stands (⟦<Session as Seen>⟧.world session.old) (snap self.old.at) (reverse self.old.env) }
         ensures env { self.new.env ≡ self.old.env }
-        ensures next { Nexts (reverse self.old.env) (snap self.old.at) result (snap self.new.at) (⟦<Session as Seen>⟧.world session.old) (⟦<Session as Seen>⟧.world session.new) }
-        ensures lazy { NextsLazily (reverse self.old.env) (snap self.old.at) result (snap self.new.at) (⟦<Session as Seen>⟧.world session.old) (⟦<Session as Seen>⟧.world session.new) }
+        ensures next { Nexts (reverse self.old.env) (snap self.old.at) result (snap self.new.at)
+            (⟦<Session as Seen>⟧.world session.old) (⟦<Session as Seen>⟧.world session.new) }
+        ensures lazy { NextsLazily (reverse self.old.env) (snap self.old.at) result (snap self.new.at)
+            (⟦<Session as Seen>⟧.world session.old) (⟦<Session as Seen>⟧.world session.new) }
         ensures quiet { Quiet (snap self.old.at) (⟦<Session as Seen>⟧.world session.old) (⟦<Session as Seen>⟧.world session.new) }
     {
         self.advance(session)

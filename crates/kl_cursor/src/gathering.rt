@@ -5,7 +5,8 @@ ghost use Rattle.kl_ship.specs.Nodes.{view};
 ghost use Rattle.kl_eval.specs.Steps.{AnswersPrim};
 ghost use Rattle.kl_value.specs.declared.Value.{Value};
 ghost use Rattle.kl_cursor.specs.Sense.{HasWorth};
-ghost use Rattle.kl_cursor.specs.Gathering.{CountsRows, answer_in, gathered, is_set, IsListed, IsTally, listed, number, tally, Tells, TellsItems, with_all, with_one};
+ghost use Rattle.kl_cursor.specs.Gathering.{CountsRows, answer_in, gathered, is_set, IsListed, IsTally, listed, number, tally};
+ghost use Rattle.kl_cursor.specs.Gathering.{Tells, TellsItems, with_all, with_one};
 
 use crate::drawing::kind_of_items;
 use crate::scans::Scans;

@@ -10,7 +10,8 @@ use Rattle.kl_syntax.specs.Syntax.{Pat}
 use Rattle.kl_syntax.specs.View.{pattern_view, view as exp_view}
 use Rattle.kl_core.specs.Trees.{Tree, view}
 use Rattle.kl_core.specs.Trees as term
-use Rattle.kl_desugar.specs.Translation.{Scope, Place, here, inside, Code, nothing, value_by, function_by, primitive_by, Codes, with_code, codes_first, tree, matched_here, no_sense}
+use Rattle.kl_desugar.specs.Translation.{Scope, Place, here, inside, Code, nothing, value_by, function_by, primitive_by, Codes}
+use Rattle.kl_desugar.specs.Translation.{with_code, codes_first, tree, matched_here, no_sense}
 use Rattle.kl_desugar.specs.Layers.{Layered, bound, guard, opened, drawn, after_pat, pat_layers}
 use Rattle.kl_desugar.specs.declared.layers.Layer.{Layer}
 use Rattle.kl_desugar.specs.declared.layers.Layer.TheVariants as layer
@@ -67,4 +68,5 @@ field_of codes S f = (f.0.text, tree (exp_view f.1) codes S)
 
 abbrev pub arm_of : Codes → Scope → Branch → Name × Tree
 arm_of codes S b =
-    ((out-Branch b).label.text, matched_here (pattern_view (out-Branch b).pat) codes S no_sense (λ R. tree (exp_view (out-Branch b).body) codes R))
+    ((out-Branch b).label.text, matched_here (pattern_view (out-Branch b).pat) codes S no_sense
+        (λ R. tree (exp_view (out-Branch b).body) codes R))

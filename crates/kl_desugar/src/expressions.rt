@@ -210,7 +210,8 @@ fn tree_other(
     codes: &Codes,
     scope: &[Slot],
 ) -> Result<Option<Box<Term>>, NoMemory>
-    ensures { IfOk result (λ t. term.rest_of (option_map term.view t) ≡ tree_branches (rest_of (option_map view other.now)) (codes_of codes.now) scope.now) }
+    ensures { IfOk result (λ t. term.rest_of (option_map term.view t)
+        ≡ tree_branches (rest_of (option_map view other.now)) (codes_of codes.now) scope.now) }
 {
     match other {
         Some(other) => Ok(Some(tree_box(alloc, other.get(), codes, scope)?)),
@@ -226,7 +227,8 @@ fn tree_steps(
     codes: &Codes,
     scope: &[Slot],
 ) -> Result<Term, NoMemory>
-    ensures { IfOk result (λ t. Given first (λ a. term.view t ≡ tree_steps (steps_view steps.now) (term.view a) (codes_of codes.now) scope.now)) }
+    ensures { IfOk result (λ t. Given first (λ a. term.view t
+        ≡ tree_steps (steps_view steps.now) (term.view a) (codes_of codes.now) scope.now)) }
 {
     let mut term = first?;
     for step in steps {
@@ -245,7 +247,8 @@ fn tree_opened(
     codes: &Codes,
     outer: &[Slot],
 ) -> Result<Entered, NoMemory>
-    ensures { IfOk result (λ e. OpensQuals (quals_view quals.now) kind (codes_of codes.now) outer.now e.scope.items [] (layers_view e.layers.items)) }
+    ensures { IfOk result (λ e. OpensQuals (quals_view quals.now) kind (codes_of codes.now) outer.now e.scope.items []
+        (layers_view e.layers.items)) }
 {
     let mut scope = copy(alloc, outer)?;
     let mut layers = Vec::new(alloc);

@@ -64,7 +64,8 @@ fn define_all<'a>(
     defs: Vec<&Decl>,
     sources: &'a [Label],
 ) -> Result<Codes<'a>, NoMemory>
-    ensures { IfOk result (λ codes. codes_of codes ≡ codes_after (decls_of (reverse (map (λ d. d.now) defs.entry.items))) (codes_first sources.now)) }
+    ensures { IfOk result (λ codes. codes_of codes
+        ≡ codes_after (decls_of (reverse (map (λ d. d.now) defs.entry.items))) (codes_first sources.now)) }
 {
     let mut defs = defs;
     let mut codes = Codes {
@@ -99,9 +100,12 @@ fn last_term(alloc: Global, program: &Program, sources: &[Label]) -> Result<Term
 /// Want of memory, and more positions or sources than 32 bits can number.
 #[tactic(auto, using(crate::proofs::Law::means_by, crate::proofs::Sense::sense_by, crate::proofs::Closing::closed_by, crate::proofs::Counting::small_ok, crate::proofs::Mentioned::reads_ok))]
 pub fn translate(alloc: Global, scoped: &Scoped) -> Result<Term, NoMemory>
-    ensures term { IfOk result (λ t. term.view t ≡ term_of (decls_of scoped.now.program.defs) (view scoped.now.program.last) scoped.now.sources) }
-    ensures means { IfOk result (λ t. Means (decls_of scoped.now.program.defs) (view scoped.now.program.last) scoped.now.sources (term.view t)) }
-    ensures sense { IfOk result (λ t. HasSense (decls_of scoped.now.program.defs) (view scoped.now.program.last) scoped.now.sources (term.view t)) }
+    ensures term { IfOk result (λ t. term.view t ≡ term_of (decls_of scoped.now.program.defs)
+        (view scoped.now.program.last) scoped.now.sources) }
+    ensures means { IfOk result (λ t. Means (decls_of scoped.now.program.defs) (view scoped.now.program.last) scoped.now.sources
+        (term.view t)) }
+    ensures sense { IfOk result (λ t. HasSense (decls_of scoped.now.program.defs) (view scoped.now.program.last) scoped.now.sources
+        (term.view t)) }
     ensures closed { IfOk result (λ t. (n : ℕ) → occurs_in n (term.view t) ≡ false) }
     ensures small { IfOk result (λ t. StaysSmall scoped.now (term.view t)) }
     ensures mentioned { IfOk result (λ t. ReadsMentioned scoped.now (term.view t)) }

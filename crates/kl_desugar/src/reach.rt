@@ -2,11 +2,13 @@
 ghost use Rattle.std.specs.Prelude.{◌≡◌, ◌++◌, map, reverse, IfOk};
 ghost use Rattle.std.specs.Option.{option_map};
 ghost use Rattle.kl_syntax.specs.Syntax.{Quals, Branches};
-ghost use Rattle.kl_syntax.specs.View.{pattern_view, patterns_view, view, exps_view, fields_view, quals_view, qual_view, branches_of, branch_view};
+ghost use Rattle.kl_syntax.specs.View.{pattern_view, patterns_view, view, exps_view, fields_view, quals_view, qual_view};
+ghost use Rattle.kl_syntax.specs.View.{branches_of, branch_view};
 ghost use Rattle.kl_syntax.specs.View.{rest_of, steps_view, decl_of, decls_of};
 ghost use Rattle.kl_scope.specs.Senses.{behind_each};
 ghost use Rattle.kl_scope.specs.Walks.{AfterOk};
-ghost use Rattle.kl_desugar.specs.Reached.{pattern_names, patterns_names, names, names_all, names_fields, names_quals, names_branches, names_steps};
+ghost use Rattle.kl_desugar.specs.Reached.{pattern_names, patterns_names, names, names_all, names_fields, names_quals};
+ghost use Rattle.kl_desugar.specs.Reached.{names_branches, names_steps};
 ghost use Rattle.kl_desugar.specs.Reached.{decl_names, NamesAdded, reached};
 
 use kl_base::{Box, Label, NoMemory};
@@ -130,7 +132,8 @@ fn names_steps<'a>(
     steps: &'a [(Op, Expr)],
     words: &mut Vec<&'a Word>,
 ) -> Result<(), NoMemory>
-    ensures { IfOk result (λ _. AfterOk before (behind_each words.new.items ≡ behind_each words.old.items ++ names_steps (steps_view steps.now))) }
+    ensures { IfOk result (λ _. AfterOk before (behind_each words.new.items ≡ behind_each words.old.items
+        ++ names_steps (steps_view steps.now))) }
 {
     before?;
     'steps: for step in steps {
@@ -145,7 +148,8 @@ fn names_quals<'a>(
     quals: &'a [Qual],
     words: &mut Vec<&'a Word>,
 ) -> Result<(), NoMemory>
-    ensures { IfOk result (λ _. AfterOk before (behind_each words.new.items ≡ behind_each words.old.items ++ names_quals (quals_view quals.now))) }
+    ensures { IfOk result (λ _. AfterOk before (behind_each words.new.items ≡ behind_each words.old.items
+        ++ names_quals (quals_view quals.now))) }
 {
     before?;
     'quals: for qual in quals {
@@ -179,7 +183,8 @@ fn names_branches<'a>(
     branches: &'a [Branch],
     words: &mut Vec<&'a Word>,
 ) -> Result<(), NoMemory>
-    ensures { IfOk result (λ _. AfterOk before ((rest : Branches) → behind_each words.new.items ++ names_branches rest ≡ behind_each words.old.items
+    ensures { IfOk result (λ _. AfterOk before ((rest : Branches)
+        → behind_each words.new.items ++ names_branches rest ≡ behind_each words.old.items
         ++ names_branches (branches_of (map branch_view branches.now) rest))) }
 {
     before?;
@@ -247,7 +252,8 @@ fn want(alloc: Global, def: &Decl, wanted: &mut BTreeSet<Label>) -> Result<(), N
 
 /// The definitions that the last expression of a program reaches, the last first.
 pub(crate) fn reached<'a>(alloc: Global, program: &'a Program) -> Result<Vec<&'a Decl>, NoMemory>
-    ensures { IfOk result (λ defs. decls_of (reverse (map (λ d. d.now) defs.items)) ≡ reached (decls_of program.now.defs) (view program.now.last)) }
+    ensures { IfOk result (λ defs. decls_of (reverse (map (λ d. d.now) defs.items))
+        ≡ reached (decls_of program.now.defs) (view program.now.last)) }
 {
     let defs = program.defs.slice();
     let mut found = Vec::new(alloc);

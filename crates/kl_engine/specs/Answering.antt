@@ -239,7 +239,8 @@ IsMentionedIn ss text name =
 
 -- the program that a text is gives a list
 abbrev pub IsOfList : List Source → List ℕ → Type 0
-IsOfList ss text = (q : AProgram) × IsProgramOf (names_of ss) text q × GivesList (grounds_of ss) (definitions (names_of ss) q) (last (names_of ss) q)
+IsOfList ss text = (q : AProgram) × IsProgramOf (names_of ss) text q
+    × GivesList (grounds_of ss) (definitions (names_of ss) q) (last (names_of ss) q)
 
 -- What is done with a text over these sources. No public contract cites this.
 pub record DoesText (ss : List Source) (p : Purpose) (text : List ℕ) (end : Ending) (old new : Outside) : Type 0 where
@@ -285,7 +286,8 @@ LacksSource command old =
 -- a source of this name, which the run's program mentions, drifted
 abbrev pub Drifted : Command → Name → Outside → Outside → Type 0
 Drifted command name old new =
-    OfRun command old.files (kinds_of old.drivers) (λ text ss. SomeDrifted ss (λ x. IsMentionedIn ss text x × (x ≡ name)) old.drivers new.drivers)
+    OfRun command old.files (kinds_of old.drivers)
+        (λ text ss. SomeDrifted ss (λ x. IsMentionedIn ss text x × (x ≡ name)) old.drivers new.drivers)
 
 -- Whether files and drivers tell their bytes or not, each ending has its cause.
 pub record IsCaused (command : Command) (end : Ending) (old new : Outside) : Type 0 where
@@ -342,7 +344,8 @@ pub record IsClosed (command : Command) (old new : Outside) : Type 0 where
 pub record Does (command : Command) (end : Ending) (old new : Outside) : Type 0 where
   pub told : (told : _) → Tell command old.files told
       → (v : Verdict) → IsVerdict told (kinds_of old.drivers) command v
-      → (w : Verdict) × IsVerdict told (kinds_of old.drivers) command w × Alike (CommandListsTypes command) v w × FollowsVerdict w end old new
+      → (w : Verdict) × IsVerdict told (kinds_of old.drivers) command w × Alike (CommandListsTypes command) v w
+          × FollowsVerdict w end old new
   -- the way back
   pub meant : (told : _) → Tell command old.files told
       → IsDetermined end → (CommandNeedsDrivers command end → AreMentionedTold told (kinds_of old.drivers) command)

@@ -35,7 +35,8 @@ pub record PlacesCatalogue (ks : List DriverKind) (text : List ℕ) (result : Re
   pub refused : IfErr result (λ f. (f ≡ fault.NoMemory) ⊎ IsCatalogueFault ks text f)
   pub no_other : IfErr result IsCatalogueEnd
 
-pub record ReadsSources (catalogue : Option (List ℕ)) (ks : List DriverKind) (result : Result (Vec Source Global) Fault) (files files' : FilesState)
+pub record ReadsSources (catalogue : Option (List ℕ)) (ks : List DriverKind) (result : Result (Vec Source Global) Fault)
+    (files files' : FilesState)
     : Type 0 where
   pub left : files'.left ≡ files.left
   pub told : files'.told ≡ files.told

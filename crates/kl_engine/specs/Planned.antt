@@ -70,24 +70,28 @@ IsLine p b c = (p ≡ node.Ext kind.List b (node.Scan c)) × (c.kind ≡ kind.Li
 -- was fetched with the last of them; and none where none is wanted.
 abbrev pub HandsFew : Readings → ℕ → Node → Option ℕ → (Scan → ℕ → Type 0) → Type 0
 HandsFew R fetch p first WereHanded =
-    (b : Node) (c : Scan) (all : List Value) (items : ℕ) → IsLine p b c → R c ≡ Some all → first ≡ Some items → items ≤ length (items_in (coming (plan R p [])))
+    (b : Node) (c : Scan) (all : List Value) (items : ℕ) → IsLine p b c → R c ≡ Some all → first ≡ Some items
+        → items ≤ length (items_in (coming (plan R p [])))
     → (rows : ℕ) × WereHanded c rows × (items ≡ 0 → rows ≡ 0) × Frugal R fetch [] b all items rows
 
 -- a sink that tells its bytes took fewer of a list than so many first items come to
 abbrev pub LacksItem : List Value → ℕ → SinkState → SinkState → Type 0
-LacksItem vs items old new = (was taken : List ℕ) × (old.taken ≡ Some was) × (new.taken ≡ Some (was ++ taken)) × (length taken < length (list_front (take items vs)))
+LacksItem vs items old new = (was taken : List ℕ) × (old.taken ≡ Some was) × (new.taken ≡ Some (was ++ taken))
+    × (length taken < length (list_front (take items vs)))
 
 -- Where the last of so many first items of such a loop was not written whole, its driver handed fewer rows than these take and are
 -- fetched at once.
 abbrev pub HandsWritten : Readings → ℕ → Node → SinkState → SinkState → (Scan → ℕ → Type 0) → Type 0
 HandsWritten R fetch p old new WereHanded =
-    (b : Node) (c : Scan) (all : List Value) (items : ℕ) → IsLine p b c → R c ≡ Some all → 0 < items → items ≤ length (items_in (coming (plan R p [])))
+    (b : Node) (c : Scan) (all : List Value) (items : ℕ) → IsLine p b c → R c ≡ Some all → 0 < items
+        → items ≤ length (items_in (coming (plan R p [])))
     → LacksItem (items_in (coming (plan R p []))) items old new
     → (rows : ℕ) × WereHanded c rows × ((front : ℕ) → IsFront R [] b all items front → rows < front + fetch) × ByTimes fetch all rows
 
 -- a driver's count of rows rose by so many, where it does not come to its greatest value
 abbrev pub RowsHanded : List State → List State → Scan → ℕ → Type 0
-RowsHanded old new c rows = (x y : State) → slice_get old c.driver ≡ Some x → slice_get new c.driver ≡ Some y → x.handed + rows < 2 ^ 64 → y.handed ≡ x.handed + rows
+RowsHanded old new c rows = (x y : State) → slice_get old c.driver ≡ Some x → slice_get new c.driver ≡ Some y
+    → x.handed + rows < 2 ^ 64 → y.handed ≡ x.handed + rows
 
 -- what is counted of a plan's scans, what its drivers counted, where so many rows are fetched at once, and what was printed
 pub record Counts : Type 0 where
@@ -105,7 +109,8 @@ counted starts fetch old new blank printed = record { starts = starts; fetch = f
 
 -- The plan of a program's term t, over sources at drivers of these kinds, of which the marked ones are mentioned: that of the term
 -- to which so many steps of rewriting lead from t.
-pub record PlansTerm (on : Bool) (ks : List DriverKind) (ss : List Source) (marks : ℕ → Bool) (first : Option ℕ) (end : Ending) (t : Tree) (steps : ℕ) (p : Node) (counts : Counts) : Type 0 where
+pub record PlansTerm (on : Bool) (ks : List DriverKind) (ss : List Source) (marks : ℕ → Bool) (first : Option ℕ) (end : Ending)
+    (t : Tree) (steps : ℕ) (p : Node) (counts : Counts) : Type 0 where
   pub term : Tree
   pub rewritten : IsRewrittenTo on t steps term
   pub planned : IsPlanOf (ships_of ks ss) term p
@@ -119,12 +124,14 @@ pub record PlansTerm (on : Bool) (ks : List DriverKind) (ss : List Source) (mark
       → (R : Readings) × ReadsMarked ks ss marks R × HandsFew R counts.fetch p first (RowsHanded counts.old counts.new)
   -- and where the output fails
   pub written : end ≡ Some fault.Write → (vs : List (Name × Value)) × HaveValues ks marks 0 ss vs
-      → (R : Readings) × ReadsMarked ks ss marks R × HandsWritten R counts.fetch p counts.blank counts.printed (RowsHanded counts.old counts.new)
+      → (R : Readings) × ReadsMarked ks ss marks R
+          × HandsWritten R counts.fetch p counts.blank counts.printed (RowsHanded counts.old counts.new)
 
 -- the plan of the program that a text is
 abbrev pub PlansText : Bool → List DriverKind → List Source → Option ℕ → Ending → List ℕ → ℕ → Node → Counts → Type 0
 PlansText on ks ss first end text steps p counts =
-    (q : Program) × IsProgramOf (names_of ss) text q × (marks : ℕ → Bool) × AreMarks q (names_of ss) marks × PlansTerm on ks ss marks first end (term_in (names_of ss) q) steps p counts
+    (q : Program) × IsProgramOf (names_of ss) text q × (marks : ℕ → Bool) × AreMarks q (names_of ss) marks
+        × PlansTerm on ks ss marks first end (term_in (names_of ss) q) steps p counts
 
 -- an end to which a run comes before it has a plan
 abbrev pub IsEarly : Ending → Type 0
@@ -162,7 +169,8 @@ first_of_run command = None
 -- plan, and no step is counted.
 abbrev pub HasPlan : Bool → Command → Ending → ℕ → Option Node → Counts → FilesState → FilesState → List DriverKind → Type 0
 HasPlan on command end steps plan counts files files' ks =
-    ((p : Node) × (plan ≡ Some p) × OfRun command files ks (λ text ss. PlansText on ks ss (first_of_run command) end text steps p counts) × (IsEarly end → ⊥))
+    ((p : Node) × (plan ≡ Some p) × OfRun command files ks
+        (λ text ss. PlansText on ks ss (first_of_run command) end text steps p counts) × (IsEarly end → ⊥))
     ⊎ ((plan ≡ None) × (steps ≡ 0) × ((IsRunning command → ⊥) ⊎ MayBeEarly command end files files' ks))
 
 -- ---- for private functions alone: the same where the files are read

@@ -38,7 +38,8 @@ IsBreach e = ⊤
 
 -- the tokens are a program that breaks a rule of scope, and this is its first breach
 abbrev pub IsScopeFault : List Name → List Token → ℕ → Fault → Type 0
-IsScopeFault names ts size f = (p : Program) × (e : ScopeError) × IsProgram ts p × IsBreach e × IsFirstBreach p names e × (f ≡ scope_fault ts size e)
+IsScopeFault names ts size f = (p : Program) × (e : ScopeError) × IsProgram ts p × IsBreach e × IsFirstBreach p names e
+    × (f ≡ scope_fault ts size e)
 
 -- the tokens break a rule of scope; or at a place no program goes on; or with the token there none that nests at most 256
 -- deep

@@ -1,5 +1,6 @@
 -- What the private functions of `run` and `types` answer. No public contract cites this.
-use Rattle.std.specs.Prelude.{◌≡◌, ◌⊎◌, ℕ, ◌+◌, ◌==◌, ◌<◌, nat_lt, Bool, true, false, List, [], ◌++◌, length, Option, Some, None, Result, Ok, Err, slice_get, ⊤}
+use Rattle.std.specs.Prelude.{◌≡◌, ◌⊎◌, ℕ, ◌+◌, ◌==◌, ◌<◌, nat_lt, Bool, true, false, List, [], ◌++◌, length, Option, Some, None}
+use Rattle.std.specs.Prelude.{Result, Ok, Err, slice_get, ⊤}
 use Rattle.std.specs.Io.KnownBytes.{append_known}
 use Rattle.kl_outside.specs.Counts.{Rose}
 use Rattle.kl_outside.specs.Sinks.{SinkState, TookPart, WritesWhole}
@@ -42,7 +43,8 @@ use Rattle.kl_engine.specs.Outside.{Outside}
 use Rattle.kl_engine.specs.Planned.{HandsFew, HandsWritten}
 use Rattle.kl_infer.specs.Numbers.{limit}
 use Rattle.kl_infer.specs.Printed.{scheme_text}
-use Rattle.kl_engine.specs.Verdict.{Verdict, value_page, cut, refused, list_front, overflowing, scheme_line, scheme_lines, cut_list, GivesList, IsMeant, IsDone}
+use Rattle.kl_engine.specs.Verdict.{Verdict, value_page, cut, refused, list_front, overflowing, scheme_line, scheme_lines}
+use Rattle.kl_engine.specs.Verdict.{cut_list, GivesList, IsMeant, IsDone}
 use Rattle.kl_engine.specs.declared.fault.Fault.{Fault}
 use Rattle.kl_engine.specs.declared.fault.Fault.TheVariants as fault
 use Rattle.kl_engine.specs.declared.top.Purpose.{Purpose}
@@ -92,7 +94,8 @@ DriftsAt list name old new =
     × (slice_get list i ≡ Some a) × (a.source ≡ name) × (a.driver ≡ Some place) × RoseAt place (λ d. d.drifts) old new
 
 -- An outcome is printed. Where the sources are told it is that of the term, and in any case each fault has its cause.
-pub record AnswersTerm (Lists : Type 0) (IsOut : Verdict → Type 0) (told : Type 0) (end : Ending) (list : List Attached) (old new : Outside) : Type 0 where
+pub record AnswersTerm (Lists : Type 0) (IsOut : Verdict → Type 0) (told : Type 0) (end : Ending) (list : List Attached)
+    (old new : Outside) : Type 0 where
   pub follows : told → (v : Verdict) × IsOut v × FollowsVerdict v end old new
   pub read : end ≡ Some fault.Read → SomeRose (λ d. d.faults) old.drivers new.drivers
   pub write : end ≡ Some fault.Write → Rose old.out.faults new.out.faults
@@ -152,14 +155,16 @@ WithoutVerdict IsVerdict ss marks =
 
 -- How what is done with a program ends: a fault of the outside or want of memory came before anything was printed; or a
 -- verdict of the program is followed; or it comes to sources that are not told, and so to no verdict.
-pub data Ends (IsVerdict : (ℕ → Bool) → Verdict → Type 0) (ss : List Source) (marks : ℕ → Bool) (p : Purpose) (end : Ending) (old new : Outside)
+pub data Ends (IsVerdict : (ℕ → Bool) → Verdict → Type 0) (ss : List Source) (marks : ℕ → Bool) (p : Purpose) (end : Ending)
+    (old new : Outside)
     : Type 0 where
   before : new.out ≡ old.out → (IsDetermined end → ⊥) → ((v : Verdict) → IsOutside v end old new) → Ends IsVerdict ss marks p end old new
   followed : (v : Verdict) → IsVerdict marks v → FollowsVerdict v end old new → Ends IsVerdict ss marks p end old new
   untold : WithoutVerdict IsVerdict ss marks → (AreTold (kinds_of old.drivers) ss (IsNamed ss marks) → ⊥)
       → (IsDetermined end → NeedsDrivers p end) → Ends IsVerdict ss marks p end old new
 
-pub record DoneBy (Lists : Type 0) (IsVerdict : (ℕ → Bool) → Verdict → Type 0) (ss : List Source) (marks : ℕ → Bool) (p : Purpose) (end : Ending) (old new : Outside)
+pub record DoneBy (Lists : Type 0) (IsVerdict : (ℕ → Bool) → Verdict → Type 0) (ss : List Source) (marks : ℕ → Bool) (p : Purpose)
+    (end : Ending) (old new : Outside)
     : Type 0 where
   pub ends : Ends IsVerdict ss marks p end old new
   pub read : end ≡ Some fault.Read
@@ -175,18 +180,21 @@ pub record DoneBy (Lists : Type 0) (IsVerdict : (ℕ → Bool) → Verdict → T
 
 -- what a purpose makes of a program is done
 abbrev pub DoneWith : List Source → (ℕ → Bool) → Purpose → Decls → Exp → Ending → Outside → Outside → Type 0
-DoneWith ss marks p program e end old new = DoneBy (GivesList (grounds_of ss) program e) (λ others. IsDone (kinds_of old.drivers) ss others p program e) ss marks p end old new
+DoneWith ss marks p program e end old new = DoneBy (GivesList (grounds_of ss) program e)
+    (λ others. IsDone (kinds_of old.drivers) ss others p program e) ss marks p end old new
 
 -- what a run of a program with a typing comes to is done
 abbrev pub DoneMeaning : List Source → (ℕ → Bool) → Option ℕ → Decls → Exp → Ending → Outside → Outside → Type 0
 DoneMeaning ss marks first program e end old new =
-    DoneBy (GivesList (grounds_of ss) program e) (λ others. IsMeant (kinds_of old.drivers) ss others first program e) ss marks (purpose.Run first) end old new
+    DoneBy (GivesList (grounds_of ss) program e) (λ others. IsMeant (kinds_of old.drivers) ss others first program e) ss marks
+        (purpose.Run first) end old new
 
 -- the line of a declaration is written, or nothing where the text of its scheme is too long
 abbrev pub ListsLine : Name × Scheme → Result (Unit {0}) Fault → SinkState → SinkState → Type 0
 ListsLine d (Ok x) old new = (nat_lt limit (length (scheme_text d.1)) ≡ false) × WritesWhole {T = Unit {0}} (scheme_line d) (Ok tt) old new
 ListsLine d (Err fault.SchemeBytes) old new = (nat_lt limit (length (scheme_text d.1)) ≡ true) × (new ≡ old)
-ListsLine d (Err fault.Write) old new = (nat_lt limit (length (scheme_text d.1)) ≡ false) × WritesWhole {T = Unit {0}} (scheme_line d) (Err stop.Failed) old new
+ListsLine d (Err fault.Write) old new = (nat_lt limit (length (scheme_text d.1)) ≡ false)
+    × WritesWhole {T = Unit {0}} (scheme_line d) (Err stop.Failed) old new
 ListsLine d (Err fault.NoMemory) old new =
     (new ≡ old)
     ⊎ ((nat_lt limit (length (scheme_text d.1)) ≡ false) × WritesWhole {T = Unit {0}} (scheme_line d) (Err stop.NoMemory) old new)

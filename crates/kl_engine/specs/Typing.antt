@@ -22,7 +22,8 @@ FitsSizes ds e = size_fault (declared ds e []) ≡ None
 
 -- a term is too large; or a declaration has no type
 abbrev pub IsTypingFault : List (Name × Ground) → Decls → Exp → Fault → Type 0
-IsTypingFault grounds ds e f = (size_fault (declared ds e []) ≡ Some f) ⊎ (FitsSizes ds e × (n : ℕ) × IsIllTyped ds e grounds n × (f ≡ fault.IllTyped n))
+IsTypingFault grounds ds e f = (size_fault (declared ds e []) ≡ Some f)
+    ⊎ (FitsSizes ds e × (n : ℕ) × IsIllTyped ds e grounds n × (f ≡ fault.IllTyped n))
 
 -- its terms fit, and it has these types
 pub record IsTyped (grounds : List (Name × Ground)) (ds : Decls) (e : Exp) (typed : Typed) : Type 0 where

@@ -93,7 +93,8 @@ behind front v = record { page = front ++ v.page; ending = v.ending }
 -- a line each, up to the first that has too long a text
 abbrev pub scheme_lines : List (Name × Scheme) → Verdict
 scheme_lines [] = well []
-scheme_lines (d ∷ ds) = if nat_lt limit (length (scheme_text d.1)) then refused fault.SchemeBytes else behind (scheme_line d) (scheme_lines ds)
+scheme_lines (d ∷ ds) = if nat_lt limit (length (scheme_text d.1)) then refused fault.SchemeBytes else behind (scheme_line d)
+    (scheme_lines ds)
 
 -- the principal schemes of the declarations are listed
 abbrev pub IsListing : List (Name × Ground) → Decls → Exp → Verdict → Type 0
@@ -144,7 +145,8 @@ cut_list first vs = if suffice first vs then value_page (value.List (first_of fi
 -- a value and a newline; or an overflow, before which of a list its items are printed, and of all else nothing
 abbrev pub IsOutcome : List (Name × Ground) → Option ℕ → Decls → Exp → Outcome → Verdict → Type 0
 IsOutcome grounds first ds e (done v) w = w ≡ value_page (cut first v)
-IsOutcome grounds first ds e (over vs) w = (GivesList grounds ds e × (w ≡ cut_list first vs)) ⊎ ((GivesList grounds ds e → ⊥) × (w ≡ refused fault.Overflow))
+IsOutcome grounds first ds e (over vs) w = (GivesList grounds ds e × (w ≡ cut_list first vs))
+    ⊎ ((GivesList grounds ds e → ⊥) × (w ≡ refused fault.Overflow))
 IsOutcome grounds first ds e stuck w = ⊥
 
 -- what stands at a source in place of rows
@@ -183,7 +185,8 @@ lines vs = flat_map (λ v. text_of v ++ codes "\n") vs
 
 -- the items of an exchange text, a line each, and what stands behind them
 abbrev pub IsShowing : List ℕ → Verdict → Type 0
-IsShowing bytes v = (vs : List Value) × (end : FileEnd) × Shows most_read bytes vs end × (v ≡ record { page = lines vs; ending = end_fault end })
+IsShowing bytes v = (vs : List Value) × (end : FileEnd) × Shows most_read bytes vs end
+    × (v ≡ record { page = lines vs; ending = end_fault end })
 
 -- these marks tell which sources the program mentions
 abbrev pub AreMarks : Program → List Name → (ℕ → Bool) → Type 0

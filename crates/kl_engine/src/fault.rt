@@ -175,7 +175,8 @@ fn write_bad_source<E: Sink>(name: &[u8], place: u64, err: &mut E) -> Result<(),
 }
 
 fn write_untyped<E: Sink>(number: u64, err: &mut E) -> Result<(), Stop>
-    ensures { WritesWhole (joined (codes "types: no typing for declaration " ∷ decimal number ∷ codes "\n" ∷ [])) result (E.state err.old) (E.state err.new) }
+    ensures { WritesWhole (joined (codes "types: no typing for declaration " ∷ decimal number ∷ codes "\n" ∷ [])) result
+        (E.state err.old) (E.state err.new) }
 {
     write_parts(
         err,

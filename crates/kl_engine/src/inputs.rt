@@ -67,7 +67,8 @@ pub fn made_inputs(
     drivers: &Vec<Box<dyn Driver>>,
 ) -> Result<Inputs, Fault>
     requires { length drivers.now.items < 2 ^ 32 }
-    ensures { (files : FilesState) → ReadsInputs (Made seed size) (kinds_of (map (λ d. (Driver-box d).state d.value) drivers.now.items)) result files files }
+    ensures { (files : FilesState) → ReadsInputs (Made seed size)
+        (kinds_of (map (λ d. (Driver-box d).state d.value) drivers.now.items)) result files files }
 {
     match gen_texts(alloc, seed, size) {
         Ok(texts) => match catalogue_of(alloc, texts.catalogue.slice(), drivers) {
@@ -90,7 +91,8 @@ fn read_sources<F: Files>(
     files: &mut F,
 ) -> Result<Vec<Source>, Fault>
     requires { length drivers.now.items < 2 ^ 32 }
-    ensures { ReadsSources catalogue.now (kinds_of (map (λ d. (Driver-box d).state d.value) drivers.now.items)) result (F.state files.old) (F.state files.new) }
+    ensures { ReadsSources catalogue.now (kinds_of (map (λ d. (Driver-box d).state d.value) drivers.now.items)) result
+        (F.state files.old) (F.state files.new) }
 {
     match catalogue {
         None => Ok(Vec::new(alloc)),

@@ -19,7 +19,8 @@ ghost use Rattle.kl_run.specs.Running.{Runs};
 ghost use Rattle.kl_engine.specs.Answering.{PrintsPage};
 ghost use Rattle.kl_engine.specs.Faults.{ending};
 ghost use Rattle.kl_engine.specs.Outside.{outside_of};
-ghost use Rattle.kl_engine.specs.Running.{AnswersTerm, HasList, IsListOutcome, IsListTerm, Scanned, SparesRows, StopsList, TookMore, are_enough, one_more};
+ghost use Rattle.kl_engine.specs.Running.{AnswersTerm, HasList, IsListOutcome, IsListTerm, Scanned, SparesRows, StopsList};
+ghost use Rattle.kl_engine.specs.Running.{TookMore, are_enough, one_more};
 ghost use Rattle.kl_engine.specs.Verdict.{list_front, value_page};
 
 use crate::fault::Fault;
@@ -48,15 +49,18 @@ pub fn print_list<S: Sink>(
     out: &mut S,
 ) -> Result<(), Fault>
     requires { HasList (⟦<Session as Seen>⟧.world session.old) (view plan.now) }
-    ensures prints { (files : FilesState) (ks : List DriverKind) (ss : List Source) (marks : ℕ → Bool) (t : Tree) → Runs ks ss marks t (view plan.now) (⟦<Session as Seen>⟧.world session.old)
+    ensures prints { (files : FilesState) (ks : List DriverKind) (ss : List Source) (marks : ℕ → Bool) (t : Tree)
+        → Runs ks ss marks t (view plan.now) (⟦<Session as Seen>⟧.world session.old)
         → IsListTerm (types_of (⟦<Session as Seen>⟧.world session.old)) t → AnswersTerm ⊤
         (IsListOutcome first (core (values_of (⟦<Session as Seen>⟧.world session.old)) t []))
         (HaveSources (types_of (⟦<Session as Seen>⟧.world session.old)) (values_of (⟦<Session as Seen>⟧.world session.old))) (ending result)
         (⟦<Session as Seen>⟧.world session.old).sources
         (outside_of files (⟦<Session as Seen>⟧.world session.old).drivers (S.state out.old))
         (outside_of files (⟦<Session as Seen>⟧.world session.new).drivers (S.state out.new)) }
-    ensures scanned { Scanned (view plan.now) (ending result) first (⟦<Session as Seen>⟧.world session.old) (⟦<Session as Seen>⟧.world session.new) }
-    ensures spares { SparesRows (view plan.now) (ending result) first (⟦<Session as Seen>⟧.world session.old) (⟦<Session as Seen>⟧.world session.new) (S.state out.old) (S.state out.new) }
+    ensures scanned { Scanned (view plan.now) (ending result) first (⟦<Session as Seen>⟧.world session.old)
+        (⟦<Session as Seen>⟧.world session.new) }
+    ensures spares { SparesRows (view plan.now) (ending result) first (⟦<Session as Seen>⟧.world session.old)
+        (⟦<Session as Seen>⟧.world session.new) (S.state out.old) (S.state out.new) }
 {
     let mut page = Page::new();
     match begin(&mut page, out) {
@@ -81,7 +85,8 @@ fn begin<S: Sink>(page: &mut Page, out: &mut S) -> Result<(), PrintError>
 
 // The end of a list that is whole.
 fn end<S: Sink>(page: &mut Page, out: &mut S) -> Result<(), Fault>
-    ensures ends { (given : List Value) (first : SinkState) → Puts {T = Unit {0}} (list_front given) (Ok tt) first [] (S.state out.old) page.old
+    ensures ends { (given : List Value) (first : SinkState)
+        → Puts {T = Unit {0}} (list_front given) (Ok tt) first [] (S.state out.old) page.old
         → PrintsPage (value_page (value.List given)) (ending result) first (S.state out.new) }
     ensures more { TookMore (S.state out.old) (S.state out.new) }
 {
@@ -141,7 +146,8 @@ fn print_items<S: Sink>(
         (⟦<Session as Seen>⟧.world session.old).sources
         (outside_of files (⟦<Session as Seen>⟧.world session.old).drivers front)
         (outside_of files (⟦<Session as Seen>⟧.world session.new).drivers (S.state out.new)) }
-    ensures scanned { Scanned (view plan.now) (ending result) first (⟦<Session as Seen>⟧.world session.old) (⟦<Session as Seen>⟧.world session.new) }
+    ensures scanned { Scanned (view plan.now) (ending result) first (⟦<Session as Seen>⟧.world session.old)
+        (⟦<Session as Seen>⟧.world session.new) }
     ensures spares { (front : SinkState) → Puts {T = Unit {0}} (list_front []) (Ok tt) front [] (S.state out.old) page.old
         → SparesRows (view plan.now) (ending result) first (⟦<Session as Seen>⟧.world session.old) (⟦<Session as Seen>⟧.world session.new) front (S.state out.new) }
 {
@@ -208,7 +214,8 @@ fn ready<S: Sink>(cursor: &Cursor<'_>, page: &mut Page, out: &mut S) -> Result<(
 
 // The end of a list that was stopped, behind the items that were drawn.
 fn stopped<S: Sink>(stop: EvalStop, page: &mut Page, out: &mut S) -> Result<(), Fault>
-    ensures stops { (given : List Value) (first : SinkState) → Puts {T = Unit {0}} (list_front given) (Ok tt) first [] (S.state out.old) page.old
+    ensures stops { (given : List Value) (first : SinkState)
+        → Puts {T = Unit {0}} (list_front given) (Ok tt) first [] (S.state out.old) page.old
         → StopsList given stop (ending result) first (S.state out.new) }
     ensures never { ending result ≡ None → ⊥ }
     ensures more { TookMore (S.state out.old) (S.state out.new) }

@@ -33,7 +33,8 @@ ghost use Rattle.kl_type.specs.Ground.{Ground, IsProper};
 ghost use Rattle.kl_engine.specs.Answering.{DoesText, IsIdle};
 ghost use Rattle.kl_engine.specs.Faults.{ending};
 ghost use Rattle.kl_engine.specs.Outside.{outside_of};
-ghost use Rattle.kl_engine.specs.Planned.{AsksOf, CountsScansAlone, HandsFew, HandsWritten, IsEarly, IsUnrun, PlanOf, PlansTerm, PlansText, RowsHanded, counted, plan_in};
+ghost use Rattle.kl_engine.specs.Planned.{AsksOf, CountsScansAlone, HandsFew, HandsWritten, IsEarly, IsUnrun, PlanOf, PlansTerm};
+ghost use Rattle.kl_engine.specs.Planned.{PlansText, RowsHanded, counted, plan_in};
 ghost use Rattle.kl_engine.specs.Reading.{WasInScope};
 ghost use Rattle.kl_engine.specs.Rewritten.{IsRewrittenTo};
 ghost use Rattle.kl_engine.specs.Running.{AnswersTerm, DoneWith, DoneMeaning, HasList, IsListTerm, Scanned, SparesRows};
@@ -103,9 +104,14 @@ pub fn run<S: Sink>(
     ensures does { (files : FilesState) → DoesText sources.items (Run how.first) text.now (ending result)
         (outside_of files (map (λ d. (Driver-box d).state d.value) drivers.old.items) (S.state out.old))
         (outside_of files (map (λ d. (Driver-box d).state d.value) drivers.new.items) (S.state out.new)) }
-    ensures plan { PlanOf (λ p. PlansText how.settings.rewrite (kinds_of (map (λ d. (Driver-box d).state d.value) drivers.old.items)) sources.items how.first (ending result) text.now ran.new.trace.steps p (counted ran.new.trace.starts how.settings.fetch (map (λ d. (Driver-box d).state d.value) drivers.old.items) (map (λ d. (Driver-box d).state d.value) drivers.new.items) (S.state out.old) (S.state out.new)))
+    ensures plan { PlanOf (λ p. PlansText how.settings.rewrite
+        (kinds_of (map (λ d. (Driver-box d).state d.value) drivers.old.items)) sources.items how.first
+        (ending result) text.now ran.new.trace.steps p
+        (counted ran.new.trace.starts how.settings.fetch (map (λ d. (Driver-box d).state d.value) drivers.old.items)
+        (map (λ d. (Driver-box d).state d.value) drivers.new.items) (S.state out.old) (S.state out.new)))
         (ending result) ran.new.trace.steps (plan_in ran.new.plan) }
-    ensures asks { AsksOf (plan_in ran.new.plan) ran.new.trace.starts (map (λ d. (Driver-box d).state d.value) drivers.old.items) (map (λ d. (Driver-box d).state d.value) drivers.new.items) }
+    ensures asks { AsksOf (plan_in ran.new.plan) ran.new.trace.starts (map (λ d. (Driver-box d).state d.value) drivers.old.items)
+        (map (λ d. (Driver-box d).state d.value) drivers.new.items) }
     ensures alone { CountsScansAlone (plan_in ran.new.plan) ran.new.trace }
 {
     match read_over(alloc, text, &sources) {
@@ -133,10 +139,13 @@ fn run_program<S: Sink>(
         (decls_of scoped.now.program.defs) (view scoped.now.program.last) (ending result)
         (outside_of files (map (λ d. (Driver-box d).state d.value) drivers.old.items) (S.state out.old))
         (outside_of files (map (λ d. (Driver-box d).state d.value) drivers.new.items) (S.state out.new)) }
-    ensures plan { PlanOf (λ p. PlansTerm how.settings.rewrite (kinds_of (map (λ d. (Driver-box d).state d.value) drivers.old.items)) sources.items (is_marked scoped.now) how.first (ending result)
+    ensures plan { PlanOf (λ p. PlansTerm how.settings.rewrite
+        (kinds_of (map (λ d. (Driver-box d).state d.value) drivers.old.items)) sources.items (is_marked scoped.now) how.first
+        (ending result)
         (term_of (decls_of scoped.now.program.defs) (view scoped.now.program.last) scoped.now.sources) ran.new.trace.steps p (counted ran.new.trace.starts how.settings.fetch (map (λ d. (Driver-box d).state d.value) drivers.old.items) (map (λ d. (Driver-box d).state d.value) drivers.new.items) (S.state out.old) (S.state out.new)))
         (ending result) ran.new.trace.steps (plan_in ran.new.plan) }
-    ensures asks { AsksOf (plan_in ran.new.plan) ran.new.trace.starts (map (λ d. (Driver-box d).state d.value) drivers.old.items) (map (λ d. (Driver-box d).state d.value) drivers.new.items) }
+    ensures asks { AsksOf (plan_in ran.new.plan) ran.new.trace.starts (map (λ d. (Driver-box d).state d.value) drivers.old.items)
+        (map (λ d. (Driver-box d).state d.value) drivers.new.items) }
     ensures alone { CountsScansAlone (plan_in ran.new.plan) ran.new.trace }
 {
     match infer_over(alloc, scoped, &sources) {
@@ -166,10 +175,13 @@ fn answer<S: Sink>(
         (decls_of scoped.now.program.defs) (view scoped.now.program.last) (ending result)
         (outside_of files (map (λ d. (Driver-box d).state d.value) drivers.old.items) (S.state out.old))
         (outside_of files (map (λ d. (Driver-box d).state d.value) drivers.new.items) (S.state out.new)) }
-    ensures plan { PlanOf (λ p. PlansTerm how.settings.rewrite (kinds_of (map (λ d. (Driver-box d).state d.value) drivers.old.items)) sources.items (is_marked scoped.now) how.first (ending result)
+    ensures plan { PlanOf (λ p. PlansTerm how.settings.rewrite
+        (kinds_of (map (λ d. (Driver-box d).state d.value) drivers.old.items)) sources.items (is_marked scoped.now) how.first
+        (ending result)
         (term_of (decls_of scoped.now.program.defs) (view scoped.now.program.last) scoped.now.sources) ran.new.trace.steps p (counted ran.new.trace.starts how.settings.fetch (map (λ d. (Driver-box d).state d.value) drivers.old.items) (map (λ d. (Driver-box d).state d.value) drivers.new.items) (S.state out.old) (S.state out.new)))
         (ending result) ran.new.trace.steps (plan_in ran.new.plan) }
-    ensures asks { AsksOf (plan_in ran.new.plan) ran.new.trace.starts (map (λ d. (Driver-box d).state d.value) drivers.old.items) (map (λ d. (Driver-box d).state d.value) drivers.new.items) }
+    ensures asks { AsksOf (plan_in ran.new.plan) ran.new.trace.starts (map (λ d. (Driver-box d).state d.value) drivers.old.items)
+        (map (λ d. (Driver-box d).state d.value) drivers.new.items) }
     ensures alone { CountsScansAlone (plan_in ran.new.plan) ran.new.trace }
 {
     match translate(alloc, scoped) {
@@ -204,10 +216,13 @@ fn answer_translated<S: Sink>(
         (decls_of scoped.now.program.defs) (view scoped.now.program.last) (ending result)
         (outside_of files (map (λ d. (Driver-box d).state d.value) drivers.old.items) (S.state out.old))
         (outside_of files (map (λ d. (Driver-box d).state d.value) drivers.new.items) (S.state out.new)) }
-    ensures plan { PlanOf (λ p. PlansTerm how.settings.rewrite (kinds_of (map (λ d. (Driver-box d).state d.value) drivers.old.items)) sources.items (is_marked scoped.now) how.first (ending result)
+    ensures plan { PlanOf (λ p. PlansTerm how.settings.rewrite
+        (kinds_of (map (λ d. (Driver-box d).state d.value) drivers.old.items)) sources.items (is_marked scoped.now) how.first
+        (ending result)
         (term_of (decls_of scoped.now.program.defs) (view scoped.now.program.last) scoped.now.sources) ran.new.trace.steps p (counted ran.new.trace.starts how.settings.fetch (map (λ d. (Driver-box d).state d.value) drivers.old.items) (map (λ d. (Driver-box d).state d.value) drivers.new.items) (S.state out.old) (S.state out.new)))
         (ending result) ran.new.trace.steps (plan_in ran.new.plan) }
-    ensures asks { AsksOf (plan_in ran.new.plan) ran.new.trace.starts (map (λ d. (Driver-box d).state d.value) drivers.old.items) (map (λ d. (Driver-box d).state d.value) drivers.new.items) }
+    ensures asks { AsksOf (plan_in ran.new.plan) ran.new.trace.starts (map (λ d. (Driver-box d).state d.value) drivers.old.items)
+        (map (λ d. (Driver-box d).state d.value) drivers.new.items) }
     ensures alone { CountsScansAlone (plan_in ran.new.plan) ran.new.trace }
 {
     match rewritten(alloc, term, how.settings.rewrite) {
@@ -245,10 +260,12 @@ fn planned(
     drivers: &Vec<Box<dyn Driver>>,
     settings: Settings,
 ) -> Result<(Plan, Trace), NoMemory>
-    requires sense { MakesSense (ships_of (kinds_of (map (λ d. (Driver-box d).state d.value) drivers.now.items)) sources.now) (term_view term.now) }
+    requires sense { MakesSense (ships_of (kinds_of (map (λ d. (Driver-box d).state d.value) drivers.now.items)) sources.now)
+        (term_view term.now) }
     requires small { nodes_of (term_view term.now) ≤ 16384 }
     requires placed { ArePlaced (kinds_of (map (λ d. (Driver-box d).state d.value) drivers.now.items)) sources.now }
-    ensures plan { IfOk result (λ r. IsPlanOf (ships_of (kinds_of (map (λ d. (Driver-box d).state d.value) drivers.now.items)) sources.now) (term_view term.now) (plan_view r.0)) }
+    ensures plan { IfOk result (λ r. IsPlanOf (ships_of
+        (kinds_of (map (λ d. (Driver-box d).state d.value) drivers.now.items)) sources.now) (term_view term.now) (plan_view r.0)) }
     ensures trace { IfOk result (λ r. IsFreshTrace (plan_view r.0) steps r.1) }
 {
     let plan = plan_of(alloc, term, sources, drivers, &settings)?;
@@ -270,8 +287,11 @@ fn answer_over<S: Sink>(
 ) -> Result<(), Fault>
     requires scope { WasInScope (names_of sources.items) scoped.now }
     requires types { Infers (decls_of scoped.now.program.defs) (view scoped.now.program.last) (grounds_of sources.items) typed.now }
-    requires planned { (u : Tree) × IsPlanOf (ships_of (kinds_of (map (λ d. (Driver-box d).state d.value) drivers.old.items)) sources.items) u (plan_view plan.now) × Preserves (term_of (decls_of scoped.now.program.defs) (view scoped.now.program.last) scoped.now.sources) u }
-    requires mentioned { ReadsMentioned scoped.now (term_of (decls_of scoped.now.program.defs) (view scoped.now.program.last) scoped.now.sources) }
+    requires planned { (u : Tree) × IsPlanOf (ships_of
+        (kinds_of (map (λ d. (Driver-box d).state d.value) drivers.old.items)) sources.items) u (plan_view plan.now)
+        × Preserves (term_of (decls_of scoped.now.program.defs) (view scoped.now.program.last) scoped.now.sources) u }
+    requires mentioned { ReadsMentioned scoped.now
+        (term_of (decls_of scoped.now.program.defs) (view scoped.now.program.last) scoped.now.sources) }
     requires traced { (steps : ℕ) × IsFreshTrace (plan_view plan.now) steps trace.old }
     requires placed { ArePlaced (kinds_of (map (λ d. (Driver-box d).state d.value) drivers.old.items)) sources.items }
     requires idle { All IsIdle (map (λ d. (Driver-box d).state d.value) drivers.old.items) }
@@ -281,15 +301,19 @@ fn answer_over<S: Sink>(
         (outside_of files (map (λ d. (Driver-box d).state d.value) drivers.old.items) (S.state out.old))
         (outside_of files (map (λ d. (Driver-box d).state d.value) drivers.new.items) (S.state out.new)) }
     ensures late { IsEarly (ending result) → ⊥ }
-    ensures asks { AsksCounted (plan_view plan.now) trace.new.starts (map (λ d. (Driver-box d).state d.value) drivers.old.items) (map (λ d. (Driver-box d).state d.value) drivers.new.items) }
+    ensures asks { AsksCounted (plan_view plan.now) trace.new.starts (map (λ d. (Driver-box d).state d.value) drivers.old.items)
+        (map (λ d. (Driver-box d).state d.value) drivers.new.items) }
     ensures starts { map (λ e. e.0) trace.new.starts ≡ map (λ c. c.number) (scans_in (plan_view plan.now)) }
     ensures rest { without_starts trace.new ≡ without_starts trace.old }
-    ensures exact { ending result ≡ None → how.first ≡ None → (vs : List (Name × Value)) × HaveValues (kinds_of (map (λ d. (Driver-box d).state d.value) drivers.old.items)) (is_marked scoped.now) 0 sources.items vs
+    ensures exact { ending result ≡ None → how.first ≡ None → (vs : List (Name × Value))
+        × HaveValues (kinds_of (map (λ d. (Driver-box d).state d.value) drivers.old.items)) (is_marked scoped.now) 0 sources.items vs
         → (R : Readings) × ReadsMarked (kinds_of (map (λ d. (Driver-box d).state d.value) drivers.old.items)) sources.items (is_marked scoped.now) R × StartsCounted R (plan_view plan.now) trace.new.starts }
-    ensures few { ending result ≡ None → (vs : List (Name × Value)) × HaveValues (kinds_of (map (λ d. (Driver-box d).state d.value) drivers.old.items)) (is_marked scoped.now) 0 sources.items vs
+    ensures few { ending result ≡ None → (vs : List (Name × Value))
+        × HaveValues (kinds_of (map (λ d. (Driver-box d).state d.value) drivers.old.items)) (is_marked scoped.now) 0 sources.items vs
         → (R : Readings) × ReadsMarked (kinds_of (map (λ d. (Driver-box d).state d.value) drivers.old.items)) sources.items (is_marked scoped.now) R
         × HandsFew R how.settings.fetch (plan_view plan.now) how.first (RowsHanded (map (λ d. (Driver-box d).state d.value) drivers.old.items) (map (λ d. (Driver-box d).state d.value) drivers.new.items)) }
-    ensures written { ending result ≡ Some fault.Write → (vs : List (Name × Value)) × HaveValues (kinds_of (map (λ d. (Driver-box d).state d.value) drivers.old.items)) (is_marked scoped.now) 0 sources.items vs
+    ensures written { ending result ≡ Some fault.Write → (vs : List (Name × Value))
+        × HaveValues (kinds_of (map (λ d. (Driver-box d).state d.value) drivers.old.items)) (is_marked scoped.now) 0 sources.items vs
         → (R : Readings) × ReadsMarked (kinds_of (map (λ d. (Driver-box d).state d.value) drivers.old.items)) sources.items (is_marked scoped.now) R
         × HandsWritten R how.settings.fetch (plan_view plan.now) (S.state out.old) (S.state out.new) (RowsHanded (map (λ d. (Driver-box d).state d.value) drivers.old.items) (map (λ d. (Driver-box d).state d.value) drivers.new.items)) }
 {
@@ -341,15 +365,18 @@ fn answer_plan<S: Sink>(
 ) -> Result<(), Fault>
     requires sense { HasWorth (⟦<Session as Seen>⟧.world session.old) (plan_view plan.now) [] }
     requires list { is_list ≡ true → HasList (⟦<Session as Seen>⟧.world session.old) (plan_view plan.now) }
-    ensures prints { (files : FilesState) (ks : List DriverKind) (ss : List Source) (marks : ℕ → Bool) (t : Tree) → Runs ks ss marks t (plan_view plan.now) (⟦<Session as Seen>⟧.world session.old)
+    ensures prints { (files : FilesState) (ks : List DriverKind) (ss : List Source) (marks : ℕ → Bool) (t : Tree)
+        → Runs ks ss marks t (plan_view plan.now) (⟦<Session as Seen>⟧.world session.old)
         → (is_list ≡ true → IsListTerm (types_of (⟦<Session as Seen>⟧.world session.old)) t) → AnswersTerm (is_list ≡ true)
         (IsTermOutcome is_list first (core (values_of (⟦<Session as Seen>⟧.world session.old)) t []))
         (HaveSources (types_of (⟦<Session as Seen>⟧.world session.old)) (values_of (⟦<Session as Seen>⟧.world session.old))) (ending result)
         (⟦<Session as Seen>⟧.world session.old).sources
         (outside_of files (⟦<Session as Seen>⟧.world session.old).drivers (S.state out.old))
         (outside_of files (⟦<Session as Seen>⟧.world session.new).drivers (S.state out.new)) }
-    ensures scanned { Scanned (plan_view plan.now) (ending result) first (⟦<Session as Seen>⟧.world session.old) (⟦<Session as Seen>⟧.world session.new) }
-    ensures spares { is_list ≡ true → SparesRows (plan_view plan.now) (ending result) first (⟦<Session as Seen>⟧.world session.old) (⟦<Session as Seen>⟧.world session.new) (S.state out.old) (S.state out.new) }
+    ensures scanned { Scanned (plan_view plan.now) (ending result) first (⟦<Session as Seen>⟧.world session.old)
+        (⟦<Session as Seen>⟧.world session.new) }
+    ensures spares { is_list ≡ true → SparesRows (plan_view plan.now) (ending result) first (⟦<Session as Seen>⟧.world session.old)
+        (⟦<Session as Seen>⟧.world session.new) (S.state out.old) (S.state out.new) }
 {
     if is_list {
         print_list(alloc, plan, first, session, out)
@@ -396,13 +423,15 @@ fn answer_value<S: Sink>(
     out: &mut S,
 ) -> Result<(), Fault>
     requires { HasWorth (⟦<Session as Seen>⟧.world session.old) (plan_view plan.now) [] }
-    ensures prints { (files : FilesState) (ks : List DriverKind) (ss : List Source) (marks : ℕ → Bool) (t : Tree) → Runs ks ss marks t (plan_view plan.now) (⟦<Session as Seen>⟧.world session.old) → AnswersTerm ⊥
+    ensures prints { (files : FilesState) (ks : List DriverKind) (ss : List Source) (marks : ℕ → Bool) (t : Tree)
+        → Runs ks ss marks t (plan_view plan.now) (⟦<Session as Seen>⟧.world session.old) → AnswersTerm ⊥
         (IsValueOutcome first (core (values_of (⟦<Session as Seen>⟧.world session.old)) t []))
         (HaveSources (types_of (⟦<Session as Seen>⟧.world session.old)) (values_of (⟦<Session as Seen>⟧.world session.old))) (ending result)
         (⟦<Session as Seen>⟧.world session.old).sources
         (outside_of files (⟦<Session as Seen>⟧.world session.old).drivers (S.state out.old))
         (outside_of files (⟦<Session as Seen>⟧.world session.new).drivers (S.state out.new)) }
-    ensures scanned { Scanned (plan_view plan.now) (ending result) first (⟦<Session as Seen>⟧.world session.old) (⟦<Session as Seen>⟧.world session.new) }
+    ensures scanned { Scanned (plan_view plan.now) (ending result) first (⟦<Session as Seen>⟧.world session.old)
+        (⟦<Session as Seen>⟧.world session.new) }
 {
     let mut env = Vec::new(alloc);
     match value_of(alloc, plan, &mut env, session) {

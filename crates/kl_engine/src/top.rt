@@ -107,7 +107,8 @@ pub fn kleisli<F: Files, S: Sink, E: Sink>(
     ensures plan { let words = command_of (map (λ w. string_bytes w) words.now) in
         HasPlan (wants_rewriting words) (asked words) result.fault result.trace.steps (plan_in result.plan) (counted result.trace.starts (fetch_of words) (map (λ d. (Driver-box d).state d.value) drivers.old.items) (map (λ d. (Driver-box d).state d.value) drivers.new.items) (S.state out.old) (S.state out.new)) (F.state files.old) (F.state files.new)
         (kinds_of (map (λ d. (Driver-box d).state d.value) drivers.old.items)) }
-    ensures asks { AsksOf (plan_in result.plan) result.trace.starts (map (λ d. (Driver-box d).state d.value) drivers.old.items) (map (λ d. (Driver-box d).state d.value) drivers.new.items) }
+    ensures asks { AsksOf (plan_in result.plan) result.trace.starts (map (λ d. (Driver-box d).state d.value) drivers.old.items)
+        (map (λ d. (Driver-box d).state d.value) drivers.new.items) }
     ensures trace { CountsScansAlone (plan_in result.plan) result.trace }
     ensures words_first { command_of (map (λ w. string_bytes w) words.now) ≡ None
         → (files.new ≡ files.old)
@@ -215,7 +216,8 @@ fn do_run<F: Files, S: Sink>(
         (outside_of (F.state files.new) (map (λ d. (Driver-box d).state d.value) drivers.new.items) (S.state out.new)) }
     ensures plan { HasPlan job.now.settings.rewrite (Program (Run job.now.first) (FromFiles job.now.program job.now.catalogue))
         (ending result) ran.new.trace.steps (plan_in ran.new.plan) (counted ran.new.trace.starts job.now.settings.fetch (map (λ d. (Driver-box d).state d.value) drivers.old.items) (map (λ d. (Driver-box d).state d.value) drivers.new.items) (S.state out.old) (S.state out.new)) (F.state files.old) (F.state files.new) (kinds_of (map (λ d. (Driver-box d).state d.value) drivers.old.items)) }
-    ensures asks { AsksOf (plan_in ran.new.plan) ran.new.trace.starts (map (λ d. (Driver-box d).state d.value) drivers.old.items) (map (λ d. (Driver-box d).state d.value) drivers.new.items) }
+    ensures asks { AsksOf (plan_in ran.new.plan) ran.new.trace.starts (map (λ d. (Driver-box d).state d.value) drivers.old.items)
+        (map (λ d. (Driver-box d).state d.value) drivers.new.items) }
     ensures alone { CountsScansAlone (plan_in ran.new.plan) ran.new.trace }
 {
     match read_inputs(alloc, &job.program, &job.catalogue, drivers, files) {
@@ -255,7 +257,8 @@ fn do_gen<S: Sink>(
         (outside_of files (map (λ d. (Driver-box d).state d.value) drivers.new.items) (S.state out.new)) }
     ensures plan { (files : FilesState) → HasPlan true (Program (Run None) (Made seed size))
         (ending result) ran.new.trace.steps (plan_in ran.new.plan) (counted ran.new.trace.starts usual_settings.fetch (map (λ d. (Driver-box d).state d.value) drivers.old.items) (map (λ d. (Driver-box d).state d.value) drivers.new.items) (S.state out.old) (S.state out.new)) files files (kinds_of (map (λ d. (Driver-box d).state d.value) drivers.old.items)) }
-    ensures asks { AsksOf (plan_in ran.new.plan) ran.new.trace.starts (map (λ d. (Driver-box d).state d.value) drivers.old.items) (map (λ d. (Driver-box d).state d.value) drivers.new.items) }
+    ensures asks { AsksOf (plan_in ran.new.plan) ran.new.trace.starts (map (λ d. (Driver-box d).state d.value) drivers.old.items)
+        (map (λ d. (Driver-box d).state d.value) drivers.new.items) }
     ensures alone { CountsScansAlone (plan_in ran.new.plan) ran.new.trace }
 {
     match made_inputs(alloc, seed, size, drivers) {

@@ -68,7 +68,8 @@ fn list_types<S: Sink>(
 fn list<S: Sink>(alloc: Global, scoped: &Scoped, typed: &Typed, out: &mut S) -> Result<(), Fault>
     requires schemes { All IsScheme typed.now.schemes }
     requires result { IsScheme typed.now.result }
-    ensures { PrintsPage (scheme_lines (named_schemes (decls_of scoped.now.program.defs) typed.now)) (ending result) (S.state out.old) (S.state out.new) }
+    ensures { PrintsPage (scheme_lines (named_schemes (decls_of scoped.now.program.defs) typed.now)) (ending result)
+        (S.state out.old) (S.state out.new) }
 {
     let defs = scoped.program().defs.slice();
     match list_definitions(alloc, defs, typed.schemes.slice(), out) {

@@ -6,9 +6,11 @@ use Rattle.kl_value.specs.Views.{as_bool}
 use Rattle.kl_value.specs.declared.Value.{Value}
 use Rattle.kl_value.specs.declared.Value.TheVariants as value
 use Rattle.kl_prim.specs.Table.{meaning}
-use Rattle.kl_outcome.specs.Outcome.{Name, Outcome, done, over, stuck, Flow, more, stop, fine, overflow, broken, outcome_of, answered, part, tagged, as_variant, items_of, collected, union_of}
+use Rattle.kl_outcome.specs.Outcome.{Name, Outcome, done, over, stuck, Flow, more, stop, fine, overflow, broken, outcome_of}
+use Rattle.kl_outcome.specs.Outcome.{answered, part, tagged, as_variant, items_of, collected, union_of}
 use Rattle.kl_core.specs.Core.{Tables}
-use Rattle.kl_core.specs.Trees.{Tree, Var, Const, Source, Rec, Proj, Inj, Case, Make, Union, Ext, If, Let, Prim, Trees, no_trees, trees, Parts, no_parts, parts, Arms, no_arms, rest, arm}
+use Rattle.kl_core.specs.Trees.{Tree, Var, Const, Source, Rec, Proj, Inj, Case, Make, Union, Ext, If, Let, Prim, Trees, no_trees}
+use Rattle.kl_core.specs.Trees.{trees, Parts, no_parts, parts, Arms, no_arms, rest, arm}
 use Rattle.kl_core.specs.Typing.{SourceTypes}
 use Rattle.kl_eval.specs.World.{ReadsSource}
 
@@ -59,10 +61,12 @@ abbrev mutual
   Comes S T env (Rec ps) o = PartsCome S T env ps (λ fs. done (value.Rec fs)) o
   Comes S T env (Proj l a) o = (p : Outcome) × Comes S T env a p × (o ≡ part l p)
   Comes S T env (Inj l a) o = (p : Outcome) × Comes S T env a p × (o ≡ tagged l p)
-  Comes S T env (Case a bs) o = (p : Outcome) × Comes S T env a p × Then p (λ v q. OpensVariant (as_variant v) (λ l w. ArmsCome S T env bs l w) q) o
+  Comes S T env (Case a bs) o = (p : Outcome) × Comes S T env a p
+      × Then p (λ v q. OpensVariant (as_variant v) (λ l w. ArmsCome S T env bs l w) q) o
   Comes S T env (Make k ts) o = (f : Flow) × ItemsCome S T env ts f × (o ≡ collected k f)
   Comes S T env (Union a b) o = (p : Outcome) × Comes S T env a p × Unites p (Comes S T env b) o
-  Comes S T env (Ext k b a) o = (p : Outcome) × (f : Flow) × Comes S T env a p × Draws (λ v. Comes S T (v ∷ env) b) (items_of p) f × (o ≡ collected k f)
+  Comes S T env (Ext k b a) o = (p : Outcome) × (f : Flow) × Comes S T env a p × Draws (λ v. Comes S T (v ∷ env) b) (items_of p) f
+      × (o ≡ collected k f)
   Comes S T env (If a b c) o = (p : Outcome) × Comes S T env a p × Then p (λ v q. Picks (as_bool v) (Comes S T env b) (Comes S T env c) q) o
   Comes S T env (Let a b) o = (p : Outcome) × Comes S T env a p × Then p (λ v. Comes S T (v ∷ env) b) o
   Comes S T env (Prim c ts) o = ArgsCome S T env ts (λ vs. answered (meaning c vs)) o

@@ -51,7 +51,8 @@ abbrev pub SenseParts : Parts → List Value → World → Type 0
 SenseParts ps env w = (G : List Ground) × (r : Row) × HaveTypes G env × PartTypes (types_of w) G ps r × IsReady w
 
 abbrev pub SenseCall : ℕ → Trees → List Value → World → Type 0
-SenseCall c ts env w = (G : List Ground) × (ss : List Ground) × (s : Ground) × HaveTypes G env × AllTypes (types_of w) G ts ss × PrimTypes c ss s × IsReady w
+SenseCall c ts env w = (G : List Ground) × (ss : List Ground) × (s : Ground) × HaveTypes G env × AllTypes (types_of w) G ts ss
+    × PrimTypes c ss s × IsReady w
 
 -- a body makes sense at each of some values, and gives a collection there
 abbrev pub SenseBody : Tree → List Value → List Value → World → Type 0

@@ -102,7 +102,8 @@ IsEmptyOf a (Err e) = e ≡ stop.NoMemory
 abbrev pub ScanEnd : Attached → Result Value EvalStop → State → State → Type 0
 ScanEnd a (Ok v) old new = (shown : List Value) × (v ≡ canonical (kind_of (ground_of a.ty)) shown) × ScansAll (whole_ask a) shown old
 ScanEnd a (Err stop.Overflow) old new = ⊥
-ScanEnd a (Err (stop.Driver name e)) old new = (name ≡ a.source) × (e ≢ error.NoMemory) × Cause e old new × Drifted e (old.attached a.source)
+ScanEnd a (Err (stop.Driver name e)) old new = (name ≡ a.source) × (e ≢ error.NoMemory) × Cause e old new
+    × Drifted e (old.attached a.source)
 ScanEnd a (Err stop.NoMemory) old new = ⊤
 
 pub record ScansTo (a : Attached) (result : Result Value EvalStop) (old new : State) : Type 0 where

@@ -3,7 +3,8 @@ ghost use Rattle.std.specs.Prelude.{◌≡◌, IfSome, IsSome, reverse};
 ghost use Rattle.kl_core.specs.Core.{core};
 ghost use Rattle.kl_core.specs.Trees.{view};
 ghost use Rattle.kl_outcome.specs.Outcome.{done};
-ghost use Rattle.kl_eval.specs.Evals.{Sense, SenseAnywhere, SenseList, SensePlain, Evaluates, EvaluatesList, TellsPart, TellsPlain, no_tables};
+ghost use Rattle.kl_eval.specs.Evals.{Sense, SenseAnywhere, SenseList, SensePlain, Evaluates, EvaluatesList, TellsPart};
+ghost use Rattle.kl_eval.specs.Evals.{TellsPlain, no_tables};
 ghost use Rattle.kl_eval.specs.Sources.{NoSource};
 ghost use Rattle.kl_eval.specs.Standing.{IsStanding};
 ghost use Rattle.kl_eval.specs.Values.{arg_in, values};
@@ -35,7 +36,8 @@ pub fn eval(
 ) -> Result<Value, EvalStop>
     requires { Sense (view term.now) (reverse env.old.items) (⟦<Session as Seen>⟧.world session.old) }
     ensures env { env.new.items ≡ env.old.items }
-    ensures value { Evaluates (view term.now) (reverse env.old.items) result (⟦<Session as Seen>⟧.world session.old) (⟦<Session as Seen>⟧.world session.new) }
+    ensures value { Evaluates (view term.now) (reverse env.old.items) result (⟦<Session as Seen>⟧.world session.old)
+        (⟦<Session as Seen>⟧.world session.new) }
 {
     inside(value(alloc, term, &Env::Base(env.as_slice()), session))
 }

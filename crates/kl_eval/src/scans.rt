@@ -115,7 +115,8 @@ fn scan(
     requires place { place < length drivers.old.items }
     requires can { AtIndex place (λ s. CanStart s ask.now) (map (λ d. state d) drivers.old.items) }
     requires room { 0 < fetch }
-    ensures { StepsAt place (λ a b. Scans ask.now result a b) (map (λ d. state d) drivers.old.items) (map (λ d. state d) drivers.new.items) }
+    ensures { StepsAt place (λ a b. Scans ask.now result a b) (map (λ d. state d) drivers.old.items)
+        (map (λ d. state d) drivers.new.items) }
 {
     scan_box(alloc, &mut drivers[place], ask, fetch)
 }
@@ -160,7 +161,8 @@ pub fn scan_attached(
     requires can { AtIndex place (λ s. CanStart s (asks.Rows attached.now.source (columns (item_of (ground_of attached.now.ty))) []))
         (map (λ d. state d) drivers.old.items) }
     requires room { 0 < fetch }
-    ensures { StepsAt place (λ a b. ScansTo attached.now result a b) (map (λ d. state d) drivers.old.items) (map (λ d. state d) drivers.new.items) }
+    ensures { StepsAt place (λ a b. ScansTo attached.now result a b) (map (λ d. state d) drivers.old.items)
+        (map (λ d. state d) drivers.new.items) }
 {
     match whole(alloc, attached) {
         Ok(ask) => {

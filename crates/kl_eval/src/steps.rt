@@ -9,7 +9,8 @@ ghost use Rattle.kl_prim.specs.Arguments.{values_in};
 ghost use Rattle.kl_prim.specs.Table.{Fits, meaning};
 ghost use Rattle.kl_outcome.specs.Outcome.{done, as_variant};
 ghost use Rattle.kl_eval.specs.Values.{arg_in};
-ghost use Rattle.kl_eval.specs.Steps.{AnswersOutcome, inside_of, Outside, AppendsAll, AddsItems, AddsField, AddsList, Behind, Gathers, AnswersPrim};
+ghost use Rattle.kl_eval.specs.Steps.{AnswersOutcome, inside_of, Outside, AppendsAll, AddsItems, AddsField, AddsList, Behind};
+ghost use Rattle.kl_eval.specs.Steps.{Gathers, AnswersPrim};
 ghost use Rattle.kl_eval.specs.Steps.{place_of, TellsTruth, Joins};
 
 use crate::stop::{EvalStop, Halt};

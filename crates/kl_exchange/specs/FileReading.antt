@@ -57,7 +57,8 @@ pub record HasRead (first : Left) (vs : List Value) (now : FileReading) (left : 
   pub within : now.text.place + length now.text.left ≤ now.limit
   pub remains : (bytes : List ℕ) → first ≡ Some (Some bytes) → Remains read now left bytes
   -- a refusal that is kept has its cause
-  pub refusal : (e : ReadError) (end : FileEnd) → now.text.refused ≡ Some e → IsRefusalOf end e → EndsIn now.text.place now.text.left now.text.finished end
+  pub refusal : (e : ReadError) (end : FileEnd) → now.text.refused ≡ Some e → IsRefusalOf end e
+      → EndsIn now.text.place now.text.left now.text.finished end
 
 -- Where the file's bytes are known, it has these items and then this end.
 abbrev pub EndsSo : Left → List Value → FileEnd → FileReading → Left → Type 0
@@ -111,7 +112,8 @@ pub record Fetches (result : Result (Unit {0}) FileError) (old new : FileReading
   pub leaves : Leaves old.file result files files'
   pub same : new ≡ record old { text = new.text; past = new.past }
   pub less : OnOk result (to_come new < to_come old)
-  pub goes : (first : Left) (vs : List Value) → HasRead first vs old (files.left old.file) → Fetched first vs result new (files'.left old.file)
+  pub goes : (first : Left) (vs : List Value) → HasRead first vs old (files.left old.file)
+      → Fetched first vs result new (files'.left old.file)
 
 -- after the next item, or the reason why there is none
 abbrev pub Stands : Left → List Value → Result (Option Value) FileError → FileReading → Left → Type 0
@@ -128,7 +130,8 @@ pub record NextItem (result : Result (Option Value) FileError) (old new : FileRe
   pub leaves : Leaves old.file result files files'
   pub same : new ≡ record old { text = new.text; past = new.past }
   pub less : (v : Value) → result ≡ Ok (Some v) → to_come new < to_come old
-  pub goes : (first : Left) (vs : List Value) → HasRead first vs old (files.left old.file) → Stands first vs result new (files'.left old.file)
+  pub goes : (first : Left) (vs : List Value) → HasRead first vs old (files.left old.file)
+      → Stands first vs result new (files'.left old.file)
 
 -- what stays true of a reader
 pub record IsFedWithin (text : State) (limit piece : ℕ) : Type 0 where

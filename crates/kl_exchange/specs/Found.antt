@@ -21,7 +21,8 @@ end_of false place left = PastLimit
 end_of true place left = cond (list_all is_blank left) WholeText (BadAt (place + length left))
 
 abbrev pub next_found : Bool → ℕ → List ℕ → (ℕ → List ℕ → Found) → Run → Found
-next_found whole place left go (ends v rest) = let others = go (place + (length left - length rest)) rest in record { items = (place, v) ∷ others.items; behind = others.behind }
+next_found whole place left go (ends v rest) = let others = go
+    (place + (length left - length rest)) rest in record { items = (place, v) ∷ others.items; behind = others.behind }
 next_found whole place left go (more m) = record { items = []; behind = end_of whole place left }
 next_found whole place left go (fails rest) = record { items = []; behind = BadAt (place + (length left - length rest)) }
 next_found whole place left go (deep rest) = record { items = []; behind = TooDeepAt (place + (length left - length rest)) }
@@ -37,7 +38,8 @@ file_items limit bytes = found_from (suc (length bytes)) (nat_le (length bytes) 
 -- one item behind the other, each with the number of bytes before it
 abbrev pub Placed : ℕ → List ℕ → List FileItem → Type 0
 Placed place bytes [] = bytes ≡ []
-Placed place bytes (x ∷ xs) = (item : List ℕ) × (rest : List ℕ) × (bytes ≡ item ++ rest) × (x.0 ≡ place) × IsItem nesting item x.1 × Placed (place + length item) rest xs
+Placed place bytes (x ∷ xs) = (item : List ℕ) × (rest : List ℕ) × (bytes ≡ item ++ rest) × (x.0 ≡ place) × IsItem nesting item x.1
+    × Placed (place + length item) rest xs
 
 abbrev pub values_of : List FileItem → List Value
 values_of xs = map (λ x. x.1) xs

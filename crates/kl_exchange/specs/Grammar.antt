@@ -1,5 +1,6 @@
 -- Exchange text: which bytes spell which values.
-use Rattle.std.specs.Prelude.{◌≡◌, ℕ, ℤ, pos, Bool, true, false, ◌||◌, ◌==◌, List, [], ◌∷◌, ◌++◌, codes, ◌⊎◌, IsTrue, Some, FitsSigned, neg_ℤ}
+use Rattle.std.specs.Prelude.{◌≡◌, ℕ, ℤ, pos, Bool, true, false, ◌||◌, ◌==◌, List, [], ◌∷◌, ◌++◌, codes, ◌⊎◌, IsTrue, Some}
+use Rattle.std.specs.Prelude.{FitsSigned, neg_ℤ}
 use Rattle.std.proofs.Common.{zero, suc}
 use Rattle.std.specs.Int.{w64}
 use Rattle.std.specs.List.{AllByRecursion}
@@ -86,9 +87,11 @@ pub record SpellsField (S : Spelling Value) (bytes : List ℕ) (f : List ℕ × 
 -- A value with brackets, where S spells the values inside. The items of a set and of a bag come in any order, those of
 -- a set may repeat, and fields come in any order under labels that differ.
 pub data SpellsBracket (S : Spelling Value) (bytes : List ℕ) (v : Value) : Type 0 where
-  collection : (k : Kind) (inside : List ℕ) (items : List Value) → bytes ≡ opening k ++ (inside ++ closing k) → Listed (Padded S) inside items
+  collection : (k : Kind) (inside : List ℕ) (items : List Value) → bytes ≡ opening k ++ (inside ++ closing k)
+      → Listed (Padded S) inside items
       → v ≡ canonical k items → SpellsBracket S bytes v
-  fields : (inside : List ℕ) (pairs sorted : List (List ℕ × Value)) → bytes ≡ codes "[" ++ (inside ++ codes "]") → Listed (SpellsField S) inside pairs
+  fields : (inside : List ℕ) (pairs sorted : List (List ℕ × Value))
+      → bytes ≡ codes "[" ++ (inside ++ codes "]") → Listed (SpellsField S) inside pairs
       → IsFieldsOf pairs (Some sorted) → v ≡ value.Rec sorted → SpellsBracket S bytes v
   variant : (inside : List ℕ) (f : List ℕ × Value) → bytes ≡ codes "<" ++ (inside ++ codes ">") → SpellsField S inside f
       → v ≡ value.Inj f.0 f.1 → SpellsBracket S bytes v

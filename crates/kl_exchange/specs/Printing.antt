@@ -1,5 +1,6 @@
 -- What printing through a page does to a sink.
-use Rattle.std.specs.Prelude.{◌≡◌, ℕ, Bool, not, ◌&&◌, ◌||◌, nat_le, nat_lt, List, ◌++◌, codes, Result, Ok, Err, OnOk, Option, Some, None, ◌==◌}
+use Rattle.std.specs.Prelude.{◌≡◌, ℕ, Bool, not, ◌&&◌, ◌||◌, nat_le, nat_lt, List, ◌++◌, codes, Result, Ok, Err, OnOk, Option}
+use Rattle.std.specs.Prelude.{Some, None, ◌==◌}
 use Rattle.std.specs.Io.KnownBytes.{append_known}
 use Rattle.kl_outside.specs.Sinks.{SinkState, HasCause}
 use Rattle.kl_outside.specs.declared.Stop.{Stop}
@@ -23,7 +24,8 @@ abbrev pub field_text : List ℕ × Value → List ℕ
 field_text f = (f.0 ++ codes "=") ++ text_of f.1
 
 -- The sink took the first of the bytes that were held and of these. Where nothing was refused the others are held now.
-pub record Puts {T : Type 0} (bytes : List ℕ) (result : Result T Stop) (old : SinkState) (held : List ℕ) (new : SinkState) (after : List ℕ) : Type 0 where
+pub record Puts {T : Type 0} (bytes : List ℕ) (result : Result T Stop) (old : SinkState) (held : List ℕ) (new : SinkState)
+    (after : List ℕ) : Type 0 where
   pub done : List ℕ
   pub rest : List ℕ
   pub all : held ++ bytes ≡ done ++ rest

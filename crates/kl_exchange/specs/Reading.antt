@@ -65,7 +65,8 @@ pub record IsDeep (old : State) (k : ℕ) : Type 0 where
 
 -- A refusal is kept: the reader answers it from then on. It comes first where there is cause.
 abbrev pub RefusesItem : State → ReadError → Type 0 → State → Type 0
-RefusesItem old e cause new = ((old.refused ≡ Some e) × (new ≡ old)) ⊎ ((old.refused ≡ None) × cause × (new ≡ record old { refused = Some e }))
+RefusesItem old e cause new = ((old.refused ≡ Some e) × (new ≡ old))
+    ⊎ ((old.refused ≡ None) × cause × (new ≡ record old { refused = Some e }))
 
 abbrev pub ReadsNext : State → Result Item ReadError → State → Type 0
 ReadsNext old (Ok (item.Value v)) new = GivesItem old v new

@@ -42,5 +42,6 @@ pub fn file_laws()
 /// The items of a file are a function of its bytes: each file has one list of items at their places, and one end.
 pub fn found_laws()
     ensures is { (limit : ℕ) (bytes : List ℕ) → IsFound limit bytes (file_items limit bytes) }
-    ensures shows { (limit : ℕ) (bytes : List ℕ) → Shows limit bytes (values_of (file_items limit bytes).items) (file_items limit bytes).behind }
+    ensures shows { (limit : ℕ) (bytes : List ℕ) → Shows limit bytes (values_of (file_items limit bytes).items)
+        (file_items limit bytes).behind }
 {}

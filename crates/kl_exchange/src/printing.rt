@@ -174,7 +174,8 @@ fn put_or_stop<S: Sink>(
 
 #[cycle(print)]
 fn print_value<S: Sink>(v: &Value, sink: &mut S, page: &mut Held)
-    ensures prints { Prints (text_of v.now) (S.state sink.old) page.old.bytes.items page.old.stop (S.state sink.new) page.new.bytes.items page.new.stop }
+    ensures prints { Prints (text_of v.now) (S.state sink.old) page.old.bytes.items page.old.stop
+        (S.state sink.new) page.new.bytes.items page.new.stop }
     ensures stored { IsStored v.now }
 {
     match v {
@@ -240,7 +241,8 @@ fn print_fields<S: Sink>(fields: &[(Label, Value)], sink: &mut S, page: &mut Hel
 }
 
 fn print_word<S: Sink>(word: bool, sink: &mut S, page: &mut Held)
-    ensures { Prints (word_of word) (S.state sink.old) page.old.bytes.items page.old.stop (S.state sink.new) page.new.bytes.items page.new.stop }
+    ensures { Prints (word_of word) (S.state sink.old) page.old.bytes.items page.old.stop
+        (S.state sink.new) page.new.bytes.items page.new.stop }
 {
     if word {
         put(b"true", sink, page);
@@ -297,7 +299,8 @@ fn is_plain(byte: u8) -> bool
 }
 
 fn print_byte<S: Sink>(byte: u8, sink: &mut S, page: &mut Held)
-    ensures { Prints (byte_text byte) (S.state sink.old) page.old.bytes.items page.old.stop (S.state sink.new) page.new.bytes.items page.new.stop }
+    ensures { Prints (byte_text byte) (S.state sink.old) page.old.bytes.items page.old.stop
+        (S.state sink.new) page.new.bytes.items page.new.stop }
 {
     match byte {
         b'"' => put(b"\\\"", sink, page),

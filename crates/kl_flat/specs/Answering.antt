@@ -6,7 +6,8 @@ use Rattle.kl_ask.specs.Asks.{answers}
 use Rattle.kl_ask.specs.declared.ask.ColTest.{ColTest}
 
 -- the answers among the rows between two places, as many as were asked for, or all that are left
-pub record Takes (rows : List Value) (from : ℕ) (keep : List Name) (tests : List ColTest) (limit : ℕ) (taken : List Value) (to : ℕ) : Type 0 where
+pub record Takes (rows : List Value) (from : ℕ) (keep : List Name) (tests : List ColTest) (limit : ℕ) (taken : List Value)
+    (to : ℕ) : Type 0 where
   pub split : answers (drop from rows) keep tests ≡ taken ++ answers (drop to rows) keep tests
   pub most : length taken ≤ limit
   pub all : (length taken ≡ limit) ⊎ (to ≡ length rows)

@@ -20,7 +20,8 @@ IsRow t at row = slice_get (rows_of t) at ≡ Some row
 
 -- what is shown of a row with the columns at these places, where these are the places of kept labels
 abbrev pub IsShown : ColumnTable → ℕ → List ℕ → Value → Type 0
-IsShown t at places v = (keep : List Name) (row : Value) → places ≡ kept_places keep 0 (labels_in t.columns.items) → IsRow t at row → v ≡ shown keep row
+IsShown t at places v = (keep : List Name) (row : Value) → places ≡ kept_places keep 0 (labels_in t.columns.items) → IsRow t at row
+    → v ≡ shown keep row
 
 -- these cells are the column with a label
 pub record IsColumn (t : ColumnTable) (l : Name) (cells : Cells) : Type 0 where

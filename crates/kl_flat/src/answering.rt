@@ -24,7 +24,8 @@ pub fn next_answers(
     cursor: &Open,
     most: u32,
 ) -> Result<(Vec<Value>, usize), NoMemory>
-    ensures { IfOk result (λ r. Takes (rows_of cursor.now.table) cursor.now.at (keep_of cursor.now.ask) (tests_of cursor.now.ask) most r.0.items r.1) }
+    ensures { IfOk result (λ r. Takes (rows_of cursor.now.table) cursor.now.at (keep_of cursor.now.ask)
+        (tests_of cursor.now.ask) most r.0.items r.1) }
 {
     let table = cursor.table.get();
     match row_tests(alloc, table, tests_of(&cursor.ask))? {
@@ -59,7 +60,8 @@ fn passing(
     most: u32,
 ) -> Result<(Vec<Value>, usize), NoMemory>
     requires { SaySame cursor.now.table (tests_of cursor.now.ask) tests.now }
-    ensures { IfOk result (λ r. Takes (rows_of cursor.now.table) cursor.now.at (keep_of cursor.now.ask) (tests_of cursor.now.ask) most r.0.items r.1) }
+    ensures { IfOk result (λ r. Takes (rows_of cursor.now.table) cursor.now.at (keep_of cursor.now.ask)
+        (tests_of cursor.now.ask) most r.0.items r.1) }
 {
     let table = cursor.table.get();
     let mut at = cursor.at;

@@ -210,7 +210,8 @@ fn read_rows(
     requires plain { IsPlain reader.old }
     requires base { list_all (λ c. is_base c.1) columns.now ≡ true }
     requires places { ArePlaces columns.now (fields_of header.now) places.now }
-    ensures rows { IfOk result (λ t. rows_of t.table ≡ front_of (map (row_in columns.now (fields_of header.now)) (records_left reader.old))) }
+    ensures rows { IfOk result (λ t. rows_of t.table
+        ≡ front_of (map (row_in columns.now (fields_of header.now)) (records_left reader.old))) }
     ensures bad { IfOk result (λ t. t.bad ≡ first_missing 1 (map (row_in columns.now (fields_of header.now)) (records_left reader.old))) }
     ensures columns { IfOk result (λ t. columns_in t.table.columns.items ≡ columns.now) }
 {

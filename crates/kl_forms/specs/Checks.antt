@@ -41,5 +41,6 @@ pub record OpensMany (old new : List Cell) (items : List ℕ) (count : ℕ) : Ty
   pub keeps : KeepsCells old new
   pub size : length items ≡ count
   pub sorts : AllByRecursion (IsType new) items
-  pub down : (s : Assignment) (ts : List Ground) → Solves old s → length ts ≡ count → AllByRecursion IsGround ts → Grown old new s (λ u. map u.types items ≡ ts)
+  pub down : (s : Assignment) (ts : List Ground) → Solves old s → length ts ≡ count → AllByRecursion IsGround ts
+      → Grown old new s (λ u. map u.types items ≡ ts)
   pub up : (s : Assignment) → Solves new s → Solves old s

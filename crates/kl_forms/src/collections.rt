@@ -29,7 +29,8 @@ pub fn is_collection(u: &mut Unifier, kind: u64, item: u64, want: u64) -> Result
     requires kind_there { IsKind u.old.cells.items kind }
     requires item_there { IsType u.old.cells.items item }
     requires there { IsType u.old.cells.items want }
-    ensures { IfOk result (λ holds. Checks holds u.old.cells.items u.new.cells.items (λ s. s.types want ≡ coll (s.kinds kind) (s.types item))) }
+    ensures { IfOk result (λ holds. Checks holds u.old.cells.items u.new.cells.items
+        (λ s. s.types want ≡ coll (s.kinds kind) (s.types item))) }
 {
     let all = u.make(Node::Coll(kind, item))?;
     let holds = same(u, all, want)?;

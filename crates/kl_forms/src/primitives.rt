@@ -46,7 +46,8 @@ fn takes_one(u: &mut Unifier, shape: Shape, arg: u64, want: u64) -> Result<bool,
     requires fine { IsFine u.old.cells.items }
     requires arg_there { IsType u.old.cells.items arg }
     requires there { IsType u.old.cells.items want }
-    ensures { IfOk result (λ holds. Checks holds u.old.cells.items u.new.cells.items (λ s. ShapeTypes shape (s.types arg ∷ []) (s.types want))) }
+    ensures { IfOk result (λ holds. Checks holds u.old.cells.items u.new.cells.items
+        (λ s. ShapeTypes shape (s.types arg ∷ []) (s.types want))) }
 {
     match shape {
         Shape::IntFn => are_scalars(u, Scalar::Int, arg, Scalar::Int, want),
@@ -190,7 +191,8 @@ fn reads_ints(u: &mut Unifier, arg: u64, want: u64) -> Result<bool, NoMemory>
     requires fine { IsFine u.old.cells.items }
     requires arg_there { IsType u.old.cells.items arg }
     requires there { IsType u.old.cells.items want }
-    ensures { IfOk result (λ holds. Checks holds u.old.cells.items u.new.cells.items (λ s. ShapeTypes Shape.TextInts (s.types arg ∷ []) (s.types want))) }
+    ensures { IfOk result (λ holds. Checks holds u.old.cells.items u.new.cells.items
+        (λ s. ShapeTypes Shape.TextInts (s.types arg ∷ []) (s.types want))) }
 {
     let Some(item) = items_of(u, Kind::Set, want)? else {
         return Ok(false);
@@ -204,7 +206,8 @@ fn is_told(u: &mut Unifier, arg: u64, to: Scalar, want: u64) -> Result<bool, NoM
     requires fine { IsFine u.old.cells.items }
     requires arg_there { IsType u.old.cells.items arg }
     requires there { IsType u.old.cells.items want }
-    ensures { IfOk result (λ holds. Checks holds u.old.cells.items u.new.cells.items (λ s. (k : Kind) × (a : Ground) × (s.types arg ≡ coll k a)
+    ensures { IfOk result (λ holds. Checks holds u.old.cells.items u.new.cells.items
+        (λ s. (k : Kind) × (a : Ground) × (s.types arg ≡ coll k a)
         × (s.types want ≡ scalar_type to))) }
 {
     let Some(_) = any_items_of(u, arg)? else {
@@ -219,7 +222,8 @@ fn is_sum(u: &mut Unifier, arg: u64, want: u64) -> Result<bool, NoMemory>
     requires fine { IsFine u.old.cells.items }
     requires arg_there { IsType u.old.cells.items arg }
     requires there { IsType u.old.cells.items want }
-    ensures { IfOk result (λ holds. Checks holds u.old.cells.items u.new.cells.items (λ s. ShapeTypes Shape.CollSum (s.types arg ∷ []) (s.types want))) }
+    ensures { IfOk result (λ holds. Checks holds u.old.cells.items u.new.cells.items
+        (λ s. ShapeTypes Shape.CollSum (s.types arg ∷ []) (s.types want))) }
 {
     let Some(item) = any_items_of(u, arg)? else {
         return Ok(false);
@@ -233,7 +237,8 @@ fn is_kept(u: &mut Unifier, arg: u64, want: u64) -> Result<bool, NoMemory>
     requires fine { IsFine u.old.cells.items }
     requires arg_there { IsType u.old.cells.items arg }
     requires there { IsType u.old.cells.items want }
-    ensures { IfOk result (λ holds. Checks holds u.old.cells.items u.new.cells.items (λ s. ShapeTypes Shape.CollSame (s.types arg ∷ []) (s.types want))) }
+    ensures { IfOk result (λ holds. Checks holds u.old.cells.items u.new.cells.items
+        (λ s. ShapeTypes Shape.CollSame (s.types arg ∷ []) (s.types want))) }
 {
     let Some(_) = any_items_of(u, arg)? else {
         return Ok(false);
@@ -247,7 +252,8 @@ fn is_flat(u: &mut Unifier, arg: u64, want: u64) -> Result<bool, NoMemory>
     requires fine { IsFine u.old.cells.items }
     requires arg_there { IsType u.old.cells.items arg }
     requires there { IsType u.old.cells.items want }
-    ensures { IfOk result (λ holds. Checks holds u.old.cells.items u.new.cells.items (λ s. ShapeTypes Shape.Flatten (s.types arg ∷ []) (s.types want))) }
+    ensures { IfOk result (λ holds. Checks holds u.old.cells.items u.new.cells.items
+        (λ s. ShapeTypes Shape.Flatten (s.types arg ∷ []) (s.types want))) }
 {
     let kind = u.fresh_kind()?;
     let item = u.fresh_type()?;
@@ -264,7 +270,8 @@ fn is_turned(u: &mut Unifier, arg: u64, kind: Kind, want: u64) -> Result<bool, N
     requires fine { IsFine u.old.cells.items }
     requires arg_there { IsType u.old.cells.items arg }
     requires there { IsType u.old.cells.items want }
-    ensures { IfOk result (λ holds. Checks holds u.old.cells.items u.new.cells.items (λ s. (k : Kind) × (a : Ground) × (s.types arg ≡ coll k a)
+    ensures { IfOk result (λ holds. Checks holds u.old.cells.items u.new.cells.items
+        (λ s. (k : Kind) × (a : Ground) × (s.types arg ≡ coll k a)
         × (s.types want ≡ coll kind a))) }
 {
     let Some(item) = any_items_of(u, arg)? else {
@@ -280,7 +287,8 @@ fn is_appended(u: &mut Unifier, first: u64, second: u64, want: u64) -> Result<bo
     requires first_there { IsType u.old.cells.items first }
     requires second_there { IsType u.old.cells.items second }
     requires there { IsType u.old.cells.items want }
-    ensures { IfOk result (λ holds. Checks holds u.old.cells.items u.new.cells.items (λ s. Operates Op.Append first second (s.types want) s)) }
+    ensures { IfOk result (λ holds. Checks holds u.old.cells.items u.new.cells.items
+        (λ s. Operates Op.Append first second (s.types want) s)) }
 {
     let takes = same(u, second, first)?;
     if !takes {

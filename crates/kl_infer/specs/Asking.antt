@@ -74,12 +74,15 @@ pub record Binds (old new : List Cell) (bound bound_new ns : Fields) (D : Assign
   pub fine : IsFine new
   pub keeps : KeepsCells old new
   pub sorts : AreTypes old bound → AreTypes new bound_new
-  pub down : (s : Assignment) (H : Context) → Solves old s → D s (context s (onto bound ns)) H → Grown old new s (λ u. context u (onto bound_new ns) ≡ H)
+  pub down : (s : Assignment) (H : Context) → Solves old s → D s (context s (onto bound ns)) H
+      → Grown old new s (λ u. context u (onto bound_new ns) ≡ H)
   pub up : (s : Assignment) → Solves new s → Solves old s × D s (context s (onto bound ns)) (context s (onto bound_new ns))
 
 -- what comes of asking it
-abbrev pub Bound : Result (Unit {0}) Refusal → List Cell → List Cell → Fields → Fields → Fields → (Assignment → Context → Context → Type 0) → Type 0
-Bound result old new bound bound_new ns D = MatchResult result (λ _. Binds old new bound bound_new ns D) (Refuses old (λ s. (H : Context) × D s (context s (onto bound ns)) H))
+abbrev pub Bound : Result (Unit {0}) Refusal → List Cell → List Cell → Fields → Fields → Fields
+    → (Assignment → Context → Context → Type 0) → Type 0
+Bound result old new bound bound_new ns D = MatchResult result (λ _. Binds old new bound bound_new ns D)
+    (Refuses old (λ s. (H : Context) × D s (context s (onto bound ns)) H))
 
 -- the same on the way: D is asked at first, and R is left
 pub record Binding (old now : List Cell) (bound bound_now ns : Fields) (D R : Assignment → Context → Context → Type 0) : Type 0 where

@@ -7,7 +7,8 @@ use Rattle.kl_rows.specs.Schemes.{IsScheme, Instance, cells_of}
 use Rattle.kl_rows.specs.declared.Scheme.{Scheme}
 use Rattle.kl_outcome.specs.Outcome.{Name}
 use Rattle.kl_syntax.specs.Syntax.{Exp, Decls, no_decls, constant, function}
-use Rattle.kl_meaning.specs.Typing.{KnownTypes, value_of, function_of, with_sort, types_at_first, Types, FunctionTypes, ProgramTypes, HasTyping}
+use Rattle.kl_meaning.specs.Typing.{KnownTypes, value_of, function_of, with_sort, types_at_first, Types, FunctionTypes}
+use Rattle.kl_meaning.specs.Typing.{ProgramTypes, HasTyping}
 use Rattle.kl_infer.specs.declared.typed.Typed.{Typed}
 
 -- A scheme is principal for what has types: its instances are exactly these types, and there is one.
@@ -46,10 +47,12 @@ abbrev pub FailsAt : Decls → Exp → KnownTypes → ℕ → Type 0
 FailsAt no_decls last known n = (n ≡ 0) × ((t : Ground) → Types last known [] t → ⊥)
 FailsAt (constant d e ds) last known n =
     ((n ≡ 0) × ((t : Ground) → Types e known [] t → ⊥))
-    ⊎ ((m : ℕ) × (n ≡ suc m) × ((t : Ground) × Types e known [] t) × FailsAt ds last (with_sort d.text (value_of (Types e known [])) known) m)
+    ⊎ ((m : ℕ) × (n ≡ suc m) × ((t : Ground) × Types e known [] t)
+        × FailsAt ds last (with_sort d.text (value_of (Types e known [])) known) m)
 FailsAt (function d p e ds) last known n =
     ((n ≡ 0) × ((s : Ground) (t : Ground) → FunctionTypes known p e s t → ⊥))
-    ⊎ ((m : ℕ) × (n ≡ suc m) × ((s : Ground) × (t : Ground) × FunctionTypes known p e s t) × FailsAt ds last (with_sort d.text (function_of (FunctionTypes known p e)) known) m)
+    ⊎ ((m : ℕ) × (n ≡ suc m) × ((s : Ground) × (t : Ground) × FunctionTypes known p e s t)
+        × FailsAt ds last (with_sort d.text (function_of (FunctionTypes known p e)) known) m)
 
 -- the program has no typing, and this is its first declaration without one
 pub record IsIllTyped (ds : Decls) (e : Exp) (sources : List (Name × Ground)) (n : ℕ) : Type 0 where

@@ -111,5 +111,6 @@ TakesAll _ outside ts G H = ⊥
 -- each branch takes its type, and gives this one
 abbrev pub ArmsTake : Branches → (Name → Sort) → Context → List Ground → Ground → Type 0
 ArmsTake no_branches known G [] t = ⊤
-ArmsTake (branch l p b bs) known G (s ∷ ss) t = (H : Context) × Takes p (NameTypes known G) s G H × Types b known H t × ArmsTake bs known G ss t
+ArmsTake (branch l p b bs) known G (s ∷ ss) t = (H : Context) × Takes p (NameTypes known G) s G H × Types b known H t
+    × ArmsTake bs known G ss t
 ArmsTake _ known G ss t = ⊥

@@ -30,4 +30,5 @@ pub record Writes (old new : Page) (variables : List ℕ) (text : List ℕ → L
   pub seen : new.full ≡ false → new.seen.items ≡ add_all old.seen.items variables
   pub written : new.full ≡ false → (more : List ℕ) → new.out.items ≡ old.out.items ++ text (add_all (add_all old.seen.items variables) more)
   pub fits : length old.out.items ≤ limit → length new.out.items ≤ limit
-  pub longer : old.full ≡ false → new.full ≡ true → (more : List ℕ) → limit < length (old.out.items ++ text (add_all (add_all old.seen.items variables) more))
+  pub longer : old.full ≡ false → new.full ≡ true → (more : List ℕ)
+      → limit < length (old.out.items ++ text (add_all (add_all old.seen.items variables) more))

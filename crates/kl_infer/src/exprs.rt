@@ -27,7 +27,8 @@ impl Typing {
         want: u64,
     ) -> Result<(), Refusal>
         requires { Ready known.now (cells self.old) (names scope.now) (want ∷ []) }
-        ensures { Asked result (cells self.old) (cells self.new) (λ s. Types (view e.now) (sorts known.now) (context s (names scope.now)) (s.types want)) }
+        ensures { Asked result (cells self.old) (cells self.new)
+            (λ s. Types (view e.now) (sorts known.now) (context s (names scope.now)) (s.types want)) }
     {
         match e {
             Expr::Const(v) => self.value(v, want),

@@ -129,7 +129,8 @@ fn declared(
     requires good { (x : Name) → IsGood (meant known.now x) }
     requires made { AreMade known.now.sources.now made.old.items }
     ensures made { OnOk result (AreMade known.now.sources.now made.new.items) }
-    ensures scheme { MatchResult result (Declared decl.now.param decl.now (sorts known.now)) (λ e. OnNoType e (HasNoType decl.now.param decl.now
+    ensures scheme { MatchResult result (Declared decl.now.param decl.now (sorts known.now))
+        (λ e. OnNoType e (HasNoType decl.now.param decl.now
         (sorts known.now))) }
 {
     match &decl.param {
@@ -173,7 +174,8 @@ fn make(
 ) -> Result<Shared<Scheme>, Refusal>
     requires good { (x : Name) → IsGood (meant known.now x) }
     requires made { AreMade known.now.sources.now made.old.items }
-    requires is_source { (p : Scheme) → IsPrincipal a_type p (Types (view e.now) (sorts known.now) []) → IsMade known.now.sources.now (name.now, p) }
+    requires is_source { (p : Scheme) → IsPrincipal a_type p (Types (view e.now) (sorts known.now) [])
+        → IsMade known.now.sources.now (name.now, p) }
     ensures made { OnOk result (AreMade known.now.sources.now made.new.items) }
     ensures scheme { Concluded result (Types (view e.now) (sorts known.now) []) }
 {
@@ -220,7 +222,8 @@ fn constant(alloc: Global, e: &Expr, known: &Known) -> Result<Scheme, Refusal>
 
 fn function(alloc: Global, param: &Pattern, body: &Expr, known: &Known) -> Result<Scheme, Refusal>
     requires { (x : Name) → IsGood (meant known.now x) }
-    ensures { MatchResult result (λ p. IsPrincipal a_function p (IsArrow (FunctionTypes (sorts known.now) (pattern_view param.now) (view body.now))))
+    ensures { MatchResult result (λ p. IsPrincipal a_function p
+        (IsArrow (FunctionTypes (sorts known.now) (pattern_view param.now) (view body.now))))
         (λ refusal. OnNoType refusal ((s t : Ground) → FunctionTypes (sorts known.now) (pattern_view param.now) (view body.now) s t → ⊥)) }
 {
     let mut typing = Typing::new(alloc);

@@ -24,7 +24,8 @@ impl Typing {
         bound: &mut Vec<(Label, u64)>,
     ) -> Result<(), Refusal>
         requires { Ready known.now (cells self.old) (onto bound.old.items (names outside.now)) (t ∷ []) }
-        ensures { Bound result (cells self.old) (cells self.new) bound.old.items bound.new.items (names outside.now) (λ s. Takes (pattern_view p.now) (NameTypes
+        ensures { Bound result (cells self.old) (cells self.new) bound.old.items bound.new.items (names outside.now)
+            (λ s. Takes (pattern_view p.now) (NameTypes
             (sorts known.now) (context s (names outside.now))) (s.types t)) }
     {
         match p {

@@ -4,7 +4,8 @@ ghost use Rattle.std.specs.Option.{option_map};
 ghost use Rattle.kl_base.specs.Sorted.{sorted};
 ghost use Rattle.kl_rows.specs.Schemes.{IsScheme};
 ghost use Rattle.kl_infer.specs.Numbers.{Writes, limit};
-ghost use Rattle.kl_infer.specs.Printed.{by_label, opening_text, closing_text, kind_variables, rest_variables, row_variables, row_text, tree_at};
+ghost use Rattle.kl_infer.specs.Printed.{by_label, opening_text, closing_text, kind_variables, rest_variables, row_variables};
+ghost use Rattle.kl_infer.specs.Printed.{row_text, tree_at};
 ghost use Rattle.kl_infer.specs.Printed.{text, variables, scheme_text};
 ghost use Rattle.kl_infer.specs.Rows.{CanPrint, IsEnd, IsRowOf, front_of, is_open, kind_of, mark_behind};
 
@@ -24,7 +25,8 @@ use std::alloc::Global;
 /// Want of memory.
 pub fn print_scheme(alloc: Global, s: &Scheme) -> Result<Option<Text>, NoMemory>
     requires { IsScheme s.now }
-    ensures { IfOk result (λ found. MatchOption found (limit < length (scheme_text s.now)) (λ all. (all ≡ scheme_text s.now) × (length all ≤ limit))) }
+    ensures { IfOk result (λ found. MatchOption found (limit < length (scheme_text s.now))
+        (λ all. (all ≡ scheme_text s.now) × (length all ≤ limit))) }
 {
     let mut page = Page::new(alloc);
     write(alloc, s.nodes.slice(), s.root as usize, &mut page)?;

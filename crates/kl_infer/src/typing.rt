@@ -215,7 +215,8 @@ impl Typing {
         want: u64,
     ) -> Result<(), Refusal>
         requires { Ready known.now (cells self.old) (names scope.now) (want ∷ []) }
-        ensures { Asked result (cells self.old) (cells self.new) (λ s. NameTypes (sorts known.now) (context s (names scope.now)) name.now (s.types want)) }
+        ensures { Asked result (cells self.old) (cells self.new)
+            (λ s. NameTypes (sorts known.now) (context s (names scope.now)) name.now (s.types want)) }
     {
         match variable(scope, name) {
             Some(number) => self.same(number, want),
@@ -279,7 +280,8 @@ impl Typing {
         want: u64,
     ) -> Result<(), Refusal>
         requires { Ready known.now (cells self.old) [] (want ∷ args.now) }
-        ensures { Asked result (cells self.old) (cells self.new) (λ s. CallTypes (sorts known.now name.now) (map s.types args.now) (s.types want)) }
+        ensures { Asked result (cells self.old) (cells self.new)
+            (λ s. CallTypes (sorts known.now name.now) (map s.types args.now) (s.types want)) }
     {
         met(can_call(&mut self.unifier, stands_for(known, name), args, want)?)
     }

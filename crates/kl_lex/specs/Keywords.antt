@@ -23,7 +23,8 @@ spelling key.Then = codes "then"
 spelling key.True = codes "true"
 
 abbrev pub all_keywords : List Keyword
-all_keywords = key.And ∷ key.Case ∷ key.Define ∷ key.Else ∷ key.End ∷ key.False ∷ key.If ∷ key.In ∷ key.Let ∷ key.Not ∷ key.Of ∷ key.Or ∷ key.Otherwise ∷ key.Then ∷ key.True ∷ []
+all_keywords = key.And ∷ key.Case ∷ key.Define ∷ key.Else ∷ key.End ∷ key.False ∷ key.If ∷ key.In ∷ key.Let ∷ key.Not ∷ key.Of
+    ∷ key.Or ∷ key.Otherwise ∷ key.Then ∷ key.True ∷ []
 
 -- the keyword that is written so
 abbrev pub keyword_of : List ℕ → Option Keyword

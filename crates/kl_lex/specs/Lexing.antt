@@ -45,7 +45,8 @@ PlacesRise place total (t ∷ ts) = (place ≤ t.from) × (t.from < t.to) × Pla
 
 -- behind some tokens and a gap a token is due at this byte, and none starts there
 abbrev pub Refused : List ℕ → ℕ → Type 0
-Refused bytes byte = (ts : List Token) × (left : List ℕ) × Upto (length bytes) bytes ts left × IsDue left × NoneStarts left × (byte + length left ≡ length bytes)
+Refused bytes byte = (ts : List Token) × (left : List ℕ) × Upto (length bytes) bytes ts left × IsDue left × NoneStarts left
+    × (byte + length left ≡ length bytes)
 
 abbrev pub RefusedAt : {A : Type 0} → List ℕ → Result A LexError → Type 0
 RefusedAt bytes (Ok x) = Unit {0}

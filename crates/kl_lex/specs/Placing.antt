@@ -20,7 +20,8 @@ PlacedTokens bytes ts = Tokens bytes (map token_of ts)
 -- what comes next in a text of so many bytes, of which these are left: behind a gap a token, the end, or a byte where a
 -- token is due and none starts
 abbrev pub Comes : ℕ → List ℕ → Next → Type 0
-Comes total bytes (next.Token t after) = (front : List ℕ) × Gap bytes front × Front total front (token_of t) after.rest.now × (after.total ≡ total)
+Comes total bytes (next.Token t after) = (front : List ℕ) × Gap bytes front × Front total front (token_of t) after.rest.now
+    × (after.total ≡ total)
 Comes total bytes next.End = Gap bytes []
 Comes total bytes (next.Bad byte) = (left : List ℕ) × Gap bytes left × IsDue left × NoneStarts left × (byte + length left ≡ total)
 

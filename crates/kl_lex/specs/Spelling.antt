@@ -6,7 +6,10 @@ use Rattle.std.specs.Str.Parse.{digits_value}
 use Rattle.kl_base.specs.Word.{is_word}
 use Rattle.kl_value.specs.Quoted.{quote, Parts}
 use Rattle.kl_lex.specs.declared.token.Sym.{Sym as Symbol}
-use Rattle.kl_lex.specs.declared.token.Sym.TheVariants.{OpenList, CloseList, OpenBag, CloseBag, OpenSet, CloseSet, OpenRec, CloseRec, OpenPar, ClosePar, Le, Ge, Ne, Draw, Lt, Gt, Equals, Arrow, Eq, Bar, Comma, Semi, Dots, Dot, Colon, Append, Add, Sub, Mul, Cat, Bind, Any}
+use Rattle.kl_lex.specs.declared.token.Sym.TheVariants.{OpenList, CloseList, OpenBag, CloseBag, OpenSet, CloseSet}
+use Rattle.kl_lex.specs.declared.token.Sym.TheVariants.{OpenRec, CloseRec, OpenPar, ClosePar, Le, Ge, Ne, Draw, Lt, Gt}
+use Rattle.kl_lex.specs.declared.token.Sym.TheVariants.{Equals, Arrow, Eq, Bar, Comma, Semi, Dots, Dot, Colon, Append}
+use Rattle.kl_lex.specs.declared.token.Sym.TheVariants.{Add, Sub, Mul, Cat, Bind, Any}
 use Rattle.kl_lex.specs.declared.token.Tok.{Tok}
 use Rattle.kl_lex.specs.declared.token.Tok.TheVariants.{Word, Int, Big, Text, Sym}
 

@@ -70,7 +70,8 @@ fn escape_at(bytes: &[u8]) -> Option<(u8, &[u8])>
 
 /// The byte with the two hexadecimal digits at the front, and the bytes behind them.
 fn hex_at(bytes: &[u8]) -> Option<(u8, &[u8])>
-    ensures { MatchOption result (NoPart (backslash ∷ 120 ∷ bytes.now)) (λ part. PartFirst (backslash ∷ 120 ∷ bytes.now) part.0 part.1.now) }
+    ensures { MatchOption result (NoPart (backslash ∷ 120 ∷ bytes.now))
+        (λ part. PartFirst (backslash ∷ 120 ∷ bytes.now) part.0 part.1.now) }
 {
     match bytes {
         [high, low, rest @ ..] => Some((hex(*high, *low)?, rest)),

@@ -6,12 +6,15 @@ use Rattle.kl_base.specs.Sorted.{sorted}
 use Rattle.kl_value.specs.declared.Value.{Value}
 use Rattle.kl_value.specs.declared.Value.TheVariants as value
 use Rattle.kl_prim.specs.Table.{Row, rows}
-use Rattle.kl_outcome.specs.Outcome.{Outcome, done, over, stuck, Flow, stop, fine, overflow, broken, Name, after, if_then, applied, recorded, tagged, part, cases, items_of, item_then, drawn, collected, union_of}
+use Rattle.kl_outcome.specs.Outcome.{Outcome, done, over, stuck, Flow, stop, fine, overflow, broken, Name, after, if_then}
+use Rattle.kl_outcome.specs.Outcome.{applied, recorded, tagged, part, cases, items_of, item_then, drawn, collected, union_of}
 use Rattle.kl_value.specs.Views.{as_bool}
 use Rattle.kl_syntax.specs.declared.tree.Op.{Op}
 use Rattle.kl_syntax.specs.declared.tree.Op.TheVariants as op
 use Rattle.kl_syntax.specs.declared.tree.Word.{Word}
-use Rattle.kl_syntax.specs.Syntax.{Exp, Const, name, Call, Rec, Inj, Coll, Comp, If, Let, Case, Path, Not, Neg, Chain, Exps, no_exps, exps, Flds, no_flds, flds, Quals, no_quals, draw, test, Branches, no_branches, otherwise, branch, Steps, no_steps, step, Decls, no_decls, constant, function}
+use Rattle.kl_syntax.specs.Syntax.{Exp, Const, name, Call, Rec, Inj, Coll, Comp, If, Let, Case, Path, Not, Neg, Chain, Exps}
+use Rattle.kl_syntax.specs.Syntax.{no_exps, exps, Flds, no_flds, flds, Quals, no_quals, draw, test, Branches, no_branches}
+use Rattle.kl_syntax.specs.Syntax.{otherwise, branch, Steps, no_steps, step, Decls, no_decls, constant, function}
 use Rattle.kl_meaning.specs.Match.{Env, fits, if_fits, must_fit, same_name}
 
 -- what a name that is no variable means

@@ -1,7 +1,10 @@
 -- What the rules of scope say of a program's form: a pattern that has to match always does, and no record has a label
 -- twice.
 use Rattle.std.specs.Prelude.{◌≡◌, false, ⊤}
-use Rattle.kl_syntax.specs.Syntax.{Pat, catch, any, same, is, shape, variant, Pats, no_pats, pats, Exp, Const, name, Call, Rec, Inj, Coll, Comp, If, Let, Case, Path, Not, Neg, Chain, Exps, no_exps, exps, Flds, no_flds, flds, Quals, no_quals, draw, test, Branches, no_branches, otherwise, branch, Steps, no_steps, step, Decls, no_decls, constant, function}
+use Rattle.kl_syntax.specs.Syntax.{Pat, catch, any, same, is, shape, variant, Pats, no_pats, pats, Exp, Const, name, Call, Rec}
+use Rattle.kl_syntax.specs.Syntax.{Inj, Coll, Comp, If, Let, Case, Path, Not, Neg, Chain, Exps, no_exps, exps, Flds, no_flds}
+use Rattle.kl_syntax.specs.Syntax.{flds, Quals, no_quals, draw, test, Branches, no_branches, otherwise, branch, Steps, no_steps}
+use Rattle.kl_syntax.specs.Syntax.{step, Decls, no_decls, constant, function}
 use Rattle.kl_meaning.specs.Typing.{has_field}
 
 -- without a test in it, a pattern matches each value of a type that it takes

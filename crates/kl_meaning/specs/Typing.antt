@@ -10,7 +10,10 @@ use Rattle.kl_outcome.specs.Typed.{Inhabits, PrimTypes}
 use Rattle.kl_syntax.specs.declared.tree.Op.{Op}
 use Rattle.kl_syntax.specs.declared.tree.Op.TheVariants as op
 use Rattle.kl_syntax.specs.declared.tree.Word.{Word}
-use Rattle.kl_syntax.specs.Syntax.{Pat, catch, any, same, is, shape, variant, Pats, no_pats, pats, Exp, Const, name, Call, Rec, Inj, Coll, Comp, If, Let, Case, Path, Not, Neg, Chain, Exps, no_exps, exps, Flds, no_flds, flds, Quals, no_quals, draw, test, Branches, no_branches, otherwise, branch, Steps, no_steps, step, Decls, no_decls, constant, function}
+use Rattle.kl_syntax.specs.Syntax.{Pat, catch, any, same, is, shape, variant, Pats, no_pats, pats, Exp, Const, name, Call, Rec}
+use Rattle.kl_syntax.specs.Syntax.{Inj, Coll, Comp, If, Let, Case, Path, Not, Neg, Chain, Exps, no_exps, exps, Flds, no_flds}
+use Rattle.kl_syntax.specs.Syntax.{flds, Quals, no_quals, draw, test, Branches, no_branches, otherwise, branch, Steps, no_steps}
+use Rattle.kl_syntax.specs.Syntax.{step, Decls, no_decls, constant, function}
 use Rattle.kl_meaning.specs.Match.{Env, same_name, has_label}
 use Rattle.kl_meaning.specs.Run.{code_of, code_named}
 
@@ -144,7 +147,8 @@ abbrev mutual
   BranchTypes no_branches known G r t = ⊤
   BranchTypes (otherwise c) known G r t = Types c known G t
   BranchTypes (branch l p b bs) known G r t =
-      (s : Ground) × (H : Context) × (at l.text r ≡ Some s) × Takes p (NameTypes known G) s G H × Types b known H t × BranchTypes bs known G r t
+      (s : Ground) × (H : Context) × (at l.text r ≡ Some s) × Takes p (NameTypes known G) s G H × Types b known H t
+          × BranchTypes bs known G r t
 
   pub StepTypes : Steps → KnownTypes → Context → Ground → Ground → Type 0
   StepTypes no_steps known G s t = s ≡ t
@@ -182,9 +186,11 @@ types_after (function d p e ds) known = types_after ds (with_sort d.text (functi
 -- each definition has a type by itself
 abbrev pub EachTyped : Decls → KnownTypes → Type 0
 EachTyped no_decls known = ⊤
-EachTyped (constant d e ds) known = ((t : Ground) × Types e known [] t) × EachTyped ds (with_sort d.text (value_of (Types e known [])) known)
+EachTyped (constant d e ds) known = ((t : Ground) × Types e known [] t)
+    × EachTyped ds (with_sort d.text (value_of (Types e known [])) known)
 EachTyped (function d p e ds) known =
-    ((s : Ground) × (t : Ground) × FunctionTypes known p e s t) × EachTyped ds (with_sort d.text (function_of (FunctionTypes known p e)) known)
+    ((s : Ground) × (t : Ground) × FunctionTypes known p e s t)
+        × EachTyped ds (with_sort d.text (function_of (FunctionTypes known p e)) known)
 
 -- the types of a program's last expression, and whether the program has a typing, over the types of its sources
 abbrev pub ProgramTypes : Decls → Exp → List (Name × Ground) → Ground → Type 0

@@ -14,7 +14,8 @@ ghost use Rattle.kl_meaning.specs.Typing.{AreGround, HaveTypesByName, ProgramTyp
 /// of it, or an overflow, before which a list alone has items, each of the type of its items. The program keeps the
 /// rules of scope on its form: a pattern that has to match has no test in it, and no record has a label twice.
 pub fn typing_laws()
-    ensures types_proper { (ds : Decls) (e : Exp) (types : List (Name × Ground)) (t : Ground) → AreGround types → ProgramTypes ds e types t → IsGround t }
+    ensures types_proper { (ds : Decls) (e : Exp) (types : List (Name × Ground)) (t : Ground) → AreGround types
+        → ProgramTypes ds e types t → IsGround t }
     ensures never_stuck { (ds : Decls) (e : Exp) (types : List (Name × Ground)) (values : List (Name × Value)) (t : Ground)
         → IsTidyProgram ds e → HaveTypesByName types values → ProgramTypes ds e types t → meaning_of_program ds e values ≢ stuck }
     ensures keeps_type { (ds : Decls) (e : Exp) (types : List (Name × Ground)) (values : List (Name × Value)) (t : Ground)

@@ -1,5 +1,6 @@
 -- Steps of handing rows. No public contract cites this.
-use Rattle.std.specs.Prelude.{◌≡◌, ◌≢◌, ◌⊎◌, ℕ, ◌+◌, ◌<◌, ◌≤◌, true, List, [], ◌∷◌, ◌++◌, length, drop, set, slice_get, Option, Some, None, IsSome, Result, Ok, Err, IfOk, OnOk, OnErr, ⊤}
+use Rattle.std.specs.Prelude.{◌≡◌, ◌≢◌, ◌⊎◌, ℕ, ◌+◌, ◌<◌, ◌≤◌, true, List, [], ◌∷◌, ◌++◌, length, drop, set, slice_get, Option}
+use Rattle.std.specs.Prelude.{Some, None, IsSome, Result, Ok, Err, IfOk, OnOk, OnErr, ⊤}
 use Rattle.std.specs.List.{AllByRecursion}
 use Rattle.kl_base.specs.Counts.{Rose}
 use Rattle.kl_value.specs.declared.Value.{Value}
@@ -76,14 +77,16 @@ Pushes row into into' (Ok done) = into' ≡ into ++ row ∷ []
 Pushes row into into' (Err e) = (into' ≡ into) × (e ≡ error.NoMemory)
 
 -- the next row is appended
-pub record TakesRow (limit : ℕ) (s : Source) (taken : ℕ) (into into' : List Value) (result : Result (Unit {0}) DriverError) (old new : FileReading) (files files' : FilesState) : Type 0 where
+pub record TakesRow (limit : ℕ) (s : Source) (taken : ℕ) (into into' : List Value) (result : Result (Unit {0}) DriverError)
+    (old new : FileReading) (files files' : FilesState) : Type 0 where
   pub reads : ReadsOne old new files files'
   pub row : OnOk result ((v : Value) × AreNext limit s taken (v ∷ []) into into' files × HasTaken limit s (taken + 1) new files')
   pub same : OnErr result (into' ≡ into)
   pub cause : (e : DriverError) → result ≡ Err e → Refuses limit s taken e files files'
 
 -- so many next rows are appended
-pub record TakesRows (limit : ℕ) (s : Source) (taken count : ℕ) (into into' : List Value) (result : Result (Unit {0}) DriverError) (old new : FileReading) (files files' : FilesState) : Type 0 where
+pub record TakesRows (limit : ℕ) (s : Source) (taken count : ℕ) (into into' : List Value) (result : Result (Unit {0}) DriverError)
+    (old new : FileReading) (files files' : FilesState) : Type 0 where
   pub reads : ReadsOne old new files files'
   pub rows : List Value
   pub are_next : AreNext limit s taken rows into into' files
@@ -97,7 +100,8 @@ HasBytes kept found (Ok done) = found ≡ kept
 HasBytes kept found (Err e) = (e ≡ error.Changed (drift.Bytes kept found)) × (found ≢ kept)
 
 -- a file of which all rows were read that were kept has ended, and has as many bytes as were kept
-pub record MeetsEnd (limit : ℕ) (s : Source) (result : Result (Unit {0}) DriverError) (old new : FileReading) (files files' : FilesState) : Type 0 where
+pub record MeetsEnd (limit : ℕ) (s : Source) (result : Result (Unit {0}) DriverError) (old new : FileReading)
+    (files files' : FilesState) : Type 0 where
   pub reads : ReadsOne old new files files'
   pub taken : OnOk result (HasTaken limit s s.count new files')
   pub cause : (e : DriverError) → result ≡ Err e → Refuses limit s (s.count + 1) e files files'
@@ -117,7 +121,8 @@ pub record HandsNext (limit most : ℕ) (into into' : List Value) (old new : Ope
 abbrev pub StopsBehind : Open → ℕ → Type 0
 StopsBehind o found = ((o.taken ≤ found) × (found < o.source.count)) ⊎ ((o.taken ≡ o.source.count) × (found ≡ o.source.count + 1))
 
-pub record Hands (limit most : ℕ) (into into' : List Value) (result : Result ℕ DriverError) (old new : Open) (files files' : FilesState) : Type 0 where
+pub record Hands (limit most : ℕ) (into into' : List Value) (result : Result ℕ DriverError) (old new : Open)
+    (files files' : FilesState) : Type 0 where
   pub reads : ReadsOne old.reader new.reader files files'
   pub ask : new.ask ≡ old.ask
   pub source : new.source ≡ old.source
@@ -127,7 +132,8 @@ pub record Hands (limit most : ℕ) (into into' : List Value) (result : Result �
   pub cause : (e : DriverError) → result ≡ Err e → (found : ℕ) × StopsBehind old found × Refuses limit old.source found e files files'
 
 -- the cursor at a place hands rows, and no other
-pub record HandsAt (limit cursor most : ℕ) (into into' : List Value) (result : Result ℕ DriverError) (cursors cursors' : List (Option Open)) (files files' : FilesState) : Type 0 where
+pub record HandsAt (limit cursor most : ℕ) (into into' : List Value) (result : Result ℕ DriverError)
+    (cursors cursors' : List (Option Open)) (files files' : FilesState) : Type 0 where
   pub old : Open
   pub new : Open
   pub here : slice_get cursors cursor ≡ Some (Some old)

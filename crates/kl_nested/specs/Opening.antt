@@ -44,12 +44,14 @@ pub record OpensOne (limit : ℕ) (source : Source) (ask : Ask) (result : Result
   pub refused : NotOpened source result old new
 
 -- a cursor is put behind the others, or its file is closed
-pub record PutsLast (o : Open) (result : Result (Unit {0}) DriverError) (cursors cursors' : List (Option Open)) (old new : FilesState) : Type 0 where
+pub record PutsLast (o : Open) (result : Result (Unit {0}) DriverError) (cursors cursors' : List (Option Open))
+    (old new : FilesState) : Type 0 where
   pub put : OnOk result ((cursors' ≡ cursors ++ Some o ∷ []) × (new ≡ old))
   pub refused : OnErr result ((cursors' ≡ cursors) × Closes o.file old new × (result ≡ Err error.NoMemory))
 
 -- a cursor is opened behind the others
-pub record OpensLast (limit : ℕ) (source : Source) (ask : Ask) (result : Result (Unit {0}) DriverError) (cursors cursors' : List (Option Open)) (old new : FilesState) : Type 0 where
+pub record OpensLast (limit : ℕ) (source : Source) (ask : Ask) (result : Result (Unit {0}) DriverError)
+    (cursors cursors' : List (Option Open)) (old new : FilesState) : Type 0 where
   pub told : new.told ≡ old.told
   pub later : old.faults ≤ new.faults
   pub opened : OnOk result ((o : Open) × (cursors' ≡ cursors ++ Some o ∷ []) × OpensOver limit source ask old new o)
@@ -57,7 +59,8 @@ pub record OpensLast (limit : ℕ) (source : Source) (ask : Ask) (result : Resul
   pub refused : NotOpened source result old new
 
 -- a cursor over the source that is asked is opened behind the others
-pub record OpensAsked (limit : ℕ) (sources : Sources) (ask : Ask) (result : Result (Unit {0}) DriverError) (cursors cursors' : List (Option Open)) (old new : FilesState) : Type 0 where
+pub record OpensAsked (limit : ℕ) (sources : Sources) (ask : Ask) (result : Result (Unit {0}) DriverError)
+    (cursors cursors' : List (Option Open)) (old new : FilesState) : Type 0 where
   pub source : Source
   pub found : asked_source sources ask ≡ Some source
   pub opens : OpensLast limit source ask result cursors cursors' old new

@@ -1,5 +1,6 @@
 -- Steps of reading: the next row of a file, and all of them when it is attached. No public contract cites this.
-use Rattle.std.specs.Prelude.{◌≡◌, ◌⊎◌, ℕ, ◌≤◌, Bool, true, false, List, length, Option, Some, None, IsSome, Result, Ok, Err, IfOk, IsErrOf, ⊤, nat_eq}
+use Rattle.std.specs.Prelude.{◌≡◌, ◌⊎◌, ℕ, ◌≤◌, Bool, true, false, List, length, Option, Some, None, IsSome, Result, Ok, Err}
+use Rattle.std.specs.Prelude.{IfOk, IsErrOf, ⊤, nat_eq}
 use Rattle.std.specs.Cmp.Lexicographic.{pointwise}
 use Rattle.std.specs.HashMap.{IsUnchanged, Updates}
 use Rattle.kl_base.specs.Counts.{Rose}
@@ -60,7 +61,8 @@ unreadable limit place (halt.Unread fault.NoMemory) = error.NoMemory
 
 -- the number of bytes and of rows, or why the source is not attached
 abbrev pub Told : ℕ → List ℕ → Ty → Result (ℕ × ℕ) DriverError → Type 0
-Told limit bytes item (Ok (size, count)) = (rows : List Value) × (stored_in limit bytes item ≡ Rows rows) × (count ≡ length rows) × (size ≡ length bytes)
+Told limit bytes item (Ok (size, count)) = (rows : List Value) × (stored_in limit bytes item ≡ Rows rows) × (count ≡ length rows)
+    × (size ≡ length bytes)
 Told limit bytes item (Err (error.BadSource place)) = stored_in limit bytes item ≡ Bad place
 Told limit bytes item (Err (error.TooLong most)) = stored_in limit bytes item ≡ Long most
 Told limit bytes item (Err (error.TooDeep place)) = stored_in limit bytes item ≡ Deep place
@@ -98,7 +100,8 @@ Adds name path ty (Ok kept) (Err e) old new = (e ≡ error.NoMemory) × IsUnchan
 Adds name path ty (Err e) (Err d) old new = (d ≡ e) × (new ≡ old)
 Adds name path ty (Err e) (Ok count) old new = ⊥
 
-pub record AttachesFile (limit : ℕ) (name : Name) (path : List ℕ) (ty : Ty) (result : Result ℕ DriverError) (sources sources' : Sources) (old new : FilesState) : Type 0 where
+pub record AttachesFile (limit : ℕ) (name : Name) (path : List ℕ) (ty : Ty) (result : Result ℕ DriverError)
+    (sources sources' : Sources) (old new : FilesState) : Type 0 where
   pub kept : Result (ℕ × ℕ) DriverError
   pub reads : ReadsFile limit path (item_ty ty) kept old new
   pub adds : Adds name path ty kept result sources sources'

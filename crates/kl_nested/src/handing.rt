@@ -30,7 +30,8 @@ pub fn hand_at<F: Files>(
     requires some { 0 < most }
     requires is_open { IsSome (open_at cursors.old.items cursor) }
     requires reading { (o : Opened) → open_at cursors.old.items cursor ≡ Some o → IsReading limit (F.state files.old) o }
-    ensures { HandsAt limit cursor most into.old.items into.new.items result cursors.old.items cursors.new.items (F.state files.old) (F.state files.new) }
+    ensures { HandsAt limit cursor most into.old.items into.new.items result cursors.old.items cursors.new.items (F.state files.old)
+        (F.state files.new) }
 {
     let Some(open) = &mut cursors[cursor] else {
         unreachable!()
@@ -95,7 +96,8 @@ fn take_rows<F: Files>(
     requires kept { IsKept limit (F.state files.old).told source.now }
     requires within { taken + count ≤ source.now.count }
     requires so_far { HasTaken limit source.now taken reader.old (F.state files.old) }
-    ensures { TakesRows limit source.now taken count into.old.items into.new.items result reader.old reader.new (F.state files.old) (F.state files.new) }
+    ensures { TakesRows limit source.now taken count into.old.items into.new.items result reader.old reader.new (F.state files.old)
+        (F.state files.new) }
 {
     'rows: for number in taken..taken + count {
         match take_row(files, reader, source, limit, number, into) {
@@ -119,7 +121,8 @@ fn take_row<F: Files>(
     requires kept { IsKept limit (F.state files.old).told source.now }
     requires within { number < source.now.count }
     requires so_far { HasTaken limit source.now number reader.old (F.state files.old) }
-    ensures { TakesRow limit source.now number into.old.items into.new.items result reader.old reader.new (F.state files.old) (F.state files.new) }
+    ensures { TakesRow limit source.now number into.old.items into.new.items result reader.old reader.new (F.state files.old)
+        (F.state files.new) }
 {
     match next_row(reader, files, item_of(&source.ty)) {
         Ok(Some(row)) => push_row(into, row),

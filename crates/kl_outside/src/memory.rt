@@ -56,7 +56,8 @@ impl MemFiles {
 
 // The first entry with a path.
 fn find(entries: &[(Text, Text)], path: &[u8]) -> Option<usize>
-    ensures { MatchOption result (bytes_of entries.now path.now ≡ None) (λ i. bytes_of entries.now path.now ≡ Some (bytes_at entries.now i)) }
+    ensures { MatchOption result (bytes_of entries.now path.now ≡ None)
+        (λ i. bytes_of entries.now path.now ≡ Some (bytes_at entries.now i)) }
 {
     for (i, entry) in entries.iter().enumerate() {
         if entry.0.slice() == path {
@@ -111,7 +112,8 @@ impl Files for MemFiles {
     /// no fault.
     fn open_path(&mut self, path: &[u8]) -> Result<u64, Stop>
         ensures opens { OpensPath path.now result (files_state self.old) (files_state self.new) }
-        ensures failed { IsErrOf result Stop.Failed ↔ ((told_bytes self.old path.now ≡ None) ⊎ IsTrue (is_next_listed (files_calls self.old))) }
+        ensures failed { IsErrOf result Stop.Failed ↔
+            ((told_bytes self.old path.now ≡ None) ⊎ IsTrue (is_next_listed (files_calls self.old))) }
         ensures calls { files_calls self.new ≡ after_opening (told_bytes self.old path.now) (files_calls self.old) }
     {
         let is_listed = self.schedule.make_call();

@@ -36,7 +36,8 @@ impl MemSink {
     /// Want of memory; the sink is as it was then.
     pub fn fail_at(&mut self, call: u64) -> Result<(), NoMemory>
         ensures state { sink_state self.new ≡ sink_state self.old }
-        ensures calls { MatchResult result (λ _. sink_calls self.new ≡ list_call call (sink_calls self.old)) (λ _. sink_calls self.new ≡ sink_calls self.old) }
+        ensures calls { MatchResult result (λ _. sink_calls self.new ≡ list_call call (sink_calls self.old))
+            (λ _. sink_calls self.new ≡ sink_calls self.old) }
     {
         self.schedule.list(call)
     }

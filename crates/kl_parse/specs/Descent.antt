@@ -24,9 +24,13 @@ use Rattle.kl_syntax.specs.declared.tree.Program.{Program}
 use Rattle.kl_parse.specs.Lexemes.{word_of}
 use Rattle.kl_lex.specs.Brackets.{opener, closer}
 use Rattle.kl_phrase.specs.Depth.{opens}
-use Rattle.kl_parse.specs.Grammar.{is_of, variant_of, shape_of, name_of, inject_of, gen_of, comp_of, case_of, path_of, chain_of, compare_of, let_of, if_of, branch_of, misses, left_out, function_of, constant_of, decl_of, program_of, Sort, whole, negated, signed, added}
-use Rattle.kl_parse.specs.Kinds.{among, is_symbol, is_key, label_kinds, constant_kinds, big_kinds, op_kinds, symbol_kind, a_symbol, a_key, a_label, a_name, a_constant, a_least, a_negative, an_op}
-use Rattle.kl_phrase.specs.Readers.{Why, bad, deep, Reader, fail, one, nothing, numbered, both, behind, before, chain, made, choose, pick, many, parted, tail_turn, tailed, followed}
+use Rattle.kl_parse.specs.Grammar.{is_of, variant_of, shape_of, name_of, inject_of, gen_of, comp_of, case_of, path_of, chain_of}
+use Rattle.kl_parse.specs.Grammar.{compare_of, let_of, if_of, branch_of, misses, left_out, function_of, constant_of, decl_of}
+use Rattle.kl_parse.specs.Grammar.{program_of, Sort, whole, negated, signed, added}
+use Rattle.kl_parse.specs.Kinds.{among, is_symbol, is_key, label_kinds, constant_kinds, big_kinds, op_kinds, symbol_kind}
+use Rattle.kl_parse.specs.Kinds.{a_symbol, a_key, a_label, a_name, a_constant, a_least, a_negative, an_op}
+use Rattle.kl_phrase.specs.Readers.{Why, bad, deep, Reader, fail, one, nothing, numbered, both, behind, before, chain, made}
+use Rattle.kl_phrase.specs.Readers.{choose, pick, many, parted, tail_turn, tailed, followed}
 use Rattle.kl_phrase.specs.Refusals.{opened_by, opening_by, decide, may_miss, missed}
 
 abbrev pub mark : Sym → Reader Token (Unit {0})
@@ -100,7 +104,8 @@ module _ (p : Reader Token Pattern) (e : Reader Token Expr) where
 
   -- items or a comprehension, behind their first expression
   abbrev pub beyond : Kind → Expr → Reader Token Expr
-  beyond k first = pick (is_symbol sym.Bar) (made (λ found. comp_of k (first, found)) (behind (mark sym.Bar) quals)) (made (λ more. expr.Coll k (first ∷ more)) (many (is_symbol sym.Comma) (behind (mark sym.Comma) e)))
+  beyond k first = pick (is_symbol sym.Bar) (made (λ found. comp_of k (first, found)) (behind (mark sym.Bar) quals))
+      (made (λ more. expr.Coll k (first ∷ more)) (many (is_symbol sym.Comma) (behind (mark sym.Comma) e)))
 
   unfoldable pub body : Reader Token (Option Pattern × Expr)
   body = decide function_of (parameter p) e (made constant_of (plain_body e))
@@ -139,7 +144,8 @@ module _ (total : ℕ) where
     pat_fields = tailed (is_symbol sym.Comma) (is_symbol sym.Dots) (mark sym.Comma) pat_field (mark sym.Dots)
 
     abbrev pub shape : Reader Token Pattern
-    shape = pick (among label_kinds) (made shape_of (both pat_field pat_fields)) (pick (is_symbol sym.Dots) (made (λ _. pattern.Rec [] true) (mark sym.Dots)) (nothing (pattern.Rec [] false)))
+    shape = pick (among label_kinds) (made shape_of (both pat_field pat_fields))
+        (pick (is_symbol sym.Dots) (made (λ _. pattern.Rec [] true) (mark sym.Dots)) (nothing (pattern.Rec [] false)))
 
     abbrev pub in_shape : Reader Token Pattern
     in_shape = before shape (mark sym.CloseRec)
@@ -151,7 +157,8 @@ module _ (total : ℕ) where
     pat_variant = behind (mark sym.Lt) in_variant
 
     unfoldable pub pat : Why → Bool → Reader Token Pattern
-    pat w may = opening_by w (is_symbol sym.Lt) may (made variant_of pat_variant) (opening_by w (is_symbol sym.OpenRec) may (behind (mark sym.OpenRec) in_shape) simple)
+    pat w may = opening_by w (is_symbol sym.Lt) may (made variant_of pat_variant)
+        (opening_by w (is_symbol sym.OpenRec) may (behind (mark sym.OpenRec) in_shape) simple)
 
   unfoldable pub pat_by : Why → ℕ → Reader Token Pattern
   pat_by w zero = pat (never w) w false
@@ -174,7 +181,8 @@ module _ (total : ℕ) where
   labels = many (is_symbol sym.Dot) (behind (mark sym.Dot) label)
 
   unfoldable pub named : Why → Bool → Reader Token Expr → Reader Token Expr
-  named w may e = made name_of (both name (opening_by w (is_symbol sym.OpenPar) may (made Some (behind (mark sym.OpenPar) (in_args e))) (nothing None)))
+  named w may e = made name_of (both name (opening_by w (is_symbol sym.OpenPar) may
+      (made Some (behind (mark sym.OpenPar) (in_args e))) (nothing None)))
 
   module _ (w : Why) (may : Bool) (p : Reader Token Pattern) (e n u a : Reader Token Expr) (b : Reader Token Branch) where
     unfoldable pub prim : Reader Token Expr
@@ -200,7 +208,8 @@ module _ (total : ℕ) where
     add = chained level.Add mul
 
     unfoldable pub compare : Reader Token Expr
-    compare = made compare_of (both add (pick (among (op_kinds level.Compare)) (made Some (both (one (an_op level.Compare)) add)) (nothing None)))
+    compare = made compare_of (both add (pick (among (op_kinds level.Compare)) (made Some (both (one (an_op level.Compare)) add))
+        (nothing None)))
 
     unfoldable pub negation : Reader Token Expr
     negation = opening_by w (is_key key.Not) may (made expr.Not (behind (word_mark key.Not) n)) compare
@@ -212,7 +221,8 @@ module _ (total : ℕ) where
     ors = chained level.Or and
 
     unfoldable pub read_whole : Reader Token Expr
-    read_whole = opening_by w (is_key key.Let) may (made let_of (behind (word_mark key.Let) (in_let p e))) (opening_by w (is_key key.If) may (made if_of (behind (word_mark key.If) (in_if e))) ors)
+    read_whole = opening_by w (is_key key.Let) may (made let_of (behind (word_mark key.Let) (in_let p e)))
+        (opening_by w (is_key key.If) may (made if_of (behind (word_mark key.If) (in_if e))) ors)
 
     -- what stands between the operators of a level
     abbrev pub operand : Level → Reader Token Expr
@@ -229,7 +239,8 @@ module _ (total : ℕ) where
     of_sort added = add
 
   unfoldable pub branch : Why → Bool → Reader Token Pattern → Reader Token Expr → Reader Token Branch
-  branch w may p e = pick (is_symbol sym.Lt) (opened_by w may (made branch_of (both (pat_variant p) (behind (mark sym.Arrow) e)))) (λ ts. fail bad ts)
+  branch w may p e = pick (is_symbol sym.Lt) (opened_by w may (made branch_of (both (pat_variant p) (behind (mark sym.Arrow) e))))
+      (λ ts. fail bad ts)
 
   -- a branch, or a token in its place
   abbrev pub branch_or : List Token → Reader Token Branch → Reader Token Branch
@@ -237,12 +248,15 @@ module _ (total : ℕ) where
 
   unfoldable pub reads_by : Why → ℕ → Sort → Reader Token Expr
   reads_by w zero s = of_sort w false (never w) (never w) (never w) (never w) (never w) (never w) s
-  reads_by w (suc depth) s = of_sort w true (pat_by w depth) (reads_by w depth whole) (reads_by w depth negated) (reads_by w depth signed) (reads_by w depth added) (branch w (opens depth) (inside_by w depth) (reads_by w depth whole)) s
+  reads_by w (suc depth) s = of_sort w true (pat_by w depth) (reads_by w depth whole) (reads_by w depth negated)
+      (reads_by w depth signed) (reads_by w depth added) (branch w (opens depth) (inside_by w depth) (reads_by w depth whole)) s
 
   -- the same, where a token may stand for a branch
   unfoldable pub begins_by : List Token → ℕ → Sort → Reader Token Expr
   begins_by ts zero s = of_sort bad false (never bad) (never bad) (never bad) (never bad) (never bad) (never bad) s
-  begins_by ts (suc depth) s = of_sort bad true (pat_by bad depth) (begins_by ts depth whole) (begins_by ts depth negated) (begins_by ts depth signed) (begins_by ts depth added) (branch_or ts (branch bad (opens depth) (inside_by bad depth) (begins_by ts depth whole))) s
+  begins_by ts (suc depth) s = of_sort bad true (pat_by bad depth) (begins_by ts depth whole) (begins_by ts depth negated)
+      (begins_by ts depth signed) (begins_by ts depth added)
+      (branch_or ts (branch bad (opens depth) (inside_by bad depth) (begins_by ts depth whole))) s
 
   module _ (p : Reader Token Pattern) (e : Reader Token Expr) where
     abbrev pub decl : Reader Token Decl
@@ -287,26 +301,32 @@ module _ (total : ℕ) where
   named_at depth = named total deep (opens depth) (inside depth whole)
 
   abbrev pub prim_at : ℕ → Reader Token Expr
-  prim_at depth = prim total deep (opens depth) (pat_inside depth) (inside depth whole) (inside depth negated) (inside depth signed) (inside depth added) (branch_inside depth)
+  prim_at depth = prim total deep (opens depth) (pat_inside depth) (inside depth whole) (inside depth negated) (inside depth signed)
+      (inside depth added) (branch_inside depth)
 
   abbrev pub post_at : ℕ → Reader Token Expr
-  post_at depth = post total deep (opens depth) (pat_inside depth) (inside depth whole) (inside depth negated) (inside depth signed) (inside depth added) (branch_inside depth)
+  post_at depth = post total deep (opens depth) (pat_inside depth) (inside depth whole) (inside depth negated) (inside depth signed)
+      (inside depth added) (branch_inside depth)
 
   abbrev pub sort_at : ℕ → Sort → Reader Token Expr
-  sort_at depth = of_sort total deep (opens depth) (pat_inside depth) (inside depth whole) (inside depth negated) (inside depth signed) (inside depth added) (branch_inside depth)
+  sort_at depth = of_sort total deep (opens depth) (pat_inside depth) (inside depth whole) (inside depth negated)
+      (inside depth signed) (inside depth added) (branch_inside depth)
 
   abbrev pub compare_at : ℕ → Reader Token Expr
-  compare_at depth = compare total deep (opens depth) (pat_inside depth) (inside depth whole) (inside depth negated) (inside depth signed) (inside depth added) (branch_inside depth)
+  compare_at depth = compare total deep (opens depth) (pat_inside depth) (inside depth whole) (inside depth negated)
+      (inside depth signed) (inside depth added) (branch_inside depth)
 
   abbrev pub operand_at : ℕ → Level → Reader Token Expr
-  operand_at depth = operand total deep (opens depth) (pat_inside depth) (inside depth whole) (inside depth negated) (inside depth signed) (inside depth added) (branch_inside depth)
+  operand_at depth = operand total deep (opens depth) (pat_inside depth) (inside depth whole) (inside depth negated)
+      (inside depth signed) (inside depth added) (branch_inside depth)
 
   abbrev pub chain_at : ℕ → Level → Reader Token Expr
   chain_at depth l = chained l (operand_at depth l)
 
   -- what stands behind `define`
   abbrev pub decl_rest : ℕ → Reader Token Decl
-  decl_rest depth = made decl_of (both (name total) (behind (mark sym.Equals) (before (body (read_pat depth) (reads depth whole)) (mark sym.Semi))))
+  decl_rest depth = made decl_of (both (name total)
+      (behind (mark sym.Equals) (before (body (read_pat depth) (reads depth whole)) (mark sym.Semi))))
 
   abbrev pub decls : ℕ → Reader Token (List Decl)
   decls depth = many (is_key key.Define) (decl total (read_pat depth) (reads depth whole))

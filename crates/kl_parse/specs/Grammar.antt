@@ -25,7 +25,8 @@ use Rattle.kl_parse.specs.Lexemes.{Symbol, Key, Label, Name, Constant, IsNegativ
 use Rattle.kl_lex.specs.Brackets.{opener, closer}
 use Rattle.kl_phrase.specs.Depth.{opens}
 use Rattle.kl_phrase.specs.Fronts.{Missing}
-use Rattle.kl_phrase.specs.Words.{heads, Phrase, One, Nothing, Numbered, Then, Behind, Before, Many, Made, Or, Optional, Opened, Never, Parted, Tailed}
+use Rattle.kl_phrase.specs.Words.{heads, Phrase, One, Nothing, Numbered, Then, Behind, Before, Many, Made, Or, Optional, Opened}
+use Rattle.kl_phrase.specs.Words.{Never, Parted, Tailed}
 
 -- ---- what is made of the parts
 
@@ -190,7 +191,8 @@ module _ (P : Phrase Token Pattern) (E : Phrase Token Expr) where
 
   -- inside := [ exprs ] | expr "|" qual { "," qual }
   abbrev pub Inside : Kind → Phrase Token Expr
-  Inside k = Or (Made (expr.Coll k) (Optional [] (Exprs E))) (Made (comp_of k) (Then E (Behind (Symbol sym.Bar) (Parted (Symbol sym.Comma) AQual))))
+  Inside k = Or (Made (expr.Coll k) (Optional [] (Exprs E)))
+      (Made (comp_of k) (Then E (Behind (Symbol sym.Bar) (Parted (Symbol sym.Comma) AQual))))
 
   -- coll := "{" inside "}" | "{|" inside "|}" | "[|" inside "|]"
   abbrev pub Coll : Kind → Phrase Token Expr
@@ -202,7 +204,8 @@ module _ (P : Phrase Token Pattern) (E : Phrase Token Expr) where
 
 -- "case" expr "of" branch { "," branch } otherwise "end", where B are the branches
 abbrev pub Case : Phrase Token Expr → Phrase Token Branch → Phrase Token Expr
-Case E B = Made case_of (Behind (Key key.Case) (Then (Before E (Key key.Of)) (Then (Parted (Symbol sym.Comma) B) (Before (Otherwise E) (Key key.End)))))
+Case E B = Made case_of (Behind (Key key.Case) (Then (Before E (Key key.Of))
+    (Then (Parted (Symbol sym.Comma) B) (Before (Otherwise E) (Key key.End)))))
 
 -- NAME [ args ]
 abbrev pub Named : Bool → Phrase Token Expr → Phrase Token Expr
@@ -217,7 +220,10 @@ Least = Made expr.Const (Behind (Symbol sym.Sub) (One IsLeast))
 module _ (may : Bool) (P : Phrase Token Pattern) (E N U A : Phrase Token Expr) (B : Phrase Token Branch) where
   -- prim := constant | "(" expr ")" | record | variant | coll | case | NAME [ args ]
   abbrev pub Prim : Phrase Token Expr
-  Prim = Or (Made expr.Const Constant) (Or (Opened may (Group E)) (Or (Opened may (Rec E)) (Or (Opened may (Inject A)) (Or (Opened may (Coll P E kind.Set)) (Or (Opened may (Coll P E kind.Bag)) (Or (Opened may (Coll P E kind.List)) (Or (Opened may (Case E B)) (Named may E))))))))
+  Prim = Or (Made expr.Const Constant) (Or (Opened may (Group E))
+      (Or (Opened may (Rec E)) (Or (Opened may (Inject A))
+      (Or (Opened may (Coll P E kind.Set)) (Or (Opened may (Coll P E kind.Bag))
+      (Or (Opened may (Coll P E kind.List)) (Or (Opened may (Case E B)) (Named may E))))))))
 
   -- post := prim { "." LABEL }
   abbrev pub Post : Phrase Token Expr
@@ -280,7 +286,8 @@ PatInside (suc depth) = ReadsPat depth
 -- the tokens are this expression, nested at most so deep
 abbrev pub Reads : ℕ → Sort → Phrase Token Expr
 Reads zero s = of_sort s false Never Never Never Never Never Never
-Reads (suc depth) s = of_sort s true (ReadsPat depth) (Reads depth whole) (Reads depth negated) (Reads depth signed) (Reads depth added) (ABranch (opens depth) (PatInside depth) (Reads depth whole))
+Reads (suc depth) s = of_sort s true (ReadsPat depth) (Reads depth whole) (Reads depth negated) (Reads depth signed)
+    (Reads depth added) (ABranch (opens depth) (PatInside depth) (Reads depth whole))
 
 -- ---- programs
 
@@ -329,7 +336,8 @@ left_out = record { label = word_of (0, []); pat = pattern.Any; body = expr.Coll
 -- the same expressions, but that such a token may stand for a branch
 abbrev pub Begins : List Token → ℕ → Sort → Phrase Token Expr
 Begins ts zero s = of_sort s false Never Never Never Never Never Never
-Begins ts (suc depth) s = of_sort s true (ReadsPat depth) (Begins ts depth whole) (Begins ts depth negated) (Begins ts depth signed) (Begins ts depth added) (Or (Missing (misses ts) left_out) (ABranch (opens depth) (PatInside depth) (Begins ts depth whole)))
+Begins ts (suc depth) s = of_sort s true (ReadsPat depth) (Begins ts depth whole) (Begins ts depth negated) (Begins ts depth signed)
+    (Begins ts depth added) (Or (Missing (misses ts) left_out) (ABranch (opens depth) (PatInside depth) (Begins ts depth whole)))
 
 -- the same programs, but that such a token may stand for a branch
 abbrev pub BeginsProgram : List Token → ℕ → Phrase Token Program

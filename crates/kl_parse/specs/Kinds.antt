@@ -1,6 +1,7 @@
 -- Which kind of token it is, as tests.
 -- No public contract cites this.
-use Rattle.std.specs.Prelude.{ℕ, ◌^◌, ◌+◌, nat_eq, ℤ, pos, negsuc, neg_ℤ, Bool, true, false, ◌||◌, List, [], ◌∷◌, Option, Some, None, if◌then◌else◌}
+use Rattle.std.specs.Prelude.{ℕ, ◌^◌, ◌+◌, nat_eq, ℤ, pos, negsuc, neg_ℤ, Bool, true, false, ◌||◌, List, [], ◌∷◌, Option, Some}
+use Rattle.std.specs.Prelude.{None, if◌then◌else◌}
 use Rattle.kl_lex.specs.declared.token.Sym.{Sym}
 use Rattle.kl_lex.specs.declared.token.Sym.TheVariants as sym
 use Rattle.kl_lex.specs.contracts.token.Sym as sym_type
@@ -64,7 +65,9 @@ abbrev pub name_kinds : List ℕ
 name_kinds = 1 ∷ []
 
 abbrev pub label_kinds : List ℕ
-label_kinds = 1 ∷ key_kind key.And ∷ key_kind key.Case ∷ key_kind key.Define ∷ key_kind key.Else ∷ key_kind key.End ∷ key_kind key.False ∷ key_kind key.If ∷ key_kind key.In ∷ key_kind key.Let ∷ key_kind key.Not ∷ key_kind key.Of ∷ key_kind key.Or ∷ key_kind key.Otherwise ∷ key_kind key.Then ∷ key_kind key.True ∷ []
+label_kinds = 1 ∷ key_kind key.And ∷ key_kind key.Case ∷ key_kind key.Define ∷ key_kind key.Else ∷ key_kind key.End
+    ∷ key_kind key.False ∷ key_kind key.If ∷ key_kind key.In ∷ key_kind key.Let ∷ key_kind key.Not ∷ key_kind key.Of
+    ∷ key_kind key.Or ∷ key_kind key.Otherwise ∷ key_kind key.Then ∷ key_kind key.True ∷ []
 
 abbrev pub constant_kinds : List ℕ
 constant_kinds = 0 ∷ 2 ∷ key_kind key.True ∷ key_kind key.False ∷ []
@@ -75,7 +78,8 @@ big_kinds = 19 ∷ []
 abbrev pub op_kinds : Level → List ℕ
 op_kinds level.Or = key_kind key.Or ∷ []
 op_kinds level.And = key_kind key.And ∷ []
-op_kinds level.Compare = symbol_kind sym.Eq ∷ symbol_kind sym.Ne ∷ symbol_kind sym.Lt ∷ symbol_kind sym.Le ∷ symbol_kind sym.Gt ∷ symbol_kind sym.Ge ∷ []
+op_kinds level.Compare = symbol_kind sym.Eq ∷ symbol_kind sym.Ne ∷ symbol_kind sym.Lt ∷ symbol_kind sym.Le ∷ symbol_kind sym.Gt
+    ∷ symbol_kind sym.Ge ∷ []
 op_kinds level.Add = symbol_kind sym.Add ∷ symbol_kind sym.Sub ∷ symbol_kind sym.Append ∷ symbol_kind sym.Cat ∷ []
 op_kinds level.Mul = symbol_kind sym.Mul ∷ []
 

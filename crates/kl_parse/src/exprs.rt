@@ -12,7 +12,8 @@ ghost use Rattle.kl_phrase.specs.Gives.{Gives};
 ghost use Rattle.kl_lex.specs.Brackets.{opener};
 ghost use Rattle.kl_parse.specs.Grammar.{branch_of, let_of, if_of, inject_of, case_of, whole, negated, signed};
 ghost use Rattle.kl_parse.specs.Kinds.{among, is_symbol, op_kinds, an_op};
-ghost use Rattle.kl_parse.specs.Descent.{mark, read_pat, labels, reads, chain_at, operand_at, sort_at, compare_at, post_at, prim_at, named_at};
+ghost use Rattle.kl_parse.specs.Descent.{mark, read_pat, labels, reads, chain_at, operand_at, sort_at, compare_at, post_at};
+ghost use Rattle.kl_parse.specs.Descent.{prim_at, named_at};
 ghost use Rattle.kl_parse.specs.Descent.{branch_at, exprs, in_args, in_group, in_rec, in_inject, in_coll, in_let, in_if, in_case, case_end};
 ghost use Rattle.kl_parse.specs.Descent.{expr_before, field, condition, qualifier, quals, beyond, otherwise};
 
@@ -49,7 +50,8 @@ fn labels(
 
 /// The kind of collection that a bracket opens, and what stands behind it.
 fn opened(tokens: &[Token]) -> Option<(Kind, &[Token])>
-    ensures { MatchOption result ((heads (is_symbol symbols.OpenSet) tokens.now ≡ false) × (heads (is_symbol symbols.OpenBag) tokens.now ≡ false)
+    ensures { MatchOption result ((heads (is_symbol symbols.OpenSet) tokens.now ≡ false)
+        × (heads (is_symbol symbols.OpenBag) tokens.now ≡ false)
         × (heads (is_symbol symbols.OpenList) tokens.now ≡ false)) (λ x. (t : AToken) × (tokens.now ≡ t ∷ x.1.now) × (is_symbol (opener x.0) t ≡ true)) }
 {
     if let Some(rest) = eat(tokens, Sym::OpenSet) {
@@ -376,7 +378,8 @@ fn call_rest(
     word: Word,
     tokens: &[Token],
 ) -> Result<(Box<Expr>, &[Token]), Fault<'_, Token>>
-    ensures { Gives (λ x. x.0) (λ x. x.1.now) result (made (λ args. exprs_of.Call word args) (in_args (reads total depth whole)) tokens.now) }
+    ensures { Gives (λ x. x.0) (λ x. x.1.now) result
+        (made (λ args. exprs_of.Call word args) (in_args (reads total depth whole)) tokens.now) }
 {
     let (args, rest) = args_rest(alloc, total, depth, tokens)?;
     boxed(alloc, Expr::Call(word, args), rest)
@@ -680,7 +683,8 @@ fn branches(
     depth: u32,
     tokens: &[Token],
 ) -> Result<(Branches, &[Token]), Fault<'_, Token>>
-    ensures { Gives (λ x. x.0) (λ x. x.1.now) result (parted (is_symbol symbols.Comma) (mark symbols.Comma) (branch_at total depth) tokens.now) }
+    ensures { Gives (λ x. x.0) (λ x. x.1.now) result
+        (parted (is_symbol symbols.Comma) (mark symbols.Comma) (branch_at total depth) tokens.now) }
 {
     let (first, rest) = branch(alloc, total, depth, tokens)?;
     more_branches(alloc, total, depth, first, rest)

@@ -33,7 +33,8 @@ pub fn eat(tokens: &[Token], symbol: Sym) -> Option<&[Token]>
 
 /// What stands behind this keyword, if the tokens begin with it.
 pub fn eat_word(tokens: &[Token], keyword: Keyword) -> Option<&[Token]>
-    ensures { MatchOption result (heads (is_key keyword) tokens.now ≡ false) (λ rest. (t : AToken) × (tokens.now ≡ t ∷ rest.now) × (is_key keyword t ≡ true)) }
+    ensures { MatchOption result (heads (is_key keyword) tokens.now ≡ false)
+        (λ rest. (t : AToken) × (tokens.now ≡ t ∷ rest.now) × (is_key keyword t ≡ true)) }
 {
     let [
         Token {

@@ -88,7 +88,8 @@ fn operator_at(what: &Tok, level: Level) -> Option<Op>
 
 /// An operator of this level and what stands behind it, if the tokens begin with one.
 pub fn operator(tokens: &[Token], level: Level) -> Option<(Op, &[Token])>
-    ensures { MatchOption result (heads (among (op_kinds level)) tokens.now ≡ false) (λ x. (heads (among (op_kinds level)) tokens.now ≡ true)
+    ensures { MatchOption result (heads (among (op_kinds level)) tokens.now ≡ false)
+        (λ x. (heads (among (op_kinds level)) tokens.now ≡ true)
         × (one (an_op level) tokens.now ≡ ok x.0 x.1.now)) }
 {
     let [Token { what, .. }, rest @ ..] = tokens else {

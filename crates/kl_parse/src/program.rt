@@ -91,7 +91,8 @@ fn closed_body(
     depth: u32,
     tokens: &[Token],
 ) -> Result<((Option<Pattern>, Expr), &[Token]), Fault<'_, Token>>
-    ensures { Gives (λ x. x.0) (λ x. x.1.now) result (before (body (read_pat total depth) (reads total depth whole)) (mark symbols.Semi) tokens.now) }
+    ensures { Gives (λ x. x.0) (λ x. x.1.now) result
+        (before (body (read_pat total depth) (reads total depth whole)) (mark symbols.Semi) tokens.now) }
 {
     let (found, rest) = body(alloc, total, depth, tokens)?;
     closed(found, rest, Sym::Semi)

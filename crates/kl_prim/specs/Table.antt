@@ -4,7 +4,8 @@ use Rattle.kl_value.specs.declared.Kind.TheVariants as kind
 use Rattle.kl_value.specs.declared.Value.{Value}
 use Rattle.kl_prim.specs.Fits.{FitsShape}
 use Rattle.kl_prim.specs.Meaning.{Answer, senseless, equal, unequal, below, at_most, above, at_least, add, subtract, multiply}
-use Rattle.kl_prim.specs.Meaning.{negate, complement, join, is_empty, count, sum, member, least, greatest, flatten, into, text_length, begins_with, to_int, to_text}
+use Rattle.kl_prim.specs.Meaning.{negate, complement, join, is_empty, count, sum, member, least, greatest, flatten, into}
+use Rattle.kl_prim.specs.Meaning.{text_length, begins_with, to_int, to_text}
 use Rattle.kl_prim.specs.declared.rows.PrimRow.{PrimRow}
 use Rattle.kl_prim.specs.declared.rows.Shape.{Shape}
 use Rattle.kl_prim.specs.declared.rows.Shape.TheVariants as shape

@@ -128,7 +128,8 @@ pub fn greatest(alloc: Global, kind: Kind, items: &[Value]) -> Result<Value, Pri
 /// The items of the items of a collection that is lent, in order, as a collection of the same kind.
 pub fn flatten_lent(alloc: Global, kind: Kind, items: &[Value]) -> Result<Value, PrimStop>
     requires { All (λ v. IsSome (items_at kind v)) items.now }
-    ensures { AnswersMeaning (with_some (all_some (items_at kind) items.now) (λ lists. gives (canonical kind (flat_map (λ vs. vs) lists)))) result }
+    ensures { AnswersMeaning (with_some (all_some (items_at kind) items.now)
+        (λ lists. gives (canonical kind (flat_map (λ vs. vs) lists)))) result }
 {
     let mut all = Vec::new(alloc);
     for item in items {
@@ -140,7 +141,8 @@ pub fn flatten_lent(alloc: Global, kind: Kind, items: &[Value]) -> Result<Value,
 /// The same of one that is handed over, whose items are kept.
 pub fn flatten_owned(alloc: Global, kind: Kind, items: Vec<Value>) -> Result<Value, PrimStop>
     requires { All (λ v. IsSome (items_at kind v)) items.items }
-    ensures { AnswersMeaning (with_some (all_some (items_at kind) items.items) (λ lists. gives (canonical kind (flat_map (λ vs. vs) lists)))) result }
+    ensures { AnswersMeaning (with_some (all_some (items_at kind) items.items)
+        (λ lists. gives (canonical kind (flat_map (λ vs. vs) lists)))) result }
 {
     Ok(canon(kind, joined(alloc, kind, items)?)?)
 }

@@ -1,6 +1,7 @@
 -- Places in a term: paths of the numbers of parts, which are counted from 0 in the order in which a term writes them.
 use Rattle.std.specs.Prelude.{◌≡◌, ◌⊎◌, ℕ, zero, suc, ◌<◌, List, [], ◌∷◌, Option, Some, None, option_and_then, ⊤}
-use Rattle.kl_core.specs.Trees.{Tree, Rec, Proj, Inj, Case, Make, Union, Ext, If, Let, Prim, Trees, no_trees, trees, Parts, no_parts, parts, Arms, no_arms, rest, arm}
+use Rattle.kl_core.specs.Trees.{Tree, Rec, Proj, Inj, Case, Make, Union, Ext, If, Let, Prim, Trees, no_trees, trees, Parts}
+use Rattle.kl_core.specs.Trees.{no_parts, parts, Arms, no_arms, rest, arm}
 
 -- ---- one part
 

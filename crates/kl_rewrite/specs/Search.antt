@@ -40,4 +40,5 @@ pub record Leads (room level : ℕ) (t u : Tree) : Type 0 where
 abbrev pub IsSettled : ℕ → ℕ → Tree → List ℕ → Type 0
 IsSettled calm level t [] = ⊤
 IsSettled calm level t (i ∷ r) =
-    ((j : ℕ) (b : Tree) → j < i → part_at t j ≡ Some b → IsQuiet calm (level + 1) b) × ((a : Tree) → part_at t i ≡ Some a → IsSettled calm (level + 1) a r)
+    ((j : ℕ) (b : Tree) → j < i → part_at t j ≡ Some b → IsQuiet calm (level + 1) b)
+        × ((a : Tree) → part_at t i ≡ Some a → IsSettled calm (level + 1) a r)

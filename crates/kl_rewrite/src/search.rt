@@ -158,7 +158,8 @@ impl Search {
     #[cycle(step)]
     fn all(&mut self, terms: &mut Terms, trail: &[usize], level: u64) -> Result<bool, NoMemory>
         requires ready { AreOpen tree_at level 0 (trees_view terms.old) trail.now self.old }
-        ensures { IfOk result (λ b. SearchedAll tree_at with_tree level 0 (trees_view terms.old) (trees_view terms.new) b self.old self.new) }
+        ensures { IfOk result (λ b. SearchedAll tree_at with_tree level 0 (trees_view terms.old)
+            (trees_view terms.new) b self.old self.new) }
     {
         let terms = terms.slice_mut();
         'terms: for i in 0..terms.len() {

@@ -10,7 +10,8 @@ use Rattle.kl_rows.specs.declared.cell.RowNode.TheVariants.{AnyRow, NoRow, Front
 use Rattle.kl_rows.specs.declared.cell.Cell.{Cell}
 use Rattle.kl_rows.specs.declared.cell.Cell.TheVariants.{OfType, OfFunction, OfRow, OfKind}
 use Rattle.kl_rows.specs.Lists.{Fields}
-use Rattle.kl_rows.specs.Places.{Sort, a_type, a_function, a_row, a_kind, sort_of, sort_at, IsType, IsFunction, IsRowAt, IsKind, Parts, IsPlaced, Lacks, LacksAs, IsTidy, IsFine}
+use Rattle.kl_rows.specs.Places.{Sort, a_type, a_function, a_row, a_kind, sort_of, sort_at, IsType, IsFunction, IsRowAt, IsKind}
+use Rattle.kl_rows.specs.Places.{Parts, IsPlaced, Lacks, LacksAs, IsTidy, IsFine}
 use Rattle.kl_rows.specs.Solutions.{Assignment, TypeSays, FunctionSays, RowSays, KindSays, Says, Solves}
 use Rattle.kl_rows.specs.Steps.{Grown, KeepsCells}
 

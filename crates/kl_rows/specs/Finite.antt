@@ -1,5 +1,6 @@
 -- Cells that some finite types, rows and kinds meet. Public contracts cite `Solvable` alone.
-use Rattle.std.specs.Prelude.{◌≡◌, ◌≢◌, ℕ, ◌+◌, ◌<◌, ◌≤◌, Bool, true, false, ◌&&◌, List, [], ◌∷◌, ◌++◌, length, Option, Some, None, nat_eq, slice_get}
+use Rattle.std.specs.Prelude.{◌≡◌, ◌≢◌, ℕ, ◌+◌, ◌<◌, ◌≤◌, Bool, true, false, ◌&&◌, List, [], ◌∷◌, ◌++◌, length, Option, Some}
+use Rattle.std.specs.Prelude.{None, nat_eq, slice_get}
 use Rattle.kl_rows.specs.declared.cell.TypeNode.{TypeNode}
 use Rattle.kl_rows.specs.declared.cell.TypeNode.TheVariants.{AnyType, Base, Rec, Var, Coll, TypeLink}
 use Rattle.kl_rows.specs.declared.cell.KindNode.{KindNode}
@@ -85,7 +86,8 @@ mark_of (o ∷ os) j = pick (nat_eq j o.0) o.1 (mark_of os j)
 -- each mark is what could be told of the cell from those made before
 abbrev pub IsOrder : List Cell → Order → Type 0
 IsOrder cells [] = Unit {0}
-IsOrder cells (o ∷ os) = (c : Cell) × (slice_get cells o.0 ≡ Some c) × (o.1 ≡ next_mark c (mark_of os)) × (o.1 ≢ Unseen) × (mark_of os o.0 ≡ Unseen) × IsOrder cells os
+IsOrder cells (o ∷ os) = (c : Cell) × (slice_get cells o.0 ≡ Some c) × (o.1 ≡ next_mark c (mark_of os)) × (o.1 ≢ Unseen)
+    × (mark_of os o.0 ≡ Unseen) × IsOrder cells os
 
 -- nothing more can be told of any cell
 abbrev pub IsStill : List Cell → (ℕ → Mark) → Type 0

@@ -87,7 +87,8 @@ pub record IsKindAt (yes : Bool) (cells : List Cell) (i : ℕ) (k : Kind) : Type
 
 -- the same of the first so many of these fields
 pub record KnowsTo (cells : List Cell) (numbers : Fields) (fs : List (List ℕ × Ty)) (k : ℕ) : Type 0 where
-  pub says : IsRow (row_by ground_of fs) → (s : Assignment) → Solves cells s → row_by s.types (take k numbers) ≡ row_by ground_of (take k fs)
+  pub says : IsRow (row_by ground_of fs) → (s : Assignment) → Solves cells s
+      → row_by s.types (take k numbers) ≡ row_by ground_of (take k fs)
 
 -- the same of a number that is a type's
 pub record KnowsThere (yes : Bool) (cells : List Cell) (i : ℕ) (t : Ty) : Type 0 where

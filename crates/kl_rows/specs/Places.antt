@@ -94,7 +94,8 @@ pub record Steps (cells : List Cell) (i : ℕ) (fields : Fields) (rest : ℕ) : 
 -- so many steps lead from a row over these fields to its end
 abbrev pub Walk : List Cell → ℕ → ℕ → Fields → ℕ → Type 0
 Walk cells zero i fields end = (i ≡ end) × (fields ≡ []) × EndsAt cells i
-Walk cells (suc k) i fields end = (fs : Fields) × (gs : Fields) × (rest : ℕ) × Steps cells i fs rest × (fields ≡ fs ++ gs) × Walk cells k rest gs end
+Walk cells (suc k) i fields end = (fs : Fields) × (gs : Fields) × (rest : ℕ) × Steps cells i fs rest × (fields ≡ fs ++ gs)
+    × Walk cells k rest gs end
 
 -- a sum over all cells
 abbrev pub total : (Cell → ℕ) → List Cell → ℕ
@@ -124,7 +125,8 @@ IsIn l (m ∷ ms) = (l ≡ m) ⊎ IsIn l ms
 pub data Lacks (cells : List Cell) (l : List ℕ) : ℕ → Type 0 where
   at_open : {i : ℕ} (ls : List (List ℕ)) → slice_get cells i ≡ Some (OfRow (AnyRow ls)) → IsIn l ls → Lacks cells l i
   at_none : {i : ℕ} → slice_get cells i ≡ Some (OfRow NoRow) → Lacks cells l i
-  at_front : {i : ℕ} (fs : Fields) (r : ℕ) → slice_get cells i ≡ Some (OfRow (Front fs r)) → field l fs ≡ None → Lacks cells l r → Lacks cells l i
+  at_front : {i : ℕ} (fs : Fields) (r : ℕ) → slice_get cells i ≡ Some (OfRow (Front fs r)) → field l fs ≡ None → Lacks cells l r
+      → Lacks cells l i
 
 -- a row that this cell makes lacks the label
 abbrev pub LacksAs : Cell → List Cell → List ℕ → Type 0

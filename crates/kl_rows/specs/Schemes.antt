@@ -84,7 +84,8 @@ pub record Instance (scheme : Scheme) (t : Ground) : Type 0 where
 pub record IsScheme (scheme : Scheme) : Type 0 where
   pub placed : (i : ℕ) (c : Cell) → slice_get (cells_of scheme.nodes) i ≡ Some c → IsPlaced (cells_of scheme.nodes) i c
   pub before : (i : ℕ) (c : Cell) → slice_get (cells_of scheme.nodes) i ≡ Some c → Parts c (λ p. p < i)
-  pub tidy : (i : ℕ) (fs : Fields) (r : ℕ) → slice_get (cells_of scheme.nodes) i ≡ Some (OfRow (row.Front fs r)) → IsTidy (cells_of scheme.nodes) fs r
+  pub tidy : (i : ℕ) (fs : Fields) (r : ℕ) → slice_get (cells_of scheme.nodes) i ≡ Some (OfRow (row.Front fs r))
+      → IsTidy (cells_of scheme.nodes) fs r
   pub bases : AllByRecursion IsBasePart scheme.nodes
   pub root_in : IsTyped (cells_of scheme.nodes) scheme.root
 

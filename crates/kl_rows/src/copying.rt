@@ -4,7 +4,8 @@ ghost use Rattle.kl_rows.specs.declared.cell.Cell.TheVariants.{OfType, OfFunctio
 ghost use Rattle.kl_rows.specs.declared.cell.RowNode.TheVariants.{Front};
 ghost use Rattle.kl_rows.specs.Places.{IsFine};
 ghost use Rattle.kl_rows.specs.Making.{CanMake};
-ghost use Rattle.kl_rows.specs.Copying.{renamed, renamed_type, renamed_row, renamed_kind, renamed_fields, number_in, kept_in, IsSource, InOrder};
+ghost use Rattle.kl_rows.specs.Copying.{renamed, renamed_type, renamed_row, renamed_kind, renamed_fields, number_in, kept_in};
+ghost use Rattle.kl_rows.specs.Copying.{IsSource, InOrder};
 ghost use Rattle.kl_rows.specs.Copying.{IsClosed, Takes, Copies};
 
 use crate::cell::{Cell, KindNode, RowNode, TypeNode};

@@ -2,7 +2,8 @@
 ghost use Rattle.std.specs.Prelude.{◌≡◌, ◌≢◌, ◌↔◌, ◌<◌, ℕ, IsTrue, IfOk, OnOk, MatchOption, length, not, slice_set};
 ghost use Rattle.kl_rows.specs.Places.{IsFine};
 ghost use Rattle.kl_rows.specs.declared.finite.Mark.TheVariants.{Unseen};
-ghost use Rattle.kl_rows.specs.Finite.{mark_in, is_seen, all_seen, full_if, next_mark, type_mark, row_mark, kind_mark, Marked, MarksOne, Sofar};
+ghost use Rattle.kl_rows.specs.Finite.{mark_in, is_seen, all_seen, full_if, next_mark, type_mark, row_mark, kind_mark, Marked};
+ghost use Rattle.kl_rows.specs.Finite.{MarksOne, Sofar};
 ghost use Rattle.kl_rows.specs.Finite.{Settled, IsOrderOf, Solvable};
 
 use crate::cell::{Cell, KindNode, RowNode, TypeNode};

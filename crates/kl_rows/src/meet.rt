@@ -8,7 +8,8 @@ ghost use Rattle.kl_rows.specs.declared.cell.RowNode.TheVariants.{AnyRow, Front}
 ghost use Rattle.kl_rows.specs.Places.{IsFine, IsType, IsKind, IsRowAt, IsTidy, AreTypes, EndsAt};
 ghost use Rattle.kl_rows.specs.Walking.{TypeRoot, KindRoot};
 ghost use Rattle.kl_rows.specs.Steps.{Advances, Shares};
-ghost use Rattle.kl_rows.specs.Joining.{AreApart, cell_at, is_empty, may_take, is_open, lacks_at, kept, kept_kind, compared, same_kinds, Joins};
+ghost use Rattle.kl_rows.specs.Joining.{AreApart, cell_at, is_empty, may_take, is_open, lacks_at, kept, kept_kind, compared};
+ghost use Rattle.kl_rows.specs.Joining.{same_kinds, Joins};
 ghost use Rattle.kl_rows.specs.Joining.{Meets, MeetsRows};
 
 use crate::cell::{Cell, KindNode, RowNode, TypeNode};
@@ -202,7 +203,8 @@ fn join_ends(
     requires types_second { AreTypes cells.old.items for_second.items }
     requires tidy_first { IsTidy cells.old.items for_first.items second }
     requires tidy_second { IsTidy cells.old.items for_second.items first }
-    ensures { IfOk result (λ holds. Advances holds cells.old.items cells.new.items (Shares for_first.items for_second.items first second) (λ s. Unit {0})) }
+    ensures { IfOk result (λ holds. Advances holds cells.old.items cells.new.items
+        (Shares for_first.items for_second.items first second) (λ s. Unit {0})) }
 {
     if first == second {
         return Ok(are_empty(&for_first, &for_second));

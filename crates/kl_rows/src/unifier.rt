@@ -176,7 +176,8 @@ impl Unifier {
     pub fn settled(&self, root: u64) -> Result<Option<Scheme>, NoMemory>
         requires fine { IsFine self.now.cells.items }
         requires on_root { IsTyped self.now.cells.items root }
-        ensures { IfOk result (λ found. MatchOption found (Solvable self.now.cells.items → ⊥) (λ scheme. Settles self.now.cells.items root scheme)) }
+        ensures { IfOk result (λ found. MatchOption found (Solvable self.now.cells.items → ⊥)
+            (λ scheme. Settles self.now.cells.items root scheme)) }
     {
         let found = settled(self.alloc, &self.cells, root as usize)?;
         Ok(found)
@@ -213,7 +214,8 @@ impl Unifier {
     pub fn merge(&mut self, first: u64, second: u64) -> Result<bool, NoMemory>
         requires fine { IsFine self.old.cells.items }
         requires sorts { HasSort self.old.cells.items first second }
-        ensures { IfOk result (λ holds. Advances holds self.old.cells.items self.new.cells.items (Same (sort_at self.old.cells.items first) first second)
+        ensures { IfOk result (λ holds. Advances holds self.old.cells.items self.new.cells.items
+            (Same (sort_at self.old.cells.items first) first second)
             (λ s. Unit {0})) }
     {
         let first = first as usize;

@@ -10,7 +10,8 @@ use Rattle.kl_value.specs.declared.Kind.{Kind}
 use Rattle.kl_value.specs.declared.Kind.TheVariants as kind
 use Rattle.kl_value.specs.declared.Value.TheVariants as value
 use Rattle.kl_outcome.specs.Outcome.{Name}
-use Rattle.kl_core.specs.Trees.{Tree, Const, Rec, Proj, Inj, Case, Make, Union, Ext, If, Let, no_trees, trees, Parts, no_parts, parts, Arms, no_arms, rest, arm}
+use Rattle.kl_core.specs.Trees.{Tree, Const, Rec, Proj, Inj, Case, Make, Union, Ext, If, Let, no_trees, trees, Parts, no_parts}
+use Rattle.kl_core.specs.Trees.{parts, Arms, no_arms, rest, arm}
 use Rattle.kl_core.specs.Positions.{shift_of, subst_of}
 use Rattle.kl_core.specs.Counts.{total_in, total_parts, fits_in}
 use Rattle.kl_rules.specs.Guards.{IsCheap, uses_in, IsFarther, plain_in}
@@ -27,12 +28,14 @@ Rewriting = Tree → Tree → Type 0
 -- 1. Vertical fusion: `Ext(k, x. a, Ext(j, y. b, s))` is `Ext(k, y. Ext(k, x. a, b), s)`, where items of a source of kind j
 -- may be drawn as they come for a result of kind k.
 abbrev pub VerticalFusion : Rewriting
-VerticalFusion t u = (k j : Kind) × (a b s : Tree) × (t ≡ Ext k a (Ext j b s)) × (u ≡ Ext k (Ext k (shift_of a 1 1) b) s) × (fits_in j k ≡ true)
+VerticalFusion t u = (k j : Kind) × (a b s : Tree) × (t ≡ Ext k a (Ext j b s)) × (u ≡ Ext k (Ext k (shift_of a 1 1) b) s)
+    × (fits_in j k ≡ true)
 
 -- 2. Horizontal fusion: `Union(Ext(k, x. a, s), Ext(k, x. b, s))` is `Ext(k, x. Union(a, b), s)`, where k is set or bag, and s
 -- has one type.
 abbrev pub HorizontalFusion : Rewriting
-HorizontalFusion t u = (k : Kind) × (a b s : Tree) × (t ≡ Union (Ext k a s) (Ext k b s)) × (u ≡ Ext k (Union a b) s) × (k ≢ kind.List) × (plain_in s ≡ true)
+HorizontalFusion t u = (k : Kind) × (a b s : Tree) × (t ≡ Union (Ext k a s) (Ext k b s)) × (u ≡ Ext k (Union a b) s)
+    × (k ≢ kind.List) × (plain_in s ≡ true)
 
 -- 3. Filter promotion: `Ext(k, x. If(c, a, Make(j, [])), s)` is `If(c, Ext(k, x. a, s), Make(j, []))`, where x is not in c, and c
 -- and s are total.
@@ -105,7 +108,8 @@ KnownCondition t u = (b : Bool) × (p q : Tree) × (t ≡ If (Const (value.Bool 
 
 -- 16. `If(If(a, b, Const false), c, Make(k, []))` is `If(a, If(b, c, Make(k, [])), Make(k, []))`.
 abbrev pub NestedCondition : Rewriting
-NestedCondition t u = (k : Kind) × (a b c : Tree) × (t ≡ If (If a b (Const (value.Bool false))) c (empty_of k)) × (u ≡ If a (If b c (empty_of k)) (empty_of k))
+NestedCondition t u = (k : Kind) × (a b c : Tree) × (t ≡ If (If a b (Const (value.Bool false))) c (empty_of k))
+    × (u ≡ If a (If b c (empty_of k)) (empty_of k))
 
 -- 17. `If(c, If(d, s, Make(k, [])), Make(k, []))` is `If(d, If(c, s, Make(k, [])), Make(k, []))`, where c and d are total, and the
 -- nearest variable of d is farther out than that of c. A term without free variables is farther out than every variable.

@@ -1,7 +1,8 @@
 -- A record that is bound and used by its fields alone, and the same with a position for each field.
 use Rattle.std.specs.Prelude.{ℕ, ◌+◌, ◌-◌, List, [], ◌∷◌, length, cond, nat_lt, Option, Some, None, slice_get}
 use Rattle.kl_outcome.specs.Outcome.{Name}
-use Rattle.kl_core.specs.Trees.{Tree, Var, Const, Source, Rec, Proj, Inj, Case, Make, Union, Ext, If, Let, Prim, Trees, no_trees, trees, Parts, no_parts, parts, Arms, no_arms, rest, arm}
+use Rattle.kl_core.specs.Trees.{Tree, Var, Const, Source, Rec, Proj, Inj, Case, Make, Union, Ext, If, Let, Prim, Trees, no_trees}
+use Rattle.kl_core.specs.Trees.{trees, Parts, no_parts, parts, Arms, no_arms, rest, arm}
 use Rattle.kl_core.specs.Positions.{shift_of}
 
 -- the labels of the fields, in their order

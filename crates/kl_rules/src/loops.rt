@@ -1,7 +1,8 @@
 //! Loops: rules 1 to 7. Those that have names are the rules of the comprehension calculus by Wong (JFP 10(1), 2000).
 ghost use Rattle.std.specs.Option.{option_copied};
 ghost use Rattle.kl_core.specs.Trees.{view};
-ghost use Rattle.kl_rules.specs.Rules.{VerticalFusion, HorizontalFusion, FilterPromotion, EmptySource, SingletonSource, ConditionalSource, LetSource};
+ghost use Rattle.kl_rules.specs.Rules.{VerticalFusion, HorizontalFusion, FilterPromotion, EmptySource, SingletonSource};
+ghost use Rattle.kl_rules.specs.Rules.{ConditionalSource, LetSource};
 ghost use Rattle.kl_rules.specs.Rewriting.{IsShiftable, RewritesBy, IsOnlyItem};
 
 use crate::guards::lowered;

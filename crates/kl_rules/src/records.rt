@@ -8,7 +8,8 @@ ghost use Rattle.kl_core.specs.Trees.{Var, view, view_part, trees_view, parts_vi
 ghost use Rattle.kl_rules.specs.Rules.{ScalarReplacement};
 ghost use Rattle.kl_rules.specs.Unpacking.{bound_round};
 ghost use Rattle.kl_rules.specs.Rewriting.{IsLowPosition, IsShiftable, RewritesBy};
-ghost use Rattle.kl_rules.specs.Unpacked.{place_in, is_at, alone_in, alone_trees, alone_parts, alone_arms, unpacked, unpacked_arms, HasRoom, HasRoomArms};
+ghost use Rattle.kl_rules.specs.Unpacked.{place_in, is_at, alone_in, alone_trees, alone_parts, alone_arms, unpacked};
+ghost use Rattle.kl_rules.specs.Unpacked.{unpacked_arms, HasRoom, HasRoomArms};
 
 use kl_base::{Box, Label, NoMemory, Seq};
 use kl_core::building::{
@@ -247,7 +248,8 @@ fn unpack_other(
 ) -> Result<Option<Box<Term>>, NoMemory>
     requires few { length fields.now < 2 ^ 31 }
     requires room { HasRoomArms (rest_of (option_map view other.now)) at }
-    ensures { IfOk result (λ o. rest_of (option_map view o) ≡ unpacked_arms (labels_of fields.now) at (rest_of (option_map view other.now))) }
+    ensures { IfOk result (λ o. rest_of (option_map view o)
+        ≡ unpacked_arms (labels_of fields.now) at (rest_of (option_map view other.now))) }
 {
     match other {
         Some(other) => {

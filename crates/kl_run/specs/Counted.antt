@@ -1,5 +1,6 @@
 -- What is counted of the scans of a plan.
-use Rattle.std.specs.Prelude.{◌≡◌, ℕ, zero, suc, ◌-◌, ◌^◌, ◌&&◌, min, Bool, true, List, [], ◌∷◌, map, Option, Some, None, cond, nat_eq, slice_get}
+use Rattle.std.specs.Prelude.{◌≡◌, ℕ, zero, suc, ◌-◌, ◌^◌, ◌&&◌, min, Bool, true, List, [], ◌∷◌, map, Option, Some, None, cond}
+use Rattle.std.specs.Prelude.{nat_eq, slice_get}
 use Rattle.std.specs.List.{Contains, sum_by}
 use Rattle.kl_outcome.specs.Outcome.{Name}
 use Rattle.kl_value.specs.declared.Value.{Value}
@@ -63,7 +64,8 @@ AsksCounted p starts old new =
 abbrev pub ReadsMarked : List DriverKind → List Source → (ℕ → Bool) → Readings → Type 0
 ReadsMarked ks ss marks R =
     (i : ℕ) (s : Source) (rows : List Value) (c : Scan) (keep : List Name) (tests : List ColTest)
-    → slice_get ss i ≡ Some s → marks i ≡ true → contents ks s ≡ Some (Rows rows) → c.driver ≡ s.driver → c.ask ≡ asks.Rows s.name keep tests
+    → slice_get ss i ≡ Some s → marks i ≡ true → contents ks s ≡ Some (Rows rows) → c.driver ≡ s.driver
+        → c.ask ≡ asks.Rows s.name keep tests
     → R c ≡ Some (answers rows keep tests)
 
 abbrev pub at_number : ℕ → Scan → ℕ
@@ -71,4 +73,5 @@ at_number n c = cond (nat_eq c.number n) 1 0
 
 -- each scan was started once for each environment that reaches it
 abbrev pub StartsCounted : Readings → Node → List (ℕ × ℕ) → Type 0
-StartsCounted R p starts = (c : Scan) → Contains (scans_in p) c → starts_of starts c.number ≡ min (reached R (at_number c.number) p []) (2 ^ 64 - 1)
+StartsCounted R p starts = (c : Scan) → Contains (scans_in p) c
+    → starts_of starts c.number ≡ min (reached R (at_number c.number) p []) (2 ^ 64 - 1)

@@ -38,4 +38,5 @@ pub record IsPlanOf (ss : List ShipSource) (t : Tree) (p : Node) : Type 0 where
 -- value or the same overflow, and a list gives the same items in the same order and the same end.
 pub record MeansTerm (ss : List ShipSource) (t : Tree) (p : Node) : Type 0 where
   pub value : (R : Readings) (T : Tables) (s : Ground) → HoldAll ss R T → CoreTypes (types_in ss) [] t s → worth (plan R p []) ≡ core T t []
-  pub list : (R : Readings) (T : Tables) (s : Ground) → HoldAll ss R T → CoreTypes (types_in ss) [] t (coll kind.List s) → coming (plan R p []) ≡ items_of (core T t [])
+  pub list : (R : Readings) (T : Tables) (s : Ground) → HoldAll ss R T → CoreTypes (types_in ss) [] t (coll kind.List s)
+      → coming (plan R p []) ≡ items_of (core T t [])

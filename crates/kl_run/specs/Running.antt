@@ -22,6 +22,8 @@ pub record Runs (ks : List DriverKind) (ss : List Source) (marks : ℕ → Bool)
   pub sense : (s : Ground) × CoreTypes (types_of w) [] t s
   pub typed : (s : Ground) → CoreTypes (types_of w) [] t s → TypesAt w [] p s
   pub told : HaveSources (types_of w) (values_of w) → IsToldAt w
-  pub value : HaveSources (types_of w) (values_of w) → (s : Ground) → CoreTypes (types_of w) [] t s → worth (plan (reading w) p []) ≡ core (values_of w) t []
-  pub list : HaveSources (types_of w) (values_of w) → (s : Ground) → CoreTypes (types_of w) [] t (coll kind.List s) → coming (plan (reading w) p []) ≡ items_of (core (values_of w) t [])
+  pub value : HaveSources (types_of w) (values_of w) → (s : Ground) → CoreTypes (types_of w) [] t s
+      → worth (plan (reading w) p []) ≡ core (values_of w) t []
+  pub list : HaveSources (types_of w) (values_of w) → (s : Ground) → CoreTypes (types_of w) [] t (coll kind.List s)
+      → coming (plan (reading w) p []) ≡ items_of (core (values_of w) t [])
   pub reads : ReadsMarked ks ss marks (reading w)

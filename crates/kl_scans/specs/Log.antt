@@ -56,7 +56,8 @@ rows_at w d = option_map (λ s. s.handed) (slice_get w.drivers d)
 
 -- the entry at a place counts one start more, where there is one
 pub record CountsStart (number : ℕ) (old new : List (ℕ × ℕ)) : Type 0 where
-  pub times : (n : ℕ) → option_map (λ e. e.1) (slice_get new n) ≡ option_map (λ times. cond (nat_eq number n) (raised_by 1 times) times) (option_map (λ e. e.1) (slice_get old n))
+  pub times : (n : ℕ) → option_map (λ e. e.1) (slice_get new n)
+      ≡ option_map (λ times. cond (nat_eq number n) (raised_by 1 times) times) (option_map (λ e. e.1) (slice_get old n))
   pub numbers : map (λ e. e.0) new ≡ map (λ e. e.0) old
 
 -- a trace but for the starts of scans

@@ -24,7 +24,8 @@ pub fn abilities_at(drivers: &[Box<dyn Driver>], scan: &Scan) -> Abilities
 pub fn start_at(drivers: &mut Vec<Box<dyn Driver>>, scan: &Scan) -> Result<u64, DriverError>
     requires place { scan.now.driver < length drivers.old.items }
     requires can { AtIndex scan.now.driver (λ s. CanStart s scan.now.ask) (map (λ d. state d) drivers.old.items) }
-    ensures { StepsAt scan.now.driver (λ a b. Starts scan.now.ask result a b) (map (λ d. state d) drivers.old.items) (map (λ d. state d) drivers.new.items) }
+    ensures { StepsAt scan.now.driver (λ a b. Starts scan.now.ask result a b) (map (λ d. state d) drivers.old.items)
+        (map (λ d. state d) drivers.new.items) }
 {
     start_boxed(&mut drivers[scan.driver as usize], &scan.ask)
 }
@@ -43,7 +44,8 @@ pub fn pull_at(
     requires place { scan.now.driver < length drivers.old.items }
     requires is_open { AtIndex scan.now.driver (λ s. IsSome (s.cursors cursor)) (map (λ d. state d) drivers.old.items) }
     requires room { 0 < fetch }
-    ensures { StepsAt scan.now.driver (λ a b. Pulls cursor fetch into.old.items into.new.items result a b) (map (λ d. state d) drivers.old.items) (map (λ d. state d) drivers.new.items) }
+    ensures { StepsAt scan.now.driver (λ a b. Pulls cursor fetch into.old.items into.new.items result a b)
+        (map (λ d. state d) drivers.old.items) (map (λ d. state d) drivers.new.items) }
 {
     pull_boxed(&mut drivers[scan.driver as usize], cursor, fetch, into)
 }
@@ -52,7 +54,8 @@ pub fn pull_at(
 pub fn finish_at(drivers: &mut Vec<Box<dyn Driver>>, scan: &Scan, cursor: u64)
     requires place { scan.now.driver < length drivers.old.items }
     requires is_open { AtIndex scan.now.driver (λ s. IsSome (s.cursors cursor)) (map (λ d. state d) drivers.old.items) }
-    ensures { StepsAt scan.now.driver (λ a b. Finishes cursor a b) (map (λ d. state d) drivers.old.items) (map (λ d. state d) drivers.new.items) }
+    ensures { StepsAt scan.now.driver (λ a b. Finishes cursor a b) (map (λ d. state d) drivers.old.items)
+        (map (λ d. state d) drivers.new.items) }
 {
     finish_boxed(&mut drivers[scan.driver as usize], cursor)
 }

@@ -42,7 +42,8 @@ pub fn pull_scan(
     requires scan { CanScan (⟦<Session as Seen>⟧.world session.old) scan.now }
     requires is_open { IsOpen (⟦<Session as Seen>⟧.world session.old) scan.now cursor }
     requires room { 0 < (⟦<Session as Seen>⟧.world session.old).settings.fetch }
-    ensures { Pulls scan.now cursor into.old.items into.new.items result (⟦<Session as Seen>⟧.world session.old) (⟦<Session as Seen>⟧.world session.new) }
+    ensures { Pulls scan.now cursor into.old.items into.new.items result (⟦<Session as Seen>⟧.world session.old)
+        (⟦<Session as Seen>⟧.world session.new) }
 {
     match pull_at(
         &mut session.drivers,

@@ -12,7 +12,8 @@ use Rattle.kl_scope.specs.Ranks.{token_of, rule_of}
 use Rattle.kl_scope.specs.Resolved.{resolved, resolved_decls}
 
 abbrev pub program_findings : Program → List Name → List Finding
-program_findings p sources = decls_findings (decls_of p.defs) (at_first sources) ++ findings (view p.last) (behind_decls (decls_of p.defs) (at_first sources))
+program_findings p sources = decls_findings (decls_of p.defs) (at_first sources)
+    ++ findings (view p.last) (behind_decls (decls_of p.defs) (at_first sources))
 
 abbrev pub Breaks : Program → List Name → ScopeError → Type 0
 Breaks p sources e = Contains (program_findings p sources) (breach e)

@@ -4,7 +4,10 @@ use Rattle.std.specs.List.{list_any}
 use Rattle.kl_syntax.specs.declared.tree.Meaning.{Meaning}
 use Rattle.kl_syntax.specs.declared.tree.Meaning.TheVariants.{Source}
 use Rattle.kl_syntax.specs.declared.tree.Word.{Word}
-use Rattle.kl_syntax.specs.Syntax.{Pat, catch, any, same, is, shape, variant, Pats, no_pats, pats, Exp, Const, name, Call, Rec, Inj, Coll, Comp, If, Let, Case, Path, Not, Neg, Chain, Exps, no_exps, exps, Flds, no_flds, flds, Quals, no_quals, draw, test, Branches, no_branches, otherwise, branch, Steps, no_steps, step, Decls, no_decls, constant, function}
+use Rattle.kl_syntax.specs.Syntax.{Pat, catch, any, same, is, shape, variant, Pats, no_pats, pats, Exp, Const, name, Call, Rec}
+use Rattle.kl_syntax.specs.Syntax.{Inj, Coll, Comp, If, Let, Case, Path, Not, Neg, Chain, Exps, no_exps, exps, Flds, no_flds}
+use Rattle.kl_syntax.specs.Syntax.{flds, Quals, no_quals, draw, test, Branches, no_branches, otherwise, branch, Steps, no_steps}
+use Rattle.kl_syntax.specs.Syntax.{step, Decls, no_decls, constant, function}
 use Rattle.kl_scope.specs.declared.refusal.ScopeError.{ScopeError}
 use Rattle.kl_scope.specs.declared.refusal.ScopeError.TheVariants.{Unknown, Twice, Misapplied, Refutable}
 use Rattle.kl_scope.specs.declared.names.Sense.{Sense}
@@ -142,7 +145,8 @@ taken s w = only_if (is_taken s w.text) (breach (Twice w.text w.token))
 abbrev pub decls_findings : Decls → Scope → List Finding
 decls_findings no_decls s = []
 decls_findings (constant w e ds) s = taken s w ++ (findings e s ++ decls_findings ds (defined s w.text false))
-decls_findings (function w p e ds) s = taken s w ++ (sure_findings p s ++ (findings e (within p s) ++ decls_findings ds (defined s w.text true)))
+decls_findings (function w p e ds) s = taken s w ++
+    (sure_findings p s ++ (findings e (within p s) ++ decls_findings ds (defined s w.text true)))
 
 -- the scope behind definitions
 abbrev pub behind_decls : Decls → Scope → Scope

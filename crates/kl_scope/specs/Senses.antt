@@ -1,5 +1,6 @@
 -- What a name stands for where it stands.
-use Rattle.std.specs.Prelude.{ℕ, suc, ◌==◌, nat_le, Bool, false, ◌||◌, List, [], ◌∷◌, length, find, map, Option, Some, None, is_some, option_and_then, if◌then◌else◌, bytes_eq}
+use Rattle.std.specs.Prelude.{ℕ, suc, ◌==◌, nat_le, Bool, false, ◌||◌, List, [], ◌∷◌, length, find, map, Option, Some, None}
+use Rattle.std.specs.Prelude.{is_some, option_and_then, if◌then◌else◌, bytes_eq}
 use Rattle.std.specs.Borrow.{Bor}
 use Rattle.std.specs.Option.{option_map, option_or}
 use Rattle.kl_syntax.specs.declared.tree.Meaning.{Meaning}

@@ -22,7 +22,8 @@ HidingIs [] = Unit {0}
 HidingIs (b ∷ bs) = (b.hidden ≡ level_in (names_of bs) b.name) × HidingIs bs
 
 -- the tables say what the lists do
-pub record Kept (variables : List Bound) (innermost : BTreeMap Name ℕ) (definitions : List (Name × Bool)) (sources : List Name) (fixed : BTreeMap Name Sense) : Type 0 where
+pub record Kept (variables : List Bound) (innermost : BTreeMap Name ℕ) (definitions : List (Name × Bool)) (sources : List Name)
+    (fixed : BTreeMap Name Sense) : Type 0 where
   pub levels : (x : Name) → get bytes_cmp innermost x ≡ level_in (names_of (reverse variables)) x
   pub hiding : HidingIs (reverse variables)
   pub others : (x : Name) → get bytes_cmp fixed x ≡ option_or (definition_in (reverse definitions) x) (source_in sources x)

@@ -16,18 +16,23 @@ use Rattle.kl_syntax.specs.View.{pattern_view, view, qual_view, branch_view, res
 use Rattle.kl_scope.specs.declared.walk.Walk.{Walk}
 use Rattle.kl_scope.specs.Senses.{Name, Scope, at_first}
 use Rattle.kl_scope.specs.Patterns.{within, pattern_labels}
-use Rattle.kl_scope.specs.Findings.{Finding, repeated, pattern_findings, patterns_findings, drawn_findings, sure_findings, behind, findings, findings_all, findings_fields, findings_quals, findings_branches, findings_steps, decls_findings, behind_decls}
+use Rattle.kl_scope.specs.Findings.{Finding, repeated, pattern_findings, patterns_findings, drawn_findings, sure_findings, behind}
+use Rattle.kl_scope.specs.Findings.{findings, findings_all, findings_fields, findings_quals, findings_branches, findings_steps}
+use Rattle.kl_scope.specs.Findings.{decls_findings, behind_decls}
 use Rattle.kl_scope.specs.Gathering.{gathered}
-use Rattle.kl_scope.specs.Resolved.{resolved_pat, resolved_pats, resolved, resolved_all, resolved_fields, resolved_quals, resolved_branches, resolved_steps, resolved_decls}
+use Rattle.kl_scope.specs.Resolved.{resolved_pat, resolved_pats, resolved, resolved_all, resolved_fields, resolved_quals}
+use Rattle.kl_scope.specs.Resolved.{resolved_branches, resolved_steps, resolved_decls}
 
 -- from t to u: what is resolved, what is found, and the scope behind it
-pub record Walked {T : Type 0} (res : T → Scope → T) (found_in : T → Scope → List Finding) (scope_behind : T → Scope → Scope) (t u : T) (w v : Walk) : Type 0 where
+pub record Walked {T : Type 0} (res : T → Scope → T) (found_in : T → Scope → List Finding) (scope_behind : T → Scope → Scope)
+    (t u : T) (w v : Walk) : Type 0 where
   pub tree : u ≡ res t w.names
   pub found : v.findings ≡ gathered w.findings (found_in t w.names)
   pub scope : v.names ≡ scope_behind t w.names
 
 -- the same of a front of a list, whatever follows
-pub record Fronted {T : Type 0} (res : T → Scope → T) (found_in : T → Scope → List Finding) (scope_behind : T → Scope → Scope) (f g : T → T) (w v : Walk) : Type 0 where
+pub record Fronted {T : Type 0} (res : T → Scope → T) (found_in : T → Scope → List Finding) (scope_behind : T → Scope → Scope)
+    (f g : T → T) (w v : Walk) : Type 0 where
   pub tree : (rest : T) → g (res rest v.names) ≡ res (f rest) w.names
   pub found : (rest : T) → gathered w.findings (found_in (f rest) w.names) ≡ gathered v.findings (found_in rest v.names)
   pub scope : (rest : T) → scope_behind (f rest) w.names ≡ scope_behind rest v.names
@@ -128,7 +133,9 @@ BranchesFront t u = BranchFront (onto branch_view t) (onto branch_view u)
 -- the labels of the branches, and then the branches, whatever stands behind `otherwise`
 pub record BranchesWalk (t u : List Branch) (w v : Walk) : Type 0 where
   pub tree : (rest : Branches) → onto branch_view u (resolved_branches rest v.names) ≡ resolved_branches (onto branch_view t rest) w.names
-  pub found : (rest : Branches) → gathered w.findings (repeated [] (map (λ b. (out-Branch b).label) t) ++ findings_branches (onto branch_view t rest) w.names) ≡ gathered v.findings (findings_branches rest v.names)
+  pub found : (rest : Branches) → gathered w.findings
+      (repeated [] (map (λ b. (out-Branch b).label) t) ++ findings_branches (onto branch_view t rest) w.names)
+      ≡ gathered v.findings (findings_branches rest v.names)
   pub scope : v.names ≡ w.names
 
 abbrev pub StepsFront : List (Op × Expr) → List (Op × Expr) → Walk → Walk → Type 0
@@ -144,7 +151,8 @@ DeclsWalk t u = Fronted resolved_decls decls_findings behind_decls (onto decl_fr
 pub record ProgramWalk (p q : Program) (w v : Walk) : Type 0 where
   pub defs : decls_of q.defs ≡ resolved_decls (decls_of p.defs) w.names
   pub last : view q.last ≡ resolved (view p.last) (behind_decls (decls_of p.defs) w.names)
-  pub found : v.findings ≡ gathered w.findings (decls_findings (decls_of p.defs) w.names ++ findings (view p.last) (behind_decls (decls_of p.defs) w.names))
+  pub found : v.findings ≡ gathered w.findings (decls_findings (decls_of p.defs) w.names
+      ++ findings (view p.last) (behind_decls (decls_of p.defs) w.names))
   pub scope : v.names ≡ behind_decls (decls_of p.defs) w.names
 
 -- the walk through a whole program from its beginning

@@ -250,7 +250,8 @@ fn branches(branches: &[Branch], last: Size, known: &[Size]) -> Size
 
 #[cycle(expr)]
 fn branch(branch: &Branch, after: Size, known: &[Size]) -> Size
-    ensures { (rest : Branches) → after ≡ capped (sized_branches rest known.now) → result ≡ capped (sized_branches (branch_view branch.now rest) known.now) }
+    ensures { (rest : Branches) → after ≡ capped (sized_branches rest known.now)
+        → result ≡ capped (sized_branches (branch_view branch.now rest) known.now) }
 {
     let body = expr(&branch.body, known);
     matched(&branch.pat, LEAF, body, known).beside(after)

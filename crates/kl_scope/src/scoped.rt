@@ -68,7 +68,8 @@ fn names_found(
     program: &mut Program,
     sources: &[Label],
 ) -> Result<(Seq<Label>, Vec<bool>), ScopeError>
-    ensures resolved { IfOk result (λ r. Resolves program.old sources.now (record { program = program.new; sources = r.0; mentioned = r.1 })) }
+    ensures resolved { IfOk result (λ r. Resolves program.old sources.now
+        (record { program = program.new; sources = r.0; mentioned = r.1 })) }
     ensures refused { IfErr result (IsRefusal program.old sources.now) }
 {
     let walk = walk_through(alloc, program, sources)?;

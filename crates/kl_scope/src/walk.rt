@@ -1,11 +1,13 @@
 //! The walk through a program: it writes into each name what it means, and finds what breaks the rules.
 ghost use Rattle.std.specs.Prelude.{◌≡◌, [], IfOk};
 ghost use Rattle.kl_syntax.specs.Syntax.{Call, Rec};
-ghost use Rattle.kl_syntax.specs.View.{view, qual_view, branch_view, exps_view, fields_view, quals_view, steps_view, pattern_view, patterns_view};
+ghost use Rattle.kl_syntax.specs.View.{view, qual_view, branch_view, exps_view, fields_view, quals_view, steps_view};
+ghost use Rattle.kl_syntax.specs.View.{pattern_view, patterns_view};
 ghost use Rattle.kl_scope.specs.Findings.{taken, repeated};
 ghost use Rattle.kl_scope.specs.Patterns.{variables, within};
 ghost use Rattle.kl_scope.specs.Gathering.{gathered};
-ghost use Rattle.kl_scope.specs.Walks.{PatternWalk, PatternsWalk, DrawnWalk, SureWalk, Bound, ExprWalk, ItemsWalk, QualsWalk, QualFront, HeadWalk};
+ghost use Rattle.kl_scope.specs.Walks.{PatternWalk, PatternsWalk, DrawnWalk, SureWalk, Bound, ExprWalk, ItemsWalk, QualsWalk};
+ghost use Rattle.kl_scope.specs.Walks.{QualFront, HeadWalk};
 ghost use Rattle.kl_scope.specs.Walks.{BranchesWalk, BranchFront, RestWalk, StepsWalk, DeclWalk, DeclsWalk, ProgramWalk, Whole, AfterOk};
 
 use crate::findings::Findings;
@@ -67,7 +69,8 @@ impl Walk {
     /// The variables of a pattern are bound.
     fn bind(&mut self, pattern: &Pattern) -> Result<(), NoMemory>
         ensures names { IfOk result (λ _. self.new.names ≡ within (pattern_view pattern.now) self.old.names) }
-        ensures found { IfOk result (λ _. self.new.findings ≡ gathered self.old.findings (repeated [] (variables (pattern_view pattern.now)))) }
+        ensures found { IfOk result (λ _. self.new.findings
+            ≡ gathered self.old.findings (repeated [] (variables (pattern_view pattern.now)))) }
     {
         let mut words = Vec::new(self.alloc);
         variables(pattern, &mut words)?;

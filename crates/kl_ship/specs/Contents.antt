@@ -35,7 +35,8 @@ MakesSense ss t = (s : Ground) × CoreTypes (types_in ss) [] t s
 -- reads what its ask answers of them.
 pub record Holds (R : Readings) (T : Tables) (i : ℕ) (s : ShipSource) : Type 0 where
   pub rows : List Value
-  pub reads : (c : Scan) (keep : List Name) (tests : List ColTest) → c.driver ≡ s.driver → c.ask ≡ asks.Rows s.name keep tests → R c ≡ Some (answers rows keep tests)
+  pub reads : (c : Scan) (keep : List Name) (tests : List ColTest) → c.driver ≡ s.driver → c.ask ≡ asks.Rows s.name keep tests
+      → R c ≡ Some (answers rows keep tests)
   pub value : T i ≡ Some (canonical (kind_of (ground s)) rows)
   pub collection : IsColl (ground s)
   pub typed : AllByRecursion (Inhabits (item_of (ground s))) rows

@@ -48,14 +48,17 @@ abbrev pub UnionBecomes : List ShipSource → Need → Tree → Tree → ℕ →
 UnionBecomes ss v a b n p m = (x : Node) × (y : Node) × (i : ℕ) × Becomes ss v a n x i × Becomes ss v b i y m × (p ≡ node.Union x y)
 
 abbrev pub LoopBecomes : List ShipSource → Kind → Tree → Tree → ℕ → Node → ℕ → Type 0
-LoopBecomes ss k b a n p m = (x : Node) × (y : Node) × (i : ℕ) × Becomes ss (need.Source k) a n x i × Becomes ss need.Items b i y m × (p ≡ node.Ext k y x)
+LoopBecomes ss k b a n p m = (x : Node) × (y : Node) × (i : ℕ) × Becomes ss (need.Source k) a n x i × Becomes ss need.Items b i y m
+    × (p ≡ node.Ext k y x)
 
 abbrev pub LetBecomes : List ShipSource → Need → Tree → Tree → ℕ → Node → ℕ → Type 0
 LetBecomes ss v a b n p m = (x : Node) × (y : Node) × (i : ℕ) × Becomes ss need.Whole a n x i × Becomes ss v b i y m × (p ≡ node.Let x y)
 
 abbrev pub IfBecomes : List ShipSource → Need → Tree → Tree → Tree → ℕ → Node → ℕ → Type 0
 IfBecomes ss v a b c n p m =
-    (x : Node) × (y : Node) × (z : Node) × (i : ℕ) × (j : ℕ) × Becomes ss need.Whole a n x i × Becomes ss v b i y j × Becomes ss v c j z m × (p ≡ node.If x y z)
+    (x : Node) × (y : Node) × (z : Node) × (i : ℕ) × (j : ℕ) × Becomes ss need.Whole a n x i × Becomes ss v b i y j
+        × Becomes ss v c j z m × (p ≡ node.If x y z)
 
 abbrev pub CaseBecomes : List ShipSource → Need → Tree → Arms → ℕ → Node → ℕ → Type 0
-CaseBecomes ss v a bs n p m = (x : Node) × (y : Branches) × (i : ℕ) × Becomes ss need.Whole a n x i × ArmsBecome ss v bs i y m × (p ≡ node.Case x y)
+CaseBecomes ss v a bs n p m = (x : Node) × (y : Branches) × (i : ℕ) × Becomes ss need.Whole a n x i × ArmsBecome ss v bs i y m
+    × (p ≡ node.Case x y)

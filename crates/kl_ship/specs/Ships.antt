@@ -92,7 +92,8 @@ abbrev mutual
   pub Becomes : List ShipSource → Need → Tree → ℕ → Node → ℕ → Type 0
   Becomes ss u (term.Var x) n p m = Stays u (term.Var x) n p m ⊎ ((p ≡ node.Var x) × (m ≡ n))
   Becomes ss u (term.Const v) n p m = Stays u (term.Const v) n p m
-  Becomes ss u (term.Source i) n p m = (s : ShipSource) × (c : Scan) × (slice_get ss i ≡ Some s) × IsWholeScan s u n c × (p ≡ node.Scan c) × (m ≡ suc n)
+  Becomes ss u (term.Source i) n p m = (s : ShipSource) × (c : Scan) × (slice_get ss i ≡ Some s) × IsWholeScan s u n c
+      × (p ≡ node.Scan c) × (m ≡ suc n)
   Becomes ss u (term.Rec ps) n p m = Stays u (term.Rec ps) n p m ⊎ ((x : Fields) × PartsBecome ss need.Whole ps n x m × (p ≡ node.Rec x))
   Becomes ss u (term.Proj l a) n p m = Stays u (term.Proj l a) n p m ⊎ ((x : Node) × Becomes ss need.Whole a n x m × (p ≡ node.Proj l x))
   Becomes ss u (term.Inj l a) n p m = Stays u (term.Inj l a) n p m ⊎ ((x : Node) × Becomes ss need.Whole a n x m × (p ≡ node.Inj l x))
@@ -104,23 +105,27 @@ abbrev mutual
   Becomes ss u (term.Ext k b a) n p m = Stays u (term.Ext k b a) n p m
       ⊎ ((x : Node) × (y : Node) × (i : ℕ) × Becomes ss (need.Source k) a n x i × Becomes ss need.Items b i y m × (p ≡ node.Ext k y x))
   Becomes ss u (term.If a b c) n p m = Stays u (term.If a b c) n p m
-      ⊎ ((x : Node) × (y : Node) × (z : Node) × (i : ℕ) × (j : ℕ) × Becomes ss need.Whole a n x i × Becomes ss (passed_on u) b i y j × Becomes ss (passed_on u) c j z m × (p ≡ node.If x y z))
+      ⊎ ((x : Node) × (y : Node) × (z : Node) × (i : ℕ) × (j : ℕ) × Becomes ss need.Whole a n x i × Becomes ss (passed_on u) b i y j
+          × Becomes ss (passed_on u) c j z m × (p ≡ node.If x y z))
   Becomes ss u (term.Let a b) n p m = Stays u (term.Let a b) n p m
       ⊎ ((x : Node) × (y : Node) × (i : ℕ) × Becomes ss need.Whole a n x i × Becomes ss (passed_on u) b i y m × (p ≡ node.Let x y))
   Becomes ss u (term.Prim c ts) n p m = Stays u (term.Prim c ts) n p m ⊎ ((x : Nodes) × TreesBecome ss ts n x m × (p ≡ node.Prim c x))
 
   pub TreesBecome : List ShipSource → Trees → ℕ → Nodes → ℕ → Type 0
   TreesBecome ss no_trees n p m = (p ≡ no_nodes) × (m ≡ n)
-  TreesBecome ss (trees t ts) n p m = (x : Node) × (y : Nodes) × (i : ℕ) × Becomes ss need.Whole t n x i × TreesBecome ss ts i y m × (p ≡ nodes x y)
+  TreesBecome ss (trees t ts) n p m = (x : Node) × (y : Nodes) × (i : ℕ) × Becomes ss need.Whole t n x i × TreesBecome ss ts i y m
+      × (p ≡ nodes x y)
 
   pub PartsBecome : List ShipSource → Need → Parts → ℕ → Fields → ℕ → Type 0
   PartsBecome ss u no_parts n p m = (p ≡ no_fields) × (m ≡ n)
-  PartsBecome ss u (parts l t ts) n p m = (x : Node) × (y : Fields) × (i : ℕ) × Becomes ss u t n x i × PartsBecome ss u ts i y m × (p ≡ fields l x y)
+  PartsBecome ss u (parts l t ts) n p m = (x : Node) × (y : Fields) × (i : ℕ) × Becomes ss u t n x i × PartsBecome ss u ts i y m
+      × (p ≡ fields l x y)
 
   pub ArmsBecome : List ShipSource → Need → Arms → ℕ → Branches → ℕ → Type 0
   ArmsBecome ss u no_arms n p m = (p ≡ no_branches) × (m ≡ n)
   ArmsBecome ss u (term.rest c) n p m = (x : Node) × Becomes ss u c n x m × (p ≡ rest x)
-  ArmsBecome ss u (arm l b bs) n p m = (x : Node) × (y : Branches) × (i : ℕ) × Becomes ss u b n x i × ArmsBecome ss u bs i y m × (p ≡ branch l x y)
+  ArmsBecome ss u (arm l b bs) n p m = (x : Node) × (y : Branches) × (i : ℕ) × Becomes ss u b n x i × ArmsBecome ss u bs i y m
+      × (p ≡ branch l x y)
 
 -- a term is shipped as a plan whose scans are numbered from 0 on; its items are drawn, if it is a collection
 abbrev pub Ships : List ShipSource → Tree → Node → Type 0

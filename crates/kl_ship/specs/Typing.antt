@@ -40,7 +40,8 @@ module _ (Of : Scan → Ground → Type 0) where
     PlanTypes G (node.Case a bs) s = (r : Row) × PlanTypes G a (var_type r) × CoversAll r bs × BranchTypes G bs r s
     PlanTypes G (node.Make k ps) s = (u : Ground) × (s ≡ coll k u) × EachPlan G ps u
     PlanTypes G (node.Union a b) s = (k : Kind) × (u : Ground) × (s ≡ coll k u) × PlanTypes G a s × PlanTypes G b s
-    PlanTypes G (node.Ext k b a) s = (t : Ground) × (j : Kind) × (u : Ground) × (s ≡ coll k t) × PlanTypes G a (coll j u) × PlanTypes (u ∷ G) b s
+    PlanTypes G (node.Ext k b a) s = (t : Ground) × (j : Kind) × (u : Ground) × (s ≡ coll k t) × PlanTypes G a (coll j u)
+        × PlanTypes (u ∷ G) b s
     PlanTypes G (node.If a b c) s = PlanTypes G a bool × PlanTypes G b s × PlanTypes G c s
     PlanTypes G (node.Let a b) s = (u : Ground) × PlanTypes G a u × PlanTypes (u ∷ G) b s
     PlanTypes G (node.Prim c ps) s = (us : List Ground) × PlansOf G ps us × PrimTypes c us s

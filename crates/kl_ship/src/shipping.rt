@@ -205,7 +205,8 @@ fn looped(
     requires body { AreListed sources.now (term_view body.now) }
     requires over { AreListed sources.now (term_view over.now) }
     requires room { number.old + (nodes_of (term_view body.now) + nodes_of (term_view over.now)) < 2 ^ 32 }
-    ensures becomes { IfOk result (λ p. LoopBecomes sources.now kind (term_view body.now) (term_view over.now) number.old (view p) number.new) }
+    ensures becomes { IfOk result (λ p. LoopBecomes sources.now kind (term_view body.now) (term_view over.now) number.old
+        (view p) number.new) }
     ensures counts { number.new ≤ number.old + (nodes_of (term_view body.now) + nodes_of (term_view over.now)) }
 {
     let source = boxed(alloc, over, Need::Source(kind), sources, number);
@@ -247,7 +248,8 @@ fn tested(
     requires yes { AreListed sources.now (term_view b.now) }
     requires no { AreListed sources.now (term_view c.now) }
     requires room { number.old + (nodes_of (term_view a.now) + (nodes_of (term_view b.now) + nodes_of (term_view c.now))) < 2 ^ 32 }
-    ensures becomes { IfOk result (λ p. IfBecomes sources.now need (term_view a.now) (term_view b.now) (term_view c.now) number.old (view p) number.new) }
+    ensures becomes { IfOk result (λ p. IfBecomes sources.now need (term_view a.now) (term_view b.now) (term_view c.now) number.old
+        (view p) number.new) }
     ensures counts { number.new ≤ number.old + (nodes_of (term_view a.now) + (nodes_of (term_view b.now) + nodes_of (term_view c.now))) }
 {
     let condition = boxed(alloc, a, Need::Whole, sources, number);
@@ -269,9 +271,12 @@ fn cased(
     requires subject { AreListed sources.now (term_view a.now) }
     requires branches { AreListedParts sources.now (parts_view branches.now) }
     requires other { AreListedArms sources.now (other_view other.now) }
-    requires room { number.old + (nodes_of (term_view a.now) + (nodes_parts (parts_view branches.now) + nodes_arms (other_view other.now))) < 2 ^ 32 }
-    ensures becomes { IfOk result (λ p. CaseBecomes sources.now need (term_view a.now) (arms_view branches.now other.now) number.old (view p) number.new) }
-    ensures counts { number.new ≤ number.old + (nodes_of (term_view a.now) + (nodes_parts (parts_view branches.now) + nodes_arms (other_view other.now))) }
+    requires room { number.old + (nodes_of (term_view a.now) +
+        (nodes_parts (parts_view branches.now) + nodes_arms (other_view other.now))) < 2 ^ 32 }
+    ensures becomes { IfOk result (λ p. CaseBecomes sources.now need (term_view a.now) (arms_view branches.now other.now) number.old
+        (view p) number.new) }
+    ensures counts { number.new ≤ number.old + (nodes_of (term_view a.now) +
+        (nodes_parts (parts_view branches.now) + nodes_arms (other_view other.now))) }
 {
     let subject = boxed(alloc, a, Need::Whole, sources, number);
     let made = labelled(alloc, branches.slice(), need, sources, number);

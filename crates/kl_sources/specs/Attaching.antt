@@ -1,5 +1,6 @@
 -- What comes of attaching the sources that a program mentions.
-use Rattle.std.specs.Prelude.{◌≡◌, ◌≢◌, ◌⊎◌, ℕ, suc, ◌<◌, ◌≤◌, Bool, true, false, List, [], ◌∷◌, length, map, slice_get, Option, Some, None, ⊤}
+use Rattle.std.specs.Prelude.{◌≡◌, ◌≢◌, ◌⊎◌, ℕ, suc, ◌<◌, ◌≤◌, Bool, true, false, List, [], ◌∷◌, length, map, slice_get, Option}
+use Rattle.std.specs.Prelude.{Some, None, ⊤}
 use Rattle.std.specs.Prelude.{Result, IfOk, IfErr, OnOk, MatchResult}
 use Rattle.std.specs.List.{AllByRecursion, IsDistinct}
 use Rattle.kl_base.specs.Counts.{Rose}
@@ -54,7 +55,8 @@ pub record MayAttach (marks : ℕ → Bool) (sources : List Source) (old new : S
 
 -- a count of the driver at a place rose
 abbrev pub RoseAt : ℕ → (State → ℕ) → List State → List State → Type 0
-RoseAt place count old new = (a : State) × (b : State) × (slice_get old place ≡ Some a) × (slice_get new place ≡ Some b) × Rose (count a) (count b)
+RoseAt place count old new = (a : State) × (b : State) × (slice_get old place ≡ Some a) × (slice_get new place ≡ Some b)
+    × Rose (count a) (count b)
 
 -- ---- sources that are not told
 
@@ -84,7 +86,8 @@ pub record Stands (ks : List DriverKind) (ds : List State) (s : Source) : Type 0
   pub counted : (rows : List Value) → contents ks s ≡ Some (Rows rows) → count ≡ length rows
   pub typed : HasTyped s (contents ks s)
   -- a driver with `unique` repeats no row of a set
-  pub unrepeated : (k : DriverKind) (rows : List Value) → slice_get ks s.driver ≡ Some k → k.abilities.unique ≡ true → kind_of (ground_of s.ty) ≡ kind.Set
+  pub unrepeated : (k : DriverKind) (rows : List Value) → slice_get ks s.driver ≡ Some k → k.abilities.unique ≡ true
+      → kind_of (ground_of s.ty) ≡ kind.Set
       → contents ks s ≡ Some (Rows rows) → IsDistinct same_value rows
 
 -- ---- refusals
@@ -120,7 +123,8 @@ StandsWithout ks marks sources s e =
 
 -- the source is not told, and its driver counted one that it could not read
 abbrev pub IsUnread : List DriverKind → (ℕ → Bool) → List Source → Source → DriverError → List State → List State → Type 0
-IsUnread ks marks sources s e old new = IsUnreadable e × (contents ks s ≡ None) × NoVerdict ks marks sources × RoseAt s.driver (λ d. d.unread) old new
+IsUnread ks marks sources s e old new = IsUnreadable e × (contents ks s ≡ None) × NoVerdict ks marks sources
+    × RoseAt s.driver (λ d. d.unread) old new
 
 -- The cause of a refusal, which is that of one of the sources. Unless memory ran out, this source is mentioned, those that
 -- are mentioned before it stand at their drivers, and neither it nor one behind it is attached at any driver.
@@ -133,7 +137,8 @@ pub record Causes (marks : ℕ → Bool) (sources : List Source) (old new : List
   pub cause : IsMishap refused e.error old new
       ⊎ StandsWithout (kinds_of old) marks sources refused e.error
       ⊎ IsUnread (kinds_of old) marks sources refused e.error old new
-  pub before : e.error ≢ error.NoMemory → (i : ℕ) (s : Source) → i < place → slice_get sources i ≡ Some s → marks i ≡ true → Stands (kinds_of old) new s
+  pub before : e.error ≢ error.NoMemory → (i : ℕ) (s : Source) → i < place → slice_get sources i ≡ Some s → marks i ≡ true
+      → Stands (kinds_of old) new s
   pub behind : e.error ≢ error.NoMemory → (i : ℕ) (s : Source) → place ≤ i → slice_get sources i ≡ Some s
       → (k : ℕ) (d : State) → slice_get new k ≡ Some d → d.attached s.name ≡ None
 
@@ -151,7 +156,8 @@ pub record Serves (ks : List DriverKind) (marks : ℕ → Bool) (sources : List 
 
 -- ---- all
 
-pub record AttachesAll (marks : ℕ → Bool) (sources : List Source) (result : Result (List Attached) AttachError) (old new : List State) : Type 0 where
+pub record AttachesAll (marks : ℕ → Bool) (sources : List Source) (result : Result (List Attached) AttachError)
+    (old new : List State) : Type 0 where
   pub drivers : EachSteps (MayAttach marks sources) old new
   pub list : IfOk result (λ list. list ≡ list_of marks 0 sources)
   -- each marked source stands at its driver, and a session of these drivers and this list is ready
@@ -159,7 +165,9 @@ pub record AttachesAll (marks : ℕ → Bool) (sources : List Source) (result : 
   pub ready : IfOk result (λ list. (settings : Settings) (trace : Trace)
       → 0 < settings.fetch → Serves (kinds_of old) marks sources (world_of new list settings trace))
   -- the sources have values, or some driver does not tell
-  pub values : OnOk result (((vs : List (Name × Value)) × HaveValues (kinds_of old) marks 0 sources vs) ⊎ NoVerdict (kinds_of old) marks sources)
+  pub values : OnOk result (((vs : List (Name × Value)) × HaveValues (kinds_of old) marks 0 sources vs)
+      ⊎ NoVerdict (kinds_of old) marks sources)
   -- where contents that are told say that a source is the first without rows, its error comes, or a mishap
-  pub refused : (s : Source) (w : Stored) → FirstWithout (kinds_of old) marks 0 sources s w → MatchResult result (λ _. ⊥) (IsRefusalOf sources s w old new)
+  pub refused : (s : Source) (w : Stored) → FirstWithout (kinds_of old) marks 0 sources s w
+      → MatchResult result (λ _. ⊥) (IsRefusalOf sources s w old new)
   pub cause : IfErr result (Causes marks sources old new)

@@ -47,7 +47,8 @@ driver_named x [] = None
 driver_named x (k ∷ ks) = cond (same k.name x) (Some (0, k)) (option_map (λ p. (suc p.0, p.1)) (driver_named x ks))
 
 abbrev pub at_driver : Entry → Option (ℕ × DriverKind) → Result Source PlaceError
-at_driver e (Some (i, k)) = cond (k.suits e.ty) (Ok (record { name = e.name; ty = e.ty; driver = i; locator = e.locator })) (Err (Unsuited e.name))
+at_driver e (Some (i, k)) = cond (k.suits e.ty) (Ok (record { name = e.name; ty = e.ty; driver = i; locator = e.locator }))
+    (Err (Unsuited e.name))
 at_driver e None = Err (NoDriver e.driver)
 
 -- an entry at its driver, or the first thing that is wrong with it

@@ -67,5 +67,6 @@ SameEnd (Err e) (Err f) = f ≡ e
 SameEnd _ _ = ⊥
 
 abbrev pub AttachesIf : Bool → Source → Result (Unit {0}) DriverError → List State → List State → Type 0
-AttachesIf true s result old new = (q : Result ℕ DriverError) × SameEnd q result × StepsAt s.driver (λ a b. Attaches s.name s.locator s.ty q a b) old new
+AttachesIf true s result old new = (q : Result ℕ DriverError) × SameEnd q result
+    × StepsAt s.driver (λ a b. Attaches s.name s.locator s.ty q a b) old new
 AttachesIf false s result old new = IsOk result × (new ≡ old)

@@ -94,7 +94,8 @@ fn is_taken(taken: &BTreeSet<Label>, name: &Label) -> bool
 // An entry at its driver.
 fn place(alloc: Global, entry: &Entry, drivers: &Vec<Box<dyn Driver>>) -> Result<Source, PlaceError>
     requires { length drivers.now.items < 2 ^ 32 }
-    ensures answer { AnswersOne (names.at_driver entry.now (driver_named entry.now.driver (kinds_of (map (λ d. state d) drivers.now.items)))) result }
+    ensures answer { AnswersOne (names.at_driver entry.now
+        (driver_named entry.now.driver (kinds_of (map (λ d. state d) drivers.now.items)))) result }
     ensures fit { IfOk result (IsFit (kinds_of (map (λ d. state d) drivers.now.items))) }
 {
     let driver = match find_driver(drivers, &entry.driver) {

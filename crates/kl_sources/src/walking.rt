@@ -33,7 +33,8 @@ pub fn attach_listed(
 ) -> Result<Seq<Attached>, Refused>
     requires placed { ArePlaced (kinds_of (map (λ d. state d) drivers.old.items)) sources.now }
     requires clear { HaveNone (map (λ d. state d) drivers.old.items) }
-    ensures { WalksAll (is_marked scoped.now) sources.now result (map (λ d. state d) drivers.old.items) (map (λ d. state d) drivers.new.items) }
+    ensures { WalksAll (is_marked scoped.now) sources.now result (map (λ d. state d) drivers.old.items)
+        (map (λ d. state d) drivers.new.items) }
 {
     if sources.len() > u32::MAX as usize {
         return Err(Refused {
@@ -56,7 +57,8 @@ fn attach_marked(
     requires numbered { length sources.now < 2 ^ 32 }
     requires placed { ArePlaced (kinds_of (map (λ d. state d) drivers.old.items)) sources.now }
     requires clear { HaveNone (map (λ d. state d) drivers.old.items) }
-    ensures { Walks (is_marked scoped.now) sources.now result (map (λ d. state d) drivers.old.items) (map (λ d. state d) drivers.new.items) }
+    ensures { Walks (is_marked scoped.now) sources.now result (map (λ d. state d) drivers.old.items)
+        (map (λ d. state d) drivers.new.items) }
 {
     'sources: for place in 0..sources.len() {
         match attach_if(scoped.mentions(place as u32), &sources[place], drivers) {

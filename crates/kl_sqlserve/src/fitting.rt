@@ -111,7 +111,8 @@ fn suit_tests(sources: &HashMap<Label, Source>, tables: &[Label], tests: &[SqlTe
 
 // Whether a test has its column, and both sides have one type.
 fn suits_test(sources: &HashMap<Label, Source>, tables: &[Label], test: &SqlTest) -> bool
-    ensures { result ≡ suits_test (type_at sources.now tables.now) (type_at sources.now tables.now test.now.table test.now.column) test.now.right }
+    ensures { result ≡ suits_test (type_at sources.now tables.now)
+        (type_at sources.now tables.now test.now.table test.now.column) test.now.right }
 {
     match type_at(sources, tables, test.table, &test.column) {
         Some(ty) => suits_right(sources, tables, ty, &test.right),

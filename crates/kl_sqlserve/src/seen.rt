@@ -16,7 +16,8 @@ use std::collections::HashSet;
 /// Want of memory.
 pub fn is_new(alloc: Global, seen: &mut HashSet<Value>, value: &Value) -> Result<bool, NoMemory>
     ensures new { IfOk result (λ new. new ≡ not (contains same_key seen.old value.now)) }
-    ensures seen { IfOk result (λ _. (w : AValue) → contains same_key seen.new w ≡ (same_value value.now w || contains same_key seen.old w)) }
+    ensures seen { IfOk result (λ _. (w : AValue) → contains same_key seen.new w
+        ≡ (same_value value.now w || contains same_key seen.old w)) }
 {
     if seen.contains(value) {
         return Ok(false);

@@ -104,7 +104,8 @@ put_first x = (x.0 ∷ x.1.0, x.1.1)
 unfoldable pub MoreTables : ℕ → ℕ → Phrase ℕ FromWhere
 MoreTables zero i = Or (Behind SomeBlanks AWhere) (Nothing ([], []))
 MoreTables (suc k) i =
-    Or (Or (Behind AnyBlanks (Behind (ThisByte 44) (Behind AnyBlanks (Made put_first (Then (ATable i) (MoreTables k (suc i))))))) (Behind SomeBlanks AWhere))
+    Or (Or (Behind AnyBlanks (Behind (ThisByte 44) (Behind AnyBlanks (Made put_first (Then (ATable i) (MoreTables k (suc i)))))))
+        (Behind SomeBlanks AWhere))
     (Nothing ([], []))
 
 -- "FROM" table { "," table } [ "WHERE" tests ], behind the columns

@@ -73,12 +73,14 @@ last_turn = pick is_blank (behind space a_where) (nothing ([], []))
 
 -- another table, of this number, or the tests
 abbrev pub table_turn : ℕ → Reader ℕ (Name ⊎ FromWhere)
-table_turn i = pick goes_further (gapped (is 44) (made inl (behind (mark 44) (behind gap (table i)))) (made inr a_where)) (nothing (inr ([], [])))
+table_turn i = pick goes_further (gapped (is 44) (made inl (behind (mark 44) (behind gap (table i)))) (made inr a_where))
+    (nothing (inr ([], [])))
 
 unfoldable pub more : ℕ → ℕ → Reader ℕ FromWhere
 more zero i = last_turn
 more (suc k) i =
-    pick goes_further (gapped (is 44) (behind (mark 44) (behind gap (made put_first (both (table i) (more k (suc i)))))) a_where) (nothing ([], []))
+    pick goes_further (gapped (is 44) (behind (mark 44) (behind gap (made put_first (both (table i) (more k (suc i)))))) a_where)
+        (nothing ([], []))
 
 -- the tables, up to the end
 abbrev pub tables : Reader ℕ FromWhere

@@ -72,7 +72,8 @@ distinct_text false = []
 
 -- one space between tokens, but none before a comma, around a dot, and inside names, aliases and literals
 abbrev pub statement_text : Spj → List ℕ
-statement_text s = codes "SELECT " ++ (distinct_text s.distinct ++ (columns_text s.columns ++ (codes " FROM " ++ (tables_text s.tables ++ where_text s.tests))))
+statement_text s = codes "SELECT " ++ (distinct_text s.distinct ++
+    (columns_text s.columns ++ (codes " FROM " ++ (tables_text s.tables ++ where_text s.tests))))
 
 -- ---- which statements have one
 

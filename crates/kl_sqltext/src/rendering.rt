@@ -6,7 +6,8 @@ ghost use Rattle.kl_sqltext.specs.Words.{doubled};
 ghost use Rattle.kl_sqltext.specs.Grammar.{op_text};
 ghost use Rattle.kl_sqltext.specs.Reading.{SqlReads, IsSqlOrBad};
 ghost use Rattle.kl_sqltext.specs.Written.{CanRender, IsWord, IsStoredLiteral, IsStoredRight, IsStoredColumn, IsStoredTest, IsStoredSpj};
-ghost use Rattle.kl_sqltext.specs.Written.{quoted, ref_text, column_text, literal_text, right_text, test_text, table_text, more_columns, columns_text};
+ghost use Rattle.kl_sqltext.specs.Written.{quoted, ref_text, column_text, literal_text, right_text, test_text};
+ghost use Rattle.kl_sqltext.specs.Written.{table_text, more_columns, columns_text};
 ghost use Rattle.kl_sqltext.specs.Written.{more_tables, tables_text, more_tests, where_text, distinct_text, statement_text};
 
 use crate::ast::{Spj, SqlOp, SqlRight, SqlTest};

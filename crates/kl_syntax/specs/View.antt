@@ -9,7 +9,10 @@ use Rattle.kl_syntax.specs.declared.tree.Qual.{Qual, fold-Qual}
 use Rattle.kl_syntax.specs.declared.tree.Branch.{Branch, fold-Branch}
 use Rattle.kl_syntax.specs.declared.tree.Expr.TheOpen.{Expr-F, Qual-F, Branch-F}
 use Rattle.kl_syntax.specs.declared.tree.Decl.{Decl}
-use Rattle.kl_syntax.specs.Syntax.{Pat, catch, any, same, is, shape, variant, Pats, no_pats, pats, Exp, Const, name, Call, Rec, Inj, Coll, Comp, If, Let, Case, Path, Not, Neg, Chain, Exps, no_exps, exps, Flds, no_flds, flds, Quals, no_quals, draw, test, Branches, no_branches, otherwise, branch, Steps, no_steps, step, Decls, no_decls, constant, function}
+use Rattle.kl_syntax.specs.Syntax.{Pat, catch, any, same, is, shape, variant, Pats, no_pats, pats, Exp, Const, name}
+use Rattle.kl_syntax.specs.Syntax.{Call, Rec, Inj, Coll, Comp, If, Let, Case, Path, Not, Neg, Chain, Exps, no_exps}
+use Rattle.kl_syntax.specs.Syntax.{exps, Flds, no_flds, flds, Quals, no_quals, draw, test, Branches, no_branches}
+use Rattle.kl_syntax.specs.Syntax.{otherwise, branch, Steps, no_steps, step, Decls, no_decls, constant, function}
 
 abbrev pub pats_of : List (Word × Pat) → Pats
 pats_of [] = no_pats

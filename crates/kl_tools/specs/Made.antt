@@ -1,5 +1,6 @@
 -- Made rows, and the locators that name them.
-use Rattle.std.specs.Prelude.{◌&&◌, ◌==◌, ◌%◌, ◌*◌, ℕ, zero, suc, ◌+◌, ◌-◌, ◌^◌, pos, List, [], ◌∷◌, ◌++◌, Option, Some, None, cond, codes, decimal, drop, nat_le, take}
+use Rattle.std.specs.Prelude.{◌&&◌, ◌==◌, ◌%◌, ◌*◌, ℕ, zero, suc, ◌+◌, ◌-◌, ◌^◌, pos, List, [], ◌∷◌, ◌++◌, Option, Some, None}
+use Rattle.std.specs.Prelude.{cond, codes, decimal, drop, nat_le, take}
 use Rattle.std.specs.List.{position_from}
 use Rattle.std.specs.Option.{option_map, option_and_then}
 use Rattle.std.specs.Str.Parse.{digits_value}

@@ -78,7 +78,8 @@ module _ (e : Reader Placed Ty) where
 
   abbrev pub more : ℕ → List (List ℕ × Ty) → Reader Placed (List (List ℕ × Ty))
   more zero fields ts = fail bad ts
-  more (suc k) fields ts = pick (is_symbol sym.Comma) (chain (behind (mark sym.Comma) (field fields)) (λ f. more k (put fields f))) (nothing fields) ts
+  more (suc k) fields ts = pick (is_symbol sym.Comma) (chain (behind (mark sym.Comma) (field fields)) (λ f. more k (put fields f)))
+      (nothing fields) ts
 
   abbrev pub others : List (List ℕ × Ty) → Reader Placed (List (List ℕ × Ty))
   others fields ts = more (suc (length ts)) fields ts

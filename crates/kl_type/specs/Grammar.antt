@@ -47,12 +47,14 @@ module _ (E : Phrase Placed Ty) where
 pub data MoreFields (E : Phrase Placed Ty) : List (List ℕ × Ty) → ℕ → List (List ℕ × Ty) → List Placed → Type 0 where
   no_more : {fields : List (List ℕ × Ty)} {n : ℕ} → MoreFields E fields n fields []
   one_more : {fields all : List (List ℕ × Ty)} {n : ℕ} {u v : List Placed} (f : List ℕ × Ty)
-      → Behind (Symbol sym.Comma) (Field E fields) n f u → MoreFields E (put fields f) (n + length u) all v → MoreFields E fields n all (u ++ v)
+      → Behind (Symbol sym.Comma) (Field E fields) n f u → MoreFields E (put fields f) (n + length u) all v
+          → MoreFields E fields n all (u ++ v)
 
 module _ (E : Phrase Placed Ty) where
   -- LABEL ":" type { "," LABEL ":" type }
   abbrev pub Fields : Phrase Placed (List (List ℕ × Ty))
-  Fields n all ts = (f : List ℕ × Ty) × (u : List Placed) × (v : List Placed) × (ts ≡ u ++ v) × Field E [] n f u × MoreFields E (put [] f) (n + length u) all v
+  Fields n all ts = (f : List ℕ × Ty) × (u : List Placed) × (v : List Placed) × (ts ≡ u ++ v) × Field E [] n f u
+      × MoreFields E (put [] f) (n + length u) all v
 
   -- "{" type "}" | "{|" type "|}" | "[|" type "|]"
   abbrev pub Coll : Kind → Phrase Placed Ty

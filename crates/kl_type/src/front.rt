@@ -44,7 +44,8 @@ pub fn want(tokens: &[Placed], symbol: Sym) -> Result<&[Placed], Fault<'_, Place
 
 /// The word that comes, and what stands behind it.
 pub fn word_at(tokens: &[Placed]) -> Option<(&Label, &[Placed])>
-    ensures { MatchOption result (heads is_word tokens.now ≡ false) (λ x. (t : APlaced) × (tokens.now ≡ t ∷ x.1.now) × (t.what ≡ Word x.0.now)) }
+    ensures { MatchOption result (heads is_word tokens.now ≡ false) (λ x. (t : APlaced) × (tokens.now ≡ t ∷ x.1.now)
+        × (t.what ≡ Word x.0.now)) }
 {
     match tokens {
         [

@@ -19,6 +19,8 @@ canonical kind.List xs = value.List xs
 -- The same without an algorithm: of a set any list with the same members in strictly rising order, of a bag any list
 -- with as many of each value in rising order.
 abbrev pub IsCanonicalOf : Kind → Items Value → Value → Type 0
-IsCanonicalOf kind.Set xs v = (ys : Items Value) × (v ≡ value.Set ys) × IsStrictlySortedBy compare ys × ((w : Value) → Contains ys w ↔ Contains xs w)
-IsCanonicalOf kind.Bag xs v = (ys : Items Value) × (v ≡ value.Bag ys) × IsRising compare ys × ((w : Value) → count_of compare w ys ≡ count_of compare w xs)
+IsCanonicalOf kind.Set xs v = (ys : Items Value) × (v ≡ value.Set ys) × IsStrictlySortedBy compare ys
+    × ((w : Value) → Contains ys w ↔ Contains xs w)
+IsCanonicalOf kind.Bag xs v = (ys : Items Value) × (v ≡ value.Bag ys) × IsRising compare ys
+    × ((w : Value) → count_of compare w ys ≡ count_of compare w xs)
 IsCanonicalOf kind.List xs v = v ≡ value.List xs

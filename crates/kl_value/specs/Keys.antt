@@ -1,5 +1,6 @@
 -- Keys: numbers that tell the fronts of values. A value with a smaller key is smaller. No public contract cites this.
-use Rattle.std.specs.Prelude.{◌≡◌, ℕ, zero, suc, ◌+◌, ◌-◌, ◌*◌, ◌^◌, min, nat_lt, if◌then◌else◌, ℤ, pos, negsuc, List, [], ◌∷◌, All, Option, Some, None, FitsSigned, ⊤}
+use Rattle.std.specs.Prelude.{◌≡◌, ℕ, zero, suc, ◌+◌, ◌-◌, ◌*◌, ◌^◌, min, nat_lt, if◌then◌else◌, ℤ, pos, negsuc, List}
+use Rattle.std.specs.Prelude.{[], ◌∷◌, All, Option, Some, None, FitsSigned, ⊤}
 use Rattle.std.specs.Int.{w64}
 use Rattle.kl_value.specs.declared.value.Value.{Value, Value-F, out-Value}
 

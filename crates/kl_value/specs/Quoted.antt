@@ -25,7 +25,8 @@ pub data Part : ℕ → List ℕ → Type 0 where
   plain : {b : ℕ} → b ≢ quote → b ≢ backslash → Part b (b ∷ [])
   escaped : {b c : ℕ} → escape_of c ≡ Some b → Part b (backslash ∷ c ∷ [])
   -- `\x` and two hexadecimal digits, of either case
-  hex : {high low : ℕ} → IsTrue (is_ascii_hexdigit high) → IsTrue (is_ascii_hexdigit low) → Part (digit_value high * 16 + digit_value low) (backslash ∷ 120 ∷ high ∷ low ∷ [])
+  hex : {high low : ℕ} → IsTrue (is_ascii_hexdigit high) → IsTrue (is_ascii_hexdigit low)
+      → Part (digit_value high * 16 + digit_value low) (backslash ∷ 120 ∷ high ∷ low ∷ [])
 
 -- the bytes are the parts, one behind the other, of a text that means these
 abbrev pub Parts : List ℕ → List ℕ → Type 0

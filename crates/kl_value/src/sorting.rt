@@ -5,7 +5,8 @@ ghost use Rattle.std.specs.Bool.{OnTrue};
 ghost use Rattle.std.specs.List.Sorted.{IsSorted};
 ghost use Rattle.std.specs.Option.{option_copied};
 ghost use Rattle.kl_base.specs.Sorted.{sorted};
-ghost use Rattle.kl_value.specs.Keys.{counted, first_label, second_label, front, key_of, second_key, lead_of, second_layer, HasKey, BeginsWith, BeginAlike};
+ghost use Rattle.kl_value.specs.Keys.{counted, first_label, second_label, front, key_of, second_key, lead_of};
+ghost use Rattle.kl_value.specs.Keys.{second_layer, HasKey, BeginsWith, BeginAlike};
 ghost use Rattle.kl_value.specs.Order.{compare};
 ghost use Rattle.kl_value.specs.declared.value.Value.{out-Value};
 

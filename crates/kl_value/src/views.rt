@@ -1,6 +1,7 @@
 //! What a value holds, where it is known to be of one shape. Nothing is copied, and nothing takes memory.
 ghost use Rattle.std.specs.Prelude.{◌≡◌, IsSome};
-ghost use Rattle.kl_value.specs.Views.{IsBool, IsInt, IsText, IsCollection, as_bool, as_int, as_text, as_collection, collection, items_at, field_at};
+ghost use Rattle.kl_value.specs.Views.{IsBool, IsInt, IsText, IsCollection, as_bool, as_int, as_text, as_collection};
+ghost use Rattle.kl_value.specs.Views.{collection, items_at, field_at};
 
 use crate::value::{Kind, Value};
 use kl_base::Label;

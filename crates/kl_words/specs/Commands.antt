@@ -90,7 +90,8 @@ on_program name words = option_map paths_of (reading (program_line name) words)
 
 -- a seed and a number of rows
 abbrev pub numbers_of : List Row → Option (ℕ × ℕ)
-numbers_of rows = option_and_then (λ seed. option_map (λ size. (seed, size)) (number_of (codes "size") rows)) (number_of (codes "seed") rows)
+numbers_of rows = option_and_then (λ seed. option_map (λ size. (seed, size)) (number_of (codes "size") rows))
+    (number_of (codes "seed") rows)
 
 -- the command that the first word names, of the words behind it, which clap reads with the first before them
 abbrev pub named : Text → List Text → Option Command

@@ -52,4 +52,5 @@ show_line = with_rule (new_app (codes "show")) (place_rule (codes "file") true)
 
 -- `gen`, with a seed and a number of rows
 unfoldable pub gen_line : App
-gen_line = with_rule (with_rule (new_app (codes "gen")) (amount_rule (codes "seed") (pos 4294967295))) (amount_rule (codes "size") (pos 1000000))
+gen_line = with_rule (with_rule (new_app (codes "gen")) (amount_rule (codes "seed") (pos 4294967295)))
+    (amount_rule (codes "size") (pos 1000000))

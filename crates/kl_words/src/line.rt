@@ -1,7 +1,8 @@
 //! The command lines, as `clap` is told them.
 ghost use Rattle.std.specs.Prelude.{◌≡◌, false, IfOk};
 ghost use Rattle.clap.specs.Words.{app_of, rule_of};
-ghost use Rattle.kl_words.specs.Lines.{amount_rule, flag_rule, gen_line, number_rule, place_rule, program_line, run_line, show_line, text_rule};
+ghost use Rattle.kl_words.specs.Lines.{amount_rule, flag_rule, gen_line, number_rule, place_rule, program_line, run_line};
+ghost use Rattle.kl_words.specs.Lines.{show_line, text_rule};
 
 use clap::builder::ValueParser;
 use clap::{Arg, ArgAction, Command};

@@ -27,7 +27,8 @@ fn refusal(error: &Error) -> WordsError
 // What clap reads of the words, of which the first is the command's name.
 fn read_line<'a>(line: clap::Command<'a>, words: &'a [String]) -> Result<ArgMatches<'a>, WordsError>
     requires { is_simple_and_free (app_of line) ≡ true }
-    ensures ok { IfOk result (λ matches. reading (app_of line.entry) (map string_bytes words.entry.now) ≡ Some (rows_of (found_of matches))) }
+    ensures ok { IfOk result (λ matches. reading (app_of line.entry) (map string_bytes words.entry.now)
+        ≡ Some (rows_of (found_of matches))) }
     ensures parsed { IfOk result (IsParsedFrom line.entry) }
     ensures usage { IfErr result (λ e. e ≡ WordsError.Usage → reading (app_of line.entry) (map string_bytes words.entry.now) ≡ None) }
 {
