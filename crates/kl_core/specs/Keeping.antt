@@ -12,7 +12,7 @@ use Rattle.kl_core.specs.Positions.{InRange, binders, shift_of}
 abbrev pub MeansShifted : Tree → ℕ → ℕ → Tree → Type 0
 MeansShifted t from by u =
     (T : Tables) (pre mid post : List Value) → length pre ≡ from → length mid ≡ by
-        → core T u (pre ++ (mid ++ post)) ≡ core T t (pre ++ post)
+    → core T u (pre ++ (mid ++ post)) ≡ core T t (pre ++ post)
 
 -- and has its types
 abbrev pub TypedShifted : Tree → ℕ → ℕ → Tree → Type 0

@@ -75,7 +75,7 @@ module _ (R : Readings) (w : World) (env : List Value) (b : Node) (c : Scan) (al
   Loops (outside p s) = (p ≡ b) × Fetching w env c all used handed s × (items_at R env b all used ≡ drawn)
   Loops (inside p s v i) =
       (p ≡ b) × Fetching w env c all used handed s × (items_at R env b all used ≡ drawn + length (items_in (left w i (v ∷ env))))
-          × ScansLeft [] i
+      × ScansLeft [] i
   Loops _ = ⊥
 
 -- Such a loop without scans in its body, which used no row more once its bodies gave as many items as were asked for.

@@ -67,6 +67,8 @@ abbrev pub field_of : Codes → Scope → Word × Expr → Name × Tree
 field_of codes S f = (f.0.text, tree (exp_view f.1) codes S)
 
 abbrev pub arm_of : Codes → Scope → Branch → Name × Tree
-arm_of codes S b =
-    ((out-Branch b).label.text, matched_here (pattern_view (out-Branch b).pat) codes S no_sense
-        (λ R. tree (exp_view (out-Branch b).body) codes R))
+arm_of codes S b = (
+  (out-Branch b).label.text,
+  matched_here (pattern_view (out-Branch b).pat) codes S no_sense
+      (λ R. tree (exp_view (out-Branch b).body) codes R),
+)

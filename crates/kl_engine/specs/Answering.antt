@@ -287,7 +287,7 @@ LacksSource command old =
 abbrev pub Drifted : Command → Name → Outside → Outside → Type 0
 Drifted command name old new =
     OfRun command old.files (kinds_of old.drivers)
-        (λ text ss. SomeDrifted ss (λ x. IsMentionedIn ss text x × (x ≡ name)) old.drivers new.drivers)
+    (λ text ss. SomeDrifted ss (λ x. IsMentionedIn ss text x × (x ≡ name)) old.drivers new.drivers)
 
 -- Whether files and drivers tell their bytes or not, each ending has its cause.
 pub record IsCaused (command : Command) (end : Ending) (old new : Outside) : Type 0 where
@@ -345,7 +345,7 @@ pub record Does (command : Command) (end : Ending) (old new : Outside) : Type 0 
   pub told : (told : _) → Tell command old.files told
       → (v : Verdict) → IsVerdict told (kinds_of old.drivers) command v
       → (w : Verdict) × IsVerdict told (kinds_of old.drivers) command w × Alike (CommandListsTypes command) v w
-          × FollowsVerdict w end old new
+      × FollowsVerdict w end old new
   -- the way back
   pub meant : (told : _) → Tell command old.files told
       → IsDetermined end → (CommandNeedsDrivers command end → AreMentionedTold told (kinds_of old.drivers) command)

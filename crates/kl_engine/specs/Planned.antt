@@ -71,7 +71,7 @@ IsLine p b c = (p ≡ node.Ext kind.List b (node.Scan c)) × (c.kind ≡ kind.Li
 abbrev pub HandsFew : Readings → ℕ → Node → Option ℕ → (Scan → ℕ → Type 0) → Type 0
 HandsFew R fetch p first WereHanded =
     (b : Node) (c : Scan) (all : List Value) (items : ℕ) → IsLine p b c → R c ≡ Some all → first ≡ Some items
-        → items ≤ length (items_in (coming (plan R p [])))
+    → items ≤ length (items_in (coming (plan R p [])))
     → (rows : ℕ) × WereHanded c rows × (items ≡ 0 → rows ≡ 0) × Frugal R fetch [] b all items rows
 
 -- a sink that tells its bytes took fewer of a list than so many first items come to
@@ -84,7 +84,7 @@ LacksItem vs items old new = (was taken : List ℕ) × (old.taken ≡ Some was) 
 abbrev pub HandsWritten : Readings → ℕ → Node → SinkState → SinkState → (Scan → ℕ → Type 0) → Type 0
 HandsWritten R fetch p old new WereHanded =
     (b : Node) (c : Scan) (all : List Value) (items : ℕ) → IsLine p b c → R c ≡ Some all → 0 < items
-        → items ≤ length (items_in (coming (plan R p [])))
+    → items ≤ length (items_in (coming (plan R p [])))
     → LacksItem (items_in (coming (plan R p []))) items old new
     → (rows : ℕ) × WereHanded c rows × ((front : ℕ) → IsFront R [] b all items front → rows < front + fetch) × ByTimes fetch all rows
 
@@ -125,13 +125,13 @@ pub record PlansTerm (on : Bool) (ks : List DriverKind) (ss : List Source) (mark
   -- and where the output fails
   pub written : end ≡ Some fault.Write → (vs : List (Name × Value)) × HaveValues ks marks 0 ss vs
       → (R : Readings) × ReadsMarked ks ss marks R
-          × HandsWritten R counts.fetch p counts.blank counts.printed (RowsHanded counts.old counts.new)
+      × HandsWritten R counts.fetch p counts.blank counts.printed (RowsHanded counts.old counts.new)
 
 -- the plan of the program that a text is
 abbrev pub PlansText : Bool → List DriverKind → List Source → Option ℕ → Ending → List ℕ → ℕ → Node → Counts → Type 0
 PlansText on ks ss first end text steps p counts =
     (q : Program) × IsProgramOf (names_of ss) text q × (marks : ℕ → Bool) × AreMarks q (names_of ss) marks
-        × PlansTerm on ks ss marks first end (term_in (names_of ss) q) steps p counts
+    × PlansTerm on ks ss marks first end (term_in (names_of ss) q) steps p counts
 
 -- an end to which a run comes before it has a plan
 abbrev pub IsEarly : Ending → Type 0
@@ -170,7 +170,7 @@ first_of_run command = None
 abbrev pub HasPlan : Bool → Command → Ending → ℕ → Option Node → Counts → FilesState → FilesState → List DriverKind → Type 0
 HasPlan on command end steps plan counts files files' ks =
     ((p : Node) × (plan ≡ Some p) × OfRun command files ks
-        (λ text ss. PlansText on ks ss (first_of_run command) end text steps p counts) × (IsEarly end → ⊥))
+    (λ text ss. PlansText on ks ss (first_of_run command) end text steps p counts) × (IsEarly end → ⊥))
     ⊎ ((plan ≡ None) × (steps ≡ 0) × ((IsRunning command → ⊥) ⊎ MayBeEarly command end files files' ks))
 
 -- ---- for private functions alone: the same where the files are read

@@ -187,7 +187,7 @@ DoneWith ss marks p program e end old new = DoneBy (GivesList (grounds_of ss) pr
 abbrev pub DoneMeaning : List Source → (ℕ → Bool) → Option ℕ → Decls → Exp → Ending → Outside → Outside → Type 0
 DoneMeaning ss marks first program e end old new =
     DoneBy (GivesList (grounds_of ss) program e) (λ others. IsMeant (kinds_of old.drivers) ss others first program e) ss marks
-        (purpose.Run first) end old new
+    (purpose.Run first) end old new
 
 -- the line of a declaration is written, or nothing where the text of its scheme is too long
 abbrev pub ListsLine : Name × Scheme → Result (Unit {0}) Fault → SinkState → SinkState → Type 0

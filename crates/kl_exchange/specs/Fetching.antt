@@ -10,7 +10,7 @@ use Rattle.kl_exchange.specs.FileReading.{Left}
 abbrev pub CameBehind : ℕ → Result ℕ Stop → List ℕ → List ℕ → Left → Left → Type 0
 CameBehind most (Ok count) old new left left' =
     (piece : List ℕ) × (new ≡ old ++ piece) × (length piece ≡ count) × (count ≤ most) × Consumed left left' piece
-        × (count ≡ 0 → IsAtEnd left)
+    × (count ≡ 0 → IsAtEnd left)
 CameBehind most (Err e) old new left left' = (new ≡ old) × (left' ≡ left)
 
 -- The next bytes of an open file, at most so many, were put behind others.

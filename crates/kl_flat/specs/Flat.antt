@@ -59,8 +59,13 @@ asked_source sources (asks.Rows source keep tests) = source_at sources source
 asked_source sources (asks.Sql text) = None
 
 abbrev pub attached_of : {A : Type 0} → Option A → Source → Attached
-attached_of told source = record { ty = source.ty; rows = told_only told (rows_of source.table); count = length
-    (rows_of source.table); kept = None }
+attached_of told source = record {
+  ty = source.ty;
+  rows = told_only told (rows_of source.table);
+  count = length
+      (rows_of source.table);
+  kept = None;
+}
 
 -- the answers that a cursor has left
 abbrev pub left_of : Open → List Value

@@ -48,11 +48,11 @@ FailsAt no_decls last known n = (n ≡ 0) × ((t : Ground) → Types last known 
 FailsAt (constant d e ds) last known n =
     ((n ≡ 0) × ((t : Ground) → Types e known [] t → ⊥))
     ⊎ ((m : ℕ) × (n ≡ suc m) × ((t : Ground) × Types e known [] t)
-        × FailsAt ds last (with_sort d.text (value_of (Types e known [])) known) m)
+    × FailsAt ds last (with_sort d.text (value_of (Types e known [])) known) m)
 FailsAt (function d p e ds) last known n =
     ((n ≡ 0) × ((s : Ground) (t : Ground) → FunctionTypes known p e s t → ⊥))
     ⊎ ((m : ℕ) × (n ≡ suc m) × ((s : Ground) × (t : Ground) × FunctionTypes known p e s t)
-        × FailsAt ds last (with_sort d.text (function_of (FunctionTypes known p e)) known) m)
+    × FailsAt ds last (with_sort d.text (function_of (FunctionTypes known p e)) known) m)
 
 -- the program has no typing, and this is its first declaration without one
 pub record IsIllTyped (ds : Decls) (e : Exp) (sources : List (Name × Ground)) (n : ℕ) : Type 0 where

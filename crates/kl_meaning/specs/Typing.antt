@@ -148,7 +148,7 @@ abbrev mutual
   BranchTypes (otherwise c) known G r t = Types c known G t
   BranchTypes (branch l p b bs) known G r t =
       (s : Ground) × (H : Context) × (at l.text r ≡ Some s) × Takes p (NameTypes known G) s G H × Types b known H t
-          × BranchTypes bs known G r t
+      × BranchTypes bs known G r t
 
   pub StepTypes : Steps → KnownTypes → Context → Ground → Ground → Type 0
   StepTypes no_steps known G s t = s ≡ t
@@ -190,7 +190,7 @@ EachTyped (constant d e ds) known = ((t : Ground) × Types e known [] t)
     × EachTyped ds (with_sort d.text (value_of (Types e known [])) known)
 EachTyped (function d p e ds) known =
     ((s : Ground) × (t : Ground) × FunctionTypes known p e s t)
-        × EachTyped ds (with_sort d.text (function_of (FunctionTypes known p e)) known)
+    × EachTyped ds (with_sort d.text (function_of (FunctionTypes known p e)) known)
 
 -- the types of a program's last expression, and whether the program has a typing, over the types of its sources
 abbrev pub ProgramTypes : Decls → Exp → List (Name × Ground) → Ground → Type 0

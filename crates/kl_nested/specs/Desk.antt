@@ -29,7 +29,7 @@ pub record IsKept (limit : ℕ) (told : Tells) (s : Source) : Type 0 where
   pub few : s.count ≤ limit
   pub known : (files : List ℕ → Option (List ℕ)) → told ≡ Some files → (bytes : List ℕ) × (rows : List Value)
       × (files s.path ≡ Some bytes) × (stored_in limit bytes (item_ty s.ty) ≡ Rows rows) × (s.count ≡ length rows)
-          × (s.bytes ≡ length bytes)
+      × (s.bytes ≡ length bytes)
 
 -- A reader of the source's file, which is open, has read so many items of it.
 pub record HasTaken (limit : ℕ) (s : Source) (taken : ℕ) (now : FileReading) (f : FilesState) : Type 0 where

@@ -41,4 +41,4 @@ abbrev pub IsSettled : ℕ → ℕ → Tree → List ℕ → Type 0
 IsSettled calm level t [] = ⊤
 IsSettled calm level t (i ∷ r) =
     ((j : ℕ) (b : Tree) → j < i → part_at t j ≡ Some b → IsQuiet calm (level + 1) b)
-        × ((a : Tree) → part_at t i ≡ Some a → IsSettled calm (level + 1) a r)
+    × ((a : Tree) → part_at t i ≡ Some a → IsSettled calm (level + 1) a r)

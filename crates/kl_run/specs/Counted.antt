@@ -65,7 +65,7 @@ abbrev pub ReadsMarked : List DriverKind → List Source → (ℕ → Bool) → 
 ReadsMarked ks ss marks R =
     (i : ℕ) (s : Source) (rows : List Value) (c : Scan) (keep : List Name) (tests : List ColTest)
     → slice_get ss i ≡ Some s → marks i ≡ true → contents ks s ≡ Some (Rows rows) → c.driver ≡ s.driver
-        → c.ask ≡ asks.Rows s.name keep tests
+    → c.ask ≡ asks.Rows s.name keep tests
     → R c ≡ Some (answers rows keep tests)
 
 abbrev pub at_number : ℕ → Scan → ℕ

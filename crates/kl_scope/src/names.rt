@@ -49,8 +49,12 @@ impl Model for Names {
 
     ghost Value = { Scope };
 
-    ghost view = { λ n. record { variables = names_of
-        (reverse n.variables.items); definitions = reverse n.definitions.items; sources = n.sources } };
+    ghost view = { λ n. record {
+      variables = names_of
+          (reverse n.variables.items);
+      definitions = reverse n.definitions.items;
+      sources = n.sources;
+    } };
 
     ghost invariant = { λ n. Kept n.variables.items n.innermost n.definitions.items n.sources n.fixed };
 }
@@ -154,8 +158,10 @@ impl Names {
 
     /// Forgets the variables that were bound last, down to so many.
     pub fn leave(&mut self, depth: usize) -> Result<(), NoMemory>
-        ensures { IfOk result (λ _. self.new ≡ record self.old { variables = drop
-            (length self.old.variables - depth) self.old.variables }) }
+        ensures { IfOk result (λ _. self.new ≡ record self.old {
+          variables = drop
+              (length self.old.variables - depth) self.old.variables;
+        }) }
     {
         let count = self.depth().saturating_sub(depth);
         'levels: for _ in 0..count {

@@ -105,7 +105,7 @@ unfoldable pub MoreTables : ℕ → ℕ → Phrase ℕ FromWhere
 MoreTables zero i = Or (Behind SomeBlanks AWhere) (Nothing ([], []))
 MoreTables (suc k) i =
     Or (Or (Behind AnyBlanks (Behind (ThisByte 44) (Behind AnyBlanks (Made put_first (Then (ATable i) (MoreTables k (suc i)))))))
-        (Behind SomeBlanks AWhere))
+    (Behind SomeBlanks AWhere))
     (Nothing ([], []))
 
 -- "FROM" table { "," table } [ "WHERE" tests ], behind the columns

@@ -80,7 +80,7 @@ unfoldable pub more : ℕ → ℕ → Reader ℕ FromWhere
 more zero i = last_turn
 more (suc k) i =
     pick goes_further (gapped (is 44) (behind (mark 44) (behind gap (made put_first (both (table i) (more k (suc i)))))) a_where)
-        (nothing ([], []))
+    (nothing ([], []))
 
 -- the tables, up to the end
 abbrev pub tables : Reader ℕ FromWhere

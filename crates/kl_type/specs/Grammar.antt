@@ -48,7 +48,7 @@ pub data MoreFields (E : Phrase Placed Ty) : List (List ℕ × Ty) → ℕ → L
   no_more : {fields : List (List ℕ × Ty)} {n : ℕ} → MoreFields E fields n fields []
   one_more : {fields all : List (List ℕ × Ty)} {n : ℕ} {u v : List Placed} (f : List ℕ × Ty)
       → Behind (Symbol sym.Comma) (Field E fields) n f u → MoreFields E (put fields f) (n + length u) all v
-          → MoreFields E fields n all (u ++ v)
+      → MoreFields E fields n all (u ++ v)
 
 module _ (E : Phrase Placed Ty) where
   -- LABEL ":" type { "," LABEL ":" type }
