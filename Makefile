@@ -1,8 +1,8 @@
 # What people look for. `rt`, of Rattle's kit, has to be on the path; crates.txt says which crate stands on which.
 #
-#   make              the program, proved: crates/kleisli/out/kleisli
-#   make try          the first example, by a program of which nothing is proved, within two minutes; PROGRAM=.. for another
-#                     without a catalogue
+#   make              the program, proved: crates/kleisli/out/kleisli; -jN proves N crates at once
+#   make try          the first example, by a program of which nothing is proved, within three minutes; PROGRAM=.. for
+#                     another without a catalogue
 #   make run          the first example, by the proved program; PROGRAM=.. CATALOGUE=.. for another
 #   make test         what the gate does: every proof, every test, and the repository's own checks
 #   make wrong        tries the wrong bodies that contracts have to refuse; CRATES=.. for some crates
@@ -10,34 +10,52 @@
 #   make clean        removes what was built
 
 .DEFAULT_GOAL := kleisli
+MAKEFLAGS += --no-builtin-rules
 
 PREFIX ?= /usr/local
 PROGRAM ?= examples/first.cpl
 CATALOGUE ?=
 CRATES ?=
 
-KIT := anyhow arrayvec clap csv itoa thiserror
-LIBRARIES := $(patsubst crates/%/src/lib.rt,%,$(wildcard crates/kl_*/src/lib.rt))
+BUILT := crates/kleisli/out/kleisli
 
-.PHONY: kleisli try run test wrong install clean $(LIBRARIES) $(KIT)
+# The libraries of the program, each behind those that it stands on.
+LIBRARIES := $(shell .ci/order kleisli)
+LAST := $(words $(LIBRARIES) kleisli)
 
-# Its lines are rules: a crate, and the crates that it stands on. So libraries are built from the bottom up, which spares
-# the pass over all sources with which a first build of the program begins otherwise.
-include crates.txt
+# What a crate is made of: folders too, since a file that is gone changes its folder.
+files = $(shell find crates/$(1)/src crates/$(1)/specs crates/$(1)/proofs 2> /dev/null)
+$(foreach it,$(LIBRARIES) kleisli,$(eval files_of_$(it) := $(call files,$(it))))
+below = $(filter $(LIBRARIES),$(shell sed -n 's/^$(1)[^:]*://p' crates.txt))
 
-$(KIT):
+.PHONY: kleisli libraries try run test wrong install clean
 
-$(LIBRARIES):
-	@echo "$@"; mkdir -p crates/$@/out; cd crates/$@ && rt lib > out/lib.log 2>&1 || { grep -v ': proved$$' out/lib.log; exit 1; }
+kleisli: $(BUILT)
 
-kleisli:
-	@echo "$@"; mkdir -p crates/$@/out; cd crates/$@ && rt run -- check ../../examples/first.cpl > out/run.log 2>&1 || { grep -v ': proved$$' out/run.log; exit 1; }
+# A program that is newer than all that it is made of is done, whoever built it: the gate leaves one too.
+$(BUILT): crates.txt $(foreach it,$(LIBRARIES) kleisli,$(files_of_$(it)))
+	@$(MAKE) --no-print-directory libraries
+	@.ci/build $(LAST) $(LAST) kleisli rt run -- check ../../examples/first.cpl
+
+# Libraries are built from the bottom up, which spares the pass over all sources with which a first build of the program
+# begins otherwise.
+libraries: $(LIBRARIES:%=crates/%/out/made)
+
+# $(1): the crate, $(2): its number
+define library
+crates/$(1)/out/made: crates.txt $(files_of_$(1)) $(patsubst %,crates/%/out/made,$(call below,$(1)))
+	@.ci/build $(2) $(LAST) $(1) rt lib
+	@touch $$@
+endef
+
+place := 0
+$(foreach it,$(LIBRARIES),$(eval place := $(shell expr $(place) + 1))$(eval $(call library,$(it),$(place))))
 
 try:
 	@cd crates/kleisli && rt try --data program.cpl=../../$(PROGRAM) -- run program.cpl
 
 run: kleisli
-	@crates/kleisli/out/kleisli run $(PROGRAM) $(CATALOGUE)
+	@$(BUILT) run $(PROGRAM) $(CATALOGUE)
 
 test:
 	@.ci/run
@@ -46,7 +64,7 @@ wrong:
 	@.ci/wrong $(CRATES)
 
 install: kleisli
-	install -D crates/kleisli/out/kleisli $(DESTDIR)$(PREFIX)/bin/kleisli
+	install -D $(BUILT) $(DESTDIR)$(PREFIX)/bin/kleisli
 
 clean:
 	rm -rf crates/*/out
