@@ -230,7 +230,8 @@ fn answer(alloc: Global, tokens: &[Token]) -> Result<Program, ParseError>
 /// # Errors
 /// The place is the first token such that no program nested at most 256 deep goes on through it. `TooDeep` with this token,
 /// where a program nested deeper does; else `Syntax`, also where the tokens end before the program does, with their number.
-/// Want of memory.
+/// The tokens before the place begin a program nested at most 256 deep, where a branch that is not reached yet counts as
+/// left out: 255 times `{` and then `case 1 of )` is `Syntax` at the `)`, byte 265. Want of memory.
 pub fn parse(alloc: Global, tokens: &[Token]) -> Result<Program, ParseError>
     requires { length tokens.now < 2 ^ 32 }
     ensures program { IfOk result (IsProgram tokens.now) }
