@@ -30,7 +30,7 @@ use Rattle.kl_engine.proofs.UnreadLemmas.{unread_cases}
 
 -- files of which nothing is told, for what is so of any
 pub no_files : FilesState
-no_files = record { told = None; left = λ k. None; faults = 0 }
+no_files = record { told = None; left = λ k. None; log = None; faults = 0 }
 
 -- what is done with a text is done with the same text
 pub does_same : (ss us : List Source) (p : Purpose) (text other : List ℕ) (end : Ending) (o o' : Outside) → us ≡ ss → other ≡ text → DoesText us p other end o o' → DoesText ss p text end o o'

@@ -7,9 +7,12 @@ pub mod Goings
 pub mod Grown
 pub mod Joins
 pub mod Keyed
+pub mod Moves
 pub mod Openings
 pub mod Ordered
 pub mod Pulls
+pub mod Reordered
 pub mod Repeated
+pub mod Shuffles
 pub mod Starts
 pub mod Typed

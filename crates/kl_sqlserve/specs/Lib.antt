@@ -7,6 +7,7 @@ pub mod Keys
 pub mod Left
 pub mod Levels
 pub mod Opening
+pub mod Reordering
 pub mod Repeats
 pub mod Server
 pub mod Showing
