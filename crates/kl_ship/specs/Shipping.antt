@@ -57,7 +57,7 @@ LetBecomes ss v a b n p m = (x : Node) × (y : Node) × (i : ℕ) × Becomes ss 
 abbrev pub IfBecomes : List ShipSource → Need → Tree → Tree → Tree → ℕ → Node → ℕ → Type 0
 IfBecomes ss v a b c n p m =
     (x : Node) × (y : Node) × (z : Node) × (i : ℕ) × (j : ℕ) × Becomes ss need.Whole a n x i × Becomes ss v b i y j
-        × Becomes ss v c j z m × (p ≡ node.If x y z)
+    × Becomes ss v c j z m × (p ≡ node.If x y z)
 
 abbrev pub CaseBecomes : List ShipSource → Need → Tree → Arms → ℕ → Node → ℕ → Type 0
 CaseBecomes ss v a bs n p m = (x : Node) × (y : Branches) × (i : ℕ) × Becomes ss need.Whole a n x i × ArmsBecome ss v bs i y m

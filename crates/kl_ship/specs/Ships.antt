@@ -106,7 +106,7 @@ abbrev mutual
       ⊎ ((x : Node) × (y : Node) × (i : ℕ) × Becomes ss (need.Source k) a n x i × Becomes ss need.Items b i y m × (p ≡ node.Ext k y x))
   Becomes ss u (term.If a b c) n p m = Stays u (term.If a b c) n p m
       ⊎ ((x : Node) × (y : Node) × (z : Node) × (i : ℕ) × (j : ℕ) × Becomes ss need.Whole a n x i × Becomes ss (passed_on u) b i y j
-          × Becomes ss (passed_on u) c j z m × (p ≡ node.If x y z))
+      × Becomes ss (passed_on u) c j z m × (p ≡ node.If x y z))
   Becomes ss u (term.Let a b) n p m = Stays u (term.Let a b) n p m
       ⊎ ((x : Node) × (y : Node) × (i : ℕ) × Becomes ss need.Whole a n x i × Becomes ss (passed_on u) b i y m × (p ≡ node.Let x y))
   Becomes ss u (term.Prim c ts) n p m = Stays u (term.Prim c ts) n p m ⊎ ((x : Nodes) × TreesBecome ss ts n x m × (p ≡ node.Prim c x))
