@@ -14,7 +14,7 @@ left_of entries (Some (Some place)) = Some (Some (drop place.at (bytes_at entrie
 
 abbrev pub memory_state : List (List ℕ × List ℕ) → List (Option Place) → ℕ → FilesState
 memory_state entries places faults = record { told = Some (bytes_of entries); left = λ k. left_of entries
-    (slice_get places k); faults = faults }
+    (slice_get places k); log = None; faults = faults }
 
 -- the paths with their bytes are told, and the faults are those of the listed calls
 abbrev pub files_state : MemFiles → FilesState
