@@ -1,5 +1,5 @@
 //! Lists, which are printed as they are drawn.
-ghost use Rattle.std.specs.Prelude.{◌≡◌, ◌++◌, ℕ, Bool, List, [], None, Ok, codes, false, true, ⊤};
+ghost use Rattle.std.specs.Prelude.{◌≡◌, ◌++◌, ℕ, Bool, List, [], None, Some, Ok, codes, false, true, ⊤};
 ghost use Rattle.kl_outside.specs.Files.{FilesState};
 ghost use Rattle.kl_outside.specs.Sinks.{SinkState, WritesWhole};
 ghost use Rattle.kl_exchange.specs.Printing.{Puts, as_stop};
@@ -20,7 +20,7 @@ ghost use Rattle.kl_engine.specs.Answering.{PrintsPage};
 ghost use Rattle.kl_engine.specs.Faults.{ending};
 ghost use Rattle.kl_engine.specs.Outside.{outside_of};
 ghost use Rattle.kl_engine.specs.Running.{AnswersTerm, HasList, IsListOutcome, IsListTerm, Scanned, SparesRows, StopsList};
-ghost use Rattle.kl_engine.specs.Running.{TookMore, are_enough, one_more};
+ghost use Rattle.kl_engine.specs.Running.{TookMore, are_enough, one_more, plan_over};
 ghost use Rattle.kl_engine.specs.Verdict.{list_front, value_page};
 
 use crate::fault::Fault;
@@ -54,13 +54,14 @@ pub fn print_list<S: Sink>(
         → IsListTerm (types_of (⟦<Session as Seen>⟧.world session.old)) t → AnswersTerm ⊤
         (IsListOutcome first (core (values_of (⟦<Session as Seen>⟧.world session.old)) t []))
         (HaveSources (types_of (⟦<Session as Seen>⟧.world session.old)) (values_of (⟦<Session as Seen>⟧.world session.old))) (ending result)
-        (⟦<Session as Seen>⟧.world session.old).sources
+        (plan_over (⟦<Session as Seen>⟧.world session.old) (view plan.now))
         (outside_of files (⟦<Session as Seen>⟧.world session.old).drivers (S.state out.old))
         (outside_of files (⟦<Session as Seen>⟧.world session.new).drivers (S.state out.new)) }
     ensures scanned { Scanned (view plan.now) (ending result) first (⟦<Session as Seen>⟧.world session.old)
         (⟦<Session as Seen>⟧.world session.new) }
     ensures spares { SparesRows (view plan.now) (ending result) first (⟦<Session as Seen>⟧.world session.old)
         (⟦<Session as Seen>⟧.world session.new) (S.state out.old) (S.state out.new) }
+    ensures none { first ≡ Some 0 → ⟦<Session as Seen>⟧.world session.new ≡ ⟦<Session as Seen>⟧.world session.old }
 {
     let mut page = Page::new();
     match begin(&mut page, out) {
@@ -139,17 +140,19 @@ fn print_items<S: Sink>(
     requires sense { HasList (⟦<Session as Seen>⟧.world session.old) (view plan.now) }
     requires some { are_enough first ≡ false }
     ensures prints { (files : FilesState) (ks : List DriverKind) (ss : List Source) (marks : ℕ → Bool) (t : Tree) (front : SinkState)
-        → Runs ks ss marks t (view plan.now) (⟦<Session as Seen>⟧.world session.old) → IsListTerm (types_of (⟦<Session as Seen>⟧.world session.old)) t
+        → Runs ks ss marks t (view plan.now) (⟦<Session as Seen>⟧.world session.old)
+        → IsListTerm (types_of (⟦<Session as Seen>⟧.world session.old)) t
         → Puts {T = Unit {0}} (list_front []) (Ok tt) front [] (S.state out.old) page.old → AnswersTerm ⊤
         (IsListOutcome first (core (values_of (⟦<Session as Seen>⟧.world session.old)) t []))
         (HaveSources (types_of (⟦<Session as Seen>⟧.world session.old)) (values_of (⟦<Session as Seen>⟧.world session.old))) (ending result)
-        (⟦<Session as Seen>⟧.world session.old).sources
+        (plan_over (⟦<Session as Seen>⟧.world session.old) (view plan.now))
         (outside_of files (⟦<Session as Seen>⟧.world session.old).drivers front)
         (outside_of files (⟦<Session as Seen>⟧.world session.new).drivers (S.state out.new)) }
     ensures scanned { Scanned (view plan.now) (ending result) first (⟦<Session as Seen>⟧.world session.old)
         (⟦<Session as Seen>⟧.world session.new) }
     ensures spares { (front : SinkState) → Puts {T = Unit {0}} (list_front []) (Ok tt) front [] (S.state out.old) page.old
-        → SparesRows (view plan.now) (ending result) first (⟦<Session as Seen>⟧.world session.old) (⟦<Session as Seen>⟧.world session.new) front (S.state out.new) }
+        → SparesRows (view plan.now) (ending result) first (⟦<Session as Seen>⟧.world session.old)
+        (⟦<Session as Seen>⟧.world session.new) front (S.state out.new) }
 {
     match open_plan(alloc, plan, &[]) {
         Ok(cursor) => {
