@@ -25,6 +25,6 @@ pub use boxed::{
 pub use cursors::close_cursor;
 pub use driver::Driver;
 pub use named::asked_source;
-pub use session::{Attached, Seen, Session};
+pub use session::{Attached, Drivers, Seen, SeenAll, Session};
 pub use settings::{JoinHow, JoinRun, Settings, Trace};
 pub use tables::columns_of;

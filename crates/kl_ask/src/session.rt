@@ -1,4 +1,6 @@
 //! The session of a program.
+ghost use Rattle.std.specs.Prelude.{List};
+ghost use Rattle.kl_ask.specs.Driver.{State};
 ghost use Rattle.kl_ask.specs.World.{World};
 
 use crate::driver::Driver;
@@ -15,10 +17,24 @@ pub struct Attached {
     pub driver: Option<u32>,
 }
 
+/// The drivers that a program may ask.
+pub type Drivers = Vec<Box<dyn Driver>>;
+
+/// What contracts see of drivers, through their boxes: what each of them means.
+pub trait SeenAll {
+    ghost states: { Self → List State };
+}
+
+impl SeenAll for Drivers {
+    ghost use Rattle.std.specs.Prelude.{map};
+
+    ghost states = { λ ds. map (λ d. (Driver-box d).state d.value) ds.items };
+}
+
 /// What a program runs over. It owns the drivers while the program runs.
 #[derive(Drop)]
 pub struct Session {
-    pub drivers: Vec<Box<dyn Driver>>,
+    pub drivers: Drivers,
     /// The sources, in the order in which terms number them.
     pub sources: Seq<Attached>,
     pub settings: Settings,

@@ -2,7 +2,7 @@
 ghost use Rattle.std.specs.Prelude.{◌≡◌, map};
 ghost use Rattle.kl_ship.specs.Nodes.{branches_of, no_branches, view, view_branch};
 ghost use Rattle.kl_ship.specs.Kinds.{first_kind, kind_of_branches, kind_of_items};
-ghost use Rattle.kl_cursor.specs.Drawing.{draws, comes_by_items};
+ghost use Rattle.kl_cursor.specs.Drawing.{draws};
 
 use kl_base::Label;
 use kl_core::fits;
@@ -18,7 +18,7 @@ fn first_kind(kind: Option<Kind>, other: Option<Kind>) -> Option<Kind>
     }
 }
 
-/// The kind as which a plan of a collection comes item by item, if it ever comes so.
+/// The kind of a plan of a collection, where its form tells it.
 #[cycle(kind)]
 pub fn kind_of_items(plan: &Plan) -> Option<Kind>
     ensures { result ≡ kind_of_items (view plan.now) }
@@ -58,22 +58,12 @@ fn kind_of_branches(branches: &[(Label, Plan)]) -> Option<Kind>
     None
 }
 
-/// Whether a loop of a kind draws the items of a plan as they come.
+/// Whether a loop of a kind draws the items of a plan as they come. A plan whose form does not tell its kind may be a set.
 pub fn draws(into: Kind, plan: &Plan) -> bool
     ensures { result ≡ draws into (view plan.now) }
 {
     match kind_of_items(plan) {
         Some(kind) => fits(kind, into),
-        None => false,
-    }
-}
-
-/// Whether a plan may come item by item.
-pub fn comes_by_items(plan: &Plan) -> bool
-    ensures { result ≡ comes_by_items (view plan.now) }
-{
-    match kind_of_items(plan) {
-        Some(_) => true,
-        None => false,
+        None => fits(Kind::Set, into),
     }
 }

@@ -32,7 +32,7 @@ use Rattle.kl_scans.proofs.Moving.{moves_none}
 use Rattle.kl_cursor.specs.Laziness.{Frugal, Handed, NextsLazily}
 use Rattle.kl_cursor.specs.Left.{Snap, reading, fresh, uses, left as left_of}
 use Rattle.kl_cursor.specs.Measure.{most}
-use Rattle.kl_cursor.specs.Pulling.{Quiet, pulls}
+use Rattle.kl_cursor.specs.Pulling.{SilentUnlessPulls, pulls}
 use Rattle.kl_cursor.specs.Sense.{IsToldAt, Stands}
 use Rattle.kl_cursor.specs.Steps.{Ends, Gives, Nexts, Stops}
 use Rattle.kl_cursor.proofs.Calls.{owned_nothing}
@@ -46,7 +46,7 @@ use Rattle.kl_engine.specs.Answering.{PrintsPage}
 use Rattle.kl_engine.specs.Faults.{Ending}
 use Rattle.kl_engine.specs.Outside.{outside_of}
 use Rattle.kl_engine.specs.Planned.{HandsFew, HandsWritten, IsLine}
-use Rattle.kl_engine.specs.Running.{AnswersTerm, HasList, IsListOutcome, IsListTerm, Scanned, SparesRows, StopsList, TookMore, are_enough, one_more}
+use Rattle.kl_engine.specs.Running.{AnswersTerm, HasList, IsListOutcome, IsListTerm, Scanned, SparesRows, StopsList, TookMore, are_enough, one_more, plan_over}
 use Rattle.kl_engine.specs.Showing.{write_fault}
 use Rattle.kl_engine.specs.Verdict.{list_front, value_page}
 use Rattle.kl_engine.specs.declared.fault.Fault.TheVariants as fault
@@ -254,7 +254,7 @@ module _ (p : Node) (first : Option ℕ) (a : World) (place : ℕ) (left : Optio
           ([], sense.0, tt, (d.drained.typed [] kind.List sense.0 tt sense.1).1, told_on nothing (uses s) a w d.drained.moves told)
           (subst (λ vs. NextsLazily (reverse vs) s (Ok (Some v)) t w b) d.bare lazy))
 
-      module _ (settled : pulls s ≡ true → d.out ≡ length d.given) (quiet : Quiet s w b) where
+      module _ (settled : pulls s ≡ true → d.out ≡ length d.given) (quiet : SilentUnlessPulls s w b) where
         -- the rows that were handed then
         pub withheld_next : Withheld p a d.out b
         withheld_next = by_case (pulls s) refl
@@ -300,7 +300,7 @@ module _ (p : Node) (first : Option ℕ) (a : World) (place : ℕ) (left : Optio
           → Puts (list_front (d.given ++ v ∷ [])) (as_stop r) front [] out' page'
       item_of r put front puts = item_put r d.given v place front out out' [] page page' d.at (d.printed front puts).0 put
 
-      pub draws_on : HasList a p → NextsLazily (reverse env) s (Ok (Some v)) t w b → (pulls s ≡ true → d.out ≡ length d.given) → Quiet s w b → (left' : Option ℕ) (done : Unit {0}) → Puts (separator place ++ text_of v) (as_stop (Ok done)) out page out' page' → left ≡ one_more left' → are_enough left' ≡ false → Drawing p first a 1 left' env' t b (Fronts out0 page0 out' page')
+      pub draws_on : HasList a p → NextsLazily (reverse env) s (Ok (Some v)) t w b → (pulls s ≡ true → d.out ≡ length d.given) → SilentUnlessPulls s w b → (left' : Option ℕ) (done : Unit {0}) → Puts (separator place ++ text_of v) (as_stop (Ok done)) out page out' page' → left ≡ one_more left' → are_enough left' ≡ false → Drawing p first a 1 left' env' t b (Fronts out0 page0 out' page')
       draws_on sense lazy settled quiet left' done put is some = record {
         given = d.given ++ v ∷ [];
         out = d.out;
@@ -318,13 +318,13 @@ module _ (p : Node) (first : Option ℕ) (a : World) (place : ℕ) (left : Optio
       module _ (ks : List DriverKind) (ss : List Source) (marks : ℕ → Bool) (tree : Tree) (files : FilesState) (runs : Runs ks ss marks tree p a) (is_list : IsListTerm (types_of a) tree) (front : SinkState) (puts : Puts {T = Unit {0}} (list_front []) (Ok tt) front [] out0 page0) where
         pub enough_prints : (left' : Option ℕ) (end : Ending) (c : World) (out'' : SinkState) (done : Unit {0}) → Puts (separator place ++ text_of v) (as_stop (Ok done)) out page out' page' → left ≡ one_more left' → are_enough left' ≡ true → Closes (uses t) b c
             → ((given : List Value) (s : SinkState) → Puts {T = Unit {0}} (list_front given) (Ok tt) s [] out' page' → PrintsPage (value_page (value.List given)) end s out'')
-            → AnswersTerm ⊤ (IsListOutcome first (core (values_of a) tree [])) (HaveSources (types_of a) (values_of a)) end a.sources (outside_of files a.drivers front) (outside_of files c.drivers out'')
+            → AnswersTerm ⊤ (IsListOutcome first (core (values_of a) tree [])) (HaveSources (types_of a) (values_of a)) end (plan_over a p) (outside_of files a.drivers front) (outside_of files c.drivers out'')
         enough_prints left' end c out'' done put is all closes ends =
             list_enough ks ss marks tree p first a files runs is_list (d.given ++ v ∷ []) left' (wanted_next first d.given v left left' d.wanted is) t b further end c front out'' all
             (closed_moves p a b c (d.given ++ v ∷ []) t further closes).0 (ends (d.given ++ v ∷ []) front (item_of (Ok done) put front puts))
 
         pub unput_prints : (e : PrintError) (c : World) → Puts {T = Unit {0}} (separator place ++ text_of v) (as_stop (Err e)) out page out' page' → Closes (uses t) b c
-            → AnswersTerm ⊤ (IsListOutcome first (core (values_of a) tree [])) (HaveSources (types_of a) (values_of a)) (Some (write_fault e)) a.sources (outside_of files a.drivers front) (outside_of files c.drivers out')
+            → AnswersTerm ⊤ (IsListOutcome first (core (values_of a) tree [])) (HaveSources (types_of a) (values_of a)) (Some (write_fault e)) (plan_over a p) (outside_of files a.drivers front) (outside_of files c.drivers out')
         unput_prints e c put closes =
             let after = next_wanted left d.some in
             list_unwritten ks ss marks tree p first a files runs is_list (d.given ++ v ∷ []) after.0 (wanted_next first d.given v left after.0 d.wanted after.1) t b further e c front out' page'
@@ -339,7 +339,7 @@ module _ (p : Node) (first : Option ℕ) (a : World) (place : ℕ) (left : Optio
   whole_counted t end b sense next = whole_scanned p first a d.given s w d.drained end b sense (subst (λ vs. Ends (reverse vs) s w b) d.bare next.0)
 
   -- all items came, and the rows that were handed at the end
-  past_lacks : (e : End) (b : World) (front o : SinkState) → HasList a p → (pulls s ≡ true → d.out ≡ length d.given) → Quiet s w b → Puts {T = Unit {0}} (list_front []) (Ok tt) front [] out0 page0 → TookMore out o → flow d.given e ≡ coming (plan (reading a) p []) → IsToldAt a
+  past_lacks : (e : End) (b : World) (front o : SinkState) → HasList a p → (pulls s ≡ true → d.out ≡ length d.given) → SilentUnlessPulls s w b → Puts {T = Unit {0}} (list_front []) (Ok tt) front [] out0 page0 → TookMore out o → flow d.given e ≡ coming (plan (reading a) p []) → IsToldAt a
       → HandsWritten (reading a) a.settings.fetch p front o (λ c rows. Handed c rows a b)
   past_lacks e b front o list settled quiet puts more is told = by_case (pulls s) refl
     where
@@ -355,7 +355,7 @@ module _ (p : Node) (first : Option ℕ) (a : World) (place : ℕ) (left : Optio
       let after = next_wanted left d.some in
       absurd (past_all first d.given left after.0 d.wanted after.1 items is (omega (arith, enough, all)))
 
-  pub whole_spared : (t : Snap) (end : Ending) (b : World) (o : SinkState) → HasList a p → (pulls s ≡ true → d.out ≡ length d.given) → Quiet s w b → Nexts (reverse env) s (Ok None) t w b → TookMore out o
+  pub whole_spared : (t : Snap) (end : Ending) (b : World) (o : SinkState) → HasList a p → (pulls s ≡ true → d.out ≡ length d.given) → SilentUnlessPulls s w b → Nexts (reverse env) s (Ok None) t w b → TookMore out o
       → (front : SinkState) → Puts {T = Unit {0}} (list_front []) (Ok tt) front [] out0 page0 → SparesRows p end first a b front o
   whole_spared t end b o list settled quiet next more front puts = record {
     few = λ well told. whole_few t b list next told;
@@ -365,7 +365,7 @@ module _ (p : Node) (first : Option ℕ) (a : World) (place : ℕ) (left : Optio
   }
 
   -- it was stopped, and only an overflow is followed by what else is written
-  pub stop_spared : (t : Snap) (e : EvalStop) (end : Ending) (b : World) (o : SinkState) → HasList a p → (pulls s ≡ true → d.out ≡ length d.given) → Quiet s w b → (end ≡ None → ⊥) → Nexts (reverse env) s (Err e) t w b → TookMore out o
+  pub stop_spared : (t : Snap) (e : EvalStop) (end : Ending) (b : World) (o : SinkState) → HasList a p → (pulls s ≡ true → d.out ≡ length d.given) → SilentUnlessPulls s w b → (end ≡ None → ⊥) → Nexts (reverse env) s (Err e) t w b → TookMore out o
       → ((given : List Value) (s : SinkState) → Puts {T = Unit {0}} (list_front given) (Ok tt) s [] out page → StopsList given e end s o)
       → (front : SinkState) → Puts {T = Unit {0}} (list_front []) (Ok tt) front [] out0 page0 → SparesRows p end first a b front o
   stop_spared t why.Overflow end b o list settled quiet never next more stops front puts =
@@ -387,7 +387,7 @@ module _ (p : Node) (first : Option ℕ) (a : World) (place : ℕ) (left : Optio
 
   module _ (ks : List DriverKind) (ss : List Source) (marks : ℕ → Bool) (tree : Tree) (files : FilesState) (runs : Runs ks ss marks tree p a) (is_list : IsListTerm (types_of a) tree) (front : SinkState) (puts : Puts {T = Unit {0}} (list_front []) (Ok tt) front [] out0 page0) where
     abbrev Answered : Ending → World → SinkState → Type 0
-    Answered end b out' = AnswersTerm ⊤ (IsListOutcome first (core (values_of a) tree [])) (HaveSources (types_of a) (values_of a)) end a.sources (outside_of files a.drivers front) (outside_of files b.drivers out')
+    Answered end b out' = AnswersTerm ⊤ (IsListOutcome first (core (values_of a) tree [])) (HaveSources (types_of a) (values_of a)) end (plan_over a p) (outside_of files a.drivers front) (outside_of files b.drivers out')
 
     pub unready_prints : (e : PrintError) (c : World) (out' : SinkState) (page' : List ℕ) → Puts {T = Unit {0}} [] (as_stop (Err e)) out page out' page' → Closes (uses s) w c → Answered (Some (write_fault e)) c out'
     unready_prints e c out' page' r closes =
@@ -413,7 +413,7 @@ unopened_spared p first a front o list = unbegun_spared p first a (Some fault.No
 
 pub unopened_prints : (p : Node) (first : Option ℕ) (a : World) (out : SinkState) (page : List ℕ) (ks : List DriverKind) (ss : List Source) (marks : ℕ → Bool) (tree : Tree) (files : FilesState) → Runs ks ss marks tree p a → IsListTerm (types_of a) tree → (front : SinkState)
     → Puts {T = Unit {0}} (list_front []) (Ok tt) front [] out page
-    → AnswersTerm ⊤ (IsListOutcome first (core (values_of a) tree [])) (HaveSources (types_of a) (values_of a)) (Some fault.NoMemory) a.sources (outside_of files a.drivers front) (outside_of files a.drivers out)
+    → AnswersTerm ⊤ (IsListOutcome first (core (values_of a) tree [])) (HaveSources (types_of a) (values_of a)) (Some fault.NoMemory) (plan_over a p) (outside_of files a.drivers front) (outside_of files a.drivers out)
 unopened_prints p first a out page ks ss marks tree files runs is_list front puts =
     list_wanted ks ss marks tree p first a files runs is_list [] first (wanted_first first) (fresh p) a (drains_starts [] (fresh p) a) a front out (moves_none nothing a) (puts_part [] (Ok tt) front out page puts)
 
@@ -425,9 +425,12 @@ unbegun_scanned p first a end never = record { moves = moves_none nothing a; kno
 pub none_wanted : (first : Option ℕ) → are_enough first ≡ true → (end : Ending) → end ≡ None → first ≡ None → ⊥
 none_wanted first all end well every = wanted_some first [] first (wanted_first first) all every
 
+pub some_wanted : (first : Option ℕ) → are_enough first ≡ false → first ≡ Some 0 → ⊥
+some_wanted first some none = let two : true ≡ false = sym (ap are_enough none) ∙ some in cc
+
 module _ (p : Node) (first : Option ℕ) (a : World) (out : SinkState) (ks : List DriverKind) (ss : List Source) (marks : ℕ → Bool) (tree : Tree) (files : FilesState) (runs : Runs ks ss marks tree p a) (is_list : IsListTerm (types_of a) tree) where
   abbrev Answers : Ending → SinkState → Type 0
-  Answers end out' = AnswersTerm ⊤ (IsListOutcome first (core (values_of a) tree [])) (HaveSources (types_of a) (values_of a)) end a.sources (outside_of files a.drivers out) (outside_of files a.drivers out')
+  Answers end out' = AnswersTerm ⊤ (IsListOutcome first (core (values_of a) tree [])) (HaveSources (types_of a) (values_of a)) end (plan_over a p) (outside_of files a.drivers out) (outside_of files a.drivers out')
 
   pub unbegun_prints : (e : PrintError) (out' : SinkState) (page' : List ℕ) → Puts {T = Unit {0}} (list_front []) (as_stop (Err e)) out [] out' page' → Answers (Some (write_fault e)) out'
   unbegun_prints e out' page' puts = list_unwritten ks ss marks tree p first a files runs is_list [] first (wanted_first first) (fresh p) a (drains_starts [] (fresh p) a) e a out out' page' (moves_none nothing a) puts

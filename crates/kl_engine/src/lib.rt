@@ -20,4 +20,4 @@ mod types;
 
 pub use drivers::add_driver;
 pub use fault::{Fault, Wrong};
-pub use top::{Answer, Purpose, kleisli};
+pub use top::{Answer, kleisli};

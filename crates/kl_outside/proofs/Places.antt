@@ -39,7 +39,11 @@ no_read entries places file into before mid after made failed later =
       end = tt;
       others = λ k ne. refl;
       refused = refl;
+      seen = tt;
+      others_seen = λ k ne. refl;
+      refused_seen = refl;
       later = omega (arith, same, later);
+      counts = omega (arith, same, later);
       failed = λ is. omega (arith, same, next);
     }
 
@@ -59,6 +63,10 @@ reads_more entries places file place count into before mid made found room size 
       end = λ none bytes all. let same : drop place.at (bytes_at entries place.entry) ≡ bytes = some_some (sym (ap (left_of entries) is) ∙ all) in nil_from_length bytes (rw (← same) (omega (arith, size, none, room)));
       others = λ k ne. ap (left_of entries) (get-set_other places file k _ ne);
       refused = tt;
+      seen = refl;
+      others_seen = λ k ne. refl;
+      refused_seen = tt;
       later = omega (arith, same);
+      counts = same;
       failed = λ bad. cc;
     }

@@ -14,7 +14,7 @@ left_in (Some (Free next)) = None
 left_in (Some (Opened file)) = Some None
 
 abbrev pub host_state : HostFiles → FilesState
-host_state h = record { told = None; left = λ k. left_in (slice_get h.slots.items k); faults = h.faults }
+host_state h = record { told = None; left = λ k. left_in (slice_get h.slots.items k); log = None; faults = h.faults }
 
 abbrev pub stream_state : {W : Type 0} → HostSink W → SinkState
 stream_state h = record { taken = None; faults = h.faults; wants = 0 }

@@ -17,6 +17,7 @@ memory_state entries places faults = record {
   told = Some (bytes_of entries);
   left = λ k. left_of entries
       (slice_get places k);
+  log = None;
   faults = faults;
 }
 

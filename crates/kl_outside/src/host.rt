@@ -29,7 +29,7 @@ impl HostFiles {
 
     /// The system's files, none of them open.
     pub fn new(rt: HostRuntime) -> HostFiles
-        ensures { host_state result ≡ record { told = None; left = λ _. None; faults = 0 } }
+        ensures { host_state result ≡ record { told = None; left = λ _. None; log = None; faults = 0 } }
     {
         HostFiles {
             rt,

@@ -31,7 +31,7 @@ impl MemFiles {
     /// Files with these paths and bytes, none of them open, with no call listed to fail. Where a path is given more
     /// than once, its first bytes count.
     pub fn new(alloc: Global, files: Vec<(Text, Text)>) -> MemFiles
-        ensures state { files_state result ≡ record { told = Some (bytes_of files.items); left = λ _. None; faults = 0 } }
+        ensures state { files_state result ≡ record { told = Some (bytes_of files.items); left = λ _. None; log = None; faults = 0 } }
         ensures calls { files_calls result ≡ record { listed = []; made = 0; faults = 0 } }
     {
         MemFiles {
