@@ -1,5 +1,6 @@
 use kl_lex::{Token, lex};
 use kl_parse::{Expr, Pattern, Program, Qual, parse};
+use kl_syntax::Tail;
 use kl_value::Kind;
 use std::alloc::Global;
 use std::test::Fail;
@@ -28,7 +29,7 @@ fn draws_and_tests(last: &Expr) -> bool {
         Expr::Comp(Kind::Set, _, quals) => matches!(
             quals.slice(),
             [
-                Qual::Gen(Pattern::Rec(_, true), _),
+                Qual::Gen(Pattern::Rec(_, Tail::Open), _),
                 Qual::Cond(Expr::Not(_))
             ]
         ),

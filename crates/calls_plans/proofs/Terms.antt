@@ -65,4 +65,4 @@ pub loop_types : (m n : ℤ) (body source : Plan) (bs ss : List Plan) → bs ≡
 loop_types m n body source bs ss e f g h w =
     let is_int : (G : List Ground) (k : ℤ) → TypesAt w G (constant k) int = λ G k. (tt, λ S. (tt, (has_int k, int_made k))) in
     subst (λ p. TypesAt w [] p (coll kind.List int)) (sym (loop_view m n body source bs ss e f g h))
-    (int, kind.List, int, refl, (int, refl, (is_int [] m, tt)), (int, refl, (refl, (is_int (int ∷ []) n, tt))))
+    (int, kind.List, int, refl, (int, refl, tt, (is_int [] m, tt)), (int, refl, tt, ((refl, tt), (is_int (int ∷ []) n, tt))))

@@ -10,7 +10,8 @@ ghost use Rattle.kl_cursor.specs.Sense.{Stands, TypesAt};
 use kl_ask::{Seen, Session, Settings, Trace};
 use kl_base::{Box, Seq};
 use kl_core::Term;
-use kl_cursor::{Cursor, open_plan, value_of};
+use kl_cursor::{Cursor, Draw, open_plan, value_of};
+use kl_eval::EvalStop;
 use kl_ship::Plan;
 use kl_value::{Kind, Value};
 use std::alloc::Global;
@@ -51,6 +52,23 @@ fn gives(cursor: &mut Cursor<'_>, session: &mut Session, item: i64) -> bool
     cursor.next(session) == Ok(Some(Value::Int(item)))
 }
 
+fn is_item(drawn: &Result<Draw, EvalStop>, item: i64) -> bool {
+    match drawn {
+        Ok(Draw::Item(Value::Int(found))) => *found == item,
+        _ => false,
+    }
+}
+
+// Whether this integer comes of what is at hand.
+fn holds(cursor: &mut Cursor<'_>, session: &mut Session, item: i64) -> bool
+    requires owned { Owned (uses (snap cursor.old.at)) (⟦<Session as Seen>⟧.world session.old) }
+    requires sense { Stands (⟦<Session as Seen>⟧.world session.old) (snap cursor.old.at) (reverse cursor.old.env) }
+    ensures owned { Owned (uses (snap cursor.new.at)) (⟦<Session as Seen>⟧.world session.new) }
+    ensures sense { Stands (⟦<Session as Seen>⟧.world session.new) (snap cursor.new.at) (reverse cursor.new.env) }
+{
+    is_item(&cursor.next_held(session), item)
+}
+
 fn ends(cursor: &mut Cursor<'_>, session: &mut Session) -> bool
     requires owned { Owned (uses (snap cursor.old.at)) (⟦<Session as Seen>⟧.world session.old) }
     requires sense { Stands (⟦<Session as Seen>⟧.world session.old) (snap cursor.old.at) (reverse cursor.old.env) }
@@ -67,7 +85,7 @@ fn is_drawn(alloc: Global, plan: &Plan, session: &mut Session) -> Result<bool, F
     let mut cursor = open_plan(alloc, plan, &[])?;
     let waits = cursor.may_pull();
     let first = gives(&mut cursor, session, 4);
-    let second = gives(&mut cursor, session, 7);
+    let second = holds(&mut cursor, session, 7);
     let end = ends(&mut cursor, session);
     cursor.close(session);
     Ok(!waits && first && second && end)

@@ -3,6 +3,8 @@ ghost use Rattle.kl_value.specs.declared.Kind.TheVariants as kind;
 ghost use Rattle.kl_type.specs.Ground.{coll, int, ground_of};
 ghost use Rattle.kl_ask.specs.World.{IsReady};
 ghost use Rattle.kl_ask.specs.declared.ask.Ask.TheVariants as asks;
+ghost use Rattle.kl_outside.specs.Files.{NoneOpen};
+ghost use Rattle.kl_outside.specs.Memory.{files_state};
 ghost use Rattle.kl_scans.specs.Scans.{CanScan};
 ghost use Rattle.calls_plans.specs.Reading.{HoldsNumbers, IsReading};
 
@@ -51,7 +53,9 @@ fn text(alloc: Global, bytes: &[u8]) -> Result<Text, Fail> {
 }
 
 // A file of two integers.
-fn files(alloc: Global) -> Result<MemFiles, Fail> {
+fn files(alloc: Global) -> Result<MemFiles, Fail>
+    ensures { IfOk result (λ f. NoneOpen (files_state f)) }
+{
     let path = text(alloc, b"n.kx")?;
     let items = text(alloc, b"4; 5;")?;
     Ok(MemFiles::new(alloc, vec![in alloc; (path, items)]?))

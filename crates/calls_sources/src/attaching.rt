@@ -2,6 +2,8 @@ ghost use Rattle.std.specs.Prelude.{◌≡◌, ◌<◌, ◌^◌, IfOk, None, len
 ghost use Rattle.kl_outcome.specs.Outcome.{Name};
 ghost use Rattle.kl_sources.specs.Attaching.{HaveNone};
 ghost use Rattle.kl_sources.specs.Sources.{ArePlaced, kinds_of};
+ghost use Rattle.kl_outside.specs.Files.{NoneOpen};
+ghost use Rattle.kl_outside.specs.Memory.{files_state};
 
 use kl_ask::{Attached, Driver};
 use kl_base::{Label, Seq, Text};
@@ -19,7 +21,9 @@ fn text(alloc: Global, bytes: &[u8]) -> Result<Text, Fail> {
 }
 
 // A table of two years.
-fn files(alloc: Global) -> Result<MemFiles, Fail> {
+fn files(alloc: Global) -> Result<MemFiles, Fail>
+    ensures { IfOk result (λ f. NoneOpen (files_state f)) }
+{
     let path = text(alloc, b"pubs.csv")?;
     let table = text(alloc, b"year\n1999\n2001\n")?;
     Ok(MemFiles::new(alloc, vec![in alloc; (path, table)]?))

@@ -1,3 +1,7 @@
+ghost use Rattle.std.specs.Prelude.{IfOk};
+ghost use Rattle.kl_outside.specs.Files.{NoneOpen};
+ghost use Rattle.kl_outside.specs.Memory.{files_state};
+
 use kl_ask::Driver;
 use kl_base::{Label, Text};
 use kl_nested::NestedDriver;
@@ -10,7 +14,9 @@ fn text(alloc: Global, bytes: &[u8]) -> Result<Text, Fail> {
     Ok(Text::of(Vec::from_slice(alloc, bytes)?))
 }
 
-fn files(alloc: Global) -> Result<MemFiles, Fail> {
+fn files(alloc: Global) -> Result<MemFiles, Fail>
+    ensures { IfOk result (λ f. NoneOpen (files_state f)) }
+{
     let path = text(alloc, b"n.kx")?;
     let items = text(alloc, b"{3, 1}; {};")?;
     Ok(MemFiles::new(alloc, vec![in alloc; (path, items)]?))

@@ -1,4 +1,7 @@
 ghost use Rattle.kl_ask.specs.Driver.{CanStart};
+ghost use Rattle.std.specs.Prelude.{IfOk};
+ghost use Rattle.kl_outside.specs.Files.{NoneOpen};
+ghost use Rattle.kl_outside.specs.Memory.{files_state};
 
 use kl_ask::{Ask, Driver};
 use kl_base::{Label, Text};
@@ -13,7 +16,9 @@ fn text(alloc: Global, bytes: &[u8]) -> Result<Text, Fail> {
     Ok(Text::of(Vec::from_slice(alloc, bytes)?))
 }
 
-fn files(alloc: Global) -> Result<MemFiles, Fail> {
+fn files(alloc: Global) -> Result<MemFiles, Fail>
+    ensures { IfOk result (λ f. NoneOpen (files_state f)) }
+{
     let path = text(alloc, b"posts.csv")?;
     let posts = text(alloc, b"id,who\n10,1\n11,2\n12,1\n")?;
     Ok(MemFiles::new(alloc, vec![in alloc; (path, posts)]?))

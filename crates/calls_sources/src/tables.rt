@@ -1,6 +1,8 @@
 ghost use Rattle.std.specs.Prelude.{◌≡◌, true, IfOk};
 ghost use Rattle.kl_type.specs.Ground.{IsProper};
 ghost use Rattle.kl_flat.specs.Columns.{is_table_type};
+ghost use Rattle.kl_outside.specs.Files.{NoneOpen};
+ghost use Rattle.kl_outside.specs.Memory.{files_state};
 
 use kl_ask::{Cmp, ColTest, Driver, Right};
 use kl_base::{Box, Label, Seq, Text};
@@ -73,7 +75,9 @@ fn text(alloc: Global, bytes: &[u8]) -> Result<Text, Fail> {
     Ok(Text::of(Vec::from_slice(alloc, bytes)?))
 }
 
-fn files(alloc: Global) -> Result<MemFiles, Fail> {
+fn files(alloc: Global) -> Result<MemFiles, Fail>
+    ensures { IfOk result (λ f. NoneOpen (files_state f)) }
+{
     let path = text(alloc, b"t.csv")?;
     let table = text(alloc, b"n\n1\n2\n")?;
     Ok(MemFiles::new(alloc, vec![in alloc; (path, table)]?))

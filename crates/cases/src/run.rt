@@ -1,6 +1,8 @@
 //! Running a case.
-ghost use Rattle.std.specs.Prelude.{◌<◌, ◌^◌, All, length, map};
+ghost use Rattle.std.specs.Prelude.{◌<◌, ◌^◌, All, IfOk, length, map};
 ghost use Rattle.kl_engine.specs.Answering.{IsIdle};
+ghost use Rattle.kl_outside.specs.Files.{NoneOpen};
+ghost use Rattle.kl_outside.specs.Memory.{files_state};
 
 use crate::case::{Case, Side, read_case};
 use crate::pieces::Pieces;
@@ -102,9 +104,11 @@ fn call_of(case: &Case, side: Side, call: u64) -> u64 {
     if case.given.turns.of == side { call } else { 0 }
 }
 
-fn files_of(alloc: Global, case: &Case, fails: &[u64], side: Side, call: u64) -> Result<MemFiles> {
+fn files_of(alloc: Global, case: &Case, fails: &[u64], side: Side, call: u64) -> Result<MemFiles>
+    ensures { IfOk result (λ f. NoneOpen (files_state f)) }
+{
     let mut files = MemFiles::new(alloc, entries_of(alloc, case)?);
-    for failing in fails {
+    'calls: for failing in fails {
         files.fail_at(*failing)?;
     }
     files.fail_at(call_of(case, side, call))?;

@@ -1,6 +1,8 @@
 //! Statements asked of a server of SQL.
 ghost use Rattle.std.specs.Prelude.{◌≡◌, ◌<◌, IfOk, IsSome};
 ghost use Rattle.kl_ask.specs.Driver.{CanStart};
+ghost use Rattle.kl_outside.specs.Files.{NoneOpen};
+ghost use Rattle.kl_outside.specs.Memory.{files_state};
 
 use crate::case::{find, is_among, items_at, read_fields, text_at};
 use anyhow::{Context, Result, bail, ensure};
@@ -133,7 +135,9 @@ fn ask(alloc: Global, case: &Statement, most: u32) -> Result<Option<Value>>
 }
 
 // The files of tables, each under the name of its table.
-fn files_of(alloc: Global, tables: &[Table]) -> Result<MemFiles> {
+fn files_of(alloc: Global, tables: &[Table]) -> Result<MemFiles>
+    ensures { IfOk result (λ f. NoneOpen (files_state f)) }
+{
     let mut entries = Vec::new(alloc);
     for table in tables {
         let bytes = Vec::from_slice(alloc, &table.bytes)?;

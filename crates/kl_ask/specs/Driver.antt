@@ -1,6 +1,6 @@
 -- What a driver means, and what each call does to it.
 use Rattle.std.specs.Prelude.{◌≡◌, ◌≢◌, ◌⊎◌, ◌<◌, ◌≤◌, ℕ, ◌+◌, ◌^◌, Bool, true, false, List, [], ◌++◌, length, Contains, Option}
-use Rattle.std.specs.Prelude.{Some, None, IsSome, ⊤}
+use Rattle.std.specs.Prelude.{Some, None, IsSome, slice_get, ⊤}
 use Rattle.std.specs.Prelude.{Result, Ok, Err, IfOk, OnOk, OnErr, IsErrOf}
 use Rattle.std.specs.List.{AllByRecursion, IsDistinct}
 use Rattle.std.specs.List.Sorted.{IsPermutation}
@@ -40,14 +40,28 @@ pub data Stored : Type 0 where
   Deep : ℕ → Stored
   Rows : List Value → Stored
 
--- what a driver is and does not change; `most` is how many bytes of a source are looked at, where that is bounded; `stored` is
--- None where contents are not told
+-- What stands behind the items that bytes spell: nothing that counts; what is no text from a place on, or nests too deep there;
+-- or more bytes than are looked at.
+pub data Behind : Type 0 where
+  Nothing : Behind
+  StopsAt : ℕ → Behind
+  Beyond : Behind
+
+-- the items that bytes spell one behind the other, from the first byte on, and what stands behind them
+pub record Spelt : Type 0 where
+  pub items : List Value
+  pub behind : Behind
+
+-- What a driver is and does not change. `most` is how many bytes of a source are looked at, where that is bounded; `stored` is
+-- None where contents are not told; and `spells` says what bytes spell, where cursors read their sources anew, and is None
+-- where the rows are held since they were attached.
 pub record DriverKind : Type 0 where
   pub name : List ℕ
   pub abilities : Abilities
   pub suits : Ty → Bool
   pub most : Option ℕ
   pub stored : Option (List ℕ → Ty → Stored)
+  pub spells : Option (List ℕ → Spelt)
 
 -- an attached source: the type of the whole collection; its rows, where contents are told; how many rows a whole scan
 -- hands; and the number of its bytes when it was attached, where the driver keeps that
@@ -65,10 +79,19 @@ pub record Cursor : Type 0 where
   pub left : Option (List Value)
   pub bound : ℕ
 
+-- What a cursor has read of its source: the bytes from the first on, and whether the source was found to end behind them.
+pub record ReadSoFar : Type 0 where
+  pub bytes : List ℕ
+  pub ended : Bool
+
+-- `file` is the number under which an open cursor reads its source anew, where it does; `read` is what was read under each such
+-- number since it was taken last, where that is kept, which no driver can see
 pub record State : Type 0 where
   pub kind : DriverKind
   pub attached : Name → Option Source
   pub cursors : ℕ → Option Cursor
+  pub file : ℕ → Option ℕ
+  pub read : ℕ → Option ReadSoFar
   pub asked : List (Ask × ℕ)
   pub handed : ℕ
   pub faults : ℕ
@@ -94,6 +117,39 @@ OtherCursors cursor old new = (k : ℕ) → k ≢ cursor → new.cursors k ≡ o
 
 abbrev pub OtherSources : Name → State → State → Type 0
 OtherSources source old new = (name : Name) → name ≢ source → new.attached name ≡ old.attached name
+
+-- The count of faults rises with the answer `Failed` alone.
+abbrev pub CountsFault : {T : Type 0} → Result T DriverError → ℕ → ℕ → Type 0
+CountsFault (Err error.Failed) before now = before ≤ now
+CountsFault _ before now = now ≡ before
+
+-- ---- what was read
+
+-- what is read under the number of a cursor, where it reads
+abbrev pub read_under : Option ℕ → State → Option ReadSoFar
+read_under None s = None
+read_under (Some n) s = s.read n
+
+-- a cursor reads as before, and has read as much
+pub record SameReading (cursor : ℕ) (old new : State) : Type 0 where
+  pub file : new.file cursor ≡ old.file cursor
+  pub read : read_under (old.file cursor) new ≡ read_under (old.file cursor) old
+
+-- every other open cursor
+abbrev pub OtherReadings : ℕ → State → State → Type 0
+OtherReadings cursor old new = (k : ℕ) → k ≢ cursor → IsSome (old.cursors k) → SameReading k old new
+
+-- more was read, behind what was read before
+abbrev pub ReadsOn : Option ReadSoFar → Option ReadSoFar → Type 0
+ReadsOn None after = after ≡ None
+ReadsOn (Some before) (Some after) = (more : List ℕ) × (after.bytes ≡ before.bytes ++ more)
+ReadsOn (Some before) None = ⊥
+
+-- the bytes end where the source ends, and are text of so many items
+pub record IsWholeText (read : ReadSoFar) (spelt : Spelt) (count : ℕ) : Type 0 where
+  pub ended : read.ended ≡ true
+  pub behind : spelt.behind ≡ Nothing
+  pub size : length spelt.items ≡ count
 
 -- ---- `suits`
 
@@ -160,9 +216,11 @@ CountsUnread _ before now = now ≡ before
 pub record Attaches (source : Name) (locator : List ℕ) (ty : Ty) (result : Result ℕ DriverError) (old new : State) : Type 0 where
   pub keeps : KeepsState old new
   pub cursors : new.cursors ≡ old.cursors
+  pub reading : (k : ℕ) → IsSome (old.cursors k) → SameReading k old new
   pub asked : new.asked ≡ old.asked
   pub handed : new.handed ≡ old.handed
-  -- of the other counts, that of faults may rise, and that of unreadable sources with a refusal as unreadable
+  -- of the other counts, that of faults rises with `Failed` alone, and that of unreadable sources with a refusal as unreadable
+  pub faults : CountsFault result old.faults new.faults
   pub drifts : new.drifts ≡ old.drifts
   pub unread : CountsUnread result old.unread new.unread
   pub others : OtherSources source old new
@@ -254,13 +312,17 @@ pub record OpensCursor (ask : Ask) (cursor : ℕ) (old new : State) : Type 0 whe
   pub ask_kept : opened.ask ≡ ask
   pub fresh : OpensAt ask old opened
   pub others : OtherCursors cursor old new
+  -- it has read nothing yet
+  pub unread : (r : ReadSoFar) → read_under (new.file cursor) new ≡ Some r → r.bytes ≡ []
   pub asked : new.asked ≡ with_ask ask old.asked
 
 pub record Starts (ask : Ask) (result : Result ℕ DriverError) (old new : State) : Type 0 where
   pub keeps : KeepsState old new
   pub attached : new.attached ≡ old.attached
+  pub reading : (k : ℕ) → IsSome (old.cursors k) → SameReading k old new
   pub handed : new.handed ≡ old.handed
-  -- of the other counts, that of faults alone may rise
+  -- of the other counts, that of faults alone rises, and with `Failed` alone
+  pub faults : CountsFault result old.faults new.faults
   pub drifts : new.drifts ≡ old.drifts
   pub unread : new.unread ≡ old.unread
   pub opens : IfOk result (λ cursor. OpensCursor ask cursor old new)
@@ -302,6 +364,26 @@ pub record PullsMore (cursor most : ℕ) (into into' : List Value) (c : Cursor) 
   pub hands : Hands most rows c then
   pub handed : new.handed ≡ raised_by (length rows) old.handed
 
+-- the attached source that an ask of rows names
+abbrev pub source_of : State → Ask → Option Source
+source_of s (asks.Rows source keep tests) = s.attached source
+source_of s (asks.Sql text) = None
+
+-- What an open cursor has read after a call, and what that spells.
+pub record ReadsAnew (cursor : ℕ) (old new : State) : Type 0 where
+  pub read : ReadSoFar
+  pub spells : List ℕ → Spelt
+  pub is_read : read_under (old.file cursor) new ≡ Some read
+  pub kind_spells : old.kind.spells ≡ Some spells
+
+abbrev pub spelt : {cursor : ℕ} {old new : State} → ReadsAnew cursor old new → Spelt
+spelt r = r.spells r.read.bytes
+
+-- the whole source was read, and it has as many bytes and as many rows as when it was attached
+pub record IsAsAttached (s : Source) (read : ReadSoFar) (spelt : Spelt) : Type 0 where
+  pub all : IsWholeText read spelt s.count
+  pub size : (kept : ℕ) → s.kept ≡ Some kept → length read.bytes ≡ kept
+
 pub record PullsNone (cursor : ℕ) (into into' : List Value) (c : Cursor) (old new : State) : Type 0 where
   pub same : into' ≡ into
   pub spent : IsSpent c
@@ -309,11 +391,8 @@ pub record PullsNone (cursor : ℕ) (into into' : List Value) (c : Cursor) (old 
   pub over : (c.bound ≡ 0) ⊎ ((IsTold old → ⊥) × HasTests c.ask)
   pub now : new.cursors cursor ≡ Some (emptied c)
   pub handed : new.handed ≡ old.handed
-
--- the attached source that an ask of rows names
-abbrev pub source_of : State → Ask → Option Source
-source_of s (asks.Rows source keep tests) = s.attached source
-source_of s (asks.Sql text) = None
+  -- where a cursor reads its source anew, that is as it was when it was attached
+  pub unchanged : (r : ReadsAnew cursor old new) (s : Source) → source_of old c.ask ≡ Some s → IsAsAttached s r.read (spelt r)
 
 -- a source is not what it was when it was attached: it has other bytes than were kept, or another number of rows, or what
 -- stands at a place or an item no longer reads
@@ -339,12 +418,23 @@ abbrev pub IsSizeMet : Option ℕ → Cursor → ℕ → Type 0
 IsSizeMet most c found = ((n : ℕ) × (most ≡ Some n) × (found ≡ n + 1)) ⊎ ((HasTests c.ask → ⊥) → c.bound ≡ 0)
 
 -- What is told of was met ahead of what the cursor handed: a number of bytes; a row that lacks the type, or the first that is not
--- there, or one behind the last. A place of bytes that are not told is tied to nothing.
+-- there, or one behind the last.
 abbrev pub IsMetAhead : Option ℕ → Source → Cursor → Drift → Type 0
 IsMetAhead most s c (drift.Bytes kept found) = IsSizeMet most c found
 IsMetAhead most s c (drift.Count kept found) = IsAhead s c found ⊎ IsPastEnd c kept found
 IsMetAhead most s c (drift.Unread place) = ⊤
 IsMetAhead most s c (drift.Misfit item) = IsAhead s c item
+
+-- What is told of stands so in what the cursor read: all bytes of the source, or one more than are looked at; all rows of it, or
+-- one more than it had; the place where the bytes stop being text, or where they nest too deep, which is behind them only where
+-- the source ends; a row that lacks the type.
+abbrev pub IsShown : Option ℕ → Source → ReadSoFar → Spelt → Drift → Type 0
+IsShown most s read spelt (drift.Bytes kept found) = (length read.bytes ≡ found)
+    × (((n : ℕ) × (most ≡ Some n) × (found ≡ n + 1)) ⊎ IsWholeText read spelt s.count)
+IsShown most s read spelt (drift.Count kept found) = IsWholeText read spelt found ⊎ ((kept < found) × (found ≤ length spelt.items))
+IsShown most s read spelt (drift.Unread place) = (spelt.behind ≡ StopsAt place) × ((place < length read.bytes) ⊎ (read.ended ≡ true))
+IsShown most s read spelt (drift.Misfit item) = (v : Value) × (slice_get spelt.items item ≡ Some v)
+    × (Inhabits (item_of (ground_of s.ty)) v → ⊥)
 
 -- an ask is for this statement
 abbrev pub IsAskedSql : Ask → Spj → Type 0
@@ -373,6 +463,8 @@ pub record PullRefused (cursor : ℕ) (e : DriverError) (into into' : List Value
   pub cause : Cause e old new
   pub drifted : (d : Drift) → e ≡ error.Changed d → (s : Source) → source_of old c.ask ≡ Some s → HasDrifted s d
   pub ahead : (d : Drift) → e ≡ error.Changed d → (s : Source) → source_of old c.ask ≡ Some s → IsMetAhead old.kind.most s c d
+  pub shown : (d : Drift) → e ≡ error.Changed d → (r : ReadsAnew cursor old new) (s : Source) → source_of old c.ask ≡ Some s
+      → IsShown old.kind.most s r.read (spelt r) d
   pub joined_drifted : (d : Drift) → e ≡ error.Changed d → (q : Spj) → IsAskedSql c.ask q → HasDriftedTable old q d
 
 abbrev pub PullResult : ℕ → ℕ → List Value → List Value → Cursor → Result Bool DriverError → State → State → Type 0
@@ -389,10 +481,14 @@ pub record Pulls (cursor most : ℕ) (into into' : List Value) (result : Result 
   pub keeps : KeepsState old new
   pub attached : new.attached ≡ old.attached
   pub asked : new.asked ≡ old.asked
-  -- of the other counts, that of faults may rise, and that of drifts with a refusal as changed
+  -- of the other counts, that of faults rises with `Failed` alone, and that of drifts with a refusal as changed
+  pub faults : CountsFault result old.faults new.faults
   pub drifts : CountsDrift result old.drifts new.drifts
   pub unread : new.unread ≡ old.unread
   pub others : OtherCursors cursor old new
+  pub reads : ReadsOn (read_under (old.file cursor) old) (read_under (old.file cursor) new)
+  pub same_file : IsSome (new.cursors cursor) → new.file cursor ≡ old.file cursor
+  pub others_reading : OtherReadings cursor old new
   pub answer : (c : Cursor) → old.cursors cursor ≡ Some c → PullResult cursor most into into' c result old new
 
 -- ---- `finish`
@@ -407,3 +503,4 @@ pub record Finishes (cursor : ℕ) (old new : State) : Type 0 where
   pub unread : new.unread ≡ old.unread
   pub closed : new.cursors cursor ≡ None
   pub others : OtherCursors cursor old new
+  pub others_reading : OtherReadings cursor old new

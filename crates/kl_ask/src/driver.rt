@@ -11,10 +11,11 @@ use kl_value::Value;
 
 /// A server of sources: it attaches them, and hands the rows that asks of them answer.
 ///
-/// What it means is one `State`: what it is, its attached sources, its open cursors, what it was asked, and counts that
-/// never fall, of rows handed, of faults, of drifts and of sources that it could not read. Where it tells its contents,
-/// what comes of each call is exact. Where it does not, types, causes and frames are, and how many rows come: each cursor
-/// has a number of rows that it may still hand, which falls with each row.
+/// What it means is one `State`: what it is, its attached sources, its open cursors, what they have read of their sources,
+/// where they read them anew, what it was asked, and counts that never fall, of rows handed, of faults, of drifts and of
+/// sources that it could not read. Where it tells its contents, what comes of each call is exact. Where it does not, types,
+/// causes and frames are, and how many rows come: each cursor has a number of rows that it may still hand, which falls with
+/// each row.
 ///
 /// No call changes what the driver is, contents that are told, or anything that its entry does not name, counts too.
 pub trait Driver: Drop {
@@ -37,13 +38,13 @@ pub trait Driver: Drop {
 
     /// Attaches the source at a locator under a name that has none, and answers the number of rows that a whole scan
     /// hands, also where contents are not told. Told rows have the type's items, and where the driver has `unique`, those
-    /// of a set differ. The count of faults may rise, and with `BadSource`, `TooLong` or `TooDeep` that of unreadable
-    /// sources.
+    /// of a set differ. The count of faults rises with `Failed` alone, and that of unreadable sources with `BadSource`,
+    /// `TooLong` or `TooDeep` alone.
     ///
     /// # Errors
-    /// `Failed` where the file is told to be missing, or on a fault; `BadSource`, `TooLong` and `TooDeep` where what is
-    /// told is unreadable as this type, or, where nothing is told, where the count of unreadable sources rose; `NoMemory`.
-    /// Nothing is attached then.
+    /// `Failed` where the file is told to be missing, and then no count rises, or on a fault; `BadSource`, `TooLong` and
+    /// `TooDeep` where what is told is unreadable as this type, or, where nothing is told, where the count of unreadable
+    /// sources rose; `NoMemory`. Nothing is attached then.
     fn attach(&mut self, source: &Label, locator: &Text, ty: &Ty) -> Result<u64, DriverError>
         requires proper { IsProper ty.now }
         requires suits { (state self.old).kind.suits ty.now ≡ true }
@@ -55,26 +56,33 @@ pub trait Driver: Drop {
     /// ask answers, of a list in order. An ask of SQL is of a driver that joins, for a statement whose tables are attached
     /// and whose columns are there, none of them shown under one label with another, with one type on both sides of each
     /// test. Its cursor has the rows that the statement means (`kl_sqltext`), in some order, and of n tables at most 2^64 to
-    /// the n, a table named twice counting twice. The ask is counted once more. Of the other counts that of faults alone may
-    /// rise.
+    /// the n, a table named twice counting twice. The ask is counted once more, and no other count rises.
     ///
     /// # Errors
-    /// `Failed` on a fault; `NoMemory`. Nothing is opened or counted then.
+    /// `Failed` on a fault, and the count of faults rose; `NoMemory`. Nothing is opened or counted then.
     fn start(&mut self, ask: &Ask) -> Result<u64, DriverError>
         requires { CanStart (state self.old) ask.now }
         ensures { Starts ask.now result (state self.old) (state self.new) };
 
     /// Appends the next rows of an open cursor, at least one and at most `most`, or answers false: no row is left. Where
     /// contents are told, it appends `most` rows, or all that are left. Where they are not, an ask with tests, or of a
-    /// statement with WHERE, may answer false while more rows were possible, and none is left from then on. The count of rows
-    /// handed rises by the number of rows appended, that of faults may rise, and with `Changed` that of drifts.
+    /// statement with WHERE, may answer false while more rows were possible, and none is left from then on. A driver that
+    /// reads the source anew answers false only where all of it was read, with as many bytes and rows as when it was
+    /// attached. The count of rows handed rises by the number of rows appended.
     ///
     /// # Errors
-    /// `Failed` on a fault; `Changed`, with what differs from what was kept at attaching, or where the source no longer
-    /// reads, where contents are not told and the count of drifts rose; `NoMemory`. The cursor is closed then, and `into`
-    /// is as before. Of an ask without tests `Misfit` and a `Count` that is too small tell a row, counted from 0, of which
-    /// and behind which none was handed; a `Count` that is too great is one more than were kept, and all were handed. So
-    /// they were where `Bytes` tells how many there are, but where it tells one more than are looked at.
+    /// After an error the cursor is closed, and `into` is as before.
+    /// - `Failed`: a fault, and the count of faults rose.
+    /// - `Changed`: contents are not told, the source is not what it was when it was attached, and the count of drifts rose.
+    ///   - `Bytes` tells how many bytes there were, and how many were read up to the end, behind all rows; or, where there
+    ///     are more than are looked at, one more than these.
+    ///   - `Count` tells how many rows there were, and how many were read up to the end; or, where there are more than there
+    ///     were, one more.
+    ///   - `Unread` tells the byte from which on what was read is no text of rows, or where it nests too deep.
+    ///   - `Misfit` tells the number, from 0 on, of the row that lacks the type.
+    ///
+    ///   What is told lies ahead of the rows that this cursor handed, unless its ask has tests.
+    /// - `NoMemory`.
     fn pull(&mut self, cursor: u64, most: u32, into: &mut Vec<Value>) -> Result<bool, DriverError>
         requires is_open { IsSome ((state self.old).cursors cursor) }
         requires room { 0 < most }

@@ -1,5 +1,5 @@
 -- What a plan becomes as it begins, where nothing is evaluated first.
-use Rattle.std.proofs.Common.{◌≡◌, ℕ, ◌+◌, ◌<◌, Bool, true, List, [], ◌∷◌, Option, Some, None, Result, Ok, Err, refl, sym, ap, ◌∙◌, subst, arith, Bor}
+use Rattle.std.proofs.Common.{◌≡◌, ℕ, ◌+◌, ◌<◌, Bool, true, List, [], ◌∷◌, Result, Ok, Err, sym, ap, ◌∙◌, subst, arith, Bor}
 use mathlib.Core.Path.{ap₂}
 use Rattle.std.proofs.Math.Nat.{mul-le-mul_right}
 use Rattle.circular_buffer.specs.Buffer.{Buffer, buffer}
@@ -11,8 +11,7 @@ use Rattle.kl_core.specs.Counts.{fits_in}
 use Rattle.kl_ask.specs.World.{World}
 use Rattle.kl_eval.specs.declared.stop.EvalStop.{EvalStop}
 use Rattle.kl_ship.specs.Alike.{weight}
-use Rattle.kl_ship.specs.Kinds.{kind_of_items}
-use Rattle.kl_ship.specs.Meaning.{coming, drawn_for, come_union, plan}
+use Rattle.kl_ship.specs.Meaning.{coming, drawn_for, plan}
 use Rattle.kl_ship.specs.Nodes as node
 use Rattle.kl_ship.specs.Nodes.{Node, Nodes, view, nodes_view}
 use Rattle.kl_ship.specs.Reached.{reached}
@@ -20,7 +19,7 @@ use Rattle.kl_ship.specs.Typing.{PlanTypes, EachPlan}
 use Rattle.kl_ship.specs.declared.plan.Plan.{Plan}
 use Rattle.kl_ship.specs.declared.plan.Plan.TheVariants as plans
 use Rattle.kl_ship.specs.declared.plan.Scan.{Scan}
-use Rattle.kl_ship.proofs.Comings.{same_kind, same_type}
+use Rattle.kl_ship.proofs.Comings.{same_kind, same_type, union_coming}
 use Rattle.kl_ship.proofs.Views.{view_Make, view_Union, view_Ext, view_Scan}
 use Rattle.kl_scans.specs.Held.{nothing}
 use Rattle.kl_scans.specs.Scans.{Starts}
@@ -28,7 +27,7 @@ use Rattle.kl_scans.specs.Stage.{stage, ScanOf}
 use Rattle.kl_scans.proofs.Moving.{moves_none}
 use Rattle.kl_cursor.specs.declared.state.State.{State}
 use Rattle.kl_cursor.specs.declared.state.State.TheVariants as state
-use Rattle.kl_cursor.specs.Drawing.{draws, comes_by_items, is_kind}
+use Rattle.kl_cursor.specs.Drawing.{draws}
 use Rattle.kl_cursor.specs.Left.{Snap, fresh, both, outside, pulling, made, snap, reading}
 use Rattle.kl_cursor.specs.Measure.{size, falling}
 use Rattle.kl_cursor.specs.Sense.{HasItems}
@@ -41,7 +40,7 @@ use Rattle.kl_cursor.proofs.Starting.{scan_begins, scan_refused}
 -- ---- a literal
 
 make_types : (w : World) (G : List Ground) (j k : Kind) (u : Ground) (ps : Nodes) → PlanTypes (ScanOf (stage w)) G (node.Make k ps) (coll j u) → EachPlan (ScanOf (stage w)) G ps u
-make_types w G j k u ps h = subst (EachPlan (ScanOf (stage w)) G ps) (sym (same_type j k u h.0 h.1)) h.2
+make_types w G j k u ps h = subst (EachPlan (ScanOf (stage w)) G ps) (sym (same_type j k u h.0 h.1)) h.3
 
 pub make_begins : (env : List Value) (k : Kind) (ps : Nodes) (w : World) → Onward env (fresh (node.Make k ps)) w (made ps) w
 make_begins env k ps w = record {
@@ -56,26 +55,17 @@ make_begins env k ps w = record {
 
 -- ---- two parts
 
-some_kind : (p : Node) → comes_by_items p ≡ true → (k : Kind) × (kind_of_items p ≡ Some k)
-some_kind p e = by (kind_of_items p) refl
-  where
-    by : (o : Option Kind) → kind_of_items p ≡ o → (k : Kind) × (kind_of_items p ≡ Some k)
-    by (Some k) is = (k, is)
-    by None is = absurd (let x : is_kind (kind_of_items p) ≡ true = e in let y : is_kind None ≡ true = subst (λ o. is_kind o ≡ true) is x in cc)
-
-pub union_begins : (env : List Value) (a b : Node) (w : World) → comes_by_items (node.Union a b) ≡ true → Onward env (fresh (node.Union a b)) w (both (fresh a) b) w
-union_begins env a b w e =
-    let k = some_kind (node.Union a b) e in
-    record {
-      moves = moves_none nothing w;
-      known = λ all h. (tt, h);
-      same = λ G j u h f told. same_at j (coming (plan (reading w) (node.Union a b) env)) (followed (coming (plan (reading w) a env)) (coming (plan (reading w) b env)))
-          (ap (λ o. coming (come_union o (plan (reading w) a env) (plan (reading w) b env))) k.1);
-      counts = λ G j u h f told z price. omega arith;
-      typed = λ G j u h f. (f.3, f.4);
-      lower = omega arith;
-      fewer = omega arith;
-    }
+pub union_begins : (env : List Value) (a b : Node) (w : World) → Onward env (fresh (node.Union a b)) w (both (fresh a) b) w
+union_begins env a b w = record {
+  moves = moves_none nothing w;
+  known = λ all h. (tt, h);
+  same = λ G j u h f told. same_at j (coming (plan (reading w) (node.Union a b) env)) (followed (coming (plan (reading w) a env)) (coming (plan (reading w) b env)))
+      (union_coming (plan (reading w) a env) (plan (reading w) b env));
+  counts = λ G j u h f told z price. omega arith;
+  typed = λ G j u h f. (f.3, f.4);
+  lower = omega arith;
+  fewer = omega arith;
+}
 
 -- ---- a loop that draws its source as it comes
 
@@ -87,9 +77,9 @@ loop_begins env k p q w fit = record {
   moves = moves_none nothing w;
   known = λ all h. (tt, h);
   same = λ G d u e f told. same_at d (drawn (drawn_for k (plan (reading w) q env)) (λ v. coming (plan (reading w) p (v ∷ env)))) (drawn (coming (plan (reading w) q env)) (λ v. coming (plan (reading w) p (v ∷ env))))
-      (ap (λ g. drawn g (λ v. coming (plan (reading w) p (v ∷ env)))) (drawn_as_comes (ScanOf (stage w)) (reading w) q G env (coll f.1 f.2) k f.4 fit));
+      (ap (λ g. drawn g (λ v. coming (plan (reading w) p (v ∷ env)))) (drawn_as_comes env k q w fit G f.1 f.2 e f.4 told));
   counts = λ G d u e f told z price.
-      zero_more _ _ (ap (λ g. reached (reading w) price q env + weight (λ v. reached (reading w) price p (v ∷ env)) g) (sym (drawn_as_comes (ScanOf (stage w)) (reading w) q G env (coll f.1 f.2) k f.4 fit)));
+      zero_more _ _ (ap (λ g. reached (reading w) price q env + weight (λ v. reached (reading w) price p (v ∷ env)) g) (sym (drawn_as_comes env k q w fit G f.1 f.2 e f.4 told)));
   typed = λ G d u e f. (f.1, f.2, subst (λ z. fits_in f.1 z ≡ true) (sym (same_kind d k u f.0 f.3)) (draws_fits (ScanOf (stage w)) q G f.1 f.2 k f.4 fit), f.4, f.5);
   lower = omega arith;
   fewer = mul-le-mul_right (size p) (omega arith);
@@ -112,12 +102,12 @@ make_begun env p k ps w e =
     goes_at env (view p) (node.Make k (nodes_view ps.now)) (snap (state.Make ps 0)) (made (nodes_view ps.now)) w w (ap view e ∙ view_Make k ps.now) (snap_Make ps 0)
     (make_begins env k (nodes_view ps.now) w, omega arith)
 
-pub union_begun : (env : List Value) (p a b i : Plan) (q : Bor Plan) (y : Bool) (s : State) (w : World) → p ≡ plans.Union a b → i ≡ a → q.now ≡ b → y ≡ comes_by_items (view p) → y ≡ true → snap s ≡ fresh (view i) → Goes env (view p) (snap (state.Union s q)) w w
-union_begun env p a b i q y s w e f g c on h =
+pub union_begun : (env : List Value) (p a b i : Plan) (q : Bor Plan) (s : State) (w : World) → p ≡ plans.Union a b → i ≡ a → q.now ≡ b → snap s ≡ fresh (view i) → Goes env (view p) (snap (state.Union s q)) w w
+union_begun env p a b i q s w e f g h =
     let is : view p ≡ node.Union (view a) (view b) = ap view e ∙ view_Union a b in
     goes_at env (view p) (node.Union (view a) (view b)) (snap (state.Union s q)) (both (fresh (view a)) (view b)) w w is
     (snap_Union s q ∙ ap₂ both (h ∙ ap (λ z. fresh (view z)) f) (ap view g))
-    (union_begins env (view a) (view b) w (ap comes_by_items (sym is) ∙ sym c ∙ on), omega arith)
+    (union_begins env (view a) (view b) w, omega arith)
 
 pub loop_begun : (env : List Value) (p : Plan) (k : Kind) (b s i j : Plan) (q : Bor Plan) (t slot : State) (y : Bool) (w : World) → p ≡ plans.Ext k b s → i ≡ s → j ≡ s → q.now ≡ b → y ≡ draws k (view i) → y ≡ true → snap t ≡ fresh (view j) → Goes env (view p) (snap (state.Outside q t slot)) w w
 loop_begun env p k b s i j q t slot y w e f g h fit on is =

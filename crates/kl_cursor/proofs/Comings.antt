@@ -8,7 +8,6 @@ use Rattle.kl_outcome.specs.Outcome.{Outcome, done, over, stuck, fine, flow}
 use Rattle.kl_outcome.specs.Typed.{Inhabits, HaveTypes, OfType}
 use Rattle.kl_outcome.proofs.OutcomeTypes.{FlowOf, over_nil}
 use Rattle.kl_ask.specs.World.{World}
-use Rattle.kl_eval.specs.World.{StoppedBy}
 use Rattle.kl_eval.specs.Steps.{AnswersOutcome, inside_of, Outside}
 use Rattle.kl_eval.specs.declared.stop.EvalStop.{EvalStop}
 use Rattle.kl_eval.specs.declared.stop.EvalStop.TheVariants as why
@@ -26,12 +25,13 @@ use Rattle.kl_scans.specs.Held.{nothing}
 use Rattle.kl_scans.specs.Log.{Event, paid}
 use Rattle.kl_scans.specs.Moves.{Moves}
 use Rattle.kl_scans.specs.Stage.{stage, ScanOf, readings}
-use Rattle.kl_scans.proofs.Moving.{moves_none, moves_then, stage_stays, ready_stays, stopped_then, paid_then}
+use Rattle.kl_scans.proofs.Moving.{moves_none, moves_then, stage_stays, ready_stays, paid_then}
 use Rattle.kl_cursor.specs.Left.{reading}
 use Rattle.kl_cursor.specs.Sense.{TypesAt, IsToldAt, HasWorth}
-use Rattle.kl_cursor.specs.Steps.{AreOf, ComesTo, Fails, Wholly, Partly}
+use Rattle.kl_cursor.specs.Steps.{AreOf, ComesTo, Fails, StoppedAt, Wholly, Partly}
 use Rattle.kl_cursor.proofs.Events.{of_then}
 use Rattle.kl_cursor.proofs.Forms.{told_on}
+use Rattle.kl_cursor.proofs.Refusals.{halts_at, refused_then}
 
 -- ---- what plans mean stays
 
@@ -132,7 +132,7 @@ pub head_stop : (env : List Value) (p a : Node) (e : EvalStop) (h : Halt) (w x :
 head_stop env p a why.Overflow (halt.Over ws) w x l k o = subst (λ q. ComesTo env p (over q) w x) (sym o) (head_over env p a k.0 w x l k.1)
 head_stop env p a why.Overflow (halt.Driver n f) w x l k o = absurd o
 head_stop env p a why.Overflow halt.NoMemory w x l k o = absurd o
-head_stop env p a (why.Driver n f) h w x l k o = subst (λ q. Wholly env p (Err q) w x) (sym o) (fails_as (λ all. ScansIn all p) (λ all. ScansIn all a) (StoppedBy n f w x) w x l.scans k)
+head_stop env p a (why.Driver n f) h w x l k o = subst (λ q. Wholly env p (Err q) w x) (sym o) (halts_at nothing (λ all. ScansIn all p) (λ all. ScansIn all a) n f w x l.scans k)
 head_stop env p a why.NoMemory (halt.Over ws) w x l k o = absurd o
 head_stop env p a why.NoMemory (halt.Driver n f) w x l k o = absurd o
 head_stop env p a why.NoMemory halt.NoMemory w x l k o = fails_as (λ all. ScansIn all p) (λ all. ScansIn all a) ⊤ w x l.scans k
@@ -222,5 +222,6 @@ pub leads : (env : List Value) (p a : Node) (v : Value) (env' : List Value) (q :
 leads env p a v env' q (Ok u) w x y l h k = lead_comes env p a v env' q (done u) w x y l h k
 leads env p a v env' q (Err (halt.Over us)) w x y l h k = lead_comes env p a v env' q (over us.items) w x y l h k
 leads env p a v env' q (Err (halt.Driver n e)) w x y l h k =
-    fails_then (λ all. ScansIn all p) (λ all. ScansIn all a) (λ all. ScansIn all q) (StoppedBy n e x y) (StoppedBy n e w y) w x y h.moves h.known k l.scans (stopped_then n e nothing nothing w x y h.moves)
+    fails_then (λ all. ScansIn all p) (λ all. ScansIn all a) (λ all. ScansIn all q) (StoppedAt (λ all. ScansIn all q) n e x y) (StoppedAt (λ all. ScansIn all p) n e w y) w x y h.moves h.known k l.scans
+    (refused_then (λ all. ScansIn all p) (λ all. ScansIn all q) n e nothing nothing w x y (λ all i. (l.scans all i).1) h.moves)
 leads env p a v env' q (Err halt.NoMemory) w x y l h k = fails_then (λ all. ScansIn all p) (λ all. ScansIn all a) (λ all. ScansIn all q) ⊤ ⊤ w x y h.moves h.known k l.scans (λ i. i)

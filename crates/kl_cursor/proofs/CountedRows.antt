@@ -1,5 +1,5 @@
 -- Rows of which none is repeated, which are counted as they come.
-use Rattle.std.proofs.Common.{◌≡◌, ◌⊎◌, ⊎_elim, inr, ℕ, pos, List, [], ◌∷◌, length, Result, Ok, Err, refl, sym, ap, subst, ◌∙◌, arith}
+use Rattle.std.proofs.Common.{◌≡◌, ⊎_elim, inr, ℕ, pos, List, [], ◌∷◌, length, Result, Ok, Err, refl, sym, ap, subst, ◌∙◌, arith}
 use Rattle.std.specs.List.{sum_by, IsDistinct}
 use Rattle.std.proofs.lemmas.List.Sums.{sum_by-cons}
 use Rattle.kl_value.specs.declared.Kind.{Kind}
@@ -50,6 +50,12 @@ can_count p q w is h =
     let k : HasWorth w (node.Scan q) h.0 = subst (λ z. HasWorth w z h.0) (scan_viewed p q is) h.1 in
     let t = scan_typed w k.0 q k.1 k.3 in
     ((t.u, t.of), k.4)
+
+same_scan : (q c : Scan) → plans.Scan q ≡ plans.Scan c → q ≡ c
+same_scan q c e = cc
+
+pub is_counted : (p : Plan) (q : Scan) (c : ℕ) (w : World) → p ≡ plans.Scan q → CountsRows w c p → RepeatsNone (stage w) q
+is_counted p q c w is h = subst (RepeatsNone (stage w)) (same_scan h.1 q (sym h.2 ∙ is)) h.3
 
 -- ---- how many they are
 
@@ -114,11 +120,14 @@ module _ (env : List Value) (q : Scan) (a b : World) (apart : RepeatsNone (stage
   call_rows (Err (why.Driver l e)) h = call_only_stop 14 p env a (why.Driver l e) b h
   call_rows (Err why.NoMemory) h = call_only_stop 14 p env a why.NoMemory b h
 
-module _ (c : ℕ) (p : Node) (env : List Value) (a : World) (counts : CountsRows a c p) where
-  pub counted_ready : HasCall a c (nodes p no_nodes) env → IsTally (counted 0) × Stands a (fresh p) env
-  counted_ready s = (tt, worth_stands env p (counts.1).kind a (ap kind_of_items counts.2) (sense_only c p env a s))
+module _ (c : ℕ) (p : Plan) (env : List Value) (a : World) (counts : CountsRows a c p) where
+  is_scan : view p ≡ node.Scan counts.1
+  is_scan = scan_viewed p counts.1 counts.2
 
-  pub call_counted : (r : Result Value EvalStop) (b : World) → Tallies env (fresh p) (counted 0) r a b → CallGives env c (nodes p no_nodes) r a b
+  pub counted_ready : HasCall a c (nodes (view p) no_nodes) env → IsTally (counted 0) × Stands a (fresh (view p)) env
+  counted_ready s = (tt, worth_stands env (view p) (counts.1).kind a (ap kind_of_items is_scan) (sense_only c (view p) env a s))
+
+  pub call_counted : (r : Result Value EvalStop) (b : World) → Tallies env (fresh (view p)) (counted 0) r a b → CallGives env c (nodes (view p) no_nodes) r a b
   call_counted r b h =
-      subst (λ z. CallGives env z (nodes p no_nodes) r a b) (sym counts.0)
-      (subst (λ z. CallGives env 14 (nodes z no_nodes) r a b) (sym counts.2) (call_rows env counts.1 a b counts.3 r (subst (λ z. Tallies env (fresh z) (counted 0) r a b) counts.2 h)))
+      subst (λ z. CallGives env z (nodes (view p) no_nodes) r a b) (sym counts.0)
+      (subst (λ z. CallGives env 14 (nodes z no_nodes) r a b) (sym is_scan) (call_rows env counts.1 a b counts.3 r (subst (λ z. Tallies env (fresh z) (counted 0) r a b) is_scan h)))

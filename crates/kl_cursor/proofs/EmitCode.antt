@@ -14,7 +14,7 @@ use Rattle.kl_core.specs.Trees.{view as term_view}
 use Rattle.kl_core.specs.declared.term.Term.{Term}
 use Rattle.kl_ask.specs.World.{World}
 use Rattle.kl_eval.specs.Evals.{no_tables}
-use Rattle.kl_eval.specs.World.{StoppedBy}
+use Rattle.kl_eval.specs.Steps.{AnswersOutcome}
 use Rattle.kl_eval.specs.declared.stop.EvalStop.{EvalStop}
 use Rattle.kl_eval.specs.declared.stop.EvalStop.TheVariants as why
 use Rattle.kl_eval.specs.declared.stop.Halt.{Halt}
@@ -23,7 +23,6 @@ use Rattle.kl_ship.specs.declared.plan.Plan.{Plan}
 use Rattle.kl_ship.specs.declared.plan.Plan.TheVariants as plans
 use Rattle.kl_ship.specs.declared.plan.Scan.{Scan}
 use Rattle.kl_ship.specs.Holding.{ScansIn}
-use Rattle.kl_ship.specs.Kinds.{kind_of_items}
 use Rattle.kl_ship.specs.Nodes as node
 use Rattle.kl_ship.specs.Nodes.{Node, nodes, no_nodes, view, nodes_view}
 use Rattle.kl_ship.proofs.Views.{view_Make, view_Union, view_Ext, view_Scan}
@@ -31,7 +30,7 @@ use Rattle.kl_scans.specs.Held.{nothing, one_at, Owned, cursor_at}
 use Rattle.kl_scans.specs.Moves.{Moves, Closes}
 use Rattle.kl_scans.specs.Scans.{CanScan, IsOpen, Stopped, Started, NotStarted, PulledMore, PulledNone, NotPulled}
 use Rattle.kl_scans.proofs.Moving.{owned_after}
-use Rattle.kl_cursor.specs.Drawing.{draws, comes_by_items}
+use Rattle.kl_cursor.specs.Drawing.{draws}
 use Rattle.kl_cursor.specs.Gathering.{Gathered, listed, IsListed, with_one, with_all}
 use Rattle.kl_cursor.specs.Left.{Snap, fresh, have, pulling, both, outside, made, uses, ScansLeft, end_of}
 use Rattle.kl_cursor.specs.Measure.{bound_in}
@@ -51,7 +50,10 @@ use Rattle.kl_cursor.proofs.ValueDrain.{Draining, drains_stands}
 use Rattle.kl_cursor.proofs.ValueForms.{plain_comes, var_comes}
 use Rattle.kl_cursor.proofs.ValueParts.{drop_all}
 use Rattle.kl_cursor.proofs.ValueSteps.{made_gives, made_stops, made_ends, from_place}
-use Rattle.kl_cursor.proofs.Whole.{collection_of, done_shown, over_shown, shown_empties, shown_loop}
+use Rattle.kl_cursor.proofs.Whole.{ComesOne, collection_of, done_shown, over_shown, shown_empties, shown_loop}
+use Rattle.kl_cursor.proofs.Drawn.{not_drawn, standing_drawn}
+use Rattle.kl_cursor.specs.Standing.{StandsSomewhere}
+use Rattle.kl_cursor.proofs.Refusals.{halts_at}
 
 -- ---- what is lent
 
@@ -141,12 +143,12 @@ module _ (env : List Value) (t : Plan) (c : Scan) (w : World) (e : t ≡ plans.S
   pub emit_scan : (r : Result (Unit {0}) EvalStop) (old new : Gathered) (x : World) → Emits [] (fresh (node.Scan c)) r old new w x → Emits env (fresh (view t)) r old new w x
   emit_scan r old new x h = emits_as env (view t) (node.Scan c) r old new w x (ap view e ∙ view_Scan c) (emit_rows_anywhere r old new x h)
 
-module _ (env : List Value) (t a b a' b' : Plan) (w : World) (e : t ≡ plans.Union a b) (ea : a' ≡ a) (eb : b' ≡ b) (y : Bool) (is : y ≡ comes_by_items (view t)) (on : y ≡ true) where
+module _ (env : List Value) (t a b a' b' : Plan) (w : World) (e : t ≡ plans.Union a b) (ea : a' ≡ a) (eb : b' ≡ b) where
   at_Both : view t ≡ node.Union (view a') (view b')
   at_Both = ap view e ∙ view_Union a b ∙ ap (λ z. node.Union (view z) (view b)) (sym ea) ∙ ap (λ z. node.Union (view a') (view z)) (sym eb)
 
   union_onward : Onward env (fresh (view t)) w (both (fresh (view a')) (view b')) w
-  union_onward = subst (λ z. Onward env (fresh z) w (both (fresh (view a')) (view b')) w) (sym at_Both) (union_begins env (view a') (view b') w (ap comes_by_items (sym at_Both) ∙ sym is ∙ on))
+  union_onward = subst (λ z. Onward env (fresh z) w (both (fresh (view a')) (view b')) w) (sym at_Both) (union_begins env (view a') (view b') w)
 
   pub emit_first_stands : Stands w (fresh (view t)) env → Stands w (fresh (view a')) env
   emit_first_stands h = let i = stands_onward env (fresh (view t)) (both (fresh (view a')) (view b')) w w union_onward h in (i.0, i.1, i.2, i.3, i.4.0, i.5)
@@ -165,7 +167,7 @@ module _ (env : List Value) (t a b a' b' : Plan) (w : World) (e : t ≡ plans.Un
 collection_shows : (v : Value) (k : Kind) (vs : List Value) → v ≡ collection k vs → items_of (done v) ≡ flow vs fine
 collection_shows v k vs e = ap items_at_all (ap as_collection e ∙ collection_is k vs)
 
-pub emit_whole : (env : List Value) (p : Node) (r : Result Value Halt) (z : Result (Unit {0}) EvalStop) (old new : Gathered) (a b : World) → kind_of_items p ≡ None → Wholly env p r a b → AddsWhole r z old new → Emits env (fresh p) z old new a b
+pub emit_whole : (env : List Value) (p : Node) (r : Result Value Halt) (z : Result (Unit {0}) EvalStop) (old new : Gathered) (a b : World) → ComesOne p → Wholly env p r a b → AddsWhole r z old new → Emits env (fresh p) z old new a b
 emit_whole env p (Ok v) (Ok z) old new a b none h k = (k.1, k.3, shown_empties env p k.1 fine a b (done_shown env p v k.1 a b h (collection_shows v k.0 k.1 k.2)) none)
 emit_whole env p (Ok v) (Err why.Overflow) old new a b none h k = absurd k
 emit_whole env p (Ok v) (Err (why.Driver l e)) old new a b none h k = absurd k
@@ -179,6 +181,20 @@ emit_whole env p (Err halt.NoMemory) (Ok z) old new a b none h k = absurd k
 emit_whole env p (Err halt.NoMemory) (Err why.Overflow) old new a b none h k = absurd k
 emit_whole env p (Err halt.NoMemory) (Err (why.Driver l e)) old new a b none h k = absurd k
 emit_whole env p (Err halt.NoMemory) (Err why.NoMemory) old new a b none h k = h
+
+-- a copy is added as what it was made of
+pub copied_collection : (v : Value) (r : Result Value Halt) → AnswersOutcome (done v) r → IsCollection v → IfOk r IsCollection
+copied_collection v (Ok u) e i = subst IsCollection (sym e) i
+copied_collection v (Err h) e i = tt
+
+pub copied_whole : (v : Value) (r : Result Value Halt) (z : Result (Unit {0}) EvalStop) (old new : Gathered) → AnswersOutcome (done v) r → AddsWhole r z old new → AddsWhole (Ok v) z old new
+copied_whole v (Ok u) z old new e h = subst (λ q. AddsWhole (Ok q) z old new) e h
+copied_whole v (Err halt.NoMemory) (Ok z) old new e h = absurd h
+copied_whole v (Err halt.NoMemory) (Err why.NoMemory) old new e h = tt
+copied_whole v (Err halt.NoMemory) (Err why.Overflow) old new e h = absurd h
+copied_whole v (Err halt.NoMemory) (Err (why.Driver l f)) old new e h = absurd h
+copied_whole v (Err (halt.Over vs)) z old new e h = absurd e
+copied_whole v (Err (halt.Driver l f)) z old new e h = absurd e
 
 -- ---- how a loop begins
 
@@ -224,10 +240,10 @@ module _ (env : List Value) (k : Kind) (b s : Node) (a : World) where
   -- its source made whole
   module _ (y : Bool) (is : y ≡ draws k s) (off : y ≡ false) where
     pub whole_drawing : (r : Result Value Halt) (d : Result (Vec Value Global) Halt) (x : World) → Wholly env s r a x → ItemsIn r d → Drawing env Loop b d a x
-    whole_drawing (Ok v) (Ok vs) x h i = shown_loop env k b s vs.items fine a x (sym is ∙ off) (done_shown env s v vs.items a x h (collection_shows v i.0 vs.items i.1))
+    whole_drawing (Ok v) (Ok vs) x h i = shown_loop env k b s vs.items fine a x (not_drawn env k s a (sym is ∙ off)) (done_shown env s v vs.items a x h (collection_shows v i.0 vs.items i.1))
     whole_drawing (Ok v) (Err e) x h i = absurd i
-    whole_drawing (Err (halt.Over vs)) d x h i = subst (λ z. Drawing env Loop b z a x) (sym i) (shown_loop env k b s vs.items overflow a x (sym is ∙ off) (over_shown env s vs.items a x h))
-    whole_drawing (Err (halt.Driver l e)) d x h i = subst (λ z. Drawing env Loop b z a x) (sym i) (halts_as nothing (λ all. ScansLeft all Loop) (λ all. ScansIn all s) (StoppedBy l e a x) a x (λ all j. j.1) h)
+    whole_drawing (Err (halt.Over vs)) d x h i = subst (λ z. Drawing env Loop b z a x) (sym i) (shown_loop env k b s vs.items overflow a x (not_drawn env k s a (sym is ∙ off)) (over_shown env s vs.items a x h))
+    whole_drawing (Err (halt.Driver l e)) d x h i = subst (λ z. Drawing env Loop b z a x) (sym i) (halts_at nothing (λ all. ScansLeft all Loop) (λ all. ScansIn all s) l e a x (λ all j. j.1) h)
     whole_drawing (Err halt.NoMemory) d x h i = subst (λ z. Drawing env Loop b z a x) (sym i) (halts_as nothing (λ all. ScansLeft all Loop) (λ all. ScansIn all s) ⊤ a x (λ all j. j.1) h)
 
     pub whole_stand : (r : Result Value Halt) (d : Result (Vec Value Global) Halt) (x : World) → Wholly env s r a x → ItemsIn r d → Stands a Loop env → DrawnStand env b d x
@@ -236,19 +252,19 @@ module _ (env : List Value) (k : Kind) (b s : Node) (a : World) where
     pub whole_emit : (r : Result Value Halt) (d : Result (Vec Value Global) Halt) (z : Result (Unit {0}) EvalStop) (old new : Gathered) (x v : World) → Wholly env s r a x → ItemsIn r d → EmitsDrawn env b d z old new x v → Emits env Loop z old new a v
     whole_emit r d z old new x v h i m = drawing_emit env Loop b d z old new a x v (whole_drawing r d x h i) m
 
-    -- its source where it stands
-    module _ (v : Value) (h : ComesTo env s (done v) a a) where
-      lent_drains : (vs : List Value) → items_of (done v) ≡ flow vs fine → Draining env Loop a [] (outside b (have vs fine)) a
-      lent_drains vs e = shown_loop env k b s vs fine a a (sym is ∙ off) (done_shown env s v vs a a h e)
+  -- its source where it stands
+  module _ (stands : StandsSomewhere s) (v : Value) (h : ComesTo env s (done v) a a) where
+    lent_drains : (vs : List Value) → items_of (done v) ≡ flow vs fine → Draining env Loop a [] (outside b (have vs fine)) a
+    lent_drains vs e = shown_loop env k b s vs fine a a (standing_drawn env k s a stands) (done_shown env s v vs a a h e)
 
-      pub lent_there : Stands a Loop env → IsCollection v
-      lent_there i = let t = i.4 in collection_of t.1 t.2 v (h.typed i.0 (coll t.1 t.2) i.3 t.4)
+    pub lent_there : Stands a Loop env → IsCollection v
+    lent_there i = let t = i.4 in collection_of t.1 t.2 v (h.typed i.0 (coll t.1 t.2) i.3 t.4)
 
-      pub lent_stand : (j : Kind) (vs : List Value) → v ≡ collection j vs → Stands a Loop env → Stands a (outside b (have vs fine)) env
-      lent_stand j vs e i = drains_stands env Loop a [] (outside b (have vs fine)) a (lent_drains vs (collection_shows v j vs e)) i
+    pub lent_stand : (j : Kind) (vs : List Value) → v ≡ collection j vs → Stands a Loop env → Stands a (outside b (have vs fine)) env
+    lent_stand j vs e i = drains_stands env Loop a [] (outside b (have vs fine)) a (lent_drains vs (collection_shows v j vs e)) i
 
-      pub lent_emit : (j : Kind) (vs : List Value) (z : Result (Unit {0}) EvalStop) (old new : Gathered) (x : World) → v ≡ collection j vs → Emits env (outside b (have vs fine)) z old new a x → Emits env Loop z old new a x
-      lent_emit j vs z old new x e m = starts_emit env Loop (outside b (have vs fine)) a a x z old new (lent_drains vs (collection_shows v j vs e)) m
+    pub lent_emit : (j : Kind) (vs : List Value) (z : Result (Unit {0}) EvalStop) (old new : Gathered) (x : World) → v ≡ collection j vs → Emits env (outside b (have vs fine)) z old new a x → Emits env Loop z old new a x
+    lent_emit j vs z old new x e m = starts_emit env Loop (outside b (have vs fine)) a a x z old new (lent_drains vs (collection_shows v j vs e)) m
 
 -- ---- the parts of a literal
 

@@ -7,7 +7,6 @@ use Rattle.kl_value.specs.declared.Value.{Value}
 use Rattle.kl_type.specs.Ground.{coll}
 use Rattle.kl_outcome.specs.Outcome.{Flow, more, stop, End, fine, overflow, flow, followed, drawn}
 use Rattle.kl_ask.specs.World.{World}
-use Rattle.kl_eval.specs.World.{StoppedBy}
 use Rattle.kl_eval.specs.declared.stop.EvalStop.{EvalStop}
 use Rattle.kl_eval.specs.declared.stop.EvalStop.TheVariants as why
 use Rattle.kl_eval.specs.declared.stop.Halt.{Halt}
@@ -20,11 +19,11 @@ use Rattle.kl_ship.specs.Reached.{reached}
 use Rattle.kl_scans.specs.Held.{Uses, nothing}
 use Rattle.kl_scans.specs.Log.{paid}
 use Rattle.kl_scans.specs.Stage.{stage, readings}
-use Rattle.kl_scans.proofs.Moving.{moves_none, stage_stays, stopped_then}
+use Rattle.kl_scans.proofs.Moving.{moves_none, stage_stays}
 use Rattle.kl_cursor.specs.Gathering.{Gathered, with_all}
 use Rattle.kl_cursor.specs.Left.{Snap, fresh, have, both, bound, outside, uses, left, reading, to_start, ScansLeft}
 use Rattle.kl_cursor.specs.Likeness.{Same}
-use Rattle.kl_cursor.specs.Steps.{Onward, Gives, Ends, Halts, Stops, Empties, Drains, Emits, EmitsDrawn, DrawnStand}
+use Rattle.kl_cursor.specs.Steps.{Onward, Gives, Ends, Halts, Refused, StoppedAt, Stops, Empties, Drains, Emits, EmitsDrawn, DrawnStand}
 use Rattle.kl_cursor.specs.Sense.{Stands}
 use Rattle.kl_cursor.proofs.Gatherings.{with_then}
 use Rattle.kl_cursor.proofs.Forms.{first_over, same_price}
@@ -32,6 +31,7 @@ use Rattle.kl_cursor.proofs.Likes.{same_itself, same_at, same_followed, same_dra
 use Rattle.kl_cursor.proofs.Still.{types_on, bodies}
 use Rattle.kl_cursor.proofs.ValueDrain.{Draining, drains_starts, drains_then, drains_empties, drains_halts, drains_stands}
 use Rattle.kl_cursor.proofs.Whole.{over_harm}
+use Rattle.kl_cursor.proofs.Refusals.{halts_at, refused_then}
 
 -- ---- from one cursor to another
 
@@ -80,7 +80,8 @@ ends_emit env s r old a b h = ([], refl, ends_empties env s a b h)
 pub drains_emit : (env : List Value) (s0 s : Snap) (vs : List Value) (a b c : World) (r : Result (Unit {0}) EvalStop) (old mid new : Gathered) → mid ≡ with_all old vs → Draining env s0 a vs s b → Emits env s r mid new b c → Emits env s0 r old new a c
 drains_emit env s0 s vs a b c (Ok z) old mid new e d h = (vs ++ h.0, h.1 ∙ ap (λ q. with_all q h.0) e ∙ with_then old vs h.0, drains_empties env s0 a vs s b d h.0 fine c h.2)
 drains_emit env s0 s vs a b c (Err why.Overflow) old mid new e d h = (vs ++ h.0, h.1 ∙ ap (λ q. with_all q h.0) e ∙ with_then old vs h.0, drains_empties env s0 a vs s b d h.0 overflow c h.2)
-drains_emit env s0 s vs a b c (Err (why.Driver l x)) old mid new e d h = drains_halts env s0 a vs s b d (StoppedBy l x b c) (StoppedBy l x a c) c h (stopped_then l x (uses s0) (uses s) a b c d.moves)
+drains_emit env s0 s vs a b c (Err (why.Driver l x)) old mid new e d h = drains_halts env s0 a vs s b d (StoppedAt (λ all. ScansLeft all s) l x b c) (StoppedAt (λ all. ScansLeft all s0) l x a c) c h
+    (refused_then (λ all. ScansLeft all s0) (λ all. ScansLeft all s) l x (uses s0) (uses s) a b c (λ all i. (d.known all i).1) d.moves)
 drains_emit env s0 s vs a b c (Err why.NoMemory) old mid new e d h = drains_halts env s0 a vs s b d ⊤ ⊤ c h (λ i. i)
 
 pub starts_emit : (env : List Value) (s0 s : Snap) (a b c : World) (r : Result (Unit {0}) EvalStop) (old new : Gathered) → Draining env s0 a [] s b → Emits env s r old new b c → Emits env s0 r old new a c
@@ -141,7 +142,7 @@ both_emit env s p z r old mid new a b c h k = drains_emit env (both s p) (fresh 
 
 pub both_stop : (env : List Value) (s : Snap) (p : Node) (e : EvalStop) (old new : Gathered) (a b : World) → Emits env s (Err e) old new a b → Emits env (both s p) (Err e) old new a b
 both_stop env s p why.Overflow old new a b h = (h.0, h.1, both_over env s p h.0 a b h.2)
-both_stop env s p (why.Driver l x) old new a b h = halts_as (uses s) (λ all. ScansLeft all (both s p)) (λ all. ScansLeft all s) (StoppedBy l x a b) a b (λ all i. i.0) h
+both_stop env s p (why.Driver l x) old new a b h = halts_at (uses s) (λ all. ScansLeft all (both s p)) (λ all. ScansLeft all s) l x a b (λ all i. i.0) h
 both_stop env s p why.NoMemory old new a b h = halts_as (uses s) (λ all. ScansLeft all (both s p)) (λ all. ScansLeft all s) ⊤ a b (λ all i. i.0) h
 
 pub both_stands : (env : List Value) (s : Snap) (p : Node) (z : Unit {0}) (old new : Gathered) (a b : World) → Emits env s (Ok z) old new a b → Stands a (both s p) env → Stands b (fresh p) env
@@ -187,13 +188,13 @@ source_drains env p s vs end a b g = outside_drains env p s (have vs end) a b (h
 abbrev pub Drawing : List Value → Snap → Node → Result (Vec Value Global) Halt → World → World → Type 0
 Drawing env s p (Ok vs) a b = Draining env s a [] (outside p (have vs.items fine)) b
 Drawing env s p (Err (halt.Over vs)) a b = Draining env s a [] (outside p (have vs.items overflow)) b
-Drawing env s p (Err (halt.Driver l e)) a b = Halts (uses s) (λ all. ScansLeft all s) (StoppedBy l e a b) a b
+Drawing env s p (Err (halt.Driver l e)) a b = Refused (uses s) (λ all. ScansLeft all s) l e a b
 Drawing env s p (Err halt.NoMemory) a b = Halts (uses s) (λ all. ScansLeft all s) ⊤ a b
 
 pub source_drawing : (env : List Value) (p : Node) (s : Snap) (d : Result (Vec Value Global) Halt) (a b : World) → Drains env s d a b → Drawing env (outside p s) p d a b
 source_drawing env p s (Ok vs) a b h = source_drains env p s vs.items fine a b h
 source_drawing env p s (Err (halt.Over vs)) a b h = source_drains env p s vs.items overflow a b h
-source_drawing env p s (Err (halt.Driver l e)) a b h = halts_as (uses s) (λ all. ScansLeft all (outside p s)) (λ all. ScansLeft all s) (StoppedBy l e a b) a b (λ all i. i.1) h
+source_drawing env p s (Err (halt.Driver l e)) a b h = halts_at (uses s) (λ all. ScansLeft all (outside p s)) (λ all. ScansLeft all s) l e a b (λ all i. i.1) h
 source_drawing env p s (Err halt.NoMemory) a b h = halts_as (uses s) (λ all. ScansLeft all (outside p s)) (λ all. ScansLeft all s) ⊤ a b (λ all i. i.1) h
 
 pub drawing_stands : (env : List Value) (s : Snap) (p : Node) (d : Result (Vec Value Global) Halt) (a b : World) → Drawing env s p d a b → Stands a s env → DrawnStand env p d b
@@ -205,7 +206,7 @@ drawing_stands env s p (Err halt.NoMemory) a b h i = tt
 pub drawing_emit : (env : List Value) (s : Snap) (p : Node) (d : Result (Vec Value Global) Halt) (r : Result (Unit {0}) EvalStop) (old new : Gathered) (a b c : World) → Drawing env s p d a b → EmitsDrawn env p d r old new b c → Emits env s r old new a c
 drawing_emit env s p (Ok vs) r old new a b c h k = starts_emit env s (outside p (have vs.items fine)) a b c r old new h k
 drawing_emit env s p (Err (halt.Over vs)) r old new a b c h k = starts_emit env s (outside p (have vs.items overflow)) a b c r old new h k
-drawing_emit env s p (Err (halt.Driver l e)) r old new a b c h k = subst (λ q. Emits env s q old new a c) (sym k.0) (subst (λ w. Halts (uses s) (λ all. ScansLeft all s) (StoppedBy l e a w) a w) (sym k.1) h)
+drawing_emit env s p (Err (halt.Driver l e)) r old new a b c h k = subst (λ q. Emits env s q old new a c) (sym k.0) (subst (λ w. Refused (uses s) (λ all. ScansLeft all s) l e a w) (sym k.1) h)
 drawing_emit env s p (Err halt.NoMemory) r old new a b c h k = subst (λ q. Emits env s q old new a c) (sym k.0) (subst (λ w. Halts (uses s) (λ all. ScansLeft all s) ⊤ a w) (sym k.1) h)
 
 -- ---- a body at the next one of some values
@@ -249,7 +250,7 @@ module _ (env : List Value) (p : Node) (v : Value) (rest : List Value) (end : En
 
   pub turn_stop : (e : EvalStop) (old new : Gathered) → Emits (v ∷ env) (fresh p) (Err e) old new b c → Emits env Turn (Err e) old new b c
   turn_stop why.Overflow old new h = (h.0, h.1, turn_over h.0 h.2)
-  turn_stop (why.Driver l x) old new h = halts_as nothing (λ all. ScansLeft all Turn) (λ all. ScansLeft all (fresh p)) (StoppedBy l x b c) b c (λ all i. i.0) h
+  turn_stop (why.Driver l x) old new h = halts_at nothing (λ all. ScansLeft all Turn) (λ all. ScansLeft all (fresh p)) l x b c (λ all i. i.0) h
   turn_stop why.NoMemory old new h = halts_as nothing (λ all. ScansLeft all Turn) (λ all. ScansLeft all (fresh p)) ⊤ b c (λ all i. i.0) h
 
   pub turn_stands : Stands b Turn env → Stands b (fresh p) (v ∷ env)

@@ -19,7 +19,7 @@ use Rattle.kl_scans.specs.Held.{open_at, Uses, nothing, beside, Owned}
 use Rattle.kl_scans.specs.Log.{Event, paid}
 use Rattle.kl_scans.specs.Moves.{Moves, Closes}
 use Rattle.kl_scans.specs.Stage.{Stage, stage, IsTold, readings}
-use Rattle.kl_scans.proofs.Moving.{moves_then, moves_none, moves_beside, moves_same, stage_stays, stopped_then, stopped_before, paid_then}
+use Rattle.kl_scans.proofs.Moving.{moves_then, moves_none, moves_beside, moves_same, stage_stays, paid_then}
 use Rattle.kl_cursor.specs.Left.{Snap, fresh, both, bound, outside, inside, snap, uses, left, reading, to_start, ScansLeft}
 use Rattle.kl_cursor.specs.Likeness.{Same}
 use Rattle.kl_cursor.specs.Measure.{height, most, size}
@@ -28,6 +28,7 @@ use Rattle.kl_cursor.specs.Steps.{AreOf, WhereTold, Counts, Onward, Gives, Ends,
 use Rattle.kl_cursor.proofs.Events.{of_none, of_then}
 use Rattle.kl_cursor.proofs.Likes.{same_itself, same_at, same_on, same_followed, same_drawn, same_fits, same_harm, same_weight, well_first, well_source, weight_more}
 use Rattle.kl_cursor.proofs.Still.{Still, still_beside, left_still, start_still, most_still, fits_still, types_on, bodies}
+use Rattle.kl_cursor.proofs.Refusals.{refused_as, refused_then, refused_before}
 
 pub told_on : (u v : Uses) (a b : World) → Moves u v a b → IsToldAt a → IsToldAt b
 told_on u v a b m h = subst IsTold (sym (stage_stays u v a b m)) h
@@ -91,7 +92,7 @@ ends_then env s t a b c m n = record {
 reason_then : (env : List Value) (s t : Snap) (e : EvalStop) (a b c : World) → Onward env s a t b → Reason env t e b c → Reason env s e a c
 reason_then env s t why.Overflow a b c m r = λ G k u e f told.
     same_on k (left a s env) (left b t env) (stop overflow) (m.same G k u e f told) (r G k u e (m.typed G k u e f) (told_on (uses s) (uses t) a b m.moves told))
-reason_then env s t (why.Driver l x) a b c m r = stopped_then l x (uses s) (uses t) a b c m.moves r
+reason_then env s t (why.Driver l x) a b c m r = refused_then (λ all. ScansLeft all s) (λ all. ScansLeft all t) l x (uses s) (uses t) a b c (λ all h. (m.known all h).1) m.moves r
 reason_then env s t why.NoMemory a b c m r = tt
 
 pub stops_then : (env : List Value) (s t : Snap) (e : EvalStop) (a b c : World) → Onward env s a t b → Stops env t e b c → Stops env s e a c
@@ -153,7 +154,7 @@ union_none env s p a b g =
 union_reason : (env : List Value) (s : Snap) (p : Node) (e : EvalStop) (a b : World) → Reason env s e a b → Reason env (both s p) e a b
 union_reason env s p why.Overflow a b r = λ G k u e f told.
     same_followed k (left a s env) (stop overflow) (coming (plan (reading a) p env)) (coming (plan (reading a) p env)) (r G k u e f.0 told) (same_itself k (coming (plan (reading a) p env)))
-union_reason env s p (why.Driver l x) a b r = r
+union_reason env s p (why.Driver l x) a b r = refused_as (λ all. ScansLeft all (both s p)) (λ all. ScansLeft all s) l x a b (λ all h. h.0) r
 union_reason env s p why.NoMemory a b r = tt
 
 pub union_stop : (env : List Value) (s : Snap) (p : Node) (e : EvalStop) (a b : World) → Stops env s e a b → Stops env (both s p) e a b
@@ -232,7 +233,7 @@ inside_none env p s x i a b o g =
 inside_reason : (env : List Value) (p : Node) (s : Snap) (x : Value) (i : Snap) (e : EvalStop) (a b c : World) → Moves (uses s) nothing b c → Reason (x ∷ env) i e a b → Reason env (inside p s x i) e a c
 inside_reason env p s x i why.Overflow a b c m r = λ G k u e f told.
     same_followed k (left a i (x ∷ env)) (stop overflow) (left a (outside p s) env) (left a (outside p s) env) (r (f.1 ∷ G) k u (f.5, e) f.6 told) (same_itself k (left a (outside p s) env))
-inside_reason env p s x i (why.Driver l y) a b c m r = stopped_before l y (uses s) nothing a b c r m
+inside_reason env p s x i (why.Driver l y) a b c m r = refused_before (λ all. ScansLeft all (inside p s x i)) (λ all. ScansLeft all i) l y (uses s) nothing a b c (λ all h. h.2) r m
 inside_reason env p s x i why.NoMemory a b c m r = tt
 
 abbrev beside_none : (u v : Uses) (a b : World) → Moves v nothing a b → Moves (beside u v) u a b
@@ -264,7 +265,7 @@ loop_end env p s a b g = record {
 loop_reason : (env : List Value) (p : Node) (s : Snap) (e : EvalStop) (a b : World) → Reason env s e a b → Reason env (outside p s) e a b
 loop_reason env p s why.Overflow a b r = λ G k u e f told.
     same_drawn k (left a s env) (stop overflow) (λ v. coming (plan (reading a) p (v ∷ env))) (same_fits f.0 k (left a s env) (stop overflow) f.2 (r G f.0 f.1 e f.3 told))
-loop_reason env p s (why.Driver l x) a b r = r
+loop_reason env p s (why.Driver l x) a b r = refused_as (λ all. ScansLeft all (outside p s)) (λ all. ScansLeft all s) l x a b (λ all h. h.1) r
 loop_reason env p s why.NoMemory a b r = tt
 
 pub loop_stop : (env : List Value) (p : Node) (s : Snap) (e : EvalStop) (a b : World) → Stops env s e a b → Stops env (outside p s) e a b
@@ -389,7 +390,9 @@ lost_reason env p s t v why.Overflow a b c l d m r = λ G k u e f told.
     let y = d.typed G k u e f in
     same_on k (left a (outside p s) env) (followed (coming (plan (reading b) p (v ∷ env))) (left b (outside p t) env)) (stop overflow) (d.same G k u e f told)
     (same_followed k (coming (plan (reading b) p (v ∷ env))) (stop overflow) (left b (outside p t) env) (left b (outside p t) env) (r (y.1 ∷ G) k u (y.5, e) y.6 told') (same_itself k (left b (outside p t) env)))
-lost_reason env p s t v (why.Driver n x) a b c l d m r = stopped_then n x (uses s) (uses t) a b l d.moves (stopped_before n x (uses t) nothing b c l r m)
+lost_reason env p s t v (why.Driver n x) a b c l d m r =
+    refused_then (λ all. ScansLeft all (outside p s)) (λ all. ScansLeft all (fresh p)) n x (uses s) (uses t) a b l (λ all h. (d.known all h).1.2) d.moves
+    (refused_before (λ all. ScansLeft all (fresh p)) (λ all. ScansLeft all (fresh p)) n x (uses t) nothing b c l (λ all h. h) r m)
 lost_reason env p s t v why.NoMemory a b c l d m r = tt
 
 pub loop_lost : (env : List Value) (p : Node) (s t : Snap) (v : Value) (e : EvalStop) (a b c l : World) → Drew env p s t v a b → Stops (v ∷ env) (fresh p) e b c → Closes (uses t) c l → Stops env (outside p s) e a l

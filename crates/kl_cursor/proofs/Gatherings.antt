@@ -1,5 +1,5 @@
 -- What is kept of items, and what primitives make of their collection.
-use Rattle.std.proofs.Common.{◌≡◌, ◌⊎◌, ⊎_elim, ℕ, ◌+◌, ◌<◌, ◌≤◌, ℤ, pos, ◌+ℤ◌, Bool, true, false, not, ◌||◌, cond, nat_eq, List, [], ◌∷◌, ◌++◌, length, take, get_or, fold, All, Option, Some, Vec, IsSomeAnd, refl, sym, ap, subst, ◌∙◌, arith, append_assoc, append-nil, is_eq, is_gt}
+use Rattle.std.proofs.Common.{◌≡◌, ⊎_elim, ℕ, ◌+◌, ◌<◌, ◌≤◌, ℤ, pos, ◌+ℤ◌, Bool, true, false, not, ◌||◌, cond, nat_eq, List, [], ◌∷◌, ◌++◌, length, take, get_or, fold, All, Option, Some, Vec, IsSomeAnd, refl, sym, ap, subst, ◌∙◌, arith, append_assoc, append-nil, is_eq, is_gt}
 use lib.Dec.{eqb-suc-zero}
 use Rattle.std.specs.List.{Contains, list_any}
 use Rattle.std.specs.Option.{option_and_then}

@@ -24,3 +24,8 @@ pub case_kind : (t a o d : Plan) (ps qs : List (Name × Plan)) (c : Option Plan)
 case_kind t a o d ps qs c k j r e f g h i l m =
     m ∙ ap₂ first_kind (g ∙ ap (λ x. kind_of_branches (branches_of (map view_branch x) no_branches)) f) (l ∙ ap (λ x. kind_of_items (view x)) i)
     ∙ sym (ap kind_of_items (ap view e ∙ view_Case a ps c) ∙ ap (λ x. kind_of_branches (branches_of (map view_branch ps) (other_node x))) h ∙ branches_kind ps (rest (view o)))
+
+pub case_first : (t a : Plan) (ps qs : List (Name × Plan)) (c : Option Plan) (j : Kind) → t ≡ plans.Case a ps c → qs ≡ ps → Some j ≡ kind_of_branches (branches_of (map view_branch qs) no_branches) → Some j ≡ kind_of_items (view t)
+case_first t a ps qs c j e f g =
+    ap (λ k. first_kind k (kind_of_branches (other_node c))) (g ∙ ap (λ x. kind_of_branches (branches_of (map view_branch x) no_branches)) f)
+    ∙ sym (ap kind_of_items (ap view e ∙ view_Case a ps c) ∙ branches_kind ps (other_node c))

@@ -14,7 +14,7 @@ use Rattle.kl_ship.specs.Nodes.{Node}
 use Rattle.kl_scans.specs.Held.{nothing, Owned}
 use Rattle.kl_scans.specs.Stage.{readings}
 use Rattle.kl_scans.proofs.Moving.{stage_stays}
-use Rattle.kl_cursor.specs.Laziness.{Handed, Fetching, items_at, Lazy, ListTold, Spares}
+use Rattle.kl_cursor.specs.Laziness.{Handed, Fetching, items_at, LazyLoop, ListTold, KeepsLazy}
 use Rattle.kl_cursor.specs.Left.{Snap, fresh, outside, inside, uses, left, reading}
 use Rattle.kl_cursor.specs.Steps.{Onward, Gives, Ends}
 use Rattle.kl_cursor.proofs.Fetching.{told_onward, told_source, list_gave, fetching_at, fetching_still}
@@ -25,13 +25,13 @@ use Rattle.kl_cursor.proofs.Still.{still_beside}
 
 -- ---- one after the other
 
-pub lazy_at : (R : Readings) (w : World) (env : List Value) (p : Node) (c : Scan) (all : List Value) (asked d e k l : ℕ) (s : Snap) → d ≡ e → k ≡ l → Lazy R w env p c all asked d k s → Lazy R w env p c all asked e l s
-lazy_at R w env p c all asked d e k l s is at h = subst (λ z. Lazy R w env p c all asked z l s) is (subst (λ z. Lazy R w env p c all asked d z s) at h)
+pub lazy_at : (R : Readings) (w : World) (env : List Value) (p : Node) (c : Scan) (all : List Value) (asked d e k l : ℕ) (s : Snap) → d ≡ e → k ≡ l → LazyLoop R w env p c all asked d k s → LazyLoop R w env p c all asked e l s
+lazy_at R w env p c all asked d e k l s is at h = subst (λ z. LazyLoop R w env p c all asked z l s) is (subst (λ z. LazyLoop R w env p c all asked d z s) at h)
 
 -- what a way of loops comes to
 abbrev pub Spared : ℕ → List Value → Snap → World → Snap → World → Type 0
-Spared count env s a t b = (R : Readings) (p : Node) (c : Scan) (all : List Value) (drawn handed : ℕ) → ListTold env s a → Lazy R a env p c all (drawn + 1) drawn handed s
-    → (rows : ℕ) × Handed c rows a b × Lazy R b env p c all (drawn + 1) (drawn + count) (handed + rows) t
+Spared count env s a t b = (R : Readings) (p : Node) (c : Scan) (all : List Value) (drawn handed : ℕ) → ListTold env s a → LazyLoop R a env p c all (drawn + 1) drawn handed s
+    → (rows : ℕ) × Handed c rows a b × LazyLoop R b env p c all (drawn + 1) (drawn + count) (handed + rows) t
 
 pub spared_none : (env : List Value) (s : Snap) (w : World) → Spared 0 env s w s w
 spared_none env s w = λ R p c all drawn handed told h. (0, handed_none c w, lazy_at R w env p c all (drawn + 1) drawn (drawn + 0) handed (handed + 0) s (omega arith) (omega arith) h)
@@ -42,14 +42,14 @@ spared_then count env s t r a b d m f g = λ R p c all drawn handed told h.
     let y = g R p c all drawn (handed + x.0) (told_onward env s t a b m told) (lazy_at R b env p c all (drawn + 1) (drawn + 0) drawn (handed + x.0) (handed + x.0) t (omega arith) refl x.2) in
     (x.0 + y.0, handed_then c x.0 y.0 a b d x.1 y.1, lazy_at R d env p c all (drawn + 1) (drawn + count) (drawn + count) ((handed + x.0) + y.0) (handed + (x.0 + y.0)) r refl (omega arith) y.2)
 
-pub fetched_then : (count : ℕ) (env : List Value) (s t r : Snap) (a b d : World) → Onward env s a t b → Spares 0 env s a t b → Spares count env t b r d → (c : Scan) (all : List Value) (used handed : ℕ) → ListTold env s a → Fetching a env c all used handed s
+pub fetched_then : (count : ℕ) (env : List Value) (s t r : Snap) (a b d : World) → Onward env s a t b → KeepsLazy 0 env s a t b → KeepsLazy count env t b r d → (c : Scan) (all : List Value) (used handed : ℕ) → ListTold env s a → Fetching a env c all used handed s
     → (rows : ℕ) × Handed c rows a d × Fetching d env c all (used + count) (handed + rows) r
 fetched_then count env s t r a b d m f g c all used handed told h =
     let x = f.scan c all used handed told h in
     let y = g.scan c all used (handed + x.0) (told_onward env s t a b m told) (fetching_at b env c all (used + 0) used (handed + x.0) (handed + x.0) t (omega arith) refl x.2) in
     (x.0 + y.0, handed_then c x.0 y.0 a b d x.1 y.1, fetching_at d env c all (used + count) (used + count) ((handed + x.0) + y.0) (handed + (x.0 + y.0)) r refl (omega arith) y.2)
 
-pub spares_then : (count : ℕ) (env : List Value) (s t r : Snap) (a b d : World) → Onward env s a t b → Spares 0 env s a t b → Spares count env t b r d → Spares count env s a r d
+pub spares_then : (count : ℕ) (env : List Value) (s t r : Snap) (a b d : World) → Onward env s a t b → KeepsLazy 0 env s a t b → KeepsLazy count env t b r d → KeepsLazy count env s a r d
 spares_then count env s t r a b d m f g = record { scan = fetched_then count env s t r a b d m f g; loop = spared_then count env s t r a b d m f.loop g.loop }
 
 -- ---- inside the body
@@ -109,7 +109,7 @@ record Used (R : Readings) (w : World) (env : List Value) (p : Node) (c : Scan) 
   before : (n : ℕ) → n < used → items_at R env p all n < drawn + 1
   reads : reading w ≡ R
 
-next_used : (env : List Value) (p b : Node) (s t : Snap) (v : Value) (a x : World) → Gives env s a v t x → Spares 1 env s a t x → (R : Readings) (c : Scan) (all : List Value) (drawn handed : ℕ) → ListTold env (outside p s) a → Lazy R a env b c all (drawn + 1) drawn handed (outside p s)
+next_used : (env : List Value) (p b : Node) (s t : Snap) (v : Value) (a x : World) → Gives env s a v t x → KeepsLazy 1 env s a t x → (R : Readings) (c : Scan) (all : List Value) (drawn handed : ℕ) → ListTold env (outside p s) a → LazyLoop R a env b c all (drawn + 1) drawn handed (outside p s)
     → (rows : ℕ) × Handed c rows a x × Used R x env b c all drawn (handed + rows) t v
 next_used env p b s t v a x g k R c all drawn handed told h =
     let l = h.loops in
@@ -143,7 +143,7 @@ same_body p b e h = subst (ScansIn []) (sym e) h
 items_there : (R S : Readings) (p b : Node) (env : List Value) → S ≡ R → p ≡ b → length (items_in (coming (plan S p env))) ≡ length (items_in (coming (plan R b env)))
 items_there R S p b env e f = ap (λ Q. length (items_in (coming (plan Q p env)))) e ∙ ap (λ q. length (items_in (coming (plan R q env)))) f
 
-module _ (env : List Value) (p : Node) (s t : Snap) (v : Value) (a x : World) (o : Owned (uses t) x) (g : Gives env s a v t x) (k : Spares 1 env s a t x) where
+module _ (env : List Value) (p : Node) (s t : Snap) (v : Value) (a x : World) (o : Owned (uses t) x) (g : Gives env s a v t x) (k : KeepsLazy 1 env s a t x) where
   pub loop_spared : (w : Value) (i : Snap) (d : World) → Gives (v ∷ env) (fresh p) x w i d → Spared 1 env (outside p s) a (inside p t v i) d
   loop_spared w i d y = λ R b c all drawn handed told h.
       let u = next_used env p b s t v a x g k R c all drawn handed told h in

@@ -13,7 +13,7 @@ use Rattle.kl_ship.specs.Nodes as node
 use Rattle.kl_ship.specs.Nodes.{Node}
 use Rattle.kl_scans.specs.Log as log
 use Rattle.kl_scans.specs.Log.{Event, handed_after, rows_at}
-use Rattle.kl_cursor.specs.Laziness.{Fetching, Frugal, Handed, Lazy, ListTold, Loops, Spares, items_at, rows_in}
+use Rattle.kl_cursor.specs.Laziness.{Fetching, Frugal, Handed, LazyLoop, ListTold, LoopOver, KeepsLazy, items_at, rows_in}
 use Rattle.kl_cursor.specs.Left.{Snap, fresh, have, pulling, both, bound, outside, inside, made, ended, reading}
 use Rattle.kl_cursor.specs.Steps.{AreOf}
 use Rattle.kl_cursor.proofs.Handing.{handed_none, handed_then}
@@ -24,7 +24,7 @@ module _ (R : Readings) (w : World) (env : List Value) (b : Node) (c : Scan) (al
   frugal_of : (used : ℕ) (s : Snap) → Fetching w env c all used handed s → drawn ≤ items_at R env b all used → ((n : ℕ) → n < used → items_at R env b all n < drawn) → Frugal R w.settings.fetch env b all drawn handed
   frugal_of used s f enough least = record { rows = used; front = record { enough = enough; least = least }; enough = omega (arith, f.sum); few = omega (arith, f.sum, f.few); times = f.times }
 
-  frugal_at : (used : ℕ) (s : Snap) → Loops R w env b c all drawn handed used s → ((n : ℕ) → n < used → items_at R env b all n < drawn) → Frugal R w.settings.fetch env b all drawn handed
+  frugal_at : (used : ℕ) (s : Snap) → LoopOver R w env b c all drawn handed used s → ((n : ℕ) → n < used → items_at R env b all n < drawn) → Frugal R w.settings.fetch env b all drawn handed
   frugal_at used (fresh p) l before = frugal_of used (fresh (node.Scan c)) l.2 (omega (arith, l.3)) before
   frugal_at used (outside p s) l before = frugal_of used s l.1 (omega (arith, l.2)) before
   frugal_at used (inside p s v i) l before = frugal_of used s l.1 (omega (arith, l.2)) before
@@ -35,7 +35,7 @@ module _ (R : Readings) (w : World) (env : List Value) (b : Node) (c : Scan) (al
   frugal_at used (made ps) l before = absurd l
   frugal_at used ended l before = absurd l
 
-  pub lazy_frugal : (s : Snap) → Lazy R w env b c all drawn drawn handed s → Frugal R w.settings.fetch env b all drawn handed
+  pub lazy_frugal : (s : Snap) → LazyLoop R w env b c all drawn drawn handed s → Frugal R w.settings.fetch env b all drawn handed
   lazy_frugal s h = frugal_at h.used s h.loops h.before
 
 -- ---- a whole drawing
@@ -44,7 +44,7 @@ module _ (R : Readings) (w : World) (env : List Value) (b : Node) (c : Scan) (al
 pub record Drawing (R : Readings) (env : List Value) (b : Node) (c : Scan) (all : List Value) (a : World) (drawn : ℕ) (s : Snap) (w : World) : Type 0 where
   pub handed : ℕ
   pub counted : Handed c handed a w
-  pub lazy : Lazy R w env b c all drawn drawn handed s
+  pub lazy : LazyLoop R w env b c all drawn drawn handed s
 
 none_times : (n : ℕ) → 0 ≡ 0 * n
 none_times n = omega arith
@@ -65,7 +65,7 @@ drawing_starts env b c all w told list fetch still = record {
 }
 
 -- each item that is given then
-pub drawing_goes : (R : Readings) (env : List Value) (b : Node) (c : Scan) (all : List Value) (a : World) (drawn : ℕ) (s t : Snap) (w x : World) → Drawing R env b c all a drawn s w → ListTold env s w → Spares 1 env s w t x → Drawing R env b c all a (drawn + 1) t x
+pub drawing_goes : (R : Readings) (env : List Value) (b : Node) (c : Scan) (all : List Value) (a : World) (drawn : ℕ) (s t : Snap) (w x : World) → Drawing R env b c all a drawn s w → ListTold env s w → KeepsLazy 1 env s w t x → Drawing R env b c all a (drawn + 1) t x
 drawing_goes R env b c all a drawn s t w x d told m =
     let l = d.lazy in
     let y = m.loop R b c all drawn d.handed told (record { used = l.used; loops = l.loops; before = λ n h. omega (arith, l.before n h); reads = l.reads; still = l.still }) in

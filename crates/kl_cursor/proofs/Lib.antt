@@ -2,6 +2,7 @@ pub mod Likes
 pub mod Events
 pub mod Snaps
 pub mod Still
+pub mod Refusals
 pub mod Forms
 pub mod Calls
 pub mod Taking
@@ -34,4 +35,5 @@ pub mod LazyCode
 pub mod LazyLaws
 pub mod Pulls
 pub mod Quietly
+pub mod HeldCode
 pub mod PullCode

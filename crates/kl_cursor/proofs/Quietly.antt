@@ -18,7 +18,7 @@ use Rattle.kl_scans.proofs.Moving.{logged_none, logged_then}
 use Rattle.kl_cursor.specs.declared.state.State.{State}
 use Rattle.kl_cursor.specs.declared.state.State.TheVariants as state
 use Rattle.kl_cursor.specs.Left.{Snap, fresh, have, pulling, both, bound, outside, inside, made, ended, snap, uses, ScansLeft}
-use Rattle.kl_cursor.specs.Pulling.{some, has_scan, gives, reads_on, loop_reads_on, pulls, Silent, Quiet, is_sure, SureGives, BeginsSure, Calm}
+use Rattle.kl_cursor.specs.Pulling.{some, has_scan, gives, reads_on, loop_reads_on, pulls, Silent, SilentUnlessPulls, is_sure, SureGives, BeginsSure, Calm}
 use Rattle.kl_cursor.specs.Steps.{Ends, Gives, Steps, Stops}
 use Rattle.kl_cursor.proofs.Handing.{no_events}
 use Rattle.kl_cursor.proofs.Scanning.{none_rows}
@@ -92,7 +92,7 @@ steps_silent env s (Ok (Some v, t)) a b l h = gave_silent env s (snap t) v a b h
 steps_silent env s (Ok (None, t)) a b l h = ends_silent env s a b h l
 steps_silent env s (Err e) a b l h = stops_silent env s e a b h l
 
-fresh_silent : (env : List Value) (q : Bor Plan) (r : Result (Option Value × State) EvalStop) (a b : World) → has_scan (view q.now) ≡ false → Steps env (snap (state.Fresh q)) r a b → Silent a b
+pub fresh_silent : (env : List Value) (q : Bor Plan) (r : Result (Option Value × State) EvalStop) (a b : World) → has_scan (view q.now) ≡ false → Steps env (snap (state.Fresh q)) r a b → Silent a b
 fresh_silent env q r a b h = steps_silent env (snap (state.Fresh q)) r a b (subst (ScansLeft []) (sym (snap_Fresh q)) (no_scan (view q.now) h))
 
 -- ---- an item that is sure
@@ -116,7 +116,7 @@ lacks s i rest r f g h = subst (λ q. SureGives (snap s) (Ok (q, rest))) g (subs
 
 -- ---- each form
 
-pub calm_quiet : (x y : Snap) (r : Result (Option Value × State) EvalStop) (a b : World) → x ≡ y → is_sure y ≡ false → Quiet y a b → Calm x r a b
+pub calm_quiet : (x y : Snap) (r : Result (Option Value × State) EvalStop) (a b : World) → x ≡ y → is_sure y ≡ false → SilentUnlessPulls y a b → Calm x r a b
 calm_quiet x y r a b e n q = subst (λ z. Calm z r a b) (sym e) (record { quiet = q; sure = not_sure y r n })
 
 pub calm_at : (x y : Snap) (r : Result (Option Value × State) EvalStop) (a b : World) → x ≡ y → Calm y r a b → Calm x r a b
@@ -144,14 +144,14 @@ calm_made env x ps r a b e steps sure = subst (λ z. Calm z r a b) (sym e) (reco
 pub never_ahead : (items : List Value) (o : Option Value) → o ≡ None → o ≡ slice_get items 0 → (length items == 0) ≡ false → ⊥
 never_ahead items o e f h = never (length items == 0) (ap (λ xs. length xs == 0) (none_rows items o e f)) h
 
-pub union_quiet : (s1 s : State) (p : Node) (r : Result (Option Value × State) EvalStop) (a b : World) → s1 ≡ s → Calm (snap s1) r a b → Quiet (both (snap s) p) a b
+pub union_quiet : (s1 s : State) (p : Node) (r : Result (Option Value × State) EvalStop) (a b : World) → s1 ≡ s → Calm (snap s1) r a b → SilentUnlessPulls (both (snap s) p) a b
 union_quiet s1 s p r a b e h = λ n. h.quiet (ap (λ z. pulls (snap z)) e ∙ (neither (pulls (snap s)) (has_scan p) n).0)
 
-pub union_quiet_on : (env : List Value) (s1 s : State) (q : Bor Plan) (r z : Result (Option Value × State) EvalStop) (a b c : World) → s1 ≡ s → Calm (snap s1) r a b → Steps env (snap (state.Fresh q)) z b c → Quiet (both (snap s) (view q.now)) a c
+pub union_quiet_on : (env : List Value) (s1 s : State) (q : Bor Plan) (r z : Result (Option Value × State) EvalStop) (a b c : World) → s1 ≡ s → Calm (snap s1) r a b → Steps env (snap (state.Fresh q)) z b c → SilentUnlessPulls (both (snap s) (view q.now)) a c
 union_quiet_on env s1 s q r z a b c e h steps =
     λ n. silent_then a b c (union_quiet s1 s (view q.now) r a b e h n) (fresh_silent env q z b c (neither (pulls (snap s)) (has_scan (view q.now)) n).1 steps)
 
-bound_quiet : (v : Value) (s1 s : State) (r : Result (Option Value × State) EvalStop) (a b : World) → s1 ≡ s → Calm (snap s1) r a b → Quiet (bound v (snap s)) a b
+bound_quiet : (v : Value) (s1 s : State) (r : Result (Option Value × State) EvalStop) (a b : World) → s1 ≡ s → Calm (snap s1) r a b → SilentUnlessPulls (bound v (snap s)) a b
 bound_quiet v s1 s r a b e h = λ n. h.quiet (ap (λ z. pulls (snap z)) e ∙ n)
 
 pub bound_calm_gave : (v : Value) (s1 s t : State) (w : Value) (r : Result (Option Value × State) EvalStop) (a b : World) → s1 ≡ s → Calm (snap s1) r a b → Calm (bound v (snap s)) (Ok (Some w, t)) a b
@@ -163,15 +163,15 @@ bound_calm_over v s1 s rest t i r a b e f g h = record { quiet = bound_quiet v s
 pub bound_calm_err : (v : Value) (s1 s : State) (w : EvalStop) (r : Result (Option Value × State) EvalStop) (a b : World) → s1 ≡ s → Calm (snap s1) r a b → Calm (bound v (snap s)) (Err w) a b
 bound_calm_err v s1 s w r a b e h = record { quiet = bound_quiet v s1 s r a b e h; sure = tt }
 
-pub inside_quiet : (p : Node) (s : Snap) (v : Value) (j1 j : State) (r : Result (Option Value × State) EvalStop) (a b : World) → j1 ≡ j → Calm (snap j1) r a b → Quiet (inside p s v (snap j)) a b
+pub inside_quiet : (p : Node) (s : Snap) (v : Value) (j1 j : State) (r : Result (Option Value × State) EvalStop) (a b : World) → j1 ≡ j → Calm (snap j1) r a b → SilentUnlessPulls (inside p s v (snap j)) a b
 inside_quiet p s v j1 j r a b e h = λ n. h.quiet (ap (λ z. pulls (snap z)) e ∙ (neither (pulls (snap j)) (pulls s) (neither (pulls (snap j) || pulls s) (loop_reads_on p s) n).0).0)
 
-pub inside_quiet_on : (p : Node) (s : Snap) (v : Value) (j1 j : State) (r : Result (Option Value × State) EvalStop) (a b c : World) → j1 ≡ j → Calm (snap j1) r a b → Quiet (outside p s) b c → Quiet (inside p s v (snap j)) a c
+pub inside_quiet_on : (p : Node) (s : Snap) (v : Value) (j1 j : State) (r : Result (Option Value × State) EvalStop) (a b c : World) → j1 ≡ j → Calm (snap j1) r a b → SilentUnlessPulls (outside p s) b c → SilentUnlessPulls (inside p s v (snap j)) a c
 inside_quiet_on p s v j1 j r a b c e h on = λ n.
     let x = neither (pulls (snap j) || pulls s) (loop_reads_on p s) n in
     silent_then a b c (inside_quiet p s v j1 j r a b e h n) (on (nor (pulls s) (loop_reads_on p s) (neither (pulls (snap j)) (pulls s) x.0).1 x.1))
 
-pub inside_quiet_err : (p : Node) (s : Snap) (v : Value) (j1 j : State) (r : Result (Option Value × State) EvalStop) (u : Uses) (a b c : World) → j1 ≡ j → Calm (snap j1) r a b → Closes u b c → Quiet (inside p s v (snap j)) a c
+pub inside_quiet_err : (p : Node) (s : Snap) (v : Value) (j1 j : State) (r : Result (Option Value × State) EvalStop) (u : Uses) (a b c : World) → j1 ≡ j → Calm (snap j1) r a b → Closes u b c → SilentUnlessPulls (inside p s v (snap j)) a c
 inside_quiet_err p s v j1 j r u a b c e h m = λ n. silent_then a b c (inside_quiet p s v j1 j r a b e h n) (closes_silent u b c m)
 
 -- ---- between two items
@@ -186,7 +186,7 @@ at_first p s a = λ h. (refl, refl)
 pub no_second : (q : Bor Plan) (s0 s : Snap) (j : Option Value) (inner : State) (z : Result (Option Value × State) EvalStop) (a b c d : World) → z ≡ Ok (j, inner) → j ≡ None → Calm (snap (state.Fresh q)) z c d → AtFirst (view q.now) s0 a s b
 no_second q s0 s j inner z a b c d f g h = λ y. absurd (never (gives (view q.now)) y (subst (λ x. is_sure x ≡ false) (snap_Fresh q) (lacks (state.Fresh q) j inner z f g h.sure)))
 
-outside_quiet : (p : Node) (s0 s : Snap) (a b d : World) → AtFirst p s0 a s b → (ScansLeft [] (outside p s0) → Silent a d) → (has_scan p ≡ false → Quiet s b d) → Quiet (outside p s0) a d
+outside_quiet : (p : Node) (s0 s : Snap) (a b d : World) → AtFirst p s0 a s b → (ScansLeft [] (outside p s0) → Silent a d) → (has_scan p ≡ false → SilentUnlessPulls s b d) → SilentUnlessPulls (outside p s0) a d
 outside_quiet p s0 s a b d first bare turn = λ n.
     let x = neither (pulls s0) (loop_reads_on p s0) n in
     let y = neither (has_scan p) (reads_on s0 && not (gives p)) x.1 in
@@ -198,26 +198,26 @@ outside_quiet p s0 s a b d first bare turn = λ n.
         let f = first (unsure (reads_on s0) (gives p) more e) in
         subst (λ z. Silent z d) f.1 (turn none (ap pulls f.0 ∙ still))
 
-source_quiet : (x s : State) (r : Result (Option Value × State) EvalStop) (b c : World) → x ≡ s → Calm (snap x) r b c → Quiet (snap s) b c
+source_quiet : (x s : State) (r : Result (Option Value × State) EvalStop) (b c : World) → x ≡ s → Calm (snap x) r b c → SilentUnlessPulls (snap s) b c
 source_quiet x s r b c e h = λ n. h.quiet (ap (λ z. pulls (snap z)) e ∙ n)
 
 -- its source was stopped
-pub loop_quiet_err : (env : List Value) (p : Node) (s0 : Snap) (x s : State) (e : EvalStop) (r : Result (Option Value × State) EvalStop) (a b c : World) → x ≡ s → AtFirst p s0 a (snap s) b → Calm (snap x) r b c → Stops env (outside p s0) e a c → Quiet (outside p s0) a c
+pub loop_quiet_err : (env : List Value) (p : Node) (s0 : Snap) (x s : State) (e : EvalStop) (r : Result (Option Value × State) EvalStop) (a b c : World) → x ≡ s → AtFirst p s0 a (snap s) b → Calm (snap x) r b c → Stops env (outside p s0) e a c → SilentUnlessPulls (outside p s0) a c
 loop_quiet_err env p s0 x s e r a b c is first h stops = outside_quiet p s0 (snap s) a b c first (stops_silent env (outside p s0) e a c stops) (λ none. source_quiet x s r b c is h)
 
 -- its source ended
-pub loop_quiet_over : (env : List Value) (p : Node) (s0 : Snap) (x s : State) (r : Result (Option Value × State) EvalStop) (a b c : World) → x ≡ s → AtFirst p s0 a (snap s) b → Calm (snap x) r b c → Ends env (outside p s0) a c → Quiet (outside p s0) a c
+pub loop_quiet_over : (env : List Value) (p : Node) (s0 : Snap) (x s : State) (r : Result (Option Value × State) EvalStop) (a b c : World) → x ≡ s → AtFirst p s0 a (snap s) b → Calm (snap x) r b c → Ends env (outside p s0) a c → SilentUnlessPulls (outside p s0) a c
 loop_quiet_over env p s0 x s r a b c is first h ends = outside_quiet p s0 (snap s) a b c first (ends_silent env (outside p s0) a c ends) (λ none. source_quiet x s r b c is h)
 
 -- its body gave an item
 pub loop_quiet_gave : (env : List Value) (v w : Value) (q : Bor Plan) (s0 t : Snap) (x s : State) (r y : Result (Option Value × State) EvalStop) (a b c d : World) → x ≡ s → AtFirst (view q.now) s0 a (snap s) b → Calm (snap x) r b c → Steps (v ∷ env) (snap (state.Fresh q)) y c d → Gives env (outside (view q.now) s0) a w t d
-    → Quiet (outside (view q.now) s0) a d
+    → SilentUnlessPulls (outside (view q.now) s0) a d
 loop_quiet_gave env v w q s0 t x s r y a b c d is first h body gives =
     outside_quiet (view q.now) s0 (snap s) a b d first (gave_silent env (outside (view q.now) s0) t w a d gives) (λ none n. silent_then b c d (source_quiet x s r b c is h n) (fresh_silent (v ∷ env) q y c d none body))
 
 -- its body was stopped
 pub loop_quiet_lost : (env : List Value) (v : Value) (e : EvalStop) (q : Bor Plan) (s0 : Snap) (x s : State) (r y : Result (Option Value × State) EvalStop) (u : Uses) (a b c d l : World) → x ≡ s → AtFirst (view q.now) s0 a (snap s) b → Calm (snap x) r b c → Steps (v ∷ env) (snap (state.Fresh q)) y c d → Closes u d l
-    → Stops env (outside (view q.now) s0) e a l → Quiet (outside (view q.now) s0) a l
+    → Stops env (outside (view q.now) s0) e a l → SilentUnlessPulls (outside (view q.now) s0) a l
 loop_quiet_lost env v e q s0 x s r y u a b c d l is first h body m stops =
     outside_quiet (view q.now) s0 (snap s) a b l first (stops_silent env (outside (view q.now) s0) e a l stops)
     (λ none n. silent_then b c l (source_quiet x s r b c is h n) (silent_then c d l (fresh_silent (v ∷ env) q y c d none body) (closes_silent u d l m)))

@@ -8,7 +8,6 @@ use Rattle.kl_outcome.specs.Outcome.{fine, overflow, Flow, flow, followed, drawn
 use Rattle.kl_outcome.specs.Typed.{Inhabits}
 use Rattle.kl_outcome.proofs.Drawing.{drawn_followed}
 use Rattle.kl_ask.specs.World.{World}
-use Rattle.kl_eval.specs.World.{StoppedBy}
 use Rattle.kl_eval.specs.declared.stop.EvalStop.{EvalStop}
 use Rattle.kl_eval.specs.declared.stop.EvalStop.TheVariants as why
 use Rattle.kl_ship.specs.Alike.{harm}
@@ -22,13 +21,13 @@ use Rattle.kl_scans.specs.Log.{paid}
 use Rattle.kl_scans.specs.Moves.{Closes}
 use Rattle.kl_scans.specs.Scans.{PulledMore}
 use Rattle.kl_scans.specs.Stage.{stage, ScanOf, IsTold}
-use Rattle.kl_scans.proofs.Moving.{moves_then, stage_stays, stopped_before}
+use Rattle.kl_scans.proofs.Moving.{moves_then, stage_stays}
 use Rattle.kl_cursor.specs.Gathering.{Gathered}
 use Rattle.kl_cursor.specs.Left.{Snap, have, pulling, outside, left, reading, to_start, rows_left, rows_told, ScansLeft}
 use Rattle.kl_cursor.specs.Likeness.{Same}
 use Rattle.kl_cursor.specs.Measure.{bound_in}
 use Rattle.kl_cursor.specs.Sense.{CursorOf}
-use Rattle.kl_cursor.specs.Steps.{AreOf, Halts, Empties, Emits}
+use Rattle.kl_cursor.specs.Steps.{AreOf, Halts, StoppedAt, Empties, Emits}
 use Rattle.kl_cursor.proofs.Emitting.{not_well, over_stays}
 use Rattle.kl_cursor.proofs.Events.{of_none, of_then}
 use Rattle.kl_cursor.proofs.Forms.{body_owned, body_over, loop_still}
@@ -37,6 +36,7 @@ use Rattle.kl_cursor.proofs.Scanning.{rows_of, type_of, ask_of}
 use Rattle.kl_cursor.proofs.Starting.{harm_flow}
 use Rattle.kl_cursor.proofs.Still.{still_beside, start_still, fits_still, types_on, one_self, bodies}
 use Rattle.kl_cursor.proofs.ValueDrain.{Draining, flow_more}
+use Rattle.kl_cursor.proofs.Refusals.{refused_before}
 
 -- ---- one pull
 
@@ -161,5 +161,6 @@ module _ (env : List Value) (p : Node) (q : Scan) (k n : ℕ) (rows : List Value
 
     pub rows_stop : (e : EvalStop) (old new : Gathered) → Emits env Alone (Err e) old new a b → Emits env Rows (Err e) old new a d
     rows_stop why.Overflow old new h = (h.0, h.1, rows_over h.0 h.2)
-    rows_stop (why.Driver l x) old new h = rows_halt (StoppedBy l x a b) (StoppedBy l x a d) (λ s. stopped_before l x (one_at q.driver k) nothing a b d s m.moves) h
+    rows_stop (why.Driver l x) old new h = rows_halt (StoppedAt (λ all. ScansLeft all Alone) l x a b) (StoppedAt (λ all. ScansLeft all Rows) l x a d)
+        (λ s. refused_before (λ all. ScansLeft all Rows) (λ all. ScansLeft all Alone) l x (one_at q.driver k) nothing a b d (λ all i. (i.0, tt)) s m.moves) h
     rows_stop why.NoMemory old new h = rows_halt ⊤ ⊤ (λ i. i) h

@@ -109,7 +109,7 @@ pulled_none q k into into' r y a b e f p = subst (λ z. Pulls q k into into' (Ok
 
 reason_of : (env : List Value) (q : Scan) (k n : ℕ) (e : EvalStop) (a b : World) → Stopped q e a b → Reason env (pulling q k [] n) e a b
 reason_of env q k n why.Overflow a b h = absurd h
-reason_of env q k n (why.Driver l x) a b h = h.1
+reason_of env q k n (why.Driver l x) a b h = record { scan = q; stood = λ all i. i; named = h.0; by = h.1 }
 reason_of env q k n why.NoMemory a b h = tt
 
 pub scan_stops : (env : List Value) (q : Scan) (k n : ℕ) (e : EvalStop) (a b : World) → NotPulled q k e a b → Stops env (pulling q k [] n) e a b

@@ -106,7 +106,7 @@ pub record ScanTyped (w : World) (c : Scan) (s : Ground) : Type 0 where
   pub of : ScanOf (stage w) c u
 
 pub scan_typed : (w : World) (G : List Ground) (c : Scan) (s : Ground) → PlanTypes (ScanOf (stage w)) G (node.Scan c) s → ScanTyped w c s
-scan_typed w G c s h = record { u = h.0; is = h.1; of = h.2 }
+scan_typed w G c s h = record { u = h.0; is = h.1; of = h.3 }
 
 one_paid : (n : ℕ) → (n + 0) + 0 ≡ n
 one_paid n = omega arith
@@ -142,7 +142,7 @@ scan_begins env q k n w x i m s =
 
 start_reason : (env : List Value) (q : Scan) (e : EvalStop) (w x : World) → Stopped q e w x → Reason env (fresh (node.Scan q)) e w x
 start_reason env q why.Overflow w x h = absurd h
-start_reason env q (why.Driver l y) w x h = h.1
+start_reason env q (why.Driver l y) w x h = record { scan = q; stood = λ all i. i; named = h.0; by = h.1 }
 start_reason env q why.NoMemory w x h = tt
 
 pub scan_refused : (env : List Value) (q : Scan) (e : EvalStop) (w x : World) → NotStarted q e w x → Stops env (fresh (node.Scan q)) e w x

@@ -23,7 +23,7 @@ use Rattle.kl_ship.specs.Shipping.{other_node}
 use Rattle.kl_ship.proofs.Views.{view_Var, view_Rec, view_Proj, view_Inj, view_Case, view_Make, view_Union, view_Ext, view_If, view_Let, view_Prim, view_Scan}
 use Rattle.kl_cursor.specs.Left.{fresh}
 use Rattle.kl_cursor.specs.Sense.{HasWorth, HasFields, HasCall, Stands}
-use Rattle.kl_cursor.specs.Steps.{ComesTo, Wholly, Partly, Drains, FieldsGive, CallGives}
+use Rattle.kl_cursor.specs.Steps.{ComesTo, Wholly, Partly, Drains, FieldsGive, CallGives, IsUndriven, IsUndrivenPart}
 use Rattle.kl_cursor.proofs.Comings.{whole_as, worth_as, worth_on, head_sense, head_stop, makes, lead_sense, leads, binds_lead}
 use Rattle.kl_cursor.proofs.ValueForms.{heads_let, heads_if, heads_case, heads_proj, heads_inj, makes_proj, makes_inj, field_there, binds_let, leads_if, test_there, variant_there, binds_branch, no_rest, leads_rest, plain_part, plain_whole, plain_sense, var_whole, var_there, union_first_sense, union_second_sense, first_there, second_there, union_whole, union_first}
 use Rattle.kl_cursor.proofs.ValueDrain.{ComesAsItems, make_items, loop_items, scan_items, gathers, items_stand}
@@ -40,11 +40,11 @@ at_Plain t m e = ap view e ∙ view_Plain m
 pub code_plain_sense : (env : List Value) (t : Plan) (m : Term) (w : World) → t ≡ plans.Plain m → HasWorth w (view t) env → SensePlain (term_view m) env w
 code_plain_sense env t m w e h = plain_sense env (term_view m) w (worth_as env (view t) (node.Plain (term_view m)) w (at_Plain t m e) h)
 
-pub code_plain : (env : List Value) (t : Plan) (m : Term) (r : Result Value Halt) (w x : World) → t ≡ plans.Plain m → x ≡ w → TellsPlain w (term_view m) env r → Wholly env (view t) r w x
-code_plain env t m r w x e f h = whole_as env (view t) (node.Plain (term_view m)) r w x (at_Plain t m e) (plain_whole env (term_view m) r w x f h)
+pub code_plain : (env : List Value) (t : Plan) (m : Term) (r : Result Value Halt) (w x : World) → t ≡ plans.Plain m → x ≡ w → TellsPlain w (term_view m) env r → IsUndriven r → Wholly env (view t) r w x
+code_plain env t m r w x e f h i = whole_as env (view t) (node.Plain (term_view m)) r w x (at_Plain t m e) (plain_whole env (term_view m) r w x f h i)
 
-pub code_part : (env : List Value) (t : Plan) (m : Term) (r : Result Value EvalStop) (w x : World) → t ≡ plans.Plain m → x ≡ w → TellsPart w (term_view m) env r → Partly env (view t) r w x
-code_part env t m r w x e f h = subst (λ z. Partly env z r w x) (sym (at_Plain t m e)) (plain_part env (term_view m) r w x f h)
+pub code_part : (env : List Value) (t : Plan) (m : Term) (r : Result Value EvalStop) (w x : World) → t ≡ plans.Plain m → x ≡ w → TellsPart w (term_view m) env r → IsUndrivenPart r → Partly env (view t) r w x
+code_part env t m r w x e f h i = subst (λ z. Partly env z r w x) (sym (at_Plain t m e)) (plain_part env (term_view m) r w x f h i)
 
 pub at_Var : (t : Plan) (x : ℕ) → t ≡ plans.Var x → view t ≡ node.Var x
 at_Var t x e = ap view e ∙ view_Var x

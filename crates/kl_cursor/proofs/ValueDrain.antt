@@ -27,7 +27,7 @@ use Rattle.kl_cursor.specs.Left.{Snap, fresh, uses, left, reading, to_start, Sca
 use Rattle.kl_cursor.specs.Likeness.{Same}
 use Rattle.kl_cursor.specs.Measure.{height}
 use Rattle.kl_cursor.specs.Sense.{Fits, TypesAt, IsToldAt, HasWorth, Stands}
-use Rattle.kl_cursor.specs.Steps.{AreOf, WhereTold, Counts, Halts, Empties, Drains, ComesTo, Wholly, IsDone}
+use Rattle.kl_cursor.specs.Steps.{AreOf, WhereTold, Counts, Halts, Empties, Drains, ComesTo, Wholly, IsValue}
 use Rattle.kl_cursor.proofs.Events.{of_then}
 use Rattle.kl_cursor.proofs.Forms.{told_on, paid_both}
 use Rattle.kl_cursor.proofs.Likes.{same_itself, same_on, same_followed, same_harm, same_alike}
@@ -135,7 +135,7 @@ pub loop_items : (w : World) (k : Kind) (b s : Node) (env : List Value) → Come
 loop_items w k b s env = λ G s' e h. ((h.0, h.3), λ told. (coming (plan (reading w) (node.Ext k b s) env), refl))
 
 pub scan_items : (w : World) (c : Scan) (env : List Value) → ComesAsItems w (node.Scan c) env c.kind
-scan_items w c env = λ G s e h. ((h.0, h.1), λ told. let r = told c h.0 h.2 in (flow r.0 fine, ap (scanned c.kind) r.1))
+scan_items w c env = λ G s e h. ((h.0, h.1), λ told. let r = told c h.0 h.3 in (flow r.0 fine, ap (scanned c.kind) r.1))
 
 flow_types : (u : Ground) (vs : List Value) → AllByRecursion (Inhabits u) vs → FlowOf u (flow vs overflow)
 flow_types u [] h = tt
@@ -144,8 +144,8 @@ flow_types u (v ∷ vs) h = (h.0, flow_types u vs h.1)
 pub end_types : (u : Ground) (vs : List Value) (e : End) → (e ≡ fine) ⊎ (e ≡ overflow) → AllByRecursion (Inhabits u) vs → FlowOf u (flow vs e)
 end_types u vs e c h = ⊎_elim (λ d. subst (λ z. FlowOf u (flow vs z)) (sym d) (flow_of u vs h)) (λ d. subst (λ z. FlowOf u (flow vs z)) (sym d) (flow_types u vs h)) c
 
-pub well_ends : (e : End) → (e ≡ fine) ⊎ (e ≡ overflow) → (k : Kind) (vs : List Value) → IsDone (gathered k e vs) → harm (flow vs e) ≡ 0
-well_ends e c k vs i = ⊎_elim (λ d. subst (λ z. harm (flow vs z) ≡ 0) (sym d) (fine_harm vs)) (λ d. absurd (subst (λ z. IsDone (gathered k z vs)) d i)) c
+pub well_ends : (e : End) → (e ≡ fine) ⊎ (e ≡ overflow) → (k : Kind) (vs : List Value) → IsValue (gathered k e vs) → harm (flow vs e) ≡ 0
+well_ends e c k vs i = ⊎_elim (λ d. subst (λ z. harm (flow vs z) ≡ 0) (sym d) (fine_harm vs)) (λ d. absurd (subst (λ z. IsValue (gathered k z vs)) d i)) c
   where
     fine_harm : (vs : List Value) → harm (flow vs fine) ≡ 0
     fine_harm [] = refl
@@ -185,7 +185,7 @@ module _ (env : List Value) (p : Node) (k : Kind) (a b : World) (items : ComesAs
   pub gathers : (d : Result (Vec Value Global) Halt) (r : Result Value Halt) → Drains env (fresh p) d a b → Gathers k d r → Wholly env p r a b
   gathers (Ok vs) r h g = answers env p a b (gathered k fine vs.items) r (gathered_comes vs.items fine (inl refl) h) g
   gathers (Err (halt.Over vs)) r h g = answers env p a b (gathered k overflow vs.items) r (gathered_comes vs.items overflow (inr refl) h) g
-  gathers (Err (halt.Driver l e)) r h g = subst (λ z. Wholly env p z a b) (sym g) (record { moves = h.moves; known = h.known; reason = h.reason })
+  gathers (Err (halt.Driver l e)) r h g = subst (λ z. Wholly env p z a b) (sym g) h
   gathers (Err halt.NoMemory) r h g = subst (λ z. Wholly env p z a b) (sym g) (record { moves = h.moves; known = h.known; reason = h.reason })
 
   pub items_stand : HasWorth a p env → Stands a (fresh p) env

@@ -1,5 +1,5 @@
 -- Measures of values, from what the code has.
-use Rattle.std.proofs.Common.{◌≡◌, ⊎_elim, ℕ, ◌+◌, ◌*◌, ◌<◌, ◌≤◌, max, Bool, true, false, cond, List, map, Option, Some, None, slice_get, refl, sym, ap, ◌∙◌, arith}
+use Rattle.std.proofs.Common.{◌≡◌, ⊎_elim, ℕ, ◌+◌, ◌*◌, ◌<◌, ◌≤◌, max, Bool, true, false, cond, List, map, Option, Some, None, slice_get, refl, sym, ap, subst, ◌∙◌, arith}
 use mathlib.Core.Logic.{◌⊎◌}
 use Rattle.kl_value.specs.declared.Kind.{Kind}
 use Rattle.kl_outcome.specs.Outcome.{Name}
@@ -16,7 +16,7 @@ use Rattle.kl_ship.specs.Kinds.{kind_of_items}
 use Rattle.kl_cursor.proofs.ValueCode.{view_Plain}
 use Rattle.kl_ship.proofs.Views.{view_Var, view_Rec, view_Proj, view_Inj, view_Case, view_Make, view_Union, view_Ext, view_If, view_Let, view_Prim, view_Scan}
 use Rattle.kl_cursor.specs.Measure.{tall, tall_nodes, tall_fields}
-use Rattle.kl_cursor.proofs.Whole.{spare, branch_tall, rest_tall}
+use Rattle.kl_cursor.proofs.Whole.{ComesOne, spare, branch_tall, rest_tall}
 
 over_first : (m n : ℕ) → 1 + m ≤ 1 + max m n
 over_first m n = omega arith
@@ -91,37 +91,34 @@ module _ (t a : Plan) (ps : List (Name × Plan)) (c : Option Plan) (et : t ≡ p
 -- ---- plans that are evaluated whole as they begin
 
 abbrev pub Whole : Plan → Type 0
-Whole t = (kind_of_items (view t) ≡ None) × (spare (view t) ≡ 5)
+Whole t = (kind_of_items (view t) ≡ None) × (spare (view t) ≡ 5) × ComesOne (view t)
 
-whole_node : (t : Plan) (p : Node) → view t ≡ p → kind_of_items p ≡ None → spare p ≡ 5 → Whole t
-whole_node t p e k s = (ap kind_of_items e ∙ k, ap spare e ∙ s)
+whole_node : (t : Plan) (p : Node) → view t ≡ p → kind_of_items p ≡ None → spare p ≡ 5 → ComesOne p → Whole t
+whole_node t p e k s one = (ap kind_of_items e ∙ k, ap spare e ∙ s, subst ComesOne (sym e) one)
 
 whole_Plain : (t : Plan) (m : Term) → t ≡ plans.Plain m → Whole t
-whole_Plain t m e = whole_node t (node.Plain (term_view m)) (ap view e ∙ view_Plain m) refl refl
+whole_Plain t m e = whole_node t (node.Plain (term_view m)) (ap view e ∙ view_Plain m) refl refl (λ R env. refl)
 
 whole_Var : (t : Plan) (x : ℕ) → t ≡ plans.Var x → Whole t
-whole_Var t x e = whole_node t (node.Var x) (ap view e ∙ view_Var x) refl refl
+whole_Var t x e = whole_node t (node.Var x) (ap view e ∙ view_Var x) refl refl (λ R env. refl)
 
 whole_Rec : (t : Plan) (fs : List (Name × Plan)) → t ≡ plans.Rec fs → Whole t
-whole_Rec t fs e = whole_node t (node.Rec (fields_view fs)) (ap view e ∙ view_Rec fs) refl refl
+whole_Rec t fs e = whole_node t (node.Rec (fields_view fs)) (ap view e ∙ view_Rec fs) refl refl (λ R env. refl)
 
 whole_Proj : (t : Plan) (l : Name) (a : Plan) → t ≡ plans.Proj l a → Whole t
-whole_Proj t l a e = whole_node t (node.Proj l (view a)) (ap view e ∙ view_Proj l a) refl refl
+whole_Proj t l a e = whole_node t (node.Proj l (view a)) (ap view e ∙ view_Proj l a) refl refl (λ R env. refl)
 
 whole_Inj : (t : Plan) (l : Name) (a : Plan) → t ≡ plans.Inj l a → Whole t
-whole_Inj t l a e = whole_node t (node.Inj l (view a)) (ap view e ∙ view_Inj l a) refl refl
+whole_Inj t l a e = whole_node t (node.Inj l (view a)) (ap view e ∙ view_Inj l a) refl refl (λ R env. refl)
 
 whole_Prim : (t : Plan) (c : ℕ) (ps : List Plan) → t ≡ plans.Prim c ps → Whole t
-whole_Prim t c ps e = whole_node t (node.Prim c (nodes_view ps)) (ap view e ∙ view_Prim c ps) refl refl
+whole_Prim t c ps e = whole_node t (node.Prim c (nodes_view ps)) (ap view e ∙ view_Prim c ps) refl refl (λ R env. refl)
 
 pub plain_whole_form : (p : Plan) → ((t : Term) × (p ≡ plans.Plain t)) ⊎ (((x : ℕ) × (p ≡ plans.Var x)) ⊎ ((fs : List (Name × Plan)) × (p ≡ plans.Rec fs))) → Whole p
 plain_whole_form p = ⊎_elim (λ h. whole_Plain p h.0 h.1) (⊎_elim (λ h. whole_Var p h.0 h.1) (λ h. whole_Rec p h.0 h.1))
 
 pub part_whole_form : (p : Plan) → ((l : Name) × (a : Plan) × (p ≡ plans.Proj l a)) ⊎ (((l : Name) × (a : Plan) × (p ≡ plans.Inj l a)) ⊎ ((c : ℕ) × (ps : List Plan) × (p ≡ plans.Prim c ps))) → Whole p
 part_whole_form p = ⊎_elim (λ h. whole_Proj p h.0 h.1 h.2) (⊎_elim (λ h. whole_Inj p h.0 h.1 h.2) (λ h. whole_Prim p h.0 h.1 h.2))
-
-pub union_spare : (t a b : Plan) → t ≡ plans.Union a b → spare (view t) ≡ 5
-union_spare t a b e = ap spare (ap view e ∙ view_Union a b)
 
 -- plans that are drained where they are evaluated
 pub make_spare : (t : Plan) (k : Kind) (ps : List Plan) → t ≡ plans.Make k ps → spare (view t) ≡ 9

@@ -21,7 +21,6 @@ use Rattle.kl_core.specs.Trees.{Tree}
 use Rattle.kl_core.specs.Typing.{SourceTypes}
 use Rattle.kl_core.proofs.Safety.{safe, get_typed}
 use Rattle.kl_ask.specs.World.{World}
-use Rattle.kl_eval.specs.World.{StoppedBy}
 use Rattle.kl_eval.specs.Evals.{TellsPart, TellsPlain, SensePlain}
 use Rattle.kl_eval.specs.Steps.{AnswersOutcome, AddsItems, Behind, Gathers, place_of, Finishes, Joins}
 use Rattle.kl_eval.specs.declared.stop.EvalStop.{EvalStop}
@@ -36,20 +35,19 @@ use Rattle.kl_ship.specs.Nodes as node
 use Rattle.kl_ship.specs.Nodes.{Node, Branches, no_branches, rest, branch, branches_of, view, view_branch}
 use Rattle.kl_ship.specs.Reached.{once, chosen_of, opened_of, reached, reached_branch}
 use Rattle.kl_ship.specs.Typing.{HasBranch, BranchTypes}
-use Rattle.kl_ship.specs.Kinds.{kind_of_items}
 use Rattle.kl_ship.proofs.Comings.{ComesAs, union_shows}
-use Rattle.kl_ship.proofs.KindLaws.{kinds_typed}
 use Rattle.kl_scans.specs.Held.{nothing}
 use Rattle.kl_scans.specs.Moves.{Moves}
 use Rattle.kl_scans.specs.Stage.{stage, ScanOf}
-use Rattle.kl_scans.proofs.Moving.{moves_none, moves_then, stopped_then}
+use Rattle.kl_scans.proofs.Moving.{moves_none, moves_then}
 use Rattle.kl_cursor.specs.Left.{reading}
 use Rattle.kl_cursor.specs.Sense.{TypesAt, IsToldAt, HasWorth}
-use Rattle.kl_cursor.specs.Steps.{IsDone, ComesTo, Wholly, Partly}
+use Rattle.kl_cursor.specs.Steps.{IsValue, ComesTo, IsUndriven, IsUndrivenPart, StoppedAt, Wholly, Partly}
 use Rattle.kl_cursor.proofs.Events.{of_then}
 use Rattle.kl_cursor.proofs.Forms.{told_on}
 use Rattle.kl_cursor.proofs.ValueDrain.{flow_more}
 use Rattle.kl_cursor.proofs.Comings.{answers, leaf, fails_as, fails_then, Heads, Makes, Leads, Binds, at_stage, worth_back, cost_back, told_comes, both_paid}
+use Rattle.kl_cursor.proofs.Refusals.{halts_at, refused_then}
 
 -- ---- parts that stand first
 
@@ -83,7 +81,7 @@ heads_proj env l a w = record {
 
 pub heads_inj : (env : List Value) (l : Name) (a : Node) (w : World) → Heads env (node.Inj l a) a w
 heads_inj env l a w = record {
-  typing = λ G s e h. (h.1, h.4);
+  typing = λ G s e h. (h.1, h.5);
   stops = λ vs f. ap (λ o. one (tagged l o)) f;
   scans = λ all i. i;
 }
@@ -100,7 +98,7 @@ makes_proj env l a v u w f = record {
 
 pub makes_inj : (env : List Value) (l : Name) (a : Node) (v : Value) (w : World) → Makes env (node.Inj l a) a v (value.Inj l v) w
 makes_inj env l a v w = record {
-  typing = λ G s e h. (h.1, h.4, λ i. subst (λ q. Inhabits q (value.Inj l v)) (sym h.2) (tagged_typed l h.0 h.1 (done v) h.3 i));
+  typing = λ G s e h. (h.1, h.5, λ i. subst (λ q. Inhabits q (value.Inj l v)) (sym h.2) (tagged_typed l h.0 h.1 (done v) h.4 i));
   is = λ g. ap (tagged l) g;
   costs = λ price. refl;
   scans = λ all i. i;
@@ -276,29 +274,29 @@ plain_typed env t o w G s e h k = subst (OfType s) e (safe no_types no_tables (�
 pub plain_comes : (env : List Value) (t : Tree) (o : Outcome) (w x : World) → x ≡ w → core no_tables t env ≡ o → ComesTo env (node.Plain t) o w x
 plain_comes env t o w x e f = leaf env (node.Plain t) w x o e (λ G s h k. f) (λ price. refl) (λ G s h k. plain_typed env t o w G s f h k)
 
-pub plain_whole : (env : List Value) (t : Tree) (r : Result Value Halt) (w x : World) → x ≡ w → TellsPlain w t env r → Wholly env (node.Plain t) r w x
-plain_whole env t (Ok v) w x e h = plain_comes env t (done v) w x e h
-plain_whole env t (Err (halt.Over vs)) w x e h = plain_comes env t (over vs.items) w x e h
-plain_whole env t (Err (halt.Driver l f)) w x e h = subst (λ z. Wholly env (node.Plain t) (Err (halt.Driver l f)) w z) (sym e) (record { moves = moves_none nothing w; known = λ all i. tt; reason = h })
-plain_whole env t (Err halt.NoMemory) w x e h = subst (λ z. Wholly env (node.Plain t) (Err halt.NoMemory) w z) (sym e) (record { moves = moves_none nothing w; known = λ all i. tt; reason = tt })
+pub plain_whole : (env : List Value) (t : Tree) (r : Result Value Halt) (w x : World) → x ≡ w → TellsPlain w t env r → IsUndriven r → Wholly env (node.Plain t) r w x
+plain_whole env t (Ok v) w x e h i = plain_comes env t (done v) w x e h
+plain_whole env t (Err (halt.Over vs)) w x e h i = plain_comes env t (over vs.items) w x e h
+plain_whole env t (Err (halt.Driver l f)) w x e h i = absurd i
+plain_whole env t (Err halt.NoMemory) w x e h i = subst (λ z. Wholly env (node.Plain t) (Err halt.NoMemory) w z) (sym e) (record { moves = moves_none nothing w; known = λ all i. tt; reason = tt })
 
-pub plain_part : (env : List Value) (t : Tree) (r : Result Value EvalStop) (w x : World) → x ≡ w → TellsPart w t env r → Partly env (node.Plain t) r w x
-plain_part env t (Ok v) w x e h = plain_comes env t (done v) w x e h
-plain_part env t (Err why.Overflow) w x e h = (h.0, plain_comes env t (over h.0) w x e h.1)
-plain_part env t (Err (why.Driver l f)) w x e h = subst (λ z. Partly env (node.Plain t) (Err (why.Driver l f)) w z) (sym e) (record { moves = moves_none nothing w; known = λ all i. tt; reason = h })
-plain_part env t (Err why.NoMemory) w x e h = subst (λ z. Partly env (node.Plain t) (Err why.NoMemory) w z) (sym e) (record { moves = moves_none nothing w; known = λ all i. tt; reason = tt })
+pub plain_part : (env : List Value) (t : Tree) (r : Result Value EvalStop) (w x : World) → x ≡ w → TellsPart w t env r → IsUndrivenPart r → Partly env (node.Plain t) r w x
+plain_part env t (Ok v) w x e h i = plain_comes env t (done v) w x e h
+plain_part env t (Err why.Overflow) w x e h i = (h.0, plain_comes env t (over h.0) w x e h.1)
+plain_part env t (Err (why.Driver l f)) w x e h i = absurd i
+plain_part env t (Err why.NoMemory) w x e h i = subst (λ z. Partly env (node.Plain t) (Err why.NoMemory) w z) (sym e) (record { moves = moves_none nothing w; known = λ all i. tt; reason = tt })
 
 pub plain_sense : (env : List Value) (t : Tree) (w : World) → HasWorth w (node.Plain t) env → SensePlain t env w
 plain_sense env t w h = (h.3.0, (h.0, h.1, h.2, h.3.1), h.4)
 
 pub var_comes : (env : List Value) (x : ℕ) (v : Value) (w : World) → slice_get env x ≡ Some v → ComesTo env (node.Var x) (done v) w w
-var_comes env x v w e = leaf env (node.Var x) w w (done v) refl (λ G s h t. ap outcome_of e) (λ price. refl) (λ G s h t. subst (OfType s) (ap outcome_of e) (get_typed G env x s h t))
+var_comes env x v w e = leaf env (node.Var x) w w (done v) refl (λ G s h t. ap outcome_of e) (λ price. refl) (λ G s h t. subst (OfType s) (ap outcome_of e) (get_typed G env x s h t.0))
 
 pub var_whole : (env : List Value) (x : ℕ) (v : Value) (r : Result Value Halt) (w : World) → slice_get env x ≡ Some v → AnswersOutcome (done v) r → Wholly env (node.Var x) r w w
 var_whole env x v r w e k = answers env (node.Var x) w w (done v) r (var_comes env x v w e) k
 
 pub var_there : (env : List Value) (x : ℕ) (w : World) → HasWorth w (node.Var x) env → IsSome (slice_get env x)
-var_there env x w h = field_some h.1 (slice_get env x) (get_typed h.0 env x h.1 h.2 h.3)
+var_there env x w h = field_some h.1 (slice_get env x) (get_typed h.0 env x h.1 h.2 h.3.0)
 
 -- ---- two collections as one
 
@@ -308,9 +306,7 @@ union_worth : (w : World) (a b : Node) (G : List Ground) (env : List Value) (s :
 union_worth w a b G env s e t told =
     let c : ComesAs (coll t.0 t.1) (plan (reading w) a env) = subst (λ z. ComesAs z (plan (reading w) a env)) t.2 (told_comes w a G env s e t.3 told) in
     let d : ComesAs (coll t.0 t.1) (plan (reading w) b env) = subst (λ z. ComesAs z (plan (reading w) b env)) t.2 (told_comes w b G env s e t.4 told) in
-    let h : TypesAt w G (node.Union a b) (coll t.0 t.1) = subst (TypesAt w G (node.Union a b)) t.2 t in
-    (union_shows t.0 t.1 (kind_of_items (node.Union a b)) (worth (plan (reading w) a env)) (worth (plan (reading w) b env)) (plan (reading w) a env) (plan (reading w) b env)
-    (λ j is. kinds_typed (ScanOf (stage w)) (node.Union a b) G t.0 t.1 j h is) (refl, c) (refl, d)).0
+    (union_shows t.0 t.1 (worth (plan (reading w) a env)) (worth (plan (reading w) b env)) (plan (reading w) a env) (plan (reading w) b env) (refl, c) (refl, d)).0
 
 module _ (env : List Value) (a b : Node) where
   pub union_first_sense : (w : World) → HasWorth w (node.Union a b) env → HasWorth w a env
@@ -331,7 +327,7 @@ module _ (env : List Value) (a b : Node) where
       let c = items_inhabit t.0 t.1 v (subst (λ q. OfType q (done v)) t.2 (k.typed h.0 h.1 h.2 (at_stage w x h.0 b h.1 m t.4))) in
       rw c.1 refl
 
-  both_come : (v : Value) (q o : Outcome) (w x y : World) → ComesTo env a (done v) w x → ComesTo env b q x y → union_of (done v) q ≡ o → (IsDone o → IsDone q) → ComesTo env (node.Union a b) o w y
+  both_come : (v : Value) (q o : Outcome) (w x y : World) → ComesTo env a (done v) w x → ComesTo env b q x y → union_of (done v) q ≡ o → (IsValue o → IsValue q) → ComesTo env (node.Union a b) o w y
   both_come v q o w x y h k is well_too = record {
     moves = moves_then nothing nothing nothing w x y h.moves k.moves;
     known = λ all i. of_then all h.moves.events k.moves.events (h.known all i.0) (k.known all i.1);
@@ -378,7 +374,8 @@ module _ (env : List Value) (a b : Node) where
   joins_stop v k vs (halt.Over ws) (halt.Driver l f) r w x y ev e h g m = absurd e
   joins_stop v k vs (halt.Driver l f) q r w x y ev e h g m =
       subst (λ z. Wholly env (node.Union a b) z w y) (sym (subst (λ z. Gathers k (Err z) r) e m))
-      (fails_then (λ all. ScansIn all (node.Union a b)) (λ all. ScansIn all a) (λ all. ScansIn all b) (StoppedBy l f x y) (StoppedBy l f w y) w x y h.moves h.known g (λ all i. i) (stopped_then l f nothing nothing w x y h.moves))
+      (fails_then (λ all. ScansIn all (node.Union a b)) (λ all. ScansIn all a) (λ all. ScansIn all b) (StoppedAt (λ all. ScansIn all b) l f x y) (StoppedAt (λ all. ScansIn all (node.Union a b)) l f w y) w x y h.moves h.known g (λ all i. i)
+      (refused_then (λ all. ScansIn all (node.Union a b)) (λ all. ScansIn all b) l f nothing nothing w x y (λ all i. i.1) h.moves))
   joins_stop v k vs halt.NoMemory (halt.Over us) r w x y ev e h g m = absurd e
   joins_stop v k vs halt.NoMemory (halt.Driver l f) r w x y ev e h g m = absurd e
   joins_stop v k vs halt.NoMemory halt.NoMemory r w x y ev e h g m =
@@ -397,5 +394,5 @@ module _ (env : List Value) (a b : Node) where
     counts = λ G s e t told well price. absurd well;
     typed = λ G s e t. h.typed G s e t.3;
   }
-  union_first (halt.Driver l e) w x h = fails_as (λ all. ScansIn all (node.Union a b)) (λ all. ScansIn all a) (StoppedBy l e w x) w x (λ all i. i.0) h
+  union_first (halt.Driver l e) w x h = halts_at nothing (λ all. ScansIn all (node.Union a b)) (λ all. ScansIn all a) l e w x (λ all i. i.0) h
   union_first halt.NoMemory w x h = fails_as (λ all. ScansIn all (node.Union a b)) (λ all. ScansIn all a) ⊤ w x (λ all i. i.0) h

@@ -20,7 +20,6 @@ use Rattle.kl_outcome.specs.Typed.{Inhabits, HaveTypes, OfType, RowTypes, PrimTy
 use Rattle.kl_outcome.proofs.OutcomeTypes.{PartsOf, recorded_typed, over_nil}
 use Rattle.kl_outcome.proofs.PrimLemmas.{prim_fits, prim_typed, all_canonical, one_or_two}
 use Rattle.kl_ask.specs.World.{World}
-use Rattle.kl_eval.specs.World.{StoppedBy}
 use Rattle.kl_eval.specs.Steps.{AddsField, AnswersPrim, Outside}
 use Rattle.kl_eval.specs.declared.stop.EvalStop.{EvalStop}
 use Rattle.kl_eval.specs.declared.stop.EvalStop.TheVariants as why
@@ -39,15 +38,16 @@ use Rattle.kl_scans.specs.Held.{nothing}
 use Rattle.kl_scans.specs.Log.{paid}
 use Rattle.kl_scans.specs.Moves.{Moves}
 use Rattle.kl_scans.specs.Stage.{stage, ScanOf}
-use Rattle.kl_scans.proofs.Moving.{moves_none, moves_then, stage_stays, ready_stays, stopped_then, paid_then}
+use Rattle.kl_scans.proofs.Moving.{moves_none, moves_then, stage_stays, ready_stays, paid_then}
 use Rattle.kl_cursor.specs.Gathering.{Gathered, IsTally, TellsItems}
 use Rattle.kl_cursor.specs.Left.{fresh, reading}
 use Rattle.kl_cursor.specs.Sense.{IsToldAt, HasWorth, HasFields, HasCall, Stands}
-use Rattle.kl_cursor.specs.Steps.{AreOf, ComesTo, Fails, Wholly, Partly, Tallies, FieldsHave, FieldsGive, CallTypes, CallComes, CallGives}
+use Rattle.kl_cursor.specs.Steps.{AreOf, ComesTo, Fails, StoppedAt, Wholly, Partly, Tallies, FieldsHave, FieldsGive, CallTypes, CallComes, CallGives}
 use Rattle.kl_cursor.proofs.Events.{of_then}
 use Rattle.kl_cursor.proofs.Forms.{told_on}
 use Rattle.kl_cursor.proofs.Tallied.{tells_kind, worth_stands, tallied}
 use Rattle.kl_cursor.proofs.Comings.{fails_then, at_stage, worth_back, cost_back}
+use Rattle.kl_cursor.proofs.Refusals.{refused_then}
 
 -- ---- the fields of a record
 
@@ -158,7 +158,8 @@ module _ (ps : List (Name × Plan)) (i : ℕ) (p : Name × Plan) (whole : Fields
         counts = λ G r t y told well price. absurd well;
         typed = λ G r t y. tt;
       }
-  fields_stops (why.Driver l e) c h = field_fails (StoppedBy l e b c) (StoppedBy l e a c) c h (stopped_then l e nothing nothing a b c (at_field).moves)
+  fields_stops (why.Driver l e) c h = field_fails (StoppedAt (λ all. ScansIn all (view p.1)) l e b c) (StoppedAt (λ all. ScansInFields all whole) l e a c) c h
+      (refused_then (λ all. ScansInFields all whole) (λ all. ScansIn all (view p.1)) l e nothing nothing a b c (λ all i. ((at_field).known all i).1.0) (at_field).moves)
   fields_stops why.NoMemory c h = field_fails ⊤ ⊤ c h (λ i. i)
 
 pub fields_ends : (ps : List (Name × Plan)) (i : ℕ) (whole : Fields) (env : List Value) (fs : Vec (Name × Value) Global) (a b : World) → length ps ≤ i → OnFields whole (fields_view (drop i ps)) env fs.items a b → FieldsGive env whole (Ok fs) a b
@@ -284,7 +285,8 @@ call_fails : (env : List Value) (c : ℕ) (ps : Nodes) (e : EvalStop) (w x y : W
     → ((vs : List Value) → ComesTo env p (over vs) x y → CallComes env c ps (over []) w y) → CallGives env c ps (Err e) w y
 call_fails env c ps why.Overflow w x y Has Hold m known p h scans f = f h.0 h.1
 call_fails env c ps (why.Driver l e) w x y Has Hold m known p h scans f =
-    fails_then (λ all. ScansInNodes all ps) Has (λ all. ScansIn all p) (StoppedBy l e x y) (StoppedBy l e w y) w x y m known h scans (stopped_then l e nothing nothing w x y m)
+    fails_then (λ all. ScansInNodes all ps) Has (λ all. ScansIn all p) (StoppedAt (λ all. ScansIn all p) l e x y) (StoppedAt (λ all. ScansInNodes all ps) l e w y) w x y m known h scans
+    (refused_then (λ all. ScansInNodes all ps) (λ all. ScansIn all p) l e nothing nothing w x y (λ all i. (scans all i).1) m)
 call_fails env c ps why.NoMemory w x y Has Hold m known p h scans f = fails_then (λ all. ScansInNodes all ps) Has (λ all. ScansIn all p) ⊤ ⊤ w x y m known h scans (λ i. i)
 
 -- the plans of the arguments, by their places

@@ -11,6 +11,7 @@ use Rattle.kl_eval.specs.declared.stop.EvalStop.TheVariants as why
 use Rattle.kl_eval.specs.declared.stop.Halt.{Halt}
 use Rattle.kl_ship.specs.declared.plan.Plan.{Plan}
 use Rattle.kl_ship.specs.declared.plan.Plan.TheVariants as plans
+use Rattle.kl_ship.specs.Holding.{ScansIn}
 use Rattle.kl_ship.specs.Meaning.{plan_items}
 use Rattle.kl_ship.specs.Nodes as node
 use Rattle.kl_ship.specs.Nodes.{Node, Nodes, no_nodes, nodes, rest, branches_of, view, view_branch, nodes_view, fields_view}
@@ -22,7 +23,7 @@ use Rattle.kl_scans.specs.Stage.{ScanOf, readings}
 use Rattle.kl_scans.proofs.Moving.{moves_none, stage_stays}
 use Rattle.kl_cursor.specs.declared.state.State.{State}
 use Rattle.kl_cursor.specs.declared.state.State.TheVariants as state
-use Rattle.kl_cursor.specs.Left.{Snap, fresh, bound, made, snap, reading, nodes_from}
+use Rattle.kl_cursor.specs.Left.{Snap, fresh, bound, made, snap, reading, nodes_from, ScansLeft}
 use Rattle.kl_cursor.specs.Measure.{tall, tall_nodes, tall_fields, falling}
 use Rattle.kl_cursor.specs.Steps.{Onward, Gives, Ends, Stops, ComesTo, Wholly, Partly}
 use Rattle.kl_cursor.proofs.Likes.{same_itself, same_at}
@@ -32,6 +33,7 @@ use Rattle.kl_cursor.proofs.ValueForms.{heads_let, heads_if, heads_case, binds_l
 use Rattle.kl_cursor.proofs.ValueCode.{at_Let, at_If, at_Case, cond_view, tested_value, tested_stop}
 use Rattle.kl_cursor.proofs.ValueFalls.{let_second_low, picked_low, branch_low, rest_low}
 use Rattle.kl_cursor.proofs.Whole.{spare, leads_fresh, binds_bound, head_stops, part_lost, if_keeps, if_less, if_low, rest_keeps, branch_tall, branch_size, rest_tall, rest_size}
+use Rattle.kl_cursor.proofs.Refusals.{halts_at}
 
 -- ---- measures
 
@@ -130,7 +132,7 @@ made_stops env p ps why.Overflow a b k =
       known = λ all i. h.known all i.0;
       reason = λ G j u e f told. same_at j (plan_items (reading a) (nodes p ps) env) (stop overflow) (ap (λ o. item_then o (plan_items (reading a) ps env)) (h.comes G u e f.0 told));
     }
-made_stops env p ps (why.Driver l x) a b k = record { moves = k.moves; known = λ all i. k.known all i.0; reason = k.reason }
+made_stops env p ps (why.Driver l x) a b k = halts_at nothing (λ all. ScansLeft all (made (nodes p ps))) (λ all. ScansIn all p) l x a b (λ all i. i.0) k
 made_stops env p ps why.NoMemory a b k = record { moves = k.moves; known = λ all i. k.known all i.0; reason = tt }
 
 pub made_ends : (env : List Value) (a : World) → Ends env (made no_nodes) a a

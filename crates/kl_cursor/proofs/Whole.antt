@@ -21,8 +21,8 @@ use Rattle.kl_ship.specs.Alike.{harm, weight}
 use Rattle.kl_ship.specs.declared.plan.Scan.{Scan}
 use Rattle.kl_ship.specs.declared.plan.Plan.{Plan}
 use Rattle.kl_ship.specs.Holding.{ScansIn}
-use Rattle.kl_ship.specs.Kinds.{kind_of_items}
-use Rattle.kl_ship.specs.Meaning.{coming, drawn_for, plan}
+use Rattle.kl_ship.specs.Meaning.{Readings, coming, drawn_for, plan, worth}
+use Rattle.kl_ship.proofs.Comings.{same_kind}
 use Rattle.kl_ship.specs.Nodes as node
 use Rattle.kl_ship.specs.Nodes.{Node, Branches, rest, branches_of, view, view_branch}
 use Rattle.kl_ship.specs.Reached.{reached}
@@ -32,16 +32,17 @@ use Rattle.kl_scans.specs.Moves.{Moves}
 use Rattle.kl_scans.specs.Stage.{stage, ScanOf, readings}
 use Rattle.kl_scans.proofs.Moving.{stage_stays}
 use Rattle.kl_cursor.specs.declared.state.State.{State}
-use Rattle.kl_cursor.specs.Drawing.{draws}
-use Rattle.kl_cursor.specs.Left.{Snap, fresh, have, bound, outside, snap, reading}
+use Rattle.kl_cursor.specs.Likeness.{Same}
+use Rattle.kl_cursor.specs.Left.{Snap, fresh, have, bound, outside, snap, reading, ScansLeft}
 use Rattle.kl_cursor.specs.Measure.{tall, tall_branches, count_nodes, size, size_branches, falling}
 use Rattle.kl_cursor.specs.Sense.{TypesAt, IsToldAt, HasItems, HasWorth}
-use Rattle.kl_cursor.specs.Steps.{Onward, Stops, Begins, Empties, ComesTo, IsDone, Wholly, Partly, Halted}
-use Rattle.kl_cursor.proofs.Drawn.{drawn_as_kept, comes_whole}
-use Rattle.kl_cursor.proofs.Likes.{same_at, well_source}
+use Rattle.kl_cursor.specs.Steps.{Onward, Stops, Begins, Empties, ComesTo, IsValue, Wholly, Partly, Halted}
+use Rattle.kl_cursor.proofs.Drawn.{DrawsWhole}
+use Rattle.kl_cursor.proofs.Likes.{same_at, same_drawn, same_harm, same_on, same_weight, well_source}
 use Rattle.kl_cursor.proofs.Comings.{at_stage, cost_back, Heads, Leads, Binds}
 use Rattle.kl_cursor.proofs.ValueDrain.{Draining}
 use Rattle.kl_cursor.proofs.ValueForms.{branch_at, branch_none, carried_in, rest_there}
+use Rattle.kl_cursor.proofs.Refusals.{halts_at}
 
 -- what `whole` takes above the height of a plan: more where it drains the plan
 abbrev pub spare : Node → ℕ
@@ -104,7 +105,7 @@ head_stops env p a why.Overflow w x l k =
       known = λ all i. h.known all (l.scans all i);
       reason = λ G j u e t told. let d = l.typing G (coll j u) e t in same_at j (coming (plan (reading w) p env)) (stop overflow) (ap coming (l.stops k.0 (h.comes G d.0 e d.1 told)));
     }
-head_stops env p a (why.Driver n f) w x l k = record { moves = k.moves; known = λ all i. k.known all (l.scans all i); reason = k.reason }
+head_stops env p a (why.Driver n f) w x l k = halts_at nothing (λ all. ScansLeft all (fresh p)) (λ all. ScansIn all a) n f w x l.scans k
 head_stops env p a why.NoMemory w x l k = record { moves = k.moves; known = λ all i. k.known all (l.scans all i); reason = tt }
 
 -- ---- a number that no value passes
@@ -155,7 +156,7 @@ pub record Shown (env : List Value) (p : Node) (vs : List Value) (end : End) (a 
   pub out : Outcome
   pub comes : ComesTo env p out a b
   pub items : items_of out ≡ flow vs end
-  pub well : harm (flow vs end) ≡ 0 → IsDone out
+  pub well : harm (flow vs end) ≡ 0 → IsValue out
 
 pub record Made (env : List Value) (p : Node) (s : Snap) (a b : World) : Type 0 where
   pub vs : List Value
@@ -187,13 +188,17 @@ all_of u (v ∷ vs) e h = (h.0, all_of u vs e h.1)
 nothing_more : (e r : ℕ) → e ≡ r → e + 0 ≡ r
 nothing_more e r x = omega arith
 
+-- a plan that comes as one value, not item by item
+abbrev pub ComesOne : Node → Type 0
+ComesOne p = (R : Readings) (env : List Value) → coming (plan R p env) ≡ items_of (worth (plan R p env))
+
 module _ (env : List Value) (p : Node) (vs : List Value) (end : End) (a b : World) (m : Shown env p vs end a b) where
   shown_typed : (G : List Ground) (k : Kind) (u : Ground) → HaveTypes G env → TypesAt a G p (coll k u) → AllByRecursion (Inhabits u) vs
   shown_typed G k u e f = all_of u vs end (subst (FlowOf u) m.items (items_typed k u m.out (m.comes.typed G (coll k u) e f)))
 
   -- its items are those that come
-  pub shown_empties : kind_of_items p ≡ None → Empties env (fresh p) vs end a b
-  shown_empties none = record {
+  pub shown_empties : ComesOne p → Empties env (fresh p) vs end a b
+  shown_empties one_value = record {
     moves = m.comes.moves;
     known = m.comes.known;
     gave = λ G k u e f told. same_at k (coming (plan (reading a) p env)) (flow vs end) (flows G k u e f told);
@@ -203,9 +208,9 @@ module _ (env : List Value) (p : Node) (vs : List Value) (end : End) (a b : Worl
   }
     where
       flows : (G : List Ground) (k : Kind) (u : Ground) → HaveTypes G env → TypesAt a G p (coll k u) → IsToldAt a → coming (plan (reading a) p env) ≡ flow vs end
-      flows G k u e f told = comes_whole (ScanOf (stage a)) (reading a) p G env (coll k u) f none ∙ ap items_of (m.comes.comes G (coll k u) e f told) ∙ m.items
+      flows G k u e f told = one_value (reading a) env ∙ ap items_of (m.comes.comes G (coll k u) e f told) ∙ m.items
 
-made_onward : (env : List Value) (p : Node) (s : Snap) (a b : World) → kind_of_items p ≡ None → Made env p s a b → Onward env (fresh p) a s b
+made_onward : (env : List Value) (p : Node) (s : Snap) (a b : World) → ComesOne p → Made env p s a b → Onward env (fresh p) a s b
 made_onward env p s a b none m =
     let h = shown_empties env p m.vs m.end a b m.shown none in
     subst (λ z. Onward env (fresh p) a z b) (sym m.is) (record {
@@ -224,12 +229,12 @@ whole_stops env p q (Ok v) x a b f h g = absurd g
 whole_stops env p q (Err (halt.Over vs)) x a b f h g = absurd g
 whole_stops env p q (Err (halt.Driver l e)) x a b f h g =
     let is : x ≡ why.Driver l e = cc in
-    subst (λ z. Stops env (fresh p) z a b) (sym is) (record { moves = h.moves; known = λ all i. h.known all (f all i); reason = h.reason })
+    subst (λ z. Stops env (fresh p) z a b) (sym is) (halts_at nothing (λ all. ScansLeft all (fresh p)) (λ all. ScansIn all q) l e a b f h)
 whole_stops env p q (Err halt.NoMemory) x a b f h g =
     let is : x ≡ why.NoMemory = cc in
     subst (λ z. Stops env (fresh p) z a b) (sym is) (record { moves = h.moves; known = λ all i. h.known all (f all i); reason = tt })
 
-pub whole_begins : (env : List Value) (p : Node) (r : Result Value Halt) (z : Result State EvalStop) (a b : World) → kind_of_items p ≡ None → Wholly env p r a b → Halted r z → Begins env (fresh p) z a b
+pub whole_begins : (env : List Value) (p : Node) (r : Result Value Halt) (z : Result State EvalStop) (a b : World) → ComesOne p → Wholly env p r a b → Halted r z → Begins env (fresh p) z a b
 whole_begins env p r (Ok t) a b none h g =
     let m = whole_made env p r t a b h g in
     (made_onward env p (snap t) a b none m, (let f : falling (snap t) ≡ falling (have m.vs m.end) = ap falling m.is in omega arith))
@@ -255,29 +260,40 @@ max_right n m t x = omega arith
 weighs : (e r y z : ℕ) → e ≡ r → y ≡ z → e + (0 + y) ≡ r + z
 weighs e r y z x w = omega arith
 
-module _ (env : List Value) (k : Kind) (p q : Node) (vs : List Value) (end : End) (a b : World) (whole : draws k q ≡ false) (m : Shown env q vs end a b) where
-  source_is : (G : List Ground) (j : Kind) (t : Ground) → HaveTypes G env → TypesAt a G q (coll j t) → IsToldAt a → drawn_for k (plan (reading a) q env) ≡ flow vs end
-  source_is G j t e f told = drawn_as_kept (ScanOf (stage a)) (reading a) q G env (coll j t) k f whole ∙ ap items_of (m.comes.comes G (coll j t) e f told) ∙ m.items
+module _ (env : List Value) (k : Kind) (p q : Node) (vs : List Value) (end : End) (a b : World) (whole : DrawsWhole env k q a) (m : Shown env q vs end a b) where
+  source_is : (G : List Ground) (j : Kind) (t : Ground) → HaveTypes G env → TypesAt a G q (coll j t) → IsToldAt a → items_of (worth (plan (reading a) q env)) ≡ flow vs end
+  source_is G j t e f told = ap items_of (m.comes.comes G (coll j t) e f told) ∙ m.items
 
   -- the source of a loop is drained
   pub shown_loop : Draining env (fresh (node.Ext k p q)) a [] (outside p (have vs end)) b
   shown_loop = record {
     moves = m.comes.moves;
     known = λ all i. (m.comes.known all i.1, (i.0, tt));
-    same = λ G d u e f told. same_at d (coming (plan (reading a) (node.Ext k p q) env)) (drawn (flow vs end) (λ v. coming (plan (reading b) p (v ∷ env))))
-        (ap (λ g. drawn g (λ v. coming (plan (reading a) p (v ∷ env)))) (source_is G f.1 f.2 e f.4 told)
-        ∙ ap (λ H. drawn (flow vs end) (λ v. coming (plan (readings H) p (v ∷ env)))) (sym (stage_stays nothing nothing a b m.comes.moves)));
+    same = λ G d u e f told.
+        let R = reading a in
+        let src = source_is G f.1 f.2 e f.4 told in
+        let drawn_so : Same d (drawn_for k (plan R q env)) (items_of (worth (plan R q env))) =
+        subst (λ z. Same z (drawn_for k (plan R q env)) (items_of (worth (plan R q env)))) (sym (same_kind d k u f.0 f.3)) (whole G f.1 f.2 e f.4 told) in
+        same_on d (coming (plan R (node.Ext k p q) env)) (drawn (items_of (worth (plan R q env))) (λ v. coming (plan R p (v ∷ env)))) (drawn (flow vs end) (λ v. coming (plan (reading b) p (v ∷ env))))
+        (same_drawn d (drawn_for k (plan R q env)) (items_of (worth (plan R q env))) (λ v. coming (plan R p (v ∷ env))) drawn_so)
+        (same_at d (drawn (items_of (worth (plan R q env))) (λ v. coming (plan R p (v ∷ env)))) (drawn (flow vs end) (λ v. coming (plan (reading b) p (v ∷ env))))
+        (ap (λ g. drawn g (λ v. coming (plan R p (v ∷ env)))) src
+        ∙ ap (λ H. drawn (flow vs end) (λ v. coming (plan (readings H) p (v ∷ env)))) (sym (stage_stays nothing nothing a b m.comes.moves))));
     counts = λ G d u e f told z price.
         let src = source_is G f.1 f.2 e f.4 told in
+        let drawn_so = whole G f.1 f.2 e f.4 told in
         let fine_source : harm (drawn_for k (plan (reading a) q env)) ≡ 0 = well_source (drawn_for k (plan (reading a) q env)) (λ v. coming (plan (reading a) p (v ∷ env))) z in
-        weighs _ _ _ _ (m.comes.counts G (coll f.1 f.2) e f.4 told (m.well (ap harm (sym src) ∙ fine_source)) price)
+        let fine_value : harm (flow vs end) ≡ 0 =
+        ap harm (sym src) ∙ same_harm k (drawn_for k (plan (reading a) q env)) (items_of (worth (plan (reading a) q env))) drawn_so ∙ fine_source in
+        weighs _ _ _ _ (m.comes.counts G (coll f.1 f.2) e f.4 told (m.well fine_value) price)
         (ap (λ H. weight (λ v. reached (readings H) price p (v ∷ env)) (flow vs end)) (stage_stays nothing nothing a b m.comes.moves)
-        ∙ ap (weight (λ v. reached (reading a) price p (v ∷ env))) (sym src));
+        ∙ ap (weight (λ v. reached (reading a) price p (v ∷ env))) (sym src)
+        ∙ same_weight k (drawn_for k (plan (reading a) q env)) (items_of (worth (plan (reading a) q env))) drawn_so fine_source (λ v. reached (reading a) price p (v ∷ env)));
     typed = λ G d u e f. (tt, (kind.List, f.2, fits_list d, shown_typed env q vs end a b m G f.1 f.2 e f.4, at_stage a b (f.2 ∷ G) p (coll d u) m.comes.moves f.5));
     lower = omega arith;
   }
 
-module _ (env : List Value) (k : Kind) (p q : Node) (s : Snap) (a b : World) (whole : draws k q ≡ false) (m : Made env q s a b) where
+module _ (env : List Value) (k : Kind) (p q : Node) (s : Snap) (a b : World) (whole : DrawsWhole env k q a) (m : Made env q s a b) where
   pub made_loop : Onward env (fresh (node.Ext k p q)) a (outside p s) b
   made_loop =
       let h = shown_loop env k p q m.vs m.end a b whole m.shown in

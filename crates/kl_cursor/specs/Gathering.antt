@@ -1,6 +1,6 @@
 -- What is kept of items as they come.
-use Rattle.std.specs.Prelude.{◌≡◌, ℕ, ◌+◌, ℤ, pos, ◌+ℤ◌, Bool, true, false, ◌||◌, List, [], ◌∷◌, ◌++◌, fold, Option, Some, None}
-use Rattle.std.specs.Prelude.{unwrap_or, ⊤}
+use Rattle.std.specs.Prelude.{◌≡◌, ◌⊎◌, ℕ, ◌+◌, ℤ, pos, ◌+ℤ◌, Bool, true, false, ◌||◌, List, [], ◌∷◌, ◌++◌, fold}
+use Rattle.std.specs.Prelude.{Option, Some, None, unwrap_or, ⊤}
 use Rattle.std.specs.Ordering.{is_eq}
 use Rattle.kl_value.specs.Canon.{canonical}
 use Rattle.kl_value.specs.Order.{compare}
@@ -11,9 +11,9 @@ use Rattle.kl_value.specs.declared.Value.{Value}
 use Rattle.kl_prim.specs.Meaning.{Answer, senseless, truth, amount, exact}
 use Rattle.kl_prim.specs.Table.{Fits, meaning}
 use Rattle.kl_ask.specs.World.{World}
+use Rattle.kl_ship.specs.declared.plan.Plan.{Plan}
+use Rattle.kl_ship.specs.declared.plan.Plan.TheVariants as plans
 use Rattle.kl_ship.specs.declared.plan.Scan.{Scan}
-use Rattle.kl_ship.specs.Nodes as node
-use Rattle.kl_ship.specs.Nodes.{Node}
 use Rattle.kl_scans.specs.Stage.{stage, RepeatsNone}
 use Rattle.kl_cursor.specs.declared.gathering.Gathering.{Gathering}
 use Rattle.kl_cursor.specs.declared.gathering.Gathering.TheVariants as gathering
@@ -70,7 +70,7 @@ answer_in (counted n) = amount n
 answer_in (summed z) = exact z
 answer_in (sought v b) = truth b
 
--- ---- which primitives ask no more of a collection
+-- ---- which primitives ask no more of a collection: 13 is `isempty`, 14 `count`, 15 `sum` and 16 `member`
 
 abbrev pub is_set : Kind → Bool
 is_set kind.Set = true
@@ -86,6 +86,14 @@ abbrev pub TellsItems : ℕ → List Value → Option Kind → Gathered → Type
 TellsItems code before (Some k) g = Tells code before k g
 TellsItems code before None g = ⊥
 
+-- whether there is an item is asked of any collection, and how many there are or their total of one that loses no repeats
+abbrev pub IsTallied : ℕ → Kind → Type 0
+IsTallied code k = (code ≡ 13) ⊎ (((code ≡ 14) ⊎ (code ≡ 15)) × (is_set k ≡ false))
+
+abbrev pub AreTallied : ℕ → Option Kind → Type 0
+AreTallied code (Some k) = IsTallied code k
+AreTallied code None = ⊥
+
 -- a primitive that counts the rows of a scan that repeats none
-abbrev pub CountsRows : World → ℕ → Node → Type 0
-CountsRows w code p = (code ≡ 14) × (c : Scan) × (p ≡ node.Scan c) × RepeatsNone (stage w) c
+abbrev pub CountsRows : World → ℕ → Plan → Type 0
+CountsRows w code p = (code ≡ 14) × (c : Scan) × (p ≡ plans.Scan c) × RepeatsNone (stage w) c

@@ -69,20 +69,20 @@ pub record IsFront (R : Readings) (env : List Value) (b : Node) (all : List Valu
 
 -- a loop that makes a list of a scan, where so many rows were used, and so many of the items of their bodies drawn
 module _ (R : Readings) (w : World) (env : List Value) (b : Node) (c : Scan) (all : List Value) (drawn handed used : ℕ) where
-  abbrev pub Loops : Snap → Type 0
-  Loops (fresh p) = (p ≡ node.Ext kind.List b (node.Scan c)) × (c.kind ≡ kind.List)
+  abbrev pub LoopOver : Snap → Type 0
+  LoopOver (fresh p) = (p ≡ node.Ext kind.List b (node.Scan c)) × (c.kind ≡ kind.List)
       × Fetching w env c all used handed (fresh (node.Scan c)) × (items_at R env b all used ≡ drawn)
-  Loops (outside p s) = (p ≡ b) × Fetching w env c all used handed s × (items_at R env b all used ≡ drawn)
-  Loops (inside p s v i) =
+  LoopOver (outside p s) = (p ≡ b) × Fetching w env c all used handed s × (items_at R env b all used ≡ drawn)
+  LoopOver (inside p s v i) =
       (p ≡ b) × Fetching w env c all used handed s × (items_at R env b all used ≡ drawn + length (items_in (left w i (v ∷ env))))
       × ScansLeft [] i
-  Loops _ = ⊥
+  LoopOver _ = ⊥
 
 -- Such a loop without scans in its body, which used no row more once its bodies gave as many items as were asked for.
-pub record Lazy (R : Readings) (w : World) (env : List Value) (b : Node) (c : Scan) (all : List Value) (asked drawn handed : ℕ)
+pub record LazyLoop (R : Readings) (w : World) (env : List Value) (b : Node) (c : Scan) (all : List Value) (asked drawn handed : ℕ)
     (s : Snap) : Type 0 where
   pub used : ℕ
-  pub loops : Loops R w env b c all drawn handed used s
+  pub loops : LoopOver R w env b c all drawn handed used s
   pub before : (n : ℕ) → n < used → items_at R env b all n < asked
   pub reads : reading w ≡ R
   pub still : ScansIn [] b
@@ -103,23 +103,23 @@ abbrev pub ListTold : List Value → Snap → World → Type 0
 ListTold env s w = (G : List Ground) × (u : Ground) × HaveTypes G env × Fits w G kind.List u s × IsToldAt w
 
 -- From one cursor to another, where so many items were given: what was drawn lazily so far, was so again.
-pub record Spares (more : ℕ) (env : List Value) (s : Snap) (a : World) (t : Snap) (b : World) : Type 0 where
+pub record KeepsLazy (more : ℕ) (env : List Value) (s : Snap) (a : World) (t : Snap) (b : World) : Type 0 where
   pub scan : (c : Scan) (all : List Value) (used handed : ℕ) → ListTold env s a → Fetching a env c all used handed s
       → (rows : ℕ) × Handed c rows a b × Fetching b env c all (used + more) (handed + rows) t
   pub loop : (R : Readings) (p : Node) (c : Scan) (all : List Value) (drawn handed : ℕ) → ListTold env s a
-      → Lazy R a env p c all (drawn + 1) drawn handed s
-      → (rows : ℕ) × Handed c rows a b × Lazy R b env p c all (drawn + 1) (drawn + more) (handed + rows) t
+      → LazyLoop R a env p c all (drawn + 1) drawn handed s
+      → (rows : ℕ) × Handed c rows a b × LazyLoop R b env p c all (drawn + 1) (drawn + more) (handed + rows) t
 
 abbrev pub Lazily : List Value → Snap → Result (Option Value × State) EvalStop → World → World → Type 0
-Lazily env s (Ok (Some v, t)) a b = Spares 1 env s a (snap t) b
+Lazily env s (Ok (Some v, t)) a b = KeepsLazy 1 env s a (snap t) b
 Lazily env s (Ok (None, t)) a b = ⊤
 Lazily env s (Err e) a b = ⊤
 
 abbrev pub BeginsLazily : List Value → Snap → Result State EvalStop → World → World → Type 0
-BeginsLazily env s (Ok t) a b = Spares 0 env s a (snap t) b
+BeginsLazily env s (Ok t) a b = KeepsLazy 0 env s a (snap t) b
 BeginsLazily env s (Err e) a b = ⊤
 
 abbrev pub NextsLazily : List Value → Snap → Result (Option Value) EvalStop → Snap → World → World → Type 0
-NextsLazily env s (Ok (Some v)) t a b = Spares 1 env s a t b
+NextsLazily env s (Ok (Some v)) t a b = KeepsLazy 1 env s a t b
 NextsLazily env s (Ok None) t a b = ⊤
 NextsLazily env s (Err e) t a b = ⊤

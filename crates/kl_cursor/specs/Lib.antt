@@ -1,3 +1,4 @@
+pub mod AtHand
 pub mod Drawing
 pub mod Gathering
 pub mod Laziness

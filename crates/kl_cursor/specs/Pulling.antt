@@ -1,4 +1,6 @@
--- Which cursors may read on at a source.
+-- Which cursors may read on at a source. What was made of items is let go of before a source is waited for, and only then: so it is told
+-- beforehand whether the next step may wait for one. Where it may not, nothing is started and nothing handed. That this is so of rows
+-- that are at hand, though their loop gives no item of some of them, is told by the step itself (`AtHand`).
 use Rattle.std.specs.Prelude.{◌≡◌, Bool, true, false, ◌==◌, ◌&&◌, ◌||◌, not, List, [], ◌∷◌, length, Option, Some, None, Result, Ok, Err, ⊤}
 use Rattle.kl_ship.specs.Nodes as node
 use Rattle.kl_ship.specs.Nodes.{Node, no_nodes, nodes}
@@ -57,8 +59,8 @@ abbrev pub Silent : World → World → Type 0
 Silent a b = Logged [] a b
 
 -- it is silent where a cursor may not read on
-abbrev pub Quiet : Snap → World → World → Type 0
-Quiet s a b = pulls s ≡ false → Silent a b
+abbrev pub SilentUnlessPulls : Snap → World → World → Type 0
+SilentUnlessPulls s a b = pulls s ≡ false → Silent a b
 
 -- ---- for private functions alone: cursors that are sure to give an item
 
@@ -80,5 +82,5 @@ BeginsSure s (Err e) = ⊤
 
 -- what a step does where it may not read on, and where an item is sure
 pub record Calm (s : Snap) (r : Result (Option Value × State) EvalStop) (a b : World) : Type 0 where
-  pub quiet : Quiet s a b
+  pub quiet : SilentUnlessPulls s a b
   pub sure : SureGives s r

@@ -10,6 +10,7 @@ use Rattle.kl_prim.specs.Meaning.{gives, overflows}
 use Rattle.kl_outcome.specs.Outcome.{Name, Outcome, done, over, stuck, End, more, stop, fine, overflow, flow, items_of, applied, parts_then}
 use Rattle.kl_outcome.specs.Typed.{Inhabits, HaveTypes, OfType, PrimTypes}
 use Rattle.kl_ask.specs.World.{World}
+use Rattle.kl_ask.specs.declared.DriverError.{DriverError}
 use Rattle.kl_eval.specs.World.{StoppedBy}
 use Rattle.kl_eval.specs.declared.stop.EvalStop.{EvalStop}
 use Rattle.kl_eval.specs.declared.stop.EvalStop.TheVariants as why
@@ -78,11 +79,22 @@ pub record Halts (before : Uses) (Holds : List Scan → Type 0) (cause : Type 0)
   pub known : (all : List Scan) → Holds all → AreOf all moves.events
   pub reason : cause
 
--- the end is an overflow, or a driver refused to go on, which has its cause, or memory ran out
+-- A driver refused to go on with a scan that stood in it. The source that is named is that scan's, and what is told of it has its
+-- cause there.
+pub record StoppedAt (Holds : List Scan → Type 0) (l : Name) (e : DriverError) (a b : World) : Type 0 where
+  pub scan : Scan
+  pub stood : (all : List Scan) → Holds all → Contains all scan
+  pub named : l ≡ scan.source
+  pub by : StoppedBy l e a b
+
+-- the end is an overflow, or a driver refused to go on with one of its scans, or memory ran out
 abbrev pub Reason : List Value → Snap → EvalStop → World → World → Type 0
 Reason env s why.Overflow a b = WhereTold env s a (λ k. Same k (left a s env) (stop overflow))
-Reason env s (why.Driver l e) a b = StoppedBy l e a b
+Reason env s (why.Driver l e) a b = StoppedAt (λ all. ScansLeft all s) l e a b
 Reason env s why.NoMemory a b = ⊤
+
+abbrev pub Refused : Uses → (List Scan → Type 0) → Name → DriverError → World → World → Type 0
+Refused before Holds l e a b = Halts before Holds (StoppedAt Holds l e a b) a b
 
 abbrev pub Stops : List Value → Snap → EvalStop → World → World → Type 0
 Stops env s e a b = Halts (uses s) (λ all. ScansLeft all s) (Reason env s e a b) a b
@@ -110,7 +122,7 @@ pub record Empties (env : List Value) (s : Snap) (vs : List Value) (end : End) (
 abbrev pub Drains : List Value → Snap → Result (Vec Value Global) Halt → World → World → Type 0
 Drains env s (Ok vs) a b = Empties env s vs.items fine a b
 Drains env s (Err (halt.Over vs)) a b = Empties env s vs.items overflow a b
-Drains env s (Err (halt.Driver l e)) a b = Halts (uses s) (λ all. ScansLeft all s) (StoppedBy l e a b) a b
+Drains env s (Err (halt.Driver l e)) a b = Refused (uses s) (λ all. ScansLeft all s) l e a b
 Drains env s (Err halt.NoMemory) a b = Halts (uses s) (λ all. ScansLeft all s) ⊤ a b
 
 -- the same, beside what was gathered before
@@ -120,7 +132,7 @@ Adds env s end old new a b = (vs : List Value) × (new ≡ with_all old vs) × E
 abbrev pub Emits : List Value → Snap → Result (Unit {0}) EvalStop → Gathered → Gathered → World → World → Type 0
 Emits env s (Ok _) old new a b = Adds env s fine old new a b
 Emits env s (Err why.Overflow) old new a b = Adds env s overflow old new a b
-Emits env s (Err (why.Driver l e)) old new a b = Halts (uses s) (λ all. ScansLeft all s) (StoppedBy l e a b) a b
+Emits env s (Err (why.Driver l e)) old new a b = Refused (uses s) (λ all. ScansLeft all s) l e a b
 Emits env s (Err why.NoMemory) old new a b = Halts (uses s) (λ all. ScansLeft all s) ⊤ a b
 
 -- what is answered of all items, which were tallied from this on
@@ -128,7 +140,7 @@ abbrev pub Tallies : List Value → Snap → Gathered → Result Value EvalStop 
 Tallies env s g (Ok v) a b = (vs : List Value) × (answer_in (with_all g vs) ≡ gives v) × Empties env s vs fine a b
 Tallies env s g (Err why.Overflow) a b = (vs : List Value)
     × (Empties env s vs overflow a b ⊎ ((answer_in (with_all g vs) ≡ overflows) × Empties env s vs fine a b))
-Tallies env s g (Err (why.Driver l e)) a b = Halts (uses s) (λ all. ScansLeft all s) (StoppedBy l e a b) a b
+Tallies env s g (Err (why.Driver l e)) a b = Refused (uses s) (λ all. ScansLeft all s) l e a b
 Tallies env s g (Err why.NoMemory) a b = Halts (uses s) (λ all. ScansLeft all s) ⊤ a b
 
 -- a body stands at what was drawn, and its items there; what stopped the drawing stops them
@@ -149,8 +161,8 @@ EmitsDrawn env p (Err halt.NoMemory) r old new a b = (r ≡ Err why.NoMemory) ×
 
 -- What parts come to under any types that they have: where contents are told, what is said of it is so, and where that is well,
 -- the starts are paid for; and it has its type in any case.
-pub record Comes {X : Type 0} (Typing : List Ground → X → Type 0) (env : List Value) (Holds : List Scan → Type 0) (cost : (Scan → ℕ) → ℕ)
-    (is well : Type 0) (Typed : X → Type 0) (a b : World) : Type 0 where
+pub record PartComes {X : Type 0} (Typing : List Ground → X → Type 0) (env : List Value) (Holds : List Scan → Type 0)
+    (cost : (Scan → ℕ) → ℕ) (is well : Type 0) (Typed : X → Type 0) (a b : World) : Type 0 where
   pub moves : Moves nothing nothing a b
   pub known : (all : List Scan) → Holds all → AreOf all moves.events
   pub comes : (G : List Ground) (x : X) → HaveTypes G env → Typing G x → IsToldAt a → is
@@ -158,15 +170,15 @@ pub record Comes {X : Type 0} (Typing : List Ground → X → Type 0) (env : Lis
       → paid price moves.events ≡ cost price
   pub typed : (G : List Ground) (x : X) → HaveTypes G env → Typing G x → Typed x
 
-abbrev pub IsDone : Outcome → Type 0
-IsDone (done v) = ⊤
-IsDone (over vs) = ⊥
-IsDone stuck = ⊥
+abbrev pub IsValue : Outcome → Type 0
+IsValue (done v) = ⊤
+IsValue (over vs) = ⊥
+IsValue stuck = ⊥
 
 -- a plan comes to an outcome
 abbrev pub ComesTo : List Value → Node → Outcome → World → World → Type 0
-ComesTo env p o a b = Comes (λ G s. TypesAt a G p s) env (λ all. ScansIn all p) (λ price. reached (reading a) price p env)
-    (worth (plan (reading a) p env) ≡ o) (IsDone o) (λ s. OfType s o) a b
+ComesTo env p o a b = PartComes (λ G s. TypesAt a G p s) env (λ all. ScansIn all p) (λ price. reached (reading a) price p env)
+    (worth (plan (reading a) p env) ≡ o) (IsValue o) (λ s. OfType s o) a b
 
 abbrev pub Fails : (List Scan → Type 0) → Type 0 → World → World → Type 0
 Fails Holds reason a b = Halts nothing Holds reason a b
@@ -175,14 +187,14 @@ Fails Holds reason a b = Halts nothing Holds reason a b
 abbrev pub Wholly : List Value → Node → Result Value Halt → World → World → Type 0
 Wholly env p (Ok v) a b = ComesTo env p (done v) a b
 Wholly env p (Err (halt.Over vs)) a b = ComesTo env p (over vs.items) a b
-Wholly env p (Err (halt.Driver l e)) a b = Fails (λ all. ScansIn all p) (StoppedBy l e a b) a b
+Wholly env p (Err (halt.Driver l e)) a b = Refused nothing (λ all. ScansIn all p) l e a b
 Wholly env p (Err halt.NoMemory) a b = Fails (λ all. ScansIn all p) ⊤ a b
 
 -- the same of a part, of which an overflow leaves no items
 abbrev pub Partly : List Value → Node → Result Value EvalStop → World → World → Type 0
 Partly env p (Ok v) a b = ComesTo env p (done v) a b
 Partly env p (Err why.Overflow) a b = (vs : List Value) × ComesTo env p (over vs) a b
-Partly env p (Err (why.Driver l e)) a b = Fails (λ all. ScansIn all p) (StoppedBy l e a b) a b
+Partly env p (Err (why.Driver l e)) a b = Refused nothing (λ all. ScansIn all p) l e a b
 Partly env p (Err why.NoMemory) a b = Fails (λ all. ScansIn all p) ⊤ a b
 
 -- the fields of a record
@@ -191,18 +203,18 @@ FieldsHave [] r = r ≡ no_row
 FieldsHave (f ∷ fs) r = (s : Ground) × (rest : Row) × (r ≡ row f.0 s rest) × Inhabits s f.1 × FieldsHave fs rest
 
 abbrev pub FieldsCome : List Value → Fields → List (Name × Value) → World → World → Type 0
-FieldsCome env ps fs a b = Comes (λ G r. FieldTypes (ScanOf (stage a)) G ps r) env (λ all. ScansInFields all ps)
+FieldsCome env ps fs a b = PartComes (λ G r. FieldTypes (ScanOf (stage a)) G ps r) env (λ all. ScansInFields all ps)
     (λ price. reached_fields (reading a) price ps env)
     ((go : List (Name × Value) → Outcome) → parts_then (plan_fields (reading a) ps env) go ≡ go fs) ⊤ (λ r. FieldsHave fs r) a b
 
 abbrev pub FieldsOver : List Value → Fields → World → World → Type 0
-FieldsOver env ps a b = Comes (λ G r. FieldTypes (ScanOf (stage a)) G ps r) env (λ all. ScansInFields all ps) (λ price. 0)
+FieldsOver env ps a b = PartComes (λ G r. FieldTypes (ScanOf (stage a)) G ps r) env (λ all. ScansInFields all ps) (λ price. 0)
     ((go : List (Name × Value) → Outcome) → parts_then (plan_fields (reading a) ps env) go ≡ over []) ⊥ (λ r. ⊤) a b
 
 abbrev pub FieldsGive : List Value → Fields → Result (Vec (Name × Value) Global) EvalStop → World → World → Type 0
 FieldsGive env ps (Ok fs) a b = FieldsCome env ps fs.items a b
 FieldsGive env ps (Err why.Overflow) a b = FieldsOver env ps a b
-FieldsGive env ps (Err (why.Driver l e)) a b = Fails (λ all. ScansInFields all ps) (StoppedBy l e a b) a b
+FieldsGive env ps (Err (why.Driver l e)) a b = Refused nothing (λ all. ScansInFields all ps) l e a b
 FieldsGive env ps (Err why.NoMemory) a b = Fails (λ all. ScansInFields all ps) ⊤ a b
 
 -- what a primitive makes of its arguments
@@ -210,15 +222,26 @@ abbrev pub CallTypes : World → List Ground → ℕ → Nodes → Ground → Ty
 CallTypes w G c ps s = (us : List Ground) × PlansOf (ScanOf (stage w)) G ps us × PrimTypes c us s
 
 abbrev pub CallComes : List Value → ℕ → Nodes → Outcome → World → World → Type 0
-CallComes env c ps o a b = Comes (λ G s. CallTypes a G c ps s) env (λ all. ScansInNodes all ps)
+CallComes env c ps o a b = PartComes (λ G s. CallTypes a G c ps s) env (λ all. ScansInNodes all ps)
     (λ price. reached_nodes (reading a) price ps env)
-    (applied c (plan_all (reading a) ps env) ≡ o) (IsDone o) (λ s. OfType s o) a b
+    (applied c (plan_all (reading a) ps env) ≡ o) (IsValue o) (λ s. OfType s o) a b
 
 abbrev pub CallGives : List Value → ℕ → Nodes → Result Value EvalStop → World → World → Type 0
 CallGives env c ps (Ok v) a b = CallComes env c ps (done v) a b
 CallGives env c ps (Err why.Overflow) a b = CallComes env c ps (over []) a b
-CallGives env c ps (Err (why.Driver l e)) a b = Fails (λ all. ScansInNodes all ps) (StoppedBy l e a b) a b
+CallGives env c ps (Err (why.Driver l e)) a b = Refused nothing (λ all. ScansInNodes all ps) l e a b
 CallGives env c ps (Err why.NoMemory) a b = Fails (λ all. ScansInNodes all ps) ⊤ a b
+
+-- ---- parts without sources
+
+-- no driver stopped it
+abbrev pub IsUndriven : Result Value Halt → Type 0
+IsUndriven (Err (halt.Driver l e)) = ⊥
+IsUndriven _ = ⊤
+
+abbrev pub IsUndrivenPart : Result Value EvalStop → Type 0
+IsUndrivenPart (Err (why.Driver l e)) = ⊥
+IsUndrivenPart _ = ⊤
 
 -- ---- what the helpers make
 

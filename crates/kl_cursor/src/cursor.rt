@@ -3,12 +3,14 @@ ghost use Rattle.std.specs.Prelude.{◌≡◌, reverse, IfOk};
 ghost use Rattle.kl_ship.specs.Nodes.{view};
 ghost use Rattle.kl_scans.specs.Held.{Owned};
 ghost use Rattle.kl_scans.specs.Moves.{Closes};
+ghost use Rattle.kl_cursor.specs.AtHand.{NextsHeld, NextsHeldLazily, PullsAlone};
 ghost use Rattle.kl_cursor.specs.Laziness.{NextsLazily};
 ghost use Rattle.kl_cursor.specs.Left.{fresh, snap, uses};
-ghost use Rattle.kl_cursor.specs.Pulling.{Quiet, pulls};
+ghost use Rattle.kl_cursor.specs.Pulling.{SilentUnlessPulls, Silent, pulls};
 ghost use Rattle.kl_cursor.specs.Sense.{HasWorth, Stands};
 ghost use Rattle.kl_cursor.specs.Steps.{Nexts, Partly};
 
+use crate::held::{Turn, step_held};
 use crate::pulling::may_pull;
 use crate::scans::Scans;
 use crate::state::State;
@@ -29,6 +31,16 @@ pub struct Cursor<'p> {
     alloc: Global,
     at: State<'p>,
     env: Seq<Value>,
+}
+
+/// What is drawn of the rows at hand.
+#[derive(Drop)]
+pub enum Draw {
+    Item(Value),
+    /// No item is left.
+    End,
+    /// A source must be read on for more.
+    NeedsPull,
 }
 
 /// The value of a plan, of any type, where the last value of `env` is the nearest position's. Of a set or a bag it is the canonical
@@ -90,7 +102,8 @@ impl<'p> Cursor<'p> {
             (⟦<Session as Seen>⟧.world session.old) (⟦<Session as Seen>⟧.world session.new) }
         ensures lazy { NextsLazily (reverse self.old.env) (snap self.old.at) result (snap self.new.at)
             (⟦<Session as Seen>⟧.world session.old) (⟦<Session as Seen>⟧.world session.new) }
-        ensures quiet { Quiet (snap self.old.at) (⟦<Session as Seen>⟧.world session.old) (⟦<Session as Seen>⟧.world session.new) }
+        ensures quiet { SilentUnlessPulls (snap self.old.at) (⟦<Session as Seen>⟧.world session.old)
+            (⟦<Session as Seen>⟧.world session.new) }
     {
         self.advance(session)
     }
@@ -102,7 +115,7 @@ impl<'p> Cursor<'p> {
         ensures env { self.new.env ≡ self.old.env }
         ensures next { Nexts (reverse self.old.env) (snap self.old.at) result (snap self.new.at) (C.world run.old) (C.world run.new) }
         ensures lazy { NextsLazily (reverse self.old.env) (snap self.old.at) result (snap self.new.at) (C.world run.old) (C.world run.new) }
-        ensures quiet { Quiet (snap self.old.at) (C.world run.old) (C.world run.new) }
+        ensures quiet { SilentUnlessPulls (snap self.old.at) (C.world run.old) (C.world run.new) }
     {
         let at = mem::replace(&mut self.at, State::Done);
         match step(self.alloc, at, &Env::Base(self.env.slice()), run) {
@@ -114,6 +127,58 @@ impl<'p> Cursor<'p> {
                 None => {
                     let_go(rest);
                     Ok(None)
+                }
+            },
+            Err(stop) => Err(stop),
+        }
+    }
+
+    /// The next item, where the rows at hand give it; or that a source must be read on for more. Then nothing is lost: as much is left as
+    /// was. No scan is started and no row handed, whatever the answer is, so whoever holds back what it makes of items lets go of it only
+    /// where this answers `NeedsPull`, and draws on with `next`.
+    ///
+    /// # Errors
+    /// Those of `next`.
+    pub fn next_held(&mut self, session: &mut Session) -> Result<Draw, EvalStop>
+        requires owned { Owned (uses (snap self.old.at)) (⟦<Session as Seen>⟧.world session.old) }
+        requires sense { Stands (⟦<Session as Seen>⟧.world session.old) (snap self.old.at) (reverse self.old.env) }
+        ensures env { self.new.env ≡ self.old.env }
+        ensures next { NextsHeld (reverse self.old.env) (snap self.old.at) result (snap self.new.at)
+            (⟦<Session as Seen>⟧.world session.old) (⟦<Session as Seen>⟧.world session.new) }
+        ensures lazy { NextsHeldLazily (reverse self.old.env) (snap self.old.at) result (snap self.new.at)
+            (⟦<Session as Seen>⟧.world session.old) (⟦<Session as Seen>⟧.world session.new) }
+        ensures silent { Silent (⟦<Session as Seen>⟧.world session.old) (⟦<Session as Seen>⟧.world session.new) }
+        ensures needed { PullsAlone result (snap self.old.at) }
+    {
+        self.draw_held(session)
+    }
+
+    fn draw_held<C: Scans>(&mut self, run: &mut C) -> Result<Draw, EvalStop>
+        requires owned { Owned (uses (snap self.old.at)) (C.world run.old) }
+        requires sense { Stands (C.world run.old) (snap self.old.at) (reverse self.old.env) }
+        ensures env { self.new.env ≡ self.old.env }
+        ensures next { NextsHeld (reverse self.old.env) (snap self.old.at) result (snap self.new.at) (C.world run.old) (C.world run.new) }
+        ensures lazy { NextsHeldLazily (reverse self.old.env) (snap self.old.at) result (snap self.new.at) (C.world run.old)
+            (C.world run.new) }
+        ensures silent { Silent (C.world run.old) (C.world run.new) }
+        ensures needed { PullsAlone result (snap self.old.at) }
+    {
+        let at = mem::replace(&mut self.at, State::Done);
+        match step_held(self.alloc, at, &Env::Base(self.env.slice()), run) {
+            Ok(turn) => match turn {
+                Turn::Stepped(item, rest) => match item {
+                    Some(item) => {
+                        self.at = rest;
+                        Ok(Draw::Item(item))
+                    }
+                    None => {
+                        let_go(rest);
+                        Ok(Draw::End)
+                    }
+                },
+                Turn::NeedsPull(rest) => {
+                    self.at = rest;
+                    Ok(Draw::NeedsPull)
                 }
             },
             Err(stop) => Err(stop),

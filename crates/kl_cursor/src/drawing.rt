@@ -2,23 +2,14 @@
 ghost use Rattle.std.specs.Prelude.{◌≡◌, map};
 ghost use Rattle.kl_ship.specs.Nodes.{branches_of, no_branches, view, view_branch};
 ghost use Rattle.kl_ship.specs.Kinds.{first_kind, kind_of_branches, kind_of_items};
-ghost use Rattle.kl_cursor.specs.Drawing.{draws, comes_by_items};
+ghost use Rattle.kl_cursor.specs.Drawing.{draws};
 
 use kl_base::Label;
 use kl_core::fits;
 use kl_ship::Plan;
 use kl_value::Kind;
 
-fn first_kind(kind: Option<Kind>, other: Option<Kind>) -> Option<Kind>
-    ensures { result ≡ first_kind kind other }
-{
-    match kind {
-        Some(kind) => Some(kind),
-        None => other,
-    }
-}
-
-/// The kind as which a plan of a collection comes item by item, if it ever comes so.
+/// The kind of a plan of a collection, where its form tells it.
 #[cycle(kind)]
 pub fn kind_of_items(plan: &Plan) -> Option<Kind>
     ensures { result ≡ kind_of_items (view plan.now) }
@@ -28,17 +19,23 @@ pub fn kind_of_items(plan: &Plan) -> Option<Kind>
         Plan::Ext(kind, _, _) => Some(*kind),
         Plan::Scan(scan) => Some(scan.kind),
         Plan::Join(join) => Some(join.get().kind),
-        Plan::Union(a, b) => first_kind(kind_of_items(a.get()), kind_of_items(b.get())),
-        Plan::If(_, b, c) => first_kind(kind_of_items(b.get()), kind_of_items(c.get())),
+        Plan::Union(a, b) => match kind_of_items(a.get()) {
+            Some(kind) => Some(kind),
+            None => kind_of_items(b.get()),
+        },
+        Plan::If(_, b, c) => match kind_of_items(b.get()) {
+            Some(kind) => Some(kind),
+            None => kind_of_items(c.get()),
+        },
         Plan::Let(_, body) => kind_of_items(body.get()),
         Plan::Memo(_, _, part) => kind_of_items(part.get()),
-        Plan::Case(_, branches, other) => {
-            let kind = kind_of_branches(branches.slice());
-            match other {
-                Some(other) => first_kind(kind, kind_of_items(other.get())),
-                None => kind,
-            }
-        }
+        Plan::Case(_, branches, other) => match kind_of_branches(branches.slice()) {
+            Some(kind) => Some(kind),
+            None => match other {
+                Some(other) => kind_of_items(other.get()),
+                None => None,
+            },
+        },
         Plan::Plain(_) | Plan::Var(_) | Plan::Rec(_) => None,
         Plan::Proj(_, _) | Plan::Inj(_, _) | Plan::Prim(_, _) => None,
     }
@@ -58,22 +55,12 @@ fn kind_of_branches(branches: &[(Label, Plan)]) -> Option<Kind>
     None
 }
 
-/// Whether a loop of a kind draws the items of a plan as they come.
+/// Whether a loop of a kind draws the items of a plan as they come. A plan whose form does not tell its kind may be a set.
 pub fn draws(into: Kind, plan: &Plan) -> bool
     ensures { result ≡ draws into (view plan.now) }
 {
     match kind_of_items(plan) {
         Some(kind) => fits(kind, into),
-        None => false,
-    }
-}
-
-/// Whether a plan may come item by item.
-pub fn comes_by_items(plan: &Plan) -> bool
-    ensures { result ≡ comes_by_items (view plan.now) }
-{
-    match kind_of_items(plan) {
-        Some(_) => true,
-        None => false,
+        None => fits(Kind::Set, into),
     }
 }

@@ -1,12 +1,12 @@
 //! What is kept of items as they come: the items, or what a primitive asks of them, so that no collection of them is made.
-ghost use Rattle.std.specs.Prelude.{◌≡◌, List, [], ◌∷◌, IfSome, OnOk, true};
+ghost use Rattle.std.specs.Prelude.{◌≡◌, List, [], ◌∷◌, IfSome, IsSome, OnOk, true};
 ghost use Rattle.kl_ship.specs.Kinds.{kind_of_items};
 ghost use Rattle.kl_ship.specs.Nodes.{view};
 ghost use Rattle.kl_eval.specs.Steps.{AnswersPrim};
 ghost use Rattle.kl_value.specs.declared.Value.{Value};
 ghost use Rattle.kl_cursor.specs.Sense.{HasWorth};
-ghost use Rattle.kl_cursor.specs.Gathering.{CountsRows, answer_in, gathered, is_set, IsListed, IsTally, listed, number, tally};
-ghost use Rattle.kl_cursor.specs.Gathering.{Tells, TellsItems, with_all, with_one};
+ghost use Rattle.kl_cursor.specs.Gathering.{AreTallied, CountsRows, IsTallied, answer_in, gathered, is_set, IsListed, IsTally};
+ghost use Rattle.kl_cursor.specs.Gathering.{Tells, TellsItems, listed, number, tally, with_all, with_one};
 
 use crate::drawing::kind_of_items;
 use crate::scans::Scans;
@@ -15,6 +15,7 @@ use kl_eval::EvalStop;
 use kl_ship::Plan;
 use kl_value::{Kind, Value, cmp};
 
+// Codes of the table of primitives.
 const IS_EMPTY: u8 = 13;
 
 const COUNT: u8 = 14;
@@ -23,7 +24,7 @@ const SUM: u8 = 15;
 
 const MEMBER: u8 = 16;
 
-/// What is asked of items whose collection is not.
+/// What a primitive asks of items whose collection is not made.
 #[derive(Drop)]
 pub enum Tally<'a> {
     /// Whether there is none.
@@ -198,7 +199,8 @@ fn is_set(kind: Kind) -> bool
 // What a primitive of one argument asks of the items of a collection of a kind, where they tell its answer as they come:
 // repeats count in a set that is not yet made.
 fn tally_for(code: u8, kind: Kind) -> Option<Tally<'static>>
-    ensures { IfSome result (λ t. Tells code [] kind (tally t)) }
+    ensures tells { IfSome result (λ t. Tells code [] kind (tally t)) }
+    ensures given { IsTallied code kind → IsSome result }
 {
     if code == IS_EMPTY {
         Some(Tally::Empty(true))
@@ -215,34 +217,39 @@ fn tally_for(code: u8, kind: Kind) -> Option<Tally<'static>>
 
 /// What a primitive asks of the items of its only argument, where they come item by item and tell its answer so.
 pub fn tally_only(code: u8, plan: &Plan) -> Option<Tally<'static>>
-    ensures { IfSome result (λ t. TellsItems code [] (kind_of_items (view plan.now)) (tally t)) }
+    ensures tells { IfSome result (λ t. TellsItems code [] (kind_of_items (view plan.now)) (tally t)) }
+    ensures given { AreTallied code (kind_of_items (view plan.now)) → IsSome result }
 {
-    match kind_of_items(plan) {
-        Some(kind) => tally_for(code, kind),
-        None => None,
+    if code == IS_EMPTY || code == COUNT || code == SUM {
+        match kind_of_items(plan) {
+            Some(kind) => tally_for(code, kind),
+            None => None,
+        }
+    } else {
+        None
     }
 }
 
 /// The same of its second argument, where the first one has this value.
 pub fn tally_second<'a>(code: u8, first: &'a Value, plan: &Plan) -> Option<Tally<'a>>
-    ensures { IfSome result (λ t. TellsItems code (first.now ∷ []) (kind_of_items (view plan.now)) (tally t)) }
+    ensures tells { IfSome result (λ t. TellsItems code (first.now ∷ []) (kind_of_items (view plan.now)) (tally t)) }
+    ensures given { code ≡ 16 → IsSome (kind_of_items (view plan.now)) → IsSome result }
 {
-    match kind_of_items(plan) {
-        Some(_) => {
-            if code == MEMBER {
-                Some(Tally::Member(first, false))
-            } else {
-                None
-            }
+    if code == MEMBER {
+        match kind_of_items(plan) {
+            Some(_) => Some(Tally::Member(first, false)),
+            None => None,
         }
-        None => None,
+    } else {
+        None
     }
 }
 
 /// Whether a primitive counts rows of which none is repeated: these tell its answer as they come, of a set also.
 pub fn counts_rows<C: Scans>(code: u8, plan: &Plan, run: &C) -> bool
     requires { (env : List Value) × HasWorth (C.world run.now) (view plan.now) env }
-    ensures { result ≡ true → CountsRows (C.world run.now) code (view plan.now) }
+    ensures yes { result ≡ true → CountsRows (C.world run.now) code plan.now }
+    ensures no { CountsRows (C.world run.now) code plan.now → result ≡ true }
 {
     match plan {
         Plan::Scan(scan) => code == COUNT && run.repeats_none(scan),

@@ -8,6 +8,7 @@ mod ahead;
 mod cursor;
 mod drawing;
 mod gathering;
+mod held;
 mod parts;
 mod pulling;
 mod scans;
@@ -16,4 +17,4 @@ mod stepping;
 mod steps;
 mod values;
 
-pub use cursor::{Cursor, open_plan, value_of};
+pub use cursor::{Cursor, Draw, open_plan, value_of};

@@ -12,7 +12,7 @@ use kl_ship::Plan;
 /// Whether a scan stands in a plan.
 #[cycle(scan)]
 #[tactic(auto, using(crate::proofs::Pulls::some_then))]
-fn has_scan(plan: &Plan) -> bool
+pub fn has_scan(plan: &Plan) -> bool
     ensures { result ≡ has_scan (view plan.now) }
 {
     match plan {

@@ -8,6 +8,7 @@ ghost use Rattle.kl_scans.specs.Held.{Owned, one_at};
 ghost use Rattle.kl_scans.specs.Moves.{Closes};
 ghost use Rattle.kl_scans.specs.Scans.{CanScan, IsOpen, Starts, Pulls};
 ghost use Rattle.kl_scans.specs.Stage.{RepeatsNone, stage};
+ghost use Rattle.kl_cursor.specs.Steps.{IsUndriven, IsUndrivenPart};
 
 use kl_ask::{Seen, Session};
 use kl_core::Term;
@@ -47,25 +48,27 @@ pub trait Scans: Seen {
         requires { Owned (one_at scan.now.driver cursor) (Self.world self.old) }
         ensures { Closes (one_at scan.now.driver cursor) (Self.world self.old) (Self.world self.new) };
 
-    /// Whether a scan repeats no row, as `repeats_none` tells. Takes no memory.
+    /// Whether a scan is one of all rows of a set that repeats none, as `repeats_none` tells. Takes no memory.
     fn repeats_none(&self, scan: &Scan) -> bool
         requires ready { IsReady (Self.world self.now) }
         requires scan { CanScan (Self.world self.now) scan.now }
-        ensures { result ≡ true → RepeatsNone (stage (Self.world self.now)) scan.now };
+        ensures yes { result ≡ true → RepeatsNone (stage (Self.world self.now)) scan.now }
+        ensures no { RepeatsNone (stage (Self.world self.now)) scan.now → result ≡ true };
 
-    /// The value of a term in which no source stands. Nothing is read.
+    /// The value of a term in which no source stands. Nothing is read, so no driver stops it.
     ///
     /// # Errors
-    /// Those of `kl_eval::plain`.
+    /// An overflow and want of memory, as of `kl_eval::plain`.
     fn plain(&mut self, alloc: Global, term: &Term, env: &Env) -> Result<Value, Halt>
         requires { SensePlain (view term.now) (values env.now) (Self.world self.old) }
         ensures same { Self.world self.new ≡ Self.world self.old }
-        ensures gives { TellsPlain (Self.world self.old) (view term.now) (values env.now) result };
+        ensures gives { TellsPlain (Self.world self.old) (view term.now) (values env.now) result }
+        ensures undriven { IsUndriven result };
 
     /// The same where the term is a part: lent where it stands in the term or in the environment.
     ///
     /// # Errors
-    /// Those of `kl_eval::part`.
+    /// Those of `plain`.
     fn part<'a>(
         &mut self,
         alloc: Global,
@@ -74,7 +77,8 @@ pub trait Scans: Seen {
     ) -> Result<Arg<'a>, EvalStop>
         requires { SensePlain (view term.now) (values env.now) (Self.world self.old) }
         ensures same { Self.world self.new ≡ Self.world self.old }
-        ensures gives { TellsPart (Self.world self.old) (view term.now) (values env.now) (arg_in result) };
+        ensures gives { TellsPart (Self.world self.old) (view term.now) (values env.now) (arg_in result) }
+        ensures undriven { IsUndrivenPart (arg_in result) };
 }
 
 impl Scans for Session {
@@ -99,7 +103,12 @@ impl Scans for Session {
     }
 
     fn plain(&mut self, alloc: Global, term: &Term, env: &Env) -> Result<Value, Halt> {
-        plain(alloc, term, &*env, self)
+        match plain(alloc, term, &*env, self) {
+            Ok(value) => Ok(value),
+            Err(Halt::Over(items)) => Err(Halt::Over(items)),
+            // No driver is asked where no source stands; `kl_eval` says only that the cause would be there already.
+            Err(Halt::Driver { .. }) | Err(Halt::NoMemory) => Err(Halt::NoMemory),
+        }
     }
 
     fn part<'a>(
@@ -108,6 +117,10 @@ impl Scans for Session {
         term: &'a Term,
         env: &'a Env<'a>,
     ) -> Result<Arg<'a>, EvalStop> {
-        part(alloc, term, env, self)
+        match part(alloc, term, env, self) {
+            Ok(value) => Ok(value),
+            Err(EvalStop::Overflow) => Err(EvalStop::Overflow),
+            Err(EvalStop::Driver { .. }) | Err(EvalStop::NoMemory) => Err(EvalStop::NoMemory),
+        }
     }
 }

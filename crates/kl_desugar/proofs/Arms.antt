@@ -18,14 +18,14 @@ use Rattle.kl_core.specs.declared.term.Term.TheVariants as code
 use Rattle.kl_core.specs.Trees as term
 use Rattle.kl_core.specs.Trees.{Tree, view_part}
 use Rattle.kl_core.proofs.Views as core
-use Rattle.kl_meaning.specs.Run.{in_order}
+use Rattle.kl_prim.specs.Records.{in_order}
 use Rattle.kl_desugar.specs.Translation.{Scope, Codes, here, tree, tree_all, tree_fields, tree_branches, tree_steps, called_tree, projected, matched_here, no_sense, codes_after}
 use Rattle.kl_desugar.specs.Layers.{Layered, missed, wrapped}
 use Rattle.kl_desugar.specs.Opening.{OpensQuals}
 use Rattle.kl_desugar.specs.States.{AsksPattern, Given, layers_view, field_of, arm_of}
 use Rattle.kl_desugar.specs.declared.layers.Entered.{Entered}
 use Rattle.kl_desugar.proofs.Wrapping.{matched_is, quals_are}
-use Rattle.kl_syntax.proofs.Views.{view_Inj, view_Coll, view_Comp, view_If, view_Let, view_Rec, view_Case, branch_seen, view_Path, view_Not, view_Neg, view_Chain}
+use Rattle.kl_syntax.proofs.Views.{view_Inj, view_Coll, view_Comp, view_If, view_Let, view_Rec, view_More, view_Case, branch_seen, view_Path, view_Not, view_Neg, view_Chain}
 
 trees_are : (es : List Expr) (codes : Codes) (S : Scope) → tree_all (exps_of (map view es)) codes S ≡ term.trees_of (map (λ e. tree (view e) codes S) es)
 trees_are [] codes S = refl
@@ -95,9 +95,18 @@ fields_are : (fs : List (Word × Expr)) (codes : Codes) (S : Scope) → tree_fie
 fields_are [] codes S = refl
 fields_are (f ∷ fs) codes S = ap (λ z. field_of codes S f ∷ z) (fields_are fs codes S)
 
+-- the record of the written fields, whatever it stands in
+pub written_is : (ts : List (List ℕ × Term)) (fs : List (Word × Expr)) (t : Term) (codes : Codes) (S : Scope) → map view_part ts ≡ map (field_of codes S) fs
+    → term.view t ≡ term.Rec (term.parts_of (in_order (map view_part ts))) → term.view t ≡ term.Rec (term.parts_of (in_order (tree_fields (fields_view fs) codes S)))
+written_is ts fs t codes S h w = w ∙ ap (λ z. term.Rec (term.parts_of (in_order z))) (h ∙ sym (fields_are fs codes S))
+
 pub rec_is : (e : Expr) (fs gs : List (Word × Expr)) (ts : List (List ℕ × Term)) (t : Term) (codes : Codes) (S : Scope) → e ≡ expr.Rec fs → gs ≡ fs
     → map view_part ts ≡ map (field_of codes S) gs → term.view t ≡ term.Rec (term.parts_of (in_order (map view_part ts))) → term.view t ≡ tree (view e) codes S
-rec_is e fs gs ts t codes S p q h w = rw (p, view_Rec, w, h, q) (ap (λ z. term.Rec (term.parts_of (in_order z))) (sym (fields_are fs codes S)))
+rec_is e fs gs ts t codes S p q h w = written_is ts gs t codes S h w ∙ rw (p, view_Rec, q) refl
+
+pub more_is : (e a b : Expr) (fs gs : List (Word × Expr)) (t u : Term) (codes : Codes) (S : Scope) → e ≡ expr.More fs a → b ≡ a → gs ≡ fs
+    → term.view t ≡ term.Rec (term.parts_of (in_order (tree_fields (fields_view gs) codes S))) → term.view u ≡ tree (view b) codes S → term.view (code.Prim 27 (t ∷ u ∷ [])) ≡ tree (view e) codes S
+more_is e a b fs gs t u codes S i j k h g = rw (i, view_More, core.view_Prim, h, g, j, k) refl
 
 branches_are : (bs : List Branch) (last : Branches) (codes : Codes) (S : Scope) → tree_branches (branches_of (map branch_view bs) last) codes S ≡ term.arms_of (map (arm_of codes S) bs) (tree_branches last codes S)
 branches_are [] last codes S = refl

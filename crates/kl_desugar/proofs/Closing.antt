@@ -6,15 +6,17 @@ use Rattle.kl_value.specs.declared.Kind.{Kind}
 use Rattle.kl_outcome.specs.Outcome.{Name}
 use Rattle.kl_syntax.specs.declared.tree.Op.{Op}
 use Rattle.kl_syntax.specs.declared.tree.Op.TheVariants as op
+use Rattle.kl_syntax.specs.declared.tree.Tail.{Tail}
+use Rattle.kl_syntax.specs.declared.tree.Tail.TheVariants as tail
 use Rattle.kl_syntax.specs.declared.tree.Word.{Word}
-use Rattle.kl_syntax.specs.Syntax.{Pat, catch, any, same, is, shape, variant, Pats, no_pats, pats, Exp, Const, name, Call, Rec, Inj, Coll, Comp, If, Let, Case, Path, Not, Neg, Chain, Exps, no_exps, exps, Flds, no_flds, flds, Quals, no_quals, draw, test, Branches, no_branches, otherwise, branch, Steps, no_steps, step, Decls, no_decls, constant, function}
+use Rattle.kl_syntax.specs.Syntax.{Pat, catch, any, same, is, shape, variant, Pats, no_pats, pats, Exp, Const, name, Call, Rec, More, Inj, Coll, Comp, If, Let, Case, Path, Not, Neg, Chain, Exps, no_exps, exps, Flds, no_flds, flds, Quals, no_quals, draw, test, Branches, no_branches, otherwise, branch, Steps, no_steps, step, Decls, no_decls, constant, function}
 use Rattle.kl_meaning.specs.Match.{same_name}
 use Rattle.kl_meaning.specs.Run.{code_named}
-use Rattle.kl_meaning.proofs.Fields.{in_order_all}
+use Rattle.kl_prim.proofs.RecordLemmas.{in_order_all}
 use Rattle.kl_core.specs.Positions.{occurs_in, occurs_trees, occurs_parts, occurs_arms}
 use Rattle.kl_core.specs.Trees as term
 use Rattle.kl_core.specs.Trees.{Tree, Trees, no_trees, trees, Arms}
-use Rattle.kl_desugar.specs.Translation.{Scope, is_at, level_of, at_level, Place, here, inside, place_tree, Code, value_by, function_by, primitive_by, Codes, no_sense, level_tree, name_tree, tested, matched, matched_fields, empty, called_tree, operated_tree, projected, matched_here, tree, tree_all, tree_fields, tree_quals, tree_branches, tree_steps, number_of, code_by, code_at, codes_first, with_code, function_tree, codes_after, term_of}
+use Rattle.kl_desugar.specs.Translation.{Scope, is_at, level_of, at_level, Place, here, inside, place_tree, Code, value_by, function_by, primitive_by, Codes, no_sense, level_tree, name_tree, with_rest, tested, matched, matched_fields, empty, called_tree, operated_tree, projected, matched_here, tree, tree_all, tree_fields, tree_quals, tree_branches, tree_steps, number_of, code_by, code_at, codes_first, with_code, function_tree, codes_after, term_of}
 use Rattle.kl_desugar.specs.Translation as translation
 
 -- each free position is below n
@@ -93,6 +95,11 @@ tested_below t u a e n h k g z = λ m le. or_from _ _ (or_from _ _ (h m le) (or_
 
 -- ---- patterns
 
+rest_below : (end : Tail) (ps : Pats) (t : Place) (R : Scope) (A : Scope → Tree) → PlaceIn t (length R) → ((Q : Scope) → length R ≤ length Q → Below (length Q) (A Q)) → Below (length R) (with_rest end ps t A R)
+rest_below (tail.Rest x) ps t R A at h = λ m g. or_from _ _ (or_from _ _ (place_below t (length R) at m g) refl) (h (Some x.text ∷ R) (omega arith) (m + 1) (under (length R) m g))
+rest_below tail.Exact ps t R A at h = h R (omega arith)
+rest_below tail.Open ps t R A at h = h R (omega arith)
+
 module _ (codes : Codes) (closed : CodesBelow codes) where
   module _ (S : Scope) (e : Tree) (missed : Below 0 e) where
     mutual
@@ -101,7 +108,9 @@ module _ (codes : Codes) (closed : CodesBelow codes) where
       matched_below any t R A le at h = h R (omega arith)
       matched_below (same x) t R A le at h = tested_below (place_tree t (length R)) (name_tree codes S x.text (length R)) (A R) e (length R) (place_below t (length R) at) (name_below codes S x.text (length R) closed le) (h R (omega arith)) missed
       matched_below (is v n) t R A le at h = tested_below (place_tree t (length R)) (term.Const v) (A R) e (length R) (place_below t (length R) at) (λ m g. refl) (h R (omega arith)) missed
-      matched_below (shape ps dots) t R A le at h = pats_below ps t R A le at h
+      matched_below (shape ps end) t R A le at h =
+          pats_below ps t R (λ Q. with_rest end ps t A Q) le at
+          (λ Q g. rest_below end ps t Q A (place_more t (length R) (length Q) g at) (λ Z k. h Z (omega (arith, g, k))))
       matched_below (variant l p) t R A le at h =
           let inner : Below (suc (length R)) (matched p (here (length R)) codes S e A (None ∷ R)) = matched_below p (here (length R)) (None ∷ R) A (omega (arith, le)) (omega arith) (λ Q g. h Q (omega (arith, g))) in
           λ m g. or_from _ _ (place_below t (length R) at m g) (or_from _ _ (inner (m + 1) (under (length R) m g)) (missed m (omega arith)))
@@ -158,6 +167,7 @@ module _ (codes : Codes) (closed : CodesBelow codes) where
     tree_below (name x) S = name_below codes S x.text (length S) closed (omega arith)
     tree_below (Call f es) S = call_below (codes f.text) (tree_all es codes S) (length S) (closed f.text) (all_below es S)
     tree_below (Rec fs) S = parts_below _ (length S) (in_order_all (λ p. Below (length S) p.1) _ (fields_below fs S))
+    tree_below (More fs a) S = λ m g. or_from _ _ (parts_below _ (length S) (in_order_all (λ p. Below (length S) p.1) _ (fields_below fs S)) m g) (or_from _ _ (tree_below a S m g) refl)
     tree_below (Inj l a) S = tree_below a S
     tree_below (Coll k es) S = all_below es S
     tree_below (Comp k e qs) S = quals_below qs k (λ R. term.Make k (trees (tree e codes R) no_trees)) S (λ Q m g. or_from _ _ (tree_below e Q m g) refl)

@@ -10,9 +10,12 @@ use Rattle.kl_value.specs.declared.Kind.{Kind}
 use Rattle.kl_outcome.specs.Outcome.{Name}
 use Rattle.kl_syntax.specs.declared.tree.Meaning.TheVariants.{Variable, Definition, Source}
 use Rattle.kl_syntax.specs.declared.tree.Op.{Op}
+use Rattle.kl_syntax.specs.declared.tree.Program.{Program}
 use Rattle.kl_syntax.specs.declared.tree.Op.TheVariants as op
+use Rattle.kl_syntax.specs.declared.tree.Tail.{Tail}
+use Rattle.kl_syntax.specs.declared.tree.Tail.TheVariants as tail
 use Rattle.kl_syntax.specs.declared.tree.Word.{Word}
-use Rattle.kl_syntax.specs.Syntax.{Pat, catch, any, same, is, shape, variant, Pats, no_pats, pats, Exp, Const, name, Call, Rec, Inj, Coll, Comp, If, Let, Case, Path, Not, Neg, Chain, Exps, no_exps, exps, Flds, no_flds, flds, Quals, no_quals, draw, test, Branches, no_branches, otherwise, branch, Steps, no_steps, step, Decls, no_decls, constant, function}
+use Rattle.kl_syntax.specs.Syntax.{Pat, catch, any, same, is, shape, variant, Pats, no_pats, pats, Exp, Const, name, Call, Rec, More, Inj, Coll, Comp, If, Let, Case, Path, Not, Neg, Chain, Exps, no_exps, exps, Flds, no_flds, flds, Quals, no_quals, draw, test, Branches, no_branches, otherwise, branch, Steps, no_steps, step, Decls, no_decls, constant, function}
 use Rattle.kl_syntax.specs.View.{view, decls_of}
 use Rattle.kl_scope.specs.declared.names.Sense.{Sense}
 use Rattle.kl_scope.specs.declared.refusal.ScopeError.TheVariants.{Misapplied}
@@ -32,9 +35,9 @@ use Rattle.kl_core.specs.declared.term.Term.{Term}
 use Rattle.kl_core.specs.Trees as term
 use Rattle.kl_core.specs.Trees.{Tree, Trees, no_trees, trees, Arms}
 use Rattle.kl_desugar.specs.Small.{IsSmall, StaysSmall}
-use Rattle.kl_desugar.specs.Translation.{Scope, level_of, Place, here, inside, place_tree, Code, value_by, function_by, primitive_by, Codes, no_sense, level_tree, name_tree, tested, matched, matched_fields, empty, called_tree, operated_tree, projected, matched_here, tree, tree_all, tree_fields, tree_quals, tree_branches, tree_steps, number_of, code_at, codes_first, with_code, function_tree, codes_after, term_of}
+use Rattle.kl_desugar.specs.Translation.{Scope, level_of, Place, here, inside, place_tree, Code, value_by, function_by, primitive_by, Codes, no_sense, level_tree, name_tree, with_rest, tested, matched, matched_fields, empty, called_tree, operated_tree, projected, matched_here, tree, tree_all, tree_fields, tree_quals, tree_branches, tree_steps, number_of, code_at, codes_first, with_code, function_tree, codes_after, term_of}
 use Rattle.kl_desugar.specs.Translation as translation
-use Rattle.kl_desugar.specs.Layers.{after_pat, after_pats, after_quals}
+use Rattle.kl_desugar.specs.Layers.{after_tail, after_pat, after_pats, after_quals}
 use Rattle.kl_desugar.proofs.Scopes.{text_is, turned, standing, Both, both_more, Matches, here_matches, quals_match, seen}
 use Rattle.kl_desugar.proofs.Tidying.{Clean, first_clean, last_clean, never_breach}
 
@@ -204,6 +207,11 @@ module _ (defs : List (Name × Bool)) (sources : List Name) (codes : Codes) (ds 
 
   -- ---- patterns
 
+  rest_fits : (end : Tail) (ps : Pats) (t : Place) (R : Scope) (A : Scope → Tree) (a b : Size) → PlaceFits t a → Within (A (after_tail end R)) b → Within (with_rest end ps t A R) (size.with_rest end a b)
+  rest_fits (tail.Rest x) ps t R A a b h k = node_fits _ _ _ (beside_fits _ _ _ _ _ b (node_fits _ _ _ (beside_fits _ _ _ _ a leaf (h (length R)) (and_none _ _ leaf leaf_fits))) k)
+  rest_fits tail.Exact ps t R A a b h k = k
+  rest_fits tail.Open ps t R A a b h k = k
+
   module _ (S : Scope) (s : Seen) (m : Matches defs sources S s) (e : Tree) (missed : Within e leaf) where
     mutual
       matched_fits : (p : Pat) (t : Place) (R : Scope) (A : Scope → Tree) (a b : Size) → PlaceFits t a → Within (A (after_pat (resolved_pat p s) R)) b → Clean (pattern_findings p s) → Within (matched (resolved_pat p s) t codes S e A R) (size.matched (resolved_pat p s) a b ds)
@@ -211,7 +219,9 @@ module _ (defs : List (Name × Bool)) (sources : List Name) (codes : Codes) (ds 
       matched_fits any t R A a b h k clean = k
       matched_fits (same x) t R A a b h k clean = tested_fits (place_tree t (length R)) (name_tree codes S (meant (named s x.text) x).text (length R)) (A R) e a (size.named (meant (named s x.text) x).means ds) b (h (length R)) (name_fits S s x (length R) m clean) k missed
       matched_fits (is v n) t R A a b h k clean = tested_fits (place_tree t (length R)) (term.Const v) (A R) e a leaf b (h (length R)) leaf_fits k missed
-      matched_fits (shape ps dots) t R A a b h k clean = fields_fit ps t R A a b h k (last_clean (repeated [] (pattern_labels ps)) _ clean)
+      matched_fits (shape ps end) t R A a b h k clean =
+          fields_fit ps t R (λ Q. with_rest end (resolved_pats ps s) t A Q) a (size.with_rest end a b) h
+          (rest_fits end (resolved_pats ps s) t (after_pats (resolved_pats ps s) R) A a b h k) (last_clean (repeated [] (pattern_labels ps)) _ clean)
       matched_fits (variant l p) t R A a b h k clean =
           node_fits _ _ _ (beside_fits _ _ _ _ a _ (h (length R)) (beside_fits _ _ _ _ _ leaf (matched_fits p (here (length R)) (None ∷ R) A leaf b (λ n. leaf_fits) k clean) missed))
 
@@ -241,6 +251,10 @@ module _ (defs : List (Name × Bool)) (sources : List Name) (codes : Codes) (ds 
         (call_fits (place_in s.variables f.text) (standing s.definitions s.sources f.text) (primitive_of f.text) (codes f.text) f es s codes S _ ds (stands S s f.text m)
         (first_clean _ (findings_all es s) h) (all_fit es S s m (last_clean (used (called s f.text) f (count es)) _ h)))
     tree_fits (Rec fs) S s m h = record_fits (tree_fields (resolved_fields fs s) codes S) _ (parts_fit fs S s m (last_clean (repeated [] (field_labels fs)) _ h))
+    tree_fits (More fs a) S s m h =
+        let k = last_clean (repeated [] (field_labels fs)) (findings_fields fs s ++ findings a s) h in
+        node_fits _ _ _ (beside_fits _ _ _ _ _ _ (record_fits (tree_fields (resolved_fields fs s) codes S) _ (parts_fit fs S s m (first_clean _ (findings a s) k)))
+        (and_none _ _ _ (tree_fits a S s m (last_clean (findings_fields fs s) _ k))))
     tree_fits (Inj l a) S s m h = node_fits _ _ _ (tree_fits a S s m h)
     tree_fits (Coll k es) S s m h = node_fits _ _ _ (all_fit es S s m h)
     tree_fits (Comp k e qs) S s m h =
@@ -377,6 +391,7 @@ small_by scoped t told p sources r limits =
     subst IsSmall (sym whole)
     (program_fits ds (view p.last) first (codes_first sources) [] refl refl (first_fit sources) (first_clean _ (findings (view p.last) (behind_decls ds first)) all) (last_clean (decls_findings ds first) _ all) sizes)
 
-pub small_ok : {X : Type 0} (r : Result Term X) (scoped : Scoped) → IfOk r (λ t. term.view t ≡ term_of (decls_of scoped.program.defs) (view scoped.program.last) scoped.sources) → IfOk r (λ t. StaysSmall scoped (term.view t))
-small_ok (Ok t) scoped h = small_by scoped (term.view t) h
-small_ok (Err x) scoped h = tt
+pub small_ok : {X : Type 0} (r : Result Term X) (scoped : Scoped) (p : Program) (sources : List Name) → p ≡ scoped.program → sources ≡ scoped.sources
+    → IfOk r (λ t. term.view t ≡ term_of (decls_of p.defs) (view p.last) sources) → IfOk r (λ t. StaysSmall scoped (term.view t))
+small_ok (Ok t) scoped p sources i j h = small_by scoped (term.view t) (h ∙ rw (i, j) refl)
+small_ok (Err x) scoped p sources i j h = tt

@@ -4,7 +4,7 @@ use Rattle.std.specs.List.{AllByRecursion}
 use Rattle.kl_base.specs.Fields.{LabelsRise}
 use Rattle.kl_type.specs.Ground.{Ground, Row, IsRow}
 use Rattle.kl_outcome.specs.Outcome.{Name}
-use Rattle.kl_meaning.proofs.Fields.{IsFieldOf, HasAll, along_row}
+use Rattle.kl_outcome.proofs.RowFields.{IsFieldOf, HasAll, along_row}
 use Rattle.kl_core.specs.Trees.{Tree, parts_of}
 use Rattle.kl_core.specs.Typing.{SourceTypes, CoreTypes, PartTypes}
 

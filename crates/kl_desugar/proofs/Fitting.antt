@@ -1,5 +1,5 @@
 -- The term of a pattern has the type of what goes on behind it.
-use Rattle.std.proofs.Common.{◌≡◌, ◌⊎◌, inl, inr, ℕ, Bool, true, false, cond, nat_eq, List, [], ◌∷◌, ◌++◌, length, Option, Some, None, refl, sym, ap, subst, ◌∙◌}
+use Rattle.std.proofs.Common.{IsSome, IsTrue, ◌≡◌, ◌⊎◌, inl, inr, ℕ, Bool, true, false, cond, nat_eq, List, [], ◌∷◌, ◌++◌, length, Option, Some, None, refl, sym, ap, subst, ◌∙◌}
 use Rattle.std.specs.List.{AllByRecursion}
 use Rattle.kl_base.specs.Fields.{field}
 use Rattle.kl_prim.specs.Table.{row_at, rows}
@@ -7,15 +7,19 @@ use Rattle.kl_type.specs.Ground.{Ground, Row, bool, rec, var, at, IsGround}
 use Rattle.kl_outcome.specs.Outcome.{Name}
 use Rattle.kl_outcome.specs.Typed.{PrimTypes}
 use Rattle.kl_outcome.proofs.Grounds.{at_ground}
+use Rattle.kl_syntax.specs.declared.tree.Tail.{Tail}
+use Rattle.kl_syntax.specs.declared.tree.Tail.TheVariants as tail
 use Rattle.kl_syntax.specs.Syntax.{Pat, catch, any, same, is, shape, variant, Pats, no_pats, pats}
-use Rattle.kl_meaning.specs.Tidy.{IsSurePattern, AreSurePatterns}
-use Rattle.kl_meaning.specs.Typing.{Context, AreGround, Sort, nothing, value_of, function_of, primitive, KnownTypes, ValueTypes, VariableOr, NameTypes, Takes, TakesFields}
+use Rattle.kl_meaning.specs.Match.{has_label}
+use Rattle.kl_meaning.specs.Tidy.{IsSurePattern, AreSurePatterns, IsTidyPattern, AreTidyPatterns}
+use Rattle.kl_meaning.specs.Typing.{Context, AreGround, Sort, nothing, value_of, function_of, primitive, KnownTypes, ValueTypes, VariableOr, NameTypes, BindsRest, Takes, TakesFields}
 use Rattle.kl_core.specs.Trees.{Tree, Const}
-use Rattle.kl_core.specs.Typing.{SourceTypes, CoreTypes}
+use Rattle.kl_core.specs.Typing.{SourceTypes, CoreTypes, AllTypes}
 use Rattle.kl_core.proofs.Proper.{types_proper}
-use Rattle.kl_desugar.specs.Translation.{Scope, level_of, Place, here, inside, place_tree, Code, value_by, function_by, primitive_by, Codes, code_tree, level_tree, name_tree, tested, matched, matched_fields, matched_here}
+use Rattle.kl_desugar.specs.Translation.{Scope, level_of, Place, here, inside, place_tree, Code, value_by, function_by, primitive_by, Codes, code_tree, level_tree, name_tree, pair, mask, with_rest, tested, matched, matched_fields, matched_here}
 use Rattle.kl_desugar.specs.Translation as translation
 use Rattle.kl_desugar.proofs.Positions.{Standing, scope, values, names, level_get, Grows, grows_none, grows_one, grows_both, nearest, level_is, At, name_at}
+use Rattle.kl_desugar.proofs.Resting.{mask_row, mask_typed, takes_labels, rest_types}
 
 -- a name's code has the types that the name has, wherever the code is put
 abbrev pub Agrees : SourceTypes → Sort → Code → Type 0
@@ -106,18 +110,33 @@ module _ (S : SourceTypes) (known : KnownTypes) (codes : Codes) (rest : List Gro
     others_sure p ps (inl sure) = inl sure.1
     others_sure p ps (inr miss) = inr miss
 
+    rest_typed : (end : Tail) (ps : Pats) (t : Place) (P : Standing Ground) (r : Row) (H : Context) (A : Scope → Tree) → AreTidyPatterns ps → AllGround P → Carries t P (rec r)
+        → ((l : Name) → IsTrue (has_label ps l) → IsSome (at l r)) → BindsRest end r ps (names P) H
+        → ((Q : Standing Ground) → AllGround Q → Grows P Q → names Q ≡ H → CoreTypes S (values Q ++ rest) (A (scope Q)) u)
+        → CoreTypes S (values P ++ rest) (with_rest end ps t A (scope P)) u
+    rest_typed (tail.Rest x) ps t P r H A y i c has b k =
+        let args : AllTypes S (values P ++ rest) (pair (place_tree t (length (scope P))) (mask ps)) (rec r ∷ rec (mask_row ps) ∷ []) = (rec r, rec (mask_row ps) ∷ [], refl, place_typed S t P (rec r) rest i c, (rec (mask_row ps), [], refl, mask_typed S (values P ++ rest) ps y, refl)) in
+        (rec b.0, (rec r ∷ rec (mask_row ps) ∷ [], args, rest_types ps r b.0 has b.1), k ((Some x.text, rec b.0) ∷ P) (b.1.0, i) (grows_one P (Some x.text, rec b.0)) (sym b.2))
+    rest_typed tail.Exact ps t P r H A y i c has b k = k P i (grows_none P) (sym b)
+    rest_typed tail.Open ps t P r H A y i c has b k = k P i (grows_none P) (sym b)
+
     mutual
-      pub matched_typed : (p : Pat) (t : Place) (P : Standing Ground) (s : Ground) (H : Context) (A : Scope → Tree) → IsSurePattern p ⊎ Missed → AllGround P → Grows P0 P → Carries t P s → Takes p (NameTypes known (names P0)) s (names P) H
+      pub matched_typed : (p : Pat) (t : Place) (P : Standing Ground) (s : Ground) (H : Context) (A : Scope → Tree) → IsSurePattern p ⊎ Missed → IsTidyPattern p → AllGround P → Grows P0 P → Carries t P s → Takes p (NameTypes known (names P0)) s (names P) H
           → ((Q : Standing Ground) → AllGround Q → Grows P Q → names Q ≡ H → CoreTypes S (values Q ++ rest) (A (scope Q)) u)
           → CoreTypes S (values P ++ rest) (matched p t codes (scope P0) e A (scope P)) u
-      matched_typed (catch x) t P s H A m i g c h k =
+      matched_typed (catch x) t P s H A m y i g c h k =
           let d = place_typed S t P s rest i c in (s, d, k ((Some x.text, s) ∷ P) (types_proper S _ _ s d, i) (grows_one P (Some x.text, s)) (sym h))
-      matched_typed any t P s H A m i g c h k = k P i (grows_none P) (sym h)
-      matched_typed (same x) t P s H A m i g c h k = if_tested s t P _ _ (must_miss m) i c (name_typed P0 P x.text s i g h.0) (k P i (grows_none P) (sym h.1))
-      matched_typed (is w n) t P s H A m i g c h k =
+      matched_typed any t P s H A m y i g c h k = k P i (grows_none P) (sym h)
+      matched_typed (same x) t P s H A m y i g c h k = if_tested s t P _ _ (must_miss m) i c (name_typed P0 P x.text s i g h.0) (k P i (grows_none P) (sym h.1))
+      matched_typed (is w n) t P s H A m y i g c h k =
           let d = types_proper S _ _ s (place_typed S t P s rest i c) in if_tested s t P (Const w) _ (must_miss m) i c (d, h.0) (k P i (grows_none P) (sym h.1))
-      matched_typed (shape ps dots) t P s H A m i g c h k = fields_typed ps t P h.0 H A m i g (subst (Carries t P) h.1 c) h.3 k
-      matched_typed (variant l p) t P s H A m i g c h k =
+      matched_typed (shape ps end) t P s H A m y i g c h k =
+          let held = subst (Carries t P) h.2 c in
+          fields_typed ps t P h.0 h.1 (λ Q. with_rest end ps t A Q) m y i g held h.4
+          (λ Q q j n.
+          rest_typed end ps t Q h.0 H A y q (carries_more t P Q (rec h.0) j held) (takes_labels ps _ h.0 (names P) h.1 h.4) (subst (λ G. BindsRest end h.0 ps G H) (sym n) h.5)
+          (λ R w i' o. k R w (grows_both P Q R j i') o))
+      matched_typed (variant l p) t P s H A m y i g c h k =
           let miss = must_miss m in
           let deeper = (None, h.1) ∷ P in
           let subject = subst (CoreTypes S (values P ++ rest) (place_tree t (length (scope P)))) h.2 (place_typed S t P s rest i c) in
@@ -128,25 +147,25 @@ module _ (S : SourceTypes) (known : KnownTypes) (codes : Codes) (rest : List Gro
             (
               h.1,
               h.3,
-              matched_typed p (here (length (scope P))) deeper h.1 H A (inr miss) (carried, i) (grows_both P0 P deeper g (grows_one P (None, h.1))) (nearest P (None, h.1)) h.4
+              matched_typed p (here (length (scope P))) deeper h.1 H A (inr miss) y (carried, i) (grows_both P0 P deeper g (grows_one P (None, h.1))) (nearest P (None, h.1)) h.4
                   (λ Q o j n. k Q o (grows_both P deeper Q (grows_one P (None, h.1)) j) n),
               miss _,
             ),
           )
 
-      pub fields_typed : (ps : Pats) (t : Place) (P : Standing Ground) (r : Row) (H : Context) (A : Scope → Tree) → AreSurePatterns ps ⊎ Missed → AllGround P → Grows P0 P → Carries t P (rec r) → TakesFields ps (NameTypes known (names P0)) r (names P) H
+      pub fields_typed : (ps : Pats) (t : Place) (P : Standing Ground) (r : Row) (H : Context) (A : Scope → Tree) → AreSurePatterns ps ⊎ Missed → AreTidyPatterns ps → AllGround P → Grows P0 P → Carries t P (rec r) → TakesFields ps (NameTypes known (names P0)) r (names P) H
           → ((Q : Standing Ground) → AllGround Q → Grows P Q → names Q ≡ H → CoreTypes S (values Q ++ rest) (A (scope Q)) u)
           → CoreTypes S (values P ++ rest) (matched_fields ps t codes (scope P0) e A (scope P)) u
-      fields_typed no_pats t P r H A m i g c h k = k P i (grows_none P) (sym h)
-      fields_typed (pats l p ps) t P r H A m i g c h k =
-          matched_typed p (inside l.text t) P h.0 h.1 (λ Q. matched_fields ps t codes (scope P0) e A Q) (first_sure p ps m) i g (r, c, h.2) h.3
+      fields_typed no_pats t P r H A m y i g c h k = k P i (grows_none P) (sym h)
+      fields_typed (pats l p ps) t P r H A m y i g c h k =
+          matched_typed p (inside l.text t) P h.0 h.1 (λ Q. matched_fields ps t codes (scope P0) e A Q) (first_sure p ps m) y.1 i g (r, c, h.2) h.3
           (λ Q q j n.
-          fields_typed ps t Q r H A (others_sure p ps m) q (grows_both P0 P Q g j) (carries_more t P Q (rec r) j c) (subst (λ M. TakesFields ps (NameTypes known (names P0)) r M H) (sym n) h.4)
+          fields_typed ps t Q r H A (others_sure p ps m) y.2 q (grows_both P0 P Q g j) (carries_more t P Q (rec r) j c) (subst (λ M. TakesFields ps (NameTypes known (names P0)) r M H) (sym n) h.4)
           (λ R w i' o. k R w (grows_both P Q R j i') o))
 
   -- a value that was just bound is matched
-  pub here_typed : (p : Pat) (P : Standing Ground) (s u : Ground) (e : Tree) (H : Context) (A : Scope → Tree) → IsSurePattern p ⊎ ((G : List Ground) → CoreTypes S G e u) → Takes p (NameTypes known (names P)) s (names P) H → IsGround s → AllGround P
+  pub here_typed : (p : Pat) (P : Standing Ground) (s u : Ground) (e : Tree) (H : Context) (A : Scope → Tree) → IsSurePattern p ⊎ ((G : List Ground) → CoreTypes S G e u) → IsTidyPattern p → Takes p (NameTypes known (names P)) s (names P) H → IsGround s → AllGround P
       → ((Q : Standing Ground) → AllGround Q → names Q ≡ H → CoreTypes S (values Q ++ rest) (A (scope Q)) u)
       → CoreTypes S (s ∷ values P ++ rest) (matched_here p codes (scope P) e A) u
-  here_typed p P s u e H A m h g i k =
-      matched_typed P u e p (here (length (scope P))) ((None, s) ∷ P) s H A m (g, i) (grows_one P (None, s)) (nearest P (None, s)) h (λ Q q j n. k Q q n)
+  here_typed p P s u e H A m y h g i k =
+      matched_typed P u e p (here (length (scope P))) ((None, s) ∷ P) s H A m y (g, i) (grows_one P (None, s)) (nearest P (None, s)) h (λ Q q j n. k Q q n)

@@ -6,12 +6,13 @@ use Rattle.kl_value.specs.declared.Value.{Value}
 use Rattle.kl_value.specs.declared.Value.TheVariants as value
 use Rattle.kl_prim.specs.Table.{meaning}
 use Rattle.kl_value.specs.Views.{as_bool}
-use Rattle.kl_outcome.specs.Outcome.{Outcome, done, over, stuck, Flow, stop, fine, Name, answered, if_then, chosen, applied, outcome_of, as_record, as_variant, field_in, part, collected, item_then}
+use Rattle.kl_prim.specs.Records.{in_order}
+use Rattle.kl_outcome.specs.Outcome.{Outcome, done, over, stuck, Flow, stop, fine, Name, answered, if_then, chosen, applied, recorded, outcome_of, as_record, as_variant, field_in, part, collected, item_then}
 use Rattle.kl_outcome.proofs.Refining.{Refines, refines_same, refines_is, after_up, if_up, opened_up, RefinesAll, args_up, Pairs, parts_up, FlowUp, item_up, collected_up, union_up}
 use Rattle.kl_syntax.specs.declared.tree.Op.{Op}
 use Rattle.kl_syntax.specs.declared.tree.Word.{Word}
 use Rattle.kl_syntax.specs.declared.tree.Op.TheVariants as op
-use Rattle.kl_syntax.specs.Syntax.{Exp, Const, name, Call, Rec, Inj, Coll, Comp, If, Let, Case, Path, Not, Neg, Chain, Exps, no_exps, exps, Flds, no_flds, flds, Quals, no_quals, draw, test, Branches, no_branches, otherwise, branch, Steps, no_steps, step, Decls, no_decls, constant, function}
+use Rattle.kl_syntax.specs.Syntax.{Exp, Const, name, Call, Rec, More, Inj, Coll, Comp, If, Let, Case, Path, Not, Neg, Chain, Exps, no_exps, exps, Flds, no_flds, flds, Quals, no_quals, draw, test, Branches, no_branches, otherwise, branch, Steps, no_steps, step, Decls, no_decls, constant, function}
 use Rattle.kl_meaning.specs.Match.{Env, same_name, fits}
 use Rattle.kl_meaning.specs.Run.{Meant, nothing, value_of, function_of, primitive, KnownOutcomes, look_up, called, operated, parts_of, flow_if, draw_if, run, run_all, run_items, run_fields, run_quals, run_branches, run_steps, code_named, meant_at, at_first, known_after, meaning_of_program}
 use Rattle.kl_core.specs.Core.{Tables, core, core_all, core_items, core_parts, core_arms}
@@ -90,13 +91,18 @@ parts_are T [] (t ∷ ts) env h = absurd h
 parts_are T (o ∷ os) [] env h = absurd h
 parts_are T (o ∷ os) (t ∷ ts) env (e, h, k) = (e, h, parts_are T os ts env k)
 
+record_up : (T : Tables) (os : List (Name × Outcome)) (ts : List (Name × Tree)) (env : List Value) → Pairs (λ o t. Refines o (core T t env)) os ts
+    → Refines (recorded (in_order os)) (core T (term.Rec (term.parts_of (in_order ts))) env)
+record_up T os ts env h = parts_up _ _ _ (parts_are T _ _ env (order_up (λ o t. Refines o (core T t env)) os ts h))
+
 module _ (T : Tables) (known : KnownOutcomes) (codes : Codes) (rest : List Value) (meets : AllMeet T known codes) where
   mutual
     pub tree_up : (e : Exp) (P : Held) → Refines (run e known (names P)) (core T (tree e codes (scope P)) (values P ++ rest))
     tree_up (Const v) P = refl
     tree_up (name x) P = name_up T known codes rest meets P P x.text (grows_none P)
     tree_up (Call f es) P = call_up T (known f.text) (codes f.text) _ _ _ (meets f.text) (all_up es P)
-    tree_up (Rec fs) P = parts_up _ _ _ (parts_are T _ _ _ (order_up (λ o t. Refines o (core T t (values P ++ rest))) _ _ (fields_up fs P)))
+    tree_up (Rec fs) P = record_up T _ _ _ (fields_up fs P)
+    tree_up (More fs a) P = two_up 27 _ _ _ _ (record_up T _ _ _ (fields_up fs P)) (tree_up a P)
     tree_up (Inj l a) P = after_up (run a known (names P)) _ _ _ (tree_up a P) (λ v. refines_same (done (value.Inj l.text v)))
     tree_up (Coll k es) P = collected_up k _ _ (items_up es P)
     tree_up (Comp k e qs) P =

@@ -10,6 +10,7 @@ pub mod Naming
 pub mod Ordered
 pub mod Positions
 pub mod Reaching
+pub mod Resting
 pub mod Scopes
 pub mod Mentioned
 pub mod Sense

@@ -7,18 +7,22 @@ use Rattle.kl_value.specs.Order.{compare}
 use Rattle.kl_value.specs.declared.Kind.{Kind}
 use Rattle.kl_value.specs.declared.Value.{Value}
 use Rattle.kl_value.specs.declared.Value.TheVariants as value
+use Rattle.kl_prim.specs.Records.{Fields, without}
 use Rattle.kl_prim.specs.Table.{meaning, row_at, rows}
 use Rattle.kl_value.specs.Views.{as_bool}
 use Rattle.kl_outcome.proofs.Drawing.{kept_none}
 use Rattle.kl_outcome.specs.Outcome.{Outcome, done, over, stuck, Flow, stop, fine, Name, after, answered, if_then, outcome_of, as_record, as_variant, opened, collected}
+use Rattle.kl_syntax.specs.declared.tree.Tail.{Tail}
+use Rattle.kl_syntax.specs.declared.tree.Tail.TheVariants as tail
 use Rattle.kl_syntax.specs.Syntax.{Pat, catch, any, same, is, shape, variant, Pats, no_pats, pats}
-use Rattle.kl_meaning.specs.Match.{Env, Fit, bound, misses, past, odd, fit_then, same_name, compared, has_label, fit_field, fit_record, fit_variant, fits, fits_fields, if_fits, must_fit}
+use Rattle.kl_meaning.specs.Match.{Env, Fit, bound, misses, past, odd, fit_then, same_name, compared, has_label, is_open, bind_rest, fit_field, fit_record, fit_variant, fits, fits_fields, if_fits, must_fit}
 use Rattle.kl_meaning.specs.Run.{Meant, nothing, value_of, function_of, primitive, KnownOutcomes, as_value, named, look_up}
 use Rattle.kl_core.specs.Core.{Tables, core}
 use Rattle.kl_core.specs.Trees.{Tree}
-use Rattle.kl_desugar.specs.Translation.{Scope, level_of, Place, here, inside, place_tree, Code, value_by, function_by, primitive_by, Codes, code_tree, level_tree, name_tree, matched, matched_fields, matched_here, empty}
+use Rattle.kl_desugar.specs.Translation.{Scope, level_of, Place, here, inside, place_tree, Code, value_by, function_by, primitive_by, Codes, code_tree, level_tree, name_tree, with_rest, matched, matched_fields, matched_here, empty}
 use Rattle.kl_desugar.specs.Translation as translation
 use Rattle.kl_desugar.proofs.Positions.{Held, scope, values, names, Grows, grows_none, grows_one, grows_both, nearest, level_is, At, name_at, Stands, stands_more, place_is}
+use Rattle.kl_desugar.proofs.Resting.{HasLabels, rest_means}
 use Rattle.kl_outcome.proofs.Refining.{Refines}
 
 -- what comes of a fit, where `miss` comes of none
@@ -116,6 +120,15 @@ module _ (T : Tables) (known : KnownOutcomes) (codes : Codes) (rest : List Value
       chosen_by false = k
   variant_up None l go miss e a K h k = tt
 
+  rest_up : (end : Tail) (ps : Pats) (t : Place) (P : Held) (v : Value) (fs : Fields) (miss : Outcome) (K : Env → Outcome) (A : Scope → Tree) → Stands t P v → as_record v ≡ Some fs → HasLabels ps fs
+      → ((Q : Held) → Grows P Q → Refines (K (names Q)) (core T (A (scope Q)) (values Q ++ rest)))
+      → Refines (fit_to miss (bind_rest end (without (has_label ps) fs) (names P)) K) (core T (with_rest end ps t A (scope P)) (values P ++ rest))
+  rest_up (tail.Rest x) ps t P v fs miss K A s r h k =
+      let others = value.Rec (without (has_label ps) fs) in
+      rw (place_is T t P v rest s, rest_means v fs ps r h) (k ((Some x.text, others) ∷ P) (grows_one P (Some x.text, others)))
+  rest_up tail.Exact ps t P v fs miss K A s r h k = k P (grows_none P)
+  rest_up tail.Open ps t P v fs miss K A s r h k = k P (grows_none P)
+
   -- P0 is what stood before the pattern, P what stands by now
   module _ (P0 : Held) (miss : Outcome) (e : Tree) (missed : (env : List Value) → Refines miss (core T e env)) where
     mutual
@@ -128,8 +141,11 @@ module _ (T : Tables) (known : KnownOutcomes) (codes : Codes) (rest : List Value
           rw (place_is T t P v rest s) (compared_up _ _ _ _ miss v (names P) K (name_up P0 P x.text g) (k P (grows_none P)) (missed _))
       matched_up (is w n) t P v K A g s k =
           rw (place_is T t P v rest s) (compared_up (done w) (done w) _ _ miss v (names P) K refl (k P (grows_none P)) (missed _))
-      matched_up (shape ps dots) t P v K A g s k =
-          shape_up (as_record v) dots ps _ miss _ K (λ fs r. fields_up ps t P v fs K A g s r k)
+      matched_up (shape ps end) t P v K A g s k =
+          shape_up (as_record v) (is_open end) ps _ miss _ K
+          (λ fs r. rw (fit_both miss (fits_fields ps (look_up known (names P0)) fs (names P)) (λ inner. bind_rest end (without (has_label ps) fs) inner) K)
+          (fields_up ps t P v fs (λ inner. fit_to miss (bind_rest end (without (has_label ps) fs) inner) K) (λ Q. with_rest end ps t A Q) g s r
+          (λ Q h there. rest_up end ps t Q v fs miss K A (stands_more t P Q v h s) r there (λ R j. k R (grows_both P Q R h j)))))
       matched_up (variant l p) t P v K A g s k =
           rw (place_is T t P v rest s)
           (variant_up (as_variant v) l.text _ miss _ _ K
@@ -137,15 +153,15 @@ module _ (T : Tables) (known : KnownOutcomes) (codes : Codes) (rest : List Value
           (missed _))
 
       pub fields_up : (ps : Pats) (t : Place) (P : Held) (v : Value) (fs : List (Name × Value)) (K : Env → Outcome) (A : Scope → Tree) → Grows P0 P → Stands t P v → as_record v ≡ Some fs
-          → ((Q : Held) → Grows P Q → Refines (K (names Q)) (core T (A (scope Q)) (values Q ++ rest)))
+          → ((Q : Held) → Grows P Q → HasLabels ps fs → Refines (K (names Q)) (core T (A (scope Q)) (values Q ++ rest)))
           → Refines (fit_to miss (fits_fields ps (look_up known (names P0)) fs (names P)) K) (core T (matched_fields ps t codes (scope P0) e A (scope P)) (values P ++ rest))
-      fields_up no_pats t P v fs K A g s r k = k P (grows_none P)
+      fields_up no_pats t P v fs K A g s r k = k P (grows_none P) tt
       fields_up (pats l p ps) t P v fs K A g s r k =
           field_up (field l.text fs) _ miss _ K
           (λ w found. rw (fit_both miss (fits p (look_up known (names P0)) w (names P)) (λ inner. fits_fields ps (look_up known (names P0)) fs inner) K)
           (matched_up p (inside l.text t) P w (λ inner. fit_to miss (fits_fields ps (look_up known (names P0)) fs inner) K) (λ Q. matched_fields ps t codes (scope P0) e A Q) g
           (v, s, rw (r, found) refl)
-          (λ Q h. fields_up ps t Q v fs K A (grows_both P0 P Q g h) (stands_more t P Q v h s) r (λ R j. k R (grows_both P Q R h j)))))
+          (λ Q h. fields_up ps t Q v fs K A (grows_both P0 P Q g h) (stands_more t P Q v h s) r (λ R j there. k R (grows_both P Q R h j) (rw found refl, there)))))
 
   -- a value that was just bound is matched
   pub here_up : (p : Pat) (P : Held) (v : Value) (miss : Outcome) (e : Tree) (K : Env → Outcome) (A : Scope → Tree) → ((env : List Value) → Refines miss (core T e env))

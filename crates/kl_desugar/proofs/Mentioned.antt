@@ -8,9 +8,12 @@ use Rattle.kl_value.specs.declared.Kind.{Kind}
 use Rattle.kl_outcome.specs.Outcome.{Name}
 use Rattle.kl_syntax.specs.declared.tree.Meaning.TheVariants.{Variable, Definition, Source}
 use Rattle.kl_syntax.specs.declared.tree.Op.{Op}
+use Rattle.kl_syntax.specs.declared.tree.Program.{Program}
 use Rattle.kl_syntax.specs.declared.tree.Op.TheVariants as op
+use Rattle.kl_syntax.specs.declared.tree.Tail.{Tail}
+use Rattle.kl_syntax.specs.declared.tree.Tail.TheVariants as tail
 use Rattle.kl_syntax.specs.declared.tree.Word.{Word}
-use Rattle.kl_syntax.specs.Syntax.{Pat, catch, any, same, is, shape, variant, Pats, no_pats, pats, Exp, Const, name, Call, Rec, Inj, Coll, Comp, If, Let, Case, Path, Not, Neg, Chain, Exps, no_exps, exps, Flds, no_flds, flds, Quals, no_quals, draw, test, Branches, no_branches, otherwise, branch, Steps, no_steps, step, Decls, no_decls, constant, function}
+use Rattle.kl_syntax.specs.Syntax.{Pat, catch, any, same, is, shape, variant, Pats, no_pats, pats, Exp, Const, name, Call, Rec, More, Inj, Coll, Comp, If, Let, Case, Path, Not, Neg, Chain, Exps, no_exps, exps, Flds, no_flds, flds, Quals, no_quals, draw, test, Branches, no_branches, otherwise, branch, Steps, no_steps, step, Decls, no_decls, constant, function}
 use Rattle.kl_syntax.specs.View.{view, decls_of}
 use Rattle.kl_scope.specs.declared.names.Sense.{Sense}
 use Rattle.kl_scope.specs.declared.refusal.ScopeError.TheVariants.{Misapplied}
@@ -22,15 +25,15 @@ use Rattle.kl_scope.specs.Resolved.{meant, resolved_pat, resolved_pats, resolved
 use Rattle.kl_scope.specs.Senses.{Scope as Seen, sense, place_in, definition_in, source_in, named, called, at_first, defined}
 use Rattle.kl_meaning.specs.Match.{same_name}
 use Rattle.kl_meaning.specs.Run.{code_named}
-use Rattle.kl_meaning.proofs.Fields.{in_order_all}
+use Rattle.kl_prim.proofs.RecordLemmas.{in_order_all}
 use Rattle.kl_core.specs.declared.term.Term.{Term}
 use Rattle.kl_core.specs.Leaves.{Leaves, LeavesOfTrees, LeavesOfParts, LeavesOfArms}
 use Rattle.kl_core.specs.Trees as term
 use Rattle.kl_core.specs.Trees.{Tree, Trees, no_trees, trees, Arms}
 use Rattle.kl_desugar.specs.Mentioned.{ReadsMentioned}
-use Rattle.kl_desugar.specs.Translation.{Scope, level_of, Place, here, inside, place_tree, Code, value_by, function_by, primitive_by, Codes, no_sense, level_tree, name_tree, tested, matched, matched_fields, empty, called_tree, operated_tree, projected, matched_here, tree, tree_all, tree_fields, tree_quals, tree_branches, tree_steps, number_of, code_at, codes_first, with_code, function_tree, codes_after, term_of}
+use Rattle.kl_desugar.specs.Translation.{Scope, level_of, Place, here, inside, place_tree, Code, value_by, function_by, primitive_by, Codes, no_sense, level_tree, name_tree, with_rest, tested, matched, matched_fields, empty, called_tree, operated_tree, projected, matched_here, tree, tree_all, tree_fields, tree_quals, tree_branches, tree_steps, number_of, code_at, codes_first, with_code, function_tree, codes_after, term_of}
 use Rattle.kl_desugar.specs.Translation as translation
-use Rattle.kl_desugar.specs.Layers.{after_pat, after_pats, after_quals}
+use Rattle.kl_desugar.specs.Layers.{after_tail, after_pat, after_pats, after_quals}
 use Rattle.kl_desugar.proofs.Scopes.{text_is, turned, standing, Both, Matches, here_matches, quals_match, seen}
 
 abbrev Anywhere : ℕ → Type 0
@@ -145,6 +148,11 @@ module _ (top : ℕ) (P : ℕ → Type 0) where
 
     -- ---- patterns
 
+    rest_reads : (end : Tail) (ps : Pats) (t : Place) (R : Scope) (A : Scope → Tree) → Reads (A (after_tail end R)) → Reads (with_rest end ps t A R)
+    rest_reads (tail.Rest x) ps t R A k = ((place_reads t (length R), (tt, tt)), k)
+    rest_reads tail.Exact ps t R A k = k
+    rest_reads tail.Open ps t R A k = k
+
     module _ (S : Scope) (s : Seen) (m : Matches defs sources S s) (e : Tree) (missed : Reads e) where
       mutual
         matched_reads : (p : Pat) (t : Place) (R : Scope) (A : Scope → Tree) → Reads (A (after_pat (resolved_pat p s) R)) → Held (pattern_findings p s) → Reads (matched (resolved_pat p s) t codes S e A R)
@@ -152,7 +160,9 @@ module _ (top : ℕ) (P : ℕ → Type 0) where
         matched_reads any t R A k h = k
         matched_reads (same x) t R A k h = ((place_reads t (length R), (name_reads S s x (length R) m h, tt)), k, missed)
         matched_reads (is v n) t R A k h = ((place_reads t (length R), (tt, tt)), k, missed)
-        matched_reads (shape ps dots) t R A k h = fields_read ps t R A k (last_held (repeated [] (pattern_labels ps)) (patterns_findings ps s) h)
+        matched_reads (shape ps end) t R A k h =
+            fields_read ps t R (λ Q. with_rest end (resolved_pats ps s) t A Q) (rest_reads end (resolved_pats ps s) t (after_pats (resolved_pats ps s) R) A k)
+            (last_held (repeated [] (pattern_labels ps)) (patterns_findings ps s) h)
         matched_reads (variant l p) t R A k h = (place_reads t (length R), (matched_reads p (here (length R)) (None ∷ R) A k h, missed))
 
         fields_read : (ps : Pats) (t : Place) (R : Scope) (A : Scope → Tree) → Reads (A (after_pats (resolved_pats ps s) R)) → Held (patterns_findings ps s) → Reads (matched_fields (resolved_pats ps s) t codes S e A R)
@@ -180,6 +190,9 @@ module _ (top : ℕ) (P : ℕ → Type 0) where
           subst (λ x. Reads (called_tree (codes x) (tree_all (resolved_all es s) codes S))) (sym (text_is (called s f.text) f))
           (call_reads (standing s.definitions s.sources f.text) (codes f.text) _ (stands S s f.text m) (all_read es S s m (last_held (used (called s f.text) f (count es)) (findings_all es s) h)))
       tree_reads (Rec fs) S s m h = parts_read _ (in_order_all (λ p. Reads p.1) _ (fields_are fs S s m (last_held (repeated [] (field_labels fs)) (findings_fields fs s) h)))
+      tree_reads (More fs a) S s m h =
+          let k = last_held (repeated [] (field_labels fs)) (findings_fields fs s ++ findings a s) h in
+          (parts_read _ (in_order_all (λ p. Reads p.1) _ (fields_are fs S s m (first_held (findings_fields fs s) (findings a s) k))), (tree_reads a S s m (last_held (findings_fields fs s) (findings a s) k), tt))
       tree_reads (Inj l a) S s m h = tree_reads a S s m h
       tree_reads (Coll k es) S s m h = all_read es S s m h
       tree_reads (Comp k e qs) S s m h =
@@ -292,6 +305,7 @@ reads_by scoped t told p sources r =
     subst (Leaves Anywhere P) (sym whole)
     (program_reads top P ds (view p.last) first (codes_first sources) refl (first_read top P sources refl) (first_held top P (decls_findings ds first) (findings (view p.last) (behind_decls ds first)) all) (last_held top P (decls_findings ds first) (findings (view p.last) (behind_decls ds first)) all))
 
-pub reads_ok : {X : Type 0} (r : Result Term X) (scoped : Scoped) → IfOk r (λ t. term.view t ≡ term_of (decls_of scoped.program.defs) (view scoped.program.last) scoped.sources) → IfOk r (λ t. ReadsMentioned scoped (term.view t))
-reads_ok (Ok t) scoped h = reads_by scoped (term.view t) h
-reads_ok (Err x) scoped h = tt
+pub reads_ok : {X : Type 0} (r : Result Term X) (scoped : Scoped) (p : Program) (sources : List Name) → p ≡ scoped.program → sources ≡ scoped.sources
+    → IfOk r (λ t. term.view t ≡ term_of (decls_of p.defs) (view p.last) sources) → IfOk r (λ t. ReadsMentioned scoped (term.view t))
+reads_ok (Ok t) scoped p sources i j h = reads_by scoped (term.view t) (h ∙ rw (i, j) refl)
+reads_ok (Err x) scoped p sources i j h = tt

@@ -1,29 +1,20 @@
 -- A stable sort by label leaves the fields of a record in their order, and those of equal labels alike.
-use Rattle.std.proofs.Common.{◌≡◌, Bool, true, false, cond, List, [], ◌∷◌, map, refl, sym, ap, ◌∙◌, Ordering, is_lt, is_gt}
-use Rattle.std.specs.Cmp.{IsTotalOrder, IsStrictWeakOrder}
+use Rattle.std.proofs.Common.{◌≡◌, Bool, true, false, cond, List, [], ◌∷◌, map, refl, sym, ap, ◌∙◌, is_gt}
 use Rattle.std.specs.List.Sorted.{IsSortedBy, IsStableBy}
 use Rattle.std.proofs.lemmas.Cmp.{on_total, nat_list_cmp_total}
-use Rattle.std.proofs.lemmas.List.MinMax.{ranks_by}
 use Rattle.kl_base.specs.Fields.{bytes_cmp}
 use Rattle.kl_base.specs.Sorted.{put_in}
+use Rattle.kl_base.proofs.FieldsLemmas.{by_label as below}
 use Rattle.kl_base.proofs.StableSorts.{stable_is}
 use Rattle.kl_outcome.specs.Outcome.{Name}
 use Rattle.kl_outcome.proofs.Refining.{Pairs}
-use Rattle.kl_meaning.specs.Run.{by_label, in_order}
+use Rattle.kl_prim.specs.Records.{by_label, in_order}
 use Rattle.kl_core.specs.declared.term.Term.{Term}
 use Rattle.kl_core.specs.Trees.{view_part}
 
-abbrev pub below : Name × Term → Name × Term → Bool
-below f g = is_lt (bytes_cmp f.0 g.0)
-
-pub below_ranks : IsStrictWeakOrder below
-below_ranks = ranks_by nat_list_cmp_total (λ (f : Name × Term). f.0)
-
-abbrev by_name : Name × Term → Name × Term → Ordering
-by_name f g = bytes_cmp f.0 g.0
-
-label_total : IsTotalOrder by_name
-label_total = on_total (λ (f : Name × Term). f.0) nat_list_cmp_total
+-- what a stable sort by label leaves
+pub sorted_order : {T : Type 0} (fs gs : List (Name × T)) → IsSortedBy below gs → IsStableBy below fs gs → gs ≡ in_order fs
+sorted_order {T} fs gs up stable = stable_is by_label (on_total (λ (f : Name × T). f.0) nat_list_cmp_total) fs gs up stable
 
 put_view : (f : Name × Term) (fs : List (Name × Term)) → map view_part (put_in by_label f fs) ≡ put_in by_label (view_part f) (map view_part fs)
 put_view f [] = refl
@@ -37,9 +28,8 @@ order_view : (fs : List (Name × Term)) → map view_part (in_order fs) ≡ in_o
 order_view [] = refl
 order_view (f ∷ fs) = put_view f (in_order fs) ∙ ap (put_in by_label (view_part f)) (order_view fs)
 
--- the fields that a stable sort by label leaves
 pub sorted_view : (fs gs : List (Name × Term)) → IsSortedBy below gs → IsStableBy below fs gs → map view_part gs ≡ in_order (map view_part fs)
-sorted_view fs gs up stable = ap (map view_part) (stable_is by_name label_total fs gs up stable) ∙ order_view fs
+sorted_view fs gs up stable = ap (map view_part) (sorted_order fs gs up stable) ∙ order_view fs
 
 -- pairs of the same labels are ordered alike
 module _ {A B : Type 0} (R : A → B → Type 0) where

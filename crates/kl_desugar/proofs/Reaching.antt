@@ -3,13 +3,15 @@ use Rattle.std.proofs.Common.{◌≡◌, Bool, true, false, List, [], ◌∷◌,
 use mathlib.Core.Path.{ap₂}
 use Rattle.kl_value.specs.declared.Kind.{Kind}
 use Rattle.kl_outcome.specs.Outcome.{Name}
+use Rattle.kl_syntax.specs.declared.tree.Tail.{Tail}
+use Rattle.kl_syntax.specs.declared.tree.Tail.TheVariants as tail
 use Rattle.kl_syntax.specs.declared.tree.Word.{Word}
-use Rattle.kl_syntax.specs.Syntax.{Pat, catch, any, same, is, shape, variant, Pats, no_pats, pats, Exp, Const, name, Call, Rec, Inj, Coll, Comp, If, Let, Case, Path, Not, Neg, Chain, Exps, no_exps, exps, Flds, no_flds, flds, Quals, no_quals, draw, test, Branches, no_branches, otherwise, branch, Steps, no_steps, step, Decls, no_decls, constant, function}
+use Rattle.kl_syntax.specs.Syntax.{Pat, catch, any, same, is, shape, variant, Pats, no_pats, pats, Exp, Const, name, Call, Rec, More, Inj, Coll, Comp, If, Let, Case, Path, Not, Neg, Chain, Exps, no_exps, exps, Flds, no_flds, flds, Quals, no_quals, draw, test, Branches, no_branches, otherwise, branch, Steps, no_steps, step, Decls, no_decls, constant, function}
 use Rattle.kl_meaning.specs.Match.{same_name}
 use Rattle.kl_meaning.specs.Run.{in_order}
 use Rattle.kl_core.specs.Trees as term
 use Rattle.kl_core.specs.Trees.{Tree, no_trees, trees}
-use Rattle.kl_desugar.specs.Translation.{Scope, Place, here, inside, place_tree, Code, value_by, function_by, Codes, level_of, level_tree, name_tree, tested, matched, matched_fields, empty, called_tree, operated_tree, projected, no_sense, tree, tree_all, tree_fields, tree_quals, tree_branches, tree_steps, with_code, codes_first, codes_after, function_tree, term_of}
+use Rattle.kl_desugar.specs.Translation.{Scope, Place, here, inside, place_tree, Code, value_by, function_by, Codes, level_of, level_tree, name_tree, pair, others, with_rest, tested, matched, matched_fields, empty, called_tree, operated_tree, projected, no_sense, tree, tree_all, tree_fields, tree_quals, tree_branches, tree_steps, with_code, codes_first, codes_after, function_tree, term_of}
 use Rattle.kl_desugar.specs.Reached.{pattern_names, patterns_names, names, names_all, names_fields, names_quals, names_branches, names_steps, is_among, if_among, wanted, kept_if, reached}
 
 -- the same code at each of these names
@@ -33,13 +35,19 @@ module _ (c d : Codes) where
   same_at : (S : Scope) (x : Name) (n : ℕ) → c x ≡ d x → name_tree c S x n ≡ name_tree d S x n
   same_at S x n h = ap (λ z. level_tree (level_of x S) z n) h
 
+  rest_same : (end : Tail) (ps : Pats) (t : Place) (A B : Scope → Tree) (R : Scope) → ((Q : Scope) → A Q ≡ B Q) → with_rest end ps t A R ≡ with_rest end ps t B R
+  rest_same (tail.Rest x) ps t A B R k = ap (term.Let (others ps t (length R))) (k (Some x.text ∷ R))
+  rest_same tail.Exact ps t A B R k = k R
+  rest_same tail.Open ps t A B R k = k R
+
   mutual
     pattern_same : (p : Pat) (t : Place) (S : Scope) (e : Tree) (A B : Scope → Tree) (R : Scope) → AgreeOn (pattern_names p) c d → ((Q : Scope) → A Q ≡ B Q) → matched p t c S e A R ≡ matched p t d S e B R
     pattern_same (catch x) t S e A B R h k = ap (term.Let (place_tree t (length R))) (k (Some x.text ∷ R))
     pattern_same any t S e A B R h k = k R
     pattern_same (same x) t S e A B R h k = ap₂ (λ u a. tested (place_tree t (length R)) u a e) (same_at S x.text (length R) h.0) (k R)
     pattern_same (is v n) t S e A B R h k = ap (λ a. tested (place_tree t (length R)) (term.Const v) a e) (k R)
-    pattern_same (shape ps dots) t S e A B R h k = patterns_same ps t S e A B R h k
+    pattern_same (shape ps end) t S e A B R h k =
+        patterns_same ps t S e (λ Q. with_rest end ps t A Q) (λ Q. with_rest end ps t B Q) R h (λ Q. rest_same end ps t A B Q k)
     pattern_same (variant l p) t S e A B R h k =
         ap (λ a. term.Case (place_tree t (length R)) (term.arm l.text a (term.rest e))) (pattern_same p (here (length R)) S e A B (None ∷ R) h k)
 
@@ -56,6 +64,9 @@ module _ (c d : Codes) where
     tree_same (name x) S h = same_at S x.text (length S) h.0
     tree_same (Call f es) S h = ap₂ called_tree h.0 (all_same es S h.1)
     tree_same (Rec fs) S h = ap (λ z. term.Rec (term.parts_of (in_order z))) (fields_same fs S h)
+    tree_same (More fs a) S h =
+        ap₂ (λ z u. term.Prim 27 (pair (term.Rec (term.parts_of (in_order z))) u)) (fields_same fs S (front (names_fields fs) (names a) c d h))
+        (tree_same a S (back (names_fields fs) (names a) c d h))
     tree_same (Inj l a) S h = ap (term.Inj l.text) (tree_same a S h)
     tree_same (Coll k es) S h = ap (term.Make k) (all_same es S h)
     tree_same (Comp k e qs) S h =

@@ -3,16 +3,18 @@ use Rattle.std.proofs.Common.{◌≡◌, ℕ, suc, Bool, true, false, cond, List
 use Rattle.std.specs.Option.{option_map, option_or}
 use Rattle.std.proofs.lemmas.Slice.Eq.{bytes_eq-Decides}
 use Rattle.kl_outcome.specs.Outcome.{Name}
+use Rattle.kl_syntax.specs.declared.tree.Tail.{Tail}
+use Rattle.kl_syntax.specs.declared.tree.Tail.TheVariants as tail
 use Rattle.kl_syntax.specs.declared.tree.Word.{Word}
 use Rattle.kl_syntax.specs.Syntax.{Pat, catch, any, same, is, shape, variant, Pats, no_pats, pats, Quals, no_quals, draw, test}
 use Rattle.kl_scope.specs.declared.names.Sense.{Sense}
 use Rattle.kl_scope.specs.Findings.{behind}
-use Rattle.kl_scope.specs.Patterns.{variables, variables_all, within}
+use Rattle.kl_scope.specs.Patterns.{rest_variable, variables, variables_all, within}
 use Rattle.kl_scope.specs.Resolved.{meant, resolved_pat, resolved_pats, resolved_quals}
 use Rattle.kl_scope.specs.Senses.{Scope as Seen, place_in, definition_in, source_in, bound, all_bound}
 use Rattle.kl_meaning.specs.Match.{same_name}
 use Rattle.kl_desugar.specs.Translation.{Scope, level_of}
-use Rattle.kl_desugar.specs.Layers.{after_pat, after_pats, after_quals}
+use Rattle.kl_desugar.specs.Layers.{after_tail, after_pat, after_pats, after_quals}
 
 pub text_is : (o : Option Sense) (w : Word) → (meant o w).text ≡ w.text
 text_is (Some q) w = refl
@@ -62,6 +64,11 @@ module _ (defs : List (Name × Bool)) (sources : List Name) where
   abbrev pub Matches : Scope → Seen → Type 0
   Matches S s = (visible S ≡ s.variables) × (s.definitions ≡ defs) × (s.sources ≡ sources)
 
+  rest_matches : (end : Tail) (R : Scope) (s : Seen) → Matches R s → Matches (after_tail end R) (all_bound s (rest_variable end))
+  rest_matches (tail.Rest w) R s m = (ap (λ xs. w.text ∷ xs) m.0, m.1, m.2)
+  rest_matches tail.Exact R s m = m
+  rest_matches tail.Open R s m = m
+
   -- also behind patterns whose names carry their meanings
   mutual
     pattern_matches : (p : Pat) (o : Seen) (R : Scope) (s : Seen) → Matches R s → Matches (after_pat (resolved_pat p o) R) (within p s)
@@ -69,7 +76,9 @@ module _ (defs : List (Name × Bool)) (sources : List Name) where
     pattern_matches any o R s m = m
     pattern_matches (same w) o R s m = m
     pattern_matches (is v n) o R s m = m
-    pattern_matches (shape ps dots) o R s m = patterns_match ps o R s m
+    pattern_matches (shape ps end) o R s m =
+        subst (Matches (after_tail end (after_pats (resolved_pats ps o) R))) (sym (all_bound_both s (variables_all ps) (rest_variable end)))
+        (rest_matches end (after_pats (resolved_pats ps o) R) (all_bound s (variables_all ps)) (patterns_match ps o R s m))
     pattern_matches (variant l p) o R s m = pattern_matches p o (None ∷ R) s m
 
     patterns_match : (ps : Pats) (o : Seen) (R : Scope) (s : Seen) → Matches R s → Matches (after_pats (resolved_pats ps o) R) (all_bound s (variables_all ps))

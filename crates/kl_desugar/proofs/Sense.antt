@@ -1,21 +1,23 @@
 -- The term of a tidy program has the types that the program has.
-use Rattle.std.proofs.Common.{◌≡◌, inl, inr, ℕ, ◌+◌, Bool, true, false, ◌||◌, List, [], ◌∷◌, ◌++◌, cond, map, Option, Some, None, IsTrue, refl, sym, ap, subst, ◌∙◌, arith}
+use Rattle.std.proofs.Common.{◌≡◌, inl, inr, ℕ, ◌+◌, Bool, true, false, not, ◌||◌, List, [], ◌∷◌, ◌++◌, cond, map, Option, Some, None, IsSome, IsTrue, refl, sym, ap, subst, ◌∙◌, arith}
 use Rattle.std.specs.Cmp.Lexicographic.{same_text}
 use Rattle.std.specs.List.{AllByRecursion}
 use Rattle.kl_value.specs.declared.Kind.{Kind}
 use Rattle.kl_value.specs.declared.Value.TheVariants as value
-use Rattle.kl_type.specs.Ground.{Ground, Row, bool, rec, var as variant_type, coll as colls, IsRow, IsGround}
+use Rattle.kl_prim.specs.Records.{in_order}
+use Rattle.kl_prim.proofs.RecordLemmas.{in_order_all, in_order_rises, in_order_found}
+use Rattle.kl_type.specs.Ground.{Ground, Row, bool, rec, var as variant_type, coll as colls, at, IsRow, IsGround}
 use Rattle.kl_outcome.specs.Outcome.{Name}
 use Rattle.kl_outcome.proofs.Grounds.{at_ground}
 use Rattle.kl_syntax.specs.declared.tree.Op.{Op}
 use Rattle.kl_syntax.specs.declared.tree.Op.TheVariants as op
 use Rattle.kl_syntax.specs.declared.tree.Word.{Word}
-use Rattle.kl_syntax.specs.Syntax.{Exp, Const, name, Call, Rec, Inj, Coll, Comp, If, Let, Case, Path, Not, Neg, Chain, Exps, no_exps, exps, Flds, no_flds, flds, Quals, no_quals, draw, test, Branches, no_branches, otherwise, branch, Steps, no_steps, step, Decls, no_decls, constant, function}
+use Rattle.kl_syntax.specs.Syntax.{Exp, Const, name, Call, Rec, More, Inj, Coll, Comp, If, Let, Case, Path, Not, Neg, Chain, Exps, no_exps, exps, Flds, no_flds, flds, Quals, no_quals, draw, test, Branches, no_branches, otherwise, branch, Steps, no_steps, step, Decls, no_decls, constant, function}
 use Rattle.kl_meaning.specs.Match.{same_name}
 use Rattle.kl_meaning.specs.Run.{code_named}
 use Rattle.kl_meaning.specs.Tidy.{IsTidy, AreTidy, AreTidyFields, AreTidyQuals, AreTidyBranches, AreTidySteps, IsTidyProgram}
-use Rattle.kl_meaning.specs.Typing.{Context, AreGround, Sort, nothing, value_of, function_of, primitive, KnownTypes, CallTypes, OpTypes, PathTypes, has_branch, Types, AllTypes, EachType, FieldTypes, QualTypes, BranchTypes, StepTypes, sort_at, types_at_first, sort_if, FunctionTypes, types_after, ProgramTypes}
-use Rattle.kl_meaning.proofs.Fields.{IsFieldOf, in_order_all, in_order_rises, in_order_found, has_fields, fields_apart}
+use Rattle.kl_meaning.specs.Typing.{Context, AreGround, Sort, nothing, value_of, function_of, primitive, KnownTypes, CallTypes, OpTypes, PathTypes, has_field, has_branch, Types, AllTypes, EachType, FieldTypes, QualTypes, BranchTypes, StepTypes, sort_at, types_at_first, sort_if, FunctionTypes, types_after, ProgramTypes}
+use Rattle.kl_meaning.proofs.Fields.{IsFieldOf, has_fields, fields_apart, written, written_named, written_types}
 use Rattle.kl_meaning.proofs.Grounds.{IsGroundSort, types_ground, quals_ground, field_ground, first_known, constant_ground, function_ground}
 use Rattle.kl_meaning.proofs.Safety.{truth_typed}
 use Rattle.kl_core.specs.Trees as term
@@ -27,7 +29,9 @@ use Rattle.kl_desugar.specs.Sense.{types_of, HasSense}
 use Rattle.kl_desugar.specs.Translation.{Scope, Code, value_by, function_by, primitive_by, Codes, empty, called_tree, operated_tree, projected, tree, tree_all, tree_fields, tree_quals, tree_branches, tree_steps, no_sense, number_of, code_at, codes_first, codes_after, function_tree, term_of}
 use Rattle.kl_desugar.specs.Translation as translation
 use Rattle.kl_desugar.proofs.Positions.{Standing, scope, values, names, grows_none}
-use Rattle.kl_type.proofs.RowLemmas.{labels_rise}
+use Rattle.kl_outcome.proofs.PrimLemmas.{extend_types}
+use Rattle.kl_outcome.proofs.RowFields.{divided}
+use Rattle.kl_type.proofs.RowLemmas.{drops_row, labels_rise}
 use Rattle.kl_desugar.proofs.Fielding.{parts_typed}
 use Rattle.kl_desugar.proofs.Fitting.{Agrees, AllAgree, AllGround, names_ground, name_typed, here_typed}
 use Rattle.kl_desugar.proofs.Law.{SourceAt, source_at}
@@ -94,19 +98,33 @@ row_good : (t : Ground) (r : Row) → t ≡ rec r → IsGround t → IsRow r
 row_good t r e h = subst IsGround e h
 
 module _ (S : SourceTypes) (known : KnownTypes) (codes : Codes) (rest : List Ground) (agree : AllAgree S known codes) (ground : (x : Name) → IsGroundSort (known x)) where
+  record_typed : (fs : Flds) (G : List Ground) (R : Scope) (r : Row) → IsRow r → AreTidyFields fs → ((l : Name) → IsSome (at l r) → IsTrue (has_field fs l))
+      → AllByRecursion (IsFieldOf (CoreTypes S G) r) (tree_fields fs codes R) → CoreTypes S G (term.Rec (term.parts_of (in_order (tree_fields fs codes R)))) (rec r)
+  record_typed fs G R r good d has each = (
+    r,
+    refl,
+    labels_rise r good,
+    parts_typed S G r _ good (in_order_rises _ (fields_apart (λ e. tree e codes R) (λ fs. tree_fields fs codes R) refl (λ l e fs. refl) fs d))
+        (in_order_all (IsFieldOf (CoreTypes S G) r) _ each)
+        (λ l there. in_order_found l _ (has_fields (λ e. tree e codes R) (λ fs. tree_fields fs codes R) refl (λ l e fs. refl) fs l (has l there))),
+  )
+
   mutual
     pub tree_typed : (e : Exp) (P : Standing Ground) (t : Ground) → AllGround P → IsTidy e → Types e known (names P) t → CoreTypes S (values P ++ rest) (tree e codes (scope P)) t
     tree_typed (Const v) P t i d h = h
     tree_typed (name x) P t i d h = name_typed S known codes rest agree P P x.text t i (grows_none P) h
     tree_typed (Call f es) P t i d h = call_typed S _ (known f.text) (codes f.text) h.0 t _ (agree f.text) (all_typed es P h.0 i d h.1) h.2
     tree_typed (Rec fs) P t i d h =
-        let good = row_good t h.0 h.1 h.2 in (
-          h.0,
-          h.1,
-          labels_rise h.0 good,
-          parts_typed S _ h.0 _ good (in_order_rises _ (fields_apart (λ e. tree e codes (scope P)) (λ fs. tree_fields fs codes (scope P)) refl (λ l e fs. refl) fs d))
-              (in_order_all (IsFieldOf (CoreTypes S (values P ++ rest)) h.0) _ (fields_typed fs P h.0 i d h.4))
-              (λ l there. in_order_found l _ (has_fields (λ e. tree e codes (scope P)) (λ fs. tree_fields fs codes (scope P)) refl (λ l e fs. refl) fs l (h.3 l there))),
+        subst (CoreTypes S (values P ++ rest) (tree (Rec fs) codes (scope P))) (sym h.1)
+        (record_typed fs (values P ++ rest) (scope P) h.0 (row_good t h.0 h.1 h.2) d h.3 (fields_typed fs P h.0 i d h.4))
+    tree_typed (More fs a) P t i d h =
+        let good = row_good t h.0 h.2 h.3 in
+        let part = written known (names P) h.0 fs in
+        let each = fields_typed fs P part i d.0 (written_types known (names P) h.0 fs h.5) in
+        let first = record_typed fs (values P ++ rest) (scope P) part (drops_row (λ l. not (has_field fs l)) h.0 good) d.0 (written_named known (names P) h.0 fs) each in (
+          rec part ∷ rec h.1 ∷ [],
+          (rec part, rec h.1 ∷ [], refl, first, (rec h.1, [], refl, tree_typed a P (rec h.1) i d.1 h.6, refl)),
+          extend_types part h.1 h.0 t h.2 (divided (has_field fs) h.0 h.1 good h.4),
         )
     tree_typed (Inj l a) P t i d h = (h.0, h.1, h.2, h.3, h.4, tree_typed a P h.1 i d h.5)
     tree_typed (Coll k es) P t i d h = (h.0, h.1, h.2, each_typed es P h.0 i d h.3)
@@ -120,7 +138,7 @@ module _ (S : SourceTypes) (known : KnownTypes) (codes : Codes) (rest : List Gro
         let first = tree_typed a P h.0 i d.1 h.2 in (
           h.0,
           first,
-          here_typed S known codes rest agree p P h.0 t no_sense h.1 (λ R. tree b codes R) (inl d.0) h.3 (types_proper S _ _ h.0 first) i (λ Q q n. tree_typed b Q t q d.2 (subst (λ G. Types b known G t) (sym n) h.4)),
+          here_typed S known codes rest agree p P h.0 t no_sense h.1 (λ R. tree b codes R) (inl d.0) d.3 h.3 (types_proper S _ _ h.0 first) i (λ Q q n. tree_typed b Q t q d.2 (subst (λ G. Types b known G t) (sym n) h.4)),
         )
     tree_typed (Case a bs) P t i d h =
         let subject = tree_typed a P _ i d.0 h.1 in
@@ -153,7 +171,7 @@ module _ (S : SourceTypes) (known : KnownTypes) (codes : Codes) (rest : List Gro
           h.1,
           refl,
           drawn,
-          here_typed S known codes rest agree p P h.1 (colls k s) (empty k) h.2 (λ R. tree_quals qs k A codes R) (inr (λ G. (s, refl, g, tt))) h.4 (types_proper S _ _ (colls h.0 h.1) drawn) i
+          here_typed S known codes rest agree p P h.1 (colls k s) (empty k) h.2 (λ R. tree_quals qs k A codes R) (inr (λ G. (s, refl, g, tt))) d.2 h.4 (types_proper S _ _ (colls h.0 h.1) drawn) i
               (λ Q q n. quals_typed qs k A Q H s g q d.1 (subst (λ M. QualTypes qs known M H) (sym n) h.5) go),
         )
     quals_typed (test c qs) k A P H s g i d h go = (tree_typed c P bool i d.0 h.0, quals_typed qs k A P H s g i d.1 h.1 go, (s, refl, g, tt))
@@ -164,7 +182,7 @@ module _ (S : SourceTypes) (known : KnownTypes) (codes : Codes) (rest : List Gro
     branches_typed (branch l p b bs) P r t i g d h = (
       h.0,
       h.2,
-      here_typed S known codes rest agree p P h.0 t no_sense h.1 (λ R. tree b codes R) (inl d.0) h.3 (at_ground l.text r h.0 g h.2) i (λ Q q n. tree_typed b Q t q d.1 (subst (λ G. Types b known G t) (sym n) h.4)),
+      here_typed S known codes rest agree p P h.0 t no_sense h.1 (λ R. tree b codes R) (inl d.0) d.3 h.3 (at_ground l.text r h.0 g h.2) i (λ Q q n. tree_typed b Q t q d.1 (subst (λ G. Types b known G t) (sym n) h.4)),
       branches_typed bs P r t i g d.2 h.5,
     )
 
@@ -199,7 +217,7 @@ program_typed S (constant x a ds) e known codes t d g i h =
 program_typed S (function x p a ds) e known codes t d g i h =
     program_typed S ds e _ _ t d.2
     (λ y. with_agrees S (same_name y x.text) (function_of (FunctionTypes known p a)) (known y) (function_by (function_tree p a codes)) (codes y)
-    (λ s u G k. here_typed S known codes G g p [] s u no_sense k.1 (λ R. tree a codes R) (inl d.0) k.2 k.0 tt (λ Q q n. tree_typed S known codes G g i a Q u q d.1 (subst (λ M. Types a known M u) (sym n) k.3)))
+    (λ s u G k. here_typed S known codes G g p [] s u no_sense k.1 (λ R. tree a codes R) (inl d.0) d.3 k.2 k.0 tt (λ Q q n. tree_typed S known codes G g i a Q u q d.1 (subst (λ M. Types a known M u) (sym n) k.3)))
     (g y))
     (function_ground x.text p a known i) h
 

@@ -2,10 +2,12 @@
 use Rattle.std.specs.Prelude.{List, [], ◌∷◌, ◌++◌, length, Option, Some, None}
 use Rattle.kl_value.specs.declared.Kind.{Kind}
 use Rattle.kl_outcome.specs.Outcome.{Name}
+use Rattle.kl_syntax.specs.declared.tree.Tail.{Tail}
+use Rattle.kl_syntax.specs.declared.tree.Tail.TheVariants as tail
 use Rattle.kl_syntax.specs.Syntax.{Pat, catch, any, same, is, shape, variant, Pats, no_pats, pats, Quals, no_quals, draw, test}
 use Rattle.kl_core.specs.Trees as term
 use Rattle.kl_core.specs.Trees.{Tree, Trees, no_trees, trees, Parts, Arms, no_arms, rest, arm}
-use Rattle.kl_desugar.specs.Translation.{Scope, Place, here, inside, place_tree, Codes, name_tree, pair, tree, empty, no_sense}
+use Rattle.kl_desugar.specs.Translation.{Scope, Place, here, inside, place_tree, Codes, name_tree, pair, others, tree, empty, no_sense}
 
 pub data Layered : Type 0 where
   bound : Tree → Layered
@@ -31,6 +33,15 @@ missed None = no_sense
 abbrev pub equals : Tree → Tree → Layered
 equals t u = guard (term.Prim 1 (pair t u))
 
+abbrev pub after_tail : Tail → Scope → Scope
+after_tail (tail.Rest x) R = Some x.text ∷ R
+after_tail _ R = R
+
+-- the rest of a record, behind its fields
+abbrev pub tail_layers : Tail → Pats → Place → Scope → List Layered
+tail_layers (tail.Rest x) ps t R = bound (others ps t (length R)) ∷ []
+tail_layers _ ps t R = []
+
 -- the scope behind a pattern
 abbrev mutual
   pub after_pat : Pat → Scope → Scope
@@ -38,7 +49,7 @@ abbrev mutual
   after_pat any R = R
   after_pat (same x) R = R
   after_pat (is v n) R = R
-  after_pat (shape ps dots) R = after_pats ps R
+  after_pat (shape ps end) R = after_tail end (after_pats ps R)
   after_pat (variant l p) R = after_pat p (None ∷ R)
 
   pub after_pats : Pats → Scope → Scope
@@ -51,7 +62,7 @@ abbrev mutual
   pat_layers any t codes S R = []
   pat_layers (same x) t codes S R = equals (place_tree t (length R)) (name_tree codes S x.text (length R)) ∷ []
   pat_layers (is v n) t codes S R = equals (place_tree t (length R)) (term.Const v) ∷ []
-  pat_layers (shape ps dots) t codes S R = pats_layers ps t codes S R
+  pat_layers (shape ps end) t codes S R = pats_layers ps t codes S R ++ tail_layers end ps t (after_pats ps R)
   pat_layers (variant l p) t codes S R = opened (place_tree t (length R)) l.text ∷ pat_layers p (here (length R)) codes S (None ∷ R)
 
   pub pats_layers : Pats → Place → Codes → Scope → Scope → List Layered

@@ -8,7 +8,7 @@ use Rattle.kl_syntax.specs.declared.tree.Decl.{Decl}
 use Rattle.kl_syntax.specs.declared.tree.Pattern.{Pattern}
 use Rattle.kl_syntax.specs.declared.tree.Word.{Word}
 use Rattle.kl_syntax.specs.Syntax.{Pat, catch, any, same, is, shape, variant, Pats, no_pats, pats, Exp, Const, name, Call, Rec}
-use Rattle.kl_syntax.specs.Syntax.{Inj, Coll, Comp, If, Let, Case, Path, Not, Neg, Chain, Exps, no_exps, exps, Flds, no_flds}
+use Rattle.kl_syntax.specs.Syntax.{More, Inj, Coll, Comp, If, Let, Case, Path, Not, Neg, Chain, Exps, no_exps, exps, Flds, no_flds}
 use Rattle.kl_syntax.specs.Syntax.{flds, Quals, no_quals, draw, test, Branches, no_branches, otherwise, branch, Steps, no_steps}
 use Rattle.kl_syntax.specs.Syntax.{step, Decls, no_decls, constant, function}
 use Rattle.kl_syntax.specs.View.{pattern_view, view}
@@ -21,7 +21,7 @@ abbrev mutual
   pattern_names any = []
   pattern_names (same x) = x ∷ []
   pattern_names (is v n) = []
-  pattern_names (shape ps dots) = patterns_names ps
+  pattern_names (shape ps end) = patterns_names ps
   pattern_names (variant l p) = pattern_names p
 
   pub patterns_names : Pats → List Word
@@ -34,6 +34,7 @@ abbrev mutual
   names (name x) = x ∷ []
   names (Call f es) = f ∷ names_all es
   names (Rec fs) = names_fields fs
+  names (More fs a) = names_fields fs ++ names a
   names (Inj l a) = names a
   names (Coll k es) = names_all es
   names (Comp k e qs) = names e ++ names_quals qs

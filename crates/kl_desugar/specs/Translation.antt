@@ -3,16 +3,19 @@ use Rattle.std.specs.Prelude.{◌≡◌, ◌≢◌, ℕ, suc, ◌-◌, Bool, tru
 use Rattle.kl_value.specs.declared.Kind.{Kind}
 use Rattle.kl_value.specs.declared.Value.{Value}
 use Rattle.kl_value.specs.declared.Value.TheVariants as value
+use Rattle.kl_prim.specs.Records.{Fields, in_order}
 use Rattle.kl_outcome.specs.Outcome.{Name, stuck}
 use Rattle.kl_syntax.specs.declared.tree.Op.{Op}
+use Rattle.kl_syntax.specs.declared.tree.Tail.{Tail}
 use Rattle.kl_syntax.specs.declared.tree.Word.{Word}
 use Rattle.kl_syntax.specs.declared.tree.Op.TheVariants as op
+use Rattle.kl_syntax.specs.declared.tree.Tail.TheVariants as tail
 use Rattle.kl_syntax.specs.Syntax.{Pat, catch, any, same, is, shape, variant, Pats, no_pats, pats, Exp, Const, name, Call, Rec}
-use Rattle.kl_syntax.specs.Syntax.{Inj, Coll, Comp, If, Let, Case, Path, Not, Neg, Chain, Exps, no_exps, exps, Flds, no_flds}
+use Rattle.kl_syntax.specs.Syntax.{More, Inj, Coll, Comp, If, Let, Case, Path, Not, Neg, Chain, Exps, no_exps, exps, Flds, no_flds}
 use Rattle.kl_syntax.specs.Syntax.{flds, Quals, no_quals, draw, test, Branches, no_branches, otherwise, branch, Steps, no_steps}
 use Rattle.kl_syntax.specs.Syntax.{step, Decls, no_decls, constant, function}
 use Rattle.kl_meaning.specs.Match.{same_name}
-use Rattle.kl_meaning.specs.Run.{code_of, code_named, in_order, meaning_of_program}
+use Rattle.kl_meaning.specs.Run.{code_of, code_named, meaning_of_program}
 use Rattle.kl_core.specs.Core.{Tables, core}
 use Rattle.kl_core.specs.Trees as term
 use Rattle.kl_core.specs.Trees.{Tree, Trees, no_trees, trees, Parts, Arms, no_arms, rest, arm}
@@ -76,6 +79,23 @@ pair a b = trees a (trees b no_trees)
 abbrev pub tested : Tree → Tree → Tree → Tree → Tree
 tested t u a e = term.If (term.Prim 1 (pair t u)) a e
 
+-- a record that has each label of a record pattern, with `true`
+abbrev pub marks : Pats → Fields
+marks no_pats = []
+marks (pats l p ps) = (l.text, value.Bool true) ∷ marks ps
+
+abbrev pub mask : Pats → Tree
+mask ps = term.Const (value.Rec (in_order (marks ps)))
+
+-- the record of what a record at a place has beside the labels of a pattern
+abbrev pub others : Pats → Place → ℕ → Tree
+others ps t n = term.Prim 28 (pair (place_tree t n) (mask ps))
+
+-- behind the fields of a record pattern, where it ends in `...\r`: r is bound to the other fields, and then A
+abbrev pub with_rest : Tail → Pats → Place → (Scope → Tree) → Scope → Tree
+with_rest (tail.Rest x) ps t A R = term.Let (others ps t (length R)) (A (Some x.text ∷ R))
+with_rest _ ps t A R = A R
+
 -- M(p, t, A): the term that matches the pattern at a place and goes on with A in the scope that is then reached, or with
 -- e where the pattern does not fit. S is the scope outside the pattern, R the scope by now.
 abbrev mutual
@@ -84,7 +104,7 @@ abbrev mutual
   matched any t codes S e A R = A R
   matched (same x) t codes S e A R = tested (place_tree t (length R)) (name_tree codes S x.text (length R)) (A R) e
   matched (is v n) t codes S e A R = tested (place_tree t (length R)) (term.Const v) (A R) e
-  matched (shape ps dots) t codes S e A R = matched_fields ps t codes S e A R
+  matched (shape ps end) t codes S e A R = matched_fields ps t codes S e (λ Q. with_rest end ps t A Q) R
   matched (variant l p) t codes S e A R =
       term.Case (place_tree t (length R)) (arm l.text (matched p (here (length R)) codes S e A (None ∷ R)) (rest e))
 
@@ -121,6 +141,7 @@ abbrev mutual
   tree (name x) codes S = name_tree codes S x.text (length S)
   tree (Call f es) codes S = called_tree (codes f.text) (tree_all es codes S)
   tree (Rec fs) codes S = term.Rec (term.parts_of (in_order (tree_fields fs codes S)))
+  tree (More fs a) codes S = term.Prim 27 (pair (term.Rec (term.parts_of (in_order (tree_fields fs codes S)))) (tree a codes S))
   tree (Inj l a) codes S = term.Inj l.text (tree a codes S)
   tree (Coll k es) codes S = term.Make k (tree_all es codes S)
   tree (Comp k e qs) codes S = tree_quals qs k (λ R. term.Make k (trees (tree e codes R) no_trees)) codes S

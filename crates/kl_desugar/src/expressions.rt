@@ -1,10 +1,11 @@
 //! Expressions as terms.
 ghost use Rattle.std.specs.Prelude.{◌≡◌, ◌∷◌, [], ◌++◌, length, map, IfOk};
 ghost use Rattle.std.specs.Option.{option_map};
-ghost use Rattle.kl_meaning.specs.Run.{in_order};
+ghost use Rattle.kl_prim.specs.Records.{in_order};
 ghost use Rattle.kl_syntax.specs.Syntax.{no_quals, Call as called};
 ghost use Rattle.kl_syntax.specs.View.{pattern_view, qual_view, view, rest_of, exps_view, quals_view, steps_view};
 ghost use Rattle.kl_core.specs.declared.term.Term.TheVariants.{Make, Prim};
+ghost use Rattle.kl_core.specs.Building.{MakesOfTwo};
 ghost use Rattle.kl_core.specs.Trees as term;
 ghost use Rattle.kl_core.specs.Trees.{view_part};
 ghost use Rattle.kl_desugar.specs.Translation.{tree, tree_steps, tree_branches, matched_here, no_sense};
@@ -54,6 +55,19 @@ fn record(fields: Result<Vec<(Label, Term)>, NoMemory>) -> Result<Term, NoMemory
     Ok(Term::Rec(Seq::of(fields)))
 }
 
+// A record with the fields of another.
+fn extended(
+    alloc: Global,
+    fields: Result<Term, NoMemory>,
+    others: Result<Box<Term>, NoMemory>,
+) -> Result<Term, NoMemory>
+    ensures { MakesOfTwo (λ a b. Prim 27 (a ∷ b ∷ [])) fields others result }
+{
+    let fields = fields?;
+    let args = vec![in alloc; fields, others?.into_inner()]?;
+    Ok(Term::Prim(27, Seq::of(args)))
+}
+
 /// The term of an expression.
 #[cycle(tree)]
 pub(crate) fn tree(alloc: Global, e: &Expr, codes: &Codes, scope: &[Slot]) -> Result<Term, NoMemory>
@@ -88,6 +102,11 @@ pub(crate) fn tree(alloc: Global, e: &Expr, codes: &Codes, scope: &[Slot]) -> Re
             tree_steps(alloc, steps.slice(), first, codes, scope)
         }
         Expr::Rec(fields) => record(tree_fields(alloc, fields.slice(), codes, scope)),
+        Expr::More(fields, a) => extended(
+            alloc,
+            record(tree_fields(alloc, fields.slice(), codes, scope)),
+            tree_box(alloc, a.get(), codes, scope),
+        ),
         Expr::Case(a, branches, other) => case(
             tree_box(alloc, a.get(), codes, scope),
             tree_branches(alloc, branches.slice(), codes, scope),
@@ -177,8 +196,8 @@ pub(crate) fn tree_within(
     codes: &Codes,
     scope: &[Slot],
 ) -> Result<Box<Term>, NoMemory>
-    ensures { IfOk result (λ t. term.view t
-        ≡ matched_here (pattern_view pattern.now) (codes_of codes.now) scope.now no_sense (λ R. tree (view body.now) (codes_of codes.now) R)) }
+    ensures { IfOk result (λ t. term.view t ≡ matched_here (pattern_view pattern.now) (codes_of codes.now) scope.now no_sense
+        (λ R. tree (view body.now) (codes_of codes.now) R)) }
 {
     let entered = enter(alloc, pattern, codes, scope)?;
     let body = tree_box(alloc, body, codes, &entered.scope)?;

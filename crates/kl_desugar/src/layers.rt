@@ -2,17 +2,17 @@
 ghost use Rattle.std.specs.Prelude.{◌≡◌, ◌∷◌, [], ◌++◌, length, None as none, IfOk};
 ghost use Rattle.kl_core.specs.Trees.{view};
 ghost use Rattle.kl_core.specs.Trees as term;
-ghost use Rattle.kl_syntax.specs.View.{pattern_view};
-ghost use Rattle.kl_desugar.specs.Translation.{here, place_tree};
-ghost use Rattle.kl_desugar.specs.Layers.{bound, opened, missed, wrap_one, wrapped, equals, after_pat, pat_layers};
+ghost use Rattle.kl_syntax.specs.View.{pattern_view, patterns_view};
+ghost use Rattle.kl_desugar.specs.Translation.{here, place_tree, others};
+ghost use Rattle.kl_desugar.specs.Layers.{bound, opened, missed, wrap_one, wrapped, equals, after_tail, tail_layers, after_pat, pat_layers};
 ghost use Rattle.kl_desugar.specs.States.{layer_view, layers_view, place_view, codes_of, AsksPattern};
 
 use crate::codes::{Codes, name_box};
 use crate::scope::{Place, Slot, copy, place_term};
-use crate::terms::{constant_box, no_sense, two};
+use crate::terms::{constant_box, mask, no_sense, two};
 use kl_base::{Box, Label, NoMemory, Seq};
 use kl_core::Term;
-use kl_syntax::{Pattern, Word};
+use kl_syntax::{Pattern, Tail, Word};
 use kl_value::Kind;
 use std::alloc::Global;
 
@@ -167,6 +167,45 @@ fn ask_opened(
     Ok(())
 }
 
+// The fields of a record at a place whose labels a pattern does not have.
+fn others(
+    alloc: Global,
+    fields: &[(Word, Pattern)],
+    place: &Place,
+    count: usize,
+) -> Result<Box<Term>, NoMemory>
+    ensures { IfOk result (λ t. view t ≡ others (patterns_view fields.now) (place_view place.now) count) }
+{
+    let whole = place_term(alloc, place, count)?;
+    let mask = mask(alloc, fields)?;
+    two(alloc, 28, whole, mask)
+}
+
+// Binds the rest of the record at a place, where the pattern ends with its name.
+fn ask_rest(
+    alloc: Global,
+    tail: &Tail,
+    fields: &[(Word, Pattern)],
+    place: &Place,
+    scope: &mut Vec<Slot>,
+    layers: &mut Vec<Layer>,
+) -> Result<(), NoMemory>
+    ensures scope { IfOk result (λ _. scope.new.items ≡ after_tail tail.now scope.old.items) }
+    ensures layers { IfOk result (λ _. layers_view layers.new.items ≡ layers_view layers.old.items
+        ++ tail_layers tail.now (patterns_view fields.now) (place_view place.now) scope.old.items) }
+{
+    match tail {
+        Tail::Exact | Tail::Open => Ok(()),
+        Tail::Rest(word) => {
+            let rest = others(alloc, fields, place, scope.len())?;
+            layers.push(Layer::Bound(rest))?;
+            let name = word.text.dup()?;
+            scope.insert(0, Some(name))?;
+            Ok(())
+        }
+    }
+}
+
 /// Adds what a pattern asks of a place, and what it binds.
 pub(crate) fn ask(
     alloc: Global,
@@ -191,7 +230,7 @@ pub(crate) fn ask(
             let other = constant_box(alloc, other)?;
             ask_equal(alloc, place, other, scope.len(), layers)
         }
-        Pattern::Rec(fields, _) => {
+        Pattern::Rec(fields, tail) => {
             'fields: for field in fields.slice() {
                 ask(
                     alloc,
@@ -203,7 +242,7 @@ pub(crate) fn ask(
                     layers,
                 )?;
             }
-            Ok(())
+            ask_rest(alloc, tail, fields.slice(), place, scope, layers)
         }
         Pattern::Inj(word, inner) => {
             let level = scope.len();

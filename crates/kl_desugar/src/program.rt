@@ -92,13 +92,14 @@ fn last_term(alloc: Global, program: &Program, sources: &[Label]) -> Result<Term
 
 /// The term of a program: over values of the program's sources, by their numbers, with which the program makes sense, the
 /// term means what the program means. Over sources of the language's types it has each type that the program has, and no
-/// position is free in it. It reads only sources that the program mentions. Terms are made of the definitions alone that the last expression reaches. The term of a
-/// definition stands at each of its uses, so that the term of a short program can be too large for any memory: whoever
-/// must not wait for that asks `kl_scope::sizes` first. Where it tells of no declaration, the term is within its limits.
+/// position is free in it. It reads only sources that the program mentions. Terms are made of the definitions alone that
+/// the last expression reaches. The term of a definition stands at each of its uses, so that the term of a short program
+/// can be too large for any memory: whoever must not wait for that asks `kl_scope::sizes` first. Where it tells of no
+/// declaration, the term is within its limits.
 ///
 /// # Errors
 /// Want of memory, and more positions or sources than 32 bits can number.
-#[tactic(auto, using(crate::proofs::Law::means_by, crate::proofs::Sense::sense_by, crate::proofs::Closing::closed_by, crate::proofs::Counting::small_ok, crate::proofs::Mentioned::reads_ok))]
+#[tactic(auto, using(crate::proofs::Law::means_by, crate::proofs::Sense::sense_by, crate::proofs::Closing::closed_by))]
 pub fn translate(alloc: Global, scoped: &Scoped) -> Result<Term, NoMemory>
     ensures term { IfOk result (λ t. term.view t ≡ term_of (decls_of scoped.now.program.defs)
         (view scoped.now.program.last) scoped.now.sources) }

@@ -62,6 +62,10 @@ fn names<'a>(e: &'a Expr, words: &mut Vec<&'a Word>) -> Result<(), NoMemory>
             Ok(())
         }
         Expr::Rec(fields) => names_fields(fields.slice(), words),
+        Expr::More(fields, a) => {
+            let written = names_fields(fields.slice(), words);
+            names_next(written, a.get(), words)
+        }
         Expr::Coll(_, items) => names_all(items.slice(), words),
         Expr::Comp(_, head, quals) => {
             let head = names(head.get(), words);

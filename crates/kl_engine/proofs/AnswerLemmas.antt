@@ -20,7 +20,7 @@ use Rattle.kl_infer.specs.Kinds.{HasOther}
 use Rattle.kl_engine.specs.Answering.{SomeRose, KeepsDrivers, IsOutside, reading, writing, drifting, wanting, PrintsPage, IsOneOf, EndsSilent, Unprinted}
 use Rattle.kl_engine.specs.Faults.{Ending}
 use Rattle.kl_engine.specs.Outside.{outside_of}
-use Rattle.kl_engine.specs.Running.{AnswersTerm, DriftsAt, HasRunFault, IsListScheme, IsValueOutcome}
+use Rattle.kl_engine.specs.Running.{AnswersTerm, DriftsAt, HasRunFault, IsListScheme, IsValueOutcome, PlanOver}
 use Rattle.kl_engine.specs.Verdict.{Verdict, value_page, refused, cut, first_of, overflowing}
 use Rattle.kl_engine.specs.declared.fault.Fault.{Fault}
 use Rattle.kl_engine.specs.declared.fault.Fault.TheVariants as fault
@@ -36,16 +36,16 @@ IsRunEnd (Some fault.Overflow) = ⊤
 IsRunEnd (Some f) = ⊥
 
 -- an end before which nothing is printed and that no outcome has
-abbrev pub IsStopped : List Attached → Fault → List State → List State → Type 0
-IsStopped list fault.Read ds ds' = SomeRose (λ d. d.faults) ds ds'
-IsStopped list (fault.Changed name) ds ds' = DriftsAt list name ds ds'
-IsStopped list fault.NoMemory ds ds' = ⊤
-IsStopped list f ds ds' = ⊥
+abbrev pub IsStopped : PlanOver → Fault → List State → List State → Type 0
+IsStopped run fault.Read ds ds' = SomeRose (λ d. d.faults) ds ds'
+IsStopped run (fault.Changed name) ds ds' = DriftsAt run name ds ds'
+IsStopped run fault.NoMemory ds ds' = ⊤
+IsStopped run f ds ds' = ⊥
 
-module _ (list : List Attached) (files : FilesState) (ds ds' : List State) (out out' : SinkState) where
-  stopped_outside : (v : Verdict) (f : Fault) → IsStopped list f ds ds' → IsOutside v (Some f) (outside_of files ds out) (outside_of files ds' out')
+module _ (run : PlanOver) (files : FilesState) (ds ds' : List State) (out out' : SinkState) where
+  stopped_outside : (v : Verdict) (f : Fault) → IsStopped run f ds ds' → IsOutside v (Some f) (outside_of files ds out) (outside_of files ds' out')
   stopped_outside v fault.Read rose = reading refl (inr rose)
-  stopped_outside v (fault.Changed name) (i, a, place, at, named, held, rose) = drifting name refl (place, rose)
+  stopped_outside v (fault.Changed name) (i, a, place, at, named, held, rose, scanned) = drifting name refl (place, rose)
   stopped_outside v fault.NoMemory rose = wanting refl
   stopped_outside v fault.Usage rose = absurd rose
   stopped_outside v (fault.Text w byte) rose = absurd rose
@@ -67,7 +67,7 @@ module _ (list : List Attached) (files : FilesState) (ds ds' : List State) (out 
   stopped_outside v fault.TermDepth rose = absurd rose
   stopped_outside v fault.SchemeBytes rose = absurd rose
 
-  stopped_end : (f : Fault) → IsStopped list f ds ds' → IsRunEnd (Some f) → ⊥
+  stopped_end : (f : Fault) → IsStopped run f ds ds' → IsRunEnd (Some f) → ⊥
   stopped_end fault.Overflow rose is = rose
   stopped_end fault.Read rose is = is
   stopped_end (fault.Changed name) rose is = is
@@ -91,7 +91,7 @@ module _ (list : List Attached) (files : FilesState) (ds ds' : List State) (out 
   stopped_end fault.TermDepth rose is = is
   stopped_end fault.SchemeBytes rose is = is
 
-  stopped_fault : (f : Fault) → IsStopped list f ds ds' → HasRunFault f
+  stopped_fault : (f : Fault) → IsStopped run f ds ds' → HasRunFault f
   stopped_fault fault.Read rose = tt
   stopped_fault (fault.Changed name) rose = tt
   stopped_fault fault.NoMemory rose = tt
@@ -117,29 +117,29 @@ module _ (list : List Attached) (files : FilesState) (ds ds' : List State) (out 
 
 -- ---- a term's outcome, where it is printed or something came before
 
-module _ (Lists : Type 0) (IsOut : Verdict → Type 0) (told : Type 0) (list : List Attached) (files : FilesState) (ds ds' : List State) (keeps : KeepsDrivers (λ name. ⊥) ds ds') where
+module _ (Lists : Type 0) (IsOut : Verdict → Type 0) (told : Type 0) (run : PlanOver) (files : FilesState) (ds ds' : List State) (keeps : KeepsDrivers (λ name. ⊥) ds ds') where
   -- a fault of the outside came, and nothing was printed
-  pub term_stopped : (f : Fault) (out : SinkState) → IsStopped list f ds ds' → (told → (v : Verdict) × IsOut v × IsRunEnd v.ending) → AnswersTerm Lists IsOut told (Some f) list (outside_of files ds out) (outside_of files ds' out)
+  pub term_stopped : (f : Fault) (out : SinkState) → IsStopped run f ds ds' → (told → (v : Verdict) × IsOut v × IsRunEnd v.ending) → AnswersTerm Lists IsOut told (Some f) run (outside_of files ds out) (outside_of files ds' out)
   term_stopped f out rose some = record {
     follows = λ is. let found = some is in (
       found.0,
       found.1,
       record {
-        ends = inr (stopped_outside list files ds ds' out out found.0 f rose);
-        whole = λ same. absurd (stopped_end list files ds ds' out out f rose (subst IsRunEnd (sym same) found.2));
+        ends = inr (stopped_outside run files ds ds' out out found.0 f rose);
+        whole = λ same. absurd (stopped_end run files ds ds' out out f rose (subst IsRunEnd (sym same) found.2));
         part = took_none found.0.page out out refl;
       },
     );
-    read = λ is. subst (λ g. IsStopped list g ds ds') (same_Some f fault.Read is) rose;
-    write = λ is. absurd (subst (λ g. IsStopped list g ds ds') (same_Some f fault.Write is) rose);
-    changed = λ name is. subst (λ g. IsStopped list g ds ds') (same_Some f (fault.Changed name) is) rose;
-    no_other = stopped_fault list files ds ds' out out f rose;
+    read = λ is. subst (λ g. IsStopped run g ds ds') (same_Some f fault.Read is) rose;
+    write = λ is. absurd (subst (λ g. IsStopped run g ds ds') (same_Some f fault.Write is) rose);
+    changed = λ name is. subst (λ g. IsStopped run g ds ds') (same_Some f (fault.Changed name) is) rose;
+    no_other = stopped_fault run files ds ds' out out f rose;
     nothing = λ is. refl;
     drivers = keeps;
   }
 
   -- a fault of the outside came behind items of a list
-  stopped_speaks : Lists → (f : Fault) → IsStopped list f ds ds' → Unprinted Lists (Some f) → ⊥
+  stopped_speaks : Lists → (f : Fault) → IsStopped run f ds ds' → Unprinted Lists (Some f) → ⊥
   stopped_speaks lists fault.Usage rose is = rose
   stopped_speaks lists (fault.Text w byte) rose is = rose
   stopped_speaks lists (fault.IllTyped decl) rose is = rose
@@ -163,26 +163,26 @@ module _ (Lists : Type 0) (IsOut : Verdict → Type 0) (told : Type 0) (list : L
   stopped_speaks lists fault.TermDepth rose is = rose
   stopped_speaks lists fault.SchemeBytes rose is = rose
 
-  pub term_behind : Lists → (f : Fault) (out out' : SinkState) → IsStopped list f ds ds' → (told → (v : Verdict) × IsOut v × IsRunEnd v.ending × TookPart v.page out out') → AnswersTerm Lists IsOut told (Some f) list (outside_of files ds out) (outside_of files ds' out')
+  pub term_behind : Lists → (f : Fault) (out out' : SinkState) → IsStopped run f ds ds' → (told → (v : Verdict) × IsOut v × IsRunEnd v.ending × TookPart v.page out out') → AnswersTerm Lists IsOut told (Some f) run (outside_of files ds out) (outside_of files ds' out')
   term_behind lists f out out' rose some = record {
     follows = λ is. let found = some is in (
       found.0,
       found.1,
       record {
-        ends = inr (stopped_outside list files ds ds' out out' found.0 f rose);
-        whole = λ same. absurd (stopped_end list files ds ds' out out' f rose (subst IsRunEnd (sym same) found.2));
+        ends = inr (stopped_outside run files ds ds' out out' found.0 f rose);
+        whole = λ same. absurd (stopped_end run files ds ds' out out' f rose (subst IsRunEnd (sym same) found.2));
         part = found.3;
       },
     );
-    read = λ is. subst (λ g. IsStopped list g ds ds') (same_Some f fault.Read is) rose;
-    write = λ is. absurd (subst (λ g. IsStopped list g ds ds') (same_Some f fault.Write is) rose);
-    changed = λ name is. subst (λ g. IsStopped list g ds ds') (same_Some f (fault.Changed name) is) rose;
-    no_other = stopped_fault list files ds ds' out out' f rose;
+    read = λ is. subst (λ g. IsStopped run g ds ds') (same_Some f fault.Read is) rose;
+    write = λ is. absurd (subst (λ g. IsStopped run g ds ds') (same_Some f fault.Write is) rose);
+    changed = λ name is. subst (λ g. IsStopped run g ds ds') (same_Some f (fault.Changed name) is) rose;
+    no_other = stopped_fault run files ds ds' out out' f rose;
     nothing = λ is. absurd (stopped_speaks lists f rose is);
     drivers = keeps;
   }
 
-  pub term_unwritten : (out out' : SinkState) → Rose out.faults out'.faults → (told → (v : Verdict) × IsOut v × IsRunEnd v.ending × (v.page ≢ []) × TookPart v.page out out') → AnswersTerm Lists IsOut told (Some fault.Write) list (outside_of files ds out) (outside_of files ds' out')
+  pub term_unwritten : (out out' : SinkState) → Rose out.faults out'.faults → (told → (v : Verdict) × IsOut v × IsRunEnd v.ending × (v.page ≢ []) × TookPart v.page out out') → AnswersTerm Lists IsOut told (Some fault.Write) run (outside_of files ds out) (outside_of files ds' out')
   term_unwritten out out' rose some = record {
     follows = λ is. let found = some is in (
       found.0,
@@ -255,7 +255,7 @@ module _ (Lists : Type 0) (IsOut : Verdict → Type 0) (told : Type 0) (list : L
   never_before (Some fault.SchemeBytes) is nothing = is
 
   -- the outcome is printed
-  pub term_printed : (v : Verdict) (end : Ending) (out out' : SinkState) → IsRunEnd v.ending → (told → IsOut v) → PrintsPage v end out out' → AnswersTerm Lists IsOut told end list (outside_of files ds out) (outside_of files ds' out')
+  pub term_printed : (v : Verdict) (end : Ending) (out out' : SinkState) → IsRunEnd v.ending → (told → IsOut v) → PrintsPage v end out out' → AnswersTerm Lists IsOut told end run (outside_of files ds out) (outside_of files ds' out')
   term_printed v end out out' ended of prints = record {
     follows = λ is. (v, of is, follows_prints v end out out' prints files ds ds');
     read = λ is. absurd (elim prints.ends [

@@ -1,6 +1,5 @@
 -- The plan of a program that is run, and what is counted.
-use Rattle.std.proofs.Common.{◌≡◌, ◌⊎◌, inl, inr, ℕ, Bool, true, List, [], Option, Some, None, Ok, Err, refl, sym, ap, subst, ◌∙◌}
-use Rattle.std.proofs.lemmas.Option.{same_Some}
+use Rattle.std.proofs.Common.{◌≡◌, ◌⊎◌, inl, inr, ℕ, List, [], Option, Some, None, Ok, Err, refl, sym, ap, subst, ◌∙◌}
 use Rattle.kl_outside.specs.Sinks.{SinkState}
 use Rattle.kl_outside.specs.Counts.{Rose}
 use Rattle.kl_outside.specs.Files.{FilesState}
@@ -16,22 +15,25 @@ use Rattle.kl_ask.specs.Driver.{DriverKind, State}
 use Rattle.kl_ask.specs.Settings.{usual_settings}
 use Rattle.kl_ask.specs.declared.settings.Settings.{Settings}
 use Rattle.kl_ask.specs.declared.settings.Trace.{Trace}
-use Rattle.kl_ship.specs.Nodes.{Node}
+use Rattle.kl_ship.specs.Nodes.{Node, view as plan_view}
 use Rattle.kl_ship.specs.declared.plan.Plan.{Plan}
-use Rattle.kl_sources.specs.Sources.{names_of}
+use Rattle.kl_run.specs.Planned.{ships_of}
+use Rattle.kl_sources.specs.Sources.{grounds_of, kinds_of, names_of}
 use Rattle.kl_sources.specs.declared.source.Source.{Source}
 use Rattle.kl_words.specs.declared.command.Command.{Command as Read}
 use Rattle.kl_words.specs.declared.command.Command.TheVariants as read
 use Rattle.kl_words.specs.declared.command.Job.{Job}
 use Rattle.kl_ask.specs.declared.ask.DriverError.{DriverError}
 use Rattle.kl_ask.specs.declared.ask.DriverError.TheVariants as error
-use Rattle.kl_engine.specs.Answering.{IsOneOf}
+use Rattle.kl_engine.specs.Answering.{DoesText, IsOneOf}
 use Rattle.kl_engine.specs.Commands.{Command, Origin, Files, Made, Program, asked}
 use Rattle.kl_engine.specs.Faults.{Ending}
 use Rattle.kl_engine.specs.Inputs.{IsInputsEnd, ReadsInputs}
+use Rattle.kl_engine.specs.Outside.{outside_of}
 use Rattle.kl_engine.specs.Reading.{ReadsText}
-use Rattle.kl_engine.specs.Planned.{AreStartsOf, AsksOf, Counts, CountsScansAlone, HasPlan, IsEarly, IsUnrun, LacksInput, MayBeEarly, MayStop, PlanOf, PlansTerm, PlansText, counted, plan_in}
-use Rattle.kl_engine.specs.Rewritten.{fetch_of, wants_rewriting}
+use Rattle.kl_engine.specs.Planned.{AreStartsOf, AsksOf, CountsPlan, CountsScansAlone, Course, HasPlan, IsEarly, IsUnrun, LacksInput, MayBeEarly, MayStop, PlanOf, PlansTerm, PlansText, Rests, RunsPlan, course_of, how_in, how_of, plan_in, usual_how}
+use Rattle.kl_engine.specs.Verdict.{GivesList}
+use Rattle.kl_engine.specs.declared.run.How.{How}
 use Rattle.kl_engine.specs.declared.run.Ran.{Ran}
 use Rattle.kl_engine.specs.Running.{HasRunFault, fault_of}
 use Rattle.kl_engine.specs.Typing.{AnswersTypes}
@@ -39,7 +41,8 @@ use Rattle.kl_engine.specs.declared.fault.Fault.{Fault}
 use Rattle.kl_engine.specs.declared.fault.Fault.TheVariants as fault
 use Rattle.kl_engine.specs.declared.inputs.Inputs.{Inputs}
 use Rattle.kl_engine.specs.declared.top.Purpose.TheVariants as purpose
-use Rattle.kl_engine.proofs.ProgramLemmas.{read_missing}
+use Rattle.kl_engine.proofs.DoneLemmas.{as_resolved}
+use Rattle.kl_engine.proofs.ProgramLemmas.{no_files, read_missing}
 use Rattle.kl_engine.proofs.ReadLemmas.{any_fault}
 use Rattle.kl_engine.proofs.SizeLemmas.{sized_faults}
 
@@ -98,9 +101,12 @@ untyped_plan Plans grounds ds e f ran none types = inr (ap plan_in none.0, none.
 pub wanted_plan : (Plans : Node → Type 0) (ran : Ran) → IsUnrun ran → PlanOf Plans (Some fault.NoMemory) ran.trace.steps (plan_in ran.plan)
 wanted_plan Plans ran none = inr (ap plan_in none.0, none.1.steps, tt)
 
--- where there is no plan, nothing was asked and nothing is counted
+pub planned_some : (p : Plan) (Q : Type 0) → plan_in (Some p) ≡ None → Q
+planned_some p Q is = let two : Some (plan_view p) ≡ None = is in absurd cc
+
+-- where there is no plan, drivers are as they were and nothing is counted
 pub unrun_asks : (ran : Ran) (ds : List State) → IsUnrun ran → AsksOf (plan_in ran.plan) ran.trace.starts ds ds
-unrun_asks ran ds none = subst (λ o. AsksOf (plan_in o) ran.trace.starts ds ds) (sym none.0) (record { size = refl; each = λ i a b this that. ap (λ (d : State). d.asked) (same_Some b a (sym that ∙ this)) })
+unrun_asks ran ds none = subst (λ o. AsksOf (plan_in o) ran.trace.starts ds ds) (sym none.0) refl
 
 pub unrun_alone : (ran : Ran) → IsUnrun ran → CountsScansAlone (plan_in ran.plan) ran.trace
 unrun_alone ran none = record {
@@ -181,56 +187,85 @@ stops_early command (Some fault.SchemeBytes) f f' ks is = absurd is
 -- ---- from a term to a text, and from a text to a command
 
 -- the term is that of the program which the text is
-pub text_plan : (on : Bool) (ks : List DriverKind) (ss : List Source) (text : List ℕ) (s : Scoped) (first : Option ℕ) (end : Ending) (steps : ℕ) (plan : Option Node) (counts : Counts) → ReadsText (names_of ss) text (Ok s)
-    → PlanOf (λ p. PlansTerm on ks ss (is_marked s) first end (term_of (decls_of s.program.defs) (view s.program.last) s.sources) steps p counts) end steps plan
-    → PlanOf (λ p. PlansText on ks ss first end text steps p counts) end steps plan
-text_plan on ks ss text s first end steps plan counts (q, of, resolves) (inr none) = inr none
-text_plan on ks ss text s first end steps plan counts (q, of, resolves) (inl (p, is, plans, late)) =
+pub text_plan : (how : How) (ss : List Source) (text : List ℕ) (s : Scoped) (end : Ending) (steps : ℕ) (plan : Option Node) (course : Course) → ReadsText (names_of ss) text (Ok s)
+    → PlanOf (RunsPlan how ss (is_marked s) (decls_of s.program.defs) (view s.program.last) s.sources course) end steps plan
+    → PlanOf (PlansText how ss text course) end steps plan
+text_plan how ss text s end steps plan course (q, of, resolves) (inr none) = inr none
+text_plan how ss text s end steps plan course (q, of, resolves) (inl (p, is, runs, late)) =
     inl (
       p,
       is,
-      (q, of, is_marked s, resolves.marks, subst (λ t. PlansTerm on ks ss (is_marked s) first end t steps p counts) (λ i. term_of (resolves.defs i) (resolves.last i) (resolves.sources_kept i)) plans),
+      (
+        q,
+        of,
+        is_marked s,
+        resolves.marks,
+        as_resolved (λ program e. CountsPlan how ss (is_marked s) (GivesList (grounds_of ss) program e) course p) (names_of ss) q s resolves runs.0,
+        subst (λ t. PlansTerm how.settings.rewrite (ships_of (kinds_of course.old) ss) t course.steps p) (λ i. term_of (resolves.defs i) (resolves.last i) (resolves.sources_kept i)) runs.1,
+      ),
       late,
     )
 
-module _ (on : Bool) (first : Option ℕ) (from : Origin) (f f' : FilesState) (ks : List DriverKind) (steps : ℕ) (plan : Option Node) (counts : Counts) where
-  pub command_plan : (i : Inputs) (text : List ℕ) (ss : List Source) (end : Ending) → text ≡ i.text → ss ≡ i.sources → ReadsInputs from ks (Ok i) f f'
-      → PlanOf (λ p. PlansText on ks ss first end text steps p counts) end steps plan → HasPlan on (Program (purpose.Run first) from) end steps plan counts f f' ks
-  command_plan i text ss end is same reads (inr none) = inr (none.0, none.1, inr (stops_early (Program (purpose.Run first) from) end f f' ks none.2))
-  command_plan i text ss end is same reads (inl (p, at, plans, late)) =
-      inl (p, at, (i.text, i.sources, reads.inputs, subst (λ t. PlansText on ks i.sources first end t steps p counts) is (subst (λ us. PlansText on ks us first end text steps p counts) same plans)), late)
+module _ (ss : List Source) (text : List ℕ) (first : Option ℕ) (end : Ending) (trace : Trace) (files : FilesState) (old new : List State) (blank printed : SinkState) where
+  abbrev Done : Type 0
+  Done = DoesText ss (purpose.Run first) text end (outside_of files old blank) (outside_of files new printed)
 
-pub refused_plan : (on : Bool) (first : Option ℕ) (from : Origin) (f f' : FilesState) (ks : List DriverKind) (g : Fault) (ran : Ran) (counts : Counts) → IsUnrun ran → ReadsInputs from ks (Err g) f f'
-    → HasPlan on (Program (purpose.Run first) from) (Some g) ran.trace.steps (plan_in ran.plan) counts f f' ks
-refused_plan on first from f f' ks g ran counts none reads =
-    inr (ap plan_in none.0, none.1.steps, inr (inputs_early (Program (purpose.Run first) from) from g f f' ks (read_missing (purpose.Run first) from f f' g ks reads) reads.no_other))
+  rests : Done → Rests ss text (course_of end trace old new blank printed)
+  rests does = record { unread = does.unread; changed = does.changed; nothing = does.nothing }
+
+pub command_plan : (how : How) (from : Origin) (f f' : FilesState) (end : Ending) (trace : Trace) (old new : List State) (blank printed : SinkState) (plan : Option Node) (i : Inputs) (text : List ℕ) (ss : List Source) → text ≡ i.text → ss ≡ i.sources
+    → ReadsInputs from (kinds_of old) (Ok i) f f' → DoesText ss (purpose.Run how.first) text end (outside_of no_files old blank) (outside_of no_files new printed)
+    → PlanOf (PlansText how ss text (course_of end trace old new blank printed)) end trace.steps plan
+    → HasPlan how (Program (purpose.Run how.first) from) plan (course_of end trace old new blank printed) f f'
+command_plan how from f f' end trace old new blank printed plan i text ss is same reads does (inr none) =
+    inr (none.0, none.1, inr (stops_early (Program (purpose.Run how.first) from) end f f' (kinds_of old) none.2))
+command_plan how from f f' end trace old new blank printed plan i text ss is same reads does (inl (p, at, plans, late)) =
+    inl (
+      p,
+      at,
+      (
+        i.text,
+        i.sources,
+        reads.inputs,
+        subst (λ t. PlansText how i.sources t (course_of end trace old new blank printed) p × Rests i.sources t (course_of end trace old new blank printed)) is
+            (subst (λ us. PlansText how us text (course_of end trace old new blank printed) p × Rests us text (course_of end trace old new blank printed)) same
+            (plans, rests ss text how.first end trace no_files old new blank printed does)),
+      ),
+      late,
+    )
+
+pub refused_plan : (how : How) (from : Origin) (f f' : FilesState) (old new : List State) (blank printed : SinkState) (g : Fault) (ran : Ran) → IsUnrun ran → ReadsInputs from (kinds_of old) (Err g) f f'
+    → HasPlan how (Program (purpose.Run how.first) from) (plan_in ran.plan) (course_of (Some g) ran.trace old new blank printed) f f'
+refused_plan how from f f' old new blank printed g ran none reads =
+    inr (ap plan_in none.0, none.1.steps, inr (inputs_early (Program (purpose.Run how.first) from) from g f f' (kinds_of old) (read_missing (purpose.Run how.first) from f f' g (kinds_of old) reads) reads.no_other))
 
 -- ---- at the top
 
 -- the usual settings
-pub made_plan : (given : Settings) (seed size : ℕ) (f : FilesState) (ks : List DriverKind) (steps : ℕ) (plan : Option Node) (starts : List (ℕ × ℕ)) (old new : List State) (blank printed : SinkState) (i : Inputs) (text : List ℕ) (ss : List Source) (end : Ending) → given ≡ usual_settings → text ≡ i.text → ss ≡ i.sources
-    → ReadsInputs (Made seed size) ks (Ok i) f f → PlanOf (λ p. PlansText given.rewrite ks ss None end text steps p (counted starts given.fetch old new blank printed)) end steps plan
-    → HasPlan true (Program (purpose.Run None) (Made seed size)) end steps plan (counted starts usual_settings.fetch old new blank printed) f f ks
-made_plan given seed size f ks steps plan starts old new blank printed i text ss end usual is same reads plans =
-    command_plan true None (Made seed size) f f ks steps plan (counted starts usual_settings.fetch old new blank printed) i text ss end is same reads
-    (subst (λ z. PlanOf (λ p. PlansText z.rewrite ks ss None end text steps p (counted starts z.fetch old new blank printed)) end steps plan) usual plans)
+pub made_plan : (given : Settings) (seed size : ℕ) (f : FilesState) (end : Ending) (trace : Trace) (old new : List State) (blank printed : SinkState) (plan : Option Node) (i : Inputs) (text : List ℕ) (ss : List Source) → given ≡ usual_settings → text ≡ i.text → ss ≡ i.sources
+    → ReadsInputs (Made seed size) (kinds_of old) (Ok i) f f → DoesText ss (purpose.Run None) text end (outside_of no_files old blank) (outside_of no_files new printed)
+    → PlanOf (PlansText (record { settings = given; first = None }) ss text (course_of end trace old new blank printed)) end trace.steps plan
+    → HasPlan usual_how (Program (purpose.Run None) (Made seed size)) plan (course_of end trace old new blank printed) f f
+made_plan given seed size f end trace old new blank printed plan i text ss usual is same reads does plans =
+    command_plan usual_how (Made seed size) f f end trace old new blank printed plan i text ss is same reads does
+    (subst (λ z. PlanOf (PlansText (record { settings = z; first = None }) ss text (course_of end trace old new blank printed)) end trace.steps plan) usual plans)
 
-module _ (found : Option Read) (end told : Ending) (ran : Ran) (answered : Option Plan) (trace : Trace) (f f' : FilesState) (ks : List DriverKind) (same : told ≡ end) (planned : answered ≡ ran.plan) (same_trace : trace ≡ ran.trace) (old new : List State) (blank printed : SinkState) where
-  told_plan : (on : Bool) (fetch : ℕ) (command : Command) → HasPlan on command end ran.trace.steps (plan_in ran.plan) (counted ran.trace.starts fetch old new blank printed) f f' ks → HasPlan on command told trace.steps (plan_in answered) (counted trace.starts fetch old new blank printed) f f' ks
-  told_plan on fetch command h =
-      subst (λ z. HasPlan on command told z.steps (plan_in answered) (counted z.starts fetch old new blank printed) f f' ks) (sym same_trace)
-      (subst (λ z. HasPlan on command told ran.trace.steps (plan_in z) (counted ran.trace.starts fetch old new blank printed) f f' ks) (sym planned)
-      (subst (λ z. HasPlan on command z ran.trace.steps (plan_in ran.plan) (counted ran.trace.starts fetch old new blank printed) f f' ks) (sym same) h))
+module _ (found : Option Read) (end told : Ending) (ran : Ran) (answered : Option Plan) (trace : Trace) (f f' : FilesState) (same : told ≡ end) (planned : answered ≡ ran.plan) (same_trace : trace ≡ ran.trace) (old new : List State) (blank printed : SinkState) where
+  told_plan : (how : How) (command : Command) → HasPlan how command (plan_in ran.plan) (course_of end ran.trace old new blank printed) f f' → HasPlan how command (plan_in answered) (course_of told trace old new blank printed) f f'
+  told_plan how command h =
+      subst (λ z. HasPlan how command (plan_in answered) (course_of told z old new blank printed) f f') (sym same_trace)
+      (subst (λ z. HasPlan how command (plan_in z) (course_of told ran.trace old new blank printed) f f') (sym planned)
+      (subst (λ z. HasPlan how command (plan_in ran.plan) (course_of z ran.trace old new blank printed) f f') (sym same) h))
 
   abbrev Found : Option Read → Type 0
-  Found o = HasPlan (wants_rewriting o) (asked o) told trace.steps (plan_in answered) (counted trace.starts (fetch_of o) old new blank printed) f f' ks
+  Found o = HasPlan (how_of o) (asked o) (plan_in answered) (course_of told trace old new blank printed) f f'
 
   pub run_plan : (job : Job) → found ≡ Some (read.Run job)
-      → HasPlan job.settings.rewrite (Program (purpose.Run job.first) (Files job.program job.catalogue)) end ran.trace.steps (plan_in ran.plan) (counted ran.trace.starts job.settings.fetch old new blank printed) f f' ks
+      → HasPlan (how_in job) (Program (purpose.Run job.first) (Files job.program job.catalogue)) (plan_in ran.plan) (course_of end ran.trace old new blank printed) f f'
       → Found found
-  run_plan job is h = subst Found (sym is) (told_plan job.settings.rewrite job.settings.fetch (Program (purpose.Run job.first) (Files job.program job.catalogue)) h)
+  run_plan job is h = subst Found (sym is) (told_plan (how_in job) (Program (purpose.Run job.first) (Files job.program job.catalogue)) h)
 
   pub gen_plan : (seed size : ℕ) → found ≡ Some (read.Gen seed size)
-      → HasPlan true (Program (purpose.Run None) (Made seed size)) end ran.trace.steps (plan_in ran.plan) (counted ran.trace.starts usual_settings.fetch old new blank printed) f f' ks
+      → HasPlan usual_how (Program (purpose.Run None) (Made seed size)) (plan_in ran.plan) (course_of end ran.trace old new blank printed) f f'
       → Found found
-  gen_plan seed size is h = subst Found (sym is) (told_plan true usual_settings.fetch (Program (purpose.Run None) (Made seed size)) h)
+  gen_plan seed size is h = subst Found (sym is) (told_plan usual_how (Program (purpose.Run None) (Made seed size)) h)

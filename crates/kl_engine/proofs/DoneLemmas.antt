@@ -26,13 +26,13 @@ use Rattle.kl_ask.specs.Driver.{State}
 use Rattle.kl_sources.specs.Sources.{names_of, grounds_of}
 use Rattle.kl_sources.specs.declared.source.Source.{Source}
 use Rattle.kl_sources.specs.Sources.{kinds_of}
-use Rattle.kl_engine.specs.Answering.{IsStoredFault, AreTold, IsUnreadBy, SomeDrifted, ListsTypes, Alike, one, IsOutside, reading, writing, drifting, wanting, FollowsVerdict, PrintsPage, DoesText, IsDetermined, IsOneOf, HasTextFault, IsUnreadFault, NeedsDrivers, IsMentionedIn, IsOfList, EndsSilent}
+use Rattle.kl_engine.specs.Answering.{IsStoredFault, AreTold, IsUnreadBy, SomeDrifted, ListsTypes, SameVerdict, one, IsOutside, reading, writing, drifting, wanting, FollowsVerdict, PrintsPage, DoesText, IsDetermined, IsOneOf, HasTextFault, IsUnreadFault, NeedsDrivers, IsMentionedIn, IsOfList, EndsSilent}
 use Rattle.kl_engine.specs.Faults.{Ending}
 use Rattle.kl_engine.specs.Outside.{outside_of}
 use Rattle.kl_engine.specs.Reading.{IsProgramOf, definitions, last, ReadsText}
-use Rattle.kl_engine.specs.Running.{Ends, before, followed, untold, IsNamed, DoneBy, DoneWith, DoneMeaning}
+use Rattle.kl_engine.specs.Running.{CameTo, before, followed, untold, IsNamed, Matter, DoneBy, DoneWith, DoneMeaning, program_matter, run_matter}
 use Rattle.kl_engine.specs.Typing.{breach_fault, IsTypingFault, IsTyped, AnswersTypes, TypesOfAny}
-use Rattle.kl_engine.specs.Verdict.{Verdict, well, refused, size_fault, AfterSizes, IsSized, IsUntyped, named_schemes, behind, scheme_lines, GivesList, IsListing, IsMeant, IsDone, AreMarks, IsTextVerdict, scheme_line}
+use Rattle.kl_engine.specs.Verdict.{Verdict, well, refused, size_fault, AfterSizes, IsSized, IsUntyped, named_schemes, behind, scheme_lines, GivesList, IsListing, IsMeant, IsScopedVerdict, AreMarks, IsTextVerdict, scheme_line}
 use Rattle.kl_engine.specs.declared.fault.Fault.{Fault}
 use Rattle.kl_engine.specs.declared.fault.Fault.TheVariants as fault
 use Rattle.kl_engine.specs.declared.top.Purpose.{Purpose}
@@ -112,7 +112,7 @@ plain_lines (d ∷ ds) = plain_line (nat_lt limit (length (scheme_text d.1))) d 
 
 -- a verdict of a program was printed, and no source was asked
 pub printed_done : (ss : List Source) (marks : ℕ → Bool) (p : Purpose) (program : Decls) (e : Exp) (v : Verdict) (end : Ending) (files : FilesState) (ds : List State) (out out' : SinkState)
-    → IsDone (kinds_of ds) ss marks p program e v → IsOneOf IsPlain v.ending → PrintsPage v end out out' → DoneWith ss marks p program e end (outside_of files ds out) (outside_of files ds out')
+    → IsScopedVerdict (kinds_of ds) ss marks p program e v → IsOneOf IsPlain v.ending → PrintsPage v end out out' → DoneWith ss marks p program e end (outside_of files ds out) (outside_of files ds out')
 printed_done ss marks p program e v end files ds out out' of plain prints =
     let fair = fair_done (kinds_of ds) ss marks program e p v of in
     let plain_too = plain_end v end out out' prints plain in record {
@@ -136,8 +136,8 @@ follows_outside v end files ds ds' out out' p fair same empty outside = record {
 }
 
 -- memory ran out first
-pub wanted_done : (Lists : Type 0) (IsVerdict : (ℕ → Bool) → Verdict → Type 0) (ss : List Source) (marks : ℕ → Bool) (p : Purpose) (files : FilesState) (ds : List State) (out : SinkState) → DoneBy Lists IsVerdict ss marks p (Some fault.NoMemory) (outside_of files ds out) (outside_of files ds out)
-wanted_done Lists IsVerdict ss marks p files ds out = record {
+pub wanted_done : (m : Matter) (files : FilesState) (ds : List State) (out : SinkState) → DoneBy m (Some fault.NoMemory) (outside_of files ds out) (outside_of files ds out)
+wanted_done m files ds out = record {
   ends = before refl (λ is. is) (λ v. wanting refl);
   read = λ is. absurd cc;
   write = λ is. absurd cc;
@@ -145,7 +145,7 @@ wanted_done Lists IsVerdict ss marks p files ds out = record {
   changed = λ name is. absurd cc;
   no_other = tt;
   nothing = λ is. refl;
-  drivers = keeps_same (IsNamed ss marks) ds;
+  drivers = keeps_same (IsNamed m.sources m.marks) ds;
   still = λ is. refl;
 }
 
@@ -246,25 +246,25 @@ module _ (ss : List Source) (p : Purpose) (text : List ℕ) (end : Ending) (file
   marks_told : AreMarks q (names_of ss) (is_marked s)
   marks_told = resolves.marks
 
-  as_text : (v : Verdict) → IsDone (kinds_of ds) ss (is_marked s) p (definitions (names_of ss) q) (last (names_of ss) q) v → IsTextVerdict (kinds_of ds) ss p text v
+  as_text : (v : Verdict) → IsScopedVerdict (kinds_of ds) ss (is_marked s) p (definitions (names_of ss) q) (last (names_of ss) q) v → IsTextVerdict (kinds_of ds) ss p text v
   as_text v of = inr (q, is_marked s, whole, marks_told, of)
 
-  no_verdict : ((others : ℕ → Bool) → ((i : ℕ) → i < length ss → is_marked s i ≡ others i) → (v : Verdict) → IsDone (kinds_of ds) ss others p (definitions (names_of ss) q) (last (names_of ss) q) v → ⊥) → (v : Verdict) → IsTextVerdict (kinds_of ds) ss p text v → ⊥
+  no_verdict : ((others : ℕ → Bool) → ((i : ℕ) → i < length ss → is_marked s i ≡ others i) → (v : Verdict) → IsScopedVerdict (kinds_of ds) ss others p (definitions (names_of ss) q) (last (names_of ss) q) v → ⊥) → (v : Verdict) → IsTextVerdict (kinds_of ds) ss p text v → ⊥
   no_verdict none v (inl (f, of, is)) = no_fault (names_of ss) text f q whole of
   no_verdict none v (inr (r, others, also, again, is)) =
       let same : r ≡ q = one_program (names_of ss) text r q also whole in
       let again_too : AreMarks q (names_of ss) others = subst (λ x. AreMarks x (names_of ss) others) same again in
-      none others (marks_one q ss (is_marked s) others marks_told again_too) v (subst (λ x. IsDone (kinds_of ds) ss others p (definitions (names_of ss) x) (last (names_of ss) x) v) same is)
+      none others (marks_one q ss (is_marked s) others marks_told again_too) v (subst (λ x. IsScopedVerdict (kinds_of ds) ss others p (definitions (names_of ss) x) (last (names_of ss) x) v) same is)
 
   named : (name : Name) → IsNamed ss (is_marked s) name → IsMentionedIn ss text name
   named name (i, at, marked) = (q, whole, i, at, (resolves.marks i (slice_get_within (names_of ss) i name at)).0 marked)
 
-  told_by : Ends (λ others. IsDone (kinds_of ds) ss others p (definitions (names_of ss) q) (last (names_of ss) q)) ss (is_marked s) p end (outside_of files ds out) (outside_of files ds' out') → (v : Verdict) → IsTextVerdict (kinds_of ds) ss p text v → (w : Verdict) × IsTextVerdict (kinds_of ds) ss p text w × Alike (ListsTypes p) v w × FollowsVerdict w end (outside_of files ds out) (outside_of files ds' out')
+  told_by : CameTo (program_matter (kinds_of ds) ss (is_marked s) p (definitions (names_of ss) q) (last (names_of ss) q)) end (outside_of files ds out) (outside_of files ds' out') → (v : Verdict) → IsTextVerdict (kinds_of ds) ss p text v → (w : Verdict) × IsTextVerdict (kinds_of ds) ss p text w × SameVerdict (ListsTypes p) v w × FollowsVerdict w end (outside_of files ds out) (outside_of files ds' out')
   told_by (before same none outside) v of = let fair = fair_text (kinds_of ds) ss p text v of in (v, of, one refl, follows_outside v end files ds ds' out out' p fair same (untold_empty p v end fair none) (outside v))
   told_by (followed w is follows) v of = (w, as_text w is, text_alike (kinds_of ds) ss p text v w of (as_text w is), follows)
   told_by (untold none all needs) v of = absurd (no_verdict none v of)
 
-  meant_by : Ends (λ others. IsDone (kinds_of ds) ss others p (definitions (names_of ss) q) (last (names_of ss) q)) ss (is_marked s) p end (outside_of files ds out) (outside_of files ds' out') → IsDetermined end → (NeedsDrivers p end → AreTold (kinds_of ds) ss (IsMentionedIn ss text)) → (v : Verdict) × IsTextVerdict (kinds_of ds) ss p text v × (v.ending ≡ end)
+  meant_by : CameTo (program_matter (kinds_of ds) ss (is_marked s) p (definitions (names_of ss) q) (last (names_of ss) q)) end (outside_of files ds out) (outside_of files ds' out') → IsDetermined end → (NeedsDrivers p end → AreTold (kinds_of ds) ss (IsMentionedIn ss text)) → (v : Verdict) × IsTextVerdict (kinds_of ds) ss p text v × (v.ending ≡ end)
   meant_by (before same none outside) told needs = absurd (none told)
   meant_by (followed w is follows) told needs = (w, as_text w is, elim follows.ends [ inl h ↦ sym h | inr h ↦ absurd (outside_untold w end files ds ds' out out' told h) ])
   meant_by (untold none all must) told needs = absurd (all (λ i x at of. needs (must told) i x at (named x.name of)))
@@ -322,11 +322,11 @@ checked ss text s end files ds out out' (q, whole, resolves) prints = does_text 
 
 module _ (ss : List Source) (marks : ℕ → Bool) (program : Decls) (e : Exp) (files : FilesState) (ds : List State) where
   pub untyped_types : (f : Fault) (out : SinkState) → AnswersTypes (grounds_of ss) program e (Err f) → DoneWith ss marks purpose.Types program e (Some f) (outside_of files ds out) (outside_of files ds out)
-  untyped_types f out (inl is) = subst (λ g. DoneWith ss marks purpose.Types program e (Some g) (outside_of files ds out) (outside_of files ds out)) (sym is) (wanted_done (GivesList (grounds_of ss) program e) (λ others. IsDone (kinds_of ds) ss others purpose.Types program e) ss marks purpose.Types files ds out)
+  untyped_types f out (inl is) = subst (λ g. DoneWith ss marks purpose.Types program e (Some g) (outside_of files ds out) (outside_of files ds out)) (sym is) (wanted_done (program_matter (kinds_of ds) ss marks purpose.Types program e) files ds out)
   untyped_types f out (inr of) = printed_done ss marks purpose.Types program e (refused f) (Some f) files ds out out (typing_fault (grounds_of ss) program e f (IsListing (grounds_of ss) program e) of) (plain_typing (grounds_of ss) program e f of) (prints_refused f out)
 
   pub untyped_run : (first : Option ℕ) (f : Fault) (out : SinkState) → AnswersTypes (grounds_of ss) program e (Err f) → DoneWith ss marks (purpose.Run first) program e (Some f) (outside_of files ds out) (outside_of files ds out)
-  untyped_run first f out (inl is) = subst (λ g. DoneWith ss marks (purpose.Run first) program e (Some g) (outside_of files ds out) (outside_of files ds out)) (sym is) (wanted_done (GivesList (grounds_of ss) program e) (λ others. IsDone (kinds_of ds) ss others (purpose.Run first) program e) ss marks (purpose.Run first) files ds out)
+  untyped_run first f out (inl is) = subst (λ g. DoneWith ss marks (purpose.Run first) program e (Some g) (outside_of files ds out) (outside_of files ds out)) (sym is) (wanted_done (program_matter (kinds_of ds) ss marks (purpose.Run first) program e) files ds out)
   untyped_run first f out (inr of) = printed_done ss marks (purpose.Run first) program e (refused f) (Some f) files ds out out (typing_fault (grounds_of ss) program e f (λ w. HasTyping program e (grounds_of ss) × IsMeant (kinds_of ds) ss marks first program e w) of) (plain_typing (grounds_of ss) program e f of) (prints_refused f out)
 
   pub listed : (typed : Typed) (end : Ending) (out out' : SinkState) → IsTyped (grounds_of ss) program e typed → PrintsPage (scheme_lines (named_schemes program typed)) end out out' → DoneWith ss marks purpose.Types program e end (outside_of files ds out) (outside_of files ds out')
@@ -352,10 +352,10 @@ module _ (ss : List Source) (marks : ℕ → Bool) (program : Decls) (e : Exp) (
       IsRunning : (ℕ → Bool) → Verdict → Type 0
       IsRunning others w = IsUntyped (grounds_of ss) program e w ⊎ (HasTyping program e (grounds_of ss) × IsMeant (kinds_of ds) ss others first program e w)
 
-      not_meant : (others : ℕ → Bool) (v : Verdict) → (IsMeant (kinds_of ds) ss others first program e v → ⊥) → IsDone (kinds_of ds) ss others (purpose.Run first) program e v → ⊥
+      not_meant : (others : ℕ → Bool) (v : Verdict) → (IsMeant (kinds_of ds) ss others first program e v → ⊥) → IsScopedVerdict (kinds_of ds) ss others (purpose.Run first) program e v → ⊥
       not_meant others v none of = elim (subst (λ s. AfterSizes s (IsRunning others) v) types.fits of) [ inl h ↦ h.1.none types.infers.has_typing | inr h ↦ none h.1 ]
 
-      ends_typed : Ends (λ others. IsMeant (kinds_of ds) ss others first program e) ss marks (purpose.Run first) end (outside_of files ds out) (outside_of files ds' out') → Ends (λ others. IsDone (kinds_of ds) ss others (purpose.Run first) program e) ss marks (purpose.Run first) end (outside_of files ds out) (outside_of files ds' out')
+      ends_typed : CameTo (run_matter (kinds_of ds) ss marks first program e) end (outside_of files ds out) (outside_of files ds' out') → CameTo (program_matter (kinds_of ds) ss marks (purpose.Run first) program e) end (outside_of files ds out) (outside_of files ds' out')
       ends_typed (before same none outside) = before same none outside
       ends_typed (followed v of follows) = followed v (after_none (size_fault (declared program e [])) (IsRunning marks) v types.fits (inr (types.infers.has_typing, of))) follows
       ends_typed (untold none all needs) = untold (λ others same v. not_meant others v (none others same v)) all needs

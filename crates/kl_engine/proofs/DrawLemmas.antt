@@ -1,5 +1,5 @@
 -- What is printed of a list by the loop that draws its items.
-use Rattle.std.proofs.Common.{◌≡◌, ◌<◌, ◌≤◌, ℕ, zero, suc, ◌+◌, inl, length, Bool, true, false, List, [], ◌∷◌, ◌++◌, Option, Some, None, Result, Ok, Err, refl, sym, ap, subst, ◌∙◌, arith, append-nil}
+use Rattle.std.proofs.Common.{◌≡◌, ◌<◌, ◌≤◌, ℕ, zero, suc, ◌+◌, ◌⊎◌, inl, inr, length, Bool, true, false, List, [], ◌∷◌, ◌++◌, Option, Some, None, Result, Ok, Err, refl, sym, ap, subst, ◌∙◌, arith, append-nil}
 use Rattle.std.specs.Prelude.{reverse, ⊤}
 use Rattle.std.specs.Option.{option_map}
 use Rattle.std.proofs.lemmas.Option.{same_Some}
@@ -29,16 +29,20 @@ use Rattle.kl_eval.specs.declared.stop.EvalStop.TheVariants as why
 use Rattle.kl_scans.specs.Held.{Owned, Uses, nothing}
 use Rattle.kl_scans.specs.Moves.{Closes}
 use Rattle.kl_scans.proofs.Moving.{moves_none}
-use Rattle.kl_cursor.specs.Laziness.{Frugal, Handed, NextsLazily}
+use Rattle.kl_cursor.specs.AtHand.{NextsHeld, NextsHeldLazily}
+use Rattle.kl_cursor.specs.declared.cursor.Draw.{Draw}
+use Rattle.kl_cursor.specs.declared.cursor.Draw.TheVariants as draw
+use Rattle.kl_cursor.specs.Laziness.{Frugal, Handed, KeepsLazy, NextsLazily}
 use Rattle.kl_cursor.specs.Left.{Snap, reading, fresh, uses, left as left_of}
 use Rattle.kl_cursor.specs.Measure.{most}
-use Rattle.kl_cursor.specs.Pulling.{Quiet, pulls}
+use Rattle.kl_cursor.specs.Pulling.{Silent}
 use Rattle.kl_cursor.specs.Sense.{IsToldAt, Stands}
-use Rattle.kl_cursor.specs.Steps.{Ends, Gives, Nexts, Stops}
-use Rattle.kl_cursor.proofs.Calls.{owned_nothing}
+use Rattle.kl_cursor.specs.Steps.{Ends, Gives, Nexts, Onward, Stops}
+use Rattle.kl_cursor.proofs.Calls.{owned_nothing, stands_onward}
 use Rattle.kl_cursor.proofs.Events.{of_none}
-use Rattle.kl_cursor.proofs.Forms.{told_on}
+use Rattle.kl_cursor.proofs.Forms.{ends_then, gives_then, stops_then, told_on}
 use Rattle.kl_cursor.proofs.Handing.{handed_none, handed_still, handed_then}
+use Rattle.kl_cursor.proofs.Lazily.{spares_then}
 use Rattle.kl_cursor.proofs.LazyLaws.{Drawing as Along, drawing_goes, drawing_starts, lazy_frugal}
 use Rattle.kl_cursor.proofs.ValueDrain.{Draining, drains_starts, drains_stands}
 use Rattle.kl_run.specs.Running.{Runs}
@@ -46,21 +50,43 @@ use Rattle.kl_engine.specs.Answering.{PrintsPage}
 use Rattle.kl_engine.specs.Faults.{Ending}
 use Rattle.kl_engine.specs.Outside.{outside_of}
 use Rattle.kl_engine.specs.Planned.{HandsFew, HandsWritten, IsLine}
-use Rattle.kl_engine.specs.Running.{AnswersTerm, HasList, IsListOutcome, IsListTerm, Scanned, SparesRows, StopsList, TookMore, are_enough, one_more}
+use Rattle.kl_engine.specs.Running.{AnswersTerm, Draws, HasList, IsListOutcome, IsListTerm, Scanned, SparesRows, StopsList, TookMore, are_enough, one_more, plan_over}
 use Rattle.kl_engine.specs.Showing.{write_fault}
 use Rattle.kl_engine.specs.Verdict.{list_front, value_page}
 use Rattle.kl_engine.specs.declared.fault.Fault.TheVariants as fault
-use Rattle.kl_engine.proofs.DrainLemmas.{drains_ends, drains_on, drains_over, drains_owned}
+use Rattle.kl_engine.proofs.DrainLemmas.{drains_ends, drains_on, drains_onward, drains_over, drains_owned}
 use Rattle.kl_engine.proofs.FewLemmas.{IsOut, Withheld, driver_unwritten, lacking, lacks_none, none_times, nothing_handed, out_all, out_grows, out_more, out_none, seen_frugal, took_then, withheld_closed, withheld_none, withheld_on}
 use Rattle.kl_engine.proofs.ListLemmas.{Wanted, closed_moves, closed_scanned, list_enough, list_stopped, list_unwritten, list_wanted, list_whole, more_length, never_enough, puts_part, stopped_scanned, wanted_first, wanted_next, wanted_some, whole_scanned}
 use Rattle.kl_engine.proofs.PutLemmas.{IsPlace, item_put, place_next, puts_line}
 
--- what a step answers, by what the code read of it
-pub next_is : (env : List Value) (s : Snap) (o q : Option Value) (t : Snap) (a b : World) → o ≡ q → Nexts env s (Ok o) t a b → Nexts env s (Ok q) t a b
-next_is env s o q t a b is next = subst (λ z. Nexts env s (Ok z) t a b) is next
+-- ---- a draw
 
-pub lazy_is : (env : List Value) (s : Snap) (o q : Option Value) (t : Snap) (a b : World) → o ≡ q → NextsLazily env s (Ok o) t a b → NextsLazily env s (Ok q) t a b
-lazy_is env s o q t a b is lazy = subst (λ z. NextsLazily env s (Ok z) t a b) is lazy
+pub held_onward : (env : List Value) (s : Snap) (r : Draw) (t : Snap) (a b : World) → r ≡ draw.NeedsPull → NextsHeld env s (Ok r) t a b → Onward env s a t b
+held_onward env s r t a b is next = subst (λ z. NextsHeld env s (Ok z) t a b) is next
+
+pub held_keeps : (env : List Value) (s : Snap) (r : Draw) (t : Snap) (a b : World) → r ≡ draw.NeedsPull → NextsHeldLazily env s (Ok r) t a b → KeepsLazy 0 env s a t b
+held_keeps env s r t a b is lazy = subst (λ z. NextsHeldLazily env s (Ok z) t a b) is lazy
+
+-- behind rows at hand that gave no item, and a page that is written
+pub drew_then : (held env : List Value) (s t : Snap) (r : Result (Option Value) EvalStop) (u : Snap) (a b c : World) (page : List ℕ) → held ≡ env → Onward (reverse env) s a t b → KeepsLazy 0 (reverse env) s a t b → Nexts (reverse held) t r u b c → NextsLazily (reverse held) t r u b c → page ≡ []
+    → Draws (reverse env) s (Ok r) u a c page
+drew_then held env s t (Ok (Some v)) u a b c page same onward keeps next lazy none = (
+  gives_then (reverse env) s t u v a b c onward (subst (λ vs. Gives (reverse vs) t b v u c) same next),
+  spares_then 1 (reverse env) s t u a b c onward keeps (subst (λ vs. KeepsLazy 1 (reverse vs) t b u c) same lazy),
+  inr none,
+)
+drew_then held env s t (Ok None) u a b c page same onward keeps next lazy none = ((ends_then (reverse env) s t a b c onward (subst (λ vs. Ends (reverse vs) t b c) same next.0), next.1), tt, inr none)
+drew_then held env s t (Err e) u a b c page same onward keeps next lazy none = ((stops_then (reverse env) s t e a b c onward (subst (λ vs. Stops (reverse vs) t e b c) same next.0), next.1), tt, inr none)
+
+-- what a draw answers, by what the code read of it
+pub drew_is : (env : List Value) (s : Snap) (r q : Result (Option Value) EvalStop) (t : Snap) (a b : World) (page : List ℕ) → r ≡ q → Draws env s (Ok r) t a b page → Draws env s (Ok q) t a b page
+drew_is env s r q t a b page is drew = subst (λ z. Draws env s (Ok z) t a b page) is drew
+
+pub drew_next : (env : List Value) (s : Snap) (r : Result (Option Value) EvalStop) (o q : Option Value) (t : Snap) (a b : World) (page : List ℕ) → r ≡ Ok o → o ≡ q → Draws env s (Ok r) t a b page → Draws env s (Ok (Ok q)) t a b page
+drew_next env s r o q t a b page is next drew = drew_is env s r (Ok q) t a b page (is ∙ ap Ok next) drew
+
+pub onward_stands : (held env : List Value) (s t : Snap) (a b : World) → held ≡ env → Stands a s (reverse env) → Onward (reverse env) s a t b → Stands b t (reverse held)
+onward_stands held env s t a b same stands onward = subst (λ vs. Stands b t (reverse vs)) (sym same) (stands_onward (reverse env) s t a b onward stands)
 
 next_wanted : (left : Option ℕ) → are_enough left ≡ false → (after : Option ℕ) × (left ≡ one_more after)
 next_wanted None some = (None, refl)
@@ -97,10 +123,10 @@ pub record Drawing (p : Node) (first : Option ℕ) (a : World) (place : ℕ) (le
   pub withheld : Withheld p a out w
   pub printed : Printed given out
 
--- Right before a draw, where all items are out if the cursor may read on.
-pub record Ready (p : Node) (first : Option ℕ) (a : World) (place : ℕ) (left : Option ℕ) (env : List Value) (s : Snap) (w : World) (Printed : List Value → ℕ → Type 0) : Type 0 where
+-- Right behind a draw, what was so before it but for what is written: all items are out, unless nothing was handed.
+pub record Ready (p : Node) (first : Option ℕ) (a : World) (place : ℕ) (left : Option ℕ) (env : List Value) (s : Snap) (w x : World) (Printed : List Value → ℕ → Type 0) : Type 0 where
   pub draws : Drawing p first a place left env s w Printed
-  pub all : pulls s ≡ true → draws.out ≡ length draws.given
+  pub all : Silent w x ⊎ (draws.out ≡ length draws.given)
 
 pub draws_first : (p : Node) (first : Option ℕ) (a : World) (env : List Value) (s : Snap) (out : SinkState) (page : List ℕ) → HasList a p → are_enough first ≡ false → s ≡ fresh p → env ≡ [] → Drawing p first a 0 first env s a (Fronts out page out page)
 draws_first p first a env s out page (u, types, ready) some is bare = record {
@@ -189,42 +215,39 @@ module _ (p : Node) (first : Option ℕ) (a : World) (place : ℕ) (left : Optio
       let k = d.spared b c all line told at in
       seen_frugal a b c all (length d.given) k.handed (length d.given) w (omega arith) k.counted (frugal_now b c all (length d.given) s w d.drained.moves.settings k)
 
-  pub draws_ready : (out' : SinkState) (page' : List ℕ) (done : Unit {0}) → Puts [] (Ok done) out page out' page' → (pulls s ≡ true → page' ≡ []) → Ready p first a place left env s w (Fronts out0 page0 out' page')
-  draws_ready out' page' done r flushed = by_case (pulls s) refl
-    where
-      by_case : (y : Bool) → pulls s ≡ y → Ready p first a place left env s w (Fronts out0 page0 out' page')
-      by_case true e = record {
-        draws = record {
-          given = d.given;
-          out = length d.given;
-          within = omega arith;
-          at = d.at;
-          wanted = d.wanted;
-          some = d.some;
-          bare = d.bare;
-          drained = d.drained;
-          spared = d.spared;
-          withheld = withheld_now;
-          printed = λ front puts. let q = readied out' page' r front puts in (q, out_all d.given front out' page' (flushed e) q);
-        };
-        all = λ h. refl;
-      }
-      by_case false e = record {
-        draws = record {
-          given = d.given;
-          out = d.out;
-          within = d.within;
-          at = d.at;
-          wanted = d.wanted;
-          some = d.some;
-          bare = d.bare;
-          drained = d.drained;
-          spared = d.spared;
-          withheld = d.withheld;
-          printed = λ front puts. (readied out' page' r front puts, out_grows d.given d.out front out out' (d.printed front puts).1 (r.done, r.took));
-        };
-        all = λ h. let no : false ≡ true = sym e ∙ h in cc;
-      }
+  pub draws_ready : (x : World) (out' : SinkState) (page' : List ℕ) → Puts {T = Unit {0}} [] (Ok tt) out page out' page' → Silent w x ⊎ (page' ≡ []) → Ready p first a place left env s w x (Fronts out0 page0 out' page')
+  draws_ready x out' page' r (inr flushed) = record {
+    draws = record {
+      given = d.given;
+      out = length d.given;
+      within = omega arith;
+      at = d.at;
+      wanted = d.wanted;
+      some = d.some;
+      bare = d.bare;
+      drained = d.drained;
+      spared = d.spared;
+      withheld = withheld_now;
+      printed = λ front puts. let q = readied out' page' r front puts in (q, out_all d.given front out' page' flushed q);
+    };
+    all = inr refl;
+  }
+  draws_ready x out' page' r (inl still) = record {
+    draws = record {
+      given = d.given;
+      out = d.out;
+      within = d.within;
+      at = d.at;
+      wanted = d.wanted;
+      some = d.some;
+      bare = d.bare;
+      drained = d.drained;
+      spared = d.spared;
+      withheld = d.withheld;
+      printed = λ front puts. (readied out' page' r front puts, out_grows d.given d.out front out out' (d.printed front puts).1 (r.done, r.took));
+    };
+    all = inl still;
+  }
 
   -- what is lacking where fewer items are out
   lacks_of : (x : World) (front o : SinkState) → HasList a p → Puts {T = Unit {0}} (list_front []) (Ok tt) front [] out0 page0 → TookMore out o → Withheld p a d.out x → IsToldAt a → HandsWritten (reading a) a.settings.fetch p front o (λ c rows. Handed c rows a x)
@@ -233,10 +256,28 @@ module _ (p : Node) (first : Option ℕ) (a : World) (place : ℕ) (left : Optio
       (ap items_in (sym (d.drained.same [] kind.List u tt types told)) ∙ both_items d.given (left_of w s [])) d.within
       (out_grows d.given d.out front out o (d.printed front puts).1 more) told h
 
-  -- what was held back could not be written
-  pub unready_spared : (e : PrintError) (c : World) (out' : SinkState) (page' : List ℕ) → HasList a p → Puts {T = Unit {0}} [] (as_stop (Err e)) out page out' page' → Closes (uses s) w c → (front : SinkState) → Puts {T = Unit {0}} (list_front []) (Ok tt) front [] out0 page0
-      → SparesRows p (Some (write_fault e)) first a c front out'
-  unready_spared e c out' page' list r closes front puts = ill_spared p first a c (Some (write_fault e)) front out' (λ h. cc) (λ told. lacks_of c front out' list puts (r.done, r.took) (withheld_closed p a d.out (uses s) w c closes d.withheld) told)
+  -- what was held back could not be written, behind rows at hand that gave no item
+  module _ (t : Snap) (x : World) (onward : Onward (reverse env) s w t x) where
+    moved : Draining [] (fresh p) a d.given t x
+    moved = drains_onward [] (fresh p) a d.given s w d.drained t x (subst (λ vs. Onward (reverse vs) s w t x) d.bare onward)
+
+    pub moved_owned : Owned (uses t) x
+    moved_owned = drains_owned [] (fresh p) a d.given t x moved (owned_nothing a)
+
+    pub unready_scanned : (e : PrintError) (c : World) → Closes (uses t) x c → Scanned p (Some (write_fault e)) first a c
+    unready_scanned e c closes = closed_scanned p first a d.given t x moved (Some (write_fault e)) c (λ well. absurd cc) closes
+
+    pub unready_spared : (e : PrintError) (c : World) (out' : SinkState) (page' : List ℕ) → HasList a p → Silent w x → Puts {T = Unit {0}} [] (as_stop (Err e)) out page out' page' → Closes (uses t) x c → (front : SinkState) → Puts {T = Unit {0}} (list_front []) (Ok tt) front [] out0 page0
+        → SparesRows p (Some (write_fault e)) first a c front out'
+    unready_spared e c out' page' list still r closes front puts =
+        ill_spared p first a c (Some (write_fault e)) front out' (λ h. cc) (λ told. lacks_of c front out' list puts (r.done, r.took) (withheld_closed p a d.out (uses t) x c closes (withheld_on p a d.out w x still d.withheld)) told)
+
+    pub unready_prints : (ks : List DriverKind) (ss : List Source) (marks : ℕ → Bool) (tree : Tree) (files : FilesState) → Runs ks ss marks tree p a → IsListTerm (types_of a) tree → (front : SinkState) → Puts {T = Unit {0}} (list_front []) (Ok tt) front [] out0 page0
+        → (e : PrintError) (c : World) (out' : SinkState) (page' : List ℕ) → Puts {T = Unit {0}} [] (as_stop (Err e)) out page out' page' → Closes (uses t) x c
+        → AnswersTerm ⊤ (IsListOutcome first (core (values_of a) tree [])) (HaveSources (types_of a) (values_of a)) (Some (write_fault e)) (plan_over a p) (outside_of files a.drivers front) (outside_of files c.drivers out')
+    unready_prints ks ss marks tree files runs is_list front puts e c out' page' r closes =
+        list_unwritten ks ss marks tree p first a files runs is_list d.given left d.wanted t x moved e c front out' page' (closed_moves p a x c d.given t moved closes).0
+        (subst (λ bs. Puts {T = Unit {0}} bs (as_stop (Err e)) front [] out' page') (append-nil (list_front d.given)) (puts_line (Err e) (list_front d.given) [] front out out' [] page page' (d.printed front puts).0 r))
 
   -- an item is drawn
   module _ (env' : List Value) (v : Value) (t : Snap) (b : World) (same : env' ≡ env) (next : Nexts (reverse env) s (Ok (Some v)) t w b) where
@@ -254,16 +295,15 @@ module _ (p : Node) (first : Option ℕ) (a : World) (place : ℕ) (left : Optio
           ([], sense.0, tt, (d.drained.typed [] kind.List sense.0 tt sense.1).1, told_on nothing (uses s) a w d.drained.moves told)
           (subst (λ vs. NextsLazily (reverse vs) s (Ok (Some v)) t w b) d.bare lazy))
 
-      module _ (settled : pulls s ≡ true → d.out ≡ length d.given) (quiet : Quiet s w b) where
+      module _ (settled : Silent w b ⊎ (d.out ≡ length d.given)) where
         -- the rows that were handed then
         pub withheld_next : Withheld p a d.out b
-        withheld_next = by_case (pulls s) refl
+        withheld_next = by_case settled
           where
-            by_case : (y : Bool) → pulls s ≡ y → Withheld p a d.out b
-            by_case false e = withheld_on p a d.out w b (quiet e) d.withheld
-            by_case true e = λ b' c all line told at.
+            by_case : Silent w b ⊎ (d.out ≡ length d.given) → Withheld p a d.out b
+            by_case (inl still) = withheld_on p a d.out w b still d.withheld
+            by_case (inr full) = λ b' c all line told at.
                 let k = spared_on b' c all line told at in
-                let full = settled e in
                 let size = more_length d.given v in
                 seen_frugal a b' c all (length (d.given ++ v ∷ [])) k.handed d.out b (omega (arith, full, size)) k.counted (frugal_now b' c all (length (d.given ++ v ∷ [])) t b further.moves.settings k)
 
@@ -300,8 +340,8 @@ module _ (p : Node) (first : Option ℕ) (a : World) (place : ℕ) (left : Optio
           → Puts (list_front (d.given ++ v ∷ [])) (as_stop r) front [] out' page'
       item_of r put front puts = item_put r d.given v place front out out' [] page page' d.at (d.printed front puts).0 put
 
-      pub draws_on : HasList a p → NextsLazily (reverse env) s (Ok (Some v)) t w b → (pulls s ≡ true → d.out ≡ length d.given) → Quiet s w b → (left' : Option ℕ) (done : Unit {0}) → Puts (separator place ++ text_of v) (as_stop (Ok done)) out page out' page' → left ≡ one_more left' → are_enough left' ≡ false → Drawing p first a 1 left' env' t b (Fronts out0 page0 out' page')
-      draws_on sense lazy settled quiet left' done put is some = record {
+      pub draws_on : HasList a p → NextsLazily (reverse env) s (Ok (Some v)) t w b → Silent w b ⊎ (d.out ≡ length d.given) → (left' : Option ℕ) (done : Unit {0}) → Puts (separator place ++ text_of v) (as_stop (Ok done)) out page out' page' → left ≡ one_more left' → are_enough left' ≡ false → Drawing p first a 1 left' env' t b (Fronts out0 page0 out' page')
+      draws_on sense lazy settled left' done put is some = record {
         given = d.given ++ v ∷ [];
         out = d.out;
         within = let size = more_length d.given v in let less = d.within in omega (arith, size, less);
@@ -311,41 +351,37 @@ module _ (p : Node) (first : Option ℕ) (a : World) (place : ℕ) (left : Optio
         bare = same ∙ d.bare;
         drained = further;
         spared = spared_on sense lazy;
-        withheld = withheld_next sense lazy settled quiet;
+        withheld = withheld_next sense lazy settled;
         printed = λ front puts. (item_of (Ok done) put front puts, out_more d.given (v ∷ []) d.out front out' d.within (out_grows d.given d.out front out out' (d.printed front puts).1 (put.done, put.took)));
       }
 
       module _ (ks : List DriverKind) (ss : List Source) (marks : ℕ → Bool) (tree : Tree) (files : FilesState) (runs : Runs ks ss marks tree p a) (is_list : IsListTerm (types_of a) tree) (front : SinkState) (puts : Puts {T = Unit {0}} (list_front []) (Ok tt) front [] out0 page0) where
         pub enough_prints : (left' : Option ℕ) (end : Ending) (c : World) (out'' : SinkState) (done : Unit {0}) → Puts (separator place ++ text_of v) (as_stop (Ok done)) out page out' page' → left ≡ one_more left' → are_enough left' ≡ true → Closes (uses t) b c
             → ((given : List Value) (s : SinkState) → Puts {T = Unit {0}} (list_front given) (Ok tt) s [] out' page' → PrintsPage (value_page (value.List given)) end s out'')
-            → AnswersTerm ⊤ (IsListOutcome first (core (values_of a) tree [])) (HaveSources (types_of a) (values_of a)) end a.sources (outside_of files a.drivers front) (outside_of files c.drivers out'')
+            → AnswersTerm ⊤ (IsListOutcome first (core (values_of a) tree [])) (HaveSources (types_of a) (values_of a)) end (plan_over a p) (outside_of files a.drivers front) (outside_of files c.drivers out'')
         enough_prints left' end c out'' done put is all closes ends =
             list_enough ks ss marks tree p first a files runs is_list (d.given ++ v ∷ []) left' (wanted_next first d.given v left left' d.wanted is) t b further end c front out'' all
             (closed_moves p a b c (d.given ++ v ∷ []) t further closes).0 (ends (d.given ++ v ∷ []) front (item_of (Ok done) put front puts))
 
         pub unput_prints : (e : PrintError) (c : World) → Puts {T = Unit {0}} (separator place ++ text_of v) (as_stop (Err e)) out page out' page' → Closes (uses t) b c
-            → AnswersTerm ⊤ (IsListOutcome first (core (values_of a) tree [])) (HaveSources (types_of a) (values_of a)) (Some (write_fault e)) a.sources (outside_of files a.drivers front) (outside_of files c.drivers out')
+            → AnswersTerm ⊤ (IsListOutcome first (core (values_of a) tree [])) (HaveSources (types_of a) (values_of a)) (Some (write_fault e)) (plan_over a p) (outside_of files a.drivers front) (outside_of files c.drivers out')
         unput_prints e c put closes =
             let after = next_wanted left d.some in
             list_unwritten ks ss marks tree p first a files runs is_list (d.given ++ v ∷ []) after.0 (wanted_next first d.given v left after.0 d.wanted after.1) t b further e c front out' page'
             (closed_moves p a b c (d.given ++ v ∷ []) t further closes).0 (item_of (Err e) put front puts)
-
-  -- what was held back could not be written
-  pub unready_scanned : (e : PrintError) (c : World) → Closes (uses s) w c → Scanned p (Some (write_fault e)) first a c
-  unready_scanned e c closes = closed_scanned p first a d.given s w d.drained (Some (write_fault e)) c (λ well. absurd cc) closes
 
   -- nothing is left
   pub whole_counted : (t : Snap) (end : Ending) (b : World) → HasList a p → Nexts (reverse env) s (Ok None) t w b → Scanned p end first a b
   whole_counted t end b sense next = whole_scanned p first a d.given s w d.drained end b sense (subst (λ vs. Ends (reverse vs) s w b) d.bare next.0)
 
   -- all items came, and the rows that were handed at the end
-  past_lacks : (e : End) (b : World) (front o : SinkState) → HasList a p → (pulls s ≡ true → d.out ≡ length d.given) → Quiet s w b → Puts {T = Unit {0}} (list_front []) (Ok tt) front [] out0 page0 → TookMore out o → flow d.given e ≡ coming (plan (reading a) p []) → IsToldAt a
+  past_lacks : (e : End) (b : World) (front o : SinkState) → HasList a p → Silent w b ⊎ (d.out ≡ length d.given) → Puts {T = Unit {0}} (list_front []) (Ok tt) front [] out0 page0 → TookMore out o → flow d.given e ≡ coming (plan (reading a) p []) → IsToldAt a
       → HandsWritten (reading a) a.settings.fetch p front o (λ c rows. Handed c rows a b)
-  past_lacks e b front o list settled quiet puts more is told = by_case (pulls s) refl
+  past_lacks e b front o list settled puts more is told = by_case settled
     where
-      by_case : (y : Bool) → pulls s ≡ y → HandsWritten (reading a) a.settings.fetch p front o (λ c rows. Handed c rows a b)
-      by_case true at = lacks_none p a d.given e d.out b front o is (settled at) (out_grows d.given d.out front out o (d.printed front puts).1 more)
-      by_case false at = lacks_of b front o list puts more (withheld_on p a d.out w b (quiet at) d.withheld) told
+      by_case : Silent w b ⊎ (d.out ≡ length d.given) → HandsWritten (reading a) a.settings.fetch p front o (λ c rows. Handed c rows a b)
+      by_case (inr full) = lacks_none p a d.given e d.out b front o is full (out_grows d.given d.out front out o (d.printed front puts).1 more)
+      by_case (inl still) = lacks_of b front o list puts more (withheld_on p a d.out w b still d.withheld) told
 
   -- all that it means is less than was wanted
   whole_few : (t : Snap) (b : World) → HasList a p → Nexts (reverse env) s (Ok None) t w b → IsToldAt a → HandsFew (reading a) a.settings.fetch p first (λ c rows. Handed c rows a b)
@@ -355,28 +391,28 @@ module _ (p : Node) (first : Option ℕ) (a : World) (place : ℕ) (left : Optio
       let after = next_wanted left d.some in
       absurd (past_all first d.given left after.0 d.wanted after.1 items is (omega (arith, enough, all)))
 
-  pub whole_spared : (t : Snap) (end : Ending) (b : World) (o : SinkState) → HasList a p → (pulls s ≡ true → d.out ≡ length d.given) → Quiet s w b → Nexts (reverse env) s (Ok None) t w b → TookMore out o
+  pub whole_spared : (t : Snap) (end : Ending) (b : World) (o : SinkState) → HasList a p → Silent w b ⊎ (d.out ≡ length d.given) → Nexts (reverse env) s (Ok None) t w b → TookMore out o
       → (front : SinkState) → Puts {T = Unit {0}} (list_front []) (Ok tt) front [] out0 page0 → SparesRows p end first a b front o
-  whole_spared t end b o list settled quiet next more front puts = record {
+  whole_spared t end b o list settled next more front puts = record {
     few = λ well told. whole_few t b list next told;
     written = λ failed told.
-        past_lacks fine b front o list settled quiet puts more
+        past_lacks fine b front o list settled puts more
         ((drains_ends [] (fresh p) a d.given s w d.drained b (subst (λ vs. Ends (reverse vs) s w b) d.bare next.0)).gave [] kind.List list.0 tt list.1 told) told;
   }
 
   -- it was stopped, and only an overflow is followed by what else is written
-  pub stop_spared : (t : Snap) (e : EvalStop) (end : Ending) (b : World) (o : SinkState) → HasList a p → (pulls s ≡ true → d.out ≡ length d.given) → Quiet s w b → (end ≡ None → ⊥) → Nexts (reverse env) s (Err e) t w b → TookMore out o
+  pub stop_spared : (t : Snap) (e : EvalStop) (end : Ending) (b : World) (o : SinkState) → HasList a p → Silent w b ⊎ (d.out ≡ length d.given) → (end ≡ None → ⊥) → Nexts (reverse env) s (Err e) t w b → TookMore out o
       → ((given : List Value) (s : SinkState) → Puts {T = Unit {0}} (list_front given) (Ok tt) s [] out page → StopsList given e end s o)
       → (front : SinkState) → Puts {T = Unit {0}} (list_front []) (Ok tt) front [] out0 page0 → SparesRows p end first a b front o
-  stop_spared t why.Overflow end b o list settled quiet never next more stops front puts =
+  stop_spared t why.Overflow end b o list settled never next more stops front puts =
       ill_spared p first a b end front o never (λ told.
-      past_lacks overflow b front o list settled quiet puts more
+      past_lacks overflow b front o list settled puts more
       ((drains_over [] (fresh p) a d.given s w d.drained b (subst (λ vs. Stops (reverse vs) s why.Overflow w b) d.bare next.0)).gave [] kind.List list.0 tt list.1 told) told)
-  stop_spared t (why.Driver l x) end b o list settled quiet never next more stops front puts = record {
+  stop_spared t (why.Driver l x) end b o list settled never next more stops front puts = record {
     few = λ well. absurd (never well);
     written = λ failed. absurd (driver_unwritten l x _ refl (sym (stops d.given front (d.printed front puts).0).0 ∙ failed));
   }
-  stop_spared t why.NoMemory end b o list settled quiet never next more stops front puts = record {
+  stop_spared t why.NoMemory end b o list settled never next more stops front puts = record {
     few = λ well. absurd (never well);
     written = λ failed. let both : Some fault.NoMemory ≡ Some fault.Write = sym (stops d.given front (d.printed front puts).0).0 ∙ failed in cc;
   }
@@ -387,12 +423,7 @@ module _ (p : Node) (first : Option ℕ) (a : World) (place : ℕ) (left : Optio
 
   module _ (ks : List DriverKind) (ss : List Source) (marks : ℕ → Bool) (tree : Tree) (files : FilesState) (runs : Runs ks ss marks tree p a) (is_list : IsListTerm (types_of a) tree) (front : SinkState) (puts : Puts {T = Unit {0}} (list_front []) (Ok tt) front [] out0 page0) where
     abbrev Answered : Ending → World → SinkState → Type 0
-    Answered end b out' = AnswersTerm ⊤ (IsListOutcome first (core (values_of a) tree [])) (HaveSources (types_of a) (values_of a)) end a.sources (outside_of files a.drivers front) (outside_of files b.drivers out')
-
-    pub unready_prints : (e : PrintError) (c : World) (out' : SinkState) (page' : List ℕ) → Puts {T = Unit {0}} [] (as_stop (Err e)) out page out' page' → Closes (uses s) w c → Answered (Some (write_fault e)) c out'
-    unready_prints e c out' page' r closes =
-        list_unwritten ks ss marks tree p first a files runs is_list d.given left d.wanted s w d.drained e c front out' page' (closed_moves p a w c d.given s d.drained closes).0
-        (subst (λ bs. Puts {T = Unit {0}} bs (as_stop (Err e)) front [] out' page') (append-nil (list_front d.given)) (puts_line (Err e) (list_front d.given) [] front out out' [] page page' (d.printed front puts).0 r))
+    Answered end b out' = AnswersTerm ⊤ (IsListOutcome first (core (values_of a) tree [])) (HaveSources (types_of a) (values_of a)) end (plan_over a p) (outside_of files a.drivers front) (outside_of files b.drivers out')
 
     pub whole_prints : (t : Snap) (end : Ending) (b : World) (out' : SinkState) → Nexts (reverse env) s (Ok None) t w b
         → ((given : List Value) (s : SinkState) → Puts {T = Unit {0}} (list_front given) (Ok tt) s [] out page → PrintsPage (value_page (value.List given)) end s out') → Answered end b out'
@@ -413,7 +444,7 @@ unopened_spared p first a front o list = unbegun_spared p first a (Some fault.No
 
 pub unopened_prints : (p : Node) (first : Option ℕ) (a : World) (out : SinkState) (page : List ℕ) (ks : List DriverKind) (ss : List Source) (marks : ℕ → Bool) (tree : Tree) (files : FilesState) → Runs ks ss marks tree p a → IsListTerm (types_of a) tree → (front : SinkState)
     → Puts {T = Unit {0}} (list_front []) (Ok tt) front [] out page
-    → AnswersTerm ⊤ (IsListOutcome first (core (values_of a) tree [])) (HaveSources (types_of a) (values_of a)) (Some fault.NoMemory) a.sources (outside_of files a.drivers front) (outside_of files a.drivers out)
+    → AnswersTerm ⊤ (IsListOutcome first (core (values_of a) tree [])) (HaveSources (types_of a) (values_of a)) (Some fault.NoMemory) (plan_over a p) (outside_of files a.drivers front) (outside_of files a.drivers out)
 unopened_prints p first a out page ks ss marks tree files runs is_list front puts =
     list_wanted ks ss marks tree p first a files runs is_list [] first (wanted_first first) (fresh p) a (drains_starts [] (fresh p) a) a front out (moves_none nothing a) (puts_part [] (Ok tt) front out page puts)
 
@@ -425,9 +456,12 @@ unbegun_scanned p first a end never = record { moves = moves_none nothing a; kno
 pub none_wanted : (first : Option ℕ) → are_enough first ≡ true → (end : Ending) → end ≡ None → first ≡ None → ⊥
 none_wanted first all end well every = wanted_some first [] first (wanted_first first) all every
 
+pub some_wanted : (first : Option ℕ) → are_enough first ≡ false → first ≡ Some 0 → ⊥
+some_wanted first some none = let two : true ≡ false = sym (ap are_enough none) ∙ some in cc
+
 module _ (p : Node) (first : Option ℕ) (a : World) (out : SinkState) (ks : List DriverKind) (ss : List Source) (marks : ℕ → Bool) (tree : Tree) (files : FilesState) (runs : Runs ks ss marks tree p a) (is_list : IsListTerm (types_of a) tree) where
   abbrev Answers : Ending → SinkState → Type 0
-  Answers end out' = AnswersTerm ⊤ (IsListOutcome first (core (values_of a) tree [])) (HaveSources (types_of a) (values_of a)) end a.sources (outside_of files a.drivers out) (outside_of files a.drivers out')
+  Answers end out' = AnswersTerm ⊤ (IsListOutcome first (core (values_of a) tree [])) (HaveSources (types_of a) (values_of a)) end (plan_over a p) (outside_of files a.drivers out) (outside_of files a.drivers out')
 
   pub unbegun_prints : (e : PrintError) (out' : SinkState) (page' : List ℕ) → Puts {T = Unit {0}} (list_front []) (as_stop (Err e)) out [] out' page' → Answers (Some (write_fault e)) out'
   unbegun_prints e out' page' puts = list_unwritten ks ss marks tree p first a files runs is_list [] first (wanted_first first) (fresh p) a (drains_starts [] (fresh p) a) e a out out' page' (moves_none nothing a) puts

@@ -18,7 +18,7 @@ use Rattle.kl_sources.specs.declared.source.Source.{Source}
 use Rattle.kl_engine.specs.Answering.{IsOneOf, HasTextFault, IsTyping, EndsSilent}
 use Rattle.kl_engine.specs.Faults.{Ending}
 use Rattle.kl_engine.specs.Reading.{definitions, last}
-use Rattle.kl_engine.specs.Verdict.{Verdict, well, refused, size_fault, AfterSizes, IsSized, IsUntyped, behind, named_schemes, scheme_line, scheme_lines, IsListing, first_of, suffice, value_page, overflowing, cut_list, stored_fault, IsOutcome, IsMeant, IsDone, IsTextVerdict}
+use Rattle.kl_engine.specs.Verdict.{Verdict, well, refused, size_fault, AfterSizes, IsSized, IsUntyped, behind, named_schemes, scheme_line, scheme_lines, IsListing, first_of, suffice, value_page, overflowing, cut_list, stored_fault, IsOutcome, IsMeant, IsScopedVerdict, IsTextVerdict}
 use Rattle.kl_engine.specs.declared.fault.Fault.{Fault}
 use Rattle.kl_engine.specs.declared.fault.Fault.TheVariants as fault
 use Rattle.kl_engine.specs.declared.top.Purpose.{Purpose}
@@ -105,7 +105,7 @@ module _ (ks : List DriverKind) (ss : List Source) (marks : ℕ → Bool) (ds : 
   fair_meant first v (inl (s, w, f, at, is, eq)) = fair_at (purpose.Run first) v (refused f) eq (fair_stored first s.name w f is)
   fair_meant first v (inr (vs, values, is)) = fair_outcome (grounds_of ss) first ds e (meaning_of_program ds e vs) v is
 
-  pub fair_done : (p : Purpose) (v : Verdict) → IsDone ks ss marks p ds e v → Fair p v
+  pub fair_done : (p : Purpose) (v : Verdict) → IsScopedVerdict ks ss marks p ds e v → Fair p v
   fair_done purpose.Check v is = fair_at purpose.Check v _ is (fair_well purpose.Check _)
   fair_done purpose.Types v is =
       fair_after purpose.Types tt ds e (λ w. IsUntyped (grounds_of ss) ds e w ⊎ IsListing (grounds_of ss) ds e w)

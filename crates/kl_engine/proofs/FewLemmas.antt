@@ -206,7 +206,7 @@ puts_held out page = record {
   all = refl;
   took = sym (append_known-nil out.taken);
   holds = refl;
-  cause = record { later = omega arith; failed = λ h. cc; wants_later = omega arith; wanted = λ h. cc };
+  cause = record { later = omega arith; counts = refl; failed = λ h. cc; wants_later = omega arith; counts_want = refl; wanted = λ h. cc };
 }
 
 pub close_more : {T : Type 0} (r : Result T Stop) (out out' : SinkState) (page : List ℕ) → ((text : List ℕ) (first : SinkState) → Puts {T = Unit {0}} text (Ok tt) first [] out page → WritesWhole (text ++ codes "|]\n") r first out') → TookMore out out'

@@ -50,6 +50,8 @@ no_sources ks f ss none = record {
   refused = λ told is. tt;
   no_other = tt;
   read = λ is. tt;
+  well = refl;
+  unfailed = tt;
 }
 
 -- the faults of a catalogue's text
@@ -113,6 +115,8 @@ module _ (path : List ℕ) (ks : List DriverKind) (f f' : FilesState) where
     refused = λ told is. inr (inr (file_long fault.CatalogueBytes (IsCatalogueFault ks) path f f' told is reads));
     no_other = tt;
     read = λ none is. absurd cc;
+    well = tt;
+    unfailed = λ other. reads.counts;
   }
 
   module _ (text us : List ℕ) (reads : ReadsWhole path most_bytes (Ok (whole.Bytes text)) f f') (same : us ≡ text) where
@@ -126,6 +130,8 @@ module _ (path : List ℕ) (ks : List DriverKind) (f f' : FilesState) where
       refused = λ told is. tt;
       no_other = tt;
       read = λ none. tt;
+      well = reads.counts;
+      unfailed = tt;
     }
     sources_of_text (Err g) found = record {
       left = reads.left;
@@ -136,6 +142,8 @@ module _ (path : List ℕ) (ks : List DriverKind) (f f' : FilesState) where
       refused = λ told is. elim found.refused [ inl none ↦ inl none | inr wrong ↦ inr (inr (file_wrong fault.CatalogueBytes (IsCatalogueFault ks) path f f' told is text g reads wrong)) ];
       no_other = catalogue_end g found.no_other;
       read = λ none is. absurd (subst IsCatalogueEnd is found.no_other);
+      well = tt;
+      unfailed = λ other. reads.counts;
     }
 
     pub sources_read : (result : Result (Vec Source Global) Fault) → PlacesCatalogue ks us result → ReadsSources (Some path) ks result f f'
@@ -155,6 +163,8 @@ module _ (path : List ℕ) (catalogue : Option (List ℕ)) (ks : List DriverKind
     refused = λ told is. inr (inr (file_long fault.ProgramBytes (λ text. IsSourcesFault told ks catalogue) path f f' told is reads));
     no_other = tt;
     read = λ none is. absurd cc;
+    well = tt;
+    unfailed = λ other. reads.counts;
   }
 
 -- the program was read, and then its sources
@@ -176,6 +186,8 @@ module _ (path : List ℕ) (catalogue : Option (List ℕ)) (ks : List DriverKind
     refused = λ told is. tt;
     no_other = tt;
     read = λ none. tt;
+    well = found.well ∙ reads.counts;
+    unfailed = tt;
   }
 
   pub inputs_refused : (g : Fault) → ReadsSources catalogue ks (Err g) f' f'' → ReadsInputs (Files path catalogue) ks (Err g) f f''
@@ -191,6 +203,8 @@ module _ (path : List ℕ) (catalogue : Option (List ℕ)) (ks : List DriverKind
       | inr (inr wrong) ↦ inr (inr (file_wrong fault.ProgramBytes (λ text. IsSourcesFault told ks catalogue) path f f' told is text g reads wrong))
     ];
     no_other = sources_end g found.no_other;
+    well = tt;
+    unfailed = λ other. found.unfailed other ∙ reads.counts;
     read = λ none is. rose_after f.faults f'.faults f''.faults reads.later (found.read (reads.told ∙ none) is);
   }
 
@@ -208,4 +222,6 @@ made_refused seed size ks f catalogue g same found = record {
   refused = λ told is. elim found.refused [ inl none ↦ inl none | inr wrong ↦ inr (inr (subst (λ bs. IsCatalogueFault ks bs g) same wrong)) ];
   no_other = found.no_other;
   read = λ none is. absurd (subst IsCatalogueEnd is found.no_other);
+  well = tt;
+  unfailed = λ other. refl;
 }

@@ -37,7 +37,7 @@ use Rattle.kl_eval.specs.declared.stop.EvalStop.TheVariants as why
 use Rattle.kl_scans.specs.Held.{nothing}
 use Rattle.kl_scans.specs.Moves.{Moves, Closes}
 use Rattle.kl_scans.proofs.Moving.{moves_then}
-use Rattle.kl_cursor.specs.Left.{Snap, fresh, uses, left, reading}
+use Rattle.kl_cursor.specs.Left.{ScansLeft, Snap, fresh, uses, left, reading}
 use Rattle.kl_cursor.specs.Steps.{AreOf, Ends, Stops}
 use Rattle.kl_cursor.proofs.Events.{of_none, of_then}
 use Rattle.kl_cursor.proofs.ValueDrain.{Draining}
@@ -45,7 +45,7 @@ use Rattle.kl_run.specs.Running.{Runs}
 use Rattle.kl_engine.specs.Answering.{PrintsPage}
 use Rattle.kl_engine.specs.Faults.{Ending}
 use Rattle.kl_engine.specs.Outside.{outside_of}
-use Rattle.kl_engine.specs.Running.{AnswersTerm, HasList, IsListOutcome, IsListTerm, Scanned, StopsList, are_enough, one_more, fault_of}
+use Rattle.kl_engine.specs.Running.{AnswersTerm, HasList, IsListOutcome, IsListTerm, Scanned, StopsList, are_enough, one_more, fault_of, plan_over}
 use Rattle.kl_engine.specs.Showing.{write_fault}
 use Rattle.kl_engine.specs.Verdict.{Verdict, value_page, cut, cut_list, first_of, list_front, overflowing, suffice}
 use Rattle.kl_engine.specs.declared.fault.Fault.{Fault}
@@ -254,7 +254,7 @@ closed_moves p a w b given s d c = (
 
 module _ (ks : List DriverKind) (ss : List Source) (marks : ℕ → Bool) (t : Tree) (p : Node) (first : Option ℕ) (a : World) (files : FilesState) (runs : Runs ks ss marks t p a) (is_list : IsListTerm (types_of a) t) where
   abbrev GivesList : World → Ending → SinkState → SinkState → Type 0
-  GivesList b end out out' = AnswersTerm ⊤ (IsListOutcome first (core (values_of a) t [])) (HaveSources (types_of a) (values_of a)) end a.sources (outside_of files a.drivers out) (outside_of files b.drivers out')
+  GivesList b end out out' = AnswersTerm ⊤ (IsListOutcome first (core (values_of a) t [])) (HaveSources (types_of a) (values_of a)) end (plan_over a p) (outside_of files a.drivers out) (outside_of files b.drivers out')
 
   begun_of : (given : List Value) (rest : Flow) → HaveSources (types_of a) (values_of a) → followed (flow given fine) rest ≡ coming (plan (reading a) p []) → Begins given rest (core (values_of a) t [])
   begun_of given rest told is =
@@ -269,9 +269,9 @@ module _ (ks : List DriverKind) (ss : List Source) (marks : ℕ → Bool) (t : T
           front_verdict first given (left w s []) (core (values_of a) t []) wanting wanted
           (begun_of given (left w s []) told (d.same [] kind.List is_list.0 tt (runs.typed (coll kind.List is_list.0) is_list.1) (runs.told told)))
 
-      list_cut : (f : Fault) (b : World) (out out' : SinkState) → Moves nothing nothing a b → IsStopped a.sources f a.drivers b.drivers → TookPart (list_front given) out out' → GivesList b (Some f) out out'
+      list_cut : (f : Fault) (b : World) (out out' : SinkState) → Moves nothing nothing a b → IsStopped (plan_over a p) f a.drivers b.drivers → TookPart (list_front given) out out' → GivesList b (Some f) out out'
       list_cut f b out out' m stopped took =
-          term_behind ⊤ (IsListOutcome first (core (values_of a) t [])) (HaveSources (types_of a) (values_of a)) a.sources files a.drivers b.drivers (quiet_keeps a b m) tt f out out' stopped
+          term_behind ⊤ (IsListOutcome first (core (values_of a) t [])) (HaveSources (types_of a) (values_of a)) (plan_over a p) files a.drivers b.drivers (quiet_keeps a b m) tt f out out' stopped
           (λ told. let h = fronts told in (h.0, h.1, h.2, part_taken given h.0 out out' h.3 took))
 
       pub list_wanted : (b : World) (out out' : SinkState) → Moves nothing nothing a b → TookPart (list_front given) out out' → GivesList b (Some fault.NoMemory) out out'
@@ -280,14 +280,14 @@ module _ (ks : List DriverKind) (ss : List Source) (marks : ℕ → Bool) (t : T
       -- a write was refused
       pub list_unwritten : (e : PrintError) (b : World) (out out' : SinkState) (held : List ℕ) → Moves nothing nothing a b → Puts {T = Unit {0}} (list_front given) (as_stop (Err e)) out [] out' held → GivesList b (Some (write_fault e)) out out'
       list_unwritten print.Failed b out out' held m puts =
-          term_unwritten ⊤ (IsListOutcome first (core (values_of a) t [])) (HaveSources (types_of a) (values_of a)) a.sources files a.drivers b.drivers (quiet_keeps a b m) out out' (puts.cause.failed refl)
+          term_unwritten ⊤ (IsListOutcome first (core (values_of a) t [])) (HaveSources (types_of a) (values_of a)) (plan_over a p) files a.drivers b.drivers (quiet_keeps a b m) out out' (puts.cause.failed refl)
           (λ told. let h = fronts told in (h.0, h.1, h.2, fronts_full given h.0 h.3, part_taken given h.0 out out' h.3 (puts_part given (Err refusal.Failed) out out' held puts)))
       list_unwritten print.NoMemory b out out' held m puts = list_wanted b out out' m (puts_part given (Err refusal.NoMemory) out out' held puts)
 
       -- all that is wanted was given
       pub list_enough : (end : Ending) (b : World) (out out' : SinkState) → are_enough wanting ≡ true → Moves nothing nothing a b → PrintsPage (value_page (value.List given)) end out out' → GivesList b end out out'
       list_enough end b out out' all m prints =
-          term_printed ⊤ (IsListOutcome first (core (values_of a) t [])) (HaveSources (types_of a) (values_of a)) a.sources files a.drivers b.drivers (quiet_keeps a b m)
+          term_printed ⊤ (IsListOutcome first (core (values_of a) t [])) (HaveSources (types_of a) (values_of a)) (plan_over a p) files a.drivers b.drivers (quiet_keeps a b m)
           (value_page (value.List given)) end out out' tt
           (λ told. full_outcome first given (left w s []) (core (values_of a) t []) wanting wanted all
           (begun_of given (left w s []) told (d.same [] kind.List is_list.0 tt (runs.typed (coll kind.List is_list.0) is_list.1) (runs.told told)))) prints
@@ -296,7 +296,7 @@ module _ (ks : List DriverKind) (ss : List Source) (marks : ℕ → Bool) (t : T
       pub list_whole : (end : Ending) (b : World) (out out' : SinkState) → Ends [] s w b → PrintsPage (value_page (value.List given)) end out out' → GivesList b end out out'
       list_whole end b out out' ends prints =
           let e = drains_ends [] (fresh p) a given s w d b ends in
-          term_printed ⊤ (IsListOutcome first (core (values_of a) t [])) (HaveSources (types_of a) (values_of a)) a.sources files a.drivers b.drivers (quiet_keeps a b e.moves)
+          term_printed ⊤ (IsListOutcome first (core (values_of a) t [])) (HaveSources (types_of a) (values_of a)) (plan_over a p) files a.drivers b.drivers (quiet_keeps a b e.moves)
           (value_page (value.List given)) end out out' tt
           (λ told. whole_outcome first given (core (values_of a) t []) wanting wanted
           (begun_of given (stop fine) told (flow_end given fine ∙ e.gave [] kind.List is_list.0 tt (runs.typed (coll kind.List is_list.0) is_list.1) (runs.told told)))) prints
@@ -305,13 +305,13 @@ module _ (ks : List DriverKind) (ss : List Source) (marks : ℕ → Bool) (t : T
       pub list_stopped : (e : EvalStop) (end : Ending) (b : World) (out out' : SinkState) → are_enough wanting ≡ false → Stops [] s e w b → StopsList given e end out out' → GivesList b end out out'
       list_stopped why.Overflow end b out out' some stops prints =
           let e = drains_over [] (fresh p) a given s w d b stops in
-          term_printed ⊤ (IsListOutcome first (core (values_of a) t [])) (HaveSources (types_of a) (values_of a)) a.sources files a.drivers b.drivers (quiet_keeps a b e.moves)
+          term_printed ⊤ (IsListOutcome first (core (values_of a) t [])) (HaveSources (types_of a) (values_of a)) (plan_over a p) files a.drivers b.drivers (quiet_keeps a b e.moves)
           (overflowing given) end out out' tt
           (λ told. past_outcome first given (core (values_of a) t []) wanting wanted some
           (begun_of given (stop overflow) told (flow_end given overflow ∙ e.gave [] kind.List is_list.0 tt (runs.typed (coll kind.List is_list.0) is_list.1) (runs.told told)))) prints
       list_stopped (why.Driver l x) end b out out' some stops prints =
           let h = drains_refused [] (fresh p) a given s w d b l x stops in
-          subst (λ z. GivesList b z out out') (sym prints.0) (list_cut (fault_of l x) b out out' h.moves (cause_stops l x a b h.reason) prints.1)
+          subst (λ z. GivesList b z out out') (sym prints.0) (list_cut (fault_of l x) b out out' h.moves (cause_stops p (λ all. ScansLeft all (fresh p)) (scans_in_all p) l x a b h.reason) prints.1)
       list_stopped why.NoMemory end b out out' some stops prints =
           let h = drains_none [] (fresh p) a given s w d b stops in
           subst (λ z. GivesList b z out out') (sym prints.0) (list_wanted b out out' h.moves prints.1)

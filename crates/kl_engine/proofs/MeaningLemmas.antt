@@ -66,7 +66,7 @@ use Rattle.kl_engine.specs.Answering.{SomeRose, KeepsDrivers, IsIdle, IsStoredFa
 use Rattle.kl_engine.specs.Faults.{Ending}
 use Rattle.kl_engine.specs.Outside.{outside_of}
 use Rattle.kl_engine.specs.Reading.{WasInScope}
-use Rattle.kl_engine.specs.Running.{AnswersTerm, DriftsAt, HasRunFault, IsListScheme, IsListTerm, IsTermOutcome, fault_of, Ends, before, followed, untold, IsNamed, DoneMeaning}
+use Rattle.kl_engine.specs.Running.{AnswersTerm, DriftsAt, HasRunFault, IsListScheme, IsListTerm, IsTermOutcome, fault_of, plan_over, CameTo, before, followed, untold, IsNamed, DoneMeaning, run_matter}
 use Rattle.kl_engine.specs.Verdict.{Verdict, refused, GivesList, stored_fault, IsMeant}
 use Rattle.kl_engine.specs.Verdict as verdict
 use Rattle.kl_engine.specs.declared.fault.Fault.{Fault}
@@ -265,7 +265,7 @@ module _ (ss : List Source) (marks : ℕ → Bool) (first : Option ℕ) (program
   refused_of (error.Changed drift) = c.named
   refused_of error.NoMemory = tt
 
-  refused_ends : Ends (λ others. IsMeant (kinds_of ds) ss others first program exp) ss marks (purpose.Run first) (Some (fault_of e.source e.error)) (outside_of files ds out) (outside_of files mid out)
+  refused_ends : CameTo (run_matter (kinds_of ds) ss marks first program exp) (Some (fault_of e.source e.error)) (outside_of files ds out) (outside_of files mid out)
   refused_ends = elim c.cause [
     | inl (inl h) ↦ before refl (λ told. subst (λ d. IsDetermined (Some (fault_of e.source d))) h.0 told) (λ v. reading (ap (λ d. Some (fault_of e.source d)) h.0) (inr (c.refused.driver, h.1)))
     | inl (inr h) ↦ before refl (λ told. subst (λ d. IsDetermined (Some (fault_of e.source d))) h told) (λ v. wanting (ap (λ d. Some (fault_of e.source d)) h))
@@ -318,7 +318,7 @@ module _ (ss : List Source) (marks : ℕ → Bool) (first : Option ℕ) (program
 -- ---- memory ran out before sources were attached
 
 pub meaning_wanted : (ss : List Source) (marks : ℕ → Bool) (first : Option ℕ) (program : Decls) (e : Exp) (files : FilesState) (ds : List State) (out : SinkState) → DoneMeaning ss marks first program e (Some fault.NoMemory) (outside_of files ds out) (outside_of files ds out)
-meaning_wanted ss marks first program e files ds out = wanted_done (GivesList (grounds_of ss) program e) (λ others. IsMeant (kinds_of ds) ss others first program e) ss marks (purpose.Run first) files ds out
+meaning_wanted ss marks first program e files ds out = wanted_done (run_matter (kinds_of ds) ss marks first program e) files ds out
 
 -- ---- values of sources
 
@@ -425,6 +425,11 @@ module _ (ss : List Source) (program : Decls) (e : Exp) (typed : Typed) (infers 
   lists : GivesList (grounds_of ss) program e → IsListScheme typed.result
   lists of u is = of u ((infers.result.instances u).0 is)
 
+  -- a program that gives a list is found to
+  pub given_list : (listed : Bool) → (listed ≡ false → IsListScheme typed.result → ⊥) → GivesList (grounds_of ss) program e → listed ≡ true
+  given_list true other of = refl
+  given_list false other of = absurd (other refl (lists of))
+
   outcome_is : (listed : Bool) → (listed ≡ true → IsListScheme typed.result) → (listed ≡ false → IsListScheme typed.result → ⊥) → (first : Option ℕ) (o : Outcome) (v : Verdict) → IsTermOutcome listed first o v → verdict.IsOutcome (grounds_of ss) first program e o v
   outcome_is true of other first (done x) v is = is
   outcome_is true of other first (over xs) v is = inl (gives (of refl), is)
@@ -472,11 +477,11 @@ module _ (ss : List Source) (program : Decls) (e : Exp) (typed : Typed) (infers 
 module _ (ss : List Source) (program : Decls) (e : Exp) (typed : Typed) (infers : Infers program e (grounds_of ss) typed) (tidy : IsTidyProgram program e) (names : List Name) (kept : names ≡ names_of ss) (t : Tree) (is : t ≡ term_of program e names)
     (means : Means program e names t) (ds : List State) (marks : ℕ → Bool) (w : World) (serves : Serves (kinds_of ds) marks ss w) (placed : ArePlaced (kinds_of ds) ss) (steps : EachSteps (MayAttach marks ss) ds w.drivers)
     (stand : (i : ℕ) (s : Source) → slice_get ss i ≡ Some s → marks i ≡ true → Stands (kinds_of ds) w.drivers s) (listed : Bool) (of : listed ≡ true → IsListScheme typed.result) (other : listed ≡ false → IsListScheme typed.result → ⊥)
-    (first : Option ℕ) (end : Ending) (files : FilesState) (last : List State) (out out' : SinkState) (answers : AnswersTerm (listed ≡ true) (IsTermOutcome listed first (core (values_of w) t [])) (HaveSources (types_of w) (values_of w)) end w.sources (outside_of files w.drivers out) (outside_of files last out')) (list_is : w.sources ≡ list_of marks 0 ss) where
+    (first : Option ℕ) (end : Ending) (files : FilesState) (last : List State) (out out' : SinkState) (p : Node) (answers : AnswersTerm (listed ≡ true) (IsTermOutcome listed first (core (values_of w) t [])) (HaveSources (types_of w) (values_of w)) end (plan_over w p) (outside_of files w.drivers out) (outside_of files last out')) (list_is : w.sources ≡ list_of marks 0 ss) where
   kept_first : KeepsDrivers (IsNamed ss marks) ds w.drivers
   kept_first = attach_keeps ss marks ds w.drivers steps
 
-  answered_ends : ((vs : List (Name × Value)) × HaveValues (kinds_of ds) marks 0 ss vs) ⊎ NoVerdict (kinds_of ds) marks ss → Ends (λ others. IsMeant (kinds_of ds) ss others first program e) ss marks (purpose.Run first) end (outside_of files ds out) (outside_of files last out')
+  answered_ends : ((vs : List (Name × Value)) × HaveValues (kinds_of ds) marks 0 ss vs) ⊎ NoVerdict (kinds_of ds) marks ss → CameTo (run_matter (kinds_of ds) ss marks first program e) end (outside_of files ds out) (outside_of files last out')
   answered_ends (inl (vs, have)) =
       let inhabit : HaveTypesByName (grounds_of ss) vs =
       values_typed (kinds_of ds) marks 0 ss vs (λ i s at. (of_all (IsFit (kinds_of ds)) ss i s placed.fit at).2.collection) (λ i s at marked. (stand i s at (ap marks (sym (zero-add i)) ∙ marked)).typed) have in
@@ -486,8 +491,8 @@ module _ (ss : List Source) (program : Decls) (e : Exp) (typed : Typed) (infers 
       (follows_since (IsNamed ss marks) ds w.drivers last kept_first found.0 end files out out' found.2)
   answered_ends (inr lacks) = untold (none_meant ss marks first program e ds lacks) (none_told ss marks first program e ds lacks) (run_needs first end answers.no_other)
 
-  drifted : (name : Name) → DriftsAt w.sources name w.drivers last → SomeDrifted ss (λ x. IsNamed ss marks x × (x ≡ name)) ds last
-  drifted name (i, a, place, at, named, held, rose) =
+  drifted : (name : Name) → DriftsAt (plan_over w p) name w.drivers last → SomeDrifted ss (λ x. IsNamed ss marks x × (x ≡ name)) ds last
+  drifted name (i, a, place, at, named, held, rose, scanned) =
       let s = listed_source marks 0 ss i a place (ap (λ l. slice_get l i) (sym list_is) ∙ at) held in
       let of : IsNamed ss marks s.0.name = (i, get-map (λ (s : Source). s.name) ss i s.0 s.1, ap marks (sym (zero-add i)) ∙ s.2) in
       let since : RoseAt place (λ d. d.drifts) ds last = rose_at_since (IsNamed ss marks) ds w.drivers last kept_first (λ d. d.drifts) (λ a b keeps. keeps.drifts) place rose in
@@ -556,12 +561,17 @@ module _ (ss : List Source) (s : Scoped) (scope : WasInScope (names_of ss) s) (t
     session_list true_is =
         list_sense ss (decls_of s.program.defs) (view s.program.last) typed infers (tidied (names_of ss) s scope) placed.proper s.sources scope.1.sources_kept t is (kinds_of ds) (is_marked s) (world_of mid list settings trace) session_serves (of true_is)
 
-    pub session_done : (means : Means (decls_of s.program.defs) (view s.program.last) s.sources t) (other : listed ≡ false → IsListScheme typed.result → ⊥) (first : Option ℕ) (end : Ending) (files : FilesState) (last : List State) (out out' : SinkState)
-        → AnswersTerm (listed ≡ true) (IsTermOutcome listed first (core (values_of (world_of mid list settings trace)) t [])) (HaveSources (types_of (world_of mid list settings trace)) (values_of (world_of mid list settings trace))) end list (outside_of files mid out) (outside_of files last out')
+    pub session_done : (means : Means (decls_of s.program.defs) (view s.program.last) s.sources t) (other : listed ≡ false → IsListScheme typed.result → ⊥) (first : Option ℕ) (end : Ending) (files : FilesState) (last : List State) (out out' : SinkState) (p : Node)
+        → AnswersTerm (listed ≡ true) (IsTermOutcome listed first (core (values_of (world_of mid list settings trace)) t [])) (HaveSources (types_of (world_of mid list settings trace)) (values_of (world_of mid list settings trace))) end (plan_over (world_of mid list settings trace) p) (outside_of files mid out) (outside_of files last out')
         → DoneMeaning ss (is_marked s) first (decls_of s.program.defs) (view s.program.last) end (outside_of files ds out) (outside_of files last out')
-    session_done means other first end files last out out' answers =
+    session_done means other first end files last out out' p answers =
         term_done ss (decls_of s.program.defs) (view s.program.last) typed infers (tidied (names_of ss) s scope) s.sources scope.1.sources_kept t is means ds (is_marked s) (world_of mid list settings trace) session_serves placed attaches.drivers
-        attaches.stand listed of other first end files last out out' answers attaches.list attaches.values
+        attaches.stand listed of other first end files last out out' p answers attaches.list attaches.values
+
+-- no source changes where it is attached
+pub attach_unchanged : (ss : List Source) (marks : ℕ → Bool) (first : Option ℕ) (program : Decls) (exp : Exp) (files : FilesState) (ds mid : List State) (out : SinkState) (e : AttachError) (f : Fault) (name : Name) → AttachesAll marks ss (Err e) ds mid → f ≡ fault_of e.source e.error → Some f ≡ Some (fault.Changed name) → ⊥
+attach_unchanged ss marks first program exp files ds mid out e f name attaches same is =
+    refused_never ss marks first program exp files ds mid out e attaches.cause (fault.Changed name) (ap Some (sym same) ∙ is) (λ h. h)
 
 pub attach_failed : (ss : List Source) (marks : ℕ → Bool) (first : Option ℕ) (program : Decls) (exp : Exp) (files : FilesState) (ds mid : List State) (out : SinkState) (e : AttachError) (f : Fault) → AttachesAll marks ss (Err e) ds mid → f ≡ fault_of e.source e.error → DoneMeaning ss marks first program exp (Some f) (outside_of files ds out) (outside_of files mid out)
 attach_failed ss marks first program exp files ds mid out e f attaches same =

@@ -1,16 +1,18 @@
 -- What is counted of a plan that was run over the sources of a program.
-use Rattle.std.proofs.Common.{inl, true, ◌≡◌, ℕ, Bool, List, [], map, Option, Some, None, refl, sym, ap, subst, ◌∙◌, arith}
+use Rattle.std.proofs.Common.{inl, true, ◌≡◌, ℕ, Bool, List, [], ◌∷◌, map, Option, Some, None, refl, sym, ap, subst, ◌∙◌, arith}
 use Rattle.kl_outside.specs.Sinks.{SinkState}
 use Rattle.kl_outcome.specs.Outcome.{Name}
 use Rattle.kl_value.specs.declared.Kind.TheVariants as kind
-use Rattle.kl_value.specs.declared.Value.{Value}
 use Rattle.kl_type.specs.Ground.{Ground, coll}
 use Rattle.kl_core.specs.Trees.{Tree}
+use Rattle.kl_desugar.specs.Translation.{term_of}
+use Rattle.kl_syntax.specs.Syntax.{Decls, Exp}
 use Rattle.kl_core.specs.Typing.{CoreTypes}
 use Rattle.kl_ask.specs.Driver.{DriverKind, State}
 use Rattle.kl_ask.specs.Lists.{EachSteps}
 use Rattle.kl_ask.specs.World.{World, types_of}
 use Rattle.kl_ask.proofs.Worlds.{there}
+use Rattle.std.specs.List.{AllByRecursion}
 use Rattle.std.specs.Option.{option_map}
 use Rattle.std.proofs.lemmas.Option.{same_Some, slice_get_within}
 use Rattle.kl_ask.specs.declared.settings.Settings.{Settings}
@@ -28,18 +30,20 @@ use Rattle.kl_cursor.specs.Laziness.{Handed}
 use Rattle.kl_cursor.specs.Left.{reading}
 use Rattle.kl_cursor.specs.Sense.{HasWorth, IsToldAt, TypesAt}
 use Rattle.kl_cursor.proofs.LazyLaws.{handed_counts}
-use Rattle.kl_run.specs.Counted.{AsksCounted, IsFreshTrace, ReadsMarked, StartsCounted}
+use Rattle.kl_run.specs.Counted.{AsksCounted, IsFreshTrace, StartsCounted}
 use Rattle.kl_run.specs.Planned.{IsPlanOf, ships_of}
 use Rattle.kl_run.specs.Running.{Runs}
 use Rattle.kl_run.proofs.Means.{means_term}
 use Rattle.kl_run.proofs.Counts.{asks_counted, asks_attached, starts_counted, starts_numbered, trace_kept}
 use Rattle.kl_sources.specs.Attaching.{MayAttach, world_of}
-use Rattle.kl_sources.specs.Sources.{HaveValues}
+use Rattle.kl_sources.specs.Sources.{grounds_of, kinds_of}
 use Rattle.kl_sources.specs.declared.source.Source.{Source}
 use Rattle.kl_engine.specs.Faults.{Ending}
 use Rattle.kl_engine.specs.declared.fault.Fault.TheVariants as fault
-use Rattle.kl_engine.specs.Planned.{AreStartsOf, CountsScansAlone, HandsFew, HandsWritten, IsEarly, IsLine, PlanOf, PlansTerm, RowsHanded, counted}
+use Rattle.kl_engine.specs.Planned.{AreStartsOf, CountsPlan, CountsScansAlone, DrawsNone, HandsFew, HandsWritten, IsEarly, IsLine, IsUnstarted, PlanOf, RowsHanded, RunsPlan, course_of}
 use Rattle.kl_engine.specs.Rewritten.{IsRewrittenTo}
+use Rattle.kl_engine.specs.Verdict.{GivesList}
+use Rattle.kl_engine.specs.declared.run.How.{How}
 use Rattle.kl_engine.specs.Running.{HasList, IsListTerm, Scanned, SparesRows}
 use Rattle.kl_engine.proofs.RewriteLemmas.{rewritten_keeps}
 
@@ -83,6 +87,23 @@ module _ (ships : List ShipSource) (u : Tree) (p : Node) (planned : IsPlanOf shi
   pub refused_numbers : (settings : Settings) → map (λ e. e.0) was.starts ≡ map (λ c. c.number) (scans_in p)
   refused_numbers settings = still_numbered (world_of [] [] settings was) refl
 
+-- ---- no item is wanted
+
+none_started : (cs : List Scan) → AllByRecursion IsUnstarted (map (λ c. (c.number, 0)) cs)
+none_started [] = tt
+none_started (c ∷ cs) = (refl, none_started cs)
+
+pub refused_none : (p : Node) (steps : ℕ) (was : Trace) → IsFreshTrace p steps was → (marks : ℕ → Bool) (ss : List Source) (ds mid : List State) → EachSteps (MayAttach marks ss) ds mid → DrawsNone was.starts ds mid
+refused_none p steps was fresh marks ss ds mid attached = (
+  subst (AllByRecursion IsUnstarted) (sym fresh.starts) (none_started (scans_in p)),
+  record { size = attached.size; each = λ i a b this that. (attached.each i a b this that).handed },
+)
+
+pub plan_none : (p : Node) (steps : ℕ) (was : Trace) → IsFreshTrace p steps was → (a b : World) (trace : Trace) → a.trace ≡ trace → trace ≡ was → (marks : ℕ → Bool) (ss : List Source) (ds : List State) → EachSteps (MayAttach marks ss) ds a.drivers → b ≡ a → DrawsNone b.trace.starts ds b.drivers
+plan_none p steps was fresh a b trace at same marks ss ds attached still =
+    subst (λ (w : World). DrawsNone w.trace.starts ds w.drivers) (sym still)
+    (subst (λ (t : Trace). DrawsNone t.starts ds a.drivers) (sym (at ∙ same)) (refused_none p steps was fresh marks ss ds a.drivers attached))
+
 -- ---- a plan that runs
 
 pub runs_worth : (ks : List DriverKind) (ss : List Source) (marks : ℕ → Bool) (t : Tree) (p : Node) (w : World) → Runs ks ss marks t p w → HasWorth w p []
@@ -93,30 +114,29 @@ runs_list ks ss marks t p w runs list = (list.0, runs.typed (coll kind.List list
 
 -- ---- the plan of a term that was rewritten
 
-module _ (ks : List DriverKind) (ss : List Source) (u : Tree) (p : Node) (planned : IsPlanOf (ships_of ks ss) u p) (steps : ℕ) (was trace : Trace) (fresh : IsFreshTrace p steps was) (rest : without_starts trace ≡ without_starts was) where
-  pub translated_plan : (on : Bool) (marks : ℕ → Bool) (first : Option ℕ) (end : Ending) (t given : Tree) → given ≡ t → IsRewrittenTo on given steps u → (IsEarly end → ⊥)
-      → (end ≡ None → first ≡ None → (vs : List (Name × Value)) × HaveValues ks marks 0 ss vs → (R : Readings) × ReadsMarked ks ss marks R × StartsCounted R p trace.starts)
-      → (fetch : ℕ) (old new : List State) → (end ≡ None → (vs : List (Name × Value)) × HaveValues ks marks 0 ss vs → (R : Readings) × ReadsMarked ks ss marks R × HandsFew R fetch p first (RowsHanded old new))
-      → (blank printed : SinkState) → (end ≡ Some fault.Write → (vs : List (Name × Value)) × HaveValues ks marks 0 ss vs → (R : Readings) × ReadsMarked ks ss marks R × HandsWritten R fetch p blank printed (RowsHanded old new))
-      → PlanOf (λ q. PlansTerm on ks ss marks first end t trace.steps q (counted trace.starts fetch old new blank printed)) end trace.steps (Some p)
-  translated_plan on marks first end t given is rewritten late exact fetch old new few blank printed written =
-      let same : trace.steps ≡ steps = ap (λ (r : Trace). r.steps) rest ∙ fresh.steps in
-      let led : IsRewrittenTo on t steps u = subst (λ x. IsRewrittenTo on x steps u) is rewritten in
-      inl (
-        p,
-        refl,
+pub translated_plan : (how : How) (ss : List Source) (marks : ℕ → Bool) (program : Decls) (e : Exp) (names : List Name) (end : Ending) (old new : List State) (blank printed : SinkState) (u : Tree) (p : Node) (steps : ℕ) (was trace : Trace)
+    → IsPlanOf (ships_of (kinds_of old) ss) u p → IsFreshTrace p steps was → without_starts trace ≡ without_starts was → (given : Tree) → given ≡ term_of program e names → IsRewrittenTo how.settings.rewrite given steps u → (IsEarly end → ⊥)
+    → CountsPlan how ss marks (GivesList (grounds_of ss) program e) (course_of end trace old new blank printed) p
+    → PlanOf (RunsPlan how ss marks program e names (course_of end trace old new blank printed)) end trace.steps (Some p)
+translated_plan how ss marks program e names end old new blank printed u p steps was trace planned fresh rest given is rewritten late counts =
+    let same : trace.steps ≡ steps = ap (λ (r : Trace). r.steps) rest ∙ fresh.steps in
+    let led : IsRewrittenTo how.settings.rewrite (term_of program e names) steps u = subst (λ x. IsRewrittenTo how.settings.rewrite x steps u) is rewritten in
+    inl (
+      p,
+      refl,
+      (
+        counts,
         record {
           term = u;
-          rewritten = subst (λ n. IsRewrittenTo on t n u) (sym same) led;
+          rewritten = subst (λ n. IsRewrittenTo how.settings.rewrite (term_of program e names) n u) (sym same) led;
           planned = planned;
-          means = means_term (ships_of ks ss) t u p planned (rewritten_keeps on t u steps led);
-          exact = exact;
-          few = few;
-          written = written;
+          means = means_term (ships_of (kinds_of old) ss) (term_of program e names) u p planned (rewritten_keeps how.settings.rewrite (term_of program e names) u steps led);
         },
-        late,
-      )
+      ),
+      late,
+    )
 
+module _ (ks : List DriverKind) (ss : List Source) (u : Tree) (p : Node) (planned : IsPlanOf (ships_of ks ss) u p) (steps : ℕ) (was trace : Trace) (fresh : IsFreshTrace p steps was) (rest : without_starts trace ≡ without_starts was) where
   pub translated_alone : map (λ e. e.0) trace.starts ≡ map (λ c. c.number) (scans_in p) → CountsScansAlone (Some p) trace
   translated_alone starts = record {
     starts = starts;

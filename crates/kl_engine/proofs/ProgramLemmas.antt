@@ -30,7 +30,7 @@ use Rattle.kl_engine.proofs.UnreadLemmas.{unread_cases}
 
 -- files of which nothing is told, for what is so of any
 pub no_files : FilesState
-no_files = record { told = None; left = λ k. None; faults = 0 }
+no_files = record { told = None; left = λ k. None; log = None; faults = 0 }
 
 -- what is done with a text is done with the same text
 pub does_same : (ss us : List Source) (p : Purpose) (text other : List ℕ) (end : Ending) (o o' : Outside) → us ≡ ss → other ≡ text → DoesText us p other end o o' → DoesText ss p text end o o'
@@ -218,6 +218,7 @@ module _ (p : Purpose) (from : Origin) (f f' : FilesState) where
       write = does.write;
       changed = λ name is. of_run p from f (kinds_of ds) (λ text ss. SomeDrifted ss (λ x. IsMentionedIn ss text x × (x ≡ name)) ds ds') (subst (IsOneOf (HasTextFault p)) is does.no_other) i.text i.sources reads.inputs (does.changed name is);
       no_other = of_program p from end does.no_other;
+      unfailed = λ other. reads.well;
       nothing = λ silent. does.nothing (unprinted_where (IsOfList i.sources i.text) (OfRun (Program p from) f (kinds_of ds) (λ text ss. IsOfList ss text)) end
           (λ is lists. of_run p from f (kinds_of ds) (λ text ss. IsOfList ss text) (subst (IsOneOf (HasTextFault p)) is does.no_other) i.text i.sources reads.inputs lists)
           (λ name is lists. of_run p from f (kinds_of ds) (λ text ss. IsOfList ss text) (subst (IsOneOf (HasTextFault p)) is does.no_other) i.text i.sources reads.inputs lists) silent);
@@ -304,6 +305,7 @@ module _ (p : Purpose) (from : Origin) (f f' : FilesState) where
         write = λ is. absurd (not_write (some_one is));
         changed = λ name is. absurd (not_changed name (some_one is));
         no_other = inputs_has p from g reads.no_other;
+        unfailed = λ other. reads.unfailed (λ is. other (ap Some is));
         nothing = λ is. refl;
       };
       unread = λ h is un. absurd (not_unread h (some_one is) un);

@@ -10,6 +10,7 @@ use Rattle.kl_exchange.proofs.TextLemmas.{commas_more}
 use Rattle.kl_outside.specs.Sinks.{SinkState, WritesWhole}
 use Rattle.kl_outside.specs.declared.Stop.{Stop}
 use Rattle.kl_outside.specs.declared.stop.Stop.TheVariants as stop
+use Rattle.kl_outside.proofs.SinkLemmas.{cause_as}
 use Rattle.kl_value.specs.Written.{text_of, with_commas, separator}
 use Rattle.kl_value.specs.declared.value.Value.{Value}
 use Rattle.kl_engine.specs.Verdict.{list_front}
@@ -24,6 +25,21 @@ puts_line (Err print.NoMemory) text end s t v h k m p q = (then {us = text} {bs 
 pub puts_stopped : (e : PrintError) (text end : List ℕ) (s t : SinkState) (h k : List ℕ) → Puts {T = Unit {0}} text (as_stop (Err e)) s h t k → Puts {T = Unit {0}} (text ++ end) (as_stop (Err e)) s h t k
 puts_stopped print.Failed text end s t h k p = (then {us = text} {bs = end} {s = s} {t = t} {v = t} {h = h} {k = k} {m = k} {w = None} {x = Some stop.Failed} {y = Some stop.Failed} (record { adds = p }) (record { adds = (refl, refl) })).adds
 puts_stopped print.NoMemory text end s t h k p = (then {us = text} {bs = end} {s = s} {t = t} {v = t} {h = h} {k = k} {m = k} {w = None} {x = Some stop.NoMemory} {y = Some stop.NoMemory} (record { adds = p }) (record { adds = (refl, refl) })).adds
+
+-- What is put is put whatever else would be answered.
+pub puts_as : {T U : Type 0} (x : T) (y : U) (bytes : List ℕ) (s t : SinkState) (h k : List ℕ) → Puts {T = T} bytes (Ok x) s h t k → Puts {T = U} bytes (Ok y) s h t k
+puts_as x y bytes s t h k p = record {
+  done = p.done;
+  rest = p.rest;
+  all = p.all;
+  took = p.took;
+  holds = p.holds;
+  cause = record { later = p.cause.later; counts = p.cause.counts; failed = λ is. absurd cc; wants_later = p.cause.wants_later; counts_want = p.cause.counts_want; wanted = λ is. absurd cc };
+}
+
+pub puts_refused : {T U : Type 0} (e : PrintError) (bytes : List ℕ) (s t : SinkState) (h k : List ℕ) → Puts {T = T} bytes (as_stop (Err e)) s h t k → Puts {T = U} bytes (as_stop (Err e)) s h t k
+puts_refused print.Failed bytes s t h k p = record { done = p.done; rest = p.rest; all = p.all; took = p.took; holds = tt; cause = cause_as stop.Failed s t p.cause }
+puts_refused print.NoMemory bytes s t h k p = record { done = p.done; rest = p.rest; all = p.all; took = p.took; holds = tt; cause = cause_as stop.NoMemory s t p.cause }
 
 -- pieces with commas begin with those of a front
 abbrev Begins : List ℕ → List ℕ → Type 0

@@ -12,7 +12,7 @@ use Rattle.kl_scope.specs.Senses.{Name}
 use Rattle.kl_scope.specs.declared.refusal.ScopeError.{ScopeError}
 use Rattle.kl_scope.specs.declared.refusal.ScopeError.TheVariants.{Unknown, Twice, Misapplied, Refutable, NoMemory}
 use Rattle.kl_scope.specs.declared.scoped.Scoped.{Scoped}
-use Rattle.kl_engine.specs.Answering.{unnamed, Alike, one, renamed}
+use Rattle.kl_engine.specs.Answering.{unnamed, SameVerdict, one, renamed}
 use Rattle.kl_engine.specs.Reading.{byte_of, scope_fault, IsBreach, IsScopeFault, IsTokensFault, IsTextFault, IsProgramOf, ReadsText}
 use Rattle.kl_engine.specs.Verdict.{refused}
 use Rattle.kl_engine.specs.declared.fault.Fault.{Fault}
@@ -68,7 +68,7 @@ same_rank e f (inl a) (inr b) = absurd (let same = b.0 in omega (arith, a, same)
 same_rank e f (inr a) (inl b) = absurd (let same = a.0 in omega (arith, b, same))
 same_rank e f (inr a) (inr b) = (a.0, let this = a.1 in let that = b.1 in omega (arith, this, that))
 
-scope_alike : (L : Type 0) (names : List Name) (ts : List Token) (size : ℕ) (f g : Fault) → IsScopeFault names ts size f → IsScopeFault names ts size g → Alike L (refused f) (refused g)
+scope_alike : (L : Type 0) (names : List Name) (ts : List Token) (size : ℕ) (f g : Fault) → IsScopeFault names ts size f → IsScopeFault names ts size g → SameVerdict L (refused f) (refused g)
 scope_alike L names ts size f g (p, e, reads, breach, first, is) (q, d, again, also, second, it) =
     let too : IsFirstBreach p names d = subst (λ r. IsFirstBreach r names d) (unique ts q p again reads) second in
     let same = same_rank e d (first.first d too.breaks) (too.first e first.breaks) in
@@ -77,7 +77,7 @@ scope_alike L names ts size f g (p, e, reads, breach, first, is) (q, d, again, a
     (ap refused (it ∙ (fault_is ts size d also ∙ ap (λ n. fault.Text (wrong_of d) (byte_of ts n size)) (sym same.0))))
     (unnamed_is e ∙ (ap by_rule same.1 ∙ sym (unnamed_is d)))
 
-tokens_alike : (L : Type 0) (names : List Name) (ts : List Token) (size : ℕ) (f g : Fault) → IsTokensFault names ts size f → IsTokensFault names ts size g → Alike L (refused f) (refused g)
+tokens_alike : (L : Type 0) (names : List Name) (ts : List Token) (size : ℕ) (f g : Fault) → IsTokensFault names ts size f → IsTokensFault names ts size g → SameVerdict L (refused f) (refused g)
 tokens_alike L names ts size f g (inl this) (inl that) = scope_alike L names ts size f g this that
 tokens_alike L names ts size f g (inl (p, e, reads, breach, first, was)) (inr (inl (k, place, it))) = absurd ((one_place ts).no_syntax p k reads place)
 tokens_alike L names ts size f g (inl (p, e, reads, breach, first, was)) (inr (inr (k, place, it))) = absurd ((one_place ts).no_deep p k reads place)
@@ -88,7 +88,7 @@ tokens_alike L names ts size f g (inr (inr (k, place, is))) (inl (p, e, reads, b
 tokens_alike L names ts size f g (inr (inr (k, place, is))) (inr (inl (j, also, it))) = absurd ((one_place ts).apart j k also place)
 tokens_alike L names ts size f g (inr (inr (k, place, is))) (inr (inr (j, also, it))) = one (ap refused (is ∙ sym it))
 
-pub faults_alike : (L : Type 0) (names : List Name) (bytes : List ℕ) (f g : Fault) → IsTextFault names bytes f → IsTextFault names bytes g → Alike L (refused f) (refused g)
+pub faults_alike : (L : Type 0) (names : List Name) (bytes : List ℕ) (f g : Fault) → IsTextFault names bytes f → IsTextFault names bytes g → SameVerdict L (refused f) (refused g)
 faults_alike L names bytes f g (inl (ts, tokens, ends)) (inl (us, also, too)) =
     tokens_alike L names us (length bytes) f g (subst (λ r. IsTokensFault names r (length bytes) f) (lexing.unique bytes ts us tokens also) ends) too
 faults_alike L names bytes f g (inl (ts, tokens, ends)) (inr (byte, none, it)) = absurd (lexing.refused bytes byte ts none tokens)

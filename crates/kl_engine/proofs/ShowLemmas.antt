@@ -151,6 +151,7 @@ pub record Stays (file : ℕ) (now : FileReading) (s0 s : FilesState) : Type 0 w
 -- So far the lines of all items that were read were printed, but for the bytes that the page holds.
 pub record Going (file : ℕ) (now : FileReading) (s0 s : FilesState) (out0 out : SinkState) (held : List ℕ) (begun : Bool) : Type 0 where
   pub stays : Stays file now s0 s
+  pub well : s.faults ≡ s0.faults
   pub vs : List Value
   pub read : HasRead (s0.left file) vs now (s.left file)
   pub done : List ℕ
@@ -163,6 +164,7 @@ pub record Going (file : ℕ) (now : FileReading) (s0 s : FilesState) (out0 out 
 pub going_none : (now : FileReading) (s : FilesState) (out : SinkState) → IsSome (s.left now.file) → now.text ≡ reading 0 [] false → now.past ≡ false → now.limit ≡ most_read → Going now.file now s s out out [] false
 going_none now s out is_open is_new unpast limit = record {
   stays = record { is_file = refl; limit = limit; told = refl; others = λ k ne. refl; is_open = is_open; later = omega arith };
+  well = refl;
   vs = [];
   read = begins_so now (s.left now.file) is_new unpast;
   done = [];
@@ -175,8 +177,8 @@ going_none now s out is_open is_new unpast limit = record {
 
 module _ (ds : List State) (file : ℕ) (new : FileReading) (s0 s : FilesState) (out0 out : SinkState) (vs : List Value) (stays : Stays file new s0 s) where
   -- the end was met
-  ends_with : (end : FileEnd) → EndsSo (s0.left file) vs end new (s.left file) → out.taken ≡ append_known out0.taken (lines vs) → ShowsItems file (end_fault end) (outside_of s0 ds out0) (outside_of s ds out)
-  ends_with end ends took = record {
+  ends_with : s.faults ≡ s0.faults → (end : FileEnd) → EndsSo (s0.left file) vs end new (s.left file) → out.taken ≡ append_known out0.taken (lines vs) → ShowsItems file (end_fault end) (outside_of s0 ds out0) (outside_of s ds out)
+  ends_with well end ends took = record {
     told = stays.told;
     others = stays.others;
     is_open = stays.is_open;
@@ -184,6 +186,7 @@ module _ (ds : List State) (file : ℕ) (new : FileReading) (s0 s : FilesState) 
     read = λ is. absurd (subst IsDetermined is (end_told end));
     write = λ is. absurd (subst IsDetermined is (end_told end));
     no_other = end_other end;
+    unfailed = λ other. well;
     follows = λ bytes known v of. follows_end ds bytes vs end s0 s out0 out (shows bytes known) took v of;
     meant = λ bytes known is. (shown vs end, (vs, end, shows bytes known, refl), refl);
   }
@@ -192,8 +195,8 @@ module _ (ds : List State) (file : ℕ) (new : FileReading) (s0 s : FilesState) 
       shows bytes known = subst (λ n. Shows n bytes vs end) stays.limit (ends.1 bytes known)
 
   -- a fault of the outside came first, or want of memory
-  stops_with : (f : Fault) → HasRead (s0.left file) vs new (s.left file) → TookPart (lines vs) out0 out → Cause f vs s0 s out0 out → ShowsItems file (Some f) (outside_of s0 ds out0) (outside_of s ds out)
-  stops_with f has part cause = record {
+  stops_with : (f : Fault) → ((f ≡ fault.Read → ⊥) → s.faults ≡ s0.faults) → HasRead (s0.left file) vs new (s.left file) → TookPart (lines vs) out0 out → Cause f vs s0 s out0 out → ShowsItems file (Some f) (outside_of s0 ds out0) (outside_of s ds out)
+  stops_with f well has part cause = record {
     told = stays.told;
     others = stays.others;
     is_open = stays.is_open;
@@ -201,6 +204,7 @@ module _ (ds : List State) (file : ℕ) (new : FileReading) (s0 s : FilesState) 
     read = λ is. elim cause [ inl h ↦ h.1 | inr (inl h) ↦ absurd (let a = h.0 in cc) | inr (inr h) ↦ absurd cc ];
     write = λ is. elim cause [ inl h ↦ absurd (let a = h.0 in cc) | inr (inl h) ↦ h.1 | inr (inr h) ↦ absurd cc ];
     no_other = stop_other f vs s0 s out0 out cause;
+    unfailed = λ other. well (λ is. other (ap Some is));
     follows = λ bytes known v of.
         let front = first_shown (s0.left file) vs of.0 new (s.left file) bytes of.1 has known (subst (λ n. Shows n bytes of.0 of.1) (sym stays.limit) of.2) in
         follows_front ds bytes vs front.0 f s0 s out0 out cause part v of front.1;
@@ -208,9 +212,9 @@ module _ (ds : List State) (file : ℕ) (new : FileReading) (s0 s : FilesState) 
   }
 
   -- a write was refused
-  refused_with : (e : PrintError) → HasRead (s0.left file) vs new (s.left file) → TookPart (lines vs) out0 out → lines vs ≢ [] → (as_stop {T = Unit {0}} (Err e) ≡ Err stop.Failed → Rose out0.faults out.faults) → ShowsItems file (Some (write_fault e)) (outside_of s0 ds out0) (outside_of s ds out)
-  refused_with print.Failed has part full rose = stops_with fault.Write has part (inr (inl (refl, rose refl, full)))
-  refused_with print.NoMemory has part full rose = stops_with fault.NoMemory has part (inr (inr refl))
+  refused_with : s.faults ≡ s0.faults → (e : PrintError) → HasRead (s0.left file) vs new (s.left file) → TookPart (lines vs) out0 out → lines vs ≢ [] → (as_stop {T = Unit {0}} (Err e) ≡ Err stop.Failed → Rose out0.faults out.faults) → ShowsItems file (Some (write_fault e)) (outside_of s0 ds out0) (outside_of s ds out)
+  refused_with well print.Failed has part full rose = stops_with fault.Write (λ other. well) has part (inr (inl (refl, rose refl, full)))
+  refused_with well print.NoMemory has part full rose = stops_with fault.NoMemory (λ other. well) has part (inr (inr refl))
 
 -- where no item came, the same items were read
 held_has : (first left : Left) (vs : List Value) (new : FileReading) (result : Result Item ReadError) → ((v : Value) → result ≡ Ok (item.Value v) → ⊥) → HeldOut first vs result new left → HasRead first vs new left
@@ -254,6 +258,7 @@ module _ (file : ℕ) (now : FileReading) (s0 s : FilesState) (out0 out : SinkSt
   pub going_value : {T : Type 0} (done : T) (new : FileReading) (v : Value) (out' : SinkState) (after : List ℕ) → HandsOut (Ok (item.Value v)) now new → Puts (line v) (Ok done) out held out' after → Going file new s0 s out0 out' after true
   going_value done new v out' after hands puts = record {
     stays = stays_held new (Ok (item.Value v)) hands;
+    well = so.well;
     vs = so.vs ++ v ∷ [];
     read = held_out new (Ok (item.Value v)) hands;
     done = so.done ++ puts.done;
@@ -266,7 +271,7 @@ module _ (file : ℕ) (now : FileReading) (s0 s : FilesState) (out0 out : SinkSt
 
   pub items_stopped : (ds : List State) (e : PrintError) (new : FileReading) (v : Value) (out' : SinkState) (after : List ℕ) → HandsOut (Ok (item.Value v)) now new → Puts (line v) (as_stop {T = Unit {0}} (Err e)) out held out' after → ShowsItems file (Some (write_fault e)) (outside_of s0 ds out0) (outside_of s ds out')
   items_stopped ds e new v out' after hands puts =
-      refused_with ds file new s0 s out0 out' (so.vs ++ v ∷ []) (stays_held new (Ok (item.Value v)) hands) e (held_out new (Ok (item.Value v)) hands) (record {
+      refused_with ds file new s0 s out0 out' (so.vs ++ v ∷ []) (stays_held new (Ok (item.Value v)) hands) so.well e (held_out new (Ok (item.Value v)) hands) (record {
         done = so.done ++ puts.done;
         rest = puts.rest;
         all = line_all v (as_stop {T = Unit {0}} (Err e)) out' after puts;
@@ -294,6 +299,7 @@ module _ (file : ℕ) (now : FileReading) (s0 s : FilesState) (out0 out : SinkSt
         let f = flushed begun refl in
         record {
           stays = stays_held new (Ok item.NeedMore) hands;
+          well = so.well;
           vs = so.vs;
           read = held_out new (Ok item.NeedMore) hands;
           done = lines so.vs;
@@ -305,12 +311,12 @@ module _ (file : ℕ) (now : FileReading) (s0 s : FilesState) (out0 out : SinkSt
         }
 
     pub items_end : (ds : List State) (new : FileReading) → HandsOut (Ok item.End) now new → ShowsItems file None (outside_of s0 ds out0) (outside_of s ds out')
-    items_end ds new hands = ends_with ds file new s0 s out0 out' so.vs (stays_held new (Ok item.End) hands) WholeText (held_out new (Ok item.End) hands) (flushed begun refl).0
+    items_end ds new hands = ends_with ds file new s0 s out0 out' so.vs (stays_held new (Ok item.End) hands) so.well WholeText (held_out new (Ok item.End) hands) (flushed begun refl).0
 
     pub items_refused : (ds : List State) (e : ReadError) (new : FileReading) → HandsOut (Err e) now new → ShowsItems file (Some (read_fault e)) (outside_of s0 ds out0) (outside_of s ds out')
-    items_refused ds (read.Bad place) new hands = ends_with ds file new s0 s out0 out' so.vs (stays_held new (Err (read.Bad place)) hands) (BadAt place) (held_out new (Err (read.Bad place)) hands) (flushed begun refl).0
-    items_refused ds (read.TooDeep place) new hands = ends_with ds file new s0 s out0 out' so.vs (stays_held new (Err (read.TooDeep place)) hands) (TooDeepAt place) (held_out new (Err (read.TooDeep place)) hands) (flushed begun refl).0
-    items_refused ds read.NoMemory new hands = stops_with ds file new s0 s out0 out' so.vs (stays_held new (Err read.NoMemory) hands) fault.NoMemory (held_out new (Err read.NoMemory) hands) (took_all (lines so.vs) out0 out' (flushed begun refl).0) (inr (inr refl))
+    items_refused ds (read.Bad place) new hands = ends_with ds file new s0 s out0 out' so.vs (stays_held new (Err (read.Bad place)) hands) so.well (BadAt place) (held_out new (Err (read.Bad place)) hands) (flushed begun refl).0
+    items_refused ds (read.TooDeep place) new hands = ends_with ds file new s0 s out0 out' so.vs (stays_held new (Err (read.TooDeep place)) hands) so.well (TooDeepAt place) (held_out new (Err (read.TooDeep place)) hands) (flushed begun refl).0
+    items_refused ds read.NoMemory new hands = stops_with ds file new s0 s out0 out' so.vs (stays_held new (Err read.NoMemory) hands) fault.NoMemory (λ other. so.well) (held_out new (Err read.NoMemory) hands) (took_all (lines so.vs) out0 out' (flushed begun refl).0) (inr (inr refl))
 
   -- writing the page was refused
   pub items_unflushed : (ds : List State) (e : PrintError) (result : Result Item ReadError) (new : FileReading) (out' : SinkState) (after : List ℕ) → ((v : Value) → result ≡ Ok (item.Value v) → ⊥) → HandsOut result now new → Flushes {T = Unit {0}} begun (as_stop (Err e)) held after out out' → ShowsItems file (Some (write_fault e)) (outside_of s0 ds out0) (outside_of s ds out')
@@ -323,7 +329,7 @@ module _ (file : ℕ) (now : FileReading) (s0 s : FilesState) (out0 out : SinkSt
       go : (b : Bool) → begun ≡ b → ShowsItems file (Some (write_fault e)) (outside_of s0 ds out0) (outside_of s ds out')
       go true is =
           let w = (flushes.writes is).0 in
-          refused_with ds file new s0 s out0 out' so.vs (stays_held new result hands) e (held_has (s0.left file) (s.left file) so.vs new result no_item (held_out new result hands)) (record {
+          refused_with ds file new s0 s out0 out' so.vs (stays_held new result hands) so.well e (held_has (s0.left file) (s.left file) so.vs new result no_item (held_out new result hands)) (record {
             done = so.done ++ w.part.done;
             rest = w.part.rest;
             all = so.all ∙ (ap (λ bs. so.done ++ bs) w.part.all ∙ sym (append_assoc so.done w.part.done w.part.rest));
@@ -351,6 +357,7 @@ module _ (file : ℕ) (now : FileReading) (s0 s : FilesState) (out0 out : SinkSt
     pub going_fetched : Fetches (Ok tt) now new s t → Going file new s0 t out0 out held begun
     going_fetched fetches = record {
       stays = stays_fetched (Ok tt) fetches;
+      well = fetches.leaves.well (λ bad. cc) ∙ so.well;
       vs = so.vs;
       read = came (Ok tt) fetches;
       done = so.done;
@@ -367,12 +374,12 @@ module _ (file : ℕ) (now : FileReading) (s0 s : FilesState) (out0 out : SinkSt
     pub items_unfetched : (ds : List State) → begun ≡ false → (e : FileError) → Fetches (Err e) now new s t → ShowsItems file (Some (fetch_fault e)) (outside_of s0 ds out0) (outside_of t ds out)
     items_unfetched ds is (error.Bad place) fetches = absurd (came (Err (error.Bad place)) fetches)
     items_unfetched ds is (error.TooDeep place) fetches = absurd (came (Err (error.TooDeep place)) fetches)
-    items_unfetched ds is error.TooLong fetches = ends_with ds file new s0 t out0 out so.vs (stays_fetched (Err error.TooLong) fetches) PastLimit (came (Err error.TooLong) fetches) (took_lines is)
+    items_unfetched ds is error.TooLong fetches = ends_with ds file new s0 t out0 out so.vs (stays_fetched (Err error.TooLong) fetches) (fetches.leaves.well (λ bad. cc) ∙ so.well) PastLimit (came (Err error.TooLong) fetches) (took_lines is)
     items_unfetched ds is error.Read fetches =
-        stops_with ds file new s0 t out0 out so.vs (stays_fetched (Err error.Read) fetches) fault.Read (came (Err error.Read) fetches) (took_all (lines so.vs) out0 out (took_lines is))
+        stops_with ds file new s0 t out0 out so.vs (stays_fetched (Err error.Read) fetches) fault.Read (λ other. absurd (other refl)) (came (Err error.Read) fetches) (took_all (lines so.vs) out0 out (took_lines is))
         (inl (refl, (let a = so.stays.later in let b = fetches.leaves.failed refl in omega arith)))
     items_unfetched ds is error.NoMemory fetches =
-        stops_with ds file new s0 t out0 out so.vs (stays_fetched (Err error.NoMemory) fetches) fault.NoMemory (came (Err error.NoMemory) fetches) (took_all (lines so.vs) out0 out (took_lines is)) (inr (inr refl))
+        stops_with ds file new s0 t out0 out so.vs (stays_fetched (Err error.NoMemory) fetches) fault.NoMemory (λ other. fetches.leaves.well (λ bad. cc) ∙ so.well) (came (Err error.NoMemory) fetches) (took_all (lines so.vs) out0 out (took_lines is)) (inr (inr refl))
 
 -- what a missing file comes to, of which nothing is printed
 missing_follows : (ds : List State) (v : Verdict) (f f' : FilesState) (out : SinkState) → v ≡ refused fault.Read → FollowsFile v (Some fault.Read) (outside_of f ds out) (outside_of f' ds out)
@@ -394,6 +401,7 @@ module _ (path : List ℕ) where
     read = λ is. opens.failed refl;
     write = λ is. absurd cc;
     no_other = tt;
+    unfailed = λ other. absurd (other refl);
     left = opens.refused;
     told = opens.told;
   }
@@ -415,6 +423,7 @@ module _ (path : List ℕ) where
     read = λ is. absurd cc;
     write = λ is. absurd cc;
     no_other = tt;
+    unfailed = λ other. opens.counts;
     left = opens.refused;
     told = opens.told;
   }
@@ -432,6 +441,7 @@ module _ (path : List ℕ) where
     read = λ is. inr (rose (shows.read is));
     write = shows.write;
     no_other = as_path path end shows.no_other;
+    unfailed = λ other. closes.faults ∙ (shows.unfailed other ∙ opens.counts);
     left = fun_ext (same_left file s0 s1 s2 s3 opens.fresh opens.others shows.others closes.others closes.closed);
     told = closes.told ∙ (shows.told ∙ opens.told);
   }

@@ -11,26 +11,26 @@ use Rattle.kl_core.specs.Typing.{HaveSources}
 use Rattle.kl_core.proofs.Safety.{never_stuck}
 use Rattle.kl_ask.specs.Driver.{DriverKind, State}
 use Rattle.kl_ask.specs.World.{World, types_of, values_of}
-use Rattle.kl_ask.specs.declared.session.Attached.{Attached}
 use Rattle.kl_ask.specs.declared.ask.DriverError.{DriverError}
 use Rattle.kl_ask.specs.declared.ask.DriverError.TheVariants as error
-use Rattle.kl_eval.specs.World.{StoppedBy}
 use Rattle.kl_eval.specs.declared.stop.EvalStop.{EvalStop}
 use Rattle.kl_eval.specs.declared.stop.EvalStop.TheVariants as stop
+use Rattle.kl_ship.specs.Holding.{ScansIn}
 use Rattle.kl_ship.specs.Nodes.{Node}
 use Rattle.kl_ship.specs.Numbers.{scans_in}
 use Rattle.kl_ship.proofs.Holding.{scans_in_all}
+use Rattle.kl_ship.specs.declared.plan.Scan.{Scan}
 use Rattle.kl_sources.specs.declared.source.Source.{Source}
 use Rattle.kl_scans.specs.Held.{nothing}
 use Rattle.kl_scans.specs.Moves.{Moves}
 use Rattle.kl_cursor.specs.Sense.{HasWorth}
-use Rattle.kl_cursor.specs.Steps.{ComesTo, Partly}
+use Rattle.kl_cursor.specs.Steps.{ComesTo, Partly, StoppedAt}
 use Rattle.kl_run.specs.Running.{Runs}
 use Rattle.kl_run.proofs.Quiet.{moves_quiet}
 use Rattle.kl_engine.specs.Answering.{KeepsDrivers, PrintsPage}
 use Rattle.kl_engine.specs.Faults.{Ending}
 use Rattle.kl_engine.specs.Outside.{outside_of}
-use Rattle.kl_engine.specs.Running.{AnswersTerm, IsTermOutcome, IsListOutcome, IsValueOutcome, Scanned, fault_of}
+use Rattle.kl_engine.specs.Running.{AnswersTerm, IsTermOutcome, IsListOutcome, IsValueOutcome, PlanOver, Scanned, fault_of, plan_over}
 use Rattle.kl_engine.specs.Verdict.{value_page, refused, cut}
 use Rattle.kl_engine.specs.declared.fault.Fault.{Fault}
 use Rattle.kl_engine.specs.declared.fault.Fault.TheVariants as fault
@@ -47,13 +47,15 @@ quiet_keeps a b moves =
       each = λ i x y this that. let quiet = steps.each i x y this that in record { keeps = quiet.keeps; cursors = quiet.cursors; attached = λ name none. ap (λ at. at name) quiet.attached };
     }
 
-pub cause_stops : (x : Name) (e : DriverError) (old new : World) → StoppedBy x e old new → IsStopped old.sources (fault_of x e) old.drivers new.drivers
-cause_stops x error.Failed old new s = (s.place, (s.before, s.then, s.was, s.is, s.cause))
-cause_stops x (error.Changed d) old new s = (s.number, s.listed, s.place, s.at, sym s.named, s.held, (s.before, s.then, s.was, s.is, s.cause.1))
-cause_stops x error.NoMemory old new s = tt
-cause_stops x (error.BadSource place) old new s = absurd s.cause
-cause_stops x (error.TooLong most) old new s = absurd s.cause
-cause_stops x (error.TooDeep place) old new s = absurd s.cause
+module _ (p : Node) (Holds : List Scan → Type 0) (holds : Holds (scans_in p)) where
+  pub cause_stops : (x : Name) (e : DriverError) (old new : World) → StoppedAt Holds x e old new → IsStopped (plan_over old p) (fault_of x e) old.drivers new.drivers
+  cause_stops x error.Failed old new s = (s.by.place, (s.by.before, s.by.then, s.by.was, s.by.is, s.by.cause))
+  cause_stops x (error.Changed d) old new s =
+      (s.by.number, s.by.listed, s.by.place, s.by.at, sym s.by.named, s.by.held, (s.by.before, s.by.then, s.by.was, s.by.is, s.by.cause.1), (s.scan, s.stood (scans_in p) holds, sym s.named))
+  cause_stops x error.NoMemory old new s = tt
+  cause_stops x (error.BadSource place) old new s = absurd s.by.cause
+  cause_stops x (error.TooLong most) old new s = absurd s.by.cause
+  cause_stops x (error.TooDeep place) old new s = absurd s.by.cause
 
 -- ---- over a session in which the plan of a term runs
 
@@ -68,26 +70,26 @@ module _ (ks : List DriverKind) (ss : List Source) (marks : ℕ → Bool) (t : T
       sym (runs.value told s.0 s.1) ∙ h.comes [] s.0 tt (runs.typed s.0 s.1) (runs.told told)
 
   abbrev GivesValue : Ending → SinkState → SinkState → Type 0
-  GivesValue end out out' = AnswersTerm ⊥ (IsValueOutcome first (core (values_of a) t [])) (HaveSources (types_of a) (values_of a)) end a.sources (outside_of files a.drivers out) (outside_of files b.drivers out')
+  GivesValue end out out' = AnswersTerm ⊥ (IsValueOutcome first (core (values_of a) t [])) (HaveSources (types_of a) (values_of a)) end (plan_over a p) (outside_of files a.drivers out) (outside_of files b.drivers out')
 
   pub value_given : (w : Value) (end : Ending) (out out' : SinkState) → Partly [] p (Ok w) a b → PrintsPage (value_page (cut first w)) end out out' → GivesValue end out out'
   value_given w end out out' h prints =
-      term_printed ⊥ (IsValueOutcome first (core (values_of a) t [])) (HaveSources (types_of a) (values_of a)) a.sources files a.drivers b.drivers (quiet_keeps a b h.moves)
+      term_printed ⊥ (IsValueOutcome first (core (values_of a) t [])) (HaveSources (types_of a) (values_of a)) (plan_over a p) files a.drivers b.drivers (quiet_keeps a b h.moves)
       (value_page (cut first w)) end out out' tt (λ told. value_is first (core (values_of a) t []) w (comes_to (done w) h told)) prints
 
   value_over : (out : SinkState) → Partly [] p (Err stop.Overflow) a b → GivesValue (Some fault.Overflow) out out
   value_over out h =
-      term_printed ⊥ (IsValueOutcome first (core (values_of a) t [])) (HaveSources (types_of a) (values_of a)) a.sources files a.drivers b.drivers (quiet_keeps a b h.1.moves)
+      term_printed ⊥ (IsValueOutcome first (core (values_of a) t [])) (HaveSources (types_of a) (values_of a)) (plan_over a p) files a.drivers b.drivers (quiet_keeps a b h.1.moves)
       (refused fault.Overflow) (Some fault.Overflow) out out tt (λ told. value_past first (core (values_of a) t []) h.0 (comes_to (over h.0) h.1 told)) (prints_refused fault.Overflow out)
 
   value_driver : (out : SinkState) (x : Name) (d : DriverError) → Partly [] p (Err (stop.Driver x d)) a b → GivesValue (Some (fault_of x d)) out out
   value_driver out x d h =
-      term_stopped ⊥ (IsValueOutcome first (core (values_of a) t [])) (HaveSources (types_of a) (values_of a)) a.sources files a.drivers b.drivers (quiet_keeps a b h.moves)
-      (fault_of x d) out (cause_stops x d a b h.reason) (λ told. value_verdict first (core (values_of a) t []) (makes_sense told))
+      term_stopped ⊥ (IsValueOutcome first (core (values_of a) t [])) (HaveSources (types_of a) (values_of a)) (plan_over a p) files a.drivers b.drivers (quiet_keeps a b h.moves)
+      (fault_of x d) out (cause_stops p (λ all. ScansIn all p) (scans_in_all p) x d a b h.reason) (λ told. value_verdict first (core (values_of a) t []) (makes_sense told))
 
   value_wanted : (out : SinkState) → Partly [] p (Err stop.NoMemory) a b → GivesValue (Some fault.NoMemory) out out
   value_wanted out h =
-      term_stopped ⊥ (IsValueOutcome first (core (values_of a) t [])) (HaveSources (types_of a) (values_of a)) a.sources files a.drivers b.drivers (quiet_keeps a b h.moves)
+      term_stopped ⊥ (IsValueOutcome first (core (values_of a) t [])) (HaveSources (types_of a) (values_of a)) (plan_over a p) files a.drivers b.drivers (quiet_keeps a b h.moves)
       fault.NoMemory out tt (λ told. value_verdict first (core (values_of a) t []) (makes_sense told))
 
   -- the same from the code's equations
@@ -118,9 +120,9 @@ module _ (p : Node) (first : Option ℕ) (a b : World) where
 
 -- ---- either
 
-module _ (listed : Bool) (first : Option ℕ) (o : Outcome) (told : Type 0) (end : Ending) (list : List Attached) (files : FilesState) (ds ds' : List State) (out out' : SinkState) where
+module _ (listed : Bool) (first : Option ℕ) (o : Outcome) (told : Type 0) (end : Ending) (run : PlanOver) (files : FilesState) (ds ds' : List State) (out out' : SinkState) where
   -- what gives lists in one way gives lists in another
-  answers_on : (Lists Fewer : Type 0) → (Fewer → Lists) → AnswersTerm Fewer (IsTermOutcome listed first o) told end list (outside_of files ds out) (outside_of files ds' out') → AnswersTerm Lists (IsTermOutcome listed first o) told end list (outside_of files ds out) (outside_of files ds' out')
+  answers_on : (Lists Fewer : Type 0) → (Fewer → Lists) → AnswersTerm Fewer (IsTermOutcome listed first o) told end run (outside_of files ds out) (outside_of files ds' out') → AnswersTerm Lists (IsTermOutcome listed first o) told end run (outside_of files ds out) (outside_of files ds' out')
   answers_on Lists Fewer more answers = record {
     follows = answers.follows;
     read = answers.read;
@@ -131,8 +133,8 @@ module _ (listed : Bool) (first : Option ℕ) (o : Outcome) (told : Type 0) (end
     drivers = answers.drivers;
   }
 
-  pub as_list : listed ≡ true → AnswersTerm ⊤ (IsListOutcome first o) told end list (outside_of files ds out) (outside_of files ds' out') → AnswersTerm (listed ≡ true) (IsTermOutcome listed first o) told end list (outside_of files ds out) (outside_of files ds' out')
-  as_list is answers = answers_on (listed ≡ true) ⊤ (λ h. is) (subst (λ b. AnswersTerm ⊤ (IsTermOutcome b first o) told end list (outside_of files ds out) (outside_of files ds' out')) (sym is) answers)
+  pub as_list : listed ≡ true → AnswersTerm ⊤ (IsListOutcome first o) told end run (outside_of files ds out) (outside_of files ds' out') → AnswersTerm (listed ≡ true) (IsTermOutcome listed first o) told end run (outside_of files ds out) (outside_of files ds' out')
+  as_list is answers = answers_on (listed ≡ true) ⊤ (λ h. is) (subst (λ b. AnswersTerm ⊤ (IsTermOutcome b first o) told end run (outside_of files ds out) (outside_of files ds' out')) (sym is) answers)
 
-  pub as_value : listed ≡ false → AnswersTerm ⊥ (IsValueOutcome first o) told end list (outside_of files ds out) (outside_of files ds' out') → AnswersTerm (listed ≡ true) (IsTermOutcome listed first o) told end list (outside_of files ds out) (outside_of files ds' out')
-  as_value is answers = answers_on (listed ≡ true) ⊥ (λ h. absurd h) (subst (λ b. AnswersTerm ⊥ (IsTermOutcome b first o) told end list (outside_of files ds out) (outside_of files ds' out')) (sym is) answers)
+  pub as_value : listed ≡ false → AnswersTerm ⊥ (IsValueOutcome first o) told end run (outside_of files ds out) (outside_of files ds' out') → AnswersTerm (listed ≡ true) (IsTermOutcome listed first o) told end run (outside_of files ds out) (outside_of files ds' out')
+  as_value is answers = answers_on (listed ≡ true) ⊥ (λ h. absurd h) (subst (λ b. AnswersTerm ⊥ (IsTermOutcome b first o) told end run (outside_of files ds out) (outside_of files ds' out')) (sym is) answers)

@@ -68,6 +68,7 @@ wanted_does command o = record {
     write = λ is. absurd cc;
     changed = λ name is. absurd cc;
     no_other = wants_fault command;
+    unfailed = λ other. refl;
     nothing = λ is. refl;
   };
   unread = unread_wanted command o;
@@ -94,6 +95,7 @@ neither_does o = record {
     write = λ is. absurd cc;
     changed = λ name is. absurd cc;
     no_other = tt;
+    unfailed = λ other. refl;
     nothing = λ is. refl;
   };
   unread = tt;
@@ -137,6 +139,7 @@ show_does path end f f' ds out out' shows = record {
     write = shows.write;
     changed = λ name is. absurd (shown_drift path end name shows.no_other is);
     no_other = shows.no_other;
+    unfailed = shows.unfailed;
     nothing = λ is. absurd is;
   };
   unread = tt;

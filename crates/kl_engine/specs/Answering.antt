@@ -109,12 +109,13 @@ unnamed w = w
 
 -- Verdicts on the same bytes are one, but for two things: the same breach at the same token may be told of another name;
 -- and where types are listed, other principal schemes of the same instances may be listed for one program.
-pub data Alike (Listing : Type 0) (v w : Verdict) : Type 0 where
-  one : v ≡ w → Alike Listing v w
+pub data SameVerdict (Listing : Type 0) (v w : Verdict) : Type 0 where
+  one : v ≡ w → SameVerdict Listing v w
   renamed : (x y : Wrong) (byte : ℕ)
-      → v ≡ refused (fault.Text x byte) → w ≡ refused (fault.Text y byte) → unnamed x ≡ unnamed y → Alike Listing v w
+      → v ≡ refused (fault.Text x byte) → w ≡ refused (fault.Text y byte) → unnamed x ≡ unnamed y → SameVerdict Listing v w
   retyped : Listing
-      → (grounds : List (Name × Ground)) (ds : Decls) (e : Exp) → IsListing grounds ds e v → IsListing grounds ds e w → Alike Listing v w
+      → (grounds : List (Name × Ground)) (ds : Decls) (e : Exp) → IsListing grounds ds e v → IsListing grounds ds e w
+      → SameVerdict Listing v w
 
 -- an end that bytes determine: none of the faults that can come to any command
 abbrev pub IsDetermined : Ending → Type 0
@@ -245,7 +246,7 @@ IsOfList ss text = (q : AProgram) × IsProgramOf (names_of ss) text q
 -- What is done with a text over these sources. No public contract cites this.
 pub record DoesText (ss : List Source) (p : Purpose) (text : List ℕ) (end : Ending) (old new : Outside) : Type 0 where
   pub told : (v : Verdict) → IsTextVerdict (kinds_of old.drivers) ss p text v
-      → (w : Verdict) × IsTextVerdict (kinds_of old.drivers) ss p text w × Alike (ListsTypes p) v w × FollowsVerdict w end old new
+      → (w : Verdict) × IsTextVerdict (kinds_of old.drivers) ss p text w × SameVerdict (ListsTypes p) v w × FollowsVerdict w end old new
   pub meant : IsDetermined end → (NeedsDrivers p end → AreTold (kinds_of old.drivers) ss (IsMentionedIn ss text))
       → (v : Verdict) × IsTextVerdict (kinds_of old.drivers) ss p text v × (v.ending ≡ end)
   pub read : end ≡ Some fault.Read
@@ -301,6 +302,8 @@ pub record IsCaused (command : Command) (end : Ending) (old new : Outside) : Typ
   pub write : end ≡ Some fault.Write → Rose old.out.faults new.out.faults
   pub changed : (name : Name) → end ≡ Some (fault.Changed name) → Drifted command name old new
   pub no_other : IsOneOf (HasFault command) end
+  -- no file failed, where a command ends otherwise
+  pub unfailed : (end ≡ Some fault.Read → ⊥) → new.files.faults ≡ old.files.faults
   pub nothing : PrintsNothing command old.files (kinds_of old.drivers) end → new.out ≡ old.out
 
 -- The same of a source of a program that is unreadable, too long or nested too deep.
@@ -344,7 +347,7 @@ pub record IsClosed (command : Command) (old new : Outside) : Type 0 where
 pub record Does (command : Command) (end : Ending) (old new : Outside) : Type 0 where
   pub told : (told : _) → Tell command old.files told
       → (v : Verdict) → IsVerdict told (kinds_of old.drivers) command v
-      → (w : Verdict) × IsVerdict told (kinds_of old.drivers) command w × Alike (CommandListsTypes command) v w
+      → (w : Verdict) × IsVerdict told (kinds_of old.drivers) command w × SameVerdict (CommandListsTypes command) v w
       × FollowsVerdict w end old new
   -- the way back
   pub meant : (told : _) → Tell command old.files told

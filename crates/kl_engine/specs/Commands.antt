@@ -39,6 +39,13 @@ path_of (Program purpose (Files path catalogue)) = path
 path_of (Program purpose (Made seed size)) = []
 path_of (Show path) = path
 
+-- no word names a file
+abbrev pub NamesNoFile : Command → Type 0
+NamesNoFile NoneNamed = ⊤
+NamesNoFile (Program purpose (Files path catalogue)) = ⊥
+NamesNoFile (Program purpose (Made seed size)) = ⊤
+NamesNoFile (Show path) = ⊥
+
 -- The files tell these bytes. A program over made rows reads none, so any do.
 abbrev pub TellTo : Origin → FilesState → (List ℕ → Option (List ℕ)) → Type 0
 TellTo (Files path catalogue) files told = files.told ≡ Some told

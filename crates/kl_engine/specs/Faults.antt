@@ -68,7 +68,8 @@ bad_line name place = joined (codes "source " ∷ name ∷ codes ": bad at " ∷
 
 -- the line of a fault, where the words name this path
 abbrev pub fault_line : List ℕ → Fault → List ℕ
-fault_line path fault.Usage = codes "usage: kleisli (run|explain|types|check) PROGRAM [CATALOGUE] [OPTIONS], kleisli show FILE, kleisli gen SEED N\n"
+fault_line path fault.Usage =
+    codes "usage: kleisli (run|explain|types|check) PROGRAM [CATALOGUE] [OPTIONS], kleisli show FILE, kleisli gen SEED N\n"
 fault_line path (fault.Text w byte) = wrong_line w byte
 fault_line path (fault.IllTyped decl) = joined (codes "types: no typing for declaration " ∷ decimal (decl + 1) ∷ codes "\n" ∷ [])
 fault_line path (fault.Catalogue byte) = joined (codes "catalogue: syntax at byte " ∷ decimal byte ∷ codes "\n" ∷ [])

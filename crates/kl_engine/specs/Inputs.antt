@@ -47,6 +47,9 @@ pub record ReadsSources (catalogue : Option (List ℕ)) (ks : List DriverKind) (
       → IfErr result (λ f. (f ≡ fault.NoMemory) ⊎ ((f ≡ fault.Read) × Rose files.faults files'.faults) ⊎ IsSourcesFault told ks catalogue f)
   pub no_other : IfErr result IsSourcesEnd
   pub read : (files.told ≡ None) → IfErr result (λ f. f ≡ fault.Read → Rose files.faults files'.faults)
+  -- no read failed, unless that is told
+  pub well : IfOk result (λ ss. files'.faults ≡ files.faults)
+  pub unfailed : IfErr result (λ f. (f ≡ fault.Read → ⊥) → files'.faults ≡ files.faults)
 
 -- the faults of both files
 abbrev pub IsFilesEnd : Fault → Type 0
@@ -69,3 +72,5 @@ pub record ReadsInputs (from : Origin) (ks : List DriverKind) (result : Result I
       → IfErr result (λ f. (f ≡ fault.NoMemory) ⊎ ((f ≡ fault.Read) × Rose files.faults files'.faults) ⊎ IsInputsFault told ks from f)
   pub no_other : IfErr result (IsInputsEnd from)
   pub read : files.told ≡ None → IfErr result (λ f. f ≡ fault.Read → Rose files.faults files'.faults)
+  pub well : IfOk result (λ i. files'.faults ≡ files.faults)
+  pub unfailed : IfErr result (λ f. (f ≡ fault.Read → ⊥) → files'.faults ≡ files.faults)

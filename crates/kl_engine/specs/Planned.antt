@@ -1,5 +1,6 @@
 -- The plan of a program that is run, and what is counted of it.
 use Rattle.std.specs.Prelude.{◌≡◌, ◌≤◌, ◌<◌, ◌^◌, ◌⊎◌, ℕ, ◌+◌, Bool, List, [], ◌++◌, length, map, take, Option, Some, None, slice_get, ⊤}
+use Rattle.std.specs.List.{AllByRecursion, Contains}
 use Rattle.std.specs.Option.{option_map}
 use Rattle.kl_outside.specs.Counts.{Rose}
 use Rattle.kl_outside.specs.Files.{FilesState}
@@ -8,9 +9,12 @@ use Rattle.kl_outcome.specs.Outcome.{Name, items_in}
 use Rattle.kl_value.specs.declared.Kind.TheVariants as kind
 use Rattle.kl_value.specs.declared.Value.{Value}
 use Rattle.kl_core.specs.Trees.{Tree}
+use Rattle.kl_syntax.specs.Syntax.{Decls, Exp}
 use Rattle.kl_syntax.specs.declared.tree.Program.{Program}
+use Rattle.kl_desugar.specs.Translation.{term_of}
 use Rattle.kl_ask.specs.Driver.{DriverKind, State}
 use Rattle.kl_ask.specs.Lists.{EachSteps}
+use Rattle.kl_ask.specs.Settings.{usual_settings}
 use Rattle.kl_ask.specs.Trace.{IsBlank}
 use Rattle.kl_ask.specs.declared.settings.Trace.{Trace}
 use Rattle.kl_ship.specs.Holding.{ScansIn}
@@ -20,20 +24,25 @@ use Rattle.kl_ship.specs.Nodes.{Node, view}
 use Rattle.kl_ship.specs.Numbers.{scans_in}
 use Rattle.kl_ship.specs.declared.plan.Plan.{Plan}
 use Rattle.kl_ship.specs.declared.plan.Scan.{Scan}
+use Rattle.kl_ship.specs.declared.source.ShipSource.{ShipSource}
 use Rattle.kl_cursor.specs.Laziness.{ByTimes, Frugal, IsFront}
 use Rattle.kl_run.specs.Counted.{AsksCounted, ReadsMarked, StartsCounted}
 use Rattle.kl_run.specs.Planned.{IsPlanOf, MeansTerm, ships_of}
-use Rattle.kl_sources.specs.Sources.{names_of, HaveValues}
+use Rattle.kl_sources.specs.Sources.{grounds_of, kinds_of, names_of, HaveValues}
 use Rattle.kl_sources.specs.declared.source.Source.{Source}
-use Rattle.kl_engine.specs.Answering.{IsRunning, OfRun}
+use Rattle.kl_engine.specs.Answering.{IsMentionedIn, IsOfList, IsRunning, IsUnreadBy, IsUnreadFault, OfRun, SomeDrifted, Unprinted}
 use Rattle.kl_engine.specs.Commands.{Command, Program as AProgram}
 use Rattle.kl_engine.specs.Faults.{Ending}
-use Rattle.kl_engine.specs.Reading.{IsProgramOf}
+use Rattle.kl_words.specs.declared.command.Command.{Command as Read}
+use Rattle.kl_words.specs.declared.command.Command.TheVariants as read
+use Rattle.kl_words.specs.declared.command.Job.{Job}
+use Rattle.kl_engine.specs.Reading.{IsProgramOf, definitions, last}
 use Rattle.kl_engine.specs.Rewritten.{IsRewrittenTo, term_in}
-use Rattle.kl_engine.specs.Verdict.{AreMarks, IsInputsFault, list_front}
+use Rattle.kl_engine.specs.Verdict.{AreMarks, GivesList, IsInputsFault, list_front}
+use Rattle.kl_engine.specs.declared.fault.Fault.{Fault}
 use Rattle.kl_engine.specs.declared.fault.Fault.TheVariants as fault
+use Rattle.kl_engine.specs.declared.run.How.{How}
 use Rattle.kl_engine.specs.declared.run.Ran.{Ran}
-use Rattle.kl_engine.specs.declared.top.Purpose.TheVariants as purpose
 
 abbrev pub plan_in : Option Plan → Option Node
 plan_in plan = option_map view plan
@@ -55,10 +64,11 @@ pub record CountsScansAlone (plan : Option Node) (trace : Trace) : Type 0 where
   pub misses : trace.misses ≡ 0
   pub peak : trace.peak ≡ 0
 
--- Drivers were asked what the plan's scans ask, as often as these were started; without a plan they were asked nothing.
+-- Drivers were asked what the plan's scans ask, as often as these were started; without a plan the drivers are as they were: no source
+-- was attached, and no count rose.
 abbrev pub AsksOf : Option Node → List (ℕ × ℕ) → List State → List State → Type 0
 AsksOf (Some p) starts old new = AsksCounted p starts old new
-AsksOf None starts old new = EachSteps (λ a b. b.asked ≡ a.asked) old new
+AsksOf None starts old new = new ≡ old
 
 -- ---- how few rows are handed
 
@@ -93,45 +103,83 @@ abbrev pub RowsHanded : List State → List State → Scan → ℕ → Type 0
 RowsHanded old new c rows = (x y : State) → slice_get old c.driver ≡ Some x → slice_get new c.driver ≡ Some y
     → x.handed + rows < 2 ^ 64 → y.handed ≡ x.handed + rows
 
--- what is counted of a plan's scans, what its drivers counted, where so many rows are fetched at once, and what was printed
-pub record Counts : Type 0 where
+-- a source of this name is read by a scan of a plan
+abbrev pub IsScanned : Node → Name → Type 0
+IsScanned p name = (c : Scan) × Contains (scans_in p) c × (c.source ≡ name)
+
+-- the scan of a number was never started
+abbrev pub IsUnstarted : ℕ × ℕ → Type 0
+IsUnstarted e = e.1 ≡ 0
+
+-- no scan was started, and no driver handed a row
+abbrev pub DrawsNone : List (ℕ × ℕ) → List State → List State → Type 0
+DrawsNone starts old new = AllByRecursion IsUnstarted starts × EachSteps (λ a b. b.handed ≡ a.handed) old new
+
+-- How a run went: how it ended, its steps of rewriting and the starts of its plan's scans, and what it found and left of the drivers
+-- and of the output.
+pub record Course : Type 0 where
+  pub ending : Ending
+  pub steps : ℕ
   pub starts : List (ℕ × ℕ)
-  pub fetch : ℕ
   pub old : List State
   pub new : List State
   pub blank : SinkState
   pub printed : SinkState
 
-abbrev pub counted : List (ℕ × ℕ) → ℕ → List State → List State → SinkState → SinkState → Counts
-counted starts fetch old new blank printed = record { starts = starts; fetch = fetch; old = old; new = new; blank = blank; printed = printed }
+abbrev pub course_of : Ending → Trace → List State → List State → SinkState → SinkState → Course
+course_of end trace old new blank printed = record {
+  ending = end;
+  steps = trace.steps;
+  starts = trace.starts;
+  old = old;
+  new = new;
+  blank = blank;
+  printed = printed;
+}
 
 -- ---- the plan of a program
 
--- The plan of a program's term t, over sources at drivers of these kinds, of which the marked ones are mentioned: that of the term
--- to which so many steps of rewriting lead from t.
-pub record PlansTerm (on : Bool) (ks : List DriverKind) (ss : List Source) (marks : ℕ → Bool) (first : Option ℕ) (end : Ending)
-    (t : Tree) (steps : ℕ) (p : Node) (counts : Counts) : Type 0 where
+-- The plan of a term t: that of the term to which so many steps of rewriting lead from t, where rewriting is on.
+pub record PlansTerm (on : Bool) (ships : List ShipSource) (t : Tree) (steps : ℕ) (p : Node) : Type 0 where
   pub term : Tree
   pub rewritten : IsRewrittenTo on t steps term
-  pub planned : IsPlanOf (ships_of ks ss) term p
-  pub means : MeansTerm (ships_of ks ss) t p
+  pub planned : IsPlanOf ships term p
+  pub means : MeansTerm ships t p
+
+-- What is counted of a plan that was run over these sources, of which the marked ones are mentioned, where Lists says that the program
+-- gives a list.
+pub record CountsPlan (how : How) (ss : List Source) (marks : ℕ → Bool) (Lists : Type 0) (course : Course) (p : Node) : Type 0 where
   -- where all that the program means is drawn, and the sources that it mentions are told, each scan was started once for each
   -- environment that reaches it
-  pub exact : end ≡ None → first ≡ None → (vs : List (Name × Value)) × HaveValues ks marks 0 ss vs
-      → (R : Readings) × ReadsMarked ks ss marks R × StartsCounted R p counts.starts
+  pub exact : course.ending ≡ None → how.first ≡ None → (vs : List (Name × Value)) × HaveValues (kinds_of course.old) marks 0 ss vs
+      → (R : Readings) × ReadsMarked (kinds_of course.old) ss marks R × StartsCounted R p course.starts
   -- where only so many first items are drawn, few rows were handed to a loop over one scan
-  pub few : end ≡ None → (vs : List (Name × Value)) × HaveValues ks marks 0 ss vs
-      → (R : Readings) × ReadsMarked ks ss marks R × HandsFew R counts.fetch p first (RowsHanded counts.old counts.new)
+  pub few : course.ending ≡ None → (vs : List (Name × Value)) × HaveValues (kinds_of course.old) marks 0 ss vs
+      → (R : Readings) × ReadsMarked (kinds_of course.old) ss marks R
+      × HandsFew R how.settings.fetch p how.first (RowsHanded course.old course.new)
   -- and where the output fails
-  pub written : end ≡ Some fault.Write → (vs : List (Name × Value)) × HaveValues ks marks 0 ss vs
-      → (R : Readings) × ReadsMarked ks ss marks R
-      × HandsWritten R counts.fetch p counts.blank counts.printed (RowsHanded counts.old counts.new)
+  pub written : course.ending ≡ Some fault.Write → (vs : List (Name × Value)) × HaveValues (kinds_of course.old) marks 0 ss vs
+      → (R : Readings) × ReadsMarked (kinds_of course.old) ss marks R
+      × HandsWritten R how.settings.fetch p course.blank course.printed (RowsHanded course.old course.new)
+  -- a source that changed is that of one of the plan's scans
+  pub changed : (name : Name) → course.ending ≡ Some (fault.Changed name) → IsScanned p name
+  -- where no item of a list is wanted none is drawn, however the run ends, and whether sources are told or not
+  pub none : how.first ≡ Some 0 → Lists → DrawsNone course.starts course.old course.new
 
--- the plan of the program that a text is
-abbrev pub PlansText : Bool → List DriverKind → List Source → Option ℕ → Ending → List ℕ → ℕ → Node → Counts → Type 0
-PlansText on ks ss first end text steps p counts =
+-- the plan of the program that a text is, and what is counted of it
+abbrev pub PlansText : How → List Source → List ℕ → Course → Node → Type 0
+PlansText how ss text course p =
     (q : Program) × IsProgramOf (names_of ss) text q × (marks : ℕ → Bool) × AreMarks q (names_of ss) marks
-    × PlansTerm on ks ss marks first end (term_in (names_of ss) q) steps p counts
+    × CountsPlan how ss marks (GivesList (grounds_of ss) (definitions (names_of ss) q) (last (names_of ss) q)) course p
+    × PlansTerm how.settings.rewrite (ships_of (kinds_of course.old) ss) (term_in (names_of ss) q) course.steps p
+
+-- What comes of the sources of the program that a text is: one that is unreadable or that changed is a source that it mentions, and
+-- nothing is printed before a fault, but where the program gives a list.
+pub record Rests (ss : List Source) (text : List ℕ) (course : Course) : Type 0 where
+  pub unread : (f : Fault) → course.ending ≡ Some f → IsUnreadFault f → IsUnreadBy ss (IsMentionedIn ss text) f course.old course.new
+  pub changed : (name : Name) → course.ending ≡ Some (fault.Changed name)
+      → SomeDrifted ss (λ x. IsMentionedIn ss text x × (x ≡ name)) course.old course.new
+  pub nothing : Unprinted (IsOfList ss text) course.ending → course.printed ≡ course.blank
 
 -- an end to which a run comes before it has a plan
 abbrev pub IsEarly : Ending → Type 0
@@ -160,18 +208,26 @@ MayBeEarly command (Some fault.NoMemory) files files' ks = ⊤
 MayBeEarly command (Some fault.Read) files files' ks = LacksInput command files ks ⊎ Rose files.faults files'.faults
 MayBeEarly command end files files' ks = IsEarly end
 
--- how many of the first items a command wants
-abbrev pub first_of_run : Command → Option ℕ
-first_of_run (AProgram (purpose.Run first) from) = first
-first_of_run command = None
+-- how the words ask for a program to be run
+abbrev pub how_in : Job → How
+how_in job = record { settings = job.settings; first = job.first }
+
+abbrev pub usual_how : How
+usual_how = record { settings = usual_settings; first = None }
+
+abbrev pub how_of : Option Read → How
+how_of (Some (read.Run job)) = how_in job
+how_of command = usual_how
 
 -- The plan and the counts are those of the program that is run, where the run does not end before it has a plan; else there is no
 -- plan, and no step is counted.
-abbrev pub HasPlan : Bool → Command → Ending → ℕ → Option Node → Counts → FilesState → FilesState → List DriverKind → Type 0
-HasPlan on command end steps plan counts files files' ks =
-    ((p : Node) × (plan ≡ Some p) × OfRun command files ks
-    (λ text ss. PlansText on ks ss (first_of_run command) end text steps p counts) × (IsEarly end → ⊥))
-    ⊎ ((plan ≡ None) × (steps ≡ 0) × ((IsRunning command → ⊥) ⊎ MayBeEarly command end files files' ks))
+abbrev pub HasPlan : How → Command → Option Node → Course → FilesState → FilesState → Type 0
+HasPlan how command plan course files files' =
+    ((p : Node) × (plan ≡ Some p)
+    × OfRun command files (kinds_of course.old) (λ text ss. PlansText how ss text course p × Rests ss text course)
+    × (IsEarly course.ending → ⊥))
+    ⊎ ((plan ≡ None) × (course.steps ≡ 0)
+    × ((IsRunning command → ⊥) ⊎ MayBeEarly command course.ending files files' (kinds_of course.old)))
 
 -- ---- for private functions alone: the same where the files are read
 
@@ -181,3 +237,9 @@ MayStop end = IsEarly end
 
 abbrev pub PlanOf : (Node → Type 0) → Ending → ℕ → Option Node → Type 0
 PlanOf Plans end steps plan = ((p : Node) × (plan ≡ Some p) × Plans p × (IsEarly end → ⊥)) ⊎ ((plan ≡ None) × (steps ≡ 0) × MayStop end)
+
+-- the plan of a program's term, and what is counted of it
+abbrev pub RunsPlan : How → List Source → (ℕ → Bool) → Decls → Exp → List Name → Course → Node → Type 0
+RunsPlan how ss marks program e names course p =
+    CountsPlan how ss marks (GivesList (grounds_of ss) program e) course p
+    × PlansTerm how.settings.rewrite (ships_of (kinds_of course.old) ss) (term_of program e names) course.steps p

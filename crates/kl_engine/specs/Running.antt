@@ -14,21 +14,23 @@ use Rattle.kl_rows.specs.Schemes.{Instance}
 use Rattle.kl_outcome.specs.Outcome.{Name, Outcome, done, over, stuck}
 use Rattle.kl_rows.specs.declared.Scheme.{Scheme}
 use Rattle.kl_syntax.specs.Syntax.{Decls, Exp}
-use Rattle.kl_ask.specs.Driver.{State}
+use Rattle.kl_ask.specs.Driver.{DriverKind, State}
 use Rattle.kl_ask.specs.World.{World, IsReady}
 use Rattle.kl_ship.specs.Nodes.{Node}
 use Rattle.kl_ship.specs.Numbers.{scans_in}
 use Rattle.kl_ship.specs.Reached.{reached}
 use Rattle.kl_ship.specs.declared.plan.Scan.{Scan}
+use Rattle.kl_exchange.specs.declared.error.PrintError.{PrintError}
 use Rattle.kl_eval.specs.declared.stop.EvalStop.{EvalStop}
 use Rattle.kl_eval.specs.declared.stop.EvalStop.TheVariants as stopped
 use Rattle.kl_scans.specs.Held.{nothing}
 use Rattle.kl_scans.specs.Log.{paid}
 use Rattle.kl_scans.specs.Moves.{Moves}
-use Rattle.kl_cursor.specs.Laziness.{Handed}
-use Rattle.kl_cursor.specs.Left.{reading}
+use Rattle.kl_cursor.specs.Laziness.{Handed, NextsLazily}
+use Rattle.kl_cursor.specs.Left.{Snap, reading}
+use Rattle.kl_cursor.specs.Pulling.{Silent}
 use Rattle.kl_cursor.specs.Sense.{TypesAt, IsToldAt}
-use Rattle.kl_cursor.specs.Steps.{AreOf}
+use Rattle.kl_cursor.specs.Steps.{AreOf, Nexts, Onward}
 use Rattle.kl_ask.specs.declared.session.Attached.{Attached}
 use Rattle.kl_ask.specs.declared.ask.DriverError.{DriverError}
 use Rattle.kl_ask.specs.declared.ask.DriverError.TheVariants as error
@@ -40,11 +42,11 @@ use Rattle.kl_engine.specs.Answering.{FollowsVerdict, PrintsPage, IsOutside, IsD
 use Rattle.kl_engine.specs.Answering.{HasTextFault, IsOneOf, Unprinted, IsUnreadFault, NeedsDrivers}
 use Rattle.kl_engine.specs.Faults.{Ending}
 use Rattle.kl_engine.specs.Outside.{Outside}
-use Rattle.kl_engine.specs.Planned.{HandsFew, HandsWritten}
+use Rattle.kl_engine.specs.Planned.{HandsFew, HandsWritten, IsScanned}
 use Rattle.kl_infer.specs.Numbers.{limit}
 use Rattle.kl_infer.specs.Printed.{scheme_text}
 use Rattle.kl_engine.specs.Verdict.{Verdict, value_page, cut, refused, list_front, overflowing, scheme_line, scheme_lines}
-use Rattle.kl_engine.specs.Verdict.{cut_list, GivesList, IsMeant, IsDone}
+use Rattle.kl_engine.specs.Verdict.{cut_list, GivesList, IsMeant, IsScopedVerdict}
 use Rattle.kl_engine.specs.declared.fault.Fault.{Fault}
 use Rattle.kl_engine.specs.declared.fault.Fault.TheVariants as fault
 use Rattle.kl_engine.specs.declared.top.Purpose.{Purpose}
@@ -87,19 +89,28 @@ HasRunFault fault.Write = ⊤
 HasRunFault fault.NoMemory = ⊤
 HasRunFault f = ⊥
 
--- a source of a session is attached at a driver that counted a drift
-abbrev pub DriftsAt : List Attached → Name → List State → List State → Type 0
-DriftsAt list name old new =
+-- a plan, and the sources of the session over which it is run
+pub record PlanOver : Type 0 where
+  pub plan : Node
+  pub sources : List Attached
+
+abbrev pub plan_over : World → Node → PlanOver
+plan_over w p = record { plan = p; sources = w.sources }
+
+-- a source that a scan of a plan reads is attached at a driver that counted a drift
+abbrev pub DriftsAt : PlanOver → Name → List State → List State → Type 0
+DriftsAt run name old new =
     (i : ℕ) × (a : Attached) × (place : ℕ)
-    × (slice_get list i ≡ Some a) × (a.source ≡ name) × (a.driver ≡ Some place) × RoseAt place (λ d. d.drifts) old new
+    × (slice_get run.sources i ≡ Some a) × (a.source ≡ name) × (a.driver ≡ Some place) × RoseAt place (λ d. d.drifts) old new
+    × IsScanned run.plan name
 
 -- An outcome is printed. Where the sources are told it is that of the term, and in any case each fault has its cause.
-pub record AnswersTerm (Lists : Type 0) (IsOut : Verdict → Type 0) (told : Type 0) (end : Ending) (list : List Attached)
+pub record AnswersTerm (Lists : Type 0) (IsOut : Verdict → Type 0) (told : Type 0) (end : Ending) (run : PlanOver)
     (old new : Outside) : Type 0 where
   pub follows : told → (v : Verdict) × IsOut v × FollowsVerdict v end old new
   pub read : end ≡ Some fault.Read → SomeRose (λ d. d.faults) old.drivers new.drivers
   pub write : end ≡ Some fault.Write → Rose old.out.faults new.out.faults
-  pub changed : (name : Name) → end ≡ Some (fault.Changed name) → DriftsAt list name old.drivers new.drivers
+  pub changed : (name : Name) → end ≡ Some (fault.Changed name) → DriftsAt run name old.drivers new.drivers
   pub no_other : IsOneOf HasRunFault end
   pub nothing : Unprinted Lists end → new.out ≡ old.out
   pub drivers : KeepsDrivers (λ name. ⊥) old.drivers new.drivers
@@ -137,6 +148,12 @@ abbrev pub one_more : Option ℕ → Option ℕ
 one_more None = None
 one_more (Some n) = Some (n + 1)
 
+-- What a draw answers of a cursor: what it gives next, for which no source was read on unless all that was printed is written. Or the
+-- output refused that: then as much is left as was, and nothing was handed.
+abbrev pub Draws : List Value → Snap → Result (Result (Option Value) EvalStop) PrintError → Snap → World → World → List ℕ → Type 0
+Draws env s (Ok r) t a b page = Nexts env s r t a b × NextsLazily env s r t a b × (Silent a b ⊎ (page ≡ []))
+Draws env s (Err e) t a b page = Onward env s a t b × Silent a b
+
 -- Items of a list are printed, and what stopped it: an overflow, which ends the page, or a driver or want of memory, behind which the
 -- rest of the page is not printed.
 abbrev pub StopsList : List Value → EvalStop → Ending → SinkState → SinkState → Type 0
@@ -148,46 +165,70 @@ StopsList given stopped.NoMemory end out out' = (end ≡ Some fault.NoMemory) ×
 abbrev pub IsNamed : List Source → (ℕ → Bool) → Name → Type 0
 IsNamed ss marks name = (i : ℕ) × (slice_get (names_of ss) i ≡ Some name) × (marks i ≡ true)
 
+-- What is to be done with a program over some sources: which of them it mentions, to what purpose, whether it gives a list, and which
+-- verdicts it has where these sources are marked.
+pub record Matter : Type 1 where
+  pub sources : List Source
+  pub marks : ℕ → Bool
+  pub aim : Purpose
+  pub Lists : Type 0
+  pub IsVerdict : (ℕ → Bool) → Verdict → Type 0
+
 -- whatever marks the sources have that are these, there is no verdict
-abbrev pub WithoutVerdict : ((ℕ → Bool) → Verdict → Type 0) → List Source → (ℕ → Bool) → Type 0
-WithoutVerdict IsVerdict ss marks =
-    (others : ℕ → Bool) → ((i : ℕ) → i < length ss → marks i ≡ others i) → (v : Verdict) → IsVerdict others v → ⊥
+abbrev pub WithoutVerdict : Matter → Type 0
+WithoutVerdict m =
+    (others : ℕ → Bool) → ((i : ℕ) → i < length m.sources → m.marks i ≡ others i) → (v : Verdict) → m.IsVerdict others v → ⊥
 
 -- How what is done with a program ends: a fault of the outside or want of memory came before anything was printed; or a
 -- verdict of the program is followed; or it comes to sources that are not told, and so to no verdict.
-pub data Ends (IsVerdict : (ℕ → Bool) → Verdict → Type 0) (ss : List Source) (marks : ℕ → Bool) (p : Purpose) (end : Ending)
-    (old new : Outside)
-    : Type 0 where
-  before : new.out ≡ old.out → (IsDetermined end → ⊥) → ((v : Verdict) → IsOutside v end old new) → Ends IsVerdict ss marks p end old new
-  followed : (v : Verdict) → IsVerdict marks v → FollowsVerdict v end old new → Ends IsVerdict ss marks p end old new
-  untold : WithoutVerdict IsVerdict ss marks → (AreTold (kinds_of old.drivers) ss (IsNamed ss marks) → ⊥)
-      → (IsDetermined end → NeedsDrivers p end) → Ends IsVerdict ss marks p end old new
+pub data CameTo (m : Matter) (end : Ending) (old new : Outside) : Type 0 where
+  before : new.out ≡ old.out → (IsDetermined end → ⊥) → ((v : Verdict) → IsOutside v end old new) → CameTo m end old new
+  followed : (v : Verdict) → m.IsVerdict m.marks v → FollowsVerdict v end old new → CameTo m end old new
+  untold : WithoutVerdict m → (AreTold (kinds_of old.drivers) m.sources (IsNamed m.sources m.marks) → ⊥)
+      → (IsDetermined end → NeedsDrivers m.aim end) → CameTo m end old new
 
-pub record DoneBy (Lists : Type 0) (IsVerdict : (ℕ → Bool) → Verdict → Type 0) (ss : List Source) (marks : ℕ → Bool) (p : Purpose)
-    (end : Ending) (old new : Outside)
-    : Type 0 where
-  pub ends : Ends IsVerdict ss marks p end old new
+pub record DoneBy (m : Matter) (end : Ending) (old new : Outside) : Type 0 where
+  pub ends : CameTo m end old new
   pub read : end ≡ Some fault.Read
-      → IsStoredFault (kinds_of old.drivers) ss (IsNamed ss marks) fault.Read ⊎ SomeRose (λ d. d.faults) old.drivers new.drivers
+      → IsStoredFault (kinds_of old.drivers) m.sources (IsNamed m.sources m.marks) fault.Read
+      ⊎ SomeRose (λ d. d.faults) old.drivers new.drivers
   pub write : end ≡ Some fault.Write → Rose old.out.faults new.out.faults
-  pub unread : (f : Fault) → end ≡ Some f → IsUnreadFault f → IsUnreadBy ss (IsNamed ss marks) f old.drivers new.drivers
+  pub unread : (f : Fault) → end ≡ Some f → IsUnreadFault f
+      → IsUnreadBy m.sources (IsNamed m.sources m.marks) f old.drivers new.drivers
   pub changed : (name : Name) → end ≡ Some (fault.Changed name)
-      → SomeDrifted ss (λ x. IsNamed ss marks x × (x ≡ name)) old.drivers new.drivers
-  pub no_other : IsOneOf (HasTextFault p) end
-  pub nothing : Unprinted Lists end → new.out ≡ old.out
-  pub drivers : KeepsDrivers (IsNamed ss marks) old.drivers new.drivers
-  pub still : (IsRun p → ⊥) → new.drivers ≡ old.drivers
+      → SomeDrifted m.sources (λ x. IsNamed m.sources m.marks x × (x ≡ name)) old.drivers new.drivers
+  pub no_other : IsOneOf (HasTextFault m.aim) end
+  pub nothing : Unprinted m.Lists end → new.out ≡ old.out
+  pub drivers : KeepsDrivers (IsNamed m.sources m.marks) old.drivers new.drivers
+  pub still : (IsRun m.aim → ⊥) → new.drivers ≡ old.drivers
+
+-- a program and a purpose, over sources at drivers of these kinds
+abbrev pub program_matter : List DriverKind → List Source → (ℕ → Bool) → Purpose → Decls → Exp → Matter
+program_matter ks ss marks p program e = record {
+  sources = ss;
+  marks = marks;
+  aim = p;
+  Lists = GivesList (grounds_of ss) program e;
+  IsVerdict = λ others. IsScopedVerdict ks ss others p program e;
+}
+
+-- a run of a program with a typing
+abbrev pub run_matter : List DriverKind → List Source → (ℕ → Bool) → Option ℕ → Decls → Exp → Matter
+run_matter ks ss marks first program e = record {
+  sources = ss;
+  marks = marks;
+  aim = purpose.Run first;
+  Lists = GivesList (grounds_of ss) program e;
+  IsVerdict = λ others. IsMeant ks ss others first program e;
+}
 
 -- what a purpose makes of a program is done
 abbrev pub DoneWith : List Source → (ℕ → Bool) → Purpose → Decls → Exp → Ending → Outside → Outside → Type 0
-DoneWith ss marks p program e end old new = DoneBy (GivesList (grounds_of ss) program e)
-    (λ others. IsDone (kinds_of old.drivers) ss others p program e) ss marks p end old new
+DoneWith ss marks p program e end old new = DoneBy (program_matter (kinds_of old.drivers) ss marks p program e) end old new
 
 -- what a run of a program with a typing comes to is done
 abbrev pub DoneMeaning : List Source → (ℕ → Bool) → Option ℕ → Decls → Exp → Ending → Outside → Outside → Type 0
-DoneMeaning ss marks first program e end old new =
-    DoneBy (GivesList (grounds_of ss) program e) (λ others. IsMeant (kinds_of old.drivers) ss others first program e) ss marks
-    (purpose.Run first) end old new
+DoneMeaning ss marks first program e end old new = DoneBy (run_matter (kinds_of old.drivers) ss marks first program e) end old new
 
 -- the line of a declaration is written, or nothing where the text of its scheme is too long
 abbrev pub ListsLine : Name × Scheme → Result (Unit {0}) Fault → SinkState → SinkState → Type 0

@@ -57,6 +57,7 @@ pub record DoesShow (path : List ℕ) (end : Ending) (old new : Outside) : Type 
   pub read : end ≡ Some fault.Read → IsMissing old.files path ⊎ Rose old.files.faults new.files.faults
   pub write : end ≡ Some fault.Write → Rose old.out.faults new.out.faults
   pub no_other : IsOneOf (HasFault (Show path)) end
+  pub unfailed : (end ≡ Some fault.Read → ⊥) → new.files.faults ≡ old.files.faults
   pub left : new.files.left ≡ old.files.left
   pub told : new.files.told ≡ old.files.told
 
@@ -69,6 +70,7 @@ pub record ShowsItems (file : ℕ) (end : Ending) (old new : Outside) : Type 0 w
   pub read : end ≡ Some fault.Read → Rose old.files.faults new.files.faults
   pub write : end ≡ Some fault.Write → Rose old.out.faults new.out.faults
   pub no_other : IsOneOf (HasFault (Show [])) end
+  pub unfailed : (end ≡ Some fault.Read → ⊥) → new.files.faults ≡ old.files.faults
   pub follows : (bytes : List ℕ) → old.files.left file ≡ Some (Some bytes) → (v : Verdict) → IsShowing bytes v → FollowsFile v end old new
   pub meant : (bytes : List ℕ) → old.files.left file ≡ Some (Some bytes)
       → IsDetermined end → (v : Verdict) × IsShowing bytes v × (v.ending ≡ end)

@@ -60,7 +60,8 @@ most_bytes = 65536
 -- the fault of the first declaration that is past a limit, by the sizes of their terms
 abbrev pub size_fault : List Size → Option Fault
 size_fault [] = None
-size_fault (s ∷ ss) = if nat_lt 4096 s.nodes then Some fault.TermNodes else if nat_lt 512 s.depth then Some fault.TermDepth else size_fault ss
+size_fault (s ∷ ss) = if nat_lt 4096 s.nodes then Some fault.TermNodes else if nat_lt 512 s.depth then Some fault.TermDepth
+    else size_fault ss
 
 abbrev pub AfterSizes : Option Fault → (Verdict → Type 0) → Verdict → Type 0
 AfterSizes (Some f) Goes v = v ≡ refused f
@@ -166,10 +167,10 @@ IsMeant ks ss marks first ds e v =
 
 -- ---- all that is done with programs
 
-abbrev pub IsDone : List DriverKind → List Source → (ℕ → Bool) → Purpose → Decls → Exp → Verdict → Type 0
-IsDone ks ss marks purpose.Check ds e v = v ≡ well (codes "ok\n")
-IsDone ks ss marks purpose.Types ds e v = IsSized ds e (λ w. IsUntyped (grounds_of ss) ds e w ⊎ IsListing (grounds_of ss) ds e w) v
-IsDone ks ss marks (purpose.Run first) ds e v =
+abbrev pub IsScopedVerdict : List DriverKind → List Source → (ℕ → Bool) → Purpose → Decls → Exp → Verdict → Type 0
+IsScopedVerdict ks ss marks purpose.Check ds e v = v ≡ well (codes "ok\n")
+IsScopedVerdict ks ss marks purpose.Types ds e v = IsSized ds e (λ w. IsUntyped (grounds_of ss) ds e w ⊎ IsListing (grounds_of ss) ds e w) v
+IsScopedVerdict ks ss marks (purpose.Run first) ds e v =
     IsSized ds e (λ w. IsUntyped (grounds_of ss) ds e w ⊎ (HasTyping ds e (grounds_of ss) × IsMeant ks ss marks first ds e w)) v
 
 -- the fault of what stands behind the items of a file
@@ -198,7 +199,7 @@ IsTextVerdict ks ss p bytes v =
     ((f : Fault) × IsTextFault (names_of ss) bytes f × (v ≡ refused f))
     ⊎ ((q : Program) × (marks : ℕ → Bool)
     × IsProgramOf (names_of ss) bytes q × AreMarks q (names_of ss) marks
-    × IsDone ks ss marks p (definitions (names_of ss) q) (last (names_of ss) q) v)
+    × IsScopedVerdict ks ss marks p (definitions (names_of ss) q) (last (names_of ss) q) v)
 
 -- ---- files, and made rows
 

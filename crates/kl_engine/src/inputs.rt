@@ -1,14 +1,13 @@
 //! The files that a command names: the text of its program, and the sources of its catalogue.
-ghost use Rattle.std.specs.Prelude.{◌≡◌, ◌<◌, ◌≤◌, ◌^◌, length, map};
-ghost use Rattle.kl_ask.specs.Driver.{State};
+ghost use Rattle.std.specs.Prelude.{◌≡◌, ◌<◌, ◌≤◌, ◌^◌, length};
 ghost use Rattle.kl_sources.specs.Sources.{kinds_of};
 ghost use Rattle.kl_engine.specs.Catalogues.{place_fault};
 ghost use Rattle.kl_outside.specs.Files.{FilesState};
 ghost use Rattle.kl_engine.specs.Commands.{Files as FromFiles, Made};
 ghost use Rattle.kl_engine.specs.Inputs.{ReadsInputs, ReadsSources, PlacesCatalogue};
 
+use crate::drivers::{Drivers, SeenAll};
 use crate::fault::Fault;
-use kl_ask::Driver;
 use kl_base::{NoMemory, Seq, Text};
 use kl_catalogue::{CatalogueError, read_catalogue};
 use kl_outside::{Files, Stop, Whole, read_whole};
@@ -35,11 +34,11 @@ pub fn read_inputs<F: Files>(
     alloc: Global,
     program: &Text,
     catalogue: &Option<Text>,
-    drivers: &Vec<Box<dyn Driver>>,
+    drivers: &Drivers,
     files: &mut F,
 ) -> Result<Inputs, Fault>
     requires { length drivers.now.items < 2 ^ 32 }
-    ensures { ReadsInputs (FromFiles program.now catalogue.now) (kinds_of (map (λ d. (Driver-box d).state d.value) drivers.now.items))
+    ensures { ReadsInputs (FromFiles program.now catalogue.now) (kinds_of (⟦<Drivers as SeenAll>⟧.states drivers.now))
         result (F.state files.old) (F.state files.new) }
 {
     match read_whole(alloc, files, program.slice(), MOST) {
@@ -60,15 +59,10 @@ pub fn read_inputs<F: Files>(
 ///
 /// # Errors
 /// No driver makes rows of their type; want of memory.
-pub fn made_inputs(
-    alloc: Global,
-    seed: u32,
-    size: u32,
-    drivers: &Vec<Box<dyn Driver>>,
-) -> Result<Inputs, Fault>
+pub fn made_inputs(alloc: Global, seed: u32, size: u32, drivers: &Drivers) -> Result<Inputs, Fault>
     requires { length drivers.now.items < 2 ^ 32 }
     ensures { (files : FilesState) → ReadsInputs (Made seed size)
-        (kinds_of (map (λ d. (Driver-box d).state d.value) drivers.now.items)) result files files }
+        (kinds_of (⟦<Drivers as SeenAll>⟧.states drivers.now)) result files files }
 {
     match gen_texts(alloc, seed, size) {
         Ok(texts) => match catalogue_of(alloc, texts.catalogue.slice(), drivers) {
@@ -87,11 +81,11 @@ pub fn made_inputs(
 fn read_sources<F: Files>(
     alloc: Global,
     catalogue: &Option<Text>,
-    drivers: &Vec<Box<dyn Driver>>,
+    drivers: &Drivers,
     files: &mut F,
 ) -> Result<Vec<Source>, Fault>
     requires { length drivers.now.items < 2 ^ 32 }
-    ensures { ReadsSources catalogue.now (kinds_of (map (λ d. (Driver-box d).state d.value) drivers.now.items)) result
+    ensures { ReadsSources catalogue.now (kinds_of (⟦<Drivers as SeenAll>⟧.states drivers.now)) result
         (F.state files.old) (F.state files.new) }
 {
     match catalogue {
@@ -106,14 +100,10 @@ fn read_sources<F: Files>(
 }
 
 // The sources of a catalogue's text.
-fn catalogue_of(
-    alloc: Global,
-    text: &[u8],
-    drivers: &Vec<Box<dyn Driver>>,
-) -> Result<Vec<Source>, Fault>
+fn catalogue_of(alloc: Global, text: &[u8], drivers: &Drivers) -> Result<Vec<Source>, Fault>
     requires few { length text.now ≤ 65536 }
     requires drivers { length drivers.now.items < 2 ^ 32 }
-    ensures { PlacesCatalogue (kinds_of (map (λ d. state d) drivers.now.items)) text.now result }
+    ensures { PlacesCatalogue (kinds_of (⟦<Drivers as SeenAll>⟧.states drivers.now)) text.now result }
 {
     match read_catalogue(alloc, text) {
         Ok(entries) => match place_sources(alloc, entries.slice(), drivers) {

@@ -18,6 +18,6 @@ mod stats;
 mod top;
 mod types;
 
-pub use drivers::add_driver;
+pub use drivers::{Drivers, SeenAll, add_driver};
 pub use fault::{Fault, Wrong};
-pub use top::{Answer, Purpose, kleisli};
+pub use top::{Answer, kleisli};

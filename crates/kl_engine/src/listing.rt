@@ -1,5 +1,5 @@
 //! Lists, which are printed as they are drawn.
-ghost use Rattle.std.specs.Prelude.{◌≡◌, ◌++◌, ℕ, Bool, List, [], None, Ok, codes, false, true, ⊤};
+ghost use Rattle.std.specs.Prelude.{◌≡◌, ◌++◌, ℕ, Bool, List, [], None, Some, Ok, codes, false, reverse, true, ⊤};
 ghost use Rattle.kl_outside.specs.Files.{FilesState};
 ghost use Rattle.kl_outside.specs.Sinks.{SinkState, WritesWhole};
 ghost use Rattle.kl_exchange.specs.Printing.{Puts, as_stop};
@@ -12,22 +12,23 @@ ghost use Rattle.kl_core.specs.Typing.{HaveSources};
 ghost use Rattle.kl_ask.specs.Driver.{DriverKind};
 ghost use Rattle.kl_ask.specs.World.{types_of, values_of};
 ghost use Rattle.kl_ship.specs.Nodes.{view};
-ghost use Rattle.kl_cursor.specs.Left.{snap};
-ghost use Rattle.kl_cursor.specs.Pulling.{pulls};
+ghost use Rattle.kl_cursor.specs.Left.{snap, uses};
+ghost use Rattle.kl_cursor.specs.Sense.{Stands};
+ghost use Rattle.kl_scans.specs.Held.{Owned};
 ghost use Rattle.kl_sources.specs.declared.source.Source.{Source};
 ghost use Rattle.kl_run.specs.Running.{Runs};
 ghost use Rattle.kl_engine.specs.Answering.{PrintsPage};
 ghost use Rattle.kl_engine.specs.Faults.{ending};
 ghost use Rattle.kl_engine.specs.Outside.{outside_of};
 ghost use Rattle.kl_engine.specs.Running.{AnswersTerm, HasList, IsListOutcome, IsListTerm, Scanned, SparesRows, StopsList};
-ghost use Rattle.kl_engine.specs.Running.{TookMore, are_enough, one_more};
+ghost use Rattle.kl_engine.specs.Running.{Draws, TookMore, are_enough, one_more, plan_over};
 ghost use Rattle.kl_engine.specs.Verdict.{list_front, value_page};
 
 use crate::fault::Fault;
 use crate::page::{put_item, write_fault};
 use crate::run::driver_fault;
 use kl_ask::{Seen, Session};
-use kl_cursor::{Cursor, open_plan};
+use kl_cursor::{Cursor, Draw, open_plan};
 use kl_eval::EvalStop;
 use kl_exchange::{Page, PrintError};
 use kl_outside::Sink;
@@ -54,13 +55,14 @@ pub fn print_list<S: Sink>(
         → IsListTerm (types_of (⟦<Session as Seen>⟧.world session.old)) t → AnswersTerm ⊤
         (IsListOutcome first (core (values_of (⟦<Session as Seen>⟧.world session.old)) t []))
         (HaveSources (types_of (⟦<Session as Seen>⟧.world session.old)) (values_of (⟦<Session as Seen>⟧.world session.old))) (ending result)
-        (⟦<Session as Seen>⟧.world session.old).sources
+        (plan_over (⟦<Session as Seen>⟧.world session.old) (view plan.now))
         (outside_of files (⟦<Session as Seen>⟧.world session.old).drivers (S.state out.old))
         (outside_of files (⟦<Session as Seen>⟧.world session.new).drivers (S.state out.new)) }
     ensures scanned { Scanned (view plan.now) (ending result) first (⟦<Session as Seen>⟧.world session.old)
         (⟦<Session as Seen>⟧.world session.new) }
     ensures spares { SparesRows (view plan.now) (ending result) first (⟦<Session as Seen>⟧.world session.old)
         (⟦<Session as Seen>⟧.world session.new) (S.state out.old) (S.state out.new) }
+    ensures none { first ≡ Some 0 → ⟦<Session as Seen>⟧.world session.new ≡ ⟦<Session as Seen>⟧.world session.old }
 {
     let mut page = Page::new();
     match begin(&mut page, out) {
@@ -139,17 +141,19 @@ fn print_items<S: Sink>(
     requires sense { HasList (⟦<Session as Seen>⟧.world session.old) (view plan.now) }
     requires some { are_enough first ≡ false }
     ensures prints { (files : FilesState) (ks : List DriverKind) (ss : List Source) (marks : ℕ → Bool) (t : Tree) (front : SinkState)
-        → Runs ks ss marks t (view plan.now) (⟦<Session as Seen>⟧.world session.old) → IsListTerm (types_of (⟦<Session as Seen>⟧.world session.old)) t
+        → Runs ks ss marks t (view plan.now) (⟦<Session as Seen>⟧.world session.old)
+        → IsListTerm (types_of (⟦<Session as Seen>⟧.world session.old)) t
         → Puts {T = Unit {0}} (list_front []) (Ok tt) front [] (S.state out.old) page.old → AnswersTerm ⊤
         (IsListOutcome first (core (values_of (⟦<Session as Seen>⟧.world session.old)) t []))
         (HaveSources (types_of (⟦<Session as Seen>⟧.world session.old)) (values_of (⟦<Session as Seen>⟧.world session.old))) (ending result)
-        (⟦<Session as Seen>⟧.world session.old).sources
+        (plan_over (⟦<Session as Seen>⟧.world session.old) (view plan.now))
         (outside_of files (⟦<Session as Seen>⟧.world session.old).drivers front)
         (outside_of files (⟦<Session as Seen>⟧.world session.new).drivers (S.state out.new)) }
     ensures scanned { Scanned (view plan.now) (ending result) first (⟦<Session as Seen>⟧.world session.old)
         (⟦<Session as Seen>⟧.world session.new) }
     ensures spares { (front : SinkState) → Puts {T = Unit {0}} (list_front []) (Ok tt) front [] (S.state out.old) page.old
-        → SparesRows (view plan.now) (ending result) first (⟦<Session as Seen>⟧.world session.old) (⟦<Session as Seen>⟧.world session.new) front (S.state out.new) }
+        → SparesRows (view plan.now) (ending result) first (⟦<Session as Seen>⟧.world session.old)
+        (⟦<Session as Seen>⟧.world session.new) front (S.state out.new) }
 {
     match open_plan(alloc, plan, &[]) {
         Ok(cursor) => {
@@ -157,15 +161,8 @@ fn print_items<S: Sink>(
             let mut left = first;
             let mut place: usize = 0;
             'items: loop {
-                match ready(&cursor, page, out) {
-                    Ok(()) => {}
-                    Err(error) => {
-                        cursor.close(session);
-                        return Err(write_fault(error));
-                    }
-                }
-                match cursor.next(session) {
-                    Ok(Some(item)) => match print_item(place, item, page, out) {
+                match draw(&mut cursor, page, session, out) {
+                    Ok(Ok(Some(item))) => match print_item(place, item, page, out) {
                         Ok(()) => {
                             place = 1;
                             left = fewer(left);
@@ -179,8 +176,12 @@ fn print_items<S: Sink>(
                             return Err(write_fault(error));
                         }
                     },
-                    Ok(None) => return end(page, out),
-                    Err(stop) => return stopped(stop, page, out),
+                    Ok(Ok(None)) => return end(page, out),
+                    Ok(Err(stop)) => return stopped(stop, page, out),
+                    Err(error) => {
+                        cursor.close(session);
+                        return Err(write_fault(error));
+                    }
                 }
             }
         }
@@ -200,15 +201,29 @@ fn print_item<S: Sink>(
     put_item(place, &item, page, out)
 }
 
-// What is printed is written before the cursor may wait for a source.
-fn ready<S: Sink>(cursor: &Cursor<'_>, page: &mut Page, out: &mut S) -> Result<(), PrintError>
+// The next item, or why there is none, unless the output refused what was printed before. That is written where a source is read on
+// for the item, and only there.
+fn draw<S: Sink>(
+    cursor: &mut Cursor<'_>,
+    page: &mut Page,
+    session: &mut Session,
+    out: &mut S,
+) -> Result<Result<Option<Value>, EvalStop>, PrintError>
+    requires owned { Owned (uses (snap cursor.old.at)) (⟦<Session as Seen>⟧.world session.old) }
+    requires sense { Stands (⟦<Session as Seen>⟧.world session.old) (snap cursor.old.at) (reverse cursor.old.env) }
+    ensures env { cursor.new.env ≡ cursor.old.env }
     ensures puts { Puts [] (as_stop result) (S.state out.old) page.old (S.state out.new) page.new }
-    ensures flushes { pulls (snap cursor.now.at) ≡ true → page.new ≡ [] }
+    ensures draws { Draws (reverse cursor.old.env) (snap cursor.old.at) result (snap cursor.new.at)
+        (⟦<Session as Seen>⟧.world session.old) (⟦<Session as Seen>⟧.world session.new) page.new }
 {
-    if cursor.may_pull() {
-        page.flush(out)
-    } else {
-        Ok(())
+    match cursor.next_held(session) {
+        Ok(Draw::Item(item)) => Ok(Ok(Some(item))),
+        Ok(Draw::End) => Ok(Ok(None)),
+        Ok(Draw::NeedsPull) => match page.flush(out) {
+            Ok(()) => Ok(cursor.next(session)),
+            Err(error) => Err(error),
+        },
+        Err(stop) => Ok(Err(stop)),
     }
 }
 

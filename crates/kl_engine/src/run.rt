@@ -1,9 +1,7 @@
 //! What `run` does with a program's text: it prints the value that the program means.
 ghost use Rattle.std.specs.Prelude.{◌≡◌, ◌≤◌, ◌<◌, ℕ, Bool, List, [], All, IfOk, None, Some, length, map, true, false};
 ghost use Rattle.kl_outside.specs.Files.{FilesState};
-ghost use Rattle.kl_outcome.specs.Outcome.{Name};
-ghost use Rattle.kl_value.specs.declared.Value.{Value};
-ghost use Rattle.kl_ask.specs.Driver.{DriverKind, State};
+ghost use Rattle.kl_ask.specs.Driver.{DriverKind};
 ghost use Rattle.kl_ask.specs.World.{types_of, values_of};
 ghost use Rattle.kl_core.specs.Core.{core};
 ghost use Rattle.kl_core.specs.Counts.{nodes_of};
@@ -17,38 +15,38 @@ ghost use Rattle.kl_infer.specs.Inferred.{Infers};
 ghost use Rattle.kl_rewrite.specs.Steps.{IsClosed};
 ghost use Rattle.kl_rows.specs.Schemes.{IsScheme, Instance};
 ghost use Rattle.kl_rules.specs.Preserving.{Preserves};
-ghost use Rattle.kl_run.specs.Counted.{AsksCounted, IsFreshTrace, ReadsMarked, StartsCounted};
+ghost use Rattle.kl_run.specs.Counted.{AsksCounted, IsFreshTrace};
 ghost use Rattle.kl_run.specs.Planned.{IsPlanOf, ships_of};
 ghost use Rattle.kl_run.specs.Running.{Runs};
 ghost use Rattle.kl_scans.specs.Log.{without_starts};
 ghost use Rattle.kl_scope.specs.Breaches.{is_marked};
 ghost use Rattle.kl_ship.specs.Contents.{MakesSense};
-ghost use Rattle.kl_ship.specs.Meaning.{Readings};
 ghost use Rattle.kl_ship.specs.Nodes.{view as plan_view};
 ghost use Rattle.kl_ship.specs.Numbers.{scans_in};
-ghost use Rattle.kl_sources.specs.Sources.{ArePlaced, HaveValues, names_of, grounds_of, kinds_of};
+ghost use Rattle.kl_sources.specs.Sources.{ArePlaced, names_of, grounds_of, kinds_of};
 ghost use Rattle.kl_sources.specs.declared.source.Source.{Source};
 ghost use Rattle.kl_syntax.specs.View.{view, decls_of};
 ghost use Rattle.kl_type.specs.Ground.{Ground, IsProper};
 ghost use Rattle.kl_engine.specs.Answering.{DoesText, IsIdle};
 ghost use Rattle.kl_engine.specs.Faults.{ending};
 ghost use Rattle.kl_engine.specs.Outside.{outside_of};
-ghost use Rattle.kl_engine.specs.Planned.{AsksOf, CountsScansAlone, HandsFew, HandsWritten, IsEarly, IsUnrun, PlanOf, PlansTerm};
-ghost use Rattle.kl_engine.specs.Planned.{PlansText, RowsHanded, counted, plan_in};
+ghost use Rattle.kl_engine.specs.Planned.{AsksOf, CountsPlan, CountsScansAlone, IsEarly, IsUnrun, PlanOf, PlansText, RunsPlan};
+ghost use Rattle.kl_engine.specs.Planned.{course_of, plan_in};
 ghost use Rattle.kl_engine.specs.Reading.{WasInScope};
 ghost use Rattle.kl_engine.specs.Rewritten.{IsRewrittenTo};
-ghost use Rattle.kl_engine.specs.Running.{AnswersTerm, DoneWith, DoneMeaning, HasList, IsListTerm, Scanned, SparesRows};
+ghost use Rattle.kl_engine.specs.Running.{AnswersTerm, DoneWith, DoneMeaning, HasList, IsListTerm, Scanned, SparesRows, plan_over};
 ghost use Rattle.kl_engine.specs.Running.{IsTermOutcome, IsListScheme, IsListOutcome, IsValueOutcome, fault_of};
 ghost use Rattle.kl_engine.specs.Typing.{IsTyped};
-ghost use Rattle.kl_engine.specs.declared.fault.Fault.TheVariants as fault;
+ghost use Rattle.kl_engine.specs.Verdict.{GivesList};
 ghost use Rattle.kl_engine.specs.declared.top.Purpose.TheVariants.{Run};
 
 use crate::cut::cut;
+use crate::drivers::{Drivers, SeenAll};
 use crate::fault::Fault;
 use crate::listing::print_list;
 use crate::page::print_value;
 use crate::read::{infer_over, read_over};
-use kl_ask::{Driver, DriverError, Seen, Session, Settings, Trace};
+use kl_ask::{DriverError, Seen, Session, Settings, Trace};
 use kl_base::{Label, NoMemory};
 use kl_core::Term;
 use kl_cursor::value_of;
@@ -92,27 +90,25 @@ pub fn run<S: Sink>(
     text: &[u8],
     sources: Vec<Source>,
     how: How,
-    drivers: &mut Vec<Box<dyn Driver>>,
+    drivers: &mut Drivers,
     out: &mut S,
     ran: &mut Ran,
 ) -> Result<(), Fault>
     requires few { length text.now ≤ 65536 }
-    requires placed { ArePlaced (kinds_of (map (λ d. (Driver-box d).state d.value) drivers.old.items)) sources.items }
-    requires idle { All IsIdle (map (λ d. (Driver-box d).state d.value) drivers.old.items) }
+    requires placed { ArePlaced (kinds_of (⟦<Drivers as SeenAll>⟧.states drivers.old)) sources.items }
+    requires idle { All IsIdle (⟦<Drivers as SeenAll>⟧.states drivers.old) }
     requires fetch { 0 < how.settings.fetch }
     requires unrun { IsUnrun ran.old }
     ensures does { (files : FilesState) → DoesText sources.items (Run how.first) text.now (ending result)
-        (outside_of files (map (λ d. (Driver-box d).state d.value) drivers.old.items) (S.state out.old))
-        (outside_of files (map (λ d. (Driver-box d).state d.value) drivers.new.items) (S.state out.new)) }
-    ensures plan { PlanOf (λ p. PlansText how.settings.rewrite
-        (kinds_of (map (λ d. (Driver-box d).state d.value) drivers.old.items)) sources.items how.first
-        (ending result) text.now ran.new.trace.steps p
-        (counted ran.new.trace.starts how.settings.fetch (map (λ d. (Driver-box d).state d.value) drivers.old.items)
-        (map (λ d. (Driver-box d).state d.value) drivers.new.items) (S.state out.old) (S.state out.new)))
+        (outside_of files (⟦<Drivers as SeenAll>⟧.states drivers.old) (S.state out.old))
+        (outside_of files (⟦<Drivers as SeenAll>⟧.states drivers.new) (S.state out.new)) }
+    ensures plan { PlanOf (PlansText how sources.items text.now (course_of (ending result) ran.new.trace
+        (⟦<Drivers as SeenAll>⟧.states drivers.old) (⟦<Drivers as SeenAll>⟧.states drivers.new) (S.state out.old) (S.state out.new)))
         (ending result) ran.new.trace.steps (plan_in ran.new.plan) }
-    ensures asks { AsksOf (plan_in ran.new.plan) ran.new.trace.starts (map (λ d. (Driver-box d).state d.value) drivers.old.items)
-        (map (λ d. (Driver-box d).state d.value) drivers.new.items) }
+    ensures asks { AsksOf (plan_in ran.new.plan) ran.new.trace.starts (⟦<Drivers as SeenAll>⟧.states drivers.old)
+        (⟦<Drivers as SeenAll>⟧.states drivers.new) }
     ensures alone { CountsScansAlone (plan_in ran.new.plan) ran.new.trace }
+    ensures silent { plan_in ran.new.plan ≡ None → S.state out.new ≡ S.state out.old }
 {
     match read_over(alloc, text, &sources) {
         Ok(scoped) => run_program(alloc, &scoped, sources, how, drivers, out, ran),
@@ -126,27 +122,27 @@ fn run_program<S: Sink>(
     scoped: &Scoped,
     sources: Vec<Source>,
     how: How,
-    drivers: &mut Vec<Box<dyn Driver>>,
+    drivers: &mut Drivers,
     out: &mut S,
     ran: &mut Ran,
 ) -> Result<(), Fault>
     requires scope { WasInScope (names_of sources.items) scoped.now }
-    requires placed { ArePlaced (kinds_of (map (λ d. (Driver-box d).state d.value) drivers.old.items)) sources.items }
-    requires idle { All IsIdle (map (λ d. (Driver-box d).state d.value) drivers.old.items) }
+    requires placed { ArePlaced (kinds_of (⟦<Drivers as SeenAll>⟧.states drivers.old)) sources.items }
+    requires idle { All IsIdle (⟦<Drivers as SeenAll>⟧.states drivers.old) }
     requires fetch { 0 < how.settings.fetch }
     requires unrun { IsUnrun ran.old }
     ensures does { (files : FilesState) → DoneWith sources.items (is_marked scoped.now) (Run how.first)
         (decls_of scoped.now.program.defs) (view scoped.now.program.last) (ending result)
-        (outside_of files (map (λ d. (Driver-box d).state d.value) drivers.old.items) (S.state out.old))
-        (outside_of files (map (λ d. (Driver-box d).state d.value) drivers.new.items) (S.state out.new)) }
-    ensures plan { PlanOf (λ p. PlansTerm how.settings.rewrite
-        (kinds_of (map (λ d. (Driver-box d).state d.value) drivers.old.items)) sources.items (is_marked scoped.now) how.first
-        (ending result)
-        (term_of (decls_of scoped.now.program.defs) (view scoped.now.program.last) scoped.now.sources) ran.new.trace.steps p (counted ran.new.trace.starts how.settings.fetch (map (λ d. (Driver-box d).state d.value) drivers.old.items) (map (λ d. (Driver-box d).state d.value) drivers.new.items) (S.state out.old) (S.state out.new)))
+        (outside_of files (⟦<Drivers as SeenAll>⟧.states drivers.old) (S.state out.old))
+        (outside_of files (⟦<Drivers as SeenAll>⟧.states drivers.new) (S.state out.new)) }
+    ensures plan { PlanOf (RunsPlan how sources.items (is_marked scoped.now) (decls_of scoped.now.program.defs)
+        (view scoped.now.program.last) scoped.now.sources (course_of (ending result) ran.new.trace
+        (⟦<Drivers as SeenAll>⟧.states drivers.old) (⟦<Drivers as SeenAll>⟧.states drivers.new) (S.state out.old) (S.state out.new)))
         (ending result) ran.new.trace.steps (plan_in ran.new.plan) }
-    ensures asks { AsksOf (plan_in ran.new.plan) ran.new.trace.starts (map (λ d. (Driver-box d).state d.value) drivers.old.items)
-        (map (λ d. (Driver-box d).state d.value) drivers.new.items) }
+    ensures asks { AsksOf (plan_in ran.new.plan) ran.new.trace.starts (⟦<Drivers as SeenAll>⟧.states drivers.old)
+        (⟦<Drivers as SeenAll>⟧.states drivers.new) }
     ensures alone { CountsScansAlone (plan_in ran.new.plan) ran.new.trace }
+    ensures silent { plan_in ran.new.plan ≡ None → S.state out.new ≡ S.state out.old }
 {
     match infer_over(alloc, scoped, &sources) {
         Ok(typed) => answer(alloc, scoped, &typed, sources, how, drivers, out, ran),
@@ -161,28 +157,28 @@ fn answer<S: Sink>(
     typed: &Typed,
     sources: Vec<Source>,
     how: How,
-    drivers: &mut Vec<Box<dyn Driver>>,
+    drivers: &mut Drivers,
     out: &mut S,
     ran: &mut Ran,
 ) -> Result<(), Fault>
     requires scope { WasInScope (names_of sources.items) scoped.now }
     requires types { IsTyped (grounds_of sources.items) (decls_of scoped.now.program.defs) (view scoped.now.program.last) typed.now }
-    requires placed { ArePlaced (kinds_of (map (λ d. (Driver-box d).state d.value) drivers.old.items)) sources.items }
-    requires idle { All IsIdle (map (λ d. (Driver-box d).state d.value) drivers.old.items) }
+    requires placed { ArePlaced (kinds_of (⟦<Drivers as SeenAll>⟧.states drivers.old)) sources.items }
+    requires idle { All IsIdle (⟦<Drivers as SeenAll>⟧.states drivers.old) }
     requires fetch { 0 < how.settings.fetch }
     requires unrun { IsUnrun ran.old }
     ensures does { (files : FilesState) → DoneMeaning sources.items (is_marked scoped.now) how.first
         (decls_of scoped.now.program.defs) (view scoped.now.program.last) (ending result)
-        (outside_of files (map (λ d. (Driver-box d).state d.value) drivers.old.items) (S.state out.old))
-        (outside_of files (map (λ d. (Driver-box d).state d.value) drivers.new.items) (S.state out.new)) }
-    ensures plan { PlanOf (λ p. PlansTerm how.settings.rewrite
-        (kinds_of (map (λ d. (Driver-box d).state d.value) drivers.old.items)) sources.items (is_marked scoped.now) how.first
-        (ending result)
-        (term_of (decls_of scoped.now.program.defs) (view scoped.now.program.last) scoped.now.sources) ran.new.trace.steps p (counted ran.new.trace.starts how.settings.fetch (map (λ d. (Driver-box d).state d.value) drivers.old.items) (map (λ d. (Driver-box d).state d.value) drivers.new.items) (S.state out.old) (S.state out.new)))
+        (outside_of files (⟦<Drivers as SeenAll>⟧.states drivers.old) (S.state out.old))
+        (outside_of files (⟦<Drivers as SeenAll>⟧.states drivers.new) (S.state out.new)) }
+    ensures plan { PlanOf (RunsPlan how sources.items (is_marked scoped.now) (decls_of scoped.now.program.defs)
+        (view scoped.now.program.last) scoped.now.sources (course_of (ending result) ran.new.trace
+        (⟦<Drivers as SeenAll>⟧.states drivers.old) (⟦<Drivers as SeenAll>⟧.states drivers.new) (S.state out.old) (S.state out.new)))
         (ending result) ran.new.trace.steps (plan_in ran.new.plan) }
-    ensures asks { AsksOf (plan_in ran.new.plan) ran.new.trace.starts (map (λ d. (Driver-box d).state d.value) drivers.old.items)
-        (map (λ d. (Driver-box d).state d.value) drivers.new.items) }
+    ensures asks { AsksOf (plan_in ran.new.plan) ran.new.trace.starts (⟦<Drivers as SeenAll>⟧.states drivers.old)
+        (⟦<Drivers as SeenAll>⟧.states drivers.new) }
     ensures alone { CountsScansAlone (plan_in ran.new.plan) ran.new.trace }
+    ensures silent { plan_in ran.new.plan ≡ None → S.state out.new ≡ S.state out.old }
 {
     match translate(alloc, scoped) {
         Ok(term) => answer_translated(alloc, term, scoped, typed, sources, how, drivers, out, ran),
@@ -198,7 +194,7 @@ fn answer_translated<S: Sink>(
     typed: &Typed,
     sources: Vec<Source>,
     how: How,
-    drivers: &mut Vec<Box<dyn Driver>>,
+    drivers: &mut Drivers,
     out: &mut S,
     ran: &mut Ran,
 ) -> Result<(), Fault>
@@ -208,22 +204,22 @@ fn answer_translated<S: Sink>(
     requires mentioned { ReadsMentioned scoped.now (term_view term) }
     requires closed { IsClosed (term_view term) }
     requires small { IsSmall (term_view term) }
-    requires placed { ArePlaced (kinds_of (map (λ d. (Driver-box d).state d.value) drivers.old.items)) sources.items }
-    requires idle { All IsIdle (map (λ d. (Driver-box d).state d.value) drivers.old.items) }
+    requires placed { ArePlaced (kinds_of (⟦<Drivers as SeenAll>⟧.states drivers.old)) sources.items }
+    requires idle { All IsIdle (⟦<Drivers as SeenAll>⟧.states drivers.old) }
     requires fetch { 0 < how.settings.fetch }
     requires unrun { IsUnrun ran.old }
     ensures does { (files : FilesState) → DoneMeaning sources.items (is_marked scoped.now) how.first
         (decls_of scoped.now.program.defs) (view scoped.now.program.last) (ending result)
-        (outside_of files (map (λ d. (Driver-box d).state d.value) drivers.old.items) (S.state out.old))
-        (outside_of files (map (λ d. (Driver-box d).state d.value) drivers.new.items) (S.state out.new)) }
-    ensures plan { PlanOf (λ p. PlansTerm how.settings.rewrite
-        (kinds_of (map (λ d. (Driver-box d).state d.value) drivers.old.items)) sources.items (is_marked scoped.now) how.first
-        (ending result)
-        (term_of (decls_of scoped.now.program.defs) (view scoped.now.program.last) scoped.now.sources) ran.new.trace.steps p (counted ran.new.trace.starts how.settings.fetch (map (λ d. (Driver-box d).state d.value) drivers.old.items) (map (λ d. (Driver-box d).state d.value) drivers.new.items) (S.state out.old) (S.state out.new)))
+        (outside_of files (⟦<Drivers as SeenAll>⟧.states drivers.old) (S.state out.old))
+        (outside_of files (⟦<Drivers as SeenAll>⟧.states drivers.new) (S.state out.new)) }
+    ensures plan { PlanOf (RunsPlan how sources.items (is_marked scoped.now) (decls_of scoped.now.program.defs)
+        (view scoped.now.program.last) scoped.now.sources (course_of (ending result) ran.new.trace
+        (⟦<Drivers as SeenAll>⟧.states drivers.old) (⟦<Drivers as SeenAll>⟧.states drivers.new) (S.state out.old) (S.state out.new)))
         (ending result) ran.new.trace.steps (plan_in ran.new.plan) }
-    ensures asks { AsksOf (plan_in ran.new.plan) ran.new.trace.starts (map (λ d. (Driver-box d).state d.value) drivers.old.items)
-        (map (λ d. (Driver-box d).state d.value) drivers.new.items) }
+    ensures asks { AsksOf (plan_in ran.new.plan) ran.new.trace.starts (⟦<Drivers as SeenAll>⟧.states drivers.old)
+        (⟦<Drivers as SeenAll>⟧.states drivers.new) }
     ensures alone { CountsScansAlone (plan_in ran.new.plan) ran.new.trace }
+    ensures silent { plan_in ran.new.plan ≡ None → S.state out.new ≡ S.state out.old }
 {
     match rewritten(alloc, term, how.settings.rewrite) {
         Ok(Normal { term, steps }) => match planned(
@@ -257,15 +253,15 @@ fn planned(
     term: &Term,
     steps: u32,
     sources: &[Source],
-    drivers: &Vec<Box<dyn Driver>>,
+    drivers: &Drivers,
     settings: Settings,
 ) -> Result<(Plan, Trace), NoMemory>
-    requires sense { MakesSense (ships_of (kinds_of (map (λ d. (Driver-box d).state d.value) drivers.now.items)) sources.now)
+    requires sense { MakesSense (ships_of (kinds_of (⟦<Drivers as SeenAll>⟧.states drivers.now)) sources.now)
         (term_view term.now) }
     requires small { nodes_of (term_view term.now) ≤ 16384 }
-    requires placed { ArePlaced (kinds_of (map (λ d. (Driver-box d).state d.value) drivers.now.items)) sources.now }
+    requires placed { ArePlaced (kinds_of (⟦<Drivers as SeenAll>⟧.states drivers.now)) sources.now }
     ensures plan { IfOk result (λ r. IsPlanOf (ships_of
-        (kinds_of (map (λ d. (Driver-box d).state d.value) drivers.now.items)) sources.now) (term_view term.now) (plan_view r.0)) }
+        (kinds_of (⟦<Drivers as SeenAll>⟧.states drivers.now)) sources.now) (term_view term.now) (plan_view r.0)) }
     ensures trace { IfOk result (λ r. IsFreshTrace (plan_view r.0) steps r.1) }
 {
     let plan = plan_of(alloc, term, sources, drivers, &settings)?;
@@ -281,41 +277,34 @@ fn answer_over<S: Sink>(
     typed: &Typed,
     sources: Vec<Source>,
     how: How,
-    drivers: &mut Vec<Box<dyn Driver>>,
+    drivers: &mut Drivers,
     out: &mut S,
     trace: &mut Trace,
 ) -> Result<(), Fault>
     requires scope { WasInScope (names_of sources.items) scoped.now }
     requires types { Infers (decls_of scoped.now.program.defs) (view scoped.now.program.last) (grounds_of sources.items) typed.now }
     requires planned { (u : Tree) × IsPlanOf (ships_of
-        (kinds_of (map (λ d. (Driver-box d).state d.value) drivers.old.items)) sources.items) u (plan_view plan.now)
+        (kinds_of (⟦<Drivers as SeenAll>⟧.states drivers.old)) sources.items) u (plan_view plan.now)
         × Preserves (term_of (decls_of scoped.now.program.defs) (view scoped.now.program.last) scoped.now.sources) u }
     requires mentioned { ReadsMentioned scoped.now
         (term_of (decls_of scoped.now.program.defs) (view scoped.now.program.last) scoped.now.sources) }
     requires traced { (steps : ℕ) × IsFreshTrace (plan_view plan.now) steps trace.old }
-    requires placed { ArePlaced (kinds_of (map (λ d. (Driver-box d).state d.value) drivers.old.items)) sources.items }
-    requires idle { All IsIdle (map (λ d. (Driver-box d).state d.value) drivers.old.items) }
+    requires placed { ArePlaced (kinds_of (⟦<Drivers as SeenAll>⟧.states drivers.old)) sources.items }
+    requires idle { All IsIdle (⟦<Drivers as SeenAll>⟧.states drivers.old) }
     requires fetch { 0 < how.settings.fetch }
     ensures does { (files : FilesState) → DoneMeaning sources.items (is_marked scoped.now) how.first
         (decls_of scoped.now.program.defs) (view scoped.now.program.last) (ending result)
-        (outside_of files (map (λ d. (Driver-box d).state d.value) drivers.old.items) (S.state out.old))
-        (outside_of files (map (λ d. (Driver-box d).state d.value) drivers.new.items) (S.state out.new)) }
+        (outside_of files (⟦<Drivers as SeenAll>⟧.states drivers.old) (S.state out.old))
+        (outside_of files (⟦<Drivers as SeenAll>⟧.states drivers.new) (S.state out.new)) }
     ensures late { IsEarly (ending result) → ⊥ }
-    ensures asks { AsksCounted (plan_view plan.now) trace.new.starts (map (λ d. (Driver-box d).state d.value) drivers.old.items)
-        (map (λ d. (Driver-box d).state d.value) drivers.new.items) }
+    ensures asks { AsksCounted (plan_view plan.now) trace.new.starts (⟦<Drivers as SeenAll>⟧.states drivers.old)
+        (⟦<Drivers as SeenAll>⟧.states drivers.new) }
     ensures starts { map (λ e. e.0) trace.new.starts ≡ map (λ c. c.number) (scans_in (plan_view plan.now)) }
     ensures rest { without_starts trace.new ≡ without_starts trace.old }
-    ensures exact { ending result ≡ None → how.first ≡ None → (vs : List (Name × Value))
-        × HaveValues (kinds_of (map (λ d. (Driver-box d).state d.value) drivers.old.items)) (is_marked scoped.now) 0 sources.items vs
-        → (R : Readings) × ReadsMarked (kinds_of (map (λ d. (Driver-box d).state d.value) drivers.old.items)) sources.items (is_marked scoped.now) R × StartsCounted R (plan_view plan.now) trace.new.starts }
-    ensures few { ending result ≡ None → (vs : List (Name × Value))
-        × HaveValues (kinds_of (map (λ d. (Driver-box d).state d.value) drivers.old.items)) (is_marked scoped.now) 0 sources.items vs
-        → (R : Readings) × ReadsMarked (kinds_of (map (λ d. (Driver-box d).state d.value) drivers.old.items)) sources.items (is_marked scoped.now) R
-        × HandsFew R how.settings.fetch (plan_view plan.now) how.first (RowsHanded (map (λ d. (Driver-box d).state d.value) drivers.old.items) (map (λ d. (Driver-box d).state d.value) drivers.new.items)) }
-    ensures written { ending result ≡ Some fault.Write → (vs : List (Name × Value))
-        × HaveValues (kinds_of (map (λ d. (Driver-box d).state d.value) drivers.old.items)) (is_marked scoped.now) 0 sources.items vs
-        → (R : Readings) × ReadsMarked (kinds_of (map (λ d. (Driver-box d).state d.value) drivers.old.items)) sources.items (is_marked scoped.now) R
-        × HandsWritten R how.settings.fetch (plan_view plan.now) (S.state out.old) (S.state out.new) (RowsHanded (map (λ d. (Driver-box d).state d.value) drivers.old.items) (map (λ d. (Driver-box d).state d.value) drivers.new.items)) }
+    ensures counts { CountsPlan how sources.items (is_marked scoped.now)
+        (GivesList (grounds_of sources.items) (decls_of scoped.now.program.defs) (view scoped.now.program.last))
+        (course_of (ending result) trace.new (⟦<Drivers as SeenAll>⟧.states drivers.old) (⟦<Drivers as SeenAll>⟧.states drivers.new)
+        (S.state out.old) (S.state out.new)) (plan_view plan.now) }
 {
     let is_list = gives_list(typed);
     match attach_sources(alloc, sources, scoped, drivers) {
@@ -370,13 +359,15 @@ fn answer_plan<S: Sink>(
         → (is_list ≡ true → IsListTerm (types_of (⟦<Session as Seen>⟧.world session.old)) t) → AnswersTerm (is_list ≡ true)
         (IsTermOutcome is_list first (core (values_of (⟦<Session as Seen>⟧.world session.old)) t []))
         (HaveSources (types_of (⟦<Session as Seen>⟧.world session.old)) (values_of (⟦<Session as Seen>⟧.world session.old))) (ending result)
-        (⟦<Session as Seen>⟧.world session.old).sources
+        (plan_over (⟦<Session as Seen>⟧.world session.old) (plan_view plan.now))
         (outside_of files (⟦<Session as Seen>⟧.world session.old).drivers (S.state out.old))
         (outside_of files (⟦<Session as Seen>⟧.world session.new).drivers (S.state out.new)) }
     ensures scanned { Scanned (plan_view plan.now) (ending result) first (⟦<Session as Seen>⟧.world session.old)
         (⟦<Session as Seen>⟧.world session.new) }
     ensures spares { is_list ≡ true → SparesRows (plan_view plan.now) (ending result) first (⟦<Session as Seen>⟧.world session.old)
         (⟦<Session as Seen>⟧.world session.new) (S.state out.old) (S.state out.new) }
+    ensures none { is_list ≡ true → first ≡ Some 0
+        → ⟦<Session as Seen>⟧.world session.new ≡ ⟦<Session as Seen>⟧.world session.old }
 {
     if is_list {
         print_list(alloc, plan, first, session, out)
@@ -427,7 +418,7 @@ fn answer_value<S: Sink>(
         → Runs ks ss marks t (plan_view plan.now) (⟦<Session as Seen>⟧.world session.old) → AnswersTerm ⊥
         (IsValueOutcome first (core (values_of (⟦<Session as Seen>⟧.world session.old)) t []))
         (HaveSources (types_of (⟦<Session as Seen>⟧.world session.old)) (values_of (⟦<Session as Seen>⟧.world session.old))) (ending result)
-        (⟦<Session as Seen>⟧.world session.old).sources
+        (plan_over (⟦<Session as Seen>⟧.world session.old) (plan_view plan.now))
         (outside_of files (⟦<Session as Seen>⟧.world session.old).drivers (S.state out.old))
         (outside_of files (⟦<Session as Seen>⟧.world session.new).drivers (S.state out.new)) }
     ensures scanned { Scanned (plan_view plan.now) (ending result) first (⟦<Session as Seen>⟧.world session.old)

@@ -1,20 +1,20 @@
 //! What was counted while a program ran, and how it is told.
-ghost use Rattle.std.specs.Prelude.{◌≡◌, ◌<◌, ◌^◌, length, map};
+ghost use Rattle.std.specs.Prelude.{◌≡◌, ◌<◌, ◌^◌, length};
 ghost use Rattle.std.specs.List.{flat_map};
 ghost use Rattle.kl_outside.specs.Sinks.{WritesWhole};
-ghost use Rattle.kl_ask.specs.Driver.{State};
 ghost use Rattle.kl_engine.specs.Faults.{TookLine};
 ghost use Rattle.kl_engine.specs.Stats.{handed_by, stats_text, totals_text, scan_line};
 
+use crate::drivers::{Drivers, SeenAll};
 use crate::fault::write_parts;
 use itoa::Buffer;
-use kl_ask::{Driver, Trace, handed_boxed};
+use kl_ask::{Trace, handed_boxed};
 use kl_outside::{Sink, Stop};
 
 /// How many rows the drivers handed since they were made.
-pub fn rows_handed(drivers: &Vec<Box<dyn Driver>>) -> u128
+pub fn rows_handed(drivers: &Drivers) -> u128
     requires { length drivers.now.items < 2 ^ 32 }
-    ensures { result ≡ handed_by (map (λ d. state d) drivers.now.items) }
+    ensures { result ≡ handed_by (⟦<Drivers as SeenAll>⟧.states drivers.now) }
 {
     let mut handed: u128 = 0;
     'drivers: for driver in drivers {

@@ -1,27 +1,25 @@
 //! The top call.
 ghost use Rattle.std.specs.Prelude.{◌≡◌, ◌<◌, ◌^◌, None, All, length, map, string_bytes, true};
 ghost use Rattle.kl_words.specs.Commands.{command_of};
-ghost use Rattle.kl_ask.specs.Driver.{State};
-ghost use Rattle.kl_ask.specs.Settings.{usual_settings};
-ghost use Rattle.kl_sources.specs.Sources.{kinds_of};
 ghost use Rattle.kl_outside.specs.Files.{FilesState};
-ghost use Rattle.kl_engine.specs.Answering.{Does, IsIdle};
-ghost use Rattle.kl_engine.specs.Commands.{Files as FromFiles, Made, Program, asked, path_of, wants_stats};
+ghost use Rattle.kl_engine.specs.Answering.{Does, IsIdle, IsRunning};
+ghost use Rattle.kl_engine.specs.Commands.{Files as FromFiles, Made, NamesNoFile, Program, asked, path_of, wants_stats};
 ghost use Rattle.kl_engine.specs.Faults.{TookLine, ending, status_of};
 ghost use Rattle.kl_engine.specs.Outside.{outside_of};
-ghost use Rattle.kl_engine.specs.Planned.{AsksOf, CountsScansAlone, HasPlan, IsUnrun, counted, plan_in};
-ghost use Rattle.kl_engine.specs.Rewritten.{fetch_of, wants_rewriting};
+ghost use Rattle.kl_engine.specs.Planned.{AsksOf, CountsScansAlone, HasPlan, IsUnrun, course_of, how_in, how_of, plan_in};
+ghost use Rattle.kl_engine.specs.Planned.{usual_how};
 ghost use Rattle.kl_engine.specs.Stats.{handed_in, told_text};
 ghost use Rattle.kl_engine.specs.declared.top.Purpose.TheVariants.{Run, Check, Types};
 
 use crate::check::check;
+use crate::drivers::{Drivers, SeenAll};
 use crate::fault::{Fault, status, tell};
 use crate::inputs::{Inputs, made_inputs, read_inputs};
 use crate::run::{How, Ran, run};
 use crate::show::show;
 use crate::stats::{rows_handed, tell_counts};
 use crate::types::types;
-use kl_ask::{Driver, Settings, Trace};
+use kl_ask::{Settings, Trace};
 use kl_base::Text;
 use kl_outside::{Files, Sink};
 use kl_ship::Plan;
@@ -78,11 +76,12 @@ pub struct Answer {
 /// prints is what the program means in either case. A list is printed as it is drawn, and what was printed is written out before
 /// a source is waited for. With `--first N` no more items are drawn, and to a loop over one source its driver hands fewer rows
 /// than are fetched at once more than these items take; so it does where `out` fails, of the items of which the last is not whole
-/// on it. The answer tells the plan, in how many steps the term was rewritten, and
-/// how often each scan of the plan was started.
+/// on it. With `--first 0` no row is handed for a list, however the run ends. The answer tells the plan, in how many steps the term
+/// was rewritten, and how often each scan of the plan was started.
 ///
 /// The drivers are handed in with no source attached and no cursor open. They are left with no cursor open; the sources that
-/// a run attached stay attached. No file is left open.
+/// a run attached stay attached. A run that is refused before it has a plan leaves them as they were, and prints nothing. No file is
+/// left open, and `gen` opens none.
 ///
 /// Each fault is told by a line on `err`; with `--stats` a run that ends well tells what was counted. A write that `err`
 /// refuses changes no status.
@@ -90,29 +89,33 @@ pub fn kleisli<F: Files, S: Sink, E: Sink>(
     alloc: Global,
     words: &[String],
     files: &mut F,
-    drivers: &mut Vec<Box<dyn Driver>>,
+    drivers: &mut Drivers,
     out: &mut S,
     err: &mut E,
 ) -> Answer
-    requires idle { All IsIdle (map (λ d. (Driver-box d).state d.value) drivers.old.items) }
+    requires idle { All IsIdle (⟦<Drivers as SeenAll>⟧.states drivers.old) }
     requires few { length drivers.old.items < 2 ^ 32 }
     ensures does { Does (asked (command_of (map (λ w. string_bytes w) words.now))) result.fault
-        (outside_of (F.state files.old) (map (λ d. (Driver-box d).state d.value) drivers.old.items) (S.state out.old))
-        (outside_of (F.state files.new) (map (λ d. (Driver-box d).state d.value) drivers.new.items) (S.state out.new)) }
+        (outside_of (F.state files.old) (⟦<Drivers as SeenAll>⟧.states drivers.old) (S.state out.old))
+        (outside_of (F.state files.new) (⟦<Drivers as SeenAll>⟧.states drivers.new) (S.state out.new)) }
     ensures status { result.status ≡ status_of result.fault }
     ensures line { let command = command_of (map (λ w. string_bytes w) words.now) in
         TookLine (told_text (wants_stats command) (path_of (asked command)) result.fault result.trace
-        (handed_in (map (λ d. (Driver-box d).state d.value) drivers.old.items) (map (λ d. (Driver-box d).state d.value) drivers.new.items)))
+        (handed_in (⟦<Drivers as SeenAll>⟧.states drivers.old) (⟦<Drivers as SeenAll>⟧.states drivers.new)))
         (E.state err.old) (E.state err.new) }
     ensures plan { let words = command_of (map (λ w. string_bytes w) words.now) in
-        HasPlan (wants_rewriting words) (asked words) result.fault result.trace.steps (plan_in result.plan) (counted result.trace.starts (fetch_of words) (map (λ d. (Driver-box d).state d.value) drivers.old.items) (map (λ d. (Driver-box d).state d.value) drivers.new.items) (S.state out.old) (S.state out.new)) (F.state files.old) (F.state files.new)
-        (kinds_of (map (λ d. (Driver-box d).state d.value) drivers.old.items)) }
-    ensures asks { AsksOf (plan_in result.plan) result.trace.starts (map (λ d. (Driver-box d).state d.value) drivers.old.items)
-        (map (λ d. (Driver-box d).state d.value) drivers.new.items) }
+        HasPlan (how_of words) (asked words) (plan_in result.plan) (course_of result.fault result.trace
+        (⟦<Drivers as SeenAll>⟧.states drivers.old) (⟦<Drivers as SeenAll>⟧.states drivers.new) (S.state out.old) (S.state out.new))
+        (F.state files.old) (F.state files.new) }
+    ensures asks { AsksOf (plan_in result.plan) result.trace.starts (⟦<Drivers as SeenAll>⟧.states drivers.old)
+        (⟦<Drivers as SeenAll>⟧.states drivers.new) }
     ensures trace { CountsScansAlone (plan_in result.plan) result.trace }
+    ensures silent { IsRunning (asked (command_of (map (λ w. string_bytes w) words.now))) → plan_in result.plan ≡ None
+        → S.state out.new ≡ S.state out.old }
+    ensures no_file { NamesNoFile (asked (command_of (map (λ w. string_bytes w) words.now))) → files.new ≡ files.old }
     ensures words_first { command_of (map (λ w. string_bytes w) words.now) ≡ None
         → (files.new ≡ files.old)
-        × (map (λ d. (Driver-box d).state d.value) drivers.new.items ≡ map (λ d. (Driver-box d).state d.value) drivers.old.items)
+        × (⟦<Drivers as SeenAll>⟧.states drivers.new ≡ ⟦<Drivers as SeenAll>⟧.states drivers.old)
         × (out.new ≡ out.old) }
 {
     let before = rows_handed(drivers);
@@ -203,22 +206,25 @@ fn do_run<F: Files, S: Sink>(
     alloc: Global,
     job: &Job,
     files: &mut F,
-    drivers: &mut Vec<Box<dyn Driver>>,
+    drivers: &mut Drivers,
     out: &mut S,
     ran: &mut Ran,
 ) -> Result<(), Fault>
-    requires idle { All IsIdle (map (λ d. (Driver-box d).state d.value) drivers.old.items) }
+    requires idle { All IsIdle (⟦<Drivers as SeenAll>⟧.states drivers.old) }
     requires few { length drivers.old.items < 2 ^ 32 }
     requires fetch { 0 < job.now.settings.fetch }
     requires unrun { IsUnrun ran.old }
     ensures does { Does (Program (Run job.now.first) (FromFiles job.now.program job.now.catalogue)) (ending result)
-        (outside_of (F.state files.old) (map (λ d. (Driver-box d).state d.value) drivers.old.items) (S.state out.old))
-        (outside_of (F.state files.new) (map (λ d. (Driver-box d).state d.value) drivers.new.items) (S.state out.new)) }
-    ensures plan { HasPlan job.now.settings.rewrite (Program (Run job.now.first) (FromFiles job.now.program job.now.catalogue))
-        (ending result) ran.new.trace.steps (plan_in ran.new.plan) (counted ran.new.trace.starts job.now.settings.fetch (map (λ d. (Driver-box d).state d.value) drivers.old.items) (map (λ d. (Driver-box d).state d.value) drivers.new.items) (S.state out.old) (S.state out.new)) (F.state files.old) (F.state files.new) (kinds_of (map (λ d. (Driver-box d).state d.value) drivers.old.items)) }
-    ensures asks { AsksOf (plan_in ran.new.plan) ran.new.trace.starts (map (λ d. (Driver-box d).state d.value) drivers.old.items)
-        (map (λ d. (Driver-box d).state d.value) drivers.new.items) }
+        (outside_of (F.state files.old) (⟦<Drivers as SeenAll>⟧.states drivers.old) (S.state out.old))
+        (outside_of (F.state files.new) (⟦<Drivers as SeenAll>⟧.states drivers.new) (S.state out.new)) }
+    ensures plan { HasPlan (how_in job.now) (Program (Run job.now.first) (FromFiles job.now.program job.now.catalogue))
+        (plan_in ran.new.plan) (course_of (ending result) ran.new.trace
+        (⟦<Drivers as SeenAll>⟧.states drivers.old) (⟦<Drivers as SeenAll>⟧.states drivers.new) (S.state out.old) (S.state out.new))
+        (F.state files.old) (F.state files.new) }
+    ensures asks { AsksOf (plan_in ran.new.plan) ran.new.trace.starts (⟦<Drivers as SeenAll>⟧.states drivers.old)
+        (⟦<Drivers as SeenAll>⟧.states drivers.new) }
     ensures alone { CountsScansAlone (plan_in ran.new.plan) ran.new.trace }
+    ensures silent { plan_in ran.new.plan ≡ None → S.state out.new ≡ S.state out.old }
 {
     match read_inputs(alloc, &job.program, &job.catalogue, drivers, files) {
         Ok(Inputs { text, sources }) => {
@@ -245,21 +251,24 @@ fn do_gen<S: Sink>(
     alloc: Global,
     seed: u32,
     size: u32,
-    drivers: &mut Vec<Box<dyn Driver>>,
+    drivers: &mut Drivers,
     out: &mut S,
     ran: &mut Ran,
 ) -> Result<(), Fault>
-    requires idle { All IsIdle (map (λ d. (Driver-box d).state d.value) drivers.old.items) }
+    requires idle { All IsIdle (⟦<Drivers as SeenAll>⟧.states drivers.old) }
     requires few { length drivers.old.items < 2 ^ 32 }
     requires unrun { IsUnrun ran.old }
     ensures does { (files : FilesState) → Does (Program (Run None) (Made seed size)) (ending result)
-        (outside_of files (map (λ d. (Driver-box d).state d.value) drivers.old.items) (S.state out.old))
-        (outside_of files (map (λ d. (Driver-box d).state d.value) drivers.new.items) (S.state out.new)) }
-    ensures plan { (files : FilesState) → HasPlan true (Program (Run None) (Made seed size))
-        (ending result) ran.new.trace.steps (plan_in ran.new.plan) (counted ran.new.trace.starts usual_settings.fetch (map (λ d. (Driver-box d).state d.value) drivers.old.items) (map (λ d. (Driver-box d).state d.value) drivers.new.items) (S.state out.old) (S.state out.new)) files files (kinds_of (map (λ d. (Driver-box d).state d.value) drivers.old.items)) }
-    ensures asks { AsksOf (plan_in ran.new.plan) ran.new.trace.starts (map (λ d. (Driver-box d).state d.value) drivers.old.items)
-        (map (λ d. (Driver-box d).state d.value) drivers.new.items) }
+        (outside_of files (⟦<Drivers as SeenAll>⟧.states drivers.old) (S.state out.old))
+        (outside_of files (⟦<Drivers as SeenAll>⟧.states drivers.new) (S.state out.new)) }
+    ensures plan { (files : FilesState) → HasPlan usual_how (Program (Run None) (Made seed size))
+        (plan_in ran.new.plan) (course_of (ending result) ran.new.trace
+        (⟦<Drivers as SeenAll>⟧.states drivers.old) (⟦<Drivers as SeenAll>⟧.states drivers.new) (S.state out.old) (S.state out.new))
+        files files }
+    ensures asks { AsksOf (plan_in ran.new.plan) ran.new.trace.starts (⟦<Drivers as SeenAll>⟧.states drivers.old)
+        (⟦<Drivers as SeenAll>⟧.states drivers.new) }
     ensures alone { CountsScansAlone (plan_in ran.new.plan) ran.new.trace }
+    ensures silent { plan_in ran.new.plan ≡ None → S.state out.new ≡ S.state out.old }
 {
     match made_inputs(alloc, seed, size, drivers) {
         Ok(Inputs { text, sources }) => {
@@ -287,13 +296,13 @@ fn do_types<F: Files, S: Sink>(
     program: &Text,
     catalogue: &Option<Text>,
     files: &mut F,
-    drivers: &Vec<Box<dyn Driver>>,
+    drivers: &Drivers,
     out: &mut S,
 ) -> Result<(), Fault>
     requires { length drivers.now.items < 2 ^ 32 }
     ensures { Does (Program Types (FromFiles program.now catalogue.now)) (ending result)
-        (outside_of (F.state files.old) (map (λ d. (Driver-box d).state d.value) drivers.now.items) (S.state out.old))
-        (outside_of (F.state files.new) (map (λ d. (Driver-box d).state d.value) drivers.now.items) (S.state out.new)) }
+        (outside_of (F.state files.old) (⟦<Drivers as SeenAll>⟧.states drivers.now) (S.state out.old))
+        (outside_of (F.state files.new) (⟦<Drivers as SeenAll>⟧.states drivers.now) (S.state out.new)) }
 {
     match read_inputs(alloc, program, catalogue, drivers, files) {
         Ok(inputs) => types(alloc, inputs.text.slice(), inputs.sources.slice(), out),
@@ -307,13 +316,13 @@ fn do_check<F: Files, S: Sink>(
     program: &Text,
     catalogue: &Option<Text>,
     files: &mut F,
-    drivers: &Vec<Box<dyn Driver>>,
+    drivers: &Drivers,
     out: &mut S,
 ) -> Result<(), Fault>
     requires { length drivers.now.items < 2 ^ 32 }
     ensures { Does (Program Check (FromFiles program.now catalogue.now)) (ending result)
-        (outside_of (F.state files.old) (map (λ d. (Driver-box d).state d.value) drivers.now.items) (S.state out.old))
-        (outside_of (F.state files.new) (map (λ d. (Driver-box d).state d.value) drivers.now.items) (S.state out.new)) }
+        (outside_of (F.state files.old) (⟦<Drivers as SeenAll>⟧.states drivers.now) (S.state out.old))
+        (outside_of (F.state files.new) (⟦<Drivers as SeenAll>⟧.states drivers.now) (S.state out.new)) }
 {
     match read_inputs(alloc, program, catalogue, drivers, files) {
         Ok(inputs) => check(alloc, inputs.text.slice(), inputs.sources.slice(), out),

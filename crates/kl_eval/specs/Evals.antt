@@ -152,8 +152,8 @@ end_of false = fine
 
 -- ---- the public calls
 
--- A result says what an outcome is, unless a driver refused to go on or memory ran out. Of an outcome without sense it says nothing: of a term that
--- makes sense that is one where a source that is not told was read.
+-- A result says what an outcome is, unless a driver refused to go on or memory ran out. Of an outcome without sense it says
+-- nothing: of a term that makes sense that is one where a source that is not told was read.
 abbrev pub Tells : Outcome → Result Value EvalStop → Type 0
 Tells (done v) (Ok w) = w ≡ v
 Tells (done v) (Err stop.Overflow) = ⊥

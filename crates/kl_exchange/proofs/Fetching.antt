@@ -45,7 +45,9 @@ fetched_behind file most count into old new s t reads is size =
       told = reads.told;
       others = reads.others;
       is_open = still_open (s.left file) (t.left file) (take count into) reads.bytes;
+      others_seen = reads.others_seen;
       later = reads.later;
+      counts = reads.counts;
       failed = λ e. absurd cc;
-      came = (take count into, is, length-take count into ∙ (let few : min count (length into) ≡ count = omega arith in few), omega arith, reads.bytes, reads.end);
+      came = (take count into, is, length-take count into ∙ (let few : min count (length into) ≡ count = omega arith in few), omega arith, reads.bytes, reads.end, reads.seen);
     }

@@ -1,23 +1,29 @@
 -- What a reader of an open file has read, call by call.
-use Rattle.std.proofs.Common.{◌≡◌, inl, inr, ℕ, zero, suc, ◌+◌, ◌-◌, ◌<◌, ◌≤◌, nat_le, Bool, true, false, List, [], ◌∷◌, ◌++◌, length, take, min, Option, Some, None, Result, Ok, Err, IsErrOf, IsSome, refl, sym, ap, subst, ◌∙◌, arith, append_assoc, append-nil, length-append, length-take}
+use Rattle.std.proofs.Common.{◌≡◌, inl, inr, ℕ, zero, suc, ◌+◌, ◌-◌, ◌<◌, ◌≤◌, nat_le, Bool, true, false, List, [], ◌∷◌, ◌++◌, length, take, min, Option, Some, None, Result, Ok, Err, IsErrOf, IsSome, refl, sym, ap, subst, ◌∙◌, arith, append_assoc, append-nil, length-append, length-take, take_all}
 use Rattle.std.proofs.Math.Seq.{take-append-add}
-use Rattle.std.proofs.lemmas.Bool.{le-leb, lt-leb, false≢true}
+use Rattle.std.specs.Prelude.{⊤}
+use Rattle.std.proofs.lemmas.Bool.{cases_eq, le-leb, lt-leb, false≢true}
 use Rattle.std.proofs.lemmas.List.{nil_from_length}
+use Rattle.std.proofs.lemmas.Option.{same_Some}
 use Rattle.kl_exchange.specs.FileItems.{Items, FileEnd, WholeText, BadAt, TooDeepAt, PastLimit, BeginsItem, reading, EndsIn, Shows}
-use Rattle.kl_exchange.specs.FileReading.{FileReading, Left, Remains, IsRefusalOf, HasRead, EndsSo, HeldOut, HandsOut, Leaves, Fetches, NextItem, Stands, end_to_come, to_come}
+use Rattle.kl_exchange.specs.FileReading.{AsSeen, FileReading, Left, Remains, IsFetched, IsMetBy, IsRefusalOf, HasRead, HasSeen, EndsSo, Fetched, HeldOut, HandsOut, Leaves, Fetches, NextItem, SeesMore, Stands, end_to_come, to_come}
 use Rattle.kl_exchange.specs.Fetching.{FetchesBehind}
-use Rattle.kl_exchange.specs.Grammar.{Blank, IsItem}
+use Rattle.kl_exchange.specs.Grammar.{Blank, IsExchange, IsItem}
 use Rattle.kl_exchange.specs.Reading.{GivesItem, Waits, IsBad, IsDeep, ReadsNext}
 use Rattle.kl_exchange.specs.State.{State}
 use Rattle.kl_exchange.specs.declared.error.FileError.{FileError}
 use Rattle.kl_exchange.specs.declared.error.FileError.TheVariants as fault
 use Rattle.kl_exchange.specs.declared.error.ReadError.{ReadError}
+use Rattle.kl_base.specs.Counts.{Rose}
+use Rattle.kl_outside.specs.declared.stop.Stop.{Stop}
+use Rattle.kl_outside.specs.declared.stop.Stop.TheVariants as stop
 use Rattle.kl_exchange.specs.declared.error.ReadError.TheVariants as error
 use Rattle.kl_exchange.specs.declared.reader.Item.{Item}
 use Rattle.kl_exchange.specs.declared.reader.Item.TheVariants as item
 use Rattle.kl_exchange.proofs.FileItems.{bad_grows, deep_grows, first_items, end_has_none}
 use Rattle.kl_exchange.proofs.Fetching.{still_open}
-use Rattle.kl_outside.specs.Files.{FilesState, OtherFiles, Consumed, IsAtEnd, ReadsPiece}
+use Rattle.std.specs.Option.{option_map}
+use Rattle.kl_outside.specs.Files.{CountsFailed, FilesState, OtherFiles, OtherSeen, Consumed, IsAtEnd, ReadsPiece, Seen, seen_in, seen_then}
 use Rattle.kl_value.specs.declared.Value.{Value}
 
 pub items-append : (read more : List ℕ) (vs ws : List Value) → Items read vs → Items more ws → Items (read ++ more) (vs ++ ws)
@@ -70,6 +76,19 @@ bad_as s k bad = record { within = bad.within; begins = bad.begins; longest = ba
 
 deep_as : (s : State) (k : ℕ) → IsDeep s k → IsDeep (reading s.place s.left s.finished) k
 deep_as s k deep = record { within = deep.within; begins = deep.begins; deeper = deep.deeper; too_deep = deep.too_deep; no_item = deep.no_item }
+
+-- where more may come, what is bad stands among the bytes that came: all of them begin a text otherwise
+bad_within : (place : ℕ) (left : List ℕ) (k : ℕ) → IsBad (reading place left false) k → k < length left
+bad_within place left k bad = elim (cases_eq k (length left)) [ inl all ↦ absurd (begun all) | inr less ↦ below less ]
+  where
+    begun : k ≡ length left → ⊥
+    begun is =
+        let all : take k left ≡ left = take_all k left (omega (arith, is)) in
+        let text = bad.begins in
+        bad.in_none 256 text.more text.values (λ more. absurd (false≢true more)) (subst (λ bs. IsExchange 256 (bs ++ text.more) text.values) all text.whole)
+
+    below : (k ≡ length left → ⊥) → k < length left
+    below less = let within = bad.within in omega (arith, within, less)
 
 module _ (first : Left) (vs : List Value) (now : FileReading) (left : Left) (has : HasRead first vs now left) where
   room : ℕ
@@ -128,28 +147,41 @@ module _ (first : Left) (vs : List Value) (now : FileReading) (left : Left) (has
         (subst (λ b. IsBad (reading now.text.place now.text.left b) ends.0) is ends.2),
   )
 
+  bad_fetched : (p : ℕ) → EndsIn now.text.place now.text.left now.text.finished (BadAt p) → (b : Bool) → now.text.finished ≡ b → IsFetched (BadAt p) now
+  bad_fetched p ends true is = inr is
+  bad_fetched p ends false is =
+      let within = bad_within now.text.place now.text.left ends.0 (subst (λ b. IsBad (reading now.text.place now.text.left b) ends.0) is ends.2) in
+      let at = ends.1 in
+      inl (omega arith)
+
   -- where the reader refuses
   pub ends_bad : (p : ℕ) → EndsIn now.text.place now.text.left now.text.finished (BadAt p) → EndsSo first vs (BadAt p) now left
-  ends_bad p ends = (has, λ bytes known. let r = has.remains bytes known in shows_so (BadAt p) bytes r (refused_so p bytes r now.text.finished refl ends))
+  ends_bad p ends = (
+    has,
+    (λ bytes known. let r = has.remains bytes known in shows_so (BadAt p) bytes r (refused_so p bytes r now.text.finished refl ends)),
+    bad_fetched p ends now.text.finished refl,
+  )
 
   pub ends_deep : (p : ℕ) → EndsIn now.text.place now.text.left now.text.finished (TooDeepAt p) → EndsSo first vs (TooDeepAt p) now left
   ends_deep p ends = (
     has,
-    λ bytes known. let r = has.remains bytes known in shows_so (TooDeepAt p) bytes r (
+    (λ bytes known. let r = has.remains bytes known in shows_so (TooDeepAt p) bytes r (
       ends.0,
       ends.1 ∙ ap (λ n. n + ends.0) has.place,
       deep_grows now.text.place (length has.read) now.text.left (unseen bytes r) now.text.finished (nat_le (length bytes) now.limit) ends.0 ends.2,
-    ),
+    )),
+    inl (let within = ends.2.within in let at = ends.1 in omega arith),
   )
 
   -- where only white space is left
   pub ends_whole : now.text.finished ≡ true → Blank now.text.left → EndsSo first vs WholeText now left
   ends_whole finished blank = (
     has,
-    λ bytes known.
+    (λ bytes known.
         let r = has.remains bytes known in
         let all = all_seen bytes r finished in
-        shows_so WholeText bytes r (all.1, subst (λ bs. Blank bs) (sym (ap (λ bs. now.text.left ++ bs) all.0 ∙ append-nil now.text.left)) blank),
+        shows_so WholeText bytes r (all.1, subst (λ bs. Blank bs) (sym (ap (λ bs. now.text.left ++ bs) all.0 ∙ append-nil now.text.left)) blank)),
+    tt,
   )
 
   -- where the limit is met and the file has more
@@ -157,7 +189,7 @@ module _ (first : Left) (vs : List Value) (now : FileReading) (left : Left) (has
   unfolding unseen room
   ends_past past begun = (
     has,
-    λ bytes known.
+    (λ bytes known.
         let r = has.remains bytes known in
         let met = r.limit_met past in
         let some = met.0 in
@@ -168,7 +200,8 @@ module _ (first : Left) (vs : List Value) (now : FileReading) (left : Left) (has
         let others : length (r.beyond ++ r.behind) ≡ length r.beyond + length r.behind = length-append r.beyond r.behind in
         let fits = front_size in
         shows_so PastLimit bytes r
-        (lt-leb (length bytes) now.limit (omega arith), subst BeginsItem (sym (ap (λ bs. now.text.left ++ bs) unseen_none ∙ append-nil now.text.left)) begun),
+        (lt-leb (length bytes) now.limit (omega arith), subst BeginsItem (sym (ap (λ bs. now.text.left ++ bs) unseen_none ∙ append-nil now.text.left)) begun)),
+    tt,
   )
 
   -- an item more
@@ -331,6 +364,69 @@ module _ (first : Left) (vs : List Value) (now : FileReading) (left left' : Left
     refusal = λ e end is of. absurd (let none : None ≡ Some e = sym waits.fresh ∙ is in cc);
   }
 
+-- a piece more than was read lies before a reader that has not met the end
+widened : (bytes piece : List ℕ) (vs : List Value) (now : FileReading) → HasRead (Some (Some bytes)) vs now (Some (Some [])) → now.text.finished ≡ false
+    → HasRead (Some (Some (bytes ++ piece))) vs now (Some (Some piece))
+widened bytes piece vs now has unfinished = record {
+  read = has.read;
+  items = has.items;
+  place = has.place;
+  within = has.within;
+  remains = λ all known.
+      let r = has.remains bytes refl in
+      let none : r.behind ≡ [] = sym (same_Some _ _ (same_Some _ _ r.known)) in
+      record {
+        beyond = r.beyond;
+        behind = piece;
+        known = refl;
+        whole = sym (same_Some _ _ (same_Some _ _ known)) ∙ (ap (λ bs. bs ++ piece) (r.whole ∙ ap (λ bs. (has.read ++ now.text.left) ++ (r.beyond ++ bs)) none ∙ ap (λ bs. (has.read ++ now.text.left) ++ bs) (append-nil r.beyond))
+            ∙ append_assoc (has.read ++ now.text.left) r.beyond piece);
+        nothing_beyond = r.nothing_beyond;
+        limit_met = r.limit_met;
+        end_met = λ finished. absurd (false≢true (sym unfinished ∙ finished));
+      };
+  refusal = has.refusal;
+}
+
+-- how much was read where nothing is left
+pub read_so_much : (bytes : List ℕ) (vs : List Value) (now : FileReading) → HasRead (Some (Some bytes)) vs now (Some (Some [])) → now.past ≡ false → length bytes ≡ now.text.place + length now.text.left
+read_so_much bytes vs now has unpast =
+    let r = has.remains bytes refl in
+    let none : r.behind ≡ [] = sym (same_Some _ _ (same_Some _ _ r.known)) in
+    let whole : bytes ≡ has.read ++ now.text.left = r.whole ∙ (ap (λ bs. (has.read ++ now.text.left) ++ (bs ++ r.behind)) (r.nothing_beyond unpast) ∙ (ap (λ bs. (has.read ++ now.text.left) ++ bs) none ∙ append-nil (has.read ++ now.text.left))) in
+    let size : length (has.read ++ now.text.left) ≡ length has.read + length now.text.left = length-append has.read now.text.left in
+    let place = has.place in
+    ap length whole ∙ omega arith
+
+-- what was read once a piece came
+pub more_seen : (before after : Option Seen) (piece : List ℕ) → after ≡ option_map (seen_then piece) before → SeesMore before after
+more_seen None after piece is = is
+more_seen (Some b) (Some a) piece is = (piece, ap (λ s. s.bytes) (some_is is))
+  where
+    some_is : {x y : Seen} → Some x ≡ Some y → x ≡ y
+    some_is h = cc
+more_seen (Some b) None piece is = absurd cc
+
+pub same_seen : (before after : Option Seen) → after ≡ before → SeesMore before after
+same_seen None after is = is
+same_seen (Some b) (Some a) is = ([], ap (λ s. s.bytes) (some_is is) ∙ sym (append-nil b.bytes))
+  where
+    some_is : {x y : Seen} → Some x ≡ Some y → x ≡ y
+    some_is h = cc
+same_seen (Some b) None is = absurd cc
+
+pub more_then : (a b c : Option Seen) → SeesMore a b → SeesMore b c → SeesMore a c
+more_then None b c is more = subst (λ o. SeesMore o c) is more
+more_then (Some a) (Some b) (Some c) m n = (m.0 ++ n.0, n.1 ∙ (ap (λ bs. bs ++ n.0) m.1 ∙ append_assoc a.bytes m.0 n.0))
+more_then (Some a) (Some b) None m n = absurd n
+more_then (Some a) None c m n = absurd m
+
+-- a fact of what was read before and behind a piece
+by_seen : (before after : Option Seen) (piece : List ℕ) (P Q : Seen → Type 0) → after ≡ option_map (seen_then piece) before → ((s : Seen) → before ≡ Some s → P s)
+    → ((s : Seen) → P s → Q (seen_then piece s)) → (s : Seen) → after ≡ Some s → Q s
+by_seen None after piece P Q is had then s now = absurd (let h : None ≡ Some s = sym is ∙ now in cc)
+by_seen (Some b) after piece P Q is had then s now = subst Q (let h : Some (seen_then piece b) ≡ Some s = sym is ∙ now in cc) (then b (had b refl))
+
 -- what waits begins an item
 pub begins_item : (text : State) → Waits text text → BeginsItem text.left
 begins_item text waits = (waits.more, waits.v, waits.proper, waits.begun)
@@ -355,6 +451,7 @@ pub hands_out : (old : FileReading) (result : Result Item ReadError) (text : Sta
 hands_out old result text reads total finished = record {
   text = reads;
   same = refl;
+  finished = finished;
   waits = waiting result reads;
   less = falls result reads;
   goes = λ first left vs has. held_out first vs old left has result text reads;
@@ -378,47 +475,135 @@ hands_out old result text reads total finished = record {
     falls (Err e) gives v is = absurd cc
 
 -- `fetch`
-module _ (old : FileReading) (s t : FilesState) (told : t.told ≡ s.told) (others : OtherFiles old.file s t) (later : s.faults ≤ t.faults) (waits : Waits old.text old.text) (unpast : old.past ≡ false) where
-  leaves : (r : Result (Unit {0}) FileError) (piece : List ℕ) → Consumed (s.left old.file) (t.left old.file) piece → (IsErrOf r fault.Read → ⊥) → Leaves old.file r s t
-  leaves r piece taken well = record { told = told; others = others; is_open = still_open (s.left old.file) (t.left old.file) piece taken; later = later; failed = λ is. absurd (well is) }
+module _ (old : FileReading) (s t : FilesState) (told : t.told ≡ s.told) (others : OtherFiles old.file s t) (others_seen : OtherSeen old.file s t) (counts : t.faults ≡ s.faults)
+    (waits : Waits old.text old.text) (unpast : old.past ≡ false) where
+  leaves : (r : Result (Unit {0}) FileError) (piece : List ℕ) → Consumed (s.left old.file) (t.left old.file) piece → seen_in t old.file ≡ option_map (seen_then piece) (seen_in s old.file)
+      → (IsErrOf r fault.Read → ⊥) → Leaves old.file r s t
+  leaves r piece taken seen well = record {
+    told = told;
+    others = others;
+    is_open = still_open (s.left old.file) (t.left old.file) piece taken;
+    others_seen = others_seen;
+    more = more_seen (seen_in s old.file) (seen_in t old.file) piece seen;
+    later = omega (arith, counts);
+    well = λ not. counts;
+    failed = λ is. absurd (well is);
+  }
 
-  pub fetches_end : Consumed (s.left old.file) (t.left old.file) [] → IsAtEnd (s.left old.file) → Fetches (Ok tt) old (record old { text = record old.text { finished = true } }) s t
-  fetches_end taken at_end = record {
-    leaves = leaves (Ok tt) [] taken (λ is. cc);
+  -- what a piece makes of what was read
+  seen_so : (new : FileReading) (piece : List ℕ) (P : Left → Left → Type 0) (vs : List Value) → seen_in t old.file ≡ option_map (seen_then piece) (seen_in s old.file)
+      → ((q : Seen) → HasRead (Some (Some (q.bytes ++ piece))) vs old (Some (Some piece)) → P (Some (Some (q.bytes ++ piece))) (Some (Some [])))
+      → ((q : Seen) → length q.bytes ≡ old.text.place + length old.text.left → IsMetBy new (seen_then piece q))
+      → HasSeen vs old (seen_in s old.file) → AsSeen P new (seen_in t old.file)
+  seen_so new piece P vs seen goes meets has = by_seen (seen_in s old.file) (seen_in t old.file) piece (λ q. HasRead (Some (Some q.bytes)) vs old (Some (Some [])) × IsMetBy old q)
+      (λ q. P (Some (Some q.bytes)) (Some (Some [])) × IsMetBy new q) seen has
+      (λ q so. (goes q (widened q.bytes piece vs old so.0 waits.unfinished), meets q (read_so_much q.bytes vs old so.0 unpast)))
+
+  pub fetches_end : Consumed (s.left old.file) (t.left old.file) [] → IsAtEnd (s.left old.file) → seen_in t old.file ≡ option_map (seen_then []) (seen_in s old.file)
+      → Fetches (Ok tt) old (record old { text = record old.text { finished = true } }) s t
+  fetches_end taken at_end seen = record {
+    leaves = leaves (Ok tt) [] taken seen (λ is. cc);
     same = refl;
     less = let one : end_to_come old.text.finished ≡ 1 = ap end_to_come waits.unfinished in omega arith;
     goes = λ first vs has. has_ended first vs old (s.left old.file) (t.left old.file) has waits unpast taken at_end;
+    sees = λ vs. seen_so (record old { text = record old.text { finished = true } }) [] (λ first left. HasRead first vs (record old { text = record old.text { finished = true } }) left) vs seen
+        (λ q has. has_ended (Some (Some (q.bytes ++ []))) vs old (Some (Some [])) (Some (Some [])) has waits unpast refl (λ bytes is. cc))
+        (λ q size. record { ended = λ finished. refl; passed = λ past. absurd (false≢true (sym unpast ∙ past)) });
   }
 
   pub fetches_piece : (piece : List ℕ) → 0 < length piece → length piece ≤ old.limit - (old.text.place + length old.text.left) → Consumed (s.left old.file) (t.left old.file) piece
-      → Fetches (Ok tt) old (record old { text = record old.text { left = old.text.left ++ piece } }) s t
-  fetches_piece piece some few taken =
+      → seen_in t old.file ≡ option_map (seen_then piece) (seen_in s old.file) → Fetches (Ok tt) old (record old { text = record old.text { left = old.text.left ++ piece } }) s t
+  fetches_piece piece some few taken seen =
       let size : length (old.text.left ++ piece) ≡ length old.text.left + length piece = length-append old.text.left piece in
+      let new = record old { text = record old.text { left = old.text.left ++ piece } } in
       record {
-        leaves = leaves (Ok tt) piece taken (λ is. cc);
+        leaves = leaves (Ok tt) piece taken seen (λ is. cc);
         same = refl;
         less = omega arith;
         goes = λ first vs has. has_fetched first vs old (s.left old.file) (t.left old.file) has waits unpast piece few taken;
+        sees = λ vs. seen_so new piece (λ first left. HasRead first vs new left) vs seen
+            (λ q has. has_fetched (Some (Some (q.bytes ++ piece))) vs old (Some (Some piece)) (Some (Some [])) has waits unpast piece few (sym (append-nil piece)))
+            (λ q size. record { ended = λ finished. absurd (false≢true (sym waits.unfinished ∙ finished)); passed = λ past. absurd (false≢true (sym unpast ∙ past)) });
       }
 
-  pub fetches_past : (piece : List ℕ) → 0 < length piece → old.text.place + length old.text.left ≡ old.limit → Consumed (s.left old.file) (t.left old.file) piece
-      → Fetches (Err fault.TooLong) old (record old { past = true }) s t
-  fetches_past piece some met taken = record {
-    leaves = leaves (Err fault.TooLong) piece taken (λ is. cc);
-    same = refl;
-    less = tt;
-    goes = λ first vs has.
-        ends_past first vs (record old { past = true }) (t.left old.file) (has_passed first vs old (s.left old.file) (t.left old.file) has waits unpast piece some met taken) refl
-        (begins_item old.text waits);
-  }
+  pub fetches_past : (piece : List ℕ) → length piece ≡ 1 → old.text.place + length old.text.left ≡ old.limit → Consumed (s.left old.file) (t.left old.file) piece
+      → seen_in t old.file ≡ option_map (seen_then piece) (seen_in s old.file) → Fetches (Err fault.TooLong) old (record old { past = true }) s t
+  fetches_past piece one met taken seen =
+      let some : 0 < length piece = omega arith in
+      record {
+        leaves = leaves (Err fault.TooLong) piece taken seen (λ is. cc);
+        same = refl;
+        less = tt;
+        goes = λ first vs has.
+            ends_past first vs (record old { past = true }) (t.left old.file) (has_passed first vs old (s.left old.file) (t.left old.file) has waits unpast piece some met taken) refl
+            (begins_item old.text waits);
+        sees = λ vs. seen_so (record old { past = true }) piece (λ first left. EndsSo first vs PastLimit (record old { past = true }) left) vs seen
+            (λ q has. ends_past (Some (Some (q.bytes ++ piece))) vs (record old { past = true }) (Some (Some []))
+            (has_passed (Some (Some (q.bytes ++ piece))) vs old (Some (Some piece)) (Some (Some [])) has waits unpast piece some met (sym (append-nil piece))) refl (begins_item old.text waits))
+            (λ q size. record {
+              ended = λ finished. absurd (false≢true (sym waits.unfinished ∙ finished));
+              passed = λ past. length-append q.bytes piece ∙ omega (arith, size, one, met);
+            });
+      }
 
 pub fetches_again : (old : FileReading) (s : FilesState) → IsSome (s.left old.file) → Waits old.text old.text → old.past ≡ true → Fetches (Err fault.TooLong) old old s s
 fetches_again old s is_open waits past = record {
-  leaves = record { told = refl; others = λ k ne. refl; is_open = is_open; later = omega arith; failed = λ is. absurd cc };
+  leaves = record { told = refl; others = λ k ne. refl; is_open = is_open; others_seen = λ k ne. refl; more = same_seen (seen_in s old.file) (seen_in s old.file) refl; later = omega arith; well = λ not. refl; failed = λ is. absurd cc };
   same = refl;
   less = tt;
   goes = λ first vs has. ends_past first vs old (s.left old.file) has past (begins_item old.text waits);
+  sees = λ vs has q is. let so = has q is in (ends_past (Some (Some q.bytes)) vs old (Some (Some [])) so.0 past (begins_item old.text waits), so.1);
 }
+
+-- a read that failed, or found no memory, left the reader as it was
+abbrev pub IsFaultOf : Stop → FileError → Type 0
+IsFaultOf stop.Failed fault.Read = ⊤
+IsFaultOf stop.NoMemory fault.NoMemory = ⊤
+IsFaultOf e why = ⊥
+
+pub fetches_not : (old : FileReading) (e : Stop) (why : FileError) (s t : FilesState) → t.told ≡ s.told → OtherFiles old.file s t → OtherSeen old.file s t → IsSome (s.left old.file)
+    → t.left old.file ≡ s.left old.file → seen_in t old.file ≡ seen_in s old.file → CountsFailed {T = ℕ} (Err e) s.faults t.faults → (IsErrOf {T = ℕ} (Err e) stop.Failed → Rose s.faults t.faults)
+    → IsFaultOf e why → Fetches (Err why) old old s t
+fetches_not old stop.Failed fault.Read s t told others others_seen is_open left seen counts failed of = record {
+  leaves = record {
+    told = told;
+    others = others;
+    is_open = subst IsSome (sym left) is_open;
+    others_seen = others_seen;
+    more = same_seen (seen_in s old.file) (seen_in t old.file) seen;
+    later = counts;
+    well = λ not. absurd (not refl);
+    failed = λ is. failed refl;
+  };
+  same = refl;
+  less = tt;
+  goes = λ first vs has. subst (λ l. HasRead first vs old l) (sym left) has;
+  sees = λ vs has q is. has q (sym seen ∙ is);
+}
+fetches_not old stop.NoMemory fault.NoMemory s t told others others_seen is_open left seen counts failed of = record {
+  leaves = record {
+    told = told;
+    others = others;
+    is_open = subst IsSome (sym left) is_open;
+    others_seen = others_seen;
+    more = same_seen (seen_in s old.file) (seen_in t old.file) seen;
+    later = omega (arith, counts);
+    well = λ not. counts;
+    failed = λ is. absurd cc;
+  };
+  same = refl;
+  less = tt;
+  goes = λ first vs has. subst (λ l. HasRead first vs old l) (sym left) has;
+  sees = λ vs has q is. has q (sym seen ∙ is);
+}
+fetches_not old stop.Failed fault.NoMemory s t told others others_seen is_open left seen counts failed of = absurd of
+fetches_not old stop.Failed fault.TooLong s t told others others_seen is_open left seen counts failed of = absurd of
+fetches_not old stop.Failed (fault.Bad p) s t told others others_seen is_open left seen counts failed of = absurd of
+fetches_not old stop.Failed (fault.TooDeep p) s t told others others_seen is_open left seen counts failed of = absurd of
+fetches_not old stop.NoMemory fault.Read s t told others others_seen is_open left seen counts failed of = absurd of
+fetches_not old stop.NoMemory fault.TooLong s t told others others_seen is_open left seen counts failed of = absurd of
+fetches_not old stop.NoMemory (fault.Bad p) s t told others others_seen is_open left seen counts failed of = absurd of
+fetches_not old stop.NoMemory (fault.TooDeep p) s t told others others_seen is_open left seen counts failed of = absurd of
 
 -- a piece that was looked for
 pub piece_came : (old : FileReading) (most count : ℕ) (left : List ℕ) (s t : FilesState) → FetchesBehind old.file most (Ok count) old.text.left left s t → 0 < count
@@ -428,7 +613,7 @@ piece_came old most count left s t b some few waits unpast =
     let size = came.2 in
     let within = came.3 in
     subst (λ l. Fetches (Ok tt) old (record old { text = record old.text { left = l } }) s t) (sym came.1)
-    (fetches_piece old s t b.told b.others b.later waits unpast came.0 (omega arith) (omega arith) came.4)
+    (fetches_piece old s t b.told b.others b.others_seen b.counts waits unpast came.0 (omega arith) (omega arith) came.4 came.6)
 
 pub end_came : (old : FileReading) (most count : ℕ) (left : List ℕ) (s t : FilesState) → FetchesBehind old.file most (Ok count) old.text.left left s t → count ≡ 0
     → Waits old.text old.text → old.past ≡ false → Fetches (Ok tt) old (record old { text = record old.text { left = left; finished = true } }) s t
@@ -437,7 +622,17 @@ end_came old most count left s t b none waits unpast =
     let empty : came.0 ≡ [] = nil_from_length came.0 (came.2 ∙ none) in
     let same : left ≡ old.text.left = came.1 ∙ (ap (λ bs. old.text.left ++ bs) empty ∙ append-nil old.text.left) in
     subst (λ l. Fetches (Ok tt) old (record old { text = record old.text { left = l; finished = true } }) s t) (sym same)
-    (fetches_end old s t b.told b.others b.later waits unpast (subst (λ bs. Consumed (s.left old.file) (t.left old.file) bs) empty came.4) (came.5 none))
+    (fetches_end old s t b.told b.others b.others_seen b.counts waits unpast (subst (λ bs. Consumed (s.left old.file) (t.left old.file) bs) empty came.4) (came.5 none)
+    (subst (λ bs. seen_in t old.file ≡ option_map (seen_then bs) (seen_in s old.file)) empty came.6))
+
+-- nothing came
+pub none_came : (old view : FileReading) (e : Stop) (why : FileError) (most : ℕ) (text : State) (s t : FilesState) → view ≡ old → FetchesBehind view.file most (Err e) view.text.left text.left s t
+    → text ≡ record view.text { left = text.left } → IsSome (s.left old.file) → IsFaultOf e why → Fetches (Err why) old (record view { text = text }) s t
+none_came old view e why most text s t same b is is_open of =
+    let text_is : text ≡ view.text = is ∙ ap {A = List ℕ} (λ l. record view.text { left = l }) b.came.0 in
+    subst (λ r. Fetches (Err why) r (record view { text = text }) s t) same
+    (subst (λ x. Fetches (Err why) view (record view { text = x }) s t) (sym text_is)
+    (fetches_not view e why s t b.told b.others b.others_seen (subst (λ r. IsSome (s.left r.file)) (sym same) is_open) b.came.1 b.came.2 b.counts b.failed of))
 
 -- the same, where a reader is known by what it is made of
 module _ (old view : FileReading) (same : view ≡ old) (s t : FilesState) (waits : Waits old.text old.text) (unpast : view.past ≡ false) where
@@ -463,26 +658,30 @@ module _ (old view : FileReading) (same : view ≡ old) (s t : FilesState) (wait
     looked_end text ends none =
         subst (λ r. Fetches (Ok tt) r (record view { text = text }) s t) same
         (subst (λ x. Fetches (Ok tt) view (record view { text = x }) s t) (sym ends)
-        (fetches_end view s t reads.told reads.others reads.later waiting unpast
-        (subst (λ bs. Consumed (s.left view.file) (t.left view.file) bs) (ap (λ n. take n into) none) reads.bytes) (reads.end none)))
+        (fetches_end view s t reads.told reads.others reads.others_seen reads.counts waiting unpast
+        (subst (λ bs. Consumed (s.left view.file) (t.left view.file) bs) (ap (λ n. take n into) none) reads.bytes) (reads.end none)
+        (subst (λ bs. seen_in t view.file ≡ option_map (seen_then bs) (seen_in s view.file)) (ap (λ n. take n into) none) reads.seen)))
 
-    pub looked_past : 0 < count → old.text.place + length old.text.left ≡ old.limit → Fetches (Err fault.TooLong) old (record view { past = true }) s t
-    looked_past some met =
+    pub looked_past : 0 < count → length into ≡ 1 → old.text.place + length old.text.left ≡ old.limit → Fetches (Err fault.TooLong) old (record view { past = true }) s t
+    looked_past some one met =
         let size : length (take count into) ≡ min count (length into) = length-take count into in
         let within = reads.within in
         subst (λ r. Fetches (Err fault.TooLong) r (record view { past = true }) s t) same
-        (fetches_past view s t reads.told reads.others reads.later waiting unpast (take count into) (omega arith)
-        (subst (λ r. r.text.place + length r.text.left ≡ r.limit) (sym same) met) reads.bytes)
+        (fetches_past view s t reads.told reads.others reads.others_seen reads.counts waiting unpast (take count into) (size ∙ omega arith)
+        (subst (λ r. r.text.place + length r.text.left ≡ r.limit) (sym same) met) reads.bytes reads.seen)
 
 -- `next`, up to here: nothing was handed out
 pub record Meanwhile (old now : FileReading) (s t : FilesState) : Type 0 where
   pub told : t.told ≡ s.told
   pub others : OtherFiles old.file s t
   pub is_open : IsSome (t.left old.file)
-  pub later : s.faults ≤ t.faults
+  pub others_seen : OtherSeen old.file s t
+  pub more : SeesMore (seen_in s old.file) (seen_in t old.file)
+  pub counts : t.faults ≡ s.faults
   pub same : now ≡ record old { text = now.text; past = now.past }
   pub less : to_come now ≤ to_come old
   pub goes : (first : Left) (vs : List Value) → HasRead first vs old (s.left old.file) → HasRead first vs now (t.left old.file)
+  pub sees : (vs : List Value) → HasSeen vs old (seen_in s old.file) → HasSeen vs now (seen_in t old.file)
 
 no_read : {T : Type 0} {e : FileError} → IsErrOf {T = T} (Err e) fault.Read → e ≡ fault.Read
 no_read is = cc
@@ -491,23 +690,39 @@ module _ (old now new : FileReading) (s t : FilesState) (far : Meanwhile old now
   both_same : new ≡ record old { text = new.text; past = new.past }
   both_same = hands.same ∙ ap {A = FileReading} (λ r. record r { text = new.text }) far.same ∙ ap (λ b. record old { text = new.text; past = b }) (sym (ap (λ r. r.past) hands.same))
 
+  met_by : (q : Seen) → IsMetBy now q → IsMetBy new q
+  met_by q met = record {
+    ended = λ finished. met.ended (sym hands.finished ∙ finished);
+    passed = λ past. met.passed (sym (ap (λ r. r.past) hands.same) ∙ past) ∙ ap (λ n. n + 1) (sym limit_same);
+  }
+    where
+      limit_same : new.limit ≡ now.limit
+      limit_same = ap (λ r. r.limit) hands.same
+
   held_item : (r : Result (Option Value) FileError) → (IsErrOf r fault.Read → ⊥) → ((v : Value) → r ≡ Ok (Some v) → held ≡ Ok (item.Value v))
-      → ((first : Left) (vs : List Value) → HeldOut first vs held new (t.left old.file) → Stands first vs r new (t.left old.file)) → NextItem r old new s t
+      → ((first left : Left) (vs : List Value) → HeldOut first vs held new left → Stands first vs r new left) → NextItem r old new s t
   held_item r well value stands = record {
-    leaves = record { told = far.told; others = far.others; is_open = far.is_open; later = far.later; failed = λ is. absurd (well is) };
+    leaves = record { told = far.told; others = far.others; is_open = far.is_open; others_seen = far.others_seen; more = far.more; later = omega (arith, far.counts); well = λ not. far.counts; failed = λ is. absurd (well is) };
     same = both_same;
     less = λ v is. let a = hands.less v (value v is) in let b = far.less in omega arith;
-    goes = λ first vs has. stands first vs (hands.goes first (t.left old.file) vs (far.goes first vs has));
+    goes = λ first vs has. stands first (t.left old.file) vs (hands.goes first (t.left old.file) vs (far.goes first vs has));
+    sees = λ vs has q is. let so = far.sees vs has q is in (stands (Some (Some q.bytes)) (Some (Some [])) vs (hands.goes (Some (Some q.bytes)) (Some (Some [])) vs so.0), met_by q so.1);
   }
 
+  pub next_value : (v : Value) → held ≡ Ok (item.Value v) → NextItem (Ok (Some v)) old new s t
+  next_value v is = held_item (Ok (Some v)) (λ e. cc) (λ w e. is ∙ ap (λ x. Ok (item.Value x)) (let same : v ≡ w = cc in same)) (λ first left vs h. subst (λ r. HeldOut first vs r new left) is h)
+
+  pub next_wanting : held ≡ Err error.NoMemory → NextItem (Err fault.NoMemory) old new s t
+  next_wanting is = held_item (Err fault.NoMemory) (λ e. cc) (λ w e. absurd cc) (λ first left vs h. subst (λ r. HeldOut first vs r new left) is h)
+
   pub next_end : held ≡ Ok item.End → NextItem (Ok None) old new s t
-  next_end is = held_item (Ok None) (λ e. cc) (λ w e. absurd cc) (λ first vs h. subst (λ r. HeldOut first vs r new (t.left old.file)) is h)
+  next_end is = held_item (Ok None) (λ e. cc) (λ w e. absurd cc) (λ first left vs h. subst (λ r. HeldOut first vs r new left) is h)
 
   pub next_bad : (p : ℕ) → held ≡ Err (error.Bad p) → NextItem (Err (fault.Bad p)) old new s t
-  next_bad p is = held_item (Err (fault.Bad p)) (λ e. cc) (λ w e. absurd cc) (λ first vs h. subst (λ r. HeldOut first vs r new (t.left old.file)) is h)
+  next_bad p is = held_item (Err (fault.Bad p)) (λ e. cc) (λ w e. absurd cc) (λ first left vs h. subst (λ r. HeldOut first vs r new left) is h)
 
   pub next_deep : (p : ℕ) → held ≡ Err (error.TooDeep p) → NextItem (Err (fault.TooDeep p)) old new s t
-  next_deep p is = held_item (Err (fault.TooDeep p)) (λ e. cc) (λ w e. absurd cc) (λ first vs h. subst (λ r. HeldOut first vs r new (t.left old.file)) is h)
+  next_deep p is = held_item (Err (fault.TooDeep p)) (λ e. cc) (λ w e. absurd cc) (λ first left vs h. subst (λ r. HeldOut first vs r new left) is h)
 
   -- a piece was fetched meanwhile
   module _ (is : held ≡ Ok item.NeedMore) (next : FileReading) (u : FilesState) where
@@ -525,14 +740,29 @@ module _ (old now new : FileReading) (s t : FilesState) (far : Meanwhile old now
             told = fetch.told ∙ far.told;
             others = λ k ne. fetch.others k ne ∙ far.others k ne;
             is_open = fetch.is_open;
-            later = let a = far.later in let b = fetch.later in omega arith;
-            failed = λ bad. let a = far.later in let b = fetch.failed (cc_err bad) in omega arith;
+            others_seen = λ k ne. fetch.others_seen k ne ∙ far.others_seen k ne;
+            more = more_then (seen_in s old.file) (seen_in t old.file) (seen_in u old.file) far.more fetch.more;
+            later = let a = far.counts in let b = fetch.later in omega arith;
+            well = λ not. fetch.well (λ bad. not (ap Err (no_read bad))) ∙ far.counts;
+            failed = λ bad. let a = far.counts in let b = fetch.failed (cc_err bad) in omega arith;
           };
           same = fetches.same ∙ ap {A = FileReading} (λ r. record r { text = next.text; past = next.past }) both_same;
           less = λ v bad. absurd cc;
           goes = λ first vs has. stood e fetches first vs (held_more first vs has);
+          sees = λ vs has q now. let so = subst (λ n. AsSeen (λ first left. Fetched first vs (Err e) next left) next (seen_in u n)) new_file (fetches.sees vs (seen_more vs has)) q now in (stood_as e next (Some (Some q.bytes)) (Some (Some [])) vs so.0, so.1);
         }
       where
+        seen_more : (vs : List Value) → HasSeen vs old (seen_in s old.file) → HasSeen vs new (seen_in t new.file)
+        seen_more vs has = subst (λ n. HasSeen vs new (seen_in t n)) (sym new_file)
+            (λ q is_now. let so = far.sees vs has q is_now in (subst (λ r. HeldOut (Some (Some q.bytes)) vs r new (Some (Some []))) is (hands.goes (Some (Some q.bytes)) (Some (Some [])) vs so.0), met_by q so.1))
+
+        stood_as : (d : FileError) (n : FileReading) (first left : Left) (vs : List Value) → Fetched first vs (Err d) n left → Stands first vs (Err d) n left
+        stood_as fault.Read n first left vs h = h
+        stood_as fault.NoMemory n first left vs h = h
+        stood_as fault.TooLong n first left vs h = h
+        stood_as (fault.Bad p) n first left vs h = absurd h
+        stood_as (fault.TooDeep p) n first left vs h = absurd h
+
         cc_err : IsErrOf {T = Option Value} (Err e) fault.Read → IsErrOf {T = Unit {0}} (Err e) fault.Read
         cc_err bad = ap Err (no_read bad)
 
@@ -545,3 +775,29 @@ module _ (old now new : FileReading) (s t : FilesState) (far : Meanwhile old now
         stood fault.TooLong f first vs has = subst (λ n. EndsSo first vs PastLimit next (u.left n)) new_file (f.goes first vs has)
         stood (fault.Bad p) f first vs has = absurd (f.goes first vs has)
         stood (fault.TooDeep p) f first vs has = absurd (f.goes first vs has)
+
+    -- a piece more was fetched, and nothing was handed out
+    pub goes_on : Fetches (Ok tt) new next t u → Meanwhile old next s u
+    goes_on fetches =
+        let fetch = subst (λ f. Leaves {T = Unit {0}} f (Ok tt) t u) new_file fetches.leaves in
+        record {
+          told = fetch.told ∙ far.told;
+          others = λ k ne. fetch.others k ne ∙ far.others k ne;
+          is_open = fetch.is_open;
+          others_seen = λ k ne. fetch.others_seen k ne ∙ far.others_seen k ne;
+          more = more_then (seen_in s old.file) (seen_in t old.file) (seen_in u old.file) far.more fetch.more;
+          counts = fetch.well (λ bad. cc) ∙ far.counts;
+          same = fetches.same ∙ ap {A = FileReading} (λ r. record r { text = next.text; past = next.past }) both_same;
+          less = let a = far.less in let b = fetches.less in let c = held_less in omega arith;
+          goes = λ first vs has. subst (λ f. HasRead first vs next (u.left f)) new_file (fetches.goes first vs (subst (λ f. HasRead first vs new (t.left f)) (sym new_file)
+              (subst (λ r. HeldOut first vs r new (t.left old.file)) is (hands.goes first (t.left old.file) vs (far.goes first vs has)))));
+          sees = λ vs has. subst (λ f. HasSeen vs next (seen_in u f)) new_file (fetches.sees vs (subst (λ f. HasSeen vs new (seen_in t f)) (sym new_file)
+              (λ q is_now. let so = far.sees vs has q is_now in (subst (λ r. HeldOut (Some (Some q.bytes)) vs r new (Some (Some []))) is (hands.goes (Some (Some q.bytes)) (Some (Some [])) vs so.0), met_by q so.1))));
+        }
+      where
+        held_less : to_come new ≤ to_come now
+        held_less =
+            let w : Waits now.text new.text = subst (λ r. ReadsNext now.text r new.text) is hands.text in
+            let same_as : new ≡ now = hands.same ∙ ap {A = State} (λ x. record now { text = x }) w.same in
+            let same_come : to_come new ≡ to_come now = ap to_come same_as in
+            omega arith

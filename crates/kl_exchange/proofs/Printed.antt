@@ -8,16 +8,19 @@ use Rattle.kl_value.specs.Written.{with_commas, separator}
 use Rattle.kl_exchange.specs.Printing.{Puts, Prints, AddsBytes, as_stop, error_of, outcome}
 use Rattle.kl_outside.specs.declared.Stop.TheVariants as stop
 use Rattle.kl_exchange.proofs.TextLemmas.{commas_more}
-use Rattle.kl_outside.proofs.SinkLemmas.{append_known-append}
+use Rattle.kl_outside.proofs.FileLemmas.{counts_on}
+use Rattle.kl_outside.proofs.SinkLemmas.{append_known-append, wants_on}
 
 module _ {T U : Type 0} where
   -- a cause behind a call that was not refused
   cause_then : (u : T) (r : Result U Stop) (s t v : SinkState) → HasCause {T = T} (Ok u) s t → HasCause r t v → HasCause r s v
   cause_then u r s t v c d = record {
     later = (let a = c.later in let b = d.later in omega arith);
-    failed = λ e. (let a = c.later in let b = d.failed e in omega arith);
+    counts = counts_on r s.faults t.faults v.faults c.counts d.counts;
+    failed = λ e. (let a = c.counts in let b = d.failed e in omega arith);
     wants_later = (let a = c.wants_later in let b = d.wants_later in omega arith);
-    wanted = λ e. (let a = c.wants_later in let b = d.wanted e in omega arith);
+    counts_want = wants_on r s.wants t.wants v.wants c.counts_want d.counts_want;
+    wanted = λ e. (let a = c.counts_want in let b = d.wanted e in omega arith);
   }
 
   puts_then : (us bs : List ℕ) (u : T) (r : Result U Stop) (s t v : SinkState) (h k m : List ℕ)
@@ -51,7 +54,7 @@ prints_none s h None = record {
     all = append-nil h;
     took = nothing s.taken;
     holds = refl;
-    cause = record { later = omega arith; failed = λ e. cc; wants_later = omega arith; wanted = λ e. cc };
+    cause = record { later = omega arith; counts = refl; failed = λ e. cc; wants_later = omega arith; counts_want = refl; wanted = λ e. cc };
   };
 }
   where

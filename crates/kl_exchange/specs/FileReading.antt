@@ -1,8 +1,8 @@
 -- What a reader of an open file knows, and what each call does.
-use Rattle.std.specs.Prelude.{◌≡◌, ℕ, ◌+◌, ◌-◌, ◌*◌, ◌<◌, ◌≤◌, Bool, true, false, List, [], ◌∷◌, ◌++◌, length}
+use Rattle.std.specs.Prelude.{◌≡◌, ◌⊎◌, ℕ, ◌+◌, ◌-◌, ◌*◌, ◌<◌, ◌≤◌, Bool, true, false, List, [], ◌∷◌, ◌++◌, length, ⊤}
 use Rattle.std.specs.Prelude.{Option, Some, None, Result, Ok, Err, OnOk, IsErrOf, IsSome}
 use Rattle.kl_base.specs.Counts.{Rose}
-use Rattle.kl_outside.specs.Files.{FilesState, OtherFiles}
+use Rattle.kl_outside.specs.Files.{FilesState, OtherFiles, OtherSeen, Seen, seen_in}
 use Rattle.kl_value.specs.declared.Value.{Value}
 use Rattle.kl_exchange.specs.FileItems.{Items, FileEnd, WholeText, BadAt, TooDeepAt, PastLimit, EndsIn, Shows}
 use Rattle.kl_exchange.specs.Reading.{ReadsNext, Waits}
@@ -60,9 +60,37 @@ pub record HasRead (first : Left) (vs : List Value) (now : FileReading) (left : 
   pub refusal : (e : ReadError) (end : FileEnd) → now.text.refused ≡ Some e → IsRefusalOf end e
       → EndsIn now.text.place now.text.left now.text.finished end
 
+-- the place of what is no item is a byte that was fetched, unless the file ends there
+abbrev pub IsFetched : FileEnd → FileReading → Type 0
+IsFetched (BadAt p) now = (p < now.text.place + length now.text.left) ⊎ (now.text.finished ≡ true)
+IsFetched (TooDeepAt p) now = (p < now.text.place + length now.text.left) ⊎ (now.text.finished ≡ true)
+IsFetched WholeText now = ⊤
+IsFetched PastLimit now = ⊤
+
 -- Where the file's bytes are known, it has these items and then this end.
 abbrev pub EndsSo : Left → List Value → FileEnd → FileReading → Left → Type 0
 EndsSo first vs end now left = HasRead first vs now left × ((bytes : List ℕ) → first ≡ Some (Some bytes) → Shows now.limit bytes vs end)
+    × IsFetched end now
+
+-- ---- what was read of a file that does not tell its bytes
+
+-- a reader that met the end was told it, and one that met more than is looked at saw one byte of that
+pub record IsMetBy (now : FileReading) (seen : Seen) : Type 0 where
+  pub ended : now.text.finished ≡ true → seen.ended ≡ true
+  pub passed : now.past ≡ true → length seen.bytes ≡ now.limit + 1
+
+-- Where it is kept what was read, the reader stands as it would in a file that has these bytes alone, of which none is left.
+abbrev pub AsSeen : (Left → Left → Type 0) → FileReading → Option Seen → Type 0
+AsSeen stands now seen = (s : Seen) → seen ≡ Some s → stands (Some (Some s.bytes)) (Some (Some [])) × IsMetBy now s
+
+abbrev pub HasSeen : List Value → FileReading → Option Seen → Type 0
+HasSeen vs now seen = AsSeen (λ first left. HasRead first vs now left) now seen
+
+-- more was read, behind what was read before
+abbrev pub SeesMore : Option Seen → Option Seen → Type 0
+SeesMore None after = after ≡ None
+SeesMore (Some before) (Some after) = (more : List ℕ) × (after.bytes ≡ before.bytes ++ more)
+SeesMore (Some before) None = ⊥
 
 -- 1 until the end was met
 abbrev pub end_to_come : Bool → ℕ
@@ -86,6 +114,7 @@ HeldOut first vs (Err error.NoMemory) now left = HasRead first vs now left
 pub record HandsOut (result : Result Item ReadError) (old new : FileReading) : Type 0 where
   pub text : ReadsNext old.text result new.text
   pub same : new ≡ record old { text = new.text }
+  pub finished : new.text.finished ≡ old.text.finished
   pub waits : result ≡ Ok item.NeedMore → Waits new.text new.text
   pub less : (v : Value) → result ≡ Ok (item.Value v) → to_come new < to_come old
   pub goes : (first left : Left) (vs : List Value) → HasRead first vs old left → HeldOut first vs result new left
@@ -99,12 +128,15 @@ Fetched first vs (Err fault.TooLong) now left = EndsSo first vs PastLimit now le
 Fetched first vs (Err (fault.Bad p)) now left = ⊥
 Fetched first vs (Err (fault.TooDeep p)) now left = ⊥
 
--- The other files are left alone, and a fault is counted.
+-- The other files are left alone, and a fault is counted, and nothing else.
 pub record Leaves {T : Type 0} (file : ℕ) (result : Result T FileError) (old new : FilesState) : Type 0 where
   pub told : new.told ≡ old.told
   pub others : OtherFiles file old new
   pub is_open : IsSome (new.left file)
+  pub others_seen : OtherSeen file old new
+  pub more : SeesMore (seen_in old file) (seen_in new file)
   pub later : old.faults ≤ new.faults
+  pub well : (IsErrOf result fault.Read → ⊥) → new.faults ≡ old.faults
   pub failed : IsErrOf result fault.Read → Rose old.faults new.faults
 
 -- `fetch`
@@ -114,6 +146,8 @@ pub record Fetches (result : Result (Unit {0}) FileError) (old new : FileReading
   pub less : OnOk result (to_come new < to_come old)
   pub goes : (first : Left) (vs : List Value) → HasRead first vs old (files.left old.file)
       → Fetched first vs result new (files'.left old.file)
+  pub sees : (vs : List Value) → HasSeen vs old (seen_in files old.file)
+      → AsSeen (λ first left. Fetched first vs result new left) new (seen_in files' old.file)
 
 -- after the next item, or the reason why there is none
 abbrev pub Stands : Left → List Value → Result (Option Value) FileError → FileReading → Left → Type 0
@@ -132,6 +166,8 @@ pub record NextItem (result : Result (Option Value) FileError) (old new : FileRe
   pub less : (v : Value) → result ≡ Ok (Some v) → to_come new < to_come old
   pub goes : (first : Left) (vs : List Value) → HasRead first vs old (files.left old.file)
       → Stands first vs result new (files'.left old.file)
+  pub sees : (vs : List Value) → HasSeen vs old (seen_in files old.file)
+      → AsSeen (λ first left. Stands first vs result new left) new (seen_in files' old.file)
 
 -- what stays true of a reader
 pub record IsFedWithin (text : State) (limit piece : ℕ) : Type 0 where

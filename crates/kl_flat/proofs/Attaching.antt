@@ -3,6 +3,8 @@ use Rattle.std.proofs.Common.{Result, ◌≡◌, ◌≢◌, ◌⊎◌, ◌<◌, 
 use Rattle.std.proofs.lemmas.Bool.Decides.{nat_tests}
 use Rattle.std.specs.List.{AllByRecursion}
 use Rattle.std.specs.Cmp.Lexicographic.{pointwise}
+use Rattle.std.specs.HashMap.{IsUnchanged}
+use Rattle.std.specs.Map.{lookup}
 use Rattle.std.specs.Option.{option_map}
 use Rattle.std.proofs.lemmas.Option.{same_Some}
 use Rattle.kl_base.specs.Counts.{Rose}
@@ -20,7 +22,8 @@ use Rattle.kl_outside.specs.declared.stop.Stop.TheVariants as stop
 use Rattle.kl_ask.specs.Asked.{raised_by}
 use Rattle.kl_outside.specs.declared.files.Whole.TheVariants.{Bytes, TooLong}
 use Rattle.kl_ask.specs.Asks.{item_of}
-use Rattle.kl_ask.specs.Driver.{Stored, Missing, Bad, Long, Deep, Rows, Source as Attached, Attaches, CountsUnread, told_rows, stored_by}
+use Rattle.kl_ask.specs.Named.{source_named}
+use Rattle.kl_ask.specs.Driver.{Stored, Missing, Bad, Long, Deep, Rows, Source as Attached, Attaches, CountsFault, CountsUnread, told_rows, stored_by}
 use Rattle.kl_ask.specs.declared.ask.Ask.{Ask}
 use Rattle.kl_ask.specs.declared.ask.DriverError.{DriverError}
 use Rattle.kl_ask.specs.declared.ask.DriverError.TheVariants as error
@@ -31,7 +34,7 @@ use Rattle.kl_flat.specs.ColumnTable.{rows_of}
 use Rattle.kl_flat.specs.Columns.{is_table_type}
 use Rattle.kl_flat.specs.Fitting.{are_rows}
 use Rattle.kl_flat.proofs.Typing.{are_table_rows, rows_typed}
-use Rattle.kl_flat.specs.Flat.{flat_state, source_at, told_only, attached_of, contents_of, most_bytes, stored_bytes, stored_of, stored_rows}
+use Rattle.kl_flat.specs.Flat.{Sources, flat_state, told_only, attached_of, contents_of, most_bytes, stored_bytes, stored_of, stored_rows}
 use Rattle.kl_flat.specs.Table.{bad_record, table_rows}
 use Rattle.kl_flat.specs.declared.parts.Source.{Source}
 use Rattle.kl_flat.specs.declared.parts.Open.{Open}
@@ -97,16 +100,18 @@ unread_cause f (inl p) = inl p
 unread_cause f (inr e) = inr (untold f.told e.0, e.1)
 
 -- a refused `attach`
-refused : (e : DriverError) (source path : List ℕ) (ty : Ty) (f f' : FilesState) (sources : List Source) (cursors : List (Option Open)) (asked : List (Ask × ℕ)) (handed unread unread' : ℕ)
-    → f'.told ≡ f.told → f.faults ≤ f'.faults → unread ≤ unread' → CountsUnread (Err e) unread unread' → CauseOf e (at_path f.told path ty) f f' unread unread'
+refused : (e : DriverError) (source path : List ℕ) (ty : Ty) (f f' : FilesState) (sources : Sources) (cursors : List (Option Open)) (asked : List (Ask × ℕ)) (handed unread unread' : ℕ)
+    → f'.told ≡ f.told → f.faults ≤ f'.faults → CountsFault {T = ℕ} (Err e) f.faults f'.faults → unread ≤ unread' → CountsUnread (Err e) unread unread' → CauseOf e (at_path f.told path ty) f f' unread unread'
     → (at_path f.told path ty ≡ Some Missing → (f'.faults ≡ f.faults) × (unread' ≡ unread))
     → Attaches source path ty (Err e) (flat_state f sources cursors asked handed unread) (flat_state f' sources cursors asked handed unread')
-refused e source path ty f f' sources cursors asked handed unread unread' told faults more counts cause missing =
-    subst (λ t. Attaches source path ty (Err e) (flat_state f sources cursors asked handed unread) (flat_state (record { told = t; left = f'.left; faults = f'.faults }) sources cursors asked handed unread')) (sym told) (record {
+refused e source path ty f f' sources cursors asked handed unread unread' told faults rises more counts cause missing =
+    subst (λ t. Attaches source path ty (Err e) (flat_state f sources cursors asked handed unread) (flat_state (record { told = t; left = f'.left; log = f'.log; faults = f'.faults }) sources cursors asked handed unread')) (sym told) (record {
       keeps = record { kind = refl; handed = omega arith; faults = faults; drifts = omega arith; no_drift = λ is. refl; unread = more };
       cursors = refl;
+      reading = λ k is. record { file = refl; read = refl };
       asked = refl;
       handed = refl;
+      faults = rises;
       drifts = refl;
       unread = counts;
       others = λ name ne. refl;
@@ -126,21 +131,21 @@ refused e source path ty f f' sources cursors asked handed unread unread' told f
       no_change = λ d is. subst (λ e. CauseOf e (at_path f.told path ty) f f' unread unread') (error_is is) cause;
     })
 
-module _ (source path : List ℕ) (ty : Ty) (f f' : FilesState) (sources : List Source) (cursors : List (Option Open)) (asked : List (Ask × ℕ)) (handed unread : ℕ) where
+module _ (source path : List ℕ) (ty : Ty) (f f' : FilesState) (sources : Sources) (cursors : List (Option Open)) (asked : List (Ask × ℕ)) (handed unread : ℕ) where
   -- the file was read, and memory wanted then
   no_memory : (whole : Whole) → ReadsWhole path most_bytes (Ok whole) f f' → Attaches source path ty (Err error.NoMemory) (flat_state f sources cursors asked handed unread) (flat_state f' sources cursors asked handed unread)
-  no_memory whole reads = refused error.NoMemory source path ty f f' sources cursors asked handed unread unread reads.told reads.later (omega arith) refl tt (λ is. ((reads.missing (is_missing path ty f is)).1, refl))
+  no_memory whole reads = refused error.NoMemory source path ty f f' sources cursors asked handed unread unread reads.told reads.later reads.counts (omega arith) refl tt (λ is. ((reads.missing (is_missing path ty f is)).1, refl))
 
   failed : ReadsWhole path most_bytes (Err stop.Failed) f f' → Attaches source path ty (Err error.Failed) (flat_state f sources cursors asked handed unread) (flat_state f' sources cursors asked handed unread)
-  failed reads = refused error.Failed source path ty f f' sources cursors asked handed unread unread reads.told reads.later (omega arith) refl
+  failed reads = refused error.Failed source path ty f f' sources cursors asked handed unread unread reads.told reads.later reads.counts (omega arith) refl
       (elim (reads.failed refl) [ inl none ↦ inl (missing_at path ty f none) | inr rose ↦ inr rose ]) (λ is. ((reads.missing (is_missing path ty f is)).1, refl))
 
   no_room : ReadsWhole path most_bytes (Err stop.NoMemory) f f' → Attaches source path ty (Err error.NoMemory) (flat_state f sources cursors asked handed unread) (flat_state f' sources cursors asked handed unread)
-  no_room reads = refused error.NoMemory source path ty f f' sources cursors asked handed unread unread reads.told reads.later (omega arith) refl tt (λ is. ((reads.missing (is_missing path ty f is)).1, refl))
+  no_room reads = refused error.NoMemory source path ty f f' sources cursors asked handed unread unread reads.told reads.later reads.counts (omega arith) refl tt (λ is. ((reads.missing (is_missing path ty f is)).1, refl))
 
   too_long : (unread' : ℕ) → ReadsWhole path most_bytes (Ok TooLong) f f' → unread' ≡ min (unread + 1) (2 ^ 64 - 1) → unread < 2 ^ 64
       → Attaches source path ty (Err (error.TooLong most_bytes)) (flat_state f sources cursors asked handed unread) (flat_state f' sources cursors asked handed unread')
-  too_long unread' reads rose fits = refused (error.TooLong most_bytes) source path ty f f' sources cursors asked handed unread unread' reads.told reads.later (omega (arith, rose, fits)) (omega (arith, rose, fits))
+  too_long unread' reads rose fits = refused (error.TooLong most_bytes) source path ty f f' sources cursors asked handed unread unread' reads.told reads.later reads.counts (omega (arith, rose, fits)) (omega (arith, rose, fits))
       (by (stands path ty TooLong f f' reads)) (λ is. let q = (reads.missing (is_missing path ty f is)).0 in absurd cc)
     where
       by : Stands f.told path ty TooLong → (at_path f.told path ty ≡ Some (Long most_bytes)) ⊎ ((f.told ≡ None) × Rose unread unread')
@@ -149,7 +154,7 @@ module _ (source path : List ℕ) (ty : Ty) (f f' : FilesState) (sources : List 
 
   bad_source : (bytes : List ℕ) (place unread' : ℕ) → ReadsWhole path most_bytes (Ok (Bytes bytes)) f f' → bad_record bytes ty ≡ Some place → unread' ≡ min (unread + 1) (2 ^ 64 - 1) → unread < 2 ^ 64
       → Attaches source path ty (Err (error.BadSource place)) (flat_state f sources cursors asked handed unread) (flat_state f' sources cursors asked handed unread')
-  bad_source bytes place unread' reads bad rose fits = refused (error.BadSource place) source path ty f f' sources cursors asked handed unread unread' reads.told reads.later (omega (arith, rose, fits)) (omega (arith, rose, fits))
+  bad_source bytes place unread' reads bad rose fits = refused (error.BadSource place) source path ty f f' sources cursors asked handed unread unread' reads.told reads.later reads.counts (omega (arith, rose, fits)) (omega (arith, rose, fits))
       (by (stands path ty (Bytes bytes) f f' reads)) (λ is. let q = (reads.missing (is_missing path ty f is)).0 in absurd cc)
     where
       by : Stands f.told path ty (Bytes bytes) → (at_path f.told path ty ≡ Some (Bad place)) ⊎ ((f.told ≡ None) × Rose unread unread')
@@ -194,29 +199,22 @@ read_well path ty rows f f' read = by read.read read.reads read.rows
 pub read_rows_fit : (path : List ℕ) (ty : Ty) (rows : List Value) (f f' : FilesState) → ReadsRows path ty (Ok rows) f f' → is_table_type ty ≡ true → IsProper ty → are_rows ty rows ≡ true
 read_rows_fit path ty rows f f' read suits proper = let well = read_well path ty rows f f' read in ap (are_rows ty) well.2 ∙ are_table_rows well.0 ty suits proper
 
+abbrev attached_in : {A : Type 0} → Option A → Sources → Name → Option Attached
+attached_in told sources name = option_map (attached_of told) (source_named sources name)
+
+-- the sources are as before
+stays : {A : Type 0} (told : Option A) (sources sources' : Sources) → IsUnchanged sources sources' → attached_in told sources' ≡ attached_in told sources
+stays told sources sources' same = λ i name. option_map (attached_of told) (lookup (pointwise nat_eq name) (same i))
+
 -- it was read, and memory wanted then
-pub attach_stopped : (source path : List ℕ) (ty : Ty) (rows : List Value) (result : Result ℕ DriverError) (f f' : FilesState) (sources sources' : List Source) (cursors : List (Option Open)) (asked : List (Ask × ℕ)) (handed unread : ℕ)
-    → ReadsRows path ty (Ok rows) f f' → sources' ≡ sources → result ≡ Err error.NoMemory
+pub attach_stopped : (source path : List ℕ) (ty : Ty) (rows : List Value) (result : Result ℕ DriverError) (f f' : FilesState) (sources sources' : Sources) (cursors : List (Option Open)) (asked : List (Ask × ℕ)) (handed unread : ℕ)
+    → ReadsRows path ty (Ok rows) f f' → IsUnchanged sources sources' → result ≡ Err error.NoMemory
     → Attaches source path ty result (flat_state f sources cursors asked handed unread) (flat_state f' sources' cursors asked handed unread)
 attach_stopped source path ty rows result f f' sources sources' cursors asked handed unread read same is =
     let well = read_well path ty rows f f' read in
+    let as_before = no_memory source path ty f f' sources cursors asked handed unread (Bytes well.0) well.1 in
     subst (λ r. Attaches source path ty r (flat_state f sources cursors asked handed unread) (flat_state f' sources' cursors asked handed unread)) (sym is)
-    (subst (λ ss. Attaches source path ty (Err error.NoMemory) (flat_state f sources cursors asked handed unread) (flat_state f' ss cursors asked handed unread)) (sym same)
-    (no_memory source path ty f f' sources cursors asked handed unread (Bytes well.0) well.1))
-
--- ---- the sources with one more
-
-other_source : (sources : List Source) (s : Source) (name : Name) → name ≢ s.name → source_at (sources ++ s ∷ []) name ≡ source_at sources name
-other_source [] s name ne = let e = not_same s.name name (λ e. ne (sym e)) in rw e refl
-other_source (t ∷ sources) s name ne = ap (λ o. cond (pointwise nat_eq t.name name) (Some t) o) (other_source sources s name ne)
-
-this_source : (sources : List Source) (s : Source) → source_at sources s.name ≡ None → source_at (sources ++ s ∷ []) s.name ≡ Some s
-this_source [] s none = let e = same_label s.name in rw e refl
-this_source (t ∷ sources) s none = by (pointwise nat_eq t.name s.name) refl (λ e. this_source sources s e)
-  where
-    by : (b : Bool) → pointwise nat_eq t.name s.name ≡ b → (source_at sources s.name ≡ None → source_at (sources ++ s ∷ []) s.name ≡ Some s) → source_at (t ∷ (sources ++ s ∷ [])) s.name ≡ Some s
-    by true is more = let e = rw is at none in absurd (some_none e)
-    by false is more = let e = rw is at none in rw is (more e)
+    (subst (λ at. Attaches source path ty (Err error.NoMemory) (flat_state f sources cursors asked handed unread) (record (flat_state f' sources cursors asked handed unread) { attached = at })) (sym (stays f'.told sources sources' same)) as_before)
 
 -- what stands there is these rows, where it is told
 abbrev pub Good : Option (List ℕ → Option (List ℕ)) → List ℕ → Ty → List Value → Type 0
@@ -252,28 +250,29 @@ abbrev mk : Ty → Option (List Value) → ℕ → Attached
 mk t r n = record { ty = t; rows = r; count = n; kept = None }
 
 -- a table that was read and attached
-pub attach_done : (source path : List ℕ) (ty : Ty) (rows : List Value) (count : ℕ) (f f' : FilesState) (sources sources' : List Source) (cursors : List (Option Open)) (asked : List (Ask × ℕ)) (handed unread : ℕ)
-    → ReadsRows path ty (Ok rows) f f' → AddsSource source ty rows sources sources' count → are_rows ty rows ≡ true → option_map (attached_of f.told) (source_at sources source) ≡ None
+pub attach_done : (source path : List ℕ) (ty : Ty) (rows : List Value) (count : ℕ) (f f' : FilesState) (sources sources' : Sources) (cursors : List (Option Open)) (asked : List (Ask × ℕ)) (handed unread : ℕ)
+    → ReadsRows path ty (Ok rows) f f' → AddsSource source ty rows sources sources' count → are_rows ty rows ≡ true
     → Attaches source path ty (Ok count) (flat_state f sources cursors asked handed unread) (flat_state f' sources' cursors asked handed unread)
-attach_done source path ty rows count f f' sources sources' cursors asked handed unread read adds good fresh =
+attach_done source path ty rows count f f' sources sources' cursors asked handed unread read adds good =
     let well = read_well path ty rows f f' read in
     let reads = well.1 in
     let s = adds.made in
     let facts = (good_read path ty rows f f' read).0 in
-    let none : source_at sources s.name ≡ None = subst (λ n. source_at sources n ≡ None) (sym adds.named) (unseen (attached_of f.told) (source_at sources source) fresh) in
-    let here : source_at (sources ++ s ∷ []) source ≡ Some s = subst (λ n. source_at (sources ++ s ∷ []) n ≡ Some s) adds.named (this_source sources s none) in
+    let here : source_named sources' source ≡ Some s = adds.added.0 source ∙ (let same = same_label source in rw same refl) in
     let told : told_only f.told (rows_of s.table) ≡ told_rows (at_path f.told path ty) = ap (told_only f.told) adds.with ∙ facts.0 in
     let size : length (rows_of s.table) ≡ count = ap length adds.with ∙ sym adds.size in
     let kept : attached_of f.told s ≡ mk ty (told_rows (at_path f.told path ty)) count = λ i. mk (adds.of i) (told i) (size i) in
-    subst (λ t. Attaches source path ty (Ok count) (flat_state f sources cursors asked handed unread) (flat_state (record { told = t; left = f'.left; faults = f'.faults }) sources' cursors asked handed unread)) (sym reads.told) (record {
+    subst (λ t. Attaches source path ty (Ok count) (flat_state f sources cursors asked handed unread) (flat_state (record { told = t; left = f'.left; log = f'.log; faults = f'.faults }) sources' cursors asked handed unread)) (sym reads.told) (record {
       keeps = record { kind = refl; handed = omega arith; faults = reads.later; drifts = omega arith; no_drift = λ is. refl; unread = omega arith };
       cursors = refl;
+      reading = λ k is. record { file = refl; read = refl };
       asked = refl;
       handed = refl;
+      faults = reads.counts;
       drifts = refl;
       unread = refl;
-      others = λ n ne. ap (option_map (attached_of f.told)) (ap (λ xs. source_at xs n) adds.grown ∙ other_source sources s n (λ is. ne (is ∙ adds.named)));
-      attached = (None, ap (option_map (attached_of f.told)) (ap (λ xs. source_at xs source) adds.grown ∙ here) ∙ ap Some kept);
+      others = λ n ne. ap (option_map (attached_of f.told)) (adds.added.0 n ∙ (let other = not_same source n (λ e. ne (sym e)) in rw other refl));
+      attached = (None, ap (option_map (attached_of f.told)) here ∙ ap Some kept);
       count = λ all is. adds.size ∙ ap length (sym (facts.1 all is));
       unique = λ is_unique is_set. absurd cc;
       typed = λ all is. subst (AllByRecursion (Inhabits (item_of (ground_of ty)))) (sym (facts.1 all is)) (rows_typed ty rows good);

@@ -3,7 +3,7 @@ use Rattle.std.proofs.Common.{◌≡◌, ◌≢◌, ◌⊎◌, ◌<◌, ◌+◌,
 use Rattle.std.proofs.lemmas.Bool.Decides.{nat_tests}
 use Rattle.std.proofs.lemmas.Grind.{common_steps}
 use Rattle.std.proofs.lemmas.List.Sorted.{IsPermutation-refl}
-use Rattle.std.proofs.lemmas.Option.{gets, same_Some, slice_get_within}
+use Rattle.std.proofs.lemmas.Option.{none-some, gets, same_Some, slice_get_within}
 use Rattle.std.specs.List.{AllByRecursion}
 use Rattle.std.specs.Option.{option_map, option_flatten}
 use Rattle.kl_value.specs.declared.Kind.{Kind}
@@ -27,7 +27,8 @@ use Rattle.kl_flat.specs.Answering.{Takes}
 use Rattle.kl_flat.specs.Asked.{keep_of, tests_of}
 use Rattle.kl_flat.specs.ColumnTable.{rows_of}
 use Rattle.kl_flat.specs.Cursors.{HandsNext, OpensLast}
-use Rattle.kl_flat.specs.Flat.{asked_source, flat_state, told_only, attached_of, cursor_of, left_of}
+use Rattle.kl_ask.specs.Named.{asked_source}
+use Rattle.kl_flat.specs.Flat.{Sources, flat_state, told_only, attached_of, cursor_of, left_of}
 use Rattle.kl_flat.specs.declared.parts.Source.{Source}
 use Rattle.kl_flat.specs.declared.parts.Open.{Open}
 use Rattle.kl_flat.proofs.Suiting.{item_flat}
@@ -64,7 +65,7 @@ fresh_over told source keep tests s o ask_is ty_is rows_is at_is small =
       bound = omega (arith, few, ap length left_is, ap (λ t. length (rows_of t)) rows_is, small);
     }
 
-opens_at : (ask : Ask) (s : Source) (o : Open) (f : FilesState) (sources : List Source) (cursors : List (Option Open)) (asked : List (Ask × ℕ)) (handed unread : ℕ)
+opens_at : (ask : Ask) (s : Source) (o : Open) (f : FilesState) (sources : Sources) (cursors : List (Option Open)) (asked : List (Ask × ℕ)) (handed unread : ℕ)
     → CanStart (flat_state f sources cursors asked handed unread) ask → asked_source sources ask ≡ Some s
     → o.ask ≡ ask → o.ty ≡ s.ty → o.table ≡ s.table → o.at ≡ 0 → length (rows_of o.table) < 2 ^ 64
     → OpensAt ask (flat_state f sources cursors asked handed unread) (cursor_of f.told o)
@@ -73,7 +74,7 @@ opens_at (asks.Rows source keep tests) s o f sources cursors asked handed unread
     let same : attached_of f.told s ≡ a = same_Some _ _ (sym (ap (option_map (attached_of f.told)) found) ∙ is) in
     subst (λ a. IsFresh keep tests a (cursor_of f.told o)) same (fresh_over f.told source keep tests s o ask_is ty_is rows_is at_is small)
 
-pub start_done : (ask : Ask) (n : ℕ) (f : FilesState) (sources : List Source) (cursors cursors' : List (Option Open)) (asked asked' : List (Ask × ℕ)) (handed unread : ℕ)
+pub start_done : (ask : Ask) (n : ℕ) (f : FilesState) (sources : Sources) (cursors cursors' : List (Option Open)) (asked asked' : List (Ask × ℕ)) (handed unread : ℕ)
     → CanStart (flat_state f sources cursors asked handed unread) ask → n ≡ length cursors → OpensLast sources ask cursors cursors' → asked' ≡ with_ask ask asked
     → Starts ask (Ok n) (flat_state f sources cursors asked handed unread) (flat_state f sources cursors' asked' handed unread)
 start_done ask n f sources cursors cursors' asked asked' handed unread can last opens counted =
@@ -81,7 +82,9 @@ start_done ask n f sources cursors cursors' asked asked' handed unread can last 
     record {
       keeps = record { kind = refl; handed = omega arith; faults = omega arith; drifts = omega arith; no_drift = λ is. refl; unread = omega arith };
       attached = refl;
+      reading = λ k is. record { file = refl; read = refl };
       handed = refl;
+      faults = refl;
       drifts = refl;
       unread = refl;
       opens = record {
@@ -91,6 +94,7 @@ start_done ask n f sources cursors cursors' asked asked' handed unread can last 
         ask_kept = opens.ask_is;
         fresh = opens_at ask opens.source o f sources cursors asked handed unread can opens.found opens.ask_is opens.ty opens.table opens.start o.small;
         others = λ k ne. ap (seen_as f.told) (added_others cursors cursors' n o last opens.grown k ne);
+        unread = λ r is. absurd (none-some _ is);
         asked = counted;
       };
       refused = tt;
@@ -171,7 +175,7 @@ module _ (most to : ℕ) (taken : List Value) (o o' : Open) (same : Same o o') (
     spent None all is = absurd cc
     spent (Some t) all is = sym (same_Some _ _ is) ∙ none_now
 
-module _ (cursor : ℕ) (o o' : Open) (f : FilesState) (sources : List Source) (cursors cursors' : List (Option Open)) (asked : List (Ask × ℕ)) (is : slice_get cursors cursor ≡ Some (Some o)) (made : cursors' ≡ set cursors cursor (Some o')) where
+module _ (cursor : ℕ) (o o' : Open) (f : FilesState) (sources : Sources) (cursors cursors' : List (Option Open)) (asked : List (Ask × ℕ)) (is : slice_get cursors cursor ≡ Some (Some o)) (made : cursors' ≡ set cursors cursor (Some o')) where
   cursor_is : (c : Cursor) → seen_as f.told (open_at cursors cursor) ≡ Some c → cursor_of f.told o ≡ c
   cursor_is c has = same_Some _ _ (sym (ap (λ x. seen_as f.told (option_flatten x)) is) ∙ has)
 
@@ -201,6 +205,7 @@ module _ (cursor : ℕ) (o o' : Open) (f : FilesState) (sources : List Source) (
           over = inl (ap length (none_now most o'.at hand.taken o o' same refl hand.takes few room));
           now = ap (seen_as f.told) (changed_now cursors cursors' cursor o o' is made) ∙ ap Some (emptied_is most o'.at hand.taken o o' same refl hand.takes few room f.told);
           handed = omega (arith, count, fits, nothing);
+          unchanged = λ r. absurd (none-some _ r.is_read);
         })
 
     answer : (some : Bool) → nat_lt 0 n ≡ some → (c : Cursor) → seen_as f.told (open_at cursors cursor) ≡ Some c
@@ -214,22 +219,30 @@ module _ (cursor : ℕ) (o o' : Open) (f : FilesState) (sources : List Source) (
       keeps = record { kind = refl; handed = omega (arith, count, fits); faults = omega arith; drifts = omega arith; no_drift = λ is. refl; unread = omega arith };
       attached = refl;
       asked = refl;
+      faults = refl;
       drifts = refl;
       unread = refl;
       others = λ k ne. ap (seen_as f.told) (changed_others cursors cursors' cursor o o' is made k ne);
+      reads = refl;
+      same_file = λ is_open. refl;
+      others_reading = λ k ne is_open. record { file = refl; read = refl };
       answer = answer (nat_lt 0 n) refl;
     }
 
 -- want of memory closes the cursor
-pub pull_stopped : (cursor most : ℕ) (into into' : List Value) (o : Option Open) (f : FilesState) (sources : List Source) (cursors cursors' : List (Option Open)) (asked : List (Ask × ℕ)) (handed unread : ℕ)
+pub pull_stopped : (cursor most : ℕ) (into into' : List Value) (o : Option Open) (f : FilesState) (sources : Sources) (cursors cursors' : List (Option Open)) (asked : List (Ask × ℕ)) (handed unread : ℕ)
     → open_at cursors' cursor ≡ None → ((k : ℕ) → k ≢ cursor → open_at cursors' k ≡ open_at (set cursors cursor o) k) → into' ≡ into
     → Pulls cursor most into into' (Err error.NoMemory) (flat_state f sources cursors asked handed unread) (flat_state f sources cursors' asked handed unread)
 pull_stopped cursor most into into' o f sources cursors cursors' asked handed unread closed others same = record {
   keeps = record { kind = refl; handed = omega arith; faults = omega arith; drifts = omega arith; no_drift = λ is. refl; unread = omega arith };
   attached = refl;
   asked = refl;
+  faults = refl;
   drifts = refl;
   unread = refl;
+  reads = refl;
+  same_file = λ is_open. refl;
+  others_reading = λ k ne is_open. record { file = refl; read = refl };
   others = λ k ne. ap (seen_as f.told) (others k ne ∙ replaced_other cursors cursor k o ne);
   answer = λ c has. record {
     same = same;
@@ -238,6 +251,7 @@ pull_stopped cursor most into into' o f sources cursors cursors' asked handed un
     cause = tt;
     drifted = λ d drift. absurd cc;
     ahead = λ d drift. absurd cc;
+    shown = λ d drift. absurd cc;
     joined_drifted = λ d drift. absurd cc;
   };
 }

@@ -1,5 +1,7 @@
 -- Steps of attaching: a file is read as a table, and a source is added. No public contract cites this.
-use Rattle.std.specs.Prelude.{◌≡◌, ◌⊎◌, ℕ, List, [], ◌∷◌, ◌++◌, length, Some, None, Result, Ok, Err}
+use Rattle.std.specs.Prelude.{◌≡◌, ◌⊎◌, ℕ, List, length, nat_eq, Some, None, Result, Ok, Err}
+use Rattle.std.specs.Cmp.Lexicographic.{pointwise}
+use Rattle.std.specs.HashMap.{Updates}
 use Rattle.kl_value.specs.declared.Value.{Value}
 use Rattle.kl_type.specs.declared.ground.Ty.{Ty}
 use Rattle.kl_outcome.specs.Outcome.{Name}
@@ -12,7 +14,7 @@ use Rattle.kl_ask.specs.Asked.{raised_by}
 use Rattle.kl_ask.specs.declared.ask.DriverError.{DriverError}
 use Rattle.kl_ask.specs.declared.ask.DriverError.TheVariants as error
 use Rattle.kl_flat.specs.ColumnTable.{rows_of}
-use Rattle.kl_flat.specs.Flat.{most_bytes}
+use Rattle.kl_flat.specs.Flat.{Sources, most_bytes}
 use Rattle.kl_flat.specs.Table.{bad_record, table_rows}
 use Rattle.kl_flat.specs.declared.column_table.ColumnTable.{ColumnTable}
 use Rattle.kl_flat.specs.declared.parts.Source.{Source}
@@ -42,11 +44,10 @@ unread_by (error.BadSource place) unread = raised_by 1 unread
 unread_by (error.TooLong most) unread = raised_by 1 unread
 unread_by _ unread = unread
 
--- a source with so many rows stands behind the others
-pub record AddsSource (name : Name) (ty : Ty) (rows : List Value) (old new : List Source) (count : ℕ) : Type 0 where
+-- a source with so many rows is attached under a name
+pub record AddsSource (name : Name) (ty : Ty) (rows : List Value) (old new : Sources) (count : ℕ) : Type 0 where
   pub made : Source
-  pub grown : new ≡ old ++ made ∷ []
-  pub named : made.name ≡ name
+  pub added : Updates (pointwise nat_eq) old new name (Some made)
   pub of : made.ty ≡ ty
   pub with : rows_of made.table ≡ rows
   pub size : count ≡ length rows

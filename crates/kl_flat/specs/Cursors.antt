@@ -5,12 +5,13 @@ use Rattle.kl_ask.specs.declared.ask.Ask.{Ask}
 use Rattle.kl_flat.specs.Answering.{Takes}
 use Rattle.kl_flat.specs.Asked.{keep_of, tests_of}
 use Rattle.kl_flat.specs.ColumnTable.{rows_of}
-use Rattle.kl_flat.specs.Flat.{asked_source}
+use Rattle.kl_ask.specs.Named.{asked_source}
+use Rattle.kl_flat.specs.Flat.{Sources}
 use Rattle.kl_flat.specs.declared.parts.Open.{Open}
 use Rattle.kl_flat.specs.declared.parts.Source.{Source}
 
 -- a cursor at the first row of the source that is asked stands behind the others
-pub record OpensLast (sources : List Source) (ask : Ask) (old new : List (Option Open)) : Type 0 where
+pub record OpensLast (sources : Sources) (ask : Ask) (old new : List (Option Open)) : Type 0 where
   pub source : Source
   pub found : asked_source sources ask ≡ Some source
   pub made : Open

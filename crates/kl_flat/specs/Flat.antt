@@ -1,6 +1,5 @@
 -- What a flat driver means.
-use Rattle.std.specs.Prelude.{ℕ, true, false, List, [], ◌∷◌, length, drop, Option, Some, None, cond, slice_get, codes, nat_eq, nat_lt}
-use Rattle.std.specs.Cmp.Lexicographic.{pointwise}
+use Rattle.std.specs.Prelude.{ℕ, true, false, List, [], length, drop, Option, Some, None, cond, codes, nat_lt}
 use Rattle.std.specs.Option.{option_map}
 use Rattle.kl_value.specs.declared.Value.{Value}
 use Rattle.kl_type.specs.Ground.{ground_of}
@@ -9,9 +8,9 @@ use Rattle.kl_outside.specs.Files.{FilesState}
 use Rattle.kl_outcome.specs.Outcome.{Name}
 use Rattle.kl_ask.specs.Asks.{answers, item_of, shown_type}
 use Rattle.kl_ask.specs.Cursors.{open_at}
+use Rattle.kl_ask.specs.Named.{NamedSources, source_named}
 use Rattle.kl_ask.specs.Driver.{State, DriverKind, Stored, Missing, Bad, Long, Rows, Source as Attached, Cursor}
 use Rattle.kl_ask.specs.declared.ask.Ask.{Ask}
-use Rattle.kl_ask.specs.declared.ask.Ask.TheVariants as asks
 use Rattle.kl_flat.specs.Asked.{keep_of, tests_of}
 use Rattle.kl_flat.specs.ColumnTable.{rows_of}
 use Rattle.kl_flat.specs.Columns.{is_table_type}
@@ -49,21 +48,15 @@ abbrev pub told_only : {A : Type 0} → Option A → List Value → Option (List
 told_only None rows = None
 told_only (Some told) rows = Some rows
 
-abbrev pub source_at : List Source → Name → Option Source
-source_at [] name = None
-source_at (source ∷ sources) name = cond (pointwise nat_eq source.name name) (Some source) (source_at sources name)
-
--- the attached source that an ask names. No public contract cites this.
-abbrev pub asked_source : List Source → Ask → Option Source
-asked_source sources (asks.Rows source keep tests) = source_at sources source
-asked_source sources (asks.Sql text) = None
+-- attached sources by their names
+abbrev pub Sources : Type 0
+Sources = NamedSources Source
 
 abbrev pub attached_of : {A : Type 0} → Option A → Source → Attached
 attached_of told source = record {
   ty = source.ty;
   rows = told_only told (rows_of source.table);
-  count = length
-      (rows_of source.table);
+  count = length (rows_of source.table);
   kept = None;
 }
 
@@ -88,16 +81,34 @@ flat_kind told = record {
   suits = is_table_type;
   most = Some most_bytes;
   stored = contents_of told;
+  spells = None;
 }
 
-abbrev pub flat_state : FilesState → List Source → List (Option Open) → List (Ask × ℕ) → ℕ → ℕ → State
+abbrev pub flat_state : FilesState → Sources → List (Option Open) → List (Ask × ℕ) → ℕ → ℕ → State
 flat_state files sources cursors asked handed unread = record {
   kind = flat_kind files.told;
-  attached = λ name. option_map (attached_of files.told) (source_at sources name);
+  attached = λ name. option_map (attached_of files.told) (source_named sources name);
   cursors = λ k. option_map (cursor_of files.told) (open_at cursors k);
+  file = λ k. None;
+  read = λ n. None;
   asked = asked;
   handed = handed;
   faults = files.faults;
   drifts = 0;
   unread = unread;
+}
+
+-- nothing is attached, no cursor is open, and nothing was asked, handed or unreadable
+abbrev pub fresh_state : FilesState → State
+fresh_state files = record {
+  kind = flat_kind files.told;
+  attached = λ name. None;
+  cursors = λ k. None;
+  file = λ k. None;
+  read = λ n. None;
+  asked = [];
+  handed = 0;
+  faults = files.faults;
+  drifts = 0;
+  unread = 0;
 }

@@ -1,24 +1,30 @@
 //! The driver of tables.
-ghost use Rattle.std.specs.Prelude.{◌≡◌, ◌≢◌, ◌<◌, ◌^◌, ℕ, [], length, true, IfOk, None, OnErr, OnOk, IsSome};
+ghost use Rattle.std.specs.Prelude.{◌≡◌, ◌<◌, ◌^◌, ℕ, length, true, IfOk, None, OnErr, OnOk, IsSome};
+ghost use Rattle.std.specs.HashMap.{IsUnchanged};
+ghost use Rattle.kl_ask.specs.Named.{asked_source};
 ghost use Rattle.kl_flat.specs.Attaching.{AddsSource, ReadsTable, unread_by};
 ghost use Rattle.kl_flat.specs.ColumnTable.{rows_of};
 ghost use Rattle.kl_flat.specs.Columns.{is_table_type};
 ghost use Rattle.kl_flat.specs.Cursors.{HandsNext, OpensLast};
 ghost use Rattle.kl_flat.specs.Fitting.{are_rows};
-ghost use Rattle.kl_flat.specs.Flat.{asked_source, flat_state};
+ghost use Rattle.kl_flat.specs.Flat.{flat_state, fresh_state};
+ghost use Rattle.kl_outside.specs.Files.{NoneOpen};
 
 use crate::answering::next_answers;
 use crate::column_table::ColumnTable;
 use crate::columns::is_table_type;
 use crate::parts::{Open, Source};
-use crate::sources::{find_asked, opened};
+use crate::sources::{opened, put_source};
 use crate::table::read_columns;
-use kl_ask::{Abilities, Ask, Driver, DriverError, close_cursor, count_ask, sum_asked};
+use kl_ask::{
+    Abilities, Ask, Driver, DriverError, asked_source, close_cursor, count_ask, sum_asked,
+};
 use kl_base::{Label, NoMemory, Shared, Text};
 use kl_outside::{Files, Stop, Whole, read_whole};
 use kl_type::Ty;
 use kl_value::Value;
 use std::alloc::Global;
+use std::collections::HashMap;
 
 // The greatest length of a table's file.
 const MOST_BYTES: u64 = 268_435_456;
@@ -26,28 +32,31 @@ const MOST_BYTES: u64 = 268_435_456;
 /// A driver over files that are tables. A locator is the path of a file, which is read whole when its source is attached;
 /// rows come in the order of the file.
 ///
-/// It tells its contents exactly where its files tell their bytes, and its count of faults is theirs. Its count of sources
-/// that it could not read rises where a table has a bad record or too many bytes. RFC 4180 has the form of the files.
+/// It leaves no file open. It tells its contents exactly where its files tell their bytes, and its count of faults is
+/// theirs. Its count of sources that it could not read rises where a table has a bad record or too many bytes. RFC 4180 has
+/// the form of the files.
 #[derive(Drop)]
 pub struct FlatDriver<F: Files + Drop> {
     alloc: Global,
     files: F,
-    sources: Vec<Source>,
+    sources: HashMap<Label, Source>,
     cursors: Vec<Option<Open>>,
     asked: Vec<(Ask, u64)>,
     handed: u64,
     unread: u64,
+    ghost closed: { NoneOpen (F.state files) },
 }
 
 impl<F: Files + Drop> FlatDriver<F> {
-    /// A driver over these files, with nothing attached, no cursor open, and its other counts at 0.
+    /// A driver over these files, of which none is open, with nothing attached, no cursor open, and its other counts at 0.
     pub fn new(alloc: Global, files: F) -> FlatDriver<F>
-        ensures { ⟦<FlatDriver<F> as Driver>⟧.state result ≡ flat_state (F.state files) [] [] [] 0 0 }
+        requires { NoneOpen (F.state files) }
+        ensures { ⟦<FlatDriver<F> as Driver>⟧.state result ≡ fresh_state (F.state files) }
     {
         FlatDriver {
             alloc,
             files,
-            sources: Vec::new(alloc),
+            sources: HashMap::new(alloc),
             cursors: Vec::new(alloc),
             asked: Vec::new(alloc),
             handed: 0,
@@ -57,7 +66,7 @@ impl<F: Files + Drop> FlatDriver<F> {
 }
 
 impl<F: Files + Drop> Driver for FlatDriver<F> {
-    ghost state = { λ d. flat_state (F.state d.files) d.sources.items d.cursors.items d.asked.items d.handed d.unread };
+    ghost state = { λ d. flat_state (F.state d.files) d.sources d.cursors.items d.asked.items d.handed d.unread };
 
     fn name(&self) -> &[u8] {
         b"flat"
@@ -169,18 +178,18 @@ pub fn unread_by(error: DriverError, unread: u64) -> u64
 // Adds a source of this name, with this table, and says how many rows it has.
 fn add_source(
     alloc: Global,
-    sources: &mut Vec<Source>,
+    sources: &mut HashMap<Label, Source>,
     name: &Label,
     ty: &Ty,
     table: ColumnTable,
 ) -> Result<u64, NoMemory>
     requires { are_rows ty.now (rows_of table) ≡ true }
-    ensures added { IfOk result (AddsSource name.now ty.now (rows_of table) sources.old.items sources.new.items) }
-    ensures refused { OnErr result (sources.new.items ≡ sources.old.items) }
+    ensures added { IfOk result (AddsSource name.now ty.now (rows_of table) sources.old sources.new) }
+    ensures refused { OnErr result (IsUnchanged sources.old sources.new) }
 {
     let count = table.len() as u64;
     let made = new_source(alloc, name, ty, table)?;
-    sources.push(made)?;
+    put_source(sources, name, made)?;
     Ok(count)
 }
 
@@ -209,7 +218,7 @@ pub fn new_source(
 // Opens a cursor for an ask, behind the others.
 fn open_cursor(
     alloc: Global,
-    sources: &[Source],
+    sources: &HashMap<Label, Source>,
     ask: &Ask,
     cursors: &mut Vec<Option<Open>>,
 ) -> Result<(), NoMemory>
@@ -217,7 +226,7 @@ fn open_cursor(
     ensures opened { OnOk result (OpensLast sources.now ask.now cursors.old.items cursors.new.items) }
     ensures refused { OnErr result (cursors.new.items ≡ cursors.old.items) }
 {
-    let Some(source) = find_asked(sources, ask) else {
+    let Some(source) = asked_source(sources, ask) else {
         unreachable!()
     };
     let open = opened(alloc, source, ask)?;

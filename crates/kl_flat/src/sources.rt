@@ -1,32 +1,29 @@
-//! What is asked of attached sources.
-ghost use Rattle.std.specs.Prelude.{◌≡◌, IfOk, MatchOption, Some, None};
+//! Attached sources by their names, and what is asked of them.
+ghost use Rattle.std.specs.Prelude.{◌≡◌, IfOk, OnErr, OnOk, Some, nat_eq};
+ghost use Rattle.std.specs.Cmp.Lexicographic.{pointwise};
+ghost use Rattle.std.specs.HashMap.{IsUnchanged, Updates};
 ghost use Rattle.kl_flat.specs.Asked.{keep_of, tests_of};
-ghost use Rattle.kl_flat.specs.Flat.{asked_source, source_at};
 
 use crate::parts::{Open, Source};
 use kl_ask::{Ask, ColTest};
 use kl_base::{Label, NoMemory, Seq};
 use std::alloc::Global;
+use std::collections::HashMap;
 
-/// The attached source that is asked. None for a statement of SQL.
-pub fn find_asked<'a>(sources: &'a [Source], ask: &Ask) -> Option<&'a Source>
-    ensures { MatchOption result (asked_source sources.now ask.now ≡ None) (λ source. asked_source sources.now ask.now ≡ Some source.now) }
+/// Attaches a source under a name.
+///
+/// # Errors
+/// Want of memory; nothing is attached then.
+pub fn put_source(
+    sources: &mut HashMap<Label, Source>,
+    name: &Label,
+    source: Source,
+) -> Result<(), NoMemory>
+    ensures added { OnOk result (Updates (pointwise nat_eq) sources.old sources.new name.now (Some source)) }
+    ensures refused { OnErr result (IsUnchanged sources.old sources.new) }
 {
-    match ask {
-        Ask::Rows { source, .. } => find(sources, source),
-        Ask::Sql { .. } => None,
-    }
-}
-
-fn find<'a>(sources: &'a [Source], name: &Label) -> Option<&'a Source>
-    ensures { MatchOption result (source_at sources.now name.now ≡ None) (λ source. source_at sources.now name.now ≡ Some source.now) }
-{
-    for source in sources {
-        if source.name == *name {
-            return Some(source);
-        }
-    }
-    None
+    sources.insert(name.dup()?, source)?;
+    Ok(())
 }
 
 /// A cursor at the first row of a source.

@@ -17,7 +17,8 @@ use Rattle.kl_rows.proofs.Advancing.{agrees_on, agrees_refl, keeps_on, keeps_ref
 use Rattle.kl_rows.proofs.CellLists.{sort_within}
 use Rattle.kl_forms.specs.Checks.{Checks, OpensItem, LeavesNone, Finds}
 use Rattle.kl_forms.specs.Forms.{HasFields, InRow, FieldOf, VariantOf}
-use Rattle.kl_forms.specs.Rows.{FindsRow, OpensRow, RefusesRow}
+use Rattle.kl_forms.specs.Rows.{HasRest, FindsRow, OpensRow, OpensBoth, RefusesRow}
+use Rattle.kl_forms.proofs.Fronts.{first_row}
 use Rattle.kl_forms.proofs.Opening.{opens, refuses}
 use Rattle.kl_forms.proofs.Steps.{Stable, merges, told}
 
@@ -43,14 +44,14 @@ row_has old mid new row end ans E there o m =
       up = λ e s h. let w = c.up e s h in let y = o.up s w.0 in (y.0, subst (λ r. E r s) w.1 y.1);
     }
 
-module _ (old mid new : List Cell) (row end : ℕ) (ans : Bool) (fs gs : Fields) (o : Option ℕ) (there : IsRowAt old end) (same : gs ≡ fs) (found : FindsRow o old mid true gs) where
+module _ (old mid new : List Cell) (row rest end : ℕ) (ans : Bool) (fs gs : Fields) (o : Option (ℕ × ℕ)) (there : IsRowAt old end) (same : gs ≡ fs) (found : FindsRow o old mid true gs) where
   pub row_refused : o ≡ None → Checks false old mid (λ s. HasFields true fs (s.rows end) s)
   row_refused e =
-      let c : RefusesRow old mid fs = subst (RefusesRow old mid) same (subst (λ o. FindsRow o old mid true gs) e found) in
-      record { fine = c.fine; keeps = c.keeps; down = λ s h d. absurd (c.none s (s.rows end) h (s.rows_ground end) d.0); up = λ t s h. (let z : ⊥ = cc in absurd z) }
+      let c : RefusesRow old mid (HasFields true fs) = subst (λ fs. RefusesRow old mid (HasFields true fs)) same (subst (λ o. FindsRow o old mid true gs) e found) in
+      record { fine = c.fine; keeps = c.keeps; down = λ s h d. absurd (c.none s (s.rows end) h (s.rows_ground end) d); up = λ t s h. (let z : ⊥ = cc in absurd z) }
 
-  pub row_takes : o ≡ Some row → Advances ans mid new (Same (sort_at mid row) row end) (λ s. Unit {0}) → Checks ans old new (λ s. HasFields true fs (s.rows end) s)
-  row_takes e m = row_has old mid new row end ans (HasFields true fs) there (subst (λ fs. OpensRow old mid row (HasFields true fs)) same (subst (λ o. FindsRow o old mid true gs) e found)) m
+  pub row_takes : o ≡ Some (row, rest) → Advances ans mid new (Same (sort_at mid row) row end) (λ s. Unit {0}) → Checks ans old new (λ s. HasFields true fs (s.rows end) s)
+  row_takes e m = row_has old mid new row end ans (HasFields true fs) there (first_row true fs old mid row rest (subst (λ fs. OpensBoth old mid row rest (HasRest true fs)) same (subst (λ o. FindsRow o old mid true gs) e found))) m
 
 -- one label of a row
 module _ (old mid new : List Cell) (l m : List ℕ) (item end : ℕ) (ans : Bool) (fs : Fields) (fine : IsFine old) (there : IsRowAt old end) (adds : AddsCell old mid (OfType AnyType) item) (is : fs ≡ (l, item) ∷ []) (same : l ≡ m)

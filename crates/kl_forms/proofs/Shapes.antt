@@ -13,6 +13,7 @@ use Rattle.kl_syntax.specs.declared.tree.Op.{Op}
 use Rattle.kl_syntax.specs.declared.tree.Op.TheVariants as op
 use Rattle.kl_meaning.specs.Typing.{OpTypes}
 use Rattle.kl_meaning.specs.Run.{code_of}
+use Rattle.kl_meaning.specs.Codes.{IsCalled, IsCalledRow, is_form}
 use Rattle.kl_rows.specs.declared.cell.TypeNode.TheVariants.{AnyType}
 use Rattle.kl_rows.specs.declared.cell.KindNode.TheVariants.{AnyKind}
 use Rattle.kl_rows.specs.declared.cell.Cell.{Cell}
@@ -243,7 +244,7 @@ module _ (old : List Cell) (first second : ℕ) (first_there : IsType old first)
       (subst (λ x. OpTypes c (s.types first) x t) (sym (a.types second (type_within old second second_there))) d)
 
   module _ (want : ℕ) (there : IsType old want) where
-    stable_kept : Stable (length old) (λ s. ShapeTypes shape.CollSame (s.types first ∷ []) (s.types want))
+    pub stable_kept : Stable (length old) (λ s. ShapeTypes shape.CollSame (s.types first ∷ []) (s.types want))
     stable_kept s u a d =
         (d.0, d.1, one_is (u.types first) (coll d.0 d.1) (a.types first (type_within old first first_there) ∙ head_is (s.types first) (coll d.0 d.1) d.2), a.types want (type_within old want there) ∙ d.3)
 
@@ -261,3 +262,26 @@ module _ (old : List Cell) (first second : ℕ) (first_there : IsType old first)
 
     pub no_append : (one : Bool) (mid : List Cell) → one ≡ false → Checks one old mid (λ s. s.types second ≡ s.types first) → Checks false old mid (λ s. Operates op.Append first second (s.types want) s)
     no_append one mid e c = append_told false mid (and_not one old mid _ _ e c)
+
+-- the first items of a collection
+module _ (old mid new : List Cell) (number all want : ℕ) (one ans : Bool) (all_there : IsType old all) (there : IsType old want) (check : Checks one old mid (λ s. s.types number ≡ int)) where
+  abbrev Taken : Fact
+  Taken s = ShapeTypes shape.Take (s.types number ∷ s.types all ∷ []) (s.types want)
+
+  pub takes_items : one ≡ true → Checks ans mid new (λ s. ShapeTypes shape.CollSame (s.types all ∷ []) (s.types want)) → Checks ans old new Taken
+  takes_items e c = told ans old new (λ s. (s.types number ≡ int) × ShapeTypes shape.CollSame (s.types all ∷ []) (s.types want)) Taken
+      (λ s h d. (let w = heads_are (s.types number) (s.types all) int (coll d.0 d.1) d.2 in (w.0, (d.0, d.1, one_is (s.types all) (coll d.0 d.1) w.1, d.3))))
+      (λ s h d. (d.1.0, d.1.1, two_are (s.types number) (s.types all) int (coll d.1.0 d.1.1) d.0 (head_is (s.types all) (coll d.1.0 d.1.1) d.1.2), d.1.3))
+      (and_then one ans old mid new _ _ e (stable_kept old all all all_there all_there want there) check c)
+
+  pub takes_none : one ≡ false → Checks false old mid Taken
+  takes_none e = cut old mid (λ s. s.types number ≡ int) Taken (λ s h d. (heads_are (s.types number) (s.types all) int (coll d.0 d.1) d.2).0) (subst (λ o. Checks o old mid (λ s. s.types number ≡ int)) e check)
+
+-- a primitive that may be called has no form of records for its shape
+pub shape_called : (code : ℕ) (e : Entry) → Some e ≡ option_map (λ r. r.entry) (row_at code) → IsCalled code → is_form e.shape ≡ false
+unfolding IsCalled
+shape_called code e row h = by (row_at code) row h
+  where
+    by : (o : Option Primitive) → Some e ≡ option_map (λ r. r.entry) o → IsCalledRow o → is_form e.shape ≡ false
+    by None q k = let z : ⊥ = cc in absurd z
+    by (Some p) q k = let same : e ≡ p.entry = cc in subst (λ x. is_form x.shape ≡ false) (sym same) k

@@ -1,5 +1,5 @@
 -- Fields sorted by label are the same fields, and those of one label stand side by side.
-use Rattle.std.proofs.Common.{◌≡◌, ◌≢◌, ⊎_elim, ℕ, zero, suc, ◌-◌, Bool, true, false, cond, List, [], ◌∷◌, drop, Option, Some, None, IsSome, nat_eq, refl, sym, ap, ◌∙◌, subst, is_gt, IsPermutation}
+use Rattle.std.proofs.Common.{◌≡◌, ◌≢◌, ⊎_elim, ℕ, zero, suc, ◌-◌, Bool, true, false, cond, List, [], ◌∷◌, drop, Option, Some, None, is_some, IsSome, nat_eq, refl, sym, ap, ◌∙◌, subst, is_gt, IsPermutation}
 use Rattle.std.specs.Cmp.{IsTotalOrder}
 use Rattle.std.specs.Cmp.Lexicographic.{pointwise}
 use Rattle.std.specs.List.{AllByRecursion}
@@ -14,13 +14,15 @@ use Rattle.kl_base.proofs.SortedLemmas.{IsRising-from_sorted}
 use Rattle.kl_value.proofs.OrderLemmas.{same_bytes}
 use Rattle.kl_type.specs.Ground.{Row, at}
 use Rattle.kl_type.proofs.RowLemmas.{told}
+use Rattle.kl_prim.specs.Records.{is_label_of}
+use Rattle.kl_outcome.proofs.RowFields.{without_by}
 use Rattle.kl_rows.specs.declared.cell.Cell.{Cell}
 use Rattle.kl_rows.specs.Lists.{Fields}
 use Rattle.kl_rows.specs.Places.{IsType, AreTypes}
 use Rattle.kl_rows.specs.Solutions.{Assignment}
 use Rattle.kl_rows.proofs.ListLemmas.{Label, field_there}
 use Rattle.kl_forms.specs.Forms.{HasFields}
-use Rattle.kl_forms.specs.Rows.{FindsRow, next}
+use Rattle.kl_forms.specs.Rows.{HasRest, FindsRow, next}
 use Rattle.kl_forms.proofs.Fronts.{none_behind}
 use Rattle.kl_base.proofs.Orders.{neither}
 
@@ -55,15 +57,28 @@ perm_fields : (b : Bool) (fs gs : Fields) (r : Row) (s : Assignment) → IsPermu
 perm_fields true fs gs r s m h = (perm_all (λ f. at f.0 r ≡ Some (s.types f.1)) fs gs m h.0, tt)
 perm_fields false fs gs r s m h = (perm_all (λ f. at f.0 r ≡ Some (s.types f.1)) fs gs m h.0, λ l k. perm_some fs gs l m (h.1 l k))
 
-pub finds_sorted : (o : Option ℕ) (b : Bool) (fs gs : Fields) (old new : List Cell) → IsPermutation fs gs → FindsRow o old new b gs → FindsRow o old new b fs
-finds_sorted (Some row) b fs gs old new m c = record {
+-- the same labels
+both_some : (o p : Option ℕ) → (IsSome o → IsSome p) → (IsSome p → IsSome o) → is_some o ≡ is_some p
+both_some (Some n) p go come = sym (go refl)
+both_some None (Some n) go come = come refl
+both_some None None go come = refl
+
+perm_label : (fs gs : Fields) (l : Label) → IsPermutation fs gs → is_label_of fs l ≡ is_label_of gs l
+perm_label fs gs l m = both_some (field l fs) (field l gs) (perm_some fs gs l m) (perm_some gs fs l (IsPermutation-sym fs gs m))
+
+perm_rest : (b : Bool) (fs gs : Fields) (r q : Row) (s : Assignment) → IsPermutation fs gs → HasRest b fs r q s → HasRest b gs r q s
+perm_rest b fs gs r q s m h = (perm_fields b fs gs r s m h.0, without_by (is_label_of fs) (is_label_of gs) r q (λ l. perm_label fs gs l m) h.1)
+
+pub finds_sorted : (o : Option (ℕ × ℕ)) (b : Bool) (fs gs : Fields) (old new : List Cell) → IsPermutation fs gs → FindsRow o old new b gs → FindsRow o old new b fs
+finds_sorted (Some found) b fs gs old new m c = record {
   fine = c.fine;
   keeps = c.keeps;
   sort = c.sort;
-  down = λ s r h g e. c.down s r h g (perm_fields b fs gs r s m e);
-  up = λ s h. let w = c.up s h in (w.0, perm_fields b gs fs (s.rows row) s (IsPermutation-sym fs gs m) w.1);
+  rest_sort = c.rest_sort;
+  down = λ s r q h g k e. c.down s r q h g k (perm_rest b fs gs r q s m e);
+  up = λ s h. let w = c.up s h in (w.0, perm_rest b gs fs (s.rows found.0) (s.rows found.1) s (IsPermutation-sym fs gs m) w.1);
 }
-finds_sorted None b fs gs old new m c = record { fine = c.fine; keeps = c.keeps; none = λ s r h g e. c.none s r h g (perm_all (λ f. at f.0 r ≡ Some (s.types f.1)) fs gs m e) }
+finds_sorted None b fs gs old new m c = record { fine = c.fine; keeps = c.keeps; none = λ s r h g e. c.none s r h g (perm_fields b fs gs r s m e) }
 
 -- neighbours
 

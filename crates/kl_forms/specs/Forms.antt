@@ -10,7 +10,8 @@ use Rattle.kl_rows.specs.Lists.{Fields}
 use Rattle.kl_rows.specs.Schemes.{Instance}
 use Rattle.kl_rows.specs.Solutions.{Assignment}
 use Rattle.kl_rows.specs.declared.Scheme.{Scheme}
-use Rattle.kl_outcome.specs.Typed.{Inhabits, PrimTypes}
+use Rattle.kl_prim.specs.Records.{is_label_of}
+use Rattle.kl_outcome.specs.Typed.{Inhabits, IsWithout, PrimTypes}
 use Rattle.kl_syntax.specs.declared.Op.{Op}
 use Rattle.kl_meaning.specs.Typing.{OpTypes}
 
@@ -46,6 +47,11 @@ IsRecord open_end fs want s = (r : Row) × (s.types want ≡ rec r) × HasFields
 
 abbrev pub IsVariant : Bool → Fields → ℕ → Assignment → Type 0
 IsVariant open_end fs want s = (r : Row) × (s.types want ≡ var r) × HasFields open_end fs r s
+
+-- the record of the other fields of a record with these
+abbrev pub RestOf : Fields → ℕ → Ground → Assignment → Type 0
+RestOf fs want t s =
+    (r : Row) × (q : Row) × (s.types want ≡ rec r) × (t ≡ rec q) × HasFields true fs r s × IsWithout (is_label_of fs) r q
 
 -- a constant
 abbrev pub IsOfType : Value → ℕ → Assignment → Type 0

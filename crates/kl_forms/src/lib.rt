@@ -7,7 +7,8 @@
 //! another, and knows nothing of rows and kinds.
 //!
 //! A record's or a variant's fields are sorted once, and become one chain of rows, in `records.rt`; that chain is all that
-//! is asked of a label, too. `proofs/Opening.antt`, `Shapes.antt` and `Turns.antt` put checks together.
+//! is asked of a label, too, and its end is the row of a record's other fields. `proofs/Opening.antt`, `Shapes.antt` and
+//! `Turns.antt` put checks together.
 //!
 //! What `rt plant` lets through here: bodies that answer want of memory, which no contract of this project ties to a
 //! refused growth.
@@ -23,6 +24,6 @@ mod uses;
 pub use collections::{any_items_of, fresh_types, items_of};
 pub use constants::value;
 pub use primitives::{applied, operated};
-pub use records::{field_of, is_record, is_variant, variant_of};
+pub use records::{field_of, is_record, is_variant, rest_of, variant_of};
 pub use types::uses_type;
 pub use uses::{uses_function, uses_value};

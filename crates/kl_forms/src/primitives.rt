@@ -1,10 +1,11 @@
 //! Primitives and operators.
-ghost use Rattle.std.specs.Prelude.{◌≡◌, [], ◌∷◌, IfOk};
+ghost use Rattle.std.specs.Prelude.{◌≡◌, false, [], ◌∷◌, IfOk};
 ghost use Rattle.std.specs.List.{AllByRecursion};
 ghost use Rattle.kl_type.specs.Ground.{Ground, coll};
 ghost use Rattle.kl_rows.specs.Places.{IsFine, IsType};
 ghost use Rattle.kl_rows.specs.Solutions.{scalar_type};
 ghost use Rattle.kl_outcome.specs.Typed.{ShapeTypes};
+ghost use Rattle.kl_meaning.specs.Codes.{IsCalled, is_form};
 ghost use Rattle.kl_value.specs.declared.Kind.{Kind};
 ghost use Rattle.kl_forms.specs.Checks.{Checks, Finds};
 ghost use Rattle.kl_forms.specs.Forms.{ItemsOf, DrawnFrom, Applies, Operates};
@@ -18,9 +19,10 @@ use kl_rows::{Scalar, Unifier};
 use kl_syntax::Op;
 use kl_value::Kind;
 
-/// Whether the primitive of the code can take arguments of these types and give this one.
+/// Whether the primitive of the code, which is no form of records, can take arguments of these types and give this one.
 pub fn applied(u: &mut Unifier, code: u8, args: &[u64], want: u64) -> Result<bool, NoMemory>
     requires fine { IsFine u.old.cells.items }
+    requires called { IsCalled code }
     requires there { IsType u.old.cells.items want }
     requires args_there { AllByRecursion (IsType u.old.cells.items) args.now }
     ensures { IfOk result (λ holds. Checks holds u.old.cells.items u.new.cells.items (Applies code args.now want)) }
@@ -63,13 +65,18 @@ fn takes_one(u: &mut Unifier, shape: Shape, arg: u64, want: u64) -> Result<bool,
         Shape::ToSet => is_turned(u, arg, Kind::Set, want),
         Shape::ToBag => is_turned(u, arg, Kind::Bag, want),
         Shape::ToList => is_turned(u, arg, Kind::List, want),
-        Shape::Compare | Shape::IntOp | Shape::TextJoin | Shape::Member | Shape::TextTest => {
-            Ok(false)
-        }
+        Shape::Compare
+        | Shape::IntOp
+        | Shape::TextJoin
+        | Shape::Member
+        | Shape::TextTest
+        | Shape::Extend
+        | Shape::Rest
+        | Shape::Take => Ok(false),
     }
 }
 
-// Whether a primitive of this shape can take two arguments of these types.
+// Whether a primitive of this shape, which is no form of records, can take two arguments of these types.
 fn takes_two(
     u: &mut Unifier,
     shape: Shape,
@@ -78,6 +85,7 @@ fn takes_two(
     want: u64,
 ) -> Result<bool, NoMemory>
     requires fine { IsFine u.old.cells.items }
+    requires called { is_form shape ≡ false }
     requires first_there { IsType u.old.cells.items first }
     requires second_there { IsType u.old.cells.items second }
     requires there { IsType u.old.cells.items want }
@@ -90,6 +98,8 @@ fn takes_two(
         Shape::TextJoin => are_alike(u, Scalar::Str, first, second, Scalar::Str, want),
         Shape::TextTest => are_alike(u, Scalar::Str, first, second, Scalar::Bool, want),
         Shape::Member => is_member(u, first, second, want),
+        Shape::Take => is_taken(u, first, second, want),
+        Shape::Extend | Shape::Rest => unreachable!(),
         Shape::IntFn
         | Shape::BoolFn
         | Shape::CollTest
@@ -183,6 +193,23 @@ fn is_member(u: &mut Unifier, item: u64, all: u64, want: u64) -> Result<bool, No
         return Ok(false);
     }
     let gives = is_scalar(u, Scalar::Bool, want)?;
+    Ok(gives)
+}
+
+// Whether the types can be those of a number of items, of a collection, and of that collection.
+fn is_taken(u: &mut Unifier, number: u64, all: u64, want: u64) -> Result<bool, NoMemory>
+    requires fine { IsFine u.old.cells.items }
+    requires number_there { IsType u.old.cells.items number }
+    requires all_there { IsType u.old.cells.items all }
+    requires there { IsType u.old.cells.items want }
+    ensures { IfOk result (λ holds. Checks holds u.old.cells.items u.new.cells.items
+        (λ s. ShapeTypes Shape.Take (s.types number ∷ s.types all ∷ []) (s.types want))) }
+{
+    let takes = is_scalar(u, Scalar::Int, number)?;
+    if !takes {
+        return Ok(false);
+    }
+    let gives = is_kept(u, all, want)?;
     Ok(gives)
 }
 

@@ -1,11 +1,13 @@
 //! Records and variants.
-ghost use Rattle.std.specs.Prelude.{◌≡◌, [], IfOk, map, true};
-ghost use Rattle.kl_base.specs.Fields.{bytes_cmp};
+ghost use Rattle.std.specs.Prelude.{◌≡◌, ℕ, IfOk, List, IsSome, map, true};
+ghost use Rattle.kl_base.specs.Fields.{bytes_cmp, field};
 ghost use Rattle.kl_base.specs.Sorted.{IsRising};
-ghost use Rattle.kl_rows.specs.Places.{IsFine, IsType, IsRowAt, AreTypes};
+ghost use Rattle.kl_rows.specs.Making.{AddsCell};
+ghost use Rattle.kl_rows.specs.Places.{IsFine, IsType, IsRowAt, AreTypes, Lacks};
+ghost use Rattle.kl_rows.specs.declared.cell.Cell.TheVariants.{OfRow};
 ghost use Rattle.kl_forms.specs.Checks.{Checks, Finds};
-ghost use Rattle.kl_forms.specs.Forms.{FieldOf, VariantOf, HasFields, InRow, IsRecord, IsVariant};
-ghost use Rattle.kl_forms.specs.Rows.{FindsRow, Fronts, next};
+ghost use Rattle.kl_forms.specs.Forms.{FieldOf, VariantOf, HasFields, InRow, IsRecord, IsVariant, RestOf};
+ghost use Rattle.kl_forms.specs.Rows.{FindsBefore, FindsRow, end_node, next};
 
 use crate::types::same;
 use kl_base::{Label, NoMemory, labels_of};
@@ -25,7 +27,7 @@ fn next(fields: &[(Label, u64)], label: &Label) -> Option<u64>
 // What stands behind the fields of a row: nothing, or if it is open others.
 fn end_of(u: &mut Unifier, fields: &[(Label, u64)], is_open: bool) -> Result<u64, NoMemory>
     requires fine { IsFine u.old.cells.items }
-    ensures { IfOk result (λ row. Fronts is_open fields.now [] u.old.cells.items u.new.cells.items row) }
+    ensures { IfOk result (λ row. AddsCell u.old.cells.items u.new.cells.items (OfRow (end_node is_open fields.now)) row) }
 {
     if is_open {
         let labels = labels_of(u.alloc, fields)?;
@@ -36,19 +38,17 @@ fn end_of(u: &mut Unifier, fields: &[(Label, u64)], is_open: bool) -> Result<u64
     Ok(row)
 }
 
-// A row with these fields, which are sorted, and if it is open others. None where the types that stand at one label can't
-// be one.
-fn sorted_row(
-    u: &mut Unifier,
-    fields: &[(Label, u64)],
-    is_open: bool,
-) -> Result<Option<u64>, NoMemory>
+// A row with these fields, which are sorted, before a row that lacks their labels. None where the types that stand at one
+// label can't be one.
+fn row_before(u: &mut Unifier, fields: &[(Label, u64)], end: u64) -> Result<Option<u64>, NoMemory>
     requires fine { IsFine u.old.cells.items }
     requires fields_there { AreTypes u.old.cells.items fields.now }
     requires rise { IsRising (λ f g. bytes_cmp f.0 g.0) fields.now }
-    ensures { IfOk result (λ found. FindsRow found u.old.cells.items u.new.cells.items is_open fields.now) }
+    requires end_there { IsRowAt u.old.cells.items end }
+    requires lacks { (l : List ℕ) → IsSome (field l fields.now) → Lacks u.old.cells.items l end }
+    ensures { IfOk result (λ found. FindsBefore found u.old.cells.items u.new.cells.items end fields.now) }
 {
-    let mut row = end_of(u, fields, is_open)?;
+    let mut row = end;
     'fields: for i in (0..fields.len()).rev() {
         let field = &fields[i];
         match next(&fields[i + 1..], &field.0) {
@@ -67,12 +67,31 @@ fn sorted_row(
     Ok(Some(row))
 }
 
+// A row with these fields, which are sorted, and if it is open others; and what stands behind the fields. None where the
+// types that stand at one label can't be one.
+fn sorted_row(
+    u: &mut Unifier,
+    fields: &[(Label, u64)],
+    is_open: bool,
+) -> Result<Option<(u64, u64)>, NoMemory>
+    requires fine { IsFine u.old.cells.items }
+    requires fields_there { AreTypes u.old.cells.items fields.now }
+    requires rise { IsRising (λ f g. bytes_cmp f.0 g.0) fields.now }
+    ensures { IfOk result (λ found. FindsRow found u.old.cells.items u.new.cells.items is_open fields.now) }
+{
+    let end = end_of(u, fields, is_open)?;
+    match row_before(u, fields, end)? {
+        None => Ok(None),
+        Some(row) => Ok(Some((row, end))),
+    }
+}
+
 // The same of fields in any order.
 fn row_of(
     u: &mut Unifier,
     fields: Vec<(Label, u64)>,
     is_open: bool,
-) -> Result<Option<u64>, NoMemory>
+) -> Result<Option<(u64, u64)>, NoMemory>
     requires fine { IsFine u.old.cells.items }
     requires fields_there { AreTypes u.old.cells.items fields.items }
     ensures { IfOk result (λ found. FindsRow found u.old.cells.items u.new.cells.items is_open fields.items) }
@@ -98,10 +117,36 @@ pub fn is_record(
 {
     match row_of(u, fields, is_open)? {
         None => Ok(false),
-        Some(row) => {
+        Some((row, _)) => {
             let all = u.make(Node::Rec(row))?;
             let holds = same(u, all, want)?;
             Ok(holds)
+        }
+    }
+}
+
+/// The type of the record that has the other fields of a record with these labels and types. None where the type can be
+/// that of no such record. A label may stand twice; then its types are one.
+pub fn rest_of(
+    u: &mut Unifier,
+    fields: Vec<(Label, u64)>,
+    want: u64,
+) -> Result<Option<u64>, NoMemory>
+    requires fine { IsFine u.old.cells.items }
+    requires there { IsType u.old.cells.items want }
+    requires fields_there { AreTypes u.old.cells.items fields.items }
+    ensures { IfOk result (λ found. Finds found u.old.cells.items u.new.cells.items (RestOf fields.items want)) }
+{
+    match row_of(u, fields, true)? {
+        None => Ok(None),
+        Some((row, others)) => {
+            let all = u.make(Node::Rec(row))?;
+            let holds = same(u, all, want)?;
+            if !holds {
+                return Ok(None);
+            }
+            let rest = u.make(Node::Rec(others))?;
+            Ok(Some(rest))
         }
     }
 }
@@ -121,7 +166,7 @@ pub fn is_variant(
 {
     match row_of(u, fields, is_open)? {
         None => Ok(false),
-        Some(row) => {
+        Some((row, _)) => {
             let all = u.make(Node::Var(row))?;
             let holds = same(u, all, want)?;
             Ok(holds)
@@ -168,7 +213,7 @@ fn has_fields(u: &mut Unifier, fields: Vec<(Label, u64)>, end: u64) -> Result<bo
 {
     match row_of(u, fields, true)? {
         None => Ok(false),
-        Some(row) => {
+        Some((row, _)) => {
             let holds = u.merge(row, end)?;
             Ok(holds)
         }

@@ -1,10 +1,10 @@
 -- Names with the same types give the same derivations.
 use Rattle.std.proofs.Common.{◌≡◌, List, [], Option, Some, None, subst}
 use Rattle.kl_base.specs.Fields.{field}
-use Rattle.kl_type.specs.Ground.{Ground, Row, bool, var, coll as colls}
+use Rattle.kl_type.specs.Ground.{Ground, Row, bool, rec, var, coll as colls}
 use Rattle.kl_outcome.specs.Outcome.{Name}
 use Rattle.kl_outcome.specs.Typed.{PrimTypes}
-use Rattle.kl_syntax.specs.Syntax.{Pat, catch, any, same, is, shape, variant, Pats, no_pats, pats, Exp, Const, name, Call, Rec, Inj, Coll, Comp, If, Let, Case, Path, Not, Neg, Chain, Exps, no_exps, exps, Flds, no_flds, flds, Quals, no_quals, draw, test, Branches, no_branches, otherwise, branch, Steps, no_steps, step}
+use Rattle.kl_syntax.specs.Syntax.{Pat, catch, any, same, is, shape, variant, Pats, no_pats, pats, Exp, Const, name, Call, Rec, More, Inj, Coll, Comp, If, Let, Case, Path, Not, Neg, Chain, Exps, no_exps, exps, Flds, no_flds, flds, Quals, no_quals, draw, test, Branches, no_branches, otherwise, branch, Steps, no_steps, step}
 use Rattle.kl_meaning.specs.Typing.{Context, Sort, nothing, value_of, function_of, primitive, ValueTypes, CallTypes, VariableOr, NameTypes, Takes, TakesFields, Types, AllTypes, EachType, FieldTypes, QualTypes, BranchTypes, StepTypes, FunctionTypes}
 
 -- what the one gives the other gives too
@@ -51,7 +51,7 @@ mutual
   takes_within any P Q t G H w h = h
   takes_within (same x) P Q t G H w h = (w x.text t h.0, h.1)
   takes_within (is v n) P Q t G H w h = h
-  takes_within (shape ps dots) P Q t G H w h = (h.0, h.1, h.2, fields_within ps P Q h.0 G H w h.3)
+  takes_within (shape ps end) P Q t G H w h = (h.0, h.1, h.2, h.3, fields_within ps P Q h.0 G h.1 w h.4, h.5)
   takes_within (variant l p) P Q t G H w h = (h.0, h.1, h.2, h.3, takes_within p P Q h.1 G H w h.4)
 
   fields_within : (ps : Pats) (P Q : Name → Ground → Type 0) (r : Row) (G H : Context) → ((x : Name) (u : Ground) → P x u → Q x u) → TakesFields ps P r G H → TakesFields ps Q r G H
@@ -68,6 +68,7 @@ module _ (K J : Name → Sort) (within : (x : Name) → IsIncluded (K x) (J x)) 
     types_within (name x) G t h = named G x.text t h
     types_within (Call f es) G t h = (h.0, all_within es G h.0 h.1, call_within (K f.text) (J f.text) h.0 t (within f.text) h.2)
     types_within (Rec fs) G t h = (h.0, h.1, h.2, h.3, each_field fs G h.0 h.4)
+    types_within (More fs e) G t h = (h.0, h.1, h.2, h.3, h.4, each_field fs G h.0 h.5, types_within e G (rec h.1) h.6)
     types_within (Inj l e) G t h = (h.0, h.1, h.2, h.3, h.4, types_within e G h.1 h.5)
     types_within (Coll k es) G t h = (h.0, h.1, h.2, each_within es G h.0 h.3)
     types_within (Comp k e qs) G t h = (h.0, h.1, h.2, quals_within qs G h.1 h.3, types_within e h.1 h.0 h.4)

@@ -10,7 +10,7 @@ use Rattle.kl_type.specs.Ground.{Ground, bool, IsGround}
 use Rattle.kl_rows.specs.Lists.{Fields}
 use Rattle.kl_rows.specs.Solutions.{Assignment}
 use Rattle.kl_rows.proofs.Advancing.{Fact}
-use Rattle.kl_forms.specs.Forms.{ItemsOf, DrawnFrom, VariantOf, IsRecord, IsVariant, IsOfType, Applies, Operates}
+use Rattle.kl_forms.specs.Forms.{ItemsOf, DrawnFrom, VariantOf, IsRecord, IsVariant, RestOf, IsOfType, Applies, Operates}
 use Rattle.kl_outcome.specs.Outcome.{Name}
 use Rattle.kl_outcome.specs.Typed.{PrimTypes}
 use Rattle.kl_syntax.specs.declared.tree.Branch.{Branch, out-Branch}
@@ -24,7 +24,7 @@ use Rattle.kl_syntax.specs.declared.tree.Word.{Word}
 use Rattle.kl_syntax.specs.Syntax.{Exp, Exps, Steps, Branches, no_branches, Quals, no_quals, draw, Case, Rec}
 use Rattle.kl_syntax.specs.View.{view, qual_view, branch_view, branches_of, rest_of, exps_of, exps_view, flds_of, field_view, quals_view, steps_view, pattern_view}
 use Rattle.kl_meaning.specs.Typing.{Context, NameTypes, CallTypes, Takes, PathTypes, Types, AllTypes, EachType, QualTypes, StepTypes}
-use Rattle.kl_infer.specs.Asking.{Leaves, Asks, Refuses, Asked, Gets, GetsMany, Binds, Bound, Binding, context, onto}
+use Rattle.kl_infer.specs.Asking.{Leaves, Asks, Refuses, Asked, Gets, Found, GetsMany, Binds, Bound, Binding, context, onto}
 use Rattle.kl_infer.specs.Names.{Ready, sorts, ArmsTake, labelled}
 use Rattle.kl_infer.specs.declared.refusal.Refusal.{Refusal}
 use Rattle.kl_infer.specs.declared.scope.Known.{Known}
@@ -34,8 +34,8 @@ use Rattle.kl_infer.proofs.Leaving.{Leads, begins, restated, leads_on, binds, op
 use Rattle.kl_infer.proofs.Loops.{BindingLeads, at_number, ends, all_next, each_next, arms_next, step_checked, step_refused, steps_next, quals_next, binding_begins, bound_all, draw_split, draw_join, test_split, test_join, draw_refused, draw_unchecked, draw_untaken, draw_form, test_form}
 use Rattle.kl_infer.proofs.PatternForms.{ready_out, bound_so_far}
 use Rattle.kl_infer.proofs.Forms.{T, second, Payload, Items, Drawn, Body, constant_form, inject_seen, inject_opened, coll_seen, coll_opened, comp_seen, comp_bound, head_checked, head_left, let_checked, let_bound, if_tested, if_chosen}
-use Rattle.kl_infer.proofs.Lists.{Arms, with_arms, LastTypes, IsLast, none_last, rest_last, is_rest, names_of, Armed, Left, call_asked, record_asked, case_chosen, case_checked, case_armed}
-use Rattle.kl_infer.proofs.Views.{arm, view_con, view_name, view_call, view_rec, view_inj, view_coll, view_comp, view_if, view_let, view_case, view_path, view_not, view_neg, view_chain, count_view, names_seen, bodies_seen, length_seen, arm_names, arm_length, arms_seen, view_gen, view_cond}
+use Rattle.kl_infer.proofs.Lists.{Arms, with_arms, LastTypes, IsLast, none_last, rest_last, is_rest, names_of, length_names, bodies, RestAt, rest_at, more_refused, more_asked, Armed, Left, call_asked, record_asked, case_chosen, case_checked, case_armed}
+use Rattle.kl_infer.proofs.Views.{arm, view_con, view_name, view_call, view_rec, view_more, view_inj, view_coll, view_comp, view_if, view_let, view_case, view_path, view_not, view_neg, view_chain, count_view, names_seen, bodies_seen, length_seen, arm_names, arm_length, arms_seen, view_gen, view_cond}
 use Rattle.kl_base.proofs.Places.{drop_at}
 use Rattle.kl_syntax.proofs.Views.{branch_seen}
 
@@ -144,6 +144,33 @@ module _ (k : Known) (ns : Fields) (w : ℕ) (e : Expr) (a : List Cell) (ready :
         → Asked r c d (λ s. AllTypes (exps_of (map (λ f. view f.1) ys)) (sorts k) (context s ns) (map s.types ds2)) → Asked r a d Has
     record_ok r c d ds2 xs ys all j3 h j1 j4 g q m = leads_on r a c d _ _ (λ s. Unit {0}) (record_asked_so (Ok tt) c xs ys all h j1 j4 g q)
         (subst (λ (v : List ℕ). Asked r c d (λ s. AllTypes (exps_of (map (λ f. view f.1) ys)) (sorts k) (context s ns) (map s.types v))) j3 m)
+
+  -- a record with more fields
+  module _ (b : List Cell) (is ds1 : List ℕ) (j2 : ds1 ≡ is) (x y : Expr) (xs ys : List (Word × Expr)) (all : Fields) (h : e ≡ expr.More xs x) (j1 : ys ≡ xs) (j3 : y ≡ x) (j4 : all ≡ labelled (map (λ f. f.0.text) ys) ds1) (g : GetsMany a b is (length ys)) where
+    abbrev Pairs : List (Word × Exp)
+    Pairs = map field_view ys
+
+    many_more : GetsMany a b is (length Pairs)
+    many_more = subst (λ (n : ℕ). GetsMany a b is n) (sym (length_seen ys)) g
+
+    rest_so : (r : Result ℕ Refusal) (c : List Cell) → Found r b c (RestOf all w) → Found r b c (λ u s. RestAt (names_of Pairs) (s.types w) (map s.types is) u)
+    rest_so r c q =
+        let same : all ≡ labelled (names_of Pairs) is = j4 ∙ ap (λ (v : List Name). labelled v ds1) (sym (names_seen ys)) ∙ ap (labelled (names_of Pairs)) j2 in
+        rest_at r b c (names_of Pairs) is w (many_more.size ∙ sym (length_names Pairs)) (subst (λ (v : Fields). Found r b c (RestOf v w)) same q)
+
+    pub more_none : (o : Refusal) → Refuses b (λ s. (t : Ground) × IsGround t × RestOf all w t s) o → Refuses a Has o
+    more_none o q = at_view (Err o) b _ (λ s. Unit {0}) (view_more e x y xs ys h j1 j3) (more_refused k ns a b w ready is Pairs (view y) many_more o (rest_so (Err o) b q))
+
+    pub more_asked_so : (r : Result (Unit {0}) Refusal) (c d : List Cell) (i : ℕ) (ds2 : List ℕ) → ds2 ≡ is → Gets b c i (RestOf all w)
+        → Asked r c d (λ s. AllTypes (exps_of (map (λ f. view f.1) ys)) (sorts k) (context s ns) (map s.types ds2)) → Leads r a d Has (T k ns (view y) i)
+    more_asked_so r c d i ds2 j5 q m = at_view r d _ _ (view_more e x y xs ys h j1 j3)
+        (more_asked k ns a b w ready is Pairs (view y) many_more r c d i (rest_so (Ok i) c q)
+        (subst (λ (v : List ℕ). Asked r c d (λ s. AllTypes (bodies Pairs) (sorts k) (context s ns) (map s.types v))) j5
+        (subst (λ (v : Exps). Asked r c d (λ s. AllTypes v (sorts k) (context s ns) (map s.types ds2))) (sym (bodies_seen ys)) m)))
+
+    pub more_ok : (r : Result (Unit {0}) Refusal) (c d z : List Cell) (i : ℕ) (ds2 : List ℕ) → ds2 ≡ is → Gets b c i (RestOf all w)
+        → Asks c d (λ s. AllTypes (exps_of (map (λ f. view f.1) ys)) (sorts k) (context s ns) (map s.types ds2)) → Asked r d z (T k ns (view y) i) → Asked r a z Has
+    more_ok r c d z i ds2 j5 q m f = leads_on r a d z _ _ (λ s. Unit {0}) (more_asked_so (Ok tt) c d i ds2 j5 q m) f
 
   -- a `case`: `last` is what stands behind its branches
   module _ (b c : List Cell) (i : ℕ) (is ds1 : List ℕ) (y y2 : Expr) (bs bs2 : List Branch) (rest : Option Expr) (all : Fields) (o : Bool) (last : Branches) (il : IsLast last) (lr : rest_of (option_map view rest) ≡ last) (oo : o ≡ is_rest last)

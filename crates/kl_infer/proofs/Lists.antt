@@ -1,5 +1,5 @@
 -- What forms with many parts ask: calls, records, branches, and lists one part after another.
-use Rattle.std.proofs.Common.{◌≡◌, ℕ, suc, Bool, true, false, ◌||◌, IsTrue, List, [], ◌∷◌, length, map, cond, Option, Some, None, IsSome, Result, Ok, refl, sym, ap, ◌∙◌, subst, rules}
+use Rattle.std.proofs.Common.{◌≡◌, ℕ, suc, Bool, true, false, ◌||◌, IsTrue, List, [], ◌∷◌, length, map, cond, Option, Some, None, is_some, IsSome, Result, Ok, Err, refl, sym, ap, ◌∙◌, subst, rules}
 use Rattle.std.specs.Prelude.{⊤}
 use Rattle.std.specs.List.{AllByRecursion}
 use Rattle.kl_base.specs.Fields.{field}
@@ -8,19 +8,22 @@ use Rattle.kl_rows.specs.Lists.{Fields}
 use Rattle.kl_rows.specs.Solutions.{Assignment}
 use Rattle.kl_rows.proofs.Advancing.{Fact}
 use Rattle.kl_outcome.specs.Outcome.{Name}
-use Rattle.kl_forms.specs.Forms.{HasNoOthers, IsRecord, IsVariant}
+use Rattle.kl_prim.specs.Records.{is_label_of}
+use Rattle.kl_outcome.specs.Typed.{IsWithout}
+use Rattle.kl_forms.specs.Forms.{HasNoOthers, IsRecord, IsVariant, RestOf}
 use Rattle.kl_syntax.specs.declared.tree.Word.{Word}
-use Rattle.kl_syntax.specs.Syntax.{Pat, Exp, Call, Rec, Case, Exps, no_exps, exps, Branches, no_branches, otherwise, branch}
+use Rattle.kl_syntax.specs.Syntax.{Pat, Exp, Call, Rec, More, Case, Exps, no_exps, exps, Branches, no_branches, otherwise, branch}
 use Rattle.kl_syntax.specs.View.{exps_of, flds_of}
 use Rattle.kl_meaning.specs.Match.{same_name}
 use Rattle.kl_meaning.specs.Typing.{Sort, Context, CallTypes, Types, AllTypes, FieldTypes, BranchTypes, has_branch, has_field}
-use Rattle.kl_infer.specs.Asking.{Leaves, Asks, Asked, Gets, GetsMany, context}
+use Rattle.kl_infer.specs.Asking.{Leaves, Asks, Refuses, Asked, Gets, Found, GetsMany, context}
 use Rattle.kl_infer.specs.Names.{Ready, sorts, ArmsTake, labelled}
 use Rattle.kl_infer.specs.declared.refusal.Refusal.{Refusal}
 use Rattle.kl_infer.specs.declared.scope.Known.{Known}
 use Rattle.kl_rows.specs.declared.cell.Cell.{Cell}
 use Rattle.kl_outcome.proofs.Grounds.{at_ground}
-use Rattle.kl_infer.proofs.Leaving.{Leads, restated, leads_on, in_words, beside, opens, opens_many, goes_on, ready_on, ready_for, ready_many, said}
+use Rattle.kl_outcome.proofs.RowFields.{without_by}
+use Rattle.kl_infer.proofs.Leaving.{Leads, restated, leads_on, in_words, refuses_more, beside, opens, opens_none, opens_many, goes_on, ready_on, ready_for, ready_new, ready_many, said}
 use Rattle.kl_infer.proofs.Forms.{T, first, second, ground_of_type, ground_of_all, ready_after}
 
 -- ---- labels with types
@@ -112,6 +115,36 @@ module _ (r : Result (Unit {0}) Refusal) (a b : List Cell) (o : Bool) (ls : List
       (λ s h. (h.0, h.1, (fields_at h.0 ls is s e h.2, named_within o ls is h.0 e h.3)))
       (λ s h. (h.0, h.1, at_fields h.0 ls is s e h.2.0, within_named o ls is h.0 h.2.1)) f
 
+-- ---- the record of the other fields
+
+label_named : (ls : List Name) (is : List ℕ) → length is ≡ length ls → (l : Name) → is_label_of (labelled ls is) l ≡ has_name ls l
+label_named [] is e l = refl
+label_named (m ∷ ls) [] e l = let d : ⊥ = cc in absurd d
+label_named (m ∷ ls) (i ∷ is) e l = by (same_name l m) (field l (labelled ls is)) (has_name ls l) (label_named ls is (let d : length is ≡ length ls = cc in d) l)
+  where
+    by : (b : Bool) (o : Option ℕ) (c : Bool) → is_some o ≡ c → is_some (cond b (Some i) o) ≡ (b || c)
+    by true o c h = refl
+    by false o c h = h
+
+-- a record by its labels and types, and the record of its other fields
+abbrev pub RestAt : List Name → Ground → List Ground → Ground → Type 0
+RestAt ls t ts u = (r : Row) × (q : Row) × (t ≡ rec r) × (u ≡ rec q) × AtEach r ls ts × IsWithout (has_name ls) r q
+
+found_in_words : (r : Result ℕ Refusal) (a b : List Cell) (E F : Ground → Fact) → ((t : Ground) (s : Assignment) → F t s → E t s) → ((t : Ground) (s : Assignment) → E t s → F t s) → Found r a b E → Found r a b F
+found_in_words (Ok i) a b E F go come f = record {
+  fine = f.fine;
+  keeps = f.keeps;
+  sort = f.sort;
+  down = λ s t h g d. f.down s t h g (go t s d);
+  up = λ s h. let z = f.up s h in (z.0, come (s.types i) s z.1);
+}
+found_in_words (Err e) a b E F go come f = refuses_more a _ (λ s. (t : Ground) × IsGround t × E t s) e (λ s d. (d.0, d.1, go d.0 s d.2)) f
+
+pub rest_at : (r : Result ℕ Refusal) (a b : List Cell) (ls : List Name) (is : List ℕ) (w : ℕ) → length is ≡ length ls → Found r a b (RestOf (labelled ls is) w) → Found r a b (λ u s. RestAt ls (s.types w) (map s.types is) u)
+rest_at r a b ls is w e f = found_in_words r a b (RestOf (labelled ls is) w) (λ u s. RestAt ls (s.types w) (map s.types is) u)
+    (λ u s d. (d.0, d.1, d.2, d.3, (fields_at d.0 ls is s e d.4, tt), without_by (has_name ls) (is_label_of (labelled ls is)) d.0 d.1 (λ l. sym (label_named ls is e l)) d.5))
+    (λ u s d. (d.0, d.1, d.2, d.3, at_fields d.0 ls is s e d.4.0, without_by (is_label_of (labelled ls is)) (has_name ls) d.0 d.1 (label_named ls is e) d.5)) f
+
 -- ---- calls
 
 abbrev pub count : Exps → ℕ
@@ -189,6 +222,49 @@ module _ (k : Known) (ns : Fields) (r : Result (Unit {0}) Refusal) (a b c : List
       (λ ts. said k a ns (w ∷ []) (λ G us. RecordAt false ls (first us) ts × AllTypes (bodies fs) (sorts k) G ts) ready) g))
       (beside r b c (λ s. RecordAt false ls (s.types w) (map s.types is)) (λ s. AllTypes (bodies fs) (sorts k) (context s ns) (map s.types is))
       (said k b ns is (λ G ts. AllTypes (bodies fs) (sorts k) G ts) (ready_many k a b ns (w ∷ []) is (length fs) g ready)) (record_at r b c false ls is w el h))
+
+-- a record with more fields
+module _ (k : Known) (ns : Fields) (a b : List Cell) (w : ℕ) (ready : Ready k a ns (w ∷ [])) (is : List ℕ) (fs : List (Word × Exp)) (x : Exp) (g : GetsMany a b is (length fs)) where
+  abbrev Both : Context → List Ground → Ground → Type 0
+  Both G ts u = AllTypes (bodies fs) (sorts k) G ts × Types x (sorts k) G u
+
+  abbrev At : Ground → Fact
+  At u s = RestAt (names_of fs) (s.types w) (map s.types is) u
+
+  more_seen : Leaves a b (T k ns (More (flds_of fs) x) w) (λ s. (u : Ground) × IsGround u × At u s × Both (context s ns) (map s.types is) u)
+  more_seen =
+      let ls = names_of fs in
+      goes_on a a b _ _ _
+      (restated a (T k ns (More (flds_of fs) x) w) (λ s. (ts : List Ground) × (length ts ≡ length fs) × AllByRecursion IsGround ts × ((u : Ground) × IsGround u × RestAt ls (s.types w) ts u × Both (context s ns) ts u)) ready.fine
+      (λ s h.
+      let v = fields_split (sorts k) (context s ns) h.0 fs h.5 in (
+        v.0,
+        each_length h.0 ls v.0 v.1 ∙ length_names fs,
+        each_ground h.0 ls v.0 (subst IsGround h.2 (s.types_ground w)) v.1,
+        (rec h.1, h.4.0, (h.0, h.1, h.2, refl, v.1, without_by (has_field (flds_of fs)) (has_name ls) h.0 h.1 (has_names fs) h.4), (v.2, h.6)),
+      ))
+      (λ s z h.
+      let v = h.3.2 in (
+        v.0,
+        v.1,
+        v.2,
+        s.types_ground w,
+        without_by (has_name ls) (has_field (flds_of fs)) v.0 v.1 (λ l. sym (has_names fs l)) v.5,
+        fields_join (sorts k) (context s ns) v.0 fs h.0 v.4 h.3.3.0,
+        subst (λ (t : Ground). Types x (sorts k) (context s ns) t) v.3 h.3.3.1,
+      )))
+      (opens_many a b is (length fs) (λ ts s. (u : Ground) × IsGround u × RestAt ls (s.types w) ts u × Both (context s ns) ts u)
+      (λ ts. said k a ns (w ∷ []) (λ G us. (u : Ground) × IsGround u × RestAt ls (first us) ts u × Both G ts u) ready) g)
+
+  pub more_refused : (e : Refusal) → Refuses b (λ s. (u : Ground) × IsGround u × At u s) e → Refuses a (T k ns (More (flds_of fs) x) w) e
+  more_refused e f = leads_on (Err e) a b b _ _ (λ s. Unit {0}) more_seen (opens_none b At (λ u s. Both (context s ns) (map s.types is) u) e f)
+
+  pub more_asked : (r : Result (Unit {0}) Refusal) (c d : List Cell) (i : ℕ) → Gets b c i At → Asked r c d (λ s. AllTypes (bodies fs) (sorts k) (context s ns) (map s.types is)) → Leads r a d (T k ns (More (flds_of fs) x) w) (T k ns x i)
+  more_asked r c d i h m =
+      let q = ready_many k a b ns (w ∷ []) is (length fs) g ready in
+      leads_on r a c d _ _ _
+      (goes_on a b c _ _ _ more_seen (opens b c i At (λ u s. Both (context s ns) (map s.types is) u) (λ u. said k b ns is (λ G ts. Both G ts u) q) h))
+      (beside r c d (λ s. AllTypes (bodies fs) (sorts k) (context s ns) (map s.types is)) (T k ns x i) (said k c ns (i ∷ []) (λ G ts. Types x (sorts k) G (first ts)) (ready_new k b c ns is i At h q)) m)
 
 -- ---- branches
 

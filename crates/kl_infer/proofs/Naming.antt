@@ -1,5 +1,5 @@
 -- What names stand for.
-use Rattle.std.proofs.Common.{◌≡◌, ◌⊎◌, inl, inr, ⊎_elim, ℕ, min, ◌+◌, ◌<◌, ◌≤◌, cond, List, [], ◌∷◌, ◌++◌, length, drop, get_or, slice_index_or, map, Option, refl, sym, ap, ◌∙◌, arith, append_assoc}
+use Rattle.std.proofs.Common.{◌≡◌, ◌⊎◌, inl, inr, ⊎_elim, ℕ, min, ◌+◌, ◌<◌, ◌≤◌, Bool, true, false, cond, List, [], ◌∷◌, ◌++◌, length, drop, get_or, slice_index_or, map, Option, Some, None, refl, sym, ap, ◌∙◌, arith, append_assoc}
 use Rattle.std.proofs.lemmas.List.{drop_all, append-nil}
 use Rattle.std.proofs.lemmas.Bool.{cases_lt}
 use Rattle.kl_base.specs.Fields.{field}
@@ -7,7 +7,9 @@ use Rattle.kl_outcome.specs.Outcome.{Name}
 use Rattle.kl_rows.specs.Lists.{Fields}
 use Rattle.kl_meaning.specs.Match.{same_name}
 use Rattle.kl_infer.specs.Asking.{onto}
-use Rattle.kl_infer.specs.Names.{Meant, last_from, defined, meant_over, labelled}
+use Rattle.kl_meaning.specs.Codes.{IsCalled}
+use Rattle.kl_syntax.specs.declared.tree.Pattern.{Pattern}
+use Rattle.kl_infer.specs.Names.{IfCode, Meant, last_from, defined, meant_over, labelled}
 use Rattle.kl_rows.specs.declared.Scheme.{Scheme}
 use Rattle.kl_syntax.specs.declared.tree.Decl.{Decl}
 use Rattle.kl_infer.proofs.Loops.{at_number}
@@ -20,6 +22,12 @@ field_onto x (b ∷ bs) ns = field_onto x bs (b ∷ ns)
 
 pub innermost : (x : Name) (bs ns : Fields) (o r : Option ℕ) → o ≡ field x ns → r ≡ last_from x bs o → r ≡ field x (onto bs ns)
 innermost x bs ns o r e h = h ∙ ap (last_from x bs) e ∙ sym (field_onto x bs ns)
+
+-- a definition is no primitive
+pub hidden_called : (b : Bool) (o : Option Pattern) (s : Scheme) (m : Meant) → IfCode m IsCalled → IfCode (cond b (defined o s) m) IsCalled
+hidden_called true (Some p) s m h = tt
+hidden_called true None s m h = tt
+hidden_called false o s m h = h
 
 pub meant_step : (x : Name) (ds : List Decl) (ss : List Scheme) (n : ℕ) (d : Decl) (s : Scheme) (m p w : Meant) → n < length ds → n < length ss → d ≡ get_or ds n d → s ≡ get_or ss n s
     → p ≡ cond (same_name x d.name.text) (defined d.param s) m → meant_over x (drop n ds) (drop n ss) m ≡ w → meant_over x (drop (n + 1) ds) (drop (n + 1) ss) p ≡ w

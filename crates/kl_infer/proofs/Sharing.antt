@@ -1,13 +1,12 @@
 -- Definitions that are a name.
 use Rattle.std.proofs.Common.{◌≡◌, Bool, true, false, ℕ, List, [], ◌∷◌, Option, Some, None, cond, Result, Ok, Err, refl, sym, ap, ◌∙◌, subst}
 use Rattle.std.specs.Prelude.{MatchResult, OnOk, nat_eq}
-use Rattle.std.specs.Cmp.Lexicographic.{pointwise}
+use Rattle.std.specs.Cmp.Lexicographic.{pointwise, same_text}
 use Rattle.kl_base.specs.Fields.{field}
 use Rattle.kl_type.specs.Ground.{Ground, ground_of}
 use Rattle.kl_type.specs.declared.Ty.{Ty}
 use Rattle.kl_rows.specs.declared.Scheme.{Scheme}
 use Rattle.kl_rows.specs.Places.{a_type}
-use Rattle.kl_rows.proofs.Sureness.{same_labels}
 use Rattle.kl_outcome.specs.Outcome.{Name}
 use Rattle.kl_syntax.specs.declared.tree.Decl.{Decl}
 use Rattle.kl_syntax.specs.declared.tree.Expr.{Expr}
@@ -88,5 +87,5 @@ made_at sources x [] p h e = let d : ⊥ = cc in absurd d
 made_at sources x (m ∷ ms) p h e = here (pointwise nat_eq x m.0) refl (field x ms) (made_at sources x ms p h.1) e
   where
     here : (b : Bool) → b ≡ pointwise nat_eq x m.0 → (o : Option Scheme) → (o ≡ Some p → IsMade sources (x, p)) → cond b (Some m.1) o ≡ Some p → IsMade sources (x, p)
-    here true w o go q = let d : m.1 ≡ p = cc in subst (λ (z : Scheme). IsMade sources (x, z)) d (subst (λ (z : Name). IsMade sources (z, m.1)) (sym (same_labels true x m.0 w refl)) h.0)
+    here true w o go q = let d : m.1 ≡ p = cc in subst (λ (z : Scheme). IsMade sources (x, z)) d (subst (λ (z : Name). IsMade sources (z, m.1)) (sym (same_text x m.0 w)) h.0)
     here false w o go q = go q

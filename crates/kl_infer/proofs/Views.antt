@@ -1,5 +1,5 @@
 -- Expressions and patterns of the code, and their trees.
-use Rattle.std.proofs.Common.{◌≡◌, ℕ, suc, Bool, List, [], ◌∷◌, length, map, Option, refl, sym, ap, ◌∙◌, rules}
+use Rattle.std.proofs.Common.{◌≡◌, ℕ, suc, List, [], ◌∷◌, length, map, Option, refl, sym, ap, ◌∙◌, rules}
 use Rattle.std.specs.Option.{option_map}
 use Rattle.kl_outcome.specs.Outcome.{Name}
 use Rattle.kl_value.specs.declared.value.Kind.{Kind}
@@ -12,11 +12,12 @@ use Rattle.kl_syntax.specs.declared.tree.Pattern.{Pattern, the_lemmas as pattern
 use Rattle.kl_syntax.specs.declared.tree.Pattern.TheVariants as code
 use Rattle.kl_syntax.specs.declared.tree.Qual.{Qual}
 use Rattle.kl_syntax.specs.declared.tree.Qual.TheVariants as quals
+use Rattle.kl_syntax.specs.declared.tree.Tail.{Tail}
 use Rattle.kl_syntax.specs.declared.tree.Word.{Word}
-use Rattle.kl_syntax.specs.Syntax.{Pat, catch, any, same, is, shape, variant, Exp, exps, Const, name, Call, Rec, Inj, Coll, Comp, If, Let, Case, Path, Not, Neg, Chain, Quals, draw, test, Branches, branch}
+use Rattle.kl_syntax.specs.Syntax.{Pat, catch, any, same, is, shape, variant, Exp, exps, Const, name, Call, Rec, More, Inj, Coll, Comp, If, Let, Case, Path, Not, Neg, Chain, Quals, draw, test, Branches, branch}
 use Rattle.kl_syntax.specs.View.{view, qual_view, branch_view, branches_view, branches_of, rest_of, exps_of, exps_view, fields_view, field_view, quals_view, steps_view, pattern_view, patterns_view, pattern_pair}
 use Rattle.kl_infer.proofs.Lists.{with_arms, count, names_of, bodies}
-use Rattle.kl_syntax.proofs.Views.{view_Const, view_Name, view_Gen, view_Cond, view_Call, view_Rec, view_Inj, view_Coll, view_Comp, view_If, view_Let, view_Case, view_Path, view_Not, view_Neg, view_Chain, branch_seen, pattern_Rec}
+use Rattle.kl_syntax.proofs.Views.{view_Const, view_Name, view_Gen, view_Cond, view_Call, view_Rec, view_More, view_Inj, view_Coll, view_Comp, view_If, view_Let, view_Case, view_Path, view_Not, view_Neg, view_Chain, branch_seen, pattern_Rec}
 
 pub view_con : (e : Expr) (v : Value) → e ≡ expr.Const v → view e ≡ Const v
 view_con e v h = ap view h ∙ view_Const v
@@ -29,6 +30,9 @@ view_call e f es fs h k = ap view h ∙ view_Call f es ∙ ap (λ (z : List Expr
 
 pub view_rec : (e : Expr) (es fs : List (Word × Expr)) → e ≡ expr.Rec es → fs ≡ es → view e ≡ Rec (fields_view fs)
 view_rec e es fs h k = ap view h ∙ view_Rec es ∙ ap (λ (z : List (Word × Expr)). Rec (fields_view z)) (sym k)
+
+pub view_more : (e a x : Expr) (es fs : List (Word × Expr)) → e ≡ expr.More es a → fs ≡ es → x ≡ a → view e ≡ More (fields_view fs) (view x)
+view_more e a x es fs h k j = ap view h ∙ view_More es a ∙ ap (λ (z : List (Word × Expr)). More (fields_view z) (view a)) (sym k) ∙ ap (λ (z : Expr). More (fields_view fs) (view z)) (sym j)
 
 pub view_inj : (e : Expr) (l : Word) (a b : Expr) → e ≡ expr.Inj l a → b ≡ a → view e ≡ Inj l (view b)
 view_inj e l a b h k = ap view h ∙ view_Inj l a ∙ ap (λ (z : Expr). Inj l (view z)) (sym k)
@@ -124,8 +128,8 @@ view_same p x h = ap pattern_view h ∙ search (rules, pattern_lemmas)
 pub view_is : (p : Pattern) (v : Value) (n : ℕ) → p ≡ code.Is v n → pattern_view p ≡ is v n
 view_is p v n h = ap pattern_view h ∙ search (rules, pattern_lemmas)
 
-pub view_shape : (p : Pattern) (ps qs : List (Word × Pattern)) (dots : Bool) → p ≡ code.Rec ps dots → qs ≡ ps → pattern_view p ≡ shape (patterns_view qs) dots
-view_shape p ps qs dots h k = ap pattern_view h ∙ pattern_Rec ps dots ∙ ap (λ (z : List (Word × Pattern)). shape (patterns_view z) dots) (sym k)
+pub view_shape : (p : Pattern) (ps qs : List (Word × Pattern)) (end : Tail) → p ≡ code.Rec ps end → qs ≡ ps → pattern_view p ≡ shape (patterns_view qs) end
+view_shape p ps qs end h k = ap pattern_view h ∙ pattern_Rec ps end ∙ ap (λ (z : List (Word × Pattern)). shape (patterns_view z) end) (sym k)
 
 variant_seen : (l : Word) (p : Pattern) → pattern_view (code.Inj l p) ≡ variant l (pattern_view p)
 variant_seen l p = search (rules, pattern_lemmas)

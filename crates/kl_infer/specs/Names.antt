@@ -48,6 +48,11 @@ meant_of (sense.Function s) = by_function s.now
 meant_of (sense.Source t) = by_source t.now
 meant_of (sense.Primitive c) = by_code c
 
+-- a fact of the code of a primitive
+abbrev pub IfCode : Meant → (ℕ → Type 0) → Type 0
+IfCode (by_code c) P = P c
+IfCode _ P = ⊤
+
 abbrev pub defined : Option Pattern → Scheme → Meant
 defined (Some p) s = by_function s
 defined None s = by_value s

@@ -46,6 +46,14 @@ impl Typing {
                 self.record(all, false, want)?;
                 self.check_fields(fields, known, scope, &types)
             }
+            Expr::More(fields, a) => {
+                let fields = fields.slice();
+                let types = self.fresh_many(fields.len())?;
+                let all = labelled(self.unifier.alloc, fields, &types)?;
+                let rest = self.rest(all, want)?;
+                self.check_fields(fields, known, scope, &types)?;
+                self.check(a.get(), known, scope, rest)
+            }
             Expr::Inj(l, a) => {
                 let item = self.variant(&l.text, want)?;
                 self.check(a.get(), known, scope, item)

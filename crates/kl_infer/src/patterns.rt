@@ -1,6 +1,7 @@
 //! Types of patterns.
 ghost use Rattle.std.specs.Prelude.{◌≡◌, ◌∷◌, [], IfOk, length, map};
 ghost use Rattle.kl_syntax.specs.View.{pattern_view, patterns_view};
+ghost use Rattle.kl_meaning.specs.Match.{is_open};
 ghost use Rattle.kl_meaning.specs.Typing.{NameTypes, Takes};
 ghost use Rattle.kl_infer.specs.Asking.{Bound, cells, context, onto};
 ghost use Rattle.kl_infer.specs.Names.{Ready, TakesAll, labelled, names, sorts};
@@ -9,7 +10,7 @@ use crate::refusal::Refusal;
 use crate::scope::{Known, Scope};
 use crate::typing::Typing;
 use kl_base::{Label, NoMemory};
-use kl_syntax::{Pattern, Word};
+use kl_syntax::{Pattern, Tail, Word};
 use std::alloc::Global;
 
 impl Typing {
@@ -36,10 +37,17 @@ impl Typing {
             Pattern::Any => Ok(()),
             Pattern::Same(x) => self.name(&x.text, known, outside, t),
             Pattern::Is(v, _) => self.value(v, t),
-            Pattern::Rec(fields, dots) => {
+            Pattern::Rec(fields, end) => {
                 let fields = fields.slice();
                 let types = self.fresh_many(fields.len())?;
                 let all = labelled(self.unifier.alloc, fields, &types)?;
+                if let Tail::Rest(x) = end {
+                    let rest = self.rest(all, t)?;
+                    self.takes_fields(fields, known, outside, &types, bound)?;
+                    bound.push((x.text.dup()?, rest))?;
+                    return Ok(());
+                }
+                let dots = &is_open(end);
                 self.record(all, *dots, t)?;
                 self.takes_fields(fields, known, outside, &types, bound)
             }
@@ -62,12 +70,23 @@ impl Typing {
         requires ready { Ready known.now (cells self.old) (onto bound.old.items (names outside.now)) types.now }
         requires size { length types.now ≡ length fields.now }
         ensures { Bound result (cells self.old) (cells self.new) bound.old.items bound.new.items (names outside.now)
-            (λ s. TakesAll (patterns_view fields.now) (NameTypes (sorts known.now) (context s (names outside.now))) (map s.types types.now)) }
+            (λ s. TakesAll (patterns_view fields.now)
+            (NameTypes (sorts known.now) (context s (names outside.now))) (map s.types types.now)) }
     {
         'fields: for i in 0..fields.len() {
             self.takes(&fields[i].1, known, outside, types[i], bound)?;
         }
         Ok(())
+    }
+}
+
+// Whether other fields may be there.
+fn is_open(end: &Tail) -> bool
+    ensures { result ≡ is_open end.now }
+{
+    match end {
+        Tail::Exact => false,
+        Tail::Open | Tail::Rest(_) => true,
     }
 }
 

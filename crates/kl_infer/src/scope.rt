@@ -2,7 +2,8 @@
 ghost use Rattle.std.specs.Prelude.{◌≡◌, cond};
 ghost use Rattle.kl_base.specs.Fields.{field};
 ghost use Rattle.kl_meaning.specs.Match.{same_name};
-ghost use Rattle.kl_infer.specs.Names.{names, last_from, meant, meant_of, meant_first, defined};
+ghost use Rattle.kl_meaning.specs.Codes.{IsCalled};
+ghost use Rattle.kl_infer.specs.Names.{IfCode, names, last_from, meant, meant_of, meant_first, defined};
 
 use kl_base::{Label, Shared};
 use kl_meaning::code_named;
@@ -60,7 +61,8 @@ pub enum Sense<'a> {
 
 /// The last definition of the name, else the first source, else the primitive.
 pub fn stands_for<'a>(known: &Known<'a>, name: &Label) -> Sense<'a>
-    ensures { meant_of result ≡ meant known.now name.now }
+    ensures means { meant_of result ≡ meant known.now name.now }
+    ensures called { IfCode (meant_of result) IsCalled }
 {
     let defs = known.defs;
     let schemes = known.schemes;
@@ -78,7 +80,8 @@ fn hiding<'a>(
     name: &Label,
     outside: Sense<'a>,
 ) -> Sense<'a>
-    ensures { meant_of result ≡ cond (same_name name.now decl.now.name.text) (defined decl.now.param scheme.now) (meant_of outside.entry) }
+    ensures { meant_of result ≡ cond (same_name name.now decl.now.name.text)
+        (defined decl.now.param scheme.now) (meant_of outside.entry) }
 {
     if *name == decl.name.text {
         defined(decl, scheme)
@@ -97,7 +100,8 @@ fn defined<'a>(decl: &Decl, scheme: &'a Shared<Scheme>) -> Sense<'a>
 }
 
 fn first_sense<'a>(sources: &'a [(Label, Ty)], name: &Label) -> Sense<'a>
-    ensures { meant_of result ≡ meant_first name.now sources.now }
+    ensures means { meant_of result ≡ meant_first name.now sources.now }
+    ensures called { IfCode (meant_of result) IsCalled }
 {
     'sources: for source in sources {
         if *name == source.0 {

@@ -12,23 +12,25 @@ ghost use Rattle.kl_forms.specs.Forms.{
   VariantOf,
   IsRecord,
   IsVariant,
+  RestOf,
   IsOfType,
   Applies,
   Operates,
   IsThis,
   IsInstance,
 };
+ghost use Rattle.kl_meaning.specs.Codes.{IsCalled};
 ghost use Rattle.kl_meaning.specs.Typing.{NameTypes, ValueTypes, CallTypes};
 ghost use Rattle.kl_infer.specs.Asking.{Asked, Found, Gets, GetsFunction, GetsMany, Refuses, cells, context};
 ghost use Rattle.kl_forms.specs.Checks.{Checks};
-ghost use Rattle.kl_infer.specs.Names.{IsGood, Ready, by_value, meant_of, names, sort_of, sorts};
+ghost use Rattle.kl_infer.specs.Names.{IfCode, IsGood, Ready, by_value, meant_of, names, sort_of, sorts};
 
 use crate::refusal::{Refusal, found, met};
 use crate::scope::{Known, Scope, Sense, stands_for, variable};
 use kl_base::{Label, NoMemory};
 use kl_forms::{
     any_items_of, applied, field_of, fresh_types, is_record, is_variant, items_of, operated,
-    uses_function, uses_value, value, variant_of,
+    rest_of, uses_function, uses_value, value, variant_of,
 };
 use kl_rows::{Node, Scheme, Unifier};
 use kl_syntax::Op;
@@ -159,6 +161,16 @@ impl Typing {
         met(is_record(&mut self.unifier, fields, open, want)?)
     }
 
+    /// The type of the record that has the other fields of a record with these labels and types.
+    pub fn rest(&mut self, fields: Vec<(Label, u64)>, want: u64) -> Result<u64, Refusal>
+        requires fine { IsFine (cells self.old) }
+        requires there { IsType (cells self.old) want }
+        requires fields_there { AreTypes (cells self.old) fields.items }
+        ensures { Found result (cells self.old) (cells self.new) (RestOf fields.items want) }
+    {
+        found(rest_of(&mut self.unifier, fields, want)?)
+    }
+
     /// The type is a variant with these labels and types and, if it is open, others.
     pub fn choice(
         &mut self,
@@ -174,9 +186,10 @@ impl Typing {
         met(is_variant(&mut self.unifier, fields, open, want)?)
     }
 
-    /// The primitive of the code takes arguments of these types and gives this one.
+    /// The primitive of the code, which is no form of records, takes arguments of these types and gives this one.
     pub fn applied(&mut self, code: u8, args: &[u64], want: u64) -> Result<(), Refusal>
         requires fine { IsFine (cells self.old) }
+        requires called { IsCalled code }
         requires there { IsType (cells self.old) want }
         requires args_there { AllByRecursion (IsType (cells self.old)) args.now }
         ensures { Asked result (cells self.old) (cells self.new) (Applies code args.now want) }
@@ -305,6 +318,7 @@ fn can_call(u: &mut Unifier, sense: Sense, args: &[u64], want: u64) -> Result<bo
     requires there { IsType u.old.cells.items want }
     requires args_there { AllByRecursion (IsType u.old.cells.items) args.now }
     requires good { IsGood (meant_of sense) }
+    requires called { IfCode (meant_of sense) IsCalled }
     ensures { IfOk result (λ holds. Checks holds u.old.cells.items u.new.cells.items
         (λ s. CallTypes (sort_of (meant_of sense.entry)) (map s.types args.now) (s.types want))) }
 {

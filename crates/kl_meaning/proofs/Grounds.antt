@@ -10,11 +10,13 @@ use Rattle.kl_outcome.specs.Outcome.{Name}
 use Rattle.kl_outcome.proofs.Grounds.{at_ground, prim_ground}
 use Rattle.kl_syntax.specs.declared.tree.Op.{Op}
 use Rattle.kl_syntax.specs.declared.tree.Op.TheVariants as op
+use Rattle.kl_syntax.specs.declared.tree.Tail.{Tail}
+use Rattle.kl_syntax.specs.declared.tree.Tail.TheVariants as tail
 use Rattle.kl_syntax.specs.declared.tree.Word.{Word}
-use Rattle.kl_syntax.specs.Syntax.{Pat, catch, any, same, is, shape as record_of, variant, Pats, no_pats, pats, Exp, Const, name, Call, Rec, Inj, Coll, Comp, If, Let, Case, Path, Not, Neg, Chain, Exps, no_exps, exps, Quals, no_quals, draw, test, Branches, no_branches, otherwise, branch, Steps, no_steps, step, Decls, no_decls, constant, function}
+use Rattle.kl_syntax.specs.Syntax.{Pat, catch, any, same, is, shape as record_of, variant, Pats, no_pats, pats, Exp, Const, name, Call, Rec, More, Inj, Coll, Comp, If, Let, Case, Path, Not, Neg, Chain, Exps, no_exps, exps, Quals, no_quals, draw, test, Branches, no_branches, otherwise, branch, Steps, no_steps, step, Decls, no_decls, constant, function}
 use Rattle.kl_meaning.specs.Match.{same_name}
 use Rattle.kl_meaning.specs.Run.{code_named}
-use Rattle.kl_meaning.specs.Typing.{Context, AreGround, Sort, nothing, value_of, function_of, primitive, ValueTypes, CallTypes, VariableOr, NameTypes, Takes, TakesFields, OpTypes, PathTypes, Types, AllTypes, QualTypes, BranchTypes, StepTypes, has_branch, sort_at, sort_if, with_sort, types_at_first, types_after, FunctionTypes, KnownTypes, ProgramTypes}
+use Rattle.kl_meaning.specs.Typing.{Context, AreGround, Sort, nothing, value_of, function_of, primitive, ValueTypes, CallTypes, VariableOr, NameTypes, BindsRest, Takes, TakesFields, OpTypes, PathTypes, Types, AllTypes, QualTypes, BranchTypes, StepTypes, has_branch, sort_at, sort_if, with_sort, types_at_first, types_after, FunctionTypes, KnownTypes, ProgramTypes}
 
 some_ground : (b : Bool) (u t : Ground) (o : Option Ground) → IsGround u → (o ≡ Some t → IsGround t) → cond b (Some u) o ≡ Some t → IsGround t
 some_ground true u t o g k e = let d : u ≡ t = cc in subst IsGround d g
@@ -66,13 +68,19 @@ variable_ground : (o : Option Ground) (k : Sort) (t : Ground) → (o ≡ Some t 
 variable_ground (Some s) k t f g h = f (ap Some h)
 variable_ground None k t f g h = value_ground k t g h
 
+binds_ground : (end : Tail) (r : Row) (ps : Pats) (G H : Context) → AreGround G → BindsRest end r ps G H → AreGround H
+binds_ground tail.Exact r ps G H a h = subst AreGround (sym h) a
+binds_ground tail.Open r ps G H a h = subst AreGround (sym h) a
+binds_ground (tail.Rest x) r ps G H a h = subst AreGround (sym h.2) (h.1.0, a)
+
 mutual
   pub takes_ground : (p : Pat) (outside : Name → Ground → Type 0) (t : Ground) (G H : Context) → IsGround t → AreGround G → Takes p outside t G H → AreGround H
   takes_ground (catch x) outside t G H g a h = subst AreGround (sym h) (g, a)
   takes_ground any outside t G H g a h = subst AreGround (sym h) a
   takes_ground (same x) outside t G H g a h = subst AreGround (sym h.1) a
   takes_ground (is w n) outside t G H g a h = subst AreGround (sym h.1) a
-  takes_ground (record_of ps dots) outside t G H g a h = fields_ground ps outside h.0 G H (subst IsGround h.1 g) a h.3
+  takes_ground (record_of ps end) outside t G H g a h =
+      binds_ground end h.0 ps h.1 H (fields_ground ps outside h.0 G h.1 (subst IsGround h.2 g) a h.4) h.5
   takes_ground (variant l p) outside t G H g a h = takes_ground p outside h.1 G H (at_ground l.text h.0 h.1 (subst IsGround h.2 g).1 h.3) a h.4
 
   fields_ground : (ps : Pats) (outside : Name → Ground → Type 0) (r : Row) (G H : Context) → IsRow r → AreGround G → TakesFields ps outside r G H → AreGround H
@@ -98,6 +106,7 @@ module _ (K : Name → Sort) (ground : (x : Name) → IsGroundSort (K x)) where
     types_ground (name x) G t a h = variable_ground (field x.text G) (K x.text) t (field_ground x.text G t a) (ground x.text) h
     types_ground (Call f es) G t a h = call_ground (K f.text) h.0 t (ground f.text) (all_ground es G h.0 a h.1) h.2
     types_ground (Rec fs) G t a h = h.2
+    types_ground (More fs e) G t a h = h.3
     types_ground (Inj l e) G t a h = h.3
     types_ground (Coll k es) G t a h = h.2
     types_ground (Comp k e qs) G t a h = subst IsGround (sym h.2) (types_ground e h.1 h.0 (quals_ground qs G h.1 a h.3) h.4)

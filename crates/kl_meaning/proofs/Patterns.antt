@@ -1,19 +1,25 @@
 -- A pattern that takes a type binds values of the types that it gives, does not fit, or overflows.
-use Rattle.std.proofs.Common.{◌≡◌, Bool, true, false, ◌&&◌, ◌||◌, IsTrue, cond, List, ◌∷◌, Option, Some, None, IsSome, nat_eq, refl, sym, ap, ◌∙◌, subst}
-use Rattle.std.specs.Cmp.Lexicographic.{pointwise, same_text}
+use Rattle.std.proofs.Common.{◌≡◌, Bool, true, false, ◌||◌, cond, List, ◌∷◌, Option, Some, None, refl, sym, ap, ◌∙◌, subst}
+use Rattle.std.specs.Cmp.Lexicographic.{same_text}
 use Rattle.std.specs.Ordering.{is_eq}
 use Rattle.std.specs.List.{list_all}
 use Rattle.kl_base.specs.Fields.{field}
 use Rattle.kl_value.specs.Order.{compare}
+use Rattle.kl_value.specs.IsCanonical.{IsCanonical}
 use Rattle.kl_value.specs.declared.Value.{Value}
-use Rattle.kl_type.specs.Ground.{Ground, Row, rec, var, no_row, row, at}
-use Rattle.kl_type.proofs.RowLemmas.{same_label}
+use Rattle.kl_value.specs.declared.Value.TheVariants as value
+use Rattle.kl_prim.specs.Records.{Fields, without}
+use Rattle.kl_prim.proofs.RecordLemmas.{fields_rise, record_form, rest_canonical}
+use Rattle.kl_outcome.proofs.RowFields.{all_named, without_typed}
+use Rattle.kl_syntax.specs.declared.tree.Tail.{Tail}
+use Rattle.kl_syntax.specs.declared.tree.Tail.TheVariants as tail
+use Rattle.kl_type.specs.Ground.{Ground, Row, rec, var, at}
 use Rattle.kl_outcome.specs.Outcome.{Name, Outcome, done, over, stuck, Flow, as_record, as_variant}
 use Rattle.kl_outcome.specs.Typed.{HasFields, Inhabits, OfType}
 use Rattle.kl_outcome.proofs.OutcomeTypes.{over_nil, FieldsOf, record_is, field_typed, variant_is, FlowOf}
 use Rattle.kl_syntax.specs.Syntax.{Pat, catch, any, same, is, shape, variant, Pats, no_pats, pats}
-use Rattle.kl_meaning.specs.Match.{Env, Fit, bound, misses, past, odd, fit_then, same_name, compared, has_label, fit_field, fit_record, fit_variant, fits, fits_fields, if_fits, must_fit}
-use Rattle.kl_meaning.specs.Typing.{Context, HaveTypesByName, IsWhole, Takes, TakesFields}
+use Rattle.kl_meaning.specs.Match.{Env, Fit, bound, misses, past, odd, fit_then, same_name, compared, has_label, fit_field, fit_record, fit_variant, is_open, bind_rest, fits, fits_fields, if_fits, must_fit}
+use Rattle.kl_meaning.specs.Typing.{Context, HaveTypesByName, IsWhole, BindsRest, Takes, TakesFields}
 use Rattle.kl_meaning.specs.Tidy.{IsSurePattern, AreSurePatterns}
 
 -- ---- a pattern without a test
@@ -36,6 +42,11 @@ record_no_miss : (o : Option (List (Name × Value))) (dots : Bool) (ps : Pats) (
 record_no_miss (Some fs) dots ps go g = elim (dots || list_all (λ f. has_label ps f.0) fs) as (λ b. IsNoMiss (cond b (go fs) odd)) [ true ↦ g fs | false ↦ tt ]
 record_no_miss None dots ps go g = tt
 
+rest_no_miss : (end : Tail) (fs : Fields) (env : Env) → IsNoMiss (bind_rest end fs env)
+rest_no_miss tail.Exact fs env = tt
+rest_no_miss tail.Open fs env = tt
+rest_no_miss (tail.Rest x) fs env = tt
+
 module _ (outside : Name → Outcome) where
   mutual
     pub sure_fits : (p : Pat) (v : Value) (env : Env) → IsSurePattern p → IsNoMiss (fits p outside v env)
@@ -43,7 +54,10 @@ module _ (outside : Name → Outcome) where
     sure_fits any v env h = tt
     sure_fits (same x) v env h = absurd h
     sure_fits (is w n) v env h = absurd h
-    sure_fits (shape ps dots) v env h = record_no_miss (as_record v) dots ps (λ fs. fits_fields ps outside fs env) (λ fs. sure_fits_fields ps fs env h)
+    sure_fits (shape ps end) v env h =
+        record_no_miss (as_record v) (is_open end) ps (λ fs. fit_then (fits_fields ps outside fs env) (λ inner. bind_rest end (without (has_label ps) fs) inner))
+        (λ fs. then_no_miss (fits_fields ps outside fs env) (λ inner. bind_rest end (without (has_label ps) fs) inner) (sure_fits_fields ps fs env h)
+        (λ inner. rest_no_miss end (without (has_label ps) fs) inner))
     sure_fits (variant l p) v env h = absurd h
 
     sure_fits_fields : (ps : Pats) (fs : List (Name × Value)) (env : Env) → AreSurePatterns ps → IsNoMiss (fits_fields ps outside fs env)
@@ -72,23 +86,27 @@ compared_typed H t (done w) v env h g = elim (is_eq (compare v w)) as (λ b. Fit
 compared_typed H t (over ws) v env h g = tt
 compared_typed H t stuck v env h g = absurd h
 
-all_named : (r : Row) (fs : List (Name × Value)) (ps : Pats) → HasFields r fs → ((l : Name) → IsSome (at l r) → IsTrue (has_label ps l)) → list_all (λ f. has_label ps f.0) fs ≡ true
-all_named no_row fs ps h names = ap (list_all (λ f. has_label ps f.0)) h
-all_named (row m t r) fs ps h names =
-    let here : has_label ps m ≡ true = names m (rw (same_label m) refl) in
-    let rest = all_named r h.1 ps h.4 (λ l s. names l (elim (pointwise nat_eq l m) as (λ b. IsSome (cond b (Some t) (at l r))) [ true ↦ refl | false ↦ s ])) in
-    ap (list_all (λ f. has_label ps f.0)) h.2 ∙ ap (λ b. b && list_all (λ f. has_label ps f.0) h.1) here ∙ rest
+no_more : (end : Tail) (r : Row) (fs : Fields) (ps : Pats) → HasFields r fs → IsWhole end r ps → (is_open end || list_all (λ f. has_label ps f.0) fs) ≡ true
+no_more tail.Exact r fs ps h w = all_named (has_label ps) r fs h w
+no_more tail.Open r fs ps h w = refl
+no_more (tail.Rest x) r fs ps h w = refl
 
-no_more : (dots : Bool) (r : Row) (fs : List (Name × Value)) (ps : Pats) → HasFields r fs → IsWhole dots r ps → (dots || list_all (λ f. has_label ps f.0) fs) ≡ true
-no_more true r fs ps h w = refl
-no_more false r fs ps h w = all_named r fs ps h w
-
-record_fits : (H : Context) (r : Row) (v : Value) (dots : Bool) (ps : Pats) (go : List (Name × Value) → Fit) → Inhabits (rec r) v → IsWhole dots r ps
-    → ((fs : List (Name × Value)) → FieldsOf r fs → FitOf H (go fs)) → FitOf H (fit_record (as_record v) dots ps go)
-record_fits H r v dots ps go i w g =
+record_fits : (H : Context) (r : Row) (v : Value) (end : Tail) (ps : Pats) (go : Fields → Fit) → Inhabits (rec r) v → IsWhole end r ps
+    → ((fs : Fields) → FieldsOf r fs → IsCanonical (value.Rec fs) → FitOf H (go fs)) → FitOf H (fit_record (as_record v) (is_open end) ps go)
+record_fits H r v end ps go i w g =
     let f = record_is r v i in
-    subst (λ o. FitOf H (fit_record o dots ps go)) (sym f.1)
-    (subst (λ b. FitOf H (cond b (go f.0) odd)) (sym (no_more dots r f.0 ps f.2.0 w)) (g f.0 f.2))
+    subst (λ o. FitOf H (fit_record o (is_open end) ps go)) (sym f.1)
+    (subst (λ b. FitOf H (cond b (go f.0) odd)) (sym (no_more end r f.0 ps f.2.0 w)) (g f.0 f.2 (subst IsCanonical (record_form v f.0 f.1) i.1)))
+
+-- the rest of a record has the type of the other labels
+rest_fits : (end : Tail) (r : Row) (ps : Pats) (fs : Fields) (M H : Context) (env : Env) → BindsRest end r ps M H → HasFields r fs → IsCanonical (value.Rec fs) → HaveTypesByName M env
+    → FitOf H (bind_rest end (without (has_label ps) fs) env)
+rest_fits tail.Exact r ps fs M H env h k c e = subst (λ C. HaveTypesByName C env) (sym h) e
+rest_fits tail.Open r ps fs M H env h k c e = subst (λ C. HaveTypesByName C env) (sym h) e
+rest_fits (tail.Rest x) r ps fs M H env h k c e =
+    let others = without (has_label ps) fs in
+    subst (λ C. HaveTypesByName C ((x.text, value.Rec others) ∷ env)) (sym h.2)
+    (refl, ((others, refl, without_typed (has_label ps) r h.0 h.1 fs (fields_rise fs c) k), rest_canonical (has_label ps) fs c), e)
 
 variant_fits : (H : Context) (r : Row) (s : Ground) (v : Value) (l : Name) (go : Value → Fit) → Inhabits (var r) v → at l r ≡ Some s
     → ((w : Value) → Inhabits s w → FitOf H (go w)) → FitOf H (fit_variant (as_variant v) l go)
@@ -114,9 +132,11 @@ module _ (types : Name → Ground → Type 0) (outside : Name → Outcome) (agre
     takes any t v G H env h i e = subst (λ C. HaveTypesByName C env) (sym h) e
     takes (same x) t v G H env h i e = compared_typed H t (outside x.text) v env (agree x.text t h.0) (subst (λ C. HaveTypesByName C env) (sym h.1) e)
     takes (is w n) t v G H env h i e = compared_typed H t (done w) v env h.0 (subst (λ C. HaveTypesByName C env) (sym h.1) e)
-    takes (shape ps dots) t v G H env h i e =
-        record_fits H h.0 v dots ps (λ fs. fits_fields ps outside fs env) (subst (λ q. Inhabits q v) h.1 i) h.2
-        (λ fs k. takes_fields ps h.0 fs G H env h.3 k e)
+    takes (shape ps end) t v G H env h i e =
+        record_fits H h.0 v end ps (λ fs. fit_then (fits_fields ps outside fs env) (λ inner. bind_rest end (without (has_label ps) fs) inner))
+        (subst (λ q. Inhabits q v) h.2 i) h.3
+        (λ fs k c. then_typed h.1 H (fits_fields ps outside fs env) (λ inner. bind_rest end (without (has_label ps) fs) inner)
+        (takes_fields ps h.0 fs G h.1 env h.4 k e) (λ inner j. rest_fits end h.0 ps fs h.1 H inner h.5 k.0 c j))
     takes (variant l p) t v G H env h i e =
         variant_fits H h.0 h.1 v l.text (λ w. fits p outside w env) (subst (λ q. Inhabits q v) h.2 i) h.3
         (λ w j. takes p h.1 w G H env h.4 j e)

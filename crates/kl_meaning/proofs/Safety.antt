@@ -1,5 +1,5 @@
 -- A program of a type comes to an outcome of it.
-use Rattle.std.proofs.Common.{◌≡◌, ◌≢◌, Bool, true, false, IsTrue, cond, List, [], ◌∷◌, Option, Some, None, IsSome, ℕ, nat_eq, refl, sym, ap, ◌∙◌, subst, true≢false}
+use Rattle.std.proofs.Common.{◌≡◌, ◌≢◌, Bool, true, false, not, IsTrue, cond, List, [], ◌∷◌, Option, Some, None, IsSome, ℕ, nat_eq, refl, sym, ap, ◌∙◌, subst, true≢false}
 use Rattle.std.specs.Cmp.Lexicographic.{pointwise, same_text}
 use Rattle.std.specs.List.{AllByRecursion}
 use Rattle.kl_base.specs.Fields.{field}
@@ -7,16 +7,18 @@ use Rattle.kl_value.specs.Views.{as_bool}
 use Rattle.kl_value.specs.declared.Value.{Value}
 use Rattle.kl_value.specs.declared.Value.TheVariants as value
 use Rattle.kl_value.proofs.IsCanonicalLemmas.{bool_made}
-use Rattle.kl_type.specs.Ground.{Ground, Row, bool, var, coll as colls, at, IsGround}
+use Rattle.kl_type.specs.Ground.{Ground, Row, bool, rec, var, coll as colls, at, IsGround, IsRow}
+use Rattle.kl_type.proofs.RowLemmas.{drops_row}
 use Rattle.kl_prim.specs.Table.{meaning}
-use Rattle.kl_outcome.specs.Outcome.{Name, Outcome, done, over, stuck, Flow, stop, fine, answered, applied, part, items_of, item_then}
+use Rattle.kl_outcome.specs.Outcome.{Name, Outcome, done, over, stuck, Flow, stop, fine, answered, applied, part, recorded, items_of, item_then}
 use Rattle.kl_outcome.specs.Typed.{Inhabits, OfType, PrimTypes}
 use Rattle.kl_outcome.proofs.OutcomeTypes.{never_of, after_typed, choice_typed, part_typed, recorded_typed, tagged_typed, cases_typed, args_then_typed, ArgsOf, FlowOf, drawn_typed, items_typed, item_typed, collected_typed, union_typed}
-use Rattle.kl_outcome.proofs.PrimLemmas.{prim_typed}
+use Rattle.kl_outcome.proofs.PrimLemmas.{extend_types, prim_typed}
+use Rattle.kl_outcome.proofs.RowFields.{IsFieldOf, divided, parts_of_row}
 use Rattle.kl_syntax.specs.declared.tree.Op.{Op}
 use Rattle.kl_syntax.specs.declared.tree.Op.TheVariants as op
 use Rattle.kl_syntax.specs.declared.tree.Word.{Word}
-use Rattle.kl_syntax.specs.Syntax.{Pat, Exp, Const, name, Call, Rec, Inj, Coll, Comp, If, Let, Case, Path, Not, Neg, Chain, Exps, no_exps, exps, Flds, no_flds, flds, Quals, no_quals, draw, test, Branches, no_branches, otherwise, branch, Steps, no_steps, step, Decls, no_decls, constant, function}
+use Rattle.kl_syntax.specs.Syntax.{Pat, Exp, Const, name, Call, Rec, More, Inj, Coll, Comp, If, Let, Case, Path, Not, Neg, Chain, Exps, no_exps, exps, Flds, no_flds, flds, Quals, no_quals, draw, test, Branches, no_branches, otherwise, branch, Steps, no_steps, step, Decls, no_decls, constant, function}
 use Rattle.kl_meaning.specs.Match.{Env, fits, if_fits, must_fit, same_name}
 use Rattle.kl_meaning.specs.Run.{Meant, as_value, named, look_up, one_then, called, code_of, operated, in_order, parts_of, flow_if, draw_if, run, run_all, run_items, run_fields, run_quals, run_branches, run_steps, code_named, meant_by_code, meant_at, at_first, with_known, known_after, meaning_of_program}
 use Rattle.kl_meaning.specs.Run as meant
@@ -24,7 +26,8 @@ use Rattle.kl_meaning.specs.Typing.{Context, Sort, HaveTypesByName, ValueTypes, 
 use Rattle.kl_meaning.specs.Typing as sort
 use Rattle.kl_meaning.specs.Tidy.{IsSurePattern, IsTidy, AreTidy, AreTidyFields, AreTidyQuals, AreTidyBranches, AreTidySteps, IsTidyProgram}
 use Rattle.kl_meaning.proofs.Patterns.{sure_fits, takes, must_fit_typed, if_fits_typed}
-use Rattle.kl_meaning.proofs.Fields.{in_order_rises, in_order_all, in_order_found, IsFieldOf, parts_of_row, has_fields, fields_apart}
+use Rattle.kl_prim.proofs.RecordLemmas.{in_order_all, in_order_found, in_order_rises}
+use Rattle.kl_meaning.proofs.Fields.{has_fields, fields_apart, written, written_named, written_types}
 
 -- what a name means is of the types that it has
 abbrev pub Agrees : Sort → Meant → Type 0
@@ -122,20 +125,35 @@ module _ (K : sort.KnownTypes) (M : meant.KnownOutcomes) (agree : (x : Name) →
   looked_up : (G : Context) (env : Env) → HaveTypesByName G env → (x : Name) (t : Ground) → NameTypes K G x t → OfType t (look_up M env x)
   looked_up G env h x t n = named_typed (field x G) (field x env) (K x) (M x) t (both_at x G env h) (agree x) n
 
+  -- a record whose fields have the types of a row, all of its labels among them
+  record_safe : (fs : Flds) (env : Env) (r : Row) → AreTidyFields fs → IsRow r → ((l : Name) → IsSome (at l r) → IsTrue (has_field fs l))
+      → AllByRecursion (IsFieldOf (λ o t. OfType t o) r) (run_fields fs M env) → OfType (rec r) (recorded (in_order (run_fields fs M env)))
+  record_safe fs env r y row_is whole all =
+      let ps = run_fields fs M env in
+      let up = in_order_rises ps (fields_apart (λ e. run e M env) (λ fs. run_fields fs M env) refl (λ l e fs. refl) fs y) in
+      recorded_typed (in_order ps) r
+      (parts_of_row r (in_order ps) row_is up (in_order_all (IsFieldOf (λ o t. OfType t o) r) ps all)
+      (λ l s. in_order_found l ps (has_fields (λ e. run e M env) (λ fs. run_fields fs M env) refl (λ l e fs. refl) fs l (whole l s))))
+      up
+
   mutual
     pub safe : (e : Exp) (G : Context) (env : Env) (t : Ground) → IsTidy e → HaveTypesByName G env → Types e K G t → OfType t (run e M env)
     safe (Const v) G env t y h i = i.1
     safe (name x) G env t y h i = looked_up G env h x.text t i
     safe (Call f es) G env t y h i = called_typed (K f.text) (M f.text) (run_all es M env) i.0 t (agree f.text) (safe_all es G env i.0 y h i.1) i.2
     safe (Rec fs) G env t y h i =
-        let row_is = subst IsGround i.1 i.2 in
-        let ps = run_fields fs M env in
-        let up = in_order_rises ps (fields_apart (λ e. run e M env) (λ fs. run_fields fs M env) refl (λ l e fs. refl) fs y) in
-        subst (λ q. OfType q (run (Rec fs) M env)) (sym i.1)
-        (recorded_typed (in_order ps) i.0
-        (parts_of_row i.0 (in_order ps) row_is up (in_order_all (IsFieldOf (λ o t. OfType t o) i.0) ps (safe_fields fs G env i.0 y h i.4))
-        (λ l s. in_order_found l ps (has_fields (λ e. run e M env) (λ fs. run_fields fs M env) refl (λ l e fs. refl) fs l (i.3 l s))))
-        up)
+        subst (λ q. OfType q (run (Rec fs) M env)) (sym i.1) (record_safe fs env i.0 y (subst IsGround i.1 i.2) i.3 (safe_fields fs G env i.0 y h i.4))
+    safe (More fs a) G env t y h i =
+        let row_is = subst IsGround i.2 i.3 in
+        let r = written K G i.0 fs in
+        applied_typed 27 (recorded (in_order (run_fields fs M env)) ∷ run a M env ∷ []) (rec r ∷ rec i.1 ∷ []) t (
+          rec r,
+          rec i.1 ∷ [],
+          refl,
+          record_safe fs env r y.0 (drops_row (λ l. not (has_field fs l)) i.0 row_is) (written_named K G i.0 fs) (safe_fields fs G env r y.0 h (written_types K G i.0 fs i.5)),
+          (rec i.1, [], refl, safe a G env (rec i.1) y.1 h i.6, refl),
+        )
+        (extend_types r i.1 i.0 t i.2 (divided (has_field fs) i.0 i.1 row_is i.4))
     safe (Inj l a) G env t y h i =
         subst (λ q. OfType q (run (Inj l a) M env)) (sym i.2) (tagged_typed l.text i.0 i.1 (run a M env) i.4 (safe a G env i.1 y h i.5))
     safe (Coll k es) G env t y h i =

@@ -1,18 +1,17 @@
 -- What an expression and a program mean.
 use Rattle.std.specs.Prelude.{ℕ, Bool, true, false, List, [], ◌∷◌, cond, Option, Some, None, find}
-use Rattle.std.specs.declared.cmp.Ordering.{Ordering}
-use Rattle.kl_base.specs.Fields.{field, bytes_cmp}
-use Rattle.kl_base.specs.Sorted.{sorted}
+use Rattle.kl_base.specs.Fields.{field}
 use Rattle.kl_value.specs.declared.Value.{Value}
 use Rattle.kl_value.specs.declared.Value.TheVariants as value
 use Rattle.kl_prim.specs.Table.{Row, rows}
+pub use Rattle.kl_prim.specs.Records.{by_label, in_order}
 use Rattle.kl_outcome.specs.Outcome.{Outcome, done, over, stuck, Flow, stop, fine, overflow, broken, Name, after, if_then}
 use Rattle.kl_outcome.specs.Outcome.{applied, recorded, tagged, part, cases, items_of, item_then, drawn, collected, union_of}
 use Rattle.kl_value.specs.Views.{as_bool}
 use Rattle.kl_syntax.specs.declared.tree.Op.{Op}
 use Rattle.kl_syntax.specs.declared.tree.Op.TheVariants as op
 use Rattle.kl_syntax.specs.declared.tree.Word.{Word}
-use Rattle.kl_syntax.specs.Syntax.{Exp, Const, name, Call, Rec, Inj, Coll, Comp, If, Let, Case, Path, Not, Neg, Chain, Exps}
+use Rattle.kl_syntax.specs.Syntax.{Exp, Const, name, Call, Rec, More, Inj, Coll, Comp, If, Let, Case, Path, Not, Neg, Chain, Exps}
 use Rattle.kl_syntax.specs.Syntax.{no_exps, exps, Flds, no_flds, flds, Quals, no_quals, draw, test, Branches, no_branches}
 use Rattle.kl_syntax.specs.Syntax.{otherwise, branch, Steps, no_steps, step, Decls, no_decls, constant, function}
 use Rattle.kl_meaning.specs.Match.{Env, fits, if_fits, must_fit, same_name}
@@ -69,13 +68,6 @@ operated op.Or o q = if_then o (done (value.Bool true)) q
 operated op.Append o q = union_of o q
 operated c o q = applied (code_of c) (o ∷ q ∷ [])
 
-abbrev pub by_label : {T : Type 0} → Name × T → Name × T → Ordering
-by_label p q = bytes_cmp p.0 q.0
-
--- the fields by rising label
-abbrev pub in_order : {T : Type 0} → List (Name × T) → List (Name × T)
-in_order ps = sorted by_label ps
-
 abbrev pub parts_of : List Word → Outcome → Outcome
 parts_of [] o = o
 parts_of (l ∷ ls) o = parts_of ls (part l.text o)
@@ -95,6 +87,7 @@ abbrev mutual
   run (name x) known env = look_up known env x.text
   run (Call f es) known env = called (known f.text) (run_all es known env)
   run (Rec fs) known env = recorded (in_order (run_fields fs known env))
+  run (More fs a) known env = applied 27 (recorded (in_order (run_fields fs known env)) ∷ run a known env ∷ [])
   run (Inj l a) known env = tagged l.text (run a known env)
   run (Coll k es) known env = collected k (run_items es known env)
   run (Comp k e qs) known env = collected k (run_quals qs (λ inner. item_then (run e known inner) (stop fine)) known env)

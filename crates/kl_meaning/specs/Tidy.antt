@@ -1,10 +1,11 @@
--- What the rules of scope say of a program's form: a pattern that has to match always does, and no record has a label
--- twice.
+-- What the rules of scope say of a program's form: a pattern that has to match always does, and no record or pattern has a
+-- label twice.
 use Rattle.std.specs.Prelude.{◌≡◌, false, ⊤}
 use Rattle.kl_syntax.specs.Syntax.{Pat, catch, any, same, is, shape, variant, Pats, no_pats, pats, Exp, Const, name, Call, Rec}
-use Rattle.kl_syntax.specs.Syntax.{Inj, Coll, Comp, If, Let, Case, Path, Not, Neg, Chain, Exps, no_exps, exps, Flds, no_flds}
+use Rattle.kl_syntax.specs.Syntax.{More, Inj, Coll, Comp, If, Let, Case, Path, Not, Neg, Chain, Exps, no_exps, exps, Flds, no_flds}
 use Rattle.kl_syntax.specs.Syntax.{flds, Quals, no_quals, draw, test, Branches, no_branches, otherwise, branch, Steps, no_steps}
 use Rattle.kl_syntax.specs.Syntax.{step, Decls, no_decls, constant, function}
+use Rattle.kl_meaning.specs.Match.{has_label}
 use Rattle.kl_meaning.specs.Typing.{has_field}
 
 -- without a test in it, a pattern matches each value of a type that it takes
@@ -14,12 +15,23 @@ abbrev mutual
   IsSurePattern any = ⊤
   IsSurePattern (same x) = ⊥
   IsSurePattern (is w n) = ⊥
-  IsSurePattern (shape ps dots) = AreSurePatterns ps
+  IsSurePattern (shape ps end) = AreSurePatterns ps
   IsSurePattern (variant l p) = ⊥
 
   pub AreSurePatterns : Pats → Type 0
   AreSurePatterns no_pats = ⊤
   AreSurePatterns (pats l p ps) = IsSurePattern p × AreSurePatterns ps
+
+-- no record pattern in it has a label twice
+abbrev mutual
+  pub IsTidyPattern : Pat → Type 0
+  IsTidyPattern (shape ps end) = AreTidyPatterns ps
+  IsTidyPattern (variant l p) = IsTidyPattern p
+  IsTidyPattern _ = ⊤
+
+  pub AreTidyPatterns : Pats → Type 0
+  AreTidyPatterns no_pats = ⊤
+  AreTidyPatterns (pats l p ps) = (has_label ps l.text ≡ false) × IsTidyPattern p × AreTidyPatterns ps
 
 -- a generator's pattern may test, those of `let`, of a branch and of a parameter may not
 abbrev mutual
@@ -28,11 +40,12 @@ abbrev mutual
   IsTidy (name x) = ⊤
   IsTidy (Call f es) = AreTidy es
   IsTidy (Rec fs) = AreTidyFields fs
+  IsTidy (More fs a) = AreTidyFields fs × IsTidy a
   IsTidy (Inj l a) = IsTidy a
   IsTidy (Coll k es) = AreTidy es
   IsTidy (Comp k e qs) = AreTidyQuals qs × IsTidy e
   IsTidy (If a b c) = IsTidy a × IsTidy b × IsTidy c
-  IsTidy (Let p a b) = IsSurePattern p × IsTidy a × IsTidy b
+  IsTidy (Let p a b) = IsSurePattern p × IsTidy a × IsTidy b × IsTidyPattern p
   IsTidy (Case a bs) = IsTidy a × AreTidyBranches bs
   IsTidy (Path a ls) = IsTidy a
   IsTidy (Not a) = IsTidy a
@@ -49,13 +62,13 @@ abbrev mutual
 
   pub AreTidyQuals : Quals → Type 0
   AreTidyQuals no_quals = ⊤
-  AreTidyQuals (draw p s qs) = IsTidy s × AreTidyQuals qs
+  AreTidyQuals (draw p s qs) = IsTidy s × AreTidyQuals qs × IsTidyPattern p
   AreTidyQuals (test c qs) = IsTidy c × AreTidyQuals qs
 
   pub AreTidyBranches : Branches → Type 0
   AreTidyBranches no_branches = ⊤
   AreTidyBranches (otherwise c) = IsTidy c
-  AreTidyBranches (branch l p b bs) = IsSurePattern p × IsTidy b × AreTidyBranches bs
+  AreTidyBranches (branch l p b bs) = IsSurePattern p × IsTidy b × AreTidyBranches bs × IsTidyPattern p
 
   pub AreTidySteps : Steps → Type 0
   AreTidySteps no_steps = ⊤
@@ -64,4 +77,4 @@ abbrev mutual
 abbrev pub IsTidyProgram : Decls → Exp → Type 0
 IsTidyProgram no_decls e = IsTidy e
 IsTidyProgram (constant d a ds) e = IsTidy a × IsTidyProgram ds e
-IsTidyProgram (function d p a ds) e = IsSurePattern p × IsTidy a × IsTidyProgram ds e
+IsTidyProgram (function d p a ds) e = IsSurePattern p × IsTidy a × IsTidyProgram ds e × IsTidyPattern p

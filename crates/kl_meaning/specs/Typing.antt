@@ -6,12 +6,14 @@ use Rattle.kl_base.specs.Fields.{field}
 use Rattle.kl_value.specs.declared.Kind.{Kind}
 use Rattle.kl_type.specs.Ground.{Ground, Row, bool, rec, var, coll as colls, at, IsGround}
 use Rattle.kl_outcome.specs.Outcome.{Name}
-use Rattle.kl_outcome.specs.Typed.{Inhabits, PrimTypes}
+use Rattle.kl_outcome.specs.Typed.{Inhabits, IsWithout, PrimTypes}
 use Rattle.kl_syntax.specs.declared.tree.Op.{Op}
 use Rattle.kl_syntax.specs.declared.tree.Op.TheVariants as op
+use Rattle.kl_syntax.specs.declared.tree.Tail.{Tail}
+use Rattle.kl_syntax.specs.declared.tree.Tail.TheVariants as tail
 use Rattle.kl_syntax.specs.declared.tree.Word.{Word}
 use Rattle.kl_syntax.specs.Syntax.{Pat, catch, any, same, is, shape, variant, Pats, no_pats, pats, Exp, Const, name, Call, Rec}
-use Rattle.kl_syntax.specs.Syntax.{Inj, Coll, Comp, If, Let, Case, Path, Not, Neg, Chain, Exps, no_exps, exps, Flds, no_flds}
+use Rattle.kl_syntax.specs.Syntax.{More, Inj, Coll, Comp, If, Let, Case, Path, Not, Neg, Chain, Exps, no_exps, exps, Flds, no_flds}
 use Rattle.kl_syntax.specs.Syntax.{flds, Quals, no_quals, draw, test, Branches, no_branches, otherwise, branch, Steps, no_steps}
 use Rattle.kl_syntax.specs.Syntax.{step, Decls, no_decls, constant, function}
 use Rattle.kl_meaning.specs.Match.{Env, same_name, has_label}
@@ -60,10 +62,15 @@ VariableOr None k t = ValueTypes k t
 abbrev pub NameTypes : KnownTypes → Context → Name → Ground → Type 0
 NameTypes known G x t = VariableOr (field x G) (known x) t
 
--- each label of the row stands in the pattern, unless it ends in `...`
-abbrev pub IsWhole : Bool → Row → Pats → Type 0
-IsWhole true r ps = ⊤
-IsWhole false r ps = (l : Name) → IsSome (at l r) → IsTrue (has_label ps l)
+-- each label of the row stands in the pattern, unless it ends in `...` or in `...\r`
+abbrev pub IsWhole : Tail → Row → Pats → Type 0
+IsWhole tail.Exact r ps = (l : Name) → IsSome (at l r) → IsTrue (has_label ps l)
+IsWhole _ r ps = ⊤
+
+-- under `...\r`, r is bound last and has the record type of the other labels
+abbrev pub BindsRest : Tail → Row → Pats → Context → Context → Type 0
+BindsRest (tail.Rest x) r ps G H = (q : Row) × IsWithout (has_label ps) r q × (H ≡ (x.text, rec q) ∷ G)
+BindsRest _ r ps G H = H ≡ G
 
 -- A pattern takes a type, and binds variables after those of G, which gives H. `outside` has the types of a bare name.
 abbrev mutual
@@ -72,7 +79,8 @@ abbrev mutual
   Takes any outside t G H = H ≡ G
   Takes (same x) outside t G H = outside x.text t × (H ≡ G)
   Takes (is w n) outside t G H = Inhabits t w × (H ≡ G)
-  Takes (shape ps dots) outside t G H = (r : Row) × (t ≡ rec r) × IsWhole dots r ps × TakesFields ps outside r G H
+  Takes (shape ps end) outside t G H =
+      (r : Row) × (M : Context) × (t ≡ rec r) × IsWhole end r ps × TakesFields ps outside r G M × BindsRest end r ps M H
   Takes (variant l p) outside t G H = (r : Row) × (s : Ground) × (t ≡ var r) × (at l.text r ≡ Some s) × Takes p outside s G H
 
   pub TakesFields : Pats → (Name → Ground → Type 0) → Row → Context → Context → Type 0
@@ -108,6 +116,9 @@ abbrev mutual
   Types (Call f es) known G t = (ss : List Ground) × AllTypes es known G ss × CallTypes (known f.text) ss t
   Types (Rec fs) known G t =
       (r : Row) × (t ≡ rec r) × IsGround t × ((l : Name) → IsSome (at l r) → IsTrue (has_field fs l)) × FieldTypes fs known G r
+  -- the fields have the types of the row at their labels, and what stands behind `...` has the record type of the others
+  Types (More fs a) known G t =
+      (r : Row) × (q : Row) × (t ≡ rec r) × IsGround t × IsWithout (has_field fs) r q × FieldTypes fs known G r × Types a known G (rec q)
   Types (Inj l a) known G t = (r : Row) × (s : Ground) × (t ≡ var r) × IsGround t × (at l.text r ≡ Some s) × Types a known G s
   Types (Coll k es) known G t = (s : Ground) × (t ≡ colls k s) × IsGround t × EachType es known G s
   Types (Comp k e qs) known G t = (s : Ground) × (H : Context) × (t ≡ colls k s) × QualTypes qs known G H × Types e known H s

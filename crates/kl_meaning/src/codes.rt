@@ -1,8 +1,8 @@
 //! The codes of primitives and operators.
-ghost use Rattle.std.specs.Prelude.{◌≡◌, map};
+ghost use Rattle.std.specs.Prelude.{◌≡◌, map, IfSome};
 ghost use Rattle.kl_prim.specs.Table.{entry_of};
 ghost use Rattle.kl_meaning.specs.Run.{code_of, code_named};
-ghost use Rattle.kl_meaning.specs.Codes.{code_in};
+ghost use Rattle.kl_meaning.specs.Codes.{IsCalled, code_in};
 
 use kl_base::Label;
 use kl_prim::{PrimRow, table};
@@ -27,18 +27,19 @@ pub fn code_of(op: Op) -> u8
     }
 }
 
-/// The code of the primitive with a name, or none where no primitive has it.
+/// The code of the primitive with a name, or none where no primitive has it. No word is the name of a form of records.
 pub fn code_named(name: &Label) -> Option<u8>
-    ensures { result ≡ code_named name.now }
+    ensures code { result ≡ code_named name.now }
+    ensures called { IfSome result IsCalled }
 {
-    code_in(table().rows, name)
+    code_in(table().rows, name.word())
 }
 
-fn code_in(rows: &[PrimRow], name: &Label) -> Option<u8>
+fn code_in(rows: &[PrimRow], name: &[u8]) -> Option<u8>
     ensures { result ≡ code_in name.now (map entry_of rows.now) }
 {
     for row in rows {
-        if *row.name == *name.slice() {
+        if *row.name == *name {
             return Some(row.code);
         }
     }

@@ -8,12 +8,12 @@ use Rattle.kl_base.specs.Counts.{Rose}
 use Rattle.kl_value.specs.declared.Value.{Value}
 use Rattle.kl_type.specs.declared.ground.Ty.{Ty}
 use Rattle.kl_type.proofs.RowLemmas.{same_label}
-use Rattle.kl_outside.specs.Files.{FilesState, IsMissing}
+use Rattle.kl_outside.specs.Files.{FilesState, IsMissing, seen_in}
 use Rattle.kl_outcome.specs.Outcome.{Name}
 use Rattle.kl_exchange.specs.FileItems.{FileEnd, WholeText, BadAt, TooDeepAt, PastLimit}
 use Rattle.kl_exchange.specs.Found.{file_items}
 use Rattle.kl_ask.specs.Asked.{raised_by}
-use Rattle.kl_ask.specs.Driver.{Attaches, CountsUnread, Stored, Missing, Bad, Long, Deep, Rows, stored_by, told_rows}
+use Rattle.kl_ask.specs.Driver.{Attaches, CountsUnread, Stored, Missing, Bad, Long, Deep, Rows, stored_by, told_rows, CountsFault}
 use Rattle.kl_ask.specs.declared.ask.Ask.{Ask}
 use Rattle.kl_ask.specs.declared.ask.DriverError.{DriverError}
 use Rattle.kl_ask.specs.declared.ask.DriverError.TheVariants as error
@@ -21,13 +21,16 @@ use Rattle.kl_ask.proofs.Names.{not_same}
 use Rattle.kl_ask.proofs.Worlds.{error_is}
 use Rattle.kl_nested.specs.Closing.{unread_by}
 use Rattle.kl_nested.specs.Contents.{contents_of, first_misfit, item_ty, stored_in, stored_of, stored_unless}
-use Rattle.kl_nested.specs.Desk.{IsKept}
+use Rattle.kl_nested.specs.Desk.{IsDesk, IsKept}
 use Rattle.kl_ask.specs.Named.{source_named}
-use Rattle.kl_nested.specs.Nested.{Sources, Tells, attached_of, nested_state}
+use Rattle.kl_nested.specs.Nested.{Sources, Tells, attached_of, nested_state, read_as}
+use Rattle.kl_ask.specs.Cursors.{open_at}
 use Rattle.kl_nested.specs.Reading.{ReadsFile, Told}
 use Rattle.kl_nested.specs.declared.parts.Source.{Source}
 use Rattle.kl_nested.specs.declared.parts.Open.{Open}
 use Rattle.kl_nested.proofs.Collections.{rows_typed}
+use Rattle.kl_nested.proofs.Desks.{file_open}
+use Rattle.kl_nested.proofs.Progress.{under}
 use Rattle.kl_nested.proofs.Standings.{holds}
 
 some_none : {T : Type 0} {x : T} → Some x ≡ None → ⊥
@@ -120,15 +123,18 @@ module _ (limit : ℕ) (path : List ℕ) (ty : Ty) where
 
   module _ (source : Name) (f g : FilesState) (sources : Sources) (cursors : List (Option Open)) (asked : List (Ask × ℕ)) (handed drifts : ℕ) where
     -- a refused `attach`
-    refused : (e : DriverError) (unread unread' : ℕ) → g.told ≡ f.told → f.faults ≤ g.faults → unread ≤ unread' → CountsUnread (Err e) unread unread' → CauseOf e (at_path limit f.told path ty) f g unread unread'
+    refused : (e : DriverError) (unread unread' : ℕ) → IsDesk limit f sources cursors → g.told ≡ f.told → ((k : ℕ) → IsSome (f.left k) → seen_in g k ≡ seen_in f k) → f.faults ≤ g.faults
+        → CountsFault {T = ℕ} (Err e) f.faults g.faults → unread ≤ unread' → CountsUnread (Err e) unread unread' → CauseOf e (at_path limit f.told path ty) f g unread unread'
         → (at_path limit f.told path ty ≡ Some Missing → (g.faults ≡ f.faults) × (unread' ≡ unread))
         → Attaches source path ty (Err e) (nested_state limit f sources cursors asked handed drifts unread) (nested_state limit g sources cursors asked handed drifts unread')
-    refused e unread unread' told faults more counts cause missing =
-        subst (λ t. Attaches source path ty (Err e) (nested_state limit f sources cursors asked handed drifts unread) (nested_state limit (record { told = t; left = g.left; faults = g.faults }) sources cursors asked handed drifts unread')) (sym told) (record {
+    refused e unread unread' desk told seen faults fault_counts more counts cause missing =
+        subst (λ t. Attaches source path ty (Err e) (nested_state limit f sources cursors asked handed drifts unread) (nested_state limit (record { told = t; left = g.left; log = g.log; faults = g.faults }) sources cursors asked handed drifts unread')) (sym told) (record {
           keeps = record { kind = refl; handed = omega arith; faults = faults; drifts = omega arith; no_drift = λ is. refl; unread = more };
           cursors = refl;
+          reading = λ k is. record { file = refl; read = under (open_at cursors k) _ _ (λ x at. ap (option_map read_as) (seen x.file (file_open limit f x (desk.reading k x at)))) };
           asked = refl;
           handed = refl;
+          faults = fault_counts;
           drifts = refl;
           unread = counts;
           others = λ name ne. refl;
@@ -149,7 +155,7 @@ module _ (limit : ℕ) (path : List ℕ) (ty : Ty) where
         })
 
     -- of a file that was read, or could not be
-    module _ (unread : ℕ) (fits : unread < 2 ^ 64) where
+    module _ (unread : ℕ) (fits : unread < 2 ^ 64) (desk : IsDesk limit f sources cursors) where
       found_in : (e : DriverError) (why : Stored) → (IsErrOf {T = ℕ × ℕ} (Err e) error.Failed → ⊥) → ((bytes : List ℕ) → Told limit bytes (item_ty ty) (Err e) → stored_in limit bytes (item_ty ty) ≡ why) → ReadsFile limit path (item_ty ty) (Err e) f g
           → (at_path limit f.told path ty ≡ Some why) ⊎ ((f.told ≡ None) × Rose unread (raised_by 1 unread))
       found_in e why well is reads = elim (stands f g (Err e) well reads) [
@@ -165,21 +171,21 @@ module _ (limit : ℕ) (path : List ℕ) (ty : Ty) where
       attach_refused e unread' reads counted = subst (λ n. Attaches source path ty (Err e) (nested_state limit f sources cursors asked handed drifts unread) (nested_state limit g sources cursors asked handed drifts n)) (sym counted) (by e reads)
         where
           by : (e : DriverError) → ReadsFile limit path (item_ty ty) (Err e) f g → Attaches source path ty (Err e) (nested_state limit f sources cursors asked handed drifts unread) (nested_state limit g sources cursors asked handed drifts (unread_by e unread))
-          by error.Failed reads = refused error.Failed unread unread reads.told reads.later (omega arith) refl
+          by error.Failed reads = refused error.Failed unread unread desk reads.told reads.open_seen reads.later reads.counts (omega arith) refl
               (elim (reads.failed refl) [ inl none ↦ inl (missing_at f none) | inr rose ↦ inr rose ]) (λ is. ((reads.missing (is_missing f is)).1, refl))
-          by (error.BadSource place) reads = refused (error.BadSource place) unread (raised_by 1 unread) reads.told reads.later (omega (arith, fits)) (omega (arith, fits))
+          by (error.BadSource place) reads = refused (error.BadSource place) unread (raised_by 1 unread) desk reads.told reads.open_seen reads.later reads.counts (omega (arith, fits)) (omega (arith, fits))
               (found_in (error.BadSource place) (Bad place) (λ h. absurd cc) (λ bytes is. is) reads) (λ is. absurd (none_missing (error.BadSource place) (λ h. absurd cc) reads is))
-          by (error.TooLong most) reads = refused (error.TooLong most) unread (raised_by 1 unread) reads.told reads.later (omega (arith, fits)) (omega (arith, fits))
+          by (error.TooLong most) reads = refused (error.TooLong most) unread (raised_by 1 unread) desk reads.told reads.open_seen reads.later reads.counts (omega (arith, fits)) (omega (arith, fits))
               (found_in (error.TooLong most) (Long most) (λ h. absurd cc) (λ bytes is. is) reads) (λ is. absurd (none_missing (error.TooLong most) (λ h. absurd cc) reads is))
-          by (error.TooDeep place) reads = refused (error.TooDeep place) unread (raised_by 1 unread) reads.told reads.later (omega (arith, fits)) (omega (arith, fits))
+          by (error.TooDeep place) reads = refused (error.TooDeep place) unread (raised_by 1 unread) desk reads.told reads.open_seen reads.later reads.counts (omega (arith, fits)) (omega (arith, fits))
               (found_in (error.TooDeep place) (Deep place) (λ h. absurd cc) (λ bytes is. is) reads) (λ is. absurd (none_missing (error.TooDeep place) (λ h. absurd cc) reads is))
           by (error.Changed d) reads = absurd (reads.no_change d refl)
-          by error.NoMemory reads = refused error.NoMemory unread unread reads.told reads.later (omega arith) refl tt (λ is. absurd (none_missing error.NoMemory (λ h. absurd cc) reads is))
+          by error.NoMemory reads = refused error.NoMemory unread unread desk reads.told reads.open_seen reads.later reads.counts (omega arith) refl tt (λ is. absurd (none_missing error.NoMemory (λ h. absurd cc) reads is))
 
       -- it was read, and memory wanted then
       pub attach_stopped : (kept : ℕ × ℕ) → ReadsFile limit path (item_ty ty) (Ok kept) f g
           → Attaches source path ty (Err error.NoMemory) (nested_state limit f sources cursors asked handed drifts unread) (nested_state limit g sources cursors asked handed drifts unread)
-      attach_stopped kept reads = refused error.NoMemory unread unread reads.told reads.later (omega arith) refl tt (λ is. let h = (reads.missing (is_missing f is)).0 in absurd cc)
+      attach_stopped kept reads = refused error.NoMemory unread unread desk reads.told reads.open_seen reads.later reads.counts (omega arith) refl tt (λ is. let h = (reads.missing (is_missing f is)).0 in absurd cc)
 
     -- ---- a file that was read through
 
@@ -198,15 +204,17 @@ module _ (limit : ℕ) (path : List ℕ) (ty : Ty) where
         | inr at ↦ other at.4.0 (same_Some _ _ (sym (stored_there f.told at.0 at.1 at.2 at.3 ∙ ap Some at.4.1) ∙ is))
       ]
 
-      pub attach_done : (unread : ℕ) (sources' : Sources) → Updates (pointwise nat_eq) sources sources' source (Some (made f g bytes count reads))
+      pub attach_done : (unread : ℕ) (sources' : Sources) → IsDesk limit f sources cursors → Updates (pointwise nat_eq) sources sources' source (Some (made f g bytes count reads))
           → Attaches source path ty (Ok count) (nested_state limit f sources cursors asked handed drifts unread) (nested_state limit g sources' cursors asked handed drifts unread)
-      attach_done unread sources' added =
+      attach_done unread sources' desk added =
           let here : source_named sources' source ≡ Some (made f g bytes count reads) = added.0 source ∙ (let same = same_label source in rw same refl) in
-          subst (λ t. Attaches source path ty (Ok count) (nested_state limit f sources cursors asked handed drifts unread) (nested_state limit (record { told = t; left = g.left; faults = g.faults }) sources' cursors asked handed drifts unread)) (sym reads.told) (record {
+          subst (λ t. Attaches source path ty (Ok count) (nested_state limit f sources cursors asked handed drifts unread) (nested_state limit (record { told = t; left = g.left; log = g.log; faults = g.faults }) sources' cursors asked handed drifts unread)) (sym reads.told) (record {
             keeps = record { kind = refl; handed = omega arith; faults = reads.later; drifts = omega arith; no_drift = λ is. refl; unread = omega arith };
             cursors = refl;
+            reading = λ k is. record { file = refl; read = under (open_at cursors k) _ _ (λ x at. ap (option_map read_as) (reads.open_seen x.file (file_open limit f x (desk.reading k x at)))) };
             asked = refl;
             handed = refl;
+            faults = reads.counts;
             drifts = refl;
             unread = refl;
             others = λ name ne. ap (option_map (attached_of limit f.told)) (added.0 name ∙ (let other = not_same source name (λ e. ne (sym e)) in rw other refl));

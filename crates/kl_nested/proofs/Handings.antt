@@ -2,13 +2,15 @@
 use Rattle.std.proofs.Common.{◌≡◌, ◌⊎◌, ℕ, ◌+◌, ◌-◌, ◌<◌, ◌≤◌, min, List, [], ◌∷◌, ◌++◌, length, drop, take, IsSome, Ok, Err, refl, sym, ap, subst, ◌∙◌, arith, append_assoc, append-nil, length-append, take_at, inl, inr}
 use Rattle.std.proofs.lemmas.Bool.{cases_lt}
 use Rattle.kl_value.specs.declared.Value.{Value}
-use Rattle.kl_outside.specs.Files.{FilesState}
-use Rattle.kl_exchange.specs.FileReading.{FileReading}
+use Rattle.kl_outside.specs.Files.{FilesState, seen_in}
+use Rattle.kl_exchange.specs.FileReading.{FileReading, SeesMore}
+use Rattle.kl_exchange.proofs.FileReading.{more_then, same_seen}
 use Rattle.kl_ask.specs.declared.ask.DriverError.{DriverError}
 use Rattle.kl_ask.specs.declared.ask.DriverError.TheVariants as error
 use Rattle.kl_type.specs.Ground.{ground_of}
 use Rattle.kl_outcome.specs.Typed.{Inhabits}
 use Rattle.kl_ask.specs.Asks.{item_of}
+use Rattle.kl_ask.specs.Driver.{CountsFault}
 use Rattle.kl_nested.specs.Desk.{HasTaken, IsKept, IsReading}
 use Rattle.kl_nested.specs.Handing.{AreNext, Hands, MeetsEnd, ReadsOne, Refuses, TakesRow, TakesRows}
 use Rattle.kl_nested.specs.Nested.{Tells, rows_at}
@@ -26,17 +28,37 @@ one_then a b c f g h m n = record {
   told = n.told ∙ m.told;
   others = λ k ne. n.others k (λ is. ne (is ∙ m.same_file)) ∙ m.others k ne;
   is_open = subst (λ k. IsSome (h.left k)) m.same_file n.is_open;
+  others_seen = λ k ne. n.others_seen k (λ is. ne (is ∙ m.same_file)) ∙ m.others_seen k ne;
+  more = more_then (seen_in f a.file) (seen_in g a.file) (seen_in h a.file) m.more (subst (λ k. SeesMore (seen_in g k) (seen_in h k)) m.same_file n.more);
   later = omega (arith, m.later, n.later);
   same_file = n.same_file ∙ m.same_file;
 }
 
-refuses_on : (limit : ℕ) (s : Source) (n : ℕ) (e : DriverError) (f g h : FilesState) → g.told ≡ f.told → f.faults ≤ g.faults → Refuses limit s n e g h → Refuses limit s n e f h
-refuses_on limit s n error.Failed f g h told later cause = omega (arith, later, cause)
-refuses_on limit s n error.NoMemory f g h told later cause = tt
-refuses_on limit s n (error.Changed d) f g h told later cause = (sym told ∙ cause.0, cause.1)
-refuses_on limit s n (error.BadSource p) f g h told later cause = absurd cause
-refuses_on limit s n (error.TooLong m) f g h told later cause = absurd cause
-refuses_on limit s n (error.TooDeep p) f g h told later cause = absurd cause
+refuses_on : (limit : ℕ) (s : Source) (file n : ℕ) (e : DriverError) (f g h : FilesState) → g.told ≡ f.told → f.faults ≤ g.faults → Refuses limit s file n e g h → Refuses limit s file n e f h
+refuses_on limit s file n error.Failed f g h told later cause = omega (arith, later, cause)
+refuses_on limit s file n error.NoMemory f g h told later cause = tt
+refuses_on limit s file n (error.Changed d) f g h told later cause = (sym told ∙ cause.0, cause.1, cause.2)
+refuses_on limit s file n (error.BadSource p) f g h told later cause = absurd cause
+refuses_on limit s file n (error.TooLong m) f g h told later cause = absurd cause
+refuses_on limit s file n (error.TooDeep p) f g h told later cause = absurd cause
+
+-- the count of faults over several calls, of which the last one's answer is the answer
+pub counts_on : (T : Type 0) (e : DriverError) (a b c : ℕ) → b ≡ a → CountsFault {T = T} (Err e) b c → CountsFault {T = T} (Err e) a c
+counts_on T error.Failed a b c same counts = omega (arith, same, counts)
+counts_on T error.NoMemory a b c same counts = counts ∙ same
+counts_on T (error.Changed d) a b c same counts = counts ∙ same
+counts_on T (error.BadSource p) a b c same counts = counts ∙ same
+counts_on T (error.TooLong m) a b c same counts = counts ∙ same
+counts_on T (error.TooDeep p) a b c same counts = counts ∙ same
+
+-- whatever would have been answered
+pub counts_as : (T U : Type 0) (e : DriverError) (a b : ℕ) → CountsFault {T = T} (Err e) a b → CountsFault {T = U} (Err e) a b
+counts_as T U error.Failed a b counts = counts
+counts_as T U error.NoMemory a b counts = counts
+counts_as T U (error.Changed d) a b counts = counts
+counts_as T U (error.BadSource p) a b counts = counts
+counts_as T U (error.TooLong m) a b counts = counts
+counts_as T U (error.TooDeep p) a b counts = counts
 
 -- ---- the loop
 
@@ -48,16 +70,18 @@ pub record Taking (limit : ℕ) (s : Source) (taken number : ℕ) (into into' : 
   pub size : taken + length rows ≡ number
   pub so_far : HasTaken limit s number now g
   pub kept : IsKept limit g.told s
+  pub counts : g.faults ≡ f.faults
 
 module _ (limit : ℕ) (s : Source) (taken : ℕ) (into : List Value) (old : FileReading) (f : FilesState) where
   pub taking_none : IsKept limit f.told s → HasTaken limit s taken old f → Taking limit s taken taken into into old old f f
   taking_none kept so_far = record {
-    reads = record { told = refl; others = λ k ne. refl; is_open = so_far.is_open; later = omega arith; same_file = refl };
+    reads = record { told = refl; others = λ k ne. refl; is_open = so_far.is_open; others_seen = λ k ne. refl; more = same_seen (seen_in f old.file) (seen_in f old.file) refl; later = omega arith; same_file = refl };
     rows = [];
     are_next = record { appended = sym (append-nil into); typed = tt; next = λ all is. ap (λ n. drop n all) (let n : taken ≡ taken + 0 = omega arith in n) };
     size = omega arith;
     so_far = so_far;
     kept = kept;
+    counts = refl;
   }
 
   module _ (number : ℕ) (into' into'' : List Value) (now then : FileReading) (g h : FilesState) (at : Taking limit s taken number into into' old now f g) where
@@ -80,6 +104,7 @@ module _ (limit : ℕ) (s : Source) (taken : ℕ) (into : List Value) (old : Fil
           size = omega (arith, at.size, length-append at.rows (row.0 ∷ []));
           so_far = row.2;
           kept = kept_on limit g.told h.told s takes.reads.told at.kept;
+          counts = takes.counts ∙ at.counts;
         }
 
     pub taking_stopped : (count : ℕ) (e : DriverError) → number < taken + count → TakesRow limit s number into' into'' (Err e) now then g h → TakesRows limit s taken count into into'' (Err e) old then f h
@@ -89,7 +114,9 @@ module _ (limit : ℕ) (s : Source) (taken : ℕ) (into : List Value) (old : Fil
       are_next = record { appended = takes.same ∙ at.are_next.appended; typed = at.are_next.typed; next = at.are_next.next };
       all = tt;
       few = omega (arith, at.size, within);
-      cause = λ d is. subst (λ n. Refuses limit s n d f h) (sym at.size) (refuses_on limit s number d f g h at.reads.told at.reads.later (takes.cause d is));
+      counts = counts_on (Unit {0}) e f.faults g.faults h.faults at.counts takes.counts;
+      cause = λ d is. subst (λ n. Refuses limit s old.file n d f h) (sym at.size)
+          (refuses_on limit s old.file number d f g h at.reads.told at.reads.later (subst (λ k. Refuses limit s k number d g h) at.reads.same_file (takes.cause d is)));
     }
 
     pub taking_done : (count : ℕ) → number ≡ taken + count → TakesRows limit s taken count into into' (Ok tt) old now f g
@@ -99,6 +126,7 @@ module _ (limit : ℕ) (s : Source) (taken : ℕ) (into : List Value) (old : Fil
       are_next = at.are_next;
       all = (omega (arith, at.size, is), subst (λ n. HasTaken limit s n now g) is at.so_far);
       few = tt;
+      counts = at.counts;
       cause = λ e is. absurd cc;
     }
 
@@ -129,17 +157,19 @@ module _ (limit most : ℕ) (into : List Value) (old new : Open) (f g : FilesSta
       after = omega (arith, taken);
       within = omega (arith, taken, spent);
       taken = subst (λ n. HasTaken limit old.source n new.reader g) (sym (taken ∙ spent)) meets.taken;
+      ended = λ none. meets.all;
     };
     same = tt;
+    counts = meets.counts;
     cause = λ e is. absurd cc;
   }
 
   pub not_ended : (e : DriverError) → old.taken ≡ old.source.count → MeetsEnd limit old.source (Err e) old.reader new.reader f g → Hands limit most into into (Err e) old new f g
-  not_ended e spent meets = record { reads = meets.reads; ask = ask; source = source; file = file; handed = tt; same = refl; cause = λ d is. (old.source.count + 1, inr (spent, refl), meets.cause d (let k : e ≡ d = cc in ap Err k)) }
+  not_ended e spent meets = record { reads = meets.reads; ask = ask; source = source; file = file; handed = tt; same = refl; counts = counts_as (Unit {0}) ℕ e f.faults g.faults meets.counts; cause = λ d is. (old.source.count + 1, inr (spent, refl), meets.cause d (let k : e ≡ d = cc in ap Err k)) }
 
-  pub handed_rows : (into' : List Value) (count : ℕ) → TakesRows limit old.source old.taken count into into' (Ok tt) old.reader new.reader f g → new.taken ≡ old.taken + count → count ≤ most
+  pub handed_rows : (into' : List Value) (count : ℕ) → 0 < count → TakesRows limit old.source old.taken count into into' (Ok tt) old.reader new.reader f g → new.taken ≡ old.taken + count → count ≤ most
       → (count ≡ most) ⊎ (old.taken + count ≡ old.source.count) → old.taken + count ≤ old.source.count → Hands limit most into into' (Ok count) old new f g
-  handed_rows into' count takes taken few all within = record {
+  handed_rows into' count some takes taken few all within = record {
     reads = takes.reads;
     ask = ask;
     source = source;
@@ -153,8 +183,10 @@ module _ (limit most : ℕ) (into : List Value) (old new : Open) (f g : FilesSta
       after = taken;
       within = omega (arith, taken, within);
       taken = subst (λ n. HasTaken limit old.source n new.reader g) (sym taken) takes.all.1;
+      ended = λ none. absurd (omega (arith, none, some));
     };
     same = tt;
+    counts = takes.counts;
     cause = λ e is. absurd cc;
   }
 
@@ -166,5 +198,6 @@ module _ (limit most : ℕ) (into : List Value) (old new : Open) (f g : FilesSta
     file = file;
     handed = tt;
     same = cut ∙ ap (take (length into)) takes.are_next.appended ∙ take_at into takes.rows (length into) refl;
+    counts = counts_as (Unit {0}) ℕ e f.faults g.faults takes.counts;
     cause = λ d is. (old.taken + length takes.rows, inl (omega arith, omega (arith, takes.few, within)), takes.cause d (let k : e ≡ d = cc in ap Err k));
   }

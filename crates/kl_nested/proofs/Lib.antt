@@ -5,6 +5,8 @@ pub mod Handings
 pub mod Held
 pub mod Openings
 pub mod Places
+pub mod Progress
+pub mod Shown
 pub mod Pulling
 pub mod Standings
 pub mod Starting

@@ -1,5 +1,5 @@
 -- What opening a cursor does to what the driver means.
-use Rattle.std.proofs.Common.{◌≡◌, ◌⊎◌, inl, inr, ◌<◌, ◌≤◌, ◌-◌, ◌^◌, ℕ, true, false, List, [], ◌∷◌, ◌++◌, length, drop, Option, Some, None, Ok, Err, IsErrOf, refl, sym, ◌∙◌, ap, subst, arith, ⊎_elim}
+use Rattle.std.proofs.Common.{◌≡◌, ◌≢◌, IsSome, ◌⊎◌, inl, inr, ◌<◌, ◌≤◌, ◌-◌, ◌^◌, ℕ, true, false, List, [], ◌∷◌, ◌++◌, length, drop, Option, Some, None, Ok, Err, IsErrOf, refl, sym, ◌∙◌, ap, subst, arith, ⊎_elim}
 use Rattle.std.specs.List.{AllByRecursion}
 use Rattle.std.specs.Option.{option_map}
 use Rattle.std.proofs.Math.Path.{fun_ext}
@@ -11,31 +11,46 @@ use Rattle.kl_value.specs.declared.Kind.{Kind}
 use Rattle.kl_value.specs.declared.Kind.TheVariants as kind
 use Rattle.kl_value.specs.declared.Value.{Value}
 use Rattle.kl_type.specs.Ground.{ground_of}
-use Rattle.kl_outside.specs.Files.{FilesState, IsMissing}
+use Rattle.kl_outside.specs.Files.{FilesState, IsMissing, Seen, nothing_seen, seen_in}
 use Rattle.kl_outcome.specs.Outcome.{Name}
 use Rattle.kl_outcome.specs.Typed.{Inhabits}
 use Rattle.kl_ask.specs.Asked.{with_ask}
 use Rattle.kl_ask.specs.Asks.{answers, columns, item_of, kind_of, shown_type}
 use Rattle.kl_ask.specs.Cursors.{open_at}
-use Rattle.kl_ask.specs.Driver.{CanStart, InOrder, IsFresh, OpensAt, Shows, Source as Attached, Starts}
+use Rattle.kl_ask.specs.Driver.{CanStart, CountsFault, InOrder, ReadSoFar, read_under, IsFresh, OpensAt, Shows, Source as Attached, Starts}
 use Rattle.kl_ask.specs.declared.ask.Ask.{Ask}
 use Rattle.kl_ask.specs.declared.ask.Ask.TheVariants as asks
 use Rattle.kl_ask.specs.declared.ask.ColTest.{ColTest}
 use Rattle.kl_ask.specs.declared.ask.DriverError.{DriverError}
 use Rattle.kl_ask.specs.declared.ask.DriverError.TheVariants as error
-use Rattle.kl_ask.proofs.Opened.{added_free, added_now, added_others}
+use Rattle.kl_ask.proofs.Opened.{added_free, added_now, added_others, some_of}
 use Rattle.kl_ask.proofs.Whole.{only_whole, whole_rows, whole_type}
 use Rattle.kl_ask.proofs.Worlds.{error_is}
 use Rattle.kl_nested.specs.Closing.{ClosesOpen}
 use Rattle.kl_nested.specs.Desk.{IsDesk, IsKept}
 use Rattle.kl_ask.specs.Named.{asked_source}
-use Rattle.kl_nested.specs.Nested.{Sources, attached_of, cursor_of, nested_kind, nested_state, rows_at}
+use Rattle.kl_nested.specs.Nested.{Sources, attached_of, cursor_of, nested_kind, nested_state, read_as, rows_at}
 use Rattle.kl_nested.specs.Opening.{OpensLast, OpensOver}
 use Rattle.kl_nested.specs.declared.parts.Source.{Source}
 use Rattle.kl_nested.specs.declared.parts.Open.{Open}
 use Rattle.kl_nested.proofs.Collections.{rows_typed}
-use Rattle.kl_nested.proofs.Desks.{kept_asked}
+use Rattle.kl_nested.proofs.Desks.{file_open, kept_asked}
+use Rattle.kl_nested.proofs.Handings.{counts_as}
+use Rattle.kl_nested.proofs.Progress.{under}
 use Rattle.kl_nested.proofs.Takings.{knows}
+
+pub none_some : {T : Type 0} (o : Option T) → o ≡ None → IsSome o → ⊥
+none_some None none is = cc
+none_some (Some x) none is = cc
+
+pub is_there : {C D : Type 0} (seen : C → D) (o : Option C) → IsSome (option_map seen o) → IsSome o
+is_there seen (Some x) h = refl
+is_there seen None h = absurd cc
+
+-- a file that was just opened was not read
+nothing_read : (log : Option (ℕ → Seen)) (r : ReadSoFar) → option_map read_as (option_map (λ seen. nothing_seen) log) ≡ Some r → r.bytes ≡ []
+nothing_read None r is = absurd cc
+nothing_read (Some seen) r is = ap (λ x. x.bytes) (sym (same_Some _ _ is))
 
 in_order : (k : Kind) (rows : List Value) → InOrder k rows rows
 in_order kind.List rows = refl
@@ -103,10 +118,21 @@ module _ (limit : ℕ) (room : limit < 2 ^ 63) (f : FilesState) (sources : Sourc
     start_done asked' n can last opens counted =
         let o = opens.opened.0 in
         let grown : cursors' ≡ cursors ++ Some o ∷ [] = opens.opened.1 in
-        subst (λ t. Starts ask (Ok n) (nested_state limit f sources cursors asked handed drifts unread) (nested_state limit (record { told = t; left = g.left; faults = g.faults }) sources cursors' asked' handed drifts unread)) (sym opens.told) (record {
+        let over = opens.opened.2 in
+        let now = nested_state limit (record { told = f.told; left = g.left; log = g.log; faults = g.faults }) sources cursors' asked' handed drifts unread in
+        let apart : (y : Open) (k : ℕ) → open_at cursors k ≡ Some y → y.file ≢ o.file = (λ y k at same. none_some (f.left o.file) over.free (subst (λ i. IsSome (f.left i)) same (file_open limit f y (desk.reading k y at)))) in
+        subst (λ t. Starts ask (Ok n) (nested_state limit f sources cursors asked handed drifts unread) (nested_state limit (record { told = t; left = g.left; log = g.log; faults = g.faults }) sources cursors' asked' handed drifts unread)) (sym opens.told) (record {
           keeps = record { kind = refl; handed = omega arith; faults = opens.later; drifts = omega arith; no_drift = λ is. refl; unread = omega arith };
           attached = refl;
+          reading = λ k is.
+              let x = some_of (open_at cursors k) (is_there (cursor_of limit f.told) (open_at cursors k) is) in
+              let ne : k ≢ n = (λ same. none_some (open_at cursors n) (added_free cursors cursors' n o last grown) (subst (λ i. IsSome (open_at cursors i)) same (subst IsSome (sym x.1) refl))) in
+              record {
+                file = ap (option_map (λ (x : Open). x.file)) (added_others cursors cursors' n o last grown k ne);
+                read = under (open_at cursors k) _ _ (λ y at. ap (option_map read_as) (over.others_seen y.file (apart y k at)));
+              };
           handed = refl;
+          faults = opens.counts;
           drifts = refl;
           unread = refl;
           opens = record {
@@ -116,6 +142,7 @@ module _ (limit : ℕ) (room : limit < 2 ^ 63) (f : FilesState) (sources : Sourc
             ask_kept = opens.opened.2.ask_is;
             fresh = opens_at ask s g o can found opens.opened.2;
             others = λ k ne. ap (option_map (cursor_of limit f.told)) (added_others cursors cursors' n o last grown k ne);
+            unread = λ r is. nothing_read f.log r (sym (ap (option_map read_as) over.unread) ∙ (sym (ap (λ (x : Option ℕ). read_under x now) (ap (option_map (λ (x : Open). x.file)) (added_now cursors cursors' n o last grown))) ∙ is));
             asked = counted;
           };
           refused = tt;
@@ -127,13 +154,18 @@ module _ (limit : ℕ) (room : limit < 2 ^ 63) (f : FilesState) (sources : Sourc
     abbrev Refusal : DriverError → FilesState → List (Option Open) → Type 0
     Refusal e h cursors'' = Starts ask (Err e) (nested_state limit f sources cursors asked handed drifts unread) (nested_state limit h sources cursors'' asked handed drifts unread)
 
-    refusal : (e : DriverError) (h : FilesState) (cursors'' : List (Option Open)) → h.told ≡ f.told → f.faults ≤ h.faults → ((k : ℕ) → open_at cursors'' k ≡ open_at cursors k) → (e ≡ error.Failed → Rose f.faults h.faults)
+    refusal : (e : DriverError) (h : FilesState) (cursors'' : List (Option Open)) → h.told ≡ f.told → ((k : ℕ) → IsSome (f.left k) → seen_in h k ≡ seen_in f k) → f.faults ≤ h.faults → CountsFault {T = ℕ} (Err e) f.faults h.faults → ((k : ℕ) → open_at cursors'' k ≡ open_at cursors k) → (e ≡ error.Failed → Rose f.faults h.faults)
         → (e ≡ error.Failed) ⊎ (e ≡ error.NoMemory) → Refusal e h cursors''
-    refusal e h cursors'' told later same failed other =
-        subst (λ t. Starts ask (Err e) (nested_state limit f sources cursors asked handed drifts unread) (nested_state limit (record { told = t; left = h.left; faults = h.faults }) sources cursors'' asked handed drifts unread)) (sym told) (record {
+    refusal e h cursors'' told seen later counts same failed other =
+        subst (λ t. Starts ask (Err e) (nested_state limit f sources cursors asked handed drifts unread) (nested_state limit (record { told = t; left = h.left; log = h.log; faults = h.faults }) sources cursors'' asked handed drifts unread)) (sym told) (record {
           keeps = record { kind = refl; handed = omega arith; faults = later; drifts = omega arith; no_drift = λ is. refl; unread = omega arith };
           attached = refl;
+          reading = λ k is. record {
+            file = ap (option_map (λ (x : Open). x.file)) (same k);
+            read = under (open_at cursors k) _ _ (λ y at. ap (option_map read_as) (seen y.file (file_open limit f y (desk.reading k y at))));
+          };
           handed = refl;
+          faults = counts;
           drifts = refl;
           unread = refl;
           opens = tt;
@@ -147,7 +179,7 @@ module _ (limit : ℕ) (room : limit < 2 ^ 63) (f : FilesState) (sources : Sourc
 
     -- none was opened
     pub start_refused : (e : DriverError) → OpensLast limit s ask (Err e) cursors cursors' f g → Refusal e g cursors'
-    start_refused e opens = refusal e g cursors' opens.told opens.later (λ k. ap (λ cs. open_at cs k) opens.same)
+    start_refused e opens = refusal e g cursors' opens.told opens.refused.seen opens.later (counts_as (Unit {0}) ℕ e f.faults g.faults opens.counts) (λ k. ap (λ cs. open_at cs k) opens.same)
         (λ is. elim (opens.refused.failed (subst (λ d. IsErrOf {T = Unit {0}} (Err d) error.Failed) (sym is) refl)) [ inl missing ↦ absurd (there missing) | inr rose ↦ rose ])
         (elim opens.refused.no_other [ inl is ↦ inl (wanted is) | inr is ↦ inr (wanted is) ])
       where
@@ -160,7 +192,10 @@ module _ (limit : ℕ) (room : limit < 2 ^ 63) (f : FilesState) (sources : Sourc
         let o = opens.opened.0 in
         let grown : cursors' ≡ cursors ++ Some o ∷ [] = opens.opened.1 in
         let file = closes.file o (added_now cursors cursors' n o last grown) in
-        refusal error.NoMemory h cursors'' (file.told ∙ opens.told) (omega (arith, opens.later, file.faults))
+        let over = opens.opened.2 in
+        refusal error.NoMemory h cursors'' (file.told ∙ opens.told)
+        (λ k is. file.seen k ∙ over.others_seen k (λ same. none_some (f.left o.file) over.free (subst (λ i. IsSome (f.left i)) same is)))
+        (omega (arith, opens.later, file.faults)) (file.faults ∙ opens.counts)
         (λ k. ⊎_elim
         (λ is. ap (open_at cursors'') is ∙ closes.closed ∙ sym (added_free cursors cursors' n o last grown) ∙ sym (ap (open_at cursors) is))
         (λ ne. closes.others k ne ∙ added_others cursors cursors' n o last grown k ne)

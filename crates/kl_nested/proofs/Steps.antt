@@ -6,7 +6,7 @@ use Rattle.std.proofs.Math.Path.{fun_ext}
 use Rattle.std.proofs.lemmas.Option.{same_Some}
 use Rattle.kl_value.specs.declared.Value.{Value}
 use Rattle.kl_type.specs.declared.ground.Ty.{Ty}
-use Rattle.kl_outside.specs.Files.{FilesState, Closes, OtherFiles}
+use Rattle.kl_outside.specs.Files.{FilesState, Closes, OtherFiles, OtherSeen}
 use Rattle.kl_outcome.specs.Outcome.{Name}
 use Rattle.kl_ask.specs.Asked.{raised_by, with_ask}
 use Rattle.kl_ask.specs.Cursors.{open_at}
@@ -50,7 +50,7 @@ same_named sources sources' same name = rw same refl
 module _ (limit : ℕ) (f : FilesState) (sources : Sources) (cursors : Cursors) where
   module _ (g : FilesState) (sources' : Sources) (source : Name) (path : List ℕ) (ty : Ty) (desk : IsDesk limit f sources cursors) where
     read_same : (kept : Result (ℕ × ℕ) DriverError) → ReadsFile limit path (item_ty ty) kept f g → IsDesk limit g sources cursors
-    read_same kept reads = desk_same limit f sources cursors desk g reads.told reads.left
+    read_same kept reads = desk_same limit f sources cursors desk g reads.told reads.left reads.open_seen
 
     pub desk_after_ok : (count : ℕ) → option_map (attached_of limit f.told) (source_named sources source) ≡ None → AttachesFile limit source path ty (Ok count) sources sources' f g → IsDesk limit g sources' cursors
     desk_after_ok count fresh a = by a.kept a.reads a.adds
@@ -66,6 +66,7 @@ module _ (limit : ℕ) (f : FilesState) (sources : Sources) (cursors : Cursors) 
       kept = λ name s is. d.kept name s (sym (same_named sources sources' same name) ∙ is);
       asked = λ k o is. stays o.ask o.source (d.asked k o is);
       reading = d.reading;
+      only = d.only;
       apart = d.apart;
     }
       where
@@ -90,11 +91,11 @@ module _ (limit : ℕ) (f : FilesState) (sources : Sources) (cursors : Cursors) 
     desk_after_close h cursors' k is closes =
         let o = some_of (open_at cursors k) is in
         let file = closes.file o.0 o.1 in
-        desk_closed limit f sources cursors desk h cursors' k o.0 o.1 closes.closed closes.others file.told file.others
+        desk_closed limit f sources cursors desk h cursors' k o.0 o.1 closes.closed closes.others file.told file.others file.closed (λ n ne. file.seen n)
 
   module _ (desk : IsDesk limit f sources cursors) (g : FilesState) (cursors' : Cursors) (ask : Ask) where
     pub desk_not_opened : (e : DriverError) → OpensAsked limit sources ask (Err e) cursors cursors' f g → IsDesk limit g sources cursors'
-    desk_not_opened e a = subst (IsDesk limit g sources) (sym a.opens.same) (desk_same limit f sources cursors desk g a.opens.told a.opens.refused.left)
+    desk_not_opened e a = subst (IsDesk limit g sources) (sym a.opens.same) (desk_same limit f sources cursors desk g a.opens.told a.opens.refused.left a.opens.refused.seen)
 
     module _ (a : OpensAsked limit sources ask (Ok tt) cursors cursors' f g) where
       pub desk_now_opened : IsDesk limit g sources cursors'
@@ -108,7 +109,7 @@ module _ (limit : ℕ) (f : FilesState) (sources : Sources) (cursors : Cursors) 
           let o = a.opens.opened.0 in
           let here = added_now cursors cursors' n o last a.opens.opened.1 in
           let file = closes.file o here in
-          desk_closed limit g sources cursors' desk_now_opened h cursors'' n o here closes.closed closes.others file.told file.others
+          desk_closed limit g sources cursors' desk_now_opened h cursors'' n o here closes.closed closes.others file.told file.others file.closed (λ k ne. file.seen k)
 
   module _ (desk : IsDesk limit f sources cursors) (g : FilesState) (cursors' : Cursors) (cursor most : ℕ) (into into' : List Value) where
     open_here : (a : Open) → slice_get cursors cursor ≡ Some (Some a) → open_at cursors cursor ≡ Some a
@@ -151,8 +152,14 @@ module _ (limit : ℕ) (f : FilesState) (sources : Sources) (cursors : Cursors) 
             let reading = desk.reading cursor a.old (open_here a.old a.here) in
             closed_file.others k (λ is. ne (is ∙ a.hands.file)) ∙ a.hands.reads.others k (λ is. ne (is ∙ reading.same_file))
 
+        seen_stays : OtherSeen a.old.file f h
+        seen_stays k ne =
+            let reading = desk.reading cursor a.old (open_here a.old a.here) in
+            closed_file.seen k ∙ a.hands.reads.others_seen k (λ is. ne (is ∙ reading.same_file))
+
         pub desk_refused : IsDesk limit h sources cursors''
         desk_refused = desk_closed limit f sources cursors desk h cursors'' cursor a.old (open_here a.old a.here) closes.closed others_stay (closed_file.told ∙ a.hands.reads.told) left_stays
+            (ap h.left (sym a.hands.file) ∙ closed_file.closed) seen_stays
 
 -- ---- the calls
 
@@ -164,20 +171,20 @@ module _ (limit : ℕ) (f : FilesState) (sources : Sources) (cursors : Cursors) 
     abbrev Attached : Result ℕ DriverError → ℕ → Type 0
     Attached result unread' = Attaches source path ty result Old (nested_state limit g sources' cursors asked handed drifts unread')
 
-    pub attaches_ok : (count : ℕ) → AttachesFile limit source path ty (Ok count) sources sources' f g → Attached (Ok count) unread
-    attaches_ok count a = by a.kept a.reads a.adds
+    pub attaches_ok : IsDesk limit f sources cursors → (count : ℕ) → AttachesFile limit source path ty (Ok count) sources sources' f g → Attached (Ok count) unread
+    attaches_ok desk count a = by a.kept a.reads a.adds
       where
         by : (kept : Result (ℕ × ℕ) DriverError) → ReadsFile limit path (item_ty ty) kept f g → Adds source path ty kept (Ok count) sources sources' → Attached (Ok count) unread
-        by (Ok (bytes, n)) reads adds = subst (λ n. Attached (Ok n) unread) (sym adds.0) (attach_done limit path ty source f g sources cursors asked handed drifts bytes n reads unread sources' adds.1)
+        by (Ok (bytes, n)) reads adds = subst (λ n. Attached (Ok n) unread) (sym adds.0) (attach_done limit path ty source f g sources cursors asked handed drifts bytes n reads unread sources' desk adds.1)
         by (Err e) reads adds = absurd adds
 
-    pub attaches_err : unread < 2 ^ 64 → (e : DriverError) (unread' : ℕ) → AttachesFile limit source path ty (Err e) sources sources' f g → unread' ≡ unread_by e unread → Attached (Err e) unread'
-    attaches_err fits e unread' a counted = by a.kept a.reads a.adds
+    pub attaches_err : IsDesk limit f sources cursors → unread < 2 ^ 64 → (e : DriverError) (unread' : ℕ) → AttachesFile limit source path ty (Err e) sources sources' f g → unread' ≡ unread_by e unread → Attached (Err e) unread'
+    attaches_err desk fits e unread' a counted = by a.kept a.reads a.adds
       where
         by : (kept : Result (ℕ × ℕ) DriverError) → ReadsFile limit path (item_ty ty) kept f g → Adds source path ty kept (Err e) sources sources' → Attached (Err e) unread'
         by (Ok kept) reads adds =
             let none : unread' ≡ unread = counted ∙ ap (λ d. unread_by d unread) adds.0 in
-            let made = attach_stopped limit path ty source f g sources cursors asked handed drifts unread fits kept reads in
+            let made = attach_stopped limit path ty source f g sources cursors asked handed drifts unread fits desk kept reads in
             let same : (λ name. option_map (attached_of limit g.told) (source_named sources' name)) ≡ (λ name. option_map (attached_of limit g.told) (source_named sources name)) =
             fun_ext (λ name. ap (option_map (attached_of limit g.told)) (same_named sources sources' adds.1 name)) in
             subst (λ d. Attached (Err d) unread') (sym adds.0)
@@ -185,7 +192,7 @@ module _ (limit : ℕ) (f : FilesState) (sources : Sources) (cursors : Cursors) 
             (subst (λ attached. Attaches source path ty (Err error.NoMemory) Old (record (nested_state limit g sources cursors asked handed drifts unread) { attached = attached })) (sym same) made))
         by (Err d) reads adds =
             subst (λ ss. Attaches source path ty (Err e) Old (nested_state limit g ss cursors asked handed drifts unread')) (sym adds.1)
-            (attach_refused limit path ty source f g sources cursors asked handed drifts unread fits e unread' (subst (λ d. ReadsFile limit path (item_ty ty) (Err d) f g) (sym adds.0) reads) counted)
+            (attach_refused limit path ty source f g sources cursors asked handed drifts unread fits desk e unread' (subst (λ d. ReadsFile limit path (item_ty ty) (Err d) f g) (sym adds.0) reads) counted)
 
   pub can_ask : (ask : Ask) → CanStart Old ask → IsSome (asked_source sources ask)
   can_ask (asks.Rows source keep tests) can = some_open (attached_of limit f.told) (source_named sources source) (subst IsSome (sym can.answerable.1) refl)
@@ -216,7 +223,7 @@ module _ (limit : ℕ) (f : FilesState) (sources : Sources) (cursors : Cursors) 
         let here = open_here limit f sources cursors desk g cursors' cursor most into into' a.old a.here in
         let file = closed_file limit f sources cursors desk g cursors' cursor most into into' e a h cursors'' closes in
         pull_refused limit f sources cursors asked handed drifts unread cursor desk g h cursors'' drifts' most into into' e a.old a.new here a.hands closes.closed
-        (others_stay limit f sources cursors desk g cursors' cursor most into into' e a h cursors'' closes) file.told file.faults fits counted
+        (others_stay limit f sources cursors desk g cursors' cursor most into into' e a h cursors'' closes) file.told file.seen file.faults fits counted
 
   pub finishes : IsDesk limit f sources cursors → (h : FilesState) (cursors' : Cursors) (k : ℕ) → IsSome (open_at cursors k) → ClosesOpen k cursors cursors' f h → Finishes k Old (nested_state limit h sources cursors' asked handed drifts unread)
   finishes desk h cursors' k is closes = let o = some_of (open_at cursors k) is in finish_done limit f sources cursors asked handed drifts unread k desk h cursors' o.0 o.1 closes

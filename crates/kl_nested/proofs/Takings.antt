@@ -1,17 +1,17 @@
 -- The next rows of a source that was read so far.
-use Rattle.std.proofs.Common.{◌≡◌, ◌≢◌, inl, inr, ℕ, ◌+◌, ◌<◌, ◌≤◌, true, false, List, [], ◌∷◌, ◌++◌, length, drop, Option, Some, None, IsSome, Result, Ok, Err, refl, sym, ap, subst, ◌∙◌, arith, append_assoc, length-append}
+use Rattle.std.proofs.Common.{◌≡◌, ◌≢◌, inl, inr, ℕ, ◌+◌, ◌<◌, ◌≤◌, true, false, List, [], ◌∷◌, ◌++◌, length, drop, Option, Some, None, IsErrOf, IsSome, Result, Ok, Err, refl, sym, ap, subst, ◌∙◌, arith, append_assoc, length-append}
 use Rattle.std.proofs.lemmas.Option.{same_Some}
 use Rattle.kl_value.specs.declared.Value.{Value}
 use Rattle.kl_type.specs.Has.{has_type}
 use Rattle.kl_type.specs.declared.ground.Ty.{Ty}
-use Rattle.kl_outside.specs.Files.{FilesState, left_at_first}
+use Rattle.kl_outside.specs.Files.{FilesState, left_at_first, seen_in}
 use Rattle.kl_exchange.specs.FileItems.{FileEnd, WholeText, BadAt, TooDeepAt, PastLimit, Shows}
-use Rattle.kl_exchange.specs.FileReading.{FileReading, HasRead, EndsSo, Left, NextItem, Stands}
+use Rattle.kl_exchange.specs.FileReading.{AsSeen, FileReading, HasRead, HasSeen, EndsSo, Left, NextItem, Stands}
 use Rattle.kl_exchange.specs.declared.error.FileError.{FileError}
 use Rattle.kl_exchange.specs.declared.error.FileError.TheVariants as fault
 use Rattle.kl_exchange.proofs.FileItems.{one_showing}
 use Rattle.kl_exchange.proofs.FileReading.{first_shown}
-use Rattle.kl_ask.specs.Driver.{Rows, rows_in}
+use Rattle.kl_ask.specs.Driver.{CountsFault, Rows, rows_in}
 use Rattle.kl_ask.specs.declared.ask.Drift.TheVariants as drift
 use Rattle.kl_ask.specs.declared.ask.DriverError.{DriverError}
 use Rattle.kl_ask.specs.declared.ask.DriverError.TheVariants as error
@@ -24,6 +24,7 @@ use Rattle.kl_nested.specs.declared.parts.Source.{Source}
 use Rattle.kl_nested.specs.declared.rows.Halt.{Halt}
 use Rattle.kl_nested.specs.declared.rows.Halt.TheVariants as halt
 use Rattle.kl_nested.proofs.Collections.{last_typed}
+use Rattle.kl_nested.proofs.Shown.{all_shown, bytes_shown, fewer_shown, misfit_shown, more_shown, past_shown, unread_shown}
 use Rattle.kl_nested.proofs.Standings.{holds}
 
 -- ---- lists
@@ -86,7 +87,23 @@ module _ (limit : ℕ) (told : Tells) (s : Source) (kept : IsKept limit told s) 
 module _ (limit : ℕ) (s : Source) (taken : ℕ) (now then : FileReading) (f f' : FilesState) (kept : IsKept limit f.told s) (so_far : HasTaken limit s taken now f) where
   module _ (found : Result (Option Value) FileError) (next : NextItem found now then f f') where
     pub reads_one : ReadsOne now then f f'
-    reads_one = record { told = next.leaves.told; others = next.leaves.others; is_open = next.leaves.is_open; later = next.leaves.later; same_file = ap (λ r. r.file) next.same }
+    reads_one = record {
+      told = next.leaves.told;
+      others = next.leaves.others;
+      is_open = next.leaves.is_open;
+      others_seen = next.leaves.others_seen;
+      more = next.leaves.more;
+      later = next.leaves.later;
+      same_file = ap (λ r. r.file) next.same;
+    }
+
+    -- no read failed
+    pub well_read : (r : Result (Option Value) FileError) → found ≡ r → (IsErrOf r fault.Read → ⊥) → f'.faults ≡ f.faults
+    well_read r is well = next.leaves.well (subst (λ r. IsErrOf r fault.Read → ⊥) (sym is) well)
+
+    -- as it stands in what was read
+    as_seen : (r : Result (Option Value) FileError) → found ≡ r → AsSeen (λ first left. Stands first so_far.values r then left) then (seen_in f' now.file)
+    as_seen r is = subst (λ r. AsSeen (λ first left. Stands first so_far.values r then left) then (seen_in f' now.file)) is (next.sees so_far.values so_far.has_seen)
 
     abbrev first : Left
     first = Some (left_at_first f.told s.path)
@@ -98,9 +115,10 @@ module _ (limit : ℕ) (s : Source) (taken : ℕ) (now then : FileReading) (f f'
     limit_on = ap (λ r. r.limit) next.same ∙ so_far.same_limit
 
     -- the reader after it
-    has_taken : (n : ℕ) (values : List Value) → n ≡ length values → HasRead first values then (f'.left now.file) → HasTaken limit s n then f'
-    has_taken n values counted read = record {
+    has_taken : (n : ℕ) (values : List Value) → n ≡ length values → HasRead first values then (f'.left now.file) → HasSeen values then (seen_in f' now.file) → HasTaken limit s n then f'
+    has_taken n values counted read seen = record {
       values = values;
+      has_seen = subst (λ k. HasSeen values then (seen_in f' k)) (sym (ap (λ r. r.file) next.same)) seen;
       has_read =
           subst (λ k. HasRead (Some (left_at_first f'.told s.path)) values then (f'.left k)) (sym (ap (λ r. r.file) next.same))
           (subst (λ t. HasRead (Some (left_at_first t s.path)) values then (f'.left now.file)) (sym next.leaves.told) read);
@@ -112,7 +130,7 @@ module _ (limit : ℕ) (s : Source) (taken : ℕ) (now then : FileReading) (f f'
     pub one_more : (v : Value) → found ≡ Ok (Some v) → HasTaken limit s (taken + 1) then f'
     one_more v is =
         has_taken (taken + 1) (so_far.values ++ v ∷ []) (let a = so_far.counted in let b : length (so_far.values ++ v ∷ []) ≡ length so_far.values + 1 = length-append so_far.values (v ∷ []) in omega arith)
-        (stands (Ok (Some v)) is)
+        (stands (Ok (Some v)) is) (as_seen (Ok (Some v)) is)
 
     -- it is the next one of those that are told
     the_next : (v : Value) → found ≡ Ok (Some v) → (all : List Value) → Knows limit f.told s all → (us : List Value) × (all ≡ so_far.values ++ v ∷ us)
@@ -169,17 +187,37 @@ module _ (limit : ℕ) (s : Source) (taken : ℕ) (now then : FileReading) (f f'
         other (omega arith))
 
     pub ended : found ≡ Ok None → HasTaken limit s taken then f'
-    ended is = let so : EndsSo first so_far.values WholeText then (f'.left now.file) = stands (Ok None) is in has_taken taken so_far.values so_far.counted so.0
+    ended is = let so : EndsSo first so_far.values WholeText then (f'.left now.file) = stands (Ok None) is in has_taken taken so_far.values so_far.counted so.0 (λ q e. let h = as_seen (Ok None) is q e in (h.0.0, h.1))
 
     not_whole : (end : FileEnd) → EndsSo first so_far.values end then (f'.left now.file) → (end ≡ WholeText → ⊥) → f.told ≡ None
     not_whole end so other = untold limit f.told s kept (λ all k. other (one_end end so all k).1)
 
-    pub unread_refuses : (n : ℕ) (e : FileError) → found ≡ Err e → Refuses limit s n (unread_as limit s.bytes e) f f'
-    unread_refuses n (fault.Bad p) is = (not_whole (BadAt p) (stands (Err (fault.Bad p)) is) (λ e. cc), tt)
-    unread_refuses n (fault.TooDeep p) is = (not_whole (TooDeepAt p) (stands (Err (fault.TooDeep p)) is) (λ e. cc), tt)
-    unread_refuses n fault.TooLong is = (not_whole PastLimit (stands (Err fault.TooLong) is) (λ e. cc), (refl, (λ e. let a = kept.short in omega (arith, a, e)), inl refl))
+    pub unread_refuses : (n : ℕ) (e : FileError) → found ≡ Err e → Refuses limit s now.file n (unread_as limit s.bytes e) f f'
+    unread_refuses n (fault.Bad p) is = (
+      not_whole (BadAt p) (stands (Err (fault.Bad p)) is) (λ e. cc),
+      tt,
+      unread_shown limit s then (seen_in f' now.file) so_far.values limit_on (BadAt p) p refl (λ h. h) (as_seen (Err (fault.Bad p)) is),
+    )
+    unread_refuses n (fault.TooDeep p) is = (
+      not_whole (TooDeepAt p) (stands (Err (fault.TooDeep p)) is) (λ e. cc),
+      tt,
+      unread_shown limit s then (seen_in f' now.file) so_far.values limit_on (TooDeepAt p) p refl (λ h. h) (as_seen (Err (fault.TooDeep p)) is),
+    )
+    unread_refuses n fault.TooLong is = (
+      not_whole PastLimit (stands (Err fault.TooLong) is) (λ e. cc),
+      (refl, (λ e. let a = kept.short in omega (arith, a, e)), inl refl),
+      past_shown limit s then (seen_in f' now.file) so_far.values limit_on (as_seen (Err fault.TooLong) is),
+    )
     unread_refuses n fault.Read is = next.leaves.failed (rw is refl)
     unread_refuses n fault.NoMemory is = tt
+
+    -- the count of faults with what is told of a file that was not read
+    pub unread_counts : (e : FileError) → found ≡ Err e → CountsFault {T = Unit {0}} (Err (unread_as limit s.bytes e)) f.faults f'.faults
+    unread_counts (fault.Bad p) is = well_read (Err (fault.Bad p)) is (λ e. cc)
+    unread_counts (fault.TooDeep p) is = well_read (Err (fault.TooDeep p)) is (λ e. cc)
+    unread_counts fault.TooLong is = well_read (Err fault.TooLong) is (λ e. cc)
+    unread_counts fault.Read is = next.leaves.later
+    unread_counts fault.NoMemory is = well_read (Err fault.NoMemory) is (λ e. cc)
 
   -- ---- the next row
 
@@ -200,13 +238,19 @@ module _ (limit : ℕ) (s : Source) (taken : ℕ) (now then : FileReading) (f f'
             one_more (Ok (Some w)) next w refl,
           );
           same = tt;
+          counts = well_read (Ok (Some w)) next (Ok (Some w)) refl (λ e. cc);
           cause = λ e is. absurd cc;
         }
         by (Ok None) next row = absurd row
         by (Err e) next row = absurd row
 
+    item_counts : (r : Result (Option Value) FileError) (v : Value) → NextItem r now then f f' → RowOf (item_ty s.ty) r (Ok (Some v)) then → f'.faults ≡ f.faults
+    item_counts (Ok (Some w)) v next row = well_read (Ok (Some w)) next (Ok (Some w)) refl (λ e. cc)
+    item_counts (Ok None) v next row = absurd row
+    item_counts (Err e) v next row = absurd row
+
     no_room : (v : Value) → NextRow (item_ty s.ty) (Ok (Some v)) now then f f' → into' ≡ into → TakesRow limit s taken into into' (Err error.NoMemory) now then f f'
-    no_room v n same = record { reads = reads_one n.found n.next; row = tt; same = same; cause = λ e is. let k : e ≡ error.NoMemory = cc in subst (λ e. Refuses limit s taken e f f') (sym k) tt }
+    no_room v n same = record { reads = reads_one n.found n.next; row = tt; same = same; counts = item_counts n.found v n.next n.row; cause = λ e is. let k : e ≡ error.NoMemory = cc in subst (λ e. Refuses limit s now.file taken e f f') (sym k) tt }
 
     pub pushed : (v : Value) (result : Result (Unit {0}) DriverError) → NextRow (item_ty s.ty) (Ok (Some v)) now then f f' → Pushes v into into' result → TakesRow limit s taken into into' result now then f f'
     pushed v (Ok done) n pushes = took v n pushes
@@ -220,9 +264,14 @@ module _ (limit : ℕ) (s : Source) (taken : ℕ) (now then : FileReading) (f f'
           reads = reads_one (Ok None) next;
           row = tt;
           same = same;
+          counts = well_read (Ok None) next (Ok None) refl (λ e. cc);
           cause = λ e is.
               let k : error.Changed (drift.Count s.count taken) ≡ e = cc in
-              subst (λ e. Refuses limit s taken e f f') k (fewer_untold (Ok None) next refl less, (refl, refl, λ e. omega (arith, e, less)));
+              subst (λ e. Refuses limit s now.file taken e f f') k (
+                fewer_untold (Ok None) next refl less,
+                (refl, refl, λ e. omega (arith, e, less)),
+                fewer_shown limit s then (seen_in f' now.file) so_far.values (limit_on (Ok None) next) (as_seen (Ok None) next (Ok None) refl) row taken so_far.counted,
+              );
         }
         by (Ok (Some v)) next row = absurd row
         by (Err e) next row = absurd row
@@ -232,32 +281,52 @@ module _ (limit : ℕ) (s : Source) (taken : ℕ) (now then : FileReading) (f f'
       reads = reads_one n.found n.next;
       row = tt;
       same = same;
-      cause = λ d at. let k : d ≡ changed_as limit s.bytes taken h = let j : d ≡ e = cc in j ∙ is in subst (λ d. Refuses limit s taken d f f') (sym k) (by n.found h n.next n.row);
+      counts = subst (λ d. CountsFault {T = Unit {0}} (Err d) f.faults f'.faults) (sym is) (counts n.found h n.next n.row);
+      cause = λ d at. let k : d ≡ changed_as limit s.bytes taken h = let j : d ≡ e = cc in j ∙ is in subst (λ d. Refuses limit s now.file taken d f f') (sym k) (by n.found h n.next n.row);
     }
       where
-        by : (r : Result (Option Value) FileError) (h : Halt) → NextItem r now then f f' → RowOf (item_ty s.ty) r (Err h) then → Refuses limit s taken (changed_as limit s.bytes taken h) f f'
-        by (Ok (Some v)) halt.Misfit next row = (misfit_untold (Ok (Some v)) next v refl row, (refl, less))
+        counts : (r : Result (Option Value) FileError) (h : Halt) → NextItem r now then f f' → RowOf (item_ty s.ty) r (Err h) then → CountsFault {T = Unit {0}} (Err (changed_as limit s.bytes taken h)) f.faults f'.faults
+        counts (Ok (Some v)) halt.Misfit next row = well_read (Ok (Some v)) next (Ok (Some v)) refl (λ e. cc)
+        counts (Ok (Some v)) (halt.Unread why) next row = absurd row
+        counts (Ok None) halt.Misfit next row = absurd row
+        counts (Ok None) (halt.Unread why) next row = absurd row
+        counts (Err e) halt.Misfit next row = absurd row
+        counts (Err e) (halt.Unread why) next row = subst (λ w. CountsFault {T = Unit {0}} (Err (unread_as limit s.bytes w)) f.faults f'.faults) (sym row) (unread_counts (Err e) next e refl)
+
+        by : (r : Result (Option Value) FileError) (h : Halt) → NextItem r now then f f' → RowOf (item_ty s.ty) r (Err h) then → Refuses limit s now.file taken (changed_as limit s.bytes taken h) f f'
+        by (Ok (Some v)) halt.Misfit next row = (
+          misfit_untold (Ok (Some v)) next v refl row,
+          (refl, less),
+          misfit_shown limit s then (seen_in f' now.file) so_far.values (limit_on (Ok (Some v)) next) v taken so_far.counted (as_seen (Ok (Some v)) next (Ok (Some v)) refl) row,
+        )
         by (Ok (Some v)) (halt.Unread why) next row = absurd row
         by (Ok None) halt.Misfit next row = absurd row
         by (Ok None) (halt.Unread why) next row = absurd row
         by (Err e) halt.Misfit next row = absurd row
-        by (Err e) (halt.Unread why) next row = subst (λ w. Refuses limit s taken (unread_as limit s.bytes w) f f') (sym row) (unread_refuses (Err e) next taken e refl)
+        by (Err e) (halt.Unread why) next row = subst (λ w. Refuses limit s now.file taken (unread_as limit s.bytes w) f f') (sym row) (unread_refuses (Err e) next taken e refl)
 
 -- ---- the end
 
 module _ (limit : ℕ) (s : Source) (now then : FileReading) (f f' : FilesState) (kept : IsKept limit f.told s) (so_far : HasTaken limit s s.count now f) where
-  met : (r : Result (Option Value) FileError) (e : DriverError) → NextItem r now then f f' → Refuses limit s (s.count + 1) e f f' → MeetsEnd limit s (Err e) now then f f'
-  met r e next cause = record {
+  met : (r : Result (Option Value) FileError) (e : DriverError) → NextItem r now then f f' → CountsFault {T = Unit {0}} (Err e) f.faults f'.faults → Refuses limit s now.file (s.count + 1) e f f'
+      → MeetsEnd limit s (Err e) now then f f'
+  met r e next counts cause = record {
     reads = reads_one limit s s.count now then f f' kept so_far r next;
     taken = tt;
-    cause = λ d is. let k : e ≡ d = cc in subst (λ d. Refuses limit s (s.count + 1) d f f') k cause;
+    all = tt;
+    counts = counts;
+    cause = λ d is. let k : e ≡ d = cc in subst (λ d. Refuses limit s now.file (s.count + 1) d f f') k cause;
   }
 
   abbrev one_more_counted : DriverError
   one_more_counted = error.Changed (drift.Count s.count (s.count + 1))
 
   meets_item : (v : Value) → NextItem (Ok (Some v)) now then f f' → MeetsEnd limit s (Err one_more_counted) now then f f'
-  meets_item v next = met (Ok (Some v)) one_more_counted next (more_untold limit s s.count now then f f' kept so_far (Ok (Some v)) next v refl (omega arith), (refl, refl, λ e. omega (arith, e)))
+  meets_item v next = met (Ok (Some v)) one_more_counted next (well_read limit s s.count now then f f' kept so_far (Ok (Some v)) next (Ok (Some v)) refl (λ e. cc)) (
+    more_untold limit s s.count now then f f' kept so_far (Ok (Some v)) next v refl (omega arith),
+    (refl, refl, λ e. omega (arith, e)),
+    more_shown limit s then (seen_in f' now.file) so_far.values (limit_on limit s s.count now then f f' kept so_far (Ok (Some v)) next) v so_far.counted (as_seen limit s s.count now then f f' kept so_far (Ok (Some v)) next (Ok (Some v)) refl),
+  )
 
   row_met : (v : Value) → NextRow (item_ty s.ty) (Ok (Some v)) now then f f' → MeetsEnd limit s (Err one_more_counted) now then f f'
   row_met v n = by n.found n.next n.row
@@ -287,7 +356,7 @@ module _ (limit : ℕ) (s : Source) (now then : FileReading) (f f' : FilesState)
     λ is. absurd cc,
     λ d is.
         let same : e ≡ d = sym row ∙ (let k : why ≡ d = cc in k) in
-        subst (λ d. MeetsEnd limit s (Err (unread_as limit s.bytes d)) now then f f') same (met (Err e) (unread_as limit s.bytes e) next (unread_refuses limit s s.count now then f f' kept so_far (Err e) next (s.count + 1) e refl)),
+        subst (λ d. MeetsEnd limit s (Err (unread_as limit s.bytes d)) now then f f') same (met (Err e) (unread_as limit s.bytes e) next (unread_counts limit s s.count now then f f' kept so_far (Err e) next e refl) (unread_refuses limit s s.count now then f f' kept so_far (Err e) next (s.count + 1) e refl)),
   )
 
   skip_halted : (h : Halt) → SkipsRow (item_ty s.ty) (Err h) now then f f'
@@ -317,14 +386,26 @@ module _ (limit : ℕ) (s : Source) (now then : FileReading) (f f' : FilesState)
       Met : Result (Unit {0}) DriverError → Type 0
       Met result = MeetsEnd limit s result now then f f'
 
+      well_so : NextItem (Ok None) now then f f' → f'.faults ≡ f.faults
+      well_so next = well_read limit s s.count now then f f' kept so_far (Ok None) next (Ok None) refl (λ e. cc)
+
+      seen_so : NextItem (Ok None) now then f f' → AsSeen (λ first left. EndsSo first so_far.values WholeText then left) then (seen_in f' now.file)
+      seen_so next = as_seen limit s s.count now then f f' kept so_far (Ok None) next (Ok None) refl
+
       at : (result : Result (Unit {0}) DriverError) → NextItem (Ok None) now then f f' → then.text.finished ≡ true → HasBytes s.bytes size result → Met result
       at (Ok done) next finished has = record {
         reads = reads_one limit s s.count now then f f' kept so_far (Ok None) next;
         taken = ended limit s s.count now then f f' kept so_far (Ok None) next refl;
+        all = all_shown limit s then (seen_in f' now.file) so_far.values (limit_on limit s s.count now then f f' kept so_far (Ok None) next) (seen_so next) finished size so_far.counted total has;
+        counts = well_so next;
         cause = λ e is. absurd cc;
       }
       at (Err e) next finished has = subst (λ e. Met (Err e)) (sym has.0)
-          (met (Ok None) (error.Changed (drift.Bytes s.bytes size)) next (size_untold limit s s.count now then f f' kept so_far (Ok None) next size refl finished total has.1, (refl, has.1, inr refl)))
+          (met (Ok None) (error.Changed (drift.Bytes s.bytes size)) next (well_so next) (
+            size_untold limit s s.count now then f f' kept so_far (Ok None) next size refl finished total has.1,
+            (refl, has.1, inr refl),
+            bytes_shown limit s then (seen_in f' now.file) so_far.values (limit_on limit s s.count now then f f' kept so_far (Ok None) next) (seen_so next) finished size so_far.counted total,
+          ))
 
       item : (r : Result (Option Value) FileError) → NextItem r now then f f' → RowOf (item_ty s.ty) r (Ok None) then → Met result
       item (Ok None) next row = at result next row has

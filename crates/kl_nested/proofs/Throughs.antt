@@ -1,12 +1,13 @@
 -- The reading of a whole file.
-use Rattle.std.proofs.Common.{◌≡◌, ℕ, ◌+◌, ◌<◌, ◌≤◌, true, false, List, [], ◌∷◌, ◌++◌, length, Option, Some, None, IsSome, Result, Ok, Err, IsErrOf, refl, sym, ap, subst, ◌∙◌, arith, length-append, inl, inr}
+use Rattle.std.proofs.Common.{◌≡◌, ◌≢◌, ℕ, ◌+◌, ◌<◌, ◌≤◌, true, false, List, [], ◌∷◌, ◌++◌, length, Option, Some, None, IsSome, Result, Ok, Err, IsErrOf, refl, sym, ap, subst, ◌∙◌, arith, length-append, inl, inr}
 use Rattle.std.specs.List.{AllByRecursion}
 use Rattle.std.proofs.lemmas.Bool.{cases_eq}
 use Rattle.kl_base.specs.Counts.{Rose}
 use Rattle.kl_value.specs.declared.Value.{Value}
 use Rattle.kl_type.specs.Has.{has_type}
 use Rattle.kl_type.specs.declared.ground.Ty.{Ty}
-use Rattle.kl_outside.specs.Files.{FilesState, Closes, OpensPath, OtherFiles, left_at_first}
+use Rattle.kl_outside.proofs.FileLemmas.{not_open}
+use Rattle.kl_outside.specs.Files.{FilesState, Closes, OpensPath, OtherFiles, left_at_first, OtherSeen}
 use Rattle.kl_outside.specs.declared.stop.Stop.{Stop}
 use Rattle.kl_outside.specs.declared.stop.Stop.TheVariants as stop
 use Rattle.kl_exchange.specs.FileItems.{FileEnd, WholeText, BadAt, TooDeepAt, PastLimit, Shows, reading}
@@ -14,7 +15,7 @@ use Rattle.kl_exchange.specs.FileReading.{FileReading, HasRead, EndsSo, NextItem
 use Rattle.kl_exchange.specs.declared.error.FileError.{FileError}
 use Rattle.kl_exchange.specs.declared.error.FileError.TheVariants as fault
 use Rattle.kl_exchange.proofs.FileReading.{begins_so}
-use Rattle.kl_ask.specs.Driver.{Bad}
+use Rattle.kl_ask.specs.Driver.{Bad, CountsFault}
 use Rattle.kl_ask.specs.declared.ask.Drift.{Drift}
 use Rattle.kl_ask.specs.declared.ask.DriverError.{DriverError}
 use Rattle.kl_ask.specs.declared.ask.DriverError.TheVariants as error
@@ -40,7 +41,8 @@ pub record Reading (limit : ℕ) (item : Ty) (file : ℕ) (old : FilesState) (no
   pub told : new.told ≡ old.told
   pub others : OtherFiles file old new
   pub is_open : IsSome (new.left file)
-  pub later : old.faults ≤ new.faults
+  pub others_seen : OtherSeen file old new
+  pub counts : new.faults ≡ old.faults
 
 -- no count passes its type
 pub small : (limit : ℕ) (item : Ty) (file : ℕ) (old : FilesState) (now : FileReading) (new : FilesState) (count : ℕ) → Reading limit item file old now new count → count ≤ limit
@@ -71,7 +73,8 @@ module _ (limit : ℕ) (item : Ty) (old : FilesState) (file : ℕ) where
     told = refl;
     others = λ k ne. refl;
     is_open = open_now;
-    later = omega arith;
+    others_seen = λ k ne. refl;
+    counts = refl;
   }
 
   module _ (now then : FileReading) (new after : FilesState) (count : ℕ) (at : Reading limit item file old now new count) (found : Result (Option Value) FileError) (next : NextItem found now then new after) where
@@ -81,8 +84,15 @@ module _ (limit : ℕ) (item : Ty) (old : FilesState) (file : ℕ) where
     told_on : after.told ≡ old.told
     told_on = next.leaves.told ∙ at.told
 
+    other_seen : OtherSeen file old after
+    other_seen k ne = next.leaves.others_seen k (λ is. ne (is ∙ at.same_file)) ∙ at.others_seen k ne
+
     later_on : old.faults ≤ after.faults
-    later_on = let a = at.later in let b = next.leaves.later in omega arith
+    later_on = let a = at.counts in let b = next.leaves.later in omega arith
+
+    -- no read failed
+    well_on : (r : Result (Option Value) FileError) → found ≡ r → (IsErrOf r fault.Read → ⊥) → after.faults ≡ old.faults
+    well_on r is well = next.leaves.well (subst (λ r. IsErrOf r fault.Read → ⊥) (sym is) well) ∙ at.counts
 
     open_on : IsSome (after.left file)
     open_on = subst (λ k. IsSome (after.left k)) at.same_file next.leaves.is_open
@@ -107,7 +117,8 @@ module _ (limit : ℕ) (item : Ty) (old : FilesState) (file : ℕ) where
       told = told_on;
       others = other_files;
       is_open = open_on;
-      later = later_on;
+      others_seen = other_seen;
+      counts = well_on (Ok (Some v)) is (λ e. cc);
     }
 
     ended : (end : FileEnd) → EndsSo (old.left file) at.values end then (after.left file) → (bytes : List ℕ) → old.left file ≡ Some (Some bytes) → stored_in limit bytes item ≡ stored_behind limit at.values end
@@ -121,7 +132,9 @@ module _ (limit : ℕ) (item : Ty) (old : FilesState) (file : ℕ) where
           told = told_on;
           others = other_files;
           is_open = open_on;
+          others_seen = other_seen;
           later = later_on;
+          counts = well_on (Ok None) is (λ e. cc);
           failed = λ h. absurd cc;
           small = ((let a = so.0.within in omega (arith, a, total, limit_on)), small limit item file old now new count at);
           no_change = λ d h. cc;
@@ -138,9 +151,9 @@ module _ (limit : ℕ) (item : Ty) (old : FilesState) (file : ℕ) where
             omega arith
 
     -- a refusal
-    through : (e : DriverError) → (IsErrOf {T = ℕ × ℕ} (Err e) error.Failed → Rose old.faults after.faults) → ((d : Drift) → IsErrOf {T = ℕ × ℕ} (Err e) (error.Changed d) → ⊥)
+    through : (e : DriverError) → CountsFault {T = ℕ × ℕ} (Err e) old.faults after.faults → (IsErrOf {T = ℕ × ℕ} (Err e) error.Failed → Rose old.faults after.faults) → ((d : Drift) → IsErrOf {T = ℕ × ℕ} (Err e) (error.Changed d) → ⊥)
         → ((bytes : List ℕ) → old.left file ≡ Some (Some bytes) → Told limit bytes item (Err e)) → ReadsThrough limit file item (Err e) old after
-    through e failed no_change known = record { told = told_on; others = other_files; is_open = open_on; later = later_on; failed = failed; small = tt; no_change = no_change; known = known }
+    through e counts failed no_change known = record { told = told_on; others = other_files; is_open = open_on; others_seen = other_seen; later = later_on; counts = counts; failed = failed; small = tt; no_change = no_change; known = known }
 
     stands_at : (r : Result (Option Value) FileError) → found ≡ r → Stands (old.left file) at.values r then (after.left file)
     stands_at r is = subst (λ r. Stands (old.left file) at.values r then (after.left file)) is stands
@@ -148,15 +161,15 @@ module _ (limit : ℕ) (item : Ty) (old : FilesState) (file : ℕ) where
     -- an item that lacks the type
     misfit : (v : Value) (place : ℕ) → found ≡ Ok (Some v) → has_type v item ≡ false → place ≡ now.text.place → ReadsThrough limit file item (Err (error.BadSource place)) old after
     misfit v place is lacks same =
-        through (error.BadSource place) (λ h. absurd cc) (λ d h. cc)
+        through (error.BadSource place) (well_on (Ok (Some v)) is (λ e. cc)) (λ h. absurd cc) (λ d h. cc)
         (λ bytes known. misfits limit bytes item (old.left file) at.values v now then (new.left file) (after.left file) limit_on known at.has_read (stands_at (Ok (Some v)) is) at.have lacks ∙ ap Bad (sym same))
 
     unread : (e : FileError) (place : ℕ) → found ≡ Err e → ReadsThrough limit file item (Err (unreadable limit place (halt.Unread e))) old after
-    unread (fault.Bad p) place is = through (error.BadSource p) (λ h. absurd cc) (λ d h. cc) (ended (BadAt p) (stands_at (Err (fault.Bad p)) is))
-    unread (fault.TooDeep p) place is = through (error.TooDeep p) (λ h. absurd cc) (λ d h. cc) (ended (TooDeepAt p) (stands_at (Err (fault.TooDeep p)) is))
-    unread fault.TooLong place is = through (error.TooLong limit) (λ h. absurd cc) (λ d h. cc) (ended PastLimit (stands_at (Err fault.TooLong) is))
-    unread fault.Read place is = through error.Failed (λ h. let a = at.later in let b = next.leaves.failed (rw is refl) in omega arith) (λ d h. cc) (λ bytes known. tt)
-    unread fault.NoMemory place is = through error.NoMemory (λ h. absurd cc) (λ d h. cc) (λ bytes known. tt)
+    unread (fault.Bad p) place is = through (error.BadSource p) (well_on (Err (fault.Bad p)) is (λ e. cc)) (λ h. absurd cc) (λ d h. cc) (ended (BadAt p) (stands_at (Err (fault.Bad p)) is))
+    unread (fault.TooDeep p) place is = through (error.TooDeep p) (well_on (Err (fault.TooDeep p)) is (λ e. cc)) (λ h. absurd cc) (λ d h. cc) (ended (TooDeepAt p) (stands_at (Err (fault.TooDeep p)) is))
+    unread fault.TooLong place is = through (error.TooLong limit) (well_on (Err fault.TooLong) is (λ e. cc)) (λ h. absurd cc) (λ d h. cc) (ended PastLimit (stands_at (Err fault.TooLong) is))
+    unread fault.Read place is = through error.Failed later_on (λ h. let a = at.counts in let b = next.leaves.failed (rw is refl) in omega arith) (λ d h. cc) (λ bytes known. tt)
+    unread fault.NoMemory place is = through error.NoMemory (well_on (Err fault.NoMemory) is (λ e. cc)) (λ h. absurd cc) (λ d h. cc) (λ bytes known. tt)
 
   -- ---- with the code's step
 
@@ -219,7 +232,9 @@ module _ (limit : ℕ) (path : List ℕ) (item : Ty) where
   file_read file result s0 s1 s2 s3 opens reads closes = record {
     told = closes.told ∙ reads.told ∙ opens.told;
     left = λ k. elim (cases_eq k file) [ inl is ↦ ap s3.left is ∙ closes.closed ∙ sym opens.fresh ∙ sym (ap s0.left is) | inr ne ↦ closes.others k ne ∙ reads.others k ne ∙ opens.others k ne ];
+    open_seen = λ k is. let ne : k ≢ file = (λ same. not_open (s0.left k) (ap s0.left same ∙ opens.fresh) is) in closes.seen k ∙ reads.others_seen k ne ∙ opens.others_seen k ne;
     later = omega (arith, opens.later, reads.later, closes.faults);
+    counts = counts_over result s0.faults s1.faults s2.faults s3.faults opens.counts reads.counts closes.faults;
     failed = λ is. inr (let a = reads.failed is in omega (arith, opens.later, a, closes.faults));
     missing = λ missing. absurd (no_failure (opens.missing missing).0);
     small = reads.small;
@@ -230,6 +245,15 @@ module _ (limit : ℕ) (path : List ℕ) (item : Ty) where
       no_failure : {value : ℕ} {why : Stop} → Ok value ≡ Err why → ⊥
       no_failure is = cc
 
+      counts_over : (r : Result (ℕ × ℕ) DriverError) (a b c d : ℕ) → b ≡ a → CountsFault r b c → d ≡ c → CountsFault r a d
+      counts_over (Ok kept) a b c d one two three = three ∙ two ∙ one
+      counts_over (Err error.Failed) a b c d one two three = omega (arith, one, two, three)
+      counts_over (Err error.NoMemory) a b c d one two three = three ∙ two ∙ one
+      counts_over (Err (error.Changed x)) a b c d one two three = three ∙ two ∙ one
+      counts_over (Err (error.BadSource p)) a b c d one two three = three ∙ two ∙ one
+      counts_over (Err (error.TooLong m)) a b c d one two three = three ∙ two ∙ one
+      counts_over (Err (error.TooDeep p)) a b c d one two three = three ∙ two ∙ one
+
   pub not_opened : (why : Stop) (e : DriverError) (s0 s1 : FilesState) → OpensPath path (Err why) s0 s1 → e ≡ stopped_as why → ReadsFile limit path item (Err e) s0 s1
   not_opened why e s0 s1 opens is = subst (λ e. ReadsFile limit path item (Err e) s0 s1) (sym is) (by why opens)
     where
@@ -237,7 +261,9 @@ module _ (limit : ℕ) (path : List ℕ) (item : Ty) where
       by stop.Failed opens = record {
         told = opens.told;
         left = λ k. ap (λ left. left k) opens.refused;
+        open_seen = λ k is. opens.refused_seen k;
         later = opens.later;
+        counts = opens.later;
         failed = λ is. opens.failed refl;
         missing = λ missing. (refl, (opens.missing missing).1);
         small = tt;
@@ -247,7 +273,9 @@ module _ (limit : ℕ) (path : List ℕ) (item : Ty) where
       by stop.NoMemory opens = record {
         told = opens.told;
         left = λ k. ap (λ left. left k) opens.refused;
+        open_seen = λ k is. opens.refused_seen k;
         later = opens.later;
+        counts = opens.counts;
         failed = λ is. absurd cc;
         missing = λ missing. absurd (let h = (opens.missing missing).0 in cc);
         small = tt;

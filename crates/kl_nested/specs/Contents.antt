@@ -5,7 +5,7 @@ use Rattle.kl_type.specs.Has.{has_type}
 use Rattle.kl_type.specs.declared.ground.Ty.{Ty, Ty-F, out-Ty}
 use Rattle.kl_exchange.specs.FileItems.{FileEnd, WholeText, BadAt, TooDeepAt, PastLimit}
 use Rattle.kl_exchange.specs.Found.{FileItem, Found, file_items, values_of}
-use Rattle.kl_ask.specs.Driver.{Stored, Missing, Bad, Long, Deep, Rows}
+use Rattle.kl_ask.specs.Driver.{Behind, Nothing, StopsAt, Beyond, Spelt, Stored, Missing, Bad, Long, Deep, Rows}
 
 abbrev pub item_layer : Ty → Ty-F Ty → Ty
 item_layer t (Ty-F.Coll k u) = u
@@ -34,6 +34,17 @@ stored_unless limit (Some place) f = Bad place
 -- unreadable at the number of bytes of the items before it.
 abbrev pub stored_in : ℕ → List ℕ → Ty → Stored
 stored_in limit bytes item = stored_unless limit (first_misfit item (file_items limit bytes).items) (file_items limit bytes)
+
+-- what stands behind the items
+abbrev pub behind_of : FileEnd → Behind
+behind_of WholeText = Nothing
+behind_of (BadAt place) = StopsAt place
+behind_of (TooDeepAt place) = StopsAt place
+behind_of PastLimit = Beyond
+
+-- what bytes spell, of which at most `limit` are looked at
+abbrev pub spelt_in : ℕ → List ℕ → Spelt
+spelt_in limit bytes = record { items = values_of (file_items limit bytes).items; behind = behind_of (file_items limit bytes).behind }
 
 -- what stands at a path, read as a collection of a type
 abbrev pub stored_of : ℕ → Option (List ℕ) → Ty → Stored

@@ -2,9 +2,9 @@
 -- `Desk` alone.
 use Rattle.std.specs.Prelude.{◌≡◌, ℕ, ◌≤◌, List, length, Option, Some, IsSome}
 use Rattle.kl_value.specs.declared.Value.{Value}
-use Rattle.kl_outside.specs.Files.{FilesState, left_at_first}
+use Rattle.kl_outside.specs.Files.{FilesState, left_at_first, seen_in}
 use Rattle.kl_outcome.specs.Outcome.{Name}
-use Rattle.kl_exchange.specs.FileReading.{FileReading, HasRead}
+use Rattle.kl_exchange.specs.FileReading.{FileReading, HasRead, HasSeen}
 use Rattle.kl_ask.specs.Cursors.{open_at}
 use Rattle.kl_ask.specs.Driver.{Rows}
 use Rattle.kl_ask.specs.declared.ask.Ask.{Ask}
@@ -35,6 +35,7 @@ pub record IsKept (limit : ℕ) (told : Tells) (s : Source) : Type 0 where
 pub record HasTaken (limit : ℕ) (s : Source) (taken : ℕ) (now : FileReading) (f : FilesState) : Type 0 where
   pub values : List Value
   pub has_read : HasRead (Some (left_at_first f.told s.path)) values now (f.left now.file)
+  pub has_seen : HasSeen values now (seen_in f now.file)
   pub is_open : IsSome (f.left now.file)
   pub counted : taken ≡ length values
   pub same_limit : now.limit ≡ limit
@@ -46,9 +47,11 @@ pub record IsReading (limit : ℕ) (f : FilesState) (o : Open) : Type 0 where
   pub same_file : o.reader.file ≡ o.file
   pub taken : HasTaken limit o.source o.taken o.reader f
 
--- each source is as it was attached, and each open cursor reads a file of its own, of the source that its ask names
+-- Each source is as it was attached, each open cursor reads a file of its own, of the source that its ask names, and no other
+-- file is open.
 pub record IsDesk (limit : ℕ) (f : FilesState) (sources : Sources) (cursors : List (Option Open)) : Type 0 where
   pub kept : (name : Name) (s : Source) → source_named sources name ≡ Some s → IsKept limit f.told s
   pub asked : (k : ℕ) (o : Open) → open_at cursors k ≡ Some o → asked_source sources o.ask ≡ Some o.source
   pub reading : (k : ℕ) (o : Open) → open_at cursors k ≡ Some o → IsReading limit f o
+  pub only : (n : ℕ) → IsSome (f.left n) → (k : ℕ) × (o : Open) × (open_at cursors k ≡ Some o) × (o.file ≡ n)
   pub apart : (j k : ℕ) (o p : Open) → open_at cursors j ≡ Some o → open_at cursors k ≡ Some p → o.file ≡ p.file → j ≡ k

@@ -7,18 +7,20 @@ use Rattle.kl_value.specs.declared.Value.{Value}
 use Rattle.kl_type.specs.Ground.{ground_of}
 use Rattle.kl_type.specs.Has.{has_type}
 use Rattle.kl_type.specs.declared.ground.Ty.{Ty}
-use Rattle.kl_outside.specs.Files.{FilesState, OtherFiles}
-use Rattle.kl_exchange.specs.FileReading.{FileReading}
+use Rattle.kl_outside.specs.Files.{FilesState, OtherFiles, OtherSeen, Seen, seen_in}
+use Rattle.kl_exchange.specs.FileReading.{FileReading, SeesMore}
 use Rattle.kl_exchange.specs.declared.error.FileError.{FileError}
 use Rattle.kl_exchange.specs.declared.error.FileError.TheVariants as fault
 use Rattle.kl_outcome.specs.Typed.{Inhabits}
 use Rattle.kl_ask.specs.Asks.{item_of}
+use Rattle.kl_ask.specs.Driver.{CountsFault, IsAsAttached, IsShown}
 use Rattle.kl_ask.specs.declared.ask.Drift.{Drift}
 use Rattle.kl_ask.specs.declared.ask.Drift.TheVariants as drift
 use Rattle.kl_ask.specs.declared.ask.DriverError.{DriverError}
 use Rattle.kl_ask.specs.declared.ask.DriverError.TheVariants as error
 use Rattle.kl_nested.specs.Desk.{HasTaken}
-use Rattle.kl_nested.specs.Nested.{rows_at}
+use Rattle.kl_nested.specs.Contents.{spelt_in}
+use Rattle.kl_nested.specs.Nested.{attached_of, read_as, rows_at}
 use Rattle.kl_nested.specs.declared.parts.Source.{Source}
 use Rattle.kl_nested.specs.declared.parts.Open.{Open}
 use Rattle.kl_nested.specs.declared.rows.Halt.{Halt}
@@ -50,18 +52,30 @@ Differs limit s found (drift.Count kept count) = (kept ≡ s.count) × (count �
 Differs limit s found (drift.Unread place) = ⊤
 Differs limit s found (drift.Misfit item) = (item ≡ found) × (item < s.count)
 
--- the cause of a refusal
-abbrev pub Refuses : ℕ → Source → ℕ → DriverError → FilesState → FilesState → Type 0
-Refuses limit s found error.Failed old new = Rose old.faults new.faults
-Refuses limit s found error.NoMemory old new = ⊤
-Refuses limit s found (error.Changed d) old new = (old.told ≡ None) × Differs limit s found d
-Refuses limit s found _ old new = ⊥
+-- what is told of stands so in what was read of the file, where that is kept
+abbrev pub ShowsDrift : ℕ → Source → Option Seen → Drift → Type 0
+ShowsDrift limit s seen d = (r : Seen) → seen ≡ Some r
+    → IsShown (Some limit) (attached_of limit None s) (read_as r) (spelt_in limit r.bytes) d
+
+-- the whole file was read, where it is kept what was, and it is as it was kept
+abbrev pub ShowsAll : ℕ → Source → Option Seen → Type 0
+ShowsAll limit s seen = (r : Seen) → seen ≡ Some r → IsAsAttached (attached_of limit None s) (read_as r) (spelt_in limit r.bytes)
+
+-- the cause of a refusal, over a file
+abbrev pub Refuses : ℕ → Source → ℕ → ℕ → DriverError → FilesState → FilesState → Type 0
+Refuses limit s file found error.Failed old new = Rose old.faults new.faults
+Refuses limit s file found error.NoMemory old new = ⊤
+Refuses limit s file found (error.Changed d) old new = (old.told ≡ None) × Differs limit s found d
+    × ShowsDrift limit s (seen_in new file) d
+Refuses limit s file found _ old new = ⊥
 
 -- a reader read its file, and nothing else
 pub record ReadsOne (old new : FileReading) (files files' : FilesState) : Type 0 where
   pub told : files'.told ≡ files.told
   pub others : OtherFiles old.file files files'
   pub is_open : IsSome (files'.left old.file)
+  pub others_seen : OtherSeen old.file files files'
+  pub more : SeesMore (seen_in files old.file) (seen_in files' old.file)
   pub later : files.faults ≤ files'.faults
   pub same_file : new.file ≡ old.file
 
@@ -82,7 +96,8 @@ pub record TakesRow (limit : ℕ) (s : Source) (taken : ℕ) (into into' : List 
   pub reads : ReadsOne old new files files'
   pub row : OnOk result ((v : Value) × AreNext limit s taken (v ∷ []) into into' files × HasTaken limit s (taken + 1) new files')
   pub same : OnErr result (into' ≡ into)
-  pub cause : (e : DriverError) → result ≡ Err e → Refuses limit s taken e files files'
+  pub counts : CountsFault result files.faults files'.faults
+  pub cause : (e : DriverError) → result ≡ Err e → Refuses limit s old.file taken e files files'
 
 -- so many next rows are appended
 pub record TakesRows (limit : ℕ) (s : Source) (taken count : ℕ) (into into' : List Value) (result : Result (Unit {0}) DriverError)
@@ -92,7 +107,8 @@ pub record TakesRows (limit : ℕ) (s : Source) (taken count : ℕ) (into into' 
   pub are_next : AreNext limit s taken rows into into' files
   pub all : OnOk result ((length rows ≡ count) × HasTaken limit s (taken + count) new files')
   pub few : OnErr result (length rows < count)
-  pub cause : (e : DriverError) → result ≡ Err e → Refuses limit s (taken + length rows) e files files'
+  pub counts : CountsFault result files.faults files'.faults
+  pub cause : (e : DriverError) → result ≡ Err e → Refuses limit s old.file (taken + length rows) e files files'
 
 -- as many bytes were found as were kept
 abbrev pub HasBytes : ℕ → ℕ → Result (Unit {0}) DriverError → Type 0
@@ -104,9 +120,12 @@ pub record MeetsEnd (limit : ℕ) (s : Source) (result : Result (Unit {0}) Drive
     (files files' : FilesState) : Type 0 where
   pub reads : ReadsOne old new files files'
   pub taken : OnOk result (HasTaken limit s s.count new files')
-  pub cause : (e : DriverError) → result ≡ Err e → Refuses limit s (s.count + 1) e files files'
+  pub all : OnOk result (ShowsAll limit s (seen_in files' old.file))
+  pub counts : CountsFault result files.faults files'.faults
+  pub cause : (e : DriverError) → result ≡ Err e → Refuses limit s old.file (s.count + 1) e files files'
 
--- so many next rows of a cursor are appended, as many as were asked for or all that are left, and it stands behind them
+-- So many next rows of a cursor are appended, as many as were asked for or all that are left, and it stands behind them. Where
+-- none is appended the file has ended, and is as it was kept.
 pub record HandsNext (limit most : ℕ) (into into' : List Value) (old new : Open) (files files' : FilesState) (count : ℕ) : Type 0 where
   pub rows : List Value
   pub are_next : AreNext limit old.source old.taken rows into into' files
@@ -116,6 +135,7 @@ pub record HandsNext (limit most : ℕ) (into into' : List Value) (old new : Ope
   pub after : new.taken ≡ old.taken + count
   pub within : new.taken ≤ old.source.count
   pub taken : HasTaken limit old.source new.taken new.reader files'
+  pub ended : count ≡ 0 → ShowsAll limit old.source (seen_in files' old.reader.file)
 
 -- a cursor stops at a row that it has not handed, or behind the last of all
 abbrev pub StopsBehind : Open → ℕ → Type 0
@@ -129,7 +149,9 @@ pub record Hands (limit most : ℕ) (into into' : List Value) (result : Result �
   pub file : new.file ≡ old.file
   pub handed : IfOk result (HandsNext limit most into into' old new files files')
   pub same : OnErr result (into' ≡ into)
-  pub cause : (e : DriverError) → result ≡ Err e → (found : ℕ) × StopsBehind old found × Refuses limit old.source found e files files'
+  pub counts : CountsFault result files.faults files'.faults
+  pub cause : (e : DriverError) → result ≡ Err e → (found : ℕ) × StopsBehind old found
+      × Refuses limit old.source old.reader.file found e files files'
 
 -- the cursor at a place hands rows, and no other
 pub record HandsAt (limit cursor most : ℕ) (into into' : List Value) (result : Result ℕ DriverError)

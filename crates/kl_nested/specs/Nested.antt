@@ -4,14 +4,13 @@ use Rattle.std.specs.Option.{option_map}
 use Rattle.kl_value.specs.declared.Value.{Value}
 use Rattle.kl_type.specs.Ground.{ground_of}
 use Rattle.kl_type.specs.declared.ground.Ty.{Ty, Ty-F, out-Ty}
-use Rattle.kl_outside.specs.Files.{FilesState}
-use Rattle.kl_outcome.specs.Outcome.{Name}
+use Rattle.kl_outside.specs.Files.{FilesState, Seen, seen_in}
 use Rattle.kl_ask.specs.Asks.{item_of}
 use Rattle.kl_ask.specs.Cursors.{open_at}
 use Rattle.kl_ask.specs.Named.{NamedSources, source_named}
-use Rattle.kl_ask.specs.Driver.{State, DriverKind, Source as Attached, Cursor, stored_by, told_rows}
+use Rattle.kl_ask.specs.Driver.{State, DriverKind, ReadSoFar, Source as Attached, Cursor, stored_by, told_rows}
 use Rattle.kl_ask.specs.declared.ask.Ask.{Ask}
-use Rattle.kl_nested.specs.Contents.{contents_of}
+use Rattle.kl_nested.specs.Contents.{contents_of, spelt_in}
 use Rattle.kl_nested.specs.declared.parts.Source.{Source}
 use Rattle.kl_nested.specs.declared.parts.Open.{Open}
 
@@ -33,6 +32,7 @@ nested_kind limit told = record {
   suits = is_collection;
   most = Some limit;
   stored = contents_of limit told;
+  spells = Some (spelt_in limit);
 }
 
 -- attached sources by their names
@@ -55,12 +55,18 @@ cursor_of limit told o = record {
   bound = o.source.count - o.taken;
 }
 
+-- what was read of a file
+abbrev pub read_as : Seen → ReadSoFar
+read_as seen = record { bytes = seen.bytes; ended = seen.ended }
+
 -- Of each file at most `limit` bytes are looked at.
 abbrev pub nested_state : ℕ → FilesState → Sources → List (Option Open) → List (Ask × ℕ) → ℕ → ℕ → ℕ → State
 nested_state limit files sources cursors asked handed drifts unread = record {
   kind = nested_kind limit files.told;
   attached = λ name. option_map (attached_of limit files.told) (source_named sources name);
   cursors = λ k. option_map (cursor_of limit files.told) (open_at cursors k);
+  file = λ k. option_map (λ (o : Open). o.file) (open_at cursors k);
+  read = λ n. option_map read_as (seen_in files n);
   asked = asked;
   handed = handed;
   faults = files.faults;
@@ -74,6 +80,8 @@ fresh_state limit files = record {
   kind = nested_kind limit files.told;
   attached = λ name. None;
   cursors = λ k. None;
+  file = λ k. None;
+  read = λ n. option_map read_as (seen_in files n);
   asked = [];
   handed = 0;
   faults = files.faults;

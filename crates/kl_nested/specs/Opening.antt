@@ -1,10 +1,13 @@
 -- Steps of opening a cursor. No public contract cites this.
-use Rattle.std.specs.Prelude.{◌≡◌, ◌⊎◌, ℕ, ◌≤◌, false, List, [], ◌∷◌, ◌++◌, Option, Some, None, Result, Err, IfOk, OnOk, OnErr, IsErrOf}
+use Rattle.std.specs.Prelude.{◌≡◌, ◌⊎◌, ℕ, ◌≤◌, false, List, [], ◌∷◌, ◌++◌, Option, Some, None, IsSome, Result, Err, IfOk, OnOk, OnErr}
+use Rattle.std.specs.Prelude.{IsErrOf}
 use Rattle.kl_base.specs.Counts.{Rose}
-use Rattle.kl_outside.specs.Files.{FilesState, Closes, IsMissing, OtherFiles, left_at_first}
+use Rattle.std.specs.Option.{option_map}
+use Rattle.kl_outside.specs.Files.{FilesState, Closes, IsMissing, OtherFiles, OtherSeen, left_at_first, nothing_seen, seen_in}
 use Rattle.kl_outside.specs.declared.stop.Stop.{Stop}
 use Rattle.kl_outside.specs.declared.stop.Stop.TheVariants as stop
 use Rattle.kl_exchange.specs.FileItems.{reading}
+use Rattle.kl_ask.specs.Driver.{CountsFault}
 use Rattle.kl_ask.specs.declared.ask.Ask.{Ask}
 use Rattle.kl_ask.specs.declared.ask.DriverError.{DriverError}
 use Rattle.kl_ask.specs.declared.ask.DriverError.TheVariants as error
@@ -29,10 +32,13 @@ pub record OpensOver (limit : ℕ) (source : Source) (ask : Ask) (old new : File
   pub free : old.left o.file ≡ None
   pub left : new.left o.file ≡ Some (left_at_first old.told source.path)
   pub others : OtherFiles o.file old new
+  pub unread : seen_in new o.file ≡ option_map (λ log. nothing_seen) old.log
+  pub others_seen : OtherSeen o.file old new
 
 -- what a refusal to open leaves, and its cause
 pub record NotOpened {T : Type 0} (source : Source) (result : Result T DriverError) (old new : FilesState) : Type 0 where
   pub left : OnErr result ((k : ℕ) → new.left k ≡ old.left k)
+  pub seen : OnErr result ((k : ℕ) → IsSome (old.left k) → seen_in new k ≡ seen_in old k)
   pub failed : IsErrOf result error.Failed → IsMissing old source.path ⊎ Rose old.faults new.faults
   pub no_other : OnErr result (IsErrOf result error.Failed ⊎ IsErrOf result error.NoMemory)
 
@@ -40,6 +46,7 @@ pub record NotOpened {T : Type 0} (source : Source) (result : Result T DriverErr
 pub record OpensOne (limit : ℕ) (source : Source) (ask : Ask) (result : Result Open DriverError) (old new : FilesState) : Type 0 where
   pub told : new.told ≡ old.told
   pub later : old.faults ≤ new.faults
+  pub counts : CountsFault result old.faults new.faults
   pub opened : IfOk result (OpensOver limit source ask old new)
   pub refused : NotOpened source result old new
 
@@ -54,6 +61,7 @@ pub record OpensLast (limit : ℕ) (source : Source) (ask : Ask) (result : Resul
     (cursors cursors' : List (Option Open)) (old new : FilesState) : Type 0 where
   pub told : new.told ≡ old.told
   pub later : old.faults ≤ new.faults
+  pub counts : CountsFault result old.faults new.faults
   pub opened : OnOk result ((o : Open) × (cursors' ≡ cursors ++ Some o ∷ []) × OpensOver limit source ask old new o)
   pub same : OnErr result (cursors' ≡ cursors)
   pub refused : NotOpened source result old new

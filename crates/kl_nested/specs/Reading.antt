@@ -7,12 +7,12 @@ use Rattle.kl_base.specs.Counts.{Rose}
 use Rattle.kl_value.specs.declared.Value.{Value}
 use Rattle.kl_type.specs.Has.{has_type}
 use Rattle.kl_type.specs.declared.ground.Ty.{Ty}
-use Rattle.kl_outside.specs.Files.{FilesState, Holds, IsMissing, OtherFiles}
+use Rattle.kl_outside.specs.Files.{FilesState, Holds, IsMissing, OtherFiles, OtherSeen, seen_in}
 use Rattle.kl_outcome.specs.Outcome.{Name}
 use Rattle.kl_exchange.specs.FileReading.{FileReading, NextItem}
 use Rattle.kl_exchange.specs.declared.error.FileError.{FileError}
 use Rattle.kl_exchange.specs.declared.error.FileError.TheVariants as fault
-use Rattle.kl_ask.specs.Driver.{Bad, Long, Deep, Rows}
+use Rattle.kl_ask.specs.Driver.{Bad, Long, Deep, Rows, CountsFault}
 use Rattle.kl_ask.specs.declared.ask.Drift.{Drift}
 use Rattle.kl_ask.specs.declared.ask.DriverError.{DriverError}
 use Rattle.kl_ask.specs.declared.ask.DriverError.TheVariants as error
@@ -75,7 +75,9 @@ pub record ReadsThrough (limit file : ℕ) (item : Ty) (result : Result (ℕ × 
   pub told : new.told ≡ old.told
   pub others : OtherFiles file old new
   pub is_open : IsSome (new.left file)
+  pub others_seen : OtherSeen file old new
   pub later : old.faults ≤ new.faults
+  pub counts : CountsFault result old.faults new.faults
   pub failed : IsErrOf result error.Failed → Rose old.faults new.faults
   pub small : IfOk result (λ kept. (kept.0 ≤ limit) × (kept.1 ≤ limit))
   pub no_change : (d : Drift) → IsErrOf result (error.Changed d) → ⊥
@@ -85,7 +87,9 @@ pub record ReadsThrough (limit file : ℕ) (item : Ty) (result : Result (ℕ × 
 pub record ReadsFile (limit : ℕ) (path : List ℕ) (item : Ty) (result : Result (ℕ × ℕ) DriverError) (old new : FilesState) : Type 0 where
   pub told : new.told ≡ old.told
   pub left : (k : ℕ) → new.left k ≡ old.left k
+  pub open_seen : (k : ℕ) → IsSome (old.left k) → seen_in new k ≡ seen_in old k
   pub later : old.faults ≤ new.faults
+  pub counts : CountsFault result old.faults new.faults
   pub failed : IsErrOf result error.Failed → IsMissing old path ⊎ Rose old.faults new.faults
   pub missing : IsMissing old path → IsErrOf result error.Failed × (new.faults ≡ old.faults)
   pub small : IfOk result (λ kept. (kept.0 ≤ limit) × (kept.1 ≤ limit))

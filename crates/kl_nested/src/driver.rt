@@ -2,6 +2,7 @@
 ghost use Rattle.std.specs.Prelude.{◌≡◌, ℕ, IsSome, Some};
 ghost use Rattle.kl_ask.specs.Cursors.{open_at};
 ghost use Rattle.kl_exchange.specs.FileItems.{most_read};
+ghost use Rattle.kl_outside.specs.Files.{NoneOpen};
 ghost use Rattle.kl_nested.specs.Nested.{fresh_state, nested_state};
 ghost use Rattle.kl_nested.specs.Closing.{ClosesOpen, drifts_by, unread_by};
 ghost use Rattle.kl_nested.specs.declared.parts.Open.{Open as Opened};
@@ -23,7 +24,7 @@ use std::marker::Model;
 
 /// A driver over files of values. A locator is the path of an exchange file, whose items are the rows. The file is read
 /// through when its source is attached, and each cursor opens it anew and reads it at its own place, so that no rows are
-/// held but those that were handed.
+/// held but those that were handed. A file is open as long as its cursor is, and no other is.
 ///
 /// It tells its contents exactly where its files tell their bytes, and its count of faults is theirs. Its count of sources
 /// that it could not read rises where an item is none or lacks the type, nests too deep, or the file has too many bytes.
@@ -72,8 +73,9 @@ impl<F: Files + Drop> Model for NestedDriver<F> {
 }
 
 impl<F: Files + Drop> NestedDriver<F> {
-    /// A driver over these files, with nothing attached, no cursor open, and its other counts at 0.
+    /// A driver over these files, none of which is open, with nothing attached, no cursor open, and its other counts at 0.
     pub fn new(alloc: Global, files: F) -> NestedDriver<F>
+        requires { NoneOpen (F.state files) }
         ensures { ⟦<NestedDriver<F> as Driver>⟧.state result ≡ fresh_state most_read (F.state files) }
     {
         NestedDriver {

@@ -7,7 +7,7 @@ use Rattle.kl_value.specs.declared.Kind.{Kind}
 use Rattle.kl_prim.specs.Table.{Row as Primitive, row_at}
 use Rattle.kl_prim.specs.declared.rows.Shape.{Shape}
 use Rattle.kl_prim.specs.declared.rows.Shape.TheVariants as shape
-use Rattle.kl_type.specs.Ground.{Ground, Row, coll, no_row, row, at, IsGround, IsRow}
+use Rattle.kl_type.specs.Ground.{Ground, Row, int, coll, no_row, row, at, IsGround, IsRow}
 use Rattle.kl_outcome.specs.Outcome.{Name}
 use Rattle.kl_outcome.specs.Typed.{ShapeTypes, RowTypes, PrimTypes}
 
@@ -24,6 +24,9 @@ at_ground l (row m u r) t h e = here (pointwise nat_eq l m) e (at_ground l r t h
 
 item_ground : (k : Kind) (a : Ground) (ts : List Ground) → ts ≡ coll k a ∷ [] → AllByRecursion IsGround ts → IsGround a
 item_ground k a ts e h = let g = subst (AllByRecursion IsGround) e h in g.0
+
+second_ground : (k : Kind) (a : Ground) (ts : List Ground) → ts ≡ int ∷ coll k a ∷ [] → AllByRecursion IsGround ts → IsGround a
+second_ground k a ts e h = let g = subst (AllByRecursion IsGround) e h in g.1.0
 
 shape_ground : (s : Shape) (ts : List Ground) (t : Ground) → AllByRecursion IsGround ts → ShapeTypes s ts t → IsGround t
 shape_ground shape.Compare ts t h k = subst IsGround (sym k.2) tt
@@ -44,6 +47,9 @@ shape_ground shape.TextLen ts t h k = subst IsGround (sym k.1) tt
 shape_ground shape.TextTest ts t h k = subst IsGround (sym k.1) tt
 shape_ground shape.TextInts ts t h k = subst IsGround (sym k.1) tt
 shape_ground shape.IntText ts t h k = subst IsGround (sym k.1) tt
+shape_ground shape.Extend ts t h k = subst IsGround (sym k.4) k.5.0
+shape_ground shape.Rest ts t h k = subst IsGround (sym k.4) k.6.0
+shape_ground shape.Take ts t h k = subst IsGround (sym k.3) (second_ground k.0 k.1 ts k.2 h)
 
 row_ground : (o : Option Primitive) (ts : List Ground) (t : Ground) → AllByRecursion IsGround ts → RowTypes o ts t → IsGround t
 row_ground (Some p) ts t h k = shape_ground p.entry.shape ts t h k

@@ -5,3 +5,4 @@ pub mod Having
 pub mod OutcomeTypes
 pub mod PrimLemmas
 pub mod Refining
+pub mod RowFields

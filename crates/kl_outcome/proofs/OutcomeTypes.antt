@@ -1,5 +1,5 @@
 -- The types of outcomes and of what is drawn, from the types of their parts.
-use Rattle.std.proofs.Common.{◌≡◌, ◌≢◌, Bool, true, false, List, [], ◌∷◌, map, Option, Some, None, IsSome, All, nat_eq, refl, sym, ap, ◌∙◌, subst}
+use Rattle.std.proofs.Common.{◌≡◌, ◌≢◌, Bool, true, false, List, [], ◌∷◌, Option, Some, None, IsSome, All, nat_eq, refl, sym, ap, ◌∙◌, subst}
 use Rattle.std.specs.Cmp.Lexicographic.{pointwise}
 use Rattle.std.specs.List.{AllByRecursion, dedup}
 use Rattle.std.specs.List.Sorted.{IsStrictlySortedBy}
@@ -23,6 +23,7 @@ use Rattle.kl_type.specs.Ground.{Ground, Row, bool, int, str, rec, var, coll, ar
 use Rattle.kl_value.specs.Views.{as_bool, as_collection, field_at, field_layer}
 use Rattle.kl_value.proofs.IsCanonicalLemmas.{items_canonical, record_made, variant_made}
 use Rattle.kl_value.proofs.ViewLemmas.{collection_is}
+pub use Rattle.kl_prim.proofs.RecordLemmas.{fields_canonical}
 use Rattle.kl_outcome.specs.Outcome.{Name, Outcome, done, over, stuck, End, fine, overflow, broken, Flow, more, stop, flow, items_in, end_in, followed, drawn, after, outcome_of, args_then, parts_then, recorded, tagged, chosen, if_then, record_layer, as_record, variant_layer, as_variant, field_in, part, opened, cases, items_at_all, items_of, item_then, gathered, collected, joined_to, union_of}
 use Rattle.kl_outcome.specs.Typed.{Has, HasFields, HasAt, Inhabits, HaveTypes, HasItems, OfType}
 
@@ -30,21 +31,6 @@ use Rattle.kl_outcome.specs.Typed.{Has, HasFields, HasAt, Inhabits, HaveTypes, H
 
 abbrev Such : Type 0
 Such = (v : Value) × every-Value IsCanonicalLayer v
-
-abbrev AllGood : List (Name × Value) → Type 0
-AllGood = AllByRecursion (λ f. every-Value IsCanonicalLayer f.1)
-
-firsts : (es : List (Name × Such)) → AllGood (map (λ e. (e.0, e.1.0)) es)
-firsts [] = tt
-firsts (e ∷ es) = (e.1.1, firsts es)
-
-held_fields : (x : Value-F Such) (fs : List (Name × Value)) → map-Value Such Value (λ e. e.0) x ≡ Value-F.Rec fs → AllGood fs
-held_fields (Value-F.Rec es) fs e = let same : map (λ e. (e.0, e.1.0)) es ≡ fs = cc in subst AllGood same (firsts es)
-held_fields x fs e = cc
-
-pub fields_canonical : (fs : List (Name × Value)) → IsCanonical (value.Rec fs) → AllByRecursion (λ f. IsCanonical f.1) fs
-unfolding IsCanonical
-fields_canonical fs h = let held = every_held-Value IsCanonicalLayer (value.Rec fs) h in held_fields held.0 fs (held.1 ∙ value.outs-Rec fs)
 
 held_carried : (x : Value-F Such) (l : Name) (v : Value) → map-Value Such Value (λ e. e.0) x ≡ Value-F.Inj l v → every-Value IsCanonicalLayer v
 held_carried (Value-F.Inj m e) l v q = let same : e.0 ≡ v = cc in subst (every-Value IsCanonicalLayer) same e.1

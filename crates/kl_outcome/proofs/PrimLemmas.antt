@@ -1,5 +1,5 @@
 -- What a primitive makes of arguments of its types.
-use Rattle.std.proofs.Common.{◌≡◌, ◌⊎◌, inl, inr, ◌==◌, ℕ, ℤ, ◌+ℤ◌, ◌-ℤ◌, ◌*ℤ◌, neg_ℤ, Ordering, is_le, is_ge, Bool, true, false, cond, List, [], ◌∷◌, length, find, Option, Some, None, IsSome, IfSome, refl, sym, ap, subst, ◌∙◌}
+use Rattle.std.proofs.Common.{◌≡◌, ◌⊎◌, inl, inr, ◌==◌, ℕ, ℤ, ◌+ℤ◌, ◌-ℤ◌, ◌*ℤ◌, neg_ℤ, Ordering, is_le, is_ge, Bool, true, false, cond, List, [], ◌∷◌, ◌++◌, length, take, find, Option, Some, None, IsSome, IfSome, refl, sym, ap, subst, ◌∙◌}
 use Rattle.std.specs.Option.{option_map, option_and_then}
 use Rattle.std.specs.List.{AllByRecursion, flat_map, list_all}
 use Rattle.std.proofs.lemmas.List.Elements.{All-from_recursion}
@@ -10,17 +10,21 @@ use Rattle.kl_value.specs.declared.Kind.{Kind}
 use Rattle.kl_value.specs.declared.Kind.TheVariants as kind
 use Rattle.kl_value.specs.declared.Value.{Value}
 use Rattle.kl_value.specs.declared.Value.TheVariants as value
-use Rattle.kl_type.specs.Ground.{Ground, bool, int, str, coll}
-use Rattle.kl_prim.specs.Fits.{FitsShape, OneOf, TwoOf, IsAny, IsCollectionOfInts, IsNested}
-use Rattle.kl_prim.specs.Meaning.{Answer, gives, overflows, senseless, with_some, one, two, as_any, all_some, as_ints, as_nested, exact, fits_word, total, extreme, alone, number_in, set_of_found}
-use Rattle.kl_prim.specs.Table.{Fits, FitsRow, Row, meaning, meaning_of, row_at, rows}
+use Rattle.kl_type.specs.Ground.{Ground, Row, bool, int, str, rec, coll}
+use Rattle.kl_prim.specs.Fits.{FitsShape, OneOf, TwoOf, IsAny, IsCollectionOfInts, IsNested, TwoRecords}
+use Rattle.kl_prim.specs.Meaning.{Answer, gives, overflows, senseless, with_some, one, two, as_any, all_some, as_ints, as_nested, exact, fits_word, total, extreme, alone, number_in, number_of, set_of_found}
+use Rattle.kl_prim.specs.Table.{Fits, FitsRow, Row as Primitive, meaning, meaning_of, row_at, rows}
 use Rattle.kl_value.specs.Views.{Collection, as_bool, as_int, as_text, as_collection, items_at, collection, items_layer, IsBool, IsCollection, IsInt, IsText}
 use Rattle.kl_prim.specs.declared.rows.Shape.{Shape}
 use Rattle.kl_prim.specs.declared.rows.Shape.TheVariants as shape
 use Rattle.kl_prim.proofs.MeaningLemmas.{meaning_sense, meaning_canonical}
 use Rattle.kl_prim.proofs.TableLemmas.{◌&◌}
+use Rattle.kl_prim.proofs.RecordLemmas.{all_take, fields_rise}
+use Rattle.kl_prim.specs.Records.{Fields, as_record, record_layer, has_all, in_order, is_label_of, share_none, without}
+use Rattle.kl_base.specs.Fields.{LabelsRise}
 use Rattle.kl_outcome.specs.Outcome.{answered}
-use Rattle.kl_outcome.specs.Typed.{Has, HaveTypes, OfType, ShapeTypes, RowTypes, PrimTypes}
+use Rattle.kl_outcome.specs.Typed.{Has, HasFields, HaveTypes, Inhabits, IsBoth, IsWithout, OfType, ShapeTypes, RowTypes, PrimTypes, stands_in}
+use Rattle.kl_outcome.proofs.RowFields.{all_there, both_typed, labels_stand, none_shared, without_by, without_typed}
 use Rattle.kl_value.proofs.ViewLemmas.{collection_is}
 use Rattle.kl_outcome.proofs.OutcomeTypes.{canonical_has, over_nil}
 use Rattle.kl_base.proofs.Each.{all_append}
@@ -59,6 +63,17 @@ inner_are k a (v ∷ vs) h = (rw (h.0.1, items_are k h.0.0) refl, inner_are k a 
 nested_is : (k : Kind) (a : Ground) (v : Value) → Has (coll k (coll k a)) v → IsNested v
 nested_is k a v h = rw (read k (coll k a) v h) (All-from_recursion (λ w. IsSome (items_at k w)) h.0 (inner_are k a h.0 h.2))
 
+fields_are : (r : Row) (v : Value) (h : Has (rec r) v) → as_record v ≡ Some h.0
+fields_are r v h = ap as_record h.1 ∙ ap record_layer (value.outs-Rec h.0)
+
+records_typed : (test : Fields → Fields → Bool) (r s : Row) (vs : List Value) → ((fs gs : Fields) → HasFields r fs → HasFields s gs → test fs gs ≡ true)
+    → HaveTypes (rec r ∷ rec s ∷ []) vs → TwoRecords test vs
+records_typed test r s [] g h = absurd h
+records_typed test r s (v ∷ []) g h = absurd h.1
+records_typed test r s (v ∷ w ∷ []) g h =
+    rw (fields_are r v h.0.0, fields_are s w h.1.0.0) (g h.0.0.0 h.1.0.0.0 h.0.0.2 h.1.0.0.2)
+records_typed test r s (v ∷ w ∷ u ∷ vs) g h = absurd h.1.1
+
 -- ---- they fit
 
 along : (vs : List Value) (ts us : List Ground) → ts ≡ us → HaveTypes ts vs → HaveTypes us vs
@@ -83,12 +98,15 @@ shape_fits shape.TextLen ts t vs s h = one_typed IsText str vs (λ v i. i) (alon
 shape_fits shape.TextTest ts t vs s h = two_typed IsText IsText str str vs (λ v i. i) (λ v i. i) (along vs ts _ s.0 h)
 shape_fits shape.TextInts ts t vs s h = one_typed IsText str vs (λ v i. i) (along vs ts _ s.0 h)
 shape_fits shape.IntText ts t vs s h = one_typed IsInt int vs (λ v i. i) (along vs ts _ s.0 h)
+shape_fits shape.Extend ts t vs s h = records_typed share_none s.0 s.1 vs (λ fs gs i j. none_shared s.0 s.1 s.2 s.5 fs gs i j) (along vs ts _ s.3 h)
+shape_fits shape.Rest ts t vs s h = records_typed has_all s.0 s.1 vs (λ fs gs i j. all_there s.0 s.1 fs gs i j s.5) (along vs ts _ s.3 h)
+shape_fits shape.Take ts t vs s h = two_typed IsInt IsCollection int (coll s.0 s.1) vs (λ v i. i) (coll_is s.0 s.1) (along vs ts _ s.2 h)
 
 pub prim_fits : (code : ℕ) (ts : List Ground) (t : Ground) (vs : List Value) → PrimTypes code ts t → HaveTypes ts vs → Fits code vs
 unfolding PrimTypes Fits
 prim_fits code ts t vs = go (row_at code)
   where
-    go : (o : Option Row) → RowTypes o ts t → HaveTypes ts vs → FitsRow o vs
+    go : (o : Option Primitive) → RowTypes o ts t → HaveTypes ts vs → FitsRow o vs
     go (Some r) s h = shape_fits r.entry.shape ts t vs s h
     go None s h = absurd s
 
@@ -191,7 +209,50 @@ found_int : (o : Option ℤ) → Has (coll kind.Set int) (set_of_found o)
 found_int (Some n) = (value.Int n ∷ [], refl, (has_int n, tt))
 found_int None = ([], refl, tt)
 
-abbrev SoundAt : Row → Type 0
+-- of two arguments of types
+sound_pair : {X Y : Type 0} (t u a b : Ground) (as_x : Value → Option X) (as_y : Value → Option Y) (f : X → Y → Answer) (ts : List Ground) → ts ≡ a ∷ b ∷ [] → t ≡ u
+    → ((v w : Value) (x : X) (y : Y) → Inhabits a v → Inhabits b w → as_x v ≡ Some x → as_y w ≡ Some y → Sound u (f x y)) → (vs : List Value) → HaveTypes ts vs → Sound t (two as_x as_y f vs)
+sound_pair {X} {Y} t u a b as_x as_y f ts i e g vs h = go vs (along vs ts (a ∷ b ∷ []) i h)
+  where
+    go : (vs : List Value) → HaveTypes (a ∷ b ∷ []) vs → Sound t (two as_x as_y f vs)
+    go [] h = tt
+    go (v ∷ []) h = tt
+    go (v ∷ w ∷ []) h =
+        sound_some t (as_x v) (λ x. with_some (as_y w) (f x))
+        (λ x j. sound_some t (as_y w) (f x) (λ y k. subst (λ q. Sound q (f x y)) (sym e) (g v w x y h.0 h.1.0 j k)))
+    go (v ∷ w ∷ z ∷ vs) h = tt
+
+-- the fields that a record of a type is read as
+record_read : (r : Row) (v : Value) (fs : Fields) → Inhabits (rec r) v → as_record v ≡ Some fs → HasFields r fs × LabelsRise fs
+record_read r v fs i e =
+    let q : Some i.0.0 ≡ Some fs = sym (fields_are r v i.0) ∙ e in
+    let same : i.0.0 ≡ fs = cc in
+    (subst (HasFields r) same i.0.2, fields_rise fs (subst IsCanonical (i.0.1 ∙ ap value.Rec same) i.1))
+
+sound_if : (b : Bool) (t : Ground) (v : Value) → Has t v → Sound t (cond b (gives v) senseless)
+sound_if true t v h = h
+sound_if false t v h = tt
+
+extended_typed : (r s u : Row) → IsBoth r s u → (v w : Value) (fs gs : Fields) → Inhabits (rec r) v → Inhabits (rec s) w → as_record v ≡ Some fs → as_record w ≡ Some gs
+    → Sound (rec u) (cond (share_none fs gs) (gives (value.Rec (in_order (fs ++ gs)))) senseless)
+extended_typed r s u b v w fs gs i j e d =
+    let f = record_read r v fs i e in
+    let g = record_read s w gs j d in
+    sound_if (share_none fs gs) (rec u) _ (in_order (fs ++ gs), refl, both_typed r s u b fs gs f.0 g.0 f.1 g.1)
+
+rest_typed : (r s u : Row) → IsWithout (stands_in s) r u → (v w : Value) (fs gs : Fields) → Inhabits (rec r) v → Inhabits (rec s) w → as_record v ≡ Some fs → as_record w ≡ Some gs
+    → Sound (rec u) (cond (has_all fs gs) (gives (value.Rec (without (is_label_of gs) fs))) senseless)
+rest_typed r s u o v w fs gs i j e d =
+    let f = record_read r v fs i e in
+    let g = record_read s w gs j d in
+    let by = without_by (stands_in s) (is_label_of gs) r u (λ l. sym (labels_stand s gs l g.0)) o in
+    sound_if (has_all fs gs) (rec u) _ (without (is_label_of gs) fs, refl, without_typed (is_label_of gs) r u by fs f.1 f.0)
+
+first_typed : (k : Kind) (a : Ground) (n : ℕ) (v : Value) (c : Collection) → Has (coll k a) v → as_collection v ≡ Some c → Has (coll k a) (collection c.kind (take n c.items))
+first_typed k a n v c h e =
+    subst (λ d. Has (coll k a) (collection d.kind (take n d.items))) (same_items k a v c h e) (take n h.0, refl, all_take (Has a) n h.0 h.2)
+
+abbrev SoundAt : Primitive → Type 0
 SoundAt r = (ts : List Ground) (t : Ground) (vs : List Value) → ShapeTypes r.entry.shape ts t → HaveTypes ts vs → Sound t (r.meaning vs)
 
 sound_rows : AllByRecursion SoundAt rows
@@ -223,9 +284,13 @@ sound_rows =
     (λ ts t vs s h. sound_two t bool as_text as_text _ s.1 (λ v w. has_bool _) vs) &
     (λ ts t vs s h. sound_one t (coll kind.Set int) as_text _ s.1 (λ v. found_int (number_in v)) vs) &
     (λ ts t vs s h. sound_one t str as_int _ s.1 (λ n. has_text _) vs) &
+    (λ ts t vs s h. sound_pair t (rec s.2) (rec s.0) (rec s.1) as_record as_record _ ts s.3 s.4 (λ v w fs gs i j e d. extended_typed s.0 s.1 s.2 s.5 v w fs gs i j e d) vs h) &
+    (λ ts t vs s h. sound_pair t (rec s.2) (rec s.0) (rec s.1) as_record as_record _ ts s.3 s.4 (λ v w fs gs i j e d. rest_typed s.0 s.1 s.2 s.6 v w fs gs i j e d) vs h) &
+    (λ ts t vs s h. sound_pair t (coll s.0 s.1) int (coll s.0 s.1) as_int as_collection _ ts s.2 s.3 (λ v w n c i j e d. first_typed s.0 s.1 (number_of n) w c j.0 d) vs h) &
+    (λ ts t vs s h. sound_two t bool as_text as_text _ s.1 (λ v w. has_bool _) vs) &
     tt
 
-found_sound : (code : ℕ) (rs : List Row) → AllByRecursion SoundAt rs → IfSome (find (λ r. r.entry.code == code) rs) SoundAt
+found_sound : (code : ℕ) (rs : List Primitive) → AllByRecursion SoundAt rs → IfSome (find (λ r. r.entry.code == code) rs) SoundAt
 found_sound code [] h = tt
 found_sound code (r ∷ rs) h =
     elim (r.entry.code == code) as (λ b. IfSome (cond b (Some r) (find (λ q. q.entry.code == code) rs)) SoundAt) [
@@ -237,7 +302,7 @@ meaning_typed : (code : ℕ) (ts : List Ground) (t : Ground) (vs : List Value) �
 unfolding PrimTypes meaning row_at
 meaning_typed code ts t vs = go (find (λ r. r.entry.code == code) rows) (found_sound code rows sound_rows)
   where
-    go : (o : Option Row) → IfSome o SoundAt → RowTypes o ts t → HaveTypes ts vs → Sound t (meaning_of o vs)
+    go : (o : Option Primitive) → IfSome o SoundAt → RowTypes o ts t → HaveTypes ts vs → Sound t (meaning_of o vs)
     go (Some r) g s h = g ts t vs s h
     go None g s h = absurd s
 
@@ -278,3 +343,11 @@ one_or_two shape.TextLen ss s h = inl (ap length h.0)
 one_or_two shape.TextTest ss s h = inr (ap length h.0)
 one_or_two shape.TextInts ss s h = inl (ap length h.0)
 one_or_two shape.IntText ss s h = inl (ap length h.0)
+one_or_two shape.Extend ss s h = inr (ap length h.3)
+one_or_two shape.Rest ss s h = inr (ap length h.3)
+one_or_two shape.Take ss s h = inr (ap length h.2)
+
+-- two rows in one, by the primitive that joins records
+pub extend_types : (r s u : Row) (t : Ground) → t ≡ rec u → IsBoth r s u → PrimTypes 27 (rec r ∷ rec s ∷ []) t
+unfolding PrimTypes row_at rows
+extend_types r s u t e b = (r, s, u, refl, e, b)

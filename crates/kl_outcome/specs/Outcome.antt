@@ -8,6 +8,7 @@ use Rattle.kl_value.specs.declared.Value.{Value, Value-F, out-Value}
 use Rattle.kl_value.specs.declared.Value.TheVariants as value
 use Rattle.kl_prim.specs.Meaning.{Answer, gives, overflows, senseless}
 use Rattle.kl_prim.specs.Table.{meaning}
+pub use Rattle.kl_prim.specs.Records.{as_record, record_layer}
 use Rattle.kl_value.specs.Views.{as_bool, as_collection, Collection}
 
 -- labels and names
@@ -100,14 +101,7 @@ chosen None o q = stuck
 abbrev pub if_then : Outcome → Outcome → Outcome → Outcome
 if_then c o q = after c (λ v. chosen (as_bool v) o q)
 
--- the fields of a record; the label and the value of a variant
-abbrev pub record_layer : Value-F Value → Option (List (Name × Value))
-record_layer (Value-F.Rec fs) = Some fs
-record_layer _ = None
-
-abbrev pub as_record : Value → Option (List (Name × Value))
-as_record v = record_layer (out-Value v)
-
+-- the label and the value of a variant
 abbrev pub variant_layer : Value-F Value → Option (Name × Value)
 variant_layer (Value-F.Inj l v) = Some (l, v)
 variant_layer _ = None

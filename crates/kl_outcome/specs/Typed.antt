@@ -1,5 +1,5 @@
 -- Which values have a ground type, and what primitives take and give.
-use Rattle.std.specs.Prelude.{◌≡◌, ℕ, List, [], ◌∷◌, Option, Some, None, IsSome, ⊤, cond, nat_eq}
+use Rattle.std.specs.Prelude.{◌≡◌, ℕ, Bool, List, [], ◌∷◌, Option, Some, None, is_some, IsSome, ⊤, cond, nat_eq}
 use Rattle.std.specs.Cmp.Lexicographic.{pointwise}
 use Rattle.std.specs.List.{AllByRecursion}
 use Rattle.kl_value.specs.IsCanonical.{IsCanonical}
@@ -7,7 +7,7 @@ use Rattle.kl_value.specs.declared.Kind.{Kind}
 use Rattle.kl_value.specs.declared.Kind.TheVariants as kind
 use Rattle.kl_value.specs.declared.Value.{Value}
 use Rattle.kl_value.specs.declared.Value.TheVariants as value
-use Rattle.kl_type.specs.Ground.{Ground, Row, bool, int, str, rec, var, coll, arrow, no_row, row}
+use Rattle.kl_type.specs.Ground.{Ground, Row, bool, int, str, rec, var, coll, arrow, no_row, row, at, IsRow}
 use Rattle.kl_value.specs.Views.{as_bool, as_int, as_text, collection}
 use Rattle.kl_prim.specs.Table.{Row as Primitive, row_at}
 use Rattle.kl_prim.specs.declared.rows.Shape.{Shape}
@@ -54,6 +54,17 @@ OfType t (done v) = Inhabits t v
 OfType t (over vs) = HasItems t vs
 OfType t stuck = ⊥
 
+-- a row that has at each label what r has, but for the labels that a test names
+abbrev pub IsWithout : (Name → Bool) → Row → Row → Type 0
+IsWithout test r q = IsRow q × ((l : Name) → at l q ≡ cond (test l) None (at l r))
+
+abbrev pub stands_in : Row → Name → Bool
+stands_in r l = is_some (at l r)
+
+-- the fields of two rows that share no label, in one
+abbrev pub IsBoth : Row → Row → Row → Type 0
+IsBoth r s u = IsRow u × IsWithout (stands_in s) u r × IsWithout (stands_in r) u s
+
 -- the types that a shape takes, and the type that it gives
 abbrev pub ShapeTypes : Shape → List Ground → Ground → Type 0
 ShapeTypes shape.Compare ts t = (a : Ground) × (ts ≡ a ∷ a ∷ []) × (t ≡ bool)
@@ -74,6 +85,11 @@ ShapeTypes shape.TextLen ts t = (ts ≡ str ∷ []) × (t ≡ int)
 ShapeTypes shape.TextTest ts t = (ts ≡ str ∷ str ∷ []) × (t ≡ bool)
 ShapeTypes shape.TextInts ts t = (ts ≡ str ∷ []) × (t ≡ coll kind.Set int)
 ShapeTypes shape.IntText ts t = (ts ≡ int ∷ []) × (t ≡ str)
+ShapeTypes shape.Extend ts t = (r : Row) × (s : Row) × (u : Row) × (ts ≡ rec r ∷ rec s ∷ []) × (t ≡ rec u) × IsBoth r s u
+ShapeTypes shape.Rest ts t =
+    (r : Row) × (s : Row) × (u : Row) × (ts ≡ rec r ∷ rec s ∷ []) × (t ≡ rec u) × ((l : Name) → IsSome (at l s) → IsSome (at l r))
+    × IsWithout (stands_in s) r u
+ShapeTypes shape.Take ts t = (k : Kind) × (a : Ground) × (ts ≡ int ∷ coll k a ∷ []) × (t ≡ coll k a)
 
 -- the same of the primitive with a code
 abbrev pub RowTypes : Option Primitive → List Ground → Ground → Type 0

@@ -1,17 +1,18 @@
 -- Files in memory, by the places that are open.
-use Rattle.std.proofs.Common.{◌≡◌, ℕ, ◌+◌, ◌<◌, ◌≤◌, min, List, ◌∷◌, ◌++◌, length, get_or, set, take, drop, Option, Some, None, Ok, Err, refl, sym, ◌∙◌, ap, arith, slice_get, true, drop-cons}
+use Rattle.std.proofs.Common.{◌≡◌, IsSome, subst, ℕ, ◌+◌, ◌<◌, ◌≤◌, min, List, ◌∷◌, ◌++◌, length, get_or, take, drop, Some, Ok, Err, refl, sym, ◌∙◌, ap, arith, slice_get, true, drop-cons}
 use Rattle.std.proofs.lemmas.List.{drop-drop, take-append-drop, nil_from_length}
 use Rattle.std.proofs.lemmas.Grind.{common_steps}
-use Rattle.std.proofs.lemmas.Option.{gets, slice_get_read}
+use Rattle.std.proofs.lemmas.Option.{gets, same_Some, slice_get_read}
 use Rattle.std.specs.Str.{bytes_eq}
-use Rattle.std.specs.Option.{option_flatten}
+use Rattle.std.specs.Option.{option_map}
+use Rattle.slab.specs.Slab.{Slab, get, with_value}
+use Rattle.slab.proofs.SlabLemmas.{Updates-with_value}
 use Rattle.kl_outside.specs.Files.{ReadsPiece}
 use Rattle.kl_outside.specs.Entries.{bytes_of, bytes_at}
 use Rattle.kl_outside.specs.Memory.{left_of, memory_state}
 use Rattle.kl_outside.specs.Schedule.{Calls, make_call, fail_call, next_count}
 use Rattle.kl_outside.specs.declared.stop.Stop.TheVariants.{Failed}
 use Rattle.kl_outside.specs.declared.memory.Place.{Place}
-use Rattle.kl_base.proofs.Places.{get-set_other, get-set_same}
 
 pub found_at : (entries : List (List ℕ × List ℕ)) (path : List ℕ) (i : ℕ) (entry : List ℕ × List ℕ) → i < length entries → entry ≡ get_or entries i entry → bytes_eq entry.0 path ≡ true → bytes_of entries path ≡ bytes_of (drop i entries) path → bytes_of entries path ≡ Some (bytes_at entries i)
 found_at entries path i entry lt is eq from =
@@ -21,14 +22,7 @@ found_at entries path i entry lt is eq from =
     let first : bytes_of (drop i entries) path ≡ Some entry.1 = rw (front, eq) refl in
     from ∙ first ∙ ap Some (sym at)
 
-some_some : {x y : List ℕ} → Some (Some x) ≡ Some (Some y) → x ≡ y
-some_some h = grind arith
-
-flat_some : (o : Option (Option Place)) (place : Place) → option_flatten o ≡ Some place → o ≡ Some (Some place)
-flat_some None place h = grind arith
-flat_some (Some inner) place h = ap Some h
-
-pub no_read : (entries : List (List ℕ × List ℕ)) (places : List (Option Place)) (file : ℕ) (into : List ℕ) (before mid after : Calls) → mid ≡ make_call before → after ≡ fail_call mid → mid.faults ≤ after.faults → ReadsPiece file into (Err Failed) (memory_state entries places before.faults) (memory_state entries places after.faults)
+pub no_read : (entries : List (List ℕ × List ℕ)) (places : Slab Place) (file : ℕ) (into : List ℕ) (before mid after : Calls) → mid ≡ make_call before → after ≡ fail_call mid → mid.faults ≤ after.faults → ReadsPiece file into (Err Failed) (memory_state entries places before.faults) (memory_state entries places after.faults)
 no_read entries places file into before mid after made failed later =
     let same : mid.faults ≡ before.faults = ap (λ calls. calls.faults) made in
     let next : after.faults ≡ next_count mid.faults = ap (λ calls. calls.faults) failed in
@@ -39,26 +33,29 @@ no_read entries places file into before mid after made failed later =
       end = tt;
       others = λ k ne. refl;
       refused = refl;
+      seen = tt;
+      others_seen = λ k ne. refl;
+      refused_seen = refl;
       later = omega (arith, same, later);
+      counts = omega (arith, same, later);
       failed = λ is. omega (arith, same, next);
     }
 
-pub within_places : (places : List (Option Place)) (file : ℕ) (place : Place) → option_flatten (slice_get places file) ≡ Some place → file < length places
-within_places places file place is = let there : slice_get places file ≡ Some (Some place) = flat_some (slice_get places file) place is in grind (arith, gets, common_steps)
-
-pub reads_more : (entries : List (List ℕ × List ℕ)) (places : List (Option Place)) (file : ℕ) (place : Place) (count : ℕ) (into : List ℕ) (before mid : Calls) → mid ≡ make_call before → option_flatten (slice_get places file) ≡ Some place → 0 < length into → count ≡ min (length (drop place.at (bytes_at entries place.entry))) (length into) → take count into ≡ take count (drop place.at (bytes_at entries place.entry)) → ReadsPiece file into (Ok count) (memory_state entries places before.faults) (memory_state entries (set places file (Some (record { entry = place.entry; at = place.at + count }))) mid.faults)
-reads_more entries places file place count into before mid made found room size copied =
-    let is : slice_get places file ≡ Some (Some place) = flat_some (slice_get places file) place found in
+pub reads_more : (entries : List (List ℕ × List ℕ)) (places : Slab Place) (file : ℕ) (place : Place) (count : ℕ) (into : List ℕ) (before mid : Calls) → mid ≡ make_call before → get places file ≡ Some place → 0 < length into → count ≡ min (length (drop place.at (bytes_at entries place.entry))) (length into) → take count into ≡ take count (drop place.at (bytes_at entries place.entry)) → ReadsPiece file into (Ok count) (memory_state entries places before.faults) (memory_state entries (with_value places file (record { entry = place.entry; at = place.at + count })) mid.faults)
+reads_more entries places file place count into before mid made is room size copied =
     let same : mid.faults ≡ before.faults = ap (λ calls. calls.faults) made in
-    let within : file < length places = grind (arith, gets, common_steps) in
-    let now : slice_get (set places file (Some (record { entry = place.entry; at = place.at + count }))) file ≡ Some (Some (record { entry = place.entry; at = place.at + count })) = get-set_same places file _ within in
+    let now = Updates-with_value places file (record { entry = place.entry; at = place.at + count }) (subst IsSome (sym is) refl) in
     record {
       told = refl;
       within = omega (arith, size);
-      bytes = rw (is, now, copied) (sym (ap (λ r. take count (drop place.at (bytes_at entries place.entry)) ++ r) (sym (drop-drop count place.at (bytes_at entries place.entry))) ∙ take-append-drop count (drop place.at (bytes_at entries place.entry))));
-      end = λ none bytes all. let same : drop place.at (bytes_at entries place.entry) ≡ bytes = some_some (sym (ap (left_of entries) is) ∙ all) in nil_from_length bytes (rw (← same) (omega (arith, size, none, room)));
-      others = λ k ne. ap (left_of entries) (get-set_other places file k _ ne);
+      bytes = rw (is, now.changed, copied) (sym (ap (λ r. take count (drop place.at (bytes_at entries place.entry)) ++ r) (sym (drop-drop count place.at (bytes_at entries place.entry))) ∙ take-append-drop count (drop place.at (bytes_at entries place.entry))));
+      end = λ none bytes all. let same : drop place.at (bytes_at entries place.entry) ≡ bytes = same_Some _ _ (same_Some _ _ (sym (ap (option_map (left_of entries)) is) ∙ all)) in nil_from_length bytes (rw (← same) (omega (arith, size, none, room)));
+      others = λ k ne. ap (option_map (left_of entries)) (now.others k ne);
       refused = tt;
+      seen = refl;
+      others_seen = λ k ne. refl;
+      refused_seen = tt;
       later = omega (arith, same);
+      counts = same;
       failed = λ bad. cc;
     }

@@ -2,8 +2,11 @@
 use Rattle.std.proofs.Common.{◌≡◌, ℕ, ◌-◌, ◌≤◌, List, [], ◌++◌, length, take, drop, Option, Some, None, Result, Ok, Err, OnOk, refl, sym, ◌∙◌, ap, append_assoc, arith}
 use Rattle.std.proofs.lemmas.Grind.{common_steps}
 use Rattle.std.specs.Io.KnownBytes.{append_known}
-use Rattle.kl_outside.specs.Sinks.{SinkState, HasCause, TookPart, WritesWhole}
+use Rattle.kl_outside.specs.Sinks.{CountsWant, SinkState, HasCause, TookPart, WritesWhole}
 use Rattle.kl_outside.specs.declared.stop.Stop.{Stop}
+use Rattle.kl_outside.specs.declared.stop.Stop.TheVariants as stop
+use Rattle.kl_outside.specs.Files.{CountsFailed}
+use Rattle.kl_outside.proofs.FileLemmas.{counts_on}
 
 pub append_known-append : (known : Option (List ℕ)) (xs ys : List ℕ) → append_known (append_known known xs) ys ≡ append_known known (xs ++ ys)
 append_known-append None xs ys = refl
@@ -49,33 +52,50 @@ took_then_part first rest old mid new took part = record {
 pub took_then_took : (first rest : List ℕ) (old mid new : SinkState) → mid.taken ≡ append_known old.taken first → new.taken ≡ append_known mid.taken rest → new.taken ≡ append_known old.taken (first ++ rest)
 took_then_took first rest old mid new took more = more ∙ ap (λ known. append_known known rest) took ∙ append_known-append old.taken first rest
 
--- A cause in a later call is a cause over all calls.
-pub cause_after : {T : Type 0} (result : Result T Stop) (old mid new : SinkState) → old.faults ≤ mid.faults → old.wants ≤ mid.wants → HasCause result mid new → HasCause result old new
+pub wants_on : {T : Type 0} (result : Result T Stop) (a b c : ℕ) → b ≡ a → CountsWant result b c → CountsWant result a c
+wants_on (Ok value) a b c same counts = counts ∙ same
+wants_on (Err stop.Failed) a b c same counts = counts ∙ same
+wants_on (Err stop.NoMemory) a b c same counts = omega (arith, same, counts)
+
+-- A cause in a later call is a cause over all calls, where those before raised no count.
+pub cause_after : {T : Type 0} (result : Result T Stop) (old mid new : SinkState) → mid.faults ≡ old.faults → mid.wants ≡ old.wants → HasCause result mid new → HasCause result old new
 cause_after result old mid new faults wants cause = record {
   later = omega (arith, faults, cause.later);
+  counts = counts_on result old.faults mid.faults new.faults faults cause.counts;
   failed = λ is. omega (arith, faults, cause.failed is);
   wants_later = omega (arith, wants, cause.wants_later);
+  counts_want = wants_on result old.wants mid.wants new.wants wants cause.counts_want;
   wanted = λ is. omega (arith, wants, cause.wanted is);
 }
 
--- A cause in one call is a cause over all calls, whatever the later ones did.
-pub cause_before : {T U : Type 0} (stop : Stop) (old mid new : SinkState) → HasCause (refused T stop) old mid → mid.faults ≤ new.faults → mid.wants ≤ new.wants → HasCause (refused U stop) old new
-cause_before {T} {U} stop old mid new cause faults wants = record {
-  later = omega (arith, faults, cause.later);
-  failed = λ is. omega (arith, faults, cause.failed (same is));
-  wants_later = omega (arith, wants, cause.wants_later);
-  wanted = λ is. omega (arith, wants, cause.wanted (same is));
+-- A refusal has the same cause whatever would have been answered.
+pub cause_as : {T U : Type 0} (why : Stop) (old new : SinkState) → HasCause (refused T why) old new → HasCause (refused U why) old new
+cause_as {T} {U} why old new cause = record {
+  later = cause.later;
+  counts = faults why cause.counts;
+  failed = λ is. cause.failed (same is);
+  wants_later = cause.wants_later;
+  counts_want = wants why cause.counts_want;
+  wanted = λ is. cause.wanted (same is);
 }
   where
-    same : {e : Stop} → refused U stop ≡ Err e → refused T stop ≡ Err e
+    same : {e : Stop} → refused U why ≡ Err e → refused T why ≡ Err e
     same is = grind arith
+
+    faults : (e : Stop) → CountsFailed (refused T e) old.faults new.faults → CountsFailed (refused U e) old.faults new.faults
+    faults stop.Failed is = is
+    faults stop.NoMemory is = is
+
+    wants : (e : Stop) → CountsWant (refused T e) old.wants new.wants → CountsWant (refused U e) old.wants new.wants
+    wants stop.Failed is = is
+    wants stop.NoMemory is = is
 
 -- Nothing is written by no call.
 pub writes_nothing : {T : Type 0} (value : T) (old : SinkState) → WritesWhole [] (well value) old old
 writes_nothing value old = record {
   took = sym (append_known-nil old.taken);
   part = took_none [] old old refl;
-  cause = record { later = omega arith; failed = λ is. absurd cc; wants_later = omega arith; wanted = λ is. absurd cc };
+  cause = record { later = omega arith; counts = refl; failed = λ is. absurd cc; wants_later = omega arith; counts_want = refl; wanted = λ is. absurd cc };
 }
 
 -- The first bytes are written, and then the rest, or a part of it.
@@ -83,7 +103,7 @@ pub writes_then : {T U : Type 0} (first rest : List ℕ) (value : T) (result : R
 writes_then {T} {U} first rest value result old mid new before after = record {
   took = whole result after.took;
   part = took_then_part first rest old mid new before.took after.part;
-  cause = cause_after result old mid new before.cause.later before.cause.wants_later after.cause;
+  cause = cause_after result old mid new before.cause.counts before.cause.counts_want after.cause;
 }
   where
     whole : (r : Result U Stop) → OnOk r (new.taken ≡ append_known mid.taken rest) → OnOk r (new.taken ≡ append_known old.taken (first ++ rest))
@@ -91,11 +111,11 @@ writes_then {T} {U} first rest value result old mid new before after = record {
     whole (Err e) more = tt
 
 -- A refusal among the first bytes ends the writing of all.
-pub writes_stopped : {T U : Type 0} (first rest : List ℕ) (stop : Stop) (old new : SinkState) → WritesWhole first (refused T stop) old new → WritesWhole (first ++ rest) (refused U stop) old new
-writes_stopped {T} {U} first rest stop old new before = record {
+pub writes_stopped : {T U : Type 0} (first rest : List ℕ) (why : Stop) (old new : SinkState) → WritesWhole first (refused T why) old new → WritesWhole (first ++ rest) (refused U why) old new
+writes_stopped {T} {U} first rest why old new before = record {
   took = tt;
   part = took_front first rest old new before.part;
-  cause = cause_before {T = T} {U = U} stop old new new before.cause (omega arith) (omega arith);
+  cause = cause_as {T = T} {U = U} why old new before.cause;
 }
 
 rest_from : (rest : List ℕ) (count : ℕ) → count ≤ length rest → rest ≡ take count rest ++ take (length rest - count) (drop count rest)

@@ -1,17 +1,30 @@
 -- What files mean, and what each call does to them.
-use Rattle.std.specs.Prelude.{◌≡◌, ◌≢◌, ◌⊎◌, ℕ, ◌≤◌, ◌<◌, List, [], ◌++◌, length, take, Result, Option, Some, None, IfOk, OnErr, IsErrOf, ⊤}
+use Rattle.std.specs.Prelude.{◌≡◌, ◌≢◌, ◌⊎◌, ◌==◌, ℕ, ◌≤◌, ◌<◌, Bool, false, List, [], ◌++◌, length, take}
+use Rattle.std.specs.Prelude.{Result, Err, Option, Some, None, IfOk, OnErr, IsErrOf, IsSome, ⊤}
+use Rattle.std.specs.Option.{option_map}
 use Rattle.kl_base.specs.Counts.{Rose}
 use Rattle.kl_outside.specs.declared.stop.Stop.{Stop}
 use Rattle.kl_outside.specs.declared.stop.Stop.TheVariants.{Failed}
 use Rattle.kl_outside.specs.declared.files.Whole.{Whole}
 use Rattle.kl_outside.specs.declared.files.Whole.TheVariants.{Bytes, TooLong}
 
+-- What was read of a file since it was opened: the bytes, and whether the last read found its end behind them.
+pub record Seen : Type 0 where
+  pub bytes : List ℕ
+  pub ended : Bool
+
 -- What is known of some files: the bytes of each path, where they are told, with none at a path that is missing;
--- under each number whether a file is open, and what it has left, where that is known; and how often a call failed.
+-- under each number whether a file is open, and what it has left, where that is known; what was read under each number since
+-- a file was opened under it, where the files keep that; and how often a call failed.
 pub record FilesState : Type 0 where
   pub told : Option (List ℕ → Option (List ℕ))
   pub left : ℕ → Option (Option (List ℕ))
+  pub log : Option (ℕ → Seen)
   pub faults : ℕ
+
+-- no file is open
+abbrev pub NoneOpen : FilesState → Type 0
+NoneOpen s = (k : ℕ) → s.left k ≡ None
 
 -- The path is told to have these bytes.
 abbrev pub Holds : FilesState → List ℕ → List ℕ → Type 0
@@ -30,6 +43,30 @@ left_at_first (Some files) path = files path
 abbrev pub OtherFiles : ℕ → FilesState → FilesState → Type 0
 OtherFiles file old new = (k : ℕ) → k ≢ file → new.left k ≡ old.left k
 
+-- ---- what was read
+
+abbrev pub nothing_seen : Seen
+nothing_seen = record { bytes = []; ended = false }
+
+-- after a read of this piece
+abbrev pub seen_then : List ℕ → Seen → Seen
+seen_then piece seen = record { bytes = seen.bytes ++ piece; ended = length piece == 0 }
+
+-- what was read under a number, where that is kept
+abbrev pub seen_in : FilesState → ℕ → Option Seen
+seen_in s file = option_map (λ log. log file) s.log
+
+-- what was read under every other number is as it was
+abbrev pub OtherSeen : ℕ → FilesState → FilesState → Type 0
+OtherSeen file old new = (k : ℕ) → k ≢ file → seen_in new k ≡ seen_in old k
+
+-- ---- calls
+
+-- The count of faults rises with the answer `Failed` alone.
+abbrev pub CountsFailed : {T : Type 0} → Result T Stop → ℕ → ℕ → Type 0
+CountsFailed (Err Failed) before now = before ≤ now
+CountsFailed _ before now = now ≡ before
+
 -- `open_path`
 pub record OpensPath (path : List ℕ) (result : Result ℕ Stop) (old new : FilesState) : Type 0 where
   pub told : new.told ≡ old.told
@@ -37,7 +74,11 @@ pub record OpensPath (path : List ℕ) (result : Result ℕ Stop) (old new : Fil
   pub left : IfOk result (λ file. new.left file ≡ Some (left_at_first old.told path))
   pub others : IfOk result (λ file. OtherFiles file old new)
   pub refused : OnErr result (new.left ≡ old.left)
+  pub unread : IfOk result (λ file. seen_in new file ≡ option_map (λ log. nothing_seen) old.log)
+  pub others_seen : IfOk result (λ file. OtherSeen file old new)
+  pub refused_seen : OnErr result ((k : ℕ) → seen_in new k ≡ seen_in old k)
   pub later : old.faults ≤ new.faults
+  pub counts : CountsFailed result old.faults new.faults
   pub failed : IsErrOf result Failed → IsMissing old path ⊎ Rose old.faults new.faults
   pub missing : IsMissing old path → IsErrOf result Failed × (new.faults ≡ old.faults)
 
@@ -63,7 +104,12 @@ pub record ReadsPiece (file : ℕ) (into : List ℕ) (result : Result ℕ Stop) 
   pub end : IfOk result (λ count. count ≡ 0 → IsAtEnd (old.left file))
   pub others : OtherFiles file old new
   pub refused : OnErr result (new.left ≡ old.left)
+  -- the bytes are put behind those that were read before
+  pub seen : IfOk result (λ count. seen_in new file ≡ option_map (seen_then (take count into)) (seen_in old file))
+  pub others_seen : OtherSeen file old new
+  pub refused_seen : OnErr result (seen_in new file ≡ seen_in old file)
   pub later : old.faults ≤ new.faults
+  pub counts : CountsFailed result old.faults new.faults
   pub failed : IsErrOf result Failed → Rose old.faults new.faults
 
 -- `close`
@@ -71,6 +117,7 @@ pub record Closes (file : ℕ) (old new : FilesState) : Type 0 where
   pub told : new.told ≡ old.told
   pub closed : new.left file ≡ None
   pub others : OtherFiles file old new
+  pub seen : (k : ℕ) → seen_in new k ≡ seen_in old k
   pub faults : new.faults ≡ old.faults
 
 -- These bytes are few enough and were answered, or they are too many.
@@ -87,9 +134,11 @@ HasAtMost most TooLong = ⊤
 pub record ReadsWhole (path : List ℕ) (most : ℕ) (result : Result Whole Stop) (old new : FilesState) : Type 0 where
   pub told : new.told ≡ old.told
   pub left : new.left ≡ old.left
+  pub open_seen : (k : ℕ) → IsSome (old.left k) → seen_in new k ≡ seen_in old k
   pub whole : (bytes : List ℕ) → Holds old path bytes → IfOk result (IsWhole most bytes)
   pub within : IfOk result (HasAtMost most)
   pub later : old.faults ≤ new.faults
+  pub counts : CountsFailed result old.faults new.faults
   pub failed : IsErrOf result Failed → IsMissing old path ⊎ Rose old.faults new.faults
   pub missing : IsMissing old path → IsErrOf result Failed × (new.faults ≡ old.faults)
 
@@ -97,7 +146,9 @@ pub record ReadsWhole (path : List ℕ) (most : ℕ) (result : Result Whole Stop
 pub record ReadsRest (file most : ℕ) (result : Result Whole Stop) (old new : FilesState) : Type 0 where
   pub told : new.told ≡ old.told
   pub others : OtherFiles file old new
+  pub others_seen : OtherSeen file old new
   pub whole : (bytes : List ℕ) → old.left file ≡ Some (Some bytes) → IfOk result (IsWhole most bytes)
   pub within : IfOk result (HasAtMost most)
   pub later : old.faults ≤ new.faults
+  pub counts : CountsFailed result old.faults new.faults
   pub failed : IsErrOf result Failed → Rose old.faults new.faults

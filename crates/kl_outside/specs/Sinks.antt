@@ -1,7 +1,8 @@
 -- What a sink means, and what each call does to it.
-use Rattle.std.specs.Prelude.{◌≡◌, ℕ, ◌≤◌, List, ◌++◌, length, take, Result, Option, IfOk, OnOk, OnErr, IsErrOf}
+use Rattle.std.specs.Prelude.{◌≡◌, ℕ, ◌≤◌, List, ◌++◌, length, take, Result, Err, Option, IfOk, OnOk, OnErr, IsErrOf}
 use Rattle.std.specs.Io.KnownBytes.{append_known}
 use Rattle.kl_base.specs.Counts.{Rose}
+use Rattle.kl_outside.specs.Files.{CountsFailed}
 use Rattle.kl_outside.specs.declared.stop.Stop.{Stop}
 use Rattle.kl_outside.specs.declared.stop.Stop.TheVariants.{Failed, NoMemory}
 
@@ -12,11 +13,18 @@ pub record SinkState : Type 0 where
   pub faults : ℕ
   pub wants : ℕ
 
--- No count fell, and each refusal has its count risen.
+-- The count of wants rises with the answer `NoMemory` alone.
+abbrev pub CountsWant : {T : Type 0} → Result T Stop → ℕ → ℕ → Type 0
+CountsWant (Err NoMemory) before now = before ≤ now
+CountsWant _ before now = now ≡ before
+
+-- No count fell, each refusal has its count risen, and no count rose without its refusal.
 pub record HasCause {T : Type 0} (result : Result T Stop) (old new : SinkState) : Type 0 where
   pub later : old.faults ≤ new.faults
+  pub counts : CountsFailed result old.faults new.faults
   pub failed : IsErrOf result Failed → Rose old.faults new.faults
   pub wants_later : old.wants ≤ new.wants
+  pub counts_want : CountsWant result old.wants new.wants
   pub wanted : IsErrOf result NoMemory → Rose old.wants new.wants
 
 -- `write`: the first bytes of the piece were taken, one at least where it has any, or none at all.

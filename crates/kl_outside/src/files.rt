@@ -9,8 +9,10 @@ use std::alloc::Global;
 pub trait Files {
     /// What is known of the files. `told`: the bytes of each path, where the files tell them, with none at a path that
     /// is missing; no call changes it. `left`: for each number, whether a file is open under it, and the bytes which
-    /// that file has left, where they are known. `faults`: how often a call failed, but for the opening of a path that
-    /// is told to be missing. The count never falls, and stays where it has reached the greatest u64.
+    /// that file has left, where they are known. `log`: what was read under each number since a file was opened under it,
+    /// where the files keep that, which no caller can see. `faults`: how often a call failed, but for the opening of a path
+    /// that is told to be missing. The count rises with the answer `Failed` alone, never falls, and stays where it has
+    /// reached the greatest u64.
     ghost state: { Self → FilesState };
 
     /// Opens a path for reading from its start, and answers the number of a file that was not open. The files that

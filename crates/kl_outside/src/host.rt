@@ -3,24 +3,17 @@ ghost use Rattle.std.specs.Prelude.{◌≡◌, ◌≤◌, None, IfOk, length};
 ghost use Rattle.kl_base.specs.Counts.{Rose};
 
 use crate::{Files, Sink, Stop};
+use slab::Slab;
 use std::fs::File;
 use std::io::{ErrorKind, Read, Write};
 use std::{io, str};
-
-// The place of an open file, or one that is free, with the next free one.
-#[derive(Drop)]
-pub enum Slot {
-    Opened(File),
-    Free(Option<usize>),
-}
 
 /// The system's files. The number of a closed file is used again, so that opening and closing files in turn takes no
 /// more memory than the files that are open at once.
 #[derive(Drop)]
 pub struct HostFiles {
     rt: HostRuntime,
-    slots: Vec<Slot>,
-    first_free: Option<usize>,
+    opened: Slab<File>,
     faults: u64,
 }
 
@@ -29,19 +22,18 @@ impl HostFiles {
 
     /// The system's files, none of them open.
     pub fn new(rt: HostRuntime) -> HostFiles
-        ensures { host_state result ≡ record { told = None; left = λ _. None; faults = 0 } }
+        ensures { host_state result ≡ record { told = None; left = λ _. None; log = None; faults = 0 } }
     {
         HostFiles {
             rt,
-            slots: Vec::new(rt.alloc()),
-            first_free: None,
+            opened: Slab::new(rt.alloc()),
             faults: 0,
         }
     }
 
     fn fault(&mut self) -> Stop
         ensures stop { result ≡ Stop.Failed }
-        ensures slots { self.new.slots ≡ self.old.slots }
+        ensures opened { self.new.opened ≡ self.old.opened }
         ensures faults { Rose self.old.faults self.new.faults }
         ensures later { self.old.faults ≤ self.new.faults }
     {
@@ -63,22 +55,14 @@ impl Files for HostFiles {
         let Ok(file) = File::open(&self.rt, name) else {
             return Err(self.fault());
         };
-        if let Some(number) = self.first_free {
-            if let Some(Slot::Free(next)) = self.slots.get(number) {
-                self.first_free = *next;
-                self.slots[number] = Slot::Opened(file);
-                return Ok(number as u64);
-            }
-        }
-        let number = self.slots.len() as u64;
-        self.slots.push(Slot::Opened(file))?;
-        Ok(number)
+        let number = self.opened.insert(file)?;
+        Ok(number as u64)
     }
 
     fn read(&mut self, file: u64, into: &mut [u8]) -> Result<usize, Stop> {
-        let count = match &mut self.slots[file as usize] {
-            Slot::Opened(opened) => read_some(opened, into),
-            Slot::Free(_) => Ok(0),
+        let count = match self.opened.get_mut(file as usize) {
+            Some(opened) => read_some(opened, into),
+            None => Ok(0),
         };
         match count {
             Ok(count) => Ok(count),
@@ -87,9 +71,7 @@ impl Files for HostFiles {
     }
 
     fn close(&mut self, file: u64) {
-        let number = file as usize;
-        self.slots[number] = Slot::Free(self.first_free);
-        self.first_free = Some(number);
+        let _ = self.opened.try_remove(file as usize);
     }
 }
 

@@ -1,12 +1,12 @@
-ghost use Rattle.std.specs.Prelude.{◌≡◌, ◌↔◌, ◌⊎◌, ◌<◌, ◌+◌, ◌^◌, [], Some, None, length, take, drop, min, slice_get};
+ghost use Rattle.std.specs.Prelude.{◌≡◌, ◌↔◌, ◌⊎◌, ◌<◌, ◌+◌, ◌^◌, [], Some, None, length, take, drop, min};
 ghost use Rattle.std.specs.Prelude.{MatchOption, MatchResult, IsTrue, IsErrOf, IsSome};
-ghost use Rattle.std.specs.Option.{option_flatten};
 ghost use Rattle.kl_outside.specs.Files.{OpensPath, ReadsPiece, Closes};
 ghost use Rattle.kl_outside.specs.Entries.{bytes_of, bytes_at};
 
 use crate::schedule::Schedule;
 use crate::{Files, Stop};
 use kl_base::{NoMemory, Text};
+use slab::Slab;
 use std::alloc::Global;
 
 // Where an open file stands: in which entry, and at which byte.
@@ -20,7 +20,7 @@ pub struct Place {
 #[derive(Drop)]
 pub struct MemFiles {
     entries: Vec<(Text, Text)>,
-    places: Vec<Option<Place>>,
+    places: Slab<Place>,
     schedule: Schedule,
 }
 
@@ -31,12 +31,12 @@ impl MemFiles {
     /// Files with these paths and bytes, none of them open, with no call listed to fail. Where a path is given more
     /// than once, its first bytes count.
     pub fn new(alloc: Global, files: Vec<(Text, Text)>) -> MemFiles
-        ensures state { files_state result ≡ record { told = Some (bytes_of files.items); left = λ _. None; faults = 0 } }
+        ensures state { files_state result ≡ record { told = Some (bytes_of files.items); left = λ _. None; log = None; faults = 0 } }
         ensures calls { files_calls result ≡ record { listed = []; made = 0; faults = 0 } }
     {
         MemFiles {
             entries: files,
-            places: Vec::new(alloc),
+            places: Slab::new(alloc),
             schedule: Schedule::new(alloc),
         }
     }
@@ -65,16 +65,6 @@ fn find(entries: &[(Text, Text)], path: &[u8]) -> Option<usize>
         }
     }
     None
-}
-
-// Where a file stands, if it is open.
-fn place_of(places: &[Option<Place>], file: u64) -> Option<Place>
-    ensures { result ≡ option_flatten (slice_get places.now file) }
-{
-    match places.get(file as usize) {
-        Some(place) => *place,
-        None => None,
-    }
 }
 
 // The bytes of an entry.
@@ -124,9 +114,8 @@ impl Files for MemFiles {
             self.schedule.fail_call();
             return Err(Stop::Failed);
         }
-        let file = self.places.len() as u64;
-        self.places.push(Some(Place { entry, at: 0 }))?;
-        Ok(file)
+        let file = self.places.insert(Place { entry, at: 0 })?;
+        Ok(file as u64)
     }
 
     /// It is `Failed` exactly where the call is listed, and takes no memory.
@@ -141,15 +130,12 @@ impl Files for MemFiles {
             self.schedule.fail_call();
             return Err(Stop::Failed);
         }
-        let Some(place) = place_of(&self.places, file) else {
+        let Some(place) = self.places.get_mut(file as usize) else {
             return Ok(0);
         };
         let bytes = entry_bytes(&self.entries, place.entry);
         let count = copy_from(bytes, place.at, into);
-        self.places[file as usize] = Some(Place {
-            entry: place.entry,
-            at: place.at + count,
-        });
+        place.at += count;
         Ok(count)
     }
 
@@ -159,9 +145,6 @@ impl Files for MemFiles {
         ensures closes { Closes file (files_state self.old) (files_state self.new) }
         ensures calls { files_calls self.new ≡ files_calls self.old }
     {
-        let file = file as usize;
-        if file < self.places.len() {
-            self.places[file] = None;
-        }
+        let _ = self.places.try_remove(file as usize);
     }
 }

@@ -16,7 +16,7 @@ use Rattle.kl_syntax.specs.declared.tree.Qual.TheVariants as qual
 use Rattle.kl_syntax.specs.declared.tree.Branch.{Branch}
 use Rattle.kl_lex.specs.Brackets.{opener, closer}
 use Rattle.kl_phrase.specs.Depth.{opens}
-use Rattle.kl_parse.specs.Grammar.{name_of, inject_of, gen_of, comp_of, case_of, path_of, chain_of, compare_of, let_of, if_of, branch_of, left_out, misses, function_of, constant_of, decl_of, program_of, Sort, whole, negated, signed, added}
+use Rattle.kl_parse.specs.Grammar.{name_of, record_of, inject_of, gen_of, comp_of, case_of, path_of, chain_of, compare_of, let_of, if_of, branch_of, left_out, misses, function_of, constant_of, decl_of, program_of, Sort, whole, negated, signed, added}
 use Rattle.kl_parse.specs.Kinds.{among, is_symbol, a_symbol, a_key, a_constant, a_least, an_op}
 use Rattle.kl_parse.specs.Descent as d
 use Rattle.kl_parse.proofs.Kepts.{keeps_label, keeps_name, keeps_labels, same_pat_by}
@@ -24,7 +24,7 @@ use Rattle.kl_phrase.specs.Readers.{bad, Reader}
 use Rattle.kl_phrase.specs.Refusals.{may_miss, missed}
 use Rattle.kl_phrase.proofs.Exact.{IsBad}
 use Rattle.kl_phrase.proofs.Rests.{Leaves, leaves_one, leaves_chain, leaves_nothing, leaves_failing}
-use Rattle.kl_phrase.proofs.Agreeing.{Agrees, agrees_same, agrees_nothing, agrees_chain, agrees_made, agrees_both, agrees_behind, agrees_before, agrees_pick, agrees_opened, agrees_many, agrees_parted, agrees_followed, agrees_decide, agrees_hole}
+use Rattle.kl_phrase.proofs.Agreeing.{Agrees, agrees_same, agrees_nothing, agrees_chain, agrees_made, agrees_both, agrees_behind, agrees_before, agrees_pick, agrees_opened, agrees_many, agrees_parted, agrees_tailed, agrees_followed, agrees_decide, agrees_hole}
 
 module _ (N : ℕ) (hole : List Token → Bool) (h : ℕ) where
   mark : (s : Sym) → Agrees hole h (d.mark s) (d.mark s)
@@ -65,8 +65,8 @@ module _ (N : ℕ) (hole : List Token → Bool) (h : ℕ) where
     field : Agrees hole h (d.field N e) (d.field N e')
     field = agrees_both label (agrees_behind (mark sy.Eq) he)
 
-    in_rec : Agrees hole h (d.in_rec N e) (d.in_rec N e')
-    in_rec = agrees_before (agrees_pick (agrees_parted (is_symbol sy.Comma) (mark sy.Comma) field) (agrees_nothing [])) (mark sy.CloseRec)
+    in_rec : (u u' : Reader Token Expr) → Agrees hole h u u' → Agrees hole h (d.in_rec N e u) (d.in_rec N e' u')
+    in_rec u u' hu = agrees_before (agrees_pick (agrees_made record_of (agrees_both field (agrees_tailed (is_symbol sy.Comma) (is_symbol sy.Dots) (mark sy.Comma) field (agrees_behind (mark sy.Dots) (agrees_pick (agrees_same (leaves_failing bad)) hu))))) (agrees_nothing (expr.Rec []))) (mark sy.CloseRec)
 
     in_if : Agrees hole h (d.in_if e) (d.in_if e')
     in_if = agrees_both (expr_before key.Then) (agrees_both (expr_before key.Else) he)
@@ -107,7 +107,7 @@ module _ (N : ℕ) (hole : List Token → Bool) (h : ℕ) where
     prim =
         agrees_pick (agrees_same (leaves_chain (leaves_one a_constant) (λ v. leaves_nothing (expr.Const v))))
         (agrees_pick (agrees_opened bad may (λ i. agrees_behind (mark sy.OpenPar) (agrees_before he (mark sy.ClosePar))))
-        (agrees_pick (agrees_opened bad may (λ i. agrees_made expr.Rec (agrees_behind (mark sy.OpenRec) (in_rec e e' he))))
+        (agrees_pick (agrees_opened bad may (λ i. agrees_behind (mark sy.OpenRec) (in_rec e e' he u u' hu)))
         (agrees_pick (agrees_opened bad may (λ i. agrees_made inject_of (agrees_behind (mark sy.Lt) (agrees_before (field a a' ha) (mark sy.Gt)))))
         (agrees_pick (agrees_opened bad may (λ i. coll e e' he p lp kind.Set))
         (agrees_pick (agrees_opened bad may (λ i. coll e e' he p lp kind.Bag))

@@ -11,6 +11,7 @@ use Rattle.kl_parse.specs.declared.operator.Level.{Level}
 use Rattle.kl_parse.specs.declared.operator.Level.TheVariants as level
 use Rattle.kl_syntax.specs.declared.tree.Pattern.{Pattern}
 use Rattle.kl_syntax.specs.declared.tree.Pattern.TheVariants as pattern
+use Rattle.kl_syntax.specs.declared.tree.Tail.TheVariants as tail
 use Rattle.kl_syntax.specs.declared.tree.Expr.{Expr}
 use Rattle.kl_syntax.specs.declared.tree.Expr.TheVariants as expr
 use Rattle.kl_syntax.specs.declared.tree.Qual.TheVariants as qual
@@ -18,7 +19,7 @@ use Rattle.kl_syntax.specs.declared.tree.Branch.{Branch}
 use Rattle.kl_lex.specs.Brackets.{opener, closer}
 use Rattle.kl_phrase.specs.Depth.{opens}
 use Rattle.kl_parse.specs.Lexemes.{word_of}
-use Rattle.kl_parse.specs.Grammar.{is_of, variant_of, shape_of, name_of, inject_of, gen_of, comp_of, case_of, path_of, chain_of, compare_of, let_of, if_of, branch_of, function_of, constant_of, decl_of, program_of, Sort, whole, negated, signed, added}
+use Rattle.kl_parse.specs.Grammar.{is_of, variant_of, shape_of, name_of, record_of, inject_of, gen_of, comp_of, case_of, path_of, chain_of, compare_of, let_of, if_of, branch_of, function_of, constant_of, decl_of, program_of, Sort, whole, negated, signed, added}
 use Rattle.kl_parse.specs.Kinds.{among, is_symbol, a_symbol, a_key, a_label, a_name, a_constant, a_least, a_negative, an_op, big_kinds}
 use Rattle.kl_parse.specs.Descent as d
 use Rattle.kl_phrase.specs.Readers.{deep, Reader, made, both, behind, pick}
@@ -50,12 +51,15 @@ module _ (N n : ℕ) where
       (deepens_pick (deepens_made is_of (deepens_numbered N (deepens_behind (mark sy.Sub) (deepens_one a_negative))))
       (deepens_pick (deepens_made is_of (deepens_numbered N (deepens_one a_constant))) (deepens_made pattern.Same name))))
 
+  others : Deepens n (d.others N)
+  others = deepens_behind (mark sy.Dots) (deepens_pick (deepens_made tail.Rest (deepens_behind (mark sy.Bind) name)) (deepens_nothing tail.Open))
+
   module _ (p : Reader Token Pattern) (h : Deepens n p) where
     pat_field : Deepens n (d.pat_field N p)
     pat_field = deepens_both label (deepens_behind (mark sy.Eq) h)
 
     in_shape : Deepens n (d.in_shape N p)
-    in_shape = deepens_before (deepens_pick (deepens_made shape_of (deepens_both pat_field (deepens_tailed (is_symbol sy.Comma) (is_symbol sy.Dots) (mark sy.Comma) pat_field (mark sy.Dots)))) (deepens_pick (deepens_made (λ _. pattern.Rec [] true) (mark sy.Dots)) (deepens_nothing (pattern.Rec [] false)))) (mark sy.CloseRec)
+    in_shape = deepens_before (deepens_pick (deepens_made shape_of (deepens_both pat_field (deepens_tailed (is_symbol sy.Comma) (is_symbol sy.Dots) (mark sy.Comma) pat_field others))) (deepens_pick (deepens_made (pattern.Rec []) others) (deepens_nothing (pattern.Rec [] tail.Exact)))) (mark sy.CloseRec)
 
     in_variant : Deepens n (d.in_variant N p)
     in_variant = deepens_before pat_field (mark sy.Gt)
@@ -79,8 +83,8 @@ module _ (N n : ℕ) where
     field : Deepens n (d.field N e)
     field = deepens_both label (deepens_behind (mark sy.Eq) he)
 
-    in_rec : Deepens n (d.in_rec N e)
-    in_rec = deepens_before (deepens_pick (deepens_parted (is_symbol sy.Comma) (mark sy.Comma) field) (deepens_nothing [])) (mark sy.CloseRec)
+    in_rec : (u : Reader Token Expr) → Deepens n u → Deepens n (d.in_rec N e u)
+    in_rec u hu = deepens_before (deepens_pick (deepens_made record_of (deepens_both field (deepens_tailed (is_symbol sy.Comma) (is_symbol sy.Dots) (mark sy.Comma) field (deepens_behind (mark sy.Dots) (deepens_pick deepens_failing hu))))) (deepens_nothing (expr.Rec []))) (mark sy.CloseRec)
 
     in_inject : Deepens n (d.in_inject N e)
     in_inject = deepens_before field (mark sy.Gt)
@@ -143,7 +147,7 @@ module _ (N n : ℕ) (may : Bool) (m : ℕ) (shut : may ≡ false → n ≡ 0) (
     prim =
         deepens_pick (deepens_made expr.Const (deepens_one a_constant))
         (deepens_pick (deepens_opened may {p = behind (d.mark sy.OpenPar) (d.in_group e)} (λ i. behind_at sy.OpenPar i (in_group N m e (he i))) shut)
-        (deepens_pick (deepens_opened may {p = made expr.Rec (behind (d.mark sy.OpenRec) (d.in_rec N e))} (λ i. deepens_made expr.Rec (behind_at sy.OpenRec i (in_rec N m e (he i)))) shut)
+        (deepens_pick (deepens_opened may {p = behind (d.mark sy.OpenRec) (d.in_rec N e u)} (λ i. behind_at sy.OpenRec i (in_rec N m e (he i) u (hu i))) shut)
         (deepens_pick (deepens_opened may {p = made inject_of (behind (d.mark sy.Lt) (d.in_inject N a))} (λ i. deepens_made inject_of (behind_at sy.Lt i (in_inject N m a (ha i)))) shut)
         (deepens_pick (coll kind.Set)
         (deepens_pick (coll kind.Bag)

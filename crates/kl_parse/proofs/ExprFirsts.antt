@@ -16,7 +16,7 @@ use Rattle.kl_syntax.specs.declared.tree.Pattern.{Pattern}
 use Rattle.kl_syntax.specs.declared.tree.Branch.{Branch}
 use Rattle.kl_parse.specs.Lexemes.{Symbol, Key, Label, Name, Constant, IsLeast, AnOp}
 use Rattle.kl_lex.specs.Brackets.{opener, closer}
-use Rattle.kl_parse.specs.Grammar.{name_of, inject_of, case_of, path_of, chain_of, compare_of, let_of, if_of, Chained, Exprs, Args, Group, Field, Rec, Inject, Otherwise, If, Inside, Coll, Let, Case, Named, Least, Prim, Post, Un, Mul, Add, Compare, Not, And, Ors, Whole}
+use Rattle.kl_parse.specs.Grammar.{name_of, inject_of, case_of, path_of, chain_of, compare_of, let_of, if_of, Chained, Exprs, Args, Group, Field, Unsigned, Fields, Rec, Inject, Otherwise, If, Inside, Coll, Let, Case, Named, Least, Prim, Post, Un, Mul, Add, Compare, Not, And, Ors, Whole}
 use Rattle.kl_parse.specs.Kinds.{among, is_symbol, is_key, one_symbol, one_key, symbol_kind, name_kinds, label_kinds, constant_kinds, op_kinds}
 use Rattle.kl_parse.proofs.KindLemmas.{on_symbol, on_key, on_constant}
 use Rattle.kl_parse.proofs.PatGoods.{alt, starts_label, starts_name}
@@ -67,8 +67,11 @@ on_constants = on_made (among constant_kinds) expr.Const Constant on_constant
 pub on_group : (E : Phrase Token Expr) → On (is_symbol sy.OpenPar) (Group E)
 on_group E = on_after sy.OpenPar (Before E (Symbol sy.ClosePar))
 
-pub on_rec : (E : Phrase Token Expr) → On (is_symbol sy.OpenRec) (Rec E)
-on_rec E = on_made (is_symbol sy.OpenRec) expr.Rec (Behind (Symbol sy.OpenRec) (Before (Optional [] (Parted (Symbol sy.Comma) (Field E))) (Symbol sy.CloseRec))) (on_after sy.OpenRec (Before (Optional [] (Parted (Symbol sy.Comma) (Field E))) (Symbol sy.CloseRec)))
+pub on_rec : (E U : Phrase Token Expr) → On (is_symbol sy.OpenRec) (Rec E U)
+on_rec E U = on_after sy.OpenRec (Before (Optional (expr.Rec []) (Fields E U)) (Symbol sy.CloseRec))
+
+pub on_base : (U : Phrase Token Expr) → On (is_symbol sy.Dots) (Behind (Symbol sy.Dots) (Unsigned U))
+on_base U = on_after sy.Dots (Unsigned U)
 
 pub on_inject : (A : Phrase Token Expr) → On (is_symbol sy.Lt) (Inject A)
 on_inject A = on_made (is_symbol sy.Lt) inject_of (Behind (Symbol sy.Lt) (Before (Field A) (Symbol sy.Gt))) (on_after sy.Lt (Before (Field A) (Symbol sy.Gt)))
@@ -163,7 +166,7 @@ module _ (may : Bool) (P : Phrase Token Pattern) (E N U A : Phrase Token Expr) (
   Prim4 = Or (Opened may (Inject A)) Prim5
 
   abbrev pub Prim3 : Phrase Token Expr
-  Prim3 = Or (Opened may (Rec E)) Prim4
+  Prim3 = Or (Opened may (Rec E U)) Prim4
 
   abbrev pub Prim2 : Phrase Token Expr
   Prim2 = Or (Opened may (Group E)) Prim3
@@ -184,7 +187,7 @@ module _ (may : Bool) (P : Phrase Token Pattern) (E N U A : Phrase Token Expr) (
   on4 = alt (Opened may (Inject A)) Prim5 (one_symbol sy.Lt) prim5 prim4 refl refl (on_opened (is_symbol sy.Lt) may (Inject A) (on_inject A)) on5
 
   pub on3 : On (among prim3) Prim3
-  on3 = alt (Opened may (Rec E)) Prim4 (one_symbol sy.OpenRec) prim4 prim3 refl refl (on_opened (is_symbol sy.OpenRec) may (Rec E) (on_rec E)) on4
+  on3 = alt (Opened may (Rec E U)) Prim4 (one_symbol sy.OpenRec) prim4 prim3 refl refl (on_opened (is_symbol sy.OpenRec) may (Rec E U) (on_rec E U)) on4
 
   pub on2 : On (among prim2) Prim2
   on2 = alt (Opened may (Group E)) Prim3 (one_symbol sy.OpenPar) prim3 prim2 refl refl (on_opened (is_symbol sy.OpenPar) may (Group E) (on_group E)) on3

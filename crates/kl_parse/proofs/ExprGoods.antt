@@ -1,6 +1,8 @@
 -- The readers of expressions read the expressions. E: those inside; W: where what begins one of them has its whole texts.
-use Rattle.std.proofs.Common.{◌≡◌, ℕ, ◌+◌, true, false, List, [], ◌∷◌, ◌++◌, length, Some, None, inl, inr, refl, ap, ◌∙◌, append_assoc}
+use Rattle.std.proofs.Common.{◌≡◌, ℕ, ◌+◌, Bool, true, false, if◌then◌else◌, List, [], ◌∷◌, ◌++◌, length, Some, None, inl, inr, refl, sym, ap, ◌∙◌, append_assoc}
+use Rattle.std.proofs.lemmas.Bool.{false≢true}
 use Rattle.kl_lex.specs.declared.token.Sym.TheVariants as sy
+use Rattle.kl_lex.specs.declared.token.Tok.TheVariants as tok
 use Rattle.kl_lex.specs.declared.token.Token.{Token}
 use Rattle.kl_value.specs.declared.value.Kind.{Kind}
 use Rattle.kl_value.specs.declared.value.Kind.TheVariants as kind
@@ -13,16 +15,17 @@ use Rattle.kl_syntax.specs.declared.tree.Pattern.{Pattern}
 use Rattle.kl_syntax.specs.declared.tree.Branch.{Branch}
 use Rattle.kl_parse.specs.Lexemes.{Symbol, Key, Label}
 use Rattle.kl_lex.specs.Brackets.{opener, closer}
-use Rattle.kl_parse.specs.Grammar.{inject_of, case_of, let_of, if_of, gen_of, comp_of, Exprs, Args, Group, Field, Rec, Inject, Otherwise, If, AQual, Inside, Coll, Let, Case, Prim}
+use Rattle.kl_parse.specs.Grammar.{record_of, inject_of, case_of, let_of, if_of, gen_of, comp_of, Exprs, Args, Group, Field, Unsigned, Fields, Rec, Inject, Otherwise, If, AQual, Inside, Coll, Let, Case, Prim}
 use Rattle.kl_parse.specs.Kinds.{among, is_symbol, is_key, one_symbol, one_key, symbol_kind, label_kinds}
 use Rattle.kl_parse.specs.Descent as d
-use Rattle.kl_parse.proofs.KindLemmas.{all_of, none_of, within, on_symbol, on_key, has_symbol, has_key, has_label}
-use Rattle.kl_parse.proofs.PatGoods.{Free, good_symbol, good_key, good_label, stop, closes, past, past_key}
-use Rattle.kl_parse.proofs.ExprFirsts.{goes_add, goes_whole, on_field, whole_kinds}
-use Rattle.kl_phrase.specs.Words.{heads, Phrase, Nothing, Then, Behind, Before, Many, Made, Or, Optional, Parted}
-use Rattle.kl_phrase.specs.Readers.{Reader, made, behind, before, chain, nothing, pick, parted}
-use Rattle.kl_phrase.proofs.Theory.{Good, On, Off, Has, Meets, To, Chain, good_nothing, good_made, good_both, good_before, good_pick, good_follow, good_many, good_parted, good_same, good_chain, meets_many, on_behind, has_behind}
-use Rattle.kl_phrase.proofs.Firsts.{Stops, Heads, Within, on_made, on_parted, off_nothing, meets_on, heads_within, stops_within, has_made, has_then, has_before, has_left, has_right, has_nothing, has_many, has_parted}
+use Rattle.kl_parse.proofs.KindLemmas.{all_of, none_of, within, is_symbol_of, symbol_of, on_symbol, on_key, has_symbol, has_key, has_label}
+use Rattle.kl_parse.proofs.PatGoods.{Free, good_symbol, good_key, good_label, off, stop, closes, past, past_key}
+use Rattle.kl_parse.proofs.ExprFirsts.{goes_path, goes_add, goes_whole, on_base, on_field, un_kinds, whole_kinds}
+use Rattle.kl_phrase.specs.Words.{heads, Phrase, Nothing, Then, Behind, Before, Many, Made, Or, Optional, Parted, Tailed}
+use Rattle.kl_phrase.specs.Readers.{Out, ok, fail, bad, Reader, made, both, behind, before, chain, nothing, pick, parted}
+use Rattle.kl_phrase.proofs.Theory.{Good, Begins, Sound, On, Off, Has, Meets, To, Chain, good_nothing, good_made, good_both, good_before, good_pick, good_follow, good_many, good_parted, good_same, good_chain, meets_many, on_behind, has_behind}
+use Rattle.kl_phrase.proofs.Firsts.{Stops, Heads, Within, on_made, on_then, off_nothing, meets_on, heads_within, stops_within, has_made, has_then, has_before, has_left, has_right, has_nothing, has_many, has_parted}
+use Rattle.kl_phrase.proofs.Tails.{good_tailed, has_tailed, meets_tailed}
 use Rattle.kl_phrase.proofs.Commit.{good_choose, good_followed, Apart}
 use Rattle.kl_phrase.proofs.Deciding.{Flat, good_decide}
 
@@ -62,12 +65,6 @@ module _ (N : ℕ) (E W : Phrase Token Expr) (e : Reader Token Expr) (good : Goo
   pub good_field : Good N (Field E) (Field W) (Stops (among goes_whole)) (d.field N e)
   good_field = good_both {C = Free} good_label (past sy.Eq good has_in) (has_behind (Symbol sy.Eq) W (has_symbol sy.Eq) has_in) (λ n b y v r h. tt)
 
-  pub good_rec : Good N (Rec E) (Rec W) Free (made expr.Rec (behind (d.mark sy.OpenRec) (d.in_rec N e)))
-  good_rec =
-      good_made (past sy.OpenRec (closes sy.CloseRec
-      (good_pick (good_follow (Heads (is_symbol sy.CloseRec)) (stop (one_symbol sy.CloseRec) comma_goes refl) (good_list good_field has_field)) good_nothing (on_parted (among label_kinds) (Symbol sy.Comma) (Field E) (on_field E)) (off_nothing (among label_kinds) [] (Heads (is_symbol sy.CloseRec)) (stop (one_symbol sy.CloseRec) label_kinds refl)))
-      (λ v h. h)) (has_before (Optional [] (Parted (Symbol sy.Comma) (Field W))) (Symbol sy.CloseRec) (has_right (Parted (Symbol sy.Comma) (Field W)) (Nothing []) (has_nothing [])) (has_symbol sy.CloseRec)))
-
   good_otherwise : Good N (Otherwise E) (Otherwise W) (Heads (is_key key.End)) (d.otherwise e)
   good_otherwise =
       good_pick (good_made (past_key key.Otherwise (good_follow (Heads (is_key key.End)) (stop (one_key key.End) goes_whole refl) good) has_in)) good_nothing
@@ -91,6 +88,75 @@ module _ (N : ℕ) (E W : Phrase Token Expr) (e : Reader Token Expr) (good : Goo
 
       has_parts : Has (Then (Parted (Symbol sy.Comma) V) (Before (Otherwise W) (Key key.End)))
       has_parts = has_then (Parted (Symbol sy.Comma) V) (Before (Otherwise W) (Key key.End)) (has_parted (Symbol sy.Comma) V has_b) has_last
+
+-- ---- a signed expression whose first token is no minus
+
+-- the first token of a front is that of the whole
+first_of : (ts u r more : List Token) (t : Token) → ts ≡ u ++ r → u ≡ t ∷ more → heads (is_symbol sy.Sub) ts ≡ false → t.what ≡ tok.Sym sy.Sub → ⊥
+first_of ts u r more t e f h w = let i : heads (is_symbol sy.Sub) ts ≡ true = ap (heads (is_symbol sy.Sub)) (e ∙ ap (λ z. z ++ r) f) ∙ is_symbol_of sy.Sub t w in false≢true (sym h ∙ i)
+
+module _ (N : ℕ) (U V : Phrase Token Expr) (C : List Token → Type 0) (u : Reader Token Expr) (good : Good N U V C u) (on_u : On (among un_kinds) U) where
+  begins_so : (n : ℕ) (ts y r : List Token) → ts ≡ y ++ r → heads (is_symbol sy.Sub) ts ≡ false → Begins V n y → Begins (Unsigned V) n y
+  begins_so n ts y r e h (inl z) = inl z
+  begins_so n ts [] r e h (inr (more, a, k)) = inl refl
+  begins_so n ts (t ∷ y) r e h (inr (more, a, k)) =
+      inr (more, a, (k, λ c rest f w. (let same : t ≡ c = ap (first_or t) f in first_of ts (t ∷ y) r y t e refl h (ap (λ (x : Token). x.what) same ∙ w))))
+    where
+      first_or : Token → List Token → Token
+      first_or d [] = d
+      first_or d (x ∷ xs) = x
+
+  unsigned_sound : (n : ℕ) (ts : List Token) → n + length ts ≡ N → Sound (Unsigned U) (Unsigned V) n ts (d.unsigned u ts)
+  unsigned_sound n ts le = by_test (heads (is_symbol sy.Sub) ts) refl
+    where
+      by_out : (o : Out Token Expr) → heads (is_symbol sy.Sub) ts ≡ false → Sound U V n ts o → Sound (Unsigned U) (Unsigned V) n ts o
+      by_out (ok a r) h (y, e, s) = (y, e, (s, λ t more f. first_of ts y r more t e f h))
+      by_out (fail w r) h (y, s, v, e, f, t, k) = (y, s, v, e, f, t, begins_so n ts (y ++ s) v (e ∙ ap (λ z. y ++ z) f ∙ sym (append_assoc y s v)) h k)
+
+      by_test : (b : Bool) → heads (is_symbol sy.Sub) ts ≡ b → Sound (Unsigned U) (Unsigned V) n ts (if b then fail bad ts else u ts)
+      by_test true h = ([], [], ts, refl, refl, refl, inl refl)
+      by_test false h = by_out (u ts) h (good.sound n ts le)
+
+  no_minus : (n : ℕ) (a : Expr) (y v : List Token) → Unsigned U n a y → heads (is_symbol sy.Sub) (y ++ v) ≡ false
+  no_minus n a [] v (s, none) = absurd (false≢true (on_u n a [] [] s))
+  no_minus n a (t ∷ y) v (s, none) = by_test (is_symbol sy.Sub t) refl
+    where
+      by_test : (b : Bool) → is_symbol sy.Sub t ≡ b → is_symbol sy.Sub t ≡ false
+      by_test true e = absurd (none t y refl (symbol_of sy.Sub t e))
+      by_test false e = e
+
+  good_unsigned : Good N (Unsigned U) (Unsigned V) C (d.unsigned u)
+  good_unsigned = record {
+    sound = unsigned_sound;
+    again = λ n a y v le s c. rw (no_minus n a y v s) (good.again n a y v le s.0 c);
+    wider = λ n a y s. (good.wider n a y s.0, s.1);
+  }
+
+-- ---- records
+
+module _ (N : ℕ) (E W U V : Phrase Token Expr) (e u : Reader Token Expr) (good : Good N E W (Stops (among goes_whole)) e) (has_in : Has W) (good_u : Good N U V (Stops (among goes_path)) u) (has_u : Has (Unsigned V)) (on_u : On (among un_kinds) U) where
+  abbrev Base : Phrase Token Expr → Phrase Token Expr
+  Base U = Behind (Symbol sy.Dots) (Unsigned U)
+
+  good_base : Good N (Base U) (Base V) (Stops (among goes_whole)) (d.base N e u)
+  good_base = good_follow (Stops (among goes_whole)) (looser goes_path goes_whole refl) (past sy.Dots (good_unsigned N U V (Stops (among goes_path)) u good_u on_u) has_u)
+
+  before_close : (v : List Token) → Heads (is_symbol sy.CloseRec) v → Stops (among goes_whole) v × (heads (is_symbol sy.Comma) v ≡ false)
+  before_close v h = (stop (one_symbol sy.CloseRec) goes_whole refl v h, stop (one_symbol sy.CloseRec) (one_symbol sy.Comma) refl v h)
+
+  good_fields : Good N (Fields E U) (Fields W V) (Heads (is_symbol sy.CloseRec)) (made record_of (both (d.field N e) (d.fields N e u)))
+  good_fields =
+      good_made (good_both {C = Stops (among goes_whole)} (good_field N E W e good has_in)
+      (good_tailed (is_symbol sy.Comma) (is_symbol sy.Dots) (good_symbol sy.Comma Free) (good_field N E W e good has_in) good_base (on_symbol sy.Comma) (on_base U) (off (Field E) label_kinds (one_symbol sy.Dots) (Stops (among goes_whole)) refl (on_field E)) (has_field N E W e good has_in)
+      (stop (one_symbol sy.Comma) goes_whole refl) before_close)
+      (has_tailed (Symbol sy.Comma) (Field W) (Base V))
+      (meets_tailed (is_symbol sy.Comma) (Symbol sy.Comma) (Field E) (Base U) (on_symbol sy.Comma) (stop (one_symbol sy.Comma) goes_whole refl) before_close))
+
+  pub good_rec : Good N (Rec E U) (Rec W V) Free (behind (d.mark sy.OpenRec) (d.in_rec N e u))
+  good_rec =
+      past sy.OpenRec (closes sy.CloseRec
+      (good_pick good_fields good_nothing (on_made (among label_kinds) record_of (Then (Field E) (Tailed (Symbol sy.Comma) (Field E) (Base U))) (on_then (among label_kinds) (Field E) (Tailed (Symbol sy.Comma) (Field E) (Base U)) (on_field E))) (off_nothing (among label_kinds) (expr.Rec []) (Heads (is_symbol sy.CloseRec)) (stop (one_symbol sy.CloseRec) label_kinds refl)))
+      (λ v h. h)) (has_before (Optional (expr.Rec []) (Fields W V)) (Symbol sy.CloseRec) (has_right (Fields W V) (Nothing (expr.Rec [])) (has_nothing (expr.Rec []))) (has_symbol sy.CloseRec))
 
 pub good_inject : (N : ℕ) (A W : Phrase Token Expr) (a : Reader Token Expr) → Good N A W (Stops (among goes_add)) a → Has W → Good N (Inject A) (Inject W) Free (made inject_of (behind (d.mark sy.Lt) (d.in_inject N a)))
 good_inject N A W a good has_in =

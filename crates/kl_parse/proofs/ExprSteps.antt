@@ -23,15 +23,15 @@ use Rattle.kl_syntax.specs.declared.tree.Branch.{Branch}
 use Rattle.kl_phrase.specs.Gives.{Fails}
 use Rattle.kl_lex.specs.Brackets.{opener, closer}
 use Rattle.kl_phrase.specs.Depth.{opens}
-use Rattle.kl_parse.specs.Grammar.{name_of, inject_of, gen_of, case_of, path_of, compare_of, let_of, if_of, branch_of, function_of, constant_of, Sort, whole, negated, signed, added}
-use Rattle.kl_parse.specs.Kinds.{among, is_symbol, is_key, constant_kinds, big_kinds, op_kinds, a_constant, an_op, a_symbol}
+use Rattle.kl_parse.specs.Grammar.{name_of, record_of, rec_of, inject_of, gen_of, case_of, path_of, compare_of, let_of, if_of, branch_of, function_of, constant_of, Sort, whole, negated, signed, added}
+use Rattle.kl_parse.specs.Kinds.{among, is_symbol, is_key, label_kinds, constant_kinds, big_kinds, op_kinds, a_constant, an_op, a_symbol}
 use Rattle.kl_parse.specs.Descent as d
 use Rattle.kl_parse.specs.Descent.{mark, word_mark}
 use Rattle.kl_parse.proofs.Kepts.{same_reads, same_pat, same_branch, same_qual, keeps_operand, keeps_field}
 use Rattle.kl_parse.proofs.Steps.{Ahead, AheadKey, behind_mark, behind_key, heads_mark, heads_key}
-use Rattle.kl_phrase.proofs.Failures.{err_by}
+use Rattle.kl_phrase.proofs.Failures.{err_by, fails_after, fails_so}
 use Rattle.kl_phrase.specs.Words.{heads}
-use Rattle.kl_phrase.specs.Readers.{Why, bad, deep, Out, ok, fail, Reader, after, one, behind, both, made, pick, others}
+use Rattle.kl_phrase.specs.Readers.{Why, bad, deep, Out, ok, fail, Reader, after, one, behind, both, made, pick, turns, tails, others}
 use Rattle.kl_phrase.specs.Refusals.{opened_by, refused}
 use Rattle.kl_phrase.proofs.Kept.{Keeps, Rests, Takes, takes_both, takes_one}
 use Rattle.kl_phrase.proofs.Gathered.{Progress, goes_on, stops, part_fails}
@@ -230,9 +230,30 @@ pub rec_deep : (N n : ℕ) (ts more : List Token) → n ≡ 0 → Not2 ts → Ah
 unfolding d.prim
 rec_deep N n ts more z (c, p) a = ap (λ m. d.prim_at N m ts) z ∙ rw (c, p, heads_mark sy.OpenRec ts more a) refl
 
-pub rec_at : (N n k : ℕ) (ts more : List Token) → n ≡ suc k → Not2 ts → Ahead sy.OpenRec ts more → d.prim_at N n ts ≡ after (d.in_rec N (d.reads N k whole) more) (λ l s. ok (expr.Rec l) s)
+signed_is : (N k : ℕ) → d.reads N k signed ≡ d.sort_at N k signed
+signed_is N k = fun_ext (λ ts. reads_is N k signed ts)
+
+pub rec_at : (N n k : ℕ) (ts more : List Token) → n ≡ suc k → Not2 ts → Ahead sy.OpenRec ts more → d.prim_at N n ts ≡ d.in_rec N (d.reads N k whole) (d.sort_at N k signed) more
 unfolding d.prim
-rec_at N n k ts more z (c, p) a = ap (λ m. d.prim_at N m ts) z ∙ rw (c, p, heads_mark sy.OpenRec ts more a) (ap (λ (o : Out Token (List (Word × Expr))). after {B = Expr} o (λ l s. ok (expr.Rec l) s)) (behind_mark sy.OpenRec (d.in_rec N (d.reads N k whole)) ts more a))
+rec_at N n k ts more z (c, p) a =
+    ap (λ m. d.prim_at N m ts) z ∙ rw (c, p, heads_mark sy.OpenRec ts more a) (behind_mark sy.OpenRec (d.in_rec N (d.reads N k whole) (d.reads N k signed)) ts more a)
+    ∙ ap (λ (u : Reader Token Expr). d.in_rec N (d.reads N k whole) u more) (signed_is N k)
+
+-- the fields of a record, behind the first
+
+tails_rec : (a : Word × Expr) (o : Out Token (List (Word × Expr) × Option Expr)) → after {B = Expr} (after {B = (Word × Expr) × (List (Word × Expr) × Option Expr)} o (λ b s. ok (a, b) s)) (λ x r. ok (record_of x) r) ≡ after (after {B = List (Word × Expr) × Option Expr} o (λ x r. ok ((a ∷ []) ++ x.0, x.1) r)) (λ x s. ok (rec_of x) s)
+tails_rec a (ok x r) = refl
+tails_rec a (fail w r) = refl
+
+module _ (N : ℕ) (e u : Reader Token Expr) (ts rest : List Token) (a : Word × Expr) (h : heads (among label_kinds) ts ≡ true) (first : d.field N e ts ≡ ok a rest) where
+  record_at : d.rec_body N e u ts ≡ after (tails (d.field_turn N e u) (a ∷ []) rest) (λ x s. ok (rec_of x) s)
+  record_at = rw (h, first) (tails_rec a (turns (d.field_turn N e u) (suc (length rest)) rest))
+
+  pub record_fails : (f : Fault Token) → Fails f (tails (d.field_turn N e u) (a ∷ []) rest) → Fails f (d.rec_body N e u ts)
+  record_fails f i = fails_so f (d.rec_body N e u ts) (after (tails (d.field_turn N e u) (a ∷ []) rest) (λ x s. ok (rec_of x) s)) record_at (fails_after f (tails (d.field_turn N e u) (a ∷ []) rest) (λ x s. ok (rec_of x) s) i)
+
+  pub record_ok : (fs : List (Word × Expr)) (o : Option Expr) (r : List Token) → tails (d.field_turn N e u) (a ∷ []) rest ≡ ok (fs, o) r → d.rec_body N e u ts ≡ ok (rec_of (fs, o)) r
+  record_ok fs o r i = record_at ∙ rw i refl
 
 pub inject_deep : (N n : ℕ) (ts more : List Token) → n ≡ 0 → Not3 ts → Ahead sy.Lt ts more → d.prim_at N n ts ≡ fail deep ts
 unfolding d.prim

@@ -14,13 +14,14 @@ use Rattle.kl_syntax.specs.declared.tree.Expr.TheVariants as expr
 use Rattle.kl_syntax.specs.declared.tree.Qual.TheVariants as qual
 use Rattle.kl_syntax.specs.declared.tree.Pattern.{Pattern}
 use Rattle.kl_syntax.specs.declared.tree.Pattern.TheVariants as pattern
+use Rattle.kl_syntax.specs.declared.tree.Tail.TheVariants as tail
 use Rattle.kl_syntax.specs.declared.tree.Branch.{Branch}
 use Rattle.kl_parse.specs.Lexemes.{word_of}
 use Rattle.kl_parse.proofs.Plains.{plain_pat_before, plain_reads, plain_condition, plain_constant}
 use Rattle.kl_parse.proofs.Reading.{apart_qual, apart_body, up_sort, leads_reads, up}
 use Rattle.kl_lex.specs.Brackets.{opener, closer}
 use Rattle.kl_phrase.specs.Depth.{opens}
-use Rattle.kl_parse.specs.Grammar.{is_of, variant_of, shape_of, name_of, inject_of, gen_of, comp_of, case_of, path_of, chain_of, compare_of, let_of, if_of, branch_of, function_of, constant_of, decl_of, program_of, Sort, whole, negated, signed, added, Reads}
+use Rattle.kl_parse.specs.Grammar.{is_of, variant_of, shape_of, name_of, record_of, inject_of, gen_of, comp_of, case_of, path_of, chain_of, compare_of, let_of, if_of, branch_of, function_of, constant_of, decl_of, program_of, Sort, whole, negated, signed, added, Reads}
 use Rattle.kl_parse.specs.Kinds.{among, is_symbol, a_symbol, a_key, a_label, a_name, a_constant, a_least, a_negative, an_op}
 use Rattle.kl_parse.specs.Descent as d
 use Rattle.kl_phrase.specs.Readers.{Why, bad, deep, Reader, made, both, behind, before}
@@ -54,14 +55,17 @@ module _ (Q : Why → List Token → Type 0) (N M : ℕ) where
       (keeps_pick (keeps_made is_of (keeps_numbered (keeps_behind (keeps_mark sy.Sub) (keeps_one a_negative))))
       (keeps_pick (keeps_made is_of (keeps_numbered (keeps_one a_constant))) (keeps_made pattern.Same keeps_name))))
 
+  keeps_others : Keeps Q N M (d.others N) (d.others M)
+  keeps_others = keeps_behind (keeps_mark sy.Dots) (keeps_pick (keeps_made tail.Rest (keeps_behind (keeps_mark sy.Bind) keeps_name)) (keeps_nothing tail.Open))
+
   module _ (p p' : Reader Token Pattern) (kp : Keeps Q N M p p') where
     pub keeps_pat_field : Keeps Q N M (d.pat_field N p) (d.pat_field M p')
     keeps_pat_field = keeps_both keeps_label (keeps_behind (keeps_mark sy.Eq) kp)
 
     keeps_shape : Keeps Q N M (d.shape N p) (d.shape M p')
     keeps_shape =
-        keeps_pick (keeps_made shape_of (keeps_both keeps_pat_field (keeps_tailed (is_symbol sy.Comma) (is_symbol sy.Dots) (keeps_mark sy.Comma) (takes_one (a_symbol sy.Comma)) keeps_pat_field (keeps_mark sy.Dots))))
-        (keeps_pick (keeps_made (λ _. pattern.Rec [] true) (keeps_mark sy.Dots)) (keeps_nothing (pattern.Rec [] false)))
+        keeps_pick (keeps_made shape_of (keeps_both keeps_pat_field (keeps_tailed (is_symbol sy.Comma) (is_symbol sy.Dots) (keeps_mark sy.Comma) (takes_one (a_symbol sy.Comma)) keeps_pat_field keeps_others)))
+        (keeps_pick (keeps_made (pattern.Rec []) keeps_others) (keeps_nothing (pattern.Rec [] tail.Exact)))
 
     keeps_variant : Keeps Q N M (d.pat_variant N p) (d.pat_variant M p')
     keeps_variant = keeps_behind (keeps_mark sy.Lt) (keeps_before keeps_pat_field (keeps_mark sy.Gt))
@@ -99,8 +103,11 @@ module _ (Q : Why → List Token → Type 0) (N M : ℕ) where
     pub keeps_field : Keeps Q N M (d.field N e) (d.field M e')
     keeps_field = keeps_both (keeps_label Q N M) (keeps_behind (keeps_mark Q N M sy.Eq) ke)
 
-    keeps_rec : Keeps Q N M (d.in_rec N e) (d.in_rec M e')
-    keeps_rec = keeps_before (keeps_pick (keeps_parted (is_symbol sy.Comma) (keeps_mark Q N M sy.Comma) (takes_one (a_symbol sy.Comma)) keeps_field) (keeps_nothing [])) (keeps_mark Q N M sy.CloseRec)
+    keeps_rec : (u u' : Reader Token Expr) → Keeps Q N M u u' → Keeps Q N M (d.in_rec N e u) (d.in_rec M e' u')
+    keeps_rec u u' ku =
+        keeps_before
+        (keeps_pick (keeps_made record_of (keeps_both keeps_field (keeps_tailed (is_symbol sy.Comma) (is_symbol sy.Dots) (keeps_mark Q N M sy.Comma) (takes_one (a_symbol sy.Comma)) keeps_field (keeps_behind (keeps_mark Q N M sy.Dots) (keeps_pick keeps_failing ku))))) (keeps_nothing (expr.Rec [])))
+        (keeps_mark Q N M sy.CloseRec)
 
     keeps_inject : Keeps Q N M (d.in_inject N e) (d.in_inject M e')
     keeps_inject = keeps_before keeps_field (keeps_mark Q N M sy.Gt)
@@ -149,7 +156,7 @@ module _ (Q : Why → List Token → Type 0) (N M : ℕ) where
     keeps_prim =
         keeps_pick (keeps_made expr.Const (keeps_one a_constant))
         (keeps_opening i j (λ h. keeps_behind (keeps_mark Q N M sy.OpenPar) (keeps_group e e' (ke h)))
-        (keeps_opening i j (λ h. keeps_made expr.Rec (keeps_behind (keeps_mark Q N M sy.OpenRec) (keeps_rec e e' (ke h))))
+        (keeps_opening i j (λ h. keeps_behind (keeps_mark Q N M sy.OpenRec) (keeps_rec e e' (ke h) u u' (ku h)))
         (keeps_opening i j (λ h. keeps_made inject_of (keeps_behind (keeps_mark Q N M sy.Lt) (keeps_inject a a' (ka h))))
         (keeps_opening i j (λ h. keeps_coll e e' (ke h) p p' (kp h) (kq h) kind.Set)
         (keeps_opening i j (λ h. keeps_coll e e' (ke h) p p' (kp h) (kq h) kind.Bag)

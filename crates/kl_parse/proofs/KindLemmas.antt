@@ -16,7 +16,6 @@ use Rattle.kl_lex.specs.declared.keyword.Keyword.{Keyword}
 use Rattle.kl_lex.specs.declared.keyword.Keyword.TheVariants as key
 use Rattle.kl_lex.specs.contracts.keyword.Keyword as key_type
 use Rattle.kl_parse.specs.declared.operator.Level.{Level}
-use Rattle.kl_parse.specs.declared.operator.Level.TheVariants as level
 use Rattle.kl_parse.specs.contracts.operator.Level as level_type
 use Rattle.kl_syntax.specs.declared.tree.Op.{Op}
 use Rattle.kl_syntax.specs.declared.tree.Op.TheVariants as op

@@ -1,5 +1,7 @@
 -- The readers of each level of expressions read that level.
-use Rattle.std.proofs.Common.{◌≡◌, ℕ, Bool, true, IsTrue, List, Option, Some, None, inl, inr, refl}
+use Rattle.std.proofs.Common.{◌≡◌, ℕ, Bool, true, IsTrue, List, [], ◌∷◌, Option, Some, None, inl, inr, refl, sym, ap, ◌∙◌}
+use Rattle.std.proofs.lemmas.Bool.{false≢true}
+use Rattle.std.proofs.lemmas.List.{append-nil}
 use Rattle.kl_lex.specs.declared.token.Sym.TheVariants as sy
 use Rattle.kl_lex.specs.declared.token.Token.{Token}
 use Rattle.kl_value.specs.declared.value.Kind.TheVariants as kind
@@ -12,15 +14,15 @@ use Rattle.kl_syntax.specs.declared.tree.Expr.TheVariants as expr
 use Rattle.kl_syntax.specs.declared.tree.Qual.TheVariants as qual
 use Rattle.kl_syntax.specs.declared.tree.Pattern.{Pattern}
 use Rattle.kl_syntax.specs.declared.tree.Branch.{Branch}
-use Rattle.kl_parse.specs.Lexemes.{Symbol, Key, Label, IsLeast, AnOp}
-use Rattle.kl_parse.specs.Grammar.{chain_of, compare_of, Chained, Args, If, Let, Named, Least, Prim, Post, Un, Mul, Add, Compare, Not, And, Ors, Whole, Sort, whole, negated, signed, added, of_sort}
+use Rattle.kl_parse.specs.Lexemes.{Symbol, Key, Label, Name, Constant, IsLeast, AnOp}
+use Rattle.kl_parse.specs.Grammar.{name_of, path_of, chain_of, compare_of, Chained, Args, Group, Unsigned, Rec, Inject, Coll, Case, If, Let, Named, Least, Prim, Post, Un, Mul, Add, Compare, Not, And, Ors, Whole, Sort, whole, negated, signed, added, of_sort}
 use Rattle.kl_parse.specs.Kinds.{among, is_symbol, one_symbol, one_key, name_kinds, constant_kinds, big_kinds, op_kinds}
 use Rattle.kl_parse.specs.Descent as d
-use Rattle.kl_parse.proofs.KindLemmas.{all_of, none_of, decides_constant, decides_least, decides_op, on_least, on_symbol, on_op, has_symbol, has_label, has_least}
+use Rattle.kl_parse.proofs.KindLemmas.{all_of, none_of, is_symbol_of, decides_constant, decides_least, decides_op, on_least, on_symbol, on_op, has_symbol, has_label, has_name, has_least}
 use Rattle.kl_parse.proofs.PatGoods.{Free, good_label, good_name, off, stop, past, past_key}
 use Rattle.kl_parse.proofs.ExprFirsts.{goes_prim, goes_path, goes_mul, goes_add, goes_compare, goes_and, goes_whole, on_args, on_constants, on_group, on_rec, on_inject, on_coll, on_case, on_named, on_let, on_if, on_not, prim2, prim3, prim4, prim5, prim6, prim7, prim8, prim_kinds, un_kinds, not_kinds, if_kinds, whole_kinds, Prim2, Prim3, Prim4, Prim5, Prim6, Prim7, Prim8, on2, on3, on4, on5, on6, on7, on8, Minus, on_path, on_compare, on_ors, Iffy, on_iffy, Second}
 use Rattle.kl_parse.proofs.ExprGoods.{looser, good_group, good_args, good_rec, good_inject, good_coll, good_case, good_if, good_let}
-use Rattle.kl_phrase.specs.Words.{Phrase, One, Nothing, Then, Behind, Many, Made, Or, Opened}
+use Rattle.kl_phrase.specs.Words.{heads, Phrase, One, Nothing, Then, Behind, Many, Made, Or, Optional, Opened}
 use Rattle.kl_phrase.specs.Readers.{Reader, bad, behind, made, pick}
 use Rattle.kl_phrase.specs.Refusals.{opened_by}
 use Rattle.kl_phrase.proofs.Theory.{Good, On, Has, To, good_one, good_nothing, good_made, good_both, good_pick, good_same, good_follow, good_many, meets_many, on_behind, has_behind}
@@ -63,6 +65,27 @@ has_sort negated = has_not
 has_sort signed = has_un
 has_sort added = has_add
 
+-- and some text that begins with no minus
+pub has_unsigned : (may : Bool) (P : Phrase Token Pattern) (E N U A : Phrase Token Expr) (B : Phrase Token Branch) → Has (Unsigned (Un may P E N U A B))
+has_unsigned may P E N U A B n =
+    let a = has_path n in
+    (a.0, a.1, (inr (inr a.2), λ t more e w. (let h : among prim_kinds t ≡ true = ap (heads (among prim_kinds)) (sym e ∙ sym (append-nil a.1)) ∙ on_path may P E N U A B n a.0 a.1 [] a.2 in false≢true (sym (stop prim_kinds (one_symbol sy.Sub) refl (t ∷ []) h) ∙ is_symbol_of sy.Sub t w))))
+  where
+    has_prim : Has (Prim may P E N U A B)
+    has_prim =
+        has_right (Made expr.Const Constant) (Prim2 may P E N U A B)
+        (has_right (Opened may (Group E)) (Prim3 may P E N U A B)
+        (has_right (Opened may (Rec E U)) (Prim4 may P E N U A B)
+        (has_right (Opened may (Inject A)) (Prim5 may P E N U A B)
+        (has_right (Opened may (Coll P E kind.Set)) (Prim6 may P E N U A B)
+        (has_right (Opened may (Coll P E kind.Bag)) (Prim7 may P E N U A B)
+        (has_right (Opened may (Coll P E kind.List)) (Prim8 may P E N U A B)
+        (has_right (Opened may (Case E B)) (Named may E)
+        (has_made name_of (Then Name (Optional None (Opened may (Made Some (Args E))))) (has_then Name (Optional None (Opened may (Made Some (Args E)))) has_name (has_right (Opened may (Made Some (Args E))) (Nothing None) (has_nothing None)))))))))))
+
+    has_path : Has (Post may P E N U A B)
+    has_path = has_made path_of (Then (Prim may P E N U A B) (Many (Behind (Symbol sy.Dot) Label))) (has_then (Prim may P E N U A B) (Many (Behind (Symbol sy.Dot) Label)) has_prim (has_many (Behind (Symbol sy.Dot) Label)))
+
 -- what may go on behind a sort
 abbrev pub goes_of : Sort → List ℕ
 goes_of whole = goes_whole
@@ -82,7 +105,7 @@ good_chained l goes more {S} {W} none gin lin good has_in =
 
 module _ (M : ℕ) (may can : Bool) (imp : IsTrue may → IsTrue can) (P PW : Phrase Token Pattern) (E N U A EW NW UW AW : Phrase Token Expr) (B BW : Phrase Token Branch) (p : Reader Token Pattern) (e n u a : Reader Token Expr) (b : Reader Token Branch)
     (gp : IsTrue may → Good M P PW Free p) (ge : IsTrue may → Good M E EW (Stops (among goes_whole)) e) (gn : IsTrue may → Good M N NW (Stops (among goes_compare)) n) (gu : IsTrue may → Good M U UW (Stops (among goes_path)) u) (ga : IsTrue may → Good M A AW (Stops (among goes_add)) a) (gb : IsTrue may → Good M B BW (Stops (among goes_whole)) b)
-    (hp : IsTrue may → Has PW) (he : IsTrue may → Has EW) (hn : IsTrue may → Has NW) (ha : IsTrue may → Has AW) (hb : IsTrue may → Has BW) (on_e : On (among whole_kinds) E) (on_u : On (among un_kinds) U) (flat_p : IsTrue may → (ts : List Token) → Flat (d.drawn p ts)) (flat_q : IsTrue may → (ts : List Token) → Flat (made qual.Cond (d.condition e) ts)) (apart : IsTrue may → Apart M (d.drawn p) (made qual.Cond (d.condition e))) where
+    (hp : IsTrue may → Has PW) (he : IsTrue may → Has EW) (hn : IsTrue may → Has NW) (ha : IsTrue may → Has AW) (hu : IsTrue may → Has (Unsigned UW)) (hb : IsTrue may → Has BW) (on_e : On (among whole_kinds) E) (on_u : On (among un_kinds) U) (flat_p : IsTrue may → (ts : List Token) → Flat (d.drawn p ts)) (flat_q : IsTrue may → (ts : List Token) → Flat (made qual.Cond (d.condition e) ts)) (apart : IsTrue may → Apart M (d.drawn p) (made qual.Cond (d.condition e))) where
   freely : {X : Type 0} {S V : Phrase Token X} {r : Reader Token X} (kinds : List ℕ) → Good M S V Free r → Good M S V (Stops (among kinds)) r
   freely kinds g = good_follow (Stops (among kinds)) (λ v h. tt) g
 
@@ -98,7 +121,7 @@ module _ (M : ℕ) (may can : Bool) (imp : IsTrue may → IsTrue can) (P PW : Ph
   good_prim =
       good_pick (good_made (good_one decides_constant))
       (good_opening_by {may = may} {can = can} imp (λ i. freely goes_prim (good_group M E EW e (ge i) (he i)))
-      (good_opening_by {may = may} {can = can} imp (λ i. freely goes_prim (good_rec M E EW e (ge i) (he i)))
+      (good_opening_by {may = may} {can = can} imp (λ i. freely goes_prim (good_rec M E EW U UW e u (ge i) (he i) (gu i) (hu i) on_u))
       (good_opening_by {may = may} {can = can} imp (λ i. freely goes_prim (good_inject M A AW a (ga i) (ha i)))
       (good_opening_by {may = may} {can = can} imp (λ i. freely goes_prim (good_coll M P PW p (gp i) (hp i) E EW e (ge i) (he i) on_e (flat_p i) (flat_q i) (apart i) kind.Set))
       (good_opening_by {may = may} {can = can} imp (λ i. freely goes_prim (good_coll M P PW p (gp i) (hp i) E EW e (ge i) (he i) on_e (flat_p i) (flat_q i) (apart i) kind.Bag))
@@ -109,7 +132,7 @@ module _ (M : ℕ) (may can : Bool) (imp : IsTrue may → IsTrue can) (P PW : Ph
       (on_coll P E kind.Bag) (off (Prim7 may P E N U A B) prim7 (one_symbol sy.OpenBag) (Stops (among goes_prim)) refl (on7 may P E N U A B)))
       (on_coll P E kind.Set) (off (Prim6 may P E N U A B) prim6 (one_symbol sy.OpenSet) (Stops (among goes_prim)) refl (on6 may P E N U A B)))
       (on_inject A) (off (Prim5 may P E N U A B) prim5 (one_symbol sy.Lt) (Stops (among goes_prim)) refl (on5 may P E N U A B)))
-      (on_rec E) (off (Prim4 may P E N U A B) prim4 (one_symbol sy.OpenRec) (Stops (among goes_prim)) refl (on4 may P E N U A B)))
+      (on_rec E U) (off (Prim4 may P E N U A B) prim4 (one_symbol sy.OpenRec) (Stops (among goes_prim)) refl (on4 may P E N U A B)))
       (on_group E) (off (Prim3 may P E N U A B) prim3 (one_symbol sy.OpenPar) (Stops (among goes_prim)) refl (on3 may P E N U A B)))
       on_constants (off (Prim2 may P E N U A B) prim2 constant_kinds (Stops (among goes_prim)) refl (on2 may P E N U A B))
 

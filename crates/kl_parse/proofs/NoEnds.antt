@@ -17,6 +17,7 @@ use Rattle.kl_syntax.specs.declared.tree.Op.{Op}
 use Rattle.kl_syntax.specs.declared.tree.Op.TheVariants as op
 use Rattle.kl_syntax.specs.declared.tree.Pattern.{Pattern}
 use Rattle.kl_syntax.specs.declared.tree.Pattern.TheVariants as pattern
+use Rattle.kl_syntax.specs.declared.tree.Tail.TheVariants as tail
 use Rattle.kl_syntax.specs.declared.tree.Expr.{Expr}
 use Rattle.kl_syntax.specs.declared.tree.Expr.TheVariants as expr
 use Rattle.kl_syntax.specs.declared.tree.Qual.TheVariants as qual
@@ -24,7 +25,7 @@ use Rattle.kl_syntax.specs.declared.tree.Branch.{Branch}
 use Rattle.kl_lex.specs.Keywords.{keyword_of}
 use Rattle.kl_phrase.specs.Depth.{opens}
 use Rattle.kl_parse.specs.Lexemes.{IsSymbol, Symbol, IsKey, Key, IsLabel, IsName, IsConstant, Constant, IsLeast, IsNegative, word_of, Label, Name, written, IsOp, AnOp}
-use Rattle.kl_parse.specs.Grammar.{is_of, variant_of, shape_of, name_of, inject_of, gen_of, comp_of, case_of, path_of, chain_of, compare_of, let_of, if_of, branch_of, function_of, constant_of, BindPat, AnyPat, NegativePat, ConstantPat, SamePat, Simple, PatField, ShapeFields, ShapeDots, PatRec, PatVariant, Pat, ReadsPat, Chained, Exprs, Args, Group, Field, Rec, Inject, Otherwise, If, AQual, Inside, Coll, Let, Case, Named, Least, Prim, Post, Un, Mul, Add, Compare, Not, And, Ors, ABranch, Sort, whole, negated, signed, added, of_sort, PatInside, Reads, Body}
+use Rattle.kl_parse.specs.Grammar.{is_of, variant_of, shape_of, name_of, record_of, inject_of, gen_of, comp_of, case_of, path_of, chain_of, compare_of, let_of, if_of, branch_of, function_of, constant_of, BindPat, AnyPat, NegativePat, ConstantPat, SamePat, Simple, PatField, Others, ShapeFields, ShapeDots, PatRec, PatVariant, Pat, ReadsPat, Chained, Exprs, Args, Group, Field, Unsigned, Fields, Rec, Inject, Otherwise, If, AQual, Inside, Coll, Let, Case, Named, Least, Prim, Post, Un, Mul, Add, Compare, Not, And, Ors, ABranch, Sort, whole, negated, signed, added, of_sort, PatInside, Reads, Body}
 use Rattle.kl_parse.specs.Kinds.{has, kind_at, word_kind, is_symbol, one_symbol}
 use Rattle.kl_parse.proofs.ExprFirsts.{InLet, InIf, InCase, Prim2, Prim3, Prim4, Prim5, Prim6, Prim7, Prim8, Minus, Iffy, Second}
 use Rattle.kl_phrase.specs.Words.{Phrase, One, Nothing, Numbered, Then, Behind, Before, Many, Made, Or, Optional, Opened, Never, Parted, Tailed}
@@ -121,6 +122,9 @@ simple =
     (each_or NegativePat (Or ConstantPat SamePat) (each_made is_of (Numbered (Behind (Symbol sy.Sub) (One IsNegative))) (each_numbered (Behind (Symbol sy.Sub) (One IsNegative)) (past sy.Sub (One IsNegative) refl negative)))
     (each_or ConstantPat SamePat (each_made is_of (Numbered Constant) (each_numbered Constant constant)) (each_made pattern.Same Name name))))
 
+others : NoEnd Others
+others = past sy.Dots (Optional tail.Open (Made tail.Rest (Behind (Symbol sy.Bind) Name))) refl (each_or (Made tail.Rest (Behind (Symbol sy.Bind) Name)) (Nothing tail.Open) (each_made tail.Rest (Behind (Symbol sy.Bind) Name) (past sy.Bind Name refl name)) (empty tail.Open))
+
 pat_field : (P : Phrase Token Pattern) → NoEnd P → NoEnd (PatField P)
 pat_field P f = pair Label (Behind (Symbol sy.Eq) P) label (past sy.Eq P refl f)
 
@@ -130,12 +134,12 @@ pat_variant P f = past sy.Lt (Before (PatField P) (Symbol sy.Gt)) refl (shut sy.
 pat : (may : Bool) (P : Phrase Token Pattern) → NoEnd P → NoEnd (Pat P may)
 pat may P f =
     each_or (Opened may (Made variant_of (PatVariant P))) (Or (Opened may (PatRec P)) Simple) (each_opened may (Made variant_of (PatVariant P)) (each_made variant_of (PatVariant P) (pat_variant P f)))
-    (each_or (Opened may (PatRec P)) Simple (each_opened may (PatRec P) (past sy.OpenRec (Before (Or (ShapeFields P) (Or (ShapeDots P) (Nothing (pattern.Rec [] false)))) (Symbol sy.CloseRec)) refl (shut sy.CloseRec (Or (ShapeFields P) (Or (ShapeDots P) (Nothing (pattern.Rec [] false)))) refl inside))) simple)
+    (each_or (Opened may (PatRec P)) Simple (each_opened may (PatRec P) (past sy.OpenRec (Before (Or (ShapeFields P) (Or (ShapeDots P) (Nothing (pattern.Rec [] tail.Exact)))) (Symbol sy.CloseRec)) refl (shut sy.CloseRec (Or (ShapeFields P) (Or (ShapeDots P) (Nothing (pattern.Rec [] tail.Exact)))) refl inside))) simple)
   where
-    inside : NoEnd (Or (ShapeFields P) (Or (ShapeDots P) (Nothing (pattern.Rec [] false))))
+    inside : NoEnd (Or (ShapeFields P) (Or (ShapeDots P) (Nothing (pattern.Rec [] tail.Exact))))
     inside =
-        each_or (ShapeFields P) (Or (ShapeDots P) (Nothing (pattern.Rec [] false))) (each_made shape_of (Then (PatField P) (Tailed (Symbol sy.Comma) (PatField P) (Symbol sy.Dots))) (pair (PatField P) (Tailed (Symbol sy.Comma) (PatField P) (Symbol sy.Dots)) (pat_field P f) (each_tailed (None semi) closed (Symbol sy.Comma) (PatField P) (Symbol sy.Dots) (symbol sy.Comma refl) (pat_field P f) (symbol sy.Dots refl))))
-        (each_or (ShapeDots P) (Nothing (pattern.Rec [] false)) (each_made (λ _. pattern.Rec [] true) (Symbol sy.Dots) (symbol sy.Dots refl)) (empty (pattern.Rec [] false)))
+        each_or (ShapeFields P) (Or (ShapeDots P) (Nothing (pattern.Rec [] tail.Exact))) (each_made shape_of (Then (PatField P) (Tailed (Symbol sy.Comma) (PatField P) Others)) (pair (PatField P) (Tailed (Symbol sy.Comma) (PatField P) Others) (pat_field P f) (each_tailed (None semi) closed (Symbol sy.Comma) (PatField P) Others (symbol sy.Comma refl) (pat_field P f) others)))
+        (each_or (ShapeDots P) (Nothing (pattern.Rec [] tail.Exact)) (each_made (pattern.Rec []) Others others) (empty (pattern.Rec [] tail.Exact)))
 
 nothing_there : {A : Type 0} → NoEnd {A = A} Never
 nothing_there n a u s = absurd s
@@ -166,8 +170,15 @@ module _ (E : Phrase Token Expr) (fe : NoEnd E) where
   field : NoEnd (Field E)
   field = pair Label (Behind (Symbol sy.Eq) E) label (past sy.Eq E refl fe)
 
-  record_of : NoEnd (Rec E)
-  record_of = each_made expr.Rec (Behind (Symbol sy.OpenRec) (Before (Optional [] (Parted (Symbol sy.Comma) (Field E))) (Symbol sy.CloseRec))) (past sy.OpenRec (Before (Optional [] (Parted (Symbol sy.Comma) (Field E))) (Symbol sy.CloseRec)) refl (shut sy.CloseRec (Optional [] (Parted (Symbol sy.Comma) (Field E))) refl (each_or (Parted (Symbol sy.Comma) (Field E)) (Nothing []) (list (Field E) field) (empty []))))
+  fields_of : (U : Phrase Token Expr) → NoEnd U → NoEnd (Rec E U)
+  fields_of U fu =
+      past sy.OpenRec (Before (Optional (expr.Rec []) (Fields E U)) (Symbol sy.CloseRec)) refl
+      (shut sy.CloseRec (Optional (expr.Rec []) (Fields E U)) refl
+      (each_or (Fields E U) (Nothing (expr.Rec []))
+      (each_made record_of (Then (Field E) (Tailed (Symbol sy.Comma) (Field E) (Behind (Symbol sy.Dots) (Unsigned U))))
+      (pair (Field E) (Tailed (Symbol sy.Comma) (Field E) (Behind (Symbol sy.Dots) (Unsigned U))) field
+      (each_tailed (None semi) closed (Symbol sy.Comma) (Field E) (Behind (Symbol sy.Dots) (Unsigned U)) (symbol sy.Comma refl) field (past sy.Dots (Unsigned U) refl (λ n a u s. fu n a u s.0)))))
+      (empty (expr.Rec []))))
 
   inject : NoEnd (Inject E)
   inject = each_made inject_of (Behind (Symbol sy.Lt) (Before (Field E) (Symbol sy.Gt))) (past sy.Lt (Before (Field E) (Symbol sy.Gt)) refl (shut sy.Gt (Field E) refl field))
@@ -210,7 +221,7 @@ module _ (may : Bool) (P : Phrase Token Pattern) (E N U A : Phrase Token Expr) (
   prim =
       each_or (Made expr.Const Constant) (Prim2 may P E N U A B) (each_made expr.Const Constant constant)
       (each_or (Opened may (Group E)) (Prim3 may P E N U A B) (each_opened may (Group E) (group E fe))
-      (each_or (Opened may (Rec E)) (Prim4 may P E N U A B) (each_opened may (Rec E) (record_of E fe))
+      (each_or (Opened may (Rec E U)) (Prim4 may P E N U A B) (each_opened may (Rec E U) (fields_of E fe U fu))
       (each_or (Opened may (Inject A)) (Prim5 may P E N U A B) (each_opened may (Inject A) (inject A fa))
       (each_or (Opened may (Coll P E kind.Set)) (Prim6 may P E N U A B) (each_opened may (Coll P E kind.Set) (coll E fe P fp kind.Set))
       (each_or (Opened may (Coll P E kind.Bag)) (Prim7 may P E N U A B) (each_opened may (Coll P E kind.Bag) (coll E fe P fp kind.Bag))

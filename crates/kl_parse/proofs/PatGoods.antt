@@ -6,12 +6,13 @@ use Rattle.kl_lex.specs.declared.token.Token.{Token}
 use Rattle.kl_lex.specs.declared.keyword.Keyword.{Keyword}
 use Rattle.kl_syntax.specs.declared.tree.Pattern.{Pattern}
 use Rattle.kl_syntax.specs.declared.tree.Pattern.TheVariants as pattern
+use Rattle.kl_syntax.specs.declared.tree.Tail.TheVariants as tail
 use Rattle.kl_parse.specs.Lexemes.{Symbol, Key, IsLabel, IsName, Constant, IsNegative, word_of, Label, Name}
-use Rattle.kl_parse.specs.Grammar.{is_of, variant_of, shape_of, BindPat, AnyPat, NegativePat, ConstantPat, SamePat, Simple, PatField, ShapeFields, ShapeDots, PatRec, PatVariant, Pat, ReadsPat}
+use Rattle.kl_parse.specs.Grammar.{is_of, variant_of, shape_of, BindPat, AnyPat, NegativePat, ConstantPat, SamePat, Simple, PatField, Others, ShapeFields, ShapeDots, PatRec, PatVariant, Pat, ReadsPat}
 use Rattle.kl_parse.specs.Kinds.{has, among, is_symbol, one_symbol, name_kinds, label_kinds, constant_kinds}
 use Rattle.kl_parse.specs.Descent as d
 use Rattle.kl_parse.proofs.KindLemmas.{all_of, none_of, within, without, decides_symbol, decides_key, decides_label, decides_name, decides_constant, decides_negative, on_symbol, on_label, on_name, on_constant, has_symbol, has_label, has_name, has_negative}
-use Rattle.kl_phrase.specs.Words.{Phrase, One, Nothing, Numbered, Then, Behind, Before, Made, Or, Opened, Never, Tailed}
+use Rattle.kl_phrase.specs.Words.{Phrase, One, Nothing, Numbered, Then, Behind, Before, Made, Or, Optional, Opened, Never, Tailed}
 use Rattle.kl_phrase.specs.Readers.{Reader, bad, made, both, behind, before}
 use Rattle.kl_phrase.proofs.Theory.{Good, On, Off, Has, good_one, good_nothing, good_numbered, good_made, good_both, good_behind, good_before, good_pick, good_follow, on_behind, has_behind, no}
 use Rattle.kl_phrase.proofs.Firsts.{Stops, Heads, on_or, on_made, on_then, on_numbered, on_opened, on_within, off_on, off_or, off_nothing, meets_on, heads_without, has_made, has_then, has_before, has_left, has_right, has_nothing}
@@ -122,7 +123,15 @@ has_simple = has_right BindPat (Or AnyPat (Or NegativePat (Or ConstantPat SamePa
 -- ---- patterns inside brackets
 
 abbrev Shape : Phrase Token Pattern → Phrase Token Pattern
-Shape P = Or (ShapeFields P) (Or (ShapeDots P) (Nothing (pattern.Rec [] false)))
+Shape P = Or (ShapeFields P) (Or (ShapeDots P) (Nothing (pattern.Rec [] tail.Exact)))
+
+on_others : On (is_symbol sy.Dots) Others
+on_others = on_behind (is_symbol sy.Dots) (Symbol sy.Dots) (Optional tail.Open (Made tail.Rest (Behind (Symbol sy.Bind) Name))) (on_symbol sy.Dots)
+
+good_others : {N : ℕ} → Good N Others Others (Stops (is_symbol sy.Bind)) (d.others N)
+good_others =
+    past sy.Dots (good_pick (good_made (past sy.Bind good_name has_name)) good_nothing (on_made (is_symbol sy.Bind) tail.Rest (Behind (Symbol sy.Bind) Name) (on_behind (is_symbol sy.Bind) (Symbol sy.Bind) Name (on_symbol sy.Bind))) (off_nothing (is_symbol sy.Bind) tail.Open (Stops (is_symbol sy.Bind)) (λ v h. h)))
+    (has_right (Made tail.Rest (Behind (Symbol sy.Bind) Name)) (Nothing tail.Open) (has_nothing tail.Open))
 
 on_pat_field : (P : Phrase Token Pattern) → On (among label_kinds) (PatField P)
 on_pat_field P = on_then (among label_kinds) Label (Behind (Symbol sy.Eq) P) starts_label
@@ -146,28 +155,29 @@ module _ (N : ℕ) (P W : Phrase Token Pattern) (p : Reader Token Pattern) (good
   pub has_pat_field : Has (PatField W)
   has_pat_field = has_then Label (Behind (Symbol sy.Eq) W) has_label (has_behind (Symbol sy.Eq) W (has_symbol sy.Eq) has_in)
 
-  good_shape_fields : Good N (ShapeFields P) (ShapeFields W) (Stops (is_symbol sy.Comma)) (made shape_of (both (d.pat_field N p) (d.pat_fields N p)))
-  good_shape_fields = good_made (good_both {C = Free} good_pat_field (good_tailed (is_symbol sy.Comma) (is_symbol sy.Dots) (good_symbol sy.Comma Free) good_pat_field (good_symbol sy.Dots Free) (on_symbol sy.Comma) (on_symbol sy.Dots) (off (PatField P) label_kinds (one_symbol sy.Dots) Free refl (on_pat_field P)) has_pat_field)
-      (has_tailed (Symbol sy.Comma) (PatField W) (Symbol sy.Dots)) (λ n b y v r h. tt))
+  good_shape_fields : Good N (ShapeFields P) (ShapeFields W) (Heads (is_symbol sy.CloseRec)) (made shape_of (both (d.pat_field N p) (d.pat_fields N p)))
+  good_shape_fields = good_made (good_both {C = Free} good_pat_field (good_tailed (is_symbol sy.Comma) (is_symbol sy.Dots) (good_symbol sy.Comma Free) (good_follow (Stops (is_symbol sy.Bind)) (λ v h. tt) good_pat_field) good_others (on_symbol sy.Comma) on_others (off (PatField P) label_kinds (one_symbol sy.Dots) (Stops (is_symbol sy.Bind)) refl (on_pat_field P)) has_pat_field
+      (stop (one_symbol sy.Comma) (one_symbol sy.Bind) refl) (λ v h. (stop (one_symbol sy.CloseRec) (one_symbol sy.Bind) refl v h, stop (one_symbol sy.CloseRec) (one_symbol sy.Comma) refl v h)))
+      (has_tailed (Symbol sy.Comma) (PatField W) Others) (λ n b y v r h. tt))
 
   on_shape_fields : On (among label_kinds) (ShapeFields P)
-  on_shape_fields = on_made (among label_kinds) shape_of (Then (PatField P) (Tailed (Symbol sy.Comma) (PatField P) (Symbol sy.Dots))) (on_then (among label_kinds) (PatField P) (Tailed (Symbol sy.Comma) (PatField P) (Symbol sy.Dots)) (on_pat_field P))
+  on_shape_fields = on_made (among label_kinds) shape_of (Then (PatField P) (Tailed (Symbol sy.Comma) (PatField P) Others)) (on_then (among label_kinds) (PatField P) (Tailed (Symbol sy.Comma) (PatField P) Others) (on_pat_field P))
 
   on_shape_dots : On (is_symbol sy.Dots) (ShapeDots P)
-  on_shape_dots = on_made (is_symbol sy.Dots) (λ _. pattern.Rec [] true) (Symbol sy.Dots) (on_symbol sy.Dots)
+  on_shape_dots = on_made (is_symbol sy.Dots) (pattern.Rec []) Others on_others
 
   good_shape : Good N (Shape P) (Shape W) (Heads (is_symbol sy.CloseRec)) (d.shape N p)
   good_shape =
-      good_pick (good_follow (Heads (is_symbol sy.CloseRec)) (stop (one_symbol sy.CloseRec) (one_symbol sy.Comma) refl) good_shape_fields)
-      (good_pick (good_made (good_symbol sy.Dots (Heads (is_symbol sy.CloseRec)))) good_nothing on_shape_dots (off_nothing (is_symbol sy.Dots) (pattern.Rec [] false) (Heads (is_symbol sy.CloseRec)) (stop (one_symbol sy.CloseRec) (one_symbol sy.Dots) refl)))
+      good_pick good_shape_fields
+      (good_pick (good_made (good_follow (Heads (is_symbol sy.CloseRec)) (stop (one_symbol sy.CloseRec) (one_symbol sy.Bind) refl) good_others)) good_nothing on_shape_dots (off_nothing (is_symbol sy.Dots) (pattern.Rec [] tail.Exact) (Heads (is_symbol sy.CloseRec)) (stop (one_symbol sy.CloseRec) (one_symbol sy.Dots) refl)))
       on_shape_fields
-      (off_or (among label_kinds) (ShapeDots P) (Nothing (pattern.Rec [] false)) (Heads (is_symbol sy.CloseRec)) (off (ShapeDots P) (one_symbol sy.Dots) label_kinds (Heads (is_symbol sy.CloseRec)) refl on_shape_dots) (off_nothing (among label_kinds) (pattern.Rec [] false) (Heads (is_symbol sy.CloseRec)) (stop (one_symbol sy.CloseRec) label_kinds refl)))
+      (off_or (among label_kinds) (ShapeDots P) (Nothing (pattern.Rec [] tail.Exact)) (Heads (is_symbol sy.CloseRec)) (off (ShapeDots P) (one_symbol sy.Dots) label_kinds (Heads (is_symbol sy.CloseRec)) refl on_shape_dots) (off_nothing (among label_kinds) (pattern.Rec [] tail.Exact) (Heads (is_symbol sy.CloseRec)) (stop (one_symbol sy.CloseRec) label_kinds refl)))
 
   good_in_shape : Good N (Before (Shape P) (Symbol sy.CloseRec)) (Before (Shape W) (Symbol sy.CloseRec)) Free (d.in_shape N p)
   good_in_shape = closes sy.CloseRec good_shape (λ v h. h)
 
   has_shape : Has (Before (Shape W) (Symbol sy.CloseRec))
-  has_shape = has_before (Shape W) (Symbol sy.CloseRec) (has_right (ShapeFields W) (Or (ShapeDots W) (Nothing (pattern.Rec [] false))) (has_right (ShapeDots W) (Nothing (pattern.Rec [] false)) (has_nothing (pattern.Rec [] false)))) (has_symbol sy.CloseRec)
+  has_shape = has_before (Shape W) (Symbol sy.CloseRec) (has_right (ShapeFields W) (Or (ShapeDots W) (Nothing (pattern.Rec [] tail.Exact))) (has_right (ShapeDots W) (Nothing (pattern.Rec [] tail.Exact)) (has_nothing (pattern.Rec [] tail.Exact)))) (has_symbol sy.CloseRec)
 
   good_rec : Good N (PatRec P) (PatRec W) Free (behind (d.mark sy.OpenRec) (d.in_shape N p))
   good_rec = past sy.OpenRec good_in_shape has_shape

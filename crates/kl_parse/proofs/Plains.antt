@@ -11,6 +11,7 @@ use Rattle.kl_parse.specs.declared.operator.Level.{Level}
 use Rattle.kl_parse.specs.declared.operator.Level.TheVariants as level
 use Rattle.kl_syntax.specs.declared.tree.Pattern.{Pattern}
 use Rattle.kl_syntax.specs.declared.tree.Pattern.TheVariants as pattern
+use Rattle.kl_syntax.specs.declared.tree.Tail.TheVariants as tail
 use Rattle.kl_syntax.specs.declared.tree.Expr.{Expr}
 use Rattle.kl_syntax.specs.declared.tree.Expr.TheVariants as expr
 use Rattle.kl_syntax.specs.declared.tree.Qual.TheVariants as qual
@@ -18,7 +19,7 @@ use Rattle.kl_syntax.specs.declared.tree.Branch.{Branch}
 use Rattle.kl_lex.specs.Brackets.{opener, closer}
 use Rattle.kl_phrase.specs.Depth.{opens}
 use Rattle.kl_parse.specs.Lexemes.{word_of}
-use Rattle.kl_parse.specs.Grammar.{is_of, variant_of, shape_of, name_of, inject_of, gen_of, comp_of, case_of, path_of, chain_of, compare_of, let_of, if_of, branch_of, misses, left_out, function_of, constant_of, decl_of, program_of, Sort, whole, negated, signed, added}
+use Rattle.kl_parse.specs.Grammar.{is_of, variant_of, shape_of, name_of, record_of, inject_of, gen_of, comp_of, case_of, path_of, chain_of, compare_of, let_of, if_of, branch_of, misses, left_out, function_of, constant_of, decl_of, program_of, Sort, whole, negated, signed, added}
 use Rattle.kl_parse.specs.Kinds.{among, is_symbol, a_symbol, a_key, a_label, a_name, a_constant, a_least, a_negative, an_op}
 use Rattle.kl_parse.specs.Descent as d
 use Rattle.kl_phrase.specs.Readers.{Why, bad, Reader, made}
@@ -49,12 +50,15 @@ module _ (v : Why) (N : ℕ) where
       (plain_pick (plain_made is_of (plain_numbered N (plain_behind (mark sy.Sub) (plain_one a_negative))))
       (plain_pick (plain_made is_of (plain_numbered N (plain_one a_constant))) (plain_made pattern.Same name))))
 
+  others : Plains (d.others N) (d.others N)
+  others = plain_behind (mark sy.Dots) (plain_pick (plain_made tail.Rest (plain_behind (mark sy.Bind) name)) (plain_nothing tail.Open))
+
   module _ (p q : Reader Token Pattern) (h : Plains p q) where
     pat_field : Plains (d.pat_field N p) (d.pat_field N q)
     pat_field = plain_both label (plain_behind (mark sy.Eq) h)
 
     in_shape : Plains (d.in_shape N p) (d.in_shape N q)
-    in_shape = plain_before (plain_pick (plain_made shape_of (plain_both pat_field (plain_tailed (is_symbol sy.Comma) (is_symbol sy.Dots) (mark sy.Comma) pat_field (mark sy.Dots)))) (plain_pick (plain_made (λ _. pattern.Rec [] true) (mark sy.Dots)) (plain_nothing (pattern.Rec [] false)))) (mark sy.CloseRec)
+    in_shape = plain_before (plain_pick (plain_made shape_of (plain_both pat_field (plain_tailed (is_symbol sy.Comma) (is_symbol sy.Dots) (mark sy.Comma) pat_field others))) (plain_pick (plain_made (pattern.Rec []) others) (plain_nothing (pattern.Rec [] tail.Exact)))) (mark sy.CloseRec)
 
     pat_variant : Plains (d.pat_variant N p) (d.pat_variant N q)
     pat_variant = plain_behind (mark sy.Lt) (plain_before pat_field (mark sy.Gt))
@@ -88,8 +92,8 @@ module _ (v : Why) (N : ℕ) where
     field : Plains (d.field N e) (d.field N e')
     field = plain_both label (plain_behind (mark sy.Eq) he)
 
-    in_rec : Plains (d.in_rec N e) (d.in_rec N e')
-    in_rec = plain_before (plain_pick (plain_parted (is_symbol sy.Comma) (mark sy.Comma) field) (plain_nothing [])) (mark sy.CloseRec)
+    in_rec : (u u' : Reader Token Expr) → Plains u u' → Plains (d.in_rec N e u) (d.in_rec N e' u')
+    in_rec u u' hu = plain_before (plain_pick (plain_made record_of (plain_both field (plain_tailed (is_symbol sy.Comma) (is_symbol sy.Dots) (mark sy.Comma) field (plain_behind (mark sy.Dots) (plain_pick (plain_failing bad) hu))))) (plain_nothing (expr.Rec []))) (mark sy.CloseRec)
 
     in_if : Plains (d.in_if e) (d.in_if e')
     in_if = plain_both (expr_before key.Then) (plain_both (expr_before key.Else) he)
@@ -136,7 +140,7 @@ module _ (v : Why) (N : ℕ) where
     prim =
         plain_pick (plain_made expr.Const (plain_one a_constant))
         (plain_pick (plain_opened_by v may (plain_behind (mark sy.OpenPar) (plain_before he (mark sy.ClosePar))))
-        (plain_pick (plain_opened_by v may (plain_made expr.Rec (plain_behind (mark sy.OpenRec) (in_rec e e' he))))
+        (plain_pick (plain_opened_by v may (plain_behind (mark sy.OpenRec) (in_rec e e' he u u' hu)))
         (plain_pick (plain_opened_by v may (plain_made inject_of (plain_behind (mark sy.Lt) (plain_before (field a a' ha) (mark sy.Gt)))))
         (plain_pick (plain_opened_by v may (coll e e' he p p' hp kind.Set))
         (plain_pick (plain_opened_by v may (coll e e' he p p' hp kind.Bag))

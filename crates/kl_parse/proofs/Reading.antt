@@ -13,13 +13,13 @@ use Rattle.kl_syntax.specs.declared.tree.Branch.{Branch}
 use Rattle.kl_parse.specs.Lexemes.{IsSymbol, Symbol, Key, Name}
 use Rattle.kl_phrase.specs.Depth.{opens}
 use Rattle.kl_phrase.specs.Fronts.{Missing}
-use Rattle.kl_parse.specs.Grammar.{branch_of, function_of, constant_of, decl_of, program_of, PatField, PatVariant, ReadsPat, ABranch, Reads, Sort, whole, negated, signed, added, PatInside, Body, ADecl, AProgram, ReadsProgram, is_number, is_text, misses, left_out, Begins, BeginsProgram}
+use Rattle.kl_parse.specs.Grammar.{branch_of, function_of, constant_of, decl_of, program_of, Unsigned, PatField, PatVariant, ReadsPat, ABranch, Reads, Sort, whole, negated, signed, added, PatInside, Body, ADecl, AProgram, ReadsProgram, is_number, is_text, misses, left_out, Begins, BeginsProgram}
 use Rattle.kl_parse.specs.Kinds.{among, is_symbol, is_key, one_symbol, one_key}
 use Rattle.kl_parse.specs.Descent as d
 use Rattle.kl_parse.proofs.KindLemmas.{symbol_of, on_symbol, on_key, has_symbol, has_name}
 use Rattle.kl_parse.proofs.PatGoods.{Free, good_name, stop, closes, past, past_key, good_variant, fields_in, has_reads_pat, good_pat_same, good_pat_up}
 use Rattle.kl_parse.proofs.ExprFirsts.{goes_whole, un_kinds, whole_kinds, on_un, on_whole}
-use Rattle.kl_parse.proofs.Levels.{has_sort, goes_of, good_sort}
+use Rattle.kl_parse.proofs.Levels.{has_sort, has_unsigned, goes_of, good_sort}
 use Rattle.kl_parse.proofs.Plains.{plain_pat_before, plain_reads, plain_begins, plain_condition, plain_constant}
 use Rattle.kl_parse.proofs.Scan.{Leads, passes_reads_pat, nothing_there, leads_sort, to_leads, never_both, ends_qual, ends_body, draws, arrows}
 use Rattle.kl_phrase.specs.Words.{heads, Phrase, Then, Behind, Before, Many, Made, Or, Never}
@@ -114,6 +114,10 @@ pub has_reads : (n : ℕ) (s : Sort) → Has (Reads n s)
 has_reads zero s = has_sort s false Never Never Never Never Never Never
 has_reads (suc n) s = has_sort s true (ReadsPat n) (Reads n whole) (Reads n negated) (Reads n signed) (Reads n added) (ABranch (opens n) (PatInside n) (Reads n whole))
 
+unsigned_reads : (n : ℕ) → Has (Unsigned (Reads n signed))
+unsigned_reads zero = has_unsigned false Never Never Never Never Never Never
+unsigned_reads (suc n) = has_unsigned true (ReadsPat n) (Reads n whole) (Reads n negated) (Reads n signed) (Reads n added) (ABranch (opens n) (PatInside n) (Reads n whole))
+
 on_reads : (n : ℕ) → On (among whole_kinds) (Reads n whole)
 on_reads zero = on_whole false Never Never Never Never Never Never
 on_reads (suc n) = on_whole true (ReadsPat n) (Reads n whole) (Reads n negated) (Reads n signed) (Reads n added) (ABranch (opens n) (PatInside n) (Reads n whole))
@@ -129,6 +133,10 @@ leads_reads (suc n) s = leads_sort true (ReadsPat n) (Reads n whole) (Reads n ne
 pub has_begins : (ts : List Token) (n : ℕ) (s : Sort) → Has (Begins ts n s)
 has_begins ts zero s = has_sort s false Never Never Never Never Never Never
 has_begins ts (suc n) s = has_sort s true (ReadsPat n) (Begins ts n whole) (Begins ts n negated) (Begins ts n signed) (Begins ts n added) (BranchOr ts n)
+
+unsigned_begins : (ts : List Token) (n : ℕ) → Has (Unsigned (Begins ts n signed))
+unsigned_begins ts zero = has_unsigned false Never Never Never Never Never Never
+unsigned_begins ts (suc n) = has_unsigned true (ReadsPat n) (Begins ts n whole) (Begins ts n negated) (Begins ts n signed) (Begins ts n added) (BranchOr ts n)
 
 on_begins : (ts : List Token) (n : ℕ) → On (among whole_kinds) (Begins ts n whole)
 on_begins ts zero = on_whole false Never Never Never Never Never Never
@@ -181,28 +189,28 @@ wide to g = good_same (λ n a u s. s) (λ n a u s. s) to g
 
 pub front_sort : (N : ℕ) (ts : List Token) (n : ℕ) (s : Sort) → Good N (Reads n s) (Begins ts n s) (Stops (among (goes_of s))) (d.reads_by N bad n s)
 unfolding d.reads_by d.begins_by
-front_sort N ts zero s = good_sort N false false (λ i. i) Never Never Never Never Never Never Never Never Never Never Never Never (d.never bad) (d.never bad) (d.never bad) (d.never bad) (d.never bad) (d.never bad) no no no no no no no no no no no (on_never whole_kinds) (on_never un_kinds) no no no s
+front_sort N ts zero s = good_sort N false false (λ i. i) Never Never Never Never Never Never Never Never Never Never Never Never (d.never bad) (d.never bad) (d.never bad) (d.never bad) (d.never bad) (d.never bad) no no no no no no no no no no no no (on_never whole_kinds) (on_never un_kinds) no no no s
 front_sort N ts (suc n) s = good_sort N true true (λ i. i) (ReadsPat n) (ReadsPat n) (Reads n whole) (Reads n negated) (Reads n signed) (Reads n added) (Begins ts n whole) (Begins ts n negated) (Begins ts n signed) (Begins ts n added) (ABranch (opens n) (PatInside n) (Reads n whole)) (BranchOr ts n) (d.pat_by N bad n) (d.reads_by N bad n whole) (d.reads_by N bad n negated) (d.reads_by N bad n signed) (d.reads_by N bad n added) (d.branch N bad (opens n) (d.inside_by N bad n) (d.reads_by N bad n whole))
     (λ i. good_pat_same N n) (λ i. front_sort N ts n whole) (λ i. front_sort N ts n negated) (λ i. front_sort N ts n signed) (λ i. front_sort N ts n added) (λ i. wide (λ m a u z. inr z) (good_way N n (opens n) (PatInside n) (Reads n whole) (Begins ts n whole) (d.reads_by N bad n whole) (λ i. i) (inside_same N n) (has_inside n) (front_sort N ts n whole) (has_begins ts n whole)))
-    (λ i. has_reads_pat n) (λ i. has_begins ts n whole) (λ i. has_begins ts n negated) (λ i. has_begins ts n added) (λ i. has_or ts n) (on_reads n) (signed_reads n)
+    (λ i. has_reads_pat n) (λ i. has_begins ts n whole) (λ i. has_begins ts n negated) (λ i. has_begins ts n added) (λ i. unsigned_begins ts n) (λ i. has_or ts n) (on_reads n) (signed_reads n)
     (λ i. flat_pat N n sy.Draw) (λ i. flat_of (plain_condition bad N (d.reads_by N bad n whole) (d.reads_by N bad n whole) (plain_reads bad N n whole))) (λ i. apart_qual N n (Reads n whole) (Begins ts n whole) (d.reads_by N bad n whole) (leads_reads n whole) (front_sort N ts n whole)) s
 
 pub loose_sort : (N : ℕ) (ts : List Token) (n : ℕ) (s : Sort) → Good N (Begins ts n s) (Begins ts n s) (Stops (among (goes_of s))) (d.begins_by N ts n s)
 unfolding d.reads_by d.begins_by
-loose_sort N ts zero s = good_sort N false false (λ i. i) Never Never Never Never Never Never Never Never Never Never Never Never (d.never bad) (d.never bad) (d.never bad) (d.never bad) (d.never bad) (d.never bad) no no no no no no no no no no no (on_never whole_kinds) (on_never un_kinds) no no no s
+loose_sort N ts zero s = good_sort N false false (λ i. i) Never Never Never Never Never Never Never Never Never Never Never Never (d.never bad) (d.never bad) (d.never bad) (d.never bad) (d.never bad) (d.never bad) no no no no no no no no no no no no (on_never whole_kinds) (on_never un_kinds) no no no s
 loose_sort N ts (suc n) s = good_sort N true true (λ i. i) (ReadsPat n) (ReadsPat n) (Begins ts n whole) (Begins ts n negated) (Begins ts n signed) (Begins ts n added) (Begins ts n whole) (Begins ts n negated) (Begins ts n signed) (Begins ts n added) (BranchOr ts n) (BranchOr ts n) (d.pat_by N bad n) (d.begins_by N ts n whole) (d.begins_by N ts n negated) (d.begins_by N ts n signed) (d.begins_by N ts n added) (d.branch_or N ts (d.branch N bad (opens n) (d.inside_by N bad n) (d.begins_by N ts n whole)))
     (λ i. good_pat_same N n) (λ i. loose_sort N ts n whole) (λ i. loose_sort N ts n negated) (λ i. loose_sort N ts n signed) (λ i. loose_sort N ts n added) (λ i. good_missing (misses ts) left_out (is_symbol sy.Lt) (no_branch ts) (good_way N n (opens n) (PatInside n) (Begins ts n whole) (Begins ts n whole) (d.begins_by N ts n whole) (λ i. i) (inside_same N n) (has_inside n) (loose_sort N ts n whole) (has_begins ts n whole)) (on_way n (Begins ts n whole)))
-    (λ i. has_reads_pat n) (λ i. has_begins ts n whole) (λ i. has_begins ts n negated) (λ i. has_begins ts n added) (λ i. has_or ts n) (on_begins ts n) (signed_begins ts n)
+    (λ i. has_reads_pat n) (λ i. has_begins ts n whole) (λ i. has_begins ts n negated) (λ i. has_begins ts n added) (λ i. unsigned_begins ts n) (λ i. has_or ts n) (on_begins ts n) (signed_begins ts n)
     (λ i. flat_pat N n sy.Draw) (λ i. flat_of (plain_condition bad N (d.begins_by N ts n whole) (d.begins_by N ts n whole) (plain_begins N ts n whole))) (λ i. apart_qual N n (Begins ts n whole) (Begins ts n whole) (d.begins_by N ts n whole) (leads_begins ts n whole) (loose_sort N ts n whole)) s
 
 -- and a whole one two deeper
 
 pub up_sort : (N : ℕ) (n : ℕ) (s : Sort) → Good N (Reads n s) (Reads (up n) s) (Stops (among (goes_of s))) (d.reads_by N bad n s)
 unfolding d.reads_by d.begins_by
-up_sort N zero s = good_sort N false true (λ i. refl) Never (ReadsPat 1) Never Never Never Never (Reads 1 whole) (Reads 1 negated) (Reads 1 signed) (Reads 1 added) Never (ABranch true (ReadsPat 0) (Reads 1 whole)) (d.never bad) (d.never bad) (d.never bad) (d.never bad) (d.never bad) (d.never bad) no no no no no no no no no no no (on_never whole_kinds) (on_never un_kinds) no no no s
+up_sort N zero s = good_sort N false true (λ i. refl) Never (ReadsPat 1) Never Never Never Never (Reads 1 whole) (Reads 1 negated) (Reads 1 signed) (Reads 1 added) Never (ABranch true (ReadsPat 0) (Reads 1 whole)) (d.never bad) (d.never bad) (d.never bad) (d.never bad) (d.never bad) (d.never bad) no no no no no no no no no no no no (on_never whole_kinds) (on_never un_kinds) no no no s
 up_sort N (suc n) s = good_sort N true true (λ i. i) (ReadsPat n) (ReadsPat (up n)) (Reads n whole) (Reads n negated) (Reads n signed) (Reads n added) (Reads (up n) whole) (Reads (up n) negated) (Reads (up n) signed) (Reads (up n) added) (ABranch (opens n) (PatInside n) (Reads n whole)) (ABranch true (ReadsPat (suc n)) (Reads (up n) whole)) (d.pat_by N bad n) (d.reads_by N bad n whole) (d.reads_by N bad n negated) (d.reads_by N bad n signed) (d.reads_by N bad n added) (d.branch N bad (opens n) (d.inside_by N bad n) (d.reads_by N bad n whole))
     (λ i. good_pat_up N n) (λ i. up_sort N n whole) (λ i. up_sort N n negated) (λ i. up_sort N n signed) (λ i. up_sort N n added) (λ i. good_way N n true (ReadsPat (suc n)) (Reads n whole) (Reads (up n) whole) (d.reads_by N bad n whole) (λ i. refl) (inside_up N n) (λ i. has_reads_pat (suc n)) (up_sort N n whole) (has_reads (up n) whole))
-    (λ i. has_reads_pat (up n)) (λ i. has_reads (up n) whole) (λ i. has_reads (up n) negated) (λ i. has_reads (up n) added) (λ i. has_branch (ReadsPat (suc n)) (Reads (up n) whole) (has_reads_pat (suc n)) (has_reads (up n) whole)) (on_reads n) (signed_reads n)
+    (λ i. has_reads_pat (up n)) (λ i. has_reads (up n) whole) (λ i. has_reads (up n) negated) (λ i. has_reads (up n) added) (λ i. unsigned_reads (up n)) (λ i. has_branch (ReadsPat (suc n)) (Reads (up n) whole) (has_reads_pat (suc n)) (has_reads (up n) whole)) (on_reads n) (signed_reads n)
     (λ i. flat_pat N n sy.Draw) (λ i. flat_of (plain_condition bad N (d.reads_by N bad n whole) (d.reads_by N bad n whole) (plain_reads bad N n whole))) (λ i. apart_qual N n (Reads n whole) (Reads (up n) whole) (d.reads_by N bad n whole) (leads_reads n whole) (up_sort N n whole)) s
 
 -- ---- programs

@@ -19,17 +19,18 @@ use Rattle.kl_syntax.specs.declared.tree.Expr.{Expr}
 use Rattle.kl_syntax.specs.declared.tree.Expr.TheVariants as expr
 use Rattle.kl_syntax.specs.declared.tree.Pattern.{Pattern}
 use Rattle.kl_syntax.specs.declared.tree.Pattern.TheVariants as pattern
+use Rattle.kl_syntax.specs.declared.tree.Tail.TheVariants as tail
 use Rattle.kl_syntax.specs.declared.tree.Branch.{Branch}
 use Rattle.kl_lex.specs.Keywords.{spelling, keyword_of}
 use Rattle.kl_parse.specs.Lexemes.{IsSymbol, Symbol, IsKey, Key, IsLabel, IsName, IsConstant, Constant, IsLeast, IsNegative, word_of, Label, Name, written, AnOp, IsOp}
-use Rattle.kl_parse.specs.Grammar.{is_of, variant_of, shape_of, name_of, inject_of, path_of, chain_of, compare_of, let_of, if_of, BindPat, AnyPat, NegativePat, ConstantPat, SamePat, Simple, PatField, ShapeFields, ShapeDots, PatRec, PatVariant, Pat, ReadsPat, Chained, Exprs, Args, Group, Field, Rec, Inject, If, Coll, Let, Case, Named, Least, Prim, Post, Un, Mul, Add, Compare, Not, And, Ors, Whole, Inside, whole, negated, signed, added, of_sort, Sort}
+use Rattle.kl_parse.specs.Grammar.{is_of, variant_of, shape_of, name_of, record_of, inject_of, path_of, chain_of, compare_of, let_of, if_of, BindPat, AnyPat, NegativePat, ConstantPat, SamePat, Simple, PatField, Others, ShapeFields, ShapeDots, PatRec, PatVariant, Pat, ReadsPat, Chained, Exprs, Args, Group, Field, Unsigned, Fields, Rec, Inject, If, Coll, Let, Case, Named, Least, Prim, Post, Un, Mul, Add, Compare, Not, And, Ors, Whole, Inside, whole, negated, signed, added, of_sort, Sort}
 use Rattle.kl_parse.specs.Kinds.{has, kind_at, among, is_symbol, one_symbol, symbol_kind}
 use Rattle.kl_parse.proofs.KindLemmas.{is_none, among_symbols, is_symbol_of}
 use Rattle.kl_parse.proofs.PatGoods.{stop}
 use Rattle.kl_parse.proofs.ExprFirsts.{InLet, InIf, whole_kinds, Prim2, Prim3, Prim4, Prim5, Prim6, Prim7, Prim8, Minus, Iffy, Second}
-use Rattle.kl_phrase.specs.Words.{heads, Phrase, One, Nothing, Numbered, Then, Behind, Before, Many, Made, Or, Optional, Opened, Never, Parted, Tailed}
+use Rattle.kl_phrase.specs.Words.{heads, Phrase, One, Nothing, Numbered, Then, Behind, Before, Many, Made, Or, Optional, Opened, Never, Tailed}
 use Rattle.kl_phrase.proofs.Theory.{On}
-use Rattle.kl_phrase.proofs.Spelled.{Closed, Each, each_one, each_nothing, each_then, each_behind, each_before, each_many, each_parted, each_tailed, each_made, each_numbered, each_or, each_opened}
+use Rattle.kl_phrase.proofs.Spelled.{Closed, Each, each_one, each_nothing, each_then, each_behind, each_before, each_many, each_tailed, each_made, each_numbered, each_or, each_opened}
 
 -- what a token is to the walk
 pub data Act : Type 0 where
@@ -172,18 +173,21 @@ bracketed S f n x ts (u, v, e, (t, et, ht), (u2, v2, e2, s, (c, ec, hc))) k w =
 passes_pat : (may : Bool) (P : Phrase Token Pattern) → Each Passes P → Each Passes (Pat P may)
 passes_pat may P f =
     each_or (Opened may (Made variant_of (PatVariant P))) (Or (Opened may (PatRec P)) Simple) (each_opened may (Made variant_of (PatVariant P)) (each_made variant_of (PatVariant P) (each_behind Passes closed_passes (Symbol sy.Lt) (Before (PatField P) (Symbol sy.Gt)) (passes_symbol sy.Lt refl) (each_before Passes closed_passes (PatField P) (Symbol sy.Gt) (passes_field P f) (passes_symbol sy.Gt refl)))))
-    (each_or (Opened may (PatRec P)) Simple (each_opened may (PatRec P) (bracketed (Or (ShapeFields P) (Or (ShapeDots P) (Nothing (pattern.Rec [] false)))) inside)) passes_simple)
+    (each_or (Opened may (PatRec P)) Simple (each_opened may (PatRec P) (bracketed (Or (ShapeFields P) (Or (ShapeDots P) (Nothing (pattern.Rec [] tail.Exact)))) inside)) passes_simple)
   where
-    dots : Each Inner (Symbol sy.Dots)
-    dots = to_inner (Symbol sy.Dots) (passes_symbol sy.Dots refl)
+    others : Each Inner Others
+    others =
+        to_inner Others
+        (each_behind Passes closed_passes (Symbol sy.Dots) (Optional tail.Open (Made tail.Rest (Behind (Symbol sy.Bind) Name))) (passes_symbol sy.Dots refl)
+        (each_or (Made tail.Rest (Behind (Symbol sy.Bind) Name)) (Nothing tail.Open) (each_made tail.Rest (Behind (Symbol sy.Bind) Name) (each_behind Passes closed_passes (Symbol sy.Bind) Name (passes_symbol sy.Bind refl) passes_name)) (each_nothing Passes closed_passes tail.Open)))
 
     field : Each Inner (PatField P)
     field = to_inner (PatField P) (passes_field P f)
 
-    inside : Each Inner (Or (ShapeFields P) (Or (ShapeDots P) (Nothing (pattern.Rec [] false))))
+    inside : Each Inner (Or (ShapeFields P) (Or (ShapeDots P) (Nothing (pattern.Rec [] tail.Exact))))
     inside =
-        each_or (ShapeFields P) (Or (ShapeDots P) (Nothing (pattern.Rec [] false))) (each_made shape_of (Then (PatField P) (Tailed (Symbol sy.Comma) (PatField P) (Symbol sy.Dots))) (each_then Inner closed_inner (PatField P) (Tailed (Symbol sy.Comma) (PatField P) (Symbol sy.Dots)) field (each_tailed Inner closed_inner (Symbol sy.Comma) (PatField P) (Symbol sy.Dots) inner_comma field dots)))
-        (each_or (ShapeDots P) (Nothing (pattern.Rec [] false)) (each_made (λ _. pattern.Rec [] true) (Symbol sy.Dots) dots) (each_nothing Inner closed_inner (pattern.Rec [] false)))
+        each_or (ShapeFields P) (Or (ShapeDots P) (Nothing (pattern.Rec [] tail.Exact))) (each_made shape_of (Then (PatField P) (Tailed (Symbol sy.Comma) (PatField P) Others)) (each_then Inner closed_inner (PatField P) (Tailed (Symbol sy.Comma) (PatField P) Others) field (each_tailed Inner closed_inner (Symbol sy.Comma) (PatField P) Others inner_comma field others)))
+        (each_or (ShapeDots P) (Nothing (pattern.Rec [] tail.Exact)) (each_made (pattern.Rec []) Others others) (each_nothing Inner closed_inner (pattern.Rec [] tail.Exact)))
 
 pub nothing_there : {A : Type 0} (P : List Token → Type 0) → Each {A = A} P Never
 nothing_there P n a u s = absurd s
@@ -267,11 +271,21 @@ module _ (may : Bool) (P : Phrase Token Pattern) (E N U A : Phrase Token Expr) (
   leads_named : Each Leads (Named may E)
   leads_named = each_made name_of (Then Name (Optional None (Opened may (Made Some (Args E))))) (each_then Leads closed_leads Name (Optional None (Opened may (Made Some (Args E)))) (to_leads Name passes_name) (each_or (Opened may (Made Some (Args E))) (Nothing None) (each_opened may (Made Some (Args E)) (each_made Some (Args E) (leads_yes sy.OpenPar (Before (Exprs E) (Symbol sy.ClosePar)) refl))) (each_nothing Leads closed_leads None)))
 
+  leads_rec : Each Leads (Rec E U)
+  leads_rec =
+      leads_bracketed (Optional (expr.Rec []) (Fields E U))
+      (each_or (Fields E U) (Nothing (expr.Rec []))
+      (each_made record_of (Then (Field E) (Tailed (Symbol sy.Comma) (Field E) (Behind (Symbol sy.Dots) (Unsigned U))))
+      (each_then Leads closed_leads (Field E) (Tailed (Symbol sy.Comma) (Field E) (Behind (Symbol sy.Dots) (Unsigned U))) (leads_field E fe)
+      (each_tailed Leads closed_leads (Symbol sy.Comma) (Field E) (Behind (Symbol sy.Dots) (Unsigned U)) leads_comma (leads_field E fe)
+      (each_behind Leads closed_leads (Symbol sy.Dots) (Unsigned U) (leads_symbol sy.Dots refl) (λ n a u s. fu n a u s.0)))))
+      (each_nothing Leads closed_leads (expr.Rec [])))
+
   leads_prim : Each Leads (Prim may P E N U A B)
   leads_prim =
       each_or (Made expr.Const Constant) (Prim2 may P E N U A B) (each_made expr.Const Constant (to_leads Constant passes_constant))
       (each_or (Opened may (Group E)) (Prim3 may P E N U A B) (each_opened may (Group E) (leads_yes sy.OpenPar (Before E (Symbol sy.ClosePar)) refl))
-      (each_or (Opened may (Rec E)) (Prim4 may P E N U A B) (each_opened may (Rec E) (each_made expr.Rec (Behind (Symbol sy.OpenRec) (Before (Optional [] (Parted (Symbol sy.Comma) (Field E))) (Symbol sy.CloseRec))) (leads_bracketed (Optional [] (Parted (Symbol sy.Comma) (Field E))) (each_or (Parted (Symbol sy.Comma) (Field E)) (Nothing []) (each_parted Leads closed_leads (Symbol sy.Comma) (Field E) leads_comma (leads_field E fe)) (each_nothing Leads closed_leads [])))))
+      (each_or (Opened may (Rec E U)) (Prim4 may P E N U A B) (each_opened may (Rec E U) leads_rec)
       (each_or (Opened may (Inject A)) (Prim5 may P E N U A B) (each_opened may (Inject A) (each_made inject_of (Behind (Symbol sy.Lt) (Before (Field A) (Symbol sy.Gt))) (each_behind Leads closed_leads (Symbol sy.Lt) (Before (Field A) (Symbol sy.Gt)) (leads_symbol sy.Lt refl) (each_before Leads closed_leads (Field A) (Symbol sy.Gt) (leads_field A fa) (leads_symbol sy.Gt refl)))))
       (each_or (Opened may (Coll P E kind.Set)) (Prim6 may P E N U A B) (each_opened may (Coll P E kind.Set) (leads_yes sy.OpenSet (Before (Inside P E kind.Set) (Symbol sy.CloseSet)) refl))
       (each_or (Opened may (Coll P E kind.Bag)) (Prim7 may P E N U A B) (each_opened may (Coll P E kind.Bag) (leads_yes sy.OpenBag (Before (Inside P E kind.Bag) (Symbol sy.CloseBag)) refl))

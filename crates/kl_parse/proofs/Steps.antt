@@ -1,5 +1,5 @@
 -- What the code's steps say of the descent.
-use Rattle.std.proofs.Common.{◌≡◌, ℕ, zero, suc, ◌<◌, Bool, true, false, List, [], ◌∷◌, ◌++◌, length, inl, inr, refl, ap, ◌∙◌}
+use Rattle.std.proofs.Common.{◌≡◌, ℕ, zero, suc, ◌<◌, true, false, List, [], ◌∷◌, ◌++◌, length, Option, Some, None, ◌⊎◌, inl, inr, refl, ap, ◌∙◌}
 use Rattle.kl_lex.specs.declared.token.Sym.{Sym}
 use Rattle.kl_lex.specs.declared.token.Sym.TheVariants as sy
 use Rattle.kl_lex.specs.declared.token.Token.{Token}
@@ -9,14 +9,15 @@ use Rattle.kl_phrase.specs.declared.fault.Fault.TheVariants as fault
 use Rattle.kl_syntax.specs.declared.tree.Word.{Word}
 use Rattle.kl_syntax.specs.declared.tree.Pattern.{Pattern}
 use Rattle.kl_syntax.specs.declared.tree.Pattern.TheVariants as pattern
+use Rattle.kl_syntax.specs.declared.tree.Tail.{Tail}
 use Rattle.kl_phrase.specs.Gives.{Fails}
 use Rattle.kl_phrase.specs.Depth.{opens}
-use Rattle.kl_parse.specs.Grammar.{variant_of, shape_of}
+use Rattle.kl_parse.specs.Grammar.{variant_of, shape_of, tail_of}
 use Rattle.kl_parse.specs.Kinds.{among, is_symbol, is_key, label_kinds}
 use Rattle.kl_parse.specs.Descent as d
 use Rattle.kl_parse.specs.Descent.{mark, word_mark}
 use Rattle.kl_phrase.specs.Words.{heads}
-use Rattle.kl_phrase.specs.Readers.{Why, bad, deep, Out, ok, fail, Reader, after, behind, turns, tails}
+use Rattle.kl_phrase.specs.Readers.{Why, bad, deep, Out, ok, fail, Reader, after, behind, turns, tail_turn, tails}
 use Rattle.kl_phrase.proofs.Kept.{Rests, rest_less}
 use Rattle.kl_phrase.proofs.Failures.{fails_after, fails_so}
 use Rattle.kl_phrase.proofs.Gathered.{Progress, goes_on, part_fails}
@@ -97,48 +98,65 @@ unfolding d.pat
 simple_at N n ts miss neither = pat_is N n ts ∙ rw (miss, neither) refl
 
 -- the fields of a record pattern, behind the first
-tails_shape : (a : Word × Pattern) (o : Out Token (List (Word × Pattern) × Bool)) → after {B = Pattern} (after {B = (Word × Pattern) × (List (Word × Pattern) × Bool)} o (λ b s. ok (a, b) s)) (λ x r. ok (shape_of x) r) ≡ after (after {B = List (Word × Pattern) × Bool} o (λ x r. ok ((a ∷ []) ++ x.0, x.1) r)) (λ x s. ok (pattern.Rec x.0 x.1) s)
+tails_shape : (a : Word × Pattern) (o : Out Token (List (Word × Pattern) × Option Tail)) → after {B = Pattern} (after {B = (Word × Pattern) × (List (Word × Pattern) × Option Tail)} o (λ b s. ok (a, b) s)) (λ x r. ok (shape_of x) r) ≡ after (after {B = List (Word × Pattern) × Option Tail} o (λ x r. ok ((a ∷ []) ++ x.0, x.1) r)) (λ x s. ok (pattern.Rec x.0 (tail_of x.1)) s)
 tails_shape a (ok x r) = refl
 tails_shape a (fail w r) = refl
 
-pub fields_at : (N : ℕ) (p : Reader Token Pattern) (ts rest : List Token) (a : Word × Pattern) → heads (among label_kinds) ts ≡ true → d.pat_field N p ts ≡ ok a rest → d.shape N p ts ≡ after (tails (d.pat_turn N p) (a ∷ []) rest) (λ x s. ok (pattern.Rec x.0 x.1) s)
+pub fields_at : (N : ℕ) (p : Reader Token Pattern) (ts rest : List Token) (a : Word × Pattern) → heads (among label_kinds) ts ≡ true → d.pat_field N p ts ≡ ok a rest → d.shape N p ts ≡ after (tails (d.pat_turn N p) (a ∷ []) rest) (λ x s. ok (pattern.Rec x.0 (tail_of x.1)) s)
 fields_at N p ts rest a h e = rw (h, e) (tails_shape a (turns (d.pat_turn N p) (suc (length rest)) rest))
 
 pub fields_fail : (N : ℕ) (p : Reader Token Pattern) (ts rest : List Token) (a : Word × Pattern) (f : Fault Token) → heads (among label_kinds) ts ≡ true → d.pat_field N p ts ≡ ok a rest → Fails f (tails (d.pat_turn N p) (a ∷ []) rest) → Fails f (d.shape N p ts)
-fields_fail N p ts rest a f h e i = fails_so f (d.shape N p ts) (after (tails (d.pat_turn N p) (a ∷ []) rest) (λ x s. ok (pattern.Rec x.0 x.1) s)) (fields_at N p ts rest a h e) (fails_after f (tails (d.pat_turn N p) (a ∷ []) rest) (λ x s. ok (pattern.Rec x.0 x.1) s) i)
+fields_fail N p ts rest a f h e i = fails_so f (d.shape N p ts) (after (tails (d.pat_turn N p) (a ∷ []) rest) (λ x s. ok (pattern.Rec x.0 (tail_of x.1)) s)) (fields_at N p ts rest a h e) (fails_after f (tails (d.pat_turn N p) (a ∷ []) rest) (λ x s. ok (pattern.Rec x.0 (tail_of x.1)) s) i)
 
--- a turn
-turn_item : (N : ℕ) (p : Reader Token Pattern) (rest more r : List Token) (a : Word × Pattern) → Ahead sy.Comma rest more → heads (is_symbol sy.Dots) more ≡ false → d.pat_field N p more ≡ ok a r → d.pat_turn N p rest ≡ ok (inl a) r
-turn_item N p rest more r a (t, e, h) miss i = rw (e, h, miss, i) refl
+pub fields_ok : (N : ℕ) (p : Reader Token Pattern) (ts rest r : List Token) (a : Word × Pattern) (fs : List (Word × Pattern)) (o : Option Tail) → heads (among label_kinds) ts ≡ true → d.pat_field N p ts ≡ ok a rest → tails (d.pat_turn N p) (a ∷ []) rest ≡ ok (fs, o) r → d.shape N p ts ≡ ok (pattern.Rec fs (tail_of o)) r
+fields_ok N p ts rest r a fs o h e i = fields_at N p ts rest a h e ∙ rw i refl
 
-turn_fails : (N : ℕ) (p : Reader Token Pattern) (rest more : List Token) (w : Why) (r : List Token) → Ahead sy.Comma rest more → heads (is_symbol sy.Dots) more ≡ false → d.pat_field N p more ≡ fail w r → d.pat_turn N p rest ≡ fail w r
-turn_fails N p rest more w r (t, e, h) miss i = rw (e, h, miss, i) refl
+-- ---- a list of parts behind commas, at whose end dots may stand, and what g reads behind them
 
-turn_dots : (N : ℕ) (p : Reader Token Pattern) (rest more after_dots : List Token) → Ahead sy.Comma rest more → Ahead sy.Dots more after_dots → d.pat_turn N p rest ≡ ok (inr true) after_dots
-turn_dots N p rest more after_dots (t, e, h) (c, i, j) = rw (e, h, i, j) refl
+module _ {A B : Type 0} (f : Reader Token A) (g : Reader Token B) where
+  abbrev pub Turning : Reader Token (A ⊎ Option B)
+  Turning = tail_turn (is_symbol sy.Comma) (is_symbol sy.Dots) (mark sy.Comma) f (behind (mark sy.Dots) g)
 
-turn_end : (N : ℕ) (p : Reader Token Pattern) (rest : List Token) → heads (is_symbol sy.Comma) rest ≡ false → d.pat_turn N p rest ≡ ok (inr false) rest
-turn_end N p rest h = rw h refl
+  turn_item : (rest more r : List Token) (a : A) → Ahead sy.Comma rest more → heads (is_symbol sy.Dots) more ≡ false → f more ≡ ok a r → Turning rest ≡ ok (inl a) r
+  turn_item rest more r a (t, e, h) miss i = rw (e, h, miss, i) refl
 
-rests_pat_field : (N n : ℕ) (ts : List Token) → Rests ts (d.pat_field N (d.read_pat N n) ts)
+  turn_fails : (rest more : List Token) (w : Why) (r : List Token) → Ahead sy.Comma rest more → heads (is_symbol sy.Dots) more ≡ false → f more ≡ fail w r → Turning rest ≡ fail w r
+  turn_fails rest more w r (t, e, h) miss i = rw (e, h, miss, i) refl
+
+  turn_dots : (rest more last r : List Token) (b : B) → Ahead sy.Comma rest more → Ahead sy.Dots more last → g last ≡ ok b r → Turning rest ≡ ok (inr (Some b)) r
+  turn_dots rest more last r b (t, e, h) (c, i, j) k = rw (e, h, i, j, k) refl
+
+  turn_breaks : (rest more last : List Token) (w : Why) (r : List Token) → Ahead sy.Comma rest more → Ahead sy.Dots more last → g last ≡ fail w r → Turning rest ≡ fail w r
+  turn_breaks rest more last w r (t, e, h) (c, i, j) k = rw (e, h, i, j, k) refl
+
+  turn_end : (rest : List Token) → heads (is_symbol sy.Comma) rest ≡ false → Turning rest ≡ ok (inr None) rest
+  turn_end rest h = rw h refl
+
+  module _ (whole : Out Token (List A × Option B)) (found : List A) (rest : List Token) where
+    pub item_on : ((ts : List Token) → Rests ts (f ts)) → (more r : List Token) (a : A) → Ahead sy.Comma rest more → heads (is_symbol sy.Dots) more ≡ false → f more ≡ ok a r → Going Turning whole found rest → Going Turning whole (found ++ a ∷ []) r
+    item_on rests more r a ahead miss e so = goes_further Turning whole found rest r a (turn_item rest more r a ahead miss e) (less sy.Comma f rest more r a rests ahead e) so
+
+    pub item_breaks : (more : List Token) (q : Fault Token) → Ahead sy.Comma rest more → heads (is_symbol sy.Dots) more ≡ false → Fails q (f more) → Going Turning whole found rest → Fails q whole
+    item_breaks more fault.Memory ahead miss h so = tt
+    item_breaks more (fault.Bad r) ahead miss h so = fails_at Turning whole found rest r.now bad (turn_fails rest more bad r.now ahead miss h) so
+    item_breaks more (fault.Deep r) ahead miss h so = fails_at Turning whole found rest r.now deep (turn_fails rest more deep r.now ahead miss h) so
+
+    pub dots_end : (more last r : List Token) (b : B) → Ahead sy.Comma rest more → Ahead sy.Dots more last → g last ≡ ok b r → Going Turning whole found rest → whole ≡ ok (found, Some b) r
+    dots_end more last r b ahead dots e so = ends_at Turning whole found rest r (Some b) (turn_dots rest more last r b ahead dots e) so
+
+    pub dots_break : (more last : List Token) (q : Fault Token) → Ahead sy.Comma rest more → Ahead sy.Dots more last → Fails q (g last) → Going Turning whole found rest → Fails q whole
+    dots_break more last fault.Memory ahead dots h so = tt
+    dots_break more last (fault.Bad r) ahead dots h so = fails_at Turning whole found rest r.now bad (turn_breaks rest more last bad r.now ahead dots h) so
+    dots_break more last (fault.Deep r) ahead dots h so = fails_at Turning whole found rest r.now deep (turn_breaks rest more last deep r.now ahead dots h) so
+
+    pub list_end : heads (is_symbol sy.Comma) rest ≡ false → Going Turning whole found rest → whole ≡ ok (found, None) rest
+    list_end h so = ends_at Turning whole found rest rest None (turn_end rest h) so
+
+pub rests_pat_field : (N n : ℕ) (ts : List Token) → Rests ts (d.pat_field N (d.read_pat N n) ts)
 rests_pat_field N n ts = (keeps_pat_field IsBad N N (d.read_pat N n) (d.read_pat N n) (same_pat IsBad N N n)).rests ts
 
 pub field_less : (N n : ℕ) (rest more r : List Token) (a : Word × Pattern) → Ahead sy.Comma rest more → d.pat_field N (d.read_pat N n) more ≡ ok a r → length r < length rest
 field_less N n rest more r a ahead e = less sy.Comma (d.pat_field N (d.read_pat N n)) rest more r a (rests_pat_field N n) ahead e
-
-pub field_on : (N n : ℕ) (whole : Out Token (List (Word × Pattern) × Bool)) (found : List (Word × Pattern)) (rest more r : List Token) (a : Word × Pattern) → Ahead sy.Comma rest more → heads (is_symbol sy.Dots) more ≡ false → d.pat_field N (d.read_pat N n) more ≡ ok a r → Going (d.pat_turn N (d.read_pat N n)) whole found rest → Going (d.pat_turn N (d.read_pat N n)) whole (found ++ a ∷ []) r
-field_on N n whole found rest more r a ahead miss e so = goes_further (d.pat_turn N (d.read_pat N n)) whole found rest r a (turn_item N (d.read_pat N n) rest more r a ahead miss e) (field_less N n rest more r a ahead e) so
-
-pub field_breaks : (N n : ℕ) (whole : Out Token (List (Word × Pattern) × Bool)) (found : List (Word × Pattern)) (rest more : List Token) (f : Fault Token) → Ahead sy.Comma rest more → heads (is_symbol sy.Dots) more ≡ false → Fails f (d.pat_field N (d.read_pat N n) more) → Going (d.pat_turn N (d.read_pat N n)) whole found rest → Fails f whole
-field_breaks N n whole found rest more fault.Memory ahead miss h so = tt
-field_breaks N n whole found rest more (fault.Bad r) ahead miss h so = fails_at (d.pat_turn N (d.read_pat N n)) whole found rest r.now bad (turn_fails N (d.read_pat N n) rest more bad r.now ahead miss h) so
-field_breaks N n whole found rest more (fault.Deep r) ahead miss h so = fails_at (d.pat_turn N (d.read_pat N n)) whole found rest r.now deep (turn_fails N (d.read_pat N n) rest more deep r.now ahead miss h) so
-
-pub dots_end : (N n : ℕ) (whole : Out Token (List (Word × Pattern) × Bool)) (found : List (Word × Pattern)) (rest more after_dots : List Token) → Ahead sy.Comma rest more → Ahead sy.Dots more after_dots → Going (d.pat_turn N (d.read_pat N n)) whole found rest → whole ≡ ok (found, true) after_dots
-dots_end N n whole found rest more after_dots a b so = ends_at (d.pat_turn N (d.read_pat N n)) whole found rest after_dots true (turn_dots N (d.read_pat N n) rest more after_dots a b) so
-
-pub list_end : (N n : ℕ) (whole : Out Token (List (Word × Pattern) × Bool)) (found : List (Word × Pattern)) (rest : List Token) → heads (is_symbol sy.Comma) rest ≡ false → Going (d.pat_turn N (d.read_pat N n)) whole found rest → whole ≡ ok (found, false) rest
-list_end N n whole found rest h so = ends_at (d.pat_turn N (d.read_pat N n)) whole found rest rest false (turn_end N (d.read_pat N n) rest h) so
 
 pub rests_label : (N : ℕ) (ts : List Token) → Rests ts (d.label N ts)
 rests_label N ts = (keeps_label IsBad N N).rests ts

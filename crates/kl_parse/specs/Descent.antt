@@ -19,12 +19,14 @@ use Rattle.kl_syntax.specs.declared.tree.Expr.TheVariants as expr
 use Rattle.kl_syntax.specs.declared.tree.Qual.{Qual}
 use Rattle.kl_syntax.specs.declared.tree.Qual.TheVariants as qual
 use Rattle.kl_syntax.specs.declared.tree.Branch.{Branch}
+use Rattle.kl_syntax.specs.declared.tree.Tail.{Tail}
+use Rattle.kl_syntax.specs.declared.tree.Tail.TheVariants as tail
 use Rattle.kl_syntax.specs.declared.tree.Decl.{Decl}
 use Rattle.kl_syntax.specs.declared.tree.Program.{Program}
 use Rattle.kl_parse.specs.Lexemes.{word_of}
 use Rattle.kl_lex.specs.Brackets.{opener, closer}
 use Rattle.kl_phrase.specs.Depth.{opens}
-use Rattle.kl_parse.specs.Grammar.{is_of, variant_of, shape_of, name_of, inject_of, gen_of, comp_of, case_of, path_of, chain_of}
+use Rattle.kl_parse.specs.Grammar.{is_of, variant_of, shape_of, name_of, record_of, inject_of, gen_of, comp_of, case_of, path_of, chain_of}
 use Rattle.kl_parse.specs.Grammar.{compare_of, let_of, if_of, branch_of, misses, left_out, function_of, constant_of, decl_of}
 use Rattle.kl_parse.specs.Grammar.{program_of, Sort, whole, negated, signed, added}
 use Rattle.kl_parse.specs.Kinds.{among, is_symbol, is_key, label_kinds, constant_kinds, big_kinds, op_kinds, symbol_kind}
@@ -82,6 +84,10 @@ module _ (e : Reader Token Expr) where
   abbrev pub in_case : Reader Token Branch → Reader Token (Expr × (List Branch × Option Expr))
   in_case b = both (expr_before key.Of) (both (parted (is_symbol sym.Comma) (mark sym.Comma) b) case_end)
 
+-- no minus, and what u reads
+abbrev pub unsigned : Reader Token Expr → Reader Token Expr
+unsigned u = pick (is_symbol sym.Sub) (λ ts. fail bad ts) u
+
 abbrev pub pat_before : Reader Token Pattern → Sym → Reader Token Pattern
 pat_before p s = before p (mark s)
 
@@ -132,20 +138,27 @@ module _ (total : ℕ) where
       (pick (is_symbol sym.Sub) (made is_of (numbered total (behind (mark sym.Sub) (one a_negative))))
       (pick (among constant_kinds) (made is_of (numbered total (one a_constant))) (made pattern.Same name))))
 
+  -- what stands behind the dots of a pattern
+  abbrev pub rest_name : Reader Token Tail
+  rest_name = pick (is_symbol sym.Bind) (made tail.Rest (behind (mark sym.Bind) name)) (nothing tail.Open)
+
+  abbrev pub others : Reader Token Tail
+  others = behind (mark sym.Dots) rest_name
+
   -- p: the patterns inside brackets
   module _ (p : Reader Token Pattern) where
     abbrev pub pat_field : Reader Token (Word × Pattern)
     pat_field = both label (behind (mark sym.Eq) p)
 
-    abbrev pub pat_turn : Reader Token ((Word × Pattern) ⊎ Bool)
-    pat_turn = tail_turn (is_symbol sym.Comma) (is_symbol sym.Dots) (mark sym.Comma) pat_field (mark sym.Dots)
+    abbrev pub pat_turn : Reader Token ((Word × Pattern) ⊎ Option Tail)
+    pat_turn = tail_turn (is_symbol sym.Comma) (is_symbol sym.Dots) (mark sym.Comma) pat_field others
 
-    abbrev pub pat_fields : Reader Token (List (Word × Pattern) × Bool)
-    pat_fields = tailed (is_symbol sym.Comma) (is_symbol sym.Dots) (mark sym.Comma) pat_field (mark sym.Dots)
+    abbrev pub pat_fields : Reader Token (List (Word × Pattern) × Option Tail)
+    pat_fields = tailed (is_symbol sym.Comma) (is_symbol sym.Dots) (mark sym.Comma) pat_field others
 
     abbrev pub shape : Reader Token Pattern
     shape = pick (among label_kinds) (made shape_of (both pat_field pat_fields))
-        (pick (is_symbol sym.Dots) (made (λ _. pattern.Rec [] true) (mark sym.Dots)) (nothing (pattern.Rec [] false)))
+        (pick (is_symbol sym.Dots) (made (pattern.Rec []) others) (nothing (pattern.Rec [] tail.Exact)))
 
     abbrev pub in_shape : Reader Token Pattern
     in_shape = before shape (mark sym.CloseRec)
@@ -171,8 +184,22 @@ module _ (total : ℕ) where
   abbrev pub field : Reader Token Expr → Reader Token (Word × Expr)
   field e = both label (behind (mark sym.Eq) e)
 
-  abbrev pub in_rec : Reader Token Expr → Reader Token (List (Word × Expr))
-  in_rec e = before (pick (among label_kinds) (parted (is_symbol sym.Comma) (mark sym.Comma) (field e)) (nothing [])) (mark sym.CloseRec)
+  -- expressions e, and signed ones u
+  module _ (e u : Reader Token Expr) where
+    abbrev pub base : Reader Token Expr
+    base = behind (mark sym.Dots) (unsigned u)
+
+    abbrev pub field_turn : Reader Token ((Word × Expr) ⊎ Option Expr)
+    field_turn = tail_turn (is_symbol sym.Comma) (is_symbol sym.Dots) (mark sym.Comma) (field e) base
+
+    abbrev pub fields : Reader Token (List (Word × Expr) × Option Expr)
+    fields = tailed (is_symbol sym.Comma) (is_symbol sym.Dots) (mark sym.Comma) (field e) base
+
+    abbrev pub rec_body : Reader Token Expr
+    rec_body = pick (among label_kinds) (made record_of (both (field e) fields)) (nothing (expr.Rec []))
+
+    abbrev pub in_rec : Reader Token Expr
+    in_rec = before rec_body (mark sym.CloseRec)
 
   abbrev pub in_inject : Reader Token Expr → Reader Token (Word × Expr)
   in_inject a = before (field a) (mark sym.Gt)
@@ -188,7 +215,7 @@ module _ (total : ℕ) where
     unfoldable pub prim : Reader Token Expr
     prim = pick (among constant_kinds) (made expr.Const (one a_constant))
         (opening_by w (is_symbol sym.OpenPar) may (behind (mark sym.OpenPar) (in_group e))
-        (opening_by w (is_symbol sym.OpenRec) may (made expr.Rec (behind (mark sym.OpenRec) (in_rec e)))
+        (opening_by w (is_symbol sym.OpenRec) may (behind (mark sym.OpenRec) (in_rec e u))
         (opening_by w (is_symbol sym.Lt) may (made inject_of (behind (mark sym.Lt) (in_inject a)))
         (opening_by w (is_symbol sym.OpenSet) may (coll p e kind.Set)
         (opening_by w (is_symbol sym.OpenBag) may (coll p e kind.Bag)

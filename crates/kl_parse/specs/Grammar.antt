@@ -1,5 +1,5 @@
 -- The grammar of the language: which tokens spell which tree, nested at most so deep.
-use Rattle.std.specs.Prelude.{ℕ, zero, suc, Bool, true, false, ◌&&◌, ◌||◌, not, List, [], ◌∷◌, drop, Option, Some, None}
+use Rattle.std.specs.Prelude.{◌≡◌, ℕ, zero, suc, Bool, true, false, ◌&&◌, ◌||◌, not, List, [], ◌∷◌, drop, Option, Some, None}
 use Rattle.kl_lex.specs.declared.token.Sym.TheVariants as sym
 use Rattle.kl_lex.specs.declared.token.Tok.{Tok}
 use Rattle.kl_lex.specs.declared.token.Tok.TheVariants as tok
@@ -12,6 +12,8 @@ use Rattle.kl_parse.specs.declared.operator.Level.{Level}
 use Rattle.kl_parse.specs.declared.operator.Level.TheVariants as level
 use Rattle.kl_syntax.specs.declared.tree.Word.{Word}
 use Rattle.kl_syntax.specs.declared.tree.Op.{Op}
+use Rattle.kl_syntax.specs.declared.tree.Tail.{Tail}
+use Rattle.kl_syntax.specs.declared.tree.Tail.TheVariants as tail
 use Rattle.kl_syntax.specs.declared.tree.Pattern.{Pattern}
 use Rattle.kl_syntax.specs.declared.tree.Pattern.TheVariants as pattern
 use Rattle.kl_syntax.specs.declared.tree.Expr.{Expr}
@@ -36,12 +38,23 @@ is_of x = pattern.Is x.1 x.0
 abbrev pub variant_of : Word × Pattern → Pattern
 variant_of x = pattern.Inj x.0 x.1
 
-abbrev pub shape_of : (Word × Pattern) × (List (Word × Pattern) × Bool) → Pattern
-shape_of x = pattern.Rec (x.0 ∷ x.1.0) x.1.1
+abbrev pub tail_of : Option Tail → Tail
+tail_of (Some t) = t
+tail_of None = tail.Exact
+
+abbrev pub shape_of : (Word × Pattern) × (List (Word × Pattern) × Option Tail) → Pattern
+shape_of x = pattern.Rec (x.0 ∷ x.1.0) (tail_of x.1.1)
 
 abbrev pub name_of : Word × Option (List Expr) → Expr
 name_of (w, None) = expr.Name w
 name_of (w, Some args) = expr.Call w args
+
+abbrev pub rec_of : List (Word × Expr) × Option Expr → Expr
+rec_of (fs, None) = expr.Rec fs
+rec_of (fs, Some a) = expr.More fs a
+
+abbrev pub record_of : (Word × Expr) × (List (Word × Expr) × Option Expr) → Expr
+record_of x = rec_of (x.0 ∷ x.1.0, x.1.1)
 
 abbrev pub inject_of : Word × Expr → Expr
 inject_of x = expr.Inj x.0 x.1
@@ -113,23 +126,27 @@ SamePat = Made pattern.Same Name
 abbrev pub Simple : Phrase Token Pattern
 Simple = Or BindPat (Or AnyPat (Or NegativePat (Or ConstantPat SamePat)))
 
+-- others := "..." [ "\" NAME ]
+abbrev pub Others : Phrase Token Tail
+Others = Behind (Symbol sym.Dots) (Optional tail.Open (Made tail.Rest (Behind (Symbol sym.Bind) Name)))
+
 -- P: the patterns that stand inside brackets
 module _ (P : Phrase Token Pattern) where
   -- LABEL "=" pat
   abbrev pub PatField : Phrase Token (Word × Pattern)
   PatField = Then Label (Behind (Symbol sym.Eq) P)
 
-  -- field { "," field } [ "," "..." ]
+  -- field { "," field } [ "," others ]
   abbrev pub ShapeFields : Phrase Token Pattern
-  ShapeFields = Made shape_of (Then PatField (Tailed (Symbol sym.Comma) PatField (Symbol sym.Dots)))
+  ShapeFields = Made shape_of (Then PatField (Tailed (Symbol sym.Comma) PatField Others))
 
-  -- "..."
+  -- others
   abbrev pub ShapeDots : Phrase Token Pattern
-  ShapeDots = Made (λ _. pattern.Rec [] true) (Symbol sym.Dots)
+  ShapeDots = Made (pattern.Rec []) Others
 
-  -- "[" [ field { "," field } [ "," "..." ] | "..." ] "]"
+  -- "[" [ field { "," field } [ "," others ] | others ] "]"
   abbrev pub PatRec : Phrase Token Pattern
-  PatRec = Behind (Symbol sym.OpenRec) (Before (Or ShapeFields (Or ShapeDots (Nothing (pattern.Rec [] false)))) (Symbol sym.CloseRec))
+  PatRec = Behind (Symbol sym.OpenRec) (Before (Or ShapeFields (Or ShapeDots (Nothing (pattern.Rec [] tail.Exact)))) (Symbol sym.CloseRec))
 
   -- "<" LABEL "=" pat ">"
   abbrev pub PatVariant : Phrase Token (Word × Pattern)
@@ -167,10 +184,6 @@ module _ (E : Phrase Token Expr) where
   abbrev pub Field : Phrase Token (Word × Expr)
   Field = Then Label (Behind (Symbol sym.Eq) E)
 
-  -- "[" [ field { "," field } ] "]"
-  abbrev pub Rec : Phrase Token Expr
-  Rec = Made expr.Rec (Behind (Symbol sym.OpenRec) (Before (Optional [] (Parted (Symbol sym.Comma) Field)) (Symbol sym.CloseRec)))
-
   -- "<" LABEL "=" add ">", where E is add
   abbrev pub Inject : Phrase Token Expr
   Inject = Made inject_of (Behind (Symbol sym.Lt) (Before Field (Symbol sym.Gt)))
@@ -182,6 +195,20 @@ module _ (E : Phrase Token Expr) where
   -- "if" expr "then" expr "else" expr
   abbrev pub If : Phrase Token Expr
   If = Made if_of (Behind (Key key.If) (Then (Before E (Key key.Then)) (Then (Before E (Key key.Else)) E)))
+
+-- a post, which is a signed expression U whose first token is no minus
+abbrev pub Unsigned : Phrase Token Expr → Phrase Token Expr
+Unsigned U n e ts = U n e ts × ((t : Token) (more : List Token) → ts ≡ t ∷ more → t.what ≡ tok.Sym sym.Sub → ⊥)
+
+-- and signed expressions U
+module _ (E U : Phrase Token Expr) where
+  -- field { "," field } [ "," "..." post ]
+  abbrev pub Fields : Phrase Token Expr
+  Fields = Made record_of (Then (Field E) (Tailed (Symbol sym.Comma) (Field E) (Behind (Symbol sym.Dots) (Unsigned U))))
+
+  -- "[" [ field { "," field } [ "," "..." post ] ] "]"
+  abbrev pub Rec : Phrase Token Expr
+  Rec = Behind (Symbol sym.OpenRec) (Before (Optional (expr.Rec []) Fields) (Symbol sym.CloseRec))
 
 -- patterns P too
 module _ (P : Phrase Token Pattern) (E : Phrase Token Expr) where
@@ -221,7 +248,7 @@ module _ (may : Bool) (P : Phrase Token Pattern) (E N U A : Phrase Token Expr) (
   -- prim := constant | "(" expr ")" | record | variant | coll | case | NAME [ args ]
   abbrev pub Prim : Phrase Token Expr
   Prim = Or (Made expr.Const Constant) (Or (Opened may (Group E))
-      (Or (Opened may (Rec E)) (Or (Opened may (Inject A))
+      (Or (Opened may (Rec E U)) (Or (Opened may (Inject A))
       (Or (Opened may (Coll P E kind.Set)) (Or (Opened may (Coll P E kind.Bag))
       (Or (Opened may (Coll P E kind.List)) (Or (Opened may (Case E B)) (Named may E))))))))
 

@@ -6,15 +6,16 @@ ghost use Rattle.kl_syntax.specs.declared.tree.Expr.TheVariants as exprs_of;
 ghost use Rattle.kl_lex.specs.declared.token.Token.{Token as AToken};
 ghost use Rattle.kl_lex.specs.declared.token.Sym.TheVariants as symbols;
 ghost use Rattle.kl_phrase.specs.Words.{heads};
-ghost use Rattle.kl_phrase.specs.Readers.{before, behind, both, made, ok, one, others, parted};
+ghost use Rattle.kl_phrase.specs.Readers.{before, behind, both, made, ok, one, others, parted, tails};
 ghost use Rattle.kl_parse.specs.declared.operator.Level.TheVariants as levels;
 ghost use Rattle.kl_phrase.specs.Gives.{Gives};
 ghost use Rattle.kl_lex.specs.Brackets.{opener};
-ghost use Rattle.kl_parse.specs.Grammar.{branch_of, let_of, if_of, inject_of, case_of, whole, negated, signed};
+ghost use Rattle.kl_parse.specs.Grammar.{branch_of, rec_of, let_of, if_of, inject_of, case_of, whole, negated, signed};
 ghost use Rattle.kl_parse.specs.Kinds.{among, is_symbol, op_kinds, an_op};
 ghost use Rattle.kl_parse.specs.Descent.{mark, read_pat, labels, reads, chain_at, operand_at, sort_at, compare_at, post_at};
 ghost use Rattle.kl_parse.specs.Descent.{prim_at, named_at};
-ghost use Rattle.kl_parse.specs.Descent.{branch_at, exprs, in_args, in_group, in_rec, in_inject, in_coll, in_let, in_if, in_case, case_end};
+ghost use Rattle.kl_parse.specs.Descent.{branch_at, exprs, in_args, in_group, in_rec, rec_body, field_turn, unsigned};
+ghost use Rattle.kl_parse.specs.Descent.{in_inject, in_coll, in_let, in_if, in_case, case_end};
 ghost use Rattle.kl_parse.specs.Descent.{expr_before, field, condition, qualifier, quals, beyond, otherwise};
 
 use crate::front::{
@@ -52,7 +53,8 @@ fn labels(
 fn opened(tokens: &[Token]) -> Option<(Kind, &[Token])>
     ensures { MatchOption result ((heads (is_symbol symbols.OpenSet) tokens.now ≡ false)
         × (heads (is_symbol symbols.OpenBag) tokens.now ≡ false)
-        × (heads (is_symbol symbols.OpenList) tokens.now ≡ false)) (λ x. (t : AToken) × (tokens.now ≡ t ∷ x.1.now) × (is_symbol (opener x.0) t ≡ true)) }
+        × (heads (is_symbol symbols.OpenList) tokens.now ≡ false))
+        (λ x. (t : AToken) × (tokens.now ≡ t ∷ x.1.now) × (is_symbol (opener x.0) t ≡ true)) }
 {
     if let Some(rest) = eat(tokens, Sym::OpenSet) {
         return Some((Kind::Set, rest));
@@ -87,6 +89,21 @@ fn compared<'a>(
     let mut steps = Vec::new(alloc);
     steps.push((op, second.into_inner()))?;
     boxed(alloc, Expr::Chain(first, Seq::of(steps)), rest)
+}
+
+/// The record of these fields, and of those of the base.
+fn record(
+    alloc: Global,
+    fields: ExprFields,
+    base: Option<Box<Expr>>,
+    rest: &[Token],
+) -> Result<(Box<Expr>, &[Token]), Fault<'_, Token>>
+    ensures { Gives (λ x. x.0) (λ x. x.1.now) result (ok (rec_of (fields, base)) rest.now) }
+{
+    match base {
+        None => boxed(alloc, Expr::Rec(fields), rest),
+        Some(base) => boxed(alloc, Expr::More(fields, base), rest),
+    }
 }
 
 /// `"let" .. | "if" .. | or`
@@ -445,28 +462,30 @@ fn rec_rest(
     depth: u32,
     tokens: &[Token],
 ) -> Result<(Box<Expr>, &[Token]), Fault<'_, Token>>
-    ensures { Gives (λ x. x.0) (λ x. x.1.now) result (made exprs_of.Rec (in_rec total (reads total depth whole)) tokens.now) }
+    ensures { Gives (λ x. x.0) (λ x. x.1.now) result
+        (in_rec total (reads total depth whole) (sort_at total depth signed) tokens.now) }
 {
-    let (fields, rest) = fields_rest(alloc, total, depth, tokens)?;
-    boxed(alloc, Expr::Rec(fields), rest)
+    let (found, rest) = rec_body(alloc, total, depth, tokens)?;
+    closed(found, rest, Sym::CloseRec)
 }
 
-/// `[ field { "," field } ] "]"`
+/// `[ field { "," field } [ "," "..." post ] ]`
 #[cycle(expr)]
-fn fields_rest(
+fn rec_body(
     alloc: Global,
     total: u32,
     depth: u32,
     tokens: &[Token],
-) -> Result<(ExprFields, &[Token]), Fault<'_, Token>>
-    ensures { Gives (λ x. x.0) (λ x. x.1.now) result (in_rec total (reads total depth whole) tokens.now) }
+) -> Result<(Box<Expr>, &[Token]), Fault<'_, Token>>
+    ensures { Gives (λ x. x.0) (λ x. x.1.now) result
+        (rec_body total (reads total depth whole) (sort_at total depth signed) tokens.now) }
 {
     if !is_word(tokens) {
-        return closed(Seq::of(Vec::new(alloc)), tokens, Sym::CloseRec);
+        return boxed(alloc, Expr::Rec(Seq::of(Vec::new(alloc))), tokens);
     }
     let (first, rest) = field(alloc, total, depth, tokens)?;
-    let (found, rest) = more_fields(alloc, total, depth, first, rest)?;
-    closed(found, rest, Sym::CloseRec)
+    let ((fields, base), rest) = more_fields(alloc, total, depth, first, rest)?;
+    record(alloc, fields, base, rest)
 }
 
 #[cycle(expr)]
@@ -483,7 +502,7 @@ fn field(
     Ok(((word, found.into_inner()), rest))
 }
 
-/// The first field and those that follow, each behind a comma.
+/// The first field, those that follow, and what stands behind `...` at their end.
 #[cycle(expr)]
 fn more_fields(
     alloc: Global,
@@ -491,19 +510,39 @@ fn more_fields(
     depth: u32,
     first: (Word, Expr),
     tokens: &[Token],
-) -> Result<(ExprFields, &[Token]), Fault<'_, Token>>
+) -> Result<((ExprFields, Option<Box<Expr>>), &[Token]), Fault<'_, Token>>
     ensures { Gives (λ x. x.0) (λ x. x.1.now) result
-        (others (is_symbol symbols.Comma) (behind (mark symbols.Comma) (field total (reads total depth whole))) (first ∷ []) tokens.now) }
+        (tails (field_turn total (reads total depth whole) (sort_at total depth signed)) (first ∷ []) tokens.now) }
 {
     let mut found = Vec::new(alloc);
     found.push(first)?;
     let mut rest = tokens;
     'fields: while let Some(after) = eat(rest, Sym::Comma) {
+        if let Some(after) = eat(after, Sym::Dots) {
+            let (base, after) = unsigned(alloc, total, depth, after)?;
+            return Ok(((Seq::of(found), Some(base)), after));
+        }
         let (next, after) = field(alloc, total, depth, after)?;
         found.push(next)?;
         rest = after;
     }
-    Ok((Seq::of(found), rest))
+    Ok(((Seq::of(found), None), rest))
+}
+
+/// What stands behind the `...` of a record: a `post`, which is a signed expression whose first token is no minus.
+#[cycle(expr)]
+fn unsigned(
+    alloc: Global,
+    total: u32,
+    depth: u32,
+    tokens: &[Token],
+) -> Result<(Box<Expr>, &[Token]), Fault<'_, Token>>
+    ensures { Gives (λ x. x.0) (λ x. x.1.now) result (unsigned (sort_at total depth signed) tokens.now) }
+{
+    if eat(tokens, Sym::Sub).is_some() {
+        return Err(Fault::Bad(tokens));
+    }
+    signed(alloc, total, depth, tokens)
 }
 
 /// `LABEL "=" add ">"`
@@ -602,7 +641,8 @@ fn more_qualifiers(
     tokens: &[Token],
 ) -> Result<(Quals, &[Token]), Fault<'_, Token>>
     ensures { Gives (λ x. x.0) (λ x. x.1.now) result
-        (others (is_symbol symbols.Comma) (behind (mark symbols.Comma) (qualifier (read_pat total depth) (reads total depth whole))) (first ∷ []) tokens.now) }
+        (others (is_symbol symbols.Comma)
+        (behind (mark symbols.Comma) (qualifier (read_pat total depth) (reads total depth whole))) (first ∷ []) tokens.now) }
 {
     let mut found = Vec::new(alloc);
     found.push(first)?;

@@ -3,14 +3,38 @@
 ghost use Rattle.std.specs.Prelude.{◌≡◌, ◌∷◌, []};
 ghost use Rattle.kl_phrase.specs.Readers.{tails};
 ghost use Rattle.kl_phrase.specs.Gives.{Gives};
-ghost use Rattle.kl_parse.specs.Descent.{simple, pat_before, pat_field, pat_turn, shape, in_shape, in_variant, read_pat};
+ghost use Rattle.kl_parse.specs.Grammar.{tail_of};
+ghost use Rattle.kl_parse.specs.Descent.{simple, pat_before, pat_field, pat_turn, rest_name, shape, in_shape, in_variant, read_pat};
 
 use crate::front::{boxed, closed, constant, eat, is_word, labelled, name, negative, number};
 use kl_base::{Box, Seq};
 use kl_lex::{Sym, Token};
 use kl_phrase::Fault;
-use kl_syntax::{PatFields, Pattern, Word};
+use kl_syntax::{PatFields, Pattern, Tail, Word};
 use std::alloc::Global;
+
+/// What stands behind the dots of a record pattern: `[ "\\" NAME ]`
+fn rest_name(total: u32, tokens: &[Token]) -> Result<(Tail, &[Token]), Fault<'_, Token>>
+    ensures { Gives (λ x. x.0) (λ x. x.1.now) result (rest_name total tokens.now) }
+{
+    match eat(tokens, Sym::Bind) {
+        Some(rest) => {
+            let (word, rest) = name(total, rest)?;
+            Ok((Tail::Rest(word), rest))
+        }
+        None => Ok((Tail::Open, tokens)),
+    }
+}
+
+/// How a record pattern ends, where its fields end so.
+fn tail_of(tail: Option<Tail>) -> Tail
+    ensures { result ≡ tail_of tail }
+{
+    match tail {
+        Some(tail) => tail,
+        None => Tail::Exact,
+    }
+}
 
 /// A pattern that has no other inside.
 #[tactic(auto, unfolding(crate::specs::Descent::simple))]
@@ -94,7 +118,7 @@ fn shape_rest(
     closed(found, rest, Sym::CloseRec)
 }
 
-/// `field { "," field } [ "," "..." ] | [ "..." ]`
+/// `field { "," field } [ "," others ] | [ others ]`
 #[cycle(pattern)]
 fn shape(
     alloc: Global,
@@ -106,12 +130,16 @@ fn shape(
 {
     if is_word(tokens) {
         let (first, rest) = pat_field(alloc, total, depth, tokens)?;
-        let ((fields, dots), rest) = more_fields(alloc, total, depth, first, rest)?;
-        return Ok((Pattern::Rec(fields, dots), rest));
+        let ((fields, tail), rest) = more_fields(alloc, total, depth, first, rest)?;
+        return Ok((Pattern::Rec(fields, tail_of(tail)), rest));
     }
+    let none = Seq::of(Vec::new(alloc));
     match eat(tokens, Sym::Dots) {
-        Some(rest) => Ok((Pattern::Rec(Seq::of(Vec::new(alloc)), true), rest)),
-        None => Ok((Pattern::Rec(Seq::of(Vec::new(alloc)), false), tokens)),
+        Some(rest) => {
+            let (tail, rest) = rest_name(total, rest)?;
+            Ok((Pattern::Rec(none, tail), rest))
+        }
+        None => Ok((Pattern::Rec(none, Tail::Exact), tokens)),
     }
 }
 
@@ -129,7 +157,7 @@ fn pat_field(
     Ok(((word, found), rest))
 }
 
-/// The first field, those that follow, and whether `...` stands at their end.
+/// The first field, those that follow, and what stands at their end.
 #[cycle(pattern)]
 fn more_fields(
     alloc: Global,
@@ -137,7 +165,7 @@ fn more_fields(
     depth: u32,
     first: (Word, Pattern),
     tokens: &[Token],
-) -> Result<((PatFields, bool), &[Token]), Fault<'_, Token>>
+) -> Result<((PatFields, Option<Tail>), &[Token]), Fault<'_, Token>>
     ensures { Gives (λ x. x.0) (λ x. x.1.now) result (tails (pat_turn total (read_pat total depth)) (first ∷ []) tokens.now) }
 {
     let mut found = Vec::new(alloc);
@@ -145,13 +173,14 @@ fn more_fields(
     let mut rest = tokens;
     'fields: while let Some(after) = eat(rest, Sym::Comma) {
         if let Some(after) = eat(after, Sym::Dots) {
-            return Ok(((Seq::of(found), true), after));
+            let (tail, after) = rest_name(total, after)?;
+            return Ok(((Seq::of(found), Some(tail)), after));
         }
         let (next, after) = pat_field(alloc, total, depth, after)?;
         found.push(next)?;
         rest = after;
     }
-    Ok(((Seq::of(found), false), rest))
+    Ok(((Seq::of(found), None), rest))
 }
 
 /// A pattern and this symbol.

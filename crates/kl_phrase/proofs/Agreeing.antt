@@ -1,8 +1,8 @@
 -- A reader in which parts may be left out, where a test of the rest says so, answers the same as one in which none may, if
 -- the test holds of no rest that it comes to.
-use Rattle.std.proofs.Common.{◌≡◌, ℕ, zero, suc, ◌<◌, Bool, true, false, IsTrue, List, [], ◌∷◌, ◌++◌, length, ◌⊎◌, inl, inr, if◌then◌else◌, refl, sym, ap, subst, ◌∙◌, append_assoc, arith}
+use Rattle.std.proofs.Common.{◌≡◌, ℕ, zero, suc, ◌<◌, Bool, true, false, IsTrue, List, [], ◌∷◌, ◌++◌, length, None, ◌⊎◌, inl, inr, if◌then◌else◌, refl, sym, ap, subst, ◌∙◌, append_assoc, arith}
 use Rattle.kl_phrase.specs.Words.{heads, list_of}
-use Rattle.kl_phrase.specs.Readers.{Why, bad, Out, ok, fail, Reader, after, nothing, chain, both, behind, before, made, pick, choose, goes, turns, loop, many, parted, followed, farther}
+use Rattle.kl_phrase.specs.Readers.{Why, bad, Out, ok, fail, Reader, after, nothing, chain, both, behind, before, made, pick, choose, goes, turns, loop, many, parted, dots_end, tailed, followed, farther}
 use Rattle.kl_phrase.proofs.Kept.{Rests}
 use Rattle.kl_phrase.specs.Refusals.{opened_by, refused, settled, decide}
 use Rattle.kl_phrase.proofs.Deciding.{far_least}
@@ -77,6 +77,9 @@ module _ {T : Type 0} {hole : List T → Bool} {h : ℕ} where
 
   pub agrees_parted : {A : Type 0} (test : T → Bool) {m n : Reader T (Unit {0})} {p g : Reader T A} → Agrees hole h m n → Agrees hole h p g → Agrees hole h (parted test m p) (parted test n g)
   agrees_parted test a b = agrees_made list_of (agrees_both b (agrees_many (agrees_behind a b)))
+
+  pub agrees_tailed : {A B : Type 0} (test dots : T → Bool) {m n : Reader T (Unit {0})} {p g : Reader T A} {d e : Reader T B} → Agrees hole h m n → Agrees hole h p g → Agrees hole h d e → Agrees hole h (tailed test dots m p d) (tailed test dots n g e)
+  agrees_tailed test dots am ap ad = agrees_loop (agrees_pick (agrees_behind am (agrees_pick (agrees_made dots_end ad) (agrees_made inl ap))) (agrees_nothing (inr None)))
 
   pub agrees_followed : {A : Type 0} (test : T → Bool) {p g : Reader T A} → Agrees hole h p g → Agrees hole h (followed test p) (followed test g)
   agrees_followed test a = agrees_chain a (λ x. agrees_pick (agrees_nothing x) (agrees_same (leaves_failing bad)))

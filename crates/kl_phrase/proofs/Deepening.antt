@@ -117,8 +117,8 @@ module _ {T : Type 0} {n : ℕ} where
   pub deepens_parted : {A : Type 0} (test : T → Bool) {m : Reader T (Unit {0})} {p : Reader T A} → Deepens n m → Deepens n p → Deepens n (parted test m p)
   deepens_parted test hm hp = deepens_made list_of (deepens_both hp (deepens_many (deepens_behind hm hp)))
 
-  pub deepens_tailed : {A : Type 0} (test dots : T → Bool) {m d : Reader T (Unit {0})} {p : Reader T A} → Deepens n m → Deepens n p → Deepens n d → Deepens n (tailed test dots m p d)
-  deepens_tailed test dots hm hp hd = deepens_loop (deepens_pick (deepens_behind hm (deepens_pick (deepens_made dots_end hd) (deepens_made inl hp))) (deepens_nothing (inr false)))
+  pub deepens_tailed : {A B : Type 0} (test dots : T → Bool) {m : Reader T (Unit {0})} {d : Reader T B} {p : Reader T A} → Deepens n m → Deepens n p → Deepens n d → Deepens n (tailed test dots m p d)
+  deepens_tailed test dots hm hp hd = deepens_loop (deepens_pick (deepens_behind hm (deepens_pick (deepens_made dots_end hd) (deepens_made inl hp))) (deepens_nothing (inr None)))
 
   pub deepens_followed : {A : Type 0} (test : T → Bool) {p : Reader T A} → Deepens n p → Deepens n (followed test p)
   deepens_followed test h = deepens_chain h (λ a. deepens_pick (deepens_nothing a) deepens_failing)

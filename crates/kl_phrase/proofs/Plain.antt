@@ -86,8 +86,8 @@ module _ {T : Type 0} where
   pub plain_parted : {A : Type 0} (test : T → Bool) {m m' : Reader T (Unit {0})} {p p' : Reader T A} → Plains m m' → Plains p p' → Plains (parted test m p) (parted test m' p')
   plain_parted test hm hp = plain_made list_of (plain_both hp (plain_many (plain_behind hm hp)))
 
-  pub plain_tailed : {A : Type 0} (test dots : T → Bool) {m m' d d' : Reader T (Unit {0})} {p p' : Reader T A} → Plains m m' → Plains p p' → Plains d d' → Plains (tailed test dots m p d) (tailed test dots m' p' d')
-  plain_tailed test dots hm hp hd = plain_loop (plain_pick (plain_behind hm (plain_pick (plain_made dots_end hd) (plain_made inl hp))) (plain_nothing (inr false)))
+  pub plain_tailed : {A B : Type 0} (test dots : T → Bool) {m m' : Reader T (Unit {0})} {d d' : Reader T B} {p p' : Reader T A} → Plains m m' → Plains p p' → Plains d d' → Plains (tailed test dots m p d) (tailed test dots m' p' d')
+  plain_tailed test dots hm hp hd = plain_loop (plain_pick (plain_behind hm (plain_pick (plain_made dots_end hd) (plain_made inl hp))) (plain_nothing (inr None)))
 
   pub plain_followed : {A : Type 0} (test : T → Bool) {p p' : Reader T A} → Plains p p' → Plains (followed test p) (followed test p')
   plain_followed test h = plain_chain h (λ a. plain_pick (plain_nothing a) (plain_failing bad))

@@ -1,7 +1,7 @@
 -- The rest that a reader answers is one of the text.
 use Rattle.std.proofs.Common.{◌≡◌, ℕ, zero, suc, ◌≤◌, ◌+◌, ◌-◌, Bool, List, [], ◌∷◌, ◌++◌, length, ◌⊎◌, inl, inr, refl, ap, ◌∙◌, length-append, arith}
 use Rattle.kl_phrase.specs.Words.{heads}
-use Rattle.kl_phrase.specs.Readers.{Why, Out, ok, fail, Reader, after, one, nothing, numbered, chain, made, pick, goes, turns, loop}
+use Rattle.kl_phrase.specs.Readers.{Why, Out, ok, fail, Reader, after, one, nothing, numbered, chain, pick, goes, turns, loop}
 use Rattle.kl_phrase.proofs.Theory.{joined}
 use Rattle.kl_phrase.proofs.Kept.{Rests, keeps_one, pick_rests}
 use Rattle.kl_phrase.proofs.Exact.{IsBad}

@@ -1,6 +1,6 @@
 -- Laws of the table's meaning: it makes sense of what fits, total primitives do not overflow, and what is canonical
 -- stays so.
-use Rattle.std.proofs.Common.{◌≡◌, ◌==◌, ℕ, ℤ, ◌+ℤ◌, ◌-ℤ◌, ◌*ℤ◌, neg_ℤ, Ordering, is_le, is_ge, unwrap_or, Bool, true, false, cond, ◌≢◌, List, [], ◌∷◌, length, find, Option, Some, None, refl, sym, ap, subst, IsSome, IsSomeAnd, IfSome, IfOk, Result, Ok, Err, is_some, pos}
+use Rattle.std.proofs.Common.{◌≡◌, ◌==◌, ℕ, ℤ, ◌+ℤ◌, ◌-ℤ◌, ◌*ℤ◌, neg_ℤ, Ordering, is_le, is_ge, unwrap_or, Bool, true, false, cond, ◌≢◌, List, [], ◌∷◌, ◌++◌, length, find, Option, Some, None, refl, sym, ap, subst, IsSome, IsSomeAnd, IfSome, IfOk, Result, Ok, Err, is_some, pos}
 use Rattle.std.specs.Option.{option_map, option_and_then}
 use Rattle.std.specs.List.{All, AllByRecursion, flat_map, list_all}
 use Rattle.std.proofs.lemmas.List.Elements.{All-append, All-from_recursion, All-nil, recursion_from_All}
@@ -15,12 +15,14 @@ use Rattle.kl_value.proofs.CanonLemmas.{canonical_keeps}
 use Rattle.kl_value.proofs.IsCanonicalLemmas.{bool_made, int_made, text_made, items_canonical}
 use Rattle.kl_value.proofs.ViewLemmas.{collection_form, items_form}
 use Rattle.kl_value.specs.Views.{IsBool, IsCollection, IsInt, IsText}
-use Rattle.kl_prim.specs.Fits.{FitsShape, OneOf, TwoOf, IsAny, IsCollectionOfInts, IsNested}
-use Rattle.kl_prim.specs.Meaning.{Answer, AnswersMeaning, gives, overflows, senseless, with_some, one, two, as_any, all_some, as_ints, as_nested, exact, fits_word, total, extreme, alone, number_in, set_of_found}
+use Rattle.kl_prim.specs.Fits.{FitsShape, OneOf, TwoOf, IsAny, IsCollectionOfInts, IsNested, TwoRecords}
+use Rattle.kl_prim.specs.Meaning.{Answer, AnswersMeaning, gives, overflows, senseless, with_some, one, two, as_any, all_some, as_ints, as_nested, exact, fits_word, total, extreme, alone, number_in, number_of, set_of_found}
 use Rattle.kl_prim.specs.Table.{Fits, FitsRow, IsTotal, IsTotalRow, Row, Takes, TakesRow, meaning, meaning_of, row_at, rows}
 use Rattle.kl_value.specs.Views.{Collection, as_bool, as_int, as_text, as_collection, items_at, collection}
 use Rattle.kl_prim.specs.declared.stop.PrimStop.{PrimStop}
 use Rattle.kl_prim.proofs.ItemLemmas.{all_some_is}
+use Rattle.kl_prim.proofs.RecordLemmas.{Made, extended_canonical, first_canonical, record_form, rest_canonical, two_any}
+use Rattle.kl_prim.specs.Records.{Fields, as_record, has_all, in_order, is_label_of, share_none}
 use Rattle.kl_prim.proofs.TableLemmas.{◌&◌}
 
 -- ---- what holds of each row holds of the row at a code
@@ -79,6 +81,17 @@ nested_some v = go (as_collection v)
     go (Some c) h = some_map _ (all_some (items_at c.kind) c.items) (ap (λ p. is_some p) (all_some_is (items_at c.kind) [] c.items h))
     go None h = absurd h
 
+makes_records : (test : Fields → Fields → Bool) (make : Fields → Fields → Value) (args : List Value) → TwoRecords test args → Makes (two as_record as_record (Made test make) args)
+makes_records test make [] h = absurd h
+makes_records test make (v ∷ []) h = absurd h
+makes_records test make (v ∷ w ∷ []) h = go (as_record v) (as_record w) h
+  where
+    go : (o q : Option Fields) → IsSomeAnd o (λ fs. IsSomeAnd q (λ gs. test fs gs ≡ true)) → Makes (with_some o (λ fs. with_some q (Made test make fs)))
+    go (Some fs) (Some gs) h = rw h (λ e. cc)
+    go (Some fs) None h = absurd h
+    go None q h = absurd h
+makes_records test make (v ∷ w ∷ u ∷ vs) h = absurd h
+
 abbrev SenseAt : Row → Type 0
 SenseAt r = (args : List Value) → FitsShape r.entry.shape args → Makes (r.meaning args)
 
@@ -111,6 +124,10 @@ sense_rows =
     (λ args. makes_two IsText IsText as_text as_text _ (λ v h. h) (λ v h. h) (λ s t e. cc) args) &
     (λ args. makes_one IsText as_text _ (λ v h. h) (λ t e. cc) args) &
     (λ args. makes_one IsInt as_int _ (λ v h. h) (λ n e. cc) args) &
+    (λ args. makes_records share_none _ args) &
+    (λ args. makes_records has_all _ args) &
+    (λ args. makes_two IsInt IsCollection as_int as_collection _ (λ v h. h) (λ v h. h) (λ n c e. cc) args) &
+    (λ args. makes_two IsText IsText as_text as_text _ (λ v h. h) (λ v h. h) (λ s t e. cc) args) &
     tt
 
 -- what fits makes sense
@@ -167,6 +184,10 @@ takes_rows =
     (λ args h. sym (two_long IsText IsText args h)) &
     (λ args h. sym (one_long IsText args h)) &
     (λ args h. sym (one_long IsInt args h)) &
+    (λ args h. sym (two_long IsAny IsAny args (two_any share_none args h))) &
+    (λ args h. sym (two_long IsAny IsAny args (two_any has_all args h))) &
+    (λ args h. sym (two_long IsInt IsCollection args h)) &
+    (λ args h. sym (two_long IsText IsText args h)) &
     tt
 
 -- as many as the row says
@@ -198,6 +219,10 @@ never_two as_x as_y f g [] = λ e. cc
 never_two as_x as_y f g (v ∷ []) = λ e. cc
 never_two as_x as_y f g (v ∷ w ∷ []) = never_some (as_x v) (λ x. with_some (as_y w) (f x)) (λ x. never_some (as_y w) (f x) (g x))
 never_two as_x as_y f g (v ∷ w ∷ u ∷ vs) = λ e. cc
+
+never_if : (b : Bool) (v : Value) → Never (cond b (gives v) senseless)
+never_if true v e = cc
+never_if false v e = cc
 
 abbrev TotalAt : Row → Type 0
 TotalAt r = r.entry.total ≡ true → (args : List Value) → Never (r.meaning args)
@@ -231,6 +256,10 @@ total_rows =
     (λ e args. never_two as_text as_text _ (λ s t h. cc) args) &
     (λ e args. never_one as_text _ (λ t h. cc) args) &
     (λ e args. never_one as_int _ (λ n h. cc) args) &
+    (λ e args. never_two as_record as_record _ (λ fs gs. never_if (share_none fs gs) _) args) &
+    (λ e args. never_two as_record as_record _ (λ fs gs. never_if (has_all fs gs) _) args) &
+    (λ e args. never_two as_int as_collection _ (λ n c h. cc) args) &
+    (λ e args. never_two as_text as_text _ (λ s t h. cc) args) &
     tt
 
 -- a total primitive does not overflow
@@ -335,6 +364,13 @@ clean_two as_x as_y f g (v ∷ w ∷ []) h =
     clean_some (as_x v) (λ x. with_some (as_y w) (f x)) (λ x e. clean_some (as_y w) (f x) (λ y i. g v w x y h.0 h.1.0 e i))
 clean_two as_x as_y f g (v ∷ w ∷ u ∷ vs) h = tt
 
+clean_if : (b : Bool) (v : Value) → (b ≡ true → IsCanonical v) → Clean (cond b (gives v) senseless)
+clean_if true v h = h refl
+clean_if false v h = tt
+
+extended_clean : (fs gs : Fields) → IsCanonical (value.Rec fs) → IsCanonical (value.Rec gs) → Clean (cond (share_none fs gs) (gives (value.Rec (in_order (fs ++ gs)))) senseless)
+extended_clean fs gs h k = clean_if (share_none fs gs) _ (λ e. extended_canonical fs gs h k e)
+
 abbrev CleanAt : Row → Type 0
 CleanAt r = (args : List Value) → AllByRecursion IsCanonical args → Clean (r.meaning args)
 
@@ -367,6 +403,10 @@ clean_rows =
     (λ args. clean_two as_text as_text _ (λ v w s t hv hw es et. bool_made _) args) &
     (λ args. clean_one as_text _ (λ v t h e. found_clean (number_in t)) args) &
     (λ args. clean_one as_int _ (λ v n h e. text_made _) args) &
+    (λ args. clean_two as_record as_record _ (λ v w fs gs hv hw ev ew. extended_clean fs gs (subst IsCanonical (record_form v fs ev) hv) (subst IsCanonical (record_form w gs ew) hw)) args) &
+    (λ args. clean_two as_record as_record _ (λ v w fs gs hv hw ev ew. clean_if (has_all fs gs) _ (λ e. rest_canonical (is_label_of gs) fs (subst IsCanonical (record_form v fs ev) hv))) args) &
+    (λ args. clean_two as_int as_collection _ (λ v w n c hv hw en ec. first_canonical c.kind (number_of n) c.items (subst IsCanonical (collection_form w c ec) hw)) args) &
+    (λ args. clean_two as_text as_text _ (λ v w s t hv hw es et. bool_made _) args) &
     tt
 
 -- of canonical arguments the answer is canonical

@@ -118,6 +118,10 @@ few_rows =
     inr refl &
     inl refl &
     inl refl &
+    inr refl &
+    inr refl &
+    inr refl &
+    inr refl &
     tt
 
 few_at : (code : ℕ) (rs : List Row) (n : ℕ) → AllByRecursion IsFew rs → TakesRow (find (λ r. r.entry.code == code) rs) n → (n ≡ 1) ⊎ (n ≡ 2)

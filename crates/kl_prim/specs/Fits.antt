@@ -1,7 +1,8 @@
 -- Which arguments fit a shape.
-use Rattle.std.specs.Prelude.{List, [], ◌∷◌, All, IsSome, IsSomeAnd, ⊤}
+use Rattle.std.specs.Prelude.{◌≡◌, Bool, true, List, [], ◌∷◌, All, IsSome, IsSomeAnd, ⊤}
 use Rattle.kl_value.specs.declared.Value.{Value}
 use Rattle.kl_value.specs.Views.{IsBool, IsInt, IsText, IsCollection, as_collection, items_at}
+use Rattle.kl_prim.specs.Records.{Fields, as_record, share_none, has_all}
 use Rattle.kl_prim.specs.declared.rows.Shape.{Shape}
 use Rattle.kl_prim.specs.declared.rows.Shape.TheVariants as shape
 
@@ -23,6 +24,11 @@ abbrev pub TwoOf : (Value → Type 0) → (Value → Type 0) → List Value → 
 TwoOf P Q (v ∷ w ∷ []) = P v × Q w
 TwoOf P Q _ = ⊥
 
+-- two records whose fields pass a test
+abbrev pub TwoRecords : (Fields → Fields → Bool) → List Value → Type 0
+TwoRecords test (v ∷ w ∷ []) = IsSomeAnd (as_record v) (λ fs. IsSomeAnd (as_record w) (λ gs. test fs gs ≡ true))
+TwoRecords test _ = ⊥
+
 abbrev pub FitsShape : Shape → List Value → Type 0
 FitsShape shape.Compare = TwoOf IsAny IsAny
 FitsShape shape.IntOp = TwoOf IsInt IsInt
@@ -42,3 +48,6 @@ FitsShape shape.TextLen = OneOf IsText
 FitsShape shape.TextTest = TwoOf IsText IsText
 FitsShape shape.TextInts = OneOf IsText
 FitsShape shape.IntText = OneOf IsInt
+FitsShape shape.Extend = TwoRecords share_none
+FitsShape shape.Rest = TwoRecords has_all
+FitsShape shape.Take = TwoOf IsInt IsCollection

@@ -1,4 +1,5 @@
 pub mod Arguments
 pub mod Fits
 pub mod Meaning
+pub mod Records
 pub mod Table

@@ -1,9 +1,9 @@
 -- What each primitive makes of its arguments.
 use Rattle.std.specs.Prelude.{◌≡◌, ◌≢◌, ℕ, ◌^◌, ℤ, pos, negsuc, ◌+ℤ◌, ◌-ℤ◌, ◌*ℤ◌, neg_ℤ, Bool, not, ◌&&◌, if◌then◌else◌, nat_lt, nat_eq}
-use Rattle.std.specs.Prelude.{List, [], ◌∷◌, ◌++◌, length, drop, find, fold, Option, Some, None, option_and_then, unwrap_or}
+use Rattle.std.specs.Prelude.{List, [], ◌∷◌, ◌++◌, length, drop, take, find, fold, Option, Some, None, option_and_then, unwrap_or}
 use Rattle.std.specs.Prelude.{Result, Ok, Err}
 use Rattle.std.specs.Option.{option_map}
-use Rattle.std.specs.List.{list_all, list_any, flat_map, starts_with}
+use Rattle.std.specs.List.{list_all, list_any, flat_map, starts_with, ends_with}
 use Rattle.std.specs.declared.cmp.Ordering.{Ordering}
 use Rattle.std.specs.Ordering.{is_eq, is_ne, is_lt, is_le, is_gt, is_ge}
 use Rattle.std.specs.Str.{all_ascii_digits}
@@ -15,6 +15,7 @@ use Rattle.kl_value.specs.declared.Kind.{Kind}
 use Rattle.kl_value.specs.declared.Value.{Value}
 use Rattle.kl_value.specs.declared.Value.TheVariants as value
 use Rattle.kl_value.specs.Views.{as_bool, as_int, as_text, as_collection, items_at, collection}
+use Rattle.kl_prim.specs.Records.{as_record, in_order, is_label_of, share_none, has_all, without}
 use Rattle.kl_prim.specs.declared.stop.PrimStop.{PrimStop}
 use Rattle.kl_prim.specs.declared.stop.PrimStop.TheVariants as stop
 
@@ -181,6 +182,27 @@ to_int = one as_text (λ t. gives (set_of_found (number_in t)))
 
 abbrev pub to_text : List Value → Answer
 to_text = one as_int (λ n. gives (value.Text (signed_decimal n)))
+
+-- all fields of two records that share no label
+abbrev pub extend : List Value → Answer
+extend = two as_record as_record (λ fs gs. if share_none fs gs then gives (value.Rec (in_order (fs ++ gs))) else senseless)
+
+-- the fields of a record but for the labels of another, which it has all
+abbrev pub rest : List Value → Answer
+rest = two as_record as_record (λ fs gs. if has_all fs gs then gives (value.Rec (without (is_label_of gs) fs)) else senseless)
+
+-- an integer as a number of items: none below 0
+abbrev pub number_of : ℤ → ℕ
+number_of (pos n) = n
+number_of (negsuc n) = 0
+
+-- so many items, from the first on, or all
+abbrev pub first_items : List Value → Answer
+first_items = two as_int as_collection (λ n c. gives (collection c.kind (take (number_of n) c.items)))
+
+-- whether the second text is a suffix of the first
+abbrev pub finishes_with : List Value → Answer
+finishes_with = two as_text as_text (λ s t. truth (ends_with nat_eq s t))
 
 -- for private functions alone: what arguments are read as, whatever is made of it then
 abbrev pub ReadsOne : {X : Type 0} → (Value → Option X) → List Value → X → Type 0

@@ -5,7 +5,7 @@ use Rattle.kl_value.specs.declared.Value.{Value}
 use Rattle.kl_prim.specs.Fits.{FitsShape}
 use Rattle.kl_prim.specs.Meaning.{Answer, senseless, equal, unequal, below, at_most, above, at_least, add, subtract, multiply}
 use Rattle.kl_prim.specs.Meaning.{negate, complement, join, is_empty, count, sum, member, least, greatest, flatten, into}
-use Rattle.kl_prim.specs.Meaning.{text_length, begins_with, to_int, to_text}
+use Rattle.kl_prim.specs.Meaning.{text_length, begins_with, to_int, to_text, extend, rest, first_items, finishes_with}
 use Rattle.kl_prim.specs.declared.rows.PrimRow.{PrimRow}
 use Rattle.kl_prim.specs.declared.rows.Shape.{Shape}
 use Rattle.kl_prim.specs.declared.rows.Shape.TheVariants as shape
@@ -58,6 +58,10 @@ rows =
     ∷ row 24 (codes "startswith") 2 shape.TextTest true begins_with
     ∷ row 25 (codes "toint") 1 shape.TextInts true to_int
     ∷ row 26 (codes "totext") 1 shape.IntText true to_text
+    ∷ row 27 (codes "...") 2 shape.Extend true extend
+    ∷ row 28 (codes "...\\") 2 shape.Rest true rest
+    ∷ row 29 (codes "take") 2 shape.Take true first_items
+    ∷ row 30 (codes "endswith") 2 shape.TextTest true finishes_with
     ∷ []
 
 -- the row with a code, where there is one

@@ -3,20 +3,22 @@ ghost use Rattle.std.specs.Prelude.{All};
 ghost use Rattle.kl_value.specs.IsCanonical.{IsCanonical};
 ghost use Rattle.kl_value.specs.Views.{IsBool, IsInt, IsText, IsCollection};
 ghost use Rattle.kl_prim.specs.Arguments.{values_in};
-ghost use Rattle.kl_prim.specs.Fits.{IsAny, IsCollectionOfInts, IsNested, OneOf, TwoOf};
+ghost use Rattle.kl_prim.specs.Fits.{IsAny, IsCollectionOfInts, IsNested, OneOf, TwoOf, TwoRecords};
+ghost use Rattle.kl_prim.specs.Records.{has_all, share_none};
 ghost use Rattle.kl_prim.specs.Meaning.{AnswersMeaning};
 ghost use Rattle.kl_prim.specs.Meaning as meaning;
 
-use crate::args::{Arg, Args, alone};
+use crate::args::{Arg, Args, alone, both};
 use crate::collections::{self, convert, flatten_lent, flatten_owned, taken};
-use crate::numbers::{self, amount};
+use crate::numbers::{self, amount, number_of};
+use crate::records::{fields_of, fields_taken, fields_without, ordered};
 use crate::stop::PrimStop;
 use crate::texts;
 use crate::views::{
     one_bool, one_collection, one_int, one_text, two_ints, two_texts, two_values,
     value_and_collection,
 };
-use kl_value::{Kind, Value, cmp, into_parts, parts_of};
+use kl_value::{Kind, Seq, Value, cmp, int_of, into_parts, parts_of};
 use std::alloc::Global;
 
 /// Whether two values are equal.
@@ -260,4 +262,43 @@ pub fn to_text(alloc: Global, args: &Args<'_>) -> Result<Value, PrimStop>
     ensures { AnswersMeaning (meaning.to_text (values_in args.now)) result }
 {
     texts::to_text(alloc, one_int(args))
+}
+
+/// All fields of two records that share no label.
+pub fn extend(alloc: Global, args: Args<'_>) -> Result<Value, PrimStop>
+    requires { TwoRecords share_none (values_in args) }
+    ensures { AnswersMeaning (meaning.extend (values_in args.entry)) result }
+{
+    let (first, second) = both(args);
+    let mut fields = fields_taken(alloc, first)?;
+    fields.append(&mut fields_taken(alloc, second)?)?;
+    Ok(Value::Rec(Seq::of(ordered(fields)?)))
+}
+
+/// The fields of a record but for the labels of another, which it has all.
+pub fn rest(alloc: Global, args: Args<'_>) -> Result<Value, PrimStop>
+    requires { TwoRecords has_all (values_in args) }
+    ensures { AnswersMeaning (meaning.rest (values_in args.entry)) result }
+{
+    let (record, gone) = both(args);
+    let fields = fields_without(alloc, record, fields_of(gone.get()))?;
+    Ok(Value::Rec(Seq::of(fields)))
+}
+
+/// So many items of a collection, from the first on, or all.
+pub fn first_items(alloc: Global, args: Args<'_>) -> Result<Value, PrimStop>
+    requires { TwoOf IsInt IsCollection (values_in args) }
+    ensures { AnswersMeaning (meaning.first_items (values_in args.entry)) result }
+{
+    let (number, items) = both(args);
+    collections::first_items(alloc, items, number_of(int_of(number.get())))
+}
+
+/// Whether the second text is a suffix of the first.
+pub fn finishes_with(args: &Args<'_>) -> Result<Value, PrimStop>
+    requires { TwoOf IsText IsText (values_in args.now) }
+    ensures { AnswersMeaning (meaning.finishes_with (values_in args.now)) result }
+{
+    let (s, t) = two_texts(args);
+    Ok(Value::Bool(s.ends_with(t)))
 }

@@ -1,7 +1,7 @@
 //! The arguments of one call.
 ghost use Rattle.std.specs.Prelude.{◌≡◌, [], ◌∷◌};
 ghost use Rattle.kl_prim.specs.Arguments.{value_in, values_in};
-ghost use Rattle.kl_prim.specs.Fits.{IsAny, OneOf};
+ghost use Rattle.kl_prim.specs.Fits.{IsAny, OneOf, TwoOf};
 
 use kl_value::Value;
 
@@ -43,5 +43,16 @@ pub fn alone<'a>(args: Args<'a>) -> Arg<'a>
     match args {
         Args::One(arg) => arg,
         Args::Two(..) => unreachable!(),
+    }
+}
+
+/// The arguments of a primitive of two.
+pub fn both<'a>(args: Args<'a>) -> (Arg<'a>, Arg<'a>)
+    requires { TwoOf IsAny IsAny (values_in args) }
+    ensures { values_in args.entry ≡ value_in result.0 ∷ value_in result.1 ∷ [] }
+{
+    match args {
+        Args::Two(first, second) => (first, second),
+        Args::One(_) => unreachable!(),
     }
 }

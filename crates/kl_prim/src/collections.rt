@@ -1,5 +1,5 @@
 //! What is made of collections. Items are copied only where they are part of the answer.
-ghost use Rattle.std.specs.Prelude.{◌≡◌, ◌++◌, false, List, [], ℕ, All, Contains, IfOk, OnOk, IsSome, MatchOption};
+ghost use Rattle.std.specs.Prelude.{◌≡◌, ◌++◌, false, List, [], ℕ, take, All, Contains, IfOk, OnOk, IsSome, MatchOption};
 ghost use Rattle.std.specs.List.{list_any, flat_map};
 ghost use Rattle.std.specs.Option.{option_copied};
 ghost use Rattle.std.specs.Ordering.{is_eq, is_ge, is_gt, is_le};
@@ -7,7 +7,7 @@ ghost use Rattle.kl_value.specs.Canon.{canonical};
 ghost use Rattle.kl_value.specs.Order.{compare};
 ghost use Rattle.kl_value.specs.IsCanonical.{IsCanonical};
 ghost use Rattle.kl_prim.specs.Meaning.{AnswersMeaning, all_some, alone, extreme, gives, listed, with_some};
-ghost use Rattle.kl_value.specs.Views.{IsCollection, items_at, collection};
+ghost use Rattle.kl_value.specs.Views.{IsCollection, as_collection, items_at, collection};
 ghost use Rattle.kl_prim.specs.Arguments.{value_in};
 
 use crate::args::Arg;
@@ -192,5 +192,26 @@ pub fn convert(kind: Kind, items: Vec<Value>, into: Kind) -> Result<Value, PrimS
             Kind::List => Ok(canon(into, items)?),
         },
         Kind::List => Ok(Value::List(Seq::of(items))),
+    }
+}
+
+/// The collection of so many items of an argument, from the first on. Of a collection that is lent they alone are copied.
+pub fn first_items(alloc: Global, arg: Arg<'_>, number: usize) -> Result<Value, PrimStop>
+    requires { IsCollection (value_in arg) }
+    ensures { AnswersMeaning (with_some (as_collection (value_in arg.entry))
+        (λ c. gives (collection c.kind (take number c.items)))) result }
+{
+    match arg {
+        Arg::Lent(v) => {
+            let (kind, items) = parts_of(v);
+            let number = number.min(items.len());
+            Ok(collected(kind, dup_items(alloc, &items[..number])?))
+        }
+        Arg::Owned(v) => {
+            let (kind, items) = into_parts(v);
+            let mut items = items;
+            items.truncate(number);
+            Ok(collected(kind, items))
+        }
     }
 }

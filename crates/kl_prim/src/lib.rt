@@ -18,6 +18,7 @@ mod args;
 mod collections;
 mod numbers;
 mod primitives;
+mod records;
 mod rows;
 mod stop;
 mod texts;

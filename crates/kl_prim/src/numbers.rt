@@ -2,7 +2,7 @@
 ghost use Rattle.std.specs.Prelude.{◌≡◌, ◌<◌, ◌^◌, ℤ, pos, ◌+ℤ◌, ◌-ℤ◌, ◌*ℤ◌, neg_ℤ, All, SomeIff, FitsSigned, length};
 ghost use Rattle.std.specs.Int.{w64};
 ghost use Rattle.kl_value.specs.Views.{IsInt};
-ghost use Rattle.kl_prim.specs.Meaning.{AnswersMeaning, amount, exact, gives, with_some, all_some, total};
+ghost use Rattle.kl_prim.specs.Meaning.{AnswersMeaning, amount, exact, gives, number_of, with_some, all_some, total};
 ghost use Rattle.kl_value.specs.Views.{as_int};
 
 use crate::stop::PrimStop;
@@ -61,4 +61,11 @@ pub fn amount<T>(items: &[T]) -> Value
     ensures { amount (length items.now) ≡ gives result }
 {
     Value::Int(items.len() as i64)
+}
+
+/// An integer as a number of items: none below 0.
+pub fn number_of(n: i64) -> usize
+    ensures { result ≡ number_of n }
+{
+    if n < 0 { 0 } else { n as usize }
 }

@@ -9,9 +9,9 @@ ghost use Rattle.kl_prim.specs.Meaning.{AnswersMeaning, gives, overflows, sensel
 ghost use Rattle.kl_prim.specs.Table.{Fits, IsTotal, Takes, entry_of, meaning, row_at, rows};
 
 use crate::answers::{
-    above, add, at_least, at_most, bagof, begins_with, below, complement, count, equal, flatten,
-    greatest, is_empty, join, least, listof, member, multiply, negate, setof, subtract, sum,
-    text_length, to_int, to_text, unequal,
+    above, add, at_least, at_most, bagof, begins_with, below, complement, count, equal, extend,
+    finishes_with, first_items, flatten, greatest, is_empty, join, least, listof, member, multiply,
+    negate, rest, setof, subtract, sum, text_length, to_int, to_text, unequal,
 };
 use crate::args::{Arg, Args};
 use crate::rows::{PrimRow, PrimTable, Shape};
@@ -56,6 +56,15 @@ macro_rules! primitives {
                 25 b"toint" 1 TextInts true, to_int($alloc, $args);
                 26 b"totext" 1 IntText true, to_text($alloc, $args);
             }
+            keep {
+                27 b"..." 2 Extend true, extend($alloc, $args);
+                28 b"...\\" 2 Rest true, rest($alloc, $args);
+                29 b"take" 2 Take true, first_items($alloc, $args);
+            }
+            look {
+                30 b"endswith" 2 TextTest true, finishes_with($args);
+            }
+            keep {}
         }
     };
 }
@@ -75,11 +84,10 @@ macro_rules! rows_of {
 
 macro_rules! kept_of {
     ($what:ident $alloc:ident $args:ident
-        look { $($before:tt)* }
-        keep { $($code:literal $name:literal $arity:literal $shape:ident $total:literal, $answer:expr;)* }
-        look { $($behind:tt)* }) => {
+        $(look { $($looked:tt)* }
+        keep { $($code:literal $name:literal $arity:literal $shape:ident $total:literal, $answer:expr;)* })*) => {
         match $what {
-            $($code => $answer,)*
+            $($($code => $answer,)*)*
             _ => look($alloc, $what, &$args),
         }
     };
@@ -87,21 +95,19 @@ macro_rules! kept_of {
 
 macro_rules! looked_at_of {
     ($what:ident $alloc:ident $args:ident
-        look { $($code:literal $name:literal $arity:literal $shape:ident $total:literal, $answer:expr;)* }
-        keep { $($kept:tt)* }
-        look { $($last:literal $its_name:literal $its_arity:literal $its_shape:ident $its_total:literal, $its_answer:expr;)* }) => {
+        $(look { $($code:literal $name:literal $arity:literal $shape:ident $total:literal, $answer:expr;)* }
+        keep { $($kept:tt)* })*) => {
         match $what {
-            $($code => $answer,)*
-            $($last => $its_answer,)*
+            $($($code => $answer,)*)*
             _ => unreachable!(),
         }
     };
 }
 
-const ROWS: [PrimRow; 26] = primitives!(rows_of code alloc args);
+const ROWS: [PrimRow; 30] = primitives!(rows_of code alloc args);
 
 /// The table of primitives, as `rows` of `specs/Table.antt` has it. Takes no memory.
-pub fn table() -> PrimTable<26>
+pub fn table() -> PrimTable<30>
     ensures { map entry_of result.rows.now ≡ map (λ r. r.entry) rows }
 {
     PrimTable { rows: &ROWS }
@@ -143,15 +149,15 @@ fn answer(alloc: Global, code: u8, args: Args<'_>) -> Result<Value, PrimStop>
 fn look(alloc: Global, code: u8, args: &Args<'_>) -> Result<Value, PrimStop>
     requires fits { Fits code (values_in args.now) }
     requires canonical { All IsCanonical (values_in args.now) }
-    requires looks { (code ≢ 19) × (code ≢ 20) × (code ≢ 21) × (code ≢ 22) }
+    requires looks { (code ≢ 19) × (code ≢ 20) × (code ≢ 21) × (code ≢ 22) × (code ≢ 27) × (code ≢ 28) × (code ≢ 29) }
     ensures { AnswersMeaning (meaning code (values_in args.now)) result }
 {
     primitives!(looked_at_of code alloc args)
 }
 
 /// What the primitive of a code makes of arguments that fit the shape of its row, as the table means it. What is only
-/// looked at is not copied, and of a collection that is handed over `flatten`, `setof`, `bagof` and `listof` keep the
-/// items.
+/// looked at is not copied, nor is what `take` leaves out; of what is handed over `flatten`, `setof`, `bagof`, `listof`
+/// and `take` keep the items, and the forms of records the fields.
 ///
 /// # Errors
 /// `Overflow` exactly where the exact result leaves the 64-bit integers; `NoMemory`. What was handed over is dropped

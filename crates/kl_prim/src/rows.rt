@@ -44,6 +44,12 @@ pub enum Shape {
     TextInts,
     /// An integer, to a text.
     IntText,
+    /// Two records that share no label, to the record of both.
+    Extend,
+    /// A record and another whose labels it has, to the record of its other fields.
+    Rest,
+    /// An integer and a collection, to one of its type.
+    Take,
 }
 
 /// A row: a primitive's code and name, how many arguments it takes, what they are, and whether it always has an

@@ -144,7 +144,8 @@ impl Search {
     ) -> Result<bool, NoMemory>
         requires ready { AfterNone before (AreOpen arm_at level number (rest_of (option_map view other.old)) trail.now self.old) }
         ensures { IfOk result (Behind before (rest_of (option_map view other.old)) (rest_of (option_map view other.new)) self.old self.new
-            (λ b. SearchedAll arm_at with_arm level number (rest_of (option_map view other.old)) (rest_of (option_map view other.new)) b self.old self.new)) }
+            (λ b. SearchedAll arm_at with_arm level number (rest_of (option_map view other.old)) (rest_of (option_map view other.new))
+            b self.old self.new)) }
     {
         if before? {
             return Ok(true);

@@ -17,13 +17,14 @@ use Rattle.kl_rows.specs.Walking.{HasType, HasRow, IsTypeRoot, FindsType, Walks}
 use Rattle.kl_rows.proofs.ListLemmas.{all_at}
 use Rattle.kl_rows.proofs.Walking.{begin, onward_row, step, stop, end as ended}
 
-type_same : (m n : TypeNode) → Some (OfType m) ≡ Some (OfType n) → m ≡ n
+pub type_same : (m n : TypeNode) → Some (OfType m) ≡ Some (OfType n) → m ≡ n
 type_same m n h = cc
 
 pub known_as : (ns : List Cell) (i found : ℕ) (n : TypeNode) → IsFine ns → FindsType ns i found → HasType ns found n → KnownAs ns i n
 known_as ns i found n f h e = record {
   place = found;
   here = e;
+  links = h.links;
   no_link = subst IsTypeRoot (type_same _ _ (sym h.root.here ∙ e)) h.root.no_link;
   same = h.same;
   placed = f.placed found (OfType n) e;

@@ -1,9 +1,11 @@
 //! Whether a type is known to be one without variables.
-ghost use Rattle.std.specs.Prelude.{◌≡◌, IfSome, nat_eq, true};
+ghost use Rattle.std.specs.Prelude.{◌≡◌, ◌↔◌, IsTrue, IfSome, MatchOption, nat_eq};
 ghost use Rattle.std.specs.Cmp.Lexicographic.{pointwise};
 ghost use Rattle.std.specs.Option.{option_copied};
-ghost use Rattle.kl_rows.specs.Looking.{IsBlock, IsKindAt, Knows, KnowsRow, KnowsThere, is_base, is_fixed};
-ghost use Rattle.kl_rows.specs.Places.{IsFine, IsKind, IsRowAt, IsType};
+ghost use Rattle.kl_rows.specs.Lists.{Fields};
+ghost use Rattle.kl_rows.specs.Looking.{EndsAsKind, IsBlock, Knows, KnowsRow, KnowsThere, is_base, is_fixed};
+ghost use Rattle.kl_rows.specs.Places.{AreTypes, IsFine, IsKind, IsRowAt, IsType};
+ghost use Rattle.kl_rows.specs.declared.cell.KindNode.TheVariants.{Fixed};
 ghost use Rattle.kl_rows.specs.declared.cell.RowNode.TheVariants.{NoRow};
 ghost use Rattle.kl_rows.specs.Walking.{HasRow};
 
@@ -14,13 +16,23 @@ use kl_base::Label;
 use kl_type::Ty;
 use kl_value::Kind;
 
-/// Whether the number is a type's that is known to be this one, with its rows as `make` makes them.
+/// Whether the number is a type's that the cells write out as this one, each row as one block of its fields, as `make` makes them.
 pub fn knows_there(cells: &[Cell], at: usize, t: &Ty) -> bool
     requires { IsFine cells.now }
     ensures { KnowsThere result cells.now at t.now }
 {
+    if is_type(cells, at) {
+        knows(cells, at, t)
+    } else {
+        false
+    }
+}
+
+fn is_type(cells: &[Cell], at: usize) -> bool
+    ensures { IsTrue result ↔ IsType cells.now at }
+{
     match cells.get(at) {
-        Some(Cell::OfType(_)) => knows(cells, at, t),
+        Some(Cell::OfType(_)) => true,
         _ => false,
     }
 }
@@ -70,7 +82,7 @@ fn is_base(node: TypeNode, scalar: Scalar) -> bool
 fn is_kind(cells: &[Cell], at: usize, kind: Kind) -> bool
     requires fine { IsFine cells.now }
     requires there { IsKind cells.now at }
-    ensures { IsKindAt result cells.now at kind }
+    ensures { IsTrue result ↔ EndsAsKind cells.now at (Fixed kind) }
 {
     is_fixed(kind_at(cells, find_kind(cells, at)), kind)
 }
@@ -121,7 +133,8 @@ fn are_alike(first: &Label, second: &Label) -> bool
 fn block(cells: &[Cell], row: usize) -> Option<&[(Label, usize)]>
     requires fine { IsFine cells.now }
     requires there { IsRowAt cells.now row }
-    ensures { IfSome (option_copied result) (IsBlock cells.now row) }
+    ensures types { IfSome (option_copied result) (AreTypes cells.now) }
+    ensures exact { MatchOption (option_copied result) ((fields : Fields) → IsBlock cells.now row fields → ⊥) (IsBlock cells.now row) }
 {
     match row_at(cells, row) {
         RowNode::Front(numbers, rest) if is_bare(cells, *rest) => Some(numbers.slice()),
@@ -130,7 +143,7 @@ fn block(cells: &[Cell], row: usize) -> Option<&[(Label, usize)]>
 }
 
 fn is_bare(cells: &[Cell], row: usize) -> bool
-    ensures { result ≡ true → HasRow cells.now row NoRow }
+    ensures { IsTrue result ↔ HasRow cells.now row NoRow }
 {
     match cells.get(row) {
         Some(Cell::OfRow(RowNode::NoRow)) => true,

@@ -133,9 +133,8 @@ impl Unifier {
         node(&self.cells, number as usize)
     }
 
-    /// Whether the number is a type's that is known to be this one: where it says so, it is so in each solution, and
-    /// where it does not, it may be so all the same. It takes a step for each part of the type, and finds what `make`
-    /// made of it.
+    /// Whether the number is a type's that the cells write out as this one, each row as one block of its fields in their order, as
+    /// `make` makes them. Where they do not, it may be so all the same. It takes a step for each part of the type.
     pub fn knows(&self, number: u64, t: &Ty) -> bool
         requires { IsFine self.now.cells.items }
         ensures { KnowsThere result self.now.cells.items number t.now }

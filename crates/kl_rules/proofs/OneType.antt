@@ -1,5 +1,5 @@
 -- A term without variants and empty collections has one type.
-use Rattle.std.proofs.Common.{◌≡◌, ℕ, Bool, true, false, ◌&&◌, List, [], ◌∷◌, map, Option, Some, None, IsSome, refl, sym, ap, ap₂, subst, ◌∙◌}
+use Rattle.std.proofs.Common.{◌≡◌, ℕ, Bool, true, false, ◌&&◌, List, [], ◌∷◌, map, Option, Some, None, is_some, IsSome, cond, refl, sym, ap, ap₂, subst, ◌∙◌}
 use Rattle.std.specs.List.{AllByRecursion}
 use Rattle.std.proofs.lemmas.Option.{same_Some}
 use Rattle.kl_value.specs.declared.Kind.{Kind}
@@ -13,8 +13,9 @@ use Rattle.kl_prim.specs.declared.rows.Shape.{Shape}
 use Rattle.kl_prim.specs.declared.rows.Shape.TheVariants as shape
 use Rattle.kl_type.specs.Ground.{Ground, Row, bool, int, str, rec as rec_type, var as var_type, coll, arrow, no_row, row, at}
 use Rattle.kl_outcome.specs.Outcome.{Name}
-use Rattle.kl_outcome.specs.Typed.{Has, HasFields, ShapeTypes, RowTypes, PrimTypes}
+use Rattle.kl_outcome.specs.Typed.{Has, HasFields, IsBoth, IsWithout, stands_in, ShapeTypes, RowTypes, PrimTypes}
 use Rattle.kl_core.specs.Trees.{Tree, Var, Const, Source, Rec, Proj, Inj, Case, Make, Union, Ext, If, Let, Prim, Trees, no_trees, trees, Parts, no_parts, parts, no_arms, rest, arm}
+use Rattle.kl_type.proofs.RowLemmas as rows
 use Rattle.kl_type.proofs.RowLemmas.{same_label}
 use Rattle.kl_core.specs.Typing.{SourceTypes, CoreTypes, AllTypes, PartTypes, Covers}
 use Rattle.kl_core.proofs.Proper.{types_proper}
@@ -153,6 +154,24 @@ mutual
 
 -- ---- primitives
 
+-- a row without some labels is one
+without_one : (test : Name → Bool) (r q p : Row) → IsWithout test r q → IsWithout test r p → q ≡ p
+without_one test r q p h g = rows.one_row q p h.0 g.0 (λ l. h.1 l ∙ sym (g.1 l))
+
+-- what stands in the row of two that share no label stands in one of these
+abbrev first_of : Option Ground → Option Ground → Option Ground
+first_of (Some t) y = Some t
+first_of None y = y
+
+both_at : (x y z : Option Ground) → x ≡ cond (is_some y) None z → y ≡ cond (is_some x) None z → z ≡ first_of x y
+both_at (Some t) (Some u) z e f = absurd cc
+both_at (Some t) None z e f = sym e
+both_at None y z e f = sym f
+
+both_one : (r s u v : Row) → IsBoth r s u → IsBoth r s v → u ≡ v
+both_one r s u v b c = rows.one_row u v b.0 c.0
+    (λ l. both_at (at l r) (at l s) (at l u) (b.1.1 l) (b.2.1 l) ∙ sym (both_at (at l r) (at l s) (at l v) (c.1.1 l) (c.2.1 l)))
+
 shape_type : (s : Shape) (ts us : List Ground) (t u : Ground) → ts ≡ us → ShapeTypes s ts t → ShapeTypes s us u → t ≡ u
 shape_type shape.Compare ts us t u e h g = h.2 ∙ sym g.2
 shape_type shape.IntOp ts us t u e h g = h.1 ∙ sym g.1
@@ -172,6 +191,20 @@ shape_type shape.TextLen ts us t u e h g = h.1 ∙ sym g.1
 shape_type shape.TextTest ts us t u e h g = h.1 ∙ sym g.1
 shape_type shape.TextInts ts us t u e h g = h.1 ∙ sym g.1
 shape_type shape.IntText ts us t u e h g = h.1 ∙ sym g.1
+shape_type shape.Extend ts us t u e h g =
+    let f = sym h.3 ∙ e ∙ g.3 in
+    let first : h.0 ≡ g.0 = cc in
+    let second : h.1 ≡ g.1 = cc in
+    let both : IsBoth g.0 g.1 h.2 = subst (λ x. IsBoth x g.1 h.2) first (subst (λ x. IsBoth h.0 x h.2) second h.5) in
+    h.4 ∙ ap rec_type (both_one g.0 g.1 h.2 g.2 both g.5) ∙ sym g.4
+shape_type shape.Rest ts us t u e h g =
+    let f = sym h.3 ∙ e ∙ g.3 in
+    let first : h.0 ≡ g.0 = cc in
+    let second : h.1 ≡ g.1 = cc in
+    let others : IsWithout (stands_in g.1) g.0 h.2 =
+    subst (λ x. IsWithout (stands_in g.1) x h.2) first (subst (λ x. IsWithout (stands_in x) h.0 h.2) second h.6) in
+    h.4 ∙ ap rec_type (without_one (stands_in g.1) g.0 h.2 g.2 others g.6) ∙ sym g.4
+shape_type shape.Take ts us t u e h g = let f = sym h.2 ∙ e ∙ g.2 in let same : coll h.0 h.1 ≡ coll g.0 g.1 = cc in h.3 ∙ same ∙ sym g.3
 
 prim_type : (c : ℕ) (ts us : List Ground) (t u : Ground) → ts ≡ us → PrimTypes c ts t → PrimTypes c us u → t ≡ u
 unfolding PrimTypes

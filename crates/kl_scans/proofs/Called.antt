@@ -56,7 +56,7 @@ module _ (w : World) (c : Scan) (can : CanScan w c) where
   pub place_within : c.driver < length w.drivers
   place_within = slice_get_within w.drivers c.driver of_driver.0 of_driver.1
 
-  listed_there : slice_get w.sources can.1.place ≡ Some can.1.entry
+  pub listed_there : slice_get w.sources can.1.place ≡ Some can.1.entry
   unfolding stage
   listed_there = can.1.listed
 
@@ -71,7 +71,7 @@ module _ (w : World) (c : Scan) (can : CanScan w c) where
   pub can_start : AtIndex c.driver (λ s. CanStart s c.ask) w.drivers
   can_start s is = subst (λ z. CanStart z c.ask) (same_Some _ _ (sym of_driver.1 ∙ is)) (record { answerable = answerable c.ask can.1.ask })
 
-  source_there : source_at w can.1.place ≡ (of_driver.0).attached c.source
+  pub source_there : source_at w can.1.place ≡ (of_driver.0).attached c.source
   source_there =
       ap (λ q. at_source q w.drivers) listed_there ∙ ap (λ q. at_place can.1.entry q w.drivers) can.1.driver ∙ ap (at_driver can.1.entry) of_driver.1 ∙ ap (of_driver.0).attached (sym can.1.named)
 

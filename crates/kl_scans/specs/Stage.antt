@@ -71,10 +71,13 @@ pub record ScanOf (t : Stage) (c : Scan) (u : Ground) : Type 0 where
   pub attached : held.attached c.source ≡ Some source
   pub ask : AskOf held.abilities c.source source c.ask c.kind u
 
+-- of a driver that can do nothing more, all rows alone may be asked, whole
+abbrev pub only_rows : Abilities
+only_rows = record { select = false; project = false; join = false; unique = false }
+
 -- an ask for all rows of a set, whole
 abbrev pub AsksWholeSet : Ground → Ask → Type 0
-AsksWholeSet t ask =
-    (kind_of t ≡ kind.Set) × (is_allowed (record { select = false; project = false; join = false; unique = false }) t ask ≡ true)
+AsksWholeSet t ask = (kind_of t ≡ kind.Set) × (is_allowed only_rows t ask ≡ true)
 
 -- a scan of all rows of a set, at a driver that repeats no row of a set
 pub record RepeatsNone (t : Stage) (c : Scan) : Type 0 where

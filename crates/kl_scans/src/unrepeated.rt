@@ -1,11 +1,11 @@
 //! Scans that repeat no row.
-ghost use Rattle.std.specs.Prelude.{◌≡◌, false, true};
+ghost use Rattle.std.specs.Prelude.{◌≡◌, Some, true};
 ghost use Rattle.kl_type.specs.Ground.{ground_of};
 ghost use Rattle.kl_ask.specs.Asks.{kind_of};
 ghost use Rattle.kl_ask.specs.World.{IsReady};
 ghost use Rattle.kl_value.specs.declared.Kind.TheVariants as kind;
 ghost use Rattle.kl_scans.specs.Scans.{CanScan, IsWholeSet, ListsWholeSet};
-ghost use Rattle.kl_scans.specs.Stage.{RepeatsNone, stage};
+ghost use Rattle.kl_scans.specs.Stage.{RepeatsNone, stage, only_rows};
 
 use crate::drivers::abilities_at;
 use kl_ask::{Abilities, Attached, Seen, Session, allows};
@@ -13,18 +13,20 @@ use kl_ship::Scan;
 use kl_type::Ty;
 use kl_value::Kind;
 
-/// Whether a scan is one of all rows of a set at a driver that repeats no row of a set. Takes no memory.
+/// Whether a scan is one of all rows, whole, of a set at a driver that states that it repeats no row of a set. Takes no memory.
 pub fn repeats_none(session: &Session, scan: &Scan) -> bool
     requires ready { IsReady (⟦<Session as Seen>⟧.world session.now) }
     requires scan { CanScan (⟦<Session as Seen>⟧.world session.now) scan.now }
-    ensures { result ≡ true → RepeatsNone (stage (⟦<Session as Seen>⟧.world session.now)) scan.now }
+    ensures yes { result ≡ true → RepeatsNone (stage (⟦<Session as Seen>⟧.world session.now)) scan.now }
+    ensures no { RepeatsNone (stage (⟦<Session as Seen>⟧.world session.now)) scan.now → result ≡ true }
 {
     abilities_at(&session.drivers, scan).unique && lists_whole_set(session.sources.slice(), scan)
 }
 
 // Whether one of these is the source of the scan, a set, of which all rows are asked whole.
 fn lists_whole_set(sources: &[Attached], scan: &Scan) -> bool
-    ensures { result ≡ true → ListsWholeSet sources.now scan.now }
+    ensures yes { result ≡ true → ListsWholeSet sources.now scan.now }
+    ensures no { ListsWholeSet sources.now scan.now → result ≡ true }
 {
     'sources: for source in sources {
         if is_whole_set(source, scan) {
@@ -35,16 +37,18 @@ fn lists_whole_set(sources: &[Attached], scan: &Scan) -> bool
 }
 
 fn is_whole_set(source: &Attached, scan: &Scan) -> bool
-    ensures { result ≡ true → IsWholeSet source.now scan.now }
+    ensures yes { result ≡ true → IsWholeSet source.now scan.now }
+    ensures no { IsWholeSet source.now scan.now → result ≡ true }
 {
     is_at(source, scan.driver)
         && source.source == scan.source
         && is_set(&source.ty)
-        && allows(&only_whole_rows(), &source.ty, &scan.ask)
+        && allows(&only_rows(), &source.ty, &scan.ask)
 }
 
 fn is_at(source: &Attached, driver: u32) -> bool
-    ensures { result ≡ true → source.now.driver ≡ Some driver }
+    ensures yes { result ≡ true → source.now.driver ≡ Some driver }
+    ensures no { source.now.driver ≡ Some driver → result ≡ true }
 {
     match source.driver {
         Some(at) => at == driver,
@@ -54,7 +58,8 @@ fn is_at(source: &Attached, driver: u32) -> bool
 
 #[tactic(auto, using(kl_ship::proofs::Grounds::kind_rules))]
 fn is_set(ty: &Ty) -> bool
-    ensures { result ≡ true → kind_of (ground_of ty.now) ≡ kind.Set }
+    ensures yes { result ≡ true → kind_of (ground_of ty.now) ≡ kind.Set }
+    ensures no { kind_of (ground_of ty.now) ≡ kind.Set → result ≡ true }
 {
     match ty {
         Ty::Coll(kind, _) => match kind {
@@ -66,8 +71,8 @@ fn is_set(ty: &Ty) -> bool
 }
 
 // What is allowed of a driver that can do nothing more is all rows, whole.
-fn only_whole_rows() -> Abilities
-    ensures { result ≡ record { select = false; project = false; join = false; unique = false } }
+fn only_rows() -> Abilities
+    ensures { result ≡ only_rows }
 {
     Abilities {
         select: false,

@@ -1,5 +1,5 @@
 -- The walk, a form of pattern and of expression each.
-use Rattle.std.proofs.Common.{◌≡◌, ℕ, suc, ◌-◌, List, [], ◌∷◌, ◌++◌, map, length, drop, Bool, Option, Some, None, Result, Ok, Err, IfOk, refl, sym, ap, subst, ◌∙◌, rules, append_assoc}
+use Rattle.std.proofs.Common.{◌≡◌, ℕ, suc, ◌-◌, List, [], ◌∷◌, ◌++◌, map, length, drop, Option, Some, None, Result, Ok, Err, IfOk, refl, sym, ap, subst, ◌∙◌, rules, append_assoc}
 use Rattle.std.specs.Option.{option_map}
 use Rattle.kl_base.specs.declared.memory.NoMemory.{NoMemory}
 use Rattle.kl_value.specs.declared.value.Kind.{Kind}
@@ -11,13 +11,14 @@ use Rattle.kl_syntax.specs.declared.tree.Pattern.{Pattern}
 use Rattle.kl_syntax.specs.declared.tree.Pattern.TheVariants as code
 use Rattle.kl_syntax.specs.declared.tree.Qual.{Qual}
 use Rattle.kl_syntax.specs.declared.tree.Qual.TheVariants as quals
+use Rattle.kl_syntax.specs.declared.tree.Tail.{Tail}
 use Rattle.kl_syntax.specs.declared.tree.Word.{Word}
-use Rattle.kl_syntax.specs.Syntax.{Pat, Pats, no_pats, pats, shape, Exp, Call, Rec, Coll, Comp, If, Let, Case, Chain, Exps, no_exps, exps, no_flds, flds, Quals, no_quals, Branches, no_branches, branch, Steps, no_steps, step}
+use Rattle.kl_syntax.specs.Syntax.{Pat, Pats, no_pats, pats, shape, Exp, Call, Rec, More, Coll, Comp, If, Let, Case, Chain, Exps, no_exps, exps, Flds, no_flds, flds, Quals, no_quals, Branches, no_branches, branch, Steps, no_steps, step}
 use Rattle.kl_syntax.specs.View.{view, exps_view, exps_of, fields_view, field_view, flds_of, quals_view, qual_view, quals_of, steps_view, steps_of, step_view, branch_view, branches_of, rest_of, pattern_view, patterns_view, pats_of, pattern_pair}
 use Rattle.kl_scope.specs.declared.walk.Walk.{Walk}
 use Rattle.kl_scope.specs.declared.names.Sense.{Sense}
 use Rattle.kl_scope.specs.Senses.{Scope, called}
-use Rattle.kl_scope.specs.Patterns.{within, pattern_labels, variables, variables_all, tests}
+use Rattle.kl_scope.specs.Patterns.{within, pattern_labels, rest_variable, variables, variables_all, tests}
 use Rattle.kl_scope.specs.Findings.{Finding, may_fail, used, repeated, pattern_findings, patterns_findings, drawn_findings, sure_findings, count, field_labels, branch_labels, behind, findings, findings_all, findings_fields, findings_quals, findings_branches, findings_steps}
 use Rattle.kl_scope.specs.Gathering.{gathered}
 use Rattle.kl_scope.specs.Resolved.{meant, resolved_pat, resolved_pats, resolved, resolved_all, resolved_fields, resolved_quals, resolved_branches, resolved_steps}
@@ -25,7 +26,7 @@ use Rattle.kl_scope.specs.Walks.{Walked, Fronted, onto, same_scope, pattern_fron
 use Rattle.kl_scope.proofs.StayLemmas.{variables_stay}
 use Rattle.kl_scope.proofs.FindingLemmas.{gathered_append}
 use Rattle.kl_scope.proofs.WalkLemmas.{closed, left_is, behind_more, within_more, draw_in_front, test_in_front}
-use Rattle.kl_syntax.proofs.Views.{pattern_Rec, view_Call, view_Rec, view_Coll, view_Comp, view_If, view_Let, view_Case, view_Chain, view_Gen, view_Cond, branch_seen}
+use Rattle.kl_syntax.proofs.Views.{pattern_Rec, view_Call, view_Rec, view_More, view_Coll, view_Comp, view_If, view_Let, view_Case, view_Chain, view_Gen, view_Cond, branch_seen}
 
 -- ---- the lists of the code's trees
 
@@ -245,15 +246,15 @@ branch_in_front l p q e f w v h =
 
 -- ---- the forms as the code has them
 
-pub rec_ok : (r : Result (Unit {0}) NoMemory) (p q : Pattern) (ps qs zs : List (Word × Pattern)) (dots : Bool) (w u : Walk) → p ≡ code.Rec ps dots → q ≡ code.Rec qs dots → zs ≡ ps → IfOk r (λ _. PatternsWalk (patterns_view zs) (patterns_view qs) w u)
+pub rec_ok : (r : Result (Unit {0}) NoMemory) (p q : Pattern) (ps qs zs : List (Word × Pattern)) (end : Tail) (w u : Walk) → p ≡ code.Rec ps end → q ≡ code.Rec qs end → zs ≡ ps → IfOk r (λ _. PatternsWalk (patterns_view zs) (patterns_view qs) w u)
     → IfOk r (λ _. PatternWalk (pattern_view p) (pattern_view q) w u)
-rec_ok r p q ps qs zs dots w u pe qe ze h =
+rec_ok r p q ps qs zs end w u pe qe ze h =
     if_ok r (λ k.
     let walked : PatternsWalk (patterns_view ps) (patterns_view qs) w u = subst (λ (z : List (Word × Pattern)). PatternsWalk (patterns_view z) (patterns_view qs) w u) ze k in
-    rw (pe, qe, pattern_Rec ps dots, pattern_Rec qs dots) (record { tree = ap (λ (t : Pats). shape t dots) walked.tree; found = walked.found; scope = walked.scope })) h
+    rw (pe, qe, pattern_Rec ps end, pattern_Rec qs end) (record { tree = ap (λ (t : Pats). shape t end) walked.tree; found = walked.found; scope = walked.scope })) h
 
-pub variables_rec : (p : Pattern) (ps zs : List (Word × Pattern)) (dots : Bool) → p ≡ code.Rec ps dots → zs ≡ ps → variables_all (patterns_view zs) ≡ variables (pattern_view p)
-variables_rec p ps zs dots pe pz = rw pz (sym (ap variables (ap pattern_view pe ∙ pattern_Rec ps dots)))
+pub variables_rec : (p : Pattern) (ps zs : List (Word × Pattern)) (end : Tail) → p ≡ code.Rec ps end → zs ≡ ps → variables_all (patterns_view zs) ++ rest_variable end ≡ variables (pattern_view p)
+variables_rec p ps zs end pe pz = rw pz (sym (ap variables (ap pattern_view pe ∙ pattern_Rec ps end)))
 
 -- what holds of the views holds of the code's trees
 seen_as : (r : Result (Unit {0}) NoMemory) (e g : Expr) (a b : Exp) (w u : Walk) → view e ≡ a → view g ≡ b → IfOk r (λ _. ExprWalk a b w u) → IfOk r (λ _. ExprWalk (view e) (view g) w u)
@@ -271,6 +272,18 @@ pub fields_ok : (r : Result (Unit {0}) NoMemory) (e g : Expr) (es fs zs : List (
 fields_ok r e g es fs zs w u pe pg pz h =
     seen_as r e g (Rec (fields_view es)) (Rec (fields_view fs)) w u (ap view pe ∙ view_Rec es) (ap view pg ∙ view_Rec fs)
     (subst (λ (x : List (Word × Expr)). IfOk r (λ _. ExprWalk (Rec (fields_view x)) (Rec (fields_view fs)) w u)) pz h)
+
+-- a record and what stands behind its dots
+more_walked : (fs gs : Flds) (a b : Exp) (w v u : Walk) → ExprWalk (Rec fs) (Rec gs) w v → ExprWalk a b v u → ExprWalk (More fs a) (More gs b) w u
+more_walked fs gs a b w v u h k = record {
+  tree = ap (λ (f : Exp). more_of f b) h.tree ∙ ap (More (resolved_fields fs w.names)) (k.tree ∙ ap (resolved a) h.scope);
+  found = k.found ∙ rw (h.found, h.scope) (sym (gathered_append w.findings (repeated [] (field_labels fs) ++ findings_fields fs w.names) (findings a w.names)) ∙ ap (gathered w.findings) (append_assoc (repeated [] (field_labels fs)) (findings_fields fs w.names) (findings a w.names)));
+  scope = k.scope ∙ h.scope;
+}
+  where
+    more_of : Exp → Exp → Exp
+    more_of (Rec hs) c = More hs c
+    more_of e c = e
 
 pub coll_ok : (r : Result (Unit {0}) NoMemory) (e g : Expr) (k : Kind) (es fs zs : List Expr) (w u : Walk) → e ≡ expr.Coll k es → g ≡ expr.Coll k fs → zs ≡ es → IfOk r (λ _. ItemsWalk (exps_view zs) (exps_view fs) w u)
     → IfOk r (λ _. ExprWalk (view e) (view g) w u)
@@ -333,6 +346,12 @@ pub chain_is : (e g : Expr) (a b x : Expr) (ss ts zs : List (Op × Expr)) (w v u
 chain_is e g a b x ss ts zs w v u pe pg px pz h k =
     seen e g (Chain (view a) (steps_view ss)) (Chain (view b) (steps_view ts)) w u (ap view pe ∙ view_Chain a ss) (ap view pg ∙ view_Chain b ts)
     (chain_walked (view a) (view b) (steps_view ss) (steps_view ts) w v u (subst (λ (t : Expr). ExprWalk (view t) (view b) w v) px h) (subst (λ (t : List (Op × Expr)). StepsWalk (steps_view t) (steps_view ts) v u) pz k))
+
+pub more_is : (e g : Expr) (a b x : Expr) (es fs zs : List (Word × Expr)) (w v u : Walk) → e ≡ expr.More es a → g ≡ expr.More fs b → zs ≡ es → x ≡ a
+    → ExprWalk (Rec (fields_view zs)) (Rec (fields_view fs)) w v → ExprWalk (view x) (view b) v u → ExprWalk (view e) (view g) w u
+more_is e g a b x es fs zs w v u pe pg pz px h k =
+    seen e g (More (fields_view es) (view a)) (More (fields_view fs) (view b)) w u (ap view pe ∙ view_More es a) (ap view pg ∙ view_More fs b)
+    (more_walked (fields_view es) (fields_view fs) (view a) (view b) w v u (subst (λ (t : List (Word × Expr)). ExprWalk (Rec (fields_view t)) (Rec (fields_view fs)) w v) pz h) (subst (λ (t : Expr). ExprWalk (view t) (view b) v u) px k))
 
 pub gen_is : (e g : Qual) (p q m : Pattern) (a b x : Expr) (w v u : Walk) → e ≡ quals.Gen p a → g ≡ quals.Gen q b → m ≡ p → x ≡ a
     → ExprWalk (view x) (view b) w v → DrawnWalk (pattern_view m) (pattern_view q) v u → QualFront (qual_view e) (qual_view g) w u

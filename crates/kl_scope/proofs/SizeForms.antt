@@ -12,19 +12,23 @@ use Rattle.kl_syntax.specs.declared.tree.Pattern.{Pattern, the_lemmas as pattern
 use Rattle.kl_syntax.specs.declared.tree.Pattern.TheVariants as code
 use Rattle.kl_syntax.specs.declared.tree.Qual.{Qual, the_lemmas as qual_lemmas}
 use Rattle.kl_syntax.specs.declared.tree.Qual.TheVariants as quals
+use Rattle.kl_syntax.specs.declared.tree.Tail.{Tail}
 use Rattle.kl_syntax.specs.declared.tree.Word.{Word}
 use Rattle.kl_syntax.specs.Syntax.{Quals, Branches}
 use Rattle.kl_syntax.specs.View.{view, qual_view, branch_view, branches_view, branches_of, exps_view, fields_view, quals_view, steps_view, pattern_view, patterns_view}
 use Rattle.kl_scope.specs.declared.terms.Size.{Size}
 use Rattle.kl_scope.specs.Caps.{capped}
-use Rattle.kl_scope.specs.Sizes.{beside, node, leaf, no_parts, named, callee, matched, matched_fields, sized, sized_all, sized_fields, qualified, sized_branches, chained, third, projected}
-use Rattle.kl_scope.proofs.SizeLemmas.{alike, no_parts_is, beside_alike, chained_alike, projected_alike, up_node, up_beside, up_matched}
+use Rattle.kl_scope.specs.Sizes.{beside, node, leaf, no_parts, named, callee, with_rest, matched, matched_fields, sized, sized_all, sized_fields, qualified, sized_branches, chained, third, projected}
+use Rattle.kl_scope.proofs.SizeLemmas.{alike, no_parts_is, beside_alike, chained_alike, projected_alike, up_node, up_beside, up_matched, up_fields}
 
 pub call_form : (f : Word) (es : List Expr) (ds : List Size) → sized (view (expr.Call f es)) ds ≡ node (beside (sized_all (exps_view es) ds) (callee f.means ds))
 call_form f es ds = search (rules, the_lemmas)
 
 pub record_form : (fs : List (Word × Expr)) (ds : List Size) → sized (view (expr.Rec fs)) ds ≡ node (sized_fields (fields_view fs) ds)
 record_form fs ds = search (rules, the_lemmas)
+
+pub more_form : (fs : List (Word × Expr)) (a : Expr) (ds : List Size) → sized (view (expr.More fs a)) ds ≡ node (beside (node (sized_fields (fields_view fs) ds)) (sized (view a) ds))
+more_form fs a ds = search (rules, the_lemmas)
 
 pub coll_form : (k : Kind) (es : List Expr) (ds : List Size) → sized (view (expr.Coll k es)) ds ≡ node (sized_all (exps_view es) ds)
 coll_form k es ds = search (rules, the_lemmas)
@@ -76,6 +80,9 @@ any_form t a ds = search (rules, pattern_lemmas)
 pub same_form : (w : Word) (t a : Size) (ds : List Size) → matched (pattern_view (code.Same w)) t a ds ≡ node (beside (node (beside t (named w.means ds))) (beside a leaf))
 same_form w t a ds = search (rules, pattern_lemmas)
 
+pub rec_form : (ps : List (Word × Pattern)) (end : Tail) (t a : Size) (ds : List Size) → matched (pattern_view (code.Rec ps end)) t a ds ≡ matched_fields (patterns_view ps) t (with_rest end t a) ds
+rec_form ps end t a ds = search (rules, pattern_lemmas)
+
 pub inj_form : (l : Word) (p : Pattern) (t a : Size) (ds : List Size) → matched (pattern_view (code.Inj l p)) t a ds ≡ node (beside t (beside (matched (pattern_view p) leaf a ds) leaf))
 inj_form l p t a ds = search (rules, pattern_lemmas)
 
@@ -101,6 +108,9 @@ at_back xs i x pos le e =
 
 pub at_expr : (e x : Expr) (r : Size) (ds : List Size) → r ≡ capped (sized (view e) ds) → e ≡ x → r ≡ capped (sized (view x) ds)
 at_expr e x r ds h k = h ∙ ap (λ (z : Expr). capped (sized (view z) ds)) k
+
+pub at_shape : (ps qs : List (Word × Pattern)) (r t a b : Size) (ds : List Size) → r ≡ capped (matched_fields (patterns_view ps) t a ds) → ps ≡ qs → a ≡ capped b → r ≡ capped (matched_fields (patterns_view qs) t b ds)
+at_shape ps qs r t a b ds h k j = up_fields (patterns_view qs) r t a b ds (h ∙ ap (λ (z : List (Word × Pattern)). capped (matched_fields (patterns_view z) t a ds)) k) j
 
 pub at_items : (es xs : List Expr) (r : Size) (ds : List Size) → r ≡ capped (sized_all (exps_view es) ds) → es ≡ xs → r ≡ capped (sized_all (exps_view xs) ds)
 at_items es xs r ds h k = h ∙ ap (λ (z : List Expr). capped (sized_all (exps_view z) ds)) k

@@ -1,10 +1,12 @@
 -- Sizes as the code counts them are those of the terms, as far as 32 bits go.
 use Rattle.std.proofs.Common.{◌≡◌, ℕ, max, min, List, [], ◌∷◌, refl, ap, ◌∙◌, arith}
 use Rattle.kl_syntax.specs.declared.tree.Word.{Word}
+use Rattle.kl_syntax.specs.declared.tree.Tail.{Tail}
+use Rattle.kl_syntax.specs.declared.tree.Tail.TheVariants as tail
 use Rattle.kl_syntax.specs.Syntax.{Pat, catch, any, same, is, shape, variant, Pats, no_pats, pats, Quals, no_quals, draw, test, Steps, no_steps, step}
 use Rattle.kl_scope.specs.declared.terms.Size.{Size}
 use Rattle.kl_scope.specs.Caps.{most, capped}
-use Rattle.kl_scope.specs.Sizes.{beside, node, leaf, no_parts, named, matched, matched_fields, sized, qualified, chained, third, projected}
+use Rattle.kl_scope.specs.Sizes.{beside, node, leaf, no_parts, named, with_rest, matched, matched_fields, sized, qualified, chained, third, projected}
 
 abbrev pair : ℕ → ℕ → Size
 pair m n = record { nodes = m; depth = n }
@@ -61,13 +63,20 @@ compared_alike t u a b w h k =
 chosen_alike : (t u a b : Size) → capped t ≡ capped u → capped a ≡ capped b → capped (node (beside t (beside a leaf))) ≡ capped (node (beside u (beside b leaf)))
 chosen_alike t u a b h k = node_alike (beside t (beside a leaf)) (beside u (beside b leaf)) (beside_alike t u (beside a leaf) (beside b leaf) h (beside_alike a b leaf leaf k refl))
 
+rest_alike : (end : Tail) (t u a b : Size) → capped t ≡ capped u → capped a ≡ capped b → capped (with_rest end t a) ≡ capped (with_rest end u b)
+rest_alike tail.Exact t u a b h k = k
+rest_alike tail.Open t u a b h k = k
+rest_alike (tail.Rest w) t u a b h k =
+    node_alike (beside (node (beside t leaf)) a) (beside (node (beside u leaf)) b)
+    (beside_alike (node (beside t leaf)) (node (beside u leaf)) a b (node_alike (beside t leaf) (beside u leaf) (beside_alike t u leaf leaf h refl)) k)
+
 mutual
   pub matched_alike : (p : Pat) (t u a b : Size) (ds : List Size) → capped t ≡ capped u → capped a ≡ capped b → capped (matched p t a ds) ≡ capped (matched p u b ds)
   matched_alike (catch w) t u a b ds h k = node_alike (beside t a) (beside u b) (beside_alike t u a b h k)
   matched_alike any t u a b ds h k = k
   matched_alike (same w) t u a b ds h k = compared_alike t u a b (named w.means ds) h k
   matched_alike (is v n) t u a b ds h k = compared_alike t u a b leaf h k
-  matched_alike (shape ps dots) t u a b ds h k = fields_alike ps t u a b ds h k
+  matched_alike (shape ps end) t u a b ds h k = fields_alike ps t u (with_rest end t a) (with_rest end u b) ds h (rest_alike end t u a b h k)
   matched_alike (variant l p) t u a b ds h k = chosen_alike t u (matched p leaf a ds) (matched p leaf b ds) h (matched_alike p leaf leaf a b ds refl k)
 
   fields_alike : (ps : Pats) (t u a b : Size) (ds : List Size) → capped t ≡ capped u → capped a ≡ capped b → capped (matched_fields ps t a ds) ≡ capped (matched_fields ps u b ds)
@@ -110,6 +119,9 @@ up_compared r t w b a e h =
 
 pub up_matched : (p : Pat) (r t a u b : Size) (ds : List Size) → r ≡ capped (matched p t a ds) → t ≡ capped u → a ≡ capped b → r ≡ capped (matched p u b ds)
 up_matched p r t a u b ds e h k = e ∙ matched_alike p t u a b ds (alike t u h) (alike a b k)
+
+pub up_fields : (ps : Pats) (r t a b : Size) (ds : List Size) → r ≡ capped (matched_fields ps t a ds) → a ≡ capped b → r ≡ capped (matched_fields ps t b ds)
+up_fields ps r t a b ds e k = e ∙ fields_alike ps t t a b ds refl (alike a b k)
 
 pub up_qualified : (qs : Quals) (r s t : Size) (ds : List Size) → r ≡ capped (qualified qs s ds) → s ≡ capped t → r ≡ capped (qualified qs t ds)
 up_qualified qs r s t ds e h = e ∙ qualified_alike qs s t ds (alike s t h)

@@ -5,7 +5,7 @@ use Rattle.kl_syntax.specs.declared.tree.Meaning.{Meaning}
 use Rattle.kl_syntax.specs.declared.tree.Meaning.TheVariants.{Source}
 use Rattle.kl_syntax.specs.declared.tree.Word.{Word}
 use Rattle.kl_syntax.specs.Syntax.{Pat, catch, any, same, is, shape, variant, Pats, no_pats, pats, Exp, Const, name, Call, Rec}
-use Rattle.kl_syntax.specs.Syntax.{Inj, Coll, Comp, If, Let, Case, Path, Not, Neg, Chain, Exps, no_exps, exps, Flds, no_flds}
+use Rattle.kl_syntax.specs.Syntax.{More, Inj, Coll, Comp, If, Let, Case, Path, Not, Neg, Chain, Exps, no_exps, exps, Flds, no_flds}
 use Rattle.kl_syntax.specs.Syntax.{flds, Quals, no_quals, draw, test, Branches, no_branches, otherwise, branch, Steps, no_steps}
 use Rattle.kl_syntax.specs.Syntax.{step, Decls, no_decls, constant, function}
 use Rattle.kl_scope.specs.declared.refusal.ScopeError.{ScopeError}
@@ -56,7 +56,7 @@ abbrev mutual
   pattern_findings any s = []
   pattern_findings (same w) s = used (named s w.text) w 0
   pattern_findings (is v n) s = []
-  pattern_findings (shape ps dots) s = repeated [] (pattern_labels ps) ++ patterns_findings ps s
+  pattern_findings (shape ps end) s = repeated [] (pattern_labels ps) ++ patterns_findings ps s
   pattern_findings (variant l p) s = pattern_findings p s
 
   pub patterns_findings : Pats → Scope → List Finding
@@ -101,6 +101,7 @@ abbrev mutual
   findings (name w) s = used (named s w.text) w 0
   findings (Call f es) s = used (called s f.text) f (count es) ++ findings_all es s
   findings (Rec fs) s = repeated [] (field_labels fs) ++ findings_fields fs s
+  findings (More fs e) s = repeated [] (field_labels fs) ++ (findings_fields fs s ++ findings e s)
   findings (Inj l e) s = findings e s
   findings (Coll k es) s = findings_all es s
   findings (Comp k e qs) s = findings_quals qs s ++ findings e (behind qs s)

@@ -1,8 +1,15 @@
 -- The parts of a pattern.
 use Rattle.std.specs.Prelude.{ℕ, ◌-◌, List, [], ◌∷◌, ◌++◌}
+use Rattle.kl_syntax.specs.declared.tree.Tail.{Tail}
+use Rattle.kl_syntax.specs.declared.tree.Tail.TheVariants as tail
 use Rattle.kl_syntax.specs.declared.tree.Word.{Word}
 use Rattle.kl_syntax.specs.Syntax.{Pat, catch, any, same, is, shape, variant, Pats, no_pats, pats}
 use Rattle.kl_scope.specs.Senses.{Scope, all_bound}
+
+-- the variable of the rest of a record
+abbrev pub rest_variable : Tail → List Word
+rest_variable (tail.Rest w) = w ∷ []
+rest_variable _ = []
 
 abbrev mutual
   -- its variables, as they are written
@@ -11,7 +18,7 @@ abbrev mutual
   variables any = []
   variables (same w) = []
   variables (is v n) = []
-  variables (shape ps dots) = variables_all ps
+  variables (shape ps end) = variables_all ps ++ rest_variable end
   variables (variant l p) = variables p
 
   pub variables_all : Pats → List Word
@@ -26,7 +33,7 @@ abbrev mutual
   tests any = []
   tests (same w) = w.token ∷ []
   tests (is v n) = n ∷ []
-  tests (shape ps dots) = tests_all ps
+  tests (shape ps end) = tests_all ps
   tests (variant l p) = (l.token - 1) ∷ tests p
 
   pub tests_all : Pats → List ℕ

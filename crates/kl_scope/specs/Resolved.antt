@@ -2,7 +2,7 @@
 use Rattle.std.specs.Prelude.{true, false, Option, Some, None}
 use Rattle.kl_syntax.specs.declared.tree.Word.{Word}
 use Rattle.kl_syntax.specs.Syntax.{Pat, catch, any, same, is, shape, variant, Pats, no_pats, pats, Exp, Const, name, Call, Rec}
-use Rattle.kl_syntax.specs.Syntax.{Inj, Coll, Comp, If, Let, Case, Path, Not, Neg, Chain, Exps, no_exps, exps, Flds, no_flds}
+use Rattle.kl_syntax.specs.Syntax.{More, Inj, Coll, Comp, If, Let, Case, Path, Not, Neg, Chain, Exps, no_exps, exps, Flds, no_flds}
 use Rattle.kl_syntax.specs.Syntax.{flds, Quals, no_quals, draw, test, Branches, no_branches, otherwise, branch, Steps, no_steps}
 use Rattle.kl_syntax.specs.Syntax.{step, Decls, no_decls, constant, function}
 use Rattle.kl_scope.specs.declared.names.Sense.{Sense}
@@ -21,7 +21,7 @@ abbrev mutual
   resolved_pat any s = any
   resolved_pat (same w) s = same (meant (named s w.text) w)
   resolved_pat (is v n) s = is v n
-  resolved_pat (shape ps dots) s = shape (resolved_pats ps s) dots
+  resolved_pat (shape ps end) s = shape (resolved_pats ps s) end
   resolved_pat (variant l p) s = variant l (resolved_pat p s)
 
   pub resolved_pats : Pats → Scope → Pats
@@ -34,6 +34,7 @@ abbrev mutual
   resolved (name w) s = name (meant (named s w.text) w)
   resolved (Call f es) s = Call (meant (called s f.text) f) (resolved_all es s)
   resolved (Rec fs) s = Rec (resolved_fields fs s)
+  resolved (More fs e) s = More (resolved_fields fs s) (resolved e s)
   resolved (Inj l e) s = Inj l (resolved e s)
   resolved (Coll k es) s = Coll k (resolved_all es s)
   resolved (Comp k e qs) s = Comp k (resolved e (behind qs s)) (resolved_quals qs s)

@@ -44,12 +44,12 @@ source_in ys x = option_map (λ i. sense (Source i) 0) (place_in ys x)
 abbrev pub entry_named : Name → Option Entry
 entry_named x = find (λ e. bytes_eq e.name x) (map (λ r. r.entry) rows)
 
--- codes 1 to 12 but 10 are operators, whose names call nothing
-abbrev pub is_operator : ℕ → Bool
-is_operator code = if code == 10 then false else nat_le code 12
+-- codes 1 to 12 but 10 are operators, and 27 and 28 forms of records, whose names call nothing
+abbrev pub is_form : ℕ → Bool
+is_form code = if code == 10 then false else nat_le code 12 || code == 27 || code == 28
 
 abbrev pub by_name : Entry → Option Sense
-by_name e = if is_operator e.code then None else Some (sense (Primitive e.code) e.arity)
+by_name e = if is_form e.code then None else Some (sense (Primitive e.code) e.arity)
 
 abbrev pub primitive_of : Name → Option Sense
 primitive_of x = option_and_then by_name (entry_named x)
@@ -62,7 +62,7 @@ named s x = option_or (variable_in s.variables x) (option_or (definition_in s.de
 abbrev pub called : Scope → Name → Option Sense
 called s x = option_or (named s x) (primitive_of x)
 
--- a new definition can't have the name: it has a meaning, or is an operator's
+-- a new definition can't have the name: it has a meaning, or is a primitive's
 abbrev pub is_taken : Scope → Name → Bool
 is_taken s x = is_some (named s x) || is_some (entry_named x)
 

@@ -4,9 +4,11 @@ use Rattle.kl_syntax.specs.declared.tree.Meaning.{Meaning}
 use Rattle.kl_syntax.specs.declared.tree.Meaning.TheVariants.{Definition}
 use Rattle.kl_syntax.specs.declared.tree.Op.{Op}
 use Rattle.kl_syntax.specs.declared.tree.Op.TheVariants as op
+use Rattle.kl_syntax.specs.declared.tree.Tail.{Tail}
+use Rattle.kl_syntax.specs.declared.tree.Tail.TheVariants as tail
 use Rattle.kl_syntax.specs.declared.tree.Word.{Word}
 use Rattle.kl_syntax.specs.Syntax.{Pat, catch, any, same, is, shape, variant, Pats, no_pats, pats, Exp, Const, name, Call, Rec}
-use Rattle.kl_syntax.specs.Syntax.{Inj, Coll, Comp, If, Let, Case, Path, Not, Neg, Chain, Exps, no_exps, exps, Flds, no_flds}
+use Rattle.kl_syntax.specs.Syntax.{More, Inj, Coll, Comp, If, Let, Case, Path, Not, Neg, Chain, Exps, no_exps, exps, Flds, no_flds}
 use Rattle.kl_syntax.specs.Syntax.{flds, Quals, no_quals, draw, test, Branches, no_branches, otherwise, branch, Steps, no_steps}
 use Rattle.kl_syntax.specs.Syntax.{step, Decls, no_decls, constant, function}
 use Rattle.kl_scope.specs.declared.terms.Size.{Size}
@@ -42,6 +44,11 @@ callee _ ds = no_parts
 
 -- ---- patterns: a term t is matched, and it goes on with a term a
 
+-- Let(r = Prim(the other fields, t, a constant), a)
+abbrev pub with_rest : Tail → Size → Size → Size
+with_rest (tail.Rest w) t a = node (beside (node (beside t leaf)) a)
+with_rest _ t a = a
+
 abbrev mutual
   pub matched : Pat → Size → Size → List Size → Size
   -- Let(x = t, a)
@@ -50,7 +57,7 @@ abbrev mutual
   -- If(Prim(=, t, n), a, the empty collection)
   matched (same w) t a ds = node (beside (node (beside t (named w.means ds))) (beside a leaf))
   matched (is v n) t a ds = node (beside (node (beside t leaf)) (beside a leaf))
-  matched (shape ps dots) t a ds = matched_fields ps t a ds
+  matched (shape ps end) t a ds = matched_fields ps t (with_rest end t a) ds
   -- Case(t, l: y. match y, the empty collection)
   matched (variant l p) t a ds = node (beside t (beside (matched p leaf a ds) leaf))
 
@@ -79,6 +86,8 @@ abbrev mutual
   -- Let(x = the argument, the function's match), or Prim(code, the arguments)
   sized (Call f es) ds = node (beside (sized_all es ds) (callee f.means ds))
   sized (Rec fs) ds = node (sized_fields fs ds)
+  -- Prim(all fields, the record of the fields, e)
+  sized (More fs e) ds = node (beside (node (sized_fields fs ds)) (sized e ds))
   sized (Inj l e) ds = node (sized e ds)
   sized (Coll k es) ds = node (sized_all es ds)
   -- behind the last qualifier a collection of one item

@@ -12,7 +12,7 @@ ghost use Rattle.std.specs.Option.{option_map};
 use crate::scoped::Scoped;
 use crate::terms::{LEAF, NO_PARTS, Size};
 use kl_base::{Box, NoMemory};
-use kl_syntax::{Branch, Decl, Expr, Meaning, Op, Pattern, Qual, Word};
+use kl_syntax::{Branch, Decl, Expr, Meaning, Op, Pattern, Qual, Tail, Word};
 use std::alloc::Global;
 
 /// What a declaration passes. Declarations are counted from 0; the last expression is the one behind the definitions.
@@ -116,8 +116,22 @@ fn matched(pattern: &Pattern, term: Size, after: Size, known: &[Size]) -> Size
         Pattern::Any => after.kept(),
         Pattern::Same(word) => compared(term, named(word.means, known), after),
         Pattern::Is(_, _) => compared(term, LEAF, after),
-        Pattern::Rec(fields, _) => matched_fields(fields.slice(), term, after, known),
+        Pattern::Rec(fields, tail) => {
+            let after = with_rest(tail, term, after);
+            matched_fields(fields.slice(), term, after, known)
+        }
         Pattern::Inj(_, inner) => chosen(term, matched(inner.get(), LEAF, after, known)),
+    }
+}
+
+/// The rest of a record is bound before the term goes on.
+#[tactic(auto, unfolding(crate::specs::Caps::capped, crate::specs::Sizes::beside, crate::specs::Sizes::node))]
+fn with_rest(tail: &Tail, term: Size, after: Size) -> Size
+    ensures { result ≡ capped (size.with_rest tail.now term after) }
+{
+    match tail {
+        Tail::Rest(_) => term.beside(LEAF).node().beside(after).node(),
+        Tail::Exact | Tail::Open => after.kept(),
     }
 }
 
@@ -159,6 +173,10 @@ fn expr(e: &Expr, known: &[Size]) -> Size
             items(args.slice(), known).beside(callee).node()
         }
         Expr::Rec(entries) => fields(entries.slice(), known).node(),
+        Expr::More(entries, base) => {
+            let base = expr(base.get(), known);
+            fields(entries.slice(), known).node().beside(base).node()
+        }
         Expr::Inj(_, a) => expr(a.get(), known).node(),
         Expr::Coll(_, parts) => items(parts.slice(), known).node(),
         Expr::Comp(_, head, qualifiers) => {

@@ -253,11 +253,11 @@ fn primitive(name: &Label) -> Option<Sense>
     }
 }
 
-// An operator is not called by its name.
+// An operator is not called by its name, nor is a form of records.
 fn by_name(row: &PrimRow) -> Option<Sense>
     ensures { result ≡ by_name (entry_of row.now) }
 {
-    if row.code <= 12 && row.code != 10 {
+    if row.code != 10 && (row.code <= 12 || row.code == 27 || row.code == 28) {
         None
     } else {
         Some(Sense {

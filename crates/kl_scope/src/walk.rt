@@ -100,6 +100,10 @@ impl Walk {
             }
             Expr::Call(word, args) => self.call(word, args),
             Expr::Rec(fields) => self.record(fields),
+            Expr::More(fields, base) => {
+                let begun = self.record(fields);
+                self.next(begun, base)
+            }
             Expr::Coll(_, items) => self.items(items),
             Expr::Comp(_, head, quals) => {
                 let depth = self.names.depth();

@@ -1,7 +1,8 @@
 -- What a plan comes to against the outcome of a term.
 use Rattle.std.proofs.Common.{◌≡◌, Bool, true, false, cond, List, Option, Some, None, IsSome, refl, sym, ap, subst, ◌∙◌}
+use Rattle.std.specs.Option.{option_map}
 use mathlib.Core.Path.{ap₂}
-use Rattle.kl_value.specs.Views.{as_bool}
+use Rattle.kl_value.specs.Views.{as_bool, as_collection, Collection}
 use Rattle.kl_value.specs.declared.Kind.{Kind}
 use Rattle.kl_value.specs.declared.Kind.TheVariants as kind
 use Rattle.kl_value.specs.declared.Value.{Value}
@@ -15,10 +16,12 @@ use Rattle.kl_outcome.proofs.Drawing.{cut_short}
 use Rattle.kl_ship.specs.declared.needs.Need.{Need}
 use Rattle.kl_ship.specs.declared.needs.Need.TheVariants as need
 use Rattle.kl_ship.specs.Alike.{Alike}
+use Rattle.kl_ship.specs.Kinds.{first_kind}
 use Rattle.kl_ship.specs.Ships.{passed_on}
-use Rattle.kl_ship.specs.Meaning.{Come, one, many, worth, coming, drawn_for, come_after, come_chosen, come_opened, come_union}
+use Rattle.kl_ship.specs.Meaning.{Come, one, many, worth, coming, drawn_for, come_after, come_chosen, come_opened, kind_come, joined_as, come_union}
 use Rattle.kl_ship.proofs.Likeness.{alike_itself, alike_back, alike_on, alike_followed, alike_drawn, alike_bodies, alike_fits}
 use Rattle.kl_ship.proofs.Collections.{alike_same, alike_items}
+use Rattle.kl_ship.proofs.KindLaws.{by_first}
 
 -- what a plan comes to is of a type
 abbrev pub ComesAs : Ground → Come → Type 0
@@ -68,6 +71,15 @@ drawn_alike k s (many i f) h j u e =
       | true ↦ λ fit. (alike_back k f (items_of (collected i f)) (alike_fits i k f (items_of (collected i f)) fit (alike_items i u f typed)), typed)
       | false ↦ λ fit. (alike_itself k (items_of (collected i f)), items_typed i u (collected i f) (collected_typed i u f typed))
     ] refl
+
+-- where the kinds fit, a loop draws all as it comes, and else canonically
+pub drawn_fitting : (into j : Kind) (u : Ground) (c : Come) → ComesAs (coll j u) c → fits_in j into ≡ true → drawn_for into c ≡ coming c
+drawn_fitting into j u (one o) h e = refl
+drawn_fitting into j u (many i f) h e = ap (λ b. cond b f (items_of (collected i f))) (ap (λ k. fits_in k into) (sym (same_kind j i u h.0 h.1)) ∙ e)
+
+pub drawn_kept : (into j : Kind) (u : Ground) (c : Come) → ComesAs (coll j u) c → fits_in j into ≡ false → drawn_for into c ≡ items_of (worth c)
+drawn_kept into j u (one o) h e = refl
+drawn_kept into j u (many i f) h e = ap (λ b. cond b f (items_of (collected i f))) (ap (λ k. fits_in k into) (sym (same_kind j i u h.0 h.1)) ∙ e)
 
 pub drawn_for_typed : (k j : Kind) (u : Ground) (c : Come) → ComesAs (coll j u) c → FlowOf u (drawn_for k c)
 drawn_for_typed k j u c h = (drawn_alike k (coll j u) c h j u refl).1
@@ -128,12 +140,45 @@ union_worth k u c d h g = alike_same k u _ _ whole typed alike ∙ sym (union_is
     whole : FlowOf u (followed (items_of (worth c)) (items_of (worth d)))
     whole = followed_typed u _ _ (items_typed k u (worth c) (worth_typed (coll k u) c h)) (items_typed k u (worth d) (worth_typed (coll k u) d g))
 
-pub union_shows : (k : Kind) (u : Ground) (i : Option Kind) (o q : Outcome) (c d : Come) → ((j : Kind) → i ≡ Some j → j ≡ k) → Same (coll k u) o c → Same (coll k u) q d → Same (coll k u) (union_of o q) (come_union i c d)
-union_shows k u (Some j) o q c d e h g = (
+joined_shows : (k : Kind) (u : Ground) (i : Option Kind) (o q : Outcome) (c d : Come) → ((j : Kind) → i ≡ Some j → j ≡ k) → Same (coll k u) o c → Same (coll k u) q d → Same (coll k u) (union_of o q) (joined_as i c d)
+joined_shows k u (Some j) o q c d e h g = (
   ap (λ z. collected z (followed (coming c) (coming d))) (e j refl) ∙ union_worth k u c d h.1 g.1 ∙ ap₂ union_of h.0 g.0,
   (u, ap (λ z. coll z u) (sym (e j refl)), followed_typed u (coming c) (coming d) (coming_typed k u c h.1) (coming_typed k u d g.1)),
 )
-union_shows k u None o q c d e h g = (ap₂ union_of h.0 g.0, union_typed k u (worth c) (worth d) (worth_typed (coll k u) c h.1) (worth_typed (coll k u) d g.1))
+joined_shows k u None o q c d e h g = (ap₂ union_of h.0 g.0, union_typed k u (worth c) (worth d) (worth_typed (coll k u) c h.1) (worth_typed (coll k u) d g.1))
+
+-- the kind of what comes is that of its type
+kind_is : (k : Kind) (u : Ground) (c : Come) → ComesAs (coll k u) c → (i : Kind) → kind_come c ≡ Some i → i ≡ k
+kind_is k u (one (done v)) h i e =
+    let x = items_inhabit k u v h in
+    let y : Some k ≡ Some i = sym (ap (option_map (λ c. c.kind)) x.1) ∙ e in
+    cc
+kind_is k u (one (over vs)) h i e = cc
+kind_is k u (one stuck) h i e = absurd h
+kind_is k u (many j f) h i e = let y : Some j ≡ Some i = e in let z : j ≡ k = sym (same_kind k j u h.0 h.1) in cc
+
+pub union_shows : (k : Kind) (u : Ground) (o q : Outcome) (c d : Come) → Same (coll k u) o c → Same (coll k u) q d → Same (coll k u) (union_of o q) (come_union c d)
+union_shows k u o q c d h g = joined_shows k u (first_kind (kind_come c) (kind_come d)) o q c d (λ i e. by_first (kind_come c) (kind_come d) i k (kind_is k u c h.1) (kind_is k u d g.1) e) h g
+
+-- ---- the items of two collections come one behind the other
+
+no_collection : (o : Option Collection) (q : Outcome) (g : Flow) → option_map (λ c. c.kind) o ≡ None → items_of (joined_to o q) ≡ followed (items_at_all o) g
+no_collection None q g e = refl
+no_collection (Some c) q g e = cc
+
+joined_coming : (i : Option Kind) (c d : Come) → (i ≡ None → kind_come c ≡ None) → coming (joined_as i c d) ≡ followed (coming c) (coming d)
+joined_coming (Some k) c d h = refl
+joined_coming None (one (done v)) d h = no_collection (as_collection v) (worth d) (coming d) (h refl)
+joined_coming None (one (over vs)) d h = sym (cut_short vs overflow (coming d) refl)
+joined_coming None (one stuck) d h = refl
+joined_coming None (many k f) d h = let e : Some k ≡ None = h refl in cc
+
+pub union_coming : (c d : Come) → coming (come_union c d) ≡ followed (coming c) (coming d)
+union_coming c d = joined_coming (first_kind (kind_come c) (kind_come d)) c d (first_none (kind_come c) (kind_come d))
+  where
+    first_none : (a b : Option Kind) → first_kind a b ≡ None → a ≡ None
+    first_none (Some k) b e = cc
+    first_none None b e = refl
 
 -- ---- a loop
 

@@ -38,8 +38,6 @@ use Rattle.kl_ship.proofs.Plain.{plain_core}
 use Rattle.kl_ship.proofs.Sources.{known}
 use Rattle.kl_ship.proofs.Likeness.{alike_back, alike_fits}
 use Rattle.kl_ship.proofs.Collections.{alike_items, alike_distinct}
-use Rattle.kl_ship.specs.Kinds.{kind_of_items}
-use Rattle.kl_ship.proofs.KindLaws.{kinds_of_two, kind_shipped, not_source}
 use Rattle.kl_ship.proofs.Comings.{Shows, Same, passed, same_type, lift, worth_typed, coming_alike, after_shows, choice_shows, cases_shows, union_shows, loop_shows}
 
 rows_flow : (t : Ground) (vs : List Value) → AllByRecursion (Inhabits t) vs → FlowOf t (flow vs fine)
@@ -185,7 +183,7 @@ module _ (ss : List ShipSource) (R : Readings) (T : Tables) (holds : HoldAll ss 
         subst (λ q. Same q (core T a env) (plan R c.0 env)) h.2 (passed u s _ _ (law a (passed_on u) n c.0 c.2 G env s e h.3 c.3)) in
         let second : Same (coll h.0 h.1) (core T b env) (plan R c.1 env) =
         subst (λ q. Same q (core T b env) (plan R c.1 env)) h.2 (passed u s _ _ (law b (passed_on u) c.2 c.1 m G env s e h.4 c.4)) in
-        let both = subst (λ q. Same q (core T (term.Union a b) env) (plan R (node.Union c.0 c.1) env)) (sym h.2) (union_shows h.0 h.1 (kind_of_items (node.Union c.0 c.1)) _ _ _ _ (λ j is. kinds_of_two c.0 c.1 h.0 j (λ i e. kind_shipped ss a (passed_on u) n c.0 c.2 G h.0 h.1 i (not_source u) (subst (CoreTypes S G a) h.2 h.3) c.3 e) (λ i e. kind_shipped ss b (passed_on u) c.2 c.1 m G h.0 h.1 i (not_source u) (subst (CoreTypes S G b) h.2 h.4) c.4 e) is) first second) in
+        let both = subst (λ q. Same q (core T (term.Union a b) env) (plan R (node.Union c.0 c.1) env)) (sym h.2) (union_shows h.0 h.1 _ _ _ _ first second) in
         made u (term.Union a b) env s p (node.Union c.0 c.1) c.5 (lift u s _ _ both.0 both.1))
     law (term.Ext k b a) u n p m G env s e h w =
         either u (term.Ext k b a) n p m G env s e h _ w

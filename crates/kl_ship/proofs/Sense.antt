@@ -52,9 +52,11 @@ attached_source s = record { ty = s.ty; rows = None; count = 0; kept = None }
 
 abbrev holding : ShipSource → State
 holding s = record {
-  kind = record { name = []; abilities = s.abilities; suits = λ t. false; most = None; stored = None };
+  kind = record { name = []; abilities = s.abilities; suits = λ t. false; most = None; stored = None; spells = None };
   attached = λ n. Some (attached_source s);
   cursors = λ k. None;
+  file = λ k. None;
+  read = λ k. None;
   asked = [];
   handed = 0;
   faults = 0;
@@ -116,12 +118,14 @@ module _ (ss : List ShipSource) (S : SourceTypes) (Of : Scan → Ground → Type
 
   source_typed : (u : Need) (i : ℕ) (s : ShipSource) (n : ℕ) (c : Scan) (G : List Ground) (t : Ground) → S i ≡ Some t → slice_get ss i ≡ Some s → IsWholeScan s u n c → IsGround (ground s) → t ≡ ground s → TypesFor u G (node.Scan c) t
   source_typed need.Whole i s n c G t is at w good e =
-      (item_of (ground s), e ∙ collection_is (ground s) (collections i t s is at) ∙ ap (λ k. coll k (item_of (ground s))) (sym w.kind), asked i t s need.Whole n c is at w good)
+      (item_of (ground s), e ∙ collection_is (ground s) (collections i t s is at) ∙ ap (λ k. coll k (item_of (ground s))) (sym w.kind), subst IsGround (sym e) good, asked i t s need.Whole n c is at w good)
   source_typed need.Items i s n c G t is at w good e =
-      (item_of (ground s), e ∙ collection_is (ground s) (collections i t s is at) ∙ ap (λ k. coll k (item_of (ground s))) (sym w.kind), asked i t s need.Items n c is at w good)
+      (item_of (ground s), e ∙ collection_is (ground s) (collections i t s is at) ∙ ap (λ k. coll k (item_of (ground s))) (sym w.kind), subst IsGround (sym e) good, asked i t s need.Items n c is at w good)
   source_typed (need.Source k) i s n c G t is at w good e = λ j u f.
       let same : item_of (ground s) ≡ u = same_items (kind_of (ground s)) j (item_of (ground s)) u (sym (collection_is (ground s) (collections i t s is at)) ∙ sym e ∙ f) in
-      (c.kind, (item_of (ground s), ap (coll c.kind) (sym same), asked i t s (need.Source k) n c is at w good))
+      -- a collection of any kind is of a ground type where its items are
+      let item : IsGround u = subst IsGround (sym e ∙ f) good in
+      (c.kind, (item_of (ground s), ap (coll c.kind) (sym same), item, asked i t s (need.Source k) n c is at w good))
 
   has_branch : (l : Name) (u : Need) (bs : Arms) (n : ℕ) (p : Branches) (m : ℕ) → ArmsBecome ss u bs n p m → HasArm l bs → HasBranch l p
   has_branch l u no_arms n p m w h = absurd h
@@ -130,7 +134,7 @@ module _ (ss : List ShipSource) (S : SourceTypes) (Of : Scan → Ground → Type
 
   mutual
     typed : (t : Tree) (u : Need) (n : ℕ) (p : Node) (m : ℕ) (G : List Ground) (s : Ground) → CoreTypes S G t s → Becomes ss u t n p m → TypesFor u G p s
-    typed (term.Var x) u n p m G s h w = ⊎_elim (stays_typed (term.Var x) u n p m G s h) (λ b. for u G p (node.Var x) s b.0 h.0) w
+    typed (term.Var x) u n p m G s h w = ⊎_elim (stays_typed (term.Var x) u n p m G s h) (λ b. for u G p (node.Var x) s b.0 h) w
     typed (term.Const v) u n p m G s h w = stays_typed (term.Const v) u n p m G s h w
     typed (term.Source i) u n p m G s h w =
         let k = knows i s h.0 in
@@ -143,13 +147,13 @@ module _ (ss : List ShipSource) (S : SourceTypes) (Of : Scan → Ground → Type
     typed (term.Proj l a) u n p m G s h w =
         ⊎_elim (stays_typed (term.Proj l a) u n p m G s h) (λ b. for u G p (node.Proj l b.0) s b.2 (h.0, typed a need.Whole n b.0 m G (rec_type h.0) h.1 b.1, h.2)) w
     typed (term.Inj l a) u n p m G s h w =
-        ⊎_elim (stays_typed (term.Inj l a) u n p m G s h) (λ b. for u G p (node.Inj l b.0) s b.2 (h.0, h.1, h.2, h.4, typed a need.Whole n b.0 m G h.1 h.5 b.1)) w
+        ⊎_elim (stays_typed (term.Inj l a) u n p m G s h) (λ b. for u G p (node.Inj l b.0) s b.2 (h.0, h.1, h.2, h.3, h.4, typed a need.Whole n b.0 m G h.1 h.5 b.1)) w
     typed (term.Case a bs) u n p m G s h w =
         ⊎_elim (stays_typed (term.Case a bs) u n p m G s h)
         (λ b. for u G p (node.Case b.0 b.1) s b.5
         (h.0, typed a need.Whole n b.0 b.2 G (var_type h.0) h.1 b.3, λ l i. has_branch l (passed_on u) bs b.2 b.1 m b.4 (h.2 l i), typed_arms bs u b.2 b.1 m G h.0 s h.3 b.4)) w
     typed (term.Make k ts) u n p m G s h w =
-        ⊎_elim (stays_typed (term.Make k ts) u n p m G s h) (λ b. for u G p (node.Make k b.0) s b.2 (h.0, h.1, typed_each ts n b.0 m G h.0 h.3 b.1)) w
+        ⊎_elim (stays_typed (term.Make k ts) u n p m G s h) (λ b. for u G p (node.Make k b.0) s b.2 (h.0, h.1, h.2, typed_each ts n b.0 m G h.0 h.3 b.1)) w
     typed (term.Union a b) u n p m G s h w =
         ⊎_elim (stays_typed (term.Union a b) u n p m G s h)
         (λ c. for u G p (node.Union c.0 c.1) s c.5

@@ -4,7 +4,7 @@ use Rattle.std.specs.List.Sorted.{IsStrictlySortedBy}
 use Rattle.kl_base.specs.Fields.{bytes_cmp}
 use Rattle.kl_value.specs.declared.Kind.{Kind}
 use Rattle.kl_value.specs.declared.Kind.TheVariants as kind
-use Rattle.kl_type.specs.Ground.{Ground, Row, bool, rec as rec_type, var as var_type, coll, no_row, row, at, labels_in}
+use Rattle.kl_type.specs.Ground.{Ground, Row, bool, rec as rec_type, var as var_type, coll, no_row, row, at, labels_in, IsGround}
 use Rattle.kl_outcome.specs.Outcome.{Name}
 use Rattle.kl_outcome.specs.Typed.{PrimTypes}
 use Rattle.kl_core.specs.Trees.{Tree}
@@ -28,24 +28,26 @@ HasBranch l (branch m b bs) = (l ≡ m) ⊎ HasBranch l bs
 abbrev pub CoversAll : Row → Branches → Type 0
 CoversAll r bs = (l : Name) → IsSome (at l r) → HasBranch l bs
 
--- `Of` says which scans make sense, and of which types their rows are. (Joins and memos are none of these plans yet.)
+-- `Of` says which scans make sense, and of which types their rows are. All types are proper: where a derivation is free to choose a
+-- type, as that of a variant or an empty collection, it is, and so is what a position or a scan has. (Joins and memos are none of these
+-- plans yet.)
 module _ (Of : Scan → Ground → Type 0) where
   abbrev mutual
     pub PlanTypes : List Ground → Node → Ground → Type 0
     PlanTypes G (node.Plain t) s = NoSource t × ((S : SourceTypes) → CoreTypes S G t s)
-    PlanTypes G (node.Var x) s = slice_get G x ≡ Some s
+    PlanTypes G (node.Var x) s = (slice_get G x ≡ Some s) × IsGround s
     PlanTypes G (node.Rec ps) s = (r : Row) × (s ≡ rec_type r) × IsStrictlySortedBy bytes_cmp (labels_in r) × FieldTypes G ps r
     PlanTypes G (node.Proj l a) s = (r : Row) × PlanTypes G a (rec_type r) × (at l r ≡ Some s)
-    PlanTypes G (node.Inj l a) s = (r : Row) × (u : Ground) × (s ≡ var_type r) × (at l r ≡ Some u) × PlanTypes G a u
+    PlanTypes G (node.Inj l a) s = (r : Row) × (u : Ground) × (s ≡ var_type r) × IsGround s × (at l r ≡ Some u) × PlanTypes G a u
     PlanTypes G (node.Case a bs) s = (r : Row) × PlanTypes G a (var_type r) × CoversAll r bs × BranchTypes G bs r s
-    PlanTypes G (node.Make k ps) s = (u : Ground) × (s ≡ coll k u) × EachPlan G ps u
+    PlanTypes G (node.Make k ps) s = (u : Ground) × (s ≡ coll k u) × IsGround s × EachPlan G ps u
     PlanTypes G (node.Union a b) s = (k : Kind) × (u : Ground) × (s ≡ coll k u) × PlanTypes G a s × PlanTypes G b s
     PlanTypes G (node.Ext k b a) s = (t : Ground) × (j : Kind) × (u : Ground) × (s ≡ coll k t) × PlanTypes G a (coll j u)
         × PlanTypes (u ∷ G) b s
     PlanTypes G (node.If a b c) s = PlanTypes G a bool × PlanTypes G b s × PlanTypes G c s
     PlanTypes G (node.Let a b) s = (u : Ground) × PlanTypes G a u × PlanTypes (u ∷ G) b s
     PlanTypes G (node.Prim c ps) s = (us : List Ground) × PlansOf G ps us × PrimTypes c us s
-    PlanTypes G (node.Scan c) s = (u : Ground) × (s ≡ coll c.kind u) × Of c u
+    PlanTypes G (node.Scan c) s = (u : Ground) × (s ≡ coll c.kind u) × IsGround s × Of c u
     PlanTypes G (node.Join n k how o cs i q b) s = ⊥
     PlanTypes G (node.Memo n frees p) s = ⊥
 

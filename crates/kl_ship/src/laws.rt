@@ -23,5 +23,6 @@ pub fn plan_laws()
     ensures list { (ss : List ShipSource) (R : Readings) (T : Tables) (t : Tree) (p : Node) (s : Ground)
         → HoldAll ss R T → CoreTypes (types_in ss) [] t (coll kind.List s) → Ships ss t p → coming (plan R p []) ≡ items_of (core T t []) }
     ensures items { (ss : List ShipSource) (R : Readings) (T : Tables) (t : Tree) (p : Node) (k : Kind) (s : Ground)
-        → HoldAll ss R T → CoreTypes (types_in ss) [] t (coll k s) → Ships ss t p → Alike k (items_of (core T t [])) (coming (plan R p [])) }
+        → HoldAll ss R T → CoreTypes (types_in ss) [] t (coll k s) → Ships ss t p
+        → Alike k (items_of (core T t [])) (coming (plan R p [])) }
 {}

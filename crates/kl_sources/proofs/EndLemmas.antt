@@ -15,7 +15,7 @@ use Rattle.kl_sources.specs.declared.attaching.AttachError.{AttachError}
 use Rattle.kl_sources.specs.declared.source.Source.{Source}
 use Rattle.kl_sources.specs.declared.walking.Refused.{Refused}
 use Rattle.kl_sources.specs.Sources.{ArePlaced, IsSuited, kinds_of, contents, contents_at, HasRows, HaveValues, IsValueAt, IsReadable, FirstWithout, value_of, empty_of}
-use Rattle.kl_sources.specs.Attaching.{AgreeBelow, AttachesAll, HaveNone, HasTyped, IsErrorOf, IsMishap, IsRefusalOf, IsUnread, MayAttach, NoVerdict, StandsWithout, list_of, listed}
+use Rattle.kl_sources.specs.Attaching.{AgreeBelow, AttachesAll, HaveNone, HasTyped, IsErrorOf, IsMarkedAt, IsMishap, IsRefusalOf, IsUnread, MayAttach, NoVerdict, StandsWithout, list_of, listed}
 use Rattle.kl_sources.specs.Walking.{AttachesBelow, IsWant, MayAttachBelow, StopsAt, WalksAll, WalksToEnd}
 use Rattle.kl_sources.proofs.Lists.{element, of_all}
 use Rattle.kl_sources.proofs.NameLemmas.{one_of_name}
@@ -217,10 +217,17 @@ module _ (marks others : ℕ → Bool) (ss : List Source) (agree : AgreeBelow (l
 
   below_agrees : (n : ℕ) → AttachesBelow n marks ss old new → AttachesBelow n others ss old new
   below_agrees n below = record {
+    own = λ i a b ha hb. let m = below.own i a b ha hb in record {
+      others = λ x never. m.others x (λ h. never (as_well h));
+      untouched = λ never. m.untouched (λ x h. never x (as_well h));
+    };
     drivers = record { size = below.drivers.size; each = λ i a b ha hb. may (below.drivers.each i a b ha hb) };
     stand = λ i s lt is mk. below.stand i s lt is (sym (same_at i s is) ∙ mk);
   }
     where
+      as_well : {i : ℕ} {x : Name} → IsMarkedAt marks ss i x → IsMarkedAt others ss i x
+      as_well h = (h.0, h.1, h.2, same_at h.0 h.1 h.2 ∙ h.3, h.4, h.5)
+
       may : {a b : State} → MayAttachBelow n marks ss a b → MayAttachBelow n others ss a b
       may m = record { keeps = m.keeps; cursors = m.cursors; asked = m.asked; handed = m.handed; drifts = m.drifts; others = λ x never. m.others x (λ h. never (h.0, h.1, h.2, h.3, same_at h.0 h.1 h.3 ∙ h.4, h.5)) }
 
@@ -251,6 +258,7 @@ module _ (marks : ℕ → Bool) (ss : List Source) (old new : List State) (place
   to_end : (all : List Attached) → WalksToEnd marks ss all old new → AttachesAll marks ss (Ok all) old new
   to_end all h = record {
     drivers = all_steps (length ss) h.below;
+    own = h.below.own;
     list = h.list;
     stand = λ i s is mk. h.below.stand i s (slice_get_within ss i s is) is mk;
     ready = λ settings trace fetch. serves (kinds_of old) marks ss placed new (λ i s is mk. h.below.stand i s (slice_get_within ss i s is) is mk) all h.list settings trace fetch;
@@ -329,6 +337,7 @@ module _ (marks : ℕ → Bool) (ss : List Source) (old new : List State) (place
     to_stop : HaveNone old → AttachesAll marks ss (Err e) old new
     to_stop clear = record {
       drivers = all_steps stops.count stops.below;
+      own = stops.below.own;
       list = tt;
       stand = tt;
       ready = tt;

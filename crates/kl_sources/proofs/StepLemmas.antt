@@ -13,7 +13,7 @@ use Rattle.kl_ask.proofs.Worlds.{keeps_none, keeps_then}
 use Rattle.kl_sources.specs.declared.source.Source.{Source}
 use Rattle.kl_sources.specs.declared.walking.Refused.{Refused}
 use Rattle.kl_sources.specs.Sources.{ArePlaced, IsSuited, kinds_of, contents, contents_at}
-use Rattle.kl_sources.specs.Attaching.{HaveNone, IsErrorOf, IsUnreadable, HasTyped, Stands}
+use Rattle.kl_sources.specs.Attaching.{AttachesOwn, EachAttachesOwn, HaveNone, IsErrorOf, IsUnreadable, HasTyped, Stands}
 use Rattle.kl_sources.specs.Walking.{IsMarkedBelow, MayAttachBelow, AttachesBelow, RefusesFor, StopsAt, SameEnd, AttachesIf}
 use Rattle.kl_sources.proofs.Lists.{element, of_all, unmapped}
 use Rattle.kl_sources.proofs.NameLemmas.{one_of_name}
@@ -23,8 +23,13 @@ below_more : (n : ℕ) (marks : ℕ → Bool) (ss : List Source) (x : Name) → 
 below_more n marks ss x h = (h.0, h.1, omega (arith, h.2), h.3, h.4, h.5)
 
 module _ (marks : ℕ → Bool) (ss : List Source) where
+  -- a driver that is as it was
+  same_own : (i : ℕ) (a b : State) → a ≡ b → AttachesOwn marks ss i a b
+  same_own i a b e = record { others = λ x never. ap (λ (d : State). d.attached x) (sym e); untouched = λ never. sym e }
+
   pub begins : (ds : List State) → AttachesBelow 0 marks ss ds ds
   begins ds = record {
+    own = λ i a b ha hb. same_own i a b (same_Some _ _ (sym ha ∙ hb));
     drivers = record { size = refl; each = λ i a b ha hb. subst (λ s. MayAttachBelow 0 marks ss a s) (same_Some _ _ (sym ha ∙ hb)) (record { keeps = keeps_none a; cursors = refl; asked = refl; handed = refl; drifts = refl; others = λ x never. refl }) };
     stand = λ i s lt is marked. absurd (omega (arith, lt));
   }
@@ -35,6 +40,7 @@ module _ (marks : ℕ → Bool) (ss : List Source) where
   -- a source that is not marked
   pub skips : (n : ℕ) (old mid new : List State) → AttachesBelow n marks ss old mid → marks n ≡ false → new ≡ mid → AttachesBelow (n + 1) marks ss old new
   skips n old mid new below unmarked stays = record {
+    own = λ i a b ha hb. below.own i a b ha (ap (λ ds. slice_get ds i) (sym stays) ∙ hb);
     drivers = record { size = ap length stays ∙ below.drivers.size; each = λ i a b ha hb. wider n a b (below.drivers.each i a b ha (ap (λ ds. slice_get ds i) (sym stays) ∙ hb)) };
     stand = λ i s lt is marked. subst (λ ds. Stands (kinds_of old) ds s) (sym stays) (below.stand i s (still i lt marked) is marked);
   }
@@ -115,6 +121,20 @@ module _ (old : List State) (ss : List Source) (placed : ArePlaced (kinds_of old
               ],
             )
 
+        -- what is attached is so but under the source's name, and at its own driver
+        module _ (under : (b c : State) → Attaches s.name s.locator s.ty q b c → (x : Name) → x ≢ s.name → c.attached x ≡ b.attached x) where
+          own_step : EachAttachesOwn marks ss old new
+          own_step i a c ha hc = let k = kept i a c ha hc in on i a c k.0 (below.own i a k.0 ha k.1) k.3
+            where
+              on : (i : ℕ) (a c b : State) → AttachesOwn marks ss i a b → (b ≡ c) ⊎ ((i ≡ s.driver) × Attaches s.name s.locator s.ty q b c) → AttachesOwn marks ss i a c
+              on i a c b m h = elim h [
+                | inl e ↦ subst (AttachesOwn marks ss i a) e m
+                | inr g ↦ record {
+                  others = λ x never. under b c g.1 x (λ e. never (n, s, is, marked, sym g.0, sym e)) ∙ m.others x never;
+                  untouched = λ never. absurd (never s.name (n, s, is, marked, sym g.0, refl));
+                }
+              ]
+
         -- the frame of a step, where what is attached is so but under the source's name
         module _ (under : (b c : State) → Attaches s.name s.locator s.ty q b c → (x : Name) → (IsMarkedBelow (n + 1) marks ss x → ⊥) → c.attached x ≡ b.attached x) where
           framed : EachSteps (MayAttachBelow (n + 1) marks ss) old new
@@ -160,6 +180,7 @@ module _ (old : List State) (ss : List Source) (placed : ArePlaced (kinds_of old
       -- the source is attached
       pub attaches : (count : ℕ) → StepsAt s.driver (λ a b. Attaches s.name s.locator s.ty (Ok count) a b) mid new → AttachesBelow (n + 1) marks ss old new
       attaches count step = record {
+        own = own_step (Ok count) step (λ b c g x away. g.others x away);
         drivers = framed (Ok count) step (λ b c g x never. g.others x (λ e. never (subst (IsMarkedBelow (n + 1) marks ss) (sym e) here_name)));
         stand = λ i t lt there is_marked. elim (cases_eq i n) [
           | inl e ↦ subst (Stands (kinds_of old) new) (same_Some _ _ (sym is ∙ ap (slice_get ss) (sym e) ∙ there)) stands_now
@@ -223,6 +244,7 @@ module _ (old : List State) (ss : List Source) (placed : ArePlaced (kinds_of old
             count = n;
             below = record {
               drivers = narrowed;
+              own = own_step (Err e) step (λ b c g x away. ap (λ (h : Name → Option AttachedSource). h x) g.refused);
               stand = still_stands (Err e) step (λ b c g x away. ap (λ (h : Name → Option AttachedSource). h x) g.refused);
             };
             source = s;

@@ -53,6 +53,21 @@ pub record MayAttach (marks : ℕ → Bool) (sources : List Source) (old new : S
   pub drifts : new.drifts ≡ old.drifts
   pub others : (x : Name) → (IsMarkedName marks sources x → ⊥) → new.attached x ≡ old.attached x
 
+-- a marked source of this name has its driver at this place
+abbrev pub IsMarkedAt : (ℕ → Bool) → List Source → ℕ → Name → Type 0
+IsMarkedAt marks sources place x =
+    (i : ℕ) × (s : Source) × (slice_get sources i ≡ Some s) × (marks i ≡ true) × (s.driver ≡ place) × (s.name ≡ x)
+
+-- At the driver of a place only marked sources may have been attached that have it for their own; where there are none, it is
+-- as it was, with all its counts.
+pub record AttachesOwn (marks : ℕ → Bool) (sources : List Source) (place : ℕ) (old new : State) : Type 0 where
+  pub others : (x : Name) → (IsMarkedAt marks sources place x → ⊥) → new.attached x ≡ old.attached x
+  pub untouched : ((x : Name) → IsMarkedAt marks sources place x → ⊥) → new ≡ old
+
+abbrev pub EachAttachesOwn : (ℕ → Bool) → List Source → List State → List State → Type 0
+EachAttachesOwn marks sources old new =
+    (place : ℕ) (a b : State) → slice_get old place ≡ Some a → slice_get new place ≡ Some b → AttachesOwn marks sources place a b
+
 -- a count of the driver at a place rose
 abbrev pub RoseAt : ℕ → (State → ℕ) → List State → List State → Type 0
 RoseAt place count old new = (a : State) × (b : State) × (slice_get old place ≡ Some a) × (slice_get new place ≡ Some b)
@@ -159,6 +174,7 @@ pub record Serves (ks : List DriverKind) (marks : ℕ → Bool) (sources : List 
 pub record AttachesAll (marks : ℕ → Bool) (sources : List Source) (result : Result (List Attached) AttachError)
     (old new : List State) : Type 0 where
   pub drivers : EachSteps (MayAttach marks sources) old new
+  pub own : EachAttachesOwn marks sources old new
   pub list : IfOk result (λ list. list ≡ list_of marks 0 sources)
   -- each marked source stands at its driver, and a session of these drivers and this list is ready
   pub stand : OnOk result ((i : ℕ) (s : Source) → slice_get sources i ≡ Some s → marks i ≡ true → Stands (kinds_of old) new s)

@@ -10,7 +10,7 @@ use Rattle.kl_ask.specs.declared.session.Attached.{Attached}
 use Rattle.kl_sources.specs.declared.source.Source.{Source}
 use Rattle.kl_sources.specs.declared.walking.Refused.{Refused}
 use Rattle.kl_sources.specs.Sources.{kinds_of, contents}
-use Rattle.kl_sources.specs.Attaching.{IsErrorOf, IsUnreadable, IsMishap, RoseAt, Stands, list_of}
+use Rattle.kl_sources.specs.Attaching.{EachAttachesOwn, IsErrorOf, IsUnreadable, IsMishap, RoseAt, Stands, list_of}
 
 abbrev pub IsMarkedBelow : ℕ → (ℕ → Bool) → List Source → Name → Type 0
 IsMarkedBelow n marks sources x = (i : ℕ) × (s : Source) × (i < n) × (slice_get sources i ≡ Some s) × (marks i ≡ true) × (s.name ≡ x)
@@ -26,6 +26,7 @@ pub record MayAttachBelow (n : ℕ) (marks : ℕ → Bool) (sources : List Sourc
 -- the marked ones of the first n sources are attached
 pub record AttachesBelow (n : ℕ) (marks : ℕ → Bool) (sources : List Source) (old new : List State) : Type 0 where
   pub drivers : EachSteps (MayAttachBelow n marks sources) old new
+  pub own : EachAttachesOwn marks sources old new
   pub stand : (i : ℕ) (s : Source) → i < n → slice_get sources i ≡ Some s → marks i ≡ true → Stands (kinds_of old) new s
 
 -- why a driver refuses a source

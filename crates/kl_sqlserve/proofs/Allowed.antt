@@ -27,7 +27,7 @@ use Rattle.kl_ask.specs.declared.ask.Ask.{Ask}
 use Rattle.kl_ask.specs.declared.ask.Ask.TheVariants as asks
 use Rattle.kl_flat.specs.ColumnTable.{rows_of}
 use Rattle.kl_flat.specs.Columns.{base_layer, is_base}
-use Rattle.kl_flat.specs.Flat.{attached_of}
+use Rattle.kl_flat.specs.Flat.{Sources, attached_of}
 use Rattle.kl_flat.specs.declared.parts.Source.{Source}
 use Rattle.kl_flat.proofs.Typing.{rows_suit}
 use Rattle.kl_sqltext.specs.Grammar.{SqlColumn}
@@ -36,7 +36,6 @@ use Rattle.kl_sqltext.specs.declared.ast.SqlRight.{SqlRight}
 use Rattle.kl_sqltext.specs.declared.ast.SqlRight.TheVariants as right
 use Rattle.kl_sqltext.specs.declared.ast.SqlTest.{SqlTest}
 use Rattle.kl_sqlserve.specs.Fitting.{IsAskFor, are_attached, have_columns, is_fitting, is_typed_column, is_unshown, same_base, shows_apart, suit_tests, suits_right, suits_test, type_at, type_in_source, type_in_table}
-use Rattle.kl_sqlserve.specs.Opening.{Sources}
 use Rattle.kl_sqlserve.specs.Server.{sql_state}
 use Rattle.kl_sqlserve.specs.declared.joined.Open.{Open}
 use Rattle.kl_sqlserve.proofs.Typed.{column_is}

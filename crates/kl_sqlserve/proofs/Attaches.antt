@@ -14,7 +14,10 @@ use Rattle.kl_type.specs.declared.ground.Ty.{Ty, Ty-F, out-Ty, roll-Ty, roll-out
 use Rattle.kl_type.specs.declared.ground.Ty.TheVariants as ty
 use Rattle.kl_type.proofs.GroundLemmas.{ground-Coll}
 use Rattle.kl_type.proofs.RowLemmas.{same_label}
-use Rattle.kl_outside.specs.Files.{FilesState}
+use Rattle.kl_outside.specs.Files.{FilesState, ReadsWhole}
+use Rattle.kl_outside.specs.declared.files.Whole.{Whole}
+use Rattle.kl_outside.specs.declared.stop.Stop.{Stop}
+use Rattle.kl_outside.specs.declared.stop.Stop.TheVariants as stop
 use Rattle.kl_outcome.specs.Outcome.{Name}
 use Rattle.kl_outcome.specs.Typed.{Inhabits}
 use Rattle.kl_ask.specs.Asks.{item_of, kind_of}
@@ -25,16 +28,15 @@ use Rattle.kl_ask.specs.declared.ask.Ask.{Ask}
 use Rattle.kl_ask.specs.declared.ask.DriverError.{DriverError}
 use Rattle.kl_ask.specs.declared.ask.DriverError.TheVariants as error
 use Rattle.kl_ask.proofs.Names.{not_same}
-use Rattle.kl_flat.specs.Attaching.{ReadsRows}
+use Rattle.kl_flat.specs.Attaching.{ReadsRows, RowsOf}
 use Rattle.kl_flat.specs.ColumnTable.{rows_of}
 use Rattle.kl_flat.specs.Columns.{is_table_type}
-use Rattle.kl_flat.specs.Flat.{attached_of, contents_of, flat_state, told_only}
+use Rattle.kl_flat.specs.Flat.{Sources, attached_of, contents_of, flat_state, most_bytes, told_only}
 use Rattle.kl_flat.proofs.Attaching.{Good, at_path, attach_stopped, good_read}
 use Rattle.kl_flat.proofs.Suiting.{item_flat, suits as suits_flat}
 use Rattle.kl_flat.proofs.Typing.{rows_typed}
 use Rattle.kl_sqltext.specs.Meaning.{without_repeats}
 use Rattle.kl_sqlserve.specs.Attaching.{AddsTable}
-use Rattle.kl_sqlserve.specs.Opening.{Sources}
 use Rattle.kl_sqlserve.specs.Server.{cursor_of, is_list_layer, is_served, is_set, is_set_layer, kept_contents, kept_rows, kept_stored, sql_kind, sql_state}
 use Rattle.kl_ask.specs.Cursors.{open_at}
 use Rattle.kl_sqlserve.specs.declared.joined.Open.{Open}
@@ -154,16 +156,27 @@ told_too (Some files) is = refl
 
 -- ---- `attach`
 
+-- a table was read without a fault
+no_fault : (path : List ℕ) (ty : Ty) (rows : List Value) (f f' : FilesState) → ReadsRows path ty (Ok rows) f f' → f'.faults ≡ f.faults
+no_fault path ty rows f f' read = by read.read read.reads read.rows
+  where
+    by : (whole : Result Whole Stop) → ReadsWhole path most_bytes whole f f' → RowsOf ty whole (Ok rows) → f'.faults ≡ f.faults
+    by (Ok whole) reads are = reads.counts
+    by (Err stop.Failed) reads is = absurd cc
+    by (Err stop.NoMemory) reads is = absurd cc
+
 module _ (source path : List ℕ) (ty : Ty) (f f' : FilesState) (sources sources' : Sources) (cursors : List (Option Open)) (asked : List (Ask × ℕ)) (handed : ℕ) where
   -- a refusal of the driver of tables is one of the server
   pub refused : (e : DriverError) (unread unread' : ℕ) → f'.told ≡ f.told → ((name : Name) → source_named sources' name ≡ source_named sources name)
-      → Attaches source path ty (Err e) (flat_state f [] [] [] 0 unread) (flat_state f' [] [] [] 0 unread')
+      → Attaches source path ty (Err e) (flat_state f sources [] [] 0 unread) (flat_state f' sources [] [] 0 unread')
       → Attaches source path ty (Err e) (sql_state f sources cursors asked handed unread) (sql_state f' sources' cursors asked handed unread')
   refused e unread unread' told same flat = record {
     keeps = record { kind = ap sql_kind told; handed = omega arith; faults = flat.keeps.faults; drifts = omega arith; no_drift = λ is. refl; unread = flat.keeps.unread };
     cursors = (λ i k. option_map (cursor_of (told i)) (open_at cursors k));
+    reading = λ k is. record { file = refl; read = refl };
     asked = refl;
     handed = refl;
+    faults = flat.faults;
     drifts = refl;
     unread = flat.unread;
     others = λ name ne. (λ i. option_map (attached_of (told i)) (same name i));
@@ -191,7 +204,7 @@ module _ (source path : List ℕ) (ty : Ty) (f f' : FilesState) (sources sources
       → Attaches source path ty result (sql_state f sources cursors asked handed unread) (sql_state f' sources' cursors asked handed unread)
   stopped rows result unread read same is =
       subst (λ r. Attaches source path ty r (sql_state f sources cursors asked handed unread) (sql_state f' sources' cursors asked handed unread)) (sym is)
-      (refused error.NoMemory unread unread (good_read path ty rows f f' read).1 (λ name. ap (lookup (pointwise nat_eq name)) same) (attach_stopped source path ty rows (Err error.NoMemory) f f' [] [] [] [] 0 unread read refl refl))
+      (refused error.NoMemory unread unread (good_read path ty rows f f' read).1 (λ name. ap (lookup (pointwise nat_eq name)) same) (attach_stopped source path ty rows (Err error.NoMemory) f f' sources sources [] [] 0 unread read refl refl))
 
   -- a table that was read is attached
   pub attached : (rows : List Value) (count unread : ℕ) → ReadsRows path ty (Ok rows) f f' → AddsTable source ty rows sources sources' count → is_served ty ≡ true
@@ -199,8 +212,10 @@ module _ (source path : List ℕ) (ty : Ty) (f f' : FilesState) (sources sources
   attached rows count unread read adds served = record {
     keeps = record { kind = ap sql_kind good.1; handed = omega arith; faults = good.2; drifts = omega arith; no_drift = λ is. refl; unread = omega arith };
     cursors = (λ i k. option_map (cursor_of (good.1 i)) (open_at cursors k));
+    reading = λ k is. record { file = refl; read = refl };
     asked = refl;
     handed = refl;
+    faults = no_fault path ty rows f f' read;
     drifts = refl;
     unread = refl;
     others = λ name ne. (λ i. option_map (attached_of (good.1 i)) (others_stay name ne i));

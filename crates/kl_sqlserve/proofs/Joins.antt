@@ -16,11 +16,11 @@ use Rattle.kl_sqlserve.specs.declared.chosen.Level.{Level}
 
 -- ---- lists
 
-map-map : {A B C : Type 0} (f : B → C) (g : A → B) (xs : List A) → map f (map g xs) ≡ map (λ x. f (g x)) xs
+pub map-map : {A B C : Type 0} (f : B → C) (g : A → B) (xs : List A) → map f (map g xs) ≡ map (λ x. f (g x)) xs
 map-map f g [] = refl
 map-map f g (x ∷ xs) = ap (λ z. f (g x) ∷ z) (map-map f g xs)
 
-map-same : {A B : Type 0} (f g : A → B) → ((x : A) → f x ≡ g x) → (xs : List A) → map f xs ≡ map g xs
+pub map-same : {A B : Type 0} (f g : A → B) → ((x : A) → f x ≡ g x) → (xs : List A) → map f xs ≡ map g xs
 map-same f g h [] = refl
 map-same f g h (x ∷ xs) = λ i. h x i ∷ map-same f g h xs i
 
@@ -38,7 +38,7 @@ right_same : (front t : Tuple) (r : SqlRight) → is_right_within (length front)
 right_same front t (right.Col i l) e = ap (λ o. cell_in o l) (gets front t i (below i (length front) e))
 right_same front t (right.Lit v) e = refl
 
-decided : (front t : Tuple) (q : SqlTest) → is_within (length front) q ≡ true → tuple_passes (front ++ t) q ≡ tuple_passes front q
+pub decided : (front t : Tuple) (q : SqlTest) → is_within (length front) q ≡ true → tuple_passes (front ++ t) q ≡ tuple_passes front q
 decided front t q e =
     let parts = and_parts (nat_lt q.table (length front)) (is_right_within (length front) q.right) e in
     (λ i. cells_stand q.op (cell_in (gets front t q.table (below q.table (length front) parts.0) i) q.column) (right_same front t q.right parts.1 i))

@@ -7,9 +7,14 @@ pub mod Goings
 pub mod Grown
 pub mod Joins
 pub mod Keyed
+pub mod Moves
 pub mod Openings
 pub mod Ordered
+pub mod Placings
 pub mod Pulls
+pub mod Reordered
 pub mod Repeated
+pub mod Shuffles
+pub mod Standings
 pub mod Starts
 pub mod Typed

@@ -14,13 +14,15 @@ use Rattle.kl_ask.specs.Driver.{Cursor, Hands, PullResult, Pulls, PullsMore, Pul
 use Rattle.kl_ask.specs.declared.ask.Ask.{Ask}
 use Rattle.kl_ask.specs.declared.ask.DriverError.TheVariants as error
 use Rattle.kl_ask.proofs.Opened.{changed_now, changed_others, replaced_other}
-use Rattle.kl_flat.specs.Flat.{told_only}
+use Rattle.kl_flat.specs.Flat.{Sources, told_only}
 use Rattle.kl_flat.proofs.Shown.{all_front}
 use Rattle.kl_sqlserve.specs.Hands.{HandsRows}
-use Rattle.kl_sqlserve.specs.Opening.{Sources}
 use Rattle.kl_sqlserve.specs.Server.{cursor_of, rows_left_in, sql_state, type_of}
 use Rattle.kl_sqlserve.specs.declared.joined.Open.{Open}
 use Rattle.kl_sqlserve.proofs.Typed.{left_has}
+
+reads_none : {A : Type 0} {x : A} → None ≡ Some x → ⊥
+reads_none e = cc
 
 module _ (most n : ℕ) (into into' : List Value) (o o' : Open) (hand : HandsRows most into into' o o' n) where
   sizes : length (rows_left_in o) ≡ length hand.taken + length (rows_left_in o')
@@ -92,6 +94,7 @@ module _ (f : FilesState) (sources : Sources) (cursors cursors' : List (Option O
         bound = length (none_then most n into into' o o' hand zero_is room i);
       });
       handed = omega (arith, count, fits, zero_is);
+      unchanged = λ r. absurd (reads_none r.is_read);
     })
 
     answer : (some : Bool) → nat_lt 0 n ≡ some → (c : Cursor) → option_map (cursor_of f.told) (open_at cursors cursor) ≡ Some c
@@ -105,9 +108,13 @@ module _ (f : FilesState) (sources : Sources) (cursors cursors' : List (Option O
       keeps = record { kind = refl; handed = omega (arith, count, fits); faults = omega arith; drifts = omega arith; no_drift = λ is. refl; unread = omega arith };
       attached = refl;
       asked = refl;
+      faults = refl;
       drifts = refl;
       unread = refl;
       others = λ k ne. ap (option_map (cursor_of f.told)) (changed_others cursors cursors' cursor o o' is made k ne);
+      reads = refl;
+      same_file = λ is. refl;
+      others_reading = λ k ne is. record { file = refl; read = refl };
       answer = answer (nat_lt 0 n) refl;
     }
 
@@ -119,9 +126,13 @@ pull_stopped f sources cursors cursors' o asked handed unread cursor most into i
   keeps = record { kind = refl; handed = omega arith; faults = omega arith; drifts = omega arith; no_drift = λ is. refl; unread = omega arith };
   attached = refl;
   asked = refl;
+  faults = refl;
   drifts = refl;
   unread = refl;
   others = λ k ne. ap (option_map (cursor_of f.told)) (others k ne ∙ replaced_other cursors cursor k o ne);
+  reads = refl;
+  same_file = λ is. refl;
+  others_reading = λ k ne is. record { file = refl; read = refl };
   answer = λ c has. record {
     same = same;
     closed = ap (option_map (cursor_of f.told)) closed;
@@ -129,6 +140,7 @@ pull_stopped f sources cursors cursors' o asked handed unread cursor most into i
     cause = tt;
     drifted = λ d drift. absurd cc;
     ahead = λ d drift. absurd cc;
+    shown = λ d drift. absurd cc;
     joined_drifted = λ d drift. absurd cc;
   };
 }

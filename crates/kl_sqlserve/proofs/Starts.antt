@@ -6,7 +6,7 @@ use Rattle.std.specs.Option.{option_map}
 use Rattle.std.specs.Ordering.{eq_by_cmp}
 use Rattle.std.proofs.Math.Nat.{mul-le-mul, pow-succ', pow-zero}
 use Rattle.std.proofs.lemmas.List.{length-map}
-use Rattle.std.proofs.lemmas.List.Sorted.{IsPermutation-refl}
+use Rattle.std.proofs.lemmas.List.Sorted.{IsPermutation-refl, IsPermutation-trans}
 use Rattle.std.proofs.lemmas.Option.{same_Some}
 use Rattle.kl_value.specs.Order.{compare}
 use Rattle.kl_value.specs.declared.Value.{Value}
@@ -22,7 +22,7 @@ use Rattle.kl_ask.specs.declared.ask.Ask.TheVariants as asks
 use Rattle.kl_ask.specs.declared.ask.ColTest.{ColTest}
 use Rattle.kl_ask.proofs.Opened.{added_free, added_now, added_others}
 use Rattle.kl_flat.specs.ColumnTable.{rows_of}
-use Rattle.kl_flat.specs.Flat.{attached_of, contents_of, told_only}
+use Rattle.kl_flat.specs.Flat.{Sources, attached_of, contents_of, told_only}
 use Rattle.kl_flat.specs.declared.parts.Source.{Source}
 use Rattle.kl_flat.specs.declared.parts.Open.{Open as RowsOpen}
 use Rattle.kl_flat.proofs.Cursors.{fresh_over, told_size}
@@ -32,7 +32,7 @@ use Rattle.kl_sqltext.specs.declared.ast.Spj.{Spj}
 use Rattle.kl_sqltext.proofs.Answer.{unique}
 use Rattle.kl_sqlserve.specs.Handing.{left_of_joined}
 use Rattle.kl_sqlserve.specs.Left.{tables_of}
-use Rattle.kl_sqlserve.specs.Opening.{AreAttached, AreSides, CanOpen, OpensAt, OpensJoined, OpensRows, Sources, bag_over, rows_over}
+use Rattle.kl_sqlserve.specs.Opening.{AreAttached, AreSides, CanOpen, OpensAt, OpensJoined, OpensRows, bag_over, rows_over}
 use Rattle.kl_sqlserve.specs.Server.{ask_of, cursor_of, kept_contents, sql_state}
 use Rattle.kl_sqlserve.specs.declared.joined.Joined.{Joined}
 use Rattle.kl_sqlserve.specs.declared.joined.Open.{Open}
@@ -40,6 +40,7 @@ use Rattle.kl_sqlserve.specs.declared.joined.Open.TheVariants as opened
 use Rattle.kl_sqlserve.specs.declared.side.Side.{Side}
 use Rattle.kl_sqlserve.proofs.Joins.{filter-few}
 use Rattle.kl_sqlserve.proofs.Openings.{sides_length, statement_some}
+use Rattle.kl_sqlserve.proofs.Reordered.{all_tables, same_many, some_tables}
 use Rattle.kl_sqlserve.proofs.Typed.{shown_type_is}
 
 -- ---- how many rows a statement can have
@@ -124,21 +125,29 @@ module _ (f : FilesState) (sources : Sources) (cursors : List (Option Open)) (as
 
   -- a cursor over a statement
   joined : (text : List ℕ) (j : Joined) → OpensJoined sources (asks.Sql text) text j → (q : Spj) → SqlReads text q → IsJoined q now (cursor_of f.told (opened.Joined j))
-  joined text j opens q reads = subst (λ q. IsJoined q now (cursor_of f.told (opened.Joined j))) (unique text j.query.statement q opens.reads reads) (record {
-    ty = sym (shown_type_is (row_types now) sources types_are j.query.statement j.query.sides opens.sides);
-    left = λ rows are. (
-      left_of_joined j,
-      told_then rows j.query.statement.tables j.query.sides opens.sides are (statement_some text j.query.statement opens.reads) (left_of_joined j),
-      subst (IsPermutation (spj rows j.query.statement)) (ap (rows_over j.query.statement) (tables_told rows j.query.statement.tables j.query.sides opens.sides are) ∙ sym opens.left) (IsPermutation-refl (spj rows j.query.statement)),
-    );
+  joined text j opens q reads = subst (λ q. IsJoined q now (cursor_of f.told (opened.Joined j))) (unique text opens.statement q opens.reads reads) (record {
+    ty = sym (shown_type_is (row_types now) sources types_are ordered j.query.sides opens.sides) ∙ opens.order.types (row_types now);
+    left = λ rows are.
+        let there = all_tables (λ l. (a : Attached) × (now.attached l ≡ Some a) × (a.rows ≡ Some (rows l))) opens.statement ordered opens.order are in (
+          left_of_joined j,
+          told_then rows ordered.tables j.query.sides opens.sides there some (left_of_joined j),
+          IsPermutation-trans (spj rows opens.statement) (spj rows ordered) (left_of_joined j) (opens.order.rows rows)
+              (subst (IsPermutation (spj rows ordered)) (ap (rows_over ordered) (tables_told rows ordered.tables j.query.sides opens.sides there) ∙ sym opens.left) (IsPermutation-refl (spj rows ordered))),
+        );
     untold = untold_none (left_of_joined j);
     told = λ shown is. told_size f.told (left_of_joined j) shown is;
     bound = few;
   })
     where
-      few : length (left_of_joined j) ≤ (2 ^ 64) ^ length j.query.statement.tables
-      few = subst (λ n. length (left_of_joined j) ≤ (2 ^ 64) ^ n) (sides_length sources j.query.statement.tables j.query.sides opens.sides)
-          (subst (λ vs. length vs ≤ (2 ^ 64) ^ length j.query.sides) (sym opens.left) (rows_few (2 ^ 64) (λ s. at_most (length (rows_of s.index.table)) (2 ^ 64) s.small) j.query.statement j.query.sides))
+      ordered : Spj
+      ordered = j.query.statement
+
+      some : ordered.tables ≢ []
+      some = some_tables opens.statement ordered opens.order (statement_some text opens.statement opens.reads)
+
+      few : length (left_of_joined j) ≤ (2 ^ 64) ^ length opens.statement.tables
+      few = subst (λ n. length (left_of_joined j) ≤ (2 ^ 64) ^ n) (sides_length sources ordered.tables j.query.sides opens.sides ∙ same_many opens.statement ordered opens.order)
+          (subst (λ vs. length vs ≤ (2 ^ 64) ^ length j.query.sides) (sym opens.left) (rows_few (2 ^ 64) (λ s. at_most (length (rows_of s.index.table)) (2 ^ 64) s.small) ordered j.query.sides))
 
   -- a cursor over a source
   rows_opened : (source : Name) (keep : List Name) (tests : List ColTest) (o : RowsOpen) → OpensRows sources (asks.Rows source keep tests) o → (a : Attached) → now.attached source ≡ Some a → IsFresh keep tests a (cursor_of f.told (opened.Rows o))
@@ -176,7 +185,9 @@ module _ (f : FilesState) (sources : Sources) (cursors : List (Option Open)) (as
   start_done ask n o cursors' asked' opens last grown counted = record {
     keeps = record { kind = refl; handed = omega arith; faults = omega arith; drifts = omega arith; no_drift = λ is. refl; unread = omega arith };
     attached = refl;
+    reading = λ k is. record { file = refl; read = refl };
     handed = refl;
+    faults = refl;
     drifts = refl;
     unread = refl;
     opens = record {
@@ -186,6 +197,7 @@ module _ (f : FilesState) (sources : Sources) (cursors : List (Option Open)) (as
       ask_kept = ask_kept ask o opens;
       fresh = opens_at ask o opens;
       others = λ k ne. ap (option_map (cursor_of f.told)) (added_others cursors cursors' n o last grown k ne);
+      unread = λ r is. absurd cc;
       asked = counted;
     };
     refused = tt;

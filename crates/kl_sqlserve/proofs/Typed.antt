@@ -23,9 +23,10 @@ use Rattle.kl_flat.proofs.Typing.{rows_good, rows_suit}
 use Rattle.kl_sqltext.specs.Grammar.{SqlColumn}
 use Rattle.kl_sqltext.specs.Meaning.{shown_columns, with_column}
 use Rattle.kl_sqltext.specs.declared.ast.Spj.{Spj}
+use Rattle.kl_flat.specs.Flat.{Sources}
 use Rattle.kl_sqlserve.specs.Handing.{left_of_joined}
 use Rattle.kl_sqlserve.specs.Left.{column_type, columns_shown}
-use Rattle.kl_sqlserve.specs.Opening.{AreSides, Sources}
+use Rattle.kl_sqlserve.specs.Opening.{AreSides}
 use Rattle.kl_sqlserve.specs.Server.{rows_left_in, type_of}
 use Rattle.kl_sqlserve.specs.declared.joined.Open.{Open}
 use Rattle.kl_sqlserve.specs.declared.joined.Open.TheVariants as opened

@@ -7,7 +7,7 @@ use Rattle.kl_type.specs.declared.ground.Ty.{Ty}
 use Rattle.kl_outcome.specs.Outcome.{Name}
 use Rattle.kl_flat.specs.ColumnTable.{rows_of}
 use Rattle.kl_flat.specs.declared.parts.Source.{Source}
-use Rattle.kl_sqlserve.specs.Opening.{Sources}
+use Rattle.kl_flat.specs.Flat.{Sources}
 use Rattle.kl_sqlserve.specs.Server.{kept_rows}
 
 -- a source with the rows that are kept of these is attached under a name, and has so many

@@ -12,13 +12,13 @@ use Rattle.kl_ask.specs.Tables.{columns_of}
 use Rattle.kl_ask.specs.declared.ask.Ask.{Ask}
 use Rattle.kl_ask.specs.declared.ask.Ask.TheVariants as asks
 use Rattle.kl_flat.specs.declared.parts.Source.{Source}
+use Rattle.kl_flat.specs.Flat.{Sources}
 use Rattle.kl_sqltext.specs.Grammar.{SqlColumn}
 use Rattle.kl_sqltext.specs.Reading.{SqlReads}
 use Rattle.kl_sqltext.specs.declared.ast.Spj.{Spj}
 use Rattle.kl_sqltext.specs.declared.ast.SqlRight.{SqlRight}
 use Rattle.kl_sqltext.specs.declared.ast.SqlRight.TheVariants as right
 use Rattle.kl_sqltext.specs.declared.ast.SqlTest.{SqlTest}
-use Rattle.kl_sqlserve.specs.Opening.{Sources}
 
 -- the type of a column of an attached source
 abbrev pub type_in_source : Name → Option Source → Option Ty

@@ -7,8 +7,11 @@ pub mod Keys
 pub mod Left
 pub mod Levels
 pub mod Opening
+pub mod Placing
+pub mod Reordering
 pub mod Repeats
 pub mod Server
 pub mod Showing
 pub mod Sides
+pub mod Standing
 pub mod Tests

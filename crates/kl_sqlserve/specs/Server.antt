@@ -13,11 +13,10 @@ use Rattle.kl_ask.specs.Named.{source_named}
 use Rattle.kl_ask.specs.declared.ask.Ask.{Ask}
 use Rattle.kl_flat.specs.Asked.{keep_of}
 use Rattle.kl_flat.specs.Columns.{is_table_type}
-use Rattle.kl_flat.specs.Flat.{attached_of, contents_of, left_of, most_bytes, told_only}
+use Rattle.kl_flat.specs.Flat.{Sources, attached_of, contents_of, left_of, most_bytes, told_only}
 use Rattle.kl_sqltext.specs.Meaning.{without_repeats}
 use Rattle.kl_sqlserve.specs.Handing.{left_of_joined}
 use Rattle.kl_sqlserve.specs.Left.{columns_shown}
-use Rattle.kl_sqlserve.specs.Opening.{Sources}
 use Rattle.kl_sqlserve.specs.declared.joined.Open.{Open}
 use Rattle.kl_sqlserve.specs.declared.joined.Open.TheVariants as opened
 
@@ -62,6 +61,7 @@ sql_kind told = record {
   suits = is_served;
   most = Some most_bytes;
   stored = kept_contents (contents_of told);
+  spells = None;
 }
 
 -- ---- cursors
@@ -88,6 +88,8 @@ sql_state files sources cursors asked handed unread = record {
   kind = sql_kind files.told;
   attached = λ name. option_map (attached_of files.told) (source_named sources name);
   cursors = λ k. option_map (cursor_of files.told) (open_at cursors k);
+  file = λ k. None;
+  read = λ n. None;
   asked = asked;
   handed = handed;
   faults = files.faults;
@@ -101,6 +103,8 @@ fresh_state files = record {
   kind = sql_kind files.told;
   attached = λ name. None;
   cursors = λ k. None;
+  file = λ k. None;
+  read = λ n. None;
   asked = [];
   handed = 0;
   faults = files.faults;

@@ -1,7 +1,6 @@
 //! Sources that are attached.
-ghost use Rattle.std.specs.Prelude.{◌≡◌, ◌<◌, All, IfOk, OnErr, OnOk, Some, length, map, nat_eq, true};
-ghost use Rattle.std.specs.Cmp.Lexicographic.{pointwise};
-ghost use Rattle.std.specs.HashMap.{IsUnchanged, Updates};
+ghost use Rattle.std.specs.Prelude.{◌≡◌, ◌<◌, All, IfOk, OnErr, length, map, true};
+ghost use Rattle.std.specs.HashMap.{IsUnchanged};
 ghost use Rattle.kl_flat.specs.ColumnTable.{rows_of};
 ghost use Rattle.kl_flat.specs.Fitting.{are_rows};
 ghost use Rattle.kl_flat.specs.Held.{row_at};
@@ -9,9 +8,9 @@ ghost use Rattle.kl_sqltext.specs.Meaning.{without_repeats};
 ghost use Rattle.kl_sqlserve.specs.Attaching.{AddsTable};
 ghost use Rattle.kl_sqlserve.specs.Server.{is_set, kept_rows};
 
-use crate::seen::is_new;
+use crate::seen::takes_new;
 use kl_base::{Label, NoMemory};
-use kl_flat::{ColumnTable, Source, new_source};
+use kl_flat::{ColumnTable, Source, new_source, put_source};
 use kl_type::Ty;
 use kl_value::Kind;
 use std::alloc::Global;
@@ -37,19 +36,6 @@ pub fn add_source(
     let made = new_source(alloc, name, ty, table)?;
     put_source(sources, name, made)?;
     Ok(count)
-}
-
-// Attaches a source under a name.
-fn put_source(
-    sources: &mut HashMap<Label, Source>,
-    name: &Label,
-    source: Source,
-) -> Result<(), NoMemory>
-    ensures added { OnOk result (Updates (pointwise nat_eq) sources.old sources.new name.now (Some source)) }
-    ensures refused { OnErr result (IsUnchanged sources.old sources.new) }
-{
-    sources.insert(name.dup()?, source)?;
-    Ok(())
 }
 
 // The table itself, or, of a set, with the first of equal rows alone.
@@ -86,7 +72,7 @@ fn first_places(alloc: Global, table: &ColumnTable) -> Result<Vec<usize>, NoMemo
     let mut places = Vec::new(alloc);
     'rows: for at in 0..table.len() {
         let row = table.whole_row(alloc, at)?;
-        if is_new(alloc, &mut seen, &row)? {
+        if takes_new(&mut seen, row)? {
             places.push(at)?;
         }
     }

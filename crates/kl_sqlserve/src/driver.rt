@@ -3,6 +3,7 @@ ghost use Rattle.std.specs.Prelude.{◌≡◌, IfOk, IfSome, MatchOption, OnErr}
 ghost use Rattle.std.specs.Option.{is_some};
 ghost use Rattle.kl_ask.specs.Driver.{CanStart};
 ghost use Rattle.kl_ask.specs.declared.ask.Ask.TheVariants as asks;
+ghost use Rattle.kl_outside.specs.Files.{NoneOpen};
 ghost use Rattle.kl_sqlserve.specs.Hands.{HandsRows};
 ghost use Rattle.kl_sqlserve.specs.Server.{fresh_state, sql_state};
 
@@ -24,9 +25,9 @@ use std::collections::HashMap;
 /// A server of sets and bags that are tables. A locator is the path of a file, which is read whole when its source is
 /// attached; of a set, the first of equal rows is kept alone. Rows come in no stated order.
 ///
-/// It answers statements of SQL as ISO 9075 has them for tables without NULL. It tells its contents exactly where its files
-/// tell their bytes, and its count of faults is theirs. Its count of sources that it could not read rises where a table has a
-/// bad record or too many bytes. RFC 4180 has the form of the files.
+/// It answers statements of SQL as ISO 9075 has them for tables without NULL. It leaves no file open, and tells its contents
+/// exactly where its files tell their bytes, and its count of faults is theirs. Its count of sources that it could not read
+/// rises where a table has a bad record or too many bytes. RFC 4180 has the form of the files.
 #[derive(Drop)]
 pub struct SqlServer<F: Files + Drop> {
     alloc: Global,
@@ -36,11 +37,13 @@ pub struct SqlServer<F: Files + Drop> {
     asked: Vec<(Ask, u64)>,
     handed: u64,
     unread: u64,
+    ghost closed: { NoneOpen (F.state files) },
 }
 
 impl<F: Files + Drop> SqlServer<F> {
-    /// A server over these files, with nothing attached, no cursor open, and its other counts at 0.
+    /// A server over these files, of which none is open, with nothing attached, no cursor open, and its other counts at 0.
     pub fn new(alloc: Global, files: F) -> SqlServer<F>
+        requires { NoneOpen (F.state files) }
         ensures { ⟦<SqlServer<F> as Driver>⟧.state result ≡ fresh_state (F.state files) }
     {
         SqlServer {

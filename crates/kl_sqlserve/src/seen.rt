@@ -25,3 +25,15 @@ pub fn is_new(alloc: Global, seen: &mut HashSet<Value>, value: &Value) -> Result
     let copy = dup(alloc, value)?;
     Ok(seen.insert(copy)?)
 }
+
+/// The same of a value that is given away, which is not copied.
+///
+/// # Errors
+/// Want of memory.
+pub fn takes_new(seen: &mut HashSet<Value>, value: Value) -> Result<bool, NoMemory>
+    ensures new { IfOk result (λ new. new ≡ not (contains same_key seen.old value)) }
+    ensures seen { IfOk result (λ _. (w : AValue) → contains same_key seen.new w
+        ≡ (same_value value w || contains same_key seen.old w)) }
+{
+    Ok(seen.insert(value)?)
+}

@@ -1,5 +1,5 @@
 -- The tree of an expression, a variant each.
-use Rattle.std.proofs.Common.{◌≡◌, ℕ, Bool, List, Option, rules}
+use Rattle.std.proofs.Common.{◌≡◌, List, Option, rules}
 use Rattle.kl_value.specs.declared.value.Kind.{Kind}
 use Rattle.kl_value.specs.declared.value.Value.{Value}
 use Rattle.kl_syntax.specs.declared.tree.Branch.{Branch, out-Branch, the_lemmas as branch_lemmas}
@@ -10,8 +10,9 @@ use Rattle.kl_syntax.specs.declared.tree.Pattern.{Pattern, the_lemmas as pattern
 use Rattle.kl_syntax.specs.declared.tree.Pattern.TheVariants as code
 use Rattle.kl_syntax.specs.declared.tree.Qual.{Qual, the_lemmas as qual_lemmas}
 use Rattle.kl_syntax.specs.declared.tree.Qual.TheVariants as quals
+use Rattle.kl_syntax.specs.declared.tree.Tail.{Tail}
 use Rattle.kl_syntax.specs.declared.tree.Word.{Word}
-use Rattle.kl_syntax.specs.Syntax.{Pat, shape, Const, name, Call, Rec, Inj, Coll, Comp, If, Let, Case, Path, Not, Neg, Chain, Quals, draw, test, Branches, branch}
+use Rattle.kl_syntax.specs.Syntax.{shape, Const, name, Call, Rec, More, Inj, Coll, Comp, If, Let, Case, Path, Not, Neg, Chain, draw, test, Branches, branch}
 use Rattle.kl_syntax.specs.View.{view, qual_view, branch_view, branches_view, exps_view, fields_view, quals_view, steps_view, pattern_view, patterns_view}
 
 pub view_Const : (v : Value) → view (expr.Const v) ≡ Const v
@@ -25,6 +26,9 @@ view_Call f es = search (rules, the_lemmas)
 
 pub view_Rec : (fs : List (Word × Expr)) → view (expr.Rec fs) ≡ Rec (fields_view fs)
 view_Rec fs = search (rules, the_lemmas)
+
+pub view_More : (fs : List (Word × Expr)) (a : Expr) → view (expr.More fs a) ≡ More (fields_view fs) (view a)
+view_More fs a = search (rules, the_lemmas)
 
 pub view_Inj : (l : Word) (a : Expr) → view (expr.Inj l a) ≡ Inj l (view a)
 view_Inj l a = search (rules, the_lemmas)
@@ -65,5 +69,5 @@ view_Cond e = search (rules, qual_lemmas)
 pub branch_seen : (b : Branch) (rest : Branches) → branch_view b rest ≡ branch (out-Branch b).label (pattern_view (out-Branch b).pat) (view (out-Branch b).body) rest
 branch_seen b rest = search (rules, branch_lemmas)
 
-pub pattern_Rec : (ps : List (Word × Pattern)) (dots : Bool) → pattern_view (code.Rec ps dots) ≡ shape (patterns_view ps) dots
-pattern_Rec ps dots = search (rules, pattern_lemmas)
+pub pattern_Rec : (ps : List (Word × Pattern)) (tail : Tail) → pattern_view (code.Rec ps tail) ≡ shape (patterns_view ps) tail
+pattern_Rec ps tail = search (rules, pattern_lemmas)

@@ -1,8 +1,9 @@
 -- Programs as definitions see them: trees whose lists are data of their own. Words keep their tokens and meanings.
-use Rattle.std.specs.Prelude.{ℕ, Bool, List}
+use Rattle.std.specs.Prelude.{ℕ, List}
 use Rattle.kl_value.specs.declared.value.Kind.{Kind}
 use Rattle.kl_value.specs.declared.value.Value.{Value}
 use Rattle.kl_syntax.specs.declared.tree.Op.{Op}
+use Rattle.kl_syntax.specs.declared.tree.Tail.{Tail}
 use Rattle.kl_syntax.specs.declared.tree.Word.{Word}
 
 mutual
@@ -12,8 +13,8 @@ mutual
     same : Word → Pat
     -- a constant and its first token
     is : Value → ℕ → Pat
-    -- a record's fields, and whether others may be there
-    shape : Pats → Bool → Pat
+    -- a record's fields, and how it ends
+    shape : Pats → Tail → Pat
     variant : Word → Pat → Pat
 
   pub data Pats : Type 0 where
@@ -26,6 +27,8 @@ mutual
     name : Word → Exp
     Call : Word → Exps → Exp
     Rec : Flds → Exp
+    -- the fields before `...`, and what stands behind it
+    More : Flds → Exp → Exp
     Inj : Word → Exp → Exp
     Coll : Kind → Exps → Exp
     Comp : Kind → Exp → Quals → Exp

@@ -10,7 +10,7 @@ use Rattle.kl_syntax.specs.declared.tree.Branch.{Branch, fold-Branch}
 use Rattle.kl_syntax.specs.declared.tree.Expr.TheOpen.{Expr-F, Qual-F, Branch-F}
 use Rattle.kl_syntax.specs.declared.tree.Decl.{Decl}
 use Rattle.kl_syntax.specs.Syntax.{Pat, catch, any, same, is, shape, variant, Pats, no_pats, pats, Exp, Const, name}
-use Rattle.kl_syntax.specs.Syntax.{Call, Rec, Inj, Coll, Comp, If, Let, Case, Path, Not, Neg, Chain, Exps, no_exps}
+use Rattle.kl_syntax.specs.Syntax.{Call, Rec, More, Inj, Coll, Comp, If, Let, Case, Path, Not, Neg, Chain, Exps, no_exps}
 use Rattle.kl_syntax.specs.Syntax.{exps, Flds, no_flds, flds, Quals, no_quals, draw, test, Branches, no_branches}
 use Rattle.kl_syntax.specs.Syntax.{otherwise, branch, Steps, no_steps, step, Decls, no_decls, constant, function}
 
@@ -23,7 +23,7 @@ pattern_layer (Pattern-F.Bind x) = catch x
 pattern_layer Pattern-F.Any = any
 pattern_layer (Pattern-F.Same x) = same x
 pattern_layer (Pattern-F.Is v n) = is v n
-pattern_layer (Pattern-F.Rec ps dots) = shape (pats_of ps) dots
+pattern_layer (Pattern-F.Rec ps tail) = shape (pats_of ps) tail
 pattern_layer (Pattern-F.Inj l p) = variant l p
 
 abbrev pub pattern_view : Pattern → Pat
@@ -65,6 +65,7 @@ expr_layer (Expr-F.Const v) = Const v
 expr_layer (Expr-F.Name x) = name x
 expr_layer (Expr-F.Call f es) = Call f (exps_of es)
 expr_layer (Expr-F.Rec fs) = Rec (flds_of fs)
+expr_layer (Expr-F.More fs a) = More (flds_of fs) a
 expr_layer (Expr-F.Inj l a) = Inj l a
 expr_layer (Expr-F.Coll k es) = Coll k (exps_of es)
 expr_layer (Expr-F.Comp k e qs) = Comp k e (quals_of qs)

@@ -8,5 +8,5 @@ mod tree;
 
 pub use tree::{
     Branch, Branches, Decl, Decls, Expr, ExprFields, Exprs, Meaning, Op, PatFields, Pattern,
-    Program, Qual, Quals, Steps, Word, Words,
+    Program, Qual, Quals, Steps, Tail, Word, Words,
 };

@@ -51,6 +51,17 @@ pub enum Op {
 /// The fields of a record pattern, in written order.
 pub type PatFields = Seq<(Word, Pattern)>;
 
+/// How a record pattern ends.
+#[derive(Drop, PartialEq, Eq)]
+pub enum Tail {
+    /// The record has exactly the fields.
+    Exact,
+    /// `...`: other fields may be there.
+    Open,
+    /// `...\r`: other fields may be there, and they are a record under this name.
+    Rest(Word),
+}
+
 /// What a value is matched with.
 #[derive(Drop, PartialEq, Eq)]
 pub enum Pattern {
@@ -62,8 +73,8 @@ pub enum Pattern {
     Same(Word),
     /// A constant, and the number of its first token.
     Is(Value, u32),
-    /// A record pattern. The truth value says that `...` stands at its end: other fields may be there.
-    Rec(PatFields, bool),
+    /// A record pattern: its fields, one or more where it does not end with them, and how it ends.
+    Rec(PatFields, Tail),
     /// `<l=p>`: a variant of this label.
     Inj(Word, Box<Pattern>),
 }
@@ -95,6 +106,8 @@ pub enum Expr {
     /// `f(e, ..)`: a function or a primitive with its arguments, one or more.
     Call(Word, Exprs),
     Rec(ExprFields),
+    /// `[l=e, .., ...a]`: the record that a gives, with more fields, one or more.
+    More(ExprFields, Box<Expr>),
     /// `<l=e>`.
     Inj(Word, Box<Expr>),
     /// A collection by its items.

@@ -6,7 +6,7 @@ use Rattle.std.specs.List.{AllByRecursion, IsDistinct}
 use Rattle.std.specs.Option.{option_map}
 use Rattle.std.proofs.lemmas.Bool.Decides.{nat_tests}
 use Rattle.std.proofs.lemmas.List.{append-nil}
-use Rattle.std.proofs.lemmas.Option.{same_Some}
+use Rattle.std.proofs.lemmas.Option.{none-some, same_Some}
 use Rattle.kl_value.specs.declared.Kind.{Kind}
 use Rattle.kl_value.specs.declared.Kind.TheVariants as kind
 use Rattle.kl_value.specs.declared.Value.{Value}
@@ -61,8 +61,10 @@ module _ (source locator : List ℕ) (ty : Ty) (s : Source) (seed rows : ℕ) (s
   attach_done = record {
     keeps = record { kind = refl; handed = omega arith; faults = omega arith; drifts = omega arith; no_drift = λ is. refl; unread = omega arith };
     cursors = refl;
+    reading = λ k is. record { file = refl; read = refl };
     asked = refl;
     handed = refl;
+    faults = refl;
     drifts = refl;
     unread = refl;
     others = λ name ne. ap (option_map attached_of) (elsewhere name ne);
@@ -119,7 +121,9 @@ module _ (sources : Sources) (cursors : List (Option Open)) (asked : List (Ask �
     start_done can opens last grown counted = record {
       keeps = record { kind = refl; handed = omega arith; faults = omega arith; drifts = omega arith; no_drift = λ is. refl; unread = omega arith };
       attached = refl;
+      reading = λ k is. record { file = refl; read = refl };
       handed = refl;
+      faults = refl;
       drifts = refl;
       unread = refl;
       opens = record {
@@ -129,6 +133,7 @@ module _ (sources : Sources) (cursors : List (Option Open)) (asked : List (Ask �
         ask_kept = opens.ask_is;
         fresh = opens_at ask o can opens;
         others = λ k ne. ap (option_map cursor_of) (added_others cursors cursors' n o last grown k ne);
+        unread = λ r is. absurd (none-some _ is);
         asked = counted;
       };
       refused = tt;
@@ -202,6 +207,7 @@ module _ (sources : Sources) (cursors cursors' : List (Option Open)) (asked : Li
           over = inl at_end;
           now = ap (option_map cursor_of) (changed_now cursors cursors' cursor o o' is made) ∙ ap Some (emptied_is (none_left all ∙ sym empty) (omega (arith, stays, all)));
           handed = omega (arith, count, fits, zero_is);
+          unchanged = λ r. absurd (none-some _ r.is_read);
         })
       where
         emptied_is : left_of o' ≡ left_of o → o'.source.rows - o'.at ≡ 0 → cursor_of o' ≡ emptied (cursor_of o)
@@ -217,7 +223,11 @@ module _ (sources : Sources) (cursors cursors' : List (Option Open)) (asked : Li
       keeps = record { kind = refl; handed = omega (arith, count, fits); faults = omega arith; drifts = omega arith; no_drift = λ is. refl; unread = omega arith };
       attached = refl;
       asked = refl;
+      faults = refl;
       drifts = refl;
+      reads = refl;
+      same_file = λ is_open. refl;
+      others_reading = λ k ne is_open. record { file = refl; read = refl };
       unread = refl;
       others = λ k ne. ap (option_map cursor_of) (changed_others cursors cursors' cursor o o' is made k ne);
       answer = answer (nat_lt 0 n) refl;
@@ -231,7 +241,11 @@ pull_stopped sources cursors cursors' o asked handed cursor most into into' clos
   keeps = record { kind = refl; handed = omega arith; faults = omega arith; drifts = omega arith; no_drift = λ is. refl; unread = omega arith };
   attached = refl;
   asked = refl;
+  faults = refl;
   drifts = refl;
+  reads = refl;
+  same_file = λ is_open. refl;
+  others_reading = λ k ne is_open. record { file = refl; read = refl };
   unread = refl;
   others = λ k ne. ap (option_map cursor_of) (others k ne ∙ replaced_other cursors cursor k o ne);
   answer = λ c has. record {
@@ -241,6 +255,7 @@ pull_stopped sources cursors cursors' o asked handed cursor most into into' clos
     cause = tt;
     drifted = λ d drift. absurd cc;
     ahead = λ d drift. absurd cc;
+    shown = λ d drift. absurd cc;
     joined_drifted = λ d drift. absurd cc;
   };
 }

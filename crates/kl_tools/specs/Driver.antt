@@ -29,6 +29,7 @@ made_kind = record {
   most = None;
   suits = is_made_type;
   stored = Some (λ locator ty. stored_of (made_at locator));
+  spells = None;
 }
 
 -- attached sources by their names
@@ -57,6 +58,8 @@ made_state sources cursors asked handed = record {
   kind = made_kind;
   attached = attached_at sources;
   cursors = cursor_at cursors;
+  file = λ k. None;
+  read = λ n. None;
   asked = asked;
   handed = handed;
   faults = 0;
@@ -70,6 +73,8 @@ fresh_state = record {
   kind = made_kind;
   attached = λ name. None;
   cursors = λ k. None;
+  file = λ k. None;
+  read = λ n. None;
   asked = [];
   handed = 0;
   faults = 0;

@@ -2,7 +2,7 @@ use Rattle.std.proofs.Common.{ap, ◌∙◌}
 use Rattle.kl_syntax.specs.View.{view}
 use Rattle.kl_core.specs.Trees as term
 use Rattle.kl_core.proofs.Made.{made, made_of_two, made_of_three}
-use Rattle.kl_desugar.proofs.Arms.{given_ok, coll_is, comp_is, head_is, if_is, let_is, not_is, neg_is, inj_is, path_is, chain_is, rec_is, case_is, call_ok, within_ok}
+use Rattle.kl_desugar.proofs.Arms.{given_ok, coll_is, comp_is, head_is, if_is, let_is, not_is, neg_is, inj_is, path_is, chain_is, rec_is, written_is, more_is, case_is, call_ok, within_ok}
 use Rattle.kl_desugar.proofs.expressions.+tree.Goals as goal
 
 pub tree-returns-in-Coll : goal.tree-returns-in-Coll
@@ -36,6 +36,11 @@ tree-returns-in-Chain t c = given_ok c.tree_steps.result c.tree_box-first.result
 
 pub tree-returns-in-Rec : goal.tree-returns-in-Rec
 tree-returns-in-Rec t c = given_ok c.record.result c.tree_fields.result _ _ _ c.tree_fields.ensures c.record.ensures (λ x u h g. rec_is _ _ _ _ _ _ _ c.in-Rec.is c.slice-in-Rec.ensures h g)
+
+pub tree-returns-in-More : goal.tree-returns-in-More
+tree-returns-in-More t c = made_of_two _ c.record-in-More.result c.tree_box-in-More.result c.extended.result _ _ _ c.extended.ensures
+    (given_ok c.record-in-More.result c.tree_fields-in-More.result _ _ _ c.tree_fields-in-More.ensures c.record-in-More.ensures (λ ts u h g. written_is _ _ u _ _ h g)) c.tree_box-in-More.ensures
+    (λ u x h g. more_is _ _ _ _ _ _ _ _ _ c.in-More.is c.get-in-More.ensures c.slice-in-More.ensures h g)
 
 pub tree-returns-in-Case : goal.tree-returns-in-Case
 tree-returns-in-Case t c = made_of_three _ c.tree_box-in-Case.result c.tree_branches.result c.tree_other.result c.case.result _ _ _ _ c.case.ensures c.tree_box-in-Case.ensures c.tree_branches.ensures c.tree_other.ensures

@@ -1,5 +1,5 @@
-use Rattle.std.proofs.Common.{sym, ◌∙◌}
-use Rattle.kl_engine.proofs.DrawLemmas.{none_prints, none_spared, none_wanted, unbegun_prints, unbegun_scanned, unbegun_spared}
+use Rattle.std.proofs.Common.{refl, sym, ◌∙◌}
+use Rattle.kl_engine.proofs.DrawLemmas.{none_prints, none_spared, none_wanted, some_wanted, unbegun_prints, unbegun_scanned, unbegun_spared}
 use Rattle.kl_engine.proofs.listing.print_list.Goals as goal
 
 pub returns-in-Err-clause-prints : goal.returns-in-Err-clause-prints
@@ -26,3 +26,12 @@ returns-then-are_enough-clause-spares g c = none_spared _ _ _ _ _ _ c.requires (
 
 pub returns-clause-spares : goal.returns-clause-spares
 returns-clause-spares g c = c.print_items.ensures.spares _ c.in-Ok.ensures
+
+pub returns-in-Err-clause-none : goal.returns-in-Err-clause-none
+returns-in-Err-clause-none g c = λ none. refl
+
+pub returns-then-are_enough-clause-none : goal.returns-then-are_enough-clause-none
+returns-then-are_enough-clause-none g c = λ none. refl
+
+pub returns-clause-none : goal.returns-clause-none
+returns-clause-none g c = λ none. absurd (some_wanted _ (sym c.are_enough.ensures ∙ c.if-are_enough.false) none)

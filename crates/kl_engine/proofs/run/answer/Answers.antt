@@ -1,3 +1,4 @@
+use Rattle.std.proofs.Common.{refl}
 use Rattle.kl_scope.specs.Breaches.{is_marked}
 use Rattle.kl_syntax.specs.View.{view, decls_of}
 use Rattle.kl_engine.proofs.CountLemmas.{unrun_alone, unrun_asks, wanted_plan}
@@ -31,3 +32,9 @@ returns-in-Err-clause-asks g c = unrun_asks _ _ c.requires.unrun
 
 pub returns-in-Err-clause-alone : goal.returns-in-Err-clause-alone
 returns-in-Err-clause-alone g c = unrun_alone _ c.requires.unrun
+
+pub returns-in-Ok-clause-silent : goal.returns-in-Ok-clause-silent
+returns-in-Ok-clause-silent g c = c.answer_translated.ensures.silent
+
+pub returns-in-Err-clause-silent : goal.returns-in-Err-clause-silent
+returns-in-Err-clause-silent g c = λ none. refl

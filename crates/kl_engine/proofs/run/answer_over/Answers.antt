@@ -3,9 +3,9 @@ use Rattle.kl_scope.specs.Breaches.{is_marked}
 use Rattle.kl_syntax.specs.View.{view, decls_of}
 use Rattle.kl_desugar.proofs.Law.{means}
 use Rattle.kl_engine.proofs.CountLemmas.{answers_late, source_late}
-use Rattle.kl_engine.proofs.MeaningLemmas.{idle_none, attaches_same, plan_runs, session_list, session_lists, session_told, session_done, attach_failed}
+use Rattle.kl_engine.proofs.MeaningLemmas.{attach_unchanged, given_list, idle_none, attaches_same, plan_runs, session_list, session_lists, session_told, session_done, attach_failed}
 use Rattle.kl_engine.proofs.FewLemmas.{driver_unwritten}
-use Rattle.kl_engine.proofs.PlanLemmas.{plan_asks, plan_few, plan_numbers, plan_rest, plan_starts, plan_written, refused_asks, refused_numbers, runs_list, runs_worth}
+use Rattle.kl_engine.proofs.PlanLemmas.{plan_asks, plan_few, plan_none, plan_numbers, plan_rest, plan_starts, plan_written, refused_asks, refused_none, refused_numbers, runs_list, runs_worth}
 use Rattle.kl_engine.proofs.ProgramLemmas.{no_files}
 use Rattle.kl_engine.proofs.run.answer_over.Goals as goal
 
@@ -26,7 +26,7 @@ answer_plan-result-requires-clause-list g c is =
 pub returns-in-Ok-clause-does : goal.returns-in-Ok-clause-does
 returns-in-Ok-clause-does g c =
     λ files. session_done c.args.sources.items c.args.scoped.now c.requires.scope c.args.typed.now c.requires.types _ refl _ _ c.requires.placed _ (attaches_same _ c.replace.result _ _ _ _ _ c.replace.ensures.value (c.in-Ok.ensures (is_marked c.args.scoped.now) (λ i less. refl))) c.args.how.settings c.replace-in-Ok.result c.requires.fetch
-    _ c.gives_list-is_list.ensures.list (means (decls_of c.args.scoped.now.program.defs) (view c.args.scoped.now.program.last) c.args.scoped.now.sources) c.gives_list-is_list.ensures.other _ _ files _ _ _
+    _ c.gives_list-is_list.ensures.list (means (decls_of c.args.scoped.now.program.defs) (view c.args.scoped.now.program.last) c.args.scoped.now.sources) c.gives_list-is_list.ensures.other _ _ files _ _ _ _
     (c.answer_plan-result.ensures.prints files _ _ _ _
     (plan_runs c.args.sources.items c.args.scoped.now c.requires.scope c.args.typed.now c.requires.types _ refl _ _ c.requires.placed _ (attaches_same _ c.replace.result _ _ _ _ _ c.replace.ensures.value (c.in-Ok.ensures (is_marked c.args.scoped.now) (λ i less. refl))) c.args.how.settings c.replace-in-Ok.result c.requires.fetch c.requires.idle c.requires.mentioned _ _ c.requires.planned.2 c.requires.planned.1)
     (λ is. session_list c.args.sources.items c.args.scoped.now c.requires.scope c.args.typed.now c.requires.types _ refl _ _ c.requires.placed _ (attaches_same _ c.replace.result _ _ _ _ _ c.replace.ensures.value (c.in-Ok.ensures (is_marked c.args.scoped.now) (λ i less. refl))) c.args.how.settings c.replace-in-Ok.result c.requires.fetch _ c.gives_list-is_list.ensures.list is))
@@ -48,40 +48,21 @@ returns-in-Ok-clause-starts g c = plan_numbers _ _ _ c.requires.planned.1 _ _ c.
 pub returns-in-Ok-clause-rest : goal.returns-in-Ok-clause-rest
 returns-in-Ok-clause-rest g c = plan_rest _ _ _ c.requires.planned.1 _ _ c.requires.traced.1 _ _ _ refl c.replace-in-Ok.ensures.value _ _ c.answer_plan-result.ensures.scanned
 
-pub returns-in-Ok-clause-exact : goal.returns-in-Ok-clause-exact
-returns-in-Ok-clause-exact g c =
-    λ well all have.
-    let runs = plan_runs c.args.sources.items c.args.scoped.now c.requires.scope c.args.typed.now c.requires.types _ refl _ _ c.requires.placed _ (attaches_same _ c.replace.result _ _ _ _ _ c.replace.ensures.value (c.in-Ok.ensures (is_marked c.args.scoped.now) (λ i less. refl))) c.args.how.settings c.replace-in-Ok.result c.requires.fetch c.requires.idle c.requires.mentioned _ _ c.requires.planned.2 c.requires.planned.1 in (
-      _,
-      runs.reads,
-      plan_starts _ _ _ c.requires.planned.1 _ _ c.requires.traced.1 _ _ _ refl c.replace-in-Ok.ensures.value _ _ c.answer_plan-result.ensures.scanned well all
-          (runs.told (session_told c.args.sources.items c.args.scoped.now c.requires.scope c.args.typed.now c.requires.types _ refl _ _ c.requires.placed _ (attaches_same _ c.replace.result _ _ _ _ _ c.replace.ensures.value (c.in-Ok.ensures (is_marked c.args.scoped.now) (λ i less. refl))) c.args.how.settings c.replace-in-Ok.result c.requires.fetch
-          (means (decls_of c.args.scoped.now.program.defs) (view c.args.scoped.now.program.last) c.args.scoped.now.sources) have.0 have.1)),
-    )
-
-pub returns-in-Ok-clause-few : goal.returns-in-Ok-clause-few
-returns-in-Ok-clause-few g c =
-    λ well have.
-    let runs = plan_runs c.args.sources.items c.args.scoped.now c.requires.scope c.args.typed.now c.requires.types _ refl _ _ c.requires.placed _ (attaches_same _ c.replace.result _ _ _ _ _ c.replace.ensures.value (c.in-Ok.ensures (is_marked c.args.scoped.now) (λ i less. refl))) c.args.how.settings c.replace-in-Ok.result c.requires.fetch c.requires.idle c.requires.mentioned _ _ c.requires.planned.2 c.requires.planned.1 in (
-      _,
-      runs.reads,
-      plan_few _ _ _ _ _ _ _ _ _ _ _ runs (attaches_same _ c.replace.result _ _ _ _ _ c.replace.ensures.value (c.in-Ok.ensures (is_marked c.args.scoped.now) (λ i less. refl))).drivers
-          (session_lists c.args.sources.items c.args.scoped.now c.requires.scope c.args.typed.now c.requires.types _ refl _ _ c.requires.placed _ (attaches_same _ c.replace.result _ _ _ _ _ c.replace.ensures.value (c.in-Ok.ensures (is_marked c.args.scoped.now) (λ i less. refl))) c.args.how.settings c.replace-in-Ok.result c.requires.fetch _ c.gives_list-is_list.ensures.other) _ _ c.answer_plan-result.ensures.spares well
-          (runs.told (session_told c.args.sources.items c.args.scoped.now c.requires.scope c.args.typed.now c.requires.types _ refl _ _ c.requires.placed _ (attaches_same _ c.replace.result _ _ _ _ _ c.replace.ensures.value (c.in-Ok.ensures (is_marked c.args.scoped.now) (λ i less. refl))) c.args.how.settings c.replace-in-Ok.result c.requires.fetch
-          (means (decls_of c.args.scoped.now.program.defs) (view c.args.scoped.now.program.last) c.args.scoped.now.sources) have.0 have.1)),
-    )
-
-pub returns-in-Ok-clause-written : goal.returns-in-Ok-clause-written
-returns-in-Ok-clause-written g c =
-    λ failed have.
-    let runs = plan_runs c.args.sources.items c.args.scoped.now c.requires.scope c.args.typed.now c.requires.types _ refl _ _ c.requires.placed _ (attaches_same _ c.replace.result _ _ _ _ _ c.replace.ensures.value (c.in-Ok.ensures (is_marked c.args.scoped.now) (λ i less. refl))) c.args.how.settings c.replace-in-Ok.result c.requires.fetch c.requires.idle c.requires.mentioned _ _ c.requires.planned.2 c.requires.planned.1 in (
-      _,
-      runs.reads,
-      plan_written _ _ _ _ _ _ _ _ _ _ _ runs (attaches_same _ c.replace.result _ _ _ _ _ c.replace.ensures.value (c.in-Ok.ensures (is_marked c.args.scoped.now) (λ i less. refl))).drivers
-          (session_lists c.args.sources.items c.args.scoped.now c.requires.scope c.args.typed.now c.requires.types _ refl _ _ c.requires.placed _ (attaches_same _ c.replace.result _ _ _ _ _ c.replace.ensures.value (c.in-Ok.ensures (is_marked c.args.scoped.now) (λ i less. refl))) c.args.how.settings c.replace-in-Ok.result c.requires.fetch _ c.gives_list-is_list.ensures.other) _ _ c.answer_plan-result.ensures.spares failed
-          (runs.told (session_told c.args.sources.items c.args.scoped.now c.requires.scope c.args.typed.now c.requires.types _ refl _ _ c.requires.placed _ (attaches_same _ c.replace.result _ _ _ _ _ c.replace.ensures.value (c.in-Ok.ensures (is_marked c.args.scoped.now) (λ i less. refl))) c.args.how.settings c.replace-in-Ok.result c.requires.fetch
-          (means (decls_of c.args.scoped.now.program.defs) (view c.args.scoped.now.program.last) c.args.scoped.now.sources) have.0 have.1)),
-    )
+pub returns-in-Ok-clause-counts : goal.returns-in-Ok-clause-counts
+returns-in-Ok-clause-counts g c =
+    let attached = attaches_same _ c.replace.result _ _ _ _ _ c.replace.ensures.value (c.in-Ok.ensures (is_marked c.args.scoped.now) (λ i less. refl)) in
+    let runs = plan_runs c.args.sources.items c.args.scoped.now c.requires.scope c.args.typed.now c.requires.types _ refl _ _ c.requires.placed _ attached c.args.how.settings c.replace-in-Ok.result c.requires.fetch c.requires.idle c.requires.mentioned _ _ c.requires.planned.2 c.requires.planned.1 in
+    let told = session_told c.args.sources.items c.args.scoped.now c.requires.scope c.args.typed.now c.requires.types _ refl _ _ c.requires.placed _ attached c.args.how.settings c.replace-in-Ok.result c.requires.fetch (means (decls_of c.args.scoped.now.program.defs) (view c.args.scoped.now.program.last) c.args.scoped.now.sources) in
+    let lists = session_lists c.args.sources.items c.args.scoped.now c.requires.scope c.args.typed.now c.requires.types _ refl _ _ c.requires.placed _ attached c.args.how.settings c.replace-in-Ok.result c.requires.fetch _ c.gives_list-is_list.ensures.other in
+    record {
+      exact = λ well all have. (_, runs.reads, plan_starts _ _ _ c.requires.planned.1 _ _ c.requires.traced.1 _ _ _ refl c.replace-in-Ok.ensures.value _ _ c.answer_plan-result.ensures.scanned well all (runs.told (told have.0 have.1)));
+      few = λ well have. (_, runs.reads, plan_few _ _ _ _ _ _ _ _ _ _ _ runs attached.drivers lists _ _ c.answer_plan-result.ensures.spares well (runs.told (told have.0 have.1)));
+      written = λ failed have. (_, runs.reads, plan_written _ _ _ _ _ _ _ _ _ _ _ runs attached.drivers lists _ _ c.answer_plan-result.ensures.spares failed (runs.told (told have.0 have.1)));
+      changed = λ name is. ((c.answer_plan-result.ensures.prints no_files _ _ _ _ runs (λ h. session_list c.args.sources.items c.args.scoped.now c.requires.scope c.args.typed.now c.requires.types _ refl _ _ c.requires.placed _ attached c.args.how.settings c.replace-in-Ok.result c.requires.fetch _ c.gives_list-is_list.ensures.list h)).changed name is).7;
+      none = λ none given.
+          plan_none _ _ _ c.requires.traced.1 _ _ _ refl c.replace-in-Ok.ensures.value (is_marked c.args.scoped.now) c.args.sources.items _ attached.drivers
+          (c.answer_plan-result.ensures.none (given_list c.args.sources.items (decls_of c.args.scoped.now.program.defs) (view c.args.scoped.now.program.last) c.args.typed.now c.requires.types _ c.gives_list-is_list.ensures.other given) none);
+    }
 
 pub returns-in-Err-clause-does : goal.returns-in-Err-clause-does
 returns-in-Err-clause-does g c =
@@ -98,11 +79,12 @@ returns-in-Err-clause-asks g c =
 pub returns-in-Err-clause-starts : goal.returns-in-Err-clause-starts
 returns-in-Err-clause-starts g c = refused_numbers _ _ _ c.requires.planned.1 _ _ c.requires.traced.1 c.args.how.settings
 
-pub returns-in-Err-clause-exact : goal.returns-in-Err-clause-exact
-returns-in-Err-clause-exact g c = λ well all have. absurd cc
-
-pub returns-in-Err-clause-few : goal.returns-in-Err-clause-few
-returns-in-Err-clause-few g c = λ well have. absurd cc
-
-pub returns-in-Err-clause-written : goal.returns-in-Err-clause-written
-returns-in-Err-clause-written g c = λ failed have. absurd (driver_unwritten _ _ _ c.driver_fault.ensures failed)
+pub returns-in-Err-clause-counts : goal.returns-in-Err-clause-counts
+returns-in-Err-clause-counts g c = record {
+  exact = λ well all have. absurd cc;
+  few = λ well have. absurd cc;
+  written = λ failed have. absurd (driver_unwritten _ _ _ c.driver_fault.ensures failed);
+  changed = λ name is. absurd (attach_unchanged c.args.sources.items (is_marked c.args.scoped.now) c.args.how.first (decls_of c.args.scoped.now.program.defs) (view c.args.scoped.now.program.last) no_files _ _ (g.S.Sink.state c.args.out.now) c.in-Err.field-0 _ name
+      (c.in-Err.ensures (is_marked c.args.scoped.now) (λ i less. refl)) c.driver_fault.ensures is);
+  none = λ none given. refused_none _ _ _ c.requires.traced.1 (is_marked c.args.scoped.now) c.args.sources.items _ _ (c.in-Err.ensures (is_marked c.args.scoped.now) (λ i less. refl)).drivers;
+}

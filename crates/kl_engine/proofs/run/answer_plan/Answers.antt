@@ -14,3 +14,9 @@ returns-then-is_list-clause-spares g c = λ is. c.print_list.ensures.spares
 
 pub returns-else-is_list-clause-spares : goal.returns-else-is_list-clause-spares
 returns-else-is_list-clause-spares g c = λ is. let both : true ≡ false = sym is ∙ c.if-is_list.false in absurd cc
+
+pub returns-then-is_list-clause-none : goal.returns-then-is_list-clause-none
+returns-then-is_list-clause-none g c = λ is. c.print_list.ensures.none
+
+pub returns-else-is_list-clause-none : goal.returns-else-is_list-clause-none
+returns-else-is_list-clause-none g c = λ is. let both : true ≡ false = sym is ∙ c.if-is_list.false in absurd cc

@@ -2,7 +2,7 @@ use Rattle.std.proofs.Common.{refl, subst}
 use Rattle.kl_scope.specs.Breaches.{is_marked}
 use Rattle.kl_syntax.specs.View.{view, decls_of}
 use Rattle.kl_desugar.specs.Mentioned.{ReadsMentioned}
-use Rattle.kl_engine.proofs.CountLemmas.{unrun_alone, unrun_asks, wanted_plan}
+use Rattle.kl_engine.proofs.CountLemmas.{planned_some, unrun_alone, unrun_asks, wanted_plan}
 use Rattle.kl_engine.proofs.MeaningLemmas.{meaning_wanted, planned_sense}
 use Rattle.kl_engine.proofs.PlanLemmas.{translated_alone, translated_plan}
 use Rattle.kl_engine.proofs.RewriteLemmas.{keeps_from}
@@ -28,7 +28,8 @@ returns-in-Ok-planned-clause-does g c = c.answer_over-result.ensures.does
 
 pub returns-in-Ok-planned-clause-plan : goal.returns-in-Ok-planned-clause-plan
 returns-in-Ok-planned-clause-plan g c =
-    translated_plan _ _ _ _ (rw c.deref.ensures.value at c.in-Ok-planned.ensures.plan) _ _ _ c.in-Ok-planned.ensures.trace c.answer_over-result.ensures.rest _ _ _ _ _ _ c.requires.term c.in-Ok.ensures.rewritten c.answer_over-result.ensures.late c.answer_over-result.ensures.exact _ _ _ c.answer_over-result.ensures.few _ _ c.answer_over-result.ensures.written
+    translated_plan c.args.how c.args.sources.items (is_marked c.args.scoped.now) (decls_of c.args.scoped.now.program.defs) (view c.args.scoped.now.program.last) c.args.scoped.now.sources _ _ _ _ _ _ _ _ _ _
+    (rw c.deref.ensures.value at c.in-Ok-planned.ensures.plan) c.in-Ok-planned.ensures.trace c.answer_over-result.ensures.rest _ c.requires.term c.in-Ok.ensures.rewritten c.answer_over-result.ensures.late c.answer_over-result.ensures.counts
 
 pub returns-in-Ok-planned-clause-asks : goal.returns-in-Ok-planned-clause-asks
 returns-in-Ok-planned-clause-asks g c = c.answer_over-result.ensures.asks
@@ -60,3 +61,12 @@ returns-in-Err-clause-asks g c = unrun_asks _ _ c.requires.unrun
 
 pub returns-in-Err-clause-alone : goal.returns-in-Err-clause-alone
 returns-in-Err-clause-alone g c = unrun_alone _ c.requires.unrun
+
+pub returns-in-Ok-planned-clause-silent : goal.returns-in-Ok-planned-clause-silent
+returns-in-Ok-planned-clause-silent g c = planned_some _ _
+
+pub returns-in-Err-planned-clause-silent : goal.returns-in-Err-planned-clause-silent
+returns-in-Err-planned-clause-silent g c = λ none. refl
+
+pub returns-in-Err-clause-silent : goal.returns-in-Err-clause-silent
+returns-in-Err-clause-silent g c = λ none. refl

@@ -1,4 +1,4 @@
-use Rattle.std.proofs.Common.{Ok, Err}
+use Rattle.std.proofs.Common.{Ok, Err, refl}
 use Rattle.kl_engine.specs.declared.top.Purpose.TheVariants as purpose
 use Rattle.kl_engine.proofs.CountLemmas.{text_plan, unread_plan, unrun_alone, unrun_asks}
 use Rattle.kl_engine.proofs.DoneLemmas.{done_program, reads_sources, unread}
@@ -16,7 +16,7 @@ returns-in-Ok-clause-does g c =
 
 pub returns-in-Ok-clause-plan : goal.returns-in-Ok-clause-plan
 returns-in-Ok-clause-plan g c =
-    text_plan c.args.how.settings.rewrite _ c.args.sources.items c.args.text.now c.in-Ok.scoped _ _ _ _ _
+    text_plan c.args.how c.args.sources.items c.args.text.now c.in-Ok.scoped _ _ _ _
     (reads_sources c.deref.result.now c.args.sources.items _ (Ok c.in-Ok.scoped) c.deref.ensures.value c.in-Ok.ensures) c.run_program.ensures.plan
 
 pub returns-in-Ok-clause-asks : goal.returns-in-Ok-clause-asks
@@ -38,3 +38,9 @@ returns-in-Err-clause-asks g c = unrun_asks _ _ c.requires.unrun
 
 pub returns-in-Err-clause-alone : goal.returns-in-Err-clause-alone
 returns-in-Err-clause-alone g c = unrun_alone _ c.requires.unrun
+
+pub returns-in-Ok-clause-silent : goal.returns-in-Ok-clause-silent
+returns-in-Ok-clause-silent g c = c.run_program.ensures.silent
+
+pub returns-in-Err-clause-silent : goal.returns-in-Err-clause-silent
+returns-in-Err-clause-silent g c = λ none. refl

@@ -1,4 +1,4 @@
-use Rattle.std.proofs.Common.{Ok, Err}
+use Rattle.std.proofs.Common.{Ok, Err, refl}
 use Rattle.kl_engine.proofs.CountLemmas.{unrun_alone, unrun_asks, untyped_plan}
 use Rattle.kl_engine.proofs.DoneLemmas.{answered, types_sources, untyped_run}
 use Rattle.kl_engine.proofs.run.run_program.Goals as goal
@@ -31,3 +31,9 @@ returns-in-Err-clause-asks g c = unrun_asks _ _ c.requires.unrun
 
 pub returns-in-Err-clause-alone : goal.returns-in-Err-clause-alone
 returns-in-Err-clause-alone g c = unrun_alone _ c.requires.unrun
+
+pub returns-in-Ok-clause-silent : goal.returns-in-Ok-clause-silent
+returns-in-Ok-clause-silent g c = c.answer.ensures.silent
+
+pub returns-in-Err-clause-silent : goal.returns-in-Err-clause-silent
+returns-in-Err-clause-silent g c = λ none. refl

@@ -1,5 +1,6 @@
-use Rattle.std.proofs.Common.{None, true}
+use Rattle.std.proofs.Common.{None, refl}
 use Rattle.kl_engine.specs.Commands.{Made}
+use Rattle.kl_engine.specs.Planned.{usual_how}
 use Rattle.kl_engine.specs.declared.top.Purpose.TheVariants as purpose
 use Rattle.kl_engine.proofs.CountLemmas.{made_plan, refused_plan, unrun_alone, unrun_asks}
 use Rattle.kl_engine.proofs.ProgramLemmas.{does_same, no_files, program_does, program_refused}
@@ -17,7 +18,7 @@ returns-in-Ok-clause-does g c = λ files.
 
 pub returns-in-Ok-clause-plan : goal.returns-in-Ok-clause-plan
 returns-in-Ok-clause-plan g c = λ files.
-    made_plan c.usual.result c.args.seed c.args.size files _ _ _ _ _ _ _ _ c.in-Ok.field-0 _ _ _ c.usual.ensures c.slice.ensures c.into_vec.ensures (c.in-Ok.ensures files) c.run.ensures.plan
+    made_plan c.usual.result c.args.seed c.args.size files _ c.run.new.ran.trace _ _ _ _ _ c.in-Ok.field-0 _ _ c.usual.ensures c.slice.ensures c.into_vec.ensures (c.in-Ok.ensures files) (c.run.ensures.does no_files) c.run.ensures.plan
 
 pub returns-in-Ok-clause-asks : goal.returns-in-Ok-clause-asks
 returns-in-Ok-clause-asks g c = c.run.ensures.asks
@@ -29,10 +30,16 @@ pub returns-in-Err-clause-does : goal.returns-in-Err-clause-does
 returns-in-Err-clause-does g c = λ files. program_refused (purpose.Run None) (Made c.args.seed c.args.size) files files c.in-Err.fault _ _ (c.in-Err.ensures files)
 
 pub returns-in-Err-clause-plan : goal.returns-in-Err-clause-plan
-returns-in-Err-clause-plan g c = λ files. refused_plan true None (Made c.args.seed c.args.size) files files _ c.in-Err.fault _ _ c.requires.unrun (c.in-Err.ensures files)
+returns-in-Err-clause-plan g c = λ files. refused_plan usual_how (Made c.args.seed c.args.size) files files _ _ _ _ c.in-Err.fault _ c.requires.unrun (c.in-Err.ensures files)
 
 pub returns-in-Err-clause-asks : goal.returns-in-Err-clause-asks
 returns-in-Err-clause-asks g c = unrun_asks _ _ c.requires.unrun
 
 pub returns-in-Err-clause-alone : goal.returns-in-Err-clause-alone
 returns-in-Err-clause-alone g c = unrun_alone _ c.requires.unrun
+
+pub returns-in-Ok-clause-silent : goal.returns-in-Ok-clause-silent
+returns-in-Ok-clause-silent g c = c.run.ensures.silent
+
+pub returns-in-Err-clause-silent : goal.returns-in-Err-clause-silent
+returns-in-Err-clause-silent g c = λ none. refl

@@ -1,4 +1,7 @@
-use Rattle.std.proofs.Common.{Some, ap, ◌∙◌}
+use Rattle.std.proofs.Common.{Some, ap, refl, subst, sym, ◌∙◌}
+use Rattle.kl_engine.specs.Answering.{IsRunning}
+use Rattle.kl_engine.specs.Commands.{NamesNoFile, asked}
+use Rattle.kl_engine.specs.Planned.{plan_in}
 use Rattle.kl_engine.proofs.CountLemmas.{gen_plan, run_plan}
 use Rattle.kl_engine.proofs.StatsLemmas.{handed_is, run_told}
 use Rattle.kl_engine.proofs.TopLemmas.{does_found, does_none, does_wanted, show_at}
@@ -24,9 +27,39 @@ returns-in-Ok-Run-clause-line g c =
 
 pub returns-in-Ok-Run-clause-plan : goal.returns-in-Ok-Run-clause-plan
 returns-in-Ok-Run-clause-plan g c =
-    run_plan _ _ _ _ _ _ _ _ _ c.end.ensures.fault c.end.ensures.plan c.end.ensures.trace _ _ _ _ c.in-Ok-Run.job (c.in-Ok-Run.ensures.meant ∙ ap Some c.in-Ok-Run.field-0-is) c.do_run-result.ensures.plan
+    run_plan _ _ _ _ _ _ _ _ c.end.ensures.fault c.end.ensures.plan c.end.ensures.trace _ _ _ _ c.in-Ok-Run.job (c.in-Ok-Run.ensures.meant ∙ ap Some c.in-Ok-Run.field-0-is) c.do_run-result.ensures.plan
 
 pub returns-in-Ok-Gen-clause-plan : goal.returns-in-Ok-Gen-clause-plan
 returns-in-Ok-Gen-clause-plan g c =
-    gen_plan _ _ _ _ _ _ _ _ _ c.end-in-Ok-Gen.ensures.fault c.end-in-Ok-Gen.ensures.plan c.end-in-Ok-Gen.ensures.trace _ _ _ _ c.in-Ok-Gen.seed c.in-Ok-Gen.size
+    gen_plan _ _ _ _ _ _ _ _ c.end-in-Ok-Gen.ensures.fault c.end-in-Ok-Gen.ensures.plan c.end-in-Ok-Gen.ensures.trace _ _ _ _ c.in-Ok-Gen.seed c.in-Ok-Gen.size
     (c.in-Ok-Gen.ensures.meant ∙ ap Some c.in-Ok-Gen.field-0-is) (c.do_gen-result.ensures.plan (g.F.Files.state c.args.files.now))
+
+pub returns-in-Ok-Run-clause-no_file : goal.returns-in-Ok-Run-clause-no_file
+returns-in-Ok-Run-clause-no_file g c = λ none. absurd (subst (λ o. NamesNoFile (asked o)) (c.in-Ok-Run.ensures.meant ∙ ap Some c.in-Ok-Run.field-0-is) none)
+
+pub returns-in-Ok-Types-clause-no_file : goal.returns-in-Ok-Types-clause-no_file
+returns-in-Ok-Types-clause-no_file g c = λ none. absurd (subst (λ o. NamesNoFile (asked o)) (c.in-Ok-Types.ensures.meant ∙ ap Some c.in-Ok-Types.field-0-is) none)
+
+pub returns-in-Ok-Check-clause-no_file : goal.returns-in-Ok-Check-clause-no_file
+returns-in-Ok-Check-clause-no_file g c = λ none. absurd (subst (λ o. NamesNoFile (asked o)) (c.in-Ok-Check.ensures.meant ∙ ap Some c.in-Ok-Check.field-0-is) none)
+
+pub returns-in-Ok-Show-clause-no_file : goal.returns-in-Ok-Show-clause-no_file
+returns-in-Ok-Show-clause-no_file g c = λ none. absurd (subst (λ o. NamesNoFile (asked o)) (c.in-Ok-Show.ensures.meant ∙ ap Some c.in-Ok-Show.field-0-is) none)
+
+pub returns-in-Ok-Gen-clause-no_file : goal.returns-in-Ok-Gen-clause-no_file
+returns-in-Ok-Gen-clause-no_file g c = λ none. refl
+
+pub returns-in-Ok-Run-clause-silent : goal.returns-in-Ok-Run-clause-silent
+returns-in-Ok-Run-clause-silent g c = λ running none. c.do_run-result.ensures.silent (ap plan_in (sym c.end.ensures.plan) ∙ none)
+
+pub returns-in-Ok-Gen-clause-silent : goal.returns-in-Ok-Gen-clause-silent
+returns-in-Ok-Gen-clause-silent g c = λ running none. c.do_gen-result.ensures.silent (ap plan_in (sym c.end-in-Ok-Gen.ensures.plan) ∙ none)
+
+pub returns-in-Ok-Types-clause-silent : goal.returns-in-Ok-Types-clause-silent
+returns-in-Ok-Types-clause-silent g c = λ running. absurd (subst (λ o. IsRunning (asked o)) (c.in-Ok-Types.ensures.meant ∙ ap Some c.in-Ok-Types.field-0-is) running)
+
+pub returns-in-Ok-Check-clause-silent : goal.returns-in-Ok-Check-clause-silent
+returns-in-Ok-Check-clause-silent g c = λ running. absurd (subst (λ o. IsRunning (asked o)) (c.in-Ok-Check.ensures.meant ∙ ap Some c.in-Ok-Check.field-0-is) running)
+
+pub returns-in-Ok-Show-clause-silent : goal.returns-in-Ok-Show-clause-silent
+returns-in-Ok-Show-clause-silent g c = λ running. absurd (subst (λ o. IsRunning (asked o)) (c.in-Ok-Show.ensures.meant ∙ ap Some c.in-Ok-Show.field-0-is) running)

@@ -1,5 +1,5 @@
 use Rattle.std.proofs.Common.{◌≡◌, length, arith}
-use Rattle.kl_forms.proofs.Shapes.{no_primitive, by_one, by_two, not_so_many}
+use Rattle.kl_forms.proofs.Shapes.{no_primitive, by_one, by_two, not_so_many, shape_called}
 use Rattle.kl_forms.proofs.primitives.applied.Goals as goal
 
 pub returns-in_default : goal.returns-in_default
@@ -20,3 +20,6 @@ returns-in_default-args c = not_so_many c.args.u.now.cells.items c.args.code c.a
 
 pub returns-in_default-args-2 : goal.returns-in_default-args-2
 returns-in_default-args-2 c = not_so_many c.args.u.now.cells.items c.args.code c.args.want c.args.args.now _ c.in-Some.ensures.row c.requires.fine (λ e. omega arith) (λ e. omega arith)
+
+pub takes_two-requires-clause-called : goal.takes_two-requires-clause-called
+takes_two-requires-clause-called c = shape_called c.args.code _ c.in-Some.ensures.row c.requires.called

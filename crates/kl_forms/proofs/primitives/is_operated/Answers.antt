@@ -1,4 +1,6 @@
 use Rattle.std.proofs.Common.{sym, subst}
+use Rattle.kl_meaning.specs.Codes.{IsCalled}
+use Rattle.kl_meaning.proofs.Naming.{op_called}
 use Rattle.kl_forms.specs.Checks.{Checks}
 use Rattle.kl_forms.specs.Forms.{Operates}
 use Rattle.kl_forms.proofs.Shapes.{op_alike, op_applied}
@@ -13,3 +15,6 @@ returns-in_ok-holds-in-Append c =
 
 pub returns-in_ok-holds-in_default : goal.returns-in_ok-holds-in_default
 returns-in_ok-holds-in_default c = op_applied c.args.op _ _ c.args.first c.args.second c.args.want _ _ c.in_default.not-Or c.in_default.not-And c.in_default.not-Append c.code_of.ensures c.in_ok-holds-in_default.ensures
+
+pub applied-requires-clause-called : goal.applied-requires-clause-called
+applied-requires-clause-called c = subst IsCalled (sym c.code_of.ensures) (op_called c.args.op)

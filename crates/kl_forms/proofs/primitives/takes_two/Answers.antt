@@ -13,3 +13,6 @@ pub returns-in-Member : goal.returns-in-Member
 returns-in-Member c = arm _ _ _ _ shape.Member (λ s. s.types c.args.first ∷ s.types c.args.second ∷ []) c.args.want _ c.in-Member.is
     (λ s d. (let e = heads_are (s.types c.args.first) (s.types c.args.second) d.1 (coll d.0 d.1) d.2 in ((d.0, e.1 ∙ ap (coll d.0) (sym e.0)), d.3)))
     (λ s d. (d.0.0, s.types c.args.first, two_are (s.types c.args.first) (s.types c.args.second) _ _ refl d.0.1, d.1)) c.is_member.ensures
+
+pub returns-in-Take : goal.returns-in-Take
+returns-in-Take c = arm _ _ _ _ shape.Take (λ s. s.types c.args.first ∷ s.types c.args.second ∷ []) c.args.want _ c.in-Take.is (λ s d. d) (λ s d. d) c.is_taken.ensures

@@ -45,7 +45,7 @@ returns-in-Ok-take_rows g c =
     let whole = ap (λ (s : Source). s.count) c.get-source.ensures in
     let old = c.args.cursor.now in
     let many = as_many old.source.count old.taken c.args.most c.min-count.result c.requires.reading.within (omega (arith, whole, c.min-count.ensures, c.from.ensures)) in
-    handed_rows c.args.limit c.args.most c.args.into.now.items old _ (g.F.Files.state c.args.files.now) _ c.requires.reading refl refl refl c.take_rows.new.into.items c.min-count.result (rw c.get-source.ensures at c.in-Ok-take_rows.ensures) refl
+    handed_rows c.args.limit c.args.most c.args.into.now.items old _ (g.F.Files.state c.args.files.now) _ c.requires.reading refl refl refl c.take_rows.new.into.items c.min-count.result (omega (arith, c.if-count-eq0.false)) (rw c.get-source.ensures at c.in-Ok-take_rows.ensures) refl
     (omega (arith, c.min-count.ensures, c.from.ensures)) many (omega (arith, whole, c.min-count.ensures, c.requires.reading.within))
 
 pub returns-in-Err-take_rows : goal.returns-in-Err-take_rows

@@ -4,15 +4,15 @@ use Rattle.kl_lex.specs.declared.token.Sym.TheVariants.{Comma}
 use Rattle.kl_parse.specs.declared.operator.Level.TheVariants.{Compare}
 use Rattle.kl_syntax.specs.declared.tree.Expr.TheVariants as expr
 use Rattle.kl_syntax.specs.declared.tree.Qual.TheVariants as qual
-use Rattle.kl_phrase.specs.Readers.{ok, bad, deep, behind, others}
+use Rattle.kl_phrase.specs.Readers.{ok, bad, deep, behind, others, tails}
 use Rattle.kl_phrase.specs.Refusals.{refused}
 use Rattle.kl_phrase.proofs.Gathered.{stops}
 use Rattle.kl_parse.specs.Grammar.{whole, negated, signed, path_of}
 use Rattle.kl_parse.specs.Kinds.{is_symbol}
-use Rattle.kl_parse.specs.Descent.{mark, read_pat, reads, labels, field, qualifier, branch_at, operand_at, sort_at, compare_at, post_at, drawn, condition}
-use Rattle.kl_parse.proofs.Steps.{less, onward, fails_on}
+use Rattle.kl_parse.specs.Descent.{mark, read_pat, reads, labels, field, field_turn, unsigned, qualifier, branch_at, operand_at, sort_at, compare_at, post_at, drawn, condition}
+use Rattle.kl_parse.proofs.Steps.{less, onward, fails_on, item_on, item_breaks, dots_end, dots_break, list_end}
 use Rattle.kl_phrase.proofs.Failures.{err_by, is_bad, is_deep}
-use Rattle.kl_parse.proofs.ExprSteps.{let_deep, let_at, if_deep, if_at, ors_at, Others, step_fails, step_less, step_onward, step_stops, operand_or, operand_compare, operand_add, not_deep, not_at, not_none, compare_fails, compare_one, compare_two, compare_ok, gen_at, cond_at, least_found, minus_deep, minus_on, minus_none, path_fails, path_first, path_one, path_more, const_found, group_deep, group_at, rec_deep, rec_at, inject_deep, inject_at, coll_deep, coll_at, case_deep, case_at, name_at, named_fails, named_alone, named_deep, named_args, branch_bad, branch_deep, variant_in_branch_fails, branch_arrow, coll_empty, coll_first_fails, coll_beyond_fails, coll_close, rests_whole, rests_field, rests_qual, rests_branch}
+use Rattle.kl_parse.proofs.ExprSteps.{let_deep, let_at, if_deep, if_at, ors_at, Others, step_fails, step_less, step_onward, step_stops, operand_or, operand_compare, operand_add, not_deep, not_at, not_none, compare_fails, compare_one, compare_two, compare_ok, gen_at, cond_at, least_found, minus_deep, minus_on, minus_none, path_fails, path_first, path_one, path_more, const_found, group_deep, group_at, rec_deep, rec_at, record_fails, record_ok, inject_deep, inject_at, coll_deep, coll_at, case_deep, case_at, name_at, named_fails, named_alone, named_deep, named_args, branch_bad, branch_deep, variant_in_branch_fails, branch_arrow, coll_empty, coll_first_fails, coll_beyond_fails, coll_close, rests_whole, rests_field, rests_qual, rests_branch}
 use Rattle.kl_parse.proofs.exprs.+expr.Goals as goal
 
 pub branch-returns-in_err-inner : goal.branch-returns-in_err-inner
@@ -92,6 +92,11 @@ more_branches-branches-preserved t c = rw c.in_ok-push-2.ensures.items (onward C
 pub more_branches-returns : goal.more_branches-returns
 more_branches-returns t c = rw c.of.ensures (stops (is_symbol Comma) (behind (mark Comma) (branch_at c.args.total c.args.depth)) (others (is_symbol Comma) (behind (mark Comma) (branch_at c.args.total c.args.depth)) (c.args.first ∷ []) c.args.tokens.now) c.branches.found.items c.branches.rest.now c.in_default.ensures c.branches.invariant)
 
+pub more_exprs-returns-in_err-next : goal.more_exprs-returns-in_err-next
+more_exprs-returns-in_err-next t c =
+    let p = err_from_is_err_and c.from_residual-in_err-next.result c.from_residual-in_err-next.ensures.1 in
+    rw (p.1, p.2) (fails_on Comma (reads c.args.total c.args.depth whole) (others (is_symbol Comma) (behind (mark Comma) (reads c.args.total c.args.depth whole)) (c.args.first ∷ []) c.args.tokens.now) c.exprs.found.items c.exprs.rest.now c.in-Some.after.now c.in_err-next.field-0.0 c.in-Some.ensures c.in_err-next.ensures c.exprs.invariant)
+
 pub more_exprs-exprs-smaller : goal.more_exprs-exprs-smaller
 more_exprs-exprs-smaller t c = less Comma (reads c.args.total c.args.depth whole) c.exprs.rest.now c.in-Some.after.now c.in_ok-next.after.now c.in_ok-next.next (rests_whole c.args.total c.args.depth) c.in-Some.ensures c.in_ok-next.ensures
 
@@ -101,19 +106,39 @@ more_exprs-exprs-preserved t c = rw (c.in_ok-push-2.ensures.items, c.into_inner-
 pub more_exprs-returns : goal.more_exprs-returns
 more_exprs-returns t c = rw c.of.ensures (stops (is_symbol Comma) (behind (mark Comma) (reads c.args.total c.args.depth whole)) (others (is_symbol Comma) (behind (mark Comma) (reads c.args.total c.args.depth whole)) (c.args.first ∷ []) c.args.tokens.now) c.exprs.found.items c.exprs.rest.now c.in_default.ensures c.exprs.invariant)
 
+pub rec_body-returns-in_err-fields : goal.rec_body-returns-in_err-fields
+rec_body-returns-in_err-fields t c =
+    let p = err_from_is_err_and c.from_residual-in_err-fields.result c.from_residual-in_err-fields.ensures.1 in
+    rw (p.1, p.2) (record_fails c.args.total (reads c.args.total c.args.depth whole) (sort_at c.args.total c.args.depth signed) c.args.tokens.now c.in_ok-first.rest.now c.in_ok-first.first (search rules) c.in_ok-first.ensures c.in_err-fields.field-0.0 c.in_err-fields.ensures)
+
+pub rec_body-returns : goal.rec_body-returns
+rec_body-returns t c =
+    rw (record_ok c.args.total (reads c.args.total c.args.depth whole) (sort_at c.args.total c.args.depth signed) c.args.tokens.now c.in_ok-first.rest.now c.in_ok-first.first (search rules) c.in_ok-first.ensures c.in_ok-fields.fields c.in_ok-fields.base c.in_ok-fields.rest.now c.in_ok-fields.ensures) c.record.ensures
+
+pub more_fields-returns-in_err-base : goal.more_fields-returns-in_err-base
+more_fields-returns-in_err-base t c =
+    let p = err_from_is_err_and c.from_residual-in_err-base.result c.from_residual-in_err-base.ensures.1 in
+    rw (p.1, p.2) (dots_break (field c.args.total (reads c.args.total c.args.depth whole)) (unsigned (sort_at c.args.total c.args.depth signed)) (tails (field_turn c.args.total (reads c.args.total c.args.depth whole) (sort_at c.args.total c.args.depth signed)) (c.args.first ∷ []) c.args.tokens.now) c.fields.found.items c.fields.rest.now c.in-Some.after.now c.in-Some-eat.after.now c.in_err-base.field-0.0 c.in-Some.ensures c.in-Some-eat.ensures c.in_err-base.ensures c.fields.invariant)
+
+pub more_fields-returns-in-Some-eat : goal.more_fields-returns-in-Some-eat
+more_fields-returns-in-Some-eat t c =
+    rw c.of.ensures (dots_end (field c.args.total (reads c.args.total c.args.depth whole)) (unsigned (sort_at c.args.total c.args.depth signed)) (tails (field_turn c.args.total (reads c.args.total c.args.depth whole) (sort_at c.args.total c.args.depth signed)) (c.args.first ∷ []) c.args.tokens.now) c.fields.found.items c.fields.rest.now c.in-Some.after.now c.in-Some-eat.after.now c.in_ok-base.after.now c.in_ok-base.base c.in-Some.ensures c.in-Some-eat.ensures c.in_ok-base.ensures c.fields.invariant)
+
 pub more_fields-returns-in_err-next : goal.more_fields-returns-in_err-next
 more_fields-returns-in_err-next t c =
     let p = err_from_is_err_and c.from_residual-in_err-next.result c.from_residual-in_err-next.ensures.1 in
-    rw (p.1, p.2) (fails_on Comma (field c.args.total (reads c.args.total c.args.depth whole)) (others (is_symbol Comma) (behind (mark Comma) (field c.args.total (reads c.args.total c.args.depth whole))) (c.args.first ∷ []) c.args.tokens.now) c.fields.found.items c.fields.rest.now c.in-Some.after.now c.in_err-next.field-0.0 c.in-Some.ensures c.in_err-next.ensures c.fields.invariant)
+    rw (p.1, p.2) (item_breaks (field c.args.total (reads c.args.total c.args.depth whole)) (unsigned (sort_at c.args.total c.args.depth signed)) (tails (field_turn c.args.total (reads c.args.total c.args.depth whole) (sort_at c.args.total c.args.depth signed)) (c.args.first ∷ []) c.args.tokens.now) c.fields.found.items c.fields.rest.now c.in-Some.after.now c.in_err-next.field-0.0 c.in-Some.ensures c.in_default-eat.ensures c.in_err-next.ensures c.fields.invariant)
 
 pub more_fields-fields-smaller : goal.more_fields-fields-smaller
 more_fields-fields-smaller t c = less Comma (field c.args.total (reads c.args.total c.args.depth whole)) c.fields.rest.now c.in-Some.after.now c.in_ok-next.after.now c.in_ok-next.next (rests_field c.args.total c.args.depth) c.in-Some.ensures c.in_ok-next.ensures
 
 pub more_fields-fields-preserved : goal.more_fields-fields-preserved
-more_fields-fields-preserved t c = rw c.in_ok-push-2.ensures.items (onward Comma (field c.args.total (reads c.args.total c.args.depth whole)) (rests_field c.args.total c.args.depth) (others (is_symbol Comma) (behind (mark Comma) (field c.args.total (reads c.args.total c.args.depth whole))) (c.args.first ∷ []) c.args.tokens.now) c.fields.found.items c.fields.rest.now c.in-Some.after.now c.in_ok-next.after.now c.in_ok-next.next c.in-Some.ensures c.in_ok-next.ensures c.fields.invariant)
+more_fields-fields-preserved t c =
+    rw c.in_ok-push-2.ensures.items (item_on (field c.args.total (reads c.args.total c.args.depth whole)) (unsigned (sort_at c.args.total c.args.depth signed)) (tails (field_turn c.args.total (reads c.args.total c.args.depth whole) (sort_at c.args.total c.args.depth signed)) (c.args.first ∷ []) c.args.tokens.now) c.fields.found.items c.fields.rest.now (rests_field c.args.total c.args.depth) c.in-Some.after.now c.in_ok-next.after.now c.in_ok-next.next c.in-Some.ensures c.in_default-eat.ensures c.in_ok-next.ensures c.fields.invariant)
 
 pub more_fields-returns : goal.more_fields-returns
-more_fields-returns t c = rw c.of.ensures (stops (is_symbol Comma) (behind (mark Comma) (field c.args.total (reads c.args.total c.args.depth whole))) (others (is_symbol Comma) (behind (mark Comma) (field c.args.total (reads c.args.total c.args.depth whole))) (c.args.first ∷ []) c.args.tokens.now) c.fields.found.items c.fields.rest.now c.in_default.ensures c.fields.invariant)
+more_fields-returns t c =
+    rw c.of-2.ensures (list_end (field c.args.total (reads c.args.total c.args.depth whole)) (unsigned (sort_at c.args.total c.args.depth signed)) (tails (field_turn c.args.total (reads c.args.total c.args.depth whole) (sort_at c.args.total c.args.depth signed)) (c.args.first ∷ []) c.args.tokens.now) c.fields.found.items c.fields.rest.now c.in_default.ensures c.fields.invariant)
 
 pub more_qualifiers-quals-smaller : goal.more_qualifiers-quals-smaller
 more_qualifiers-quals-smaller t c = less Comma (qualifier (read_pat c.args.total c.args.depth) (reads c.args.total c.args.depth whole)) c.quals.rest.now c.in-Some.after.now c.in_ok-next.after.now c.in_ok-next.next (rests_qual c.args.total c.args.depth) c.in-Some.ensures c.in_ok-next.ensures

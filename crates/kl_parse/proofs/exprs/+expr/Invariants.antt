@@ -1,10 +1,11 @@
 use Rattle.std.proofs.Common.{◌+◌, ◌*◌, ◌∷◌, [], length}
 use Rattle.kl_lex.specs.declared.token.Sym.TheVariants.{Comma}
-use Rattle.kl_phrase.specs.Readers.{both, behind, one, others}
+use Rattle.kl_phrase.specs.Readers.{both, behind, one, others, tails}
+use Rattle.kl_phrase.proofs.Tails.{Going}
 use Rattle.kl_phrase.proofs.Gathered.{Progress}
-use Rattle.kl_parse.specs.Grammar.{whole}
+use Rattle.kl_parse.specs.Grammar.{whole, signed}
 use Rattle.kl_parse.specs.Kinds.{among, is_symbol, op_kinds, an_op}
-use Rattle.kl_parse.specs.Descent.{mark, read_pat, reads, field, qualifier, branch_at, operand_at}
+use Rattle.kl_parse.specs.Descent.{mark, read_pat, reads, field_turn, sort_at, qualifier, branch_at, operand_at}
 use Rattle.kl_parse.proofs.Ranks.{rank}
 use Rattle.kl_parse.proofs.exprs.+expr.Given as goal
 
@@ -102,7 +103,7 @@ abbrev pub decreases-more_exprs-exprs : goal.decreases-more_exprs-exprs
 decreases-more_exprs-exprs l = length l.rest
 
 abbrev pub invariant-more_fields-fields : goal.invariant-more_fields-fields
-invariant-more_fields-fields l = Progress (is_symbol Comma) (behind (mark Comma) (field l.total (reads l.total l.depth whole))) (others (is_symbol Comma) (behind (mark Comma) (field l.total (reads l.total l.depth whole))) (l.fn.first ∷ []) l.tokens) l.found.items l.rest
+invariant-more_fields-fields l = Going (field_turn l.total (reads l.total l.depth whole) (sort_at l.total l.depth signed)) (tails (field_turn l.total (reads l.total l.depth whole) (sort_at l.total l.depth signed)) (l.fn.first ∷ []) l.tokens) l.found.items l.rest
 
 abbrev pub decreases-more_fields-fields : goal.decreases-more_fields-fields
 decreases-more_fields-fields l = length l.rest
@@ -131,8 +132,11 @@ decreases-expr_before l = 40 * l.depth + 22
 abbrev pub decreases-call_rest : goal.decreases-call_rest
 decreases-call_rest l = 40 * l.depth + 24
 
-abbrev pub decreases-fields_rest : goal.decreases-fields_rest
-decreases-fields_rest l = 40 * l.depth + 24
+abbrev pub decreases-rec_body : goal.decreases-rec_body
+decreases-rec_body l = 40 * l.depth + 24
+
+abbrev pub decreases-unsigned : goal.decreases-unsigned
+decreases-unsigned l = 40 * l.depth + 4
 
 abbrev pub decreases-injected : goal.decreases-injected
 decreases-injected l = 40 * l.depth + 21

@@ -1,5 +1,4 @@
 use Rattle.std.proofs.Common.{rules, refl}
-use Rattle.kl_phrase.specs.Readers.{ok, fail, bad, deep}
 use Rattle.kl_phrase.proofs.Failures.{is_bad, is_deep}
 use Rattle.kl_parse.proofs.Answer.{said_front}
 use Rattle.kl_parse.proofs.program.again.Goals as goal

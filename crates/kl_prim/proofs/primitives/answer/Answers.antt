@@ -20,6 +20,18 @@ pub listof-requires-clause-fits : goal.listof-requires-clause-fits
 unfolding Fits row_at rows
 listof-requires-clause-fits c = fits c.args.code 22 (values_in c.args.args) c.in-22.is c.requires.fits
 
+pub extend-requires : goal.extend-requires
+unfolding Fits row_at rows
+extend-requires c = fits c.args.code 27 (values_in c.args.args) c.in-27.is c.requires.fits
+
+pub rest-requires : goal.rest-requires
+unfolding Fits row_at rows
+rest-requires c = fits c.args.code 28 (values_in c.args.args) c.in-28.is c.requires.fits
+
+pub first_items-requires : goal.first_items-requires
+unfolding Fits row_at rows
+first_items-requires c = fits c.args.code 29 (values_in c.args.args) c.in-29.is c.requires.fits
+
 pub returns-in-19 : goal.returns-in-19
 unfolding meaning row_at rows
 returns-in-19 c = answers_by _ _ _ (means c.args.code 19 (values_in c.args.args) _ c.in-19.is refl) c.flatten.ensures
@@ -35,3 +47,15 @@ returns-in-21 c = answers_by _ _ _ (means c.args.code 21 (values_in c.args.args)
 pub returns-in-22 : goal.returns-in-22
 unfolding meaning row_at rows
 returns-in-22 c = answers_by _ _ _ (means c.args.code 22 (values_in c.args.args) _ c.in-22.is refl) c.listof.ensures
+
+pub returns-in-27 : goal.returns-in-27
+unfolding meaning row_at rows
+returns-in-27 c = answers_by _ _ _ (means c.args.code 27 (values_in c.args.args) _ c.in-27.is refl) c.extend.ensures
+
+pub returns-in-28 : goal.returns-in-28
+unfolding meaning row_at rows
+returns-in-28 c = answers_by _ _ _ (means c.args.code 28 (values_in c.args.args) _ c.in-28.is refl) c.rest.ensures
+
+pub returns-in-29 : goal.returns-in-29
+unfolding meaning row_at rows
+returns-in-29 c = answers_by _ _ _ (means c.args.code 29 (values_in c.args.args) _ c.in-29.is refl) c.first_items.ensures

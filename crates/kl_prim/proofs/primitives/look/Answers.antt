@@ -92,6 +92,10 @@ pub to_text-requires : goal.to_text-requires
 unfolding Fits row_at rows
 to_text-requires c = fits c.args.code 26 (values_in c.args.args.now) c.in-26.is c.requires.fits
 
+pub finishes_with-requires : goal.finishes_with-requires
+unfolding Fits row_at rows
+finishes_with-requires c = fits c.args.code 30 (values_in c.args.args.now) c.in-30.is c.requires.fits
+
 pub unreachable-requires : goal.unreachable-requires
 unfolding rows
 unreachable-requires c =
@@ -121,6 +125,10 @@ unreachable-requires c =
     (λ e. omega arith) &
     (λ e. omega arith) &
     (λ e. omega arith) &
+    (λ e. omega arith) &
+    (λ e. c.requires.looks.4 (sym e)) &
+    (λ e. c.requires.looks.5 (sym e)) &
+    (λ e. c.requires.looks.6 (sym e)) &
     (λ e. omega arith) &
     tt) c.requires.fits
 
@@ -211,3 +219,7 @@ returns-in-25 c = answers_by _ _ _ (means c.args.code 25 (values_in c.args.args.
 pub returns-in-26 : goal.returns-in-26
 unfolding meaning row_at rows
 returns-in-26 c = answers_by _ _ _ (means c.args.code 26 (values_in c.args.args.now) _ c.in-26.is refl) c.to_text.ensures
+
+pub returns-in-30 : goal.returns-in-30
+unfolding meaning row_at rows
+returns-in-30 c = answers_by _ _ _ (means c.args.code 30 (values_in c.args.args.now) _ c.in-30.is refl) c.finishes_with.ensures

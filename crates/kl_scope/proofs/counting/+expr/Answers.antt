@@ -6,7 +6,7 @@ use Rattle.kl_syntax.specs.View.{view, rest_of, steps_view, pattern_view}
 use Rattle.kl_scope.specs.Caps.{capped}
 use Rattle.kl_scope.specs.Sizes.{leaf, sized, sized_branches}
 use Rattle.kl_scope.proofs.SizeLemmas.{up_node, up_beside, up_matched, up_chosen, up_qualified, up_chained, up_projected, leaf_is, no_parts_is}
-use Rattle.kl_scope.proofs.SizeForms.{at_back, read_back, seen, qual_seen, at_expr, at_items, at_fields, at_quals, at_steps, at_labels, at_branches, call_form, record_form, coll_form, comp_form, if_form, let_form, case_form, chain_form, path_form, gen_form, cond_form, branch_form, const_form, inject_form, not_form, neg_form, items_more, items_none, fields_more, fields_none, steps_more}
+use Rattle.kl_scope.proofs.SizeForms.{at_back, read_back, seen, qual_seen, at_expr, at_items, at_fields, at_quals, at_steps, at_labels, at_branches, call_form, record_form, more_form, coll_form, comp_form, if_form, let_form, case_form, chain_form, path_form, gen_form, cond_form, branch_form, const_form, inject_form, not_form, neg_form, items_more, items_none, fields_more, fields_none, steps_more}
 use Rattle.kl_scope.proofs.counting.+expr.Goals as goal
 use Rattle.kl_base.proofs.Places.{drop_at}
 
@@ -30,10 +30,18 @@ expr-returns-in-Rec t c =
     seen c.args.e.now _ c.node-in-Rec.result _ c.args.known.now c.in-Rec.is (record_form c.in-Rec.entries c.args.known.now)
     (up_node c.node-in-Rec.result c.fields.result _ c.node-in-Rec.ensures (at_fields c.slice-in-Rec.result.now c.in-Rec.entries c.fields.result c.args.known.now c.fields.ensures c.slice-in-Rec.ensures))
 
+pub expr-returns-in-More : goal.expr-returns-in-More
+expr-returns-in-More t c =
+    seen c.args.e.now _ c.node-in-More-2.result _ c.args.known.now c.in-More.is (more_form c.in-More.entries c.in-More.base c.args.known.now)
+    (up_node c.node-in-More-2.result c.beside-in-More.result _ c.node-in-More-2.ensures
+    (up_beside c.beside-in-More.result c.node-in-More.result c.expr-base.result _ _ c.beside-in-More.ensures
+    (up_node c.node-in-More.result c.fields-in-More.result _ c.node-in-More.ensures (at_fields c.slice-in-More.result.now c.in-More.entries c.fields-in-More.result c.args.known.now c.fields-in-More.ensures c.slice-in-More.ensures))
+    (at_expr c.get.result.now c.in-More.base c.expr-base.result c.args.known.now c.expr-base.ensures c.get.ensures)))
+
 pub expr-returns-in-Inj : goal.expr-returns-in-Inj
 expr-returns-in-Inj t c =
     seen c.args.e.now _ c.node-in-Inj.result _ c.args.known.now c.in-Inj.is (inject_form c.in-Inj.field-0 c.in-Inj.a c.args.known.now)
-    (up_node c.node-in-Inj.result c.expr.result _ c.node-in-Inj.ensures (at_expr c.get.result.now c.in-Inj.a c.expr.result c.args.known.now c.expr.ensures c.get.ensures))
+    (up_node c.node-in-Inj.result c.expr.result _ c.node-in-Inj.ensures (at_expr c.get-in-Inj.result.now c.in-Inj.a c.expr.result c.args.known.now c.expr.ensures c.get-in-Inj.ensures))
 
 pub expr-returns-in-Coll : goal.expr-returns-in-Coll
 expr-returns-in-Coll t c =

@@ -1,7 +1,7 @@
 use Rattle.std.proofs.Common.{◌-◌, get_or}
-use Rattle.kl_scope.specs.Sizes.{leaf, named}
+use Rattle.kl_scope.specs.Sizes.{leaf, named, with_rest}
 use Rattle.kl_scope.proofs.SizeLemmas.{up_node, up_compared, over_chosen}
-use Rattle.kl_scope.proofs.SizeForms.{read_back, matched_seen, bind_form, any_form, same_form, inj_form, at_pattern, pats_more, pats_none}
+use Rattle.kl_scope.proofs.SizeForms.{read_back, matched_seen, bind_form, any_form, same_form, rec_form, inj_form, at_pattern, at_shape, pats_more, pats_none}
 use Rattle.kl_scope.proofs.counting.+matched.Goals as goal
 
 pub matched-returns-in-Bind : goal.matched-returns-in-Bind
@@ -12,6 +12,12 @@ matched-returns-in-Any t c = matched_seen _ _ _ _ _ _ _ c.in-Any.is (any_form _ 
 
 pub matched-returns-in-Same : goal.matched-returns-in-Same
 matched-returns-in-Same t c = matched_seen _ _ _ _ _ _ _ c.in-Same.is (same_form _ _ _ _) (up_compared c.compared.result c.args.term c.named.result (named c.in-Same.word.means c.args.known.now) c.args.after c.compared.ensures c.named.ensures)
+
+pub matched-returns-in-Rec : goal.matched-returns-in-Rec
+matched-returns-in-Rec t c =
+    matched_seen _ _ _ _ _ _ _ c.in-Rec.is (rec_form c.in-Rec.fields c.in-Rec.tail c.args.term c.args.after c.args.known.now)
+    (at_shape c.slice.result.now c.in-Rec.fields c.matched_fields.result c.args.term c.with_rest-after.result (with_rest c.in-Rec.tail c.args.term c.args.after) c.args.known.now
+    c.matched_fields.ensures c.slice.ensures c.with_rest-after.ensures)
 
 pub matched-returns-in-Inj : goal.matched-returns-in-Inj
 matched-returns-in-Inj t c =

@@ -23,20 +23,20 @@ rows-init c =
 pub rows-preserved : goal.rows-preserved
 rows-preserved c =
     let table = c.args.table.now in
-    let leaves = leaves_new c.in_ok-row.row c.rows.seen c.is_new.new.seen c.in_ok-is_new.field-0 c.in_ok-is_new.ensures.new c.in_ok-is_new.ensures.seen in
+    let leaves = leaves_new c.in_ok-row.row c.rows.seen c.takes_new.new.seen c.in_ok-takes_new.field-0 c.in_ok-takes_new.ensures.new c.in_ok-takes_new.ensures.seen in
     elim c.if-branch.branch [
       | then-branch+in_ok-push w ↦
           let grown = ap (λ (v : Vec ℕ Global). v.items) w.places-is ∙ w.in_ok-push.ensures.items in
           record {
-            first = first_picked table c.rows.at c.in_ok-row.row c.in_ok-row.ensures c.rows.places.items c.rows.seen c.is_new.new.seen c.rows.invariant.first
-                (subst (Leaves true c.in_ok-row.row c.rows.seen c.is_new.new.seen) w.if-branch.true leaves) c.if-branch.places.items grown;
-            there = there_picked table c.rows.at c.in_ok-row.row c.in_ok-row.ensures c.rows.places.items c.rows.seen c.is_new.new.seen c.rows.invariant.first c.rows.invariant.there c.if-branch.places.items grown;
+            first = first_picked table c.rows.at c.in_ok-row.row c.in_ok-row.ensures c.rows.places.items c.rows.seen c.takes_new.new.seen c.rows.invariant.first
+                (subst (Leaves true c.in_ok-row.row c.rows.seen c.takes_new.new.seen) w.if-branch.true leaves) c.if-branch.places.items grown;
+            there = there_picked table c.rows.at c.in_ok-row.row c.in_ok-row.ensures c.rows.places.items c.rows.seen c.takes_new.new.seen c.rows.invariant.first c.rows.invariant.there c.if-branch.places.items grown;
           }
       | else-branch w ↦
           let same = ap (λ (v : Vec ℕ Global). v.items) w.places-is in
           record {
-            first = first_skipped table c.rows.at c.in_ok-row.row c.in_ok-row.ensures c.rows.places.items c.rows.seen c.is_new.new.seen c.rows.invariant.first
-                (subst (Leaves true c.in_ok-row.row c.rows.seen c.is_new.new.seen) w.if-branch.false leaves) c.if-branch.places.items same;
+            first = first_skipped table c.rows.at c.in_ok-row.row c.in_ok-row.ensures c.rows.places.items c.rows.seen c.takes_new.new.seen c.rows.invariant.first
+                (subst (Leaves true c.in_ok-row.row c.rows.seen c.takes_new.new.seen) w.if-branch.false leaves) c.if-branch.places.items same;
             there = subst (All (λ p. p < length (rows_of table))) (sym same) c.rows.invariant.there;
           }
     ]

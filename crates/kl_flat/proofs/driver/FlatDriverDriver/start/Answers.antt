@@ -7,5 +7,4 @@ pub returns-in-Ok : goal.returns-in-Ok
 returns-in-Ok g c =
     let cursors = c.args.self.now.cursors.items in
     let last : c.len-cursor.result ≡ length cursors = search rules in
-    let opens = subst (λ sources. OpensLast sources c.args.ask.now cursors c.open_cursor.new.cursors.items) c.deref.ensures.value c.in_ok-open_cursor.ensures.opened in
-    start_done c.args.ask.now c.len-cursor.result (g.F.Files.state c.args.self.now.files) _ cursors _ _ _ _ _ c.requires last opens c.in-Ok.ensures.counted
+    start_done c.args.ask.now c.len-cursor.result (g.F.Files.state c.args.self.now.files) c.args.self.now.sources cursors _ _ _ _ _ c.requires last c.in_ok-open_cursor.ensures.opened c.in-Ok.ensures.counted

@@ -2,9 +2,10 @@ use Rattle.std.proofs.Common.{rules, arith, Ok, Err, refl, []}
 use Rattle.kl_rows.specs.Places.{a_type}
 use Rattle.kl_syntax.specs.declared.tree.Expr.{the_lemmas}
 use Rattle.kl_syntax.specs.declared.tree.Qual.{the_lemmas as qual_lemmas}
+use Rattle.kl_meaning.proofs.Naming.{signs_called}
 use Rattle.kl_infer.specs.Names.{names}
 use Rattle.kl_infer.proofs.Leaving.{handed_on, leads_on, ready_at, ready_on, ready_new, ready_many, ready_both, ready_head, ready_tail, ready_block, ready_nothing, ready_like, labelled_there}
-use Rattle.kl_infer.proofs.Answering.{size_at, binds_there, one_ready, const_ok, name_ok, call_asked_so, call_ok, record_asked_so, record_ok, inject_none, inject_ok, coll_none, coll_ok, comp_none, comp_bound_so, comp_ok, if_tested_so, if_chosen_so, if_ok, let_checked_so, let_bound_so, let_ok, case_chosen_so, case_checked_so, case_armed_so, behind_last, behind_open, behind_some, behind_none, path_checked, not_applied, neg_applied, chain_checked, all_starts, all_more, all_done, fields_starts, fields_more, fields_done, each_starts, each_more, each_done, arms_starts, arms_more, arms_done, arm_bound, arm_ok, steps_starts, steps_unchecked, steps_refused, steps_more, steps_done, quals_starts, quals_ready, quals_more, quals_done, gen_refused, gen_unchecked, gen_untaken, gen_ok, cond_ok}
+use Rattle.kl_infer.proofs.Answering.{size_at, binds_there, one_ready, const_ok, name_ok, call_asked_so, call_ok, record_asked_so, record_ok, more_none, more_asked_so, more_ok, inject_none, inject_ok, coll_none, coll_ok, comp_none, comp_bound_so, comp_ok, if_tested_so, if_chosen_so, if_ok, let_checked_so, let_bound_so, let_ok, case_chosen_so, case_checked_so, case_armed_so, behind_last, behind_open, behind_some, behind_none, path_checked, not_applied, neg_applied, chain_checked, all_starts, all_more, all_done, fields_starts, fields_more, fields_done, each_starts, each_more, each_done, arms_starts, arms_more, arms_done, arm_bound, arm_ok, steps_starts, steps_unchecked, steps_refused, steps_more, steps_done, quals_starts, quals_ready, quals_more, quals_done, gen_refused, gen_unchecked, gen_untaken, gen_ok, cond_ok}
 use Rattle.kl_infer.proofs.typing.Typing.+check.Goals as goal
 
 pub check-returns-in-Const : goal.check-returns-in-Const
@@ -46,14 +47,44 @@ check-check_fields-requires t c = (
 pub check-returns-in-Rec : goal.check-returns-in-Rec
 check-returns-in-Rec t c = record_ok c.args.known.now (names c.args.scope.now) c.args.want c.args.e.now _ c.requires _ _ _ c.deref-in-Rec.ensures.value c.check_fields.result _ _ _ _ _ _ c.deref-in-Rec-2.ensures.value c.in-Rec.is c.slice-fields.ensures c.in_ok-all-in-Rec.ensures c.in_ok-types-in-Rec.ensures c.in_ok-record-in-Rec.ensures c.check_fields.ensures
 
+pub check-rest-requires-clause-fields_there : goal.check-rest-requires-clause-fields_there
+check-rest-requires-clause-fields_there t c = labelled_there _ _ _ _ _ c.in_ok-all-in-More.ensures c.deref-in-More.ensures.value c.in_ok-types-in-More.ensures.sorts
+
+pub check-returns-in_err-rest-in-More : goal.check-returns-in_err-rest-in-More
+check-returns-in_err-rest-in-More t c = handed_on _ _ _ _ c.from_residual-in_err-rest-in-More.ensures.1 (more_none c.args.known.now (names c.args.scope.now) c.args.want c.args.e.now _ c.requires _ _ _ c.deref-in-More.ensures.value _ _ _ _ _ c.in-More.is c.slice-fields-in-More.ensures refl c.in_ok-all-in-More.ensures c.in_ok-types-in-More.ensures _ c.in_err-rest-in-More.ensures)
+
+pub check-check_fields-requires-in-More : goal.check-check_fields-requires-in-More
+check-check_fields-requires-in-More t c = (
+  search (rules, the_lemmas, arith),
+  (
+    ready_at _ _ _ _ _ c.deref-in-More-2.ensures.value (ready_on _ _ _ _ _ c.in_ok-rest-in-More.ensures.fine c.in_ok-rest-in-More.ensures.keeps (ready_many _ _ _ _ _ _ _ c.in_ok-types-in-More.ensures c.requires)),
+    size_at _ _ _ c.deref-in-More-2.ensures.value c.in_ok-types-in-More.ensures.size,
+  ),
+)
+
+pub check-returns-in_err-check_fields-in-More : goal.check-returns-in_err-check_fields-in-More
+check-returns-in_err-check_fields-in-More t c = handed_on _ _ _ _ c.from_residual-in_err-check_fields-in-More.ensures.1 (more_asked_so c.args.known.now (names c.args.scope.now) c.args.want c.args.e.now _ c.requires _ _ _ c.deref-in-More.ensures.value _ _ _ _ _ c.in-More.is c.slice-fields-in-More.ensures refl c.in_ok-all-in-More.ensures c.in_ok-types-in-More.ensures (Err _) _ [] _ _ c.deref-in-More-2.ensures.value c.in_ok-rest-in-More.ensures c.in_err-check_fields-in-More.ensures)
+
+pub check-check-requires : goal.check-check-requires
+check-check-requires t c = (search (rules, the_lemmas, arith), ready_on _ _ _ _ _ c.in_ok-check_fields-in-More.ensures.fine c.in_ok-check_fields-in-More.ensures.keeps (ready_new _ _ _ _ _ _ _ c.in_ok-rest-in-More.ensures (ready_many _ _ _ _ _ _ _ c.in_ok-types-in-More.ensures c.requires)))
+
+pub check-returns-in-More : goal.check-returns-in-More
+check-returns-in-More t c = more_ok c.args.known.now (names c.args.scope.now) c.args.want c.args.e.now _ c.requires _ _ _ c.deref-in-More.ensures.value _ _ _ _ _ c.in-More.is c.slice-fields-in-More.ensures c.get.ensures c.in_ok-all-in-More.ensures c.in_ok-types-in-More.ensures c.check.result _ _ _ _ _ c.deref-in-More-2.ensures.value c.in_ok-rest-in-More.ensures c.in_ok-check_fields-in-More.ensures c.check.ensures
+
+pub check-applied-requires-clause-called : goal.check-applied-requires-clause-called
+check-applied-requires-clause-called t c = signs_called.1
+
+pub check-applied-requires-in-Neg-clause-called : goal.check-applied-requires-in-Neg-clause-called
+check-applied-requires-in-Neg-clause-called t c = signs_called.0
+
 pub check-returns-in_err-item-in-Inj : goal.check-returns-in_err-item-in-Inj
 check-returns-in_err-item-in-Inj t c = handed_on _ _ _ _ c.from_residual-in_err-item-in-Inj.ensures.1 (inject_none c.args.known.now (names c.args.scope.now) c.args.want c.args.e.now _ c.requires _ _ _ c.in-Inj.is refl _ c.in_err-item-in-Inj.ensures)
 
-pub check-check-requires : goal.check-check-requires
-check-check-requires t c = (search (rules, the_lemmas, arith), ready_new _ _ _ _ _ _ _ c.in_ok-item-in-Inj.ensures c.requires)
+pub check-check-requires-in-Inj : goal.check-check-requires-in-Inj
+check-check-requires-in-Inj t c = (search (rules, the_lemmas, arith), ready_new _ _ _ _ _ _ _ c.in_ok-item-in-Inj.ensures c.requires)
 
 pub check-returns-in-Inj : goal.check-returns-in-Inj
-check-returns-in-Inj t c = inject_ok c.args.known.now (names c.args.scope.now) c.args.want c.args.e.now _ c.requires _ _ _ c.in-Inj.is c.get.ensures c.check.result _ _ _ c.in_ok-item-in-Inj.ensures c.check.ensures
+check-returns-in-Inj t c = inject_ok c.args.known.now (names c.args.scope.now) c.args.want c.args.e.now _ c.requires _ _ _ c.in-Inj.is c.get-in-Inj.ensures c.check-in-Inj.result _ _ _ c.in_ok-item-in-Inj.ensures c.check-in-Inj.ensures
 
 pub check-returns-in_err-item-in-Coll : goal.check-returns-in_err-item-in-Coll
 check-returns-in_err-item-in-Coll t c = handed_on _ _ _ _ c.from_residual-in_err-item-in-Coll.ensures.1 (coll_none c.args.known.now (names c.args.scope.now) c.args.want c.args.e.now _ c.requires _ _ _ c.in-Coll.is refl _ c.in_err-item-in-Coll.ensures)

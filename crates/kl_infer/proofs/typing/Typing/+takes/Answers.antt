@@ -4,7 +4,7 @@ use Rattle.kl_infer.specs.Names.{names}
 use Rattle.kl_infer.proofs.Leaving.{handed_on, ready_at, ready_on, ready_new, ready_many, labelled_there}
 use Rattle.kl_infer.proofs.PatternForms.{ready_out}
 use Rattle.kl_infer.proofs.Answering.{size_at}
-use Rattle.kl_infer.proofs.Taking.{catch_ok, any_ok, same_ok, is_ok, variant_none, variant_ok, shape_none, shape_ok, wants_one, takes_starts, takes_more, takes_done}
+use Rattle.kl_infer.proofs.Taking.{catch_ok, any_ok, same_ok, is_ok, variant_none, variant_ok, shape_none, shape_ok, rest_none, rest_fails, rest_ok, wants_one, takes_starts, takes_more, takes_done}
 use Rattle.kl_infer.proofs.typing.Typing.+takes.Goals as goal
 
 pub takes-name-requires : goal.takes-name-requires
@@ -14,10 +14,31 @@ pub takes-record-requires-clause-fields_there : goal.takes-record-requires-claus
 takes-record-requires-clause-fields_there t c = labelled_there _ _ _ _ _ c.in_ok-all-in-Rec.ensures c.deref.ensures.value c.in_ok-types-in-Rec.ensures.sorts
 
 pub takes-returns-in_err-record-in-Rec : goal.takes-returns-in_err-record-in-Rec
-takes-returns-in_err-record-in-Rec t c = handed_on _ _ _ _ c.from_residual-in_err-record-in-Rec.ensures.1 (shape_none c.args.known.now (names c.args.outside.now) _ c.args.bound.now.items c.args.t c.args.p.now c.requires _ _ _ _ _ _ _ c.in-Rec.is c.slice-fields.ensures c.deref.ensures.value c.in_ok-all-in-Rec.ensures c.in_ok-types-in-Rec.ensures _ c.in_err-record-in-Rec.ensures)
+takes-returns-in_err-record-in-Rec t c = handed_on _ _ _ _ c.from_residual-in_err-record-in-Rec.ensures.1 (shape_none c.args.known.now (names c.args.outside.now) _ c.args.bound.now.items c.args.t c.args.p.now c.requires _ _ _ _ _ _ _ c.in-Rec.is c.slice-fields.ensures c.deref.ensures.value c.in_ok-all-in-Rec.ensures c.in_ok-types-in-Rec.ensures _ c.in_default.not-Rest c.is_open.ensures _ c.in_err-record-in-Rec.ensures)
+
+pub takes-rest-requires-clause-fields_there : goal.takes-rest-requires-clause-fields_there
+takes-rest-requires-clause-fields_there t c = labelled_there _ _ _ _ _ c.in_ok-all-in-Rec.ensures c.deref.ensures.value c.in_ok-types-in-Rec.ensures.sorts
+
+pub takes-returns-in_err-rest-in-Rec : goal.takes-returns-in_err-rest-in-Rec
+takes-returns-in_err-rest-in-Rec t c = handed_on _ _ _ _ c.from_residual-in_err-rest-in-Rec.ensures.1 (rest_none c.args.known.now (names c.args.outside.now) _ c.args.bound.now.items c.args.t c.args.p.now c.requires _ _ _ _ _ _ _ c.in-Rec.is c.slice-fields.ensures c.deref.ensures.value c.in_ok-all-in-Rec.ensures c.in_ok-types-in-Rec.ensures _ c.in-Rest.is _ c.in_err-rest-in-Rec.ensures)
 
 pub takes-takes_fields-requires : goal.takes-takes_fields-requires
 takes-takes_fields-requires t c = (
+  search (rules, the_lemmas, arith),
+  (
+    ready_at _ _ _ _ _ c.deref-in-Rest.ensures.value (ready_on _ _ _ _ _ c.in_ok-rest-in-Rec.ensures.fine c.in_ok-rest-in-Rec.ensures.keeps (ready_many _ _ _ _ _ _ _ c.in_ok-types-in-Rec.ensures c.requires)),
+    size_at _ _ _ c.deref-in-Rest.ensures.value c.in_ok-types-in-Rec.ensures.size,
+  ),
+)
+
+pub takes-returns-in_err-takes_fields-in-Rec : goal.takes-returns-in_err-takes_fields-in-Rec
+takes-returns-in_err-takes_fields-in-Rec t c = handed_on _ _ _ _ c.from_residual-in_err-takes_fields-in-Rec.ensures.1 (rest_fails c.args.known.now (names c.args.outside.now) _ c.args.bound.now.items c.args.t c.args.p.now c.requires _ _ _ _ _ _ _ c.in-Rec.is c.slice-fields.ensures c.deref.ensures.value c.in_ok-all-in-Rec.ensures c.in_ok-types-in-Rec.ensures _ c.in-Rest.is _ _ c.in_ok-rest-in-Rec.ensures _ c.deref-in-Rest.ensures.value [] c.args.bound.now.items _ c.in_err-takes_fields-in-Rec.ensures)
+
+pub takes-returns-in-Rest : goal.takes-returns-in-Rest
+takes-returns-in-Rest t c = rest_ok c.args.known.now (names c.args.outside.now) _ c.args.bound.now.items c.args.t c.args.p.now c.requires _ _ _ _ _ _ _ c.in-Rec.is c.slice-fields.ensures c.deref.ensures.value c.in_ok-all-in-Rec.ensures c.in_ok-types-in-Rec.ensures _ c.in-Rest.is _ _ c.in_ok-rest-in-Rec.ensures _ c.deref-in-Rest.ensures.value _ _ _ _ c.in_ok-dup-in-Rec.ensures c.in_ok-push-in-Rec.ensures.items c.in_ok-takes_fields-in-Rec.ensures
+
+pub takes-takes_fields-requires-in-Rec : goal.takes-takes_fields-requires-in-Rec
+takes-takes_fields-requires-in-Rec t c = (
   search (rules, the_lemmas, arith),
   (
     ready_at _ _ _ _ _ c.deref-in-Rec.ensures.value (ready_on _ _ _ _ _ c.in_ok-record-in-Rec.ensures.fine c.in_ok-record-in-Rec.ensures.keeps (ready_many _ _ _ _ _ _ _ c.in_ok-types-in-Rec.ensures c.requires)),
@@ -47,7 +68,7 @@ pub takes-returns-in_ok-item-in-Inj : goal.takes-returns-in_ok-item-in-Inj
 takes-returns-in_ok-item-in-Inj t c = variant_ok c.args.known.now (names c.args.outside.now) _ c.args.bound.now.items c.args.t c.args.p.now c.requires c.takes.result _ _ _ _ _ _ _ c.in-Inj.is c.get.ensures c.in_ok-item-in-Inj.ensures c.takes.ensures
 
 pub takes-returns-in_ok-record-in-Rec : goal.takes-returns-in_ok-record-in-Rec
-takes-returns-in_ok-record-in-Rec t c = shape_ok c.args.known.now (names c.args.outside.now) _ c.args.bound.now.items c.args.t c.args.p.now c.requires _ _ _ _ _ _ _ c.in-Rec.is c.slice-fields.ensures c.deref.ensures.value c.in_ok-all-in-Rec.ensures c.in_ok-types-in-Rec.ensures c.takes_fields.result _ _ _ _ c.deref-in-Rec.ensures.value c.in_ok-record-in-Rec.ensures c.takes_fields.ensures
+takes-returns-in_ok-record-in-Rec t c = shape_ok c.args.known.now (names c.args.outside.now) _ c.args.bound.now.items c.args.t c.args.p.now c.requires _ _ _ _ _ _ _ c.in-Rec.is c.slice-fields.ensures c.deref.ensures.value c.in_ok-all-in-Rec.ensures c.in_ok-types-in-Rec.ensures _ c.in_default.not-Rest c.is_open.ensures c.takes_fields-in-Rec.result _ _ _ _ c.deref-in-Rec.ensures.value c.in_ok-record-in-Rec.ensures c.takes_fields-in-Rec.ensures
 
 pub takes_fields-fields-init : goal.takes_fields-fields-init
 takes_fields-fields-init t c = takes_starts c.args.known.now (names c.args.outside.now) _ c.args.bound.now.items c.args.fields.now c.args.types.now c.requires.ready.fine

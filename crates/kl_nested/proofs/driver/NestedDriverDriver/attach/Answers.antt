@@ -13,7 +13,7 @@ pub invariant_of-self-in-Err : goal.invariant_of-self-in-Err
 invariant_of-self-in-Err g c = desk_after_err most_read (g.F.Files.state c.self.inside.files) c.self.inside.sources c.self.inside.cursors.items _ _ c.args.source.now c.args.locator.now c.args.ty.now c.self.invariant c.in-Err.error c.in-Err.ensures
 
 pub returns-in-Ok : goal.returns-in-Ok
-returns-in-Ok g c = rw (← c.self.view_is) (attaches_ok most_read (g.F.Files.state c.self.inside.files) c.self.inside.sources c.self.inside.cursors.items c.self.inside.asked.items c.self.inside.handed c.self.inside.drifts c.self.inside.unread _ _ c.args.source.now c.args.locator.now c.args.ty.now c.in-Ok.count c.in-Ok.ensures)
+returns-in-Ok g c = rw (← c.self.view_is) (attaches_ok most_read (g.F.Files.state c.self.inside.files) c.self.inside.sources c.self.inside.cursors.items c.self.inside.asked.items c.self.inside.handed c.self.inside.drifts c.self.inside.unread _ _ c.args.source.now c.args.locator.now c.args.ty.now c.self.invariant c.in-Ok.count c.in-Ok.ensures)
 
 pub returns-in-Err : goal.returns-in-Err
-returns-in-Err g c = rw (← c.self.view_is) (attaches_err most_read (g.F.Files.state c.self.inside.files) c.self.inside.sources c.self.inside.cursors.items c.self.inside.asked.items c.self.inside.handed c.self.inside.drifts c.self.inside.unread _ _ c.args.source.now c.args.locator.now c.args.ty.now (search rules) c.in-Err.error _ c.in-Err.ensures c.unread_by-self-inside.ensures)
+returns-in-Err g c = rw (← c.self.view_is) (attaches_err most_read (g.F.Files.state c.self.inside.files) c.self.inside.sources c.self.inside.cursors.items c.self.inside.asked.items c.self.inside.handed c.self.inside.drifts c.self.inside.unread _ _ c.args.source.now c.args.locator.now c.args.ty.now c.self.invariant (search rules) c.in-Err.error _ c.in-Err.ensures c.unread_by-self-inside.ensures)

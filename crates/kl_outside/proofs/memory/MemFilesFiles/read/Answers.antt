@@ -1,20 +1,14 @@
-use Rattle.std.proofs.Common.{◌≡◌, ◌<◌, rules, arith, length}
-use Rattle.std.proofs.lemmas.Grind.{common_steps}
+use Rattle.std.proofs.Common.{◌≡◌, ◌<◌, rules, arith, length, sym}
 use Rattle.kl_outside.specs.Entries.{bytes_at}
-use Rattle.kl_outside.proofs.Places.{no_read, within_places, reads_more}
+use Rattle.kl_outside.proofs.Places.{no_read, reads_more}
 use Rattle.kl_outside.proofs.memory.MemFilesFiles.read.Goals as goal
 
 pub returns-then-make_call-clause-reads : goal.returns-then-make_call-clause-reads
-returns-then-make_call-clause-reads c = no_read _ _ _ _ _ _ _ c.make_call.ensures.made c.fail_call.ensures.faults c.fail_call.ensures.later
-
-pub index_mut-requires : goal.index_mut-requires
-index_mut-requires c =
-    let within : c.args.file < length c.args.self.now.places.items = within_places c.args.self.now.places.items c.args.file c.in-Some.place (search rules) in
-    grind (arith, common_steps, within)
+returns-then-make_call-clause-reads c = no_read _ c.args.self.now.places _ _ _ _ _ c.make_call.ensures.made c.fail_call.ensures.faults c.fail_call.ensures.later
 
 pub returns-clause-reads : goal.returns-clause-reads
 returns-clause-reads c =
-    let place = c.in-Some.place in
+    let place = c.in-Some.place.now in
     let same : c.entry_bytes-bytes.result.now ≡ bytes_at c.args.self.now.entries.items place.entry = search rules in
     let room : 0 < length c.copy_from-count.new.into = omega (arith, c.requires.room, c.copy_from-count.ensures.size) in
-    reads_more c.args.self.now.entries.items c.args.self.now.places.items c.args.file place c.copy_from-count.result c.copy_from-count.new.into c.args.self.now.schedule c.make_call.new.self c.make_call.ensures.made (search rules) room (rw (← same, c.copy_from-count.ensures.size) c.copy_from-count.ensures.count) (rw (← same) c.copy_from-count.ensures.copied)
+    reads_more c.args.self.now.entries.items c.args.self.now.places c.args.file place c.copy_from-count.result c.copy_from-count.new.into c.args.self.now.schedule c.make_call.new.self c.make_call.ensures.made (sym c.in-Some.ensures.value) room (rw (← same, c.copy_from-count.ensures.size) c.copy_from-count.ensures.count) (rw (← same) c.copy_from-count.ensures.copied)

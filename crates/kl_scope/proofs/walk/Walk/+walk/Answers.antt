@@ -7,7 +7,7 @@ use Rattle.kl_scope.specs.Findings.{findings_all, findings_fields, findings_qual
 use Rattle.kl_scope.specs.Gathering.{gathered}
 use Rattle.kl_scope.specs.Resolved.{resolved_all, resolved_fields, resolved_quals, resolved_branches, resolved_steps}
 use Rattle.kl_scope.specs.Walks.{same_scope, expr_front, field_front, step_front}
-use Rattle.kl_scope.proofs.ArmLemmas.{behind_ok, behind_both, behind_walked, next_ok, head_is, body_is, call_ok, fields_ok, coll_ok, comp_is, if_is, let_is, case_is, chain_is, gen_is, cond_is, exps_walked, call_walked, fields_walked, quals_walked, branches_walked, branch_is, steps_walked}
+use Rattle.kl_scope.proofs.ArmLemmas.{behind_ok, behind_both, behind_walked, next_ok, head_is, body_is, call_ok, fields_ok, more_is, coll_ok, comp_is, if_is, let_is, case_is, chain_is, gen_is, cond_is, exps_walked, call_walked, fields_walked, quals_walked, branches_walked, branch_is, steps_walked}
 use Rattle.kl_scope.proofs.WalkLemmas.{item_walked, unvisited_more, unvisited_item, list_walked, expr_in_front, field_in_front, step_in_front}
 use Rattle.kl_scope.proofs.walk.Walk.+walk.Goals as goal
 
@@ -16,6 +16,12 @@ expr-returns-in-Call t c = call_ok c.call.result c.args.e.now _ c.in-Call.word c
 
 pub expr-returns-in-Rec : goal.expr-returns-in-Rec
 expr-returns-in-Rec t c = fields_ok c.record.result c.args.e.now _ c.in-Rec.fields c.record.new.entries _ _ _ c.in-Rec.is (first_of (search rules, search (rules, the_lemmas), search (rules, the_lemmas, c.in-Rec.is))) c.in-Rec.fields-is c.record.ensures
+
+pub expr-returns-in-More : goal.expr-returns-in-More
+expr-returns-in-More t c =
+    behind_ok c.record-begun.result c.next.result c.record-begun.ensures c.next.ensures
+    (more_is c.args.e.now _ c.in-More.base c.next.new.e _ c.in-More.fields c.record-begun.new.entries _ c.args.self.now c.record-begun.new.self c.next.new.self c.in-More.is (first_of (search rules, search (rules, the_lemmas), search (rules, the_lemmas, c.in-More.is)))
+    c.in-More.fields-is c.in-More.base-is)
 
 pub expr-returns-in-Coll : goal.expr-returns-in-Coll
 expr-returns-in-Coll t c = coll_ok c.items.result c.args.e.now _ c.in-Coll.field-0 c.in-Coll.items c.items.new.items _ _ _ c.in-Coll.is (first_of (search rules, search (rules, the_lemmas), search (rules, the_lemmas, c.in-Coll.is))) c.in-Coll.items-is c.items.ensures
@@ -107,9 +113,9 @@ expr-returns-in-Comp t c =
 
 pub expr-returns-in-If : goal.expr-returns-in-If
 expr-returns-in-If t c =
-    behind_ok c.next-chosen.result c.next.result (behind_both _ _ c.boxed-tested.result c.next-chosen.result c.boxed-tested.ensures c.next-chosen.ensures) c.next.ensures
-    (λ h l. if_is c.args.e.now _ c.in-If.a c.in-If.b c.in-If.c _ _ _ c.boxed-tested.new.e c.next-chosen.new.e c.next.new.e
-    c.args.self.now c.boxed-tested.new.self c.next-chosen.new.self c.next.new.self c.in-If.is (first_of (search rules, search (rules, the_lemmas), search (rules, the_lemmas, c.in-If.is)))
+    behind_ok c.next-chosen.result c.next-in-If.result (behind_both _ _ c.boxed-tested.result c.next-chosen.result c.boxed-tested.ensures c.next-chosen.ensures) c.next-in-If.ensures
+    (λ h l. if_is c.args.e.now _ c.in-If.a c.in-If.b c.in-If.c _ _ _ c.boxed-tested.new.e c.next-chosen.new.e c.next-in-If.new.e
+    c.args.self.now c.boxed-tested.new.self c.next-chosen.new.self c.next-in-If.new.self c.in-If.is (first_of (search rules, search (rules, the_lemmas), search (rules, the_lemmas, c.in-If.is)))
     c.in-If.a-is c.in-If.b-is c.in-If.c-is h.0 h.1 l)
 
 pub expr-returns-in-Let : goal.expr-returns-in-Let

@@ -14,7 +14,7 @@ returns-in-Err g c =
     let f' = g.F.Files.state c.table_of_file.new.files in
     let read = subst (λ path. ReadsRows path c.args.ty.now (Err c.in-Err.error) f f') c.slice.ensures c.in-Err.ensures in
     refused c.args.source.now c.args.locator.now c.args.ty.now f f' c.args.self.now.sources c.args.self.now.sources _ _ _ c.in-Err.error c.args.self.now.unread _ read.reads.told (λ name. refl)
-    (attach_refused c.args.source.now c.args.locator.now c.args.ty.now f f' [] [] [] 0 c.args.self.now.unread c.in-Err.error _ read c.unread_by-self.ensures (search rules))
+    (attach_refused c.args.source.now c.args.locator.now c.args.ty.now f f' c.args.self.now.sources [] [] 0 c.args.self.now.unread c.in-Err.error _ read c.unread_by-self.ensures (search rules))
 
 pub returns-in_err-add_source-in-Ok : goal.returns-in_err-add_source-in-Ok
 returns-in_err-add_source-in-Ok g c =

@@ -1,0 +1,6 @@
+use Rattle.std.proofs.Common.{ap}
+use Rattle.cases.proofs.statement.files_of.Goals as goal
+
+-- no file is open of files that are new
+pub returns : goal.returns
+returns c = λ k. ap (λ s. s.left k) c.new.ensures.state
