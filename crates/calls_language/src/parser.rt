@@ -1,6 +1,5 @@
 use kl_lex::{Token, lex};
-use kl_parse::{Expr, Pattern, Program, Qual, parse};
-use kl_syntax::Tail;
+use kl_parse::{Expr, Pattern, Program, Qual, Tail, parse};
 use kl_value::Kind;
 use std::alloc::Global;
 use std::test::Fail;

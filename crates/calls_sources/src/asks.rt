@@ -1,4 +1,4 @@
-use kl_ask::{Ask, Cmp, ColTest, Right, count_ask, sum_asked};
+use kl_ask::{Ask, Cmp, ColTest, DriverError, Right, count_ask, sum_asked, unread_by};
 use kl_base::{Label, Seq};
 use kl_value::Value;
 use std::alloc::Global;
@@ -56,5 +56,13 @@ fn asks_are_counted(rt: HostRuntime) -> Result<(), Fail> {
     ask_twice(rt.alloc(), &mut asked)?;
     assert_eq!(rt; asked.len(), 1);
     assert_eq!(rt; sum_asked(&asked), 2);
+    Ok(())
+}
+
+#[test]
+fn an_unreadable_source_is_counted(rt: HostRuntime) -> Result<(), Fail> {
+    let bad = DriverError::BadSource { place: 0 };
+    assert_eq!(rt; unread_by(bad, 2), 3);
+    assert_eq!(rt; unread_by(DriverError::Failed, 2), 2);
     Ok(())
 }

@@ -1,9 +1,9 @@
-//! How often each ask was asked, kept in the same way by every driver.
+//! How often each ask was asked and how many sources could not be read, kept in the same way by every driver.
 ghost use Rattle.std.specs.Prelude.{◌≡◌, ◌-◌, ◌^◌, min, Decides, OnErr, OnOk};
-ghost use Rattle.kl_ask.specs.Asked.{all_times, same_ask, with_ask};
+ghost use Rattle.kl_ask.specs.Asked.{all_times, same_ask, unread_by, with_ask};
 ghost use Rattle.kl_ask.specs.declared.ask.Ask.{Ask};
 
-use crate::ask::Ask;
+use crate::ask::{Ask, DriverError};
 use kl_base::NoMemory;
 use std::alloc::Global;
 
@@ -41,4 +41,15 @@ pub fn sum_asked(asked: &[(Ask, u64)]) -> u64
         sum = sum.saturating_add(kept.1);
     }
     sum
+}
+
+/// The count of unreadable sources after a refusal. It stands still at its greatest value.
+pub fn unread_by(error: DriverError, unread: u64) -> u64
+    ensures { result ≡ unread_by error unread }
+{
+    match error {
+        DriverError::BadSource { .. } | DriverError::TooLong { .. } | DriverError::TooDeep { .. } =>
+            unread.saturating_add(1),
+        DriverError::Failed | DriverError::Changed { .. } | DriverError::NoMemory => unread,
+    }
 }

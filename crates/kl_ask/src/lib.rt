@@ -16,7 +16,7 @@ mod settings;
 mod tables;
 
 pub use ask::{Abilities, Ask, Cmp, ColTest, Drift, DriverError, Right};
-pub use asked::{ask_laws, count_ask, sum_asked};
+pub use asked::{ask_laws, count_ask, sum_asked, unread_by};
 pub use asking::allows;
 pub use boxed::{
     abilities_boxed, attach_boxed, finish_boxed, handed_boxed, name_boxed, pull_boxed, start_boxed,

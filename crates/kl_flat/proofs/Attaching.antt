@@ -19,7 +19,7 @@ use Rattle.kl_outside.specs.Files.{FilesState, ReadsWhole, IsWhole, IsMissing}
 use Rattle.kl_outside.specs.declared.files.Whole.{Whole}
 use Rattle.kl_outside.specs.declared.stop.Stop.{Stop}
 use Rattle.kl_outside.specs.declared.stop.Stop.TheVariants as stop
-use Rattle.kl_ask.specs.Asked.{raised_by}
+use Rattle.kl_ask.specs.Asked.{raised_by, unread_by}
 use Rattle.kl_outside.specs.declared.files.Whole.TheVariants.{Bytes, TooLong}
 use Rattle.kl_ask.specs.Asks.{item_of}
 use Rattle.kl_ask.specs.Named.{source_named}
@@ -29,7 +29,7 @@ use Rattle.kl_ask.specs.declared.ask.DriverError.{DriverError}
 use Rattle.kl_ask.specs.declared.ask.DriverError.TheVariants as error
 use Rattle.kl_ask.proofs.Names.{not_same}
 use Rattle.kl_ask.proofs.Opened.{unseen}
-use Rattle.kl_flat.specs.Attaching.{AddsSource, ReadsRows, RowsOf, unread_by}
+use Rattle.kl_flat.specs.Attaching.{AddsSource, ReadsRows, RowsOf}
 use Rattle.kl_flat.specs.ColumnTable.{rows_of}
 use Rattle.kl_flat.specs.Columns.{is_table_type}
 use Rattle.kl_flat.specs.Fitting.{are_rows}

@@ -10,7 +10,6 @@ use Rattle.kl_outside.specs.declared.files.Whole.{Whole}
 use Rattle.kl_outside.specs.declared.files.Whole.TheVariants.{Bytes, TooLong}
 use Rattle.kl_outside.specs.declared.stop.Stop.{Stop}
 use Rattle.kl_outside.specs.declared.stop.Stop.TheVariants as stop
-use Rattle.kl_ask.specs.Asked.{raised_by}
 use Rattle.kl_ask.specs.declared.ask.DriverError.{DriverError}
 use Rattle.kl_ask.specs.declared.ask.DriverError.TheVariants as error
 use Rattle.kl_flat.specs.ColumnTable.{rows_of}
@@ -37,12 +36,6 @@ pub record ReadsRows (path : List ℕ) (ty : Ty) (result : Result (List Value) D
 abbrev pub ReadsTable : List ℕ → Ty → Result ColumnTable DriverError → FilesState → FilesState → Type 0
 ReadsTable path ty (Ok table) = ReadsRows path ty (Ok (rows_of table))
 ReadsTable path ty (Err e) = ReadsRows path ty (Err e)
-
--- the count of unreadable sources after a refusal
-abbrev pub unread_by : DriverError → ℕ → ℕ
-unread_by (error.BadSource place) unread = raised_by 1 unread
-unread_by (error.TooLong most) unread = raised_by 1 unread
-unread_by _ unread = unread
 
 -- a source with so many rows is attached under a name
 pub record AddsSource (name : Name) (ty : Ty) (rows : List Value) (old new : Sources) (count : ℕ) : Type 0 where

@@ -2,7 +2,7 @@
 ghost use Rattle.std.specs.Prelude.{◌≡◌, ◌<◌, ◌^◌, ℕ, length, true, IfOk, None, OnErr, OnOk, IsSome};
 ghost use Rattle.std.specs.HashMap.{IsUnchanged};
 ghost use Rattle.kl_ask.specs.Named.{asked_source};
-ghost use Rattle.kl_flat.specs.Attaching.{AddsSource, ReadsTable, unread_by};
+ghost use Rattle.kl_flat.specs.Attaching.{AddsSource, ReadsTable};
 ghost use Rattle.kl_flat.specs.ColumnTable.{rows_of};
 ghost use Rattle.kl_flat.specs.Columns.{is_table_type};
 ghost use Rattle.kl_flat.specs.Cursors.{HandsNext, OpensLast};
@@ -18,6 +18,7 @@ use crate::sources::{opened, put_source};
 use crate::table::read_columns;
 use kl_ask::{
     Abilities, Ask, Driver, DriverError, asked_source, close_cursor, count_ask, sum_asked,
+    unread_by,
 };
 use kl_base::{Label, NoMemory, Shared, Text};
 use kl_outside::{Files, Stop, Whole, read_whole};
@@ -162,16 +163,6 @@ pub fn table_of_file<F: Files>(
             None => Ok(front.table),
         },
         Err(NoMemory) => Err(DriverError::NoMemory),
-    }
-}
-
-/// The count of unreadable sources after a refusal. It stands still at its greatest value.
-pub fn unread_by(error: DriverError, unread: u64) -> u64
-    ensures { result ≡ unread_by error unread }
-{
-    match error {
-        DriverError::BadSource { .. } | DriverError::TooLong { .. } => unread.saturating_add(1),
-        _ => unread,
     }
 }
 

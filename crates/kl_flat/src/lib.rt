@@ -20,7 +20,7 @@ mod texts;
 
 pub use column_table::ColumnTable;
 pub use columns::is_table_type;
-pub use driver::{FlatDriver, hand_next, new_source, table_of_file, unread_by};
+pub use driver::{FlatDriver, hand_next, new_source, table_of_file};
 pub use held::{Cells, Column};
 pub use parts::{Open, Source};
 pub use row_tests::{Against, RowTest};

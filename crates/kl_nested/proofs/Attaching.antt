@@ -12,14 +12,13 @@ use Rattle.kl_outside.specs.Files.{FilesState, IsMissing, seen_in}
 use Rattle.kl_outcome.specs.Outcome.{Name}
 use Rattle.kl_exchange.specs.FileItems.{FileEnd, WholeText, BadAt, TooDeepAt, PastLimit}
 use Rattle.kl_exchange.specs.Found.{file_items}
-use Rattle.kl_ask.specs.Asked.{raised_by}
+use Rattle.kl_ask.specs.Asked.{raised_by, unread_by}
 use Rattle.kl_ask.specs.Driver.{Attaches, CountsUnread, Stored, Missing, Bad, Long, Deep, Rows, stored_by, told_rows, CountsFault}
 use Rattle.kl_ask.specs.declared.ask.Ask.{Ask}
 use Rattle.kl_ask.specs.declared.ask.DriverError.{DriverError}
 use Rattle.kl_ask.specs.declared.ask.DriverError.TheVariants as error
 use Rattle.kl_ask.proofs.Names.{not_same}
 use Rattle.kl_ask.proofs.Worlds.{error_is}
-use Rattle.kl_nested.specs.Closing.{unread_by}
 use Rattle.kl_nested.specs.Contents.{contents_of, first_misfit, item_ty, stored_in, stored_of, stored_unless}
 use Rattle.kl_nested.specs.Desk.{IsDesk, IsKept}
 use Rattle.kl_ask.specs.Named.{source_named}

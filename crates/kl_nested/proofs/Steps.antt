@@ -8,7 +8,7 @@ use Rattle.kl_value.specs.declared.Value.{Value}
 use Rattle.kl_type.specs.declared.ground.Ty.{Ty}
 use Rattle.kl_outside.specs.Files.{FilesState, Closes, OtherFiles, OtherSeen}
 use Rattle.kl_outcome.specs.Outcome.{Name}
-use Rattle.kl_ask.specs.Asked.{raised_by, with_ask}
+use Rattle.kl_ask.specs.Asked.{raised_by, unread_by, with_ask}
 use Rattle.kl_ask.specs.Cursors.{open_at}
 use Rattle.kl_ask.specs.Driver.{Attaches, CanStart, Finishes, Pulls, Starts, State}
 use Rattle.kl_ask.specs.declared.ask.Ask.{Ask}
@@ -16,7 +16,7 @@ use Rattle.kl_ask.specs.declared.ask.Ask.TheVariants as asks
 use Rattle.kl_ask.specs.declared.ask.DriverError.{DriverError}
 use Rattle.kl_ask.specs.declared.ask.DriverError.TheVariants as error
 use Rattle.kl_ask.proofs.Opened.{added_now, changed_now, changed_others, some_of, unseen}
-use Rattle.kl_nested.specs.Closing.{ClosesOpen, drifts_by, unread_by}
+use Rattle.kl_nested.specs.Closing.{ClosesOpen, drifts_by}
 use Rattle.kl_nested.specs.Contents.{item_ty}
 use Rattle.kl_nested.specs.Desk.{HasTaken, IsDesk, IsKept}
 use Rattle.kl_nested.specs.Handing.{HandsAt}

@@ -13,13 +13,6 @@ pub record ClosesOpen (cursor : ℕ) (cursors cursors' : List (Option Open)) (ol
   pub closed : open_at cursors' cursor ≡ None
   pub others : (k : ℕ) → k ≢ cursor → open_at cursors' k ≡ open_at cursors k
 
--- the count of unreadable sources after a refusal
-abbrev pub unread_by : DriverError → ℕ → ℕ
-unread_by (error.BadSource place) unread = raised_by 1 unread
-unread_by (error.TooLong most) unread = raised_by 1 unread
-unread_by (error.TooDeep place) unread = raised_by 1 unread
-unread_by _ unread = unread
-
 -- the count of drifts after a refusal
 abbrev pub drifts_by : DriverError → ℕ → ℕ
 drifts_by (error.Changed d) drifts = raised_by 1 drifts

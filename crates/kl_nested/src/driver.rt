@@ -4,7 +4,7 @@ ghost use Rattle.kl_ask.specs.Cursors.{open_at};
 ghost use Rattle.kl_exchange.specs.FileItems.{most_read};
 ghost use Rattle.kl_outside.specs.Files.{NoneOpen};
 ghost use Rattle.kl_nested.specs.Nested.{fresh_state, nested_state};
-ghost use Rattle.kl_nested.specs.Closing.{ClosesOpen, drifts_by, unread_by};
+ghost use Rattle.kl_nested.specs.Closing.{ClosesOpen, drifts_by};
 ghost use Rattle.kl_nested.specs.declared.parts.Open.{Open as Opened};
 
 use crate::handing::hand_at;
@@ -12,7 +12,7 @@ use crate::opening::open_asked;
 use crate::parts::{Open, Source};
 use crate::sources::attach_file;
 use crate::types::is_collection;
-use kl_ask::{Abilities, Ask, Driver, DriverError, close_cursor, count_ask, sum_asked};
+use kl_ask::{Abilities, Ask, Driver, DriverError, close_cursor, count_ask, sum_asked, unread_by};
 use kl_base::{Label, NoMemory, Shared, Text};
 use kl_exchange::MOST_READ;
 use kl_outside::Files;
@@ -197,17 +197,6 @@ fn close_open<F: Files>(files: &mut F, cursors: &mut Vec<Option<Open>>, cursor: 
     };
     files.close(open.file);
     close_cursor(cursors, cursor);
-}
-
-// The count of unreadable sources after a refusal. It stands still at its greatest value.
-fn unread_by(error: DriverError, unread: u64) -> u64
-    ensures { result ≡ unread_by error unread }
-{
-    match error {
-        DriverError::BadSource { .. } | DriverError::TooLong { .. } | DriverError::TooDeep { .. } =>
-            unread.saturating_add(1),
-        DriverError::Failed | DriverError::Changed { .. } | DriverError::NoMemory => unread,
-    }
 }
 
 // The count of drifts after a refusal. It stands still at its greatest value.

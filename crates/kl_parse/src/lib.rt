@@ -11,6 +11,6 @@ mod program;
 
 pub use kl_syntax::{
     Branch, Branches, Decl, Decls, Expr, ExprFields, Exprs, Meaning, Op, PatFields, Pattern,
-    Program, Qual, Quals, Steps, Word, Words,
+    Program, Qual, Quals, Steps, Tail, Word, Words,
 };
 pub use program::{ParseError, parse, parse_laws};

@@ -13,7 +13,7 @@ use kl_phrase::Fault;
 use kl_syntax::{PatFields, Pattern, Tail, Word};
 use std::alloc::Global;
 
-/// What stands behind the dots of a record pattern: `[ "\\" NAME ]`
+/// What stands behind the dots of a record pattern: `[ "\" NAME ]`
 fn rest_name(total: u32, tokens: &[Token]) -> Result<(Tail, &[Token]), Fault<'_, Token>>
     ensures { Gives (λ x. x.0) (λ x. x.1.now) result (rest_name total tokens.now) }
 {

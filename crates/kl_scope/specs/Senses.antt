@@ -45,11 +45,11 @@ abbrev pub entry_named : Name → Option Entry
 entry_named x = find (λ e. bytes_eq e.name x) (map (λ r. r.entry) rows)
 
 -- codes 1 to 12 but 10 are operators, and 27 and 28 forms of records, whose names call nothing
-abbrev pub is_form : ℕ → Bool
-is_form code = if code == 10 then false else nat_le code 12 || code == 27 || code == 28
+abbrev pub has_a_form : ℕ → Bool
+has_a_form code = if code == 10 then false else nat_le code 12 || code == 27 || code == 28
 
 abbrev pub by_name : Entry → Option Sense
-by_name e = if is_form e.code then None else Some (sense (Primitive e.code) e.arity)
+by_name e = if has_a_form e.code then None else Some (sense (Primitive e.code) e.arity)
 
 abbrev pub primitive_of : Name → Option Sense
 primitive_of x = option_and_then by_name (entry_named x)

@@ -77,10 +77,6 @@ pub drawn_fitting : (into j : Kind) (u : Ground) (c : Come) → ComesAs (coll j 
 drawn_fitting into j u (one o) h e = refl
 drawn_fitting into j u (many i f) h e = ap (λ b. cond b f (items_of (collected i f))) (ap (λ k. fits_in k into) (sym (same_kind j i u h.0 h.1)) ∙ e)
 
-pub drawn_kept : (into j : Kind) (u : Ground) (c : Come) → ComesAs (coll j u) c → fits_in j into ≡ false → drawn_for into c ≡ items_of (worth c)
-drawn_kept into j u (one o) h e = refl
-drawn_kept into j u (many i f) h e = ap (λ b. cond b f (items_of (collected i f))) (ap (λ k. fits_in k into) (sym (same_kind j i u h.0 h.1)) ∙ e)
-
 pub drawn_for_typed : (k j : Kind) (u : Ground) (c : Come) → ComesAs (coll j u) c → FlowOf u (drawn_for k c)
 drawn_for_typed k j u c h = (drawn_alike k (coll j u) c h j u refl).1
 

@@ -73,7 +73,7 @@ pub enum Pattern {
     Same(Word),
     /// A constant, and the number of its first token.
     Is(Value, u32),
-    /// A record pattern: its fields, one or more where it does not end with them, and how it ends.
+    /// A record pattern: its fields, one or more where no dots end it, and how it ends.
     Rec(PatFields, Tail),
     /// `<l=p>`: a variant of this label.
     Inj(Word, Box<Pattern>),
