@@ -1,11 +1,11 @@
-ghost use Rattle.std.specs.Prelude.{◌≡◌, ◌≤◌, ◌∷◌, [], false, All, IfOk};
+ghost use Rattle.std.specs.Prelude.{◌≡◌, ◌≤◌, ◌∷◌, [], false, IfOk};
+ghost use Rattle.std.specs.List.{AllByRecursion};
 ghost use Rattle.kl_value.specs.declared.Kind.TheVariants as kind;
-ghost use Rattle.kl_type.specs.Ground.{coll, int};
+ghost use Rattle.kl_type.specs.Ground.{IsGround, coll, int};
 ghost use Rattle.kl_core.specs.Trees.{Source, Union, view};
 ghost use Rattle.kl_core.specs.Counts.{nodes_of};
-ghost use Rattle.kl_ask.specs.Driver.{Suits};
-ghost use Rattle.kl_ship.specs.Contents.{MakesSense};
-ghost use Rattle.kl_ship.specs.Ships.{ground};
+ghost use Rattle.kl_ship.specs.Contents.{AreSources, MakesSense};
+ghost use Rattle.kl_ship.specs.Sources.{ground};
 
 use kl_ask::{Abilities, Settings};
 use kl_base::{Box, Label};
@@ -57,7 +57,8 @@ fn reads_twice(plan: &Plan) -> bool {
 fn is_shipped(alloc: Global, term: &Term, sources: &[ShipSource]) -> Result<bool, Fail>
     requires sense { MakesSense sources.now (view term.now) }
     requires small { nodes_of (view term.now) ≤ 16384 }
-    requires suited { All (λ s. Suits s.abilities (ground s)) sources.now }
+    requires sources { AreSources sources.now }
+    requires proper { AllByRecursion (λ s. IsGround (ground s)) sources.now }
 {
     let plan = ship(alloc, term, sources, &Settings::usual())?;
     Ok(reads_twice(&plan) && count_scans(&plan) == 2)

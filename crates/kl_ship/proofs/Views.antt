@@ -2,12 +2,17 @@
 use Rattle.std.proofs.Common.{◌≡◌, ℕ, List, map, Option, rules}
 use Rattle.kl_value.specs.declared.Kind.{Kind}
 use Rattle.kl_outcome.specs.Outcome.{Name}
+use Rattle.kl_core.specs.declared.term.Term.{Term}
+use Rattle.kl_core.specs.Trees.{view as term_view}
 use Rattle.kl_ship.specs.declared.plan.Scan.{Scan}
 use Rattle.kl_ship.specs.declared.plan.Plan.{Plan, the_lemmas}
 use Rattle.kl_ship.specs.declared.plan.Plan.TheVariants as plan
 use Rattle.kl_ship.specs.Nodes as node
 use Rattle.kl_ship.specs.Nodes.{Branches, branches_of, view, view_branch, nodes_view, fields_view}
 use Rattle.kl_ship.specs.Shipping.{other_node}
+
+pub view_Plain : (t : Term) → view (plan.Plain t) ≡ node.Plain (term_view t)
+view_Plain t = search (rules, the_lemmas)
 
 pub view_Var : (x : ℕ) → view (plan.Var x) ≡ node.Var x
 view_Var x = search (rules, the_lemmas)
