@@ -1,5 +1,5 @@
 use kl_base::{Box, Seq};
-use kl_core::{Term, depth, fits, is_total, nodes, occurs, shift, subst};
+use kl_core::{Term, depth, fits, is_total, is_total_code, nodes, occurs, shift, subst};
 use kl_value::{Kind, Value};
 use std::alloc::Global;
 use std::test::Fail;
@@ -44,6 +44,12 @@ fn terms_are_measured_and_copied(rt: HostRuntime) -> Result<(), Fail> {
 fn kinds_fit(rt: HostRuntime) {
     assert!(rt; fits(Kind::List, Kind::Bag));
     assert!(rt; !fits(Kind::Set, Kind::Bag));
+}
+
+// A comparison answers always, and a sum may overflow.
+#[test]
+fn codes_are_total(rt: HostRuntime) {
+    assert!(rt; is_total_code(1) && !is_total_code(7));
 }
 
 #[test]

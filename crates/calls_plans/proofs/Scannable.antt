@@ -4,7 +4,6 @@ use Rattle.std.specs.List.{AllByRecursion}
 use Rattle.std.proofs.lemmas.Option.{same_Some}
 use Rattle.std.specs.List.Sorted.{IsStrictlySortedBy}
 use Rattle.kl_base.specs.Fields.{bytes_cmp}
-use Rattle.kl_value.specs.declared.Kind.{Kind}
 use Rattle.kl_value.specs.declared.Kind.TheVariants as kind
 use Rattle.kl_value.specs.declared.Value.{Value}
 use Rattle.kl_type.specs.Ground.{Ground, coll, int, IsGround, ground_of}
@@ -14,13 +13,12 @@ use Rattle.kl_outcome.specs.Typed.{Inhabits}
 use Rattle.kl_ask.specs.Asks.{kind_of, item_of, shown_type, is_allowed, AskFits}
 use Rattle.kl_ask.specs.Driver.{State, Source}
 use Rattle.kl_ask.specs.World.{World, IsReady, at_place, at_source, source_at}
-use Rattle.kl_ask.specs.declared.ask.Abilities.{Abilities}
 use Rattle.kl_ask.specs.declared.ask.Ask.TheVariants as asks
 use Rattle.kl_ask.specs.declared.session.Attached.{Attached}
 use Rattle.kl_ship.specs.declared.plan.Scan.{Scan}
-use Rattle.kl_scans.specs.Held.{held_at}
+use Rattle.kl_scans.specs.Held.{Held, held_at}
 use Rattle.kl_scans.specs.Scans.{CanScan}
-use Rattle.kl_scans.specs.Stage.{stage, AskOf}
+use Rattle.kl_scans.specs.Stage.{Stage, stage, AskOf}
 use Rattle.calls_plans.specs.Reading.{HoldsNumbers}
 
 none_rising : IsStrictlySortedBy bytes_cmp []
@@ -30,14 +28,17 @@ none_rising = tt
 numbers_fit : (g : Ground) → AskFits g [] []
 numbers_fit g = record { rising = none_rising; there = tt; fitting = tt }
 
-ask_of : (can : Abilities) (name : Name) (s : Source) (k : Kind) → ground_of s.ty ≡ coll kind.List int → AskOf can name s (asks.Rows name [] []) k int
-ask_of can name s k e = (
+ask_of : (t : Stage) (h : Held) (c : Scan) (s : Source) → ground_of s.ty ≡ coll kind.List int → AskOf t h c s (asks.Rows c.source [] []) int
+ask_of t h c s e = (
   refl,
-  subst (λ g. is_allowed can g (asks.Rows name [] []) ≡ true) (sym e) refl,
+  subst (λ g. is_allowed h.abilities g (asks.Rows c.source [] []) ≡ true) (sym e) refl,
   numbers_fit (ground_of s.ty),
   ap (λ g. shown_type [] (item_of g)) (sym e),
   λ list. ap kind_of e,
 )
+
+abbrev held_of : State → Held
+held_of s = record { abilities = s.kind.abilities; attached = s.attached }
 
 abbrev listed_as : Name → Ty → Attached
 listed_as name ty = record { source = name; ty = ty; driver = Some 0 }
@@ -54,11 +55,11 @@ can_scan f w c xs ys x name ty seen pushed none listed named has ground first as
     listed = ap (λ ss. slice_get ss 0) listed;
     named = sym named;
     driver = ap Some (sym first);
-    held = record { abilities = (f x).kind.abilities; attached = (f x).attached };
+    held = held_of (f x);
     holds = rw (first, seen, pushed, none) refl;
     source = has.0;
     attached = has.1;
-    ask = subst (λ a. AskOf (f x).kind.abilities c.source has.0 a c.kind int) (sym ask) (ask_of (f x).kind.abilities c.source has.0 c.kind (ap ground_of has.2 ∙ ground));
+    ask = subst (λ a. AskOf (stage w) (held_of (f x)) c has.0 a int) (sym ask) (ask_of (stage w) (held_of (f x)) c has.0 (ap ground_of has.2 ∙ ground));
   },
 )
 

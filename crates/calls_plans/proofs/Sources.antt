@@ -1,8 +1,9 @@
 -- A list of integers as the one source, and a term that reads it twice.
-use Rattle.std.proofs.Common.{◌≡◌, ◌≤◌, List, [], ◌∷◌, All, Bool, true, false, Some, slice_get, refl, sym, ap, ◌∙◌, subst, arith}
-use Rattle.std.proofs.lemmas.List.Elements.{All-cons, All-nil}
+use Rattle.std.proofs.Common.{◌≡◌, ◌≤◌, ℕ, zero, suc, List, [], ◌∷◌, Bool, true, false, Some, slice_get, refl, sym, ap, ◌∙◌, subst, arith}
+use Rattle.std.specs.List.{AllByRecursion}
+use Rattle.std.proofs.lemmas.Option.{same_Some}
 use Rattle.kl_value.specs.declared.Kind.TheVariants as kind
-use Rattle.kl_type.specs.Ground.{coll, int, ground_of}
+use Rattle.kl_type.specs.Ground.{coll, int, IsGround, ground_of}
 use Rattle.kl_type.specs.declared.ground.Ty.{Ty}
 use Rattle.kl_type.specs.declared.ground.Ty.TheVariants as ty
 use Rattle.kl_type.proofs.GroundLemmas.{ground-Int, ground-Coll}
@@ -11,8 +12,8 @@ use Rattle.kl_core.specs.Trees.{Tree, Source, Union}
 use Rattle.kl_core.specs.Typing.{CoreTypes}
 use Rattle.kl_ask.specs.Driver.{Suits}
 use Rattle.kl_ask.specs.declared.ask.Abilities.{Abilities}
-use Rattle.kl_ship.specs.Contents.{MakesSense, type_in, types_in}
-use Rattle.kl_ship.specs.Ships.{ground}
+use Rattle.kl_ship.specs.Contents.{AreSources, MakesSense, type_in, types_in}
+use Rattle.kl_ship.specs.Sources.{ground}
 use Rattle.kl_ship.specs.declared.source.ShipSource.{ShipSource}
 
 pub list_ground : (t : Ty) → t ≡ ty.Int → ground_of (ty.Coll kind.List t) ≡ coll kind.List int
@@ -33,8 +34,12 @@ module _ (s : ShipSource) (ss : List ShipSource) (one : ss ≡ s ∷ []) (typed 
       let there : types_in ss 0 ≡ Some (coll kind.List int) = ap (λ xs. type_in (slice_get xs 0)) one ∙ ap Some typed in
       (coll kind.List int, subst (λ u. CoreTypes (types_in ss) [] u (coll kind.List int)) (sym is) (kind.List, int, refl, (there, tt), (there, tt)))
 
-  pub one_suited : s.abilities ≡ whole_rows → All (λ x. Suits x.abilities (ground x)) ss
-  one_suited can =
+  only_one : (i : ℕ) (x : ShipSource) → slice_get (s ∷ []) i ≡ Some x → s ≡ x
+  only_one zero x at = same_Some _ _ at
+  only_one (suc i) x at = absurd cc
+
+  pub one_sources : s.abilities ≡ whole_rows → AreSources ss
+  one_sources can =
       let suits : Suits s.abilities (ground s) = record {
         collection = (kind.List, int, typed);
         select = λ on. absurd (never s.abilities.select (ap (λ (a : Abilities). a.select) can) on);
@@ -42,4 +47,10 @@ module _ (s : ShipSource) (ss : List ShipSource) (one : ss ≡ s ∷ []) (typed 
         join = λ on. absurd (never s.abilities.join (ap (λ (a : Abilities). a.join) can) on);
         no_list = λ on. absurd (never s.abilities.join (ap (λ (a : Abilities). a.join) can) on);
       } in
-      subst (All (λ x. Suits x.abilities (ground x))) (sym one) (All-cons (λ x. Suits x.abilities (ground x)) s [] suits (All-nil (λ x. Suits x.abilities (ground x))))
+      subst AreSources (sym one) (record {
+        suited = λ i x at. subst (λ (y : ShipSource). Suits y.abilities (ground y)) (only_one i x at) suits;
+        able = λ i j x y at there same. ap (λ (z : ShipSource). z.abilities) (sym (only_one j y there) ∙ only_one i x at);
+      })
+
+  pub one_proper : AllByRecursion (λ x. IsGround (ground x)) ss
+  one_proper = subst (AllByRecursion (λ x. IsGround (ground x))) (sym one) (subst IsGround (sym typed) tt, tt)

@@ -1,16 +1,16 @@
-ghost use Rattle.std.specs.Prelude.{◌≡◌, ◌≤◌, ◌∷◌, [], false, All, IfOk};
+ghost use Rattle.std.specs.Prelude.{◌≡◌, ◌≤◌, ◌∷◌, [], false, IfOk};
+ghost use Rattle.std.specs.List.{AllByRecursion};
 ghost use Rattle.kl_value.specs.declared.Kind.TheVariants as kind;
-ghost use Rattle.kl_type.specs.Ground.{coll, int};
+ghost use Rattle.kl_type.specs.Ground.{IsGround, coll, int};
 ghost use Rattle.kl_core.specs.Trees.{Source, Union, view};
 ghost use Rattle.kl_core.specs.Counts.{nodes_of};
-ghost use Rattle.kl_ask.specs.Driver.{Suits};
-ghost use Rattle.kl_ship.specs.Contents.{MakesSense};
-ghost use Rattle.kl_ship.specs.Ships.{ground};
+ghost use Rattle.kl_ship.specs.Contents.{AreSources, MakesSense};
+ghost use Rattle.kl_ship.specs.Sources.{ground};
 
 use kl_ask::{Abilities, Settings};
 use kl_base::{Box, Label};
 use kl_core::Term;
-use kl_ship::{Plan, ShipSource, count_scans, plan_laws, ship};
+use kl_ship::{Plan, ShipSource, count_scans, fully_shipped, plan_laws, ship};
 use kl_type::Ty;
 use kl_value::Kind;
 use std::alloc::Global;
@@ -53,14 +53,16 @@ fn reads_twice(plan: &Plan) -> bool {
     matches!(plan, Plan::Union(a, b) if is_scan(a.get(), 0) && is_scan(b.get(), 1))
 }
 
-// Whether the plan has a scan for each mention of the source.
+// Whether the plan has a scan for each mention of the source, whose driver can do nothing more.
 fn is_shipped(alloc: Global, term: &Term, sources: &[ShipSource]) -> Result<bool, Fail>
     requires sense { MakesSense sources.now (view term.now) }
     requires small { nodes_of (view term.now) ≤ 16384 }
-    requires suited { All (λ s. Suits s.abilities (ground s)) sources.now }
+    requires sources { AreSources sources.now }
+    requires proper { AllByRecursion (λ s. IsGround (ground s)) sources.now }
 {
     let plan = ship(alloc, term, sources, &Settings::usual())?;
-    Ok(reads_twice(&plan) && count_scans(&plan) == 2)
+    let full = fully_shipped(alloc, &plan, sources)?;
+    Ok(full && reads_twice(&plan) && count_scans(&plan) == 2)
 }
 
 fn ships(alloc: Global) -> Result<bool, Fail> {

@@ -121,7 +121,9 @@ fn are_total_labelled(parts: &[(Label, Term)]) -> bool
     true
 }
 
-fn is_total_code(code: u8) -> bool
+/// Whether the primitive of a code answers for all arguments that fit it. A code of none counts as total, since no typed
+/// term has one.
+pub fn is_total_code(code: u8) -> bool
     ensures { result ≡ total_code code }
 {
     match row_of(code) {

@@ -13,7 +13,7 @@ mod moving;
 mod replacing;
 mod term;
 
-pub use contents::{fits, is_total, occurs};
+pub use contents::{fits, is_total, is_total_code, occurs};
 pub use laws::typing_laws;
 pub use measure::{depth, nodes};
 pub use moving::shift;

@@ -14,7 +14,8 @@ use Rattle.kl_ship.specs.Nodes.{Node}
 use Rattle.kl_scans.specs.Held.{cursor_at}
 use Rattle.kl_scans.specs.Scans.{Started, PulledMore}
 use Rattle.kl_cursor.specs.Laziness.{rows_in, Handed, ByTimes, Fetching, ahead, ListTold}
-use Rattle.kl_cursor.specs.Left.{Snap, fresh, pulling, outside, uses, left, rows_left, rows_told}
+use Rattle.kl_scans.specs.Stage.{or_none}
+use Rattle.kl_cursor.specs.Left.{Snap, fresh, pulling, outside, uses, left, rows_left}
 use Rattle.kl_cursor.specs.Sense.{IsToldAt, Fits, HasItems}
 use Rattle.kl_cursor.specs.Steps.{AreOf, Onward, Gives}
 use Rattle.kl_cursor.proofs.Forms.{told_on}
@@ -95,7 +96,7 @@ module _ (env : List Value) (q : Scan) (k n : ℕ) (into into' : List Value) (ro
   pulled_times all used told rows times =
       let r = rows_of a q (cursor_at a q.driver k) p.was told.1 p.here told.3.2 told.4 in
       let l = p.hands.left r.0 r.1 in
-      let same : r.0 ≡ drop used all = flow_rows r.0 (drop used all) (ap (λ o. flow (rows_told o) fine) (sym r.1) ∙ ap (λ o. flow (rows_left o) fine) (sym p.here) ∙ rows) in
+      let same : r.0 ≡ drop used all = flow_rows r.0 (drop used all) (ap (λ o. flow (or_none o) fine) (sym r.1) ∙ ap (λ o. flow (rows_left o) fine) (sym p.here) ∙ rows) in
       by_times a.settings.fetch all p.rows l.0 used (sym same ∙ l.1) p.hands.some l.3 times
 
   pub pull_fetches : (c : Scan) (all : List Value) (used handed : ℕ) → ListTold env (pulling q k [] n) a → Fetching a env c all used handed (pulling q k [] n)

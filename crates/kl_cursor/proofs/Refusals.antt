@@ -13,10 +13,10 @@ pub refused_as : (Has Holds : List Scan → Type 0) (l : Name) (e : DriverError)
 refused_as Has Holds l e a b f h = record { scan = h.scan; stood = λ all i. h.stood all (f all i); named = h.named; by = h.by }
 
 pub refused_then : (Has Holds : List Scan → Type 0) (l : Name) (e : DriverError) (u v : Uses) (a b c : World) → ((all : List Scan) → Has all → Holds all) → Moves u v a b → StoppedAt Holds l e b c → StoppedAt Has l e a c
-refused_then Has Holds l e u v a b c f m h = record { scan = h.scan; stood = λ all i. h.stood all (f all i); named = h.named; by = stopped_then l e u v a b c m h.by }
+refused_then Has Holds l e u v a b c f m h = record { scan = h.scan; stood = λ all i. h.stood all (f all i); named = h.named; by = stopped_then h.scan l e u v a b c m h.by }
 
 pub refused_before : (Has Holds : List Scan → Type 0) (l : Name) (e : DriverError) (u v : Uses) (a b c : World) → ((all : List Scan) → Has all → Holds all) → StoppedAt Holds l e a b → Moves u v b c → StoppedAt Has l e a c
-refused_before Has Holds l e u v a b c f h m = record { scan = h.scan; stood = λ all i. h.stood all (f all i); named = h.named; by = stopped_before l e u v a b c h.by m }
+refused_before Has Holds l e u v a b c f h m = record { scan = h.scan; stood = λ all i. h.stood all (f all i); named = h.named; by = stopped_before h.scan l e u v a b c h.by m }
 
 -- the same of all that is said of a stop
 pub halts_at : (u : Uses) (Has Holds : List Scan → Type 0) (l : Name) (e : DriverError) (a b : World) → ((all : List Scan) → Has all → Holds all) → Refused u Holds l e a b → Refused u Has l e a b

@@ -20,10 +20,10 @@ use Rattle.kl_scans.specs.Held.{cursor_at, nothing, one_at, Owned}
 use Rattle.kl_scans.specs.Log.{paid}
 use Rattle.kl_scans.specs.Moves.{Closes}
 use Rattle.kl_scans.specs.Scans.{PulledMore}
-use Rattle.kl_scans.specs.Stage.{stage, ScanOf, IsTold}
+use Rattle.kl_scans.specs.Stage.{stage, ScanOf, IsTold, or_none}
 use Rattle.kl_scans.proofs.Moving.{moves_then, stage_stays}
 use Rattle.kl_cursor.specs.Gathering.{Gathered}
-use Rattle.kl_cursor.specs.Left.{Snap, have, pulling, outside, left, reading, to_start, rows_left, rows_told, ScansLeft}
+use Rattle.kl_cursor.specs.Left.{Snap, have, pulling, outside, left, reading, to_start, rows_left, ScansLeft}
 use Rattle.kl_cursor.specs.Likeness.{Same}
 use Rattle.kl_cursor.specs.Measure.{bound_in}
 use Rattle.kl_cursor.specs.Sense.{CursorOf}
@@ -51,8 +51,8 @@ scan_hands env q k n into into' a b p =
           let r = rows_of a q (cursor_at a q.driver k) p.was u p.here f.2 told in
           let l = p.hands.left r.0 r.1 in
           same_at j (flow (rows_left (cursor_at a q.driver k)) fine) (followed (flow p.rows fine) (flow (rows_left (cursor_at b q.driver k)) fine))
-          (ap (λ o. flow (rows_left o) fine) p.here ∙ ap (λ o. flow (rows_told o) fine) r.1 ∙ ap (λ z. flow z fine) l.1 ∙ sym (flow_more p.rows l.0 fine)
-          ∙ ap (λ o. followed (flow p.rows fine) (flow (rows_told o) fine)) (sym l.2) ∙ ap (λ o. followed (flow p.rows fine) (flow (rows_left o) fine)) (sym p.now));
+          (ap (λ o. flow (rows_left o) fine) p.here ∙ ap (λ o. flow (or_none o) fine) r.1 ∙ ap (λ z. flow z fine) l.1 ∙ sym (flow_more p.rows l.0 fine)
+          ∙ ap (λ o. followed (flow p.rows fine) (flow (or_none o) fine)) (sym l.2) ∙ ap (λ o. followed (flow p.rows fine) (flow (rows_left o) fine)) (sym p.now));
       counts = λ G j u h f told z price. ap (λ es. paid price es + 0) p.only;
       typed = λ G j u h f.
           let t : p.was.ty ≡ u = type_of a q (cursor_at a q.driver k) p.was u p.here f.2 in

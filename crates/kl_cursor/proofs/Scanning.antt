@@ -15,11 +15,11 @@ use Rattle.kl_scans.specs.Held.{cursor_at, count_open, open_at, nothing, one_at,
 use Rattle.kl_scans.specs.Log.{Event, paid}
 use Rattle.kl_scans.specs.Moves.{Closes}
 use Rattle.kl_scans.specs.Scans.{CanScan, IsOpen, Pulls, PulledMore, PulledNone, NotPulled, Stopped}
-use Rattle.kl_scans.specs.Stage.{ScanOf, IsTold}
+use Rattle.kl_scans.specs.Stage.{ScanOf, IsTold, or_none}
 use Rattle.kl_scans.proofs.Moving.{moves_none, moves_then, stage_stays}
 use Rattle.kl_cursor.specs.declared.state.State.{State}
 use Rattle.kl_cursor.specs.declared.state.State.TheVariants as state
-use Rattle.kl_cursor.specs.Left.{pulling, snap, rows_left, rows_told}
+use Rattle.kl_cursor.specs.Left.{pulling, snap, rows_left}
 use Rattle.kl_cursor.specs.Measure.{bound_in}
 use Rattle.kl_cursor.specs.Sense.{CursorOf, IsToldAt, Stands}
 use Rattle.kl_cursor.specs.Steps.{AreOf, Gives, Ends, Reason, Stops, Steps}
@@ -60,7 +60,7 @@ scan_ends env q k n into into' a b d p m = record {
   over = λ G j u e f told.
       let r = rows_of a q (cursor_at a q.driver k) p.was u p.here f.2 told in
       let z : r.0 ≡ [] = p.spent r.0 r.1 in
-      same_at j (flow (rows_left (cursor_at a q.driver k)) fine) (stop fine) (ap (λ o. flow (rows_left o) fine) p.here ∙ ap (λ l. flow (rows_told l) fine) r.1 ∙ ap (λ l. flow l fine) z);
+      same_at j (flow (rows_left (cursor_at a q.driver k)) fine) (stop fine) (ap (λ o. flow (rows_left o) fine) p.here ∙ ap (λ l. flow (or_none l) fine) r.1 ∙ ap (λ l. flow l fine) z);
   counts = λ G j u e f told z price. nothing_paid price p.moves.events m.moves.events p.none m.none;
 }
 
@@ -75,8 +75,8 @@ scan_gives env q k n into into' row rest a b e g p =
           let r = rows_of a q (cursor_at a q.driver k) p.was u p.here f.2 told in
           let l = p.hands.left r.0 r.1 in
           same_at j (flow (rows_left (cursor_at a q.driver k)) fine) (more row (flow (rest ++ rows_left (cursor_at b q.driver k)) fine))
-          (ap (λ o. flow (rows_left o) fine) p.here ∙ ap (λ o. flow (rows_told o) fine) r.1 ∙ ap (λ z. flow z fine) (l.1 ∙ ap (λ z. z ++ l.0) rows)
-          ∙ ap (λ o. more row (flow (rest ++ rows_told o) fine)) (sym l.2) ∙ ap (λ o. more row (flow (rest ++ rows_left o) fine)) (sym p.now));
+          (ap (λ o. flow (rows_left o) fine) p.here ∙ ap (λ o. flow (or_none o) fine) r.1 ∙ ap (λ z. flow z fine) (l.1 ∙ ap (λ z. z ++ l.0) rows)
+          ∙ ap (λ o. more row (flow (rest ++ or_none o) fine)) (sym l.2) ∙ ap (λ o. more row (flow (rest ++ rows_left o) fine)) (sym p.now));
       counts = λ G j u h f told z price. ap (λ es. paid price es + 0) p.only;
       typed = λ G j u h f.
           let t : p.was.ty ≡ u = type_of a q (cursor_at a q.driver k) p.was u p.here f.2 in

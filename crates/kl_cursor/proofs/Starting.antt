@@ -1,5 +1,5 @@
 -- A cursor of a driver as it is opened.
-use Rattle.std.proofs.Common.{◌≡◌, ℕ, ◌+◌, ◌^◌, ◌≤◌, List, [], ◌∷◌, Option, Some, None, refl, sym, ap, ◌∙◌, subst, arith}
+use Rattle.std.proofs.Common.{◌≡◌, ◌≢◌, ℕ, ◌+◌, ◌^◌, ◌≤◌, max, List, [], ◌∷◌, length, Option, Some, None, refl, sym, ap, ◌∙◌, subst, arith}
 use Rattle.std.specs.List.{sum_by}
 use Rattle.std.specs.List.Sorted.{IsPermutation}
 use Rattle.std.proofs.lemmas.List.Sorted.{sum_by-IsPermutation}
@@ -13,7 +13,9 @@ use Rattle.kl_outcome.proofs.Flows.{flow_items}
 use Rattle.kl_ask.specs.Asks.{answers}
 use Rattle.kl_ask.specs.Driver.{Source, Cursor, Shows, InOrder}
 use Rattle.kl_ask.specs.World.{World}
-use Rattle.kl_ask.specs.declared.ask.Abilities.{Abilities}
+use Rattle.kl_ask.specs.Statements.{SqlFits}
+use Rattle.kl_sqltext.specs.Meaning.{spj}
+use Rattle.kl_sqltext.specs.declared.ast.Spj.{Spj}
 use Rattle.kl_ask.specs.declared.ask.Ask.{Ask}
 use Rattle.kl_ask.specs.declared.ask.Ask.TheVariants as asks
 use Rattle.kl_ask.specs.declared.ask.ColTest.{ColTest}
@@ -27,12 +29,13 @@ use Rattle.kl_ship.specs.Typing.{PlanTypes}
 use Rattle.kl_ship.proofs.Comings.{same_kind, same_type}
 use Rattle.kl_scans.specs.Held.{Held, held_at, cursor_at, nothing, one_at}
 use Rattle.kl_scans.specs.Log.{paid}
-use Rattle.kl_scans.specs.Scans.{OpensIn, Started, NotStarted, Stopped}
-use Rattle.kl_scans.specs.Stage.{stage, readings, read_by, read_in, rows_asked, answered_by, AskOf, ScanOf, IsTold}
+use Rattle.kl_scans.specs.Scans.{IsJoined, OpensIn, Started, NotStarted, Stopped}
+use Rattle.kl_scans.specs.Stage.{Stage, stage, statement_of, readings, read_by, read_in, rows_asked, answered_by, table_rows, table_types, joined_by, AskOf, ScanOf, IsTold, or_none}
+use Rattle.kl_scans.proofs.Statements.{reads_statement, joined_is, rows_told as tables_told}
 use Rattle.kl_scans.proofs.Moving.{stage_stays}
-use Rattle.kl_cursor.specs.Left.{fresh, pulling, rows_left, rows_told}
+use Rattle.kl_cursor.specs.Left.{fresh, pulling, rows_left}
 use Rattle.kl_cursor.specs.Likeness.{Same}
-use Rattle.kl_cursor.specs.Measure.{bound_in}
+use Rattle.kl_cursor.specs.Measure.{joined_most, asked_most, bound_in}
 use Rattle.kl_cursor.specs.Sense.{CursorOf, IsToldAt, HasItems}
 use Rattle.kl_cursor.specs.Steps.{AreOf, Onward, Reason, Stops}
 use Rattle.kl_cursor.proofs.Events.{of_none}
@@ -72,22 +75,39 @@ shown_rows j i keep tests None left rows h e s = absurd cc
 
 record Opening (h : Held) (ask : Ask) (j : Kind) (u : Ground) (o : Cursor) : Type 0 where
   ty : o.ty ≡ u
-  bound : o.bound ≤ 2 ^ 64
-  shows : (rows : List Value) → read_by h ask ≡ Some rows → LeftOf j rows o.left
+  bound : o.bound ≤ asked_most ask
+  shows : (rows : List Value) → read_by h.attached ask ≡ Some rows → LeftOf j rows o.left
 
-opening : (can : Abilities) (h : Held) (name : Name) (a : Source) (ask : Ask) (j : Kind) (u : Ground) (o : Cursor) → h.attached name ≡ Some a → AskOf can name a ask j u → OpensIn h ask o → Opening h ask j u o
-opening can h name a (asks.Rows source keep tests) j u o at f g =
+-- the rows of a statement may come in any order
+joined_rows : (h : Held) (q : Spj) (j : Kind) (o : Cursor) (rows : List Value) → j ≢ kind.List → SqlFits (table_types h.attached) q → IsJoined h q o → joined_by h.attached (Some q) ≡ Some rows → LeftOf j rows o.left
+joined_rows h q j o rows none fits s e =
+    let is = joined_is h.attached q rows e in
+    let l = s.left (table_rows h.attached) (tables_told h q.tables fits.tables is.0) in
+    (l.0, l.1, subst (λ z. Same j (flow z fine) (flow l.0 fine)) is.1 (ordered j kind.Bag (spj (table_rows h.attached) q) l.0 (λ k. absurd (none k)) l.2))
+
+wide : (m n k : ℕ) → k ≤ n → k ≤ max m n
+wide m n k h = omega arith
+
+opening : (t : Stage) (h : Held) (c : Scan) (a : Source) (ask : Ask) (u : Ground) (o : Cursor) → h.attached c.source ≡ Some a → AskOf t h c a ask u → OpensIn h ask o → Opening h ask c.kind u o
+opening t h c a (asks.Rows source keep tests) u o at f g =
     let here : h.attached source ≡ Some a = ap h.attached f.0 ∙ at in
     let s = g a here in
     record {
       ty = s.ty ∙ sym f.3;
       bound = s.bound;
-      shows = λ rows e. shown_rows j _ keep tests a.rows o.left rows f.4 (ap (λ z. rows_asked z keep tests) (sym here) ∙ e) s.left;
+      shows = λ rows e. shown_rows c.kind _ keep tests a.rows o.left rows f.4 (ap (λ z. rows_asked z keep tests) (sym here) ∙ e) s.left;
     }
-opening can h name a (asks.Sql text) j u o at f g = absurd f
+opening t h c a (asks.Sql text) u o at f g =
+    let s = g f.statement f.reads in
+    let is : statement_of text ≡ Some f.statement = reads_statement text f.statement f.reads in
+    record {
+      ty = s.ty ∙ sym f.shows;
+      bound = subst (λ q. o.bound ≤ joined_most q) (sym is) (wide (2 ^ 64) ((2 ^ 64) ^ length f.statement.tables) o.bound s.bound);
+      shows = λ rows e. joined_rows h f.statement c.kind o rows f.no_list f.fits s (ap (joined_by h.attached) (sym is) ∙ e);
+    }
 
 opened_as : (w x : World) (q : Scan) (k : ℕ) (u : Ground) (s : Started q k w x) (f : ScanOf (stage w) q u) → Opening f.held q.ask q.kind u s.opened
-opened_as w x q k u s f = opening f.held.abilities f.held q.source f.source q.ask q.kind u s.opened f.attached f.ask (s.opens f.held (sym (held_is w q.driver) ∙ f.holds))
+opened_as w x q k u s f = opening (stage w) f.held q f.source q.ask u s.opened f.attached f.ask (s.opens f.held (sym (held_is w q.driver) ∙ f.holds))
 
 abbrev Given : World → Scan → Cursor → Type 0
 Given w q o = (rows : List Value) × (readings (stage w) q ≡ Some rows) × LeftOf q.kind rows o.left
@@ -123,7 +143,7 @@ scan_begins env q k n w x i m s =
           let l : LeftOf q.kind g.0 s.opened.left = g.2 in
           subst (λ z. Same z (coming (scanned q.kind (readings (stage w) q))) (flow (rows_left (cursor_at x q.driver k)) fine)) (sym (same_kind d q.kind u t.u t.is))
           (subst (λ z. Same q.kind z (flow (rows_left (cursor_at x q.driver k)) fine)) (sym (ap (λ z. coming (scanned q.kind z)) g.1))
-          (subst (Same q.kind (flow g.0 fine)) (sym (ap (λ o. flow (rows_left o) fine) s.now ∙ ap (λ o. flow (rows_told o) fine) l.1)) l.2));
+          (subst (Same q.kind (flow g.0 fine)) (sym (ap (λ o. flow (rows_left o) fine) s.now ∙ ap (λ o. flow (or_none o) fine) l.1)) l.2));
       counts = λ G d u e f told z price. ap (λ es. paid price es + 0) s.only ∙ one_paid (price q);
       typed = λ G d u e f.
           let t = scan_typed w G q (coll d u) f in
@@ -135,9 +155,9 @@ scan_begins env q k n w x i m s =
       lower = omega arith;
       fewer =
           let t = scan_typed w i.0 q (coll i.1 i.2) i.4 in
-          let y : s.opened.bound ≤ 2 ^ 64 = (opened_as w x q k t.u s t.of).bound in
+          let y : s.opened.bound ≤ asked_most q.ask = (opened_as w x q k t.u s t.of).bound in
           let z : bound_in (cursor_at x q.driver k) ≡ s.opened.bound = ap bound_in s.now in
-          no_more (bound_in (cursor_at x q.driver k)) s.opened.bound (2 ^ 64) z y;
+          no_more (bound_in (cursor_at x q.driver k)) s.opened.bound (asked_most q.ask) z y;
     }
 
 start_reason : (env : List Value) (q : Scan) (e : EvalStop) (w x : World) → Stopped q e w x → Reason env (fresh (node.Scan q)) e w x

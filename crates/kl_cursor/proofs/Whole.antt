@@ -1,5 +1,5 @@
 -- What a plan becomes as it begins, where a part of it or all of it is evaluated first.
-use Rattle.std.proofs.Common.{◌≡◌, ℕ, ◌+◌, ◌*◌, ◌^◌, ◌<◌, ◌≤◌, max, Bool, true, false, cond, List, [], ◌∷◌, length, map, Some, None, IsSome, Result, Ok, Err, slice_get, refl, sym, ap, subst, ◌∙◌, arith, IfOk}
+use Rattle.std.proofs.Common.{Option, ◌≡◌, ℕ, ◌+◌, ◌*◌, ◌^◌, ◌<◌, ◌≤◌, max, Bool, true, false, cond, List, [], ◌∷◌, length, map, Some, None, IsSome, Result, Ok, Err, slice_get, refl, sym, ap, subst, ◌∙◌, arith, IfOk}
 use Rattle.std.proofs.Math.Nat.{mul-le-mul_right}
 use Rattle.std.specs.List.{AllByRecursion}
 use Rattle.kl_value.specs.Views.{IsCollection}
@@ -12,6 +12,9 @@ use Rattle.kl_outcome.specs.Typed.{Inhabits, HaveTypes}
 use Rattle.kl_outcome.proofs.OutcomeTypes.{FlowOf, items_typed, items_inhabit}
 use Rattle.kl_core.specs.Counts.{fits_in}
 use Rattle.kl_ask.specs.World.{World}
+use Rattle.kl_ask.specs.declared.ask.Ask.{Ask}
+use Rattle.kl_ask.specs.declared.ask.Ask.TheVariants as asks
+use Rattle.kl_sqltext.specs.declared.ast.Spj.{Spj}
 use Rattle.kl_eval.specs.Steps.{place_of}
 use Rattle.kl_eval.specs.declared.stop.EvalStop.{EvalStop}
 use Rattle.kl_eval.specs.declared.stop.EvalStop.TheVariants as why
@@ -29,12 +32,12 @@ use Rattle.kl_ship.specs.Reached.{reached}
 use Rattle.kl_ship.specs.Typing.{BranchTypes}
 use Rattle.kl_scans.specs.Held.{nothing}
 use Rattle.kl_scans.specs.Moves.{Moves}
-use Rattle.kl_scans.specs.Stage.{stage, ScanOf, readings}
+use Rattle.kl_scans.specs.Stage.{stage, statement_of, ScanOf, readings}
 use Rattle.kl_scans.proofs.Moving.{stage_stays}
 use Rattle.kl_cursor.specs.declared.state.State.{State}
 use Rattle.kl_cursor.specs.Likeness.{Same}
 use Rattle.kl_cursor.specs.Left.{Snap, fresh, have, bound, outside, snap, reading, ScansLeft}
-use Rattle.kl_cursor.specs.Measure.{tall, tall_branches, count_nodes, size, size_branches, falling}
+use Rattle.kl_cursor.specs.Measure.{joined_most, asked_most, tall, tall_branches, count_nodes, size, size_branches, falling}
 use Rattle.kl_cursor.specs.Sense.{TypesAt, IsToldAt, HasItems, HasWorth}
 use Rattle.kl_cursor.specs.Steps.{Onward, Stops, Begins, Empties, ComesTo, IsValue, Wholly, Partly, Halted}
 use Rattle.kl_cursor.proofs.Drawn.{DrawsWhole}
@@ -125,11 +128,22 @@ some_at_least m t x = omega arith
 same_size : (t : ℕ) → t ≤ t
 same_size t = omega arith
 
+left_most : (m t : ℕ) → m ≤ max m t
+left_most m t = omega arith
+
 right_most : (m t : ℕ) → t ≤ max m t
 right_most m t = omega arith
 
 with_more : (m n t : ℕ) → t ≤ m → t ≤ m + n
 with_more m n t x = omega arith
+
+joined_big : (q : Option Spj) → 2 ^ 64 ≤ joined_most q
+joined_big (Some q) = left_most (2 ^ 64) ((2 ^ 64) ^ length q.tables)
+joined_big None = same_size (2 ^ 64)
+
+asked_big : (a : Ask) → 2 ^ 64 ≤ asked_most a
+asked_big (asks.Rows source keep tests) = same_size (2 ^ 64)
+asked_big (asks.Sql text) = joined_big (statement_of text)
 
 -- a plan's number is no less than what one value can have
 pub size_big : (p : Node) → 2 ^ 64 ≤ size p
@@ -145,7 +159,7 @@ size_big (node.Ext k b s) = once_more (max (size s) (2 ^ 64)) (size b) (2 ^ 64) 
 size_big (node.If a b c) = with_more (size b) (size c) (2 ^ 64) (size_big b)
 size_big (node.Let a b) = size_big b
 size_big (node.Prim c ps) = same_size (2 ^ 64)
-size_big (node.Scan s) = same_size (2 ^ 64)
+size_big (node.Scan c) = asked_big c.ask
 size_big (node.Join n k how o cs i q b) = same_size (2 ^ 64)
 size_big (node.Memo n frees p) = same_size (2 ^ 64)
 

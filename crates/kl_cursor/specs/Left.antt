@@ -14,7 +14,7 @@ use Rattle.kl_ship.specs.Reached.{reached, reached_nodes}
 use Rattle.kl_ship.specs.Holding.{ScansIn, ScansInNodes}
 use Rattle.kl_cursor.specs.declared.state.State.{State, State-F, fold-State}
 use Rattle.kl_scans.specs.Held.{cursor_at, Uses, nothing, one_at, beside}
-use Rattle.kl_scans.specs.Stage.{stage, readings}
+use Rattle.kl_scans.specs.Stage.{stage, readings, or_none}
 
 -- a cursor as contracts see it
 pub data Snap : Type 0 where
@@ -63,12 +63,8 @@ uses (made ps) = nothing
 uses ended = nothing
 
 -- the rows that a cursor of a driver has left, where they are told
-abbrev pub rows_told : Option (List Value) → List Value
-rows_told (Some rows) = rows
-rows_told None = []
-
 abbrev pub rows_left : Option Cursor → List Value
-rows_left (Some o) = rows_told o.left
+rows_left (Some o) = or_none o.left
 rows_left None = []
 
 -- what scans read in a session

@@ -2,9 +2,13 @@
 use Rattle.std.specs.Prelude.{ℕ, ◌+◌, ◌*◌, ◌^◌, max, length, Option, Some, None}
 use Rattle.kl_ask.specs.Driver.{Cursor}
 use Rattle.kl_ask.specs.World.{World}
+use Rattle.kl_ask.specs.declared.ask.Ask.{Ask}
+use Rattle.kl_ask.specs.declared.ask.Ask.TheVariants as asks
+use Rattle.kl_sqltext.specs.declared.ast.Spj.{Spj}
 use Rattle.kl_ship.specs.Nodes as node
 use Rattle.kl_ship.specs.Nodes.{Node, Nodes, no_nodes, nodes, Fields, no_fields, fields, Branches, no_branches, rest, branch}
 use Rattle.kl_scans.specs.Held.{cursor_at}
+use Rattle.kl_scans.specs.Stage.{statement_of}
 use Rattle.kl_cursor.specs.Left.{Snap, fresh, have, pulling, both, bound, outside, inside, made, ended}
 
 -- how deep a plan is
@@ -43,6 +47,16 @@ abbrev pub count_nodes : Nodes → ℕ
 count_nodes no_nodes = 0
 count_nodes (nodes p ps) = 1 + count_nodes ps
 
+-- a number that the rows of a statement do not pass
+abbrev pub joined_most : Option Spj → ℕ
+joined_most (Some q) = max (2 ^ 64) ((2 ^ 64) ^ length q.tables)
+joined_most None = 2 ^ 64
+
+-- a number that the rows which answer an ask do not pass, and no less than what one value can have
+abbrev pub asked_most : Ask → ℕ
+asked_most (asks.Rows source keep tests) = 2 ^ 64
+asked_most (asks.Sql text) = joined_most (statement_of text)
+
 -- A number that the items of a plan do not pass, and no less than what one value can have.
 abbrev mutual
   pub size : Node → ℕ
@@ -58,7 +72,7 @@ abbrev mutual
   size (node.If a b c) = size b + size c
   size (node.Let a b) = size b
   size (node.Prim c ps) = 2 ^ 64
-  size (node.Scan c) = 2 ^ 64
+  size (node.Scan c) = asked_most c.ask
   size (node.Join n k how o cs i q b) = 2 ^ 64
   size (node.Memo n frees p) = 2 ^ 64
 

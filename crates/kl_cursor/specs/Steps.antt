@@ -11,7 +11,6 @@ use Rattle.kl_outcome.specs.Outcome.{Name, Outcome, done, over, stuck, End, more
 use Rattle.kl_outcome.specs.Typed.{Inhabits, HaveTypes, OfType, PrimTypes}
 use Rattle.kl_ask.specs.World.{World}
 use Rattle.kl_ask.specs.declared.DriverError.{DriverError}
-use Rattle.kl_eval.specs.World.{StoppedBy}
 use Rattle.kl_eval.specs.declared.stop.EvalStop.{EvalStop}
 use Rattle.kl_eval.specs.declared.stop.EvalStop.TheVariants as why
 use Rattle.kl_eval.specs.declared.stop.Halt.{Halt}
@@ -25,6 +24,7 @@ use Rattle.kl_cursor.specs.declared.state.State.{State}
 use Rattle.kl_scans.specs.Held.{Uses, nothing}
 use Rattle.kl_scans.specs.Log.{Event, scan_in, paid}
 use Rattle.kl_scans.specs.Moves.{Moves}
+use Rattle.kl_scans.specs.Scans.{StoppedBy}
 use Rattle.kl_scans.specs.Stage.{stage, ScanOf}
 use Rattle.kl_cursor.specs.Left.{Snap, have, outside, ended, snap, uses, left, reading, to_start, ScansLeft}
 use Rattle.kl_ship.specs.Reached.{reached, reached_nodes, reached_fields}
@@ -85,7 +85,7 @@ pub record StoppedAt (Holds : List Scan → Type 0) (l : Name) (e : DriverError)
   pub scan : Scan
   pub stood : (all : List Scan) → Holds all → Contains all scan
   pub named : l ≡ scan.source
-  pub by : StoppedBy l e a b
+  pub by : StoppedBy scan l e a b
 
 -- the end is an overflow, or a driver refused to go on with one of its scans, or memory ran out
 abbrev pub Reason : List Value → Snap → EvalStop → World → World → Type 0

@@ -48,7 +48,7 @@ pub trait Scans: Seen {
         requires { Owned (one_at scan.now.driver cursor) (Self.world self.old) }
         ensures { Closes (one_at scan.now.driver cursor) (Self.world self.old) (Self.world self.new) };
 
-    /// Whether a scan is one of all rows of a set that repeats none, as `repeats_none` tells. Takes no memory.
+    /// Whether a scan is one of whole rows of a set that repeats none, as `repeats_none` tells. Takes no memory.
     fn repeats_none(&self, scan: &Scan) -> bool
         requires ready { IsReady (Self.world self.now) }
         requires scan { CanScan (Self.world self.now) scan.now }

@@ -11,12 +11,13 @@ use Rattle.kl_meaning.specs.Run.{meaning_of_program}
 use Rattle.kl_meaning.specs.Typing.{HasTyping, types_at_first}
 use Rattle.kl_infer.proofs.Principal.{one_failing}
 use Rattle.kl_ask.specs.Driver.{DriverKind}
+use Rattle.kl_ask.specs.declared.settings.Settings.{Settings}
 use Rattle.kl_sources.specs.Sources.{names_of, grounds_of}
 use Rattle.kl_sources.proofs.Agreement.{values_one, first_one, none_without}
 use Rattle.kl_sources.specs.declared.source.Source.{Source}
-use Rattle.kl_engine.specs.Answering.{ListsTypes, SameVerdict, one, retyped}
+use Rattle.kl_engine.specs.Answering.{Varies, SameVerdict, one, replanned, retyped}
 use Rattle.kl_engine.specs.Reading.{definitions, last}
-use Rattle.kl_engine.specs.Verdict.{Verdict, refused, size_fault, AfterSizes, IsUntyped, IsListing, stored_fault, IsOutcome, IsMeant, IsScopedVerdict, AreMarks, IsTextVerdict}
+use Rattle.kl_engine.specs.Verdict.{Verdict, refused, size_fault, AfterSizes, IsUntyped, IsExplained, IsListing, stored_fault, IsOutcome, IsMeant, IsScopedVerdict, AreMarks, IsTextVerdict}
 use Rattle.kl_engine.specs.declared.fault.Fault.{Fault}
 use Rattle.kl_engine.specs.declared.fault.Fault.TheVariants as fault
 use Rattle.kl_engine.specs.declared.top.Purpose.{Purpose}
@@ -35,11 +36,11 @@ module _ (grounds : List (Name × Ground)) (ds : Decls) (e : Exp) where
   outcome_one first (over xs) v w (inr (none, is)) (inr (also, it)) = is ∙ sym it
   outcome_one first stuck v w this that = absurd this
 
-  listing_alike : (v w : Verdict) → IsUntyped grounds ds e v ⊎ IsListing grounds ds e v → IsUntyped grounds ds e w ⊎ IsListing grounds ds e w → SameVerdict (ListsTypes purpose.Types) v w
-  listing_alike v w (inl this) (inl that) = untyped_alike (ListsTypes purpose.Types) v w this that
+  listing_alike : (v w : Verdict) → IsUntyped grounds ds e v ⊎ IsListing grounds ds e v → IsUntyped grounds ds e w ⊎ IsListing grounds ds e w → SameVerdict (Varies purpose.Types) v w
+  listing_alike v w (inl this) (inl that) = untyped_alike (Varies purpose.Types) v w this that
   listing_alike v w (inl (n, ill, is)) (inr (typed, infers, it)) = absurd (ill.none infers.has_typing)
   listing_alike v w (inr (typed, infers, is)) (inl (n, ill, it)) = absurd (ill.none infers.has_typing)
-  listing_alike v w (inr this) (inr that) = retyped refl grounds ds e this that
+  listing_alike v w (inr this) (inr that) = retyped tt grounds ds e this that
 
 -- ---- the values of sources
 
@@ -59,21 +60,31 @@ module _ (ks : List DriverKind) (ss : List Source) (marks others : ℕ → Bool)
       let both : vs ≡ ws = values_one ks marks others 0 ss vs ws (λ i less. same i (omega (arith, less))) values again in
       outcome_one (grounds_of ss) ds e first (meaning_of_program ds e ws) v w (subst (λ xs. IsOutcome (grounds_of ss) first ds e (meaning_of_program ds e xs) v) both is) it
 
-  meant_alike : (first : Option ℕ) (v w : Verdict) → IsUntyped (grounds_of ss) ds e v ⊎ (HasTyping ds e (grounds_of ss) × IsMeant ks ss marks first ds e v) → IsUntyped (grounds_of ss) ds e w ⊎ (HasTyping ds e (grounds_of ss) × IsMeant ks ss others first ds e w) → SameVerdict (ListsTypes (purpose.Run first)) v w
-  meant_alike first v w (inl this) (inl that) = untyped_alike (grounds_of ss) ds e (ListsTypes (purpose.Run first)) v w this that
+  meant_alike : (first : Option ℕ) (v w : Verdict) → IsUntyped (grounds_of ss) ds e v ⊎ (HasTyping ds e (grounds_of ss) × IsMeant ks ss marks first ds e v) → IsUntyped (grounds_of ss) ds e w ⊎ (HasTyping ds e (grounds_of ss) × IsMeant ks ss others first ds e w) → SameVerdict (Varies (purpose.Run first)) v w
+  meant_alike first v w (inl this) (inl that) = untyped_alike (grounds_of ss) ds e (Varies (purpose.Run first)) v w this that
   meant_alike first v w (inl (n, ill, is)) (inr (typing, it)) = absurd (ill.none typing)
   meant_alike first v w (inr (typing, is)) (inl (n, ill, it)) = absurd (ill.none typing)
   meant_alike first v w (inr (typing, is)) (inr (also, it)) = one (meant_one first v w is it)
+
+  explained_alike : (settings : Settings) (v w : Verdict) → IsUntyped (grounds_of ss) ds e v ⊎ (HasTyping ds e (grounds_of ss) × IsExplained ks ss settings ds e v) → IsUntyped (grounds_of ss) ds e w ⊎ (HasTyping ds e (grounds_of ss) × IsExplained ks ss settings ds e w) → SameVerdict (Varies (purpose.Explain settings)) v w
+  explained_alike settings v w (inl this) (inl that) = untyped_alike (grounds_of ss) ds e (Varies (purpose.Explain settings)) v w this that
+  explained_alike settings v w (inl (n, ill, is)) (inr (typing, it)) = absurd (ill.none typing)
+  explained_alike settings v w (inr (typing, is)) (inl (n, ill, it)) = absurd (ill.none typing)
+  explained_alike settings v w (inr (typing, is)) (inr (also, it)) = replanned tt ks ss settings ds e is it
 
   sized_alike : (L : Type 0) (size : Option Fault) (This That : Verdict → Type 0) → ((v w : Verdict) → This v → That w → SameVerdict L v w) → (v w : Verdict) → AfterSizes size This v → AfterSizes size That w → SameVerdict L v w
   sized_alike L (Some f) This That alike v w this that = one (this ∙ sym that)
   sized_alike L None This That alike v w this that = alike v w this that
 
-  pub done_alike : (p : Purpose) (v w : Verdict) → IsScopedVerdict ks ss marks p ds e v → IsScopedVerdict ks ss others p ds e w → SameVerdict (ListsTypes p) v w
+  pub done_alike : (p : Purpose) (v w : Verdict) → IsScopedVerdict ks ss marks p ds e v → IsScopedVerdict ks ss others p ds e w → SameVerdict (Varies p) v w
   done_alike purpose.Check v w this that = one (this ∙ sym that)
-  done_alike purpose.Types v w this that = sized_alike (ListsTypes purpose.Types) (size_fault (declared ds e [])) (λ u. IsUntyped (grounds_of ss) ds e u ⊎ IsListing (grounds_of ss) ds e u) (λ u. IsUntyped (grounds_of ss) ds e u ⊎ IsListing (grounds_of ss) ds e u) (listing_alike (grounds_of ss) ds e) v w this that
+  done_alike purpose.Types v w this that = sized_alike (Varies purpose.Types) (size_fault (declared ds e [])) (λ u. IsUntyped (grounds_of ss) ds e u ⊎ IsListing (grounds_of ss) ds e u) (λ u. IsUntyped (grounds_of ss) ds e u ⊎ IsListing (grounds_of ss) ds e u) (listing_alike (grounds_of ss) ds e) v w this that
+  done_alike (purpose.Explain settings) v w this that =
+      sized_alike (Varies (purpose.Explain settings)) (size_fault (declared ds e []))
+      (λ u. IsUntyped (grounds_of ss) ds e u ⊎ (HasTyping ds e (grounds_of ss) × IsExplained ks ss settings ds e u))
+      (λ u. IsUntyped (grounds_of ss) ds e u ⊎ (HasTyping ds e (grounds_of ss) × IsExplained ks ss settings ds e u)) (explained_alike settings) v w this that
   done_alike (purpose.Run first) v w this that =
-      sized_alike (ListsTypes (purpose.Run first)) (size_fault (declared ds e []))
+      sized_alike (Varies (purpose.Run first)) (size_fault (declared ds e []))
       (λ u. IsUntyped (grounds_of ss) ds e u ⊎ (HasTyping ds e (grounds_of ss) × IsMeant ks ss marks first ds e u))
       (λ u. IsUntyped (grounds_of ss) ds e u ⊎ (HasTyping ds e (grounds_of ss) × IsMeant ks ss others first ds e u)) (meant_alike first) v w this that
 
@@ -89,8 +100,8 @@ marks_one q ss marks others this that i less =
     both_true (marks i) (others i) (λ is. (that i within).1 ((this i within).0 is)) (λ is. (this i within).1 ((that i within).0 is))
 
 module _ (ks : List DriverKind) (ss : List Source) (p : Purpose) (bytes : List ℕ) where
-  pub text_alike : (v w : Verdict) → IsTextVerdict ks ss p bytes v → IsTextVerdict ks ss p bytes w → SameVerdict (ListsTypes p) v w
-  text_alike v w (inl (f, this, is)) (inl (g, that, it)) = subst (λ u. SameVerdict (ListsTypes p) u w) (sym is) (subst (SameVerdict (ListsTypes p) (refused f)) (sym it) (faults_alike (ListsTypes p) (names_of ss) bytes f g this that))
+  pub text_alike : (v w : Verdict) → IsTextVerdict ks ss p bytes v → IsTextVerdict ks ss p bytes w → SameVerdict (Varies p) v w
+  text_alike v w (inl (f, this, is)) (inl (g, that, it)) = subst (λ u. SameVerdict (Varies p) u w) (sym is) (subst (SameVerdict (Varies p) (refused f)) (sym it) (faults_alike (Varies p) (names_of ss) bytes f g this that))
   text_alike v w (inl (f, this, is)) (inr (q, marks, whole, told, it)) = absurd (no_fault (names_of ss) bytes f q whole this)
   text_alike v w (inr (q, marks, whole, told, is)) (inl (f, that, it)) = absurd (no_fault (names_of ss) bytes f q whole that)
   text_alike v w (inr (q, marks, whole, told, is)) (inr (r, others, also, again, it)) =

@@ -48,7 +48,7 @@ use Rattle.kl_engine.proofs.SizeLemmas.{sized_faults}
 
 -- ---- ends before a term is rewritten
 
-inputs_early : (command : Command) (from : Origin) (f : Fault) (files files' : FilesState) (ks : List DriverKind) → (f ≡ fault.Read → LacksInput command files ks ⊎ Rose files.faults files'.faults) → IsInputsEnd from f → MayBeEarly command (Some f) files files' ks
+pub inputs_early : (command : Command) (from : Origin) (f : Fault) (files files' : FilesState) (ks : List DriverKind) → (f ≡ fault.Read → LacksInput command files ks ⊎ Rose files.faults files'.faults) → IsInputsEnd from f → MayBeEarly command (Some f) files files' ks
 inputs_early command from fault.Read files files' ks read is = read refl
 inputs_early command from fault.NoMemory files files' ks read is = tt
 inputs_early command from fault.ProgramBytes files files' ks read is = tt
@@ -159,7 +159,7 @@ pub source_late : (x : Name) (e : DriverError) (f : Fault) → f ≡ fault_of x 
 source_late x e f is early = refused_late x e (subst (λ g. IsEarly (Some g)) is early)
 
 -- what stops a run where its files are read
-stops_early : (command : Command) (end : Ending) (f f' : FilesState) (ks : List DriverKind) → MayStop end → MayBeEarly command end f f' ks
+pub stops_early : (command : Command) (end : Ending) (f f' : FilesState) (ks : List DriverKind) → MayStop end → MayBeEarly command end f f' ks
 stops_early command (Some fault.NoMemory) f f' ks is = tt
 stops_early command (Some fault.Usage) f f' ks is = tt
 stops_early command (Some (fault.Text w byte)) f f' ks is = tt
@@ -201,7 +201,7 @@ text_plan how ss text s end steps plan course (q, of, resolves) (inl (p, is, run
         is_marked s,
         resolves.marks,
         as_resolved (λ program e. CountsPlan how ss (is_marked s) (GivesList (grounds_of ss) program e) course p) (names_of ss) q s resolves runs.0,
-        subst (λ t. PlansTerm how.settings.rewrite (ships_of (kinds_of course.old) ss) t course.steps p) (λ i. term_of (resolves.defs i) (resolves.last i) (resolves.sources_kept i)) runs.1,
+        subst (λ t. PlansTerm how.settings (ships_of (kinds_of course.old) ss) t course.steps p) (λ i. term_of (resolves.defs i) (resolves.last i) (resolves.sources_kept i)) runs.1,
       ),
       late,
     )
@@ -264,6 +264,11 @@ module _ (found : Option Read) (end told : Ending) (ran : Ran) (answered : Optio
       → HasPlan (how_in job) (Program (purpose.Run job.first) (Files job.program job.catalogue)) (plan_in ran.plan) (course_of end ran.trace old new blank printed) f f'
       → Found found
   run_plan job is h = subst Found (sym is) (told_plan (how_in job) (Program (purpose.Run job.first) (Files job.program job.catalogue)) h)
+
+  pub explain_plan : (job : Job) → found ≡ Some (read.Explain job)
+      → HasPlan (how_in job) (Program (purpose.Explain job.settings) (Files job.program job.catalogue)) (plan_in ran.plan) (course_of end ran.trace old new blank printed) f f'
+      → Found found
+  explain_plan job is h = subst Found (sym is) (told_plan (how_in job) (Program (purpose.Explain job.settings) (Files job.program job.catalogue)) h)
 
   pub gen_plan : (seed size : ℕ) → found ≡ Some (read.Gen seed size)
       → HasPlan usual_how (Program (purpose.Run None) (Made seed size)) (plan_in ran.plan) (course_of end ran.trace old new blank printed) f f'

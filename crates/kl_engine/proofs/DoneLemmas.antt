@@ -23,16 +23,18 @@ use Rattle.kl_infer.specs.declared.Typed.{Typed}
 use Rattle.kl_meaning.specs.Typing.{HasTyping}
 use Rattle.kl_rows.specs.declared.Scheme.{Scheme}
 use Rattle.kl_ask.specs.Driver.{State}
+use Rattle.kl_ask.specs.declared.settings.Settings.{Settings}
+use Rattle.kl_engine.specs.Explaining.{IsExplanation}
 use Rattle.kl_sources.specs.Sources.{names_of, grounds_of}
 use Rattle.kl_sources.specs.declared.source.Source.{Source}
 use Rattle.kl_sources.specs.Sources.{kinds_of}
-use Rattle.kl_engine.specs.Answering.{IsStoredFault, AreTold, IsUnreadBy, SomeDrifted, ListsTypes, SameVerdict, one, IsOutside, reading, writing, drifting, wanting, FollowsVerdict, PrintsPage, DoesText, IsDetermined, IsOneOf, HasTextFault, IsUnreadFault, NeedsDrivers, IsMentionedIn, IsOfList, EndsSilent}
+use Rattle.kl_engine.specs.Answering.{IsStoredFault, AreTold, IsUnreadBy, SomeDrifted, Varies, SameVerdict, one, IsOutside, reading, writing, drifting, wanting, FollowsVerdict, PrintsPage, DoesText, IsDetermined, IsOneOf, HasTextFault, IsUnreadFault, NeedsDrivers, IsMentionedIn, IsOfList, EndsSilent}
 use Rattle.kl_engine.specs.Faults.{Ending}
 use Rattle.kl_engine.specs.Outside.{outside_of}
 use Rattle.kl_engine.specs.Reading.{IsProgramOf, definitions, last, ReadsText}
 use Rattle.kl_engine.specs.Running.{CameTo, before, followed, untold, IsNamed, Matter, DoneBy, DoneWith, DoneMeaning, program_matter, run_matter}
 use Rattle.kl_engine.specs.Typing.{breach_fault, IsTypingFault, IsTyped, AnswersTypes, TypesOfAny}
-use Rattle.kl_engine.specs.Verdict.{Verdict, well, refused, size_fault, AfterSizes, IsSized, IsUntyped, named_schemes, behind, scheme_lines, GivesList, IsListing, IsMeant, IsScopedVerdict, AreMarks, IsTextVerdict, scheme_line}
+use Rattle.kl_engine.specs.Verdict.{Verdict, well, refused, size_fault, AfterSizes, IsSized, IsUntyped, named_schemes, behind, scheme_lines, GivesList, IsExplained, IsListing, IsMeant, IsScopedVerdict, AreMarks, IsTextVerdict, scheme_line}
 use Rattle.kl_engine.specs.declared.fault.Fault.{Fault}
 use Rattle.kl_engine.specs.declared.fault.Fault.TheVariants as fault
 use Rattle.kl_engine.specs.declared.top.Purpose.{Purpose}
@@ -259,7 +261,7 @@ module _ (ss : List Source) (p : Purpose) (text : List ℕ) (end : Ending) (file
   named : (name : Name) → IsNamed ss (is_marked s) name → IsMentionedIn ss text name
   named name (i, at, marked) = (q, whole, i, at, (resolves.marks i (slice_get_within (names_of ss) i name at)).0 marked)
 
-  told_by : CameTo (program_matter (kinds_of ds) ss (is_marked s) p (definitions (names_of ss) q) (last (names_of ss) q)) end (outside_of files ds out) (outside_of files ds' out') → (v : Verdict) → IsTextVerdict (kinds_of ds) ss p text v → (w : Verdict) × IsTextVerdict (kinds_of ds) ss p text w × SameVerdict (ListsTypes p) v w × FollowsVerdict w end (outside_of files ds out) (outside_of files ds' out')
+  told_by : CameTo (program_matter (kinds_of ds) ss (is_marked s) p (definitions (names_of ss) q) (last (names_of ss) q)) end (outside_of files ds out) (outside_of files ds' out') → (v : Verdict) → IsTextVerdict (kinds_of ds) ss p text v → (w : Verdict) × IsTextVerdict (kinds_of ds) ss p text w × SameVerdict (Varies p) v w × FollowsVerdict w end (outside_of files ds out) (outside_of files ds' out')
   told_by (before same none outside) v of = let fair = fair_text (kinds_of ds) ss p text v of in (v, of, one refl, follows_outside v end files ds ds' out out' p fair same (untold_empty p v end fair none) (outside v))
   told_by (followed w is follows) v of = (w, as_text w is, text_alike (kinds_of ds) ss p text v w of (as_text w is), follows)
   told_by (untold none all needs) v of = absurd (no_verdict none v of)
@@ -334,6 +336,16 @@ module _ (ss : List Source) (marks : ℕ → Bool) (program : Decls) (e : Exp) (
       printed_done ss marks purpose.Types program e (scheme_lines (named_schemes program typed)) end files ds out out'
       (after_none (size_fault (declared program e [])) (λ w. IsUntyped (grounds_of ss) program e w ⊎ IsListing (grounds_of ss) program e w) (scheme_lines (named_schemes program typed)) types.fits (inr (typed, types.infers, refl)))
       (plain_lines (named_schemes program typed)) prints
+
+  pub untyped_explained : (settings : Settings) (f : Fault) (out : SinkState) → AnswersTypes (grounds_of ss) program e (Err f) → DoneWith ss marks (purpose.Explain settings) program e (Some f) (outside_of files ds out) (outside_of files ds out)
+  untyped_explained settings f out (inl is) = subst (λ g. DoneWith ss marks (purpose.Explain settings) program e (Some g) (outside_of files ds out) (outside_of files ds out)) (sym is) (wanted_done (program_matter (kinds_of ds) ss marks (purpose.Explain settings) program e) files ds out)
+  untyped_explained settings f out (inr of) = printed_done ss marks (purpose.Explain settings) program e (refused f) (Some f) files ds out out (typing_fault (grounds_of ss) program e f (λ w. HasTyping program e (grounds_of ss) × IsExplained (kinds_of ds) ss settings program e w) of) (plain_typing (grounds_of ss) program e f of) (prints_refused f out)
+
+  pub explained_done : (settings : Settings) (typed : Typed) (page : List ℕ) (end : Ending) (out out' : SinkState) → IsTyped (grounds_of ss) program e typed → IsExplanation (kinds_of ds) ss settings program e page → PrintsPage (well page) end out out' → DoneWith ss marks (purpose.Explain settings) program e end (outside_of files ds out) (outside_of files ds out')
+  explained_done settings typed page end out out' types of prints =
+      printed_done ss marks (purpose.Explain settings) program e (well page) end files ds out out'
+      (after_none (size_fault (declared program e [])) (λ w. IsUntyped (grounds_of ss) program e w ⊎ (HasTyping program e (grounds_of ss) × IsExplained (kinds_of ds) ss settings program e w)) (well page) types.fits (inr (types.infers.has_typing, (page, of, refl))))
+      tt prints
 
   -- a program that has a typing comes to what it means
   pub answered : (first : Option ℕ) (typed : Typed) (end : Ending) (ds' : List State) (out out' : SinkState) → IsTyped (grounds_of ss) program e typed → DoneMeaning ss marks first program e end (outside_of files ds out) (outside_of files ds' out') → DoneWith ss marks (purpose.Run first) program e end (outside_of files ds out) (outside_of files ds' out')

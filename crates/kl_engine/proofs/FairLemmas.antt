@@ -18,7 +18,7 @@ use Rattle.kl_sources.specs.declared.source.Source.{Source}
 use Rattle.kl_engine.specs.Answering.{IsOneOf, HasTextFault, IsTyping, EndsSilent}
 use Rattle.kl_engine.specs.Faults.{Ending}
 use Rattle.kl_engine.specs.Reading.{definitions, last}
-use Rattle.kl_engine.specs.Verdict.{Verdict, well, refused, size_fault, AfterSizes, IsSized, IsUntyped, behind, named_schemes, scheme_line, scheme_lines, IsListing, first_of, suffice, value_page, overflowing, cut_list, stored_fault, IsOutcome, IsMeant, IsScopedVerdict, IsTextVerdict}
+use Rattle.kl_engine.specs.Verdict.{Verdict, well, refused, size_fault, AfterSizes, IsSized, IsUntyped, behind, named_schemes, scheme_line, scheme_lines, IsExplained, IsListing, first_of, suffice, value_page, overflowing, cut_list, stored_fault, IsOutcome, IsMeant, IsScopedVerdict, IsTextVerdict}
 use Rattle.kl_engine.specs.declared.fault.Fault.{Fault}
 use Rattle.kl_engine.specs.declared.fault.Fault.TheVariants as fault
 use Rattle.kl_engine.specs.declared.top.Purpose.{Purpose}
@@ -110,6 +110,9 @@ module _ (ks : List DriverKind) (ss : List Source) (marks : ℕ → Bool) (ds : 
   fair_done purpose.Types v is =
       fair_after purpose.Types tt ds e (λ w. IsUntyped (grounds_of ss) ds e w ⊎ IsListing (grounds_of ss) ds e w)
       (λ w goes. elim goes [ inl h ↦ fair_untyped purpose.Types tt ds e (grounds_of ss) w h | inr h ↦ fair_at purpose.Types w _ h.2 (fair_lines (named_schemes ds h.0)) ]) v is
+  fair_done (purpose.Explain settings) v is =
+      fair_after (purpose.Explain settings) tt ds e (λ w. IsUntyped (grounds_of ss) ds e w ⊎ (HasTyping ds e (grounds_of ss) × IsExplained ks ss settings ds e w))
+      (λ w goes. elim goes [ inl h ↦ fair_untyped (purpose.Explain settings) tt ds e (grounds_of ss) w h | inr h ↦ fair_at (purpose.Explain settings) w _ h.1.2 (fair_well (purpose.Explain settings) _) ]) v is
   fair_done (purpose.Run first) v is =
       fair_after (purpose.Run first) tt ds e (λ w. IsUntyped (grounds_of ss) ds e w ⊎ (HasTyping ds e (grounds_of ss) × IsMeant ks ss marks first ds e w))
       (λ w goes. elim goes [ inl h ↦ fair_untyped (purpose.Run first) tt ds e (grounds_of ss) w h | inr h ↦ fair_meant first w h.1 ]) v is

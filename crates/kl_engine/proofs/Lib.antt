@@ -8,6 +8,7 @@ pub mod StatsLemmas
 pub mod DriverLemmas
 pub mod SilentLemmas
 pub mod AlikeLemmas
+pub mod ExplainLemmas
 pub mod FairLemmas
 pub mod DoneLemmas
 pub mod InputLemmas

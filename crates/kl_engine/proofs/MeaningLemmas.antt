@@ -546,7 +546,7 @@ module _ (ss : List Source) (s : Scoped) (scope : WasInScope (names_of ss) s) (t
       (values_typed (kinds_of ds) (is_marked s) 0 ss vs (λ i s at. (of_all (IsFit (kinds_of ds)) ss i s placed.fit at).2.collection) (λ i x at marked. (attaches.stand i x at (ap (is_marked s) (sym (zero-add i)) ∙ marked)).typed) have)
 
   -- the plan of what the term is rewritten to runs there
-  pub plan_runs : (idle : All IsIdle ds) (mentioned : ReadsMentioned s t) (u : Tree) (p : Node) → Preserves t u → IsPlanOf (ships_of (kinds_of ds) ss) u p → Runs (kinds_of ds) ss (is_marked s) t p (world_of mid list settings trace)
+  pub plan_runs : (idle : All IsIdle ds) (mentioned : ReadsMentioned s t) (u : Tree) (p : Node) {on : Bool} → Preserves t u → IsPlanOf on (ships_of (kinds_of ds) ss) u p → Runs (kinds_of ds) ss (is_marked s) t p (world_of mid list settings trace)
   plan_runs idle mentioned u p keeps planned =
       session_runs ds mid ss (is_marked s) settings trace (world_of mid list settings trace) t u p placed (idle_none ds idle) attaches.drivers attaches.stand session_serves
       (ap (λ l. world_of mid l settings trace) attaches.list) session_sense (mentioned scope.0 (names_of ss) scope.1) keeps planned

@@ -34,9 +34,10 @@ use Rattle.kl_run.specs.Counted.{AsksCounted, IsFreshTrace, StartsCounted}
 use Rattle.kl_run.specs.Planned.{IsPlanOf, ships_of}
 use Rattle.kl_run.specs.Running.{Runs}
 use Rattle.kl_run.proofs.Means.{means_term}
+use Rattle.kl_run.proofs.Shipped.{are_sources}
 use Rattle.kl_run.proofs.Counts.{asks_counted, asks_attached, starts_counted, starts_numbered, trace_kept}
 use Rattle.kl_sources.specs.Attaching.{MayAttach, world_of}
-use Rattle.kl_sources.specs.Sources.{grounds_of, kinds_of}
+use Rattle.kl_sources.specs.Sources.{ArePlaced, grounds_of, kinds_of}
 use Rattle.kl_sources.specs.declared.source.Source.{Source}
 use Rattle.kl_engine.specs.Faults.{Ending}
 use Rattle.kl_engine.specs.declared.fault.Fault.TheVariants as fault
@@ -47,7 +48,7 @@ use Rattle.kl_engine.specs.declared.run.How.{How}
 use Rattle.kl_engine.specs.Running.{HasList, IsListTerm, Scanned, SparesRows}
 use Rattle.kl_engine.proofs.RewriteLemmas.{rewritten_keeps}
 
-module _ (ships : List ShipSource) (u : Tree) (p : Node) (planned : IsPlanOf ships u p) (steps : ℕ) (was : Trace) (fresh : IsFreshTrace p steps was) where
+module _ {on : Bool} (ships : List ShipSource) (u : Tree) (p : Node) (planned : IsPlanOf on ships u p) (steps : ℕ) (was : Trace) (fresh : IsFreshTrace p steps was) where
   -- over a session in which it began afresh
   module _ (a b : World) (trace : Trace) (at : a.trace ≡ trace) (same : trace ≡ was) (end : Ending) (first : Option ℕ) (scanned : Scanned p end first a b) where
     began : a.trace.starts ≡ map (λ c. (c.number, 0)) (scans_in p)
@@ -80,6 +81,9 @@ module _ (ships : List ShipSource) (u : Tree) (p : Node) (planned : IsPlanOf shi
 
     still_numbered : map (λ e. e.0) w.trace.starts ≡ map (λ c. c.number) (scans_in p)
     still_numbered = starts_numbered ships u p planned [] w w still_moves.logged tt unbegun
+
+  pub still_asks : (settings : Settings) (ds : List State) → AsksCounted p was.starts ds ds
+  still_asks settings ds = still_counted (world_of ds [] settings was) refl
 
   pub refused_asks : (marks : ℕ → Bool) (ss : List Source) (settings : Settings) (ds mid : List State) → EachSteps (MayAttach marks ss) ds mid → AsksCounted p was.starts ds mid
   refused_asks marks ss settings ds mid attached = asks_attached marks ss p was.starts ds mid mid attached (still_counted (world_of mid [] settings was) refl)
@@ -115,10 +119,10 @@ runs_list ks ss marks t p w runs list = (list.0, runs.typed (coll kind.List list
 -- ---- the plan of a term that was rewritten
 
 pub translated_plan : (how : How) (ss : List Source) (marks : ℕ → Bool) (program : Decls) (e : Exp) (names : List Name) (end : Ending) (old new : List State) (blank printed : SinkState) (u : Tree) (p : Node) (steps : ℕ) (was trace : Trace)
-    → IsPlanOf (ships_of (kinds_of old) ss) u p → IsFreshTrace p steps was → without_starts trace ≡ without_starts was → (given : Tree) → given ≡ term_of program e names → IsRewrittenTo how.settings.rewrite given steps u → (IsEarly end → ⊥)
+    → ArePlaced (kinds_of old) ss → IsPlanOf how.settings.delegate (ships_of (kinds_of old) ss) u p → IsFreshTrace p steps was → without_starts trace ≡ without_starts was → (given : Tree) → given ≡ term_of program e names → IsRewrittenTo how.settings.rewrite given steps u → (IsEarly end → ⊥)
     → CountsPlan how ss marks (GivesList (grounds_of ss) program e) (course_of end trace old new blank printed) p
     → PlanOf (RunsPlan how ss marks program e names (course_of end trace old new blank printed)) end trace.steps (Some p)
-translated_plan how ss marks program e names end old new blank printed u p steps was trace planned fresh rest given is rewritten late counts =
+translated_plan how ss marks program e names end old new blank printed u p steps was trace placed planned fresh rest given is rewritten late counts =
     let same : trace.steps ≡ steps = ap (λ (r : Trace). r.steps) rest ∙ fresh.steps in
     let led : IsRewrittenTo how.settings.rewrite (term_of program e names) steps u = subst (λ x. IsRewrittenTo how.settings.rewrite x steps u) is rewritten in
     inl (
@@ -130,13 +134,13 @@ translated_plan how ss marks program e names end old new blank printed u p steps
           term = u;
           rewritten = subst (λ n. IsRewrittenTo how.settings.rewrite (term_of program e names) n u) (sym same) led;
           planned = planned;
-          means = means_term (ships_of (kinds_of old) ss) (term_of program e names) u p planned (rewritten_keeps how.settings.rewrite (term_of program e names) u steps led);
+          means = means_term (ships_of (kinds_of old) ss) (term_of program e names) u p (are_sources (kinds_of old) ss placed) planned (rewritten_keeps how.settings.rewrite (term_of program e names) u steps led);
         },
       ),
       late,
     )
 
-module _ (ks : List DriverKind) (ss : List Source) (u : Tree) (p : Node) (planned : IsPlanOf (ships_of ks ss) u p) (steps : ℕ) (was trace : Trace) (fresh : IsFreshTrace p steps was) (rest : without_starts trace ≡ without_starts was) where
+module _ {on : Bool} (ks : List DriverKind) (ss : List Source) (u : Tree) (p : Node) (planned : IsPlanOf on (ships_of ks ss) u p) (steps : ℕ) (was trace : Trace) (fresh : IsFreshTrace p steps was) (rest : without_starts trace ≡ without_starts was) where
   pub translated_alone : map (λ e. e.0) trace.starts ≡ map (λ c. c.number) (scans_in p) → CountsScansAlone (Some p) trace
   translated_alone starts = record {
     starts = starts;

@@ -86,6 +86,7 @@ of_run : (p : Purpose) (from : Origin) (f : FilesState) (ks : List DriverKind) (
 of_run (purpose.Run first) from f ks P is text ss inputs holds = (text, ss, inputs, holds)
 of_run purpose.Check from f ks P is text ss inputs holds = absurd is
 of_run purpose.Types from f ks P is text ss inputs holds = absurd is
+of_run (purpose.Explain settings) from f ks P is text ss inputs holds = absurd is
 
 unread_run : (p : Purpose) (f : Fault) → IsUnreadFault f → HasTextFault p f → IsRun p
 unread_run p (fault.BadSource name place) is has = has

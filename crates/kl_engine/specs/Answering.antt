@@ -11,6 +11,7 @@ use Rattle.kl_syntax.specs.declared.tree.Program.{Program as AProgram}
 use Rattle.kl_scope.specs.Breaches.{Mentions}
 use Rattle.kl_ask.specs.Driver.{DriverKind, State, Stored, KeepsState}
 use Rattle.kl_ask.specs.Lists.{EachSteps}
+use Rattle.kl_ask.specs.declared.settings.Settings.{Settings}
 use Rattle.kl_sources.specs.Attaching.{RoseAt}
 use Rattle.kl_sources.specs.Sources.{kinds_of, names_of, grounds_of, contents}
 use Rattle.kl_sources.specs.declared.source.Source.{Source}
@@ -18,7 +19,7 @@ use Rattle.kl_engine.specs.Commands.{Command, NoneNamed, Program, Show, Origin, 
 use Rattle.kl_engine.specs.Faults.{Ending}
 use Rattle.kl_engine.specs.Outside.{Outside}
 use Rattle.kl_engine.specs.Reading.{IsProgramOf, definitions, last}
-use Rattle.kl_engine.specs.Verdict.{Verdict, refused, stored_fault, GivesList, IsListing, IsTextVerdict, HasInputs, IsVerdict}
+use Rattle.kl_engine.specs.Verdict.{Verdict, refused, stored_fault, GivesList, IsExplained, IsListing, IsTextVerdict, HasInputs, IsVerdict}
 use Rattle.kl_engine.specs.declared.fault.Fault.{Fault}
 use Rattle.kl_engine.specs.declared.fault.Fault.TheVariants as fault
 use Rattle.kl_engine.specs.declared.fault.Wrong.{Wrong}
@@ -107,10 +108,14 @@ unnamed (wrong.Twice name) = wrong.Twice []
 unnamed (wrong.Misapplied name) = wrong.Misapplied []
 unnamed w = w
 
--- Verdicts on the same bytes are one, but for two things: the same breach at the same token may be told of another name;
--- and where types are listed, other principal schemes of the same instances may be listed for one program.
+-- Verdicts on the same bytes are one, but for three things: the same breach at the same token may be told of another name;
+-- where types are listed, other principal schemes of the same instances may be listed for one program; and where a plan is
+-- explained, another plan of the program.
 pub data SameVerdict (Listing : Type 0) (v w : Verdict) : Type 0 where
   one : v ≡ w → SameVerdict Listing v w
+  replanned : Listing
+      → (ks : List DriverKind) (ss : List Source) (settings : Settings) (ds : Decls) (e : Exp)
+      → IsExplained ks ss settings ds e v → IsExplained ks ss settings ds e w → SameVerdict Listing v w
   renamed : (x y : Wrong) (byte : ℕ)
       → v ≡ refused (fault.Text x byte) → w ≡ refused (fault.Text y byte) → unnamed x ≡ unnamed y → SameVerdict Listing v w
   retyped : Listing
@@ -135,6 +140,12 @@ IsTyping p = ⊤
 
 abbrev pub ListsTypes : Purpose → Type 0
 ListsTypes p = p ≡ purpose.Types
+
+-- what is listed may be listed otherwise
+abbrev pub Varies : Purpose → Type 0
+Varies purpose.Types = ⊤
+Varies (purpose.Explain settings) = ⊤
+Varies p = ⊥
 
 abbrev pub IsRun : Purpose → Type 0
 IsRun (purpose.Run first) = ⊤
@@ -246,7 +257,7 @@ IsOfList ss text = (q : AProgram) × IsProgramOf (names_of ss) text q
 -- What is done with a text over these sources. No public contract cites this.
 pub record DoesText (ss : List Source) (p : Purpose) (text : List ℕ) (end : Ending) (old new : Outside) : Type 0 where
   pub told : (v : Verdict) → IsTextVerdict (kinds_of old.drivers) ss p text v
-      → (w : Verdict) × IsTextVerdict (kinds_of old.drivers) ss p text w × SameVerdict (ListsTypes p) v w × FollowsVerdict w end old new
+      → (w : Verdict) × IsTextVerdict (kinds_of old.drivers) ss p text w × SameVerdict (Varies p) v w × FollowsVerdict w end old new
   pub meant : IsDetermined end → (NeedsDrivers p end → AreTold (kinds_of old.drivers) ss (IsMentionedIn ss text))
       → (v : Verdict) × IsTextVerdict (kinds_of old.drivers) ss p text v × (v.ending ≡ end)
   pub read : end ≡ Some fault.Read
@@ -329,9 +340,9 @@ abbrev pub IsRunning : Command → Type 0
 IsRunning (Program p from) = IsRun p
 IsRunning command = ⊥
 
-abbrev pub CommandListsTypes : Command → Type 0
-CommandListsTypes (Program p from) = ListsTypes p
-CommandListsTypes command = ⊥
+abbrev pub CommandVaries : Command → Type 0
+CommandVaries (Program p from) = Varies p
+CommandVaries command = ⊥
 
 -- No file and no cursor is open that was not, and the same bytes are told. Only a run attaches sources, and none but
 -- those that its program mentions.
@@ -347,7 +358,7 @@ pub record IsClosed (command : Command) (old new : Outside) : Type 0 where
 pub record Does (command : Command) (end : Ending) (old new : Outside) : Type 0 where
   pub told : (told : _) → Tell command old.files told
       → (v : Verdict) → IsVerdict told (kinds_of old.drivers) command v
-      → (w : Verdict) × IsVerdict told (kinds_of old.drivers) command w × SameVerdict (CommandListsTypes command) v w
+      → (w : Verdict) × IsVerdict told (kinds_of old.drivers) command w × SameVerdict (CommandVaries command) v w
       × FollowsVerdict w end old new
   -- the way back
   pub meant : (told : _) → Tell command old.files told

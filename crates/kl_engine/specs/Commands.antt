@@ -22,6 +22,7 @@ pub data Command : Type 0 where
 abbrev pub asked : Option Read → Command
 asked None = NoneNamed
 asked (Some (read.Run job)) = Program (purpose.Run job.first) (Files job.program job.catalogue)
+asked (Some (read.Explain job)) = Program (purpose.Explain job.settings) (Files job.program job.catalogue)
 asked (Some (read.Types program catalogue)) = Program purpose.Types (Files program catalogue)
 asked (Some (read.Check program catalogue)) = Program purpose.Check (Files program catalogue)
 asked (Some (read.Show file)) = Show file

@@ -1,3 +1,4 @@
+pub mod Explaining
 pub mod Faults
 pub mod Outside
 pub mod Planned

@@ -15,6 +15,7 @@ use Rattle.kl_desugar.specs.Translation.{term_of}
 use Rattle.kl_ask.specs.Driver.{DriverKind, State}
 use Rattle.kl_ask.specs.Lists.{EachSteps}
 use Rattle.kl_ask.specs.Settings.{usual_settings}
+use Rattle.kl_ask.specs.declared.settings.Settings.{Settings}
 use Rattle.kl_ask.specs.Trace.{IsBlank}
 use Rattle.kl_ask.specs.declared.settings.Trace.{Trace}
 use Rattle.kl_ship.specs.Holding.{ScansIn}
@@ -30,18 +31,20 @@ use Rattle.kl_run.specs.Counted.{AsksCounted, ReadsMarked, StartsCounted}
 use Rattle.kl_run.specs.Planned.{IsPlanOf, MeansTerm, ships_of}
 use Rattle.kl_sources.specs.Sources.{grounds_of, kinds_of, names_of, HaveValues}
 use Rattle.kl_sources.specs.declared.source.Source.{Source}
-use Rattle.kl_engine.specs.Answering.{IsMentionedIn, IsOfList, IsRunning, IsUnreadBy, IsUnreadFault, OfRun, SomeDrifted, Unprinted}
-use Rattle.kl_engine.specs.Commands.{Command, Program as AProgram}
+use Rattle.kl_engine.specs.Answering.{IsMentionedIn, IsOfList, IsRunning, IsUnreadBy, IsUnreadFault, OfRun, PrintsPage, SomeDrifted, Unprinted}
+use Rattle.kl_engine.specs.Commands.{Command, Origin, TellTo, Program as AProgram}
+use Rattle.kl_engine.specs.Explaining.{plan_lines}
 use Rattle.kl_engine.specs.Faults.{Ending}
 use Rattle.kl_words.specs.declared.command.Command.{Command as Read}
 use Rattle.kl_words.specs.declared.command.Command.TheVariants as read
 use Rattle.kl_words.specs.declared.command.Job.{Job}
 use Rattle.kl_engine.specs.Reading.{IsProgramOf, definitions, last}
 use Rattle.kl_engine.specs.Rewritten.{IsRewrittenTo, term_in}
-use Rattle.kl_engine.specs.Verdict.{AreMarks, GivesList, IsInputsFault, list_front}
+use Rattle.kl_engine.specs.Verdict.{AreMarks, GivesList, HasInputs, IsInputsFault, list_front, well}
 use Rattle.kl_engine.specs.declared.fault.Fault.{Fault}
 use Rattle.kl_engine.specs.declared.fault.Fault.TheVariants as fault
 use Rattle.kl_engine.specs.declared.run.How.{How}
+use Rattle.kl_engine.specs.declared.top.Purpose.TheVariants as purpose
 use Rattle.kl_engine.specs.declared.run.Ran.{Ran}
 
 abbrev pub plan_in : Option Plan → Option Node
@@ -139,11 +142,12 @@ course_of end trace old new blank printed = record {
 
 -- ---- the plan of a program
 
--- The plan of a term t: that of the term to which so many steps of rewriting lead from t, where rewriting is on.
-pub record PlansTerm (on : Bool) (ships : List ShipSource) (t : Tree) (steps : ℕ) (p : Node) : Type 0 where
+-- The plan of a term t: that of the term to which so many steps of rewriting lead from t, where rewriting is on. Where delegation is
+-- on, no work is left in it that the drivers could do.
+pub record PlansTerm (settings : Settings) (ships : List ShipSource) (t : Tree) (steps : ℕ) (p : Node) : Type 0 where
   pub term : Tree
-  pub rewritten : IsRewrittenTo on t steps term
-  pub planned : IsPlanOf ships term p
+  pub rewritten : IsRewrittenTo settings.rewrite t steps term
+  pub planned : IsPlanOf settings.delegate ships term p
   pub means : MeansTerm ships t p
 
 -- What is counted of a plan that was run over these sources, of which the marked ones are mentioned, where Lists says that the program
@@ -171,7 +175,7 @@ abbrev pub PlansText : How → List Source → List ℕ → Course → Node → 
 PlansText how ss text course p =
     (q : Program) × IsProgramOf (names_of ss) text q × (marks : ℕ → Bool) × AreMarks q (names_of ss) marks
     × CountsPlan how ss marks (GivesList (grounds_of ss) (definitions (names_of ss) q) (last (names_of ss) q)) course p
-    × PlansTerm how.settings.rewrite (ships_of (kinds_of course.old) ss) (term_in (names_of ss) q) course.steps p
+    × PlansTerm how.settings (ships_of (kinds_of course.old) ss) (term_in (names_of ss) q) course.steps p
 
 -- What comes of the sources of the program that a text is: one that is unreadable or that changed is a source that it mentions, and
 -- nothing is printed before a fault, but where the program gives a list.
@@ -217,17 +221,43 @@ usual_how = record { settings = usual_settings; first = None }
 
 abbrev pub how_of : Option Read → How
 how_of (Some (read.Run job)) = how_in job
+how_of (Some (read.Explain job)) = how_in job
 how_of command = usual_how
 
+-- the plan of the program that a text is, made over drivers of these kinds
+abbrev pub PlansAlone : List DriverKind → Settings → List Source → List ℕ → ℕ → Node → Type 0
+PlansAlone ks settings ss text steps p =
+    (q : Program) × IsProgramOf (names_of ss) text q × PlansTerm settings (ships_of ks ss) (term_in (names_of ss) q) steps p
+
+-- P holds of a program's text and its sources, which are those of its files where these are told
+abbrev pub OfInputs : Origin → FilesState → List DriverKind → (List ℕ → List Source → Type 0) → Type 0
+OfInputs from files ks P =
+    (text : List ℕ) × (ss : List Source) × ((told : _) → TellTo from files told → HasInputs told ks from text ss) × P text ss
+
 -- The plan and the counts are those of the program that is run, where the run does not end before it has a plan; else there is no
--- plan, and no step is counted.
+-- plan, and no step is counted. Where a program is explained the plan is its own, and nothing is run.
 abbrev pub HasPlan : How → Command → Option Node → Course → FilesState → FilesState → Type 0
+HasPlan how (AProgram (purpose.Explain settings) from) plan course files files' =
+    ((p : Node) × (plan ≡ Some p)
+    × OfInputs from files (kinds_of course.old) (λ text ss. PlansAlone (kinds_of course.old) settings ss text course.steps p)
+    × (IsEarly course.ending → ⊥))
+    ⊎ ((plan ≡ None) × (course.steps ≡ 0)
+    × MayBeEarly (AProgram (purpose.Explain settings) from) course.ending files files' (kinds_of course.old))
 HasPlan how command plan course files files' =
     ((p : Node) × (plan ≡ Some p)
     × OfRun command files (kinds_of course.old) (λ text ss. PlansText how ss text course p × Rests ss text course)
     × (IsEarly course.ending → ⊥))
     ⊎ ((plan ≡ None) × (course.steps ≡ 0)
     × ((IsRunning command → ⊥) ⊎ MayBeEarly command course.ending files files' (kinds_of course.old)))
+
+-- a plan is explained: its lines are printed, or a front of them; without a plan nothing is
+abbrev pub ExplainsPlan : List DriverKind → Option Node → Ending → SinkState → SinkState → Type 0
+ExplainsPlan ks (Some p) end out out' = PrintsPage (well (plan_lines ks p)) end out out'
+ExplainsPlan ks None end out out' = out' ≡ out
+
+abbrev pub Explains : Command → List DriverKind → Option Node → Ending → SinkState → SinkState → Type 0
+Explains (AProgram (purpose.Explain settings) from) ks plan end out out' = ExplainsPlan ks plan end out out'
+Explains command ks plan end out out' = ⊤
 
 -- ---- for private functions alone: the same where the files are read
 
@@ -242,4 +272,4 @@ PlanOf Plans end steps plan = ((p : Node) × (plan ≡ Some p) × Plans p × (Is
 abbrev pub RunsPlan : How → List Source → (ℕ → Bool) → Decls → Exp → List Name → Course → Node → Type 0
 RunsPlan how ss marks program e names course p =
     CountsPlan how ss marks (GivesList (grounds_of ss) program e) course p
-    × PlansTerm how.settings.rewrite (ships_of (kinds_of course.old) ss) (term_of program e names) course.steps p
+    × PlansTerm how.settings (ships_of (kinds_of course.old) ss) (term_of program e names) course.steps p

@@ -21,6 +21,7 @@ use Rattle.kl_infer.specs.Numbers.{limit}
 use Rattle.kl_infer.specs.Printed.{scheme_text}
 use Rattle.kl_infer.specs.declared.Typed.{Typed}
 use Rattle.kl_scope.specs.Breaches.{Mentions}
+use Rattle.kl_ask.specs.declared.settings.Settings.{Settings}
 use Rattle.kl_ask.specs.Driver.{DriverKind, Stored, Missing, Bad, Long, Deep, Rows}
 use Rattle.kl_sources.specs.Sources.{names_of, grounds_of, HaveValues, FirstWithout}
 use Rattle.kl_sources.specs.declared.source.Source.{Source}
@@ -28,6 +29,7 @@ use Rattle.kl_engine.specs.Catalogues.{IsCatalogueFault, IsCatalogueOf}
 use Rattle.kl_engine.specs.Reading.{IsTextFault, IsProgramOf, definitions, last}
 use Rattle.kl_tools.specs.Texts.{catalogue_text, program_text}
 use Rattle.kl_engine.specs.Commands.{Command, NoneNamed, Program as AProgram, Show, Origin, Files, Made}
+use Rattle.kl_engine.specs.Explaining.{IsExplanation}
 use Rattle.kl_engine.specs.Faults.{Ending}
 use Rattle.kl_engine.specs.declared.fault.Fault.{Fault}
 use Rattle.kl_engine.specs.declared.fault.Fault.TheVariants as fault
@@ -165,6 +167,12 @@ IsMeant ks ss marks first ds e v =
     ((s : Source) × (w : Stored) × (f : Fault) × FirstWithout ks marks 0 ss s w × (stored_fault s.name w ≡ Some f) × (v ≡ refused f))
     ⊎ ((vs : List (Name × Value)) × HaveValues ks marks 0 ss vs × IsOutcome (grounds_of ss) first ds e (meaning_of_program ds e vs) v)
 
+-- ---- `explain`
+
+-- the lines of a plan of the program are listed; no source is read
+abbrev pub IsExplained : List DriverKind → List Source → Settings → Decls → Exp → Verdict → Type 0
+IsExplained ks ss settings ds e v = (page : List ℕ) × IsExplanation ks ss settings ds e page × (v ≡ well page)
+
 -- ---- all that is done with programs
 
 abbrev pub IsScopedVerdict : List DriverKind → List Source → (ℕ → Bool) → Purpose → Decls → Exp → Verdict → Type 0
@@ -172,6 +180,8 @@ IsScopedVerdict ks ss marks purpose.Check ds e v = v ≡ well (codes "ok\n")
 IsScopedVerdict ks ss marks purpose.Types ds e v = IsSized ds e (λ w. IsUntyped (grounds_of ss) ds e w ⊎ IsListing (grounds_of ss) ds e w) v
 IsScopedVerdict ks ss marks (purpose.Run first) ds e v =
     IsSized ds e (λ w. IsUntyped (grounds_of ss) ds e w ⊎ (HasTyping ds e (grounds_of ss) × IsMeant ks ss marks first ds e w)) v
+IsScopedVerdict ks ss marks (purpose.Explain settings) ds e v =
+    IsSized ds e (λ w. IsUntyped (grounds_of ss) ds e w ⊎ (HasTyping ds e (grounds_of ss) × IsExplained ks ss settings ds e w)) v
 
 -- the fault of what stands behind the items of a file
 abbrev pub end_fault : FileEnd → Ending

@@ -7,6 +7,7 @@
 mod check;
 mod cut;
 mod drivers;
+mod explain;
 mod fault;
 mod inputs;
 mod listing;

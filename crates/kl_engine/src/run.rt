@@ -248,7 +248,7 @@ fn answer_translated<S: Sink>(
 }
 
 // The plan of a rewritten term, and a trace in which its scans are counted.
-fn planned(
+pub fn planned(
     alloc: Global,
     term: &Term,
     steps: u32,
@@ -260,7 +260,7 @@ fn planned(
         (term_view term.now) }
     requires small { nodes_of (term_view term.now) ≤ 16384 }
     requires placed { ArePlaced (kinds_of (⟦<Drivers as SeenAll>⟧.states drivers.now)) sources.now }
-    ensures plan { IfOk result (λ r. IsPlanOf (ships_of
+    ensures plan { IfOk result (λ r. IsPlanOf settings.delegate (ships_of
         (kinds_of (⟦<Drivers as SeenAll>⟧.states drivers.now)) sources.now) (term_view term.now) (plan_view r.0)) }
     ensures trace { IfOk result (λ r. IsFreshTrace (plan_view r.0) steps r.1) }
 {
@@ -283,7 +283,7 @@ fn answer_over<S: Sink>(
 ) -> Result<(), Fault>
     requires scope { WasInScope (names_of sources.items) scoped.now }
     requires types { Infers (decls_of scoped.now.program.defs) (view scoped.now.program.last) (grounds_of sources.items) typed.now }
-    requires planned { (u : Tree) × IsPlanOf (ships_of
+    requires planned { (u : Tree) × IsPlanOf how.settings.delegate (ships_of
         (kinds_of (⟦<Drivers as SeenAll>⟧.states drivers.old)) sources.items) u (plan_view plan.now)
         × Preserves (term_of (decls_of scoped.now.program.defs) (view scoped.now.program.last) scoped.now.sources) u }
     requires mentioned { ReadsMentioned scoped.now
@@ -330,7 +330,7 @@ fn answer_over<S: Sink>(
 }
 
 // The term rewritten, or as it is.
-fn rewritten(alloc: Global, term: Term, on: bool) -> Result<Normal, NoMemory>
+pub fn rewritten(alloc: Global, term: Term, on: bool) -> Result<Normal, NoMemory>
     requires closed { IsClosed (term_view term) }
     requires small { IsSmall (term_view term) }
     ensures rewritten { IfOk result (λ r. IsRewrittenTo on (term_view term) r.steps (term_view r.term)) }

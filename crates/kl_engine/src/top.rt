@@ -6,13 +6,15 @@ ghost use Rattle.kl_engine.specs.Answering.{Does, IsIdle, IsRunning};
 ghost use Rattle.kl_engine.specs.Commands.{Files as FromFiles, Made, NamesNoFile, Program, asked, path_of, wants_stats};
 ghost use Rattle.kl_engine.specs.Faults.{TookLine, ending, status_of};
 ghost use Rattle.kl_engine.specs.Outside.{outside_of};
-ghost use Rattle.kl_engine.specs.Planned.{AsksOf, CountsScansAlone, HasPlan, IsUnrun, course_of, how_in, how_of, plan_in};
+ghost use Rattle.kl_engine.specs.Planned.{AsksOf, CountsScansAlone, Explains, ExplainsPlan, HasPlan, IsUnrun, course_of, how_in, how_of, plan_in};
 ghost use Rattle.kl_engine.specs.Planned.{usual_how};
+ghost use Rattle.kl_sources.specs.Sources.{kinds_of};
 ghost use Rattle.kl_engine.specs.Stats.{handed_in, told_text};
-ghost use Rattle.kl_engine.specs.declared.top.Purpose.TheVariants.{Run, Check, Types};
+ghost use Rattle.kl_engine.specs.declared.top.Purpose.TheVariants.{Run, Explain, Check, Types};
 
 use crate::check::check;
 use crate::drivers::{Drivers, SeenAll};
+use crate::explain::explain;
 use crate::fault::{Fault, status, tell};
 use crate::inputs::{Inputs, made_inputs, read_inputs};
 use crate::run::{How, Ran, run};
@@ -41,25 +43,27 @@ pub struct Answer {
     pub status: u8,
     /// Why the command did not end well, or none where it did.
     pub fault: Option<Fault>,
-    /// The plan by which a program was run, or would have been, had its sources been there. None where a run was refused before, and
-    /// for every other command.
+    /// The plan by which a program was run, or would have been, had its sources been there, or that was explained. None where a run
+    /// or an explanation was refused before, and for every other command.
     pub plan: Option<Plan>,
     /// What was counted while the program ran: the steps in which its term was rewritten, none with `--no-rewrite`, and how often
     /// each scan of its plan was started. Each other count is 0.
     pub trace: Trace,
 }
 
-/// Does what the words say, which are those of the command line without the program's name: `run`, `types`, `check` and
-/// `show`, with the options that `kl_words` reads. `run PROGRAM [CATALOGUE]` prints on `out` the value that the program at
-/// the path means over the sources of the catalogue, and a newline. `types` prints the principal scheme of each of its
+/// Does what the words say, which are those of the command line without the program's name: `run`, `explain`, `types`,
+/// `check` and `show`, with the options that `kl_words` reads. `run PROGRAM [CATALOGUE]` prints on `out` the value that the
+/// program at the path means over the sources of the catalogue, and a newline. `explain` prints what the plan by which it
+/// would be run asks of the drivers, as `kl_tools` says; it attaches and reads no source. `types` prints the principal scheme of each of its
 /// declarations, a line each. `check` prints `ok` and a newline where the file is a program in scope. `show FILE` prints
 /// the canonical text of each item of the exchange text at the path, each with a newline, as it is read.
 ///
 /// The refusals come in this order: words, before anything is opened; the program's file, missing or failing, and its
 /// length; the same of the catalogue's; the catalogue's text; its entries in their order, of each first its name, then its
 /// driver, then its type. Of the program's text come first a byte where no token starts, then tokens that are no program or
-/// nest too deep, and then the first breach of the rules of scope. `types` and `run` go on: the first declaration whose
-/// term is too large, and then the first that has no type. `types` ends with a scheme whose text is too long. `run` attaches
+/// nest too deep, and then the first breach of the rules of scope. `types`, `explain` and `run` go on: the first declaration whose
+/// term is too large, and then the first that has no type, where `explain` ends. `types` ends with a scheme whose text is too
+/// long. `run` attaches
 /// the sources that the program mentions, in the order of the catalogue, and no others; the first that is unreadable as its
 /// type is refused. Last comes an overflow. Of a file that is shown that comes whose place stands first in the file, and its
 /// bytes behind the limit are not looked at.
@@ -112,6 +116,8 @@ pub fn kleisli<F: Files, S: Sink, E: Sink>(
     ensures trace { CountsScansAlone (plan_in result.plan) result.trace }
     ensures silent { IsRunning (asked (command_of (map (λ w. string_bytes w) words.now))) → plan_in result.plan ≡ None
         → S.state out.new ≡ S.state out.old }
+    ensures explains { Explains (asked (command_of (map (λ w. string_bytes w) words.now)))
+        (kinds_of (⟦<Drivers as SeenAll>⟧.states drivers.old)) (plan_in result.plan) result.fault (S.state out.old) (S.state out.new) }
     ensures no_file { NamesNoFile (asked (command_of (map (λ w. string_bytes w) words.now))) → files.new ≡ files.old }
     ensures words_first { command_of (map (λ w. string_bytes w) words.now) ≡ None
         → (files.new ≡ files.old)
@@ -128,6 +134,10 @@ pub fn kleisli<F: Files, S: Sink, E: Sink>(
             let result = do_run(alloc, &job, files, drivers, out, &mut ran);
             let handed = rows_handed(drivers).saturating_sub(before);
             end(result, job.program.slice(), job.stats, ran, handed, err)
+        }
+        Ok(Command::Explain(job)) => {
+            let result = do_explain(alloc, &job, files, drivers, out, &mut ran);
+            end(result, job.program.slice(), false, ran, 0, err)
         }
         Ok(Command::Types { program, catalogue }) => {
             let result = do_types(alloc, &program, &catalogue, files, drivers, out);
@@ -155,6 +165,8 @@ pub fn kleisli<F: Files, S: Sink, E: Sink>(
 pub enum Purpose {
     /// It is run, and of its result so many first items are wanted, or all.
     Run(Option<u32>),
+    /// The lines of its plan are listed, which is made by these settings. It is not run.
+    Explain(Settings),
     /// It is read, and its names are looked up.
     Check,
     /// Its types are listed.
@@ -286,6 +298,43 @@ fn do_gen<S: Sink>(
                 ran,
             )
         }
+        Err(fault) => Err(fault),
+    }
+}
+
+// Explains the program that the words name.
+fn do_explain<F: Files, S: Sink>(
+    alloc: Global,
+    job: &Job,
+    files: &mut F,
+    drivers: &Drivers,
+    out: &mut S,
+    ran: &mut Ran,
+) -> Result<(), Fault>
+    requires few { length drivers.now.items < 2 ^ 32 }
+    requires unrun { IsUnrun ran.old }
+    ensures does { Does (Program (Explain job.now.settings) (FromFiles job.now.program job.now.catalogue)) (ending result)
+        (outside_of (F.state files.old) (⟦<Drivers as SeenAll>⟧.states drivers.now) (S.state out.old))
+        (outside_of (F.state files.new) (⟦<Drivers as SeenAll>⟧.states drivers.now) (S.state out.new)) }
+    ensures plan { HasPlan (how_in job.now) (Program (Explain job.now.settings) (FromFiles job.now.program job.now.catalogue))
+        (plan_in ran.new.plan) (course_of (ending result) ran.new.trace (⟦<Drivers as SeenAll>⟧.states drivers.now)
+        (⟦<Drivers as SeenAll>⟧.states drivers.now) (S.state out.old) (S.state out.new)) (F.state files.old) (F.state files.new) }
+    ensures lines { ExplainsPlan (kinds_of (⟦<Drivers as SeenAll>⟧.states drivers.now)) (plan_in ran.new.plan) (ending result)
+        (S.state out.old) (S.state out.new) }
+    ensures asks { AsksOf (plan_in ran.new.plan) ran.new.trace.starts (⟦<Drivers as SeenAll>⟧.states drivers.now)
+        (⟦<Drivers as SeenAll>⟧.states drivers.now) }
+    ensures alone { CountsScansAlone (plan_in ran.new.plan) ran.new.trace }
+{
+    match read_inputs(alloc, &job.program, &job.catalogue, drivers, files) {
+        Ok(inputs) => explain(
+            alloc,
+            inputs.text.slice(),
+            inputs.sources.slice(),
+            job.settings,
+            drivers,
+            out,
+            ran,
+        ),
         Err(fault) => Err(fault),
     }
 }

@@ -98,12 +98,12 @@ numbered_at (c ∷ cs) n (suc count) e (suc i) lt =
     let same : suc n + i ≡ n + suc i = omega arith in
     numbered_at cs (suc n) count rest i (omega arith) ∙ ap (λ k. Some (entry k)) same
 
-module _ (ss : List ShipSource) (u : Tree) (p : Node) (of : IsPlanOf ss u p) where
+module _ {on : Bool} (ss : List ShipSource) (u : Tree) (p : Node) (of : IsPlanOf on ss u p) where
   -- at the start nothing is counted of a scan
   pub fresh_at : (c : Scan) → Contains (scans_in p) c → slice_get (map entry_of (scans_in p)) c.number ≡ Some (entry_of c)
   fresh_at c i =
-      let numbered = numbers_are ss u need.Items 0 p of.ships.0 of.ships.1 in
-      let within = numbers_within ss u need.Items 0 p of.ships.0 of.ships.1 c i in
+      let numbered = numbers_are ss on u need.Items 0 p of.ships.0 of.ships.1 in
+      let within = numbers_within ss on u need.Items 0 p of.ships.0 of.ships.1 c i in
       let long : length (scans_in p) ≡ numbered.0 = sym (length-map (scans_in p) (λ c. c.number)) ∙ ap length numbered.2 ∙ from_length 0 numbered.0 in
       let last = numbered.1 in
       let below = within.1 in

@@ -1,5 +1,6 @@
 pub mod Means
 pub mod Shown
+pub mod Joined
 pub mod Told
 pub mod Sources
 pub mod Sessions

@@ -18,6 +18,7 @@ use Rattle.kl_outcome.specs.Typed.{HasFields, Inhabits}
 use Rattle.kl_outcome.proofs.OutcomeTypes.{record_is}
 use Rattle.kl_ask.specs.Asks.{answers, is_kept, passes, shown, shown_fields, shown_row, shown_type}
 use Rattle.kl_ask.specs.declared.ask.ColTest.{ColTest}
+use Rattle.kl_ship.proofs.Shown.{labels_kept}
 
 -- ---- rows that are no records
 
@@ -43,14 +44,6 @@ kept_each p P (x ∷ xs) h = each (p x) (kept_each p P xs h.1)
   where
     each : (b : Bool) → AllByRecursion P (filter p xs) → AllByRecursion P (cond b (x ∷ filter p xs) (filter p xs))
     each true rest = (h.0, rest)
-    each false rest = rest
-
-labels_kept : (p : Name → Bool) (fs : List (Name × Value)) → labels_of (filter (λ f. p f.0) fs) ≡ filter p (labels_of fs)
-labels_kept p [] = refl
-labels_kept p (f ∷ fs) = each (p f.0) (labels_kept p fs)
-  where
-    each : (b : Bool) → labels_of (filter (λ g. p g.0) fs) ≡ filter p (labels_of fs) → labels_of (cond b (f ∷ filter (λ g. p g.0) fs) (filter (λ g. p g.0) fs)) ≡ cond b (f.0 ∷ filter p (labels_of fs)) (filter p (labels_of fs))
-    each true rest = ap (λ ls. f.0 ∷ ls) rest
     each false rest = rest
 
 module _ (keep : List Name) where

@@ -1,5 +1,6 @@
 -- What stands in a session at the sources of a catalogue.
-use Rattle.std.proofs.Common.{◌≡◌, ℕ, zero, suc, ◌+◌, Bool, true, false, List, [], ◌∷◌, Option, Some, None, slice_get, refl, sym, ap, ◌∙◌, subst, arith, zero-add, add-zero}
+use Rattle.std.proofs.Common.{◌≡◌, ℕ, zero, suc, ◌+◌, Bool, true, false, cond, List, [], ◌∷◌, Option, Some, None, slice_get, refl, sym, ap, ◌∙◌, subst, arith, zero-add, add-zero}
+use Rattle.std.specs.List.{AllByRecursion, IsDistinct}
 use Rattle.std.specs.Option.{option_map}
 use Rattle.std.proofs.lemmas.Option.{same_Some, slice_get_within}
 use Rattle.kl_value.specs.Canon.{canonical}
@@ -17,17 +18,23 @@ use Rattle.kl_ask.specs.declared.settings.Settings.{Settings}
 use Rattle.kl_ask.specs.declared.settings.Trace.{Trace}
 use Rattle.kl_ask.proofs.Worlds.{there}
 use Rattle.kl_ship.specs.declared.plan.Scan.{Scan}
-use Rattle.kl_scans.specs.Stage.{stage, answered_by, rows_asked, read_in}
+use Rattle.kl_scans.specs.Stage.{stage, attached_by, joined_by, rows_there, answered_by, rows_asked, read_in}
 use Rattle.kl_cursor.specs.Left.{reading}
 use Rattle.kl_sources.specs.Attaching.{HaveNone, MayAttach, IsMarkedName, Stands, list_of, listed, world_of}
-use Rattle.kl_sources.specs.Sources.{ArePlaced, IsFit, kinds_of, contents}
+use Rattle.kl_sources.specs.Sources.{ArePlaced, IsFit, kinds_of, contents, names_of, same}
 use Rattle.kl_sources.specs.declared.source.Source.{Source}
 use Rattle.kl_sources.proofs.Lists.{of_all, unmapped}
-use Rattle.kl_sources.proofs.NameLemmas.{one_of_name}
+use Rattle.kl_sources.proofs.NameLemmas.{one_of_name, same_here}
 use Rattle.kl_sources.proofs.SessionLemmas.{shifts}
-use Rattle.kl_run.specs.Counted.{ReadsMarked}
+use Rattle.kl_run.specs.Counted.{IsToldTable, ReadsMarked}
 use Rattle.kl_run.specs.Planned.{abilities_in, ship_source}
+use Rattle.kl_run.proofs.Joined.{HasRows, joined_reads}
 use Rattle.kl_run.proofs.Told.{held_there}
+use Rattle.kl_base.proofs.Each.{all_map}
+use Rattle.kl_sqltext.specs.Meaning.{spj}
+use Rattle.kl_sqltext.specs.Reading.{SqlReads}
+use Rattle.kl_sqltext.specs.declared.ast.Spj.{Spj}
+use Rattle.kl_scans.proofs.Statements.{reads_statement}
 
 -- ---- lists
 
@@ -43,6 +50,27 @@ told_is (Some (Bad place)) rows e = absurd cc
 told_is (Some (Long most)) rows e = absurd cc
 told_is (Some (Deep place)) rows e = absurd cc
 told_is (Some (Rows all)) rows e = ap (λ q. Some (Rows q)) (same_Some _ _ e)
+
+-- the source of a name
+abbrev pub named : Name → List Source → Option Source
+named l [] = None
+named l (s ∷ ss) = cond (same s.name l) (Some s) (named l ss)
+
+none_named : (ss : List Source) (i : ℕ) (s : Source) (x : Name) → AllByRecursion (λ y. same x y ≡ false) (names_of ss) → slice_get ss i ≡ Some s → same x s.name ≡ false
+none_named [] i s x h at = absurd cc
+none_named (t ∷ ss) zero s x h at = subst (λ (q : Source). same x q.name ≡ false) (same_Some _ _ at) h.0
+none_named (t ∷ ss) (suc i) s x h at = none_named ss i s x h.1 at
+
+pub named_is : (ss : List Source) (i : ℕ) (s : Source) → IsDistinct same (names_of ss) → slice_get ss i ≡ Some s → named s.name ss ≡ Some s
+unfolding IsDistinct
+named_is [] i s d at = absurd cc
+named_is (t ∷ ss) zero s d at =
+    let e : t ≡ s = same_Some _ _ at in
+    let here : same t.name s.name ≡ true = same_here t.name s.name (ap (λ (q : Source). q.name) e) in
+    rw here (ap (λ q. Some q) e)
+named_is (t ∷ ss) (suc i) s d at =
+    let other : same t.name s.name ≡ false = none_named ss i s t.name d.0 at in
+    rw other (named_is ss i s d.1 at)
 
 -- ---- drivers
 
@@ -126,8 +154,53 @@ module _ (ds mid : List State) (ss : List Source) (marks : ℕ → Bool) (placed
         let here = driver_of i s at in
         reads_at here.now s c keep tests here.is d ask ∙ ap (λ o. rows_asked o keep tests) (unattached i s at off)
 
+    -- what the driver of the source of a name has attached under it
+    abbrev attached_at : Option State → Name → Option Held
+    attached_at (Some x) l = x.attached l
+    attached_at None l = None
+
+    abbrev attached_of : Option Source → Option Held
+    attached_of (Some s) = attached_at (slice_get mid s.driver) s.name
+    attached_of None = None
+
+    pub attached_named : Name → Option Held
+    attached_named l = attached_of (named l ss)
+
+    -- at the driver of a source that is what this one has attached
+    pub attached_there : (i : ℕ) (s : Source) (at : slice_get ss i ≡ Some s) (driver : ℕ) → driver ≡ s.driver → attached_by ((stage w).held driver) s.name ≡ attached_named s.name
+    unfolding attached_named
+    attached_there i s at driver same =
+        let d = driver_of i s at in
+        ap (λ k. attached_by ((stage w).held k) s.name) same ∙ ap (λ o. attached_by o s.name) (held_there w s.driver d.now d.is) ∙ sym (ap attached_of (named_is ss i s placed.differ at) ∙ ap (λ o. attached_at o s.name) d.is)
+
+    pub named_marked : (i : ℕ) (s : Source) → slice_get ss i ≡ Some s → (on : marks i ≡ true) → rows_there (attached_named s.name) ≡ told_rows (contents (kinds_of ds) s)
+    unfolding attached_named
+    named_marked i s at on =
+        let st = stand i s at on in
+        ap (λ o. rows_there (attached_of o)) (named_is ss i s placed.differ at) ∙ ap (λ o. rows_there (attached_at o s.name)) st.there ∙ ap rows_there st.attached
+
+    pub named_unmarked : (i : ℕ) (s : Source) → slice_get ss i ≡ Some s → marks i ≡ false → rows_there (attached_named s.name) ≡ Some []
+    unfolding attached_named
+    named_unmarked i s at off =
+        let d = driver_of i s at in
+        ap (λ o. rows_there (attached_of o)) (named_is ss i s placed.differ at) ∙ ap (λ o. rows_there (attached_at o s.name)) d.is ∙ ap rows_there (unattached i s at off)
+
+    -- a scan by a statement, over tables of its driver
+    pub joined_at : (c : Scan) (text : List ℕ) (q : Spj) (rows : Name → List Value) → c.ask ≡ asks.Sql text → SqlReads text q → AllByRecursion (HasRows (attached_by ((stage w).held c.driver)) rows) q.tables → reading w c ≡ Some (spj rows q)
+    joined_at c text q rows ask reads tables =
+        ap (read_in ((stage w).held c.driver)) ask ∙ ap (joined_by (attached_by ((stage w).held c.driver))) (reads_statement text q reads) ∙ joined_reads (attached_by ((stage w).held c.driver)) rows q tables
+
+    told_table : (c : Scan) (rows : Name → List Value) (l : Name) → IsToldTable (kinds_of ds) ss marks c.driver rows l → HasRows (attached_by ((stage w).held c.driver)) rows l
+    told_table c rows l m =
+        let driver : c.driver ≡ m.1.driver = sym m.4 in
+        ap (λ n. rows_there (attached_by ((stage w).held c.driver) n)) (sym m.5)
+        ∙ ap rows_there (attached_there m.0 m.1 m.2 c.driver driver) ∙ named_marked m.0 m.1 m.2 m.3 ∙ ap told_rows m.6
+
     pub reads : ReadsMarked (kinds_of ds) ss marks (reading w)
-    reads i s rows c keep tests at on is d ask = reads_marked i s c keep tests at on d ask ∙ ap (λ o. answered_by (told_rows o) keep tests) is
+    reads = record {
+      alone = λ i s rows c keep tests at on is d ask. reads_marked i s c keep tests at on d ask ∙ ap (λ o. answered_by (told_rows o) keep tests) is;
+      joined = λ c text q rows ask reads tables. joined_at c text q rows ask reads (all_map (IsToldTable (kinds_of ds) ss marks c.driver rows) (HasRows (attached_by ((stage w).held c.driver)) rows) q.tables (told_table c rows) tables);
+    }
 
     -- ---- values
 

@@ -1,5 +1,5 @@
 -- A trace in which nothing is counted of the scans of a plan.
-use Rattle.std.proofs.Common.{◌≡◌, ℕ, zero, suc, ◌+◌, ◌^◌, ◌<◌, ◌≤◌, List, [], ◌∷◌, ◌++◌, length, map, refl, sym, ap, ◌∙◌, arith}
+use Rattle.std.proofs.Common.{◌≡◌, ℕ, zero, suc, ◌+◌, ◌^◌, ◌<◌, ◌≤◌, Bool, List, [], ◌∷◌, ◌++◌, length, map, refl, sym, ap, ◌∙◌, arith}
 use Rattle.std.proofs.lemmas.List.{map-append, length-map}
 use Rattle.kl_core.specs.Counts.{nodes_of}
 use Rattle.kl_core.specs.Trees.{Tree}
@@ -41,12 +41,12 @@ numbered : (cs : List Scan) → map entry_of cs ≡ map entry (numbers cs)
 numbered [] = refl
 numbered (c ∷ cs) = ap (λ es. entry_of c ∷ es) (numbered cs)
 
-module _ (ss : List ShipSource) (t : Tree) (p : Node) (of : IsPlanOf ss t p) where
+module _ {on : Bool} (ss : List ShipSource) (t : Tree) (p : Node) (of : IsPlanOf on ss t p) where
   pub scans_few : nodes_of t ≤ 16384 → length (scans_in p) < 2 ^ 32
-  scans_few small = let most = scans_most ss t p of.ships in omega (arith, most)
+  scans_few small = let most = scans_most ss on t p of.ships in omega (arith, most)
 
   pub plan_entries : entries (length (scans_in p)) ≡ map entry_of (scans_in p)
   plan_entries =
-      let are = numbers_are ss t need.Items 0 p of.ships.0 of.ships.1 in
+      let are = numbers_are ss on t need.Items 0 p of.ships.0 of.ships.1 in
       let long : length (scans_in p) ≡ are.0 = sym (length-map (scans_in p) (λ c. c.number)) ∙ ap length are.2 ∙ from_length 0 are.0 in
       ap entries long ∙ ap (map entry) (sym are.2) ∙ sym (numbered (scans_in p))

@@ -1,7 +1,7 @@
 -- What is counted of the scans of a plan.
 use Rattle.std.specs.Prelude.{◌≡◌, ℕ, zero, suc, ◌-◌, ◌^◌, ◌&&◌, min, Bool, true, List, [], ◌∷◌, map, Option, Some, None, cond}
 use Rattle.std.specs.Prelude.{nat_eq, slice_get}
-use Rattle.std.specs.List.{Contains, sum_by}
+use Rattle.std.specs.List.{AllByRecursion, Contains, sum_by}
 use Rattle.kl_outcome.specs.Outcome.{Name}
 use Rattle.kl_value.specs.declared.Value.{Value}
 use Rattle.kl_ask.specs.Asked.{raised_by, same_ask}
@@ -11,6 +11,9 @@ use Rattle.kl_ask.specs.declared.ask.Ask.{Ask}
 use Rattle.kl_ask.specs.declared.ask.Ask.TheVariants as asks
 use Rattle.kl_ask.specs.declared.ask.ColTest.{ColTest}
 use Rattle.kl_ask.specs.declared.settings.Trace.{Trace}
+use Rattle.kl_sqltext.specs.Meaning.{spj}
+use Rattle.kl_sqltext.specs.Reading.{SqlReads}
+use Rattle.kl_sqltext.specs.declared.ast.Spj.{Spj}
 use Rattle.kl_ship.specs.Meaning.{Readings}
 use Rattle.kl_ship.specs.Nodes.{Node}
 use Rattle.kl_ship.specs.Numbers.{scans_in}
@@ -60,13 +63,21 @@ AsksCounted p starts old new =
     (d : ℕ) (a b : State) (ask : Ask) → slice_get old d ≡ Some a → slice_get new d ≡ Some b
     → times_of ask b.asked ≡ raised (starts_asking d ask (scans_in p) starts) (times_of ask a.asked)
 
--- what scans of the marked sources read, where contents are told
-abbrev pub ReadsMarked : List DriverKind → List Source → (ℕ → Bool) → Readings → Type 0
-ReadsMarked ks ss marks R =
-    (i : ℕ) (s : Source) (rows : List Value) (c : Scan) (keep : List Name) (tests : List ColTest)
-    → slice_get ss i ≡ Some s → marks i ≡ true → contents ks s ≡ Some (Rows rows) → c.driver ≡ s.driver
-    → c.ask ≡ asks.Rows s.name keep tests
-    → R c ≡ Some (answers rows keep tests)
+-- a marked source that stands at a driver under this name, where its contents are told to be these rows
+abbrev pub IsToldTable : List DriverKind → List Source → (ℕ → Bool) → ℕ → (Name → List Value) → Name → Type 0
+IsToldTable ks ss marks driver rows l =
+    (i : ℕ) × (s : Source) × (slice_get ss i ≡ Some s) × (marks i ≡ true) × (s.driver ≡ driver) × (s.name ≡ l)
+    × (contents ks s ≡ Some (Rows (rows l)))
+
+-- what scans of the marked sources read, and scans by statements over them, where contents are told
+pub record ReadsMarked (ks : List DriverKind) (ss : List Source) (marks : ℕ → Bool) (R : Readings) : Type 0 where
+  pub alone : (i : ℕ) (s : Source) (rows : List Value) (c : Scan) (keep : List Name) (tests : List ColTest)
+      → slice_get ss i ≡ Some s → marks i ≡ true → contents ks s ≡ Some (Rows rows) → c.driver ≡ s.driver
+      → c.ask ≡ asks.Rows s.name keep tests
+      → R c ≡ Some (answers rows keep tests)
+  pub joined : (c : Scan) (text : List ℕ) (q : Spj) (rows : Name → List Value) → c.ask ≡ asks.Sql text → SqlReads text q
+      → AllByRecursion (IsToldTable ks ss marks c.driver rows) q.tables
+      → R c ≡ Some (spj rows q)
 
 abbrev pub at_number : ℕ → Scan → ℕ
 at_number n c = cond (nat_eq c.number n) 1 0

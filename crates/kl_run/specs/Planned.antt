@@ -1,5 +1,5 @@
 -- The plan of a term over the sources of a catalogue.
-use Rattle.std.specs.Prelude.{◌≡◌, false, List, [], map, Option, Some, None, slice_get}
+use Rattle.std.specs.Prelude.{◌≡◌, Bool, true, false, List, [], map, Option, Some, None, slice_get}
 use Rattle.kl_value.specs.declared.Kind.TheVariants as kind
 use Rattle.kl_type.specs.Ground.{Ground, coll}
 use Rattle.kl_outcome.specs.Outcome.{items_of}
@@ -9,6 +9,7 @@ use Rattle.kl_core.specs.Typing.{CoreTypes}
 use Rattle.kl_ask.specs.Driver.{DriverKind}
 use Rattle.kl_ask.specs.declared.ask.Abilities.{Abilities}
 use Rattle.kl_ship.specs.Contents.{HoldAll, types_in}
+use Rattle.kl_ship.specs.Full.{FullyShipped}
 use Rattle.kl_ship.specs.Meaning.{Readings, plan, worth, coming}
 use Rattle.kl_ship.specs.Nodes.{Node}
 use Rattle.kl_ship.specs.Numbers.{NumbersDiffer}
@@ -28,11 +29,13 @@ ship_source ks s = record { ty = s.ty; driver = s.driver; abilities = abilities_
 abbrev pub ships_of : List DriverKind → List Source → List ShipSource
 ships_of ks ss = map (ship_source ks) ss
 
--- A plan that a term may be shipped as, which makes sense at each type of the term, and whose numbers differ.
-pub record IsPlanOf (ss : List ShipSource) (t : Tree) (p : Node) : Type 0 where
-  pub ships : Ships ss t p
+-- A plan that a term may be shipped as, which makes sense at each type of the term, and whose numbers differ. With `delegate` no
+-- work is left in it that its drivers could do.
+pub record IsPlanOf (delegate : Bool) (ss : List ShipSource) (t : Tree) (p : Node) : Type 0 where
+  pub ships : Ships delegate ss t p
   pub sense : KeepsTypes ss t p
   pub numbers : NumbersDiffer p
+  pub full : delegate ≡ true → FullyShipped ss p
 
 -- A plan means a term: over all tables of the sources' types that repeat no row in a set whose driver says so, it has the same
 -- value or the same overflow, and a list gives the same items in the same order and the same end.

@@ -29,7 +29,7 @@ pub fn plan_of(
     requires sense { MakesSense (ships_of (kinds_of (map (λ d. state d) drivers.now.items)) sources.now) (term_view term.now) }
     requires small { nodes_of (term_view term.now) ≤ 16384 }
     requires placed { ArePlaced (kinds_of (map (λ d. state d) drivers.now.items)) sources.now }
-    ensures { IfOk result (λ p. IsPlanOf (ships_of (kinds_of (map (λ d. state d) drivers.now.items)) sources.now)
+    ensures { IfOk result (λ p. IsPlanOf settings.now.delegate (ships_of (kinds_of (map (λ d. state d) drivers.now.items)) sources.now)
         (term_view term.now) (view p)) }
 {
     let ships = ship_sources(alloc, sources, drivers)?;

@@ -1,5 +1,5 @@
 //! A trace in which a plan's scans are counted.
-ghost use Rattle.std.specs.Prelude.{◌≤◌, List, IfOk};
+ghost use Rattle.std.specs.Prelude.{◌≤◌, Bool, List, IfOk};
 ghost use Rattle.kl_ship.specs.Nodes.{view};
 ghost use Rattle.kl_ship.specs.declared.source.ShipSource.{ShipSource};
 ghost use Rattle.kl_core.specs.Counts.{nodes_of};
@@ -18,7 +18,7 @@ use std::alloc::Global;
 /// # Errors
 /// Want of memory.
 pub fn trace_of(alloc: Global, plan: &Plan, steps: u32) -> Result<Trace, NoMemory>
-    requires { (ss : List ShipSource) × (t : Tree) × IsPlanOf ss t (view plan.now) × (nodes_of t ≤ 16384) }
+    requires { (delegate : Bool) × (ss : List ShipSource) × (t : Tree) × IsPlanOf delegate ss t (view plan.now) × (nodes_of t ≤ 16384) }
     ensures { IfOk result (λ t. IsFreshTrace (view plan.now) steps t) }
 {
     let count = count_scans(plan);

@@ -1,17 +1,21 @@
 -- What the calls for scans do to a session, from what they do to the driver of the scan.
-use Rattle.std.proofs.Common.{◌≡◌, ◌≤◌, ℕ, ◌+◌, ◌<◌, ◌&&◌, Bool, true, false, List, [], ◌∷◌, length, Option, Some, None, Ok, Err, IsSome, cond, nat_eq, slice_get, refl, sym, ap, ◌∙◌, subst, arith}
+use Rattle.std.proofs.Common.{◌≡◌, ◌≤◌, ⊎_elim, ℕ, ◌+◌, ◌<◌, ◌&&◌, Bool, true, false, List, [], ◌∷◌, length, Option, Some, None, Ok, Err, IsSome, cond, nat_eq, slice_get, refl, sym, ap, ◌∙◌, subst, arith}
 use Rattle.std.proofs.lemmas.Option.{same_Some, slice_get_within}
 use Rattle.kl_value.specs.declared.Value.{Value}
 use Rattle.kl_type.specs.Ground.{ground_of}
 use Rattle.kl_ask.specs.Asks.{is_allowed}
-use Rattle.kl_ask.specs.Driver.{State, Cursor, CanStart, IsAnswerable, Finishes, Cause, OpensAt, source_of}
+use Rattle.kl_ask.specs.Driver.{State, Cursor, CanStart, IsAnswerable, IsAskedSql, Finishes, Cause, HasDriftedTable, OpensAt, source_of}
+use Rattle.kl_ask.specs.Statements.{SqlFits, sql_type}
 use Rattle.kl_ask.specs.Driver as driver
 use Rattle.kl_ask.specs.Lists.{AtIndex, StepsAt}
-use Rattle.kl_ask.specs.World.{World, at_driver, at_place, at_source, source_at}
+use Rattle.kl_ask.specs.World.{World}
 use Rattle.kl_ask.specs.declared.ask.Ask.{Ask}
 use Rattle.kl_ask.specs.declared.ask.Ask.TheVariants as asks
 use Rattle.kl_ask.specs.declared.DriverError.{DriverError}
-use Rattle.kl_ask.proofs.Worlds.{there}
+use Rattle.kl_ask.specs.declared.DriverError.TheVariants as error
+use Rattle.kl_ask.specs.declared.Drift.{Drift}
+use Rattle.kl_sqltext.specs.declared.ast.Spj.{Spj}
+use Rattle.kl_ask.proofs.Worlds.{there, error_is}
 use Rattle.kl_ship.specs.declared.plan.Scan.{Scan}
 use Rattle.kl_eval.specs.World.{Drifted}
 use Rattle.kl_eval.specs.declared.stop.EvalStop.{EvalStop}
@@ -21,8 +25,8 @@ use Rattle.kl_eval.proofs.Scanning.{not_started}
 use Rattle.kl_scans.specs.Held.{Held, held_in, held_at, cursor_in, cursor_at, count_open, open_at, nothing, one_at, Owned}
 use Rattle.kl_scans.specs.Log.{started, handed, times_after, times_at, CountsStart}
 use Rattle.kl_scans.specs.Moves.{Closes}
-use Rattle.kl_scans.specs.Scans.{CanScan, Stopped, StopOf, OpensIn, Started, NotStarted, IsOpen, PulledMore, PulledNone, NotPulled, Pulls}
-use Rattle.kl_scans.specs.Stage.{stage, AskOf}
+use Rattle.kl_scans.specs.Scans.{CanScan, DriftedIn, Stopped, StopOf, AreRows, OpensIn, Started, NotStarted, IsOpen, PulledMore, PulledNone, NotPulled, Pulls}
+use Rattle.kl_scans.specs.Stage.{stage, table_types, AskOf}
 use Rattle.kl_scans.proofs.Counted.{eq_self, eq_other}
 use Rattle.kl_scans.proofs.Moving.{unmoved, moves_same}
 use Rattle.kl_scans.proofs.Stepped.{uses, CalledAt, Calls, AreOf, Traced, cursor_here, moves_at}
@@ -63,23 +67,25 @@ module _ (w : World) (c : Scan) (can : CanScan w c) where
   pub has : (of_driver.0).attached c.source ≡ Some can.1.source
   has = ap (λ h. h.attached c.source) (sym of_driver.2) ∙ can.1.attached
 
-  answerable : (ask : Ask) → AskOf can.1.held.abilities c.source can.1.source ask c.kind can.0 → IsAnswerable of_driver.0 ask
+  answerable : (ask : Ask) → AskOf (stage w) can.1.held c can.1.source ask can.0 → IsAnswerable of_driver.0 ask
   answerable (asks.Rows source keep tests) h =
       (can.1.source, ap (of_driver.0).attached h.0 ∙ has, subst (λ q. is_allowed q.abilities (ground_of can.1.source.ty) (asks.Rows source keep tests) ≡ true) of_driver.2 h.1, h.2)
-  answerable (asks.Sql text) h = absurd h
+  answerable (asks.Sql text) h = (
+    h.statement,
+    h.reads,
+    ap (λ q. q.abilities.join) (sym of_driver.2) ∙ h.join,
+    subst (λ q. SqlFits (table_types q.attached) h.statement) of_driver.2 h.fits,
+  )
 
   pub can_start : AtIndex c.driver (λ s. CanStart s c.ask) w.drivers
   can_start s is = subst (λ z. CanStart z c.ask) (same_Some _ _ (sym of_driver.1 ∙ is)) (record { answerable = answerable c.ask can.1.ask })
 
-  pub source_there : source_at w can.1.place ≡ (of_driver.0).attached c.source
-  source_there =
-      ap (λ q. at_source q w.drivers) listed_there ∙ ap (λ q. at_place can.1.entry q w.drivers) can.1.driver ∙ ap (at_driver can.1.entry) of_driver.1 ∙ ap (of_driver.0).attached (sym can.1.named)
+  -- what is told of a drift is told of the scan's ask
+  drifted_in : (e : DriverError) (ask : Ask) → Drifted e (source_of of_driver.0 ask) → ((d : Drift) → e ≡ error.Changed d → (q : Spj) → IsAskedSql ask q → HasDriftedTable of_driver.0 q d) → DriftedIn of_driver.0 ask e
+  drifted_in e (asks.Rows source keep tests) one joined = one
+  drifted_in e (asks.Sql text) one joined = joined
 
-  ask_source : (ask : Ask) → AskOf can.1.held.abilities c.source can.1.source ask c.kind can.0 → source_of of_driver.0 ask ≡ (of_driver.0).attached c.source
-  ask_source (asks.Rows source keep tests) h = ap (of_driver.0).attached h.0
-  ask_source (asks.Sql text) h = absurd h
-
-  pub stopped : (e : DriverError) (f : EvalStop) (b : World) (y : State) → slice_get b.drivers c.driver ≡ Some y → Cause e of_driver.0 y → Drifted e (source_of of_driver.0 c.ask) → StopOf c.source e f → Stopped c f w b
+  pub stopped : (e : DriverError) (f : EvalStop) (b : World) (y : State) → slice_get b.drivers c.driver ≡ Some y → Cause e of_driver.0 y → DriftedIn of_driver.0 c.ask e → StopOf c.source e f → Stopped c f w b
   stopped e stop.Overflow b y is cause drifted h = absurd h
   stopped e (stop.Driver m g) b y is cause drifted h = (
     h.0,
@@ -95,7 +101,7 @@ module _ (w : World) (c : Scan) (can : CanScan w c) where
       was = of_driver.1;
       is = is;
       cause = subst (λ q. Cause q of_driver.0 y) (sym h.1) cause;
-      drifted = subst (λ q. Drifted q (source_at w can.1.place)) (sym h.1) (λ d of z at. drifted d of z (ask_source c.ask can.1.ask ∙ sym source_there ∙ at));
+      drifted = subst (DriftedIn of_driver.0 c.ask) (sym h.1) drifted;
       want = λ n. h.2 (sym h.1 ∙ n);
     },
   )
@@ -161,7 +167,14 @@ refused_calls c e x y s = record {
 
 opens_in : (ask : Ask) (s : State) (h : Held) (o : Cursor) → held_of s ≡ h → OpensAt ask s o → OpensIn h ask o
 opens_in (asks.Rows source keep tests) s h o e f = λ a at. f a (ap (λ q. q.attached source) e ∙ at)
-opens_in (asks.Sql text) s h o e f = tt
+opens_in (asks.Sql text) s h o e f = λ q r.
+    let j = f q r in
+    record {
+      ty = j.ty ∙ ap (λ k. sql_type (table_types k.attached) q) e;
+      left = λ rows are. j.left rows (subst (λ k. AreRows k rows q.tables) (sym e) are);
+      told = j.told;
+      bound = j.bound;
+    }
 
 pub starts : (w : World) (c : Scan) (k : ℕ) (ds : List State) (ss : List (ℕ × ℕ)) → CanScan w c → StepsAt c.driver (λ x y. driver.Starts c.ask (Ok k) x y) w.drivers ds → CountsStart c.number w.trace.starts ss → Started c k w (with_starts w ds ss)
 unfolding held_at
@@ -180,6 +193,10 @@ starts w c k ds ss can s count =
       opens = λ q e. opens_in c.ask x.0 q h.opens.opened (same_Some _ _ (sym (ap held_in x.1) ∙ e)) h.opens.fresh;
     }
 
+-- a start is never refused as changed
+never_changed : (ask : Ask) (e : DriverError) (x y : State) → driver.Starts ask (Err e) x y → (d : Drift) → e ≡ error.Changed d → {A : Type 0} → A
+never_changed ask e x y s d is = ⊎_elim (λ f. absurd (let k : error.Failed ≡ error.Changed d = sym (error_is f) ∙ is in cc)) (λ f. absurd (let k : error.NoMemory ≡ error.Changed d = sym (error_is f) ∙ is in cc)) s.no_other
+
 pub starts_not : (w : World) (c : Scan) (e : DriverError) (f : EvalStop) (ds : List State) → CanScan w c → StepsAt c.driver (λ x y. driver.Starts c.ask (Err e) x y) w.drivers ds → StopOf c.source e f → NotStarted c f w (with_drivers w ds)
 starts_not w c e f ds can s stop =
     let x = of_driver w c can in
@@ -191,7 +208,7 @@ starts_not w c e f ds can s stop =
           (moves_at c.driver 0 0 0 [] w (with_drivers w ds) x.0 y.0 (called c.driver (λ x y. driver.Starts c.ask (Err e) x y) w (with_drivers w ds) x.0 y.0 x.1 y.1 s) (refused_calls c e x.0 y.0 h)
           refl refl (none_of c.driver) (untraced w ds));
       none = refl;
-      cause = stopped w c can e f (with_drivers w ds) y.0 y.1 n.end.0 n.end.1 stop;
+      cause = stopped w c can e f (with_drivers w ds) y.0 y.1 n.end.0 (drifted_in w c can e c.ask n.end.1 (λ d is q r. never_changed c.ask e x.0 y.0 h d is)) stop;
     }
 
 -- ---- pulls
@@ -277,7 +294,7 @@ module _ (w : World) (c : Scan) (k : ℕ) (into into' : List Value) (ds : List S
             })
             refl refl (none_of c.driver) (untraced w ds));
         none = refl;
-        cause = stopped w c can e f (with_drivers w ds) y.0 y.1 p.cause (λ d of z has. p.drifted d of z (ap (source_of x) is_open.2 ∙ has)) stop;
+        cause = stopped w c can e f (with_drivers w ds) y.0 y.1 p.cause (drifted_in w c can e c.ask (λ d of z has. p.drifted d of z (ap (source_of x) is_open.2 ∙ has)) (λ d of q asked. p.joined_drifted d of q (subst (λ a. IsAskedSql a q) (sym is_open.2) asked))) stop;
       }
 
   pub pulls : (fetch : ℕ) (more : Bool) → fetch ≡ w.settings.fetch → StepsAt c.driver (λ x y. driver.Pulls k fetch into into' (Ok more) x y) w.drivers ds → Pulls c k into into' (Ok more) w (with_drivers w ds)

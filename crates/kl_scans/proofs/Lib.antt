@@ -3,3 +3,4 @@ pub mod Counted
 pub mod Moving
 pub mod Repeats
 pub mod Stepped
+pub mod Statements

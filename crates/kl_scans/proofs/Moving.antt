@@ -9,16 +9,18 @@ use Rattle.kl_ask.specs.Driver.{State, Cursor, KeepsState, Cause}
 use Rattle.kl_ask.specs.Lists.{EachSteps}
 use Rattle.kl_ask.specs.World.{World, IsReady, at_driver, at_place, at_source, source_at}
 use Rattle.kl_ask.specs.declared.ask.Ask.{Ask}
+use Rattle.kl_ask.specs.declared.ask.Ask.TheVariants as asks
 use Rattle.kl_ask.specs.declared.session.Attached.{Attached}
 use Rattle.kl_ask.specs.declared.DriverError.{DriverError}
 use Rattle.kl_ask.specs.declared.DriverError.TheVariants as error
 use Rattle.kl_ask.proofs.Worlds.{keeps_none, keeps_then, there}
 use Rattle.kl_ship.specs.declared.plan.Scan.{Scan}
-use Rattle.kl_eval.specs.World.{StoppedBy}
+use Rattle.kl_eval.specs.World.{Drifted}
 use Rattle.kl_eval.proofs.Stops.{cause_then}
 use Rattle.kl_scans.specs.Held.{Held, held_in, held_at, cursor_at, count_open, open_at, Uses, beside, Owned}
 use Rattle.kl_scans.specs.Log.{Event, started, handed, paid, times_after, asked_after, handed_after, Logged}
 use Rattle.kl_scans.specs.Moves.{Stays, Moves}
+use Rattle.kl_scans.specs.Scans.{DriftedIn, StoppedBy}
 use Rattle.kl_scans.specs.Stage.{Stage, stage}
 
 pub open_most : (w : World) (d k : ℕ) → open_at w d k ≤ 1
@@ -210,8 +212,14 @@ cause_before (error.TooLong m) a b c h k = absurd h
 cause_before (error.TooDeep p) a b c h k = absurd h
 
 -- a stop after some moves
-pub stopped_then : (l : Name) (e : DriverError) (u v : Uses) (a b c : World) → Moves u v a b → StoppedBy l e b c → StoppedBy l e a c
-stopped_then l e u v a b c m h =
+drifted_before : (ask : Ask) (e : DriverError) (a b : State) → b.attached ≡ a.attached → DriftedIn b ask e → DriftedIn a ask e
+drifted_before (asks.Rows source keep tests) e a b same h = subst (λ f. Drifted e (f source)) same h
+drifted_before (asks.Sql text) e a b same h = λ d is q r.
+    let t = h d is q r in
+    record { name = t.name; source = t.source; named = t.named; is_attached = subst (λ f. f t.name ≡ Some t.source) same t.is_attached; drifted = t.drifted }
+
+pub stopped_then : (c : Scan) (l : Name) (e : DriverError) (u v : Uses) (a b d : World) → Moves u v a b → StoppedBy c l e b d → StoppedBy c l e a d
+stopped_then c l e u v a b d m h =
     let w = there a.drivers h.place (omega (arith, slice_get_within b.drivers h.place h.before h.was, m.drivers.size)) in
     let q = m.drivers.each h.place w.0 h.before w.1 h.was in
     record {
@@ -226,14 +234,14 @@ stopped_then l e u v a b c m h =
       was = w.1;
       is = h.is;
       cause = cause_then e w.0 h.before h.then q.keeps h.cause;
-      drifted = λ d is s has. h.drifted d is s (source_stays u v a b m h.number ∙ has);
+      drifted = drifted_before c.ask e w.0 h.before q.attached h.drifted;
       want = h.want;
     }
 
 -- a stop before some moves
-pub stopped_before : (l : Name) (e : DriverError) (u v : Uses) (a b c : World) → StoppedBy l e a b → Moves u v b c → StoppedBy l e a c
-stopped_before l e u v a b c h m =
-    let w = there c.drivers h.place (omega (arith, slice_get_within b.drivers h.place h.then h.is, m.drivers.size)) in
+pub stopped_before : (c : Scan) (l : Name) (e : DriverError) (u v : Uses) (a b d : World) → StoppedBy c l e a b → Moves u v b d → StoppedBy c l e a d
+stopped_before c l e u v a b d h m =
+    let w = there d.drivers h.place (omega (arith, slice_get_within b.drivers h.place h.then h.is, m.drivers.size)) in
     let q = m.drivers.each h.place h.then w.0 h.is w.1 in
     record {
       number = h.number;

@@ -5,7 +5,7 @@ ghost use Rattle.kl_ask.specs.Asks.{kind_of};
 ghost use Rattle.kl_ask.specs.World.{IsReady};
 ghost use Rattle.kl_value.specs.declared.Kind.TheVariants as kind;
 ghost use Rattle.kl_scans.specs.Scans.{CanScan, IsWholeSet, ListsWholeSet};
-ghost use Rattle.kl_scans.specs.Stage.{RepeatsNone, stage, only_rows};
+ghost use Rattle.kl_scans.specs.Stage.{RepeatsNone, stage, only_selects};
 
 use crate::drivers::abilities_at;
 use kl_ask::{Abilities, Attached, Seen, Session, allows};
@@ -13,7 +13,8 @@ use kl_ship::Scan;
 use kl_type::Ty;
 use kl_value::Kind;
 
-/// Whether a scan is one of all rows, whole, of a set at a driver that states that it repeats no row of a set. Takes no memory.
+/// Whether a scan is one of whole rows of a set, all or those that pass its tests, at a driver that states that it repeats no
+/// row of a set. Takes no memory.
 pub fn repeats_none(session: &Session, scan: &Scan) -> bool
     requires ready { IsReady (⟦<Session as Seen>⟧.world session.now) }
     requires scan { CanScan (⟦<Session as Seen>⟧.world session.now) scan.now }
@@ -23,7 +24,7 @@ pub fn repeats_none(session: &Session, scan: &Scan) -> bool
     abilities_at(&session.drivers, scan).unique && lists_whole_set(session.sources.slice(), scan)
 }
 
-// Whether one of these is the source of the scan, a set, of which all rows are asked whole.
+// Whether one of these is the source of the scan, a set, of which whole rows are asked.
 fn lists_whole_set(sources: &[Attached], scan: &Scan) -> bool
     ensures yes { result ≡ true → ListsWholeSet sources.now scan.now }
     ensures no { ListsWholeSet sources.now scan.now → result ≡ true }
@@ -43,7 +44,7 @@ fn is_whole_set(source: &Attached, scan: &Scan) -> bool
     is_at(source, scan.driver)
         && source.source == scan.source
         && is_set(&source.ty)
-        && allows(&only_rows(), &source.ty, &scan.ask)
+        && allows(&only_selects(), &source.ty, &scan.ask)
 }
 
 fn is_at(source: &Attached, driver: u32) -> bool
@@ -70,12 +71,12 @@ fn is_set(ty: &Ty) -> bool
     }
 }
 
-// What is allowed of a driver that can do nothing more is all rows, whole.
-fn only_rows() -> Abilities
-    ensures { result ≡ only_rows }
+// What is allowed of a driver that can test rows and do nothing more is whole rows.
+fn only_selects() -> Abilities
+    ensures { result ≡ only_selects }
 {
     Abilities {
-        select: false,
+        select: true,
         project: false,
         join: false,
         unique: false,

@@ -194,3 +194,14 @@ loop_shows k u s o go f to source drawing typed h = (alike_same k s _ _ before a
 
     bodies : Alike k (drawn f (λ v. items_of (go v))) (drawn f (λ v. coming (to v)))
     bodies = alike_bodies k u f (λ v. items_of (go v)) (λ v. coming (to v)) typed (λ v i. subst (λ x. Alike k (items_of x) (coming (to v))) (h v i).0 (coming_alike k s (to v) (h v i).1))
+
+-- The same, where work of the body is left to the source: the loop draws other items through another body, and comes to the same.
+pub loop_by : (k : Kind) (u s : Ground) (f g : Flow) (go : Value → Outcome) (to : Value → Come) → FlowOf s f → Alike k f (drawn g (λ v. items_of (go v))) → FlowOf u g
+    → ((v : Value) → Inhabits u v → Same (coll k s) (go v) (to v)) → Same (coll k s) (collected k f) (many k (drawn g (λ v. coming (to v))))
+loop_by k u s f g go to before alike typed h = (alike_same k s f (drawn g (λ v. coming (to v))) before behind (alike_on k f (drawn g (λ v. items_of (go v))) (drawn g (λ v. coming (to v))) alike bodies), (s, refl, behind))
+  where
+    behind : FlowOf s (drawn g (λ v. coming (to v)))
+    behind = drawn_typed s u g (λ v. coming (to v)) typed (λ v i. coming_typed k s (to v) (h v i).1)
+
+    bodies : Alike k (drawn g (λ v. items_of (go v))) (drawn g (λ v. coming (to v)))
+    bodies = alike_bodies k u g (λ v. items_of (go v)) (λ v. coming (to v)) typed (λ v i. subst (λ x. Alike k (items_of x) (coming (to v))) (h v i).0 (coming_alike k s (to v) (h v i).1))

@@ -1,5 +1,6 @@
 -- Which sources stand in a term, as it is asked.
-use Rattle.std.proofs.Common.{◌≡◌, ℕ, Bool, true, false, not, ◌||◌, List, [], ◌∷◌, map, Option, Some, None, slice_get, refl, sym, ap, ◌∙◌}
+use Rattle.std.proofs.Common.{◌≡◌, ℕ, Bool, true, false, not, ◌||◌, List, [], ◌∷◌, map, Option, Some, None, slice_get, refl, sym, ap, subst, ◌∙◌}
+use Rattle.std.proofs.Math.Bool.{or_assoc}
 use Rattle.std.proofs.lemmas.Option.{slice_get_within}
 use Rattle.kl_outcome.specs.Outcome.{Name}
 use Rattle.kl_type.specs.Ground.{Ground, Row}
@@ -12,13 +13,10 @@ use Rattle.kl_core.specs.Typing.{CoreTypes, EachType, AllTypes, PartTypes, ArmTy
 use Rattle.kl_ship.specs.declared.needs.Need.{Need}
 use Rattle.kl_ship.specs.declared.source.ShipSource.{ShipSource}
 use Rattle.kl_ship.specs.Contents.{types_in, type_in}
-use Rattle.kl_ship.specs.Ships.{Anywhere, Nowhere, NoSource, MayStay, ground}
-use Rattle.kl_ship.specs.Shipping.{other_view, AreListed, AreListedTrees, AreListedParts, AreListedArms}
+use Rattle.kl_ship.specs.Sources.{ground}
+use Rattle.kl_ship.specs.Ships.{Anywhere, Nowhere, NoSource, MayStay}
+use Rattle.kl_ship.specs.Shipping.{other_view, IsSound, TreesSound, PartsSound, ArmsSound}
 use Rattle.kl_ship.specs.Reads.{reads_in, reads_trees, reads_parts, reads_arms}
-
-or_assoc : (x y z : Bool) → ((x || y) || z) ≡ (x || (y || z))
-or_assoc true y z = refl
-or_assoc false y z = refl
 
 pub reads_branches : (ps : List (Name × Term)) (last : Arms) → reads_arms (arms_of (map view_part ps) last) ≡ (reads_parts (parts_view ps) || reads_arms last)
 reads_branches [] last = refl
@@ -107,34 +105,35 @@ module _ (ss : List ShipSource) where
       by None is = absurd (let f : Some t ≡ None = sym e ∙ ap type_in is in cc)
 
   mutual
-    pub listed : (t : Tree) (G : List Ground) (s : Ground) → CoreTypes (types_in ss) G t s → AreListed ss t
-    listed (Var x) G s h = tt
-    listed (Const v) G s h = tt
-    listed (Source i) G s h = let k = known i s h.0 in slice_get_within ss i k.0 k.1
-    listed (Rec ps) G s h = listed_parts ps G h.0 h.3
-    listed (Proj l a) G s h = listed a G _ h.1
-    listed (Inj l a) G s h = listed a G h.1 h.5
-    listed (Case a bs) G s h = (listed a G _ h.1, listed_arms bs G h.0 s h.3)
-    listed (Make k ts) G s h = listed_each ts G h.0 h.3
-    listed (Union a b) G s h = (listed a G s h.3, listed b G s h.4)
-    listed (Ext k b a) G s h = (listed b (h.2 ∷ G) s h.5, listed a G _ h.4)
-    listed (If a b c) G s h = (listed a G _ h.0, listed b G s h.1, listed c G s h.2)
-    listed (Let a b) G s h = (listed a G h.0 h.1, listed b (h.0 ∷ G) s h.2)
-    listed (Prim c ts) G s h = listed_all ts G h.0 h.1
+    pub sound : (t : Tree) (G : List Ground) (s : Ground) → CoreTypes (types_in ss) G t s → IsSound ss t
+    sound (Var x) G s h = tt
+    sound (Const v) G s h = tt
+    sound (Source i) G s h = let k = known i s h.0 in slice_get_within ss i k.0 k.1
+    sound (Rec ps) G s h = sound_parts ps G h.0 h.3
+    sound (Proj l a) G s h = sound a G _ h.1
+    sound (Inj l a) G s h = sound a G h.1 h.5
+    sound (Case a bs) G s h = (sound a G _ h.1, sound_arms bs G h.0 s h.3)
+    sound (Make k ts) G s h = sound_each ts G h.0 h.3
+    sound (Union a b) G s h = (sound a G s h.3, sound b G s h.4)
+    sound (Ext k b a) G s h =
+        (sound b (h.2 ∷ G) s h.5, sound a G _ h.4, record { near = G; kind = h.1; row = h.2; item = h.0; source = h.4; body = subst (CoreTypes (types_in ss) (h.2 ∷ G) b) h.3 h.5 })
+    sound (If a b c) G s h = (sound a G _ h.0, sound b G s h.1, sound c G s h.2)
+    sound (Let a b) G s h = (sound a G h.0 h.1, sound b (h.0 ∷ G) s h.2)
+    sound (Prim c ts) G s h = sound_all ts G h.0 h.1
 
-    listed_each : (ts : Trees) (G : List Ground) (s : Ground) → EachType (types_in ss) G ts s → AreListedTrees ss ts
-    listed_each no_trees G s h = tt
-    listed_each (trees t ts) G s h = (listed t G s h.0, listed_each ts G s h.1)
+    sound_each : (ts : Trees) (G : List Ground) (s : Ground) → EachType (types_in ss) G ts s → TreesSound ss ts
+    sound_each no_trees G s h = tt
+    sound_each (trees t ts) G s h = (sound t G s h.0, sound_each ts G s h.1)
 
-    listed_all : (ts : Trees) (G : List Ground) (us : List Ground) → AllTypes (types_in ss) G ts us → AreListedTrees ss ts
-    listed_all no_trees G us h = tt
-    listed_all (trees t ts) G us h = (listed t G h.0 h.3, listed_all ts G h.1 h.4)
+    sound_all : (ts : Trees) (G : List Ground) (us : List Ground) → AllTypes (types_in ss) G ts us → TreesSound ss ts
+    sound_all no_trees G us h = tt
+    sound_all (trees t ts) G us h = (sound t G h.0 h.3, sound_all ts G h.1 h.4)
 
-    listed_parts : (ps : Parts) (G : List Ground) (r : Row) → PartTypes (types_in ss) G ps r → AreListedParts ss ps
-    listed_parts no_parts G r h = tt
-    listed_parts (parts l t ps) G r h = (listed t G h.0 h.3, listed_parts ps G h.1 h.4)
+    sound_parts : (ps : Parts) (G : List Ground) (r : Row) → PartTypes (types_in ss) G ps r → PartsSound ss ps
+    sound_parts no_parts G r h = tt
+    sound_parts (parts l t ps) G r h = (sound t G h.0 h.3, sound_parts ps G h.1 h.4)
 
-    listed_arms : (bs : Arms) (G : List Ground) (r : Row) (s : Ground) → ArmTypes (types_in ss) G bs r s → AreListedArms ss bs
-    listed_arms no_arms G r s h = tt
-    listed_arms (rest c) G r s h = listed c G s h
-    listed_arms (arm l b bs) G r s h = (listed b (h.0 ∷ G) s h.2, listed_arms bs G r s h.3)
+    sound_arms : (bs : Arms) (G : List Ground) (r : Row) (s : Ground) → ArmTypes (types_in ss) G bs r s → ArmsSound ss bs
+    sound_arms no_arms G r s h = tt
+    sound_arms (rest c) G r s h = sound c G s h
+    sound_arms (arm l b bs) G r s h = (sound b (h.0 ∷ G) s h.2, sound_arms bs G r s h.3)

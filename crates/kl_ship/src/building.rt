@@ -10,6 +10,9 @@ use kl_core::Term;
 use kl_value::Kind;
 
 /// A term, as it stands.
+///
+/// # Errors
+/// Want of memory.
 pub fn plain(term: Result<Term, NoMemory>) -> Result<Plan, NoMemory>
     ensures { Makes (λ t. plan.Plain t) term result }
 {
@@ -17,6 +20,9 @@ pub fn plain(term: Result<Term, NoMemory>) -> Result<Plan, NoMemory>
 }
 
 /// A scan.
+///
+/// # Errors
+/// Want of memory.
 pub fn scanning(scan: Result<Scan, NoMemory>) -> Result<Plan, NoMemory>
     ensures { Makes (λ c. plan.Scan c) scan result }
 {
@@ -24,6 +30,9 @@ pub fn scanning(scan: Result<Scan, NoMemory>) -> Result<Plan, NoMemory>
 }
 
 /// A record of these fields.
+///
+/// # Errors
+/// Want of memory.
 pub fn record(fields: Result<PlanFields, NoMemory>) -> Result<Plan, NoMemory>
     ensures { Makes (λ fs. plan.Rec fs) fields result }
 {
@@ -31,6 +40,9 @@ pub fn record(fields: Result<PlanFields, NoMemory>) -> Result<Plan, NoMemory>
 }
 
 /// The field under this label.
+///
+/// # Errors
+/// Want of memory.
 pub fn projection(label: &Label, whole: Result<Box<Plan>, NoMemory>) -> Result<Plan, NoMemory>
     ensures { Makes (λ a. plan.Proj label.now a) whole result }
 {
@@ -39,6 +51,9 @@ pub fn projection(label: &Label, whole: Result<Box<Plan>, NoMemory>) -> Result<P
 }
 
 /// A variant of this label.
+///
+/// # Errors
+/// Want of memory.
 pub fn injection(label: &Label, carried: Result<Box<Plan>, NoMemory>) -> Result<Plan, NoMemory>
     ensures { Makes (λ a. plan.Inj label.now a) carried result }
 {
@@ -47,6 +62,9 @@ pub fn injection(label: &Label, carried: Result<Box<Plan>, NoMemory>) -> Result<
 }
 
 /// A collection of these items.
+///
+/// # Errors
+/// Want of memory.
 pub fn collection(kind: Kind, items: Result<Plans, NoMemory>) -> Result<Plan, NoMemory>
     ensures { Makes (λ ps. plan.Make kind ps) items result }
 {
@@ -54,6 +72,9 @@ pub fn collection(kind: Kind, items: Result<Plans, NoMemory>) -> Result<Plan, No
 }
 
 /// Two collections as one.
+///
+/// # Errors
+/// Want of memory.
 pub fn union(
     first: Result<Box<Plan>, NoMemory>,
     second: Result<Box<Plan>, NoMemory>,
@@ -64,6 +85,9 @@ pub fn union(
 }
 
 /// The items of a body for each item of a source.
+///
+/// # Errors
+/// Want of memory.
 pub fn extension(
     kind: Kind,
     source: Result<Box<Plan>, NoMemory>,
@@ -76,6 +100,9 @@ pub fn extension(
 }
 
 /// A body where position 0 stands for a bound value.
+///
+/// # Errors
+/// Want of memory.
 pub fn binding(
     bound: Result<Box<Plan>, NoMemory>,
     body: Result<Box<Plan>, NoMemory>,
@@ -86,6 +113,9 @@ pub fn binding(
 }
 
 /// One of two parts, by a condition.
+///
+/// # Errors
+/// Want of memory.
 pub fn test(
     condition: Result<Box<Plan>, NoMemory>,
     yes: Result<Box<Plan>, NoMemory>,
@@ -97,6 +127,9 @@ pub fn test(
 }
 
 /// The branch for the label of a variant, or the last part.
+///
+/// # Errors
+/// Want of memory.
 pub fn case(
     subject: Result<Box<Plan>, NoMemory>,
     branches: Result<PlanBranches, NoMemory>,
@@ -108,6 +141,9 @@ pub fn case(
 }
 
 /// A primitive, by its code, of these arguments.
+///
+/// # Errors
+/// Want of memory.
 pub fn primitive(code: u8, args: Result<Plans, NoMemory>) -> Result<Plan, NoMemory>
     ensures { Makes (λ ps. plan.Prim code ps) args result }
 {

@@ -5,16 +5,25 @@
 #![tactic(auto)]
 
 mod building;
+mod conditions;
 mod counting;
+mod erased;
+mod full;
 mod laws;
 mod needs;
+mod one_row;
 mod plan;
 mod reads;
 mod scanning;
 mod shipping;
 mod source;
+mod sql_scan;
+mod statements;
+mod tests;
+mod used;
 
 pub use counting::count_scans;
+pub use full::fully_shipped;
 pub use laws::plan_laws;
 pub use needs::Need;
 pub use plan::{Frees, Join, JoinKey, Plan, PlanBranches, PlanFields, Plans, Scan};

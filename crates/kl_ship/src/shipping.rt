@@ -1,36 +1,52 @@
-//! Plans of terms, where no work is left to sources.
-ghost use Rattle.std.specs.Prelude.{◌≡◌, ◌≤◌, ◌<◌, ◌+◌, ◌^◌, All, IfOk, true, length};
+//! Plans of terms.
+ghost use Rattle.std.specs.Prelude.{◌≡◌, ◌≤◌, ◌<◌, ◌+◌, ◌^◌, ◌&&◌, Bool, IfOk, Some, true, false, length, slice_get};
+ghost use Rattle.std.specs.List.{AllByRecursion};
+ghost use Rattle.std.specs.Option.{option_map};
 ghost use Rattle.kl_core.specs.Trees.{Source, trees_view, parts_view, view as term_view};
-ghost use Rattle.kl_core.specs.Counts.{nodes_of, nodes_trees, nodes_parts, nodes_arms};
-ghost use Rattle.kl_ask.specs.Driver.{Suits};
-ghost use Rattle.kl_ship.specs.Contents.{MakesSense};
+ghost use Rattle.kl_core.specs.Counts.{nodes_of};
+ghost use Rattle.kl_core.specs.Building.{Makes};
+ghost use Rattle.kl_type.specs.Ground.{IsGround};
+ghost use Rattle.kl_ship.specs.declared.source.ShipSource.{ShipSource as ASource};
+ghost use Rattle.kl_ship.specs.declared.needs.Need.TheVariants as need;
+ghost use Rattle.kl_ship.specs.declared.plan.Plan.TheVariants as plan;
+ghost use Rattle.kl_ship.specs.Contents.{AreSources, MakesSense};
+ghost use Rattle.kl_ship.specs.Delegation.{body_left, left};
+ghost use Rattle.kl_ship.specs.Full.{FullyShipped};
 ghost use Rattle.kl_ship.specs.Nodes.{view, nodes_view, fields_view};
 ghost use Rattle.kl_ship.specs.Numbers.{NumbersDiffer};
-ghost use Rattle.kl_ship.specs.Shipping.{AreListed, AreListedTrees, AreListedParts, AreListedArms, arms_view, other_view, other_node};
+ghost use Rattle.kl_ship.specs.Shipping.{IsSound, TreesSound, PartsSound, ArmsSound, LoopSense, arms_view, other_view, other_node};
+ghost use Rattle.kl_ship.specs.Shipping.{IsBehind, behind_statement};
 ghost use Rattle.kl_ship.specs.Shipping.{UnionBecomes, LoopBecomes, LetBecomes, IfBecomes, CaseBecomes};
-ghost use Rattle.kl_ship.specs.Ships.{Ships, ground, Becomes, TreesBecome, PartsBecome, ArmsBecome};
+ghost use Rattle.kl_ship.specs.Ships.{Ships, Becomes, TreesBecome, PartsBecome, ArmsBecome};
 ghost use Rattle.kl_ship.specs.Ships.{MayStay, NoSource, passed_on, is_single};
+ghost use Rattle.kl_ship.specs.Sizes.{sources_in, sources_trees, sources_parts, sources_arms};
+ghost use Rattle.kl_ship.specs.Sizes.{loops_in, loops_trees, loops_parts, loops_arms};
+ghost use Rattle.kl_ship.specs.Sources.{fits, ground};
 ghost use Rattle.kl_ship.specs.Typing.{KeepsTypes};
 
 use crate::building::{
     binding, case, collection, extension, injection, plain, primitive, projection, record,
     scanning, test, union,
 };
+use crate::conditions::{is_front, is_test};
 use crate::needs::Need;
-use crate::plan::{Plan, PlanFields, Plans};
+use crate::plan::{Plan, PlanFields, Plans, Scan};
 use crate::reads::reads;
-use crate::scanning::whole_scan;
+use crate::scanning::{fits_loop, rows_scan, whole_scan};
 use crate::source::ShipSource;
+use crate::sql_scan::statement_scan;
 use kl_ask::Settings;
 use kl_base::{Box, Label, NoMemory, Seq};
 use kl_core::{Term, TermBranches};
 use kl_value::Kind;
 use std::alloc::Global;
 
-/// The plan of a term that makes sense over these sources. No work is left to them yet, and no setting tells plans apart: every
-/// scan is for all rows of a source with all columns, and there is no join and no memo.
+/// The plan of a term that makes sense over these sources. With `settings.delegate` as much work as can be is left to the drivers
+/// of the sources: tests, columns and joins; without it every scan is for all rows of a source with all columns. There is no join
+/// and no memo yet.
 ///
-/// Each source has a type that a driver with its abilities may suit, and the term has no free position.
+/// Each source has a proper type that a driver with its abilities may suit, the sources of one driver have the same abilities, and
+/// the term has no free position.
 ///
 /// # Errors
 /// Want of memory.
@@ -38,17 +54,26 @@ pub fn ship(
     alloc: Global,
     term: &Term,
     sources: &[ShipSource],
-    _settings: &Settings,
+    settings: &Settings,
 ) -> Result<Plan, NoMemory>
     requires sense { MakesSense sources.now (term_view term.now) }
     requires small { nodes_of (term_view term.now) ≤ 16384 }
-    requires suited { All (λ s. Suits s.abilities (ground s)) sources.now }
-    ensures ships { IfOk result (λ p. Ships sources.now (term_view term.now) (view p)) }
+    requires sources { AreSources sources.now }
+    requires proper { AllByRecursion (λ s. IsGround (ground s)) sources.now }
+    ensures ships { IfOk result (λ p. Ships settings.now.delegate sources.now (term_view term.now) (view p)) }
     ensures sense { IfOk result (λ p. KeepsTypes sources.now (term_view term.now) (view p)) }
     ensures numbers { IfOk result (λ p. NumbersDiffer (view p)) }
+    ensures full { settings.now.delegate ≡ true → IfOk result (λ p. FullyShipped sources.now (view p)) }
 {
     let mut number = 0;
-    part(alloc, term, Need::Items, sources, &mut number)
+    part(
+        alloc,
+        term,
+        Need::Items,
+        settings.delegate,
+        sources,
+        &mut number,
+    )
 }
 
 // Whether the value of a term is made whole in any case.
@@ -101,13 +126,17 @@ pub fn part(
     alloc: Global,
     term: &Term,
     need: Need,
+    delegate: bool,
     sources: &[ShipSource],
     number: &mut u32,
 ) -> Result<Plan, NoMemory>
-    requires listed { AreListed sources.now (term_view term.now) }
-    requires room { number.old + nodes_of (term_view term.now) < 2 ^ 32 }
-    ensures becomes { IfOk result (λ p. Becomes sources.now need (term_view term.now) number.old (view p) number.new) }
-    ensures counts { number.new ≤ number.old + nodes_of (term_view term.now) }
+    requires sound { IsSound sources.now (term_view term.now) }
+    requires sources { AreSources sources.now }
+    requires proper { AllByRecursion (λ s. IsGround (ground s)) sources.now }
+    requires room { number.old + sources_in (term_view term.now) < 2 ^ 32 }
+    requires few { loops_in (term_view term.now) ≤ 9000 }
+    ensures becomes { IfOk result (λ p. Becomes delegate sources.now need (term_view term.now) number.old (view p) number.new) }
+    ensures counts { number.new ≤ number.old + sources_in (term_view term.now) }
 {
     if stays(term, need) {
         return plain(term.dup(alloc));
@@ -116,18 +145,44 @@ pub fn part(
         Term::Var(x) => Ok(Plan::Var(*x)),
         Term::Const(_) => plain(term.dup(alloc)),
         Term::Source(place) => reading(alloc, *place, need, sources, number),
-        Term::Rec(fields) => record(labelled(alloc, fields.slice(), Need::Whole, sources, number)),
-        Term::Proj(label, a) => projection(label, boxed(alloc, a, Need::Whole, sources, number)),
-        Term::Inj(label, a) => injection(label, boxed(alloc, a, Need::Whole, sources, number)),
-        Term::Case(a, branches, other) => {
-            cased(alloc, a, branches, other, passes_on(need), sources, number)
-        }
-        Term::Make(kind, terms) => collection(*kind, all(alloc, terms.slice(), sources, number)),
-        Term::Union(a, b) => united(alloc, a, b, passes_on(need), sources, number),
-        Term::Ext(kind, body, over) => looped(alloc, *kind, body, over, sources, number),
-        Term::If(a, b, c) => tested(alloc, a, b, c, passes_on(need), sources, number),
-        Term::Let(a, b) => bound(alloc, a, b, passes_on(need), sources, number),
-        Term::Prim(code, terms) => primitive(*code, all(alloc, terms.slice(), sources, number)),
+        Term::Rec(fields) => record(labelled(
+            alloc,
+            fields.slice(),
+            Need::Whole,
+            delegate,
+            sources,
+            number,
+        )),
+        Term::Proj(label, a) => projection(
+            label,
+            boxed(alloc, a, Need::Whole, delegate, sources, number),
+        ),
+        Term::Inj(label, a) => injection(
+            label,
+            boxed(alloc, a, Need::Whole, delegate, sources, number),
+        ),
+        Term::Case(a, branches, other) => cased(
+            alloc,
+            a,
+            branches,
+            other,
+            passes_on(need),
+            delegate,
+            sources,
+            number,
+        ),
+        Term::Make(kind, terms) => collection(
+            *kind,
+            all(alloc, terms.slice(), delegate, sources, number),
+        ),
+        Term::Union(a, b) => united(alloc, a, b, passes_on(need), delegate, sources, number),
+        Term::Ext(kind, body, over) => looped(alloc, *kind, body, over, delegate, sources, number),
+        Term::If(a, b, c) => tested(alloc, a, b, c, passes_on(need), delegate, sources, number),
+        Term::Let(a, b) => bound(alloc, a, b, passes_on(need), delegate, sources, number),
+        Term::Prim(code, terms) => primitive(
+            *code,
+            all(alloc, terms.slice(), delegate, sources, number),
+        ),
     }
 }
 
@@ -150,7 +205,7 @@ fn reading(
 ) -> Result<Plan, NoMemory>
     requires listed { place < length sources.now }
     requires room { number.old + 1 < 2 ^ 32 }
-    ensures becomes { IfOk result (λ p. Becomes sources.now need (Source place) number.old (view p) number.new) }
+    ensures becomes { (on : Bool) → IfOk result (λ p. Becomes on sources.now need (Source place) number.old (view p) number.new) }
     ensures counts { number.new ≤ number.old + 1 }
 {
     let here = next(number);
@@ -162,15 +217,22 @@ fn boxed(
     alloc: Global,
     term: &Box<Term>,
     need: Need,
+    delegate: bool,
     sources: &[ShipSource],
     number: &mut u32,
 ) -> Result<Box<Plan>, NoMemory>
-    requires listed { AreListed sources.now (term_view term.now) }
-    requires room { number.old + nodes_of (term_view term.now) < 2 ^ 32 }
-    ensures becomes { IfOk result (λ p. Becomes sources.now need (term_view term.now) number.old (view p) number.new) }
-    ensures counts { number.new ≤ number.old + nodes_of (term_view term.now) }
+    requires sound { IsSound sources.now (term_view term.now) }
+    requires sources { AreSources sources.now }
+    requires proper { AllByRecursion (λ s. IsGround (ground s)) sources.now }
+    requires room { number.old + sources_in (term_view term.now) < 2 ^ 32 }
+    requires few { loops_in (term_view term.now) ≤ 9000 }
+    ensures becomes { IfOk result (λ p. Becomes delegate sources.now need (term_view term.now) number.old (view p) number.new) }
+    ensures counts { number.new ≤ number.old + sources_in (term_view term.now) }
 {
-    Box::new(alloc, part(alloc, term.get(), need, sources, number)?)
+    Box::new(
+        alloc,
+        part(alloc, term.get(), need, delegate, sources, number)?,
+    )
 }
 
 #[cycle(part)]
@@ -179,17 +241,22 @@ fn united(
     a: &Box<Term>,
     b: &Box<Term>,
     need: Need,
+    delegate: bool,
     sources: &[ShipSource],
     number: &mut u32,
 ) -> Result<Plan, NoMemory>
-    requires first { AreListed sources.now (term_view a.now) }
-    requires second { AreListed sources.now (term_view b.now) }
-    requires room { number.old + (nodes_of (term_view a.now) + nodes_of (term_view b.now)) < 2 ^ 32 }
-    ensures becomes { IfOk result (λ p. UnionBecomes sources.now need (term_view a.now) (term_view b.now) number.old (view p) number.new) }
-    ensures counts { number.new ≤ number.old + (nodes_of (term_view a.now) + nodes_of (term_view b.now)) }
+    requires first { IsSound sources.now (term_view a.now) }
+    requires second { IsSound sources.now (term_view b.now) }
+    requires sources { AreSources sources.now }
+    requires proper { AllByRecursion (λ s. IsGround (ground s)) sources.now }
+    requires room { number.old + (sources_in (term_view a.now) + sources_in (term_view b.now)) < 2 ^ 32 }
+    requires few { (loops_in (term_view a.now) + loops_in (term_view b.now)) ≤ 9000 }
+    ensures becomes { IfOk result (λ p. UnionBecomes delegate sources.now need (term_view a.now) (term_view b.now) number.old
+        (view p) number.new) }
+    ensures counts { number.new ≤ number.old + (sources_in (term_view a.now) + sources_in (term_view b.now)) }
 {
-    let first = boxed(alloc, a, need, sources, number);
-    let second = boxed(alloc, b, need, sources, number);
+    let first = boxed(alloc, a, need, delegate, sources, number);
+    let second = boxed(alloc, b, need, delegate, sources, number);
     union(first, second)
 }
 
@@ -199,18 +266,28 @@ fn looped(
     kind: Kind,
     body: &Box<Term>,
     over: &Box<Term>,
+    delegate: bool,
     sources: &[ShipSource],
     number: &mut u32,
 ) -> Result<Plan, NoMemory>
-    requires body { AreListed sources.now (term_view body.now) }
-    requires over { AreListed sources.now (term_view over.now) }
-    requires room { number.old + (nodes_of (term_view body.now) + nodes_of (term_view over.now)) < 2 ^ 32 }
-    ensures becomes { IfOk result (λ p. LoopBecomes sources.now kind (term_view body.now) (term_view over.now) number.old
+    requires body { IsSound sources.now (term_view body.now) }
+    requires over { IsSound sources.now (term_view over.now) }
+    requires sense { LoopSense sources.now kind (term_view body.now) (term_view over.now) }
+    requires sources { AreSources sources.now }
+    requires proper { AllByRecursion (λ s. IsGround (ground s)) sources.now }
+    requires room { number.old + (sources_in (term_view body.now) + sources_in (term_view over.now)) < 2 ^ 32 }
+    requires few { 1 + (loops_in (term_view body.now) + loops_in (term_view over.now)) ≤ 9000 }
+    ensures becomes { IfOk result (λ p. LoopBecomes delegate sources.now kind (term_view body.now) (term_view over.now) number.old
         (view p) number.new) }
-    ensures counts { number.new ≤ number.old + (nodes_of (term_view body.now) + nodes_of (term_view over.now)) }
+    ensures counts { number.new ≤ number.old + (sources_in (term_view body.now) + sources_in (term_view over.now)) }
 {
-    let source = boxed(alloc, over, Need::Source(kind), sources, number);
-    let inside = boxed(alloc, body, Need::Items, sources, number);
+    if delegate {
+        if let Term::Source(place) = over.get() {
+            return generator(alloc, kind, body, *place, sources, number);
+        }
+    }
+    let source = boxed(alloc, over, Need::Source(kind), delegate, sources, number);
+    let inside = boxed(alloc, body, Need::Items, delegate, sources, number);
     extension(kind, source, inside)
 }
 
@@ -220,17 +297,22 @@ fn bound(
     a: &Box<Term>,
     b: &Box<Term>,
     need: Need,
+    delegate: bool,
     sources: &[ShipSource],
     number: &mut u32,
 ) -> Result<Plan, NoMemory>
-    requires first { AreListed sources.now (term_view a.now) }
-    requires second { AreListed sources.now (term_view b.now) }
-    requires room { number.old + (nodes_of (term_view a.now) + nodes_of (term_view b.now)) < 2 ^ 32 }
-    ensures becomes { IfOk result (λ p. LetBecomes sources.now need (term_view a.now) (term_view b.now) number.old (view p) number.new) }
-    ensures counts { number.new ≤ number.old + (nodes_of (term_view a.now) + nodes_of (term_view b.now)) }
+    requires first { IsSound sources.now (term_view a.now) }
+    requires second { IsSound sources.now (term_view b.now) }
+    requires sources { AreSources sources.now }
+    requires proper { AllByRecursion (λ s. IsGround (ground s)) sources.now }
+    requires room { number.old + (sources_in (term_view a.now) + sources_in (term_view b.now)) < 2 ^ 32 }
+    requires few { (loops_in (term_view a.now) + loops_in (term_view b.now)) ≤ 9000 }
+    ensures becomes { IfOk result (λ p. LetBecomes delegate sources.now need (term_view a.now) (term_view b.now) number.old
+        (view p) number.new) }
+    ensures counts { number.new ≤ number.old + (sources_in (term_view a.now) + sources_in (term_view b.now)) }
 {
-    let first = boxed(alloc, a, Need::Whole, sources, number);
-    let second = boxed(alloc, b, need, sources, number);
+    let first = boxed(alloc, a, Need::Whole, delegate, sources, number);
+    let second = boxed(alloc, b, need, delegate, sources, number);
     binding(first, second)
 }
 
@@ -241,20 +323,25 @@ fn tested(
     b: &Box<Term>,
     c: &Box<Term>,
     need: Need,
+    delegate: bool,
     sources: &[ShipSource],
     number: &mut u32,
 ) -> Result<Plan, NoMemory>
-    requires condition { AreListed sources.now (term_view a.now) }
-    requires yes { AreListed sources.now (term_view b.now) }
-    requires no { AreListed sources.now (term_view c.now) }
-    requires room { number.old + (nodes_of (term_view a.now) + (nodes_of (term_view b.now) + nodes_of (term_view c.now))) < 2 ^ 32 }
-    ensures becomes { IfOk result (λ p. IfBecomes sources.now need (term_view a.now) (term_view b.now) (term_view c.now) number.old
+    requires condition { IsSound sources.now (term_view a.now) }
+    requires yes { IsSound sources.now (term_view b.now) }
+    requires no { IsSound sources.now (term_view c.now) }
+    requires sources { AreSources sources.now }
+    requires proper { AllByRecursion (λ s. IsGround (ground s)) sources.now }
+    requires room { number.old + (sources_in (term_view a.now) + (sources_in (term_view b.now) + sources_in (term_view c.now))) < 2 ^ 32 }
+    requires few { (loops_in (term_view a.now) + (loops_in (term_view b.now) + loops_in (term_view c.now))) ≤ 9000 }
+    ensures becomes { IfOk result (λ p. IfBecomes delegate sources.now need (term_view a.now) (term_view b.now) (term_view c.now) number.old
         (view p) number.new) }
-    ensures counts { number.new ≤ number.old + (nodes_of (term_view a.now) + (nodes_of (term_view b.now) + nodes_of (term_view c.now))) }
+    ensures counts { number.new ≤ number.old
+        + (sources_in (term_view a.now) + (sources_in (term_view b.now) + sources_in (term_view c.now))) }
 {
-    let condition = boxed(alloc, a, Need::Whole, sources, number);
-    let yes = boxed(alloc, b, need, sources, number);
-    let no = boxed(alloc, c, need, sources, number);
+    let condition = boxed(alloc, a, Need::Whole, delegate, sources, number);
+    let yes = boxed(alloc, b, need, delegate, sources, number);
+    let no = boxed(alloc, c, need, delegate, sources, number);
     test(condition, yes, no)
 }
 
@@ -265,22 +352,26 @@ fn cased(
     branches: &TermBranches,
     other: &Option<Box<Term>>,
     need: Need,
+    delegate: bool,
     sources: &[ShipSource],
     number: &mut u32,
 ) -> Result<Plan, NoMemory>
-    requires subject { AreListed sources.now (term_view a.now) }
-    requires branches { AreListedParts sources.now (parts_view branches.now) }
-    requires other { AreListedArms sources.now (other_view other.now) }
-    requires room { number.old + (nodes_of (term_view a.now) +
-        (nodes_parts (parts_view branches.now) + nodes_arms (other_view other.now))) < 2 ^ 32 }
-    ensures becomes { IfOk result (λ p. CaseBecomes sources.now need (term_view a.now) (arms_view branches.now other.now) number.old
-        (view p) number.new) }
-    ensures counts { number.new ≤ number.old + (nodes_of (term_view a.now) +
-        (nodes_parts (parts_view branches.now) + nodes_arms (other_view other.now))) }
+    requires subject { IsSound sources.now (term_view a.now) }
+    requires branches { PartsSound sources.now (parts_view branches.now) }
+    requires other { ArmsSound sources.now (other_view other.now) }
+    requires sources { AreSources sources.now }
+    requires proper { AllByRecursion (λ s. IsGround (ground s)) sources.now }
+    requires room { number.old
+        + (sources_in (term_view a.now) + (sources_parts (parts_view branches.now) + sources_arms (other_view other.now))) < 2 ^ 32 }
+    requires few { (loops_in (term_view a.now) + (loops_parts (parts_view branches.now) + loops_arms (other_view other.now))) ≤ 9000 }
+    ensures becomes { IfOk result (λ p. CaseBecomes delegate sources.now need (term_view a.now) (arms_view branches.now other.now)
+        number.old (view p) number.new) }
+    ensures counts { number.new ≤ number.old
+        + (sources_in (term_view a.now) + (sources_parts (parts_view branches.now) + sources_arms (other_view other.now))) }
 {
-    let subject = boxed(alloc, a, Need::Whole, sources, number);
-    let made = labelled(alloc, branches.slice(), need, sources, number);
-    let last = otherwise(alloc, other, need, sources, number);
+    let subject = boxed(alloc, a, Need::Whole, delegate, sources, number);
+    let made = labelled(alloc, branches.slice(), need, delegate, sources, number);
+    let last = otherwise(alloc, other, need, delegate, sources, number);
     case(subject, made, last)
 }
 
@@ -289,16 +380,20 @@ fn otherwise(
     alloc: Global,
     other: &Option<Box<Term>>,
     need: Need,
+    delegate: bool,
     sources: &[ShipSource],
     number: &mut u32,
 ) -> Result<Option<Box<Plan>>, NoMemory>
-    requires listed { AreListedArms sources.now (other_view other.now) }
-    requires room { number.old + nodes_arms (other_view other.now) < 2 ^ 32 }
-    ensures becomes { IfOk result (λ o. ArmsBecome sources.now need (other_view other.now) number.old (other_node o) number.new) }
-    ensures counts { number.new ≤ number.old + nodes_arms (other_view other.now) }
+    requires sound { ArmsSound sources.now (other_view other.now) }
+    requires sources { AreSources sources.now }
+    requires proper { AllByRecursion (λ s. IsGround (ground s)) sources.now }
+    requires room { number.old + sources_arms (other_view other.now) < 2 ^ 32 }
+    requires few { loops_arms (other_view other.now) ≤ 9000 }
+    ensures becomes { IfOk result (λ o. ArmsBecome delegate sources.now need (other_view other.now) number.old (other_node o) number.new) }
+    ensures counts { number.new ≤ number.old + sources_arms (other_view other.now) }
 {
     match other {
-        Some(other) => Ok(Some(boxed(alloc, other, need, sources, number)?)),
+        Some(other) => Ok(Some(boxed(alloc, other, need, delegate, sources, number)?)),
         None => Ok(None),
     }
 }
@@ -307,17 +402,21 @@ fn otherwise(
 fn all(
     alloc: Global,
     terms: &[Term],
+    delegate: bool,
     sources: &[ShipSource],
     number: &mut u32,
 ) -> Result<Plans, NoMemory>
-    requires listed { AreListedTrees sources.now (trees_view terms.now) }
-    requires room { number.old + nodes_trees (trees_view terms.now) < 2 ^ 32 }
-    ensures becomes { IfOk result (λ ps. TreesBecome sources.now (trees_view terms.now) number.old (nodes_view ps) number.new) }
-    ensures counts { number.new ≤ number.old + nodes_trees (trees_view terms.now) }
+    requires sound { TreesSound sources.now (trees_view terms.now) }
+    requires sources { AreSources sources.now }
+    requires proper { AllByRecursion (λ s. IsGround (ground s)) sources.now }
+    requires room { number.old + sources_trees (trees_view terms.now) < 2 ^ 32 }
+    requires few { loops_trees (trees_view terms.now) ≤ 9000 }
+    ensures becomes { IfOk result (λ ps. TreesBecome delegate sources.now (trees_view terms.now) number.old (nodes_view ps) number.new) }
+    ensures counts { number.new ≤ number.old + sources_trees (trees_view terms.now) }
 {
     let mut made = Vec::with_capacity(alloc, terms.len())?;
     for term in terms {
-        made.push(part(alloc, term, Need::Whole, sources, number)?)?;
+        made.push(part(alloc, term, Need::Whole, delegate, sources, number)?)?;
     }
     Ok(Seq::of(made))
 }
@@ -327,18 +426,218 @@ fn labelled(
     alloc: Global,
     parts: &[(Label, Term)],
     need: Need,
+    delegate: bool,
     sources: &[ShipSource],
     number: &mut u32,
 ) -> Result<PlanFields, NoMemory>
-    requires listed { AreListedParts sources.now (parts_view parts.now) }
-    requires room { number.old + nodes_parts (parts_view parts.now) < 2 ^ 32 }
-    ensures becomes { IfOk result (λ ps. PartsBecome sources.now need (parts_view parts.now) number.old (fields_view ps) number.new) }
-    ensures counts { number.new ≤ number.old + nodes_parts (parts_view parts.now) }
+    requires sound { PartsSound sources.now (parts_view parts.now) }
+    requires sources { AreSources sources.now }
+    requires proper { AllByRecursion (λ s. IsGround (ground s)) sources.now }
+    requires room { number.old + sources_parts (parts_view parts.now) < 2 ^ 32 }
+    requires few { loops_parts (parts_view parts.now) ≤ 9000 }
+    ensures becomes { IfOk result (λ ps. PartsBecome delegate sources.now need (parts_view parts.now)
+        number.old (fields_view ps) number.new) }
+    ensures counts { number.new ≤ number.old + sources_parts (parts_view parts.now) }
 {
     let mut made = Vec::with_capacity(alloc, parts.len())?;
     for item in parts {
         let label = item.0.dup()?;
-        made.push((label, part(alloc, &item.1, need, sources, number)?))?;
+        made.push((
+            label,
+            part(alloc, &item.1, need, delegate, sources, number)?,
+        ))?;
     }
     Ok(Seq::of(made))
+}
+
+// A loop over a source whose driver is left work of its body.
+#[cycle(part)]
+fn generator(
+    alloc: Global,
+    kind: Kind,
+    body: &Box<Term>,
+    place: u32,
+    sources: &[ShipSource],
+    number: &mut u32,
+) -> Result<Plan, NoMemory>
+    requires body { IsSound sources.now (term_view body.now) }
+    requires listed { place < length sources.now }
+    requires sense { LoopSense sources.now kind (term_view body.now) (Source place) }
+    requires sources { AreSources sources.now }
+    requires proper { AllByRecursion (λ s. IsGround (ground s)) sources.now }
+    requires room { number.old + (sources_in (term_view body.now) + 1) < 2 ^ 32 }
+    requires few { 1 + loops_in (term_view body.now) ≤ 9000 }
+    ensures becomes { IfOk result (λ p. LoopBecomes true sources.now kind (term_view body.now) (Source place)
+        number.old (view p) number.new) }
+    ensures counts { number.new ≤ number.old + (sources_in (term_view body.now) + 1) }
+{
+    let source = &sources[place as usize];
+    if source.abilities.join && fits_loop(kind, source) {
+        stated(alloc, kind, body, place, sources, number)
+    } else {
+        asked(alloc, kind, body, place, sources, number)
+    }
+}
+
+// The driver is asked for rows: it makes the tests of the front that it can, and shows the columns in use.
+#[cycle(part)]
+fn asked(
+    alloc: Global,
+    kind: Kind,
+    body: &Box<Term>,
+    place: u32,
+    sources: &[ShipSource],
+    number: &mut u32,
+) -> Result<Plan, NoMemory>
+    requires body { IsSound sources.now (term_view body.now) }
+    requires listed { place < length sources.now }
+    requires sense { LoopSense sources.now kind (term_view body.now) (Source place) }
+    requires sources { AreSources sources.now }
+    requires proper { AllByRecursion (λ s. IsGround (ground s)) sources.now }
+    requires room { number.old + (sources_in (term_view body.now) + 1) < 2 ^ 32 }
+    requires few { 1 + loops_in (term_view body.now) ≤ 9000 }
+    requires rows { (s : ASource) → slice_get sources.now place ≡ Some s → (fits kind s && s.abilities.join) ≡ false }
+    ensures becomes { IfOk result (λ p. LoopBecomes true sources.now kind (term_view body.now) (Source place)
+        number.old (view p) number.new) }
+    ensures counts { number.new ≤ number.old + (sources_in (term_view body.now) + 1) }
+{
+    let here = next(number);
+    let source = &sources[place as usize];
+    let scan = boxed_scan(alloc, rows_scan(alloc, source, kind, body.get(), here));
+    let inside = drawn(alloc, source.abilities.select, kind, body, sources, number);
+    extension(kind, scan, inside)
+}
+
+// The driver is asked by a statement, which joins the loops inside that it can.
+#[cycle(part)]
+fn stated(
+    alloc: Global,
+    kind: Kind,
+    body: &Box<Term>,
+    place: u32,
+    sources: &[ShipSource],
+    number: &mut u32,
+) -> Result<Plan, NoMemory>
+    requires body { IsSound sources.now (term_view body.now) }
+    requires listed { place < length sources.now }
+    requires sense { LoopSense sources.now kind (term_view body.now) (Source place) }
+    requires sources { AreSources sources.now }
+    requires proper { AllByRecursion (λ s. IsGround (ground s)) sources.now }
+    requires room { number.old + (sources_in (term_view body.now) + 1) < 2 ^ 32 }
+    requires few { 1 + loops_in (term_view body.now) ≤ 9000 }
+    requires joins { (s : ASource) → slice_get sources.now place ≡ Some s → (fits kind s && s.abilities.join) ≡ true }
+    ensures becomes { IfOk result (λ p. LoopBecomes true sources.now kind (term_view body.now) (Source place)
+        number.old (view p) number.new) }
+    ensures counts { number.new ≤ number.old + (sources_in (term_view body.now) + 1) }
+{
+    let here = next(number);
+    let (scan, packed) = statement_scan(alloc, sources, place, kind, body.get(), here)?;
+    let inside = behind(alloc, kind, body, place, &packed, sources, number);
+    extension(kind, Ok(scan), inside)
+}
+
+// The body over what a statement shows.
+#[cycle(part)]
+fn behind(
+    alloc: Global,
+    kind: Kind,
+    body: &Box<Term>,
+    place: u32,
+    packed: &Option<Box<Term>>,
+    sources: &[ShipSource],
+    number: &mut u32,
+) -> Result<Box<Plan>, NoMemory>
+    requires body { IsSound sources.now (term_view body.now) }
+    requires listed { place < length sources.now }
+    requires sense { LoopSense sources.now kind (term_view body.now) (Source place) }
+    requires sources { AreSources sources.now }
+    requires proper { AllByRecursion (λ s. IsGround (ground s)) sources.now }
+    requires room { number.old + sources_in (term_view body.now) < 2 ^ 32 }
+    requires few { 1 + loops_in (term_view body.now) ≤ 9000 }
+    requires joins { (s : ASource) → slice_get sources.now place ≡ Some s → (fits kind s && s.abilities.join) ≡ true }
+    requires stated { (s : ASource) → slice_get sources.now place ≡ Some s
+        → IsBehind sources.now s kind (term_view body.now) (option_map term_view packed.now) }
+    ensures becomes { (s : ASource) → slice_get sources.now place ≡ Some s
+        → IfOk result (λ p. Becomes true sources.now need.Items
+        (behind_statement s kind (term_view body.now) (option_map term_view packed.now)) number.old (view p) number.new) }
+    ensures counts { number.new ≤ number.old + sources_in (term_view body.now) }
+{
+    match packed {
+        Some(packed) => boxed(alloc, packed, Need::Items, true, sources, number),
+        None => {
+            let select = sources[place as usize].abilities.select;
+            drawn(alloc, select, kind, body, sources, number)
+        }
+    }
+}
+
+fn boxed_scan(alloc: Global, scan: Result<Scan, NoMemory>) -> Result<Box<Plan>, NoMemory>
+    ensures { Makes (λ c. plan.Scan c) scan result }
+{
+    Box::new(alloc, Plan::Scan(scan?))
+}
+
+// What is left of a body where the driver makes the tests of its front.
+#[cycle(part)]
+fn drawn(
+    alloc: Global,
+    select: bool,
+    kind: Kind,
+    body: &Box<Term>,
+    sources: &[ShipSource],
+    number: &mut u32,
+) -> Result<Box<Plan>, NoMemory>
+    requires sound { IsSound sources.now (term_view body.now) }
+    requires sources { AreSources sources.now }
+    requires proper { AllByRecursion (λ s. IsGround (ground s)) sources.now }
+    requires room { number.old + sources_in (term_view body.now) < 2 ^ 32 }
+    requires few { loops_in (term_view body.now) ≤ 9000 }
+    ensures becomes { IfOk result (λ p. Becomes true sources.now need.Items (body_left select kind 1 (term_view body.now)) number.old
+        (view p) number.new) }
+    ensures counts { number.new ≤ number.old + sources_in (term_view body.now) }
+{
+    if select {
+        if let Term::If(condition, yes, no) = body.get() {
+            if is_front(kind, condition.get(), no.get()) {
+                if is_test(1, condition.get()) {
+                    return drawn(alloc, select, kind, yes, sources, number);
+                }
+                return Box::new(
+                    alloc,
+                    chosen(alloc, kind, condition, yes, no, sources, number)?,
+                );
+            }
+        }
+    }
+    boxed(alloc, body, Need::Items, true, sources, number)
+}
+
+// A condition of a front that is no test of the row alone.
+#[cycle(part)]
+fn chosen(
+    alloc: Global,
+    kind: Kind,
+    condition: &Box<Term>,
+    yes: &Box<Term>,
+    no: &Box<Term>,
+    sources: &[ShipSource],
+    number: &mut u32,
+) -> Result<Plan, NoMemory>
+    requires condition { IsSound sources.now (term_view condition.now) }
+    requires yes { IsSound sources.now (term_view yes.now) }
+    requires no { IsSound sources.now (term_view no.now) }
+    requires sources { AreSources sources.now }
+    requires proper { AllByRecursion (λ s. IsGround (ground s)) sources.now }
+    requires room { number.old
+        + (sources_in (term_view condition.now) + (sources_in (term_view yes.now) + sources_in (term_view no.now))) < 2 ^ 32 }
+    requires few { (loops_in (term_view condition.now) + (loops_in (term_view yes.now) + loops_in (term_view no.now))) ≤ 9000 }
+    ensures becomes { IfOk result (λ p. IfBecomes true sources.now need.Items (term_view condition.now) (left kind 1 (term_view yes.now))
+        (term_view no.now) number.old (view p) number.new) }
+    ensures counts { number.new ≤ number.old
+        + (sources_in (term_view condition.now) + (sources_in (term_view yes.now) + sources_in (term_view no.now))) }
+{
+    let made = boxed(alloc, condition, Need::Whole, true, sources, number);
+    let drawn = drawn(alloc, true, kind, yes, sources, number);
+    let other = boxed(alloc, no, Need::Items, true, sources, number);
+    test(made, drawn, other)
 }

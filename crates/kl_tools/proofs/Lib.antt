@@ -4,3 +4,4 @@ pub mod MadeRows
 pub mod MadeTypes
 pub mod RowLemmas
 pub mod Shortness
+pub mod Telling

@@ -1,5 +1,5 @@
 -- The catalogue over made rows is short.
-use Rattle.std.proofs.Common.{◌<◌, ◌≤◌, ◌+◌, ◌^◌, ◌≡◌, ℕ, List, ◌++◌, length, length-append, ap, arith, codes, decimal, ◌∙◌, refl, subst, sym}
+use Rattle.std.proofs.Common.{◌<◌, ◌≤◌, ◌+◌, ◌^◌, ◌≡◌, ℕ, List, ◌++◌, length, length-append, arith, codes, decimal, refl, subst, sym}
 use Rattle.std.proofs.lemmas.Fmt.{length-decimal-le}
 use Rattle.kl_tools.specs.Texts.{catalogue_text, source_text}
 

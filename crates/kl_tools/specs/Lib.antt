@@ -1,5 +1,6 @@
 pub mod Cursors
 pub mod Driver
+pub mod Explained
 pub mod Made
 pub mod Texts
 pub mod Types

@@ -1,4 +1,5 @@
-//! Made rows: the driver `made`, whose sources are rows by a formula, and the program over them that the command `gen` runs.
+//! What a plan asks of the drivers, as text; and made rows: the driver `made`, whose sources are rows by a formula, and the
+//! program over them that the command `gen` runs.
 //!
 //! Row i of a source with a seed is `[grp=(seed + 7 * i) mod 100, id=i, name="n.."]`, where the digits of
 //! `(seed + i) mod 1000` follow the `n`: `specs/Made.antt`.
@@ -8,6 +9,7 @@
 #![tactic(auto)]
 
 mod driver;
+mod explaining;
 mod handing;
 mod locator;
 mod parts;
@@ -17,4 +19,5 @@ mod texts;
 mod types;
 
 pub use driver::MadeDriver;
+pub use explaining::{SeenNames, explain};
 pub use texts::{GenTexts, gen_texts};

@@ -14,7 +14,8 @@ pub struct GenTexts {
 }
 
 const PROGRAM: &[u8] =
-    b"define big == {|[id=x.id, name=y.name] | \\x <- g, \\y <- h, x.grp = y.id|};\n[groups=count({x.grp | \\x <- g}), join=count(big), rows=count(g), total=sum({|x.grp | \\x <- g|})];\n";
+    b"define big == {|[id=x.id, name=y.name] | \\x <- g, \\y <- h, x.grp = y.id|};\n\
+    [groups=count({x.grp | \\x <- g}), join=count(big), rows=count(g), total=sum({|x.grp | \\x <- g|})];\n";
 
 /// The program that `gen` runs, and its catalogue: a source `g` of so many made rows and a source `h` of 100, with one
 /// seed; the groups of `g`, its join with `h`, its rows, and the sum of its groups.

@@ -25,7 +25,7 @@ use Rattle.clap.proofs.WalkLemmas.{both, one_text-rows}
 use Rattle.kl_ask.specs.declared.settings.JoinHow.{JoinHow}
 use Rattle.kl_words.specs.declared.command.Job.{Job}
 use Rattle.kl_words.specs.declared.command.WordsError.{WordsError}
-use Rattle.kl_words.specs.Lines.{gen_line, program_line, run_line}
+use Rattle.kl_words.specs.Lines.{gen_line, job_line, program_line}
 use Rattle.kl_words.specs.Commands.{AnswersWanted, AreInRange, job_by, job_of, join_of, number_of, number_told, numbers_of, settings_of}
 use Rattle.kl_words.proofs.Reading.{told_reads}
 
@@ -57,25 +57,25 @@ TakesOne id low high r = bytes_eq r.id id ≡ true → r.parser ≡ Some (parser
 no : {X : Type 0} → false ≡ true → X
 no e = absurd (true≢false (sym e))
 
-takes_block : Each (TakesOne (codes "block") 1 65536) run_line.top.rules
-unfolding Each TakesOne run_line program_line
-takes_block = (no, (no, (λ e. refl, (no, (no, (no, (no, (no, (no, (no, tt))))))))))
+takes_block : (name : Text) → Each (TakesOne (codes "block") 1 65536) (job_line name).top.rules
+unfolding Each TakesOne job_line program_line
+takes_block name = (no, (no, (λ e. refl, (no, (no, (no, (no, (no, (no, (no, tt))))))))))
 
-takes_fetch : Each (TakesOne (codes "fetch") 1 4096) run_line.top.rules
-unfolding Each TakesOne run_line program_line
-takes_fetch = (no, (no, (no, (λ e. refl, (no, (no, (no, (no, (no, (no, tt))))))))))
+takes_fetch : (name : Text) → Each (TakesOne (codes "fetch") 1 4096) (job_line name).top.rules
+unfolding Each TakesOne job_line program_line
+takes_fetch name = (no, (no, (no, (λ e. refl, (no, (no, (no, (no, (no, (no, tt))))))))))
 
-takes_cache : Each (TakesOne (codes "cache") 0 4096) run_line.top.rules
-unfolding Each TakesOne run_line program_line
-takes_cache = (no, (no, (no, (no, (λ e. refl, (no, (no, (no, (no, (no, tt))))))))))
+takes_cache : (name : Text) → Each (TakesOne (codes "cache") 0 4096) (job_line name).top.rules
+unfolding Each TakesOne job_line program_line
+takes_cache name = (no, (no, (no, (no, (λ e. refl, (no, (no, (no, (no, (no, tt))))))))))
 
-run_plain : run_line.top.is_plain ≡ true
-unfolding run_line program_line
-run_plain = refl
+job_plain : (name : Text) → (job_line name).top.is_plain ≡ true
+unfolding job_line program_line
+job_plain name = refl
 
-all_simple : Each (λ r. r.is_simple ≡ true) run_line.top.rules
-unfolding Each run_line program_line
-all_simple = (refl, (refl, (refl, (refl, (refl, (refl, (refl, (refl, (refl, (refl, tt))))))))))
+all_simple : (name : Text) → Each (λ r. r.is_simple ≡ true) (job_line name).top.rules
+unfolding Each job_line program_line
+all_simple name = (refl, (refl, (refl, (refl, (refl, (refl, (refl, (refl, (refl, (refl, tt))))))))))
 
 takes_size : Each (TakesOne (codes "size") 0 1000000) gen_line.top.rules
 unfolding Each TakesOne gen_line
@@ -230,24 +230,24 @@ known line a id low high is takes simple plain help version name = record {
   is_named = name;
 }
 
-settings_in : (line : Command) (m : ArgMatches) (how : JoinHow) → app_of line ≡ run_line → IsParsedFrom line m
+settings_in : (name : Text) (line : Command) (m : ArgMatches) (how : JoinHow) → app_of line ≡ job_line name → IsParsedFrom line m
     → AreInRange (settings_of (rows_of (found_of m)) how)
-settings_in line m how is p = record {
-  block = kept _ 1 65536 256 (number_in line m p (codes "block") 1 65536 (known line run_line (codes "block") 1 65536 is takes_block all_simple run_plain refl refl (λ e. cc)) (omega arith)) (omega arith) (omega arith);
-  fetch = kept _ 1 4096 64 (number_in line m p (codes "fetch") 1 4096 (known line run_line (codes "fetch") 1 4096 is takes_fetch all_simple run_plain refl refl (λ e. cc)) (omega arith)) (omega arith) (omega arith);
-  cache = (kept _ 0 4096 64 (number_in line m p (codes "cache") 0 4096 (known line run_line (codes "cache") 0 4096 is takes_cache all_simple run_plain refl refl (λ e. cc)) (omega arith)) (omega arith) (omega arith)).1;
+settings_in name line m how is p = record {
+  block = kept _ 1 65536 256 (number_in line m p (codes "block") 1 65536 (known line (job_line name) (codes "block") 1 65536 is (takes_block name) (all_simple name) (job_plain name) refl refl (λ e. cc)) (omega arith)) (omega arith) (omega arith);
+  fetch = kept _ 1 4096 64 (number_in line m p (codes "fetch") 1 4096 (known line (job_line name) (codes "fetch") 1 4096 is (takes_fetch name) (all_simple name) (job_plain name) refl refl (λ e. cc)) (omega arith)) (omega arith) (omega arith);
+  cache = (kept _ 0 4096 64 (number_in line m p (codes "cache") 0 4096 (known line (job_line name) (codes "cache") 0 4096 is (takes_cache name) (all_simple name) (job_plain name) refl refl (λ e. cc)) (omega arith)) (omega arith) (omega arith)).1;
 }
 
-pub job_in : (line : Command) (m : ArgMatches) (r : Result Job WordsError) → app_of line ≡ run_line → IsParsedFrom line m
+pub job_in : (name : Text) (line : Command) (m : ArgMatches) (r : Result Job WordsError) → app_of line ≡ job_line name → IsParsedFrom line m
     → AnswersWanted (job_of (rows_of (found_of m))) r → IfOk r (λ j. AreInRange j.settings)
-job_in line m (Err e) is p h = tt
-job_in line m (Ok j) is p h = go (join_of (rows_of (found_of m))) h
+job_in name line m (Err e) is p h = tt
+job_in name line m (Ok j) is p h = go (join_of (rows_of (found_of m))) h
   where
     go : (o : Option JoinHow) → option_map (job_by (rows_of (found_of m))) o ≡ Some j → AreInRange j.settings
     go None e = cc
     go (Some how) e =
         let same : job_by (rows_of (found_of m)) how ≡ j = ap (λ (o : Option Job). unwrap_or o j) e in
-        subst (λ (x : Job). AreInRange x.settings) same (settings_in line m how is p)
+        subst (λ (x : Job). AreInRange x.settings) same (settings_in name line m how is p)
 
 -- ---- the number of rows
 

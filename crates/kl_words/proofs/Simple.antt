@@ -1,11 +1,11 @@
 -- The command lines are such whose reading clap defines.
 use Rattle.std.proofs.Common.{◌≡◌, true, refl}
 use Rattle.clap.specs.Words.{Text, is_simple_and_free}
-use Rattle.kl_words.specs.Lines.{gen_line, program_line, run_line, show_line}
+use Rattle.kl_words.specs.Lines.{gen_line, job_line, program_line, show_line}
 
-pub run_simple : is_simple_and_free run_line ≡ true
-unfolding run_line program_line
-run_simple = refl
+pub job_simple : (name : Text) → is_simple_and_free (job_line name) ≡ true
+unfolding job_line program_line
+job_simple name = refl
 
 pub program_simple : (name : Text) → is_simple_and_free (program_line name) ≡ true
 unfolding program_line

@@ -15,7 +15,7 @@ use Rattle.kl_words.specs.declared.command.Command.TheVariants as command
 use Rattle.kl_words.specs.declared.command.Job.{Job}
 use Rattle.kl_words.specs.declared.command.WordsError.{WordsError}
 use Rattle.kl_words.specs.declared.command.WordsError.TheVariants.{NoMemory, Usage}
-use Rattle.kl_words.specs.Lines.{gen_line, program_line, run_line, show_line}
+use Rattle.kl_words.specs.Lines.{gen_line, job_line, program_line, show_line}
 
 -- ---- what clap reads
 
@@ -88,6 +88,10 @@ paths_of rows = (path_at (codes "program") rows, first_of (codes "catalogue") ro
 abbrev pub on_program : Text → List Text → Option (Text × Option Text)
 on_program name words = option_map paths_of (reading (program_line name) words)
 
+-- a job, for a command of this name
+abbrev pub on_job : Text → List Text → Option Job
+on_job name words = option_and_then job_of (reading (job_line name) words)
+
 -- a seed and a number of rows
 abbrev pub numbers_of : List Row → Option (ℕ × ℕ)
 numbers_of rows = option_and_then (λ seed. option_map (λ size. (seed, size)) (number_of (codes "size") rows))
@@ -96,7 +100,8 @@ numbers_of rows = option_and_then (λ seed. option_map (λ size. (seed, size)) (
 -- the command that the first word names, of the words behind it, which clap reads with the first before them
 abbrev pub named : Text → List Text → Option Command
 named name words =
-    if bytes_eq name (codes "run") then option_map command.Run (option_and_then job_of (reading run_line words))
+    if bytes_eq name (codes "run") then option_map command.Run (on_job (codes "run") words)
+    else if bytes_eq name (codes "explain") then option_map command.Explain (on_job (codes "explain") words)
     else if bytes_eq name (codes "types") then option_map (λ p. command.Types p.0 p.1) (on_program (codes "types") words)
     else if bytes_eq name (codes "check") then option_map (λ p. command.Check p.0 p.1) (on_program (codes "check") words)
     else if bytes_eq name (codes "show") then option_map command.Show (option_map (path_at (codes "file")) (reading show_line words))
@@ -119,6 +124,7 @@ pub record AreInRange (s : Settings) : Type 0 where
 
 abbrev pub KeepsLimits : Command → Type 0
 KeepsLimits (command.Run job) = AreInRange job.settings
+KeepsLimits (command.Explain job) = AreInRange job.settings
 KeepsLimits (command.Gen seed size) = size ≤ 1000000
 KeepsLimits other = ⊤
 

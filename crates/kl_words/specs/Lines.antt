@@ -31,12 +31,12 @@ flag_rule name = record (new_rule name) { long = Some name; action = Some SetTru
 unfoldable pub program_line : Text → App
 program_line name = with_rule (with_rule (new_app name) (place_rule (codes "program") true)) (place_rule (codes "catalogue") false)
 
--- `run`, with its options
-unfoldable pub run_line : App
+-- a command on a program with the options of a run
+unfoldable pub job_line : Text → App
 unfolding program_line
-run_line =
+job_line name =
     with_rule (with_rule (with_rule (with_rule (with_rule (with_rule (with_rule (with_rule
-    (program_line (codes "run"))
+    (program_line name)
     (number_rule (codes "block") (pos 1) (pos 65536)))
     (number_rule (codes "fetch") (pos 1) (pos 4096)))
     (number_rule (codes "cache") (pos 0) (pos 4096)))

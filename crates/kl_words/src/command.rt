@@ -39,6 +39,8 @@ impl From<AllocError> for WordsError {
 pub enum Command {
     /// A program is run, and its value printed.
     Run(Job),
+    /// What a program asks of its sources is listed. It is not run, so `first` and `stats` of the job say nothing here.
+    Explain(Job),
     /// The types of a program's declarations are listed.
     Types {
         program: Text,
@@ -60,7 +62,7 @@ pub enum Command {
     },
 }
 
-/// A program that is to be run.
+/// A program that is to be run or explained.
 #[derive(Drop, PartialEq, Eq)]
 pub struct Job {
     /// The path of the program.

@@ -1,7 +1,7 @@
 //! The command lines, as `clap` is told them.
 ghost use Rattle.std.specs.Prelude.{◌≡◌, false, IfOk};
 ghost use Rattle.clap.specs.Words.{app_of, rule_of};
-ghost use Rattle.kl_words.specs.Lines.{amount_rule, flag_rule, gen_line, number_rule, place_rule, program_line, run_line};
+ghost use Rattle.kl_words.specs.Lines.{amount_rule, flag_rule, gen_line, job_line, number_rule, place_rule, program_line};
 ghost use Rattle.kl_words.specs.Lines.{show_line, text_rule};
 
 use clap::builder::ValueParser;
@@ -59,14 +59,14 @@ pub fn program<'a>(alloc: Global, name: &'a str) -> Result<Command<'a>, AllocErr
         .arg(place(alloc, "catalogue", false))
 }
 
-/// `run`, with its options.
+/// A command on a program, with the options of a run.
 ///
 /// # Errors
 /// Want of memory.
-pub fn run<'a>(alloc: Global) -> Result<Command<'a>, AllocError>
-    ensures { IfOk result (λ line. app_of line ≡ run_line) }
+pub fn job<'a>(alloc: Global, name: &'a str) -> Result<Command<'a>, AllocError>
+    ensures { IfOk result (λ line. app_of line ≡ job_line name.entry.now) }
 {
-    program(alloc, "run")?
+    program(alloc, name)?
         .arg(number(alloc, "block", 1, 65_536))?
         .arg(number(alloc, "fetch", 1, 4_096))?
         .arg(number(alloc, "cache", 0, 4_096))?

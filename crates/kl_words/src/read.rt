@@ -1,9 +1,9 @@
 //! Reads the words.
 ghost use Rattle.std.specs.Prelude.{◌≡◌, ◌≢◌, ◌≤◌, IfOk, IfErr, codes, map, string_bytes, None, Some, option_and_then, option_map, true};
 ghost use Rattle.clap.specs.Words.{app_of, first_of, found_of, IsParsedFrom, is_simple_and_free, kind_of, rows_of};
-ghost use Rattle.kl_words.specs.Lines.{gen_line, program_line, run_line, show_line};
+ghost use Rattle.kl_words.specs.Lines.{gen_line, show_line};
 ghost use Rattle.kl_words.specs.Commands.{AnswersWanted, AreInRange, KeepsLimits, OnlyWants, command_of, reading};
-ghost use Rattle.kl_words.specs.Commands.{has_flag, job_of, join_named, join_of, number_of, numbers_of, on_program, path_at};
+ghost use Rattle.kl_words.specs.Commands.{has_flag, job_of, join_named, join_of, number_of, numbers_of, on_job, on_program, path_at};
 
 use crate::command::{Command, Job, WordsError};
 use crate::line;
@@ -125,11 +125,12 @@ fn job(alloc: Global, matches: &ArgMatches<'_>) -> Result<Job, WordsError>
     })
 }
 
-fn run(alloc: Global, words: &[String]) -> Result<Job, WordsError>
-    ensures meant { AnswersWanted (option_and_then job_of (reading run_line (map string_bytes words.now))) result }
+// A job, behind a command of this name.
+fn read_job(alloc: Global, name: &str, words: &[String]) -> Result<Job, WordsError>
+    ensures meant { AnswersWanted (on_job name.now (map string_bytes words.now)) result }
     ensures within { IfOk result (λ job. AreInRange job.settings) }
 {
-    let matches = read_line(line::run(alloc)?, words)?;
+    let matches = read_line(line::job(alloc, name)?, words)?;
     job(alloc, &matches)
 }
 
@@ -171,9 +172,9 @@ fn made(alloc: Global, words: &[String]) -> Result<(u32, u32), WordsError>
 
 /// The command of the words, which leave out the program's own name.
 ///
-/// `run PROGRAM [CATALOGUE]` has the options `--block N` (1 to 65,536; 256 where it is not given), `--fetch N` (1 to
-/// 4,096; 64), `--cache N` (0 to 4,096; 64), `--join block` or `--join index` (the second), `--no-rewrite`,
-/// `--no-delegate`, `--first N` (0 to 4,294,967,295) and `--stats`. `types PROGRAM [CATALOGUE]`, `check PROGRAM
+/// `run PROGRAM [CATALOGUE]` and `explain PROGRAM [CATALOGUE]` have the options `--block N` (1 to 65,536; 256 where it is
+/// not given), `--fetch N` (1 to 4,096; 64), `--cache N` (0 to 4,096; 64), `--join block` or `--join index` (the second),
+/// `--no-rewrite`, `--no-delegate`, `--first N` (0 to 4,294,967,295) and `--stats`. `types PROGRAM [CATALOGUE]`, `check PROGRAM
 /// [CATALOGUE]`, `show FILE` and `gen SEED N` (0 to 4,294,967,295; 0 to 1,000,000) have none. A number is digits, with a
 /// sign before them or not.
 ///
@@ -186,7 +187,10 @@ pub fn read_words(alloc: Global, words: &[String]) -> Result<Command, WordsError
     ensures within { IfOk result KeepsLimits }
 {
     match words {
-        [name, ..] if name.as_str() == "run" => Ok(Command::Run(run(alloc, words)?)),
+        [name, ..] if name.as_str() == "run" => Ok(Command::Run(read_job(alloc, "run", words)?)),
+        [name, ..] if name.as_str() == "explain" => {
+            Ok(Command::Explain(read_job(alloc, "explain", words)?))
+        }
         [name, ..] if name.as_str() == "types" => {
             let (program, catalogue) = paths(alloc, "types", words)?;
             Ok(Command::Types { program, catalogue })

@@ -13,4 +13,4 @@ pub plan_of-requires-clause-placed : goal.plan_of-requires-clause-placed
 plan_of-requires-clause-placed c = none_placed _ _ refl
 
 pub returns : goal.returns
-returns c = (_, _, c.in_ok-plan.ensures, constant_small _)
+returns c = (_, _, _, c.in_ok-plan.ensures, constant_small _)

@@ -29,7 +29,7 @@ returns-in-Ok-planned-clause-does g c = c.answer_over-result.ensures.does
 pub returns-in-Ok-planned-clause-plan : goal.returns-in-Ok-planned-clause-plan
 returns-in-Ok-planned-clause-plan g c =
     translated_plan c.args.how c.args.sources.items (is_marked c.args.scoped.now) (decls_of c.args.scoped.now.program.defs) (view c.args.scoped.now.program.last) c.args.scoped.now.sources _ _ _ _ _ _ _ _ _ _
-    (rw c.deref.ensures.value at c.in-Ok-planned.ensures.plan) c.in-Ok-planned.ensures.trace c.answer_over-result.ensures.rest _ c.requires.term c.in-Ok.ensures.rewritten c.answer_over-result.ensures.late c.answer_over-result.ensures.counts
+    c.requires.placed (rw c.deref.ensures.value at c.in-Ok-planned.ensures.plan) c.in-Ok-planned.ensures.trace c.answer_over-result.ensures.rest _ c.requires.term c.in-Ok.ensures.rewritten c.answer_over-result.ensures.late c.answer_over-result.ensures.counts
 
 pub returns-in-Ok-planned-clause-asks : goal.returns-in-Ok-planned-clause-asks
 returns-in-Ok-planned-clause-asks g c = c.answer_over-result.ensures.asks

@@ -2,7 +2,8 @@ use Rattle.std.proofs.Common.{Some, ap, refl, subst, sym, ◌∙◌}
 use Rattle.kl_engine.specs.Answering.{IsRunning}
 use Rattle.kl_engine.specs.Commands.{NamesNoFile, asked}
 use Rattle.kl_engine.specs.Planned.{plan_in}
-use Rattle.kl_engine.proofs.CountLemmas.{gen_plan, run_plan}
+use Rattle.kl_engine.proofs.CountLemmas.{explain_plan, gen_plan, run_plan}
+use Rattle.kl_engine.proofs.ExplainLemmas.{found_explains, lines_told, undone_explains}
 use Rattle.kl_engine.proofs.StatsLemmas.{handed_is, run_told}
 use Rattle.kl_engine.proofs.TopLemmas.{does_found, does_none, does_wanted, show_at}
 use Rattle.kl_engine.proofs.top.kleisli.Goals as goal
@@ -63,3 +64,39 @@ returns-in-Ok-Check-clause-silent g c = λ running. absurd (subst (λ o. IsRunni
 
 pub returns-in-Ok-Show-clause-silent : goal.returns-in-Ok-Show-clause-silent
 returns-in-Ok-Show-clause-silent g c = λ running. absurd (subst (λ o. IsRunning (asked o)) (c.in-Ok-Show.ensures.meant ∙ ap Some c.in-Ok-Show.field-0-is) running)
+
+pub returns-in-Ok-Explain-clause-plan : goal.returns-in-Ok-Explain-clause-plan
+returns-in-Ok-Explain-clause-plan g c =
+    explain_plan _ _ _ _ _ _ _ _ c.end-in-Ok-Explain.ensures.fault c.end-in-Ok-Explain.ensures.plan c.end-in-Ok-Explain.ensures.trace _ _ _ _ c.in-Ok-Explain.job (c.in-Ok-Explain.ensures.meant ∙ ap Some c.in-Ok-Explain.field-0-is) c.do_explain-result.ensures.plan
+
+pub returns-in-Ok-Explain-clause-explains : goal.returns-in-Ok-Explain-clause-explains
+returns-in-Ok-Explain-clause-explains g c =
+    found_explains _ _ _ _ _ _ _ (c.in-Ok-Explain.ensures.meant ∙ ap Some c.in-Ok-Explain.field-0-is)
+    (lines_told _ _ _ _ _ _ _ c.end-in-Ok-Explain.ensures.fault c.end-in-Ok-Explain.ensures.plan c.do_explain-result.ensures.lines)
+
+pub returns-in-Ok-Explain-clause-no_file : goal.returns-in-Ok-Explain-clause-no_file
+returns-in-Ok-Explain-clause-no_file g c = λ none. absurd (subst (λ o. NamesNoFile (asked o)) (c.in-Ok-Explain.ensures.meant ∙ ap Some c.in-Ok-Explain.field-0-is) none)
+
+pub returns-in-Ok-Explain-clause-silent : goal.returns-in-Ok-Explain-clause-silent
+returns-in-Ok-Explain-clause-silent g c = λ running. absurd (subst (λ o. IsRunning (asked o)) (c.in-Ok-Explain.ensures.meant ∙ ap Some c.in-Ok-Explain.field-0-is) running)
+
+pub returns-in-Ok-Run-clause-explains : goal.returns-in-Ok-Run-clause-explains
+returns-in-Ok-Run-clause-explains g c = found_explains _ _ _ _ _ _ _ (c.in-Ok-Run.ensures.meant ∙ ap Some c.in-Ok-Run.field-0-is) tt
+
+pub returns-in-Ok-Types-clause-explains : goal.returns-in-Ok-Types-clause-explains
+returns-in-Ok-Types-clause-explains g c = found_explains _ _ _ _ _ _ _ (c.in-Ok-Types.ensures.meant ∙ ap Some c.in-Ok-Types.field-0-is) tt
+
+pub returns-in-Ok-Check-clause-explains : goal.returns-in-Ok-Check-clause-explains
+returns-in-Ok-Check-clause-explains g c = found_explains _ _ _ _ _ _ _ (c.in-Ok-Check.ensures.meant ∙ ap Some c.in-Ok-Check.field-0-is) tt
+
+pub returns-in-Ok-Show-clause-explains : goal.returns-in-Ok-Show-clause-explains
+returns-in-Ok-Show-clause-explains g c = found_explains _ _ _ _ _ _ _ (c.in-Ok-Show.ensures.meant ∙ ap Some c.in-Ok-Show.field-0-is) tt
+
+pub returns-in-Ok-Gen-clause-explains : goal.returns-in-Ok-Gen-clause-explains
+returns-in-Ok-Gen-clause-explains g c = found_explains _ _ _ _ _ _ _ (c.in-Ok-Gen.ensures.meant ∙ ap Some c.in-Ok-Gen.field-0-is) tt
+
+pub returns-in-Err-Usage-clause-explains : goal.returns-in-Err-Usage-clause-explains
+returns-in-Err-Usage-clause-explains g c = undone_explains _ _ _ _ _ c.end-in-Err-Usage.ensures.plan
+
+pub returns-in-Err-NoMemory-clause-explains : goal.returns-in-Err-NoMemory-clause-explains
+returns-in-Err-NoMemory-clause-explains g c = undone_explains _ _ _ _ _ c.end-in-Err-NoMemory.ensures.plan

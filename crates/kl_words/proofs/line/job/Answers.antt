@@ -1,11 +1,11 @@
 use Rattle.std.proofs.Common.{◌∙◌, ap₂}
 use Rattle.std.proofs.lemmas.Result.{IfOk-weaker}
 use Rattle.clap.specs.Words.{with_rule}
-use Rattle.kl_words.specs.Lines.{run_line}
-use Rattle.kl_words.proofs.line.run.Goals as goal
+use Rattle.kl_words.specs.Lines.{job_line}
+use Rattle.kl_words.proofs.line.job.Goals as goal
 
 pub returns : goal.returns
-unfolding run_line
+unfolding job_line
 returns c =
     let one = c.in_ok-arg.ensures.shape c.number.ensures.local ∙ ap₂ with_rule c.in_ok-program.ensures c.number.ensures.rule in
     let two = c.in_ok-arg-2.ensures.shape c.number-2.ensures.local ∙ ap₂ with_rule one c.number-2.ensures.rule in

@@ -1,0 +1,10 @@
+use Rattle.std.proofs.Common.{ap, ◌∙◌}
+use Rattle.kl_core.specs.Trees.{view}
+use Rattle.kl_core.proofs.Views.{view_If}
+use Rattle.kl_ship.proofs.Finding.{none_taken}
+use Rattle.kl_ship.proofs.conditions.+takes_none.Goals as goal
+
+pub returns-then-not-is_test : goal.returns-then-not-is_test
+returns-then-not-is_test t c =
+    none_taken view _ _ _ _ _ _ _ _ _ _ _ _ _ (ap view c.in-If.is ∙ view_If _ _ _) c.get.ensures c.get-in-If.ensures c.is_front.ensures c.if-is_front.true
+    c.get-then-is_front.ensures c.is_test.ensures c.if-not-is_test.true c.get-then-not-is_test.ensures c.takes_none.ensures

@@ -1,0 +1,244 @@
+//! Whether a plan leaves no work that the drivers of its sources could do.
+ghost use Rattle.std.specs.Prelude.{◌≡◌, ◌⊎◌, ◌≤◌, ◌&&◌, List, length, map, nat_eq, IfOk};
+ghost use Rattle.std.specs.Bool.{Decides};
+ghost use Rattle.std.specs.Cmp.Lexicographic.{pointwise};
+ghost use Rattle.std.specs.List.{AllByRecursion, list_all};
+ghost use Rattle.kl_outcome.specs.Outcome.{Name};
+ghost use Rattle.kl_ship.specs.Full.{Shows, IsUsed, IsFull, IsFullAt, FullyShipped, FullNodes, FullFields};
+ghost use Rattle.kl_ship.specs.Nodes.{Scan as scan_node, view, nodes_view, fields_view};
+ghost use Rattle.kl_ship.specs.Whether.{has_tests, is_scan_by, is_loop_by, has_loop};
+
+use crate::conditions::is_same;
+use crate::erased::{column_use, takes_none, whole_use};
+use crate::plan::{Plan, Scan};
+use crate::source::ShipSource;
+use kl_ask::Ask;
+use kl_base::{Label, NoMemory};
+use kl_sqltext::{SqlError, read_sql};
+use kl_value::Kind;
+use std::alloc::Global;
+
+/// Whether no place of the plan has a test, a column or a loop that the driver there could take over.
+///
+/// # Errors
+/// Want of memory: the columns that a statement shows stand in its text, which is read.
+#[cycle(fully_shipped)]
+pub fn fully_shipped(alloc: Global, plan: &Plan, sources: &[ShipSource]) -> Result<bool, NoMemory>
+    ensures { IfOk result (λ b. Decides b (FullyShipped sources.now (view plan.now))) }
+{
+    match plan {
+        Plan::Plain(_) | Plan::Var(_) | Plan::Scan(_) => Ok(true),
+        Plan::Rec(fields) => are_full_labelled(alloc, fields.slice(), sources),
+        Plan::Proj(_, a) => fully_shipped(alloc, a.get(), sources),
+        Plan::Inj(_, a) => fully_shipped(alloc, a.get(), sources),
+        Plan::Case(a, branches, other) => {
+            if !fully_shipped(alloc, a.get(), sources)? {
+                return Ok(false);
+            }
+            if !are_full_labelled(alloc, branches.slice(), sources)? {
+                return Ok(false);
+            }
+            match other {
+                Some(other) => fully_shipped(alloc, other.get(), sources),
+                None => Ok(true),
+            }
+        }
+        Plan::Make(_, plans) => are_full(alloc, plans.slice(), sources),
+        Plan::Union(a, b) => {
+            if !fully_shipped(alloc, a.get(), sources)? {
+                return Ok(false);
+            }
+            fully_shipped(alloc, b.get(), sources)
+        }
+        Plan::Ext(kind, body, source) => {
+            if !fully_shipped(alloc, source.get(), sources)? {
+                return Ok(false);
+            }
+            if !fully_shipped(alloc, body.get(), sources)? {
+                return Ok(false);
+            }
+            match source.get() {
+                Plan::Scan(scan) => leaves_nothing(alloc, *kind, body.get(), scan, sources),
+                _ => Ok(true),
+            }
+        }
+        Plan::If(a, b, c) => {
+            if !fully_shipped(alloc, a.get(), sources)? {
+                return Ok(false);
+            }
+            if !fully_shipped(alloc, b.get(), sources)? {
+                return Ok(false);
+            }
+            fully_shipped(alloc, c.get(), sources)
+        }
+        Plan::Let(a, b) => {
+            if !fully_shipped(alloc, a.get(), sources)? {
+                return Ok(false);
+            }
+            fully_shipped(alloc, b.get(), sources)
+        }
+        Plan::Prim(_, plans) => are_full(alloc, plans.slice(), sources),
+        Plan::Join(_) => Ok(false),
+        Plan::Memo(_, _, part) => fully_shipped(alloc, part.get(), sources),
+    }
+}
+
+#[cycle(fully_shipped)]
+fn are_full(alloc: Global, plans: &[Plan], sources: &[ShipSource]) -> Result<bool, NoMemory>
+    ensures { IfOk result (λ b. Decides b (FullNodes sources.now (nodes_view plans.now))) }
+{
+    for plan in plans {
+        if !fully_shipped(alloc, plan, sources)? {
+            return Ok(false);
+        }
+    }
+    Ok(true)
+}
+
+#[cycle(fully_shipped)]
+fn are_full_labelled(
+    alloc: Global,
+    parts: &[(Label, Plan)],
+    sources: &[ShipSource],
+) -> Result<bool, NoMemory>
+    ensures { IfOk result (λ b. Decides b (FullFields sources.now (fields_view parts.now))) }
+{
+    for part in parts {
+        if !fully_shipped(alloc, &part.1, sources)? {
+            return Ok(false);
+        }
+    }
+    Ok(true)
+}
+
+// Whether a loop of a kind over a scan leaves nothing to the scan's source, whichever of these it is.
+fn leaves_nothing(
+    alloc: Global,
+    kind: Kind,
+    body: &Plan,
+    scan: &Scan,
+    sources: &[ShipSource],
+) -> Result<bool, NoMemory>
+    ensures { IfOk result (λ b. Decides b (IsFullAt sources.now kind (view body.now) (scan_node scan.now))) }
+{
+    for source in sources {
+        if !is_full(alloc, kind, body, scan, source)? {
+            return Ok(false);
+        }
+    }
+    Ok(true)
+}
+
+// Whether the loop leaves nothing to this source, if the scan is of it.
+fn is_full(
+    alloc: Global,
+    kind: Kind,
+    body: &Plan,
+    scan: &Scan,
+    source: &ShipSource,
+) -> Result<bool, NoMemory>
+    ensures { IfOk result (λ b. Decides b (source.now.driver ≡ scan.now.driver → source.now.name ≡ scan.now.source
+        → IsFull source.now kind (view body.now) scan.now)) }
+{
+    if !is_of(scan, source) {
+        return Ok(true);
+    }
+    if has_tests(source, kind, body) {
+        return Ok(false);
+    }
+    if !is_same(scan.kind, kind) {
+        return Ok(true);
+    }
+    if has_loop(source, scan.driver, kind, body) {
+        return Ok(false);
+    }
+    if !source.abilities.project {
+        return Ok(true);
+    }
+    uses_shown(alloc, body, &scan.ask)
+}
+
+fn is_of(scan: &Scan, source: &ShipSource) -> bool
+    ensures { result ≡ (nat_eq source.now.driver scan.now.driver && pointwise nat_eq source.now.name scan.now.source) }
+{
+    source.driver == scan.driver && source.name == scan.source
+}
+
+fn has_tests(source: &ShipSource, kind: Kind, body: &Plan) -> bool
+    ensures { result ≡ has_tests source.now kind (view body.now) }
+{
+    source.abilities.select && !takes_none(kind, 1, body)
+}
+
+fn has_loop(source: &ShipSource, driver: u32, kind: Kind, body: &Plan) -> bool
+    ensures { result ≡ has_loop source.now driver kind (view body.now) }
+{
+    source.abilities.join && is_loop_by(driver, kind, body)
+}
+
+fn is_loop_by(driver: u32, kind: Kind, body: &Plan) -> bool
+    ensures { result ≡ is_loop_by driver kind (view body.now) }
+{
+    match body {
+        Plan::Ext(own, _, source) => is_same(*own, kind) && is_scan_by(driver, kind, source.get()),
+        _ => false,
+    }
+}
+
+fn is_scan_by(driver: u32, kind: Kind, plan: &Plan) -> bool
+    ensures { result ≡ is_scan_by driver kind (view plan.now) }
+{
+    match plan {
+        Plan::Scan(scan) => scan.driver == driver && is_same(scan.kind, kind),
+        _ => false,
+    }
+}
+
+// Whether each column that an ask shows is used in the body, or there is one at most.
+fn uses_shown(alloc: Global, body: &Plan, ask: &Ask) -> Result<bool, NoMemory>
+    ensures { IfOk result (λ b. Decides b ((ls : List Name) → Shows ask.now ls → AllByRecursion (IsUsed (view body.now)) ls
+        ⊎ (length ls ≤ 1))) }
+{
+    match ask {
+        Ask::Rows { keep, .. } => Ok(uses_labels(body, keep.slice())),
+        Ask::Sql { text } => match read_sql(alloc, text.slice()) {
+            Ok(statement) => Ok(uses_columns(body, statement.columns.slice())),
+            Err(SqlError::Bad { .. }) => Ok(true),
+            Err(SqlError::NoMemory) => Err(NoMemory),
+        },
+    }
+}
+
+fn uses_labels(body: &Plan, labels: &[Label]) -> bool
+    ensures { Decides result (AllByRecursion (IsUsed (view body.now)) labels.now ⊎ (length labels.now ≤ 1)) }
+{
+    if labels.len() <= 1 {
+        return true;
+    }
+    if whole_use(body) {
+        return true;
+    }
+    for label in labels {
+        if !column_use(label, body) {
+            return false;
+        }
+    }
+    true
+}
+
+fn uses_columns(body: &Plan, columns: &[(u32, Label, Label)]) -> bool
+    ensures { Decides result (AllByRecursion (IsUsed (view body.now)) (map (λ c. c.2) columns.now) ⊎ (length columns.now ≤ 1)) }
+{
+    if columns.len() <= 1 {
+        return true;
+    }
+    if whole_use(body) {
+        return true;
+    }
+    for column in columns {
+        if !column_use(&column.2, body) {
+            return false;
+        }
+    }
+    true
+}
