@@ -1,8 +1,5 @@
-pub mod Likeness
-pub mod Collections
+pub mod Wanted
 pub mod Plain
-pub mod Comings
-pub mod KindLaws
 pub mod Fronts
 pub mod Tuples
 pub mod Joining
@@ -35,13 +32,9 @@ pub mod Renders
 pub mod ColumnSteps
 pub mod StatedLoops
 pub mod ScansFew
-pub mod Typed
 pub mod Sources
 pub mod Over
-pub mod Grounds
-pub mod Views
 pub mod Shipped
-pub mod Holding
 pub mod Amounts
 pub mod PackedTerms
 pub mod Finding
@@ -52,3 +45,5 @@ pub mod Behind
 pub mod Deciding
 pub mod FullParts
 pub mod SqlScans
+pub mod Bare
+pub mod Whole
