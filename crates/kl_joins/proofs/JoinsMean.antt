@@ -29,12 +29,11 @@ use Rattle.kl_plan.proofs.Agree.{choice_comes}
 use Rattle.kl_plan.proofs.Comings.{ComesAs, worth_typed, drawn_for_typed}
 use Rattle.kl_plan.proofs.Keyed.{keyed_is_loops}
 use Rattle.kl_plan.proofs.Typed.{plan_typed}
-use Rattle.kl_joins.specs.Bare.{Bare, BareNodes, BareFields, BareBranches}
 use Rattle.kl_joins.specs.JoinsMade.{JoinsMade, KeyMade, EachMade, FieldsMade, BranchesMade, AreBefore}
 use Rattle.kl_joins.proofs.Calm.{total_plan}
-use Rattle.kl_joins.proofs.KeyTypes.{key_types, key_bare, key_total}
+use Rattle.kl_joins.proofs.KeyTypes.{Bare, key_types, key_bare, key_total}
 use Rattle.kl_joins.proofs.Lowered.{lowered_plan}
-use Rattle.kl_joins.proofs.JoinsTyped.{both_first, both_behind, bare_source, bare_body, bare_item, bare_items, bare_test, bare_yes, bare_no, bare_conds, bare_within, bare_around}
+use Rattle.kl_joins.proofs.JoinsTyped.{BareNodes, BareFields, BareBranches, both_first, both_behind, bare_source, bare_body, bare_item, bare_items, bare_test, bare_yes, bare_no, bare_conds, bare_within, bare_around}
 use Rattle.kl_joins.proofs.JoinsTyped.{conds_types, within_types, other_within, inner_types, key_typed}
 
 -- ---- after a part that makes sense
@@ -181,7 +180,8 @@ module _ (Of : Scan → Ground → Type 0) (R : Readings) (reads : (c : Scan) (u
           let test = bare_test c a nothing (bare_within k cs (node.If c a nothing) bare) in
           let f = key_types Of v (t ∷ G) l u c m.7 whole.0 in
           let g = key_bare l u c m.7 test in
-          let lowered = lowered_plan Of v u [] (t ∷ G) f.0 0 refl g.0 g.1 f.2 in (
+          let lowered = lowered_plan Of v u [] (t ∷ G) f.0 0 refl g.0 g.1 f.2 in
+          (
             key l u,
             λ r is go on same. ap₂ (λ o to. under_key (worth o) (λ x. to (λ y. same_key x (field_at l y)))) (joins_mean p u (t ∷ G) (r ∷ env) f.0 (is, e) m.8 g lowered) same,
             ap (λ r. plan R (node.Join n k way.Index x ds i (key l u) r) env) m.6

@@ -48,9 +48,9 @@ module _ (R : Readings) (reads : (c d : Scan) → SameScan c d → R c ≡ R d) 
     same_means p (node.Join n k how o cs i q b) h env =
         ap₂ (λ c go. many k (drawn (drawn_for k c) go)) (same_means h.1 o h.7 env)
         (fun_ext λ x.
-        conds_mean h.2 cs h.8 (x ∷ env) _ _ (key_means h.4 q h.10 (x ∷ env) _ _
-        (fun_ext λ test. ap₂ (λ c go. drawn (drawn_for k c) go) (scan_means h.3 i h.9)
-        (fun_ext λ y. ap (λ c. on_test (test y) (coming c)) (same_means h.5 b h.11 (y ∷ x ∷ env))))))
+          conds_mean h.2 cs h.8 (x ∷ env) _ _ (key_means h.4 q h.10 (x ∷ env) _ _
+          (fun_ext λ test. ap₂ (λ c go. drawn (drawn_for k c) go) (scan_means h.3 i h.9)
+          (fun_ext λ y. ap (λ c. on_test (test y) (coming c)) (same_means h.5 b h.11 (y ∷ x ∷ env))))))
         ∙ ap (λ x. plan R x env) (sym h.6)
     same_means p (node.Memo n frees a) h env = ap come_kept (same_means h.1 a h.3 env) ∙ ap (λ x. plan R x env) (sym h.2)
 

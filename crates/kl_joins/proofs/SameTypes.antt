@@ -58,7 +58,8 @@ module _ (Of : Scan → Ground → Type 0) (types : (c d : Scan) (u : Ground) �
         let t : PlanTypes Of G (node.Scan h.0) s = subst (λ (x : Node). PlanTypes Of G x s) h.1 e in
         (t.0, t.1 ∙ ap (λ k. coll k t.0) h.2.kind, t.2, types h.0 c t.0 h.2 t.3)
     same_typed p (node.Join n k how o cs i q b) G s h e =
-        let t : PlanTypes Of G (node.Join h.0 k how h.1 h.2 h.3 h.4 h.5) s = subst (λ (x : Node). PlanTypes Of G x s) h.6 e in (
+        let t : PlanTypes Of G (node.Join h.0 k how h.1 h.2 h.3 h.4 h.5) s = subst (λ (x : Node). PlanTypes Of G x s) h.6 e in
+        (
           t.0,
           t.1,
           t.2,

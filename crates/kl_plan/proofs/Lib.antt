@@ -12,4 +12,3 @@ pub mod Above
 pub mod Around
 pub mod Keyed
 pub mod Pairs
-pub mod Finding

@@ -6,8 +6,6 @@
 
 mod counting;
 mod plan;
-mod totals;
 
 pub use counting::count_scans;
 pub use plan::{Frees, Join, JoinKey, Plan, PlanBranches, PlanFields, Plans, Scan};
-pub use totals::is_total;

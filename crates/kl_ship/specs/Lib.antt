@@ -12,4 +12,5 @@ pub mod Sense
 pub mod Full
 pub mod Marking
 pub mod Whether
+pub mod Bodies
 pub mod Whole

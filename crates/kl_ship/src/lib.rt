@@ -4,6 +4,7 @@
 //! refused growth.
 #![tactic(auto)]
 
+mod bodies;
 mod building;
 mod conditions;
 mod erased;
