@@ -9,8 +9,11 @@ mod cursor;
 mod drawing;
 mod gathering;
 mod held;
+mod joins;
+mod memos;
 mod parts;
 mod pulling;
+mod run;
 mod scans;
 mod state;
 mod stepping;
@@ -18,3 +21,4 @@ mod steps;
 mod values;
 
 pub use cursor::{Cursor, Draw, open_plan, value_of};
+pub use run::Run;

@@ -1,13 +1,13 @@
 //! Whether the next step of a cursor may read on at a source.
 ghost use Rattle.std.specs.Prelude.{◌≡◌, drop};
-ghost use Rattle.kl_plan.specs.Nodes.{fields_view, nodes_view, view};
-ghost use Rattle.kl_plan.specs.Numbers.{scans_of_fields, scans_of_nodes};
+ghost use Rattle.kl_ship.specs.Nodes.{fields_view, nodes_view, view};
+ghost use Rattle.kl_ship.specs.Numbers.{scans_of_fields, scans_of_nodes};
 ghost use Rattle.kl_cursor.specs.Left.{snap};
 ghost use Rattle.kl_cursor.specs.Pulling.{some, has_scan, gives, reads_on, loop_reads_on, pulls};
 
 use crate::state::State;
 use kl_base::Label;
-use kl_plan::Plan;
+use kl_ship::Plan;
 
 /// Whether a scan stands in a plan.
 #[cycle(scan)]
@@ -106,6 +106,7 @@ fn reads_on(at: &State) -> bool
         State::Inside(body, source, _, inner) => {
             reads_on(inner.get()) || has_scan(body) || reads_on(source.get())
         }
+        State::Keyed(_, _, _, _) | State::Found(_, _, _, _, _, _) => true,
         State::Make(parts, place) => has_scan_from(parts.slice(), *place),
     }
 }
@@ -133,6 +134,7 @@ pub fn may_pull(at: &State) -> bool
         State::Inside(body, source, _, inner) => {
             may_pull(inner.get()) || may_pull(source.get()) || loop_reads_on(body, source.get())
         }
+        State::Keyed(_, _, _, _) | State::Found(_, _, _, _, _, _) => true,
         State::Make(parts, place) => has_scan_from(parts.slice(), *place),
     }
 }

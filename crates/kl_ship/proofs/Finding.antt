@@ -10,15 +10,13 @@ use Rattle.kl_core.specs.Counts.{total_in, total_parts, total_arms}
 use Rattle.kl_core.proofs.Views.{view_Case as term_Case, view_Make as term_Make}
 use Rattle.kl_sqltext.specs.declared.ast.SqlOp.{SqlOp}
 use Rattle.kl_sqltext.specs.declared.ast.SqlTest.{SqlTest}
-use Rattle.kl_plan.specs.declared.plan.Plan.{Plan}
-use Rattle.kl_plan.specs.declared.plan.Plan.TheVariants as plan
-use Rattle.kl_ship.specs.Delegation.{comparison, is_empty, is_front, test_by, test_of, taken, taken_before, whole_use, whole_use_parts}
-use Rattle.kl_ship.specs.Delegation.{whole_use_arms, column_use, column_use_parts, column_use_arms}
-use Rattle.kl_plan.specs.Erased.{erased, erased_nodes, erased_fields, erased_branches}
-use Rattle.kl_plan.specs.Nodes.{Branches, branches_of, view, view_branch, nodes_view, fields_view}
-use Rattle.kl_ship.specs.Shipping.{other_view}
-use Rattle.kl_plan.specs.Joins.{other_node}
-use Rattle.kl_plan.proofs.Views.{view_Case, view_Make, view_Prim}
+use Rattle.kl_ship.specs.declared.plan.Plan.{Plan}
+use Rattle.kl_ship.specs.declared.plan.Plan.TheVariants as plan
+use Rattle.kl_ship.specs.Delegation.{is_empty, is_front, test_by, test_of, taken, taken_before, whole_use, whole_use_parts, whole_use_arms, column_use, column_use_parts, column_use_arms}
+use Rattle.kl_ship.specs.Full.{erased, erased_nodes, erased_fields, erased_branches}
+use Rattle.kl_ship.specs.Nodes.{Branches, branches_of, view, view_branch, nodes_view, fields_view}
+use Rattle.kl_ship.specs.Shipping.{other_view, other_node}
+use Rattle.kl_ship.proofs.Views.{view_Case, view_Make}
 
 -- ---- a comparison with fewer or more sides than two
 
@@ -43,14 +41,6 @@ plans_too_many n o [] h = refl
 plans_too_many n o (p ∷ []) h = refl
 plans_too_many n o (p ∷ q ∷ []) h = absurd (omega (arith, h))
 plans_too_many n o (p ∷ q ∷ r ∷ ps) h = refl
-
-pub compared_is_test : (r : ℕ) (p : Plan) (k : ℕ) (ps qs : List Plan) (m : Option SqlOp) (o : SqlOp) (x : Bool) → p ≡ plan.Prim k ps
-    → m ≡ comparison k → m ≡ Some o
-    → qs ≡ ps → x ≡ is_some (test_by r (Some o) (erased_nodes (nodes_view qs))) → x ≡ is_some (test_of r (erased (view p)))
-compared_is_test r p k ps qs m o x is from some same h =
-    h ∙ ap (λ z. is_some (test_by r (Some o) (erased_nodes (nodes_view z)))) same
-    ∙ sym (ap (λ z. is_some (test_of r (erased (view z)))) is ∙ ap (λ z. is_some (test_of r (erased z))) (view_Prim k ps)
-    ∙ ap (λ z. is_some (test_by r z (erased_nodes (nodes_view ps)))) (sym from ∙ some))
 
 -- ---- a collection with items
 

@@ -4,14 +4,20 @@
 //! refused growth.
 #![tactic(auto)]
 
-mod bodies;
 mod building;
 mod conditions;
+mod counting;
 mod erased;
+mod frees;
 mod full;
+mod joining;
+mod keeping;
+mod keys;
 mod laws;
 mod needs;
+mod numbering;
 mod one_row;
+mod plan;
 mod reads;
 mod scanning;
 mod shipping;
@@ -21,9 +27,10 @@ mod statements;
 mod tests;
 mod used;
 
+pub use counting::count_scans;
 pub use full::fully_shipped;
 pub use laws::plan_laws;
 pub use needs::Need;
-pub use kl_plan::{Frees, Join, JoinKey, Plan, PlanBranches, PlanFields, Plans, Scan, count_scans};
+pub use plan::{Frees, Join, JoinKey, Plan, PlanBranches, PlanFields, Plans, Scan};
 pub use shipping::ship;
 pub use source::ShipSource;

@@ -8,31 +8,32 @@ ghost use Rattle.kl_core.specs.Building.{Makes};
 ghost use Rattle.kl_type.specs.Ground.{IsGround};
 ghost use Rattle.kl_ship.specs.declared.source.ShipSource.{ShipSource as ASource};
 ghost use Rattle.kl_ship.specs.declared.needs.Need.TheVariants as need;
-ghost use Rattle.kl_plan.specs.declared.plan.Plan.TheVariants as plan;
+ghost use Rattle.kl_ship.specs.declared.plan.Plan.TheVariants as plan;
 ghost use Rattle.kl_ship.specs.Contents.{AreSources, MakesSense};
 ghost use Rattle.kl_ship.specs.Delegation.{body_left, left};
 ghost use Rattle.kl_ship.specs.Full.{FullyShipped};
-ghost use Rattle.kl_plan.specs.Nodes.{view, nodes_view, fields_view};
-ghost use Rattle.kl_plan.specs.Numbers.{NumbersDiffer};
-ghost use Rattle.kl_ship.specs.Shipping.{IsSound, TreesSound, PartsSound, ArmsSound, LoopSense, arms_view, other_view};
-ghost use Rattle.kl_plan.specs.Joins.{other_node};
+ghost use Rattle.kl_ship.specs.Nodes.{view, nodes_view, fields_view};
+ghost use Rattle.kl_ship.specs.Numbers.{NumbersDiffer};
+ghost use Rattle.kl_ship.specs.Shipping.{IsSound, TreesSound, PartsSound, ArmsSound, LoopSense, arms_view, other_view, other_node};
 ghost use Rattle.kl_ship.specs.Shipping.{IsBehind, behind_statement};
 ghost use Rattle.kl_ship.specs.Shipping.{UnionBecomes, LoopBecomes, LetBecomes, IfBecomes, CaseBecomes};
-ghost use Rattle.kl_ship.specs.Ships.{Sends, Becomes, TreesBecome, PartsBecome, ArmsBecome};
-ghost use Rattle.kl_ship.specs.Ships.{MayStay, passed_on, is_single};
-ghost use Rattle.kl_plan.specs.Typing.{NoSource};
+ghost use Rattle.kl_ship.specs.Ships.{Ships, Becomes, TreesBecome, PartsBecome, ArmsBecome};
+ghost use Rattle.kl_ship.specs.Ships.{MayStay, NoSource, passed_on, is_single};
 ghost use Rattle.kl_ship.specs.Sizes.{sources_in, sources_trees, sources_parts, sources_arms};
 ghost use Rattle.kl_ship.specs.Sizes.{loops_in, loops_trees, loops_parts, loops_arms};
 ghost use Rattle.kl_ship.specs.Sources.{fits, ground};
-ghost use Rattle.kl_ship.specs.Sense.{KeepsTypes};
+ghost use Rattle.kl_ship.specs.Typing.{KeepsTypes};
 
 use crate::building::{
     binding, case, collection, extension, injection, plain, primitive, projection, record,
     scanning, test, union,
 };
 use crate::conditions::{is_front, is_test};
+use crate::joining::join_loops;
+use crate::keeping::{Place, keep_parts};
 use crate::needs::Need;
-use kl_plan::{Plan, PlanFields, Plans, Scan};
+use crate::numbering::{Numbers, number as renumber};
+use crate::plan::{Plan, PlanFields, Plans, Scan};
 use crate::reads::reads;
 use crate::scanning::{fits_loop, rows_scan, whole_scan};
 use crate::source::ShipSource;
@@ -62,20 +63,31 @@ pub fn ship(
     requires small { nodes_of (term_view term.now) ≤ 16384 }
     requires sources { AreSources sources.now }
     requires proper { AllByRecursion (λ s. IsGround (ground s)) sources.now }
-    ensures ships { IfOk result (λ p. Sends settings.now.delegate sources.now (term_view term.now) (view p)) }
+    ensures ships { IfOk result (λ p. Ships settings.now.delegate sources.now (term_view term.now) (view p)) }
     ensures sense { IfOk result (λ p. KeepsTypes sources.now (term_view term.now) (view p)) }
     ensures numbers { IfOk result (λ p. NumbersDiffer (view p)) }
     ensures full { settings.now.delegate ≡ true → IfOk result (λ p. FullyShipped sources.now (view p)) }
 {
     let mut number = 0;
-    part(
+    let mut plan = part(
         alloc,
         term,
         Need::Items,
         settings.delegate,
         sources,
         &mut number,
-    )
+    )?;
+    join_loops(alloc, &mut plan, settings.join)?;
+    if settings.cache > 0 {
+        keep_parts(alloc, &mut plan, Place::Outside, 0)?;
+    }
+    let mut numbers = Numbers {
+        scans: 0,
+        joins: 0,
+        memos: 0,
+    };
+    renumber(&mut plan, &mut numbers);
+    Ok(plan)
 }
 
 // Whether the value of a term is made whole in any case.
