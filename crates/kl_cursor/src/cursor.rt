@@ -17,8 +17,7 @@ use crate::state::State;
 use crate::stepping::{close, step};
 use crate::steps::let_go;
 use crate::values::whole;
-use crate::run::Run;
-use kl_ask::Seen;
+use kl_ask::{Seen, Session};
 use kl_base::{NoMemory, Seq};
 use kl_eval::{Env, EvalStop, inside};
 use kl_ship::Plan;
@@ -57,14 +56,14 @@ pub fn value_of(
     alloc: Global,
     plan: &Plan,
     env: &mut Vec<Value>,
-    run: &mut Run,
+    session: &mut Session,
 ) -> Result<Value, EvalStop>
-    requires { HasWorth (⟦<Run as Seen>⟧.world run.old) (view plan.now) (reverse env.old.items) }
+    requires { HasWorth (⟦<Session as Seen>⟧.world session.old) (view plan.now) (reverse env.old.items) }
     ensures env { env.new.items ≡ env.old.items }
-    ensures value { Partly (reverse env.old.items) (view plan.now) result (⟦<Run as Seen>⟧.world run.old)
-        (⟦<Run as Seen>⟧.world run.new) }
+    ensures value { Partly (reverse env.old.items) (view plan.now) result (⟦<Session as Seen>⟧.world session.old)
+        (⟦<Session as Seen>⟧.world session.new) }
 {
-    inside(whole(alloc, plan, &Env::Base(env.as_slice()), run))
+    inside(whole(alloc, plan, &Env::Base(env.as_slice()), session))
 }
 
 /// A cursor of a plan, with nothing done yet, where the last value of `env` is the nearest position's. Nothing is opened.
@@ -95,18 +94,18 @@ impl<'p> Cursor<'p> {
     /// # Errors
     /// `Overflow` where no item is left and the end is one, of a set or a bag also earlier; `Driver` where the driver of that
     /// source refused to go on, with its cause; want of memory. After a stop its scans are closed, and it gives nothing more.
-    pub fn next(&mut self, run: &mut Run) -> Result<Option<Value>, EvalStop>
-        requires owned { Owned (uses (snap self.old.at)) (⟦<Run as Seen>⟧.world run.old) }
-        requires sense { Stands (⟦<Run as Seen>⟧.world run.old) (snap self.old.at) (reverse self.old.env) }
+    pub fn next(&mut self, session: &mut Session) -> Result<Option<Value>, EvalStop>
+        requires owned { Owned (uses (snap self.old.at)) (⟦<Session as Seen>⟧.world session.old) }
+        requires sense { Stands (⟦<Session as Seen>⟧.world session.old) (snap self.old.at) (reverse self.old.env) }
         ensures env { self.new.env ≡ self.old.env }
         ensures next { Nexts (reverse self.old.env) (snap self.old.at) result (snap self.new.at)
-            (⟦<Run as Seen>⟧.world run.old) (⟦<Run as Seen>⟧.world run.new) }
+            (⟦<Session as Seen>⟧.world session.old) (⟦<Session as Seen>⟧.world session.new) }
         ensures lazy { NextsLazily (reverse self.old.env) (snap self.old.at) result (snap self.new.at)
-            (⟦<Run as Seen>⟧.world run.old) (⟦<Run as Seen>⟧.world run.new) }
-        ensures quiet { SilentUnlessPulls (snap self.old.at) (⟦<Run as Seen>⟧.world run.old)
-            (⟦<Run as Seen>⟧.world run.new) }
+            (⟦<Session as Seen>⟧.world session.old) (⟦<Session as Seen>⟧.world session.new) }
+        ensures quiet { SilentUnlessPulls (snap self.old.at) (⟦<Session as Seen>⟧.world session.old)
+            (⟦<Session as Seen>⟧.world session.new) }
     {
-        self.advance(run)
+        self.advance(session)
     }
 
     // Over whatever gives scans, as the steps are: over a session alone a call of them would want its impl from below.
@@ -140,18 +139,18 @@ impl<'p> Cursor<'p> {
     ///
     /// # Errors
     /// Those of `next`.
-    pub fn next_held(&mut self, run: &mut Run) -> Result<Draw, EvalStop>
-        requires owned { Owned (uses (snap self.old.at)) (⟦<Run as Seen>⟧.world run.old) }
-        requires sense { Stands (⟦<Run as Seen>⟧.world run.old) (snap self.old.at) (reverse self.old.env) }
+    pub fn next_held(&mut self, session: &mut Session) -> Result<Draw, EvalStop>
+        requires owned { Owned (uses (snap self.old.at)) (⟦<Session as Seen>⟧.world session.old) }
+        requires sense { Stands (⟦<Session as Seen>⟧.world session.old) (snap self.old.at) (reverse self.old.env) }
         ensures env { self.new.env ≡ self.old.env }
         ensures next { NextsHeld (reverse self.old.env) (snap self.old.at) result (snap self.new.at)
-            (⟦<Run as Seen>⟧.world run.old) (⟦<Run as Seen>⟧.world run.new) }
+            (⟦<Session as Seen>⟧.world session.old) (⟦<Session as Seen>⟧.world session.new) }
         ensures lazy { NextsHeldLazily (reverse self.old.env) (snap self.old.at) result (snap self.new.at)
-            (⟦<Run as Seen>⟧.world run.old) (⟦<Run as Seen>⟧.world run.new) }
-        ensures silent { Silent (⟦<Run as Seen>⟧.world run.old) (⟦<Run as Seen>⟧.world run.new) }
+            (⟦<Session as Seen>⟧.world session.old) (⟦<Session as Seen>⟧.world session.new) }
+        ensures silent { Silent (⟦<Session as Seen>⟧.world session.old) (⟦<Session as Seen>⟧.world session.new) }
         ensures needed { PullsAlone result (snap self.old.at) }
     {
-        self.draw_held(run)
+        self.draw_held(session)
     }
 
     fn draw_held<C: Scans>(&mut self, run: &mut C) -> Result<Draw, EvalStop>
@@ -195,11 +194,11 @@ impl<'p> Cursor<'p> {
     }
 
     /// Closes the cursors of drivers that it has open. Takes no memory.
-    pub fn close(self, run: &mut Run)
-        requires { Owned (uses (snap self.at)) (⟦<Run as Seen>⟧.world run.old) }
-        ensures { Closes (uses (snap self.entry.at)) (⟦<Run as Seen>⟧.world run.old) (⟦<Run as Seen>⟧.world run.new) }
+    pub fn close(self, session: &mut Session)
+        requires { Owned (uses (snap self.at)) (⟦<Session as Seen>⟧.world session.old) }
+        ensures { Closes (uses (snap self.entry.at)) (⟦<Session as Seen>⟧.world session.old) (⟦<Session as Seen>⟧.world session.new) }
     {
         let Cursor { at, .. } = self;
-        close(at, run);
+        close(at, session);
     }
 }

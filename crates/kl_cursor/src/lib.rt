@@ -9,11 +9,8 @@ mod cursor;
 mod drawing;
 mod gathering;
 mod held;
-mod joins;
-mod memos;
 mod parts;
 mod pulling;
-mod run;
 mod scans;
 mod state;
 mod stepping;
@@ -21,4 +18,3 @@ mod steps;
 mod values;
 
 pub use cursor::{Cursor, Draw, open_plan, value_of};
-pub use run::Run;

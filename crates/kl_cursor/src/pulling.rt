@@ -106,7 +106,6 @@ fn reads_on(at: &State) -> bool
         State::Inside(body, source, _, inner) => {
             reads_on(inner.get()) || has_scan(body) || reads_on(source.get())
         }
-        State::Keyed(_, _, _, _) | State::Found(_, _, _, _, _, _) => true,
         State::Make(parts, place) => has_scan_from(parts.slice(), *place),
     }
 }
@@ -134,7 +133,6 @@ pub fn may_pull(at: &State) -> bool
         State::Inside(body, source, _, inner) => {
             may_pull(inner.get()) || may_pull(source.get()) || loop_reads_on(body, source.get())
         }
-        State::Keyed(_, _, _, _) | State::Found(_, _, _, _, _, _) => true,
         State::Make(parts, place) => has_scan_from(parts.slice(), *place),
     }
 }

@@ -10,36 +10,20 @@ ghost use Rattle.kl_scans.specs.Scans.{CanScan, IsOpen, Starts, Pulls};
 ghost use Rattle.kl_scans.specs.Stage.{RepeatsNone, stage};
 ghost use Rattle.kl_cursor.specs.Steps.{IsUndriven, IsUndrivenPart};
 
-use crate::run::Run;
-use kl_ask::{JoinRun, Seen};
-use kl_base::{NoMemory, Seq};
+use kl_ask::{Seen, Session};
 use kl_core::Term;
 use kl_eval::{Env, EvalStop, Halt, part, plain};
-use kl_memo::MemoKey;
 use kl_prim::Arg;
 use kl_scans::{finish_scan, pull_scan, repeats_none, start_scan};
 use kl_ship::Scan;
-use kl_value::{Value, dup};
+use kl_value::Value;
 use std::alloc::Global;
-use std::mem;
 
 /// What gives the rows of scans, some at a time, and the values of parts without sources.
 pub trait Scans: Seen {
     /// How many rows are pulled at once.
     fn fetch(&self) -> u32
         ensures { result ≡ (Self.world self.now).settings.fetch };
-
-    /// The most rows that a block of a join holds.
-    fn block(&self) -> u32;
-
-    /// A copy of what is kept under a key. It is counted whether anything is.
-    fn recall(&mut self, alloc: Global, key: &MemoKey) -> Result<Option<Value>, NoMemory>;
-
-    /// Keeps a value under a key.
-    fn keep(&mut self, key: MemoKey, value: Value) -> Result<(), NoMemory>;
-
-    /// One execution of a join has ended, of whose blocks the greatest had so many rows.
-    fn ran(&mut self, alloc: Global, entry: JoinRun, peak: u32) -> Result<(), NoMemory>;
 
     /// Opens a cursor of a scan, as `start_scan` does.
     ///
@@ -97,59 +81,29 @@ pub trait Scans: Seen {
         ensures undriven { IsUndrivenPart (arg_in result) };
 }
 
-impl Scans for Run {
+impl Scans for Session {
     fn fetch(&self) -> u32 {
-        self.session.settings.fetch
-    }
-
-    fn block(&self) -> u32 {
-        self.session.settings.block
-    }
-
-    fn recall(&mut self, alloc: Global, key: &MemoKey) -> Result<Option<Value>, NoMemory> {
-        match &mut self.memo {
-            Some(memo) => match memo.get(key) {
-                Some(value) => Ok(Some(dup(alloc, value)?)),
-                None => Ok(None),
-            },
-            None => Ok(None),
-        }
-    }
-
-    fn keep(&mut self, key: MemoKey, value: Value) -> Result<(), NoMemory> {
-        match &mut self.memo {
-            Some(memo) => memo.keep(key, value),
-            None => Ok(()),
-        }
-    }
-
-    fn ran(&mut self, alloc: Global, entry: JoinRun, peak: u32) -> Result<(), NoMemory> {
-        let trace = &mut self.session.trace;
-        let mut joins = mem::replace(&mut trace.joins, Seq::of(Vec::new(alloc))).into_vec();
-        joins.push(entry)?;
-        trace.joins = Seq::of(joins);
-        trace.peak = trace.peak.max(peak);
-        Ok(())
+        self.settings.fetch
     }
 
     fn start(&mut self, scan: &Scan) -> Result<u64, EvalStop> {
-        start_scan(&mut self.session, scan)
+        start_scan(self, scan)
     }
 
     fn pull(&mut self, scan: &Scan, cursor: u64, into: &mut Vec<Value>) -> Result<bool, EvalStop> {
-        pull_scan(&mut self.session, scan, cursor, into)
+        pull_scan(self, scan, cursor, into)
     }
 
     fn finish(&mut self, scan: &Scan, cursor: u64) {
-        finish_scan(&mut self.session, scan, cursor)
+        finish_scan(self, scan, cursor)
     }
 
     fn repeats_none(&self, scan: &Scan) -> bool {
-        repeats_none(&self.session, scan)
+        repeats_none(self, scan)
     }
 
     fn plain(&mut self, alloc: Global, term: &Term, env: &Env) -> Result<Value, Halt> {
-        match plain(alloc, term, &*env, &mut self.session) {
+        match plain(alloc, term, &*env, self) {
             Ok(value) => Ok(value),
             Err(Halt::Over(items)) => Err(Halt::Over(items)),
             // No driver is asked where no source stands; `kl_eval` says only that the cause would be there already.
@@ -163,7 +117,7 @@ impl Scans for Run {
         term: &'a Term,
         env: &'a Env<'a>,
     ) -> Result<Arg<'a>, EvalStop> {
-        match part(alloc, term, env, &mut self.session) {
+        match part(alloc, term, env, self) {
             Ok(value) => Ok(value),
             Err(EvalStop::Overflow) => Err(EvalStop::Overflow),
             Err(EvalStop::Driver { .. }) | Err(EvalStop::NoMemory) => Err(EvalStop::NoMemory),

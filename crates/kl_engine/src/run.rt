@@ -49,8 +49,7 @@ use crate::read::{infer_over, read_over};
 use kl_ask::{DriverError, Seen, Session, Settings, Trace};
 use kl_base::{Label, NoMemory};
 use kl_core::Term;
-use kl_cursor::{Run, value_of};
-use kl_memo::Memo;
+use kl_cursor::value_of;
 use kl_desugar::translate;
 use kl_eval::EvalStop;
 use kl_infer::Typed;
@@ -310,19 +309,13 @@ fn answer_over<S: Sink>(
     let is_list = gives_list(typed);
     match attach_sources(alloc, sources, scoped, drivers) {
         Ok(attached) => {
-            let memo = match memo_of(alloc, &how.settings) {
-                Ok(memo) => memo,
-                Err(_) => return Err(Fault::NoMemory),
-            };
-            let session = Session {
+            let mut session = Session {
                 drivers: mem::replace(drivers, Vec::new(alloc)),
                 sources: attached,
                 settings: how.settings,
                 trace: mem::replace(trace, Trace::new(alloc)),
             };
-            let mut run = Run { session, memo };
-            let result = answer_plan(alloc, plan, is_list, how.first, &mut run, out);
-            let Run { session, memo } = run;
+            let result = answer_plan(alloc, plan, is_list, how.first, &mut session, out);
             let Session {
                 drivers: back,
                 trace: counted,
@@ -330,29 +323,9 @@ fn answer_over<S: Sink>(
             } = session;
             *drivers = back;
             *trace = counted;
-            count_look_ups(&memo, trace);
             result
         }
         Err(AttachError { source, error }) => Err(driver_fault(source, error)),
-    }
-}
-
-// The cache of subqueries, where anything is kept.
-fn memo_of(alloc: Global, settings: &Settings) -> Result<Option<Memo>, NoMemory> {
-    if settings.cache > 0 {
-        Ok(Some(Memo::new(alloc, settings.cache)?))
-    } else {
-        Ok(None)
-    }
-}
-
-fn count_look_ups(memo: &Option<Memo>, trace: &mut Trace) {
-    match memo {
-        Some(memo) => {
-            trace.hits = memo.hits();
-            trace.misses = memo.misses();
-        }
-        None => {}
     }
 }
 
@@ -376,30 +349,30 @@ fn answer_plan<S: Sink>(
     plan: &Plan,
     is_list: bool,
     first: Option<u32>,
-    run: &mut Run,
+    session: &mut Session,
     out: &mut S,
 ) -> Result<(), Fault>
-    requires sense { HasWorth (⟦<Run as Seen>⟧.world run.old) (plan_view plan.now) [] }
-    requires list { is_list ≡ true → HasList (⟦<Run as Seen>⟧.world run.old) (plan_view plan.now) }
+    requires sense { HasWorth (⟦<Session as Seen>⟧.world session.old) (plan_view plan.now) [] }
+    requires list { is_list ≡ true → HasList (⟦<Session as Seen>⟧.world session.old) (plan_view plan.now) }
     ensures prints { (files : FilesState) (ks : List DriverKind) (ss : List Source) (marks : ℕ → Bool) (t : Tree)
-        → Runs ks ss marks t (plan_view plan.now) (⟦<Run as Seen>⟧.world run.old)
-        → (is_list ≡ true → IsListTerm (types_of (⟦<Run as Seen>⟧.world run.old)) t) → AnswersTerm (is_list ≡ true)
-        (IsTermOutcome is_list first (core (values_of (⟦<Run as Seen>⟧.world run.old)) t []))
-        (HaveSources (types_of (⟦<Run as Seen>⟧.world run.old)) (values_of (⟦<Run as Seen>⟧.world run.old))) (ending result)
-        (plan_over (⟦<Run as Seen>⟧.world run.old) (plan_view plan.now))
-        (outside_of files (⟦<Run as Seen>⟧.world run.old).drivers (S.state out.old))
-        (outside_of files (⟦<Run as Seen>⟧.world run.new).drivers (S.state out.new)) }
-    ensures scanned { Scanned (plan_view plan.now) (ending result) first (⟦<Run as Seen>⟧.world run.old)
-        (⟦<Run as Seen>⟧.world run.new) }
-    ensures spares { is_list ≡ true → SparesRows (plan_view plan.now) (ending result) first (⟦<Run as Seen>⟧.world run.old)
-        (⟦<Run as Seen>⟧.world run.new) (S.state out.old) (S.state out.new) }
+        → Runs ks ss marks t (plan_view plan.now) (⟦<Session as Seen>⟧.world session.old)
+        → (is_list ≡ true → IsListTerm (types_of (⟦<Session as Seen>⟧.world session.old)) t) → AnswersTerm (is_list ≡ true)
+        (IsTermOutcome is_list first (core (values_of (⟦<Session as Seen>⟧.world session.old)) t []))
+        (HaveSources (types_of (⟦<Session as Seen>⟧.world session.old)) (values_of (⟦<Session as Seen>⟧.world session.old))) (ending result)
+        (plan_over (⟦<Session as Seen>⟧.world session.old) (plan_view plan.now))
+        (outside_of files (⟦<Session as Seen>⟧.world session.old).drivers (S.state out.old))
+        (outside_of files (⟦<Session as Seen>⟧.world session.new).drivers (S.state out.new)) }
+    ensures scanned { Scanned (plan_view plan.now) (ending result) first (⟦<Session as Seen>⟧.world session.old)
+        (⟦<Session as Seen>⟧.world session.new) }
+    ensures spares { is_list ≡ true → SparesRows (plan_view plan.now) (ending result) first (⟦<Session as Seen>⟧.world session.old)
+        (⟦<Session as Seen>⟧.world session.new) (S.state out.old) (S.state out.new) }
     ensures none { is_list ≡ true → first ≡ Some 0
-        → ⟦<Run as Seen>⟧.world run.new ≡ ⟦<Run as Seen>⟧.world run.old }
+        → ⟦<Session as Seen>⟧.world session.new ≡ ⟦<Session as Seen>⟧.world session.old }
 {
     if is_list {
-        print_list(alloc, plan, first, run, out)
+        print_list(alloc, plan, first, session, out)
     } else {
-        answer_value(alloc, plan, first, run, out)
+        answer_value(alloc, plan, first, session, out)
     }
 }
 
@@ -437,22 +410,22 @@ fn answer_value<S: Sink>(
     alloc: Global,
     plan: &Plan,
     first: Option<u32>,
-    run: &mut Run,
+    session: &mut Session,
     out: &mut S,
 ) -> Result<(), Fault>
-    requires { HasWorth (⟦<Run as Seen>⟧.world run.old) (plan_view plan.now) [] }
+    requires { HasWorth (⟦<Session as Seen>⟧.world session.old) (plan_view plan.now) [] }
     ensures prints { (files : FilesState) (ks : List DriverKind) (ss : List Source) (marks : ℕ → Bool) (t : Tree)
-        → Runs ks ss marks t (plan_view plan.now) (⟦<Run as Seen>⟧.world run.old) → AnswersTerm ⊥
-        (IsValueOutcome first (core (values_of (⟦<Run as Seen>⟧.world run.old)) t []))
-        (HaveSources (types_of (⟦<Run as Seen>⟧.world run.old)) (values_of (⟦<Run as Seen>⟧.world run.old))) (ending result)
-        (plan_over (⟦<Run as Seen>⟧.world run.old) (plan_view plan.now))
-        (outside_of files (⟦<Run as Seen>⟧.world run.old).drivers (S.state out.old))
-        (outside_of files (⟦<Run as Seen>⟧.world run.new).drivers (S.state out.new)) }
-    ensures scanned { Scanned (plan_view plan.now) (ending result) first (⟦<Run as Seen>⟧.world run.old)
-        (⟦<Run as Seen>⟧.world run.new) }
+        → Runs ks ss marks t (plan_view plan.now) (⟦<Session as Seen>⟧.world session.old) → AnswersTerm ⊥
+        (IsValueOutcome first (core (values_of (⟦<Session as Seen>⟧.world session.old)) t []))
+        (HaveSources (types_of (⟦<Session as Seen>⟧.world session.old)) (values_of (⟦<Session as Seen>⟧.world session.old))) (ending result)
+        (plan_over (⟦<Session as Seen>⟧.world session.old) (plan_view plan.now))
+        (outside_of files (⟦<Session as Seen>⟧.world session.old).drivers (S.state out.old))
+        (outside_of files (⟦<Session as Seen>⟧.world session.new).drivers (S.state out.new)) }
+    ensures scanned { Scanned (plan_view plan.now) (ending result) first (⟦<Session as Seen>⟧.world session.old)
+        (⟦<Session as Seen>⟧.world session.new) }
 {
     let mut env = Vec::new(alloc);
-    match value_of(alloc, plan, &mut env, run) {
+    match value_of(alloc, plan, &mut env, session) {
         Ok(value) => print_value(&cut(value, first), out),
         Err(EvalStop::Overflow) => Err(Fault::Overflow),
         Err(EvalStop::Driver { source, error }) => Err(driver_fault(source, error)),

@@ -52,11 +52,6 @@ fn is_column(rows: u32, plan: &Plan) -> bool
     }
 }
 
-/// Whether a plan is a column of the nearest position's row.
-pub fn is_row_column(plan: &Plan) -> bool {
-    is_column(1, plan)
-}
-
 fn is_test(rows: u32, condition: &Plan) -> bool
     ensures { result ≡ is_some (test_of rows (erased (view condition.now))) }
 {
@@ -85,7 +80,7 @@ fn compares(rows: u32, plans: &[Plan]) -> bool
     }
 }
 
-pub fn is_empty(kind: Kind, plan: &Plan) -> bool
+fn is_empty(kind: Kind, plan: &Plan) -> bool
     ensures { result ≡ is_empty kind (erased (view plan.now)) }
 {
     match plan {
@@ -157,7 +152,7 @@ fn are_total_labelled(parts: &[(Label, Plan)]) -> bool
     true
 }
 
-pub fn is_front(kind: Kind, condition: &Plan, other: &Plan) -> bool
+fn is_front(kind: Kind, condition: &Plan, other: &Plan) -> bool
     ensures { result ≡ is_front kind (erased (view condition.now)) (erased (view other.now)) }
 {
     is_total(condition) && is_empty(kind, other)

@@ -29,10 +29,7 @@ use crate::building::{
     scanning, test, union,
 };
 use crate::conditions::{is_front, is_test};
-use crate::joining::join_loops;
-use crate::keeping::{Place, keep_parts};
 use crate::needs::Need;
-use crate::numbering::{Numbers, number as renumber};
 use crate::plan::{Plan, PlanFields, Plans, Scan};
 use crate::reads::reads;
 use crate::scanning::{fits_loop, rows_scan, whole_scan};
@@ -69,25 +66,14 @@ pub fn ship(
     ensures full { settings.now.delegate ≡ true → IfOk result (λ p. FullyShipped sources.now (view p)) }
 {
     let mut number = 0;
-    let mut plan = part(
+    part(
         alloc,
         term,
         Need::Items,
         settings.delegate,
         sources,
         &mut number,
-    )?;
-    join_loops(alloc, &mut plan, settings.join)?;
-    if settings.cache > 0 {
-        keep_parts(alloc, &mut plan, Place::Outside, 0)?;
-    }
-    let mut numbers = Numbers {
-        scans: 0,
-        joins: 0,
-        memos: 0,
-    };
-    renumber(&mut plan, &mut numbers);
-    Ok(plan)
+    )
 }
 
 // Whether the value of a term is made whole in any case.
