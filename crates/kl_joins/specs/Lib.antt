@@ -1,0 +1,4 @@
+pub mod JoinsMade
+pub mod MemosMade
+pub mod Numbered
+pub mod Numbering

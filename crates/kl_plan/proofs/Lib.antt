@@ -1,0 +1,14 @@
+pub mod Likeness
+pub mod Collections
+pub mod KindLaws
+pub mod Comings
+pub mod Typed
+pub mod Grounds
+pub mod Views
+pub mod Holding
+pub mod Amounts
+pub mod Agree
+pub mod Above
+pub mod Around
+pub mod Keyed
+pub mod Pairs

@@ -1,0 +1,14 @@
+pub mod Nodes
+pub mod Kinds
+pub mod Meaning
+pub mod Alike
+pub mod Occurs
+pub mod Typing
+pub mod Numbers
+pub mod Reached
+pub mod Holding
+pub mod Erased
+pub mod Loops
+pub mod Keys
+pub mod Blocks
+pub mod Joins
