@@ -5,7 +5,7 @@ use Rattle.kl_value.specs.declared.Value.{Value}
 use Rattle.kl_type.specs.Ground.{coll, int}
 use Rattle.kl_outcome.specs.Typed.{HaveTypes}
 use Rattle.kl_ask.specs.World.{World, IsReady}
-use Rattle.kl_plan.specs.Nodes.{Node}
+use Rattle.kl_ship.specs.Nodes.{Node}
 use Rattle.kl_eval.specs.declared.stop.EvalStop.{EvalStop}
 use Rattle.kl_scans.specs.Held.{Owned}
 use Rattle.kl_scans.proofs.Moving.{owned_after, ready_stays}

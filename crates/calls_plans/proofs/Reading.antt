@@ -3,7 +3,7 @@ use Rattle.std.proofs.Common.{◌<◌, ℕ, Bool, true, false, List, Ok, sym, ap
 use Rattle.std.proofs.lemmas.Option.{same_Some}
 use Rattle.kl_value.specs.declared.Value.{Value}
 use Rattle.kl_ask.specs.World.{World}
-use Rattle.kl_plan.specs.declared.plan.Scan.{Scan}
+use Rattle.kl_ship.specs.declared.plan.Scan.{Scan}
 use Rattle.kl_scans.specs.Held.{Uses, nothing, one_at, Owned}
 use Rattle.kl_scans.specs.Moves.{Moves}
 use Rattle.kl_scans.specs.Scans.{CanScan, Started, Pulls}

@@ -15,7 +15,7 @@ use Rattle.kl_ask.specs.Driver.{State, Source}
 use Rattle.kl_ask.specs.World.{World, IsReady, at_place, at_source, source_at}
 use Rattle.kl_ask.specs.declared.ask.Ask.TheVariants as asks
 use Rattle.kl_ask.specs.declared.session.Attached.{Attached}
-use Rattle.kl_plan.specs.declared.plan.Scan.{Scan}
+use Rattle.kl_ship.specs.declared.plan.Scan.{Scan}
 use Rattle.kl_scans.specs.Held.{Held, held_at}
 use Rattle.kl_scans.specs.Scans.{CanScan}
 use Rattle.kl_scans.specs.Stage.{Stage, stage, AskOf}

@@ -15,12 +15,12 @@ use Rattle.kl_core.specs.declared.term.Term.{the_lemmas}
 use Rattle.kl_core.specs.declared.term.Term.TheVariants as term
 use Rattle.kl_ask.specs.Driver.{DriverKind}
 use Rattle.kl_ask.specs.World.{World}
-use Rattle.kl_plan.specs.Nodes as node
-use Rattle.kl_plan.specs.Nodes.{Node, no_nodes, nodes, view as plan_view}
-use Rattle.kl_plan.specs.declared.plan.Plan.{Plan}
-use Rattle.kl_plan.specs.declared.plan.Plan as plan_names
-use Rattle.kl_plan.specs.declared.plan.Plan.TheVariants as plan
-use Rattle.kl_plan.proofs.Views.{view_Make, view_Ext}
+use Rattle.kl_ship.specs.Nodes as node
+use Rattle.kl_ship.specs.Nodes.{Node, no_nodes, nodes, view as plan_view}
+use Rattle.kl_ship.specs.declared.plan.Plan.{Plan}
+use Rattle.kl_ship.specs.declared.plan.Plan as plan_names
+use Rattle.kl_ship.specs.declared.plan.Plan.TheVariants as plan
+use Rattle.kl_ship.proofs.Views.{view_Make, view_Ext}
 use Rattle.kl_sources.specs.Sources.{ArePlaced, same}
 use Rattle.kl_sources.specs.declared.source.Source.{Source}
 use Rattle.kl_cursor.specs.Sense.{TypesAt}

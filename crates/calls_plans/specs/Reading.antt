@@ -8,7 +8,7 @@ use Rattle.kl_outcome.specs.Outcome.{Name}
 use Rattle.kl_outcome.specs.Typed.{Inhabits}
 use Rattle.kl_ask.specs.Driver.{State, Source}
 use Rattle.kl_ask.specs.World.{World}
-use Rattle.kl_plan.specs.declared.plan.Scan.{Scan}
+use Rattle.kl_ship.specs.declared.plan.Scan.{Scan}
 use Rattle.kl_scans.specs.Held.{Owned, one_at}
 use Rattle.kl_scans.specs.Scans.{CanScan, IsOpen}
 

@@ -2,7 +2,7 @@ ghost use Rattle.std.specs.Prelude.{[], IfOk, reverse};
 ghost use Rattle.kl_value.specs.declared.Kind.TheVariants as kind;
 ghost use Rattle.kl_type.specs.Ground.{coll, int};
 ghost use Rattle.kl_ask.specs.World.{World, IsReady};
-ghost use Rattle.kl_plan.specs.Nodes.{view};
+ghost use Rattle.kl_ship.specs.Nodes.{view};
 ghost use Rattle.kl_scans.specs.Held.{Owned};
 ghost use Rattle.kl_cursor.specs.Left.{snap, uses};
 ghost use Rattle.kl_cursor.specs.Sense.{Stands, TypesAt};

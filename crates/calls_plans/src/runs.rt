@@ -2,7 +2,7 @@ ghost use Rattle.std.specs.Prelude.{◌≡◌, ◌≤◌, Bool, List, [], IfOk};
 ghost use Rattle.kl_core.specs.Counts.{nodes_of};
 ghost use Rattle.kl_core.specs.Trees.{Tree};
 ghost use Rattle.kl_run.specs.Planned.{IsPlanOf};
-ghost use Rattle.kl_plan.specs.Nodes.{view};
+ghost use Rattle.kl_ship.specs.Nodes.{view};
 ghost use Rattle.kl_ship.specs.declared.source.ShipSource.{ShipSource};
 
 use kl_ask::{Driver, Settings};

@@ -13,7 +13,8 @@ use kl_base::{Box, Label, Seq, Text};
 use kl_nested::NestedDriver;
 use kl_outside::MemFiles;
 use kl_scans::{finish_scan, pull_scan, repeats_none, start_scan};
-use kl_ship::Scan;
+use kl_ship::{Plan, Scan};
+use kl_tools::explain;
 use kl_type::Ty;
 use kl_value::{Kind, Value};
 use std::alloc::Global;
@@ -177,5 +178,33 @@ fn a_source_is_scanned(rt: HostRuntime) -> Result<(), Fail> {
     let driver = attached(rt.alloc(), &scan.source, &ty)?;
     let boxed = boxed(rt.alloc(), driver)?;
     assert!(rt; scans(rt.alloc(), boxed, ty, &scan)?);
+    Ok(())
+}
+
+// Whether it is told what a plan asks of these drivers.
+fn is_told(alloc: Global, plan: &Plan, drivers: &Vec<HeapBox<dyn Driver>>) -> bool {
+    match explain(alloc, plan, drivers) {
+        Ok(lines) => lines.slice() == b"scan 0 as list nested rows n\n".as_slice(),
+        Err(_) => false,
+    }
+}
+
+// A driver of files, alone.
+fn drivers(alloc: Global) -> Result<Vec<HeapBox<dyn Driver>>, Fail> {
+    let driver = NestedDriver::new(alloc, files(alloc)?);
+    let mut drivers = Vec::new(alloc);
+    drivers.push(boxed(alloc, driver)?)?;
+    Ok(drivers)
+}
+
+fn tells(alloc: Global, drivers: &Vec<HeapBox<dyn Driver>>) -> Result<bool, Fail> {
+    let scan = scan(alloc)?;
+    Ok(is_told(alloc, &Plan::Scan(scan), drivers))
+}
+
+#[test]
+fn a_plan_is_told(rt: HostRuntime) -> Result<(), Fail> {
+    let drivers = drivers(rt.alloc())?;
+    assert!(rt; tells(rt.alloc(), &drivers)?);
     Ok(())
 }

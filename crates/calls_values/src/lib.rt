@@ -9,6 +9,10 @@ mod containers;
 #[cfg(test)]
 mod exchange;
 #[cfg(test)]
+mod joins;
+#[cfg(test)]
+mod memos;
+#[cfg(test)]
 mod outside;
 #[cfg(test)]
 mod primitives;

@@ -6,7 +6,7 @@ use std::alloc::Global;
 use std::cmp::Ordering;
 use std::test::Fail;
 
-fn label(alloc: Global, word: &[u8]) -> Result<Label, Fail> {
+pub fn label(alloc: Global, word: &[u8]) -> Result<Label, Fail> {
     Ok(Label::new(alloc, word)?.ok_or("no word")?)
 }
 
@@ -14,7 +14,7 @@ fn text(alloc: Global, bytes: &[u8]) -> Result<Value, Fail> {
     Ok(Value::Text(Text::of(Vec::from_slice(alloc, bytes)?)))
 }
 
-fn field(alloc: Global, word: &[u8], value: Value) -> Result<(Label, Value), Fail> {
+pub fn field(alloc: Global, word: &[u8], value: Value) -> Result<(Label, Value), Fail> {
     Ok((label(alloc, word)?, value))
 }
 

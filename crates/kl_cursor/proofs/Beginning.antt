@@ -10,17 +10,17 @@ use Rattle.kl_outcome.specs.Outcome.{followed, drawn}
 use Rattle.kl_core.specs.Counts.{fits_in}
 use Rattle.kl_ask.specs.World.{World}
 use Rattle.kl_eval.specs.declared.stop.EvalStop.{EvalStop}
-use Rattle.kl_plan.specs.Alike.{weight}
-use Rattle.kl_plan.specs.Meaning.{coming, drawn_for, plan}
-use Rattle.kl_plan.specs.Nodes as node
-use Rattle.kl_plan.specs.Nodes.{Node, Nodes, view, nodes_view}
-use Rattle.kl_plan.specs.Reached.{reached}
-use Rattle.kl_plan.specs.Typing.{PlanTypes, EachPlan}
-use Rattle.kl_plan.specs.declared.plan.Plan.{Plan}
-use Rattle.kl_plan.specs.declared.plan.Plan.TheVariants as plans
-use Rattle.kl_plan.specs.declared.plan.Scan.{Scan}
-use Rattle.kl_plan.proofs.Comings.{same_kind, same_type, union_coming}
-use Rattle.kl_plan.proofs.Views.{view_Make, view_Union, view_Ext, view_Scan}
+use Rattle.kl_ship.specs.Alike.{weight}
+use Rattle.kl_ship.specs.Meaning.{coming, drawn_for, plan}
+use Rattle.kl_ship.specs.Nodes as node
+use Rattle.kl_ship.specs.Nodes.{Node, Nodes, view, nodes_view}
+use Rattle.kl_ship.specs.Reached.{reached}
+use Rattle.kl_ship.specs.Typing.{PlanTypes, EachPlan}
+use Rattle.kl_ship.specs.declared.plan.Plan.{Plan}
+use Rattle.kl_ship.specs.declared.plan.Plan.TheVariants as plans
+use Rattle.kl_ship.specs.declared.plan.Scan.{Scan}
+use Rattle.kl_ship.proofs.Comings.{same_kind, same_type, union_coming}
+use Rattle.kl_ship.proofs.Views.{view_Make, view_Union, view_Ext, view_Scan}
 use Rattle.kl_scans.specs.Held.{nothing}
 use Rattle.kl_scans.specs.Scans.{Starts}
 use Rattle.kl_scans.specs.Stage.{stage, ScanOf}

@@ -2,7 +2,7 @@
 use Rattle.std.proofs.Common.{List, ◌∷◌, arith}
 use Rattle.kl_value.specs.declared.Value.{Value}
 use Rattle.kl_ask.specs.World.{World}
-use Rattle.kl_plan.specs.Nodes.{Node}
+use Rattle.kl_ship.specs.Nodes.{Node}
 use Rattle.kl_scans.specs.Held.{nothing, Owned}
 use Rattle.kl_cursor.specs.Left.{Snap, fresh, bound, outside, uses}
 use Rattle.kl_cursor.specs.Sense.{Stands}

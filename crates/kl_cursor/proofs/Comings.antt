@@ -13,14 +13,14 @@ use Rattle.kl_eval.specs.declared.stop.EvalStop.{EvalStop}
 use Rattle.kl_eval.specs.declared.stop.EvalStop.TheVariants as why
 use Rattle.kl_eval.specs.declared.stop.Halt.{Halt}
 use Rattle.kl_eval.specs.declared.stop.Halt.TheVariants as halt
-use Rattle.kl_plan.specs.declared.plan.Scan.{Scan}
-use Rattle.kl_plan.specs.Holding.{ScansIn}
-use Rattle.kl_plan.specs.Meaning.{one, worth, plan}
-use Rattle.kl_plan.specs.Nodes.{Node}
-use Rattle.kl_plan.specs.Reached.{reached}
-use Rattle.kl_plan.specs.Typing.{PlanTypes}
-use Rattle.kl_plan.proofs.Comings.{ComesAs}
-use Rattle.kl_plan.proofs.Typed.{plan_typed}
+use Rattle.kl_ship.specs.declared.plan.Scan.{Scan}
+use Rattle.kl_ship.specs.Holding.{ScansIn}
+use Rattle.kl_ship.specs.Meaning.{one, worth, plan}
+use Rattle.kl_ship.specs.Nodes.{Node}
+use Rattle.kl_ship.specs.Reached.{reached}
+use Rattle.kl_ship.specs.Typing.{PlanTypes}
+use Rattle.kl_ship.proofs.Comings.{ComesAs}
+use Rattle.kl_ship.proofs.Typed.{plan_typed}
 use Rattle.kl_scans.specs.Held.{nothing}
 use Rattle.kl_scans.specs.Log.{Event, paid}
 use Rattle.kl_scans.specs.Moves.{Moves}

@@ -19,16 +19,16 @@ use Rattle.kl_ask.specs.Driver.{same_value}
 use Rattle.kl_ask.specs.World.{World, IsReady}
 use Rattle.kl_eval.specs.declared.stop.EvalStop.{EvalStop}
 use Rattle.kl_eval.specs.declared.stop.EvalStop.TheVariants as why
-use Rattle.kl_plan.specs.Alike.{IsAlike, harm}
-use Rattle.kl_plan.specs.Kinds.{kind_of_items}
-use Rattle.kl_plan.specs.Meaning.{worth, coming, plan, scanned}
-use Rattle.kl_plan.specs.Nodes as node
-use Rattle.kl_plan.specs.Nodes.{Node, no_nodes, nodes, view}
-use Rattle.kl_plan.specs.declared.plan.Plan.{Plan}
-use Rattle.kl_plan.specs.declared.plan.Plan.TheVariants as plans
-use Rattle.kl_plan.specs.declared.plan.Scan.{Scan}
-use Rattle.kl_plan.proofs.Collections.{alike_distinct}
-use Rattle.kl_plan.proofs.Views.{view_Scan}
+use Rattle.kl_ship.specs.Alike.{IsAlike, harm}
+use Rattle.kl_ship.specs.Kinds.{kind_of_items}
+use Rattle.kl_ship.specs.Meaning.{worth, coming, plan, scanned}
+use Rattle.kl_ship.specs.Nodes as node
+use Rattle.kl_ship.specs.Nodes.{Node, no_nodes, nodes, view}
+use Rattle.kl_ship.specs.declared.plan.Plan.{Plan}
+use Rattle.kl_ship.specs.declared.plan.Plan.TheVariants as plans
+use Rattle.kl_ship.specs.declared.plan.Scan.{Scan}
+use Rattle.kl_ship.proofs.Collections.{alike_distinct}
+use Rattle.kl_ship.proofs.Views.{view_Scan}
 use Rattle.kl_scans.specs.Scans.{CanScan}
 use Rattle.kl_scans.specs.Stage.{stage, RepeatsNone}
 use Rattle.kl_cursor.specs.Gathering.{counted, IsTally, CountsRows}

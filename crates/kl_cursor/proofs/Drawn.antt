@@ -9,16 +9,16 @@ use Rattle.kl_outcome.specs.Outcome.{Flow, items_of}
 use Rattle.kl_outcome.specs.Typed.{HaveTypes}
 use Rattle.kl_core.specs.Counts.{fits_in}
 use Rattle.kl_ask.specs.World.{World}
-use Rattle.kl_plan.specs.declared.plan.Scan.{Scan}
-use Rattle.kl_plan.specs.Alike.{Alike}
-use Rattle.kl_plan.specs.Kinds.{first_kind, kind_of_items, kind_of_branches}
-use Rattle.kl_plan.specs.Meaning.{worth, coming, drawn_for, plan}
-use Rattle.kl_plan.specs.Nodes as node
-use Rattle.kl_plan.specs.Nodes.{Node, Branches, no_branches, rest, branch}
-use Rattle.kl_plan.specs.Typing.{PlanTypes, BranchTypes}
-use Rattle.kl_plan.proofs.Comings.{drawn_alike, drawn_fitting}
-use Rattle.kl_plan.proofs.KindLaws.{kinds_typed}
-use Rattle.kl_plan.proofs.Likeness.{alike_back}
+use Rattle.kl_ship.specs.declared.plan.Scan.{Scan}
+use Rattle.kl_ship.specs.Alike.{Alike}
+use Rattle.kl_ship.specs.Kinds.{first_kind, kind_of_items, kind_of_branches}
+use Rattle.kl_ship.specs.Meaning.{worth, coming, drawn_for, plan}
+use Rattle.kl_ship.specs.Nodes as node
+use Rattle.kl_ship.specs.Nodes.{Node, Branches, no_branches, rest, branch}
+use Rattle.kl_ship.specs.Typing.{PlanTypes, BranchTypes}
+use Rattle.kl_ship.proofs.Comings.{drawn_alike, drawn_fitting}
+use Rattle.kl_ship.proofs.KindLaws.{kinds_typed}
+use Rattle.kl_ship.proofs.Likeness.{alike_back}
 use Rattle.kl_scans.specs.Stage.{stage, ScanOf}
 use Rattle.kl_cursor.specs.Drawing.{fits_items, draws}
 use Rattle.kl_cursor.specs.Left.{reading}

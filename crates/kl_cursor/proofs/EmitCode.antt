@@ -19,13 +19,13 @@ use Rattle.kl_eval.specs.declared.stop.EvalStop.{EvalStop}
 use Rattle.kl_eval.specs.declared.stop.EvalStop.TheVariants as why
 use Rattle.kl_eval.specs.declared.stop.Halt.{Halt}
 use Rattle.kl_eval.specs.declared.stop.Halt.TheVariants as halt
-use Rattle.kl_plan.specs.declared.plan.Plan.{Plan}
-use Rattle.kl_plan.specs.declared.plan.Plan.TheVariants as plans
-use Rattle.kl_plan.specs.declared.plan.Scan.{Scan}
-use Rattle.kl_plan.specs.Holding.{ScansIn}
-use Rattle.kl_plan.specs.Nodes as node
-use Rattle.kl_plan.specs.Nodes.{Node, nodes, no_nodes, view, nodes_view}
-use Rattle.kl_plan.proofs.Views.{view_Make, view_Union, view_Ext, view_Scan}
+use Rattle.kl_ship.specs.declared.plan.Plan.{Plan}
+use Rattle.kl_ship.specs.declared.plan.Plan.TheVariants as plans
+use Rattle.kl_ship.specs.declared.plan.Scan.{Scan}
+use Rattle.kl_ship.specs.Holding.{ScansIn}
+use Rattle.kl_ship.specs.Nodes as node
+use Rattle.kl_ship.specs.Nodes.{Node, nodes, no_nodes, view, nodes_view}
+use Rattle.kl_ship.proofs.Views.{view_Make, view_Union, view_Ext, view_Scan}
 use Rattle.kl_scans.specs.Held.{nothing, one_at, Owned, cursor_at}
 use Rattle.kl_scans.specs.Moves.{Moves, Closes}
 use Rattle.kl_scans.specs.Scans.{CanScan, IsOpen, Stopped, Started, NotStarted, PulledMore, PulledNone, NotPulled}

@@ -8,9 +8,9 @@ use Rattle.kl_outcome.specs.Outcome.{more, fine, flow}
 use Rattle.kl_outcome.specs.Typed.{HaveTypes}
 use Rattle.kl_core.specs.Counts.{fits_in}
 use Rattle.kl_ask.specs.World.{World}
-use Rattle.kl_plan.specs.declared.plan.Scan.{Scan}
-use Rattle.kl_plan.specs.Nodes as node
-use Rattle.kl_plan.specs.Nodes.{Node}
+use Rattle.kl_ship.specs.declared.plan.Scan.{Scan}
+use Rattle.kl_ship.specs.Nodes as node
+use Rattle.kl_ship.specs.Nodes.{Node}
 use Rattle.kl_scans.specs.Held.{cursor_at}
 use Rattle.kl_scans.specs.Scans.{Started, PulledMore}
 use Rattle.kl_cursor.specs.Laziness.{rows_in, Handed, ByTimes, Fetching, ahead, ListTold}

@@ -9,11 +9,11 @@ use Rattle.kl_outcome.specs.Typed.{HaveTypes}
 use Rattle.kl_ask.specs.World.{World}
 use Rattle.kl_eval.specs.declared.stop.EvalStop.{EvalStop}
 use Rattle.kl_eval.specs.declared.stop.EvalStop.TheVariants as why
-use Rattle.kl_plan.specs.Alike.{harm}
-use Rattle.kl_plan.specs.declared.plan.Scan.{Scan}
-use Rattle.kl_plan.specs.Nodes.{Node}
-use Rattle.kl_plan.specs.Meaning.{coming, plan}
-use Rattle.kl_plan.specs.Reached.{reached}
+use Rattle.kl_ship.specs.Alike.{harm}
+use Rattle.kl_ship.specs.declared.plan.Scan.{Scan}
+use Rattle.kl_ship.specs.Nodes.{Node}
+use Rattle.kl_ship.specs.Meaning.{coming, plan}
+use Rattle.kl_ship.specs.Reached.{reached}
 use Rattle.kl_cursor.specs.declared.state.State.{State}
 use Rattle.kl_scans.specs.Held.{open_at, Uses, nothing, beside, Owned}
 use Rattle.kl_scans.specs.Log.{Event, paid}

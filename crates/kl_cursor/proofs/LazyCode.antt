@@ -7,14 +7,14 @@ use Rattle.kl_value.specs.declared.Value.{Value}
 use Rattle.kl_core.specs.Counts.{fits_in}
 use Rattle.kl_ask.specs.World.{World}
 use Rattle.kl_eval.specs.declared.stop.EvalStop.{EvalStop}
-use Rattle.kl_plan.specs.Kinds.{kind_of_items}
-use Rattle.kl_plan.specs.Meaning.{Readings}
-use Rattle.kl_plan.specs.Nodes as node
-use Rattle.kl_plan.specs.Nodes.{Node, view}
-use Rattle.kl_plan.specs.declared.plan.Plan.{Plan}
-use Rattle.kl_plan.specs.declared.plan.Plan.TheVariants as plans
-use Rattle.kl_plan.specs.declared.plan.Scan.{Scan}
-use Rattle.kl_plan.proofs.Views.{view_Ext, view_Scan}
+use Rattle.kl_ship.specs.Kinds.{kind_of_items}
+use Rattle.kl_ship.specs.Meaning.{Readings}
+use Rattle.kl_ship.specs.Nodes as node
+use Rattle.kl_ship.specs.Nodes.{Node, view}
+use Rattle.kl_ship.specs.declared.plan.Plan.{Plan}
+use Rattle.kl_ship.specs.declared.plan.Plan.TheVariants as plans
+use Rattle.kl_ship.specs.declared.plan.Scan.{Scan}
+use Rattle.kl_ship.proofs.Views.{view_Ext, view_Scan}
 use Rattle.kl_scans.specs.Held.{Owned}
 use Rattle.kl_scans.specs.Scans.{Starts, Pulls}
 use Rattle.kl_scans.proofs.Moving.{owned_after}

@@ -2,16 +2,16 @@
 use Rattle.std.proofs.Common.{◌≡◌, ◌||◌, ◌⊎◌, ⊎_elim, Bool, true, false, ℕ, nat_lt, List, [], ◌∷◌, ◌++◌, length, map, Option, Some, None, refl, sym, ap, ◌∙◌, arith, rules}
 use Rattle.kl_value.specs.declared.Kind.{Kind}
 use Rattle.kl_outcome.specs.Outcome.{Name}
-use Rattle.kl_plan.specs.Nodes as node
-use Rattle.kl_plan.specs.Joins.{join_view}
-use Rattle.kl_plan.specs.Nodes.{Branches, branches_of, fields_view, nodes_view, view, view_branch}
-use Rattle.kl_plan.specs.Numbers.{scans_in, scans_of_branches, scans_of_fields}
-use Rattle.kl_plan.specs.Joins.{other_node}
-use Rattle.kl_plan.specs.declared.plan.Join.{Join}
-use Rattle.kl_plan.specs.declared.plan.Plan.{Plan, the_lemmas}
-use Rattle.kl_plan.specs.declared.plan.Plan.TheVariants as plans
-use Rattle.kl_plan.specs.declared.plan.Scan.{Scan}
-use Rattle.kl_plan.proofs.Views.{view_Case, view_Make, view_Scan}
+use Rattle.kl_ship.specs.Nodes as node
+use Rattle.kl_ship.specs.Joins.{join_view}
+use Rattle.kl_ship.specs.Nodes.{Branches, branches_of, fields_view, nodes_view, view, view_branch}
+use Rattle.kl_ship.specs.Numbers.{scans_in, scans_of_branches, scans_of_fields}
+use Rattle.kl_ship.specs.Shipping.{other_node}
+use Rattle.kl_ship.specs.declared.plan.Join.{Join}
+use Rattle.kl_ship.specs.declared.plan.Plan.{Plan, the_lemmas}
+use Rattle.kl_ship.specs.declared.plan.Plan.TheVariants as plans
+use Rattle.kl_ship.specs.declared.plan.Scan.{Scan}
+use Rattle.kl_ship.proofs.Views.{view_Case, view_Make, view_Scan}
 use Rattle.kl_cursor.specs.Pulling.{some, has_scan, gives}
 use Rattle.kl_cursor.proofs.Pulls.{some_then}
 

@@ -4,13 +4,13 @@ use Rattle.kl_value.specs.declared.Kind.TheVariants as kind
 use Rattle.kl_value.specs.declared.Value.{Value}
 use Rattle.kl_ask.specs.World.{World}
 use Rattle.kl_eval.specs.declared.stop.EvalStop.{EvalStop}
-use Rattle.kl_plan.specs.Holding.{ScansIn}
-use Rattle.kl_plan.specs.Nodes as node
-use Rattle.kl_plan.specs.Nodes.{Node, Nodes, view}
-use Rattle.kl_plan.specs.Numbers.{scans_in}
-use Rattle.kl_plan.specs.declared.plan.Plan.{Plan}
-use Rattle.kl_plan.specs.declared.plan.Scan.{Scan}
-use Rattle.kl_plan.proofs.Holding.{scans_in_all}
+use Rattle.kl_ship.specs.Holding.{ScansIn}
+use Rattle.kl_ship.specs.Nodes as node
+use Rattle.kl_ship.specs.Nodes.{Node, Nodes, view}
+use Rattle.kl_ship.specs.Numbers.{scans_in}
+use Rattle.kl_ship.specs.declared.plan.Plan.{Plan}
+use Rattle.kl_ship.specs.declared.plan.Scan.{Scan}
+use Rattle.kl_ship.proofs.Holding.{scans_in_all}
 use Rattle.kl_scans.specs.Held.{Uses, nothing}
 use Rattle.kl_scans.specs.Log.{Logged}
 use Rattle.kl_scans.specs.Moves.{Closes, Moves}

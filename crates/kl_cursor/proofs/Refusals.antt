@@ -3,7 +3,7 @@ use Rattle.std.proofs.Common.{List}
 use Rattle.kl_outcome.specs.Outcome.{Name}
 use Rattle.kl_ask.specs.World.{World}
 use Rattle.kl_ask.specs.declared.DriverError.{DriverError}
-use Rattle.kl_plan.specs.declared.plan.Scan.{Scan}
+use Rattle.kl_ship.specs.declared.plan.Scan.{Scan}
 use Rattle.kl_scans.specs.Held.{Uses}
 use Rattle.kl_scans.specs.Moves.{Moves}
 use Rattle.kl_scans.proofs.Moving.{stopped_then, stopped_before}

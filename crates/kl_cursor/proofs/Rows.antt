@@ -10,12 +10,12 @@ use Rattle.kl_outcome.proofs.Drawing.{drawn_followed}
 use Rattle.kl_ask.specs.World.{World}
 use Rattle.kl_eval.specs.declared.stop.EvalStop.{EvalStop}
 use Rattle.kl_eval.specs.declared.stop.EvalStop.TheVariants as why
-use Rattle.kl_plan.specs.Alike.{harm}
-use Rattle.kl_plan.specs.declared.plan.Scan.{Scan}
-use Rattle.kl_plan.specs.Meaning.{coming, plan}
-use Rattle.kl_plan.specs.Nodes.{Node}
-use Rattle.kl_plan.specs.Reached.{reached}
-use Rattle.kl_plan.proofs.Likeness.{weight_followed}
+use Rattle.kl_ship.specs.Alike.{harm}
+use Rattle.kl_ship.specs.declared.plan.Scan.{Scan}
+use Rattle.kl_ship.specs.Meaning.{coming, plan}
+use Rattle.kl_ship.specs.Nodes.{Node}
+use Rattle.kl_ship.specs.Reached.{reached}
+use Rattle.kl_ship.proofs.Likeness.{weight_followed}
 use Rattle.kl_scans.specs.Held.{cursor_at, nothing, one_at, Owned}
 use Rattle.kl_scans.specs.Log.{paid}
 use Rattle.kl_scans.specs.Moves.{Closes}

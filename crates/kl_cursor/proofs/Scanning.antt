@@ -10,7 +10,7 @@ use Rattle.kl_ask.specs.Driver.{Cursor}
 use Rattle.kl_ask.specs.World.{World}
 use Rattle.kl_eval.specs.declared.stop.EvalStop.{EvalStop}
 use Rattle.kl_eval.specs.declared.stop.EvalStop.TheVariants as why
-use Rattle.kl_plan.specs.declared.plan.Scan.{Scan}
+use Rattle.kl_ship.specs.declared.plan.Scan.{Scan}
 use Rattle.kl_scans.specs.Held.{cursor_at, count_open, open_at, nothing, one_at, Owned}
 use Rattle.kl_scans.specs.Log.{Event, paid}
 use Rattle.kl_scans.specs.Moves.{Closes}

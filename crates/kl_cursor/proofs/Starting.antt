@@ -21,12 +21,12 @@ use Rattle.kl_ask.specs.declared.ask.Ask.TheVariants as asks
 use Rattle.kl_ask.specs.declared.ask.ColTest.{ColTest}
 use Rattle.kl_eval.specs.declared.stop.EvalStop.{EvalStop}
 use Rattle.kl_eval.specs.declared.stop.EvalStop.TheVariants as why
-use Rattle.kl_plan.specs.Alike.{harm, IsAlike}
-use Rattle.kl_plan.specs.declared.plan.Scan.{Scan}
-use Rattle.kl_plan.specs.Meaning.{coming, scanned}
-use Rattle.kl_plan.specs.Nodes as node
-use Rattle.kl_plan.specs.Typing.{PlanTypes}
-use Rattle.kl_plan.proofs.Comings.{same_kind, same_type}
+use Rattle.kl_ship.specs.Alike.{harm, IsAlike}
+use Rattle.kl_ship.specs.declared.plan.Scan.{Scan}
+use Rattle.kl_ship.specs.Meaning.{coming, scanned}
+use Rattle.kl_ship.specs.Nodes as node
+use Rattle.kl_ship.specs.Typing.{PlanTypes}
+use Rattle.kl_ship.proofs.Comings.{same_kind, same_type}
 use Rattle.kl_scans.specs.Held.{Held, held_at, cursor_at, nothing, one_at}
 use Rattle.kl_scans.specs.Log.{paid}
 use Rattle.kl_scans.specs.Scans.{IsJoined, OpensIn, Started, NotStarted, Stopped}

@@ -7,12 +7,12 @@ use Rattle.kl_type.specs.Ground.{Ground, coll}
 use Rattle.kl_outcome.specs.Outcome.{Flow, fine, flow, followed, drawn}
 use Rattle.kl_ask.specs.Driver.{Cursor}
 use Rattle.kl_ask.specs.World.{World}
-use Rattle.kl_plan.specs.Alike.{weight}
-use Rattle.kl_plan.specs.declared.plan.Scan.{Scan}
-use Rattle.kl_plan.specs.Meaning.{coming, plan, plan_items}
-use Rattle.kl_plan.specs.Nodes.{Node}
-use Rattle.kl_plan.specs.Reached.{reached, reached_nodes}
-use Rattle.kl_plan.specs.Typing.{PlanTypes, EachPlan}
+use Rattle.kl_ship.specs.Alike.{weight}
+use Rattle.kl_ship.specs.declared.plan.Scan.{Scan}
+use Rattle.kl_ship.specs.Meaning.{coming, plan, plan_items}
+use Rattle.kl_ship.specs.Nodes.{Node}
+use Rattle.kl_ship.specs.Reached.{reached, reached_nodes}
+use Rattle.kl_ship.specs.Typing.{PlanTypes, EachPlan}
 use Rattle.kl_scans.specs.Held.{cursor_at, open_at, Uses, one_at, beside, Owned}
 use Rattle.kl_scans.specs.Moves.{Moves}
 use Rattle.kl_scans.specs.Stage.{Stage, stage, readings, ScanOf, IsTold}

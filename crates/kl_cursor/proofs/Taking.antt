@@ -3,8 +3,8 @@ use Rattle.std.proofs.Common.{◌≡◌, ⊎_elim, Bool, ℕ, reverse, refl, ◌
 use mathlib.Core.Logic.{◌⊎◌}
 use Rattle.kl_value.specs.declared.Value.{Value}
 use Rattle.kl_ask.specs.World.{World}
-use Rattle.kl_plan.specs.Nodes.{Node, view}
-use Rattle.kl_plan.specs.declared.plan.Plan.{Plan}
+use Rattle.kl_ship.specs.Nodes.{Node, view}
+use Rattle.kl_ship.specs.declared.plan.Plan.{Plan}
 use Rattle.kl_cursor.specs.declared.state.State.{State}
 use Rattle.kl_cursor.specs.declared.state.State.TheVariants as state
 use Rattle.kl_eval.specs.declared.stop.EvalStop.{EvalStop}

@@ -13,13 +13,13 @@ use Rattle.kl_ask.specs.World.{World}
 use Rattle.kl_eval.specs.Steps.{AnswersPrim}
 use Rattle.kl_eval.specs.declared.stop.EvalStop.{EvalStop}
 use Rattle.kl_eval.specs.declared.stop.EvalStop.TheVariants as why
-use Rattle.kl_plan.specs.Alike.{harm}
-use Rattle.kl_plan.specs.Kinds.{kind_of_items}
-use Rattle.kl_plan.specs.Meaning.{worth, coming, plan}
-use Rattle.kl_plan.specs.Nodes.{Node}
-use Rattle.kl_plan.proofs.Collections.{alike_same}
-use Rattle.kl_plan.proofs.Comings.{ComesAs, worth_typed, coming_alike}
-use Rattle.kl_plan.proofs.Likeness.{alike_on}
+use Rattle.kl_ship.specs.Alike.{harm}
+use Rattle.kl_ship.specs.Kinds.{kind_of_items}
+use Rattle.kl_ship.specs.Meaning.{worth, coming, plan}
+use Rattle.kl_ship.specs.Nodes.{Node}
+use Rattle.kl_ship.proofs.Collections.{alike_same}
+use Rattle.kl_ship.proofs.Comings.{ComesAs, worth_typed, coming_alike}
+use Rattle.kl_ship.proofs.Likeness.{alike_on}
 use Rattle.kl_scans.specs.Stage.{stage, ScanOf}
 use Rattle.kl_cursor.specs.Gathering.{Gathered, listed, empty, counted, summed, sought, IsTally, with_one, with_all, answer_in, Tells, TellsItems}
 use Rattle.kl_cursor.specs.Left.{Snap, fresh, reading}

@@ -14,13 +14,13 @@ use Rattle.kl_eval.specs.Evals.{TellsPart, TellsPlain, SensePlain}
 use Rattle.kl_eval.specs.Steps.{AnswersOutcome, Outside, Gathers, place_of, TellsTruth, Joins}
 use Rattle.kl_eval.specs.declared.stop.EvalStop.{EvalStop}
 use Rattle.kl_eval.specs.declared.stop.Halt.{Halt}
-use Rattle.kl_plan.specs.declared.plan.Plan.{Plan, the_lemmas}
-use Rattle.kl_plan.specs.declared.plan.Plan.TheVariants as plans
-use Rattle.kl_plan.specs.declared.plan.Scan.{Scan}
-use Rattle.kl_plan.specs.Nodes as node
-use Rattle.kl_plan.specs.Nodes.{Node, rest, branches_of, view, view_branch, nodes_view, fields_view}
-use Rattle.kl_plan.specs.Joins.{other_node}
-use Rattle.kl_plan.proofs.Views.{view_Var, view_Rec, view_Proj, view_Inj, view_Case, view_Make, view_Union, view_Ext, view_If, view_Let, view_Prim, view_Scan}
+use Rattle.kl_ship.specs.declared.plan.Plan.{Plan, the_lemmas}
+use Rattle.kl_ship.specs.declared.plan.Plan.TheVariants as plans
+use Rattle.kl_ship.specs.declared.plan.Scan.{Scan}
+use Rattle.kl_ship.specs.Nodes as node
+use Rattle.kl_ship.specs.Nodes.{Node, rest, branches_of, view, view_branch, nodes_view, fields_view}
+use Rattle.kl_ship.specs.Shipping.{other_node}
+use Rattle.kl_ship.proofs.Views.{view_Var, view_Rec, view_Proj, view_Inj, view_Case, view_Make, view_Union, view_Ext, view_If, view_Let, view_Prim, view_Scan}
 use Rattle.kl_cursor.specs.Left.{fresh}
 use Rattle.kl_cursor.specs.Sense.{HasWorth, HasFields, HasCall, Stands}
 use Rattle.kl_cursor.specs.Steps.{ComesTo, Wholly, Partly, Drains, FieldsGive, CallGives, IsUndriven, IsUndrivenPart}

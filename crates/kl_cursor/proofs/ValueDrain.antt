@@ -13,13 +13,13 @@ use Rattle.kl_ask.specs.World.{World}
 use Rattle.kl_eval.specs.Steps.{Gathers}
 use Rattle.kl_eval.specs.declared.stop.Halt.{Halt}
 use Rattle.kl_eval.specs.declared.stop.Halt.TheVariants as halt
-use Rattle.kl_plan.specs.Alike.{harm}
-use Rattle.kl_plan.specs.declared.plan.Scan.{Scan}
-use Rattle.kl_plan.specs.Meaning.{many, worth, coming, plan, scanned}
-use Rattle.kl_plan.specs.Nodes as node
-use Rattle.kl_plan.specs.Nodes.{Node, Nodes}
-use Rattle.kl_plan.proofs.Collections.{alike_same}
-use Rattle.kl_plan.proofs.Comings.{coming_typed}
+use Rattle.kl_ship.specs.Alike.{harm}
+use Rattle.kl_ship.specs.declared.plan.Scan.{Scan}
+use Rattle.kl_ship.specs.Meaning.{many, worth, coming, plan, scanned}
+use Rattle.kl_ship.specs.Nodes as node
+use Rattle.kl_ship.specs.Nodes.{Node, Nodes}
+use Rattle.kl_ship.proofs.Collections.{alike_same}
+use Rattle.kl_ship.proofs.Comings.{coming_typed}
 use Rattle.kl_scans.specs.Held.{nothing}
 use Rattle.kl_scans.specs.Moves.{Moves}
 use Rattle.kl_scans.proofs.Moving.{moves_none, moves_then, ready_stays}

@@ -4,17 +4,17 @@ use mathlib.Core.Logic.{◌⊎◌}
 use Rattle.kl_value.specs.declared.Kind.{Kind}
 use Rattle.kl_outcome.specs.Outcome.{Name}
 use Rattle.kl_eval.specs.Steps.{place_of}
-use Rattle.kl_plan.specs.declared.plan.Plan.{Plan}
-use Rattle.kl_plan.specs.declared.plan.Plan.TheVariants as plans
-use Rattle.kl_plan.specs.declared.plan.Scan.{Scan}
-use Rattle.kl_plan.specs.Nodes as node
-use Rattle.kl_plan.specs.Nodes.{Node, rest, branches_of, view, view_branch, nodes_view, fields_view}
-use Rattle.kl_plan.specs.Joins.{other_node}
+use Rattle.kl_ship.specs.declared.plan.Plan.{Plan}
+use Rattle.kl_ship.specs.declared.plan.Plan.TheVariants as plans
+use Rattle.kl_ship.specs.declared.plan.Scan.{Scan}
+use Rattle.kl_ship.specs.Nodes as node
+use Rattle.kl_ship.specs.Nodes.{Node, rest, branches_of, view, view_branch, nodes_view, fields_view}
+use Rattle.kl_ship.specs.Shipping.{other_node}
 use Rattle.kl_core.specs.Trees.{view as term_view}
 use Rattle.kl_core.specs.declared.term.Term.{Term}
-use Rattle.kl_plan.specs.Kinds.{kind_of_items}
+use Rattle.kl_ship.specs.Kinds.{kind_of_items}
 use Rattle.kl_cursor.proofs.ValueCode.{view_Plain}
-use Rattle.kl_plan.proofs.Views.{view_Var, view_Rec, view_Proj, view_Inj, view_Case, view_Make, view_Union, view_Ext, view_If, view_Let, view_Prim, view_Scan}
+use Rattle.kl_ship.proofs.Views.{view_Var, view_Rec, view_Proj, view_Inj, view_Case, view_Make, view_Union, view_Ext, view_If, view_Let, view_Prim, view_Scan}
 use Rattle.kl_cursor.specs.Measure.{tall, tall_nodes, tall_fields}
 use Rattle.kl_cursor.proofs.Whole.{ComesOne, spare, branch_tall, rest_tall}
 

@@ -27,15 +27,15 @@ use Rattle.kl_eval.specs.declared.stop.EvalStop.{EvalStop}
 use Rattle.kl_eval.specs.declared.stop.EvalStop.TheVariants as why
 use Rattle.kl_eval.specs.declared.stop.Halt.{Halt}
 use Rattle.kl_eval.specs.declared.stop.Halt.TheVariants as halt
-use Rattle.kl_plan.specs.declared.plan.Plan.{Plan}
-use Rattle.kl_plan.specs.declared.plan.Scan.{Scan}
-use Rattle.kl_plan.specs.Holding.{ScansIn, ScansInBranches}
-use Rattle.kl_plan.specs.Meaning.{one, worth, come_after, come_chosen, come_opened, no_tables, plan, plan_branches}
-use Rattle.kl_plan.specs.Nodes as node
-use Rattle.kl_plan.specs.Nodes.{Node, Branches, no_branches, rest, branch, branches_of, view, view_branch}
-use Rattle.kl_plan.specs.Reached.{once, chosen_of, opened_of, reached, reached_branch}
-use Rattle.kl_plan.specs.Typing.{HasBranch, BranchTypes}
-use Rattle.kl_plan.proofs.Comings.{ComesAs, union_shows}
+use Rattle.kl_ship.specs.declared.plan.Plan.{Plan}
+use Rattle.kl_ship.specs.declared.plan.Scan.{Scan}
+use Rattle.kl_ship.specs.Holding.{ScansIn, ScansInBranches}
+use Rattle.kl_ship.specs.Meaning.{one, worth, come_after, come_chosen, come_opened, no_tables, plan, plan_branches}
+use Rattle.kl_ship.specs.Nodes as node
+use Rattle.kl_ship.specs.Nodes.{Node, Branches, no_branches, rest, branch, branches_of, view, view_branch}
+use Rattle.kl_ship.specs.Reached.{once, chosen_of, opened_of, reached, reached_branch}
+use Rattle.kl_ship.specs.Typing.{HasBranch, BranchTypes}
+use Rattle.kl_ship.proofs.Comings.{ComesAs, union_shows}
 use Rattle.kl_scans.specs.Held.{nothing}
 use Rattle.kl_scans.specs.Moves.{Moves}
 use Rattle.kl_scans.specs.Stage.{stage, ScanOf}

@@ -25,15 +25,15 @@ use Rattle.kl_eval.specs.declared.stop.EvalStop.{EvalStop}
 use Rattle.kl_eval.specs.declared.stop.EvalStop.TheVariants as why
 use Rattle.kl_eval.specs.declared.stop.Halt.{Halt}
 use Rattle.kl_eval.specs.declared.stop.Halt.TheVariants as halt
-use Rattle.kl_plan.specs.declared.plan.Plan.{Plan}
-use Rattle.kl_plan.specs.declared.plan.Scan.{Scan}
-use Rattle.kl_plan.specs.Holding.{ScansIn, ScansInNodes, ScansInFields}
-use Rattle.kl_plan.specs.Kinds.{kind_of_items}
-use Rattle.kl_plan.specs.Meaning.{worth, plan, plan_fields}
-use Rattle.kl_plan.specs.Nodes as node
-use Rattle.kl_plan.specs.Nodes.{Node, Nodes, no_nodes, nodes, Fields, fields, view, nodes_view, fields_view}
-use Rattle.kl_plan.specs.Reached.{reached_fields}
-use Rattle.kl_plan.specs.Typing.{PlansOf, FieldTypes}
+use Rattle.kl_ship.specs.declared.plan.Plan.{Plan}
+use Rattle.kl_ship.specs.declared.plan.Scan.{Scan}
+use Rattle.kl_ship.specs.Holding.{ScansIn, ScansInNodes, ScansInFields}
+use Rattle.kl_ship.specs.Kinds.{kind_of_items}
+use Rattle.kl_ship.specs.Meaning.{worth, plan, plan_fields}
+use Rattle.kl_ship.specs.Nodes as node
+use Rattle.kl_ship.specs.Nodes.{Node, Nodes, no_nodes, nodes, Fields, fields, view, nodes_view, fields_view}
+use Rattle.kl_ship.specs.Reached.{reached_fields}
+use Rattle.kl_ship.specs.Typing.{PlansOf, FieldTypes}
 use Rattle.kl_scans.specs.Held.{nothing}
 use Rattle.kl_scans.specs.Log.{paid}
 use Rattle.kl_scans.specs.Moves.{Moves}

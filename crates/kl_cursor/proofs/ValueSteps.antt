@@ -9,15 +9,15 @@ use Rattle.kl_eval.specs.Steps.{inside_of, place_of, TellsTruth}
 use Rattle.kl_eval.specs.declared.stop.EvalStop.{EvalStop}
 use Rattle.kl_eval.specs.declared.stop.EvalStop.TheVariants as why
 use Rattle.kl_eval.specs.declared.stop.Halt.{Halt}
-use Rattle.kl_plan.specs.declared.plan.Plan.{Plan}
-use Rattle.kl_plan.specs.declared.plan.Plan.TheVariants as plans
-use Rattle.kl_plan.specs.Holding.{ScansIn}
-use Rattle.kl_plan.specs.Meaning.{plan_items}
-use Rattle.kl_plan.specs.Nodes as node
-use Rattle.kl_plan.specs.Nodes.{Node, Nodes, no_nodes, nodes, rest, branches_of, view, view_branch, nodes_view, fields_view}
-use Rattle.kl_plan.specs.Reached.{reached_nodes}
-use Rattle.kl_plan.specs.Joins.{other_node}
-use Rattle.kl_plan.specs.Typing.{EachPlan}
+use Rattle.kl_ship.specs.declared.plan.Plan.{Plan}
+use Rattle.kl_ship.specs.declared.plan.Plan.TheVariants as plans
+use Rattle.kl_ship.specs.Holding.{ScansIn}
+use Rattle.kl_ship.specs.Meaning.{plan_items}
+use Rattle.kl_ship.specs.Nodes as node
+use Rattle.kl_ship.specs.Nodes.{Node, Nodes, no_nodes, nodes, rest, branches_of, view, view_branch, nodes_view, fields_view}
+use Rattle.kl_ship.specs.Reached.{reached_nodes}
+use Rattle.kl_ship.specs.Shipping.{other_node}
+use Rattle.kl_ship.specs.Typing.{EachPlan}
 use Rattle.kl_scans.specs.Held.{nothing}
 use Rattle.kl_scans.specs.Stage.{ScanOf, readings}
 use Rattle.kl_scans.proofs.Moving.{moves_none, stage_stays}

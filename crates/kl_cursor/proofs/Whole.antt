@@ -20,16 +20,16 @@ use Rattle.kl_eval.specs.declared.stop.EvalStop.{EvalStop}
 use Rattle.kl_eval.specs.declared.stop.EvalStop.TheVariants as why
 use Rattle.kl_eval.specs.declared.stop.Halt.{Halt}
 use Rattle.kl_eval.specs.declared.stop.Halt.TheVariants as halt
-use Rattle.kl_plan.specs.Alike.{harm, weight}
-use Rattle.kl_plan.specs.declared.plan.Scan.{Scan}
-use Rattle.kl_plan.specs.declared.plan.Plan.{Plan}
-use Rattle.kl_plan.specs.Holding.{ScansIn}
-use Rattle.kl_plan.specs.Meaning.{Readings, coming, drawn_for, plan, worth}
-use Rattle.kl_plan.proofs.Comings.{same_kind}
-use Rattle.kl_plan.specs.Nodes as node
-use Rattle.kl_plan.specs.Nodes.{Node, Branches, rest, branches_of, view, view_branch}
-use Rattle.kl_plan.specs.Reached.{reached}
-use Rattle.kl_plan.specs.Typing.{BranchTypes}
+use Rattle.kl_ship.specs.Alike.{harm, weight}
+use Rattle.kl_ship.specs.declared.plan.Scan.{Scan}
+use Rattle.kl_ship.specs.declared.plan.Plan.{Plan}
+use Rattle.kl_ship.specs.Holding.{ScansIn}
+use Rattle.kl_ship.specs.Meaning.{Readings, coming, drawn_for, plan, worth}
+use Rattle.kl_ship.proofs.Comings.{same_kind}
+use Rattle.kl_ship.specs.Nodes as node
+use Rattle.kl_ship.specs.Nodes.{Node, Branches, rest, branches_of, view, view_branch}
+use Rattle.kl_ship.specs.Reached.{reached}
+use Rattle.kl_ship.specs.Typing.{BranchTypes}
 use Rattle.kl_scans.specs.Held.{nothing}
 use Rattle.kl_scans.specs.Moves.{Moves}
 use Rattle.kl_scans.specs.Stage.{stage, statement_of, ScanOf, readings}

@@ -11,9 +11,9 @@ use Rattle.kl_value.specs.declared.Value.{Value}
 use Rattle.kl_prim.specs.Meaning.{Answer, senseless, truth, amount, exact}
 use Rattle.kl_prim.specs.Table.{Fits, meaning}
 use Rattle.kl_ask.specs.World.{World}
-use Rattle.kl_plan.specs.declared.plan.Plan.{Plan}
-use Rattle.kl_plan.specs.declared.plan.Plan.TheVariants as plans
-use Rattle.kl_plan.specs.declared.plan.Scan.{Scan}
+use Rattle.kl_ship.specs.declared.plan.Plan.{Plan}
+use Rattle.kl_ship.specs.declared.plan.Plan.TheVariants as plans
+use Rattle.kl_ship.specs.declared.plan.Scan.{Scan}
 use Rattle.kl_scans.specs.Stage.{stage, RepeatsNone}
 use Rattle.kl_cursor.specs.declared.gathering.Gathering.{Gathering}
 use Rattle.kl_cursor.specs.declared.gathering.Gathering.TheVariants as gathering

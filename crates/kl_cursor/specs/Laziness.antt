@@ -8,11 +8,11 @@ use Rattle.kl_outcome.specs.Outcome.{fine, flow, items_in}
 use Rattle.kl_outcome.specs.Typed.{HaveTypes}
 use Rattle.kl_ask.specs.World.{World}
 use Rattle.kl_eval.specs.declared.stop.EvalStop.{EvalStop}
-use Rattle.kl_plan.specs.declared.plan.Scan.{Scan}
-use Rattle.kl_plan.specs.Nodes as node
-use Rattle.kl_plan.specs.Nodes.{Node}
-use Rattle.kl_plan.specs.Meaning.{Readings, coming, plan}
-use Rattle.kl_plan.specs.Holding.{ScansIn}
+use Rattle.kl_ship.specs.declared.plan.Scan.{Scan}
+use Rattle.kl_ship.specs.Nodes as node
+use Rattle.kl_ship.specs.Nodes.{Node}
+use Rattle.kl_ship.specs.Meaning.{Readings, coming, plan}
+use Rattle.kl_ship.specs.Holding.{ScansIn}
 use Rattle.kl_scans.specs.Log as log
 use Rattle.kl_scans.specs.Log.{Event, Logged}
 use Rattle.kl_cursor.specs.declared.state.State.{State}

@@ -5,13 +5,13 @@ use Rattle.kl_value.specs.declared.Value.{Value}
 use Rattle.kl_outcome.specs.Outcome.{End, fine, overflow, Flow, stop, flow, followed, drawn}
 use Rattle.kl_ask.specs.Driver.{Cursor}
 use Rattle.kl_ask.specs.World.{World}
-use Rattle.kl_plan.specs.Alike.{weight}
-use Rattle.kl_plan.specs.declared.plan.Scan.{Scan}
-use Rattle.kl_plan.specs.declared.plan.Plan.{Plan}
-use Rattle.kl_plan.specs.Nodes.{Node, Nodes, view, nodes_of}
-use Rattle.kl_plan.specs.Meaning.{Readings, coming, plan, plan_items}
-use Rattle.kl_plan.specs.Reached.{reached, reached_nodes}
-use Rattle.kl_plan.specs.Holding.{ScansIn, ScansInNodes}
+use Rattle.kl_ship.specs.Alike.{weight}
+use Rattle.kl_ship.specs.declared.plan.Scan.{Scan}
+use Rattle.kl_ship.specs.declared.plan.Plan.{Plan}
+use Rattle.kl_ship.specs.Nodes.{Node, Nodes, view, nodes_of}
+use Rattle.kl_ship.specs.Meaning.{Readings, coming, plan, plan_items}
+use Rattle.kl_ship.specs.Reached.{reached, reached_nodes}
+use Rattle.kl_ship.specs.Holding.{ScansIn, ScansInNodes}
 use Rattle.kl_cursor.specs.declared.state.State.{State, State-F, fold-State}
 use Rattle.kl_scans.specs.Held.{cursor_at, Uses, nothing, one_at, beside}
 use Rattle.kl_scans.specs.Stage.{stage, readings, or_none}

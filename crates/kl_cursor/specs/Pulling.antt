@@ -2,9 +2,9 @@
 -- beforehand whether the next step may wait for one. Where it may not, nothing is started and nothing handed. That this is so of rows
 -- that are at hand, though their loop gives no item of some of them, is told by the step itself (`AtHand`).
 use Rattle.std.specs.Prelude.{◌≡◌, Bool, true, false, ◌==◌, ◌&&◌, ◌||◌, not, List, [], ◌∷◌, length, Option, Some, None, Result, Ok, Err, ⊤}
-use Rattle.kl_plan.specs.Nodes as node
-use Rattle.kl_plan.specs.Nodes.{Node, no_nodes, nodes}
-use Rattle.kl_plan.specs.Numbers.{scans_in, scans_of_nodes}
+use Rattle.kl_ship.specs.Nodes as node
+use Rattle.kl_ship.specs.Nodes.{Node, no_nodes, nodes}
+use Rattle.kl_ship.specs.Numbers.{scans_in, scans_of_nodes}
 use Rattle.kl_value.specs.declared.Value.{Value}
 use Rattle.kl_ask.specs.World.{World}
 use Rattle.kl_eval.specs.declared.stop.EvalStop.{EvalStop}

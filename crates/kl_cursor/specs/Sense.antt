@@ -8,9 +8,9 @@ use Rattle.kl_outcome.specs.Typed.{Inhabits, HaveTypes, PrimTypes}
 use Rattle.kl_core.specs.Counts.{fits_in}
 use Rattle.kl_ask.specs.Driver.{Cursor}
 use Rattle.kl_ask.specs.World.{World, IsReady}
-use Rattle.kl_plan.specs.declared.plan.Scan.{Scan}
-use Rattle.kl_plan.specs.Nodes.{Node, Nodes, Fields}
-use Rattle.kl_plan.specs.Typing.{PlanTypes, EachPlan, PlansOf, FieldTypes}
+use Rattle.kl_ship.specs.declared.plan.Scan.{Scan}
+use Rattle.kl_ship.specs.Nodes.{Node, Nodes, Fields}
+use Rattle.kl_ship.specs.Typing.{PlanTypes, EachPlan, PlansOf, FieldTypes}
 use Rattle.kl_scans.specs.Held.{cursor_at}
 use Rattle.kl_scans.specs.Stage.{stage, ScanOf, IsTold}
 use Rattle.kl_cursor.specs.Left.{Snap, fresh, have, pulling, both, bound, outside, inside, made, ended}

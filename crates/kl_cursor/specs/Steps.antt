@@ -15,11 +15,11 @@ use Rattle.kl_eval.specs.declared.stop.EvalStop.{EvalStop}
 use Rattle.kl_eval.specs.declared.stop.EvalStop.TheVariants as why
 use Rattle.kl_eval.specs.declared.stop.Halt.{Halt}
 use Rattle.kl_eval.specs.declared.stop.Halt.TheVariants as halt
-use Rattle.kl_plan.specs.Alike.{harm}
-use Rattle.kl_plan.specs.declared.plan.Scan.{Scan}
-use Rattle.kl_plan.specs.Nodes.{Node, Nodes, Fields}
-use Rattle.kl_plan.specs.Meaning.{worth, plan, plan_all, plan_fields}
-use Rattle.kl_plan.specs.Typing.{PlansOf, FieldTypes}
+use Rattle.kl_ship.specs.Alike.{harm}
+use Rattle.kl_ship.specs.declared.plan.Scan.{Scan}
+use Rattle.kl_ship.specs.Nodes.{Node, Nodes, Fields}
+use Rattle.kl_ship.specs.Meaning.{worth, plan, plan_all, plan_fields}
+use Rattle.kl_ship.specs.Typing.{PlansOf, FieldTypes}
 use Rattle.kl_cursor.specs.declared.state.State.{State}
 use Rattle.kl_scans.specs.Held.{Uses, nothing}
 use Rattle.kl_scans.specs.Log.{Event, scan_in, paid}
@@ -27,8 +27,8 @@ use Rattle.kl_scans.specs.Moves.{Moves}
 use Rattle.kl_scans.specs.Scans.{StoppedBy}
 use Rattle.kl_scans.specs.Stage.{stage, ScanOf}
 use Rattle.kl_cursor.specs.Left.{Snap, have, outside, ended, snap, uses, left, reading, to_start, ScansLeft}
-use Rattle.kl_plan.specs.Reached.{reached, reached_nodes, reached_fields}
-use Rattle.kl_plan.specs.Holding.{ScansIn, ScansInNodes, ScansInFields}
+use Rattle.kl_ship.specs.Reached.{reached, reached_nodes, reached_fields}
+use Rattle.kl_ship.specs.Holding.{ScansIn, ScansInNodes, ScansInFields}
 use Rattle.kl_cursor.specs.Gathering.{Gathered, with_all, answer_in}
 use Rattle.kl_cursor.specs.Likeness.{Same}
 use Rattle.kl_cursor.specs.Measure.{height, falling, most}

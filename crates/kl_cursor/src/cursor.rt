@@ -1,6 +1,6 @@
 //! The public calls.
 ghost use Rattle.std.specs.Prelude.{◌≡◌, reverse, IfOk};
-ghost use Rattle.kl_plan.specs.Nodes.{view};
+ghost use Rattle.kl_ship.specs.Nodes.{view};
 ghost use Rattle.kl_scans.specs.Held.{Owned};
 ghost use Rattle.kl_scans.specs.Moves.{Closes};
 ghost use Rattle.kl_cursor.specs.AtHand.{NextsHeld, NextsHeldLazily, PullsAlone};
@@ -20,7 +20,7 @@ use crate::values::whole;
 use kl_ask::{Seen, Session};
 use kl_base::{NoMemory, Seq};
 use kl_eval::{Env, EvalStop, inside};
-use kl_plan::Plan;
+use kl_ship::Plan;
 use kl_value::{Value, dup_items};
 use std::alloc::Global;
 use std::mem;

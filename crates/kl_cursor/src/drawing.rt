@@ -1,12 +1,12 @@
 //! Which parts a loop draws as they come.
 ghost use Rattle.std.specs.Prelude.{◌≡◌, map};
-ghost use Rattle.kl_plan.specs.Nodes.{branches_of, no_branches, view, view_branch};
-ghost use Rattle.kl_plan.specs.Kinds.{first_kind, kind_of_branches, kind_of_items};
+ghost use Rattle.kl_ship.specs.Nodes.{branches_of, no_branches, view, view_branch};
+ghost use Rattle.kl_ship.specs.Kinds.{first_kind, kind_of_branches, kind_of_items};
 ghost use Rattle.kl_cursor.specs.Drawing.{draws};
 
 use kl_base::Label;
 use kl_core::fits;
-use kl_plan::Plan;
+use kl_ship::Plan;
 use kl_value::Kind;
 
 /// The kind of a plan of a collection, where its form tells it.

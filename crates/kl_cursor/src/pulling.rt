@@ -1,13 +1,13 @@
 //! Whether the next step of a cursor may read on at a source.
 ghost use Rattle.std.specs.Prelude.{◌≡◌, drop};
-ghost use Rattle.kl_plan.specs.Nodes.{fields_view, nodes_view, view};
-ghost use Rattle.kl_plan.specs.Numbers.{scans_of_fields, scans_of_nodes};
+ghost use Rattle.kl_ship.specs.Nodes.{fields_view, nodes_view, view};
+ghost use Rattle.kl_ship.specs.Numbers.{scans_of_fields, scans_of_nodes};
 ghost use Rattle.kl_cursor.specs.Left.{snap};
 ghost use Rattle.kl_cursor.specs.Pulling.{some, has_scan, gives, reads_on, loop_reads_on, pulls};
 
 use crate::state::State;
 use kl_base::Label;
-use kl_plan::Plan;
+use kl_ship::Plan;
 
 /// Whether a scan stands in a plan.
 #[cycle(scan)]

@@ -15,7 +15,7 @@ use kl_core::Term;
 use kl_eval::{Env, EvalStop, Halt, part, plain};
 use kl_prim::Arg;
 use kl_scans::{finish_scan, pull_scan, repeats_none, start_scan};
-use kl_plan::Scan;
+use kl_ship::Scan;
 use kl_value::Value;
 use std::alloc::Global;
 

@@ -5,14 +5,14 @@ ghost use Rattle.kl_value.specs.Views.{IsBool, IsCollection};
 ghost use Rattle.kl_ask.specs.World.{World};
 ghost use Rattle.kl_outcome.specs.Outcome.{as_variant};
 ghost use Rattle.kl_eval.specs.Steps.{TellsTruth};
-ghost use Rattle.kl_plan.specs.Nodes.{view};
+ghost use Rattle.kl_ship.specs.Nodes.{view};
 ghost use Rattle.kl_cursor.specs.Left.{fresh, have, end_of, snap};
 ghost use Rattle.kl_cursor.specs.Steps.{Steps, Opened, Halted};
 
 use crate::state::State;
 use kl_base::{Box, Label, NoMemory, Seq};
 use kl_eval::{EvalStop, Halt};
-use kl_plan::Plan;
+use kl_ship::Plan;
 use kl_value::{Value, bool_of, into_parts};
 use std::alloc::Global;
 use std::mem;

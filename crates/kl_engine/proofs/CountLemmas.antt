@@ -15,8 +15,8 @@ use Rattle.kl_ask.specs.Driver.{DriverKind, State}
 use Rattle.kl_ask.specs.Settings.{usual_settings}
 use Rattle.kl_ask.specs.declared.settings.Settings.{Settings}
 use Rattle.kl_ask.specs.declared.settings.Trace.{Trace}
-use Rattle.kl_plan.specs.Nodes.{Node, view as plan_view}
-use Rattle.kl_plan.specs.declared.plan.Plan.{Plan}
+use Rattle.kl_ship.specs.Nodes.{Node, view as plan_view}
+use Rattle.kl_ship.specs.declared.plan.Plan.{Plan}
 use Rattle.kl_run.specs.Planned.{ships_of}
 use Rattle.kl_sources.specs.Sources.{grounds_of, kinds_of, names_of}
 use Rattle.kl_sources.specs.declared.source.Source.{Source}

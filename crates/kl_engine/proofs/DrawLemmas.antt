@@ -21,9 +21,9 @@ use Rattle.kl_ask.specs.Driver.{DriverKind}
 use Rattle.kl_ask.specs.World.{World, types_of, values_of}
 use Rattle.kl_ask.specs.declared.settings.Settings.{Settings}
 use Rattle.kl_sources.specs.declared.source.Source.{Source}
-use Rattle.kl_plan.specs.Meaning.{coming, plan}
-use Rattle.kl_plan.specs.Nodes.{Node}
-use Rattle.kl_plan.specs.declared.plan.Scan.{Scan}
+use Rattle.kl_ship.specs.Meaning.{coming, plan}
+use Rattle.kl_ship.specs.Nodes.{Node}
+use Rattle.kl_ship.specs.declared.plan.Scan.{Scan}
 use Rattle.kl_eval.specs.declared.stop.EvalStop.{EvalStop}
 use Rattle.kl_eval.specs.declared.stop.EvalStop.TheVariants as why
 use Rattle.kl_scans.specs.Held.{Owned, Uses, nothing}

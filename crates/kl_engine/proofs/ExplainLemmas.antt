@@ -13,8 +13,8 @@ use Rattle.kl_desugar.specs.Translation.{term_of}
 use Rattle.kl_ask.specs.Driver.{DriverKind, State}
 use Rattle.kl_ask.specs.declared.settings.Settings.{Settings}
 use Rattle.kl_ask.specs.declared.settings.Trace.{Trace}
-use Rattle.kl_plan.specs.Nodes.{Node}
-use Rattle.kl_plan.specs.declared.plan.Plan.{Plan}
+use Rattle.kl_ship.specs.Nodes.{Node}
+use Rattle.kl_ship.specs.declared.plan.Plan.{Plan}
 use Rattle.kl_run.specs.Counted.{AsksCounted, IsFreshTrace}
 use Rattle.kl_run.specs.Planned.{IsPlanOf, ships_of}
 use Rattle.kl_run.proofs.Means.{means_term}

@@ -13,9 +13,9 @@ use Rattle.kl_outcome.proofs.Flows.{flow_items}
 use Rattle.kl_ask.specs.World.{World}
 use Rattle.kl_ask.specs.declared.ask.DriverError.{DriverError}
 use Rattle.kl_ask.specs.declared.ask.DriverError.TheVariants as driver
-use Rattle.kl_plan.specs.Meaning.{coming, plan}
-use Rattle.kl_plan.specs.Nodes.{Node}
-use Rattle.kl_plan.specs.declared.plan.Scan.{Scan}
+use Rattle.kl_ship.specs.Meaning.{coming, plan}
+use Rattle.kl_ship.specs.Nodes.{Node}
+use Rattle.kl_ship.specs.declared.plan.Scan.{Scan}
 use Rattle.kl_scans.specs.Held.{Uses}
 use Rattle.kl_scans.specs.Log.{Logged}
 use Rattle.kl_scans.specs.Moves.{Closes}

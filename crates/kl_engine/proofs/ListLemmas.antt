@@ -27,11 +27,11 @@ use Rattle.kl_ask.specs.Driver.{DriverKind}
 use Rattle.kl_ask.specs.World.{World, types_of, values_of}
 use Rattle.kl_ask.specs.declared.ask.DriverError.{DriverError}
 use Rattle.kl_sources.specs.declared.source.Source.{Source}
-use Rattle.kl_plan.specs.Meaning.{plan, coming}
-use Rattle.kl_plan.specs.Nodes.{Node}
-use Rattle.kl_plan.specs.Numbers.{scans_in}
-use Rattle.kl_plan.proofs.Holding.{scans_in_all}
-use Rattle.kl_plan.specs.Alike.{harm}
+use Rattle.kl_ship.specs.Meaning.{plan, coming}
+use Rattle.kl_ship.specs.Nodes.{Node}
+use Rattle.kl_ship.specs.Numbers.{scans_in}
+use Rattle.kl_ship.proofs.Holding.{scans_in_all}
+use Rattle.kl_ship.specs.Alike.{harm}
 use Rattle.kl_eval.specs.declared.stop.EvalStop.{EvalStop}
 use Rattle.kl_eval.specs.declared.stop.EvalStop.TheVariants as why
 use Rattle.kl_scans.specs.Held.{nothing}

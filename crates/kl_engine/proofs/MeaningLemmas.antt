@@ -49,7 +49,7 @@ use Rattle.kl_ask.proofs.Worlds.{there, keeps_then}
 use Rattle.kl_desugar.specs.Mentioned.{ReadsMentioned}
 use Rattle.kl_rules.specs.Preserving.{Preserves}
 use Rattle.kl_ship.specs.Contents.{MakesSense}
-use Rattle.kl_plan.specs.Nodes.{Node}
+use Rattle.kl_ship.specs.Nodes.{Node}
 use Rattle.kl_run.specs.Planned.{IsPlanOf, ships_of}
 use Rattle.kl_run.specs.Running.{Runs}
 use Rattle.kl_run.proofs.Means.{plan_sense}

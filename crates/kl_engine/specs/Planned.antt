@@ -18,13 +18,13 @@ use Rattle.kl_ask.specs.Settings.{usual_settings}
 use Rattle.kl_ask.specs.declared.settings.Settings.{Settings}
 use Rattle.kl_ask.specs.Trace.{IsBlank}
 use Rattle.kl_ask.specs.declared.settings.Trace.{Trace}
-use Rattle.kl_plan.specs.Holding.{ScansIn}
-use Rattle.kl_plan.specs.Meaning.{Readings, coming, plan}
-use Rattle.kl_plan.specs.Nodes as node
-use Rattle.kl_plan.specs.Nodes.{Node, view}
-use Rattle.kl_plan.specs.Numbers.{scans_in}
-use Rattle.kl_plan.specs.declared.plan.Plan.{Plan}
-use Rattle.kl_plan.specs.declared.plan.Scan.{Scan}
+use Rattle.kl_ship.specs.Holding.{ScansIn}
+use Rattle.kl_ship.specs.Meaning.{Readings, coming, plan}
+use Rattle.kl_ship.specs.Nodes as node
+use Rattle.kl_ship.specs.Nodes.{Node, view}
+use Rattle.kl_ship.specs.Numbers.{scans_in}
+use Rattle.kl_ship.specs.declared.plan.Plan.{Plan}
+use Rattle.kl_ship.specs.declared.plan.Scan.{Scan}
 use Rattle.kl_ship.specs.declared.source.ShipSource.{ShipSource}
 use Rattle.kl_cursor.specs.Laziness.{ByTimes, Frugal, IsFront}
 use Rattle.kl_run.specs.Counted.{AsksCounted, ReadsMarked, StartsCounted}

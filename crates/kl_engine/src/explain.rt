@@ -7,7 +7,7 @@ ghost use Rattle.kl_desugar.specs.Translation.{term_of};
 ghost use Rattle.kl_rewrite.specs.Steps.{IsClosed};
 ghost use Rattle.kl_run.specs.Planned.{ships_of};
 ghost use Rattle.kl_scope.specs.Breaches.{is_marked};
-ghost use Rattle.kl_plan.specs.Nodes.{view as plan_view};
+ghost use Rattle.kl_ship.specs.Nodes.{view as plan_view};
 ghost use Rattle.kl_sources.specs.Sources.{ArePlaced, grounds_of, kinds_of, names_of};
 ghost use Rattle.kl_syntax.specs.View.{view, decls_of};
 ghost use Rattle.kl_engine.specs.Answering.{DoesText, PrintsPage};

@@ -11,7 +11,7 @@ ghost use Rattle.kl_core.specs.Trees.{Tree};
 ghost use Rattle.kl_core.specs.Typing.{HaveSources};
 ghost use Rattle.kl_ask.specs.Driver.{DriverKind};
 ghost use Rattle.kl_ask.specs.World.{types_of, values_of};
-ghost use Rattle.kl_plan.specs.Nodes.{view};
+ghost use Rattle.kl_ship.specs.Nodes.{view};
 ghost use Rattle.kl_cursor.specs.Left.{snap, uses};
 ghost use Rattle.kl_cursor.specs.Sense.{Stands};
 ghost use Rattle.kl_scans.specs.Held.{Owned};

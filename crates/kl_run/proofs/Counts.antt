@@ -12,12 +12,12 @@ use Rattle.kl_ask.specs.World.{World}
 use Rattle.kl_ask.specs.declared.ask.Ask.{Ask}
 use Rattle.kl_ask.proofs.Equal.{same_exactly}
 use Rattle.kl_ask.proofs.Worlds.{there}
-use Rattle.kl_plan.specs.Meaning.{Readings}
-use Rattle.kl_plan.specs.Nodes.{Node}
-use Rattle.kl_plan.specs.Numbers.{scans_in}
-use Rattle.kl_plan.specs.Reached.{reached}
+use Rattle.kl_ship.specs.Meaning.{Readings}
+use Rattle.kl_ship.specs.Nodes.{Node}
+use Rattle.kl_ship.specs.Numbers.{scans_in}
+use Rattle.kl_ship.specs.Reached.{reached}
 use Rattle.kl_ship.specs.declared.needs.Need.TheVariants as need
-use Rattle.kl_plan.specs.declared.plan.Scan.{Scan}
+use Rattle.kl_ship.specs.declared.plan.Scan.{Scan}
 use Rattle.kl_ship.specs.declared.source.ShipSource.{ShipSource}
 use Rattle.kl_ship.proofs.Numbering.{from, numbers, numbers_are, numbers_within}
 use Rattle.kl_scans.specs.Log.{Event, started, handed, scan_in, paid, times_after, asked_after, times_at, without_starts, Logged}

@@ -9,7 +9,7 @@ use Rattle.kl_core.specs.Typing.{SourceTypes, CoreTypes}
 use Rattle.kl_rules.specs.Preserving.{Preserves}
 use Rattle.kl_ask.specs.Driver.{DriverKind}
 use Rattle.kl_ship.specs.Contents.{types_in, AreSources, MakesSense}
-use Rattle.kl_plan.specs.Nodes.{Node}
+use Rattle.kl_ship.specs.Nodes.{Node}
 use Rattle.kl_ship.specs.declared.needs.Need.TheVariants as need
 use Rattle.kl_ship.specs.declared.source.ShipSource.{ShipSource}
 use Rattle.kl_ship.proofs.Law.{told, law, law_coming}

@@ -30,13 +30,13 @@ use Rattle.kl_sqltext.specs.declared.ast.SqlTest.{SqlTest}
 use Rattle.kl_ship.specs.Contents.{AreSources, IsTable, type_in, types_in, Holds, HoldAll}
 use Rattle.kl_ship.specs.Delegation.{body_left}
 use Rattle.kl_ship.specs.Joined.{Joins, statement}
-use Rattle.kl_plan.specs.Nodes.{Node}
+use Rattle.kl_ship.specs.Nodes.{Node}
 use Rattle.kl_ship.specs.Ships.{IsScan, IsWholeScan, ByRows, BySql, ByAsk, columns_asked}
 use Rattle.kl_ship.specs.Sources.{ground, fits}
-use Rattle.kl_ship.specs.Sense.{AreTypesOf, AskOf as ShipAskOf}
+use Rattle.kl_ship.specs.Typing.{AreTypesOf, AskOf as ShipAskOf}
 use Rattle.kl_ship.specs.declared.needs.Need.{Need}
 use Rattle.kl_ship.specs.declared.needs.Need.TheVariants as need
-use Rattle.kl_plan.specs.declared.plan.Scan.{Scan}
+use Rattle.kl_ship.specs.declared.plan.Scan.{Scan}
 use Rattle.kl_ship.specs.declared.source.ShipSource.{ShipSource}
 use Rattle.kl_ship.proofs.Fronts.{left_typed}
 use Rattle.kl_ship.proofs.Over.{types_over}

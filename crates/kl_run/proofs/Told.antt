@@ -22,7 +22,7 @@ use Rattle.kl_ask.specs.declared.session.Attached.{Attached}
 use Rattle.kl_ask.proofs.Equal.{same_names as names_decide}
 use Rattle.kl_ask.proofs.Whole.{whole_row}
 use Rattle.kl_ship.proofs.Filtered.{all_filtered}
-use Rattle.kl_plan.specs.declared.plan.Scan.{Scan}
+use Rattle.kl_ship.specs.declared.plan.Scan.{Scan}
 use Rattle.kl_scans.specs.Held.{Held, held_in, held_at}
 use Rattle.kl_scans.specs.Stage.{Stage, stage, StandsAt, table_rows, table_types, joined_by, answered_by, rows_asked, read_by, read_in, AskOf, AsksWholeSet, RepeatsNone, ScanOf}
 use Rattle.kl_scans.proofs.Statements.{reads_statement}

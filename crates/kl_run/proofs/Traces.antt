@@ -3,10 +3,10 @@ use Rattle.std.proofs.Common.{◌≡◌, ℕ, zero, suc, ◌+◌, ◌^◌, ◌<�
 use Rattle.std.proofs.lemmas.List.{map-append, length-map}
 use Rattle.kl_core.specs.Counts.{nodes_of}
 use Rattle.kl_core.specs.Trees.{Tree}
-use Rattle.kl_plan.specs.Nodes.{Node}
-use Rattle.kl_plan.specs.Numbers.{scans_in}
+use Rattle.kl_ship.specs.Nodes.{Node}
+use Rattle.kl_ship.specs.Numbers.{scans_in}
 use Rattle.kl_ship.specs.declared.needs.Need.TheVariants as need
-use Rattle.kl_plan.specs.declared.plan.Scan.{Scan}
+use Rattle.kl_ship.specs.declared.plan.Scan.{Scan}
 use Rattle.kl_ship.specs.declared.source.ShipSource.{ShipSource}
 use Rattle.kl_ship.proofs.Amounts.{scans_most}
 use Rattle.kl_ship.proofs.Numbering.{from, numbers, numbers_are}

@@ -14,11 +14,11 @@ use Rattle.kl_ask.specs.declared.settings.Trace.{Trace}
 use Rattle.kl_sqltext.specs.Meaning.{spj}
 use Rattle.kl_sqltext.specs.Reading.{SqlReads}
 use Rattle.kl_sqltext.specs.declared.ast.Spj.{Spj}
-use Rattle.kl_plan.specs.Meaning.{Readings}
-use Rattle.kl_plan.specs.Nodes.{Node}
-use Rattle.kl_plan.specs.Numbers.{scans_in}
-use Rattle.kl_plan.specs.Reached.{reached}
-use Rattle.kl_plan.specs.declared.plan.Scan.{Scan}
+use Rattle.kl_ship.specs.Meaning.{Readings}
+use Rattle.kl_ship.specs.Nodes.{Node}
+use Rattle.kl_ship.specs.Numbers.{scans_in}
+use Rattle.kl_ship.specs.Reached.{reached}
+use Rattle.kl_ship.specs.declared.plan.Scan.{Scan}
 use Rattle.kl_sources.specs.Sources.{contents}
 use Rattle.kl_sources.specs.declared.source.Source.{Source}
 

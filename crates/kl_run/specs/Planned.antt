@@ -10,11 +10,11 @@ use Rattle.kl_ask.specs.Driver.{DriverKind}
 use Rattle.kl_ask.specs.declared.ask.Abilities.{Abilities}
 use Rattle.kl_ship.specs.Contents.{HoldAll, types_in}
 use Rattle.kl_ship.specs.Full.{FullyShipped}
-use Rattle.kl_plan.specs.Meaning.{Readings, plan, worth, coming}
-use Rattle.kl_plan.specs.Nodes.{Node}
-use Rattle.kl_plan.specs.Numbers.{NumbersDiffer}
+use Rattle.kl_ship.specs.Meaning.{Readings, plan, worth, coming}
+use Rattle.kl_ship.specs.Nodes.{Node}
+use Rattle.kl_ship.specs.Numbers.{NumbersDiffer}
 use Rattle.kl_ship.specs.Ships.{Ships}
-use Rattle.kl_ship.specs.Sense.{KeepsTypes}
+use Rattle.kl_ship.specs.Typing.{KeepsTypes}
 use Rattle.kl_ship.specs.declared.source.ShipSource.{ShipSource}
 use Rattle.kl_sources.specs.declared.source.Source.{Source}
 

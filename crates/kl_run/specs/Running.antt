@@ -8,8 +8,8 @@ use Rattle.kl_core.specs.Trees.{Tree}
 use Rattle.kl_core.specs.Typing.{CoreTypes, HaveSources}
 use Rattle.kl_ask.specs.Driver.{DriverKind}
 use Rattle.kl_ask.specs.World.{World, IsReady, types_of, values_of}
-use Rattle.kl_plan.specs.Meaning.{plan, worth, coming}
-use Rattle.kl_plan.specs.Nodes.{Node}
+use Rattle.kl_ship.specs.Meaning.{plan, worth, coming}
+use Rattle.kl_ship.specs.Nodes.{Node}
 use Rattle.kl_sources.specs.declared.source.Source.{Source}
 use Rattle.kl_cursor.specs.Left.{reading}
 use Rattle.kl_cursor.specs.Sense.{TypesAt, IsToldAt}

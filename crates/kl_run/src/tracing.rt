@@ -1,6 +1,6 @@
 //! A trace in which a plan's scans are counted.
 ghost use Rattle.std.specs.Prelude.{◌≤◌, Bool, List, IfOk};
-ghost use Rattle.kl_plan.specs.Nodes.{view};
+ghost use Rattle.kl_ship.specs.Nodes.{view};
 ghost use Rattle.kl_ship.specs.declared.source.ShipSource.{ShipSource};
 ghost use Rattle.kl_core.specs.Counts.{nodes_of};
 ghost use Rattle.kl_core.specs.Trees.{Tree};

@@ -16,7 +16,7 @@ use Rattle.kl_ask.specs.declared.DriverError.TheVariants as error
 use Rattle.kl_ask.specs.declared.Drift.{Drift}
 use Rattle.kl_sqltext.specs.declared.ast.Spj.{Spj}
 use Rattle.kl_ask.proofs.Worlds.{there, error_is}
-use Rattle.kl_plan.specs.declared.plan.Scan.{Scan}
+use Rattle.kl_ship.specs.declared.plan.Scan.{Scan}
 use Rattle.kl_eval.specs.World.{Drifted}
 use Rattle.kl_eval.specs.declared.stop.EvalStop.{EvalStop}
 use Rattle.kl_eval.specs.declared.stop.EvalStop.TheVariants as stop

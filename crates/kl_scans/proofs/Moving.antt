@@ -14,7 +14,7 @@ use Rattle.kl_ask.specs.declared.session.Attached.{Attached}
 use Rattle.kl_ask.specs.declared.DriverError.{DriverError}
 use Rattle.kl_ask.specs.declared.DriverError.TheVariants as error
 use Rattle.kl_ask.proofs.Worlds.{keeps_none, keeps_then, there}
-use Rattle.kl_plan.specs.declared.plan.Scan.{Scan}
+use Rattle.kl_ship.specs.declared.plan.Scan.{Scan}
 use Rattle.kl_eval.specs.World.{Drifted}
 use Rattle.kl_eval.proofs.Stops.{cause_then}
 use Rattle.kl_scans.specs.Held.{Held, held_in, held_at, cursor_at, count_open, open_at, Uses, beside, Owned}

@@ -8,7 +8,7 @@ use Rattle.kl_ask.specs.Lists.{AtIndex}
 use Rattle.kl_ask.specs.World.{World, IsReady, at_driver, at_place, at_source, source_at}
 use Rattle.kl_ask.specs.declared.ask.Abilities.{Abilities}
 use Rattle.kl_ask.specs.declared.session.Attached.{Attached}
-use Rattle.kl_plan.specs.declared.plan.Scan.{Scan}
+use Rattle.kl_ship.specs.declared.plan.Scan.{Scan}
 use Rattle.kl_scans.specs.Scans.{CanScan, IsWholeSet, ListsWholeSet}
 use Rattle.kl_scans.specs.Stage.{stage, AsksWholeSet, RepeatsNone}
 use Rattle.kl_scans.proofs.Called.{of_driver, place_within, has, listed_there}

@@ -5,7 +5,7 @@ use Rattle.kl_ask.specs.Asked.{with_ask, raised_by}
 use Rattle.kl_ask.specs.World.{World}
 use Rattle.kl_ask.specs.declared.ask.Ask.{Ask}
 use Rattle.kl_ask.specs.declared.settings.Trace.{Trace}
-use Rattle.kl_plan.specs.declared.plan.Scan.{Scan}
+use Rattle.kl_ship.specs.declared.plan.Scan.{Scan}
 
 -- a scan was started, or it was handed so many rows
 pub data Event : Type 0 where

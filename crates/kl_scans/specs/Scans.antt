@@ -17,7 +17,7 @@ use Rattle.kl_sqltext.specs.Meaning.{spj}
 use Rattle.kl_sqltext.specs.Reading.{SqlReads}
 use Rattle.kl_sqltext.specs.declared.ast.Spj.{Spj}
 use Rattle.kl_outcome.specs.Outcome.{Name}
-use Rattle.kl_plan.specs.declared.plan.Scan.{Scan}
+use Rattle.kl_ship.specs.declared.plan.Scan.{Scan}
 use Rattle.kl_eval.specs.World.{Drifted}
 use Rattle.kl_eval.specs.declared.stop.EvalStop.{EvalStop}
 use Rattle.kl_eval.specs.declared.stop.EvalStop.TheVariants as stop

@@ -20,8 +20,8 @@ use Rattle.kl_sqltext.specs.Meaning.{spj}
 use Rattle.kl_sqltext.specs.Reading.{SqlReads}
 use Rattle.kl_sqltext.specs.Statements.{statement}
 use Rattle.kl_sqltext.specs.declared.ast.Spj.{Spj}
-use Rattle.kl_plan.specs.declared.plan.Scan.{Scan}
-use Rattle.kl_plan.specs.Meaning.{Readings}
+use Rattle.kl_ship.specs.declared.plan.Scan.{Scan}
+use Rattle.kl_ship.specs.Meaning.{Readings}
 use Rattle.kl_scans.specs.Held.{Held, held_at}
 
 -- what plans mean in a session rests on this alone: what its drivers can do and have attached, its sources, and how many rows

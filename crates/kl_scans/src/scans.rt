@@ -9,7 +9,7 @@ use crate::drivers::{finish_at, pull_at, start_at};
 use crate::stops::stop_of;
 use kl_ask::{Seen, Session};
 use kl_eval::EvalStop;
-use kl_plan::Scan;
+use kl_ship::Scan;
 use kl_value::Value;
 
 /// Opens a cursor of the scan's driver for its ask, and counts that the scan was started, where its number is counted.

@@ -9,7 +9,7 @@ ghost use Rattle.kl_scans.specs.Stage.{RepeatsNone, stage, only_selects};
 
 use crate::drivers::abilities_at;
 use kl_ask::{Abilities, Attached, Seen, Session, allows};
-use kl_plan::Scan;
+use kl_ship::Scan;
 use kl_type::Ty;
 use kl_value::Kind;
 
@@ -57,7 +57,7 @@ fn is_at(source: &Attached, driver: u32) -> bool
     }
 }
 
-#[tactic(auto, using(kl_plan::proofs::Grounds::kind_rules))]
+#[tactic(auto, using(kl_ship::proofs::Grounds::kind_rules))]
 fn is_set(ty: &Ty) -> bool
     ensures yes { result ≡ true → kind_of (ground_of ty.now) ≡ kind.Set }
     ensures no { kind_of (ground_of ty.now) ≡ kind.Set → result ≡ true }

@@ -10,14 +10,14 @@ use Rattle.kl_ask.specs.Asks.{item_of}
 use Rattle.kl_sqltext.specs.declared.ast.SqlTest.{SqlTest}
 use Rattle.kl_ship.specs.declared.needs.Need.TheVariants as need
 use Rattle.kl_base.specs.declared.NoMemory.{NoMemory}
-use Rattle.kl_plan.specs.declared.plan.Plan.{Plan}
-use Rattle.kl_plan.specs.declared.plan.Scan.{Scan}
+use Rattle.kl_ship.specs.declared.plan.Plan.{Plan}
+use Rattle.kl_ship.specs.declared.plan.Scan.{Scan}
 use Rattle.kl_ship.specs.declared.source.ShipSource.{ShipSource}
 use Rattle.kl_ship.specs.Contents.{AreSources, types_in}
 use Rattle.kl_ship.specs.Joined.{Joins, columns_of, columns_at, label_in, over_shown, statement}
 use Rattle.kl_ship.specs.Shipping.{IsSound, LoopSense}
 use Rattle.kl_ship.specs.Full.{FullyShipped}
-use Rattle.kl_plan.specs.Nodes.{view}
+use Rattle.kl_ship.specs.Nodes.{view}
 use Rattle.kl_ship.specs.Ships.{Becomes, BySql, IsScan}
 use Rattle.kl_ship.specs.Sizes.{amount_in, loops_in, sources_in}
 use Rattle.kl_ship.specs.Sources.{fits, ground}

@@ -19,13 +19,12 @@ use Rattle.kl_sqltext.specs.Grammar.{SqlColumn}
 use Rattle.kl_sqltext.specs.Reading.{SqlReads}
 use Rattle.kl_ask.specs.declared.ask.Ask.{Ask}
 use Rattle.kl_ask.specs.declared.ask.Ask.TheVariants as asks
-use Rattle.kl_plan.specs.declared.plan.Scan.{Scan}
+use Rattle.kl_ship.specs.declared.plan.Scan.{Scan}
 use Rattle.kl_ship.specs.declared.source.ShipSource.{ShipSource}
 use Rattle.kl_ship.specs.Delegation.{taken}
-use Rattle.kl_ship.specs.Full.{Shows, IsUsed, IsFull, IsFullAt}
-use Rattle.kl_plan.specs.Erased.{erased}
-use Rattle.kl_plan.specs.Nodes as node
-use Rattle.kl_plan.specs.Nodes.{Node}
+use Rattle.kl_ship.specs.Full.{erased, Shows, IsUsed, IsFull, IsFullAt}
+use Rattle.kl_ship.specs.Nodes as node
+use Rattle.kl_ship.specs.Nodes.{Node}
 use Rattle.kl_ship.specs.Whether.{has_tests, is_scan_by, is_loop_by, has_loop}
 
 -- ---- decisions

@@ -10,14 +10,13 @@ use Rattle.kl_core.specs.Counts.{total_in, total_parts, total_arms}
 use Rattle.kl_core.proofs.Views.{view_Case as term_Case, view_Make as term_Make}
 use Rattle.kl_sqltext.specs.declared.ast.SqlOp.{SqlOp}
 use Rattle.kl_sqltext.specs.declared.ast.SqlTest.{SqlTest}
-use Rattle.kl_plan.specs.declared.plan.Plan.{Plan}
-use Rattle.kl_plan.specs.declared.plan.Plan.TheVariants as plan
+use Rattle.kl_ship.specs.declared.plan.Plan.{Plan}
+use Rattle.kl_ship.specs.declared.plan.Plan.TheVariants as plan
 use Rattle.kl_ship.specs.Delegation.{is_empty, is_front, test_by, test_of, taken, taken_before, whole_use, whole_use_parts, whole_use_arms, column_use, column_use_parts, column_use_arms}
-use Rattle.kl_plan.specs.Erased.{erased, erased_nodes, erased_fields, erased_branches}
-use Rattle.kl_plan.specs.Nodes.{Branches, branches_of, view, view_branch, nodes_view, fields_view}
-use Rattle.kl_ship.specs.Shipping.{other_view}
-use Rattle.kl_plan.specs.Joins.{other_node}
-use Rattle.kl_plan.proofs.Views.{view_Case, view_Make}
+use Rattle.kl_ship.specs.Full.{erased, erased_nodes, erased_fields, erased_branches}
+use Rattle.kl_ship.specs.Nodes.{Branches, branches_of, view, view_branch, nodes_view, fields_view}
+use Rattle.kl_ship.specs.Shipping.{other_view, other_node}
+use Rattle.kl_ship.proofs.Views.{view_Case, view_Make}
 
 -- ---- a comparison with fewer or more sides than two
 

@@ -18,17 +18,16 @@ use Rattle.kl_sqltext.proofs.Answer.{unique}
 use Rattle.kl_sqltext.specs.Written.{statement_text}
 use Rattle.kl_ship.specs.declared.needs.Need.{Need}
 use Rattle.kl_ship.specs.declared.needs.Need.TheVariants as need
-use Rattle.kl_plan.specs.declared.plan.Scan.{Scan}
+use Rattle.kl_ship.specs.declared.plan.Scan.{Scan}
 use Rattle.kl_ship.specs.declared.source.ShipSource.{ShipSource}
-use Rattle.kl_plan.specs.Nodes as node
-use Rattle.kl_plan.specs.Nodes.{Node, Nodes, no_nodes, nodes, Fields, no_fields, fields, Branches, no_branches, rest, branch}
+use Rattle.kl_ship.specs.Nodes as node
+use Rattle.kl_ship.specs.Nodes.{Node, Nodes, no_nodes, nodes, Fields, no_fields, fields, Branches, no_branches, rest, branch}
 use Rattle.kl_ship.specs.Sources.{ground, fits, fits_source}
 use Rattle.kl_ship.specs.Contents.{AreSources}
 use Rattle.kl_ship.specs.Delegation.{comparison, variable, constant, column_at, column_of, test_between, test_by, test_of, is_empty, is_front, taken_before, taken, body_left, whole_use, column_use, in_use, or_first, first_of, kept_of}
 use Rattle.kl_ship.specs.Joined.{MayJoin, IsJoinable, Joins, row_parts, packed_variable, packed_column, packed, packed_trees, label_in, columns_at, over_shown, statement}
 use Rattle.kl_ship.specs.Ships.{Ships, IsScan, Becomes, TreesBecome, PartsBecome, ArmsBecome, passed_on, is_generator, ByRows, BySql, ByAsk, Delegates}
-use Rattle.kl_ship.specs.Full.{Shows, IsUsed, IsFull, IsFullAt, FullyShipped, FullNodes, FullFields, FullBranches}
-use Rattle.kl_plan.specs.Erased.{erased, erased_nodes}
+use Rattle.kl_ship.specs.Full.{erased, erased_nodes, Shows, IsUsed, IsFull, IsFullAt, FullyShipped, FullNodes, FullFields, FullBranches}
 use Rattle.kl_ship.proofs.Kept.{none_left, not_variable, variable_none, packed_total}
 use Rattle.kl_ship.proofs.Fully.{uses_erased, variable_erased}
 use Rattle.kl_ship.proofs.ColumnsLeft.{Strict, AllStrict, labels_strict, shown_used}

@@ -3,16 +3,16 @@ use Rattle.std.proofs.Common.{◌≡◌, Bool, true, false, List, [], ◌∷◌,
 use Rattle.std.specs.Bool.{Decides}
 use Rattle.kl_value.specs.declared.Kind.{Kind}
 use Rattle.kl_outcome.specs.Outcome.{Name}
-use Rattle.kl_plan.specs.declared.plan.Plan.{Plan}
-use Rattle.kl_plan.specs.declared.plan.Plan.TheVariants as plan
-use Rattle.kl_plan.specs.declared.plan.Scan.{Scan}
+use Rattle.kl_ship.specs.declared.plan.Plan.{Plan}
+use Rattle.kl_ship.specs.declared.plan.Plan.TheVariants as plan
+use Rattle.kl_ship.specs.declared.plan.Scan.{Scan}
 use Rattle.kl_ship.specs.declared.source.ShipSource.{ShipSource}
 use Rattle.kl_ship.specs.Full.{IsFullAt, FullyShipped, FullFields, FullBranches}
-use Rattle.kl_plan.specs.Nodes as node
-use Rattle.kl_plan.specs.Nodes.{Node, Branches, branches_of, view, view_branch, fields_view}
-use Rattle.kl_plan.specs.Joins.{other_node}
+use Rattle.kl_ship.specs.Nodes as node
+use Rattle.kl_ship.specs.Nodes.{Node, Branches, branches_of, view, view_branch, fields_view}
+use Rattle.kl_ship.specs.Shipping.{other_node}
 use Rattle.kl_ship.proofs.Deciding.{no, refuted, follows}
-use Rattle.kl_plan.proofs.Views.{view_Rec, view_Case, view_Ext, view_Scan}
+use Rattle.kl_ship.proofs.Views.{view_Rec, view_Case, view_Ext, view_Scan}
 
 -- what holds of the whole exactly where it does of the parts
 abbrev pub Same : Type 0 → Type 0 → Type 0

@@ -30,25 +30,24 @@ use Rattle.kl_ask.proofs.Whole.{whole_rows, collection_is}
 use Rattle.kl_ship.specs.declared.needs.Need.{Need}
 use Rattle.kl_ship.specs.declared.needs.Need.TheVariants as need
 use Rattle.kl_ship.specs.declared.source.ShipSource.{ShipSource}
-use Rattle.kl_plan.specs.declared.plan.Scan.{Scan}
-use Rattle.kl_plan.specs.Nodes as node
-use Rattle.kl_plan.specs.Nodes.{Node, Nodes, no_nodes, nodes, Fields, no_fields, fields, Branches, no_branches, rest, branch}
+use Rattle.kl_ship.specs.declared.plan.Scan.{Scan}
+use Rattle.kl_ship.specs.Nodes as node
+use Rattle.kl_ship.specs.Nodes.{Node, Nodes, no_nodes, nodes, Fields, no_fields, fields, Branches, no_branches, rest, branch}
 use Rattle.kl_ship.specs.Delegation.{kept_of, tests_taken, body_left, row_test}
-use Rattle.kl_plan.specs.Meaning.{Come, one, many, worth, coming, drawn_for, come_after, come_chosen, come_opened, Readings, scanned, no_tables}
-use Rattle.kl_plan.specs.Meaning.{plan, plan_all, plan_items, plan_fields, plan_branches}
+use Rattle.kl_ship.specs.Meaning.{Come, one, many, worth, coming, drawn_for, come_after, come_chosen, come_opened, Readings, scanned, no_tables}
+use Rattle.kl_ship.specs.Meaning.{plan, plan_all, plan_items, plan_fields, plan_branches}
 use Rattle.kl_ship.specs.Sources.{ground, fits, fits_source}
 use Rattle.kl_ship.specs.Ships.{Ships, Becomes, TreesBecome, PartsBecome, ArmsBecome, Stays, passed_on, IsScan, IsWholeScan, Delegates, ByRows, BySql, columns_asked, scan_kind}
 use Rattle.kl_ship.specs.Contents.{types_in, Holds, IsTable, HoldAll, AreSources}
 use Rattle.kl_ship.specs.Joined.{Joins, statement}
-use Rattle.kl_plan.specs.Alike.{Alike}
+use Rattle.kl_ship.specs.Alike.{Alike}
 use Rattle.kl_ship.proofs.Plain.{plain_core}
 use Rattle.kl_ship.proofs.Sources.{known}
 use Rattle.kl_ship.proofs.Fitting.{rows_flow, fitting_rows, itself}
 use Rattle.kl_ship.proofs.Joining.{RowsAt}
 use Rattle.kl_ship.proofs.Stating.{stated_type, sql_sense, sql_rows, sql_alike}
 use Rattle.kl_ship.proofs.Asking.{used_shown, whole_shown, asked_alike}
-use Rattle.kl_plan.proofs.Comings.{Same, same_type, worth_typed, coming_alike, drawn_for_typed, after_shows, choice_shows, cases_shows, union_shows, loop_shows, loop_by}
-use Rattle.kl_ship.proofs.Needs.{Shows, passed, lift}
+use Rattle.kl_ship.proofs.Comings.{Shows, Same, passed, same_type, lift, worth_typed, coming_alike, drawn_for_typed, after_shows, choice_shows, cases_shows, union_shows, loop_shows, loop_by}
 use Rattle.kl_ship.proofs.Sense.{flat_record, is_coll, rows_sense}
 use Rattle.kl_ship.proofs.Shown.{shown_answers, whole_shown_answers}
 

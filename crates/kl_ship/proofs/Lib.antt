@@ -1,5 +1,8 @@
-pub mod Needs
+pub mod Likeness
+pub mod Collections
 pub mod Plain
+pub mod Comings
+pub mod KindLaws
 pub mod Fronts
 pub mod Tuples
 pub mod Joining
@@ -32,9 +35,13 @@ pub mod Renders
 pub mod ColumnSteps
 pub mod StatedLoops
 pub mod ScansFew
+pub mod Typed
 pub mod Sources
 pub mod Over
+pub mod Grounds
+pub mod Views
 pub mod Shipped
+pub mod Holding
 pub mod Amounts
 pub mod PackedTerms
 pub mod Finding

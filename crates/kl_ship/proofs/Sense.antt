@@ -37,14 +37,13 @@ use Rattle.kl_ship.proofs.OverShown.{cs_there, row_type_good, shown_row, shown_t
 use Rattle.kl_ask.proofs.Whole.{whole_type, can_start_whole, collection_is}
 use Rattle.kl_ship.specs.declared.needs.Need.{Need}
 use Rattle.kl_ship.specs.declared.needs.Need.TheVariants as need
-use Rattle.kl_plan.specs.declared.plan.Plan.{Plan}
-use Rattle.kl_plan.specs.declared.plan.Scan.{Scan}
+use Rattle.kl_ship.specs.declared.plan.Plan.{Plan}
+use Rattle.kl_ship.specs.declared.plan.Scan.{Scan}
 use Rattle.kl_ship.specs.declared.source.ShipSource.{ShipSource}
-use Rattle.kl_plan.specs.Nodes as node
-use Rattle.kl_plan.specs.Nodes.{Node, Nodes, no_nodes, nodes, Fields, no_fields, fields, Branches, no_branches, rest, branch, view}
+use Rattle.kl_ship.specs.Nodes as node
+use Rattle.kl_ship.specs.Nodes.{Node, Nodes, no_nodes, nodes, Fields, no_fields, fields, Branches, no_branches, rest, branch, view}
 use Rattle.kl_ship.specs.Delegation.{whole_use, column_use, in_use, first_of, or_first, kept_of, tests_taken, body_left, row_test}
-use Rattle.kl_ship.specs.Ships.{Becomes, TreesBecome, PartsBecome, ArmsBecome, passed_on, IsScan, IsWholeScan, Delegates, ByRows, BySql, ByAsk, columns_asked, scan_kind}
-use Rattle.kl_plan.specs.Typing.{Nowhere}
+use Rattle.kl_ship.specs.Ships.{Becomes, TreesBecome, PartsBecome, ArmsBecome, passed_on, IsScan, IsWholeScan, Delegates, ByRows, BySql, ByAsk, columns_asked, scan_kind, Nowhere}
 use Rattle.kl_ship.specs.Sources.{ground, fits, fits_source}
 use Rattle.kl_ship.specs.Contents.{types_in, AreSources}
 use Rattle.kl_ship.proofs.Sources.{Known, known}
@@ -52,10 +51,9 @@ use Rattle.kl_ship.proofs.Over.{types_over}
 use Rattle.kl_ship.proofs.TestTypes.{tests_fit}
 use Rattle.kl_ship.proofs.Fronts.{left_typed}
 use Rattle.kl_ship.proofs.Filtered.{all_filtered}
-use Rattle.kl_plan.proofs.Comings.{same_type}
+use Rattle.kl_ship.proofs.Comings.{same_type}
 use Rattle.kl_ship.proofs.Shown.{all_ground, all_shown_sense, shown_ground, shown_sense}
-use Rattle.kl_plan.specs.Typing.{PlanTypes, EachPlan, PlansOf, FieldTypes, BranchTypes, HasBranch}
-use Rattle.kl_ship.specs.Sense.{AreTypesOf, AskOf, ScanOf, KeepsTypes}
+use Rattle.kl_ship.specs.Typing.{PlanTypes, EachPlan, PlansOf, FieldTypes, BranchTypes, HasBranch, AreTypesOf, AskOf, ScanOf, KeepsTypes}
 
 -- ---- a scan of a whole source
 

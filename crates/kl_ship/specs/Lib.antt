@@ -1,3 +1,6 @@
+pub mod Nodes
+pub mod Kinds
+pub mod Meaning
 pub mod Sources
 pub mod Delegation
 pub mod Joined
@@ -6,9 +9,14 @@ pub mod Ships
 pub mod Sizes
 pub mod Shipping
 pub mod Reads
+pub mod Alike
 pub mod Contents
 pub mod Stated
-pub mod Sense
+pub mod Typing
+pub mod Numbers
+pub mod Reached
+pub mod Holding
+pub mod Joins
 pub mod Full
 pub mod Marking
 pub mod Whether

@@ -4,9 +4,9 @@ use Rattle.kl_value.specs.declared.Kind.{Kind}
 use Rattle.kl_type.specs.Parts.{same_kind}
 use Rattle.kl_ship.specs.declared.source.ShipSource.{ShipSource}
 use Rattle.kl_ship.specs.Delegation.{taken}
-use Rattle.kl_plan.specs.Erased.{erased}
-use Rattle.kl_plan.specs.Nodes as node
-use Rattle.kl_plan.specs.Nodes.{Node}
+use Rattle.kl_ship.specs.Full.{erased}
+use Rattle.kl_ship.specs.Nodes as node
+use Rattle.kl_ship.specs.Nodes.{Node}
 
 -- a test of the row alone stands in the front of the body
 abbrev pub has_tests : ShipSource → Kind → Node → Bool

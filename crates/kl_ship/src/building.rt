@@ -2,9 +2,9 @@
 //! nothing where that is told.
 ghost use Rattle.std.specs.Prelude.{◌≡◌, IfOk};
 ghost use Rattle.kl_core.specs.Building.{Makes, MakesOfTwo, MakesOfThree};
-ghost use Rattle.kl_plan.specs.declared.plan.Plan.TheVariants as plan;
+ghost use Rattle.kl_ship.specs.declared.plan.Plan.TheVariants as plan;
 
-use kl_plan::{Plan, PlanBranches, PlanFields, Plans, Scan};
+use crate::plan::{Plan, PlanBranches, PlanFields, Plans, Scan};
 use kl_base::{Box, Label, NoMemory};
 use kl_core::Term;
 use kl_value::Kind;

@@ -5,12 +5,12 @@ ghost use Rattle.kl_sqltext.specs.declared.ast.SqlOp.{SqlOp};
 ghost use Rattle.kl_ship.specs.Delegation.{variable, column_of, constant, test_by, test_of, is_empty, is_front, taken};
 ghost use Rattle.kl_ship.specs.Delegation.{whole_use, whole_use_trees, whole_use_parts, is_at};
 ghost use Rattle.kl_ship.specs.Delegation.{column_use, column_use_trees, column_use_parts};
-ghost use Rattle.kl_plan.specs.Erased.{erased, erased_nodes, erased_fields};
-ghost use Rattle.kl_plan.specs.Nodes.{view, nodes_view, fields_view};
+ghost use Rattle.kl_ship.specs.Full.{erased, erased_nodes, erased_fields};
+ghost use Rattle.kl_ship.specs.Nodes.{view, nodes_view, fields_view};
 
 use crate::conditions;
 use crate::conditions::{comparison, constant, is_same};
-use kl_plan::Plan;
+use crate::plan::Plan;
 use kl_base::Label;
 use kl_value::Kind;
 

@@ -5,12 +5,12 @@ ghost use Rattle.std.specs.Cmp.Lexicographic.{pointwise};
 ghost use Rattle.std.specs.List.{AllByRecursion, list_all};
 ghost use Rattle.kl_outcome.specs.Outcome.{Name};
 ghost use Rattle.kl_ship.specs.Full.{Shows, IsUsed, IsFull, IsFullAt, FullyShipped, FullNodes, FullFields};
-ghost use Rattle.kl_plan.specs.Nodes.{Scan as scan_node, view, nodes_view, fields_view};
+ghost use Rattle.kl_ship.specs.Nodes.{Scan as scan_node, view, nodes_view, fields_view};
 ghost use Rattle.kl_ship.specs.Whether.{has_tests, is_scan_by, is_loop_by, has_loop};
 
 use crate::conditions::is_same;
 use crate::erased::{column_use, takes_none, whole_use};
-use kl_plan::{Plan, Scan};
+use crate::plan::{Plan, Scan};
 use crate::source::ShipSource;
 use kl_ask::Ask;
 use kl_base::{Label, NoMemory};

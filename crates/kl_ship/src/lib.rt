@@ -6,11 +6,13 @@
 
 mod building;
 mod conditions;
+mod counting;
 mod erased;
 mod full;
 mod laws;
 mod needs;
 mod one_row;
+mod plan;
 mod reads;
 mod scanning;
 mod shipping;
@@ -20,9 +22,10 @@ mod statements;
 mod tests;
 mod used;
 
+pub use counting::count_scans;
 pub use full::fully_shipped;
 pub use laws::plan_laws;
 pub use needs::Need;
-pub use kl_plan::{Frees, Join, JoinKey, Plan, PlanBranches, PlanFields, Plans, Scan, count_scans};
+pub use plan::{Frees, Join, JoinKey, Plan, PlanBranches, PlanFields, Plans, Scan};
 pub use shipping::ship;
 pub use source::ShipSource;

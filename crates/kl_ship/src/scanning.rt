@@ -12,7 +12,7 @@ ghost use Rattle.kl_ship.specs.Ships.{ByRows, IsScan, columns_asked, scan_kind};
 ghost use Rattle.kl_ship.specs.Sources.{fits, fits_source, ground, unrepeated};
 
 use crate::needs::Need;
-use kl_plan::Scan;
+use crate::plan::Scan;
 use crate::source::ShipSource;
 use crate::tests::{row_tests, tests_in};
 use crate::used::in_use;
@@ -24,7 +24,7 @@ use kl_value::Kind;
 use std::alloc::Global;
 
 /// The kind of a collection type.
-#[tactic(auto, using(kl_plan::proofs::Grounds::kind_rules))]
+#[tactic(auto, using(crate::proofs::Grounds::kind_rules))]
 pub fn kind_in(ty: &Ty) -> Kind
     ensures { result ≡ kind_of (ground_of ty.now) }
 {

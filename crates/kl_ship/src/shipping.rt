@@ -8,23 +8,21 @@ ghost use Rattle.kl_core.specs.Building.{Makes};
 ghost use Rattle.kl_type.specs.Ground.{IsGround};
 ghost use Rattle.kl_ship.specs.declared.source.ShipSource.{ShipSource as ASource};
 ghost use Rattle.kl_ship.specs.declared.needs.Need.TheVariants as need;
-ghost use Rattle.kl_plan.specs.declared.plan.Plan.TheVariants as plan;
+ghost use Rattle.kl_ship.specs.declared.plan.Plan.TheVariants as plan;
 ghost use Rattle.kl_ship.specs.Contents.{AreSources, MakesSense};
 ghost use Rattle.kl_ship.specs.Delegation.{body_left, left};
 ghost use Rattle.kl_ship.specs.Full.{FullyShipped};
-ghost use Rattle.kl_plan.specs.Nodes.{view, nodes_view, fields_view};
-ghost use Rattle.kl_plan.specs.Numbers.{NumbersDiffer};
-ghost use Rattle.kl_ship.specs.Shipping.{IsSound, TreesSound, PartsSound, ArmsSound, LoopSense, arms_view, other_view};
-ghost use Rattle.kl_plan.specs.Joins.{other_node};
+ghost use Rattle.kl_ship.specs.Nodes.{view, nodes_view, fields_view};
+ghost use Rattle.kl_ship.specs.Numbers.{NumbersDiffer};
+ghost use Rattle.kl_ship.specs.Shipping.{IsSound, TreesSound, PartsSound, ArmsSound, LoopSense, arms_view, other_view, other_node};
 ghost use Rattle.kl_ship.specs.Shipping.{IsBehind, behind_statement};
 ghost use Rattle.kl_ship.specs.Shipping.{UnionBecomes, LoopBecomes, LetBecomes, IfBecomes, CaseBecomes};
 ghost use Rattle.kl_ship.specs.Ships.{Ships, Becomes, TreesBecome, PartsBecome, ArmsBecome};
-ghost use Rattle.kl_ship.specs.Ships.{MayStay, passed_on, is_single};
-ghost use Rattle.kl_plan.specs.Typing.{NoSource};
+ghost use Rattle.kl_ship.specs.Ships.{MayStay, NoSource, passed_on, is_single};
 ghost use Rattle.kl_ship.specs.Sizes.{sources_in, sources_trees, sources_parts, sources_arms};
 ghost use Rattle.kl_ship.specs.Sizes.{loops_in, loops_trees, loops_parts, loops_arms};
 ghost use Rattle.kl_ship.specs.Sources.{fits, ground};
-ghost use Rattle.kl_ship.specs.Sense.{KeepsTypes};
+ghost use Rattle.kl_ship.specs.Typing.{KeepsTypes};
 
 use crate::building::{
     binding, case, collection, extension, injection, plain, primitive, projection, record,
@@ -32,7 +30,7 @@ use crate::building::{
 };
 use crate::conditions::{is_front, is_test};
 use crate::needs::Need;
-use kl_plan::{Plan, PlanFields, Plans, Scan};
+use crate::plan::{Plan, PlanFields, Plans, Scan};
 use crate::reads::reads;
 use crate::scanning::{fits_loop, rows_scan, whole_scan};
 use crate::source::ShipSource;

@@ -13,7 +13,7 @@ ghost use Rattle.kl_ship.specs.Sources.{fits, ground};
 
 use crate::needs::Need;
 use crate::one_row::{Shown, packed_left};
-use kl_plan::Plan;
+use crate::plan::Plan;
 use crate::scanning::scan_by;
 use crate::source::ShipSource;
 use crate::statements::statement;

@@ -10,17 +10,17 @@ use Rattle.kl_base.specs.declared.NoMemory.{NoMemory}
 use Rattle.kl_value.specs.declared.Kind.{Kind}
 use Rattle.kl_outcome.specs.Outcome.{Name}
 use Rattle.kl_ask.specs.declared.settings.JoinHow.{JoinHow}
-use Rattle.kl_plan.specs.declared.plan.Join.{Join, out-Join}
-use Rattle.kl_plan.specs.declared.plan.Plan.{Plan, the_lemmas}
-use Rattle.kl_plan.specs.declared.plan.Plan.TheVariants as plan
-use Rattle.kl_plan.specs.declared.plan.Scan.{Scan}
-use Rattle.kl_plan.specs.Joins.{join_view, keys_view}
-use Rattle.kl_plan.specs.Nodes as node
-use Rattle.kl_plan.specs.Nodes.{Node, Nodes, Fields, Branches, Key, branches_of, view, view_branch, nodes_view, fields_view}
-use Rattle.kl_plan.specs.Numbers.{scans_in, scans_of_nodes, scans_of_fields, scans_of_branches, scans_of_key}
-use Rattle.kl_plan.specs.Numbers.{memos_in, memos_of_nodes, memos_of_fields, memos_of_branches, memos_of_key}
-use Rattle.kl_plan.specs.Joins.{other_node}
-use Rattle.kl_plan.proofs.Views.{view_Case, view_Union, view_Ext, view_If, view_Let}
+use Rattle.kl_ship.specs.declared.plan.Join.{Join, out-Join}
+use Rattle.kl_ship.specs.declared.plan.Plan.{Plan, the_lemmas}
+use Rattle.kl_ship.specs.declared.plan.Plan.TheVariants as plan
+use Rattle.kl_ship.specs.declared.plan.Scan.{Scan}
+use Rattle.kl_ship.specs.Joins.{join_view, keys_view}
+use Rattle.kl_ship.specs.Nodes as node
+use Rattle.kl_ship.specs.Nodes.{Node, Nodes, Fields, Branches, Key, branches_of, view, view_branch, nodes_view, fields_view}
+use Rattle.kl_ship.specs.Numbers.{scans_in, scans_of_nodes, scans_of_fields, scans_of_branches, scans_of_key}
+use Rattle.kl_ship.specs.Numbers.{memos_in, memos_of_nodes, memos_of_fields, memos_of_branches, memos_of_key}
+use Rattle.kl_ship.specs.Shipping.{other_node}
+use Rattle.kl_ship.proofs.Views.{view_Case, view_Union, view_Ext, view_If, view_Let}
 use Rattle.kl_tools.specs.Explained.{Tells, join_lines, join_lines_of_branches, join_lines_of_fields, join_lines_of_key}
 use Rattle.kl_tools.specs.Explained.{join_line, join_lines_of_nodes, memo_line, scan_line}
 use Rattle.kl_tools.specs.declared.explaining.Lines.{Lines}

@@ -14,11 +14,11 @@ use Rattle.kl_ask.specs.declared.ask.Right.{Right}
 use Rattle.kl_ask.specs.declared.ask.Right.TheVariants as right
 use Rattle.kl_ask.specs.declared.settings.JoinHow.{JoinHow}
 use Rattle.kl_ask.specs.declared.settings.JoinHow.TheVariants as join
-use Rattle.kl_plan.specs.declared.plan.Scan.{Scan}
-use Rattle.kl_plan.specs.Nodes as node
-use Rattle.kl_plan.specs.Nodes.{Node, Nodes, no_nodes, nodes, Fields, no_fields, fields, Branches, no_branches, rest, branch, Key}
-use Rattle.kl_plan.specs.Nodes.{no_key, key}
-use Rattle.kl_plan.specs.Numbers.{scans_in, memos_in}
+use Rattle.kl_ship.specs.declared.plan.Scan.{Scan}
+use Rattle.kl_ship.specs.Nodes as node
+use Rattle.kl_ship.specs.Nodes.{Node, Nodes, no_nodes, nodes, Fields, no_fields, fields, Branches, no_branches, rest, branch, Key}
+use Rattle.kl_ship.specs.Nodes.{no_key, key}
+use Rattle.kl_ship.specs.Numbers.{scans_in, memos_in}
 use Rattle.kl_tools.specs.declared.explaining.Lines.{Lines}
 
 -- ---- a scan

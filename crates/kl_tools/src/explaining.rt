@@ -2,11 +2,11 @@
 ghost use Rattle.std.specs.Prelude.{◌≡◌, ◌++◌, List, ℕ, decimal, slice_get, unwrap_or, IfOk, IsOkAnd, OnOk, []};
 ghost use Rattle.std.specs.List.{flat_map};
 ghost use Rattle.kl_value.specs.Written.{text_of};
-ghost use Rattle.kl_plan.specs.Joins.{join_view, keys_view};
-ghost use Rattle.kl_plan.specs.Nodes.{view, nodes_view, fields_view};
-ghost use Rattle.kl_plan.specs.Numbers.{scans_in, scans_of_nodes, scans_of_fields, scans_of_branches, scans_of_key};
-ghost use Rattle.kl_plan.specs.Numbers.{memos_in, memos_of_nodes, memos_of_fields, memos_of_branches, memos_of_key};
-ghost use Rattle.kl_plan.specs.Joins.{other_node};
+ghost use Rattle.kl_ship.specs.Joins.{join_view, keys_view};
+ghost use Rattle.kl_ship.specs.Nodes.{view, nodes_view, fields_view};
+ghost use Rattle.kl_ship.specs.Numbers.{scans_in, scans_of_nodes, scans_of_fields, scans_of_branches, scans_of_key};
+ghost use Rattle.kl_ship.specs.Numbers.{memos_in, memos_of_nodes, memos_of_fields, memos_of_branches, memos_of_key};
+ghost use Rattle.kl_ship.specs.Shipping.{other_node};
 ghost use Rattle.kl_tools.specs.Explained.{Tells, ask_text, asked_text, explained, join_line, join_lines, join_lines_of_branches};
 ghost use Rattle.kl_tools.specs.Explained.{join_lines_of_fields, join_lines_of_key, join_lines_of_nodes, keep_text, kind_word};
 ghost use Rattle.kl_tools.specs.Explained.{labels_text, memo_line, more_tests, on_text, right_text, scan_line, sign_of};
@@ -17,7 +17,7 @@ use kl_ask::{Ask, Cmp, ColTest, Driver, JoinHow, Right, name_boxed};
 use kl_base::{Box as Part, Label, NoMemory, Text};
 use kl_exchange::print;
 use kl_outside::MemSink;
-use kl_plan::{Join, JoinKey, Plan, Scan};
+use kl_ship::{Join, JoinKey, Plan, Scan};
 use kl_value::{Kind, Value};
 use std::alloc::Global;
 

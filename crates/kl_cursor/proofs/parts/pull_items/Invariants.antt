@@ -1,5 +1,5 @@
 use Rattle.std.proofs.Common.{[]}
-use Rattle.kl_plan.specs.Nodes as node
+use Rattle.kl_ship.specs.Nodes as node
 use Rattle.kl_scans.specs.Held.{Owned, one_at, cursor_at}
 use Rattle.kl_cursor.specs.Gathering.{listed}
 use Rattle.kl_cursor.specs.Left.{fresh, pulling}

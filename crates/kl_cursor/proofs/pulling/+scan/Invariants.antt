@@ -1,6 +1,6 @@
 use Rattle.std.proofs.Common.{◌≡◌, drop}
-use Rattle.kl_plan.specs.Nodes.{fields_view, nodes_view}
-use Rattle.kl_plan.specs.Numbers.{scans_of_fields, scans_of_nodes}
+use Rattle.kl_ship.specs.Nodes.{fields_view, nodes_view}
+use Rattle.kl_ship.specs.Numbers.{scans_of_fields, scans_of_nodes}
 use Rattle.kl_cursor.specs.Pulling.{some}
 use Rattle.kl_cursor.proofs.pulling.+scan.Given as goal
 

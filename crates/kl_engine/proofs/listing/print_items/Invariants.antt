@@ -1,5 +1,5 @@
 use Rattle.std.proofs.Common.{map}
-use Rattle.kl_plan.specs.Nodes.{view}
+use Rattle.kl_ship.specs.Nodes.{view}
 use Rattle.kl_cursor.specs.Left.{snap}
 use Rattle.kl_cursor.specs.Measure.{most}
 use Rattle.kl_engine.proofs.DrawLemmas.{Drawing, Fronts}

@@ -1,8 +1,8 @@
 use Rattle.std.proofs.Common.{refl}
 use Rattle.kl_core.specs.Counts.{total_in, total_parts, total_arms}
-use Rattle.kl_plan.specs.Erased.{erased_fields, erased_branches}
-use Rattle.kl_plan.specs.Nodes.{fields_view}
-use Rattle.kl_plan.specs.Joins.{other_node}
+use Rattle.kl_ship.specs.Full.{erased_fields, erased_branches}
+use Rattle.kl_ship.specs.Nodes.{fields_view}
+use Rattle.kl_ship.specs.Shipping.{other_node}
 use Rattle.kl_ship.proofs.Finding.{as_term, missed_inside, met_other, met_everywhere, plan_total_case}
 use Rattle.kl_ship.proofs.erased.+is_total.Goals as goal
 

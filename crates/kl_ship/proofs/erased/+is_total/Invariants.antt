@@ -1,7 +1,7 @@
 use Rattle.std.proofs.Common.{◌≡◌, drop}
 use Rattle.kl_core.specs.Counts.{total_trees, total_parts}
-use Rattle.kl_plan.specs.Erased.{erased_nodes, erased_fields}
-use Rattle.kl_plan.specs.Nodes.{nodes_view, fields_view}
+use Rattle.kl_ship.specs.Full.{erased_nodes, erased_fields}
+use Rattle.kl_ship.specs.Nodes.{nodes_view, fields_view}
 use Rattle.kl_ship.proofs.erased.+is_total.Given as goal
 
 abbrev pub invariant-are_total-loop-plan : goal.invariant-are_total-loop-plan

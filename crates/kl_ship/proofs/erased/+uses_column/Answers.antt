@@ -1,7 +1,7 @@
 use Rattle.std.proofs.Common.{◌+◌, arith, refl}
-use Rattle.kl_plan.specs.Erased.{erased_fields, erased_branches}
-use Rattle.kl_plan.specs.Nodes.{fields_view}
-use Rattle.kl_plan.specs.Joins.{other_node}
+use Rattle.kl_ship.specs.Full.{erased_fields, erased_branches}
+use Rattle.kl_ship.specs.Nodes.{fields_view}
+use Rattle.kl_ship.specs.Shipping.{other_node}
 use Rattle.kl_ship.specs.Delegation.{column_use, column_use_parts, column_use_arms}
 use Rattle.kl_ship.proofs.Finding.{as_term, found_inside, found_other, found_nowhere, plan_column_case}
 use Rattle.kl_ship.proofs.erased.+uses_column.Goals as goal

@@ -1,4 +1,4 @@
-use Rattle.kl_plan.specs.Nodes.{view}
+use Rattle.kl_ship.specs.Nodes.{view}
 use Rattle.kl_ship.proofs.Deciding.{on_ok, with_loop, by_columns}
 use Rattle.kl_ship.proofs.full.is_full.Goals as goal
 

@@ -1,4 +1,4 @@
-use Rattle.kl_plan.specs.Nodes.{view}
+use Rattle.kl_ship.specs.Nodes.{view}
 use Rattle.kl_ship.proofs.Deciding.{yes, walked_on, walked_out, IsFullIf, EachFull, full_at}
 use Rattle.kl_ship.proofs.FullParts.{ok_is}
 use Rattle.kl_ship.proofs.full.leaves_nothing.Goals as goal

@@ -1,4 +1,4 @@
-use Rattle.kl_plan.specs.Nodes.{view}
+use Rattle.kl_ship.specs.Nodes.{view}
 use Rattle.kl_ship.proofs.Deciding.{Walked, IsFullIf, EachFull}
 use Rattle.kl_ship.proofs.full.leaves_nothing.Given as goal
 

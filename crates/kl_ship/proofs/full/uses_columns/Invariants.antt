@@ -1,7 +1,7 @@
 use Rattle.std.proofs.Common.{map}
 use Rattle.std.specs.List.{AllByRecursion}
 use Rattle.kl_ship.specs.Full.{IsUsed}
-use Rattle.kl_plan.specs.Nodes.{view}
+use Rattle.kl_ship.specs.Nodes.{view}
 use Rattle.kl_ship.proofs.Deciding.{Walked}
 use Rattle.kl_ship.proofs.full.uses_columns.Given as goal
 

@@ -1,6 +1,6 @@
 use Rattle.std.specs.List.{AllByRecursion}
 use Rattle.kl_ship.specs.Full.{IsUsed}
-use Rattle.kl_plan.specs.Nodes.{view}
+use Rattle.kl_ship.specs.Nodes.{view}
 use Rattle.kl_ship.proofs.Deciding.{Walked}
 use Rattle.kl_ship.proofs.full.uses_labels.Given as goal
 

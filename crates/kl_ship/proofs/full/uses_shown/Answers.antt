@@ -1,4 +1,4 @@
-use Rattle.kl_plan.specs.Nodes.{view}
+use Rattle.kl_ship.specs.Nodes.{view}
 use Rattle.kl_ship.proofs.Deciding.{shown_sql, shown_none, no_memory}
 use Rattle.kl_ship.proofs.full.uses_shown.Goals as goal
 

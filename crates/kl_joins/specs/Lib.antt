@@ -1,4 +1,0 @@
-pub mod JoinsMade
-pub mod MemosMade
-pub mod Numbered
-pub mod Numbering
