@@ -1,4 +1,3 @@
-pub mod Begun
 pub mod Drawing
 pub mod Reading
 pub mod Scannable

@@ -1,4 +1,4 @@
--- Where the numbers of scans, joins and memos_of differ, each stands in one place.
+-- Where the numbers of scans, joins and memos differ, each stands in one place.
 use Rattle.std.proofs.Common.{◌≡◌, ⊎_elim, ◌≤◌, ℕ, Bool, true, false, List, [], ◌∷◌, ◌++◌, map, cond, nat_eq, refl, sym, ap, subst, ◌∙◌, arith}
 use Rattle.std.specs.List.{AllByRecursion, IsDistinct, sum_by, flat_map}
 use Rattle.std.proofs.lemmas.List.Sums.{sum_by-cons, sum_by-append}
@@ -7,9 +7,7 @@ use Rattle.kl_plan.specs.declared.plan.Scan.{Scan}
 use Rattle.kl_plan.specs.Nodes.{Node}
 use Rattle.kl_plan.specs.Numbers.{scans_in, joins_in, NumbersDiffer}
 use Rattle.kl_counts.specs.Places.{Places, AnyScan, AnyJoin, NoMemo, MemoFree, Apart}
-use Rattle.kl_plan.specs.Parts.{memos_of}
-use Rattle.kl_plan.specs.Subqueries.{Memo}
-use Rattle.kl_counts.specs.Once.{OtherScan, OtherInner, AnyMemo, NoneOutside, NoneInside, InnerOf, OnlyInner, OtherJoin, NoJoinInside}
+use Rattle.kl_counts.specs.Once.{Kept, memos, OtherScan, OtherInner, AnyMemo, NoneOutside, NoneInside, InnerOf, OnlyInner, OtherJoin, NoJoinInside}
 use Rattle.kl_counts.specs.Standing.{Place, alone, inner, scan_of, outside, inside}
 use Rattle.kl_counts.specs.Counts.{Within}
 use Rattle.kl_counts.proofs.Same.{nat_itself, nat_is}
@@ -27,7 +25,7 @@ at_it n x h = ap (λ b. cond b 1 0) h
 at_other : (n x : ℕ) → nat_eq x n ≡ false → at n x ≡ 0
 at_other n x h = ap (λ b. cond b 1 0) h
 
-pub other_back : (n x : ℕ) → nat_eq n x ≡ false → nat_eq x n ≡ false
+other_back : (n x : ℕ) → nat_eq n x ≡ false → nat_eq x n ≡ false
 other_back n x h = by (nat_eq x n) refl
   where
     by : (b : Bool) → nat_eq x n ≡ b → b ≡ false
@@ -53,6 +51,7 @@ mapped n (c ∷ cs) = omega (arith, mapped n cs, sum_by-cons (at n) c.number (ma
 
 -- ---- among places
 
+
 abbrev scan_weight : ℕ → Place → ℕ
 scan_weight n x = at n (scan_of x).number
 
@@ -77,7 +76,7 @@ all_other n (x ∷ xs) z = (other_of n x (by (nat_eq (scan_of x).number n) refl)
     by true t = absurd (omega (arith, at_it n (scan_of x).number t, sum_by-cons (scan_weight n) x xs))
     by false t = refl
 
--- ---- what holds of the places in memos_of holds at each memo
+-- ---- what holds of the places in memos holds at each memo
 
 first : (Q : Place → Type 0) (xs ys : List Place) → AllByRecursion Q (xs ++ ys) → AllByRecursion Q xs
 first Q [] ys h = tt
@@ -87,11 +86,11 @@ second : (Q : Place → Type 0) (xs ys : List Place) → AllByRecursion Q (xs ++
 second Q [] ys h = h
 second Q (x ∷ xs) ys h = second Q xs ys h.1
 
-parts : (Q : Place → Type 0) (ms : List Memo) → AllByRecursion Q (flat_map (λ m. outside m.1.1) ms) → AllByRecursion (λ m. AllByRecursion Q (outside m.1.1)) ms
+parts : (Q : Place → Type 0) (ms : List Kept) → AllByRecursion Q (flat_map (λ m. outside m.part) ms) → AllByRecursion (λ m. AllByRecursion Q (outside m.part)) ms
 parts Q [] h = tt
-parts Q (m ∷ ms) h = (first Q (outside m.1.1) (flat_map (λ m. outside m.1.1) ms) h, parts Q ms (second Q (outside m.1.1) (flat_map (λ m. outside m.1.1) ms) h))
+parts Q (m ∷ ms) h = (first Q (outside m.part) (flat_map (λ m. outside m.part) ms) h, parts Q ms (second Q (outside m.part) (flat_map (λ m. outside m.part) ms) h))
 
-all_in : (F : Memo → Type 0) (ms : List Memo) (m : Memo) → AllByRecursion F ms → In m ms → F m
+all_in : (F : Kept → Type 0) (ms : List Kept) (m : Kept) → AllByRecursion F ms → In m ms → F m
 all_in F [] m h i = absurd i
 all_in F (x ∷ xs) m h i = ⊎_elim (λ e. subst F (sym e) h.0) (all_in F xs m h.1) i
 
@@ -119,12 +118,12 @@ module _ (p : Node) (apart : Apart p) where
   -- what holds of all places in memos, where they stand
   in_memos : (Q : Place → Type 0) → AllByRecursion Q (inside p) → Places AnyScan AnyJoin (λ d m fs q. Places (λ c. Q (alone c)) (λ n way i. Q (inner n way i)) NoMemo d q) 0 p
   in_memos Q h =
-      places_with AnyScan AnyScan AnyScan AnyJoin AnyJoin AnyJoin (λ d m fs q. MemoFree d q) (Listed (memos_of p)) (λ d m fs q. Places (λ c. Q (alone c)) (λ n way i. Q (inner n way i)) NoMemo d q)
+      places_with AnyScan AnyScan AnyScan AnyJoin AnyJoin AnyJoin (λ d m fs q. MemoFree d q) (Listed (memos p)) (λ d m fs q. Places (λ c. Q (alone c)) (λ n way i. Q (inner n way i)) NoMemo d q)
       (λ c h g. tt) (λ n way i h g. tt)
       (λ d n fs q free i.
-      places_with AnyScan (λ c. Q (alone c)) (λ c. Q (alone c)) AnyJoin (λ n way i. Q (inner n way i)) (λ n way i. Q (inner n way i)) NoMemo AnyMemo NoMemo (λ c h g. g) (λ n way i h g. g) (λ d n fs q h g. h) d q free
-      (stands Q d q (all_in (λ m. AllByRecursion Q (outside m.1.1)) (memos_of p) ((n, (fs, q))) (parts Q (memos_of p) h) i)))
-      0 p apart (listed (memos_of p) 0 p (λ m i. i))
+        places_with AnyScan (λ c. Q (alone c)) (λ c. Q (alone c)) AnyJoin (λ n way i. Q (inner n way i)) (λ n way i. Q (inner n way i)) NoMemo AnyMemo NoMemo (λ c h g. g) (λ n way i h g. g) (λ d n fs q h g. h) d q free
+        (stands Q d q (all_in (λ m. AllByRecursion Q (outside m.part)) (memos p) (record { number = n; frees = fs; part = q }) (parts Q (memos p) h) i)))
+      0 p apart (listed (memos p) 0 p (λ m i. i))
 
   module _ (differ : NumbersDiffer p) where
     few_scans : (n : ℕ) → sum_by (scan_weight n) (outside p ++ inside p) ≤ 1
@@ -160,10 +159,9 @@ module _ (p : Node) (apart : Apart p) where
 
     all_neither : (n j : ℕ) (ps : List Place) → sum_by (scan_weight n) ps ≡ 0 → sum_by (join_weight (at j)) ps ≡ 0 → AllByRecursion (Pairs n j) ps
     all_neither n j [] s t = tt
-    all_neither n j (x ∷ xs) s t = (
-      pairs_neither n j x (omega (arith, sum_by-cons (scan_weight n) x xs)) (omega (arith, sum_by-cons (join_weight (at j)) x xs)),
-      all_neither n j xs (omega (arith, sum_by-cons (scan_weight n) x xs)) (omega (arith, sum_by-cons (join_weight (at j)) x xs)),
-    )
+    all_neither n j (x ∷ xs) s t =
+        (pairs_neither n j x (omega (arith, sum_by-cons (scan_weight n) x xs)) (omega (arith, sum_by-cons (join_weight (at j)) x xs)),
+        all_neither n j xs (omega (arith, sum_by-cons (scan_weight n) x xs)) (omega (arith, sum_by-cons (join_weight (at j)) x xs)))
 
     all_pairs : (j : ℕ) (way : JoinHow) (i : Scan) (ps : List Place) → Within (inner j way i) ps → sum_by (scan_weight i.number) ps ≤ 1 → sum_by (join_weight (at j)) ps ≤ 1 → AllByRecursion (Pairs i.number j) ps
     all_pairs j way i [] h s t = absurd h
@@ -176,10 +174,9 @@ module _ (p : Node) (apart : Apart p) where
         join_one = at_it j j (nat_itself j)
 
         here : inner j way i ≡ x → Pairs i.number j x × AllByRecursion (Pairs i.number j) xs
-        here e = (
-          subst (Pairs i.number j) e (nat_itself i.number ∙ sym (nat_itself j)),
-          all_neither i.number j xs (omega (arith, scan_one, ap (scan_weight i.number) e, sum_by-cons (scan_weight i.number) x xs)) (omega (arith, join_one, ap (join_weight (at j)) e, sum_by-cons (join_weight (at j)) x xs)),
-        )
+        here e =
+            (subst (Pairs i.number j) e (nat_itself i.number ∙ sym (nat_itself j)),
+            all_neither i.number j xs (omega (arith, scan_one, ap (scan_weight i.number) e, sum_by-cons (scan_weight i.number) x xs)) (omega (arith, join_one, ap (join_weight (at j)) e, sum_by-cons (join_weight (at j)) x xs)))
 
         later : (Within (inner j way i) xs → sum_by (scan_weight i.number) xs ≤ 1 → sum_by (join_weight (at j)) xs ≤ 1 → AllByRecursion (Pairs i.number j) xs) → Within (inner j way i) xs → Pairs i.number j x × AllByRecursion (Pairs i.number j) xs
         later r k =

@@ -8,9 +8,9 @@ use Rattle.kl_value.specs.declared.Value.{Value}
 use Rattle.kl_outcome.specs.Outcome.{Outcome, done, over, stuck}
 use Rattle.kl_plan.specs.Nodes.{Nodes, no_nodes, nodes}
 use Rattle.kl_plan.specs.Meaning.{Readings, worth, plan}
-use Rattle.kl_plan.specs.Reached.{once, chosen_of, passes, rows_passing, reached_conds}
-use Rattle.kl_plan.specs.Prices.{Prices}
-use Rattle.kl_plan.proofs.Choices.{once_split}
+use Rattle.kl_plan.specs.Reached.{once, chosen_of}
+use Rattle.kl_counts.specs.Prices.{Prices}
+use Rattle.kl_counts.specs.Reached.{passes, rows_passing, reached_conds}
 use Rattle.kl_counts.proofs.Same.{nat_is}
 
 module _ (R : Readings) where
@@ -47,6 +47,22 @@ module _ (R : Readings) where
       by false t r = omega (arith, none_passes cs (x ∷ env) t, sum_by-cons (λ x. passes R cs (x ∷ env)) x xs)
 
   module _ (block : ℕ) (P : Prices) where
+    chosen_split : (b : Option Bool) (m n k : ℕ) → m ≡ n + k → chosen_of b m 0 ≡ chosen_of b n 0 + chosen_of b k 0
+    chosen_split (Some true) m n k h = h
+    chosen_split (Some false) m n k h = omega arith
+    chosen_split None m n k h = omega arith
+
+    chosen_times : (b : Option Bool) (p n : ℕ) → chosen_of b (p * n) 0 ≡ chosen_of b p 0 * n
+    chosen_times (Some true) p n = refl
+    chosen_times (Some false) p n = omega arith
+    chosen_times None p n = omega arith
+
+    once_split : (o : Outcome) (m n p k : ℕ) → m ≡ n + p * k
+        → once o (λ v. chosen_of (as_bool v) m 0) ≡ once o (λ v. chosen_of (as_bool v) n 0) + once o (λ v. chosen_of (as_bool v) p 0) * k
+    once_split (done v) m n p k h = omega (arith, chosen_split (as_bool v) m n (p * k) h, chosen_times (as_bool v) p k)
+    once_split (over vs) m n p k h = omega arith
+    once_split stuck m n p k h = omega arith
+
     -- what conditions come to, and where they hold what is drawn behind them
     pub conds_split : (cs : Nodes) (env : List Value) (n : ℕ) → reached_conds R block P cs env n ≡ reached_conds R block P cs env 0 + passes R cs env * n
     conds_split no_nodes env n = omega arith
@@ -65,13 +81,8 @@ module _ (R : Readings) where
             ≡ sum_by (λ x. reached_conds R block P cs (x ∷ env) 0) (x ∷ xs) + sum_by g (cond b (x ∷ rows_passing R cs env xs) (rows_passing R cs env xs))
         by true t r =
             let one : passes R cs (x ∷ env) * g x ≡ 1 * g x = ap (λ n. n * g x) (nat_is (passes R cs (x ∷ env)) 1 t) in
-            omega (
-              arith,
-              conds_split cs (x ∷ env) (g x),
-              sum_by-cons (λ x. reached_conds R block P cs (x ∷ env) (g x)) x xs,
-              sum_by-cons (λ x. reached_conds R block P cs (x ∷ env) 0) x xs,
-              sum_by-cons g x (rows_passing R cs env xs),
-            )
+            omega (arith, conds_split cs (x ∷ env) (g x), sum_by-cons (λ x. reached_conds R block P cs (x ∷ env) (g x)) x xs, sum_by-cons (λ x. reached_conds R block P cs (x ∷ env) 0) x xs,
+              sum_by-cons g x (rows_passing R cs env xs))
         by false t r =
             let none : passes R cs (x ∷ env) * g x ≡ 0 * g x = ap (λ n. n * g x) (none_passes cs (x ∷ env) t) in
             omega (arith, conds_split cs (x ∷ env) (g x), sum_by-cons (λ x. reached_conds R block P cs (x ∷ env) (g x)) x xs, sum_by-cons (λ x. reached_conds R block P cs (x ∷ env) 0) x xs)

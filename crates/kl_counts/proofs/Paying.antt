@@ -1,5 +1,5 @@
 -- What the machine does costs what the plan comes to, whatever is kept: a look-up that hits is paid as if it had missed.
-use Rattle.std.proofs.Common.{◌≡◌, ℕ, zero, suc, ◌+◌, ◌*◌, Bool, true, false, List, [], ◌∷◌, ◌++◌, Option, Some, None, cond, nat_eq, refl, ◌∙◌, arith}
+use Rattle.std.proofs.Common.{◌≡◌, ℕ, zero, suc, ◌+◌, ◌*◌, Bool, true, false, List, [], ◌∷◌, ◌++◌, Option, Some, None, cond, nat_eq, refl, ap, ◌∙◌, arith}
 use Rattle.std.specs.Cmp.Lexicographic.{pointwise}
 use Rattle.std.proofs.Math.Nat.{suc-mul}
 use Rattle.std.proofs.lemmas.List.Sums.{sum_by-cons}
@@ -11,26 +11,26 @@ use Rattle.kl_plan.specs.Alike.{weight}
 use Rattle.kl_plan.specs.declared.plan.Scan.{Scan}
 use Rattle.kl_plan.specs.Nodes as node
 use Rattle.kl_plan.specs.Nodes.{Node, Nodes, no_nodes, nodes, Fields, no_fields, fields, Branches, no_branches, rest, branch, Key as JoinKey, no_key, key}
-use Rattle.kl_scans.specs.Stage.{Stage, readings}
-use Rattle.kl_scans.proofs.Moving.{paid_then}
 use Rattle.kl_plan.specs.Meaning.{Readings, drawn_for, scanned, same_key, plan}
-use Rattle.kl_plan.specs.Reached.{once, chosen_of, opened_of, passing, reached, reached_nodes, reached_fields, reached_branch, reached_conds, reached_key}
+use Rattle.kl_plan.specs.Reached.{once, chosen_of, opened_of}
 use Rattle.kl_lookups.specs.Lookups.{has}
-use Rattle.kl_plan.specs.Subqueries.{Subquery, values_at}
-use Rattle.kl_plan.specs.Prices.{Prices, inner_starts, executed}
-use Rattle.kl_scans.specs.Log.{Event, started, joined, missed, hit, paid}
+use Rattle.kl_counts.specs.Keys.{Key, values_at}
+use Rattle.kl_counts.specs.Prices.{Prices, inner_starts, executed}
+use Rattle.kl_counts.specs.Reached.{passing, reached, reached_nodes, reached_fields, reached_branch, reached_conds, reached_key}
+use Rattle.kl_counts.specs.Log.{Event, started, joined, missed, hit, paid}
 use Rattle.kl_counts.specs.Machine.{Entries, Act, idle, then_do, done_once, often, at_value, chosen, opened, each, looks, run, run_nodes, run_fields, run_branch, run_conds, run_key}
 
-module _ (same : Subquery → Subquery → Bool) (capacity : ℕ) (value : Subquery → Value) (t : Stage) (P : Prices) where
-  abbrev R : Readings
-  R = readings t
-
-  abbrev block : ℕ
-  block = t.block
+module _ (same : Key → Key → Bool) (capacity : ℕ) (value : Key → Outcome) (R : Readings) (block : ℕ) (P : Prices) where
+  paid_append : (xs ys : List Event) → paid R block P (xs ++ ys) ≡ paid R block P xs + paid R block P ys
+  paid_append [] ys = omega arith
+  paid_append (started c ∷ xs) ys = let r = paid_append xs ys in omega arith
+  paid_append (joined n way outer starts ∷ xs) ys = let r = paid_append xs ys in omega arith
+  paid_append (missed k ∷ xs) ys = let r = paid_append xs ys in omega arith
+  paid_append (hit n frees p env ∷ xs) ys = let r = paid_append xs ys in omega arith
 
   -- what is done between some entries and others costs so much
   record Costs (m : Entries) (es : List Event) (l : Entries) (n : ℕ) : Type 0 where
-    is : paid t P es ≡ n
+    is : paid R block P es ≡ n
 
   abbrev Pays : Act → ℕ → Type 0
   Pays a n = (m : Entries) → Costs m (a m).0 (a m).1 n
@@ -39,7 +39,7 @@ module _ (same : Subquery → Subquery → Bool) (capacity : ℕ) (value : Subqu
   idle_pays m = record { is = refl }
 
   then_pays : (a b : Act) (x y : ℕ) → Pays a x → Pays b y → Pays (then_do a b) (x + y)
-  then_pays a b x y p q m = let l = (p m).is in let r = (q (a m).1).is in record { is = omega (arith, paid_then t P (a m).0 (b (a m).1).0) }
+  then_pays a b x y p q m = let l = (p m).is in let r = (q (a m).1).is in record { is = omega (arith, paid_append (a m).0 (b (a m).1).0) }
 
   weight_more : (w : Value → ℕ) (v : Value) (f : Flow) → w v + weight w f ≡ weight w (more v f)
   weight_more w v f = omega (arith, sum_by-cons w v (items_in f))
@@ -66,7 +66,7 @@ module _ (same : Subquery → Subquery → Bool) (capacity : ℕ) (value : Subqu
   cond_pays true x y m n p q = p
   cond_pays false x y m n p q = q
 
-  often_paid : (n : ℕ) (c : Scan) (m : Entries) → paid t P (often n c m).0 ≡ n * P.scan c
+  often_paid : (n : ℕ) (c : Scan) (m : Entries) → paid R block P (often n c m).0 ≡ n * P.scan c
   often_paid zero c m = omega arith
   often_paid (suc n) c m = let r = often_paid n c m in let e = suc-mul n (P.scan c) in omega arith
 
@@ -74,13 +74,10 @@ module _ (same : Subquery → Subquery → Bool) (capacity : ℕ) (value : Subqu
       → Pays (looks same capacity value n frees p env part) (P.memo n (values_at env frees) + reached R block P p env)
   looks_pays n frees p env part h m = record { is = by (has same (n, values_at env frees) m) (h m).is _ _ }
     where
-      k : Subquery
-      k = (n, values_at env frees)
-
-      by : (b : Bool) → paid t P (part m).0 ≡ reached R block P p env → (x y : Entries)
-          → paid t P (cond {A = List Event × Entries} b (hit n frees p env ∷ [], x) ((part m).0 ++ missed k (value k) ∷ [], y)).0 ≡ P.memo n (values_at env frees) + reached R block P p env
+      by : (b : Bool) → paid R block P (part m).0 ≡ reached R block P p env → (x y : Entries)
+          → paid R block P (cond {A = List Event × Entries} b (hit n frees p env ∷ [], x) (missed (n, values_at env frees) ∷ (part m).0, y)).0 ≡ P.memo n (values_at env frees) + reached R block P p env
       by true g x y = omega arith
-      by false g x y = omega (arith, paid_then t P (part m).0 (missed k (value k) ∷ []))
+      by false g x y = ap (λ s. P.memo n (values_at env frees) + s) g
 
   started_pays : (c : Scan) → Pays (done_once (started c)) (P.scan c)
   started_pays c m = record { is = omega arith }
@@ -92,7 +89,7 @@ module _ (same : Subquery → Subquery → Bool) (capacity : ℕ) (value : Subqu
       → Pays (then_do (often (inner_starts block way outer) i) (done_once (joined n way outer (inner_starts block way outer)))) (executed block P n way i outer)
   joins_pay n way i outer m =
       let r = (then_pays (often (inner_starts block way outer) i) (done_once (joined n way outer (inner_starts block way outer))) (inner_starts block way outer * P.scan i) (P.join n way outer)
-      (λ m. record { is = often_paid (inner_starts block way outer) i m }) (joined_pays n way outer (inner_starts block way outer)) m).is in
+        (λ m. record { is = often_paid (inner_starts block way outer) i m }) (joined_pays n way outer (inner_starts block way outer)) m).is in
       record { is = omega arith }
 
   mutual
@@ -138,5 +135,5 @@ module _ (same : Subquery → Subquery → Bool) (capacity : ℕ) (value : Subqu
     key_pays no_key env go n h = h (λ y. Some true)
     key_pays (key l p) env go n h = then_pays _ _ _ _ (run_pays p env) (value_pays _ _ _ (λ v. h (λ y. same_key v (field_at l y))))
 
-  pub paid_run : (p : Node) → paid t P (run same capacity value R block p [] []).0 ≡ reached R block P p []
+  pub paid_run : (p : Node) → paid R block P (run same capacity value R block p [] []).0 ≡ reached R block P p []
   paid_run p = (run_pays p [] []).is

@@ -12,7 +12,7 @@ use Rattle.kl_plan.specs.Nodes as node
 use Rattle.kl_plan.specs.Nodes.{Node, Nodes, no_nodes, nodes, Fields, no_fields, fields, Branches, no_branches, rest, branch, Key as JoinKey, no_key, key}
 use Rattle.kl_plan.specs.Meaning.{Readings, worth, drawn_for, scanned, same_key, plan}
 use Rattle.kl_counts.specs.Places.{Places, PlacesNodes, PlacesFields, PlacesBranches, PlacesKey}
-use Rattle.kl_plan.specs.Reached.{passing}
+use Rattle.kl_counts.specs.Reached.{passing}
 use Rattle.kl_counts.specs.Visits.{Visit, reads, joins, asks, at_value, chosen, opened, each, visits, visits_nodes, visits_fields, visits_branch, visits_conds, visits_key}
 
 module _ (R : Readings) (S : Scan → Type 0) (J : ℕ → JoinHow → Scan → Type 0) (M : ℕ → ℕ → List ℕ → Node → Type 0) where
@@ -87,11 +87,11 @@ module _ (R : Readings) (S : Scan → Type 0) (J : ℕ → JoinHow → Scan → 
       visited d (node.Join n k way o cs i q b) env h =
           both (visits R o env) (each (outer_row k cs i q b env) (drawn_for k (plan R o env)) ++ joins n way i (passing R k o cs env) ∷ []) (visited d o env h.0)
           (both (each (outer_row k cs i q b env) (drawn_for k (plan R o env))) (joins n way i (passing R k o cs env) ∷ [])
-          (each_all (outer_row k cs i q b env) (drawn_for k (plan R o env))
-          (λ x. visited_conds (suc d) cs (x ∷ env) (visits_key R q (x ∷ env) (inner_rows k i b x env)) h.1 (visited_key (suc d) q (x ∷ env) (inner_rows k i b x env) h.2
-          (λ test. each_all (λ y. chosen (test y) (visits R b (y ∷ x ∷ env)) []) (drawn_for k (scanned i.kind (R i)))
-          (λ y. chosen_all (test y) (visits R b (y ∷ x ∷ env)) [] (visited (suc (suc d)) b (y ∷ x ∷ env) h.4) tt)))))
-          (h.3, tt))
+            (each_all (outer_row k cs i q b env) (drawn_for k (plan R o env))
+              (λ x. visited_conds (suc d) cs (x ∷ env) (visits_key R q (x ∷ env) (inner_rows k i b x env)) h.1 (visited_key (suc d) q (x ∷ env) (inner_rows k i b x env) h.2
+                (λ test. each_all (λ y. chosen (test y) (visits R b (y ∷ x ∷ env)) []) (drawn_for k (scanned i.kind (R i)))
+                  (λ y. chosen_all (test y) (visits R b (y ∷ x ∷ env)) [] (visited (suc (suc d)) b (y ∷ x ∷ env) h.4) tt)))))
+            (h.3, tt))
       visited d (node.Memo n frees p) env h = (tt, part d n frees p h env)
 
       visited_nodes : (d : ℕ) (ps : Nodes) (env : List Value) → PlacesNodes S J M d ps → All (visits_nodes R ps env)

@@ -12,9 +12,10 @@ use Rattle.kl_plan.specs.declared.plan.Scan.{Scan}
 use Rattle.kl_plan.specs.Nodes as node
 use Rattle.kl_plan.specs.Nodes.{Node, Nodes, no_nodes, nodes, Fields, no_fields, fields, Branches, no_branches, rest, branch, Key as JoinKey, no_key, key}
 use Rattle.kl_plan.specs.Meaning.{Readings, worth, drawn_for, scanned, same_key, plan}
-use Rattle.kl_plan.specs.Reached.{once, chosen_of, opened_of, passing, reached, reached_nodes, reached_fields, reached_branch, reached_conds, reached_key}
-use Rattle.kl_plan.specs.Subqueries.{Subquery, values_at}
-use Rattle.kl_plan.specs.Prices.{Prices, inner_starts, executed, prices, at_keys}
+use Rattle.kl_plan.specs.Reached.{once, chosen_of, opened_of}
+use Rattle.kl_counts.specs.Keys.{Key, values_at}
+use Rattle.kl_counts.specs.Prices.{Prices, inner_starts, executed, prices, at_keys}
+use Rattle.kl_counts.specs.Reached.{passing, reached, reached_nodes, reached_fields, reached_branch, reached_conds, reached_key}
 use Rattle.kl_counts.specs.Visits.{Visit, reads, joins, asks, at_value, chosen, opened, each, visits, visits_nodes, visits_fields, visits_branch, visits_conds, visits_key, keys_in, keys, outers_in, environments_in, inner_in, price_of}
 
 module _ (R : Readings) (block : ℕ) (P : Prices) where
@@ -31,7 +32,10 @@ module _ (R : Readings) (block : ℕ) (P : Prices) where
   alone v = omega (arith, sum_by-cons (price_of block P) v [])
 
   each_total : (go : Value → List Visit) (w : Value → ℕ) (f : Flow) → ((v : Value) → total (go v) ≡ w v) → total (each go f) ≡ weight w f
-  each_total go w (more v f) h = beside (go v) (each go f) (w v) (weight w f) (h v) (each_total go w f h) ∙ sym (sum_by-cons w v (items_in f))
+  each_total go w (more v f) h = beside (go v) (each go f) (w v) (weight w f) (h v) (each_total go w f h) ∙ sym (weight_more w v f)
+    where
+      weight_more : (w : Value → ℕ) (v : Value) (f : Flow) → weight w (more v f) ≡ w v + weight w f
+      weight_more w v f = omega (arith, sum_by-cons w v (items_in f))
   each_total go w (stop e) h = refl
 
   value_total : (o : Outcome) (go : Value → List Visit) (n : Value → ℕ) → ((v : Value) → total (go v) ≡ n v) → total (at_value o go) ≡ once o n
@@ -87,11 +91,11 @@ module _ (R : Readings) (block : ℕ) (P : Prices) where
     visits_total (node.Join n k way o cs i q b) env =
         beside (visits R o env) (each (outer_row k cs i q b env) (drawn_for k (plan R o env)) ++ joins n way i (passing R k o cs env) ∷ []) _ _ (visits_total o env)
         (beside (each (outer_row k cs i q b env) (drawn_for k (plan R o env))) (joins n way i (passing R k o cs env) ∷ []) _ _
-        (each_total (outer_row k cs i q b env) _ (drawn_for k (plan R o env))
-        (λ x. conds_total cs (x ∷ env) (visits_key R q (x ∷ env) (inner_rows k i b x env)) _ (key_total q (x ∷ env) (inner_rows k i b x env) _
-        (λ test. each_total (λ y. chosen (test y) (visits R b (y ∷ x ∷ env)) []) _ (drawn_for k (scanned i.kind (R i)))
-        (λ y. chosen_total (test y) (visits R b (y ∷ x ∷ env)) [] _ _ (visits_total b (y ∷ x ∷ env)) refl)))))
-        (alone (joins n way i (passing R k o cs env))))
+          (each_total (outer_row k cs i q b env) _ (drawn_for k (plan R o env))
+            (λ x. conds_total cs (x ∷ env) (visits_key R q (x ∷ env) (inner_rows k i b x env)) _ (key_total q (x ∷ env) (inner_rows k i b x env) _
+              (λ test. each_total (λ y. chosen (test y) (visits R b (y ∷ x ∷ env)) []) _ (drawn_for k (scanned i.kind (R i)))
+                (λ y. chosen_total (test y) (visits R b (y ∷ x ∷ env)) [] _ _ (visits_total b (y ∷ x ∷ env)) refl)))))
+          (alone (joins n way i (passing R k o cs env))))
     visits_total (node.Memo n frees p) env = one_more (asks (n, values_at env frees)) (visits R p env) _ (visits_total p env)
 
     nodes_total : (ps : Nodes) (env : List Value) → total (visits_nodes R ps env) ≡ reached_nodes R block P ps env
@@ -122,7 +126,7 @@ module _ (R : Readings) (block : ℕ) (P : Prices) where
         beside (visits R p env) (at_value (worth (plan R p env)) to) _ _ (visits_total p env) (value_total (worth (plan R p env)) to _ (λ v. h (λ y. same_key v (field_at l y))))
 
 -- Where only look-ups have a price, a plan comes to the sum over its keys.
-module _ (block : ℕ) (w : Subquery → ℕ) where
+module _ (block : ℕ) (w : Key → ℕ) where
   keys_total : (vs : List Visit) → sum_by (price_of block (at_keys w)) vs ≡ sum_by w (keys_in vs)
   keys_total [] = refl
   keys_total (reads c env ∷ vs) = omega (arith, keys_total vs, sum_by-cons (price_of block (at_keys w)) (reads c env) vs)

@@ -8,18 +8,17 @@ use Rattle.kl_value.specs.declared.Value.{Value}
 use Rattle.kl_outcome.specs.Outcome.{Name, Outcome, done, over, stuck, Flow, more, stop, as_variant}
 use Rattle.kl_plan.specs.declared.plan.Scan.{Scan}
 use Rattle.kl_plan.specs.Nodes as node
-use Rattle.kl_plan.specs.Nodes.{Node, Nodes, no_nodes, nodes, Fields, no_fields, fields, Branches, no_branches, rest, branch}
-use Rattle.kl_plan.specs.Nodes.{Key as JoinKey, no_key, key}
+use Rattle.kl_plan.specs.Nodes.{Node, Nodes, no_nodes, nodes, Fields, no_fields, fields, Branches, no_branches, rest, branch, Key as JoinKey, no_key, key}
 use Rattle.kl_plan.specs.Meaning.{Readings, worth, drawn_for, scanned, same_key, plan}
 use Rattle.kl_lookups.specs.Lookups.{has, moved_up, kept_with}
-use Rattle.kl_plan.specs.Subqueries.{Subquery, values_at}
-use Rattle.kl_plan.specs.Prices.{inner_starts}
-use Rattle.kl_plan.specs.Reached.{passing}
-use Rattle.kl_scans.specs.Log.{Event, started, joined, missed, hit}
+use Rattle.kl_counts.specs.Keys.{Key, values_at}
+use Rattle.kl_counts.specs.Prices.{inner_starts}
+use Rattle.kl_counts.specs.Reached.{passing}
+use Rattle.kl_counts.specs.Log.{Event, started, joined, missed, hit}
 
 -- the values that are kept by their keys, the newest first
 abbrev pub Entries : Type 0
-Entries = List (Subquery × Value)
+Entries = List (Key × Outcome)
 
 -- what is done from some entries on, and the entries behind it
 abbrev pub Act : Type 0
@@ -60,15 +59,13 @@ each go (more v f) = then_do (go v) (each go f)
 each go (stop e) = idle
 
 -- `same` is the test of keys, and `value` the value that is kept under a key
-module _ (same : Subquery → Subquery → Bool) (capacity : ℕ) (value : Subquery → Value) where
+module _ (same : Key → Key → Bool) (capacity : ℕ) (value : Key → Outcome) where
   -- a part whose value is kept: where the look-up hits its entry is the newest, else the part is evaluated and its value is kept
   abbrev pub looks : ℕ → List ℕ → Node → List Value → Act → Act
   looks n frees p env part m =
       cond (has same (n, values_at env frees) m)
-      (hit n frees p env ∷ [], moved_up same (n, values_at env frees) m) (
-        (part m).0 ++ missed (n, values_at env frees) (value (n, values_at env frees)) ∷ [],
-        kept_with same capacity (n, values_at env frees) (value (n, values_at env frees)) (part m).1,
-      )
+      (hit n frees p env ∷ [], moved_up same (n, values_at env frees) m)
+      (missed (n, values_at env frees) ∷ (part m).0, kept_with same capacity (n, values_at env frees) (value (n, values_at env frees)) (moved_up same (n, values_at env frees) (part m).1))
 
   module _ (R : Readings) (block : ℕ) where
     abbrev mutual
@@ -78,8 +75,7 @@ module _ (same : Subquery → Subquery → Bool) (capacity : ℕ) (value : Subqu
       run (node.Rec ps) env = run_fields ps env
       run (node.Proj l a) env = run a env
       run (node.Inj l a) env = run a env
-      run (node.Case a bs) env =
-          then_do (run a env) (at_value (worth (plan R a env)) (λ v. opened (as_variant v) (λ l w. run_branch bs l w env)))
+      run (node.Case a bs) env = then_do (run a env) (at_value (worth (plan R a env)) (λ v. opened (as_variant v) (λ l w. run_branch bs l w env)))
       run (node.Make k ps) env = run_nodes ps env
       run (node.Union a b) env = then_do (run a env) (run b env)
       run (node.Ext k b s) env = then_do (run s env) (each (λ v. run b (v ∷ env)) (drawn_for k (plan R s env)))
@@ -90,8 +86,7 @@ module _ (same : Subquery → Subquery → Bool) (capacity : ℕ) (value : Subqu
       run (node.Join n k way o cs i q b) env =
           then_do (run o env)
           (then_do (each (λ x. run_conds cs (x ∷ env) (run_key q (x ∷ env)
-          (λ test. each (λ y. chosen (test y) (run b (y ∷ x ∷ env)) idle) (drawn_for k (scanned i.kind (R i))))))
-          (drawn_for k (plan R o env)))
+            (λ test. each (λ y. chosen (test y) (run b (y ∷ x ∷ env)) idle) (drawn_for k (scanned i.kind (R i)))))) (drawn_for k (plan R o env)))
           (then_do (often (inner_starts block way (passing R k o cs env)) i)
           (done_once (joined n way (passing R k o cs env) (inner_starts block way (passing R k o cs env))))))
       run (node.Memo n frees p) env = looks n frees p env (run p env)
@@ -111,8 +106,7 @@ module _ (same : Subquery → Subquery → Bool) (capacity : ℕ) (value : Subqu
 
       pub run_conds : Nodes → List Value → Act → Act
       run_conds no_nodes env go = go
-      run_conds (nodes c cs) env go =
-          then_do (run c env) (at_value (worth (plan R c env)) (λ v. chosen (as_bool v) (run_conds cs env go) idle))
+      run_conds (nodes c cs) env go = then_do (run c env) (at_value (worth (plan R c env)) (λ v. chosen (as_bool v) (run_conds cs env go) idle))
 
       pub run_key : JoinKey → List Value → ((Value → Option Bool) → Act) → Act
       run_key no_key env go = go (λ y. Some true)

@@ -1,31 +1,72 @@
 -- How often scans are started where each key is evaluated once.
-use Rattle.std.specs.Prelude.{◌≡◌, ℕ, Bool, List, [], ◌∷◌, cond, false, nat_eq, ⊤}
+use Rattle.std.specs.Prelude.{◌≡◌, ℕ, Bool, List, [], ◌∷◌, ◌++◌, cond, false, nat_eq, ⊤}
 use Rattle.std.specs.List.{sum_by}
 use Rattle.std.specs.Set.{unique_keys}
 use Rattle.kl_ask.specs.declared.settings.JoinHow.{JoinHow}
 use Rattle.kl_plan.specs.declared.plan.Scan.{Scan}
-use Rattle.kl_plan.specs.Nodes.{Node}
+use Rattle.kl_plan.specs.Nodes as node
+use Rattle.kl_plan.specs.Nodes.{Node, Nodes, no_nodes, nodes, Fields, no_fields, fields, Branches, no_branches, rest, branch, Key as JoinKey, no_key, key}
 use Rattle.kl_plan.specs.Meaning.{Readings}
-use Rattle.kl_plan.specs.Parts.{memos_of}
-use Rattle.kl_plan.specs.Subqueries.{Memo, Subquery}
-use Rattle.kl_counts.specs.Keys.{under}
-use Rattle.kl_plan.specs.Prices.{Prices, prices}
-use Rattle.kl_plan.specs.Reached.{reached}
+use Rattle.kl_counts.specs.Keys.{Key, under}
+use Rattle.kl_counts.specs.Prices.{Prices, prices}
+use Rattle.kl_counts.specs.Reached.{reached}
 use Rattle.kl_counts.specs.Visits.{keys}
 use Rattle.kl_counts.specs.Places.{Places, AnyScan, AnyJoin, NoMemo}
 
+-- a memo: its number, its free positions and its part
+pub record Kept : Type 0 where
+  pub number : ℕ
+  pub frees : List ℕ
+  pub part : Node
+
+-- the memos of a plan in which none stands inside another
+abbrev mutual
+  pub memos : Node → List Kept
+  memos (node.Plain t) = []
+  memos (node.Var x) = []
+  memos (node.Rec ps) = memos_fields ps
+  memos (node.Proj l a) = memos a
+  memos (node.Inj l a) = memos a
+  memos (node.Case a bs) = memos a ++ memos_branches bs
+  memos (node.Make k ps) = memos_nodes ps
+  memos (node.Union a b) = memos a ++ memos b
+  memos (node.Ext k b s) = memos s ++ memos b
+  memos (node.If a b c) = memos a ++ (memos b ++ memos c)
+  memos (node.Let a b) = memos a ++ memos b
+  memos (node.Prim c ps) = memos_nodes ps
+  memos (node.Scan c) = []
+  memos (node.Join n k way o cs i q b) = memos o ++ (memos_nodes cs ++ (memos_key q ++ memos b))
+  memos (node.Memo n frees p) = record { number = n; frees = frees; part = p } ∷ []
+
+  pub memos_nodes : Nodes → List Kept
+  memos_nodes no_nodes = []
+  memos_nodes (nodes p ps) = memos p ++ memos_nodes ps
+
+  pub memos_fields : Fields → List Kept
+  memos_fields no_fields = []
+  memos_fields (fields l p ps) = memos p ++ memos_fields ps
+
+  pub memos_branches : Branches → List Kept
+  memos_branches no_branches = []
+  memos_branches (rest c) = memos c
+  memos_branches (branch l b bs) = memos b ++ memos_branches bs
+
+  pub memos_key : JoinKey → List Kept
+  memos_key no_key = []
+  memos_key (key l p) = memos p
+
 -- what the part of the memo of a number comes to under the values of its key
-abbrev pub costs : Readings → ℕ → Prices → List Memo → Subquery → ℕ
+abbrev pub costs : Readings → ℕ → Prices → List Kept → Key → ℕ
 costs R block P [] k = 0
-costs R block P (m ∷ ms) k = cond (nat_eq m.0 k.0) (reached R block P m.1.1 (under 0 m.1.0 k.1)) (costs R block P ms k)
+costs R block P (m ∷ ms) k = cond (nat_eq m.number k.0) (reached R block P m.part (under 0 m.frees k.1)) (costs R block P ms k)
 
 -- Only starts of the scan of a number are counted.
 abbrev pub at_scan : ℕ → Prices
 at_scan n = prices (λ c. cond (nat_eq c.number n) 1 0) (λ m way outer. 0)
 
 -- how often the scan of a number, which stands in a memo, is come to where the part is evaluated once under each key
-abbrev pub once_each : (Subquery → Subquery → Bool) → Readings → ℕ → Node → ℕ → ℕ
-once_each same R block p n = sum_by (costs R block (at_scan n) (memos_of p)) (unique_keys same (keys R p []))
+abbrev pub once_each : (Key → Key → Bool) → Readings → ℕ → Node → ℕ → ℕ
+once_each same R block p n = sum_by (costs R block (at_scan n) (memos p)) (unique_keys same (keys R p []))
 
 -- ---- where the scan of a number stands
 

@@ -3,8 +3,7 @@ use Rattle.std.specs.Prelude.{ℕ, suc, List, ⊤}
 use Rattle.kl_ask.specs.declared.settings.JoinHow.{JoinHow}
 use Rattle.kl_plan.specs.declared.plan.Scan.{Scan}
 use Rattle.kl_plan.specs.Nodes as node
-use Rattle.kl_plan.specs.Nodes.{Node, Nodes, no_nodes, nodes, Fields, no_fields, fields, Branches, no_branches, rest, branch, Key}
-use Rattle.kl_plan.specs.Nodes.{no_key, key}
+use Rattle.kl_plan.specs.Nodes.{Node, Nodes, no_nodes, nodes, Fields, no_fields, fields, Branches, no_branches, rest, branch, Key, no_key, key}
 
 -- S of each scan that stands by itself, J of each join with its inner scan, and M of each memo, under so many bound positions. What
 -- stands in a memo is M's alone.
@@ -60,3 +59,6 @@ MemoFree = Places AnyScan AnyJoin NoMemo
 -- no memo stands inside another
 abbrev pub Apart : Node → Type 0
 Apart = Places AnyScan AnyJoin (λ d n frees p. MemoFree d p) 0
+
+abbrev pub NoJoin : ℕ → JoinHow → Scan → Type 0
+NoJoin n way i = ⊥

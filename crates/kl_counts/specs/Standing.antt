@@ -4,9 +4,8 @@ use Rattle.std.specs.List.{flat_map}
 use Rattle.kl_ask.specs.declared.settings.JoinHow.{JoinHow}
 use Rattle.kl_plan.specs.declared.plan.Scan.{Scan}
 use Rattle.kl_plan.specs.Nodes as node
-use Rattle.kl_plan.specs.Nodes.{Node, Nodes, no_nodes, nodes, Fields, no_fields, fields, Branches, no_branches, rest, branch, Key}
-use Rattle.kl_plan.specs.Nodes.{no_key, key}
-use Rattle.kl_plan.specs.Parts.{memos_of}
+use Rattle.kl_plan.specs.Nodes.{Node, Nodes, no_nodes, nodes, Fields, no_fields, fields, Branches, no_branches, rest, branch, Key, no_key, key}
+use Rattle.kl_counts.specs.Once.{memos}
 
 pub data Place : Type 0 where
   -- a scan by itself
@@ -56,4 +55,4 @@ abbrev mutual
 
 -- those inside memos, of which none stands inside another
 abbrev pub inside : Node → List Place
-inside p = flat_map (λ m. outside m.1.1) (memos_of p)
+inside p = flat_map (λ m. outside m.part) (memos p)

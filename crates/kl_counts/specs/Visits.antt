@@ -8,12 +8,11 @@ use Rattle.kl_outcome.specs.Outcome.{Name, Outcome, done, over, stuck, Flow, ite
 use Rattle.kl_ask.specs.declared.settings.JoinHow.{JoinHow}
 use Rattle.kl_plan.specs.declared.plan.Scan.{Scan}
 use Rattle.kl_plan.specs.Nodes as node
-use Rattle.kl_plan.specs.Nodes.{Node, Nodes, no_nodes, nodes, Fields, no_fields, fields, Branches, no_branches, rest, branch}
-use Rattle.kl_plan.specs.Nodes.{Key as JoinKey, no_key, key}
+use Rattle.kl_plan.specs.Nodes.{Node, Nodes, no_nodes, nodes, Fields, no_fields, fields, Branches, no_branches, rest, branch, Key as JoinKey, no_key, key}
 use Rattle.kl_plan.specs.Meaning.{Readings, worth, drawn_for, scanned, same_key, plan}
-use Rattle.kl_plan.specs.Subqueries.{Subquery, values_at}
-use Rattle.kl_plan.specs.Prices.{Prices, inner_starts, executed}
-use Rattle.kl_plan.specs.Reached.{passing}
+use Rattle.kl_counts.specs.Keys.{Key, values_at}
+use Rattle.kl_counts.specs.Prices.{Prices, inner_starts, executed}
+use Rattle.kl_counts.specs.Reached.{passing}
 
 pub data Visit : Type 0 where
   -- a scan that stands by itself, and the values of its positions
@@ -21,7 +20,7 @@ pub data Visit : Type 0 where
   -- an execution of a join: its number, way and inner scan, and how many outer rows pass
   joins : ℕ → JoinHow → Scan → ℕ → Visit
   -- a look-up of a memo under a key
-  asks : Subquery → Visit
+  asks : Key → Visit
 
 abbrev pub at_value : Outcome → (Value → List Visit) → List Visit
 at_value (done v) go = go v
@@ -48,8 +47,7 @@ module _ (R : Readings) where
     visits (node.Rec ps) env = visits_fields ps env
     visits (node.Proj l a) env = visits a env
     visits (node.Inj l a) env = visits a env
-    visits (node.Case a bs) env =
-        visits a env ++ at_value (worth (plan R a env)) (λ v. opened (as_variant v) (λ l w. visits_branch bs l w env))
+    visits (node.Case a bs) env = visits a env ++ at_value (worth (plan R a env)) (λ v. opened (as_variant v) (λ l w. visits_branch bs l w env))
     visits (node.Make k ps) env = visits_nodes ps env
     visits (node.Union a b) env = visits a env ++ visits b env
     visits (node.Ext k b s) env = visits s env ++ each (λ v. visits b (v ∷ env)) (drawn_for k (plan R s env))
@@ -60,8 +58,7 @@ module _ (R : Readings) where
     visits (node.Join n k way o cs i q b) env =
         visits o env
         ++ (each (λ x. visits_conds cs (x ∷ env) (visits_key q (x ∷ env)
-        (λ test. each (λ y. chosen (test y) (visits b (y ∷ x ∷ env)) []) (drawn_for k (scanned i.kind (R i))))))
-        (drawn_for k (plan R o env))
+          (λ test. each (λ y. chosen (test y) (visits b (y ∷ x ∷ env)) []) (drawn_for k (scanned i.kind (R i)))))) (drawn_for k (plan R o env))
         ++ joins n way i (passing R k o cs env) ∷ [])
     visits (node.Memo n frees p) env = asks (n, values_at env frees) ∷ visits p env
 
@@ -80,8 +77,7 @@ module _ (R : Readings) where
 
     pub visits_conds : Nodes → List Value → List Visit → List Visit
     visits_conds no_nodes env more = more
-    visits_conds (nodes c cs) env more =
-        visits c env ++ at_value (worth (plan R c env)) (λ v. chosen (as_bool v) (visits_conds cs env more) [])
+    visits_conds (nodes c cs) env more = visits c env ++ at_value (worth (plan R c env)) (λ v. chosen (as_bool v) (visits_conds cs env more) [])
 
     pub visits_key : JoinKey → List Value → ((Value → Option Bool) → List Visit) → List Visit
     visits_key no_key env go = go (λ y. Some true)
@@ -90,7 +86,7 @@ module _ (R : Readings) where
 -- ---- of a list of visits
 
 -- the keys under which memos were asked, in this order
-abbrev pub keys_in : List Visit → List Subquery
+abbrev pub keys_in : List Visit → List Key
 keys_in [] = []
 keys_in (asks k ∷ vs) = k ∷ keys_in vs
 keys_in (reads c env ∷ vs) = keys_in vs
@@ -124,5 +120,5 @@ price_of block P (joins n way i outer) = executed block P n way i outer
 price_of block P (asks k) = P.memo k.0 k.1
 
 -- the keys with which a plan comes to its memos
-abbrev pub keys : Readings → Node → List Value → List Subquery
+abbrev pub keys : Readings → Node → List Value → List Key
 keys R p env = keys_in (visits R p env)

@@ -37,6 +37,12 @@ pub mod LazyLaws
 pub mod Quietly
 pub mod HeldCode
 pub mod PullCode
+pub mod Positions
+pub mod Recalling
+pub mod MemoCode
+pub mod Drained
+pub mod JoinDraws
+pub mod FindCode
 pub mod JoinLeft
 pub mod JoinConds
 pub mod JoinTakes
@@ -52,9 +58,3 @@ pub mod JoinInner
 pub mod JoinFind
 pub mod JoinTake
 pub mod JoinOuter
-pub mod JoinFalls
-pub mod JoinWhole
-pub mod Positions
-pub mod Recalling
-pub mod MemoCode
-pub mod Drained

@@ -15,7 +15,7 @@ use Rattle.kl_scans.specs.Moves.{Closes, Moves}
 use Rattle.kl_scans.proofs.Moving.{logged_none, unmoved}
 use Rattle.kl_cursor.specs.declared.state.State.{State}
 use Rattle.kl_cursor.specs.declared.state.State.TheVariants as state
-use Rattle.kl_cursor.specs.Left.{Snap, fresh, have, pulling, both, bound, outside, inside, made, ended, taking, reads, pairing, joining, matching, snap, uses, PartsLeft}
+use Rattle.kl_cursor.specs.Left.{Snap, fresh, have, pulling, both, bound, outside, inside, made, ended, taking, reads, pairing, joining, matching, leading, snap, uses, PartsLeft}
 use Rattle.kl_cursor.specs.Laziness.{empty_listing}
 use Rattle.kl_cursor.specs.Pulling.{has_scan, has_scan_nodes, has_scan_fields, has_scan_branches, gives, reads_on, loop_reads_on, pulls, Silent, SilentUnlessPulls, is_sure, SureGives, BeginsSure, Calm}
 use Rattle.kl_cursor.specs.Steps.{Ends, Gives, Steps, Stops}
@@ -122,6 +122,7 @@ reads_none (reads k p) h = absurd cc
 reads_none (pairing k p xs s) h = absurd cc
 reads_none (joining j s g n) h = absurd cc
 reads_none (matching p ys x s) h = absurd cc
+reads_none (leading x i s) h = absurd cc
 
 -- a cursor in which no scan stands
 gave_silent : (env : List Value) (s t : Snap) (v : Value) (a b : Running) → Gives env s a v t b → PartsLeft empty_listing s → Silent a b

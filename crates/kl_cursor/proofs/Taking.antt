@@ -10,7 +10,7 @@ use Rattle.kl_cursor.specs.declared.state.State.TheVariants as state
 use Rattle.kl_eval.specs.declared.stop.EvalStop.{EvalStop}
 use Rattle.kl_scans.specs.Held.{nothing, beside, Owned}
 use Rattle.kl_scans.specs.Moves.{Closes}
-use Rattle.kl_cursor.specs.Left.{Snap, fresh, have, pulling, both, bound, outside, inside, made, ended, taking, reads, pairing, joining, matching, snap, uses, end_of, nodes_from}
+use Rattle.kl_cursor.specs.Left.{Snap, fresh, have, pulling, both, bound, outside, inside, made, ended, taking, reads, pairing, joining, matching, leading, snap, uses, end_of, nodes_from}
 use Rattle.kl_cursor.specs.Measure.{falling, rank, most}
 use Rattle.kl_cursor.specs.Sense.{Stands}
 use Rattle.kl_cursor.specs.Steps.{Onward, Gives, Ends, Stops, Steps, Begins}
@@ -176,6 +176,7 @@ rank_most (reads k p) = omega arith
 rank_most (pairing k b xs s) = omega arith
 rank_most (joining j s h n) = omega arith
 rank_most (matching b ys x s) = omega arith
+rank_most (leading v i s) = omega arith
 
 pub outside_falls : (p : Node) (s : Snap) (v : Value) (i : Snap) → 2 * falling (outside p s) < 2 * falling (inside p s v i)
 outside_falls p s v i = omega arith

@@ -12,7 +12,6 @@ ghost use Rattle.kl_cursor.specs.Steps.{Nexts, Partly};
 
 use crate::held::{Turn, step_held};
 use crate::pulling::may_pull;
-use crate::scans::Scans;
 use crate::state::State;
 use crate::stepping::{close, step};
 use crate::steps::let_go;
@@ -20,7 +19,7 @@ use crate::values::whole;
 use kl_base::{NoMemory, Seq};
 use kl_eval::{Env, EvalStop, inside};
 use kl_plan::Plan;
-use kl_scans::{Ran, Run};
+use kl_scans::{Ran, Run, Scans};
 use kl_value::{Value, dup_items};
 use std::alloc::Global;
 use std::mem;

@@ -9,10 +9,10 @@ ghost use Rattle.kl_cursor.specs.Gathering.{AreTallied, CountsRows, IsTallied, a
 ghost use Rattle.kl_cursor.specs.Gathering.{Tells, TellsItems, listed, number, tally, with_all, with_one};
 
 use crate::drawing::kind_of_items;
-use crate::scans::Scans;
 use kl_base::NoMemory;
 use kl_eval::EvalStop;
 use kl_plan::Plan;
+use kl_scans::Scans;
 use kl_value::{Kind, Value, cmp};
 
 // Codes of the table of primitives.

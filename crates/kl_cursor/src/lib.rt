@@ -7,13 +7,13 @@
 mod ahead;
 mod cursor;
 mod drawing;
+mod finding;
 mod gathering;
 mod held;
 mod joins;
 mod memos;
 mod parts;
 mod pulling;
-mod scans;
 mod state;
 mod stepping;
 mod steps;

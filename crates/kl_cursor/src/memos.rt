@@ -6,10 +6,10 @@ ghost use Rattle.kl_scans.specs.Keeping.{subquery};
 ghost use Rattle.kl_scans.specs.Over.{MayKeep};
 ghost use Rattle.kl_cursor.specs.Memos.{KeepsCopy};
 
-use crate::scans::Scans;
 use kl_base::{NoMemory, Seq};
 use kl_eval::{Env, Halt, variable};
 use kl_memo::MemoKey;
+use kl_scans::Scans;
 use kl_value::{Value, dup};
 use std::alloc::Global;
 

@@ -27,4 +27,3 @@ pub mod CountLemmas
 pub mod ShowLemmas
 pub mod TopLemmas
 pub mod UnreadLemmas
-pub mod BegunLemmas

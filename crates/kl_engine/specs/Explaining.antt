@@ -17,7 +17,7 @@ pub record PlansRewritten (ks : List DriverKind) (settings : Settings) (ss : Lis
   pub steps : ℕ
   pub term : Tree
   pub rewritten : IsRewrittenTo settings.rewrite t steps term
-  pub planned : IsPlanOf settings (ships_of ks ss) term p
+  pub planned : IsPlanOf settings.delegate (ships_of ks ss) term p
 
 -- the lines of a plan, over drivers of these kinds
 abbrev pub plan_lines : List DriverKind → Node → List ℕ

@@ -13,13 +13,13 @@ use Rattle.kl_plan.specs.Nodes.{Node, Nodes, no_nodes, nodes, Fields, no_fields,
 use Rattle.kl_plan.specs.Numbers.{scans_in, scans_of_nodes, scans_of_fields, scans_of_branches, scans_of_key}
 use Rattle.kl_plan.specs.Numbers.{joins_in, joins_of_nodes, joins_of_fields, joins_of_branches, joins_of_key}
 use Rattle.kl_plan.specs.Numbers.{memos_in, memos_of_nodes, memos_of_fields, memos_of_branches, memos_of_key}
-use Rattle.kl_plan.proofs.Empty.{none_first, none_behind}
 use Rattle.kl_joins.specs.declared.keeping.Place.{Place}
 use Rattle.kl_joins.specs.declared.keeping.Place.TheVariants as place
 use Rattle.kl_joins.specs.Finished.{AreKept, Finishes}
 use Rattle.kl_joins.specs.JoinsMade.{JoinsMade, KeyMade, EachMade, FieldsMade, BranchesMade}
 use Rattle.kl_joins.specs.MemosMade.{aside, at_source, MemosMade, EachKept, FieldsKept, BranchesKept, KeyKept}
 use Rattle.kl_joins.specs.Numbered.{SamePlan, SameNodes, SameFields, SameBranches, SameKey}
+use Rattle.kl_joins.proofs.Calm.{none_first, none_behind}
 
 -- ---- what a plan weighs, where a scan and a memo weigh this
 

@@ -22,8 +22,16 @@ use Rattle.kl_plan.specs.Typing.{PlanTypes}
 use Rattle.kl_plan.proofs.Comings.{worth_typed}
 use Rattle.kl_plan.proofs.Typed.{plan_typed}
 use Rattle.kl_outcome.proofs.OutcomeTypes.{FlowOf}
-use Rattle.kl_plan.proofs.Empty.{none_first, none_behind}
 use Rattle.kl_joins.proofs.CalmParts.{calm_flow, calm_after, calm_some, calm_field, calm_items, calm_followed, calm_drawn, calm_item, calm_collected, calm_union, NoOverflowAll, calm_args, NoOverflowParts, calm_parts, calm_prim}
+
+-- what is none of two lists is none of each
+pub none_first : {A : Type 0} (xs ys : List A) → xs ++ ys ≡ [] → xs ≡ []
+none_first [] ys h = refl
+none_first (x ∷ xs) ys h = cc
+
+pub none_behind : {A : Type 0} (xs ys : List A) → xs ++ ys ≡ [] → ys ≡ []
+none_behind [] ys h = h
+none_behind (x ∷ xs) ys h = cc
 
 abbrev IsCalm : Come → Type 0
 IsCalm (one o) = NoOverflow o

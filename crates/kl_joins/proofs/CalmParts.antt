@@ -1,12 +1,12 @@
 -- Stands in for lemmas of terms that are private there, until these are handed out.
-use Rattle.std.proofs.Common.{◌≡◌, ◌≢◌, ◌⊎◌, inl, inr, ℕ, true, List, [], ◌∷◌, Option, Some, None, refl, sym, subst}
+use Rattle.std.proofs.Common.{◌≡◌, ◌≢◌, ◌⊎◌, inl, inr, ℕ, Bool, true, false, cond, List, [], ◌∷◌, Option, Some, None, refl, sym, subst}
 use Rattle.kl_value.specs.declared.Kind.{Kind}
 use Rattle.kl_value.specs.declared.Value.{Value}
 use Rattle.kl_value.specs.Views.{as_collection, Collection}
 use Rattle.kl_prim.specs.Meaning.{Answer, gives, overflows, senseless}
 use Rattle.kl_prim.specs.Table.{Row as Primitive, row_at, meaning, meaning_of, IsTotal, IsTotalRow}
 use Rattle.kl_prim.proofs.MeaningLemmas.{meaning_total}
-use Rattle.kl_outcome.specs.Outcome.{Name, Outcome, done, over, stuck, fine, overflow, broken, Flow, more, stop, flow, items_in, end_in, followed, drawn, after, outcome_of, answered, args_then, parts_then, field_in, items_at_all, items_of, item_then, gathered, collected, joined_to, union_of}
+use Rattle.kl_outcome.specs.Outcome.{Name, Outcome, done, over, stuck, fine, overflow, broken, Flow, more, stop, flow, items_in, end_in, followed, drawn, after, outcome_of, answered, args_then, parts_then, chosen, field_in, opened, items_at_all, items_of, item_then, gathered, collected, joined_to, union_of}
 use Rattle.kl_core.specs.Counts.{total_row, total_code}
 use Rattle.kl_core.proofs.Totals.{NoOverflow, NoOverflowIn}
 
@@ -23,9 +23,18 @@ pub calm_some : (o : Option Value) → NoOverflow (outcome_of o)
 calm_some (Some v) = tt
 calm_some None = tt
 
+pub calm_chosen : (b : Option Bool) (o q : Outcome) → NoOverflow o → NoOverflow q → NoOverflow (chosen b o q)
+calm_chosen (Some true) o q h g = h
+calm_chosen (Some false) o q h g = g
+calm_chosen None o q h g = tt
+
 pub calm_field : (l : Name) (fs : Option (List (Name × Value))) → NoOverflow (field_in l fs)
 calm_field l (Some fs) = calm_some _
 calm_field l None = tt
+
+pub calm_opened : (c : Option (Name × Value)) (go : Name → Value → Outcome) → ((l : Name) (v : Value) → NoOverflow (go l v)) → NoOverflow (opened c go)
+calm_opened (Some c) go g = g c.0 c.1
+calm_opened None go g = tt
 
 pub calm_at_all : (c : Option Collection) → NoOverflowIn (items_at_all c)
 calm_at_all (Some c) = calm_flow c.items
@@ -86,6 +95,10 @@ NoOverflowParts (p ∷ ps) = NoOverflow p.1 × NoOverflowParts ps
 pub calm_parts : (ps : List (Name × Outcome)) (go : List (Name × Value) → Outcome) → NoOverflowParts ps → ((fs : List (Name × Value)) → NoOverflow (go fs)) → NoOverflow (parts_then ps go)
 calm_parts [] go h g = g []
 calm_parts (p ∷ ps) go h g = calm_after p.1 _ h.0 (λ v. calm_parts ps _ h.1 (λ fs. g ((p.0, v) ∷ fs)))
+
+pub calm_cond : (b : Bool) (o q : Outcome) → NoOverflow o → NoOverflow q → NoOverflow (cond b o q)
+calm_cond true o q h g = h
+calm_cond false o q h g = g
 
 pub calm_answer : (a : Answer) → a ≢ overflows → NoOverflow (answered a)
 calm_answer (gives v) n = tt

@@ -28,7 +28,7 @@ unvisited_item xs ys i d lt h =
     let le : i ≤ i = omega arith in
     h.1 i d le ∙ get_or_default xs i d (get_or ys i d) lt
 
-pub put_back : {A : Type 0} (xs ys : List A) → length ys ≡ length xs → take (length xs) (ys ++ drop (length ys) xs) ≡ ys
+put_back : {A : Type 0} (xs ys : List A) → length ys ≡ length xs → take (length xs) (ys ++ drop (length ys) xs) ≡ ys
 put_back xs ys long =
     let none : drop (length ys) xs ≡ [] = ap (λ n. drop n xs) long ∙ drop_all (length xs) xs (omega arith) in
     rw (none, append-nil) (take_all (length xs) ys (omega arith))

@@ -1,6 +1,6 @@
 -- What is kept in a plan, by its form.
 use Rattle.std.proofs.Common.{◌≡◌, ◌⊎◌, ⊎_elim, ℕ, ◌+◌, Bool, true, false, List, [], ◌∷◌, map, Option, Some, None, Result}
-use Rattle.std.proofs.Common.{Ok, Err, IfOk, IsOkAnd, refl, sym, ap, subst, ◌∙◌, rules}
+use Rattle.std.proofs.Common.{Ok, Err, IfOk, refl, sym, ap, subst, ◌∙◌, rules}
 use Rattle.kl_base.specs.declared.memory.NoMemory.{NoMemory}
 use Rattle.kl_value.specs.declared.Kind.{Kind}
 use Rattle.kl_outcome.specs.Outcome.{Name}
@@ -16,13 +16,14 @@ use Rattle.kl_plan.specs.Nodes as node
 use Rattle.kl_plan.specs.Nodes.{Node, Nodes, no_nodes, nodes, Fields, no_fields, fields, Branches, branch, Key, key, branches_of, view}
 use Rattle.kl_plan.specs.Nodes.{view_branch, nodes_view, fields_view}
 use Rattle.kl_plan.specs.Occurs.{frees_in}
-use Rattle.kl_plan.proofs.Views.{view_Var, view_Rec, view_Proj, view_Inj, view_Case, view_Make, view_Union, view_Ext, view_If, view_Let, view_Join, view_Memo, view_join, view_key}
+use Rattle.kl_plan.proofs.Views.{view_Var, view_Rec, view_Proj, view_Inj, view_Case, view_Make, view_Union, view_Ext, view_If, view_Let}
 use Rattle.kl_plan.proofs.Views.{view_Prim, view_Scan}
 use Rattle.kl_joins.specs.declared.keeping.Place.{Place}
 use Rattle.kl_joins.specs.declared.keeping.Place.TheVariants as place
-use Rattle.kl_joins.specs.Keeping.{MayKeep, WhetherKept}
+use Rattle.kl_joins.specs.Keeping.{MayKeep, WhetherKept, AfterOk, AfterOf}
 use Rattle.kl_joins.specs.MemosMade.{aside, at_source, IsLooping, IsKept, IsNotKept, MemosMade, EachKept, FieldsKept, BranchesKept, KeyKept}
 use Rattle.kl_joins.proofs.Fronts.{onto, Fronts}
+use Rattle.kl_joins.proofs.Ready.{view_Join, view_Memo, join_seen, key_seen}
 
 -- ---- results
 
@@ -31,21 +32,21 @@ if_ok (Ok x) f p = f p
 if_ok (Err e) f p = tt
 
 -- what holds of a part and of the one behind it
-behind_ok : {P Q R : Type 0} (r s : Result (Unit {0}) NoMemory) → IfOk r (λ _. P) → IfOk s (λ _. IsOkAnd r (λ _. Q)) → (P → Q → R)
+behind_ok : {P Q R : Type 0} (r s : Result (Unit {0}) NoMemory) → IfOk r (λ _. P) → IfOk s (λ _. AfterOk r Q) → (P → Q → R)
     → IfOk s (λ _. R)
 behind_ok (Ok x) (Ok y) p q go = go p q
 behind_ok (Err e) (Ok y) p q go = absurd q
 behind_ok r (Err e) p q go = tt
 
-behind_both : (P Q : Type 0) (r s : Result (Unit {0}) NoMemory) → IfOk r (λ _. P) → IfOk s (λ _. IsOkAnd r (λ _. Q)) → IfOk s (λ _. P × Q)
+behind_both : (P Q : Type 0) (r s : Result (Unit {0}) NoMemory) → IfOk r (λ _. P) → IfOk s (λ _. AfterOk r Q) → IfOk s (λ _. P × Q)
 behind_both P Q (Ok x) (Ok y) p q = (p, q)
 behind_both P Q (Err e) (Ok y) p q = absurd q
 behind_both P Q r (Err e) p q = tt
 
-pub behind : {P : Type 0} (r : Result (Unit {0}) NoMemory) (x : Unit {0}) → r ≡ Ok x → P → IsOkAnd r (λ _. P)
+pub behind : {P : Type 0} (r : Result (Unit {0}) NoMemory) (x : Unit {0}) → r ≡ Ok x → P → AfterOk r P
 behind r x e p = rw e p
 
-behind_part : (P : Type 0) (r s : Result (Unit {0}) NoMemory) (x : Unit {0}) → r ≡ Ok x → IfOk s (λ _. P) → IfOk s (λ _. IsOkAnd r (λ _. P))
+behind_part : (P : Type 0) (r s : Result (Unit {0}) NoMemory) (x : Unit {0}) → r ≡ Ok x → IfOk s (λ _. P) → IfOk s (λ _. AfterOk r P)
 behind_part P r s x e h = if_ok s (behind r x e) h
 
 -- ---- as the code has them
@@ -58,7 +59,7 @@ lent k l d z a x e f h = subst (λ (y : Plan). MemosMade l d (view y) (view x)) 
 
 pub next_made : (l : Place) (d : ℕ) (before r : Result (Unit {0}) NoMemory) (x : Unit {0}) (z a : Plan) (q : Node) → before ≡ Ok x → z ≡ a
     → IfOk r (λ _. MemosMade l d (view z) q)
-    → IfOk r (λ _. IsOkAnd before (λ _. MemosMade l d (view a) q))
+    → IfOk r (λ _. AfterOk before (MemosMade l d (view a) q))
 next_made l d before r x z a q f e h =
     behind_part (MemosMade l d (view a) q) before r x f (subst (λ (y : Plan). IfOk r (λ _. MemosMade l d (view y) q)) e h)
 
@@ -75,7 +76,7 @@ passed l p b k off = subst (λ c. WhetherKept c l p) off k
 
 pub wrap_made : (p : Plan) (z q : Plan) (d : ℕ) (f : Result (List ℕ) NoMemory) (m : Result Plan NoMemory) (r : Result (Unit {0}) NoMemory)
     → IfOk f (λ fs. fs ≡ frees_in d (view p)) → z ≡ p
-    → IfOk m (λ x. IsOkAnd f (λ fs. view x ≡ node.Memo 0 fs (view z))) → IfOk r (λ _. IsOkAnd m (λ x. q ≡ x))
+    → IfOk m (λ x. AfterOf f (λ fs. view x ≡ node.Memo 0 fs (view z))) → IfOk r (λ _. AfterOf m (λ x. q ≡ x))
     → IfOk r (λ _. view q ≡ node.Memo 0 (frees_in d (view p)) (view p))
 wrap_made p z q d (Ok fs) (Ok x) (Ok y) h e g i = ap view i ∙ g ∙ ap (λ ns. node.Memo 0 ns (view z)) h
     ∙ ap (λ (n : Plan). node.Memo 0 (frees_in d (view p)) (view n)) e
@@ -84,10 +85,10 @@ wrap_made p z q d f (Err a) (Ok y) h e g i = absurd i
 wrap_made p z q d f m (Err a) h e g i = tt
 
 pub memo_made : (p a z : Plan) (f : Result (List ℕ) NoMemory) (fs : List ℕ) → f ≡ Ok fs → p ≡ plan.Memo 0 fs a → a ≡ z
-    → IsOkAnd f (λ ns. view p ≡ node.Memo 0 ns (view z))
+    → AfterOf f (λ ns. view p ≡ node.Memo 0 ns (view z))
 memo_made p a z f fs e g h = rw e (ap view g ∙ view_Memo 0 fs a ∙ ap (λ (n : Plan). node.Memo 0 fs (view n)) h)
 
-pub put_made : (q x : Plan) (m : Result Plan NoMemory) → m ≡ Ok x → q ≡ x → IsOkAnd m (λ y. q ≡ y)
+pub put_made : (q x : Plan) (m : Result Plan NoMemory) → m ≡ Ok x → q ≡ x → AfterOf m (λ y. q ≡ y)
 put_made q x m e h = rw e h
 
 -- a loop's source
@@ -171,10 +172,10 @@ module _ (l : Place) (d : ℕ) (t u : Plan) where
       (ap view f ∙ view_Prim c qs)
       (nodes_view ps, refl, each_as ps zs qs k g j w)) h
 
-  pub rec_made : (ps zs qs : List (Name × Plan)) (k : Place) (r : Result (Unit {0}) NoMemory) → t ≡ plan.Rec ps
+  pub rec_made : (ps zs qs : List (Name × Plan)) (k : Place) (x : Unit {0}) (r : Result (Unit {0}) NoMemory) → t ≡ plan.Rec ps
       → u ≡ plan.Rec qs → zs ≡ ps → k ≡ aside l
-      → IfOk r (λ _. FieldsKept k d (fields_view zs) (fields_view qs)) → IfOk r (λ _. MemosMade l d (view t) (view u))
-  rec_made ps zs qs k r e f g j h =
+      → IfOk r (λ _. AfterOk (Ok x) (FieldsKept k d (fields_view zs) (fields_view qs))) → IfOk r (λ _. MemosMade l d (view t) (view u))
+  rec_made ps zs qs k x r e f g j h =
       if_ok r (λ w. as_made l d (view t) (view u) (node.Rec (fields_view ps)) (node.Rec (fields_view qs)) (ap view e ∙ view_Rec ps)
       (ap view f ∙ view_Rec qs) (
         fields_view ps,
@@ -184,7 +185,7 @@ module _ (l : Place) (d : ℕ) (t u : Plan) where
       )) h
 
   pub union_made : (a b y z v w : Plan) (r s : Result (Unit {0}) NoMemory) → t ≡ plan.Union a b → u ≡ plan.Union v w → y ≡ a → z ≡ b
-      → IfOk r (λ _. MemosMade l d (view y) (view v)) → IfOk s (λ _. IsOkAnd r (λ _. MemosMade l d (view z) (view w)))
+      → IfOk r (λ _. MemosMade l d (view y) (view v)) → IfOk s (λ _. AfterOk r (MemosMade l d (view z) (view w)))
       → IfOk s (λ _. MemosMade l d (view t) (view u))
   union_made a b y z v w r s e f g j h i =
       behind_ok r s h i (λ m n. as_made l d (view t) (view u) (node.Union (view a) (view b)) (node.Union (view v) (view w))
@@ -193,7 +194,7 @@ module _ (l : Place) (d : ℕ) (t u : Plan) where
 
   pub let_made : (a b y z v w : Plan) (k : Place) (r s : Result (Unit {0}) NoMemory) → t ≡ plan.Let a b → u ≡ plan.Let v w → y ≡ a → z ≡ b
       → k ≡ aside l
-      → IfOk r (λ _. MemosMade k d (view y) (view v)) → IfOk s (λ _. IsOkAnd r (λ _. MemosMade l (d + 1) (view z) (view w)))
+      → IfOk r (λ _. MemosMade k d (view y) (view v)) → IfOk s (λ _. AfterOk r (MemosMade l (d + 1) (view z) (view w)))
       → IfOk s (λ _. MemosMade l d (view t) (view u))
   let_made a b y z v w k r s e f g j o h i =
       behind_ok r s h i (λ m n. as_made l d (view t) (view u) (node.Let (view a) (view b)) (node.Let (view v) (view w))
@@ -204,7 +205,7 @@ module _ (l : Place) (d : ℕ) (t u : Plan) where
   pub ext_made : (c : Kind) (b a y z v w : Plan) (r s : Result (Unit {0}) NoMemory) → (IsLooping (view t) → IsNotKept l (view t))
       → t ≡ plan.Ext c b a → u ≡ plan.Ext c v w → y ≡ b → z ≡ a
       → IfOk r (λ _. MemosMade (at_source l (view z)) d (view z) (view w))
-      → IfOk s (λ _. IsOkAnd r (λ _. MemosMade place.Spine (d + 1) (view y) (view v)))
+      → IfOk s (λ _. AfterOk r (MemosMade place.Spine (d + 1) (view y) (view v)))
       → IfOk s (λ _. MemosMade l d (view t) (view u))
   ext_made c b a y z v w r s none e f g j h i =
       let is : view t ≡ node.Ext c (view b) (view a) = ap view e ∙ view_Ext c b a in
@@ -223,8 +224,8 @@ module _ (l : Place) (d : ℕ) (t u : Plan) where
 
   pub if_made : (a b c x y z v w o : Plan) (k : Place) (r s q : Result (Unit {0}) NoMemory) → t ≡ plan.If a b c → u ≡ plan.If v w o
       → x ≡ a → y ≡ b → z ≡ c → k ≡ aside l
-      → IfOk r (λ _. MemosMade k d (view x) (view v)) → IfOk s (λ _. IsOkAnd r (λ _. MemosMade l d (view y) (view w)))
-      → IfOk q (λ _. IsOkAnd s (λ _. MemosMade l d (view z) (view o)))
+      → IfOk r (λ _. MemosMade k d (view x) (view v)) → IfOk s (λ _. AfterOk r (MemosMade l d (view y) (view w)))
+      → IfOk q (λ _. AfterOk s (MemosMade l d (view z) (view o)))
       → IfOk q (λ _. MemosMade l d (view t) (view u))
   if_made a b c x y z v w o k r s q e f g j i p first second third =
       behind_ok s q (behind_both (MemosMade k d (view x) (view v)) (MemosMade l d (view y) (view w)) r s first second) third
@@ -256,8 +257,8 @@ branches_made l d (b ∷ bs) (c ∷ cs) o p h g =
 pub case_made : (l : Place) (d : ℕ) (t u a z x : Plan) (bs zs cs : List (Name × Plan)) (o y p : Option Plan) (k : Place)
     (r s q : Result (Unit {0}) NoMemory) → t ≡ plan.Case a bs o → u ≡ plan.Case x cs p
     → z ≡ a → zs ≡ bs → y ≡ o → k ≡ aside l → IfOk r (λ _. MemosMade k d (view z) (view x))
-    → IfOk s (λ _. IsOkAnd r (λ _. FieldsKept l (d + 1) (fields_view zs) (fields_view cs)))
-    → IfOk q (λ _. IsOkAnd s (λ _. BranchesKept l d (other_node y) (other_node p))) → IfOk q (λ _. MemosMade l d (view t) (view u))
+    → IfOk s (λ _. AfterOk r (FieldsKept l (d + 1) (fields_view zs) (fields_view cs)))
+    → IfOk q (λ _. AfterOk s (BranchesKept l d (other_node y) (other_node p))) → IfOk q (λ _. MemosMade l d (view t) (view u))
 case_made l d t u a z x bs zs cs o y p k r s q e f g i j w first second third =
     let B : Branches = branches_of (map view_branch bs) (other_node o) in
     let C : Branches = branches_of (map view_branch cs) (other_node p) in
@@ -276,14 +277,14 @@ case_made l d t u a z x bs zs cs o y p k r s q e f g i j w first second third =
 
 pub other_made : (l : Place) (d : ℕ) (before r : Result (Unit {0}) NoMemory) (x : Unit {0}) (o p : Option Plan) (a z y : Plan)
     → before ≡ Ok x → o ≡ Some a → p ≡ Some y → z ≡ a
-    → IfOk r (λ _. MemosMade l d (view z) (view y)) → IfOk r (λ _. IsOkAnd before (λ _. BranchesKept l d (other_node o) (other_node p)))
+    → IfOk r (λ _. MemosMade l d (view z) (view y)) → IfOk r (λ _. AfterOk before (BranchesKept l d (other_node o) (other_node p)))
 other_made l d before r x o p a z y e f g i h =
     behind_part (BranchesKept l d (other_node o) (other_node p)) before r x e (if_ok r (λ w.
     let here : BranchesKept l d (other_node (Some a)) (other_node (Some y)) = (view a, refl, lent l l d z a y refl i w) in
     rw (f, g) here) h)
 
 pub no_other : (l : Place) (d : ℕ) (before : Result (Unit {0}) NoMemory) (x : Unit {0}) (o p : Option Plan) → before ≡ Ok x → o ≡ None
-    → p ≡ None → IsOkAnd before (λ _. BranchesKept l d (other_node o) (other_node p))
+    → p ≡ None → AfterOk before (BranchesKept l d (other_node o) (other_node p))
 no_other l d before x o p e f g = behind before x e (rw (f, g) refl)
 
 -- ---- joins
@@ -300,7 +301,7 @@ pub join_passed : (l : Place) (t : Plan) (j z : Join) → t ≡ plan.Join j → 
 join_passed l t j z e f none =
     let is : view t ≡ join_view j = ap view e ∙ view_Join j in
     let not : IsLooping (join_view j) → IsNotKept l (join_view j) = subst (λ (p : Node). IsLooping p → IsNotKept l p) is none in
-    let looping : IsLooping (join_view j) = rw (view_join j) tt in
+    let looping : IsLooping (join_view j) = rw (join_seen j) tt in
     subst (λ (y : Join). IsNotKept l (join_view y)) (sym f) (not looping)
 
 pub join_made : (l k : Place) (d : ℕ) (j u : Join) (x b : Plan) (cs : List Plan) (q : Option JoinKey) (r : Result (Unit {0}) NoMemory)
@@ -317,10 +318,10 @@ join_made l k d j u x b cs q r seen none g first conds keys body =
     let c = keys_view (out-Join j).key in
     let a = view (out-Join j).body in
     let was : Node = node.Join (out-Join j).number (out-Join j).kind (out-Join j).how o ps (out-Join j).inner c a in
-    let not : IsNotKept l was = subst (λ (p : Node). IsNotKept l p) (view_join j) none in
+    let not : IsNotKept l was = subst (λ (p : Node). IsNotKept l p) (join_seen j) none in
     if_ok r (λ w. as_made l d (join_view j) (join_view u) was (node.Join (out-Join j).number (out-Join j).kind (out-Join j).how (view x)
     (nodes_view cs) (out-Join j).inner (keys_view q) (view b))
-    (view_join j) seen
+    (join_seen j) seen
     (o, ps, c, a, refl, not, subst (λ m. MemosMade m d o (view x)) g first, conds, keys, w)) body
 
 pub key_made : (d : ℕ) (o : Option JoinKey) (k z : JoinKey) (y : Plan) (r : Result (Unit {0}) NoMemory) → o ≡ Some k → z ≡ k
@@ -329,11 +330,11 @@ pub key_made : (d : ℕ) (o : Option JoinKey) (k z : JoinKey) (y : Plan) (r : Re
 key_made d o k z y r e g h =
     let u : JoinKey = roll-JoinKey (record { label = (out-JoinKey z).label; value = y }) in
     if_ok r (λ w.
-    let from : keys_view o ≡ key (out-JoinKey z).label (view (out-JoinKey z).value) = ap keys_view (e ∙ ap Some (sym g)) ∙ view_key z in
+    let from : keys_view o ≡ key (out-JoinKey z).label (view (out-JoinKey z).value) = ap keys_view (e ∙ ap Some (sym g)) ∙ key_seen z in
     let here : KeyKept d (key (out-JoinKey z).label (view (out-JoinKey z).value))
     (key (out-JoinKey z).label (view y)) = (view (out-JoinKey z).value, refl, w) in
     subst (λ (q : Key). KeyKept d q (key_view u)) (sym from)
-    (subst (λ (q : Key). KeyKept d (key (out-JoinKey z).label (view (out-JoinKey z).value)) q) (sym (view_key u)) here)) h
+    (subst (λ (q : Key). KeyKept d (key (out-JoinKey z).label (view (out-JoinKey z).value)) q) (sym (key_seen u)) here)) h
 
 pub no_key_made : (d : ℕ) (o p : Option JoinKey) → o ≡ None → p ≡ None → KeyKept d (keys_view o) (keys_view p)
 no_key_made d o p e f = rw (e, f) refl

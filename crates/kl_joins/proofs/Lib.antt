@@ -23,6 +23,7 @@ pub mod Fronts
 pub mod Ready
 pub mod Kept
 pub mod Binding
+pub mod Scanned
 pub mod Pairing
 pub mod Finding
 pub mod Lowerings

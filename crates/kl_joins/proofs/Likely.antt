@@ -167,3 +167,12 @@ pub under_both : (k : Kind) (t u : Ground) (c d : Come) (go to : Value → Flow)
 under_both k t u c d go to i h =
     subst (λ o. Both k t (under_key (worth c) go) (under_key o to)) (sym (like_worth u c d i))
     (under_same k t u (worth c) go to (worth_typed u c i.1) h)
+
+-- a row tells whether it has a key at a column
+pub key_tells : (l : Name) (w : Value) (r : Row) (s : Ground) → at l r ≡ Some s → (y : Value) → Inhabits (rec_type r) y
+    → IsSome (same_key w (field_at l y))
+key_tells l w r s is y typed = by (field_at l y) (subst (OfType s) (part_is l y) (part_typed l r s (done y) typed is))
+  where
+    by : (o : Option Value) → OfType s (outcome_of o) → IsSome (same_key w o)
+    by (Some v) h = refl
+    by None h = absurd h

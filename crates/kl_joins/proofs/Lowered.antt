@@ -15,7 +15,7 @@ use Rattle.kl_plan.specs.Nodes.{Node, Nodes, no_nodes, nodes, Fields, no_fields,
 use Rattle.kl_plan.specs.Numbers.{joins_in, joins_of_nodes, joins_of_fields, joins_of_branches}
 use Rattle.kl_plan.specs.Numbers.{memos_in, memos_of_nodes, memos_of_fields, memos_of_branches}
 use Rattle.kl_plan.specs.Typing.{Anywhere, Nowhere, NoSource, PlanTypes, EachPlan, PlansOf, FieldTypes, BranchTypes, HasBranch}
-use Rattle.kl_plan.proofs.Empty.{none_first, none_behind}
+use Rattle.kl_joins.proofs.Calm.{none_first, none_behind}
 
 -- ---- terms without sources
 

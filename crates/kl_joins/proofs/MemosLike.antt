@@ -23,12 +23,13 @@ use Rattle.kl_plan.specs.Meaning.{Come, one, many, worth, coming, drawn_for, com
 use Rattle.kl_plan.specs.Meaning.{Readings, scanned, plan, plan_all, plan_items, plan_fields, plan_branches, plan_conds, plan_key}
 use Rattle.kl_plan.specs.Typing.{PlanTypes, EachPlan, PlansOf, FieldTypes, BranchTypes, HasBranch, KeyTypes}
 use Rattle.kl_plan.proofs.Comings.{ComesAs, drawn_for_typed}
-use Rattle.kl_plan.proofs.Typed.{plan_typed, key_tells}
+use Rattle.kl_plan.proofs.Typed.{plan_typed}
 use Rattle.kl_joins.specs.declared.keeping.Place.{Place}
 use Rattle.kl_joins.specs.declared.keeping.Place.TheVariants as place
 use Rattle.kl_joins.specs.MemosMade.{aside, at_source, MemosMade, EachKept, FieldsKept, BranchesKept, KeyKept}
+use Rattle.kl_joins.specs.Likely.{LikeCome}
 use Rattle.kl_joins.proofs.Likely.{Like, Both, like_same, both_itself, like_worth, coming_both, drawn_for_both, many_like, drawn_both}
-use Rattle.kl_joins.proofs.Likely.{after_like, chosen_like, union_like, kept_like, on_test_both, tested_both, under_both}
+use Rattle.kl_joins.proofs.Likely.{after_like, chosen_like, union_like, kept_like, on_test_both, tested_both, under_both, key_tells}
 
 module _ (Of : Scan → Ground → Type 0) (Listed : ℕ → List ℕ → Node → Type 0) (R : Readings)
     (reads : (c : Scan) (u : Ground) → Of c u → (rows : List Value) × (R c ≡ Some rows) × FlowOf u (flow rows fine)) where
@@ -227,6 +228,11 @@ module _ (Of : Scan → Ground → Type 0) (Listed : ℕ → List ℕ → Node �
         (under_both k t f.1 (plan R w.0 env) (plan R p env) (λ u. go (λ y. same_key u (field_at m y)))
         (λ u. to (λ y. same_key u (field_at m y))) (like p place.Aside d w.0 G env f.1 e f.4 w.2)
         (λ u i. b (λ y. same_key u (field_at m y)) (λ y typed. key_tells m u f.0 f.1 f.3 y (subst (λ z. Inhabits z y) f.2 typed))))
+
+  -- what both come to is alike
+  pub memos_like : (r : Node) (l : Place) (d : ℕ) (p : Node) (G : List Ground) (env : List Value) (s : Ground) → HaveTypes G env
+      → PlanTypes Of Listed G p s → MemosMade l d p r → LikeCome (plan R p env) (plan R r env)
+  memos_like r l d p G env s e h w = (like r l d p G env s e h w).0
 
   -- both have one value
   pub memos_worth : (r : Node) (l : Place) (d : ℕ) (p : Node) (G : List Ground) (env : List Value) (s : Ground) → HaveTypes G env

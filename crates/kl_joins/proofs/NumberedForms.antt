@@ -15,7 +15,7 @@ use Rattle.kl_plan.specs.Joins.{join_view, keys_view, other_node}
 use Rattle.kl_plan.specs.Nodes as node
 use Rattle.kl_plan.specs.Nodes.{Node, Fields, no_fields, fields, Branches, branch, branches_of, Key, key, view, view_branch}
 use Rattle.kl_plan.specs.Nodes.{nodes_view, fields_view}
-use Rattle.kl_plan.proofs.Views.{view_Var, view_Case, view_If, view_Scan, view_Join}
+use Rattle.kl_plan.proofs.Views.{view_Var, view_Case, view_If, view_Scan}
 use Rattle.kl_joins.specs.declared.numbering.Numbers.{Numbers}
 use Rattle.kl_joins.specs.Numbered.{SameScan, SamePlan, SameNodes, SameFields, SameBranches}
 use Rattle.kl_joins.specs.Numbering.{Marks, in_plan, in_nodes, in_fields, in_branches, in_key, both, HasSeveral, HasChoice, HasRoom}
@@ -27,6 +27,9 @@ use Rattle.kl_joins.proofs.Counters.{counted_none, counted_both, counted_scan, c
 
 view_Plain : (t : Term) → view (plan.Plain t) ≡ node.Plain (term_view t)
 view_Plain t = search (rules, the_lemmas)
+
+view_Join : (j : Join) → view (plan.Join j) ≡ join_view j
+view_Join j = search (rules, the_lemmas)
 
 -- what the code has for a part
 pub seen_as : (w v : Numbers) (a b c d : Node) → a ≡ c → b ≡ d → PlanNumbered w v c d → PlanNumbered w v a b

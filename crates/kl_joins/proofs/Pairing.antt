@@ -4,7 +4,20 @@ use Rattle.std.specs.Bool.{⊤}
 use Rattle.std.proofs.Math.ListN.{set}
 use Rattle.std.proofs.Math.Seq.{take-suc, take-suc-set}
 use Rattle.std.proofs.lemmas.List.{length-set, get_or-set_other, get_or_default, take_all, drop_all, append-nil}
-use Rattle.kl_joins.proofs.Fronts.{put_back}
+
+pub unvisited_more : {A : Type 0} (xs ys : List A) (i : ℕ) (y : A) → (length ys ≡ length xs) × ((k : ℕ) (d : A) → i ≤ k → get_or ys k d ≡ get_or xs k d)
+    → (length (set ys i y) ≡ length xs) × ((k : ℕ) (d : A) → i + 1 ≤ k → get_or (set ys i y) k d ≡ get_or xs k d)
+unvisited_more xs ys i y h = (length-set ys i y ∙ h.0, λ k d le. let ne : k ≢ i = omega arith in let at : i ≤ k = omega arith in get_or-set_other ys i k y d ne ∙ h.1 k d at)
+
+pub unvisited_item : {A : Type 0} (xs ys : List A) (i : ℕ) (d : A) → i < length xs → (length ys ≡ length xs) × ((k : ℕ) (d : A) → i ≤ k → get_or ys k d ≡ get_or xs k d) → get_or ys i d ≡ get_or xs i (get_or ys i d)
+unvisited_item xs ys i d lt h =
+    let le : i ≤ i = omega arith in
+    h.1 i d le ∙ get_or_default xs i d (get_or ys i d) lt
+
+put_back : {A : Type 0} (xs ys : List A) → length ys ≡ length xs → take (length xs) (ys ++ drop (length ys) xs) ≡ ys
+put_back xs ys long =
+    let none : drop (length ys) xs ≡ [] = ap (λ n. drop n xs) long ∙ drop_all (length xs) xs (omega arith) in
+    rw (none, append-nil) (take_all (length xs) ys (omega arith))
 
 -- what each item becomes
 module _ {A : Type 0} (R : A → A → Type 0) where

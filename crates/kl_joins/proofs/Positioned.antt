@@ -1,6 +1,6 @@
 -- Where a free position stands in a plan, by its form, and the list of those that do.
-use Rattle.std.proofs.Common.{◌≡◌, ℕ, suc, ◌+◌, ◌-◌, ◌<◌, Bool, true, false, ◌||◌, cond, List, [], ◌∷◌, ◌++◌, map, Option}
-use Rattle.std.proofs.Common.{refl, sym, ap, ◌∙◌, arith, append_assoc}
+use Rattle.std.proofs.Common.{◌≡◌, ℕ, suc, ◌+◌, ◌-◌, ◌<◌, ◌≤◌, Bool, true, false, ◌||◌, cond, List, [], ◌∷◌, ◌++◌, map, Option}
+use Rattle.std.proofs.Common.{refl, sym, ap, ◌∙◌, arith, append_assoc, append-nil}
 use Rattle.kl_outcome.specs.Outcome.{Name}
 use Rattle.kl_plan.specs.Joins.{other_node}
 use Rattle.kl_plan.specs.Nodes.{Node, Branches, branches_of, fields_view, view, view_branch}
@@ -8,14 +8,17 @@ use Rattle.kl_plan.specs.Occurs.{occurs, occurs_fields, occurs_branches, frees_f
 use Rattle.kl_plan.specs.declared.plan.Plan.{Plan}
 use Rattle.kl_plan.specs.declared.plan.Plan.TheVariants as plan
 use Rattle.kl_plan.proofs.Views.{view_Case}
-use Rattle.std.proofs.Math.Bool.{or_assoc}
+
+or_again : (a b c : Bool) → ((a || b) || c) ≡ (a || (b || c))
+or_again true b c = refl
+or_again false b c = refl
 
 branches_stand : (n : ℕ) (bs : List (Name × Plan)) (l : Branches)
     → occurs_branches n (branches_of (map view_branch bs) l) ≡ (occurs_fields (n + 1) (fields_view bs) || occurs_branches n l)
 branches_stand n [] l = refl
 branches_stand n (b ∷ bs) l =
     ap (λ y. occurs (n + 1) (view b.1) || y) (branches_stand n bs l)
-    ∙ sym (or_assoc (occurs (n + 1) (view b.1)) (occurs_fields (n + 1) (fields_view bs)) (occurs_branches n l))
+    ∙ sym (or_again (occurs (n + 1) (view b.1)) (occurs_fields (n + 1) (fields_view bs)) (occurs_branches n l))
 
 pub case_stands : (n : ℕ) (t a b : Plan) (bs cs : List (Name × Plan)) (o : Option Plan) (r s v : Bool) → t ≡ plan.Case a bs o → b ≡ a
     → r ≡ occurs n (view b) → cs ≡ bs
@@ -25,7 +28,7 @@ case_stands n t a b bs cs o r s v is same e branches f g =
     let second : s ≡ (occurs n (view a) || occurs_fields (n + 1) (fields_view bs)) = f
     ∙ ap (λ x. r || occurs_fields (n + 1) (fields_view x)) branches ∙ ap (λ x. x || occurs_fields (n + 1) (fields_view bs)) first in
     g ∙ ap (λ x. x || occurs_branches n (other_node o)) second
-    ∙ or_assoc (occurs n (view a)) (occurs_fields (n + 1) (fields_view bs)) (occurs_branches n (other_node o))
+    ∙ or_again (occurs n (view a)) (occurs_fields (n + 1) (fields_view bs)) (occurs_branches n (other_node o))
     ∙ sym (ap (occurs n) (ap view is ∙ view_Case a bs o) ∙ ap (λ y. occurs n (view a) || y) (branches_stand n bs (other_node o)))
 
 -- ---- the list
@@ -57,3 +60,8 @@ frees_pass n depth p b fs all l e f h =
     let here : frees_above n depth p ≡ frees_above (n + 1) depth p = frees_next n depth p l
     ∙ ap (λ x. cond x (n ∷ frees_above (n + 1) depth p) (frees_above (n + 1) depth p)) off in
     ap (λ x. fs ++ x) (sym here) ∙ h
+
+pub frees_all : (n depth : ℕ) (p : Node) (fs all : List ℕ) → depth ≤ n → fs ++ frees_above n depth p ≡ all → fs ≡ all
+frees_all n depth p fs all l h =
+    let none : depth - n ≡ 0 = omega arith in
+    sym (append-nil fs) ∙ ap (λ k. fs ++ frees_from n k p) (sym none) ∙ h

@@ -11,7 +11,7 @@ use Rattle.kl_plan.specs.Nodes as node
 use Rattle.kl_plan.specs.Nodes.{Node, Nodes, no_nodes, nodes, Fields, no_fields, fields, Branches, no_branches, rest, branch, Key, no_key, key}
 use Rattle.kl_plan.specs.Numbers.{joins_in, joins_of_nodes, joins_of_fields, joins_of_branches, joins_of_key}
 use Rattle.kl_plan.specs.Numbers.{memos_in, memos_of_nodes, memos_of_fields, memos_of_branches, memos_of_key}
-use Rattle.kl_plan.proofs.Empty.{none_first, none_behind}
+use Rattle.kl_joins.proofs.Calm.{none_first, none_behind}
 
 mutual
   pub joins_above : (p : Node) (n : ℕ) → joins_in (above p n) ≡ joins_in p

@@ -8,8 +8,7 @@ use Rattle.kl_plan.specs.declared.plan.Join.{Join}
 use Rattle.kl_plan.specs.declared.plan.Plan.{Plan, the_lemmas}
 use Rattle.kl_plan.specs.declared.plan.Plan.TheVariants as plan
 use Rattle.kl_plan.specs.declared.plan.Scan.{Scan}
-use Rattle.kl_plan.proofs.Views.{view_Case, view_Scan, view_Join}
-use Rattle.std.proofs.Math.Bool.{or_assoc}
+use Rattle.kl_plan.proofs.Views.{view_Case, view_Scan}
 use Rattle.kl_joins.specs.Reading.{some}
 
 pub some_then : {X : Type 0} (xs ys : List X) → some (xs ++ ys) ≡ (some xs || some ys)
@@ -20,13 +19,17 @@ pub none_is : {X : Type 0} (b : Bool) (xs : List X) → b ≡ some xs → (b ≡
 none_is b [] e = (λ f. refl, λ f. e)
 none_is b (x ∷ xs) e = (λ f. cc, λ f. cc)
 
+or_again : (a b c : Bool) → ((a || b) || c) ≡ (a || (b || c))
+or_again true b c = refl
+or_again false b c = refl
+
 branches_read : (bs : List (Name × Plan)) (l : Branches) → some
     (scans_of_branches (branches_of (map view_branch bs) l)) ≡ (some (scans_of_fields (fields_view bs)) || some (scans_of_branches l))
 branches_read [] l = refl
 branches_read (b ∷ bs) l =
     some_then (scans_in (view b.1)) (scans_of_branches (branches_of (map view_branch bs) l))
     ∙ ap (λ y. some (scans_in (view b.1)) || y) (branches_read bs l)
-    ∙ sym (or_assoc (some (scans_in (view b.1))) (some (scans_of_fields (fields_view bs))) (some (scans_of_branches l)))
+    ∙ sym (or_again (some (scans_in (view b.1))) (some (scans_of_fields (fields_view bs))) (some (scans_of_branches l)))
     ∙ ap (λ y. y || some (scans_of_branches l)) (sym (some_then (scans_in (view b.1)) (scans_of_fields (fields_view bs))))
 
 pub case_reads : (t a b : Plan) (bs cs : List (Name × Plan)) (o : Option Plan) (r s v : Bool) → t ≡ plan.Case a bs o → b ≡ a
@@ -37,7 +40,7 @@ case_reads t a b bs cs o r s v is same e branches f g =
     let second : s ≡ (some (scans_in (view a)) || some (scans_of_fields (fields_view bs))) = f
     ∙ ap (λ x. r || some (scans_of_fields (fields_view x))) branches ∙ ap (λ x. x || some (scans_of_fields (fields_view bs))) first in
     g ∙ ap (λ x. x || some (scans_of_branches (other_node o))) second
-    ∙ or_assoc (some (scans_in (view a))) (some (scans_of_fields (fields_view bs))) (some (scans_of_branches (other_node o)))
+    ∙ or_again (some (scans_in (view a))) (some (scans_of_fields (fields_view bs))) (some (scans_of_branches (other_node o)))
     ∙ sym (ap (λ p. some (scans_in p)) (ap view is ∙ view_Case a bs o)
     ∙ some_then (scans_in (view a)) (scans_of_branches (branches_of (map view_branch bs) (other_node o)))
     ∙ ap (λ y. some (scans_in (view a)) || y) (branches_read bs (other_node o)))
@@ -51,6 +54,9 @@ any_parts [] [] [] c ws = refl
 
 join_reads : (j : Join) → some (scans_in (join_view j)) ≡ true
 join_reads j = search (rules, the_lemmas, any_parts)
+
+view_Join : (j : Join) → view (plan.Join j) ≡ join_view j
+view_Join j = search (rules, the_lemmas)
 
 pub scan_found : (t : Plan) → ((c : Scan) × (t ≡ plan.Scan c)) ⊎ ((j : Join) × (t ≡ plan.Join j)) → true ≡ some (scans_in (view t))
 scan_found t =

@@ -1,21 +1,36 @@
 -- Of which parts of a plan parts can be kept, where they can be of the plan.
 use Rattle.std.proofs.Common.{◌≡◌, ℕ, zero, suc, ◌+◌, ◌<◌, ◌≤◌, ◌^◌, max, List, [], ◌∷◌, ◌++◌, length, get_or, map, Option, Some}
-use Rattle.std.proofs.Common.{refl, sym, ap, ap₂, subst, ◌∙◌, arith}
+use Rattle.std.proofs.Common.{refl, sym, ap, ap₂, subst, ◌∙◌, arith, rules}
 use Rattle.kl_value.specs.declared.Kind.{Kind}
 use Rattle.kl_outcome.specs.Outcome.{Name}
-use Rattle.kl_plan.specs.declared.plan.Join.{Join, out-Join}
-use Rattle.kl_plan.specs.declared.plan.JoinKey.{JoinKey, out-JoinKey}
-use Rattle.kl_plan.specs.declared.plan.Plan.{Plan}
+use Rattle.kl_plan.specs.declared.plan.Join.{Join, out-Join, the_lemmas as join_lemmas}
+use Rattle.kl_plan.specs.declared.plan.JoinKey.{JoinKey, out-JoinKey, the_lemmas as key_lemmas}
+use Rattle.kl_plan.specs.declared.plan.Plan.{Plan, the_lemmas}
 use Rattle.kl_plan.specs.declared.plan.Plan.TheVariants as plan
 use Rattle.kl_plan.specs.Joins.{join_view, key_view, keys_view, other_node}
 use Rattle.kl_plan.specs.Nodes as node
 use Rattle.kl_plan.specs.Nodes.{Node, Branches, key, branches_of, view, view_branch, nodes_view, fields_view}
 use Rattle.kl_plan.specs.Numbers.{memos_in, memos_of_nodes, memos_of_fields, memos_of_branches, memos_of_key}
-use Rattle.kl_plan.proofs.Views.{view_Rec, view_Proj, view_Inj, view_Case, view_Make, view_Union, view_Ext, view_If, view_Let, view_Prim, view_Join, view_join, view_key}
-use Rattle.kl_plan.proofs.Empty.{none_first, none_behind}
+use Rattle.kl_plan.proofs.Views.{view_Rec, view_Proj, view_Inj, view_Case, view_Make, view_Union, view_Ext, view_If, view_Let, view_Prim}
 use Rattle.kl_joins.specs.Keeping.{binders, binders_of_nodes, binders_of_fields, binders_of_branches, binders_of_key, IsReady, MayKeep}
 use Rattle.kl_joins.specs.Keeping.{MayKeepEach, MayKeepFields, MayKeepBranches, MayKeepKey}
+use Rattle.kl_joins.proofs.Calm.{none_first, none_behind}
 use Rattle.kl_joins.proofs.Fronts.{unvisited_item}
+
+-- ---- the nodes of joins and memos
+
+pub view_Join : (j : Join) → view (plan.Join j) ≡ join_view j
+view_Join j = search (rules, the_lemmas)
+
+pub view_Memo : (n : ℕ) (frees : List ℕ) (a : Plan) → view (plan.Memo n frees a) ≡ node.Memo n frees (view a)
+view_Memo n frees a = search (rules, the_lemmas)
+
+pub join_seen : (j : Join) → join_view j ≡ node.Join (out-Join j).number (out-Join j).kind (out-Join j).how (view (out-Join j).outer)
+    (nodes_view (out-Join j).conds) (out-Join j).inner (keys_view (out-Join j).key) (view (out-Join j).body)
+join_seen j = search (rules, join_lemmas)
+
+pub key_seen : (k : JoinKey) → key_view k ≡ key (out-JoinKey k).label (view (out-JoinKey k).value)
+key_seen k = search (rules, key_lemmas)
 
 -- ---- in two parts
 
@@ -154,7 +169,7 @@ joined_ready d j h =
     let q = keys_view (out-Join j).key in
     let b = view (out-Join j).body in
     let w = as_ready d (join_view j) (node.Join (out-Join j).number (out-Join j).kind (out-Join j).how o cs (out-Join j).inner q b)
-    (view_join j) h in
+    (join_seen j) h in
     let conds = ready_behind d (memos_in o) (memos_of_nodes cs ++ (memos_of_key q ++ memos_in b)) (binders o)
     (max (binders_of_nodes cs + 1) (max (binders_of_key q + 1) (binders b + 2))) w in
     let keys = ready_behind d (memos_of_nodes cs) (memos_of_key q ++ memos_in b) (binders_of_nodes cs + 1)
@@ -175,7 +190,7 @@ pub key_ready : (d : ℕ) (o : Option JoinKey) (k z : JoinKey) → o ≡ Some k 
     → MayKeep d (view (out-JoinKey z).value)
 key_ready d o k z e f h =
     let g : MayKeepKey d (key_view k) = subst (λ (x : Option JoinKey). MayKeepKey d (keys_view x)) e h in
-    let w : MayKeepKey d (key (out-JoinKey k).label (view (out-JoinKey k).value)) = rw (view_key k) at g in
+    let w : MayKeepKey d (key (out-JoinKey k).label (view (out-JoinKey k).value)) = rw (key_seen k) at g in
     subst (λ (x : JoinKey). MayKeep d (view (out-JoinKey x).value)) (sym f) w
 
 pub other_ready : (d : ℕ) (o : Option Plan) (a z : Plan) → o ≡ Some a → z ≡ a → MayKeepBranches d (other_node o) → MayKeep d (view z)

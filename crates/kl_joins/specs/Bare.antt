@@ -1,8 +1,8 @@
 -- Plans of which no joins and memos were made yet.
 use Rattle.std.specs.Prelude.{◌≡◌, []}
-use Rattle.kl_plan.specs.Nodes.{Node, Nodes, Fields, Branches}
-use Rattle.kl_plan.specs.Numbers.{joins_in, joins_of_nodes, joins_of_fields, joins_of_branches}
-use Rattle.kl_plan.specs.Numbers.{memos_in, memos_of_nodes, memos_of_fields, memos_of_branches}
+use Rattle.kl_plan.specs.Nodes.{Node, Nodes, Fields, Branches, Key}
+use Rattle.kl_plan.specs.Numbers.{joins_in, joins_of_nodes, joins_of_fields, joins_of_branches, joins_of_key}
+use Rattle.kl_plan.specs.Numbers.{memos_in, memos_of_nodes, memos_of_fields, memos_of_branches, memos_of_key}
 
 abbrev pub Bare : Node → Type 0
 Bare p = (joins_in p ≡ []) × (memos_in p ≡ [])
@@ -15,3 +15,6 @@ BareFields ps = (joins_of_fields ps ≡ []) × (memos_of_fields ps ≡ [])
 
 abbrev pub BareBranches : Branches → Type 0
 BareBranches bs = (joins_of_branches bs ≡ []) × (memos_of_branches bs ≡ [])
+
+abbrev pub BareKey : Key → Type 0
+BareKey q = (joins_of_key q ≡ []) × (memos_of_key q ≡ [])

@@ -1,5 +1,6 @@
 -- Of which plans parts can be kept, and what the walk that keeps them does.
-use Rattle.std.specs.Prelude.{◌≡◌, ℕ, ◌+◌, ◌^◌, ◌<◌, max, Bool, true, false, List, [], ⊤}
+use Rattle.std.specs.Prelude.{◌≡◌, ℕ, ◌+◌, ◌^◌, ◌<◌, max, Bool, true, false, List, [], Result, Ok, Err, ⊤}
+use Rattle.kl_base.specs.declared.memory.NoMemory.{NoMemory}
 use Rattle.kl_plan.specs.Nodes as node
 use Rattle.kl_plan.specs.Nodes.{Node, Nodes, no_nodes, nodes, Fields, no_fields, fields, Branches, no_branches, rest, branch, Key}
 use Rattle.kl_plan.specs.Nodes.{no_key, key}
@@ -90,3 +91,13 @@ HasParts (node.Ext k b s) = ⊤
 HasParts (node.If a b c) = ⊤
 HasParts (node.Let a b) = ⊤
 HasParts p = ⊥
+
+-- what holds behind a part that was walked
+abbrev pub AfterOk : Result (Unit {0}) NoMemory → Type 0 → Type 0
+AfterOk (Ok x) P = P
+AfterOk (Err e) P = ⊥
+
+-- what holds of what was made before
+abbrev pub AfterOf : {T : Type 0} → Result T NoMemory → (T → Type 0) → Type 0
+AfterOf (Ok x) P = P x
+AfterOf (Err e) P = ⊥

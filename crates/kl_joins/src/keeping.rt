@@ -1,12 +1,12 @@
 //! Subqueries whose values are kept.
-ghost use Rattle.std.specs.Prelude.{◌≡◌, IfOk, IsOkAnd};
+ghost use Rattle.std.specs.Prelude.{◌≡◌, IfOk};
 ghost use Rattle.kl_plan.specs.Joins.{join_view, keys_view, other_node};
 ghost use Rattle.kl_plan.specs.Nodes as node;
 ghost use Rattle.kl_plan.specs.Nodes.{view, nodes_view, fields_view};
 ghost use Rattle.kl_plan.specs.Occurs.{frees_in};
 ghost use Rattle.kl_joins.specs.declared.keeping.Place.TheVariants as place;
 ghost use Rattle.kl_joins.specs.Keeping.{HasNoMemo, MayKeep, MayKeepEach, MayKeepFields, MayKeepBranches, MayKeepKey};
-ghost use Rattle.kl_joins.specs.Keeping.{WhetherKept, WhetherLooping, HasParts};
+ghost use Rattle.kl_joins.specs.Keeping.{WhetherKept, WhetherLooping, HasParts, AfterOk, AfterOf};
 ghost use Rattle.kl_joins.specs.MemosMade.{aside, at_source, IsLooping, IsNotKept, MemosMade, EachKept, FieldsKept, BranchesKept, KeyKept};
 
 use crate::depths::is_shallow;
@@ -111,14 +111,14 @@ fn take(plan: &mut Plan) -> Plan
 }
 
 fn memo(alloc: Global, frees: Result<Frees, NoMemory>, part: Plan) -> Result<Plan, NoMemory>
-    ensures { IfOk result (λ p. IsOkAnd frees (λ fs. view p ≡ node.Memo 0 fs (view part))) }
+    ensures { IfOk result (λ p. AfterOf frees (λ fs. view p ≡ node.Memo 0 fs (view part))) }
 {
     let part = Box::new(alloc, part)?;
     Ok(Plan::Memo(0, frees?, part))
 }
 
 fn put(plan: &mut Plan, made: Result<Plan, NoMemory>) -> Result<(), NoMemory>
-    ensures { IfOk result (λ _. IsOkAnd made (λ p. plan.new ≡ p)) }
+    ensures { IfOk result (λ _. AfterOf made (λ p. plan.new ≡ p)) }
 {
     drop(mem::replace(plan, made?));
     Ok(())
@@ -211,7 +211,7 @@ fn keep_next(
     depth: u32,
 ) -> Result<(), NoMemory>
     requires ready { MayKeep depth (view part.old) }
-    ensures { IfOk result (λ _. IsOkAnd before (λ _. MemosMade place depth (view part.old) (view part.new))) }
+    ensures { IfOk result (λ _. AfterOk before (MemosMade place depth (view part.old) (view part.new))) }
 {
     before?;
     keep_parts(alloc, part.get_mut(), place, depth)
@@ -226,7 +226,7 @@ fn keep_other(
     depth: u32,
 ) -> Result<(), NoMemory>
     requires ready { MayKeepBranches depth (other_node other.old) }
-    ensures { IfOk result (λ _. IsOkAnd before (λ _. BranchesKept place depth (other_node other.old) (other_node other.new))) }
+    ensures { IfOk result (λ _. AfterOk before (BranchesKept place depth (other_node other.old) (other_node other.new))) }
 {
     before?;
     match other {
@@ -244,7 +244,7 @@ fn keep_labelled(
     depth: u32,
 ) -> Result<(), NoMemory>
     requires ready { MayKeepFields depth (fields_view parts.old) }
-    ensures { IfOk result (λ _. IsOkAnd before (λ _. FieldsKept place depth (fields_view parts.old) (fields_view parts.new))) }
+    ensures { IfOk result (λ _. AfterOk before (FieldsKept place depth (fields_view parts.old) (fields_view parts.new))) }
 {
     before?;
     let parts = parts.slice_mut();

@@ -16,5 +16,4 @@ pub use depths::is_shallow;
 pub use frees::{frees_of, has_scan, occurs};
 pub use joining::join_loops;
 pub use keeping::{Place, keep};
-pub use keys::is_same;
 pub use numbering::number;

@@ -1,5 +1,5 @@
 -- What a term or a plan means rests on the values of its free positions alone.
-use Rattle.std.proofs.Common.{◌≡◌, ℕ, zero, suc, ◌+◌, Bool, true, ◌||◌, cond, nat_eq, List, ◌∷◌, slice_get, Option, Some, refl, ap, subst, ◌∙◌, arith}
+use Rattle.std.proofs.Common.{◌≡◌, ℕ, zero, suc, ◌+◌, Bool, true, false, ◌||◌, cond, nat_eq, List, ◌∷◌, slice_get, Option, Some, refl, ap, subst, arith}
 use Rattle.std.specs.Cmp.Lexicographic.{pointwise}
 use Rattle.std.proofs.lemmas.Bool.Decides.{nat_tests}
 use mathlib.Core.Path.{fun_ext, ap₂}
@@ -11,12 +11,18 @@ use Rattle.kl_core.specs.Trees as term
 use Rattle.kl_core.proofs.Meanings.{choice_same}
 use Rattle.kl_core.specs.Core.{Tables, core, core_all, core_items, core_parts, core_arms}
 use Rattle.kl_core.specs.Positions.{occurs_in, occurs_trees, occurs_parts, occurs_arms}
-use Rattle.std.proofs.Math.Bool.{or-true}
 use Rattle.kl_plan.specs.Nodes as node
 use Rattle.kl_plan.specs.Nodes.{Node, Nodes, no_nodes, nodes, Fields, no_fields, fields, Branches, no_branches, rest, branch, Key, no_key, key}
 use Rattle.kl_plan.specs.Meaning.{Come, one, many, worth, coming, drawn_for, come_after, come_chosen, come_opened, come_union, come_kept, Readings, scanned, on_test, tested, under_key, same_key, no_tables}
 use Rattle.kl_plan.specs.Meaning.{plan, plan_all, plan_items, plan_fields, plan_branches, plan_conds, plan_key}
 use Rattle.kl_plan.specs.Occurs.{occurs, occurs_nodes, occurs_fields, occurs_branches, occurs_key}
+
+left_of : (a b : Bool) → a ≡ true → (a || b) ≡ true
+left_of a b e = ap (λ x. x || b) e
+
+right_of : (a b : Bool) → b ≡ true → (a || b) ≡ true
+right_of true b e = refl
+right_of false b e = e
 
 module _ {X : Type 0} where
   -- two lists have the same at some positions
@@ -24,10 +30,10 @@ module _ {X : Type 0} where
   AgreeAt at env to = (n : ℕ) → at n ≡ true → slice_get env n ≡ slice_get to n
 
   pub onto_left : (p q : ℕ → Bool) (env to : List X) → AgreeAt (λ n. p n || q n) env to → AgreeAt p env to
-  onto_left p q env to h n e = h n (ap (λ x. x || q n) e)
+  onto_left p q env to h n e = h n (left_of (p n) (q n) e)
 
   pub onto_right : (p q : ℕ → Bool) (env to : List X) → AgreeAt (λ n. p n || q n) env to → AgreeAt q env to
-  onto_right p q env to h n e = h n (ap (λ x. p n || x) e ∙ or-true (p n))
+  onto_right p q env to h n e = h n (right_of (p n) (q n) e)
 
   -- inside a binder
   pub inwards : (p : ℕ → Bool) (env to : List X) (v : X) → AgreeAt (λ n. p (n + 1)) env to → AgreeAt p (v ∷ env) (v ∷ to)

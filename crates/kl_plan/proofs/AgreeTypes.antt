@@ -1,5 +1,5 @@
 -- The type of a term, or of a plan in which no memo stands, rests on the types of its free positions alone.
-use Rattle.std.proofs.Common.{◌≡◌, ℕ, ◌+◌, Bool, true, ◌||◌, List, [], ◌∷◌, ◌++◌, sym, subst, ◌∙◌, arith}
+use Rattle.std.proofs.Common.{◌≡◌, ℕ, ◌+◌, Bool, true, ◌||◌, List, [], ◌∷◌, ◌++◌, refl, sym, subst, ◌∙◌, arith}
 use Rattle.kl_value.specs.declared.Kind.{Kind}
 use Rattle.kl_type.specs.Ground.{Ground, Row, bool, rec as rec_type, var as var_type, coll}
 use Rattle.kl_ask.specs.declared.settings.JoinHow.{JoinHow}
@@ -8,7 +8,6 @@ use Rattle.kl_core.specs.Positions.{occurs_in, occurs_trees, occurs_parts, occur
 use Rattle.kl_core.specs.Trees as term
 use Rattle.kl_core.specs.Trees.{Tree, Trees, no_trees, trees, Parts, no_parts, parts, Arms, no_arms, arm}
 use Rattle.kl_core.specs.Typing.{SourceTypes, CoreTypes, EachType, AllTypes, PartTypes, ArmTypes}
-use Rattle.kl_plan.proofs.Empty.{none_first, none_behind}
 use Rattle.kl_plan.specs.declared.plan.Scan.{Scan}
 use Rattle.kl_plan.specs.Nodes as node
 use Rattle.kl_plan.specs.Nodes.{Node, Nodes, no_nodes, nodes, Fields, no_fields, fields, Branches, no_branches, rest, branch, Key, no_key, key}
@@ -105,6 +104,14 @@ module _ (S : SourceTypes) where
 
 -- ---- plans in which no memo stands
 
+none_left : (xs ys : List ℕ) → (xs ++ ys) ≡ [] → xs ≡ []
+none_left [] ys e = refl
+none_left (x ∷ xs) ys e = cc
+
+none_right : (xs ys : List ℕ) → (xs ++ ys) ≡ [] → ys ≡ []
+none_right [] ys e = e
+none_right (x ∷ xs) ys e = cc
+
 module _ (Of : Scan → Ground → Type 0) (Listed : ℕ → List ℕ → Node → Type 0) where
   mutual
     pub plan_types_agree : (p : Node) (G H : List Ground) (s : Ground) → memos_in p ≡ [] → AgreeAt (λ n. occurs n p) G H
@@ -116,10 +123,10 @@ module _ (Of : Scan → Ground → Type 0) (Listed : ℕ → List ℕ → Node �
     plan_types_agree (node.Inj l b) G H s m a h = (h.0, h.1, h.2, h.3, h.4, plan_types_agree b G H h.1 m a h.5)
     plan_types_agree (node.Case b bs) G H s m a h = (
       h.0,
-      plan_types_agree b G H (var_type h.0) (none_first (memos_in b) (memos_of_branches bs) m)
+      plan_types_agree b G H (var_type h.0) (none_left (memos_in b) (memos_of_branches bs) m)
           (onto_left (λ n. occurs n b) (λ n. occurs_branches n bs) G H a) h.1,
       h.2,
-      branch_types_agree bs G H h.0 s (none_behind (memos_in b) (memos_of_branches bs) m)
+      branch_types_agree bs G H h.0 s (none_right (memos_in b) (memos_of_branches bs) m)
           (onto_right (λ n. occurs n b) (λ n. occurs_branches n bs) G H a) h.3,
     )
     plan_types_agree (node.Make k ps) G H s m a h = (h.0, h.1, h.2, each_plan_agrees ps G H h.0 m a h.3)
@@ -127,32 +134,32 @@ module _ (Of : Scan → Ground → Type 0) (Listed : ℕ → List ℕ → Node �
       h.0,
       h.1,
       h.2,
-      plan_types_agree b G H s (none_first (memos_in b) (memos_in c) m) (onto_left (λ n. occurs n b) (λ n. occurs n c) G H a) h.3,
-      plan_types_agree c G H s (none_behind (memos_in b) (memos_in c) m) (onto_right (λ n. occurs n b) (λ n. occurs n c) G H a) h.4,
+      plan_types_agree b G H s (none_left (memos_in b) (memos_in c) m) (onto_left (λ n. occurs n b) (λ n. occurs n c) G H a) h.3,
+      plan_types_agree c G H s (none_right (memos_in b) (memos_in c) m) (onto_right (λ n. occurs n b) (λ n. occurs n c) G H a) h.4,
     )
     plan_types_agree (node.Ext k b c) G H s m a h = (
       h.0,
       h.1,
       h.2,
       h.3,
-      plan_types_agree c G H (coll h.1 h.2) (none_first (memos_in c) (memos_in b) m)
+      plan_types_agree c G H (coll h.1 h.2) (none_left (memos_in c) (memos_in b) m)
           (onto_right (λ n. occurs (n + 1) b) (λ n. occurs n c) G H a) h.4,
-      plan_types_agree b (h.2 ∷ G) (h.2 ∷ H) s (none_behind (memos_in c) (memos_in b) m)
+      plan_types_agree b (h.2 ∷ G) (h.2 ∷ H) s (none_right (memos_in c) (memos_in b) m)
           (inwards (λ n. occurs n b) G H h.2 (onto_left (λ n. occurs (n + 1) b) (λ n. occurs n c) G H a)) h.5,
     )
     plan_types_agree (node.If b c d) G H s m a h =
         let g = onto_right (λ n. occurs n b) (λ n. occurs n c || occurs n d) G H a in
-        let l = none_behind (memos_in b) (memos_in c ++ memos_in d) m in (
-          plan_types_agree b G H bool (none_first (memos_in b) (memos_in c ++ memos_in d) m)
+        let l = none_right (memos_in b) (memos_in c ++ memos_in d) m in (
+          plan_types_agree b G H bool (none_left (memos_in b) (memos_in c ++ memos_in d) m)
               (onto_left (λ n. occurs n b) (λ n. occurs n c || occurs n d) G H a) h.0,
-          plan_types_agree c G H s (none_first (memos_in c) (memos_in d) l) (onto_left (λ n. occurs n c) (λ n. occurs n d) G H g) h.1,
-          plan_types_agree d G H s (none_behind (memos_in c) (memos_in d) l) (onto_right (λ n. occurs n c) (λ n. occurs n d) G H g) h.2,
+          plan_types_agree c G H s (none_left (memos_in c) (memos_in d) l) (onto_left (λ n. occurs n c) (λ n. occurs n d) G H g) h.1,
+          plan_types_agree d G H s (none_right (memos_in c) (memos_in d) l) (onto_right (λ n. occurs n c) (λ n. occurs n d) G H g) h.2,
         )
     plan_types_agree (node.Let b c) G H s m a h = (
       h.0,
-      plan_types_agree b G H h.0 (none_first (memos_in b) (memos_in c) m)
+      plan_types_agree b G H h.0 (none_left (memos_in b) (memos_in c) m)
           (onto_left (λ n. occurs n b) (λ n. occurs (n + 1) c) G H a) h.1,
-      plan_types_agree c (h.0 ∷ G) (h.0 ∷ H) s (none_behind (memos_in b) (memos_in c) m)
+      plan_types_agree c (h.0 ∷ G) (h.0 ∷ H) s (none_right (memos_in b) (memos_in c) m)
           (inwards (λ n. occurs n c) G H h.0 (onto_right (λ n. occurs n b) (λ n. occurs (n + 1) c) G H a)) h.2,
     )
     plan_types_agree (node.Prim c ps) G H s m a h = (h.0, plans_of_agree ps G H h.0 m a h.1, h.2)
@@ -164,22 +171,22 @@ module _ (Of : Scan → Ground → Type 0) (Listed : ℕ → List ℕ → Node �
         let f = onto_right (λ n. occurs_nodes (n + 1) cs) keyed G H g in
         let ofbody : AgreeAt (λ n. occurs (n + 1 + 1) b) G H =
         λ n e. onto_right (λ n. occurs_key (n + 1) q) (λ n. occurs (n + 2) b) G H f n (subst (λ m. occurs m b ≡ true) (omega arith) e) in
-        let l = none_behind (memos_in o) (memos_of_nodes cs ++ (memos_of_key q ++ memos_in b)) m in
-        let j = none_behind (memos_of_nodes cs) (memos_of_key q ++ memos_in b) l in (
+        let l = none_right (memos_in o) (memos_of_nodes cs ++ (memos_of_key q ++ memos_in b)) m in
+        let j = none_right (memos_of_nodes cs) (memos_of_key q ++ memos_in b) l in (
           h.0,
           h.1,
           h.2,
           h.3,
           h.4,
-          plan_types_agree o G H (coll h.1 h.2) (none_first (memos_in o) (memos_of_nodes cs ++ (memos_of_key q ++ memos_in b)) m)
+          plan_types_agree o G H (coll h.1 h.2) (none_left (memos_in o) (memos_of_nodes cs ++ (memos_of_key q ++ memos_in b)) m)
               (onto_left (λ n. occurs n o) behind G H a) h.5,
-          each_plan_agrees cs (h.2 ∷ G) (h.2 ∷ H) bool (none_first (memos_of_nodes cs) (memos_of_key q ++ memos_in b) l)
+          each_plan_agrees cs (h.2 ∷ G) (h.2 ∷ H) bool (none_left (memos_of_nodes cs) (memos_of_key q ++ memos_in b) l)
               (inwards (λ n. occurs_nodes n cs) G H h.2 (onto_left (λ n. occurs_nodes (n + 1) cs) keyed G H g)) h.6,
           h.7,
           h.8,
-          key_types_agree how k q (h.2 ∷ G) (h.2 ∷ H) h.3 (none_first (memos_of_key q) (memos_in b) j)
+          key_types_agree how k q (h.2 ∷ G) (h.2 ∷ H) h.3 (none_left (memos_of_key q) (memos_in b) j)
               (inwards (λ n. occurs_key n q) G H h.2 (onto_left (λ n. occurs_key (n + 1) q) (λ n. occurs (n + 2) b) G H f)) h.9,
-          plan_types_agree b (h.3 ∷ h.2 ∷ G) (h.3 ∷ h.2 ∷ H) s (none_behind (memos_of_key q) (memos_in b) j)
+          plan_types_agree b (h.3 ∷ h.2 ∷ G) (h.3 ∷ h.2 ∷ H) s (none_right (memos_of_key q) (memos_in b) j)
               (inwards (λ n. occurs n b) (h.2 ∷ G) (h.2 ∷ H) h.3 (inwards (λ n. occurs (n + 1) b) G H h.2 ofbody)) h.10,
         )
     plan_types_agree (node.Memo n frees p) G H s m a h = let none : (n ∷ memos_in p) ≡ [] = m in cc
@@ -195,9 +202,9 @@ module _ (Of : Scan → Ground → Type 0) (Listed : ℕ → List ℕ → Node �
         → EachPlan Of Listed G ps u → EachPlan Of Listed H ps u
     each_plan_agrees no_nodes G H u m a h = tt
     each_plan_agrees (nodes p ps) G H u m a h = (
-      plan_types_agree p G H u (none_first (memos_in p) (memos_of_nodes ps) m)
+      plan_types_agree p G H u (none_left (memos_in p) (memos_of_nodes ps) m)
           (onto_left (λ n. occurs n p) (λ n. occurs_nodes n ps) G H a) h.0,
-      each_plan_agrees ps G H u (none_behind (memos_in p) (memos_of_nodes ps) m)
+      each_plan_agrees ps G H u (none_right (memos_in p) (memos_of_nodes ps) m)
           (onto_right (λ n. occurs n p) (λ n. occurs_nodes n ps) G H a) h.1,
     )
 
@@ -208,9 +215,9 @@ module _ (Of : Scan → Ground → Type 0) (Listed : ℕ → List ℕ → Node �
       h.0,
       h.1,
       h.2,
-      plan_types_agree p G H h.0 (none_first (memos_in p) (memos_of_nodes ps) m)
+      plan_types_agree p G H h.0 (none_left (memos_in p) (memos_of_nodes ps) m)
           (onto_left (λ n. occurs n p) (λ n. occurs_nodes n ps) G H a) h.3,
-      plans_of_agree ps G H h.1 (none_behind (memos_in p) (memos_of_nodes ps) m)
+      plans_of_agree ps G H h.1 (none_right (memos_in p) (memos_of_nodes ps) m)
           (onto_right (λ n. occurs n p) (λ n. occurs_nodes n ps) G H a) h.4,
     )
 
@@ -221,9 +228,9 @@ module _ (Of : Scan → Ground → Type 0) (Listed : ℕ → List ℕ → Node �
       h.0,
       h.1,
       h.2,
-      plan_types_agree p G H h.0 (none_first (memos_in p) (memos_of_fields ps) m)
+      plan_types_agree p G H h.0 (none_left (memos_in p) (memos_of_fields ps) m)
           (onto_left (λ n. occurs n p) (λ n. occurs_fields n ps) G H a) h.3,
-      field_types_agree ps G H h.1 (none_behind (memos_in p) (memos_of_fields ps) m)
+      field_types_agree ps G H h.1 (none_right (memos_in p) (memos_of_fields ps) m)
           (onto_right (λ n. occurs n p) (λ n. occurs_fields n ps) G H a) h.4,
     )
 
@@ -234,8 +241,8 @@ module _ (Of : Scan → Ground → Type 0) (Listed : ℕ → List ℕ → Node �
     branch_types_agree (branch l b bs) G H r s m a h = (
       h.0,
       h.1,
-      plan_types_agree b (h.0 ∷ G) (h.0 ∷ H) s (none_first (memos_in b) (memos_of_branches bs) m)
+      plan_types_agree b (h.0 ∷ G) (h.0 ∷ H) s (none_left (memos_in b) (memos_of_branches bs) m)
           (inwards (λ n. occurs n b) G H h.0 (onto_left (λ n. occurs (n + 1) b) (λ n. occurs_branches n bs) G H a)) h.2,
-      branch_types_agree bs G H r s (none_behind (memos_in b) (memos_of_branches bs) m)
+      branch_types_agree bs G H r s (none_right (memos_in b) (memos_of_branches bs) m)
           (onto_right (λ n. occurs (n + 1) b) (λ n. occurs_branches n bs) G H a) h.3,
     )

@@ -20,9 +20,9 @@ use Rattle.kl_plan.specs.Occurs.{occurs, occurs_nodes, occurs_fields, occurs_bra
 use Rattle.kl_plan.specs.Subqueries.{Covers}
 use Rattle.kl_plan.specs.Typing.{PlanTypes, EachPlan, PlansOf, FieldTypes, BranchTypes, KeyTypes}
 
-either_true : (a b : Bool) → (a || b) ≡ true → (a ≡ true) ⊎ (b ≡ true)
-either_true true b e = inl refl
-either_true false b e = inr e
+either : (a b : Bool) → (a || b) ≡ true → (a ≡ true) ⊎ (b ≡ true)
+either true b e = inl refl
+either false b e = inr e
 
 same_number : (x n : ℕ) → nat_eq x n ≡ true → x ≡ n
 same_number x n e = grind (arith, nat_tests, e)
@@ -53,43 +53,43 @@ module _ (S : SourceTypes) where
     core_bound (term.Proj l a) G s h n e = core_bound a G (rec_type h.0) h.1 n e
     core_bound (term.Inj l a) G s h n e = core_bound a G h.1 h.5 n e
     core_bound (term.Case a bs) G s h n e =
-        ⊎_elim (core_bound a G (var_type h.0) h.1 n) (arms_bound bs G h.0 s h.3 n) (either_true (occurs_in n a) (occurs_arms n bs) e)
+        ⊎_elim (core_bound a G (var_type h.0) h.1 n) (arms_bound bs G h.0 s h.3 n) (either (occurs_in n a) (occurs_arms n bs) e)
     core_bound (term.Make k ts) G s h n e = each_bound ts G h.0 h.3 n e
     core_bound (term.Union a b) G s h n e =
-        ⊎_elim (core_bound a G s h.3 n) (core_bound b G s h.4 n) (either_true (occurs_in n a) (occurs_in n b) e)
+        ⊎_elim (core_bound a G s h.3 n) (core_bound b G s h.4 n) (either (occurs_in n a) (occurs_in n b) e)
     core_bound (term.Ext k b a) G s h n e =
         ⊎_elim (λ f. inside n h.2 G (core_bound b (h.2 ∷ G) s h.5 (n + 1) f)) (core_bound a G (coll h.1 h.2) h.4 n)
-        (either_true (occurs_in (n + 1) b) (occurs_in n a) e)
+        (either (occurs_in (n + 1) b) (occurs_in n a) e)
     core_bound (term.If a b c) G s h n e =
         ⊎_elim (core_bound a G bool h.0 n)
-        (λ f. ⊎_elim (core_bound b G s h.1 n) (core_bound c G s h.2 n) (either_true (occurs_in n b) (occurs_in n c) f))
-        (either_true (occurs_in n a) (occurs_in n b || occurs_in n c) e)
+        (λ f. ⊎_elim (core_bound b G s h.1 n) (core_bound c G s h.2 n) (either (occurs_in n b) (occurs_in n c) f))
+        (either (occurs_in n a) (occurs_in n b || occurs_in n c) e)
     core_bound (term.Let a b) G s h n e =
         ⊎_elim (core_bound a G h.0 h.1 n) (λ f. inside n h.0 G (core_bound b (h.0 ∷ G) s h.2 (n + 1) f))
-        (either_true (occurs_in n a) (occurs_in (n + 1) b) e)
+        (either (occurs_in n a) (occurs_in (n + 1) b) e)
     core_bound (term.Prim c ts) G s h n e = all_bound ts G h.0 h.1 n e
 
     each_bound : (ts : Trees) (G : List Ground) (u : Ground) → EachType S G ts u → (n : ℕ) → occurs_trees n ts ≡ true → n < length G
     each_bound no_trees G u h n e = cc
     each_bound (trees t ts) G u h n e =
-        ⊎_elim (core_bound t G u h.0 n) (each_bound ts G u h.1 n) (either_true (occurs_in n t) (occurs_trees n ts) e)
+        ⊎_elim (core_bound t G u h.0 n) (each_bound ts G u h.1 n) (either (occurs_in n t) (occurs_trees n ts) e)
 
     all_bound : (ts : Trees) (G us : List Ground) → AllTypes S G ts us → (n : ℕ) → occurs_trees n ts ≡ true → n < length G
     all_bound no_trees G us h n e = cc
     all_bound (trees t ts) G us h n e =
-        ⊎_elim (core_bound t G h.0 h.3 n) (all_bound ts G h.1 h.4 n) (either_true (occurs_in n t) (occurs_trees n ts) e)
+        ⊎_elim (core_bound t G h.0 h.3 n) (all_bound ts G h.1 h.4 n) (either (occurs_in n t) (occurs_trees n ts) e)
 
     parts_bound : (ps : Parts) (G : List Ground) (r : Row) → PartTypes S G ps r → (n : ℕ) → occurs_parts n ps ≡ true → n < length G
     parts_bound no_parts G r h n e = cc
     parts_bound (parts l t ps) G r h n e =
-        ⊎_elim (core_bound t G h.0 h.3 n) (parts_bound ps G h.1 h.4 n) (either_true (occurs_in n t) (occurs_parts n ps) e)
+        ⊎_elim (core_bound t G h.0 h.3 n) (parts_bound ps G h.1 h.4 n) (either (occurs_in n t) (occurs_parts n ps) e)
 
     arms_bound : (bs : Arms) (G : List Ground) (r : Row) (s : Ground) → ArmTypes S G bs r s → (n : ℕ) → occurs_arms n bs ≡ true → n < length G
     arms_bound no_arms G r s h n e = cc
     arms_bound (term.rest c) G r s h n e = core_bound c G s h n e
     arms_bound (arm l b bs) G r s h n e =
         ⊎_elim (λ f. inside n h.0 G (core_bound b (h.0 ∷ G) s h.2 (n + 1) f)) (arms_bound bs G r s h.3 n)
-        (either_true (occurs_in (n + 1) b) (occurs_arms n bs) e)
+        (either (occurs_in (n + 1) b) (occurs_arms n bs) e)
 
 -- ---- plans
 
@@ -105,20 +105,20 @@ module _ (Of : Scan → Ground → Type 0) (Listed : ℕ → List ℕ → Node �
     plan_bound (node.Proj l a) G s h n e = plan_bound a G (rec_type h.0) h.1 n e
     plan_bound (node.Inj l a) G s h n e = plan_bound a G h.1 h.5 n e
     plan_bound (node.Case a bs) G s h n e =
-        ⊎_elim (plan_bound a G (var_type h.0) h.1 n) (branches_bound bs G h.0 s h.3 n) (either_true (occurs n a) (occurs_branches n bs) e)
+        ⊎_elim (plan_bound a G (var_type h.0) h.1 n) (branches_bound bs G h.0 s h.3 n) (either (occurs n a) (occurs_branches n bs) e)
     plan_bound (node.Make k ps) G s h n e = nodes_bound ps G h.0 h.3 n e
     plan_bound (node.Union a b) G s h n e =
-        ⊎_elim (plan_bound a G s h.3 n) (plan_bound b G s h.4 n) (either_true (occurs n a) (occurs n b) e)
+        ⊎_elim (plan_bound a G s h.3 n) (plan_bound b G s h.4 n) (either (occurs n a) (occurs n b) e)
     plan_bound (node.Ext k b a) G s h n e =
         ⊎_elim (λ f. inside n h.2 G (plan_bound b (h.2 ∷ G) s h.5 (n + 1) f)) (plan_bound a G (coll h.1 h.2) h.4 n)
-        (either_true (occurs (n + 1) b) (occurs n a) e)
+        (either (occurs (n + 1) b) (occurs n a) e)
     plan_bound (node.If a b c) G s h n e =
         ⊎_elim (plan_bound a G bool h.0 n)
-        (λ f. ⊎_elim (plan_bound b G s h.1 n) (plan_bound c G s h.2 n) (either_true (occurs n b) (occurs n c) f))
-        (either_true (occurs n a) (occurs n b || occurs n c) e)
+        (λ f. ⊎_elim (plan_bound b G s h.1 n) (plan_bound c G s h.2 n) (either (occurs n b) (occurs n c) f))
+        (either (occurs n a) (occurs n b || occurs n c) e)
     plan_bound (node.Let a b) G s h n e =
         ⊎_elim (plan_bound a G h.0 h.1 n) (λ f. inside n h.0 G (plan_bound b (h.0 ∷ G) s h.2 (n + 1) f))
-        (either_true (occurs n a) (occurs (n + 1) b) e)
+        (either (occurs n a) (occurs (n + 1) b) e)
     plan_bound (node.Prim c ps) G s h n e = plans_bound ps G h.0 h.1 n e
     plan_bound (node.Scan c) G s h n e = cc
     plan_bound (node.Join m k how o cs i q b) G s h n e =
@@ -126,9 +126,9 @@ module _ (Of : Scan → Ground → Type 0) (Listed : ℕ → List ℕ → Node �
         (λ f. ⊎_elim (λ g. inside n h.2 G (nodes_bound cs (h.2 ∷ G) bool h.6 (n + 1) g))
         (λ g. ⊎_elim (λ d. inside n h.2 G (key_bound how k q (h.2 ∷ G) h.3 h.9 (n + 1) d))
         (λ d. let low = plan_bound b (h.3 ∷ h.2 ∷ G) s h.10 (n + 2) d in twice n low)
-        (either_true (occurs_key (n + 1) q) (occurs (n + 2) b) g))
-        (either_true (occurs_nodes (n + 1) cs) (occurs_key (n + 1) q || occurs (n + 2) b) f))
-        (either_true (occurs n o) (occurs_nodes (n + 1) cs || (occurs_key (n + 1) q || occurs (n + 2) b)) e)
+        (either (occurs_key (n + 1) q) (occurs (n + 2) b) g))
+        (either (occurs_nodes (n + 1) cs) (occurs_key (n + 1) q || occurs (n + 2) b) f))
+        (either (occurs n o) (occurs_nodes (n + 1) cs || (occurs_key (n + 1) q || occurs (n + 2) b)) e)
       where
         twice : (n : ℕ) → n + 2 < length (h.3 ∷ h.2 ∷ G) → n < length G
         twice n low = omega (arith, low)
@@ -143,17 +143,17 @@ module _ (Of : Scan → Ground → Type 0) (Listed : ℕ → List ℕ → Node �
     nodes_bound : (ps : Nodes) (G : List Ground) (u : Ground) → EachPlan Of Listed G ps u → (n : ℕ) → occurs_nodes n ps ≡ true → n < length G
     nodes_bound no_nodes G u h n e = cc
     nodes_bound (nodes p ps) G u h n e =
-        ⊎_elim (plan_bound p G u h.0 n) (nodes_bound ps G u h.1 n) (either_true (occurs n p) (occurs_nodes n ps) e)
+        ⊎_elim (plan_bound p G u h.0 n) (nodes_bound ps G u h.1 n) (either (occurs n p) (occurs_nodes n ps) e)
 
     plans_bound : (ps : Nodes) (G us : List Ground) → PlansOf Of Listed G ps us → (n : ℕ) → occurs_nodes n ps ≡ true → n < length G
     plans_bound no_nodes G us h n e = cc
     plans_bound (nodes p ps) G us h n e =
-        ⊎_elim (plan_bound p G h.0 h.3 n) (plans_bound ps G h.1 h.4 n) (either_true (occurs n p) (occurs_nodes n ps) e)
+        ⊎_elim (plan_bound p G h.0 h.3 n) (plans_bound ps G h.1 h.4 n) (either (occurs n p) (occurs_nodes n ps) e)
 
     fields_bound : (ps : Fields) (G : List Ground) (r : Row) → FieldTypes Of Listed G ps r → (n : ℕ) → occurs_fields n ps ≡ true → n < length G
     fields_bound no_fields G r h n e = cc
     fields_bound (fields l p ps) G r h n e =
-        ⊎_elim (plan_bound p G h.0 h.3 n) (fields_bound ps G h.1 h.4 n) (either_true (occurs n p) (occurs_fields n ps) e)
+        ⊎_elim (plan_bound p G h.0 h.3 n) (fields_bound ps G h.1 h.4 n) (either (occurs n p) (occurs_fields n ps) e)
 
     branches_bound : (bs : Branches) (G : List Ground) (r : Row) (s : Ground) → BranchTypes Of Listed G bs r s → (n : ℕ)
         → occurs_branches n bs ≡ true → n < length G
@@ -161,7 +161,7 @@ module _ (Of : Scan → Ground → Type 0) (Listed : ℕ → List ℕ → Node �
     branches_bound (rest c) G r s h n e = plan_bound c G s h n e
     branches_bound (branch l b bs) G r s h n e =
         ⊎_elim (λ f. inside n h.0 G (plan_bound b (h.0 ∷ G) s h.2 (n + 1) f)) (branches_bound bs G r s h.3 n)
-        (either_true (occurs (n + 1) b) (occurs_branches n bs) e)
+        (either (occurs (n + 1) b) (occurs_branches n bs) e)
 
 -- ---- the list of a plan's free positions
 

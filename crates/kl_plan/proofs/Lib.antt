@@ -1,4 +1,3 @@
-pub mod Empty
 pub mod Likeness
 pub mod Collections
 pub mod KindLaws
@@ -15,6 +14,6 @@ pub mod Frees
 pub mod Above
 pub mod Around
 pub mod Keyed
+pub mod Pairs
 pub mod Finding
 pub mod TotalJoins
-pub mod Choices

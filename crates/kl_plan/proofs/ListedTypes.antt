@@ -86,6 +86,12 @@ module _ (all : Listing) (Of On : Scan → Ground → Type 0) (L M : ℕ → Lis
     types_of_branches (rest c) G r s i h = types_of_parts c G s i h
     types_of_branches (branch l b bs) G r s i h = (h.0, h.1, types_of_parts b (h.0 ∷ G) s i.0 h.2, types_of_branches bs G r s i.1 h.3)
 
+-- the memos that stand in a plan are among its own, and among any list that has these
+pub types_among : (all : Listing) (Of : Scan → Ground → Type 0) (L : ℕ → List ℕ → Node → Type 0) (p : Node) (G : List Ground) (s : Ground)
+    → PartsIn all p → PlanTypes Of L G p s → PlanTypes Of (λ n frees q. Contains all.memos (n, (frees, q))) G p s
+types_among all Of L p G s i h =
+    types_of_parts all Of Of L (λ n frees q. Contains all.memos (n, (frees, q))) (λ c u j o. o) (λ n frees q j l. j) p G s i h
+
 pub types_of_any : (Of : Scan → Ground → Type 0) (L : ℕ → List ℕ → Node → Type 0) (p : Node) (G : List Ground) (s : Ground)
     → PlanTypes Of L G p s → PlanTypes Of AnyMemo G p s
 types_of_any Of L p G s h = types_of_parts (parts_of p) Of Of L AnyMemo (λ c u j o. o) (λ n frees q j l. tt) p G s (parts_in_all p) h

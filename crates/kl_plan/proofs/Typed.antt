@@ -65,8 +65,7 @@ under_typed t u (done v) go i h = h v i
 under_typed t u (over vs) go i h = tt
 under_typed t u stuck go i h = absurd i
 
--- a row tells whether it has a key at a column
-pub key_tells : (l : Name) (w : Value) (r : Row) (s : Ground) → at l r ≡ Some s → (y : Value) → Inhabits (rec_type r) y → IsSome (same_key w (field_at l y))
+key_tells : (l : Name) (w : Value) (r : Row) (s : Ground) → at l r ≡ Some s → (y : Value) → Inhabits (rec_type r) y → IsSome (same_key w (field_at l y))
 key_tells l w r s is y typed = some (field_at l y) (has_field (part_typed l r s (done y) typed is))
   where
     some : (o : Option Value) → IsSome o → IsSome (same_key w o)

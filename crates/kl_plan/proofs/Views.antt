@@ -4,12 +4,11 @@ use Rattle.kl_value.specs.declared.Kind.{Kind}
 use Rattle.kl_outcome.specs.Outcome.{Name}
 use Rattle.kl_plan.specs.declared.plan.Join.{Join, out-Join}
 use Rattle.kl_plan.specs.declared.plan.Scan.{Scan}
-use Rattle.kl_plan.specs.declared.plan.JoinKey.{JoinKey, out-JoinKey}
 use Rattle.kl_plan.specs.declared.plan.Plan.{Plan, the_lemmas}
 use Rattle.kl_plan.specs.declared.plan.Plan.TheVariants as plan
 use Rattle.kl_plan.specs.Nodes as node
 use Rattle.kl_plan.specs.Nodes.{Branches, branches_of, view, view_branch, nodes_view, fields_view}
-use Rattle.kl_plan.specs.Joins.{other_node, join_view, key_view, keys_view}
+use Rattle.kl_plan.specs.Joins.{other_node, join_view, keys_view}
 
 pub view_Var : (x : ℕ) → view (plan.Var x) ≡ node.Var x
 view_Var x = search (rules, the_lemmas)
@@ -53,9 +52,3 @@ view_Join j = search (rules, the_lemmas)
 pub view_join : (j : Join) → join_view j ≡ node.Join (out-Join j).number (out-Join j).kind (out-Join j).how (view (out-Join j).outer)
     (nodes_view (out-Join j).conds) (out-Join j).inner (keys_view (out-Join j).key) (view (out-Join j).body)
 view_join j = search (rules, the_lemmas)
-
-pub view_key : (k : JoinKey) → key_view k ≡ node.key (out-JoinKey k).label (view (out-JoinKey k).value)
-view_key k = search (rules, the_lemmas)
-
-pub view_Memo : (n : ℕ) (frees : List ℕ) (a : Plan) → view (plan.Memo n frees a) ≡ node.Memo n frees (view a)
-view_Memo n frees a = search (rules, the_lemmas)

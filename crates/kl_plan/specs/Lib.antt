@@ -14,4 +14,5 @@ pub mod Erased
 pub mod Totals
 pub mod Loops
 pub mod Keys
+pub mod Blocks
 pub mod Joins

@@ -11,5 +11,3 @@ pub mod Quiet
 pub mod Traces
 pub mod Shipped
 pub mod Logs
-pub mod Kept
-pub mod Known

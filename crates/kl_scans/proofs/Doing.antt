@@ -1,5 +1,5 @@
 -- What is done beside scans: look-ups, what is kept, and executions of joins that have ended.
-use Rattle.std.proofs.Common.{◌≡◌, ℕ, ◌+◌, true, List, [], ◌∷◌, ◌++◌, max, Option, Some, slice_get, refl, sym, ap, ◌∙◌, subst}
+use Rattle.std.proofs.Common.{◌≡◌, ℕ, ◌+◌, true, false, List, [], ◌∷◌, ◌++◌, max, Option, Some, Result, Ok, Err, slice_get, refl, sym, ap, ◌∙◌, subst}
 use Rattle.std.specs.Option.{is_some}
 use mathlib.Core.Path.{ap₂}
 use Rattle.kl_value.specs.declared.Value.{Value}

@@ -1,11 +1,11 @@
 -- Events among which nothing is looked up.
-use Rattle.std.proofs.Common.{◌≡◌, ℕ, List, [], ◌∷◌, length, ap, arith}
+use Rattle.std.proofs.Common.{◌≡◌, ℕ, List, [], ◌∷◌, length, refl, ap, arith}
 use Rattle.std.specs.Bool.{⊤}
 use Rattle.std.specs.List.{AllByRecursion, Contains}
 use Rattle.kl_value.specs.declared.Value.{Value}
 use Rattle.kl_plan.specs.Holding.{Listing}
 use Rattle.kl_plan.specs.Subqueries.{Memo, Subquery}
-use Rattle.kl_scans.specs.Log.{Event, started, handed, joined, missed, hit, IsOf, Leaves}
+use Rattle.kl_scans.specs.Log.{Event, started, handed, joined, missed, hit, IsOf, Leaves, hits_after, misses_after}
 
 -- no look-up, whether it finds a value or not
 abbrev pub NoLook : Event → Type 0
@@ -35,3 +35,12 @@ no_looks all (handed c n ∷ es) none h = (tt, no_looks all es none h.1)
 no_looks all (joined n way outer starts ∷ es) none h = (tt, no_looks all es none h.1)
 no_looks all (missed k v ∷ es) none h = absurd (none_in all.memos _ none h.0.2)
 no_looks all (hit n frees p env ∷ es) none h = absurd (none_in all.memos _ none h.0.0)
+
+-- and no count of look-ups rises
+pub looks_uncounted : (es : List Event) → AllByRecursion NoLook es → (hits misses : ℕ) → (hits_after es hits ≡ hits) × (misses_after es misses ≡ misses)
+looks_uncounted [] h hits misses = (refl, refl)
+looks_uncounted (started c ∷ es) h hits misses = looks_uncounted es h.1 hits misses
+looks_uncounted (handed c n ∷ es) h hits misses = looks_uncounted es h.1 hits misses
+looks_uncounted (joined n way outer starts ∷ es) h hits misses = looks_uncounted es h.1 hits misses
+looks_uncounted (missed k v ∷ es) h hits misses = absurd h.0
+looks_uncounted (hit n frees p env ∷ es) h hits misses = absurd h.0

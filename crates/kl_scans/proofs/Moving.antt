@@ -62,6 +62,9 @@ held_on a b m d = by_case (slice_get a.drivers d) refl
         let s = m.each d x y.0 is y.1 in
         rw (is, y.1, s.keeps.kind, s.attached) refl
 
+pub held_stays : (u v : Uses) (a b : Running) → Moves u v a b → held_at b ≡ held_at a
+held_stays u v a b m = fun_ext (λ d. held_on a b m.drivers d)
+
 driver_stays : (a b : Running) → EachSteps Stays a.drivers b.drivers → (s : Attached) (place : ℕ) → at_driver s (slice_get b.drivers place) ≡ at_driver s (slice_get a.drivers place)
 driver_stays a b m s place = by_case (slice_get a.drivers place) refl
   where

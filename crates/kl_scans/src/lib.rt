@@ -10,7 +10,7 @@ mod scans;
 mod stops;
 mod unrepeated;
 
-pub use over::{keep, kept_value, ran, recall};
+pub use over::Scans;
 pub use run::{Ran, Run};
 pub use scans::{finish_scan, pull_scan, start_scan};
 pub use unrepeated::repeats_none;

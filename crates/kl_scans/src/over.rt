@@ -1,89 +1,218 @@
-//! What is kept of subqueries, and what is counted of look-ups and of joins.
-ghost use Rattle.std.specs.Prelude.{◌≡◌, true, ⊤};
-ghost use Rattle.std.specs.List.{Contains};
-ghost use Rattle.kl_lookups.specs.Lookups.{has};
-ghost use Rattle.kl_scans.specs.Keeping.{subquery};
-ghost use Rattle.kl_scans.specs.Over.{Keeps, MayKeep, Ran as Ended, Recalls};
+//! The calls that a run of a plan makes.
+ghost use Rattle.std.specs.Prelude.{◌≡◌, ◌<◌, true};
+ghost use Rattle.kl_core.specs.Trees.{view};
 ghost use Rattle.kl_scans.specs.Same.{same_subquery};
+ghost use Rattle.kl_lookups.specs.Lookups.{has};
+ghost use Rattle.std.specs.List.{Contains};
+ghost use Rattle.kl_eval.specs.Evals.{SensePlain, TellsPart, TellsPlain};
+ghost use Rattle.kl_eval.specs.Values.{arg_in, values};
+ghost use Rattle.kl_scans.specs.Held.{Owned, one_at};
+ghost use Rattle.kl_scans.specs.Keeping.{subquery};
+ghost use Rattle.kl_scans.specs.Moves.{Closes};
+ghost use Rattle.kl_scans.specs.Over.{IsUndriven, IsUndrivenPart, Keeps, MayKeep, Ran as Ended, Recalls};
+ghost use Rattle.kl_scans.specs.Right.{IsReadyRun};
+ghost use Rattle.kl_scans.specs.Running.{session};
+ghost use Rattle.kl_scans.specs.Scans.{CanScan, IsOpen, Starts, Pulls};
+ghost use Rattle.kl_scans.specs.Stage.{RepeatsNone, stage};
 
 use crate::run::{Ran, Run};
+use crate::scans::{finish_scan, pull_scan, start_scan};
+use crate::unrepeated::repeats_none;
 use kl_ask::JoinRun;
 use kl_base::{NoMemory, Seq};
+use kl_core::Term;
+use kl_eval::{Env, EvalStop, Halt, part, plain};
 use kl_memo::MemoKey;
+use kl_plan::Scan;
+use kl_prim::Arg;
 use kl_value::Value;
 use std::alloc::Global;
 use std::mem;
 
-/// Whether a value is kept under a key. Where one is, that is counted, and the value is used. Takes no memory.
-// Any call meets the `requires`. Of what has one a caller elsewhere knows that it makes no driver, without its body.
-pub fn recall<'p>(run: &mut Run<'p>, key: &MemoKey) -> bool
-    requires { ⊤ }
-    ensures { Recalls (subquery key.now) result (⟦<Run<'p> as Ran>⟧.world run.old) (⟦<Run<'p> as Ran>⟧.world run.new) }
-{
-    match &mut run.memo {
-        Some(memo) => {
-            if memo.has(key) {
-                run.session.trace.hits = run.session.trace.hits.saturating_add(1);
-                let _ = memo.get(key);
-                true
-            } else {
-                false
+/// What gives the rows of scans, some at a time, the values of parts without sources, and what is kept of subqueries.
+pub trait Scans: Ran {
+    /// How many rows are pulled at once.
+    fn fetch(&self) -> u32
+        ensures { result ≡ (Self.world self.now).settings.fetch };
+
+    /// The most rows that a block of a join holds.
+    fn block(&self) -> u32
+        ensures { result ≡ (Self.world self.now).settings.block };
+
+    /// Whether a value is kept under a key. Where one is, that is counted, and the value is used. Takes no memory.
+    fn recall(&mut self, key: &MemoKey) -> bool
+        ensures { Recalls (subquery key.now) result (Self.world self.old) (Self.world self.new) };
+
+    /// The value that is kept under a key, lent; nothing is counted.
+    fn kept(&self, key: &MemoKey) -> &Value
+        requires { has same_subquery (subquery key.now) (Self.world self.now).kept ≡ true }
+        ensures { Contains (Self.world self.now).kept (subquery key.now, result.now) };
+
+    /// Keeps a value under a key that was looked up and not found, and counts that.
+    ///
+    /// # Errors
+    /// Want of memory; nothing is kept or counted then.
+    fn keep(&mut self, key: MemoKey, value: Value) -> Result<(), NoMemory>
+        requires { MayKeep (subquery key) value (Self.world self.old) }
+        ensures { Keeps (subquery key) value result (Self.world self.old) (Self.world self.new) };
+
+    /// Counts an execution of a join that has ended, of whose blocks the greatest had so many rows.
+    ///
+    /// # Errors
+    /// Want of memory; nothing is counted then.
+    fn ran(&mut self, alloc: Global, entry: JoinRun, peak: u32) -> Result<(), NoMemory>
+        ensures { Ended entry peak result (Self.world self.old) (Self.world self.new) };
+
+    /// Opens a cursor of a scan, as `start_scan` does.
+    ///
+    /// # Errors
+    /// Those of `start_scan`.
+    fn start(&mut self, scan: &Scan) -> Result<u64, EvalStop>
+        requires { CanScan (Self.world self.old) scan.now }
+        ensures { Starts scan.now result (Self.world self.old) (Self.world self.new) };
+
+    /// Appends the next rows of a cursor of a scan, as `pull_scan` does.
+    ///
+    /// # Errors
+    /// Those of `pull_scan`.
+    fn pull(&mut self, scan: &Scan, cursor: u64, into: &mut Vec<Value>) -> Result<bool, EvalStop>
+        requires scan { CanScan (Self.world self.old) scan.now }
+        requires is_open { IsOpen (Self.world self.old) scan.now cursor }
+        requires room { 0 < (Self.world self.old).settings.fetch }
+        ensures { Pulls scan.now cursor into.old.items into.new.items result (Self.world self.old) (Self.world self.new) };
+
+    /// Closes a cursor of a scan. Takes no memory.
+    fn finish(&mut self, scan: &Scan, cursor: u64)
+        requires { Owned (one_at scan.now.driver cursor) (Self.world self.old) }
+        ensures { Closes (one_at scan.now.driver cursor) (Self.world self.old) (Self.world self.new) };
+
+    /// Whether a scan is one of whole rows of a set that repeats none, as `repeats_none` tells. Takes no memory.
+    fn repeats_none(&self, scan: &Scan) -> bool
+        requires ready { IsReadyRun (Self.world self.now) }
+        requires scan { CanScan (Self.world self.now) scan.now }
+        ensures yes { result ≡ true → RepeatsNone (stage (Self.world self.now)) scan.now }
+        ensures no { RepeatsNone (stage (Self.world self.now)) scan.now → result ≡ true };
+
+    /// The value of a term in which no source stands. Nothing is read, so no driver stops it.
+    ///
+    /// # Errors
+    /// An overflow and want of memory, as of `kl_eval::plain`.
+    fn plain(&mut self, alloc: Global, term: &Term, env: &Env) -> Result<Value, Halt>
+        requires { SensePlain (view term.now) (values env.now) (session (Self.world self.old)) }
+        ensures same { Self.world self.new ≡ Self.world self.old }
+        ensures gives { TellsPlain (session (Self.world self.old)) (view term.now) (values env.now) result }
+        ensures undriven { IsUndriven result };
+
+    /// The same where the term is a part: lent where it stands in the term or in the environment.
+    ///
+    /// # Errors
+    /// Those of `plain`.
+    fn part<'a>(
+        &mut self,
+        alloc: Global,
+        term: &'a Term,
+        env: &'a Env<'a>,
+    ) -> Result<Arg<'a>, EvalStop>
+        requires { SensePlain (view term.now) (values env.now) (session (Self.world self.old)) }
+        ensures same { Self.world self.new ≡ Self.world self.old }
+        ensures gives { TellsPart (session (Self.world self.old)) (view term.now) (values env.now) (arg_in result) }
+        ensures undriven { IsUndrivenPart (arg_in result) };
+}
+
+impl<'p> Scans for Run<'p> {
+    fn fetch(&self) -> u32 {
+        self.session.settings.fetch
+    }
+
+    fn block(&self) -> u32 {
+        self.session.settings.block
+    }
+
+    fn recall(&mut self, key: &MemoKey) -> bool {
+        match &mut self.memo {
+            Some(memo) => {
+                if memo.has(key) {
+                    self.session.trace.hits = self.session.trace.hits.saturating_add(1);
+                    let _ = memo.get(key);
+                    true
+                } else {
+                    false
+                }
             }
+            None => false,
         }
-        None => false,
     }
-}
 
-/// The value that is kept under a key, lent; nothing is counted.
-pub fn kept_value<'a, 'p>(run: &'a Run<'p>, key: &MemoKey) -> &'a Value
-    requires { has same_subquery (subquery key.now) (⟦<Run<'p> as Ran>⟧.world run.now).kept ≡ true }
-    ensures { Contains (⟦<Run<'p> as Ran>⟧.world run.now).kept (subquery key.now, result.now) }
-{
-    match &run.memo {
-        Some(memo) => match memo.peek(key) {
-            Some(value) => value,
+    fn kept(&self, key: &MemoKey) -> &Value {
+        match &self.memo {
+            Some(memo) => match memo.peek(key) {
+                Some(value) => value,
+                None => unreachable!(),
+            },
             None => unreachable!(),
-        },
-        None => unreachable!(),
-    }
-}
-
-/// Keeps a value under a key that was looked up and not found, and counts that.
-///
-/// # Errors
-/// Want of memory; nothing is kept or counted then.
-pub fn keep<'p>(run: &mut Run<'p>, key: MemoKey, value: Value) -> Result<(), NoMemory>
-    requires { MayKeep (subquery key) value (⟦<Run<'p> as Ran>⟧.world run.old) }
-    ensures { Keeps (subquery key) value result (⟦<Run<'p> as Ran>⟧.world run.old) (⟦<Run<'p> as Ran>⟧.world run.new) }
-{
-    match &mut run.memo {
-        Some(memo) => {
-            memo.keep(key, value)?;
-            run.session.trace.misses = run.session.trace.misses.saturating_add(1);
-            Ok(())
         }
-        None => unreachable!(),
     }
-}
 
-/// Counts an execution of a join that has ended, of whose blocks the greatest had so many rows.
-///
-/// # Errors
-/// Want of memory; nothing is counted then.
-// Any call meets the `requires`, as at `recall`.
-pub fn ran<'p>(run: &mut Run<'p>, alloc: Global, entry: JoinRun, peak: u32) -> Result<(), NoMemory>
-    requires { ⊤ }
-    ensures { Ended entry peak result (⟦<Run<'p> as Ran>⟧.world run.old) (⟦<Run<'p> as Ran>⟧.world run.new) }
-{
-    let trace = &mut run.session.trace;
-    let mut joins = mem::replace(&mut trace.joins, Seq::of(Vec::new(alloc))).into_vec();
-    let pushed = joins.push(entry);
-    trace.joins = Seq::of(joins);
-    match pushed {
-        Ok(()) => {
-            trace.peak = trace.peak.max(peak);
-            Ok(())
+    fn keep(&mut self, key: MemoKey, value: Value) -> Result<(), NoMemory> {
+        match &mut self.memo {
+            Some(memo) => {
+                memo.keep(key, value)?;
+                self.session.trace.misses = self.session.trace.misses.saturating_add(1);
+                Ok(())
+            }
+            None => unreachable!(),
         }
-        Err(_) => Err(NoMemory),
+    }
+
+    fn ran(&mut self, alloc: Global, entry: JoinRun, peak: u32) -> Result<(), NoMemory> {
+        let trace = &mut self.session.trace;
+        let mut joins = mem::replace(&mut trace.joins, Seq::of(Vec::new(alloc))).into_vec();
+        let pushed = joins.push(entry);
+        trace.joins = Seq::of(joins);
+        match pushed {
+            Ok(()) => {
+                trace.peak = trace.peak.max(peak);
+                Ok(())
+            }
+            Err(_) => Err(NoMemory),
+        }
+    }
+
+    fn start(&mut self, scan: &Scan) -> Result<u64, EvalStop> {
+        start_scan(self, scan)
+    }
+
+    fn pull(&mut self, scan: &Scan, cursor: u64, into: &mut Vec<Value>) -> Result<bool, EvalStop> {
+        pull_scan(self, scan, cursor, into)
+    }
+
+    fn finish(&mut self, scan: &Scan, cursor: u64) {
+        finish_scan(self, scan, cursor)
+    }
+
+    fn repeats_none(&self, scan: &Scan) -> bool {
+        repeats_none(self, scan)
+    }
+
+    fn plain(&mut self, alloc: Global, term: &Term, env: &Env) -> Result<Value, Halt> {
+        match plain(alloc, term, &*env, &mut self.session) {
+            Ok(value) => Ok(value),
+            Err(Halt::Over(items)) => Err(Halt::Over(items)),
+            // No driver is asked where no source stands; `kl_eval` says only that the cause would be there already.
+            Err(Halt::Driver { .. }) | Err(Halt::NoMemory) => Err(Halt::NoMemory),
+        }
+    }
+
+    fn part<'a>(
+        &mut self,
+        alloc: Global,
+        term: &'a Term,
+        env: &'a Env<'a>,
+    ) -> Result<Arg<'a>, EvalStop> {
+        match part(alloc, term, env, &mut self.session) {
+            Ok(value) => Ok(value),
+            Err(EvalStop::Overflow) => Err(EvalStop::Overflow),
+            Err(EvalStop::Driver { .. }) | Err(EvalStop::NoMemory) => Err(EvalStop::NoMemory),
+        }
     }
 }

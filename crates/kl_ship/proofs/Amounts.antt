@@ -1,21 +1,23 @@
 -- No more scans stand in a plan than its term has nodes.
-use Rattle.std.proofs.Common.{◌≡◌, ℕ, zero, suc, ◌≤◌, Bool, List, length, refl, sym, ap, ◌∙◌, arith}
+use Rattle.std.proofs.Common.{◌≡◌, ℕ, zero, suc, ◌+◌, ◌-◌, ◌^◌, ◌≤◌, Bool, List, [], ◌∷◌, length, map, min, Option, refl, sym, ap, ◌∙◌, rules, length-append, arith}
 use Rattle.std.proofs.lemmas.List.{length-map}
-use Rattle.kl_ask.specs.declared.settings.Settings.{Settings}
+use Rattle.kl_value.specs.declared.Kind.{Kind}
+use Rattle.kl_outcome.specs.Outcome.{Name}
 use Rattle.kl_core.specs.Counts.{nodes_of, nodes_trees, nodes_parts, nodes_arms}
 use Rattle.kl_core.specs.Trees as term
 use Rattle.kl_core.specs.Trees.{Tree, Trees, no_trees, trees, Parts, no_parts, parts, Arms, no_arms, arm}
-use Rattle.kl_joins.specs.Numbered.{from}
-use Rattle.kl_joins.proofs.Amounts.{finished_scans}
 use Rattle.kl_ship.specs.declared.needs.Need.TheVariants as need
+use Rattle.kl_plan.specs.declared.plan.Plan.{Plan, the_lemmas}
+use Rattle.kl_plan.specs.declared.plan.Plan.TheVariants as plan
 use Rattle.kl_ship.specs.declared.source.ShipSource.{ShipSource}
-use Rattle.kl_plan.specs.Nodes.{Node}
-use Rattle.kl_plan.specs.Numbers.{scans_in}
+use Rattle.kl_plan.specs.Nodes.{Node, Branches, branches_of, view, view_branch, fields_view}
+use Rattle.kl_plan.specs.Numbers.{scans_in, scans_of_fields, scans_of_branches}
+use Rattle.kl_plan.specs.Joins.{other_node}
 use Rattle.kl_ship.specs.Ships.{Sends}
-use Rattle.kl_ship.specs.Whole.{Ships}
-use Rattle.kl_ship.proofs.Numbering.{numbers_are}
+use Rattle.kl_ship.proofs.Numbering.{from, numbers_are}
 use Rattle.kl_ship.proofs.ScansFew.{few_scans}
 use Rattle.kl_ship.specs.Sizes.{sources_in, sources_trees, sources_parts, sources_arms}
+use Rattle.kl_plan.proofs.Views.{view_Case}
 
 mutual
   pub few : (t : Tree) → sources_in t ≤ nodes_of t
@@ -47,8 +49,8 @@ mutual
   few_arms (arm l b bs) = let h = few b in let g = few_arms bs in omega (arith, h, g)
 
 -- a plan has no more scans than its term has nodes
-pub sent_most : (ss : List ShipSource) (delegate : Bool) (t : Tree) (p : Node) → Sends delegate ss t p → length (scans_in p) ≤ nodes_of t
-sent_most ss delegate t p w =
+pub scans_most : (ss : List ShipSource) (delegate : Bool) (t : Tree) (p : Node) → Sends delegate ss t p → length (scans_in p) ≤ nodes_of t
+scans_most ss delegate t p w =
     let n = numbers_are ss delegate t need.Items 0 p w.0 w.1 in
     let size : length (scans_in p) ≡ n.0 = sym (length-map (scans_in p) (λ c. c.number)) ∙ ap length n.2 ∙ length-from 0 n.0 in
     let last = n.1 in
@@ -59,9 +61,3 @@ sent_most ss delegate t p w =
     length-from : (n k : ℕ) → length (from n k) ≡ k
     length-from n zero = refl
     length-from n (suc k) = ap suc (length-from (suc n) k)
-
-pub scans_most : (how : Settings) (ss : List ShipSource) (t : Tree) (p : Node) → Ships how ss t p → length (scans_in p) ≤ nodes_of t
-scans_most how ss t p w =
-    let same = finished_scans how.join how.cache w.sent p w.finishes in
-    let most = sent_most ss how.delegate t w.sent w.sends in
-    omega (arith, same, most)

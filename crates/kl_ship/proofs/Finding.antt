@@ -1,5 +1,5 @@
 -- What is asked of conditions and of uses of rows, over the parts of a term or of a plan.
-use Rattle.std.proofs.Common.{◌≡◌, ◌==◌, ℕ, ◌+◌, ◌<◌, ◌≤◌, Bool, true, false, ◌||◌, List, [], ◌∷◌, map, cond, Option, Some, None, is_some, length, arith, refl, sym, ap, ◌∙◌}
+use Rattle.std.proofs.Common.{◌≡◌, ◌==◌, ℕ, ◌+◌, ◌<◌, ◌≤◌, Bool, true, false, ◌&&◌, ◌||◌, List, [], ◌∷◌, map, cond, Option, Some, None, is_some, length, arith, refl, sym, ap, ◌∙◌}
 use Rattle.std.proofs.Math.Bool.{or_assoc}
 use Rattle.kl_value.specs.declared.Kind.{Kind}
 use Rattle.kl_outcome.specs.Outcome.{Name}
@@ -11,14 +11,13 @@ use Rattle.kl_sqltext.specs.declared.ast.SqlOp.{SqlOp}
 use Rattle.kl_sqltext.specs.declared.ast.SqlTest.{SqlTest}
 use Rattle.kl_plan.specs.declared.plan.Plan.{Plan}
 use Rattle.kl_plan.specs.declared.plan.Plan.TheVariants as plan
-use Rattle.kl_ship.specs.Delegation.{comparison, is_empty, is_front, test_by, test_of, taken, taken_before, whole_use, whole_use_parts}
-use Rattle.kl_ship.specs.Delegation.{whole_use_arms, column_use, column_use_parts, column_use_arms}
+use Rattle.kl_ship.specs.Delegation.{is_empty, is_front, test_by, test_of, taken, taken_before, whole_use, whole_use_parts, whole_use_arms, column_use, column_use_parts, column_use_arms}
 use Rattle.kl_plan.specs.Erased.{erased, erased_nodes, erased_fields, erased_branches}
 use Rattle.kl_plan.specs.Nodes.{Branches, branches_of, view, view_branch, nodes_view, fields_view}
 use Rattle.kl_ship.specs.Shipping.{other_view}
 use Rattle.kl_plan.specs.Joins.{other_node}
 use Rattle.kl_plan.proofs.Finding.{as_term}
-use Rattle.kl_plan.proofs.Views.{view_Case, view_Make, view_Prim}
+use Rattle.kl_plan.proofs.Views.{view_Case, view_Make}
 
 -- ---- a comparison with fewer or more sides than two
 
@@ -43,14 +42,6 @@ plans_too_many n o [] h = refl
 plans_too_many n o (p ∷ []) h = refl
 plans_too_many n o (p ∷ q ∷ []) h = absurd (omega (arith, h))
 plans_too_many n o (p ∷ q ∷ r ∷ ps) h = refl
-
-pub compared_is_test : (r : ℕ) (p : Plan) (k : ℕ) (ps qs : List Plan) (m : Option SqlOp) (o : SqlOp) (x : Bool) → p ≡ plan.Prim k ps
-    → m ≡ comparison k → m ≡ Some o
-    → qs ≡ ps → x ≡ is_some (test_by r (Some o) (erased_nodes (nodes_view qs))) → x ≡ is_some (test_of r (erased (view p)))
-compared_is_test r p k ps qs m o x is from some same h =
-    h ∙ ap (λ z. is_some (test_by r (Some o) (erased_nodes (nodes_view z)))) same
-    ∙ sym (ap (λ z. is_some (test_of r (erased (view z)))) is ∙ ap (λ z. is_some (test_of r (erased z))) (view_Prim k ps)
-    ∙ ap (λ z. is_some (test_by r z (erased_nodes (nodes_view ps)))) (sym from ∙ some))
 
 -- ---- a collection with items
 
@@ -115,8 +106,8 @@ column_choices n m (b ∷ bs) last =
     ap (λ x. column_use (n + 1) m (as_term b.1) || x) (column_choices n m bs last)
     ∙ sym (or_assoc (column_use (n + 1) m (as_term b.1)) (column_use_parts (n + 1) m (erased_fields (fields_view bs))) (column_use_arms n m (erased_branches last)))
 
-pub plan_whole_case : (n : ℕ) (p a : Plan) (bs : List (Name × Plan)) (c : Option Plan)
-    → p ≡ plan.Case a bs c → whole_use n (as_term p) ≡ (whole_use n (as_term a) || (whole_use_parts (n + 1) (erased_fields (fields_view bs)) || whole_use_arms n (erased_branches (other_node c))))
+pub plan_whole_case : (n : ℕ) (p a : Plan) (bs : List (Name × Plan)) (c : Option Plan) → p ≡ plan.Case a bs c
+    → whole_use n (as_term p) ≡ (whole_use n (as_term a) || (whole_use_parts (n + 1) (erased_fields (fields_view bs)) || whole_use_arms n (erased_branches (other_node c))))
 plan_whole_case n p a bs c e = ap (λ x. whole_use n (erased x)) (ap view e ∙ view_Case a bs c) ∙ ap (λ b. whole_use n (as_term a) || b) (whole_choices n bs (other_node c))
 
 pub plan_column_case : (n : ℕ) (m : Name) (p a : Plan) (bs : List (Name × Plan)) (c : Option Plan) → p ≡ plan.Case a bs c

@@ -29,8 +29,6 @@ use Rattle.kl_ship.specs.Joined.{MayJoin, IsJoinable, Joins, row_parts, packed_v
 use Rattle.kl_ship.specs.Ships.{Sends, IsScan, Becomes, TreesBecome, PartsBecome, ArmsBecome, passed_on, is_generator, ByRows, BySql, ByAsk, Delegates}
 use Rattle.kl_ship.specs.Full.{Shows, IsUsed, IsFull, IsFullAt, FullyShipped, FullNodes, FullFields, FullBranches}
 use Rattle.kl_plan.specs.Erased.{erased, erased_nodes}
-use Rattle.kl_ship.proofs.Bare.{sent_bare}
-use Rattle.kl_ship.proofs.Directly.{bare_loop}
 use Rattle.kl_ship.proofs.Kept.{none_left, not_variable, variable_none, packed_total}
 use Rattle.kl_ship.proofs.Fully.{uses_erased, variable_erased}
 use Rattle.kl_ship.proofs.ColumnsLeft.{Strict, AllStrict, labels_strict, shown_used}
@@ -456,15 +454,12 @@ module _ (ss : List ShipSource) (sources : AreSources ss) (good : (i : ℕ) (s :
             (λ rows. rows_in_use ss q.source k b q.reading d p i m fit able_too rows.1 w ls shows)
             (λ sql. statement_in_use q.source k b q.reading d p i m (good q.place q.source q.listed) able_too sql.1 w ls shows)
             q.ask;
-        loops = λ join kind e over driver other.
-            let a = bare_loop k p e (sent_bare true ss p need.Items d i m w) over in
-            no_loop_left ss q.source k b q.reading d a.0 e n i m q.scan (sym (ap (λ x. x.join) able) ∙ join) kind q.ask
-            (subst (λ x. Becomes true ss need.Items d i x m) a.1 w) driver other;
+        loops = λ join kind a e same driver other.
+            no_loop_left ss q.source k b q.reading d a e n i m q.scan (sym (ap (λ x. x.join) able) ∙ join) kind q.ask (subst (λ x. Becomes true ss need.Items d i x m) same w) driver other;
       })
 
   no_generator : (k : Kind) (y : Tree) (b s : Node) (n i : ℕ) → is_generator true y ≡ false → Becomes true ss (need.Source k) y n s i → IsFullAt ss k b s
   no_generator k y b (node.Scan c) n i off w = absurd (no_plain_scan ss k y c n i off w)
-  no_generator k y b (node.Memo number frees p) n i off w = absurd w
   no_generator k y b s n i off w = tt
 
   scan_full : (s : Node) (c : Scan) → s ≡ node.Scan c → FullyShipped ss s

@@ -1,5 +1,5 @@
 -- What is needed of a plan against the outcome of its term.
-use Rattle.std.proofs.Common.{◌≡◌, subst}
+use Rattle.std.proofs.Common.{◌≡◌, refl, subst}
 use Rattle.kl_value.specs.declared.Kind.{Kind}
 use Rattle.kl_type.specs.Ground.{Ground, coll}
 use Rattle.kl_outcome.specs.Outcome.{Outcome, items_of}

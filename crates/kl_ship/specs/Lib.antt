@@ -12,5 +12,4 @@ pub mod Sense
 pub mod Full
 pub mod Marking
 pub mod Whether
-pub mod Bodies
 pub mod Whole

@@ -13,7 +13,7 @@ use Rattle.kl_ask.specs.declared.ask.Ask.{Ask}
 use Rattle.kl_ask.specs.declared.ask.Ask.TheVariants as asks
 use Rattle.kl_plan.specs.declared.plan.Scan.{Scan}
 use Rattle.kl_plan.specs.Nodes.{Node}
-use Rattle.kl_plan.specs.Typing.{AnyMemo, PlanTypes}
+use Rattle.kl_plan.specs.Typing.{PlanTypes}
 use Rattle.kl_ship.specs.declared.source.ShipSource.{ShipSource}
 use Rattle.kl_ship.specs.Sources.{ground}
 use Rattle.kl_ship.specs.Contents.{types_in}
@@ -43,4 +43,4 @@ pub record ScanOf (ss : List ShipSource) (c : Scan) (u : Ground) : Type 0 where
 
 -- the plan makes sense at each type that the term has, over these sources and without free positions
 abbrev pub KeepsTypes : List ShipSource → Tree → Node → Type 0
-KeepsTypes ss t p = (s : Ground) → CoreTypes (types_in ss) [] t s → PlanTypes (ScanOf ss) AnyMemo [] p s
+KeepsTypes ss t p = (s : Ground) → CoreTypes (types_in ss) [] t s → PlanTypes (ScanOf ss) [] p s

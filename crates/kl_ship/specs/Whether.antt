@@ -14,14 +14,11 @@ has_tests s k b = s.abilities.select && not (length (taken k 1 (erased b)) == 0)
 
 abbrev pub is_scan_by : ℕ → Kind → Node → Bool
 is_scan_by driver k (node.Scan d) = nat_eq d.driver driver && same_kind d.kind k
-is_scan_by driver k (node.Memo n frees p) = is_scan_by driver k p
 is_scan_by driver k p = false
 
 -- directly a loop of a kind over a scan of that kind by the driver
 abbrev pub is_loop_by : ℕ → Kind → Node → Bool
 is_loop_by driver k (node.Ext j a s) = same_kind j k && is_scan_by driver k s
-is_loop_by driver k (node.Join n j how o cs i q b) = same_kind j k && is_scan_by driver k o
-is_loop_by driver k (node.Memo n frees p) = is_loop_by driver k p
 is_loop_by driver k p = false
 
 abbrev pub has_loop : ShipSource → ℕ → Kind → Node → Bool

@@ -4,9 +4,9 @@ ghost use Rattle.std.specs.Prelude.{◌≡◌, IfOk};
 ghost use Rattle.kl_core.specs.Building.{Makes, MakesOfTwo, MakesOfThree};
 ghost use Rattle.kl_plan.specs.declared.plan.Plan.TheVariants as plan;
 
+use kl_plan::{Plan, PlanBranches, PlanFields, Plans, Scan};
 use kl_base::{Box, Label, NoMemory};
 use kl_core::Term;
-use kl_plan::{Plan, PlanBranches, PlanFields, Plans, Scan};
 use kl_value::Kind;
 
 /// A term, as it stands.

@@ -4,7 +4,6 @@
 //! refused growth.
 #![tactic(auto)]
 
-mod bodies;
 mod building;
 mod conditions;
 mod erased;
@@ -22,8 +21,8 @@ mod tests;
 mod used;
 
 pub use full::fully_shipped;
-pub use kl_plan::{Frees, Join, JoinKey, Plan, PlanBranches, PlanFields, Plans, Scan, count_scans};
 pub use laws::plan_laws;
 pub use needs::Need;
+pub use kl_plan::{Frees, Join, JoinKey, Plan, PlanBranches, PlanFields, Plans, Scan, count_scans};
 pub use shipping::ship;
 pub use source::ShipSource;

@@ -75,16 +75,14 @@ abbrev pub way_word : JoinHow → List ℕ
 way_word join.Block = codes "block"
 way_word join.Index = codes "index"
 
--- the label of the key by which an index is used
-abbrev pub on_text : JoinHow → Key → List ℕ
-on_text join.Block q = []
-on_text join.Index no_key = []
-on_text join.Index (key l p) = codes " on " ++ l
+abbrev pub on_text : Key → List ℕ
+on_text no_key = []
+on_text (key l p) = codes " on " ++ l
 
 -- a join of this number, which goes this way over the scan of that number, by a key
 abbrev pub join_line : ℕ → JoinHow → ℕ → Key → List ℕ
 join_line n how i q =
-    codes "join " ++ (decimal n ++ (codes " " ++ (way_word how ++ (codes " scan " ++ (decimal i ++ (on_text how q ++ codes "\n"))))))
+    codes "join " ++ (decimal n ++ (codes " " ++ (way_word how ++ (codes " scan " ++ (decimal i ++ (on_text q ++ codes "\n"))))))
 
 abbrev pub memo_line : ℕ → List ℕ
 memo_line n = codes "memo " ++ (decimal n ++ codes "\n")

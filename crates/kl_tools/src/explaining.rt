@@ -1,7 +1,6 @@
 //! What a plan asks of the drivers, as text.
 ghost use Rattle.std.specs.Prelude.{◌≡◌, ◌++◌, List, ℕ, decimal, slice_get, unwrap_or, IfOk, IsOkAnd, OnOk, []};
 ghost use Rattle.std.specs.List.{flat_map};
-ghost use Rattle.kl_ask.specs.declared.settings.JoinHow.TheVariants as way;
 ghost use Rattle.kl_value.specs.Written.{text_of};
 ghost use Rattle.kl_plan.specs.Joins.{join_view, keys_view};
 ghost use Rattle.kl_plan.specs.Nodes.{view, nodes_view, fields_view};
@@ -295,7 +294,7 @@ fn put_join(
     put(b" ", out)?;
     put(way_word(how), out)?;
     put_numbered(b" scan ", scan, out)?;
-    put_on(how, key, out)?;
+    put_on(key, out)?;
     put(b"\n", out)
 }
 
@@ -308,18 +307,8 @@ fn way_word(how: JoinHow) -> &'static [u8]
     }
 }
 
-// The label of the key by which an index is used: there is none where rows are joined by blocks.
-fn put_on(how: JoinHow, key: &Option<JoinKey>, out: &mut Vec<u8>) -> Result<(), NoMemory>
-    ensures { OnOk result (out.new.items ≡ out.old.items ++ on_text how (keys_view key.now)) }
-{
-    match how {
-        JoinHow::Block => Ok(()),
-        JoinHow::Index => put_key(key, out),
-    }
-}
-
-fn put_key(key: &Option<JoinKey>, out: &mut Vec<u8>) -> Result<(), NoMemory>
-    ensures { OnOk result (out.new.items ≡ out.old.items ++ on_text way.Index (keys_view key.now)) }
+fn put_on(key: &Option<JoinKey>, out: &mut Vec<u8>) -> Result<(), NoMemory>
+    ensures { OnOk result (out.new.items ≡ out.old.items ++ on_text (keys_view key.now)) }
 {
     match key {
         Some(key) => {

@@ -52,7 +52,7 @@ keep_inside-keep_labelled-requires t c = (
 
 pub keep_inside-returns-in-Rec : goal.keep_inside-returns-in-Rec
 keep_inside-returns-in-Rec t c =
-    rec_made c.args.place c.args.depth c.args.plan.now _ c.in-Rec.fields _ c.keep_labelled.new.parts c.aside-beside.result
+    rec_made c.args.place c.args.depth c.args.plan.now _ c.in-Rec.fields _ c.keep_labelled.new.parts c.aside-beside.result _
     c.keep_labelled.result c.in-Rec.is (first_of (search rules, search (rules, the_lemmas), search (rules, the_lemmas, c.in-Rec.is)))
     c.in-Rec.fields-is c.aside-beside.ensures c.keep_labelled.ensures
 

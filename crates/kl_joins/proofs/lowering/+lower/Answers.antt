@@ -1,8 +1,7 @@
 use Rattle.std.proofs.Common.{◌+◌, get_or, refl, rules, arith}
 use Rattle.kl_plan.specs.declared.plan.Plan.{the_lemmas}
 use Rattle.kl_joins.proofs.Lowerings.{Lowers, LowersUnder, all_lowered, labelled_lowered, case_lowered, rec_lowered, union_lowered, ext_lowered, if_lowered, let_lowered}
-use Rattle.kl_joins.proofs.Fronts.{unvisited_more, unvisited_item}
-use Rattle.kl_joins.proofs.Pairing.{item_paired, list_paired}
+use Rattle.kl_joins.proofs.Pairing.{item_paired, list_paired, unvisited_more, unvisited_item}
 use Rattle.kl_joins.proofs.lowering.+lower.Goals as goal
 
 pub lower_all-plans-preserved : goal.lower_all-plans-preserved

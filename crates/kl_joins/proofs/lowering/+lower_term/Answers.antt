@@ -1,8 +1,7 @@
 use Rattle.std.proofs.Common.{◌+◌, get_or, refl, rules, arith}
 use Rattle.kl_core.specs.declared.term.Term.{the_lemmas}
 use Rattle.kl_joins.proofs.Lowerings.{LowersTerm, LowersPart, terms_lowered, parts_lowered, case_term_lowered, term_rec_lowered, term_union_lowered, term_ext_lowered, term_if_lowered, term_let_lowered}
-use Rattle.kl_joins.proofs.Fronts.{unvisited_more, unvisited_item}
-use Rattle.kl_joins.proofs.Pairing.{item_paired, list_paired}
+use Rattle.kl_joins.proofs.Pairing.{item_paired, list_paired, unvisited_more, unvisited_item}
 use Rattle.kl_joins.proofs.lowering.+lower_term.Goals as goal
 
 pub lower_terms-terms-preserved : goal.lower_terms-terms-preserved
