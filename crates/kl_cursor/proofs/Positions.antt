@@ -70,9 +70,9 @@ module _ (p : Node) (G H : List Ground) (env to : List Value) (has : HaveTypes G
     pub values_agree : AgreeAt (λ n. occurs n p) env to
     values_agree x o = ⊎_elim (λ h. inside x o h)
         (λ h.
-          let past : length H ≤ x = ⊎_elim (λ l. absurd (let b = bound_back x o l in omega arith)) (λ l. l) (either x (length H)) in
-          let e = have_length G env has in let f = have_length H to have in
-          slice_get_past env x (omega arith) ∙ sym (slice_get_past to x (omega arith)))
+        let past : length H ≤ x = ⊎_elim (λ l. absurd (let b = bound_back x o l in omega arith)) (λ l. l) (either x (length H)) in
+        let e = have_length G env has in let f = have_length H to have in
+        slice_get_past env x (omega arith) ∙ sym (slice_get_past to x (omega arith)))
         (either x (length G))
       where
         either : (a b : ℕ) → (a < b) ⊎ (b ≤ a)
@@ -87,7 +87,6 @@ mixed at n [] (t ∷ G) = t ∷ mixed at (suc n) [] G
 mixed at n (s ∷ H) (t ∷ G) = cond (at n) s t ∷ mixed at (suc n) H G
 
 module _ (at : ℕ → Bool) where
-
   mixed_have : (n : ℕ) (H G : List Ground) (env to : List Value) → HaveTypes G env → HaveTypes H to → ((x : ℕ) → at (n + x) ≡ true → x < length H → slice_get env x ≡ slice_get to x) → HaveTypes (mixed at n H G) env
   mixed_have n H [] [] to g h e = tt
   mixed_have n H [] (v ∷ env) to g h e = absurd g

@@ -23,7 +23,7 @@ pub record Draining (env : List Value) (s0 : Snap) (a : Running) (vs : List Valu
   pub same : WhereTold env s0 a (λ k. Same k (left a s0 env) (followed (flow vs fine) (left b s env)))
   pub counts : WhereTold env s0 a (λ k. Counts env s0 a moves.events (λ P. to_start b P s env))
   pub typed : (G : List Ground) (k : Kind) (u : Ground) → HaveTypes G env → Fits a G k u s0
-    → AllByRecursion (Inhabits u) vs × Fits b G k u s
+      → AllByRecursion (Inhabits u) vs × Fits b G k u s
   pub lower : height s ≤ height s0
 
 -- and they were added to what was gathered
