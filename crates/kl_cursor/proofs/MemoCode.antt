@@ -60,9 +60,6 @@ module _ (t : Plan) (n : ℕ) (frees gs : List ℕ) (p q : Plan) (et : t ≡ pla
   pub memo_low : 1 + tall (view q) ≤ tall (view t)
   memo_low = let e : tall (view t) ≡ 1 + tall (view q) = ap tall at_Memo in omega arith
 
-pub memo_spare : (t : Plan) (n : ℕ) (frees : List ℕ) (p : Plan) → t ≡ plans.Memo n frees p → spare (view t) ≡ 5
-memo_spare t n frees p e = ap spare (ap view e ∙ view_Memo n frees p)
-
 pub memo_whole_form : (t : Plan) (n : ℕ) (frees : List ℕ) (p : Plan) → t ≡ plans.Memo n frees p → ComesOne (view t)
 memo_whole_form t n frees p e = subst ComesOne (sym (ap view e ∙ view_Memo n frees p)) (memo_comes_one n frees (view p))
 
