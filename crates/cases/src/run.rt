@@ -155,8 +155,10 @@ fn line_of(
     put(&mut line, b", err ")?;
     put_text(alloc, &mut line, err)?;
     'joins: for it in joins {
-        let entry =
-            format!(in alloc; ", join {} outer {} starts {}", it.join, it.outer, it.starts)?;
+        let entry = format!(in alloc;
+            ", join {} outer {} starts {}",
+            it.join, it.outer, it.starts
+        )?;
         put(&mut line, entry.as_bytes())?;
     }
     put(&mut line, b"\n")?;
