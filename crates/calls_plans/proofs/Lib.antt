@@ -1,3 +1,4 @@
+pub mod Begun
 pub mod Drawing
 pub mod Reading
 pub mod Scannable

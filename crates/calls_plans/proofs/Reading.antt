@@ -2,8 +2,8 @@
 use Rattle.std.proofs.Common.{◌<◌, ℕ, Bool, true, false, List, Ok, sym, ap, ◌∙◌, subst, arith}
 use Rattle.std.proofs.lemmas.Option.{same_Some}
 use Rattle.kl_value.specs.declared.Value.{Value}
-use Rattle.kl_ask.specs.World.{World}
-use Rattle.kl_ship.specs.declared.plan.Scan.{Scan}
+use Rattle.kl_scans.specs.Running.{Running}
+use Rattle.kl_plan.specs.declared.plan.Scan.{Scan}
 use Rattle.kl_scans.specs.Held.{Uses, nothing, one_at, Owned}
 use Rattle.kl_scans.specs.Moves.{Moves}
 use Rattle.kl_scans.specs.Scans.{CanScan, Started, Pulls}
@@ -11,10 +11,10 @@ use Rattle.kl_scans.specs.Stage.{ScanOf}
 use Rattle.kl_scans.proofs.Moving.{owned_after, stage_stays}
 use Rattle.calls_plans.specs.Reading.{IsReading}
 
-pub owned_nothing : (w : World) → Owned nothing w
+pub owned_nothing : (w : Running) → Owned nothing w
 owned_nothing w = record { each = λ d k. omega arith }
 
-module _ (c : Scan) (k : ℕ) (a b : World) where
+module _ (c : Scan) (k : ℕ) (a b : Running) where
   can_stay : (u v : Uses) → Moves u v a b → CanScan a c → CanScan b c
   can_stay u v m can = (can.0, subst (λ h. ScanOf h c can.0) (sym (stage_stays u v a b m)) can.1)
 

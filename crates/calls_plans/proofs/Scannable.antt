@@ -15,8 +15,9 @@ use Rattle.kl_ask.specs.Driver.{State, Source}
 use Rattle.kl_ask.specs.World.{World, IsReady, at_place, at_source, source_at}
 use Rattle.kl_ask.specs.declared.ask.Ask.TheVariants as asks
 use Rattle.kl_ask.specs.declared.session.Attached.{Attached}
-use Rattle.kl_ship.specs.declared.plan.Scan.{Scan}
+use Rattle.kl_plan.specs.declared.plan.Scan.{Scan}
 use Rattle.kl_scans.specs.Held.{Held, held_at}
+use Rattle.kl_scans.specs.Running.{Running}
 use Rattle.kl_scans.specs.Scans.{CanScan}
 use Rattle.kl_scans.specs.Stage.{Stage, stage, AskOf}
 use Rattle.calls_plans.specs.Reading.{HoldsNumbers}
@@ -43,7 +44,7 @@ held_of s = record { abilities = s.kind.abilities; attached = s.attached }
 abbrev listed_as : Name → Ty → Attached
 listed_as name ty = record { source = name; ty = ty; driver = Some 0 }
 
-pub can_scan : {A : Type 0} (f : A → State) (w : World) (c : Scan) (xs ys : List A) (x : A) (name : Name) (ty : Ty) → w.drivers ≡ map f xs → xs ≡ ys ++ x ∷ [] → ys ≡ []
+pub can_scan : {A : Type 0} (f : A → State) (w : Running) (c : Scan) (xs ys : List A) (x : A) (name : Name) (ty : Ty) → w.drivers ≡ map f xs → xs ≡ ys ++ x ∷ [] → ys ≡ []
     → w.sources ≡ listed_as name ty ∷ [] → name ≡ c.source → (s : Source) × ((f x).attached c.source ≡ Some s) × (s.ty ≡ ty) → ground_of ty ≡ coll kind.List int
     → c.driver ≡ 0 → c.ask ≡ asks.Rows c.source [] [] → CanScan w c
 unfolding stage held_at

@@ -14,15 +14,16 @@ use Rattle.kl_core.specs.Counts.{nodes_of as size_of}
 use Rattle.kl_core.specs.declared.term.Term.{the_lemmas}
 use Rattle.kl_core.specs.declared.term.Term.TheVariants as term
 use Rattle.kl_ask.specs.Driver.{DriverKind}
-use Rattle.kl_ask.specs.World.{World}
-use Rattle.kl_ship.specs.Nodes as node
-use Rattle.kl_ship.specs.Nodes.{Node, no_nodes, nodes, view as plan_view}
-use Rattle.kl_ship.specs.declared.plan.Plan.{Plan}
-use Rattle.kl_ship.specs.declared.plan.Plan as plan_names
-use Rattle.kl_ship.specs.declared.plan.Plan.TheVariants as plan
-use Rattle.kl_ship.proofs.Views.{view_Make, view_Ext}
+use Rattle.kl_plan.specs.Nodes as node
+use Rattle.kl_plan.specs.Nodes.{Node, no_nodes, nodes, view as plan_view}
+use Rattle.kl_plan.specs.declared.plan.Plan.{Plan}
+use Rattle.kl_plan.specs.declared.plan.Plan as plan_names
+use Rattle.kl_plan.specs.declared.plan.Plan.TheVariants as plan
+use Rattle.kl_plan.proofs.Views.{view_Make, view_Ext}
 use Rattle.kl_sources.specs.Sources.{ArePlaced, same}
 use Rattle.kl_sources.specs.declared.source.Source.{Source}
+use Rattle.kl_plan.specs.Parts.{memos_of}
+use Rattle.kl_scans.specs.Running.{Running}
 use Rattle.kl_cursor.specs.Sense.{TypesAt}
 
 view_Const : (v : Value) → view (term.Const v) ≡ Const v
@@ -61,8 +62,12 @@ loop_view m n body source bs ss e f g h =
     view_Ext kind.List body source ∙ ap₂ (node.Ext kind.List) inner outer
 
 pub loop_types : (m n : ℤ) (body source : Plan) (bs ss : List Plan) → bs ≡ plan.Var 0 ∷ plan.Plain (term.Const (value.Int n)) ∷ [] → ss ≡ plan.Plain (term.Const (value.Int m)) ∷ []
-    → body ≡ plan.Make kind.List bs → source ≡ plan.Make kind.List ss → (w : World) → TypesAt w [] (plan_view (plan.Ext kind.List body source)) (coll kind.List int)
+    → body ≡ plan.Make kind.List bs → source ≡ plan.Make kind.List ss → (w : Running) → TypesAt w [] (plan_view (plan.Ext kind.List body source)) (coll kind.List int)
 loop_types m n body source bs ss e f g h w =
     let is_int : (G : List Ground) (k : ℤ) → TypesAt w G (constant k) int = λ G k. (tt, λ S. (tt, (has_int k, int_made k))) in
     subst (λ p. TypesAt w [] p (coll kind.List int)) (sym (loop_view m n body source bs ss e f g h))
     (int, kind.List, int, refl, (int, refl, tt, (is_int [] m, tt)), (int, refl, tt, ((refl, tt), (is_int (int ∷ []) n, tt))))
+
+pub loop_memos : (m n : ℤ) (body source : Plan) (bs ss : List Plan) → bs ≡ plan.Var 0 ∷ plan.Plain (term.Const (value.Int n)) ∷ [] → ss ≡ plan.Plain (term.Const (value.Int m)) ∷ []
+    → body ≡ plan.Make kind.List bs → source ≡ plan.Make kind.List ss → memos_of (plan_view (plan.Ext kind.List body source)) ≡ []
+loop_memos m n body source bs ss e f g h = ap memos_of (loop_view m n body source bs ss e f g h)

@@ -1,4 +1,4 @@
--- A source of integers, and a scan of it that is being read in a session.
+-- A source of integers, and a scan of it that is being read in a run.
 use Rattle.std.specs.Prelude.{◌≡◌, ◌<◌, ℕ, List, Some}
 use Rattle.std.specs.List.{AllByRecursion}
 use Rattle.kl_value.specs.declared.Value.{Value}
@@ -7,13 +7,13 @@ use Rattle.kl_type.specs.declared.Ty.{Ty}
 use Rattle.kl_outcome.specs.Outcome.{Name}
 use Rattle.kl_outcome.specs.Typed.{Inhabits}
 use Rattle.kl_ask.specs.Driver.{State, Source}
-use Rattle.kl_ask.specs.World.{World}
-use Rattle.kl_ship.specs.declared.plan.Scan.{Scan}
+use Rattle.kl_plan.specs.declared.plan.Scan.{Scan}
 use Rattle.kl_scans.specs.Held.{Owned, one_at}
+use Rattle.kl_scans.specs.Running.{Running}
 use Rattle.kl_scans.specs.Scans.{CanScan, IsOpen}
 
 -- its cursor is open and its own, and rows can be pulled
-pub record IsReading (w : World) (c : Scan) (k : ℕ) : Type 0 where
+pub record IsReading (w : Running) (c : Scan) (k : ℕ) : Type 0 where
   pub can : CanScan w c
   pub is_open : IsOpen w c k
   pub owned : Owned (one_at c.driver k) w

@@ -1,37 +1,30 @@
-ghost use Rattle.std.specs.Prelude.{[], IfOk, reverse};
+ghost use Rattle.std.specs.Prelude.{◌≡◌, [], IfOk, reverse};
 ghost use Rattle.kl_value.specs.declared.Kind.TheVariants as kind;
 ghost use Rattle.kl_type.specs.Ground.{coll, int};
-ghost use Rattle.kl_ask.specs.World.{World, IsReady};
-ghost use Rattle.kl_ship.specs.Nodes.{view};
+ghost use Rattle.kl_plan.specs.Nodes.{view};
+ghost use Rattle.kl_plan.specs.Parts.{memos_of};
 ghost use Rattle.kl_scans.specs.Held.{Owned};
+ghost use Rattle.kl_scans.specs.Right.{IsReadyRun};
+ghost use Rattle.kl_scans.specs.Running.{Running};
 ghost use Rattle.kl_cursor.specs.Left.{snap, uses};
 ghost use Rattle.kl_cursor.specs.Sense.{Stands, TypesAt};
 
-use kl_ask::{Seen, Session, Settings, Trace};
+use kl_ask::{Session, Settings, Trace};
 use kl_base::{Box, Seq};
 use kl_core::Term;
 use kl_cursor::{Cursor, Draw, open_plan, value_of};
 use kl_eval::EvalStop;
+use kl_run::{memo_for, run_of};
+use kl_scans::{Ran, Run};
 use kl_ship::Plan;
 use kl_value::{Kind, Value};
 use std::alloc::Global;
 use std::test::Fail;
 
-// A session without sources.
-fn session(alloc: Global) -> Session
-    ensures { IsReady (⟦<Session as Seen>⟧.world result) }
-{
-    Session {
-        drivers: Vec::new(alloc),
-        sources: Seq::of(Vec::new(alloc)),
-        settings: Settings::usual(),
-        trace: Trace::new(alloc),
-    }
-}
-
 // A list of each item of `[|4|]` and then 7.
 fn plan(alloc: Global) -> Result<Plan, Fail>
-    ensures { IfOk result (λ p. (w : World) → TypesAt w [] (view p) (coll kind.List int)) }
+    ensures types { IfOk result (λ p. (w : Running) → TypesAt w [] (view p) (coll kind.List int)) }
+    ensures memos { IfOk result (λ p. memos_of (view p) ≡ []) }
 {
     let four = Plan::Plain(Term::Const(Value::Int(4)));
     let seven = Plan::Plain(Term::Const(Value::Int(7)));
@@ -42,14 +35,30 @@ fn plan(alloc: Global) -> Result<Plan, Fail>
     Ok(Plan::Ext(Kind::List, body, source))
 }
 
-// Whether the next item is this integer.
-fn gives(cursor: &mut Cursor<'_>, session: &mut Session, item: i64) -> bool
-    requires owned { Owned (uses (snap cursor.old.at)) (⟦<Session as Seen>⟧.world session.old) }
-    requires sense { Stands (⟦<Session as Seen>⟧.world session.old) (snap cursor.old.at) (reverse cursor.old.env) }
-    ensures owned { Owned (uses (snap cursor.new.at)) (⟦<Session as Seen>⟧.world session.new) }
-    ensures sense { Stands (⟦<Session as Seen>⟧.world session.new) (snap cursor.new.at) (reverse cursor.new.env) }
+// A run of a plan without subqueries, over a session without sources.
+fn run<'p>(alloc: Global, plan: &'p Plan) -> Result<Run<'p>, Fail>
+    requires { memos_of (view plan.now) ≡ [] }
+    ensures { IfOk result (λ r. IsReadyRun (⟦<Run<'p> as Ran>⟧.world r)) }
 {
-    cursor.next(session) == Ok(Some(Value::Int(item)))
+    let settings = Settings::usual();
+    let memo = memo_for(alloc, &settings)?;
+    let session = Session {
+        drivers: Vec::new(alloc),
+        sources: Seq::of(Vec::new(alloc)),
+        settings,
+        trace: Trace::new(alloc),
+    };
+    Ok(run_of(session, memo, plan))
+}
+
+// Whether the next item is this integer.
+fn gives<'p>(cursor: &mut Cursor<'_>, run: &mut Run<'p>, item: i64) -> bool
+    requires owned { Owned (uses (snap cursor.old.at)) (⟦<Run<'p> as Ran>⟧.world run.old) }
+    requires sense { Stands (⟦<Run<'p> as Ran>⟧.world run.old) (snap cursor.old.at) (reverse cursor.old.env) }
+    ensures owned { Owned (uses (snap cursor.new.at)) (⟦<Run<'p> as Ran>⟧.world run.new) }
+    ensures sense { Stands (⟦<Run<'p> as Ran>⟧.world run.new) (snap cursor.new.at) (reverse cursor.new.env) }
+{
+    cursor.next(run) == Ok(Some(Value::Int(item)))
 }
 
 fn is_item(drawn: &Result<Draw, EvalStop>, item: i64) -> bool {
@@ -60,41 +69,41 @@ fn is_item(drawn: &Result<Draw, EvalStop>, item: i64) -> bool {
 }
 
 // Whether this integer comes of what is at hand.
-fn holds(cursor: &mut Cursor<'_>, session: &mut Session, item: i64) -> bool
-    requires owned { Owned (uses (snap cursor.old.at)) (⟦<Session as Seen>⟧.world session.old) }
-    requires sense { Stands (⟦<Session as Seen>⟧.world session.old) (snap cursor.old.at) (reverse cursor.old.env) }
-    ensures owned { Owned (uses (snap cursor.new.at)) (⟦<Session as Seen>⟧.world session.new) }
-    ensures sense { Stands (⟦<Session as Seen>⟧.world session.new) (snap cursor.new.at) (reverse cursor.new.env) }
+fn holds<'p>(cursor: &mut Cursor<'_>, run: &mut Run<'p>, item: i64) -> bool
+    requires owned { Owned (uses (snap cursor.old.at)) (⟦<Run<'p> as Ran>⟧.world run.old) }
+    requires sense { Stands (⟦<Run<'p> as Ran>⟧.world run.old) (snap cursor.old.at) (reverse cursor.old.env) }
+    ensures owned { Owned (uses (snap cursor.new.at)) (⟦<Run<'p> as Ran>⟧.world run.new) }
+    ensures sense { Stands (⟦<Run<'p> as Ran>⟧.world run.new) (snap cursor.new.at) (reverse cursor.new.env) }
 {
-    is_item(&cursor.next_held(session), item)
+    is_item(&cursor.next_held(run), item)
 }
 
-fn ends(cursor: &mut Cursor<'_>, session: &mut Session) -> bool
-    requires owned { Owned (uses (snap cursor.old.at)) (⟦<Session as Seen>⟧.world session.old) }
-    requires sense { Stands (⟦<Session as Seen>⟧.world session.old) (snap cursor.old.at) (reverse cursor.old.env) }
-    ensures { Owned (uses (snap cursor.new.at)) (⟦<Session as Seen>⟧.world session.new) }
+fn ends<'p>(cursor: &mut Cursor<'_>, run: &mut Run<'p>) -> bool
+    requires owned { Owned (uses (snap cursor.old.at)) (⟦<Run<'p> as Ran>⟧.world run.old) }
+    requires sense { Stands (⟦<Run<'p> as Ran>⟧.world run.old) (snap cursor.old.at) (reverse cursor.old.env) }
+    ensures { Owned (uses (snap cursor.new.at)) (⟦<Run<'p> as Ran>⟧.world run.new) }
 {
-    cursor.next(session) == Ok(None)
+    cursor.next(run) == Ok(None)
 }
 
 // Whether no source is read, and 4, 7 and the end come.
-fn is_drawn(alloc: Global, plan: &Plan, session: &mut Session) -> Result<bool, Fail>
-    requires types { (w : World) → TypesAt w [] (view plan.now) (coll kind.List int) }
-    requires ready { IsReady (⟦<Session as Seen>⟧.world session.old) }
+fn is_drawn<'p>(alloc: Global, plan: &Plan, run: &mut Run<'p>) -> Result<bool, Fail>
+    requires types { (w : Running) → TypesAt w [] (view plan.now) (coll kind.List int) }
+    requires ready { IsReadyRun (⟦<Run<'p> as Ran>⟧.world run.old) }
 {
     let mut cursor = open_plan(alloc, plan, &[])?;
     let waits = cursor.may_pull();
-    let first = gives(&mut cursor, session, 4);
-    let second = holds(&mut cursor, session, 7);
-    let end = ends(&mut cursor, session);
-    cursor.close(session);
+    let first = gives(&mut cursor, run, 4);
+    let second = holds(&mut cursor, run, 7);
+    let end = ends(&mut cursor, run);
+    cursor.close(run);
     Ok(!waits && first && second && end)
 }
 
 fn draws(alloc: Global) -> Result<bool, Fail> {
     let plan = plan(alloc)?;
-    let mut session = session(alloc);
-    is_drawn(alloc, &plan, &mut session)
+    let mut run = run(alloc, &plan)?;
+    is_drawn(alloc, &plan, &mut run)
 }
 
 #[test]
@@ -111,12 +120,12 @@ fn is_list(value: &Value) -> bool {
 }
 
 // Whether the value is the list of 4 and 7.
-fn has_value(alloc: Global, plan: &Plan, session: &mut Session) -> bool
-    requires types { (w : World) → TypesAt w [] (view plan.now) (coll kind.List int) }
-    requires ready { IsReady (⟦<Session as Seen>⟧.world session.old) }
+fn has_value<'p>(alloc: Global, plan: &Plan, run: &mut Run<'p>) -> bool
+    requires types { (w : Running) → TypesAt w [] (view plan.now) (coll kind.List int) }
+    requires ready { IsReadyRun (⟦<Run<'p> as Ran>⟧.world run.old) }
 {
     let mut env = Vec::new(alloc);
-    match value_of(alloc, plan, &mut env, session) {
+    match value_of(alloc, plan, &mut env, run) {
         Ok(value) => is_list(&value),
         Err(_) => false,
     }
@@ -124,8 +133,8 @@ fn has_value(alloc: Global, plan: &Plan, session: &mut Session) -> bool
 
 fn values(alloc: Global) -> Result<bool, Fail> {
     let plan = plan(alloc)?;
-    let mut session = session(alloc);
-    Ok(has_value(alloc, &plan, &mut session))
+    let mut run = run(alloc, &plan)?;
+    Ok(has_value(alloc, &plan, &mut run))
 }
 
 #[test]

@@ -1,8 +1,9 @@
-ghost use Rattle.std.specs.Prelude.{◌≡◌, ◌≤◌, Bool, List, [], IfOk};
+ghost use Rattle.std.specs.Prelude.{◌≡◌, ◌≤◌, List, [], IfOk};
+ghost use Rattle.kl_ask.specs.declared.settings.Settings.{Settings};
 ghost use Rattle.kl_core.specs.Counts.{nodes_of};
 ghost use Rattle.kl_core.specs.Trees.{Tree};
 ghost use Rattle.kl_run.specs.Planned.{IsPlanOf};
-ghost use Rattle.kl_ship.specs.Nodes.{view};
+ghost use Rattle.kl_plan.specs.Nodes.{view};
 ghost use Rattle.kl_ship.specs.declared.source.ShipSource.{ShipSource};
 
 use kl_ask::{Driver, Settings};
@@ -15,8 +16,8 @@ use std::test::Fail;
 
 // The plan of a constant.
 fn four(alloc: Global) -> Result<Plan, Fail>
-    ensures { IfOk result (λ p. (delegate : Bool) × (ss : List ShipSource) × (t : Tree)
-        × IsPlanOf delegate ss t (view p) × (nodes_of t ≤ 16384)) }
+    ensures { IfOk result (λ p. (how : Settings) × (ss : List ShipSource) × (t : Tree)
+        × IsPlanOf how ss t (view p) × (nodes_of t ≤ 16384)) }
 {
     let drivers: Vec<Box<dyn Driver>> = Vec::new(alloc);
     let term = Term::Const(Value::Int(4));
@@ -30,7 +31,7 @@ fn is_four(plan: &Plan) -> bool {
 
 // Whether a trace of a plan has its steps, and counts no scan.
 fn is_traced(alloc: Global, plan: &Plan) -> Result<bool, Fail>
-    requires { (delegate : Bool) × (ss : List ShipSource) × (t : Tree) × IsPlanOf delegate ss t (view plan.now) × (nodes_of t ≤ 16384) }
+    requires { (how : Settings) × (ss : List ShipSource) × (t : Tree) × IsPlanOf how ss t (view plan.now) × (nodes_of t ≤ 16384) }
 {
     let trace = trace_of(alloc, plan, 3)?;
     Ok(trace.steps == 3 && trace.starts.is_empty())

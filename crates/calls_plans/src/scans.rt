@@ -1,10 +1,14 @@
 ghost use Rattle.std.specs.Prelude.{◌≡◌, ◌<◌, [], IfOk, IfSome};
 ghost use Rattle.kl_value.specs.declared.Kind.TheVariants as kind;
 ghost use Rattle.kl_type.specs.Ground.{coll, int, ground_of};
+ghost use Rattle.kl_ask.specs.Settings.{usual_settings};
 ghost use Rattle.kl_ask.specs.World.{IsReady};
 ghost use Rattle.kl_ask.specs.declared.ask.Ask.TheVariants as asks;
 ghost use Rattle.kl_outside.specs.Files.{NoneOpen};
 ghost use Rattle.kl_outside.specs.Memory.{files_state};
+ghost use Rattle.kl_plan.specs.Nodes.{Node};
+ghost use Rattle.kl_run.specs.Running.{fresh_run};
+ghost use Rattle.kl_scans.specs.Right.{IsReadyRun};
 ghost use Rattle.kl_scans.specs.Scans.{CanScan};
 ghost use Rattle.calls_plans.specs.Reading.{HoldsNumbers, IsReading};
 
@@ -12,7 +16,8 @@ use kl_ask::{Ask, Attached, Driver, Seen, Session, Settings, Trace};
 use kl_base::{Box, Label, Seq, Text};
 use kl_nested::NestedDriver;
 use kl_outside::MemFiles;
-use kl_scans::{finish_scan, pull_scan, repeats_none, start_scan};
+use kl_run::{memo_for, run_of};
+use kl_scans::{Ran, Run, finish_scan, pull_scan, repeats_none, start_scan};
 use kl_ship::{Plan, Scan};
 use kl_tools::explain;
 use kl_type::Ty;
@@ -92,7 +97,8 @@ fn session(alloc: Global, driver: HeapBox<dyn Driver>, ty: Ty, scan: &Scan) -> R
     requires ty { ground_of ty ≡ coll kind.List int }
     requires driver { scan.now.driver ≡ 0 }
     requires ask { scan.now.ask ≡ asks.Rows scan.now.source [] [] }
-    ensures can { IfOk result (λ s. CanScan (⟦<Session as Seen>⟧.world s) scan.now) }
+    ensures settings { IfOk result (λ s. (⟦<Session as Seen>⟧.world s).settings ≡ usual_settings) }
+    ensures can { IfOk result (λ s. (p : Node) → CanScan (fresh_run p (⟦<Session as Seen>⟧.world s)) scan.now) }
     ensures ready { IfOk result (λ s. IsReady (⟦<Session as Seen>⟧.world s)) }
 {
     let mut drivers = Vec::new(alloc);
@@ -110,23 +116,23 @@ fn session(alloc: Global, driver: HeapBox<dyn Driver>, ty: Ty, scan: &Scan) -> R
     })
 }
 
-fn starts(session: &mut Session, scan: &Scan) -> Option<u64>
-    requires can { CanScan (⟦<Session as Seen>⟧.world session.old) scan.now }
-    requires room { 0 < (⟦<Session as Seen>⟧.world session.old).settings.fetch }
-    ensures { IfSome result (IsReading (⟦<Session as Seen>⟧.world session.new) scan.now) }
+fn starts<'p>(run: &mut Run<'p>, scan: &Scan) -> Option<u64>
+    requires can { CanScan (⟦<Run<'p> as Ran>⟧.world run.old) scan.now }
+    requires room { 0 < (⟦<Run<'p> as Ran>⟧.world run.old).settings.fetch }
+    ensures { IfSome result (IsReading (⟦<Run<'p> as Ran>⟧.world run.new) scan.now) }
 {
-    match start_scan(session, scan) {
+    match start_scan(run, scan) {
         Ok(cursor) => Some(cursor),
         Err(_stop) => None,
     }
 }
 
 // Whether the next pull gives rows.
-fn pulls(session: &mut Session, scan: &Scan, cursor: u64, into: &mut Vec<Value>) -> Option<bool>
-    requires { IsReading (⟦<Session as Seen>⟧.world session.old) scan.now cursor }
-    ensures { IfSome result (λ more. IsReading (⟦<Session as Seen>⟧.world session.new) scan.now cursor) }
+fn pulls<'p>(run: &mut Run<'p>, scan: &Scan, cursor: u64, into: &mut Vec<Value>) -> Option<bool>
+    requires { IsReading (⟦<Run<'p> as Ran>⟧.world run.old) scan.now cursor }
+    ensures { IfSome result (λ more. IsReading (⟦<Run<'p> as Ran>⟧.world run.new) scan.now cursor) }
 {
-    match pull_scan(session, scan, cursor, into) {
+    match pull_scan(run, scan, cursor, into) {
         Ok(more) => Some(more),
         Err(_stop) => None,
     }
@@ -137,38 +143,49 @@ fn are_rows(rows: &[Value]) -> bool {
 }
 
 // Whether one pull gives all rows, and the next one none.
-fn reads(alloc: Global, session: &mut Session, scan: &Scan) -> bool
-    requires can { CanScan (⟦<Session as Seen>⟧.world session.old) scan.now }
-    requires ready { IsReady (⟦<Session as Seen>⟧.world session.old) }
+fn reads<'p>(alloc: Global, run: &mut Run<'p>, scan: &Scan) -> bool
+    requires can { CanScan (⟦<Run<'p> as Ran>⟧.world run.old) scan.now }
+    requires ready { IsReadyRun (⟦<Run<'p> as Ran>⟧.world run.old) }
 {
     let mut rows = Vec::new(alloc);
-    let Some(cursor) = starts(session, scan) else {
+    let Some(cursor) = starts(run, scan) else {
         return false;
     };
-    let Some(first) = pulls(session, scan, cursor, &mut rows) else {
+    let Some(first) = pulls(run, scan, cursor, &mut rows) else {
         return false;
     };
-    let Some(second) = pulls(session, scan, cursor, &mut rows) else {
+    let Some(second) = pulls(run, scan, cursor, &mut rows) else {
         return false;
     };
-    finish_scan(session, scan, cursor);
+    finish_scan(run, scan, cursor);
     first && !second && are_rows(&rows)
 }
 
-fn is_counted(session: &Session) -> bool {
-    let starts = session.trace.starts.slice();
+fn is_counted(run: &Run<'_>) -> bool {
+    let starts = run.session.trace.starts.slice();
     matches!(starts, [only] if only.0 == 0 && only.1 == 1)
 }
 
-fn scans(alloc: Global, driver: HeapBox<dyn Driver>, ty: Ty, scan: &Scan) -> Result<bool, Fail>
+// Whether a scan may repeat rows, and is read and counted.
+fn scans<'p>(alloc: Global, run: &mut Run<'p>, scan: &Scan) -> bool
+    requires can { CanScan (⟦<Run<'p> as Ran>⟧.world run.old) scan.now }
+    requires ready { IsReadyRun (⟦<Run<'p> as Ran>⟧.world run.old) }
+{
+    let may_repeat = !repeats_none(run, scan);
+    may_repeat && reads(alloc, run, scan) && is_counted(run)
+}
+
+fn is_scanned(alloc: Global, driver: HeapBox<dyn Driver>, ty: Ty, scan: &Scan) -> Result<bool, Fail>
     requires attached { HoldsNumbers (state driver) scan.now.source ty }
     requires ty { ground_of ty ≡ coll kind.List int }
     requires driver { scan.now.driver ≡ 0 }
     requires ask { scan.now.ask ≡ asks.Rows scan.now.source [] [] }
 {
-    let mut session = session(alloc, driver, ty, scan)?;
-    let may_repeat = !repeats_none(&session, scan);
-    Ok(may_repeat && reads(alloc, &mut session, scan) && is_counted(&session))
+    let session = session(alloc, driver, ty, scan)?;
+    let memo = memo_for(alloc, &session.settings)?;
+    let plan = Plan::Var(0);
+    let mut run = run_of(session, memo, &plan);
+    Ok(scans(alloc, &mut run, scan))
 }
 
 #[test]
@@ -177,7 +194,7 @@ fn a_source_is_scanned(rt: HostRuntime) -> Result<(), Fail> {
     let ty = list_type(rt.alloc())?;
     let driver = attached(rt.alloc(), &scan.source, &ty)?;
     let boxed = boxed(rt.alloc(), driver)?;
-    assert!(rt; scans(rt.alloc(), boxed, ty, &scan)?);
+    assert!(rt; is_scanned(rt.alloc(), boxed, ty, &scan)?);
     Ok(())
 }
 

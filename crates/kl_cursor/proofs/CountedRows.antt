@@ -16,19 +16,20 @@ use Rattle.kl_outcome.proofs.Drawing.{members, items_canonical}
 use Rattle.kl_outcome.proofs.Flows.{collected_flow, flow_items}
 use Rattle.kl_outcome.proofs.PrimLemmas.{has_int}
 use Rattle.kl_ask.specs.Driver.{same_value}
-use Rattle.kl_ask.specs.World.{World, IsReady}
+use Rattle.kl_scans.specs.Running.{Running}
+use Rattle.kl_scans.specs.Right.{IsReadyRun}
 use Rattle.kl_eval.specs.declared.stop.EvalStop.{EvalStop}
 use Rattle.kl_eval.specs.declared.stop.EvalStop.TheVariants as why
-use Rattle.kl_ship.specs.Alike.{IsAlike, harm}
-use Rattle.kl_ship.specs.Kinds.{kind_of_items}
-use Rattle.kl_ship.specs.Meaning.{worth, coming, plan, scanned}
-use Rattle.kl_ship.specs.Nodes as node
-use Rattle.kl_ship.specs.Nodes.{Node, no_nodes, nodes, view}
-use Rattle.kl_ship.specs.declared.plan.Plan.{Plan}
-use Rattle.kl_ship.specs.declared.plan.Plan.TheVariants as plans
-use Rattle.kl_ship.specs.declared.plan.Scan.{Scan}
-use Rattle.kl_ship.proofs.Collections.{alike_distinct}
-use Rattle.kl_ship.proofs.Views.{view_Scan}
+use Rattle.kl_plan.specs.Alike.{IsAlike, harm}
+use Rattle.kl_plan.specs.Kinds.{kind_of_items}
+use Rattle.kl_plan.specs.Meaning.{worth, coming, plan, scanned}
+use Rattle.kl_plan.specs.Nodes as node
+use Rattle.kl_plan.specs.Nodes.{Node, no_nodes, nodes, view}
+use Rattle.kl_plan.specs.declared.plan.Plan.{Plan}
+use Rattle.kl_plan.specs.declared.plan.Plan.TheVariants as plans
+use Rattle.kl_plan.specs.declared.plan.Scan.{Scan}
+use Rattle.kl_plan.proofs.Collections.{alike_distinct}
+use Rattle.kl_plan.proofs.Views.{view_Scan}
 use Rattle.kl_scans.specs.Scans.{CanScan}
 use Rattle.kl_scans.specs.Stage.{stage, RepeatsNone}
 use Rattle.kl_cursor.specs.Gathering.{counted, IsTally, CountsRows}
@@ -45,7 +46,7 @@ use Rattle.kl_cursor.proofs.ValueParts.{call_only_stop, sense_only}
 pub scan_viewed : (p : Plan) (q : Scan) → p ≡ plans.Scan q → view p ≡ node.Scan q
 scan_viewed p q is = ap view is ∙ view_Scan q
 
-pub can_count : (p : Plan) (q : Scan) (w : World) → p ≡ plans.Scan q → (env : List Value) × HasWorth w (view p) env → CanScan w q × IsReady w
+pub can_count : (p : Plan) (q : Scan) (w : Running) → p ≡ plans.Scan q → (env : List Value) × HasWorth w (view p) env → CanScan w q × IsReadyRun w
 can_count p q w is h =
     let k : HasWorth w (node.Scan q) h.0 = subst (λ z. HasWorth w z h.0) (scan_viewed p q is) h.1 in
     let t = scan_typed w k.0 q k.1 k.3 in
@@ -54,7 +55,7 @@ can_count p q w is h =
 same_scan : (q c : Scan) → plans.Scan q ≡ plans.Scan c → q ≡ c
 same_scan q c e = cc
 
-pub is_counted : (p : Plan) (q : Scan) (c : ℕ) (w : World) → p ≡ plans.Scan q → CountsRows w c p → RepeatsNone (stage w) q
+pub is_counted : (p : Plan) (q : Scan) (c : ℕ) (w : Running) → p ≡ plans.Scan q → CountsRows w c p → RepeatsNone (stage w) q
 is_counted p q c w is h = subst (RepeatsNone (stage w)) (same_scan h.1 q (sym h.2 ∙ is)) h.3
 
 -- ---- how many they are
@@ -86,7 +87,7 @@ count_type : (ss : List Ground) (s : Ground) → PrimTypes 14 ss s → s ≡ int
 unfolding PrimTypes row_at rows
 count_type ss s h = h.3
 
-module _ (env : List Value) (q : Scan) (a b : World) (apart : RepeatsNone (stage a) q) where
+module _ (env : List Value) (q : Scan) (a b : Running) (apart : RepeatsNone (stage a) q) where
   abbrev p : Node
   p = node.Scan q
 
@@ -102,12 +103,12 @@ module _ (env : List Value) (q : Scan) (a b : World) (apart : RepeatsNone (stage
             subst (λ z. Same q.kind z (flow vs fine)) (ap (λ z. coming (scanned q.kind z)) read.1) (h.gave G q.kind x.u t (subst (TypesAt a G p) x.is y.1.3) told) in
             ap (λ z. after z (λ u. answered (meaning 14 (u ∷ [])))) (ap (λ z. worth (scanned q.kind z)) read.1 ∙ collected_flow q.kind read.0 fine)
             ∙ ap answered (counts_members q.kind read.0 ∙ ap amount (length_distinct q.kind read.0 (read.3 apart) ∙ as_many q.kind read.0 vs same));
-        counts = λ G s t y told well price.
+        counts = λ G s t y told well P.
             let x = scan_typed a G q y.1.0 y.1.3 in
             let fits : TypesAt a G p (coll q.kind x.u) = subst (TypesAt a G p) x.is y.1.3 in
             let all = coming (plan (reading a) p env) in
             let ends : harm all ≡ 0 = sym (same_harm q.kind all (flow vs fine) (h.gave G q.kind x.u t fits told)) ∙ harm_flow vs in
-            let k = h.counts G q.kind x.u t fits told ends price in
+            let k = h.counts G q.kind x.u t fits told ends P in
             omega (arith, k);
         typed = λ G s t y. subst (λ z. OfType z (done (value.Int (pos (length vs))))) (sym (count_type y.0 s y.2)) (has_int (pos (length vs)), int_made (pos (length vs)));
       }
@@ -120,14 +121,14 @@ module _ (env : List Value) (q : Scan) (a b : World) (apart : RepeatsNone (stage
   call_rows (Err (why.Driver l e)) h = call_only_stop 14 p env a (why.Driver l e) b h
   call_rows (Err why.NoMemory) h = call_only_stop 14 p env a why.NoMemory b h
 
-module _ (c : ℕ) (p : Plan) (env : List Value) (a : World) (counts : CountsRows a c p) where
+module _ (c : ℕ) (p : Plan) (env : List Value) (a : Running) (counts : CountsRows a c p) where
   is_scan : view p ≡ node.Scan counts.1
   is_scan = scan_viewed p counts.1 counts.2
 
   pub counted_ready : HasCall a c (nodes (view p) no_nodes) env → IsTally (counted 0) × Stands a (fresh (view p)) env
   counted_ready s = (tt, worth_stands env (view p) (counts.1).kind a (ap kind_of_items is_scan) (sense_only c (view p) env a s))
 
-  pub call_counted : (r : Result Value EvalStop) (b : World) → Tallies env (fresh (view p)) (counted 0) r a b → CallGives env c (nodes (view p) no_nodes) r a b
+  pub call_counted : (r : Result Value EvalStop) (b : Running) → Tallies env (fresh (view p)) (counted 0) r a b → CallGives env c (nodes (view p) no_nodes) r a b
   call_counted r b h =
       subst (λ z. CallGives env z (nodes (view p) no_nodes) r a b) (sym counts.0)
       (subst (λ z. CallGives env 14 (nodes z no_nodes) r a b) (sym is_scan) (call_rows env counts.1 a b counts.3 r (subst (λ z. Tallies env (fresh z) (counted 0) r a b) is_scan h)))

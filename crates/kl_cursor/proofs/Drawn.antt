@@ -1,5 +1,5 @@
 -- Which kinds plans have, and how loops draw them.
-use Rattle.std.proofs.Common.{◌≡◌, true, false, List, ◌∷◌, Option, Some, None, refl, sym, ap, ◌∙◌}
+use Rattle.std.proofs.Common.{◌≡◌, ℕ, true, false, List, ◌∷◌, Option, Some, None, refl, sym, ap, ◌∙◌}
 use Rattle.std.specs.Prelude.{⊤}
 use Rattle.kl_value.specs.declared.Kind.{Kind}
 use Rattle.kl_value.specs.declared.Kind.TheVariants as kind
@@ -8,18 +8,18 @@ use Rattle.kl_type.specs.Ground.{Ground, Row, coll}
 use Rattle.kl_outcome.specs.Outcome.{Flow, items_of}
 use Rattle.kl_outcome.specs.Typed.{HaveTypes}
 use Rattle.kl_core.specs.Counts.{fits_in}
-use Rattle.kl_ask.specs.World.{World}
-use Rattle.kl_ship.specs.declared.plan.Scan.{Scan}
-use Rattle.kl_ship.specs.Alike.{Alike}
-use Rattle.kl_ship.specs.Kinds.{first_kind, kind_of_items, kind_of_branches}
-use Rattle.kl_ship.specs.Meaning.{worth, coming, drawn_for, plan}
-use Rattle.kl_ship.specs.Nodes as node
-use Rattle.kl_ship.specs.Nodes.{Node, Branches, no_branches, rest, branch}
-use Rattle.kl_ship.specs.Typing.{PlanTypes, BranchTypes}
-use Rattle.kl_ship.proofs.Comings.{drawn_alike, drawn_fitting}
-use Rattle.kl_ship.proofs.KindLaws.{kinds_typed}
-use Rattle.kl_ship.proofs.Likeness.{alike_back}
-use Rattle.kl_scans.specs.Stage.{stage, ScanOf}
+use Rattle.kl_scans.specs.Running.{Running}
+use Rattle.kl_plan.specs.declared.plan.Scan.{Scan}
+use Rattle.kl_plan.specs.Alike.{Alike}
+use Rattle.kl_plan.specs.Kinds.{first_kind, kind_of_items, kind_of_branches}
+use Rattle.kl_plan.specs.Meaning.{worth, coming, drawn_for, plan}
+use Rattle.kl_plan.specs.Nodes as node
+use Rattle.kl_plan.specs.Nodes.{Node, Branches, no_branches, rest, branch}
+use Rattle.kl_plan.specs.Typing.{PlanTypes, BranchTypes}
+use Rattle.kl_plan.proofs.Comings.{drawn_alike, drawn_fitting}
+use Rattle.kl_plan.proofs.KindLaws.{kinds_typed}
+use Rattle.kl_plan.proofs.Likeness.{alike_back}
+use Rattle.kl_scans.specs.Stage.{stage, ScanOf, MemoOf}
 use Rattle.kl_cursor.specs.Drawing.{fits_items, draws}
 use Rattle.kl_cursor.specs.Left.{reading}
 use Rattle.kl_cursor.specs.Likeness.{Same}
@@ -38,9 +38,9 @@ first_in : (s : Ground) (a b : Option Kind) → KindIn s a → KindIn s b → Ki
 first_in s (Some k) b h g = h
 first_in s None b h g = g
 
-module _ (Of : Scan → Ground → Type 0) where
+module _ (Of : Scan → Ground → Type 0) (Listed : ℕ → List ℕ → Node → Type 0) where
   mutual
-    pub kind_in : (p : Node) (G : List Ground) (s : Ground) → PlanTypes Of G p s → KindIn s (kind_of_items p)
+    pub kind_in : (p : Node) (G : List Ground) (s : Ground) → PlanTypes Of Listed G p s → KindIn s (kind_of_items p)
     kind_in (node.Case a bs) G s h = kind_in_branches bs G h.0 s h.3
     kind_in (node.Make k ps) G s h = (h.0, h.1)
     kind_in (node.Union a b) G s h = first_in s (kind_of_items a) (kind_of_items b) (kind_in a G s h.3) (kind_in b G s h.4)
@@ -48,8 +48,8 @@ module _ (Of : Scan → Ground → Type 0) where
     kind_in (node.If a b c) G s h = first_in s (kind_of_items b) (kind_of_items c) (kind_in b G s h.1) (kind_in c G s h.2)
     kind_in (node.Let a b) G s h = kind_in b (h.0 ∷ G) s h.2
     kind_in (node.Scan c) G s h = (h.0, h.1)
-    kind_in (node.Join n k how o cs i q b) G s h = absurd h
-    kind_in (node.Memo n frees p) G s h = absurd h
+    kind_in (node.Join n k how o cs i q b) G s h = (h.0, h.4)
+    kind_in (node.Memo n frees p) G s h = kind_in p G s h.3
     kind_in (node.Plain t) G s h = tt
     kind_in (node.Var x) G s h = tt
     kind_in (node.Rec ps) G s h = tt
@@ -57,7 +57,7 @@ module _ (Of : Scan → Ground → Type 0) where
     kind_in (node.Inj l a) G s h = tt
     kind_in (node.Prim c ps) G s h = tt
 
-    kind_in_branches : (bs : Branches) (G : List Ground) (r : Row) (s : Ground) → BranchTypes Of G bs r s → KindIn s (kind_of_branches bs)
+    kind_in_branches : (bs : Branches) (G : List Ground) (r : Row) (s : Ground) → BranchTypes Of Listed G bs r s → KindIn s (kind_of_branches bs)
     kind_in_branches no_branches G r s h = tt
     kind_in_branches (rest c) G r s h = kind_in c G s h
     kind_in_branches (branch l b bs) G r s h = first_in s (kind_of_items b) (kind_of_branches bs) (kind_in b (h.0 ∷ G) s h.2) (kind_in_branches bs G r s h.3)
@@ -80,8 +80,8 @@ always_set (Some k) = fits_set k
 always_set None = refl
 
 -- a plan that is drawn as it comes is of a kind that fits
-pub draws_fits : (Of : Scan → Ground → Type 0) (p : Node) (G : List Ground) (j : Kind) (u : Ground) (into : Kind) → PlanTypes Of G p (coll j u) → draws into p ≡ true → fits_in j into ≡ true
-draws_fits Of p G j u into h e = by_kind (kind_of_items p) (λ i is. kinds_typed Of p G j u i h is) e
+pub draws_fits : (Of : Scan → Ground → Type 0) (Listed : ℕ → List ℕ → Node → Type 0) (p : Node) (G : List Ground) (j : Kind) (u : Ground) (into : Kind) → PlanTypes Of Listed G p (coll j u) → draws into p ≡ true → fits_in j into ≡ true
+draws_fits Of Listed p G j u into h e = by_kind (kind_of_items p) (λ i is. kinds_typed Of Listed p G j u i h is) e
   where
     by_kind : (o : Option Kind) → ((i : Kind) → o ≡ Some i → i ≡ j) → fits_items o into ≡ true → fits_in j into ≡ true
     by_kind (Some i) x f = ap (λ z. fits_in z into) (sym (x i refl)) ∙ f
@@ -89,9 +89,9 @@ draws_fits Of p G j u into h e = by_kind (kind_of_items p) (λ i is. kinds_typed
 
 -- ---- how a loop of a kind draws what is told
 
-module _ (env : List Value) (k : Kind) (p : Node) (w : World) where
+module _ (env : List Value) (k : Kind) (p : Node) (w : Running) where
   pub drawn_as_comes : draws k p ≡ true → (G : List Ground) (j : Kind) (u : Ground) → HaveTypes G env → TypesAt w G p (coll j u) → IsToldAt w → drawn_for k (plan (reading w) p env) ≡ coming (plan (reading w) p env)
-  drawn_as_comes on G j u e h told = drawn_fitting k j u (plan (reading w) p env) (told_comes w p G env (coll j u) e h told) (draws_fits (ScanOf (stage w)) p G j u k h on)
+  drawn_as_comes on G j u e h told = drawn_fitting k j u (plan (reading w) p env) (told_comes w p G env (coll j u) e h told) (draws_fits (ScanOf (stage w)) (MemoOf (stage w)) p G j u k h on)
 
   -- it draws the items of the value, in some order of a bag
   abbrev pub DrawsWhole : Type 0
@@ -110,7 +110,7 @@ module _ (env : List Value) (k : Kind) (p : Node) (w : World) where
       same_kept kind.List o f g x y = alike_back kind.List f g y
 
 -- what stands somewhere is one value
-pub standing_drawn : (env : List Value) (k : Kind) (p : Node) (w : World) → StandsSomewhere p → DrawsWhole env k p w
+pub standing_drawn : (env : List Value) (k : Kind) (p : Node) (w : Running) → StandsSomewhere p → DrawsWhole env k p w
 standing_drawn env k (node.Plain t) w s = λ G j u e h told. same_itself k (items_of (worth (plan (reading w) (node.Plain t) env)))
 standing_drawn env k (node.Var x) w s = λ G j u e h told. same_itself k (items_of (worth (plan (reading w) (node.Var x) env)))
 standing_drawn env k (node.Rec ps) w s = absurd s

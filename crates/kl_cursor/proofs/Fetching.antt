@@ -7,13 +7,13 @@ use Rattle.kl_type.specs.Ground.{Ground}
 use Rattle.kl_outcome.specs.Outcome.{more, fine, flow}
 use Rattle.kl_outcome.specs.Typed.{HaveTypes}
 use Rattle.kl_core.specs.Counts.{fits_in}
-use Rattle.kl_ask.specs.World.{World}
-use Rattle.kl_ship.specs.declared.plan.Scan.{Scan}
-use Rattle.kl_ship.specs.Nodes as node
-use Rattle.kl_ship.specs.Nodes.{Node}
+use Rattle.kl_scans.specs.Running.{Running}
+use Rattle.kl_plan.specs.declared.plan.Scan.{Scan}
+use Rattle.kl_plan.specs.Nodes as node
+use Rattle.kl_plan.specs.Nodes.{Node}
 use Rattle.kl_scans.specs.Held.{cursor_at}
 use Rattle.kl_scans.specs.Scans.{Started, PulledMore}
-use Rattle.kl_cursor.specs.Laziness.{rows_in, Handed, ByTimes, Fetching, ahead, ListTold}
+use Rattle.kl_cursor.specs.Laziness.{rows_in, Handed, ByTimes, Fetching, ahead, ListTold, only_scan}
 use Rattle.kl_scans.specs.Stage.{or_none}
 use Rattle.kl_cursor.specs.Left.{Snap, fresh, pulling, outside, uses, left, rows_left}
 use Rattle.kl_cursor.specs.Sense.{IsToldAt, Fits, HasItems}
@@ -27,35 +27,35 @@ use Rattle.kl_cursor.proofs.Still.{Still, left_still}
 
 -- ---- what is told
 
-pub told_onward : (env : List Value) (s t : Snap) (a b : World) → Onward env s a t b → ListTold env s a → ListTold env t b
+pub told_onward : (env : List Value) (s t : Snap) (a b : Running) → Onward env s a t b → ListTold env s a → ListTold env t b
 told_onward env s t a b m h = (h.0, h.1, h.2, m.typed h.0 kind.List h.1 h.2 h.3, told_on (uses s) (uses t) a b m.moves h.4)
 
-source_told : (env : List Value) (s : Snap) (w : World) (G : List Ground) (j : Kind) (t : Ground) → fits_in j kind.List ≡ true → HaveTypes G env → Fits w G j t s → IsToldAt w → ListTold env s w
+source_told : (env : List Value) (s : Snap) (w : Running) (G : List Ground) (j : Kind) (t : Ground) → fits_in j kind.List ≡ true → HaveTypes G env → Fits w G j t s → IsToldAt w → ListTold env s w
 source_told env s w G kind.Set t e h f told = cc
 source_told env s w G kind.Bag t e h f told = cc
 source_told env s w G kind.List t e h f told = (G, t, h, f, told)
 
 -- the source of a loop that makes a list is one
-pub told_source : (env : List Value) (p : Node) (s : Snap) (w : World) → ListTold env (outside p s) w → ListTold env s w
+pub told_source : (env : List Value) (p : Node) (s : Snap) (w : Running) → ListTold env (outside p s) w → ListTold env s w
 told_source env p s w h = source_told env s w h.0 h.3.0 h.3.1 h.3.2 h.2 h.3.3 h.4
 
 -- what a list had left, where an item was given
-pub list_gave : (env : List Value) (s t : Snap) (v : Value) (a b : World) → ListTold env s a → Gives env s a v t b → more v (left b t env) ≡ left a s env
+pub list_gave : (env : List Value) (s t : Snap) (v : Value) (a b : Running) → ListTold env s a → Gives env s a v t b → more v (left b t env) ≡ left a s env
 list_gave env s t v a b h g = g.gave h.0 kind.List h.1 h.2 h.3 h.4
 
-pub list_same : (env : List Value) (s t : Snap) (a b : World) → ListTold env s a → Onward env s a t b → left b t env ≡ left a s env
+pub list_same : (env : List Value) (s t : Snap) (a b : Running) → ListTold env s a → Onward env s a t b → left b t env ≡ left a s env
 list_same env s t a b h m = m.same h.0 kind.List h.1 h.2 h.3 h.4
 
 -- ---- a scan
 
-pub fetching_at : (w : World) (env : List Value) (c : Scan) (all : List Value) (m n k l : ℕ) (s : Snap) → m ≡ n → k ≡ l → Fetching w env c all m k s → Fetching w env c all n l s
+pub fetching_at : (w : Running) (env : List Value) (c : Scan) (all : List Value) (m n k l : ℕ) (s : Snap) → m ≡ n → k ≡ l → Fetching w env c all m k s → Fetching w env c all n l s
 fetching_at w env c all m n k l s e f h = subst (λ z. Fetching w env c all z l s) e (subst (λ z. Fetching w env c all m z s) f h)
 
-ahead_still : (w x : World) → x.settings ≡ w.settings → w.settings.fetch ≡ x.settings.fetch
+ahead_still : (w x : Running) → x.settings ≡ w.settings → w.settings.fetch ≡ x.settings.fetch
 ahead_still w x e = ap (λ z. z.fetch) (sym e)
 
 -- a scan that stands still
-pub fetching_still : (w x : World) (env : List Value) (c : Scan) (all : List Value) (used handed : ℕ) (s : Snap) → Still (uses s) w x → Fetching w env c all used handed s → Fetching x env c all used handed s
+pub fetching_still : (w x : Running) (env : List Value) (c : Scan) (all : List Value) (used handed : ℕ) (s : Snap) → Still (uses s) w x → Fetching w env c all used handed s → Fetching x env c all used handed s
 fetching_still w x env c all used handed s still h = record {
   scan = h.scan;
   rows = left_still s w x env still ∙ h.rows;
@@ -65,7 +65,7 @@ fetching_still w x env c all used handed s still h = record {
 }
 
 -- a row that was fetched ahead
-pub take_fetches : (env : List Value) (c : Scan) (q : Scan) (k n : ℕ) (row : Value) (rest : List Value) (w : World) (all : List Value) (used handed : ℕ)
+pub take_fetches : (env : List Value) (c : Scan) (q : Scan) (k n : ℕ) (row : Value) (rest : List Value) (w : Running) (all : List Value) (used handed : ℕ)
     → Fetching w env c all used handed (pulling q k (row ∷ rest) n) → Fetching w env c all (used + 1) handed (pulling q k rest n)
 take_fetches env c q k n row rest w all used handed h = record {
   scan = h.scan;
@@ -80,15 +80,16 @@ take_fetches env c q k n row rest w all used handed h = record {
 none_more : (n : ℕ) → n + 0 ≡ n
 none_more n = omega arith
 
-module _ (env : List Value) (q : Scan) (k n : ℕ) (into into' : List Value) (row : Value) (rest : List Value) (a b : World) (e : into ≡ []) (g : into' ≡ row ∷ rest) (p : PulledMore q k into into' a b) where
+module _ (env : List Value) (q : Scan) (k n : ℕ) (into into' : List Value) (row : Value) (rest : List Value) (a b : Running) (e : into ≡ []) (g : into' ≡ row ∷ rest) (p : PulledMore q k into into' a b) where
   pulled_rows : p.rows ≡ row ∷ rest
   pulled_rows = sym (p.appended ∙ ap (λ z. z ++ p.rows) e) ∙ g
 
   pulled_handed : (c : Scan) → q ≡ c → Handed c (length p.rows) a b
   pulled_handed c is = record {
+    settings = p.moves.settings;
     events = p.moves.events;
     logged = p.moves.logged;
-    of = subst (AreOf (c ∷ [])) (sym p.only) (of_itself c q is, tt);
+    of = subst (AreOf (only_scan c)) (sym p.only) (of_itself c q is, tt);
     sum = ap rows_in p.only ∙ none_more (length p.rows);
   }
 
@@ -121,13 +122,13 @@ module _ (env : List Value) (q : Scan) (k n : ℕ) (into into' : List Value) (ro
 same_scan : (q c : Scan) → node.Scan q ≡ node.Scan c → q ≡ c
 same_scan q c e = cc
 
-pub start_fetches : (env : List Value) (q : Scan) (k n : ℕ) (w x : World) → HasItems w (node.Scan q) env → n ≡ w.settings.fetch → Started q k w x → (c : Scan) (all : List Value) (used handed : ℕ) → ListTold env (fresh (node.Scan q)) w
+pub start_fetches : (env : List Value) (q : Scan) (k n : ℕ) (w x : Running) → HasItems w (node.Scan q) env → n ≡ w.settings.fetch → Started q k w x → (c : Scan) (all : List Value) (used handed : ℕ) → ListTold env (fresh (node.Scan q)) w
     → Fetching w env c all used handed (fresh (node.Scan q)) → (rows : ℕ) × Handed c rows w x × Fetching x env c all (used + 0) (handed + rows) (pulling q k [] n)
 start_fetches env q k n w x i m s c all used handed told h =
     let fetch : w.settings.fetch ≡ x.settings.fetch = ap (λ z. z.fetch) (sym s.moves.settings) in
     let is = same_scan q c h.scan in (
       0,
-      record { events = s.moves.events; logged = s.moves.logged; of = subst (AreOf (c ∷ [])) (sym s.only) (of_itself c q is, tt); sum = ap rows_in s.only },
+      record { settings = s.moves.settings; events = s.moves.events; logged = s.moves.logged; of = subst (AreOf (only_scan c)) (sym s.only) (of_itself c q is, tt); sum = ap rows_in s.only },
       fetching_at x env c all used (used + 0) handed (handed + 0) (pulling q k [] n) (omega arith) (omega arith)
           (record {
             scan = is;

@@ -3,12 +3,12 @@ use Rattle.std.proofs.Common.{◌≡◌, List, [], ◌∷◌, map, Option, Some,
 use mathlib.Core.Path.{ap₂}
 use Rattle.kl_value.specs.declared.Kind.{Kind}
 use Rattle.kl_outcome.specs.Outcome.{Name}
-use Rattle.kl_ship.specs.declared.plan.Plan.{Plan}
-use Rattle.kl_ship.specs.declared.plan.Plan.TheVariants as plans
-use Rattle.kl_ship.specs.Kinds.{first_kind, kind_of_branches, kind_of_items}
-use Rattle.kl_ship.specs.Nodes.{Branches, branches_of, no_branches, rest, view, view_branch}
-use Rattle.kl_ship.specs.Shipping.{other_node}
-use Rattle.kl_ship.proofs.Views.{view_Case}
+use Rattle.kl_plan.specs.declared.plan.Plan.{Plan}
+use Rattle.kl_plan.specs.declared.plan.Plan.TheVariants as plans
+use Rattle.kl_plan.specs.Kinds.{first_kind, kind_of_branches, kind_of_items}
+use Rattle.kl_plan.specs.Nodes.{Branches, branches_of, no_branches, rest, view, view_branch}
+use Rattle.kl_plan.specs.Joins.{other_node}
+use Rattle.kl_plan.proofs.Views.{view_Case}
 
 first_again : (a b c : Option Kind) → first_kind (first_kind a b) c ≡ first_kind a (first_kind b c)
 first_again (Some k) b c = refl

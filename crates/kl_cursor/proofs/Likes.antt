@@ -6,8 +6,8 @@ use Rattle.kl_value.specs.declared.Kind.TheVariants as kind
 use Rattle.kl_value.specs.declared.Value.{Value}
 use Rattle.kl_outcome.specs.Outcome.{Flow, more, items_in, followed, drawn}
 use Rattle.kl_core.specs.Counts.{fits_in}
-use Rattle.kl_ship.specs.Alike.{harm, weight, Alike}
-use Rattle.kl_ship.proofs.Likeness.{alike_itself, alike_on, alike_followed, alike_drawn, harm_followed, harm_drawn}
+use Rattle.kl_plan.specs.Alike.{harm, weight, Alike}
+use Rattle.kl_plan.proofs.Likeness.{alike_itself, alike_on, alike_followed, alike_drawn, harm_followed, harm_drawn}
 use Rattle.kl_cursor.specs.Likeness.{Same}
 
 pub same_itself : (k : Kind) (f : Flow) → Same k f f

@@ -12,7 +12,7 @@ use Rattle.kl_outcome.specs.Outcome.{Name, fine, flow}
 use Rattle.kl_outcome.proofs.Flows.{flow_items}
 use Rattle.kl_ask.specs.Asks.{answers}
 use Rattle.kl_ask.specs.Driver.{Source, Cursor, Shows, InOrder}
-use Rattle.kl_ask.specs.World.{World}
+use Rattle.kl_scans.specs.Running.{Running}
 use Rattle.kl_ask.specs.Statements.{SqlFits}
 use Rattle.kl_sqltext.specs.Meaning.{spj}
 use Rattle.kl_sqltext.specs.declared.ast.Spj.{Spj}
@@ -21,16 +21,16 @@ use Rattle.kl_ask.specs.declared.ask.Ask.TheVariants as asks
 use Rattle.kl_ask.specs.declared.ask.ColTest.{ColTest}
 use Rattle.kl_eval.specs.declared.stop.EvalStop.{EvalStop}
 use Rattle.kl_eval.specs.declared.stop.EvalStop.TheVariants as why
-use Rattle.kl_ship.specs.Alike.{harm, IsAlike}
-use Rattle.kl_ship.specs.declared.plan.Scan.{Scan}
-use Rattle.kl_ship.specs.Meaning.{coming, scanned}
-use Rattle.kl_ship.specs.Nodes as node
-use Rattle.kl_ship.specs.Typing.{PlanTypes}
-use Rattle.kl_ship.proofs.Comings.{same_kind, same_type}
+use Rattle.kl_plan.specs.Alike.{harm, IsAlike}
+use Rattle.kl_plan.specs.declared.plan.Scan.{Scan}
+use Rattle.kl_plan.specs.Meaning.{coming, scanned}
+use Rattle.kl_plan.specs.Nodes as node
+use Rattle.kl_plan.specs.Typing.{PlanTypes}
+use Rattle.kl_plan.proofs.Comings.{same_kind, same_type}
 use Rattle.kl_scans.specs.Held.{Held, held_at, cursor_at, nothing, one_at}
 use Rattle.kl_scans.specs.Log.{paid}
 use Rattle.kl_scans.specs.Scans.{IsJoined, OpensIn, Started, NotStarted, Stopped}
-use Rattle.kl_scans.specs.Stage.{Stage, stage, statement_of, readings, read_by, read_in, rows_asked, answered_by, table_rows, table_types, joined_by, AskOf, ScanOf, IsTold, or_none}
+use Rattle.kl_scans.specs.Stage.{Stage, stage, statement_of, readings, read_by, read_in, rows_asked, answered_by, table_rows, table_types, joined_by, AskOf, ScanOf, IsTold, or_none, MemoOf}
 use Rattle.kl_scans.proofs.Statements.{reads_statement, joined_is, rows_told as tables_told}
 use Rattle.kl_scans.proofs.Moving.{stage_stays}
 use Rattle.kl_cursor.specs.Left.{fresh, pulling, rows_left}
@@ -41,7 +41,7 @@ use Rattle.kl_cursor.specs.Steps.{AreOf, Onward, Reason, Stops}
 use Rattle.kl_cursor.proofs.Events.{of_none}
 use Rattle.kl_cursor.proofs.Likes.{same_at}
 
-held_is : (w : World) (d : ℕ) → (stage w).held d ≡ held_at w d
+held_is : (w : Running) (d : ℕ) → (stage w).held d ≡ held_at w d
 unfolding stage
 held_is w d = refl
 
@@ -106,13 +106,13 @@ opening t h c a (asks.Sql text) u o at f g =
       shows = λ rows e. joined_rows h f.statement c.kind o rows f.no_list f.fits s (ap (joined_by h.attached) (sym is) ∙ e);
     }
 
-opened_as : (w x : World) (q : Scan) (k : ℕ) (u : Ground) (s : Started q k w x) (f : ScanOf (stage w) q u) → Opening f.held q.ask q.kind u s.opened
+opened_as : (w x : Running) (q : Scan) (k : ℕ) (u : Ground) (s : Started q k w x) (f : ScanOf (stage w) q u) → Opening f.held q.ask q.kind u s.opened
 opened_as w x q k u s f = opening (stage w) f.held q f.source q.ask u s.opened f.attached f.ask (s.opens f.held (sym (held_is w q.driver) ∙ f.holds))
 
-abbrev Given : World → Scan → Cursor → Type 0
+abbrev Given : Running → Scan → Cursor → Type 0
 Given w q o = (rows : List Value) × (readings (stage w) q ≡ Some rows) × LeftOf q.kind rows o.left
 
-given_of : (w x : World) (q : Scan) (k : ℕ) (u : Ground) (s : Started q k w x) → ScanOf (stage w) q u → IsToldAt w → Given w q s.opened
+given_of : (w x : Running) (q : Scan) (k : ℕ) (u : Ground) (s : Started q k w x) → ScanOf (stage w) q u → IsToldAt w → Given w q s.opened
 given_of w x q k u s f told =
     let r = told q u f in
     (r.0, r.1, (opened_as w x q k u s f).shows r.0 (ap (λ z. read_in z q.ask) (sym f.holds) ∙ r.1))
@@ -120,18 +120,18 @@ given_of w x q k u s f told =
 no_more : (n m t : ℕ) → n ≡ m → m ≤ t → 0 + n ≤ t
 no_more n m t e h = omega arith
 
-pub record ScanTyped (w : World) (c : Scan) (s : Ground) : Type 0 where
+pub record ScanTyped (w : Running) (c : Scan) (s : Ground) : Type 0 where
   pub u : Ground
   pub is : s ≡ coll c.kind u
   pub of : ScanOf (stage w) c u
 
-pub scan_typed : (w : World) (G : List Ground) (c : Scan) (s : Ground) → PlanTypes (ScanOf (stage w)) G (node.Scan c) s → ScanTyped w c s
+pub scan_typed : (w : Running) (G : List Ground) (c : Scan) (s : Ground) → PlanTypes (ScanOf (stage w)) (MemoOf (stage w)) G (node.Scan c) s → ScanTyped w c s
 scan_typed w G c s h = record { u = h.0; is = h.1; of = h.3 }
 
 one_paid : (n : ℕ) → (n + 0) + 0 ≡ n
 one_paid n = omega arith
 
-pub scan_begins : (env : List Value) (q : Scan) (k n : ℕ) (w x : World) → HasItems w (node.Scan q) env → n ≡ w.settings.fetch → Started q k w x → Onward env (fresh (node.Scan q)) w (pulling q k [] n) x
+pub scan_begins : (env : List Value) (q : Scan) (k n : ℕ) (w x : Running) → HasItems w (node.Scan q) env → n ≡ w.settings.fetch → Started q k w x → Onward env (fresh (node.Scan q)) w (pulling q k [] n) x
 scan_begins env q k n w x i m s =
     let held = stage_stays nothing (one_at q.driver k) w x s.moves in
     record {
@@ -144,7 +144,7 @@ scan_begins env q k n w x i m s =
           subst (λ z. Same z (coming (scanned q.kind (readings (stage w) q))) (flow (rows_left (cursor_at x q.driver k)) fine)) (sym (same_kind d q.kind u t.u t.is))
           (subst (λ z. Same q.kind z (flow (rows_left (cursor_at x q.driver k)) fine)) (sym (ap (λ z. coming (scanned q.kind z)) g.1))
           (subst (Same q.kind (flow g.0 fine)) (sym (ap (λ o. flow (rows_left o) fine) s.now ∙ ap (λ o. flow (or_none o) fine) l.1)) l.2));
-      counts = λ G d u e f told z price. ap (λ es. paid price es + 0) s.only ∙ one_paid (price q);
+      counts = λ G d u e f told z P. ap (λ es. paid (stage w) P es + 0) s.only ∙ one_paid (P.scan q);
       typed = λ G d u e f.
           let t = scan_typed w G q (coll d u) f in
           let same : u ≡ t.u = same_type d q.kind u t.u t.is in
@@ -160,10 +160,10 @@ scan_begins env q k n w x i m s =
           no_more (bound_in (cursor_at x q.driver k)) s.opened.bound (asked_most q.ask) z y;
     }
 
-start_reason : (env : List Value) (q : Scan) (e : EvalStop) (w x : World) → Stopped q e w x → Reason env (fresh (node.Scan q)) e w x
+start_reason : (env : List Value) (q : Scan) (e : EvalStop) (w x : Running) → Stopped q e w x → Reason env (fresh (node.Scan q)) e w x
 start_reason env q why.Overflow w x h = absurd h
 start_reason env q (why.Driver l y) w x h = record { scan = q; stood = λ all i. i; named = h.0; by = h.1 }
 start_reason env q why.NoMemory w x h = tt
 
-pub scan_refused : (env : List Value) (q : Scan) (e : EvalStop) (w x : World) → NotStarted q e w x → Stops env (fresh (node.Scan q)) e w x
+pub scan_refused : (env : List Value) (q : Scan) (e : EvalStop) (w x : Running) → NotStarted q e w x → Stops env (fresh (node.Scan q)) e w x
 scan_refused env q e w x s = record { moves = s.moves; known = λ all h. of_none all s.moves.events s.none; reason = start_reason env q e w x s.cause }

@@ -9,18 +9,18 @@ use Rattle.kl_outcome.specs.Typed.{OfType}
 use Rattle.kl_outcome.proofs.Drawing.{typed_collected}
 use Rattle.kl_outcome.proofs.Flows.{collected_flow}
 use Rattle.kl_outcome.proofs.OutcomeTypes.{FlowOf, collected_typed, items_typed}
-use Rattle.kl_ask.specs.World.{World}
+use Rattle.kl_scans.specs.Running.{Running}
 use Rattle.kl_eval.specs.Steps.{AnswersPrim}
 use Rattle.kl_eval.specs.declared.stop.EvalStop.{EvalStop}
 use Rattle.kl_eval.specs.declared.stop.EvalStop.TheVariants as why
-use Rattle.kl_ship.specs.Alike.{harm}
-use Rattle.kl_ship.specs.Kinds.{kind_of_items}
-use Rattle.kl_ship.specs.Meaning.{worth, coming, plan}
-use Rattle.kl_ship.specs.Nodes.{Node}
-use Rattle.kl_ship.proofs.Collections.{alike_same}
-use Rattle.kl_ship.proofs.Comings.{ComesAs, worth_typed, coming_alike}
-use Rattle.kl_ship.proofs.Likeness.{alike_on}
-use Rattle.kl_scans.specs.Stage.{stage, ScanOf}
+use Rattle.kl_plan.specs.Alike.{harm}
+use Rattle.kl_plan.specs.Kinds.{kind_of_items}
+use Rattle.kl_plan.specs.Meaning.{worth, coming, plan}
+use Rattle.kl_plan.specs.Nodes.{Node}
+use Rattle.kl_plan.proofs.Collections.{alike_same}
+use Rattle.kl_plan.proofs.Comings.{ComesAs, worth_typed, coming_alike}
+use Rattle.kl_plan.proofs.Likeness.{alike_on}
+use Rattle.kl_scans.specs.Stage.{stage, ScanOf, MemoOf}
 use Rattle.kl_cursor.specs.Gathering.{Gathered, listed, empty, counted, summed, sought, IsTally, with_one, with_all, answer_in, Tells, TellsItems}
 use Rattle.kl_cursor.specs.Left.{Snap, fresh, reading}
 use Rattle.kl_cursor.specs.Likeness.{Same}
@@ -36,15 +36,15 @@ pub tells_kind : (code : ℕ) (before : List Value) (o : Option Kind) (g : Gathe
 tells_kind code before (Some k) g h = (k, refl, h)
 tells_kind code before None g h = absurd h
 
-module _ (env : List Value) (p : Node) (k : Kind) (a : World) (is : kind_of_items p ≡ Some k) where
+module _ (env : List Value) (p : Node) (k : Kind) (a : Running) (is : kind_of_items p ≡ Some k) where
   of_kind : (G : List Ground) (s : Ground) → TypesAt a G p s → (u : Ground) × (s ≡ coll k u)
-  of_kind G s y = subst (KindIn s) is (kind_in (ScanOf (stage a)) p G s y)
+  of_kind G s y = subst (KindIn s) is (kind_in (ScanOf (stage a)) (MemoOf (stage a)) p G s y)
 
   pub worth_stands : HasWorth a p env → Stands a (fresh p) env
   worth_stands h = let x = of_kind h.0 h.1 h.3 in (h.0, k, x.0, h.2, subst (TypesAt a h.0 p) x.1 h.3, h.4)
 
   -- the collection of the items is what the plan comes to
-  module _ (b : World) where
+  module _ (b : Running) where
     pub items_come : (vs : List Value) (e : End) → (e ≡ fine) ⊎ (e ≡ overflow) → Empties env (fresh p) vs e a b → ComesTo env p (gathered k e vs) a b
     items_come vs e ends h = record {
       moves = h.moves;
@@ -61,13 +61,13 @@ module _ (env : List Value) (p : Node) (k : Kind) (a : World) (is : kind_of_item
           let one : collected k (flow vs e) ≡ collected k (items_of (worth c)) = alike_same k u (items_of (worth c)) (flow vs e) (items_typed k u (worth c) worthy) all
           (alike_on k (items_of (worth c)) (coming c) (flow vs e) (coming_alike k u c comes) (same_alike k (coming c) (flow vs e) same)) in
           sym (typed_collected k u (worth c) worthy) ∙ sym one ∙ collected_flow k vs e;
-      counts = λ G s t y told well price.
+      counts = λ G s t y told well P.
           let x = of_kind G s y in
           let u = x.0 in
           let y' : TypesAt a G p (coll k u) = subst (TypesAt a G p) x.1 y in
           let same : Same k (coming (plan (reading a) p env)) (flow vs e) = h.gave G k u t y' told in
           let z : harm (coming (plan (reading a) p env)) ≡ 0 = sym (same_harm k (coming (plan (reading a) p env)) (flow vs e) same) ∙ well_ends e ends k vs well in
-          let c = h.counts G k u t y' told z price in
+          let c = h.counts G k u t y' told z P in
           omega (arith, c);
       typed = λ G s t y.
           let x = of_kind G s y in
@@ -99,16 +99,16 @@ tally_after : (g : Gathered) (vs : List Value) → IsTally g → IsTally (with_a
 tally_after g [] h = h
 tally_after g (v ∷ vs) h = tally_after (with_one g v) vs (tally_with g v h)
 
-pub tally_there : (env : List Value) (s : Snap) (z : Unit {0}) (g new : Gathered) (a b : World) → IsTally g → Emits env s (Ok z) g new a b → IsTally new
+pub tally_there : (env : List Value) (s : Snap) (z : Unit {0}) (g new : Gathered) (a b : Running) → IsTally g → Emits env s (Ok z) g new a b → IsTally new
 tally_there env s z g new a b h k = subst IsTally (sym k.1) (tally_after g k.0 h)
 
-pub tally_answers : (env : List Value) (s : Snap) (z : Unit {0}) (g new : Gathered) (r : Result Value EvalStop) (a b : World) → Emits env s (Ok z) g new a b → AnswersPrim (answer_in new) r → Tallies env s g r a b
+pub tally_answers : (env : List Value) (s : Snap) (z : Unit {0}) (g new : Gathered) (r : Result Value EvalStop) (a b : Running) → Emits env s (Ok z) g new a b → AnswersPrim (answer_in new) r → Tallies env s g r a b
 tally_answers env s z g new (Ok v) a b h m = (h.0, ap answer_in (sym h.1) ∙ m, h.2)
 tally_answers env s z g new (Err why.Overflow) a b h m = (h.0, inr (ap answer_in (sym h.1) ∙ m, h.2))
 tally_answers env s z g new (Err (why.Driver l e)) a b h m = absurd m
 tally_answers env s z g new (Err why.NoMemory) a b h m = record { moves = h.2.moves; known = h.2.known; reason = tt }
 
-pub tally_stops : (env : List Value) (s : Snap) (e : EvalStop) (g new : Gathered) (a b : World) → Emits env s (Err e) g new a b → Tallies env s g (Err e) a b
+pub tally_stops : (env : List Value) (s : Snap) (e : EvalStop) (g new : Gathered) (a b : Running) → Emits env s (Err e) g new a b → Tallies env s g (Err e) a b
 tally_stops env s why.Overflow g new a b h = (h.0, inl h.2)
 tally_stops env s (why.Driver l e) g new a b h = h
 tally_stops env s why.NoMemory g new a b h = h

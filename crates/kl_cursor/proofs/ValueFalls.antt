@@ -4,17 +4,17 @@ use mathlib.Core.Logic.{◌⊎◌}
 use Rattle.kl_value.specs.declared.Kind.{Kind}
 use Rattle.kl_outcome.specs.Outcome.{Name}
 use Rattle.kl_eval.specs.Steps.{place_of}
-use Rattle.kl_ship.specs.declared.plan.Plan.{Plan}
-use Rattle.kl_ship.specs.declared.plan.Plan.TheVariants as plans
-use Rattle.kl_ship.specs.declared.plan.Scan.{Scan}
-use Rattle.kl_ship.specs.Nodes as node
-use Rattle.kl_ship.specs.Nodes.{Node, rest, branches_of, view, view_branch, nodes_view, fields_view}
-use Rattle.kl_ship.specs.Shipping.{other_node}
+use Rattle.kl_plan.specs.declared.plan.Plan.{Plan}
+use Rattle.kl_plan.specs.declared.plan.Plan.TheVariants as plans
+use Rattle.kl_plan.specs.declared.plan.Scan.{Scan}
+use Rattle.kl_plan.specs.Nodes as node
+use Rattle.kl_plan.specs.Nodes.{Node, rest, branches_of, view, view_branch, nodes_view, fields_view}
+use Rattle.kl_plan.specs.Joins.{other_node}
 use Rattle.kl_core.specs.Trees.{view as term_view}
 use Rattle.kl_core.specs.declared.term.Term.{Term}
-use Rattle.kl_ship.specs.Kinds.{kind_of_items}
+use Rattle.kl_plan.specs.Kinds.{kind_of_items}
 use Rattle.kl_cursor.proofs.ValueCode.{view_Plain}
-use Rattle.kl_ship.proofs.Views.{view_Var, view_Rec, view_Proj, view_Inj, view_Case, view_Make, view_Union, view_Ext, view_If, view_Let, view_Prim, view_Scan}
+use Rattle.kl_plan.proofs.Views.{view_Var, view_Rec, view_Proj, view_Inj, view_Case, view_Make, view_Union, view_Ext, view_If, view_Let, view_Prim, view_Scan}
 use Rattle.kl_cursor.specs.Measure.{tall, tall_nodes, tall_fields}
 use Rattle.kl_cursor.proofs.Whole.{ComesOne, spare, branch_tall, rest_tall}
 
@@ -30,14 +30,14 @@ over_behind m n k x = omega arith
 at_node : (t : Plan) (p : Node) (n : ℕ) → view t ≡ p → n ≤ tall p → n ≤ tall (view t)
 at_node t p n e x = let f : tall (view t) ≡ tall p = ap tall e in omega arith
 
-pub rec_down : (t : Plan) (fs gs : List (Name × Plan)) → t ≡ plans.Rec fs → gs ≡ fs → 16 * tall_fields (fields_view gs) + 10 < 16 * tall (view t) + spare (view t)
+pub rec_down : (t : Plan) (fs gs : List (Name × Plan)) → t ≡ plans.Rec fs → gs ≡ fs → 32 * tall_fields (fields_view gs) + 10 < 32 * tall (view t) + spare (view t)
 rec_down t fs gs et eg =
     let e : view t ≡ node.Rec (fields_view gs) = ap view et ∙ view_Rec fs ∙ ap (λ q. node.Rec (fields_view q)) (sym eg) in
     let f : tall (view t) ≡ 1 + tall_fields (fields_view gs) = ap tall e in
     let g : spare (view t) ≡ 5 = ap spare e in
     omega arith
 
-pub call_down : (t : Plan) (c : ℕ) (ps qs : List Plan) → t ≡ plans.Prim c ps → qs ≡ ps → 16 * tall_nodes (nodes_view qs) + 12 < 16 * tall (view t) + spare (view t)
+pub call_down : (t : Plan) (c : ℕ) (ps qs : List Plan) → t ≡ plans.Prim c ps → qs ≡ ps → 32 * tall_nodes (nodes_view qs) + 12 < 32 * tall (view t) + spare (view t)
 call_down t c ps qs et eq =
     let e : view t ≡ node.Prim c (nodes_view qs) = ap view et ∙ view_Prim c ps ∙ ap (λ q. node.Prim c (nodes_view q)) (sym eq) in
     let f : tall (view t) ≡ 1 + tall_nodes (nodes_view qs) = ap tall e in
@@ -132,7 +132,7 @@ scan_spare t c e = ap spare (ap view e ∙ view_Scan c)
 
 -- ---- what is added to a list
 
-pub parts_down : (t : Plan) (k : Kind) (ps qs : List Plan) → t ≡ plans.Make k ps → qs ≡ ps → 16 * tall_nodes (nodes_view qs) + 10 < 16 * tall (view t) + 7
+pub parts_down : (t : Plan) (k : Kind) (ps qs : List Plan) → t ≡ plans.Make k ps → qs ≡ ps → 32 * tall_nodes (nodes_view qs) + 10 < 32 * tall (view t) + 7
 parts_down t k ps qs et eq =
     let f : tall (view t) ≡ 1 + tall_nodes (nodes_view qs) = ap tall (ap view et ∙ view_Make k ps ∙ ap (λ q. node.Make k (nodes_view q)) (sym eq)) in
     omega arith

@@ -4,26 +4,25 @@ use Rattle.std.proofs.lemmas.Grind.{common_steps}
 use Rattle.std.proofs.lemmas.List.{at_drop_more}
 use Rattle.kl_value.specs.declared.Value.{Value}
 use Rattle.kl_outcome.specs.Outcome.{Name, done, more, stop, fine, overflow, as_variant, item_then}
-use Rattle.kl_ask.specs.World.{World}
+use Rattle.kl_scans.specs.Running.{Running}
 use Rattle.kl_eval.specs.Steps.{inside_of, place_of, TellsTruth}
 use Rattle.kl_eval.specs.declared.stop.EvalStop.{EvalStop}
 use Rattle.kl_eval.specs.declared.stop.EvalStop.TheVariants as why
 use Rattle.kl_eval.specs.declared.stop.Halt.{Halt}
-use Rattle.kl_ship.specs.declared.plan.Plan.{Plan}
-use Rattle.kl_ship.specs.declared.plan.Plan.TheVariants as plans
-use Rattle.kl_ship.specs.Holding.{ScansIn}
-use Rattle.kl_ship.specs.Meaning.{plan_items}
-use Rattle.kl_ship.specs.Nodes as node
-use Rattle.kl_ship.specs.Nodes.{Node, Nodes, no_nodes, nodes, rest, branches_of, view, view_branch, nodes_view, fields_view}
-use Rattle.kl_ship.specs.Reached.{reached_nodes}
-use Rattle.kl_ship.specs.Shipping.{other_node}
-use Rattle.kl_ship.specs.Typing.{EachPlan}
+use Rattle.kl_plan.specs.declared.plan.Plan.{Plan}
+use Rattle.kl_plan.specs.declared.plan.Plan.TheVariants as plans
+use Rattle.kl_plan.specs.Holding.{PartsIn}
+use Rattle.kl_plan.specs.Meaning.{plan_items}
+use Rattle.kl_plan.specs.Nodes as node
+use Rattle.kl_plan.specs.Nodes.{Node, Nodes, no_nodes, nodes, rest, branches_of, view, view_branch, nodes_view, fields_view}
+use Rattle.kl_plan.specs.Joins.{other_node}
+use Rattle.kl_plan.specs.Typing.{EachPlan}
 use Rattle.kl_scans.specs.Held.{nothing}
-use Rattle.kl_scans.specs.Stage.{ScanOf, readings}
+use Rattle.kl_scans.specs.Stage.{ScanOf, readings, MemoOf}
 use Rattle.kl_scans.proofs.Moving.{moves_none, stage_stays}
 use Rattle.kl_cursor.specs.declared.state.State.{State}
 use Rattle.kl_cursor.specs.declared.state.State.TheVariants as state
-use Rattle.kl_cursor.specs.Left.{Snap, fresh, bound, made, snap, reading, nodes_from, ScansLeft}
+use Rattle.kl_cursor.specs.Left.{Snap, fresh, bound, made, snap, reading, nodes_from, PartsLeft, cost_nodes}
 use Rattle.kl_cursor.specs.Measure.{tall, tall_nodes, tall_fields, falling}
 use Rattle.kl_cursor.specs.Steps.{Onward, Gives, Ends, Stops, ComesTo, Wholly, Partly}
 use Rattle.kl_cursor.proofs.Likes.{same_itself, same_at}
@@ -71,7 +70,7 @@ spare_least (node.Scan c) = omega arith
 spare_least (node.Join n k how o cs i q b) = omega arith
 spare_least (node.Memo n frees p) = omega arith
 
-pub whole_falls : (p q : Node) → 1 + tall q ≤ tall p → 16 * tall q + spare q < 16 * tall p + spare p
+pub whole_falls : (p q : Node) → 1 + tall q ≤ tall p → 32 * tall q + spare q < 32 * tall p + spare p
 whole_falls p q x = let y = spare_most q in let z = spare_least p in omega arith
 
 fields_low : (ps : List (Name × Plan)) (i : ℕ) → tall_fields (fields_view (drop i ps)) ≤ tall_fields (fields_view ps)
@@ -80,7 +79,7 @@ fields_low [] (suc i) = omega arith
 fields_low (p ∷ ps) zero = omega arith
 fields_low (p ∷ ps) (suc i) = let x = fields_low ps i in omega arith
 
-pub field_tall : (ps : List (Name × Plan)) (i : ℕ) (p : Name × Plan) → i < length ps → p ≡ get_or ps i p → 16 * tall (view p.1) + spare (view p.1) < 16 * tall_fields (fields_view ps) + 10
+pub field_tall : (ps : List (Name × Plan)) (i : ℕ) (p : Name × Plan) → i < length ps → p ≡ get_or ps i p → 32 * tall (view p.1) + spare (view p.1) < 32 * tall_fields (fields_view ps) + 10
 field_tall ps i p lt is =
     let e : fields_view (drop i ps) ≡ node.fields p.0 (view p.1) (fields_view (drop (i + 1) ps)) = at_drop_more fields_view ps i p lt ∙ ap (λ q. node.fields q.0 (view q.1) (fields_view (drop (i + 1) ps))) (sym is) in
     let f : tall_fields (fields_view (drop i ps)) ≡ max (tall (view p.1)) (tall_fields (fields_view (drop (i + 1) ps))) = ap tall_fields e in
@@ -97,11 +96,17 @@ nodes_low (p ∷ ps) (suc i) = let x = nodes_low ps i in omega arith
 pub from_place : (ps : List Plan) (i : ℕ) (p : Plan) → i < length ps → p ≡ get_or ps i p → nodes_from i ps ≡ nodes (view p) (nodes_from (i + 1) ps)
 from_place ps i p lt is = at_drop_more nodes_view ps i p lt ∙ ap (λ q. nodes (view q) (nodes_from (i + 1) ps)) (sym is)
 
-pub node_tall : (ps : List Plan) (i : ℕ) (p : Plan) → i < length ps → p ≡ get_or ps i p → 16 * tall (view p) + spare (view p) < 16 * tall_nodes (nodes_view ps) + 10
+pub node_tall : (ps : List Plan) (i : ℕ) (p : Plan) → i < length ps → p ≡ get_or ps i p → 32 * tall (view p) + spare (view p) < 32 * tall_nodes (nodes_view ps) + 10
 node_tall ps i p lt is =
     let f : tall_nodes (nodes_from i ps) ≡ max (tall (view p)) (tall_nodes (nodes_from (i + 1) ps)) = ap tall_nodes (from_place ps i p lt is) in
     let x = nodes_low ps i in
     let y = spare_most (view p) in
+    omega arith
+
+pub cond_tall : (ps : List Plan) (i : ℕ) (p : Plan) → i < length ps → p ≡ get_or ps i p → 32 * tall (view p) + 10 < 32 * tall_nodes (nodes_view ps) + 11
+cond_tall ps i p lt is =
+    let f : tall_nodes (nodes_from i ps) ≡ max (tall (view p)) (tall_nodes (nodes_from (i + 1) ps)) = ap tall_nodes (from_place ps i p lt is) in
+    let x = nodes_low ps i in
     omega arith
 
 -- ---- the parts of a literal
@@ -109,7 +114,7 @@ node_tall ps i p lt is =
 pays_next : (e r z y : ℕ) → e ≡ r → z ≡ y → e + z ≡ r + y
 pays_next e r z y x w = omega arith
 
-pub made_gives : (env : List Value) (p : Node) (ps : Nodes) (v : Value) (a b : World) → ComesTo env p (done v) a b → Gives env (made (nodes p ps)) a v (made ps) b
+pub made_gives : (env : List Value) (p : Node) (ps : Nodes) (v : Value) (a b : Running) → ComesTo env p (done v) a b → Gives env (made (nodes p ps)) a v (made ps) b
 made_gives env p ps v a b h =
     let held = stage_stays nothing nothing a b h.moves in
     record {
@@ -117,14 +122,14 @@ made_gives env p ps v a b h =
       known = λ all i. (h.known all i.0, i.1);
       gave = λ G k u e f told. same_at k (plan_items (reading a) (nodes p ps) env) (more v (plan_items (reading b) ps env))
           (ap (λ o. item_then o (plan_items (reading a) ps env)) (h.comes G u e f.0 told) ∙ ap (λ t. more v (plan_items (readings t) ps env)) (sym held));
-      counts = λ G k u e f told z price.
-          pays_next _ _ _ _ (h.counts G u e f.0 told tt price) (ap (λ t. reached_nodes (readings t) price ps env) held);
-      typed = λ G k u e f. (h.typed G u e f.0, subst (λ t. EachPlan (ScanOf t) G ps u) (sym held) f.1);
+      counts = λ G k u e f told z P.
+          pays_next _ _ _ _ (h.counts G u e f.0 told tt P) (ap (λ t. cost_nodes t P ps env) held);
+      typed = λ G k u e f. (h.typed G u e f.0, subst (λ t. EachPlan (ScanOf t) (MemoOf t) G ps u) (sym held) f.1);
       lower = omega arith;
       fell = omega arith;
     }
 
-pub made_stops : (env : List Value) (p : Node) (ps : Nodes) (e : EvalStop) (a b : World) → Partly env p (Err e) a b → Stops env (made (nodes p ps)) e a b
+pub made_stops : (env : List Value) (p : Node) (ps : Nodes) (e : EvalStop) (a b : Running) → Partly env p (Err e) a b → Stops env (made (nodes p ps)) e a b
 made_stops env p ps why.Overflow a b k =
     let h = k.1 in
     record {
@@ -132,26 +137,26 @@ made_stops env p ps why.Overflow a b k =
       known = λ all i. h.known all i.0;
       reason = λ G j u e f told. same_at j (plan_items (reading a) (nodes p ps) env) (stop overflow) (ap (λ o. item_then o (plan_items (reading a) ps env)) (h.comes G u e f.0 told));
     }
-made_stops env p ps (why.Driver l x) a b k = halts_at nothing (λ all. ScansLeft all (made (nodes p ps))) (λ all. ScansIn all p) l x a b (λ all i. i.0) k
+made_stops env p ps (why.Driver l x) a b k = halts_at nothing (λ all. PartsLeft all (made (nodes p ps))) (λ all. PartsIn all p) l x a b (λ all i. i.0) k
 made_stops env p ps why.NoMemory a b k = record { moves = k.moves; known = λ all i. k.known all i.0; reason = tt }
 
-pub made_ends : (env : List Value) (a : World) → Ends env (made no_nodes) a a
+pub made_ends : (env : List Value) (a : Running) → Ends env (made no_nodes) a a
 made_ends env a = record {
   moves = moves_none nothing a;
   known = λ all i. tt;
   over = λ G k u e f told. same_itself k (stop fine);
-  counts = λ G k u e f told z price. omega arith;
+  counts = λ G k u e f told z P. omega arith;
 }
 
-module _ (env : List Value) (ps : Bor (List Plan)) (i : ℕ) (a : World) where
-  pub made_gave : (p : Plan) (q : Result Value Halt) (r : Result Value EvalStop) (v : Value) (b : World) → i < length ps.now → p ≡ get_or ps.now i p → Wholly env (view p) q a b → r ≡ inside_of q → r ≡ Ok v
+module _ (env : List Value) (ps : Bor (List Plan)) (i : ℕ) (a : Running) where
+  pub made_gave : (p : Plan) (q : Result Value Halt) (r : Result Value EvalStop) (v : Value) (b : Running) → i < length ps.now → p ≡ get_or ps.now i p → Wholly env (view p) q a b → r ≡ inside_of q → r ≡ Ok v
       → Gives env (made (nodes_from i ps.now)) a v (snap (state.Make ps (i + 1))) b
   made_gave p q r v b lt is h e f =
       subst (λ z. Gives env (made z) a v (snap (state.Make ps (i + 1))) b) (sym (from_place ps.now i p lt is))
       (subst (λ z. Gives env (made (nodes (view p) (nodes_from (i + 1) ps.now))) a v z b) (sym (snap_Make ps (i + 1)))
       (made_gives env (view p) (nodes_from (i + 1) ps.now) v a b (part_value env (view p) a b q r v h e f)))
 
-  pub made_stop : (p : Plan) (q : Result Value Halt) (r : Result Value EvalStop) (e : EvalStop) (b : World) → i < length ps.now → p ≡ get_or ps.now i p → Wholly env (view p) q a b → r ≡ inside_of q → r ≡ Err e
+  pub made_stop : (p : Plan) (q : Result Value Halt) (r : Result Value EvalStop) (e : EvalStop) (b : Running) → i < length ps.now → p ≡ get_or ps.now i p → Wholly env (view p) q a b → r ≡ inside_of q → r ≡ Err e
       → Stops env (made (nodes_from i ps.now)) e a b
   made_stop p q r e b lt is h f g =
       subst (λ z. Stops env (made z) e a b) (sym (from_place ps.now i p lt is)) (made_stops env (view p) (nodes_from (i + 1) ps.now) e a b (part_stop env (view p) a b q r e h f g))
@@ -164,13 +169,13 @@ module _ (env : List Value) (ps : Bor (List Plan)) (i : ℕ) (a : World) where
 
 -- ---- what begins evaluated first
 
-abbrev Goes : List Value → Node → Snap → World → World → Type 0
+abbrev Goes : List Value → Node → Snap → Running → Running → Type 0
 Goes env p s w x = Onward env (fresh p) w s x × (falling s < falling (fresh p))
 
-goes_as : (env : List Value) (p : Node) (s t : Snap) (w x : World) → s ≡ t → Goes env p t w x → Goes env p s w x
+goes_as : (env : List Value) (p : Node) (s t : Snap) (w x : Running) → s ≡ t → Goes env p t w x → Goes env p s w x
 goes_as env p s t w x f h = subst (λ z. Goes env p z w x) (sym f) h
 
-stops_at : (env : List Value) (p q : Node) (e : EvalStop) (w x : World) → p ≡ q → Stops env (fresh q) e w x → Stops env (fresh p) e w x
+stops_at : (env : List Value) (p q : Node) (e : EvalStop) (w x : Running) → p ≡ q → Stops env (fresh q) e w x → Stops env (fresh p) e w x
 stops_at env p q e w x is h = subst (λ z. Stops env (fresh z) e w x) (sym is) h
 
 fresh_lower : (p q : Node) → 1 + tall q ≤ tall p → falling (fresh q) < falling (fresh p)
@@ -188,7 +193,7 @@ over_one m n k x = omega arith
 over_some : (m n k : ℕ) → m ≤ k → m ≤ n + k
 over_some m n k x = omega arith
 
-module _ (env : List Value) (t a b a' : Plan) (w : World) (et : t ≡ plans.Let a b) (ea : a' ≡ a) (x : World) where
+module _ (env : List Value) (t a b a' : Plan) (w : Running) (et : t ≡ plans.Let a b) (ea : a' ≡ a) (x : Running) where
   pub let_onward : (v : Value) (b' : Plan) → b' ≡ b → ComesTo env (view a') (done v) w x → Onward env (fresh (view t)) w (bound v (fresh (view b'))) x
   let_onward v b' eb h =
       subst (λ z. Onward env (fresh z) w (bound v (fresh (view b'))) x) (sym (at_Let env t a b a' w et ea))
@@ -206,7 +211,7 @@ module _ (env : List Value) (t a b a' : Plan) (w : World) (et : t ≡ plans.Let 
   pub let_stopped : (z : EvalStop) → Partly env (view a') (Err z) w x → Stops env (fresh (view t)) z w x
   let_stopped z h = stops_at env (view t) (node.Let (view a') (view b)) z w x (at_Let env t a b a' w et ea) (head_stops env (node.Let (view a') (view b)) (view a') z w x (heads_let env (view a') (view b) w) h)
 
-module _ (env : List Value) (t a b c a' : Plan) (w : World) (et : t ≡ plans.If a b c) (ea : a' ≡ a) (q : Result Value EvalStop) (x : World) (h : Partly env (view a') q w x) where
+module _ (env : List Value) (t a b c a' : Plan) (w : Running) (et : t ≡ plans.If a b c) (ea : a' ≡ a) (q : Result Value EvalStop) (x : Running) (h : Partly env (view a') q w x) where
   pub if_onward : (d : Plan) (y z : Bool) → d ≡ cond z b c → y ≡ z → TellsTruth q (Ok y) → Onward env (fresh (view t)) w (fresh (view d)) x
   if_onward d y z ed ez told =
       subst (λ o. Onward env (fresh o) w (fresh (view d)) x) (sym (at_If env t a b c a' w et ea))
@@ -222,7 +227,7 @@ module _ (env : List Value) (t a b c a' : Plan) (w : World) (et : t ≡ plans.If
   if_stopped z told = stops_at env (view t) (node.If (view a') (view b) (view c)) z w x (at_If env t a b c a' w et ea)
       (head_stops env (node.If (view a') (view b) (view c)) (view a') z w x (heads_if env (view a') (view b) (view c) w) (tested_stop env (view a') q z w x h told))
 
-module _ (env : List Value) (t a a' : Plan) (ps : List (Name × Plan)) (c : Option Plan) (w : World) (et : t ≡ plans.Case a ps c) (ea : a' ≡ a) (x : World) where
+module _ (env : List Value) (t a a' : Plan) (ps : List (Name × Plan)) (c : Option Plan) (w : Running) (et : t ≡ plans.Case a ps c) (ea : a' ≡ a) (x : Running) where
   abbrev All : Node
   All = node.Case (view a') (branches_of (map view_branch ps) (other_node c))
 

@@ -4,10 +4,10 @@ use Rattle.std.specs.Prelude.{◌≢◌, List, Bool, Option, Some, None}
 use Rattle.kl_value.specs.declared.Kind.{Kind}
 use Rattle.kl_value.specs.declared.Kind.TheVariants as kind
 use Rattle.kl_core.specs.Counts.{fits_in}
-use Rattle.kl_ship.specs.Kinds.{kind_of_items}
-use Rattle.kl_ship.specs.Nodes.{Node}
-use Rattle.kl_ship.specs.declared.plan.Plan.{Plan}
-use Rattle.kl_ship.specs.declared.plan.Plan.TheVariants as plans
+use Rattle.kl_plan.specs.Kinds.{kind_of_items}
+use Rattle.kl_plan.specs.Nodes.{Node}
+use Rattle.kl_plan.specs.declared.plan.Plan.{Plan}
+use Rattle.kl_plan.specs.declared.plan.Plan.TheVariants as plans
 
 -- A kind that the form of a plan does not tell may be a set's, whose items may be drawn as they come into a set alone.
 abbrev pub fits_items : Option Kind → Kind → Bool

@@ -10,10 +10,10 @@ use Rattle.kl_value.specs.declared.Kind.TheVariants as kind
 use Rattle.kl_value.specs.declared.Value.{Value}
 use Rattle.kl_prim.specs.Meaning.{Answer, senseless, truth, amount, exact}
 use Rattle.kl_prim.specs.Table.{Fits, meaning}
-use Rattle.kl_ask.specs.World.{World}
-use Rattle.kl_ship.specs.declared.plan.Plan.{Plan}
-use Rattle.kl_ship.specs.declared.plan.Plan.TheVariants as plans
-use Rattle.kl_ship.specs.declared.plan.Scan.{Scan}
+use Rattle.kl_scans.specs.Running.{Running}
+use Rattle.kl_plan.specs.declared.plan.Plan.{Plan}
+use Rattle.kl_plan.specs.declared.plan.Plan.TheVariants as plans
+use Rattle.kl_plan.specs.declared.plan.Scan.{Scan}
 use Rattle.kl_scans.specs.Stage.{stage, RepeatsNone}
 use Rattle.kl_cursor.specs.declared.gathering.Gathering.{Gathering}
 use Rattle.kl_cursor.specs.declared.gathering.Gathering.TheVariants as gathering
@@ -95,5 +95,5 @@ AreTallied code (Some k) = IsTallied code k
 AreTallied code None = ⊥
 
 -- a primitive that counts the rows of a scan that repeats none
-abbrev pub CountsRows : World → ℕ → Plan → Type 0
+abbrev pub CountsRows : Running → ℕ → Plan → Type 0
 CountsRows w code p = (code ≡ 14) × (c : Scan) × (p ≡ plans.Scan c) × RepeatsNone (stage w) c

@@ -6,30 +6,38 @@ use Rattle.kl_value.specs.declared.Value.{Value}
 use Rattle.kl_type.specs.Ground.{Ground}
 use Rattle.kl_outcome.specs.Outcome.{fine, flow, items_in}
 use Rattle.kl_outcome.specs.Typed.{HaveTypes}
-use Rattle.kl_ask.specs.World.{World}
+use Rattle.kl_scans.specs.Running.{Running}
 use Rattle.kl_eval.specs.declared.stop.EvalStop.{EvalStop}
-use Rattle.kl_ship.specs.declared.plan.Scan.{Scan}
-use Rattle.kl_ship.specs.Nodes as node
-use Rattle.kl_ship.specs.Nodes.{Node}
-use Rattle.kl_ship.specs.Meaning.{Readings, coming, plan}
-use Rattle.kl_ship.specs.Holding.{ScansIn}
+use Rattle.kl_plan.specs.declared.plan.Scan.{Scan}
+use Rattle.kl_plan.specs.Nodes as node
+use Rattle.kl_plan.specs.Nodes.{Node}
+use Rattle.kl_plan.specs.Meaning.{Readings, coming, plan}
+use Rattle.kl_plan.specs.Holding.{Listing, PartsIn}
 use Rattle.kl_scans.specs.Log as log
 use Rattle.kl_scans.specs.Log.{Event, Logged}
 use Rattle.kl_cursor.specs.declared.state.State.{State}
-use Rattle.kl_cursor.specs.Left.{Snap, fresh, pulling, outside, inside, snap, left, reading, ScansLeft}
+use Rattle.kl_cursor.specs.Left.{Snap, fresh, pulling, outside, inside, snap, left, reading, PartsLeft}
 use Rattle.kl_cursor.specs.Sense.{IsToldAt, Fits}
 use Rattle.kl_cursor.specs.Steps.{AreOf}
 
 abbrev pub rows_in : List Event → ℕ
 rows_in [] = 0
-rows_in (log.started c ∷ es) = rows_in es
 rows_in (log.handed c n ∷ es) = n + rows_in es
+rows_in (_ ∷ es) = rows_in es
 
--- so many rows of a scan were handed, and nothing was done with any other scan
-pub record Handed (c : Scan) (rows : ℕ) (a b : World) : Type 0 where
+-- one scan alone, and nothing at all
+abbrev pub only_scan : Scan → Listing
+only_scan c = record { scans = c ∷ []; joins = []; memos = [] }
+
+abbrev pub empty_listing : Listing
+empty_listing = record { scans = []; joins = []; memos = [] }
+
+-- so many rows of a scan were handed, and nothing else was done
+pub record Handed (c : Scan) (rows : ℕ) (a b : Running) : Type 0 where
+  pub settings : b.settings ≡ a.settings
   pub events : List Event
   pub logged : Logged events a b
-  pub of : AreOf (c ∷ []) events
+  pub of : AreOf (only_scan c) events
   pub sum : rows_in events ≡ rows
 
 -- ---- a scan
@@ -49,7 +57,7 @@ abbrev pub ByTimes : ℕ → List Value → ℕ → Type 0
 ByTimes fetch all handed = ((times : ℕ) × (handed ≡ times * fetch)) ⊎ (handed ≡ length all)
 
 -- A scan of whose rows so many were used and so many handed, so that fewer than are fetched at once are at hand.
-pub record Fetching (w : World) (env : List Value) (c : Scan) (all : List Value) (used handed : ℕ) (s : Snap) : Type 0 where
+pub record Fetching (w : Running) (env : List Value) (c : Scan) (all : List Value) (used handed : ℕ) (s : Snap) : Type 0 where
   pub scan : IsScan c s
   pub rows : left w s env ≡ flow (drop used all) fine
   pub sum : handed ≡ used + ahead s
@@ -68,24 +76,24 @@ pub record IsFront (R : Readings) (env : List Value) (b : Node) (all : List Valu
   pub least : (n : ℕ) → n < rows → items_at R env b all n < items
 
 -- a loop that makes a list of a scan, where so many rows were used, and so many of the items of their bodies drawn
-module _ (R : Readings) (w : World) (env : List Value) (b : Node) (c : Scan) (all : List Value) (drawn handed used : ℕ) where
+module _ (R : Readings) (w : Running) (env : List Value) (b : Node) (c : Scan) (all : List Value) (drawn handed used : ℕ) where
   abbrev pub LoopOver : Snap → Type 0
   LoopOver (fresh p) = (p ≡ node.Ext kind.List b (node.Scan c)) × (c.kind ≡ kind.List)
       × Fetching w env c all used handed (fresh (node.Scan c)) × (items_at R env b all used ≡ drawn)
   LoopOver (outside p s) = (p ≡ b) × Fetching w env c all used handed s × (items_at R env b all used ≡ drawn)
   LoopOver (inside p s v i) =
       (p ≡ b) × Fetching w env c all used handed s × (items_at R env b all used ≡ drawn + length (items_in (left w i (v ∷ env))))
-      × ScansLeft [] i
+      × PartsLeft empty_listing i
   LoopOver _ = ⊥
 
--- Such a loop without scans in its body, which used no row more once its bodies gave as many items as were asked for.
-pub record LazyLoop (R : Readings) (w : World) (env : List Value) (b : Node) (c : Scan) (all : List Value) (asked drawn handed : ℕ)
+-- Such a loop with neither scans nor subqueries in its body, which used no row more once its bodies gave as many items as were asked for.
+pub record LazyLoop (R : Readings) (w : Running) (env : List Value) (b : Node) (c : Scan) (all : List Value) (asked drawn handed : ℕ)
     (s : Snap) : Type 0 where
   pub used : ℕ
   pub loops : LoopOver R w env b c all drawn handed used s
   pub before : (n : ℕ) → n < used → items_at R env b all n < asked
   pub reads : reading w ≡ R
-  pub still : ScansIn [] b
+  pub still : PartsIn empty_listing b
 
 -- Where so many items were drawn, so many rows were handed: those that it takes for these items, and of what was fetched with the
 -- last of them fewer rows than are fetched at once.
@@ -99,27 +107,27 @@ pub record Frugal (R : Readings) (fetch : ℕ) (env : List Value) (b : Node) (al
 -- ---- steps
 
 -- a list, all of which is told
-abbrev pub ListTold : List Value → Snap → World → Type 0
+abbrev pub ListTold : List Value → Snap → Running → Type 0
 ListTold env s w = (G : List Ground) × (u : Ground) × HaveTypes G env × Fits w G kind.List u s × IsToldAt w
 
 -- From one cursor to another, where so many items were given: what was drawn lazily so far, was so again.
-pub record KeepsLazy (more : ℕ) (env : List Value) (s : Snap) (a : World) (t : Snap) (b : World) : Type 0 where
+pub record KeepsLazy (more : ℕ) (env : List Value) (s : Snap) (a : Running) (t : Snap) (b : Running) : Type 0 where
   pub scan : (c : Scan) (all : List Value) (used handed : ℕ) → ListTold env s a → Fetching a env c all used handed s
       → (rows : ℕ) × Handed c rows a b × Fetching b env c all (used + more) (handed + rows) t
   pub loop : (R : Readings) (p : Node) (c : Scan) (all : List Value) (drawn handed : ℕ) → ListTold env s a
       → LazyLoop R a env p c all (drawn + 1) drawn handed s
       → (rows : ℕ) × Handed c rows a b × LazyLoop R b env p c all (drawn + 1) (drawn + more) (handed + rows) t
 
-abbrev pub Lazily : List Value → Snap → Result (Option Value × State) EvalStop → World → World → Type 0
+abbrev pub Lazily : List Value → Snap → Result (Option Value × State) EvalStop → Running → Running → Type 0
 Lazily env s (Ok (Some v, t)) a b = KeepsLazy 1 env s a (snap t) b
 Lazily env s (Ok (None, t)) a b = ⊤
 Lazily env s (Err e) a b = ⊤
 
-abbrev pub BeginsLazily : List Value → Snap → Result State EvalStop → World → World → Type 0
+abbrev pub BeginsLazily : List Value → Snap → Result State EvalStop → Running → Running → Type 0
 BeginsLazily env s (Ok t) a b = KeepsLazy 0 env s a (snap t) b
 BeginsLazily env s (Err e) a b = ⊤
 
-abbrev pub NextsLazily : List Value → Snap → Result (Option Value) EvalStop → Snap → World → World → Type 0
+abbrev pub NextsLazily : List Value → Snap → Result (Option Value) EvalStop → Snap → Running → Running → Type 0
 NextsLazily env s (Ok (Some v)) t a b = KeepsLazy 1 env s a t b
 NextsLazily env s (Ok None) t a b = ⊤
 NextsLazily env s (Err e) t a b = ⊤

@@ -1,6 +1,9 @@
 pub mod AtHand
+pub mod Draining
 pub mod Drawing
 pub mod Gathering
+pub mod JoinSteps
+pub mod Joining
 pub mod Laziness
 pub mod Left
 pub mod Likeness
@@ -9,3 +12,4 @@ pub mod Pulling
 pub mod Sense
 pub mod Standing
 pub mod Steps
+pub mod Memos

@@ -3,7 +3,7 @@ use Rattle.std.specs.Prelude.{◌≡◌}
 use Rattle.kl_value.specs.declared.Kind.{Kind}
 use Rattle.kl_value.specs.declared.Kind.TheVariants as kind
 use Rattle.kl_outcome.specs.Outcome.{Flow}
-use Rattle.kl_ship.specs.Alike.{IsAlike}
+use Rattle.kl_plan.specs.Alike.{IsAlike}
 
 -- Repeats count in a set as well: what is drawn of it as it comes has some, and each is a turn of a loop.
 abbrev pub Same : Kind → Flow → Flow → Type 0

@@ -1,15 +1,17 @@
 -- Numbers that fall from step to step.
 use Rattle.std.specs.Prelude.{ℕ, ◌+◌, ◌*◌, ◌^◌, max, length, Option, Some, None}
 use Rattle.kl_ask.specs.Driver.{Cursor}
-use Rattle.kl_ask.specs.World.{World}
+use Rattle.kl_scans.specs.Running.{Running}
 use Rattle.kl_ask.specs.declared.ask.Ask.{Ask}
 use Rattle.kl_ask.specs.declared.ask.Ask.TheVariants as asks
 use Rattle.kl_sqltext.specs.declared.ast.Spj.{Spj}
-use Rattle.kl_ship.specs.Nodes as node
-use Rattle.kl_ship.specs.Nodes.{Node, Nodes, no_nodes, nodes, Fields, no_fields, fields, Branches, no_branches, rest, branch}
+use Rattle.kl_plan.specs.Nodes as node
+use Rattle.kl_plan.specs.Nodes.{Node, Nodes, no_nodes, nodes, Fields, no_fields, fields, Branches, no_branches, rest, branch, Key}
+use Rattle.kl_plan.specs.Nodes.{no_key, key}
 use Rattle.kl_scans.specs.Held.{cursor_at}
 use Rattle.kl_scans.specs.Stage.{statement_of}
-use Rattle.kl_cursor.specs.Left.{Snap, fresh, have, pulling, both, bound, outside, inside, made, ended}
+use Rattle.kl_cursor.specs.Joining.{waiting}
+use Rattle.kl_cursor.specs.Left.{Snap, fresh, have, pulling, both, bound, outside, inside, made, ended, taking, reads, pairing, joining, matching}
 
 -- how deep a plan is
 abbrev mutual
@@ -27,8 +29,8 @@ abbrev mutual
   tall (node.Let a b) = 1 + max (tall a) (tall b)
   tall (node.Prim c ps) = 1 + tall_nodes ps
   tall (node.Scan c) = 1
-  tall (node.Join n k how o cs i q b) = 1
-  tall (node.Memo n frees p) = 1
+  tall (node.Join n k how o cs i q b) = 1 + max (tall o) (max (tall_nodes cs) (max (tall_key q) (tall b)))
+  tall (node.Memo n frees p) = 1 + tall p
 
   pub tall_nodes : Nodes → ℕ
   tall_nodes no_nodes = 0
@@ -42,6 +44,10 @@ abbrev mutual
   tall_branches no_branches = 0
   tall_branches (rest c) = tall c
   tall_branches (branch l b bs) = max (tall b) (tall_branches bs)
+
+  pub tall_key : Key → ℕ
+  tall_key no_key = 0
+  tall_key (key l p) = tall p
 
 abbrev pub count_nodes : Nodes → ℕ
 count_nodes no_nodes = 0
@@ -73,7 +79,7 @@ abbrev mutual
   size (node.Let a b) = size b
   size (node.Prim c ps) = 2 ^ 64
   size (node.Scan c) = asked_most c.ask
-  size (node.Join n k how o cs i q b) = 2 ^ 64
+  size (node.Join n k how o cs i q b) = max (size o) (2 ^ 64) * (max (asked_most i.ask) (2 ^ 64) * size b)
   size (node.Memo n frees p) = 2 ^ 64
 
   pub size_branches : Branches → ℕ
@@ -91,6 +97,11 @@ height (outside b s) = 1 + max (height s) (tall b)
 height (inside b s v i) = 1 + max (max (height s) (tall b)) (height i)
 height (made ps) = 1 + tall_nodes ps
 height ended = 0
+height (taking vs s) = height s
+height (reads k p) = tall p
+height (pairing k b xs s) = 1 + max (height s) (tall b)
+height (joining j s h n) = 1 + max (height s) (max (tall_nodes j.conds) (max (tall_key j.key) (tall j.body)))
+height (matching b ys x s) = max (1 + tall b) (height s)
 
 -- a cursor with nothing done yet comes before what it becomes, and a loop inside its body before the same loop outside
 abbrev pub rank : Snap → ℕ
@@ -107,7 +118,7 @@ bound_in (Some o) = o.bound
 bound_in None = 0
 
 -- a number that the items left do not pass, also where contents are not told
-abbrev pub most : World → Snap → ℕ
+abbrev pub most : Running → Snap → ℕ
 most w (fresh p) = size p
 most w (have vs e) = length vs
 most w (pulling c k rows n) = length rows + bound_in (cursor_at w c.driver k)
@@ -117,3 +128,8 @@ most w (outside b s) = most w s * size b
 most w (inside b s v i) = most w i + most w s * size b
 most w (made ps) = count_nodes ps
 most w ended = 0
+most w (taking vs s) = length vs + most w s
+most w (reads k p) = size p
+most w (pairing k b xs s) = length xs * (most w s * size b)
+most w (joining j s h n) = (waiting h + most w s) * (max (asked_most j.inner.ask) (2 ^ 64) * size j.body)
+most w (matching b ys x s) = length ys * size b + most w s

@@ -1,6 +1,6 @@
 //! The public calls.
 ghost use Rattle.std.specs.Prelude.{◌≡◌, reverse, IfOk};
-ghost use Rattle.kl_ship.specs.Nodes.{view};
+ghost use Rattle.kl_plan.specs.Nodes.{view};
 ghost use Rattle.kl_scans.specs.Held.{Owned};
 ghost use Rattle.kl_scans.specs.Moves.{Closes};
 ghost use Rattle.kl_cursor.specs.AtHand.{NextsHeld, NextsHeldLazily, PullsAlone};
@@ -17,10 +17,10 @@ use crate::state::State;
 use crate::stepping::{close, step};
 use crate::steps::let_go;
 use crate::values::whole;
-use kl_ask::{Seen, Session};
 use kl_base::{NoMemory, Seq};
 use kl_eval::{Env, EvalStop, inside};
-use kl_ship::Plan;
+use kl_plan::Plan;
+use kl_scans::{Ran, Run};
 use kl_value::{Value, dup_items};
 use std::alloc::Global;
 use std::mem;
@@ -46,24 +46,24 @@ pub enum Draw {
 /// The value of a plan, of any type, where the last value of `env` is the nearest position's. Of a set or a bag it is the canonical
 /// collection.
 ///
-/// The plan makes sense under the types of what the session has attached and those of the values in `env`. Afterwards, also after a
-/// stop, no cursor of a driver is open that was not, and each start and each row handed is counted.
+/// The plan makes sense under the types of what the run's session has attached and those of the values in `env`. Afterwards, also after
+/// a stop, no cursor of a driver is open that was not, and all that was done is counted.
 ///
 /// # Errors
 /// `Overflow` exactly where the value is one; `Driver` where the driver of that source refused to go on, with its cause; want of
 /// memory. The last two come first.
-pub fn value_of(
+pub fn value_of<'r>(
     alloc: Global,
     plan: &Plan,
     env: &mut Vec<Value>,
-    session: &mut Session,
+    run: &mut Run<'r>,
 ) -> Result<Value, EvalStop>
-    requires { HasWorth (⟦<Session as Seen>⟧.world session.old) (view plan.now) (reverse env.old.items) }
+    requires { HasWorth (⟦<Run<'r> as Ran>⟧.world run.old) (view plan.now) (reverse env.old.items) }
     ensures env { env.new.items ≡ env.old.items }
-    ensures value { Partly (reverse env.old.items) (view plan.now) result (⟦<Session as Seen>⟧.world session.old)
-        (⟦<Session as Seen>⟧.world session.new) }
+    ensures value { Partly (reverse env.old.items) (view plan.now) result (⟦<Run<'r> as Ran>⟧.world run.old)
+        (⟦<Run<'r> as Ran>⟧.world run.new) }
 {
-    inside(whole(alloc, plan, &Env::Base(env.as_slice()), session))
+    inside(whole(alloc, plan, &Env::Base(env.as_slice()), run))
 }
 
 /// A cursor of a plan, with nothing done yet, where the last value of `env` is the nearest position's. Nothing is opened.
@@ -88,27 +88,27 @@ impl<'p> Cursor<'p> {
     /// To a loop over a scan that makes a list, no row more is handed before it is needed, but for those that come with it. Where
     /// `may_pull` answers no, nothing is started and nothing handed, whatever the answer is.
     ///
-    /// The cursor's own cursors of drivers are open, as it left them, and it makes sense under the types of what the session
-    /// has attached. Those of other cursors are left as they are.
+    /// The cursor's own cursors of drivers are open, as it left them, and it makes sense under the types of what the run's
+    /// session has attached. Those of other cursors are left as they are.
     ///
     /// # Errors
     /// `Overflow` where no item is left and the end is one, of a set or a bag also earlier; `Driver` where the driver of that
     /// source refused to go on, with its cause; want of memory. After a stop its scans are closed, and it gives nothing more.
-    pub fn next(&mut self, session: &mut Session) -> Result<Option<Value>, EvalStop>
-        requires owned { Owned (uses (snap self.old.at)) (⟦<Session as Seen>⟧.world session.old) }
-        requires sense { Stands (⟦<Session as Seen>⟧.world session.old) (snap self.old.at) (reverse self.old.env) }
+    pub fn next<'r>(&mut self, run: &mut Run<'r>) -> Result<Option<Value>, EvalStop>
+        requires owned { Owned (uses (snap self.old.at)) (⟦<Run<'r> as Ran>⟧.world run.old) }
+        requires sense { Stands (⟦<Run<'r> as Ran>⟧.world run.old) (snap self.old.at) (reverse self.old.env) }
         ensures env { self.new.env ≡ self.old.env }
         ensures next { Nexts (reverse self.old.env) (snap self.old.at) result (snap self.new.at)
-            (⟦<Session as Seen>⟧.world session.old) (⟦<Session as Seen>⟧.world session.new) }
+            (⟦<Run<'r> as Ran>⟧.world run.old) (⟦<Run<'r> as Ran>⟧.world run.new) }
         ensures lazy { NextsLazily (reverse self.old.env) (snap self.old.at) result (snap self.new.at)
-            (⟦<Session as Seen>⟧.world session.old) (⟦<Session as Seen>⟧.world session.new) }
-        ensures quiet { SilentUnlessPulls (snap self.old.at) (⟦<Session as Seen>⟧.world session.old)
-            (⟦<Session as Seen>⟧.world session.new) }
+            (⟦<Run<'r> as Ran>⟧.world run.old) (⟦<Run<'r> as Ran>⟧.world run.new) }
+        ensures quiet { SilentUnlessPulls (snap self.old.at) (⟦<Run<'r> as Ran>⟧.world run.old)
+            (⟦<Run<'r> as Ran>⟧.world run.new) }
     {
-        self.advance(session)
+        self.advance(run)
     }
 
-    // Over whatever gives scans, as the steps are: over a session alone a call of them would want its impl from below.
+    // Over whatever gives scans, as the steps are: over a run alone a call of them would want its impl from below.
     fn advance<C: Scans>(&mut self, run: &mut C) -> Result<Option<Value>, EvalStop>
         requires owned { Owned (uses (snap self.old.at)) (C.world run.old) }
         requires sense { Stands (C.world run.old) (snap self.old.at) (reverse self.old.env) }
@@ -139,18 +139,18 @@ impl<'p> Cursor<'p> {
     ///
     /// # Errors
     /// Those of `next`.
-    pub fn next_held(&mut self, session: &mut Session) -> Result<Draw, EvalStop>
-        requires owned { Owned (uses (snap self.old.at)) (⟦<Session as Seen>⟧.world session.old) }
-        requires sense { Stands (⟦<Session as Seen>⟧.world session.old) (snap self.old.at) (reverse self.old.env) }
+    pub fn next_held<'r>(&mut self, run: &mut Run<'r>) -> Result<Draw, EvalStop>
+        requires owned { Owned (uses (snap self.old.at)) (⟦<Run<'r> as Ran>⟧.world run.old) }
+        requires sense { Stands (⟦<Run<'r> as Ran>⟧.world run.old) (snap self.old.at) (reverse self.old.env) }
         ensures env { self.new.env ≡ self.old.env }
         ensures next { NextsHeld (reverse self.old.env) (snap self.old.at) result (snap self.new.at)
-            (⟦<Session as Seen>⟧.world session.old) (⟦<Session as Seen>⟧.world session.new) }
+            (⟦<Run<'r> as Ran>⟧.world run.old) (⟦<Run<'r> as Ran>⟧.world run.new) }
         ensures lazy { NextsHeldLazily (reverse self.old.env) (snap self.old.at) result (snap self.new.at)
-            (⟦<Session as Seen>⟧.world session.old) (⟦<Session as Seen>⟧.world session.new) }
-        ensures silent { Silent (⟦<Session as Seen>⟧.world session.old) (⟦<Session as Seen>⟧.world session.new) }
+            (⟦<Run<'r> as Ran>⟧.world run.old) (⟦<Run<'r> as Ran>⟧.world run.new) }
+        ensures silent { Silent (⟦<Run<'r> as Ran>⟧.world run.old) (⟦<Run<'r> as Ran>⟧.world run.new) }
         ensures needed { PullsAlone result (snap self.old.at) }
     {
-        self.draw_held(session)
+        self.draw_held(run)
     }
 
     fn draw_held<C: Scans>(&mut self, run: &mut C) -> Result<Draw, EvalStop>
@@ -194,11 +194,11 @@ impl<'p> Cursor<'p> {
     }
 
     /// Closes the cursors of drivers that it has open. Takes no memory.
-    pub fn close(self, session: &mut Session)
-        requires { Owned (uses (snap self.at)) (⟦<Session as Seen>⟧.world session.old) }
-        ensures { Closes (uses (snap self.entry.at)) (⟦<Session as Seen>⟧.world session.old) (⟦<Session as Seen>⟧.world session.new) }
+    pub fn close<'r>(self, run: &mut Run<'r>)
+        requires { Owned (uses (snap self.at)) (⟦<Run<'r> as Ran>⟧.world run.old) }
+        ensures { Closes (uses (snap self.entry.at)) (⟦<Run<'r> as Ran>⟧.world run.old) (⟦<Run<'r> as Ran>⟧.world run.new) }
     {
         let Cursor { at, .. } = self;
-        close(at, session);
+        close(at, run);
     }
 }

@@ -1,12 +1,13 @@
 //! Which parts a loop draws as they come.
-ghost use Rattle.std.specs.Prelude.{◌≡◌, map};
-ghost use Rattle.kl_ship.specs.Nodes.{branches_of, no_branches, view, view_branch};
-ghost use Rattle.kl_ship.specs.Kinds.{first_kind, kind_of_branches, kind_of_items};
+ghost use Rattle.std.specs.Prelude.{◌≡◌, map, IfSome, true};
+ghost use Rattle.kl_plan.specs.declared.plan.Plan.TheVariants as plans;
+ghost use Rattle.kl_plan.specs.Nodes.{branches_of, no_branches, view, view_branch};
+ghost use Rattle.kl_plan.specs.Kinds.{first_kind, kind_of_branches, kind_of_items};
 ghost use Rattle.kl_cursor.specs.Drawing.{draws};
 
 use kl_base::Label;
 use kl_core::fits;
-use kl_ship::Plan;
+use kl_plan::{Plan, Scan};
 use kl_value::Kind;
 
 /// The kind of a plan of a collection, where its form tells it.
@@ -62,5 +63,21 @@ pub fn draws(into: Kind, plan: &Plan) -> bool
     match kind_of_items(plan) {
         Some(kind) => fits(kind, into),
         None => fits(Kind::Set, into),
+    }
+}
+
+/// The scan that a loop of a kind draws as it comes, where a plan is one.
+pub fn scan_drawn<'p>(into: Kind, plan: &'p Plan) -> Option<&'p Scan>
+    ensures { IfSome result (λ c. (plan.now ≡ plans.Scan c.now) × (draws into (view plan.now) ≡ true)) }
+{
+    match plan {
+        Plan::Scan(scan) => {
+            if fits(scan.kind, into) {
+                Some(scan)
+            } else {
+                None
+            }
+        }
+        _ => None,
     }
 }

@@ -1,7 +1,7 @@
 //! What is kept of items as they come: the items, or what a primitive asks of them, so that no collection of them is made.
 ghost use Rattle.std.specs.Prelude.{◌≡◌, List, [], ◌∷◌, IfSome, IsSome, OnOk, true};
-ghost use Rattle.kl_ship.specs.Kinds.{kind_of_items};
-ghost use Rattle.kl_ship.specs.Nodes.{view};
+ghost use Rattle.kl_plan.specs.Kinds.{kind_of_items};
+ghost use Rattle.kl_plan.specs.Nodes.{view};
 ghost use Rattle.kl_eval.specs.Steps.{AnswersPrim};
 ghost use Rattle.kl_value.specs.declared.Value.{Value};
 ghost use Rattle.kl_cursor.specs.Sense.{HasWorth};
@@ -12,7 +12,7 @@ use crate::drawing::kind_of_items;
 use crate::scans::Scans;
 use kl_base::NoMemory;
 use kl_eval::EvalStop;
-use kl_ship::Plan;
+use kl_plan::Plan;
 use kl_value::{Kind, Value, cmp};
 
 // Codes of the table of primitives.

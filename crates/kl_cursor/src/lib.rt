@@ -9,6 +9,8 @@ mod cursor;
 mod drawing;
 mod gathering;
 mod held;
+mod joins;
+mod memos;
 mod parts;
 mod pulling;
 mod scans;
@@ -18,3 +20,4 @@ mod steps;
 mod values;
 
 pub use cursor::{Cursor, Draw, open_plan, value_of};
+pub use kl_scans::{Ran, Run};

@@ -1,24 +1,21 @@
 //! Whether the next step of a cursor may read on at a source.
 ghost use Rattle.std.specs.Prelude.{◌≡◌, drop};
-ghost use Rattle.kl_ship.specs.Nodes.{fields_view, nodes_view, view};
-ghost use Rattle.kl_ship.specs.Numbers.{scans_of_fields, scans_of_nodes};
+ghost use Rattle.kl_plan.specs.Nodes.{fields_view, nodes_view, view};
 ghost use Rattle.kl_cursor.specs.Left.{snap};
-ghost use Rattle.kl_cursor.specs.Pulling.{some, has_scan, gives, reads_on, loop_reads_on, pulls};
+ghost use Rattle.kl_cursor.specs.Pulling.{has_scan, has_scan_nodes, has_scan_fields, gives, reads_on, loop_reads_on, pulls};
 
 use crate::state::State;
 use kl_base::Label;
-use kl_ship::Plan;
+use kl_plan::Plan;
 
-/// Whether a scan stands in a plan.
+/// Whether a scan stands in a plan. In a join and in a subquery one does.
 #[cycle(scan)]
-#[tactic(auto, using(crate::proofs::Pulls::some_then))]
 pub fn has_scan(plan: &Plan) -> bool
     ensures { result ≡ has_scan (view plan.now) }
 {
     match plan {
         Plan::Plain(_) | Plan::Var(_) => false,
-        Plan::Scan(_) | Plan::Join(_) => true,
-        Plan::Memo(_, _, part) => has_scan(part.get()),
+        Plan::Scan(_) | Plan::Join(_) | Plan::Memo(_, _, _) => true,
         Plan::Rec(fields) => has_scan_labelled(fields.slice()),
         Plan::Proj(_, a) => has_scan(a.get()),
         Plan::Inj(_, a) => has_scan(a.get()),
@@ -44,9 +41,8 @@ pub fn has_scan(plan: &Plan) -> bool
 }
 
 #[cycle(scan)]
-#[tactic(auto, using(crate::proofs::Pulls::some_then))]
 fn has_scan_all(plans: &[Plan]) -> bool
-    ensures { result ≡ some (scans_of_nodes (nodes_view plans.now)) }
+    ensures { result ≡ has_scan_nodes (nodes_view plans.now) }
 {
     'plans: for plan in plans {
         if has_scan(plan) {
@@ -57,9 +53,8 @@ fn has_scan_all(plans: &[Plan]) -> bool
 }
 
 #[cycle(scan)]
-#[tactic(auto, using(crate::proofs::Pulls::some_then))]
 fn has_scan_labelled(parts: &[(Label, Plan)]) -> bool
-    ensures { result ≡ some (scans_of_fields (fields_view parts.now)) }
+    ensures { result ≡ has_scan_fields (fields_view parts.now) }
 {
     'parts: for part in parts {
         if has_scan(&part.1) {
@@ -71,7 +66,7 @@ fn has_scan_labelled(parts: &[(Label, Plan)]) -> bool
 
 // Whether a scan stands in one of the plans from a place on.
 fn has_scan_from(plans: &[Plan], place: usize) -> bool
-    ensures { result ≡ some (scans_of_nodes (nodes_view (drop place plans.now))) }
+    ensures { result ≡ has_scan_nodes (nodes_view (drop place plans.now)) }
 {
     if place < plans.len() {
         has_scan_all(&plans[place..])

@@ -2,17 +2,17 @@
 ghost use Rattle.std.specs.Prelude.{◌≡◌, List, reverse, IfOk, Some, IsSome, ⊤};
 ghost use Rattle.kl_value.specs.declared.value.Value.{Value as Item};
 ghost use Rattle.kl_value.specs.Views.{IsBool, IsCollection};
-ghost use Rattle.kl_ask.specs.World.{World};
+ghost use Rattle.kl_scans.specs.Running.{Running};
 ghost use Rattle.kl_outcome.specs.Outcome.{as_variant};
 ghost use Rattle.kl_eval.specs.Steps.{TellsTruth};
-ghost use Rattle.kl_ship.specs.Nodes.{view};
+ghost use Rattle.kl_plan.specs.Nodes.{view};
 ghost use Rattle.kl_cursor.specs.Left.{fresh, have, end_of, snap};
-ghost use Rattle.kl_cursor.specs.Steps.{Steps, Opened, Halted};
+ghost use Rattle.kl_cursor.specs.Steps.{Steps, Opened, Halted, Drained};
 
 use crate::state::State;
 use kl_base::{Box, Label, NoMemory, Seq};
 use kl_eval::{EvalStop, Halt};
-use kl_ship::Plan;
+use kl_plan::Plan;
 use kl_value::{Value, bool_of, into_parts};
 use std::alloc::Global;
 use std::mem;
@@ -62,9 +62,31 @@ pub fn open_whole<'p>(outcome: Result<Value, Halt>) -> Result<State<'p>, EvalSto
     }
 }
 
+/// What a plan that is drained gives.
+pub fn open_drained<'p>(outcome: Result<Vec<Value>, Halt>) -> Result<State<'p>, EvalStop>
+    ensures { Drained outcome result }
+{
+    match outcome {
+        Ok(items) => {
+            let mut items = items;
+            items.reverse();
+            let _count = items.len();
+            Ok(State::Have(Seq::of(items), false))
+        }
+        Err(Halt::Over(items)) => {
+            let mut items = items;
+            items.reverse();
+            let _count = items.len();
+            Ok(State::Have(Seq::of(items), true))
+        }
+        Err(Halt::Driver { source, error }) => Err(EvalStop::Driver { source, error }),
+        Err(Halt::NoMemory) => Err(EvalStop::NoMemory),
+    }
+}
+
 /// Takes the next item, which stands last.
 pub fn pop<'p>(items: Seq<Value>, past: bool) -> Result<(Option<Value>, State<'p>), EvalStop>
-    ensures { (env : List Item) (w : World) → Steps env (have (reverse items) (end_of past)) result w w }
+    ensures { (env : List Item) (w : Running) → Steps env (have (reverse items) (end_of past)) result w w }
 {
     let mut items = items.into_vec();
     match items.pop() {

@@ -15,7 +15,6 @@ use Rattle.kl_rows.specs.declared.Scheme.{Scheme}
 use Rattle.kl_rows.specs.Schemes.{IsScheme, Instance}
 use Rattle.kl_outcome.specs.Outcome.{Outcome, done, over, stuck}
 use Rattle.kl_ask.specs.Driver.{State}
-use Rattle.kl_ask.specs.declared.session.Attached.{Attached}
 use Rattle.kl_infer.specs.Kinds.{HasOther}
 use Rattle.kl_engine.specs.Answering.{SomeRose, KeepsDrivers, IsOutside, reading, writing, drifting, wanting, PrintsPage, IsOneOf, EndsSilent, Unprinted}
 use Rattle.kl_engine.specs.Faults.{Ending}

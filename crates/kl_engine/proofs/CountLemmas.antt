@@ -1,5 +1,5 @@
 -- The plan of a program that is run, and what is counted.
-use Rattle.std.proofs.Common.{◌≡◌, ◌⊎◌, inl, inr, ℕ, List, [], Option, Some, None, Ok, Err, refl, sym, ap, subst, ◌∙◌}
+use Rattle.std.proofs.Common.{◌≡◌, ◌⊎◌, inl, inr, ℕ, List, [], Option, Some, None, Ok, Err, refl, sym, ap, subst}
 use Rattle.kl_outside.specs.Sinks.{SinkState}
 use Rattle.kl_outside.specs.Counts.{Rose}
 use Rattle.kl_outside.specs.Files.{FilesState}
@@ -15,8 +15,8 @@ use Rattle.kl_ask.specs.Driver.{DriverKind, State}
 use Rattle.kl_ask.specs.Settings.{usual_settings}
 use Rattle.kl_ask.specs.declared.settings.Settings.{Settings}
 use Rattle.kl_ask.specs.declared.settings.Trace.{Trace}
-use Rattle.kl_ship.specs.Nodes.{Node, view as plan_view}
-use Rattle.kl_ship.specs.declared.plan.Plan.{Plan}
+use Rattle.kl_plan.specs.Nodes.{Node, view as plan_view}
+use Rattle.kl_plan.specs.declared.plan.Plan.{Plan}
 use Rattle.kl_run.specs.Planned.{ships_of}
 use Rattle.kl_sources.specs.Sources.{grounds_of, kinds_of, names_of}
 use Rattle.kl_sources.specs.declared.source.Source.{Source}
@@ -31,7 +31,7 @@ use Rattle.kl_engine.specs.Faults.{Ending}
 use Rattle.kl_engine.specs.Inputs.{IsInputsEnd, ReadsInputs}
 use Rattle.kl_engine.specs.Outside.{outside_of}
 use Rattle.kl_engine.specs.Reading.{ReadsText}
-use Rattle.kl_engine.specs.Planned.{AreStartsOf, AsksOf, CountsPlan, CountsScansAlone, Course, HasPlan, IsEarly, IsUnrun, LacksInput, MayBeEarly, MayStop, PlanOf, PlansTerm, PlansText, Rests, RunsPlan, course_of, how_in, how_of, plan_in, usual_how}
+use Rattle.kl_engine.specs.Planned.{AsksOf, CountsPlan, Course, HasPlan, IsEarly, IsShown, IsUndone, IsUnrun, LacksInput, MayBeEarly, MayStop, PlanOf, PlansTerm, PlansText, Rests, RunsPlan, course_of, how_in, how_of, plan_in, usual_how}
 use Rattle.kl_engine.specs.Verdict.{GivesList}
 use Rattle.kl_engine.specs.declared.run.How.{How}
 use Rattle.kl_engine.specs.declared.run.Ran.{Ran}
@@ -108,14 +108,11 @@ planned_some p Q is = let two : Some (plan_view p) ≡ None = is in absurd cc
 pub unrun_asks : (ran : Ran) (ds : List State) → IsUnrun ran → AsksOf (plan_in ran.plan) ran.trace.starts ds ds
 unrun_asks ran ds none = subst (λ o. AsksOf (plan_in o) ran.trace.starts ds ds) (sym none.0) refl
 
-pub unrun_alone : (ran : Ran) → IsUnrun ran → CountsScansAlone (plan_in ran.plan) ran.trace
-unrun_alone ran none = record {
-  starts = subst (λ o. AreStartsOf (plan_in o) ran.trace.starts) (sym none.0) none.1.starts;
-  joins = none.1.joins;
-  hits = none.1.hits;
-  misses = none.1.misses;
-  peak = none.1.peak;
-}
+pub unrun_shown : (block : ℕ) (ran : Ran) → IsUnrun ran → IsShown block (plan_in ran.plan) ran.trace
+unrun_shown block ran none = subst (λ o. IsShown block (plan_in o) ran.trace) (sym none.0) none.1
+
+pub unrun_undone : (block : ℕ) (ran : Ran) → IsUnrun ran → IsUndone block (plan_in ran.plan) ran.trace
+unrun_undone block ran none = subst (λ o. IsUndone block (plan_in o) ran.trace) (sym none.0) none.1
 
 -- ---- ends behind it
 
@@ -201,7 +198,7 @@ text_plan how ss text s end steps plan course (q, of, resolves) (inl (p, is, run
         is_marked s,
         resolves.marks,
         as_resolved (λ program e. CountsPlan how ss (is_marked s) (GivesList (grounds_of ss) program e) course p) (names_of ss) q s resolves runs.0,
-        subst (λ t. PlansTerm how.settings (ships_of (kinds_of course.old) ss) t course.steps p) (λ i. term_of (resolves.defs i) (resolves.last i) (resolves.sources_kept i)) runs.1,
+        subst (λ t. PlansTerm how.settings (ships_of (kinds_of course.old) ss) t course.trace.steps p) (λ i. term_of (resolves.defs i) (resolves.last i) (resolves.sources_kept i)) runs.1,
       ),
       late,
     )

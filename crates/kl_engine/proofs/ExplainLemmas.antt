@@ -3,7 +3,6 @@ use Rattle.std.proofs.Common.{◌≡◌, ◌∙◌, inl, inr, ℕ, List, [], ◌
 use Rattle.std.specs.Prelude.{Ok, Err}
 use Rattle.kl_outside.specs.Files.{FilesState}
 use Rattle.kl_outside.specs.Sinks.{SinkState}
-use Rattle.kl_outside.proofs.SinkLemmas.{append_known-nil, took_none}
 use Rattle.kl_outcome.specs.Outcome.{Name}
 use Rattle.kl_core.specs.Trees.{Tree}
 use Rattle.kl_syntax.specs.Syntax.{Decls, Exp}
@@ -13,8 +12,8 @@ use Rattle.kl_desugar.specs.Translation.{term_of}
 use Rattle.kl_ask.specs.Driver.{DriverKind, State}
 use Rattle.kl_ask.specs.declared.settings.Settings.{Settings}
 use Rattle.kl_ask.specs.declared.settings.Trace.{Trace}
-use Rattle.kl_ship.specs.Nodes.{Node}
-use Rattle.kl_ship.specs.declared.plan.Plan.{Plan}
+use Rattle.kl_plan.specs.Nodes.{Node}
+use Rattle.kl_plan.specs.declared.plan.Plan.{Plan}
 use Rattle.kl_run.specs.Counted.{AsksCounted, IsFreshTrace}
 use Rattle.kl_run.specs.Planned.{IsPlanOf, ships_of}
 use Rattle.kl_run.proofs.Means.{means_term}
@@ -28,19 +27,18 @@ use Rattle.kl_words.specs.declared.command.Command.{Command as Read}
 use Rattle.kl_engine.specs.Explaining.{IsExplanation, plan_lines}
 use Rattle.kl_engine.specs.Faults.{Ending}
 use Rattle.kl_engine.specs.Inputs.{ReadsInputs}
-use Rattle.kl_engine.specs.Planned.{CountsScansAlone, Explains, ExplainsPlan, HasPlan, IsEarly, IsUnrun, PlanOf, PlansAlone, PlansTerm, course_of, plan_in}
+use Rattle.kl_engine.specs.Planned.{Explains, ExplainsPlan, HasPlan, IsEarly, IsUndone, IsUnrun, PlanOf, PlansAlone, PlansTerm, course_of, plan_in}
 use Rattle.kl_engine.specs.Reading.{ReadsText}
 use Rattle.kl_engine.specs.Rewritten.{IsRewrittenTo}
 use Rattle.kl_engine.specs.Verdict.{well}
 use Rattle.kl_engine.specs.declared.fault.Fault.{Fault}
-use Rattle.kl_engine.specs.declared.fault.Fault.TheVariants as fault
 use Rattle.kl_engine.specs.declared.inputs.Inputs.{Inputs}
 use Rattle.kl_engine.specs.declared.run.How.{How}
 use Rattle.kl_engine.specs.declared.run.Ran.{Ran}
 use Rattle.kl_engine.specs.declared.top.Purpose.TheVariants as purpose
 use Rattle.kl_engine.proofs.CountLemmas.{inputs_early, stops_early}
 use Rattle.kl_engine.proofs.ProgramLemmas.{read_missing}
-use Rattle.kl_engine.proofs.PlanLemmas.{refused_numbers, still_asks}
+use Rattle.kl_engine.proofs.PlanLemmas.{refused_shows, still_asks}
 use Rattle.kl_engine.proofs.RewriteLemmas.{rewritten_keeps}
 
 -- what a page ends with is no refusal of a program
@@ -54,7 +52,7 @@ prints_late lines end out out' prints early = elim prints.ends [
 -- ---- the plan of a term that was rewritten
 
 module _ (settings : Settings) (ss : List Source) (ds : List State) (program : Decls) (e : Exp) (names : List Name) (given u : Tree) (p : Node) (steps : ℕ) (trace : Trace)
-    (placed : ArePlaced (kinds_of ds) ss) (planned : IsPlanOf settings.delegate (ships_of (kinds_of ds) ss) u p) (fresh : IsFreshTrace p steps trace)
+    (placed : ArePlaced (kinds_of ds) ss) (planned : IsPlanOf settings (ships_of (kinds_of ds) ss) u p) (fresh : IsFreshTrace p steps trace)
     (is : given ≡ term_of program e names) (rewritten : IsRewrittenTo settings.rewrite given steps u) where
   led : IsRewrittenTo settings.rewrite (term_of program e names) steps u
   led = subst (λ x. IsRewrittenTo settings.rewrite x steps u) is rewritten
@@ -80,14 +78,8 @@ module _ (settings : Settings) (ss : List Source) (ds : List State) (program : D
     refl,
   )
 
-  pub explains_alone : CountsScansAlone (Some p) trace
-  explains_alone = record {
-    starts = refused_numbers (ships_of (kinds_of ds) ss) u p planned steps trace fresh settings;
-    joins = fresh.joins;
-    hits = fresh.hits;
-    misses = fresh.misses;
-    peak = fresh.peak;
-  }
+  pub explains_undone : IsUndone settings.block (Some p) trace
+  explains_undone = refused_shows (ships_of (kinds_of ds) ss) u p planned steps trace fresh settings
 
   pub explains_asks : AsksCounted p trace.starts ds ds
   explains_asks = still_asks (ships_of (kinds_of ds) ss) u p planned steps trace fresh settings ds
@@ -112,11 +104,11 @@ explains_text settings ks ss text s end steps plan (q, of, resolves) (inl (p, is
 
 pub explains_command : (how : How) (settings : Settings) (from : Origin) (f f' : FilesState) (end : Ending) (trace : Trace) (ds : List State) (blank printed : SinkState) (plan : Option Node) (i : Inputs) (text : List ℕ) (ss : List Source)
     → text ≡ i.text → ss ≡ i.sources → ReadsInputs from (kinds_of ds) (Ok i) f f'
-    → PlanOf (PlansAlone (kinds_of ds) settings ss text trace.steps) end trace.steps plan
+    → PlanOf (PlansAlone (kinds_of ds) settings ss text trace.steps) end trace.steps plan → IsUndone settings.block plan trace
     → HasPlan how (Program (purpose.Explain settings) from) plan (course_of end trace ds ds blank printed) f f'
-explains_command how settings from f f' end trace ds blank printed plan i text ss is same reads (inr none) =
+explains_command how settings from f f' end trace ds blank printed plan i text ss is same reads (inr none) undone =
     inr (none.0, none.1, stops_early (Program (purpose.Explain settings) from) end f f' (kinds_of ds) none.2)
-explains_command how settings from f f' end trace ds blank printed plan i text ss is same reads (inl (p, at, plans, late)) = inl (
+explains_command how settings from f f' end trace ds blank printed plan i text ss is same reads (inl (p, at, plans, late)) undone = inl (
   p,
   at,
   (
@@ -125,6 +117,7 @@ explains_command how settings from f f' end trace ds blank printed plan i text s
     reads.inputs,
     subst (λ t. PlansAlone (kinds_of ds) settings i.sources t trace.steps p) is (subst (λ us. PlansAlone (kinds_of ds) settings us text trace.steps p) same plans),
   ),
+  subst (λ o. IsUndone settings.block o trace) at undone,
   late,
 )
 

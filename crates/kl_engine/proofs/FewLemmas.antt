@@ -8,17 +8,17 @@ use Rattle.kl_outside.specs.declared.stop.Stop.{Stop}
 use Rattle.kl_outside.proofs.SinkLemmas.{append_known-append, append_known-nil}
 use Rattle.kl_exchange.specs.Printing.{Puts}
 use Rattle.kl_value.specs.declared.Value.{Value}
-use Rattle.kl_outcome.specs.Outcome.{Name, End, more, flow, items_in}
+use Rattle.kl_outcome.specs.Outcome.{Name, End, flow, items_in}
 use Rattle.kl_outcome.proofs.Flows.{flow_items}
-use Rattle.kl_ask.specs.World.{World}
 use Rattle.kl_ask.specs.declared.ask.DriverError.{DriverError}
 use Rattle.kl_ask.specs.declared.ask.DriverError.TheVariants as driver
-use Rattle.kl_ship.specs.Meaning.{coming, plan}
-use Rattle.kl_ship.specs.Nodes.{Node}
-use Rattle.kl_ship.specs.declared.plan.Scan.{Scan}
+use Rattle.kl_plan.specs.Meaning.{coming, plan}
+use Rattle.kl_plan.specs.Nodes.{Node}
+use Rattle.kl_plan.specs.declared.plan.Scan.{Scan}
 use Rattle.kl_scans.specs.Held.{Uses}
 use Rattle.kl_scans.specs.Log.{Logged}
 use Rattle.kl_scans.specs.Moves.{Closes}
+use Rattle.kl_scans.specs.Running.{Running}
 use Rattle.kl_scans.proofs.Moving.{logged_then}
 use Rattle.kl_cursor.specs.Laziness.{ByTimes, Frugal, Handed, items_at}
 use Rattle.kl_cursor.specs.Left.{reading}
@@ -116,23 +116,23 @@ out_before given rest vs n k front out is within some there lacks = by_case (nat
 -- ---- rows that were handed
 
 -- rows were handed: fewer than are fetched at once, and so many that give more items than are out
-pub record Seen (a : World) (b : Node) (c : Scan) (all : List Value) (out : ℕ) (w : World) : Type 0 where
+pub record Seen (a : Running) (b : Node) (c : Scan) (all : List Value) (out : ℕ) (w : Running) : Type 0 where
   pub rows : ℕ
   pub counted : Handed c rows a w
   pub few : (n : ℕ) → out < items_at (reading a) [] b all n → rows < n + a.settings.fetch
   pub times : ByTimes a.settings.fetch all rows
 
-abbrev pub Withheld : Node → World → ℕ → World → Type 0
+abbrev pub Withheld : Node → Running → ℕ → Running → Type 0
 Withheld p a out w = (b : Node) (c : Scan) (all : List Value) → IsLine p b c → IsToldAt a → reading a c ≡ Some all → Seen a b c all out w
 
 pub none_times : (n : ℕ) → 0 ≡ 0 * n
 none_times n = omega arith
 
-pub seen_none : (a : World) (b : Node) (c : Scan) (all : List Value) (out : ℕ) → 0 < a.settings.fetch → Seen a b c all out a
+pub seen_none : (a : Running) (b : Node) (c : Scan) (all : List Value) (out : ℕ) → 0 < a.settings.fetch → Seen a b c all out a
 seen_none a b c all out fetch = record { rows = 0; counted = handed_none c a; few = λ n h. omega (arith, fetch); times = inl (0, none_times a.settings.fetch) }
 
 -- of a loop that was drawn lazily
-pub seen_frugal : (a : World) (b : Node) (c : Scan) (all : List Value) (drawn handed out : ℕ) (w : World) → drawn ≤ out + 1 → Handed c handed a w → Frugal (reading a) a.settings.fetch [] b all drawn handed → Seen a b c all out w
+pub seen_frugal : (a : Running) (b : Node) (c : Scan) (all : List Value) (drawn handed out : ℕ) (w : Running) → drawn ≤ out + 1 → Handed c handed a w → Frugal (reading a) a.settings.fetch [] b all drawn handed → Seen a b c all out w
 seen_frugal a b c all drawn handed out w near h f = record { rows = handed; counted = h; few = few; times = f.times }
   where
     few : (n : ℕ) → out < items_at (reading a) [] b all n → handed < n + a.settings.fetch
@@ -142,12 +142,13 @@ seen_frugal a b c all drawn handed out w near h f = record { rows = handed; coun
         by_case true e = let less = f.front.least n (let l : n < f.rows = grind (arith, nat_tests) in l) in absurd (omega (arith, less, over, near))
         by_case false e = let l : f.rows ≤ n = grind (arith, nat_tests) in let x = f.few in omega (arith, l, x)
 
-pub seen_on : (a : World) (b : Node) (c : Scan) (all : List Value) (out : ℕ) (w x : World) → Silent w x → Seen a b c all out w → Seen a b c all out x
-seen_on a b c all out w x still h = record {
+pub seen_on : (a : Running) (b : Node) (c : Scan) (all : List Value) (out : ℕ) (w x : Running) → x.settings ≡ w.settings → Silent w x → Seen a b c all out w → Seen a b c all out x
+seen_on a b c all out w x same still h = record {
   rows = h.rows;
   counted = record {
+    settings = same ∙ h.counted.settings;
     events = h.counted.events;
-    logged = subst (λ es. Logged es a x) (append-nil h.counted.events) (logged_then h.counted.events [] a w x h.counted.logged still);
+    logged = subst (λ es. Logged es a x) (append-nil h.counted.events) (logged_then h.counted.events [] a w x h.counted.settings h.counted.logged still);
     of = h.counted.of;
     sum = h.counted.sum;
   };
@@ -155,18 +156,18 @@ seen_on a b c all out w x still h = record {
   times = h.times;
 }
 
-pub withheld_on : (p : Node) (a : World) (out : ℕ) (w x : World) → Silent w x → Withheld p a out w → Withheld p a out x
-withheld_on p a out w x still h = λ b c all line told at. seen_on a b c all out w x still (h b c all line told at)
+pub withheld_on : (p : Node) (a : Running) (out : ℕ) (w x : Running) → x.settings ≡ w.settings → Silent w x → Withheld p a out w → Withheld p a out x
+withheld_on p a out w x same still h = λ b c all line told at. seen_on a b c all out w x same still (h b c all line told at)
 
-pub withheld_closed : (p : Node) (a : World) (out : ℕ) (u : Uses) (w x : World) → Closes u w x → Withheld p a out w → Withheld p a out x
-withheld_closed p a out u w x closes h = withheld_on p a out w x (closes_silent u w x closes) h
+pub withheld_closed : (p : Node) (a : Running) (out : ℕ) (u : Uses) (w x : Running) → Closes u w x → Withheld p a out w → Withheld p a out x
+withheld_closed p a out u w x closes h = withheld_on p a out w x closes.moves.settings (closes_silent u w x closes) h
 
-pub withheld_none : (p : Node) (a : World) (out : ℕ) → HasList a p → Withheld p a out a
-withheld_none p a out (u, types, ready) = λ b c all line told at. seen_none a b c all out ready.fetch
+pub withheld_none : (p : Node) (a : Running) (out : ℕ) → HasList a p → Withheld p a out a
+withheld_none p a out (u, types, ready) = λ b c all line told at. seen_none a b c all out ready.session.fetch
 
 -- ---- what lacks an item
 
-pub lacking : (p : Node) (a : World) (given rest : List Value) (out : ℕ) (x : World) (front o : SinkState) → items_in (coming (plan (reading a) p [])) ≡ given ++ rest → out ≤ length given → IsOut given out front o → IsToldAt a → Withheld p a out x
+pub lacking : (p : Node) (a : Running) (given rest : List Value) (out : ℕ) (x : Running) (front o : SinkState) → items_in (coming (plan (reading a) p [])) ≡ given ++ rest → out ≤ length given → IsOut given out front o → IsToldAt a → Withheld p a out x
     → HandsWritten (reading a) a.settings.fetch p front o (λ c rows. Handed c rows a x)
 lacking p a given rest out x front o is within there told h = λ b c all k line at some fits lacks.
     let seen = h b c all line told at in
@@ -174,7 +175,7 @@ lacking p a given rest out x front o is within there told h = λ b c all k line 
     (seen.rows, seen.counted, (λ n f. seen.few n (let e = f.enough in omega (arith, before, e))), seen.times)
 
 -- nothing is lacking where all items are out
-pub lacks_none : (p : Node) (a : World) (given : List Value) (e : End) (out : ℕ) (x : World) (front o : SinkState) → flow given e ≡ coming (plan (reading a) p []) → out ≡ length given → IsOut given out front o → HandsWritten (reading a) a.settings.fetch p front o (λ c rows. Handed c rows a x)
+pub lacks_none : (p : Node) (a : Running) (given : List Value) (e : End) (out : ℕ) (x : Running) (front o : SinkState) → flow given e ≡ coming (plan (reading a) p []) → out ≡ length given → IsOut given out front o → HandsWritten (reading a) a.settings.fetch p front o (λ c rows. Handed c rows a x)
 lacks_none p a given e out x front o is full there = λ b c all k line at some fits lacks.
     let items : items_in (coming (plan (reading a) p [])) ≡ given ++ [] = ap items_in (sym is) ∙ flow_items given e ∙ sym (append-nil given) in
     let size : length (items_in (coming (plan (reading a) p []))) ≡ length given = ap length (ap items_in (sym is) ∙ flow_items given e) in
@@ -182,8 +183,8 @@ lacks_none p a given e out x front o is full there = λ b c all k line at some f
     absurd (omega (arith, before, fits, size, full))
 
 -- where nothing was handed
-pub nothing_handed : (p : Node) (a : World) (front o : SinkState) → HasList a p → HandsWritten (reading a) a.settings.fetch p front o (λ c rows. Handed c rows a a)
-nothing_handed p a front o (u, types, ready) = λ b c all k line at some fits lacks. (0, handed_none c a, (λ n f. let x = ready.fetch in omega (arith, x)), inl (0, none_times a.settings.fetch))
+pub nothing_handed : (p : Node) (a : Running) (front o : SinkState) → HasList a p → HandsWritten (reading a) a.settings.fetch p front o (λ c rows. Handed c rows a a)
+nothing_handed p a front o (u, types, ready) = λ b c all k line at some fits lacks. (0, handed_none c a, (λ n f. let x = ready.session.fetch in omega (arith, x)), inl (0, none_times a.settings.fetch))
 
 -- a driver that refuses a source is no failing output
 pub driver_unwritten : (l : Name) (x : DriverError) (f : Fault) → f ≡ fault_of l x → Some f ≡ Some fault.Write → ⊥

@@ -27,3 +27,4 @@ pub mod CountLemmas
 pub mod ShowLemmas
 pub mod TopLemmas
 pub mod UnreadLemmas
+pub mod BegunLemmas

@@ -24,23 +24,24 @@ use Rattle.kl_core.specs.Trees.{Tree}
 use Rattle.kl_core.specs.Typing.{HaveSources}
 use Rattle.kl_core.proofs.Safety.{safe}
 use Rattle.kl_ask.specs.Driver.{DriverKind}
-use Rattle.kl_ask.specs.World.{World, types_of, values_of}
+use Rattle.kl_ask.specs.World.{types_of, values_of}
 use Rattle.kl_ask.specs.declared.ask.DriverError.{DriverError}
 use Rattle.kl_sources.specs.declared.source.Source.{Source}
-use Rattle.kl_ship.specs.Meaning.{plan, coming}
-use Rattle.kl_ship.specs.Nodes.{Node}
-use Rattle.kl_ship.specs.Numbers.{scans_in}
-use Rattle.kl_ship.proofs.Holding.{scans_in_all}
-use Rattle.kl_ship.specs.Alike.{harm}
+use Rattle.kl_plan.specs.Meaning.{plan, coming}
+use Rattle.kl_plan.specs.Nodes.{Node}
+use Rattle.kl_plan.specs.Parts.{parts_of}
+use Rattle.kl_plan.proofs.Holding.{parts_in_all}
+use Rattle.kl_plan.specs.Alike.{harm}
 use Rattle.kl_eval.specs.declared.stop.EvalStop.{EvalStop}
 use Rattle.kl_eval.specs.declared.stop.EvalStop.TheVariants as why
 use Rattle.kl_scans.specs.Held.{nothing}
 use Rattle.kl_scans.specs.Moves.{Moves, Closes}
+use Rattle.kl_scans.specs.Running.{Running, session}
 use Rattle.kl_scans.proofs.Moving.{moves_then}
-use Rattle.kl_cursor.specs.Left.{ScansLeft, Snap, fresh, uses, left, reading}
+use Rattle.kl_cursor.specs.Left.{PartsLeft, Snap, fresh, uses, left, reading}
 use Rattle.kl_cursor.specs.Steps.{AreOf, Ends, Stops}
 use Rattle.kl_cursor.proofs.Events.{of_none, of_then}
-use Rattle.kl_cursor.proofs.ValueDrain.{Draining}
+use Rattle.kl_cursor.specs.Draining.{Draining}
 use Rattle.kl_run.specs.Running.{Runs}
 use Rattle.kl_engine.specs.Answering.{PrintsPage}
 use Rattle.kl_engine.specs.Faults.{Ending}
@@ -246,92 +247,92 @@ fronts_full given v f none = let is : list_front given ++ f.0 ≡ [] = sym f.1 �
 -- ---- over a session in which the plan of a list runs
 
 -- what a list that was drained so far leaves behind where it is closed
-pub closed_moves : (p : Node) (a w b : World) (given : List Value) (s : Snap) (d : Draining [] (fresh p) a given s w) → Closes (uses s) w b → (m : Moves nothing nothing a b) × AreOf (scans_in p) m.events
+pub closed_moves : (p : Node) (a w b : Running) (given : List Value) (s : Snap) (d : Draining [] (fresh p) a given s w) → Closes (uses s) w b → (m : Moves nothing nothing a b) × AreOf (parts_of p) m.events
 closed_moves p a w b given s d c = (
   moves_then nothing (uses s) nothing a w b d.moves c.moves,
-  of_then (scans_in p) d.moves.events c.moves.events (d.known (scans_in p) (scans_in_all p)).0 (of_none (scans_in p) c.moves.events c.none),
+  of_then (parts_of p) d.moves.events c.moves.events (d.known (parts_of p) (parts_in_all p)).0 (of_none (parts_of p) c.moves.events c.none),
 )
 
-module _ (ks : List DriverKind) (ss : List Source) (marks : ℕ → Bool) (t : Tree) (p : Node) (first : Option ℕ) (a : World) (files : FilesState) (runs : Runs ks ss marks t p a) (is_list : IsListTerm (types_of a) t) where
-  abbrev GivesList : World → Ending → SinkState → SinkState → Type 0
-  GivesList b end out out' = AnswersTerm ⊤ (IsListOutcome first (core (values_of a) t [])) (HaveSources (types_of a) (values_of a)) end (plan_over a p) (outside_of files a.drivers out) (outside_of files b.drivers out')
+module _ (ks : List DriverKind) (ss : List Source) (marks : ℕ → Bool) (t : Tree) (p : Node) (first : Option ℕ) (a : Running) (files : FilesState) (runs : Runs ks ss marks t p a) (is_list : IsListTerm (types_of (session a)) t) where
+  abbrev GivesList : Running → Ending → SinkState → SinkState → Type 0
+  GivesList b end out out' = AnswersTerm ⊤ (IsListOutcome first (core (values_of (session a)) t [])) (HaveSources (types_of (session a)) (values_of (session a))) end (plan_over (session a) p) (outside_of files a.drivers out) (outside_of files b.drivers out')
 
-  begun_of : (given : List Value) (rest : Flow) → HaveSources (types_of a) (values_of a) → followed (flow given fine) rest ≡ coming (plan (reading a) p []) → Begins given rest (core (values_of a) t [])
+  begun_of : (given : List Value) (rest : Flow) → HaveSources (types_of (session a)) (values_of (session a)) → followed (flow given fine) rest ≡ coming (plan (reading a) p []) → Begins given rest (core (values_of (session a)) t [])
   begun_of given rest told is =
-      begins is_list.0 (core (values_of a) t []) given rest (safe (types_of a) (values_of a) told t [] [] (coll kind.List is_list.0) tt is_list.1)
+      begins is_list.0 (core (values_of (session a)) t []) given rest (safe (types_of (session a)) (values_of (session a)) told t [] [] (coll kind.List is_list.0) tt is_list.1)
       (is ∙ runs.list told is_list.0 is_list.1)
 
   module _ (given : List Value) (wanting : Option ℕ) (wanted : Wanted first given wanting) where
     -- a fault came behind these items
-    module _ (s : Snap) (w : World) (d : Draining [] (fresh p) a given s w) where
-      fronts : HaveSources (types_of a) (values_of a) → (v : Verdict) × IsListOutcome first (core (values_of a) t []) v × IsRunEnd v.ending × Fronts given v
+    module _ (s : Snap) (w : Running) (d : Draining [] (fresh p) a given s w) where
+      fronts : HaveSources (types_of (session a)) (values_of (session a)) → (v : Verdict) × IsListOutcome first (core (values_of (session a)) t []) v × IsRunEnd v.ending × Fronts given v
       fronts told =
-          front_verdict first given (left w s []) (core (values_of a) t []) wanting wanted
+          front_verdict first given (left w s []) (core (values_of (session a)) t []) wanting wanted
           (begun_of given (left w s []) told (d.same [] kind.List is_list.0 tt (runs.typed (coll kind.List is_list.0) is_list.1) (runs.told told)))
 
-      list_cut : (f : Fault) (b : World) (out out' : SinkState) → Moves nothing nothing a b → IsStopped (plan_over a p) f a.drivers b.drivers → TookPart (list_front given) out out' → GivesList b (Some f) out out'
+      list_cut : (f : Fault) (b : Running) (out out' : SinkState) → Moves nothing nothing a b → IsStopped (plan_over (session a) p) f a.drivers b.drivers → TookPart (list_front given) out out' → GivesList b (Some f) out out'
       list_cut f b out out' m stopped took =
-          term_behind ⊤ (IsListOutcome first (core (values_of a) t [])) (HaveSources (types_of a) (values_of a)) (plan_over a p) files a.drivers b.drivers (quiet_keeps a b m) tt f out out' stopped
+          term_behind ⊤ (IsListOutcome first (core (values_of (session a)) t [])) (HaveSources (types_of (session a)) (values_of (session a))) (plan_over (session a) p) files a.drivers b.drivers (quiet_keeps a b m) tt f out out' stopped
           (λ told. let h = fronts told in (h.0, h.1, h.2, part_taken given h.0 out out' h.3 took))
 
-      pub list_wanted : (b : World) (out out' : SinkState) → Moves nothing nothing a b → TookPart (list_front given) out out' → GivesList b (Some fault.NoMemory) out out'
+      pub list_wanted : (b : Running) (out out' : SinkState) → Moves nothing nothing a b → TookPart (list_front given) out out' → GivesList b (Some fault.NoMemory) out out'
       list_wanted b out out' m took = list_cut fault.NoMemory b out out' m tt took
 
       -- a write was refused
-      pub list_unwritten : (e : PrintError) (b : World) (out out' : SinkState) (held : List ℕ) → Moves nothing nothing a b → Puts {T = Unit {0}} (list_front given) (as_stop (Err e)) out [] out' held → GivesList b (Some (write_fault e)) out out'
+      pub list_unwritten : (e : PrintError) (b : Running) (out out' : SinkState) (held : List ℕ) → Moves nothing nothing a b → Puts {T = Unit {0}} (list_front given) (as_stop (Err e)) out [] out' held → GivesList b (Some (write_fault e)) out out'
       list_unwritten print.Failed b out out' held m puts =
-          term_unwritten ⊤ (IsListOutcome first (core (values_of a) t [])) (HaveSources (types_of a) (values_of a)) (plan_over a p) files a.drivers b.drivers (quiet_keeps a b m) out out' (puts.cause.failed refl)
+          term_unwritten ⊤ (IsListOutcome first (core (values_of (session a)) t [])) (HaveSources (types_of (session a)) (values_of (session a))) (plan_over (session a) p) files a.drivers b.drivers (quiet_keeps a b m) out out' (puts.cause.failed refl)
           (λ told. let h = fronts told in (h.0, h.1, h.2, fronts_full given h.0 h.3, part_taken given h.0 out out' h.3 (puts_part given (Err refusal.Failed) out out' held puts)))
       list_unwritten print.NoMemory b out out' held m puts = list_wanted b out out' m (puts_part given (Err refusal.NoMemory) out out' held puts)
 
       -- all that is wanted was given
-      pub list_enough : (end : Ending) (b : World) (out out' : SinkState) → are_enough wanting ≡ true → Moves nothing nothing a b → PrintsPage (value_page (value.List given)) end out out' → GivesList b end out out'
+      pub list_enough : (end : Ending) (b : Running) (out out' : SinkState) → are_enough wanting ≡ true → Moves nothing nothing a b → PrintsPage (value_page (value.List given)) end out out' → GivesList b end out out'
       list_enough end b out out' all m prints =
-          term_printed ⊤ (IsListOutcome first (core (values_of a) t [])) (HaveSources (types_of a) (values_of a)) (plan_over a p) files a.drivers b.drivers (quiet_keeps a b m)
+          term_printed ⊤ (IsListOutcome first (core (values_of (session a)) t [])) (HaveSources (types_of (session a)) (values_of (session a))) (plan_over (session a) p) files a.drivers b.drivers (quiet_keeps a b m)
           (value_page (value.List given)) end out out' tt
-          (λ told. full_outcome first given (left w s []) (core (values_of a) t []) wanting wanted all
+          (λ told. full_outcome first given (left w s []) (core (values_of (session a)) t []) wanting wanted all
           (begun_of given (left w s []) told (d.same [] kind.List is_list.0 tt (runs.typed (coll kind.List is_list.0) is_list.1) (runs.told told)))) prints
 
       -- nothing is left
-      pub list_whole : (end : Ending) (b : World) (out out' : SinkState) → Ends [] s w b → PrintsPage (value_page (value.List given)) end out out' → GivesList b end out out'
+      pub list_whole : (end : Ending) (b : Running) (out out' : SinkState) → Ends [] s w b → PrintsPage (value_page (value.List given)) end out out' → GivesList b end out out'
       list_whole end b out out' ends prints =
           let e = drains_ends [] (fresh p) a given s w d b ends in
-          term_printed ⊤ (IsListOutcome first (core (values_of a) t [])) (HaveSources (types_of a) (values_of a)) (plan_over a p) files a.drivers b.drivers (quiet_keeps a b e.moves)
+          term_printed ⊤ (IsListOutcome first (core (values_of (session a)) t [])) (HaveSources (types_of (session a)) (values_of (session a))) (plan_over (session a) p) files a.drivers b.drivers (quiet_keeps a b e.moves)
           (value_page (value.List given)) end out out' tt
-          (λ told. whole_outcome first given (core (values_of a) t []) wanting wanted
+          (λ told. whole_outcome first given (core (values_of (session a)) t []) wanting wanted
           (begun_of given (stop fine) told (flow_end given fine ∙ e.gave [] kind.List is_list.0 tt (runs.typed (coll kind.List is_list.0) is_list.1) (runs.told told)))) prints
 
       -- it is stopped
-      pub list_stopped : (e : EvalStop) (end : Ending) (b : World) (out out' : SinkState) → are_enough wanting ≡ false → Stops [] s e w b → StopsList given e end out out' → GivesList b end out out'
+      pub list_stopped : (e : EvalStop) (end : Ending) (b : Running) (out out' : SinkState) → are_enough wanting ≡ false → Stops [] s e w b → StopsList given e end out out' → GivesList b end out out'
       list_stopped why.Overflow end b out out' some stops prints =
           let e = drains_over [] (fresh p) a given s w d b stops in
-          term_printed ⊤ (IsListOutcome first (core (values_of a) t [])) (HaveSources (types_of a) (values_of a)) (plan_over a p) files a.drivers b.drivers (quiet_keeps a b e.moves)
+          term_printed ⊤ (IsListOutcome first (core (values_of (session a)) t [])) (HaveSources (types_of (session a)) (values_of (session a))) (plan_over (session a) p) files a.drivers b.drivers (quiet_keeps a b e.moves)
           (overflowing given) end out out' tt
-          (λ told. past_outcome first given (core (values_of a) t []) wanting wanted some
+          (λ told. past_outcome first given (core (values_of (session a)) t []) wanting wanted some
           (begun_of given (stop overflow) told (flow_end given overflow ∙ e.gave [] kind.List is_list.0 tt (runs.typed (coll kind.List is_list.0) is_list.1) (runs.told told)))) prints
       list_stopped (why.Driver l x) end b out out' some stops prints =
           let h = drains_refused [] (fresh p) a given s w d b l x stops in
-          subst (λ z. GivesList b z out out') (sym prints.0) (list_cut (fault_of l x) b out out' h.moves (cause_stops p (λ all. ScansLeft all (fresh p)) (scans_in_all p) l x a b h.reason) prints.1)
+          subst (λ z. GivesList b z out out') (sym prints.0) (list_cut (fault_of l x) b out out' h.moves (cause_stops p (λ all. PartsLeft all (fresh p)) (parts_in_all p) l x a b h.reason) prints.1)
       list_stopped why.NoMemory end b out out' some stops prints =
           let h = drains_none [] (fresh p) a given s w d b stops in
           subst (λ z. GivesList b z out out') (sym prints.0) (list_wanted b out out' h.moves prints.1)
 
 -- ---- what is counted of a list
 
-module _ (p : Node) (first : Option ℕ) (a : World) (given : List Value) (s : Snap) (w : World) (d : Draining [] (fresh p) a given s w) where
+module _ (p : Node) (first : Option ℕ) (a : Running) (given : List Value) (s : Snap) (w : Running) (d : Draining [] (fresh p) a given s w) where
   -- closed before its end
-  pub closed_scanned : (end : Ending) (b : World) → (end ≡ None → first ≡ None → ⊥) → Closes (uses s) w b → Scanned p end first a b
+  pub closed_scanned : (end : Ending) (b : Running) → (end ≡ None → first ≡ None → ⊥) → Closes (uses s) w b → Scanned p end first a b
   closed_scanned end b never c = let m = closed_moves p a w b given s d c in record { moves = m.0; known = m.1; exact = λ well all. absurd (never well all) }
 
-  pub whole_scanned : (end : Ending) (b : World) → HasList a p → Ends [] s w b → Scanned p end first a b
+  pub whole_scanned : (end : Ending) (b : Running) → HasList a p → Ends [] s w b → Scanned p end first a b
   whole_scanned end b (u, types, ready) ends =
       let e = drains_ends [] (fresh p) a given s w d b ends in
       record {
         moves = e.moves;
-        known = e.known (scans_in p) (scans_in_all p);
-        exact = λ well all told price.
+        known = e.known (parts_of p) (parts_in_all p);
+        exact = λ well all told P.
             let gave : flow given fine ≡ coming (plan (reading a) p []) = e.gave [] kind.List u tt types told in
-            let c = e.counts [] kind.List u tt types told (sym (ap harm gave) ∙ fine_harm given) price in
+            let c = e.counts [] kind.List u tt types told (sym (ap harm gave) ∙ fine_harm given) P in
             omega (arith, c);
       }
     where
@@ -339,16 +340,16 @@ module _ (p : Node) (first : Option ℕ) (a : World) (given : List Value) (s : S
       fine_harm [] = refl
       fine_harm (v ∷ vs) = fine_harm vs
 
-  pub stopped_scanned : (e : EvalStop) (end : Ending) (b : World) → (end ≡ None → ⊥) → Stops [] s e w b → Scanned p end first a b
+  pub stopped_scanned : (e : EvalStop) (end : Ending) (b : Running) → (end ≡ None → ⊥) → Stops [] s e w b → Scanned p end first a b
   stopped_scanned why.Overflow end b never stops =
       let e = drains_over [] (fresh p) a given s w d b stops in
-      record { moves = e.moves; known = e.known (scans_in p) (scans_in_all p); exact = λ well. absurd (never well) }
+      record { moves = e.moves; known = e.known (parts_of p) (parts_in_all p); exact = λ well. absurd (never well) }
   stopped_scanned (why.Driver l x) end b never stops =
       let h = drains_refused [] (fresh p) a given s w d b l x stops in
-      record { moves = h.moves; known = h.known (scans_in p) (scans_in_all p); exact = λ well. absurd (never well) }
+      record { moves = h.moves; known = h.known (parts_of p) (parts_in_all p); exact = λ well. absurd (never well) }
   stopped_scanned why.NoMemory end b never stops =
       let h = drains_none [] (fresh p) a given s w d b stops in
-      record { moves = h.moves; known = h.known (scans_in p) (scans_in_all p); exact = λ well. absurd (never well) }
+      record { moves = h.moves; known = h.known (parts_of p) (parts_in_all p); exact = λ well. absurd (never well) }
 
 -- ---- the end of a list
 

@@ -49,9 +49,9 @@ use Rattle.kl_ask.proofs.Worlds.{there, keeps_then}
 use Rattle.kl_desugar.specs.Mentioned.{ReadsMentioned}
 use Rattle.kl_rules.specs.Preserving.{Preserves}
 use Rattle.kl_ship.specs.Contents.{MakesSense}
-use Rattle.kl_ship.specs.Nodes.{Node}
+use Rattle.kl_plan.specs.Nodes.{Node}
 use Rattle.kl_run.specs.Planned.{IsPlanOf, ships_of}
-use Rattle.kl_run.specs.Running.{Runs}
+use Rattle.kl_run.specs.Running.{Runs, fresh_run}
 use Rattle.kl_run.proofs.Means.{plan_sense}
 use Rattle.kl_run.proofs.Sessions.{session_runs}
 use Rattle.kl_sources.specs.Attaching.{RoseAt, list_of, HaveNone, AttachesAll, world_of, IsErrorOf, IsUnreadable, NoVerdict, MayAttach, Causes, Serves, Stands, HasTyped}
@@ -546,10 +546,10 @@ module _ (ss : List Source) (s : Scoped) (scope : WasInScope (names_of ss) s) (t
       (values_typed (kinds_of ds) (is_marked s) 0 ss vs (λ i s at. (of_all (IsFit (kinds_of ds)) ss i s placed.fit at).2.collection) (λ i x at marked. (attaches.stand i x at (ap (is_marked s) (sym (zero-add i)) ∙ marked)).typed) have)
 
   -- the plan of what the term is rewritten to runs there
-  pub plan_runs : (idle : All IsIdle ds) (mentioned : ReadsMentioned s t) (u : Tree) (p : Node) {on : Bool} → Preserves t u → IsPlanOf on (ships_of (kinds_of ds) ss) u p → Runs (kinds_of ds) ss (is_marked s) t p (world_of mid list settings trace)
-  plan_runs idle mentioned u p keeps planned =
+  pub plan_runs : (idle : All IsIdle ds) (mentioned : ReadsMentioned s t) (u : Tree) (p : Node) → Preserves t u → IsPlanOf settings (ships_of (kinds_of ds) ss) u p → 0 < settings.block → Runs (kinds_of ds) ss (is_marked s) t p (fresh_run p (world_of mid list settings trace))
+  plan_runs idle mentioned u p keeps planned block =
       session_runs ds mid ss (is_marked s) settings trace (world_of mid list settings trace) t u p placed (idle_none ds idle) attaches.drivers attaches.stand session_serves
-      (ap (λ l. world_of mid l settings trace) attaches.list) session_sense (mentioned scope.0 (names_of ss) scope.1) keeps planned
+      (ap (λ l. world_of mid l settings trace) attaches.list) session_sense (mentioned scope.0 (names_of ss) scope.1) keeps planned block
 
   pub session_lists : (listed : Bool) → (listed ≡ false → IsListScheme typed.result → ⊥) → ((u : Ground) → CoreTypes (types_of (world_of mid list settings trace)) [] t u → (s : Ground) × (u ≡ types.coll kind.List s)) → listed ≡ true
   session_lists true other all = refl

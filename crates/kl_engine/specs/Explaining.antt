@@ -5,7 +5,7 @@ use Rattle.kl_syntax.specs.Syntax.{Decls, Exp}
 use Rattle.kl_desugar.specs.Translation.{term_of}
 use Rattle.kl_ask.specs.Driver.{DriverKind}
 use Rattle.kl_ask.specs.declared.settings.Settings.{Settings}
-use Rattle.kl_ship.specs.Nodes.{Node}
+use Rattle.kl_plan.specs.Nodes.{Node}
 use Rattle.kl_sources.specs.Sources.{names_of}
 use Rattle.kl_sources.specs.declared.source.Source.{Source}
 use Rattle.kl_run.specs.Planned.{IsPlanOf, ships_of}
@@ -17,7 +17,7 @@ pub record PlansRewritten (ks : List DriverKind) (settings : Settings) (ss : Lis
   pub steps : ℕ
   pub term : Tree
   pub rewritten : IsRewrittenTo settings.rewrite t steps term
-  pub planned : IsPlanOf settings.delegate (ships_of ks ss) term p
+  pub planned : IsPlanOf settings (ships_of ks ss) term p
 
 -- the lines of a plan, over drivers of these kinds
 abbrev pub plan_lines : List DriverKind → Node → List ℕ

@@ -1,5 +1,5 @@
 -- The plan of a program that is run, and what is counted of it.
-use Rattle.std.specs.Prelude.{◌≡◌, ◌≤◌, ◌<◌, ◌^◌, ◌⊎◌, ℕ, ◌+◌, Bool, List, [], ◌++◌, length, map, take, Option, Some, None, slice_get, ⊤}
+use Rattle.std.specs.Prelude.{◌≡◌, ◌≤◌, ◌<◌, ◌^◌, ◌⊎◌, ℕ, ◌+◌, Bool, List, [], ◌++◌, length, take, Option, Some, None, slice_get, ⊤}
 use Rattle.std.specs.List.{AllByRecursion, Contains}
 use Rattle.std.specs.Option.{option_map}
 use Rattle.kl_outside.specs.Counts.{Rose}
@@ -18,20 +18,24 @@ use Rattle.kl_ask.specs.Settings.{usual_settings}
 use Rattle.kl_ask.specs.declared.settings.Settings.{Settings}
 use Rattle.kl_ask.specs.Trace.{IsBlank}
 use Rattle.kl_ask.specs.declared.settings.Trace.{Trace}
-use Rattle.kl_ship.specs.Holding.{ScansIn}
-use Rattle.kl_ship.specs.Meaning.{Readings, coming, plan}
-use Rattle.kl_ship.specs.Nodes as node
-use Rattle.kl_ship.specs.Nodes.{Node, view}
-use Rattle.kl_ship.specs.Numbers.{scans_in}
-use Rattle.kl_ship.specs.declared.plan.Plan.{Plan}
-use Rattle.kl_ship.specs.declared.plan.Scan.{Scan}
+use Rattle.kl_plan.specs.Holding.{PartsIn}
+use Rattle.kl_plan.specs.Meaning.{Readings, coming, plan}
+use Rattle.kl_plan.specs.Nodes as node
+use Rattle.kl_plan.specs.Nodes.{Node, view}
+use Rattle.kl_plan.specs.Numbers.{scans_in}
+use Rattle.kl_plan.specs.declared.plan.Plan.{Plan}
+use Rattle.kl_plan.specs.declared.plan.Scan.{Scan}
 use Rattle.kl_ship.specs.declared.source.ShipSource.{ShipSource}
-use Rattle.kl_cursor.specs.Laziness.{ByTimes, Frugal, IsFront}
-use Rattle.kl_run.specs.Counted.{AsksCounted, ReadsMarked, StartsCounted}
+use Rattle.kl_scans.specs.Log.{Event}
+use Rattle.kl_scans.specs.Same.{same_subquery}
+use Rattle.kl_counts.specs.Counts.{Counts}
+use Rattle.kl_cursor.specs.Laziness.{ByTimes, Frugal, IsFront, empty_listing as no_parts}
+use Rattle.kl_run.specs.Counted.{AsksCounted, ReadsMarked, Shows}
 use Rattle.kl_run.specs.Planned.{IsPlanOf, MeansTerm, ships_of}
 use Rattle.kl_sources.specs.Sources.{grounds_of, kinds_of, names_of, HaveValues}
 use Rattle.kl_sources.specs.declared.source.Source.{Source}
-use Rattle.kl_engine.specs.Answering.{IsMentionedIn, IsOfList, IsRunning, IsUnreadBy, IsUnreadFault, OfRun, PrintsPage, SomeDrifted, Unprinted}
+use Rattle.kl_engine.specs.Answering.{IsMentionedIn, IsOfList, IsRunning, IsUnreadBy, IsUnreadFault, OfRun, PrintsPage, SomeDrifted}
+use Rattle.kl_engine.specs.Answering.{Unprinted}
 use Rattle.kl_engine.specs.Commands.{Command, Origin, TellTo, Program as AProgram}
 use Rattle.kl_engine.specs.Explaining.{plan_lines}
 use Rattle.kl_engine.specs.Faults.{Ending}
@@ -54,18 +58,15 @@ plan_in plan = option_map view plan
 abbrev pub IsUnrun : Ran → Type 0
 IsUnrun ran = (ran.plan ≡ None) × IsBlank ran.trace
 
--- the counts of starts are those of the plan's scans, by their numbers
-abbrev pub AreStartsOf : Option Node → List (ℕ × ℕ) → Type 0
-AreStartsOf (Some p) starts = map (λ e. e.0) starts ≡ map (λ c. c.number) (scans_in p)
-AreStartsOf None starts = starts ≡ []
+-- What was done while the plan was run is counted, with blocks of so many rows; without a plan nothing is.
+abbrev pub IsShown : ℕ → Option Node → Trace → Type 0
+IsShown block (Some p) trace = (es : List Event) × Shows block p es trace
+IsShown block None trace = IsBlank trace
 
--- nothing is counted but steps of rewriting and starts of scans
-pub record CountsScansAlone (plan : Option Node) (trace : Trace) : Type 0 where
-  pub starts : AreStartsOf plan trace.starts
-  pub joins : trace.joins ≡ []
-  pub hits : trace.hits ≡ 0
-  pub misses : trace.misses ≡ 0
-  pub peak : trace.peak ≡ 0
+-- nothing was done with the plan
+abbrev pub IsUndone : ℕ → Option Node → Trace → Type 0
+IsUndone block (Some p) trace = Shows block p [] trace
+IsUndone block None trace = IsBlank trace
 
 -- Drivers were asked what the plan's scans ask, as often as these were started; without a plan the drivers are as they were: no source
 -- was attached, and no count rose.
@@ -75,9 +76,9 @@ AsksOf None starts old new = new ≡ old
 
 -- ---- how few rows are handed
 
--- a loop over one scan that makes a list, in whose body no scan stands
+-- a loop over one scan that makes a list, in whose body neither scans nor subqueries stand
 abbrev pub IsLine : Node → Node → Scan → Type 0
-IsLine p b c = (p ≡ node.Ext kind.List b (node.Scan c)) × (c.kind ≡ kind.List) × ScansIn [] b
+IsLine p b c = (p ≡ node.Ext kind.List b (node.Scan c)) × (c.kind ≡ kind.List) × PartsIn no_parts b
 
 -- Where so many first items are wanted of such a loop, and it means as many, its driver handed no more rows than these take, and what
 -- was fetched with the last of them; and none where none is wanted.
@@ -118,12 +119,10 @@ IsUnstarted e = e.1 ≡ 0
 abbrev pub DrawsNone : List (ℕ × ℕ) → List State → List State → Type 0
 DrawsNone starts old new = AllByRecursion IsUnstarted starts × EachSteps (λ a b. b.handed ≡ a.handed) old new
 
--- How a run went: how it ended, its steps of rewriting and the starts of its plan's scans, and what it found and left of the drivers
--- and of the output.
+-- How a run went: how it ended, what was counted, and what it found and left of the drivers and of the output.
 pub record Course : Type 0 where
   pub ending : Ending
-  pub steps : ℕ
-  pub starts : List (ℕ × ℕ)
+  pub trace : Trace
   pub old : List State
   pub new : List State
   pub blank : SinkState
@@ -132,8 +131,7 @@ pub record Course : Type 0 where
 abbrev pub course_of : Ending → Trace → List State → List State → SinkState → SinkState → Course
 course_of end trace old new blank printed = record {
   ending = end;
-  steps = trace.steps;
-  starts = trace.starts;
+  trace = trace;
   old = old;
   new = new;
   blank = blank;
@@ -142,21 +140,23 @@ course_of end trace old new blank printed = record {
 
 -- ---- the plan of a program
 
--- The plan of a term t: that of the term to which so many steps of rewriting lead from t, where rewriting is on. Where delegation is
--- on, no work is left in it that the drivers could do.
+-- The plan of a term t: that of the term to which so many steps of rewriting lead from t, where rewriting is on. Its loops are
+-- joined and its values kept as the settings say, and where delegation is on, no work is left in it that the drivers could do.
 pub record PlansTerm (settings : Settings) (ships : List ShipSource) (t : Tree) (steps : ℕ) (p : Node) : Type 0 where
   pub term : Tree
   pub rewritten : IsRewrittenTo settings.rewrite t steps term
-  pub planned : IsPlanOf settings.delegate ships term p
+  pub planned : IsPlanOf settings ships term p
   pub means : MeansTerm ships t p
 
 -- What is counted of a plan that was run over these sources, of which the marked ones are mentioned, where Lists says that the program
 -- gives a list.
 pub record CountsPlan (how : How) (ss : List Source) (marks : ℕ → Bool) (Lists : Type 0) (course : Course) (p : Node) : Type 0 where
-  -- where all that the program means is drawn, and the sources that it mentions are told, each scan was started once for each
-  -- environment that reaches it
+  -- where all that the program means is drawn, and the sources that it mentions are told, scans were started, joins executed and
+  -- subqueries looked up as often as the plan's meaning comes to them
   pub exact : course.ending ≡ None → how.first ≡ None → (vs : List (Name × Value)) × HaveValues (kinds_of course.old) marks 0 ss vs
-      → (R : Readings) × ReadsMarked (kinds_of course.old) ss marks R × StartsCounted R p course.starts
+      → (R : Readings) × ReadsMarked (kinds_of course.old) ss marks R
+      × (es : List Event) × Shows how.settings.block p es course.trace
+      × Counts same_subquery how.settings.cache R how.settings.block p es
   -- where only so many first items are drawn, few rows were handed to a loop over one scan
   pub few : course.ending ≡ None → (vs : List (Name × Value)) × HaveValues (kinds_of course.old) marks 0 ss vs
       → (R : Readings) × ReadsMarked (kinds_of course.old) ss marks R
@@ -168,14 +168,14 @@ pub record CountsPlan (how : How) (ss : List Source) (marks : ℕ → Bool) (Lis
   -- a source that changed is that of one of the plan's scans
   pub changed : (name : Name) → course.ending ≡ Some (fault.Changed name) → IsScanned p name
   -- where no item of a list is wanted none is drawn, however the run ends, and whether sources are told or not
-  pub none : how.first ≡ Some 0 → Lists → DrawsNone course.starts course.old course.new
+  pub none : how.first ≡ Some 0 → Lists → DrawsNone course.trace.starts course.old course.new
 
 -- the plan of the program that a text is, and what is counted of it
 abbrev pub PlansText : How → List Source → List ℕ → Course → Node → Type 0
 PlansText how ss text course p =
     (q : Program) × IsProgramOf (names_of ss) text q × (marks : ℕ → Bool) × AreMarks q (names_of ss) marks
     × CountsPlan how ss marks (GivesList (grounds_of ss) (definitions (names_of ss) q) (last (names_of ss) q)) course p
-    × PlansTerm how.settings (ships_of (kinds_of course.old) ss) (term_in (names_of ss) q) course.steps p
+    × PlansTerm how.settings (ships_of (kinds_of course.old) ss) (term_in (names_of ss) q) course.trace.steps p
 
 -- What comes of the sources of the program that a text is: one that is unreadable or that changed is a source that it mentions, and
 -- nothing is printed before a fault, but where the program gives a list.
@@ -235,19 +235,20 @@ OfInputs from files ks P =
     (text : List ℕ) × (ss : List Source) × ((told : _) → TellTo from files told → HasInputs told ks from text ss) × P text ss
 
 -- The plan and the counts are those of the program that is run, where the run does not end before it has a plan; else there is no
--- plan, and no step is counted. Where a program is explained the plan is its own, and nothing is run.
+-- plan, and no step is counted. Where a program is explained the plan is its own, and nothing is run or counted of it.
 abbrev pub HasPlan : How → Command → Option Node → Course → FilesState → FilesState → Type 0
 HasPlan how (AProgram (purpose.Explain settings) from) plan course files files' =
     ((p : Node) × (plan ≡ Some p)
-    × OfInputs from files (kinds_of course.old) (λ text ss. PlansAlone (kinds_of course.old) settings ss text course.steps p)
+    × OfInputs from files (kinds_of course.old) (λ text ss. PlansAlone (kinds_of course.old) settings ss text course.trace.steps p)
+    × Shows settings.block p [] course.trace
     × (IsEarly course.ending → ⊥))
-    ⊎ ((plan ≡ None) × (course.steps ≡ 0)
+    ⊎ ((plan ≡ None) × (course.trace.steps ≡ 0)
     × MayBeEarly (AProgram (purpose.Explain settings) from) course.ending files files' (kinds_of course.old))
 HasPlan how command plan course files files' =
     ((p : Node) × (plan ≡ Some p)
     × OfRun command files (kinds_of course.old) (λ text ss. PlansText how ss text course p × Rests ss text course)
     × (IsEarly course.ending → ⊥))
-    ⊎ ((plan ≡ None) × (course.steps ≡ 0)
+    ⊎ ((plan ≡ None) × (course.trace.steps ≡ 0)
     × ((IsRunning command → ⊥) ⊎ MayBeEarly command course.ending files files' (kinds_of course.old)))
 
 -- a plan is explained: its lines are printed, or a front of them; without a plan nothing is
@@ -272,4 +273,4 @@ PlanOf Plans end steps plan = ((p : Node) × (plan ≡ Some p) × Plans p × (Is
 abbrev pub RunsPlan : How → List Source → (ℕ → Bool) → Decls → Exp → List Name → Course → Node → Type 0
 RunsPlan how ss marks program e names course p =
     CountsPlan how ss marks (GivesList (grounds_of ss) program e) course p
-    × PlansTerm how.settings (ships_of (kinds_of course.old) ss) (term_of program e names) course.steps p
+    × PlansTerm how.settings (ships_of (kinds_of course.old) ss) (term_of program e names) course.trace.steps p

@@ -15,19 +15,21 @@ use Rattle.kl_outcome.specs.Outcome.{Name, Outcome, done, over, stuck}
 use Rattle.kl_rows.specs.declared.Scheme.{Scheme}
 use Rattle.kl_syntax.specs.Syntax.{Decls, Exp}
 use Rattle.kl_ask.specs.Driver.{DriverKind, State}
-use Rattle.kl_ask.specs.World.{World, IsReady}
-use Rattle.kl_ship.specs.Nodes.{Node}
-use Rattle.kl_ship.specs.Numbers.{scans_in}
-use Rattle.kl_ship.specs.Reached.{reached}
-use Rattle.kl_ship.specs.declared.plan.Scan.{Scan}
+use Rattle.kl_ask.specs.World.{World}
+use Rattle.kl_plan.specs.Nodes.{Node}
+use Rattle.kl_plan.specs.Parts.{parts_of}
+use Rattle.kl_plan.specs.Prices.{Prices}
 use Rattle.kl_exchange.specs.declared.error.PrintError.{PrintError}
 use Rattle.kl_eval.specs.declared.stop.EvalStop.{EvalStop}
 use Rattle.kl_eval.specs.declared.stop.EvalStop.TheVariants as stopped
 use Rattle.kl_scans.specs.Held.{nothing}
 use Rattle.kl_scans.specs.Log.{paid}
 use Rattle.kl_scans.specs.Moves.{Moves}
+use Rattle.kl_scans.specs.Right.{IsReadyRun}
+use Rattle.kl_scans.specs.Running.{Running}
+use Rattle.kl_scans.specs.Stage.{stage}
 use Rattle.kl_cursor.specs.Laziness.{Handed, NextsLazily}
-use Rattle.kl_cursor.specs.Left.{Snap, reading}
+use Rattle.kl_cursor.specs.Left.{Snap, cost, reading}
 use Rattle.kl_cursor.specs.Pulling.{Silent}
 use Rattle.kl_cursor.specs.Sense.{TypesAt, IsToldAt}
 use Rattle.kl_cursor.specs.Steps.{AreOf, Nexts, Onward}
@@ -89,7 +91,7 @@ HasRunFault fault.Write = ⊤
 HasRunFault fault.NoMemory = ⊤
 HasRunFault f = ⊥
 
--- a plan, and the sources of the session over which it is run
+-- a plan, and the sources over which it is run
 pub record PlanOver : Type 0 where
   pub plan : Node
   pub sources : List Attached
@@ -115,15 +117,15 @@ pub record AnswersTerm (Lists : Type 0) (IsOut : Verdict → Type 0) (told : Typ
   pub nothing : Unprinted Lists end → new.out ≡ old.out
   pub drivers : KeepsDrivers (λ name. ⊥) old.drivers new.drivers
 
--- A plan was run: no cursor is left open, only its scans were started, and where it ended well, and all of it was wanted and is
--- told, each was started once for each environment that reaches it.
-pub record Scanned (p : Node) (end : Ending) (first : Option ℕ) (a b : World) : Type 0 where
+-- A plan was run: no cursor is left open, only its own scans were started, its own joins executed and its own subqueries looked up,
+-- and where it ended well, and all of it was wanted and is told, that comes to what its meaning comes to.
+pub record Scanned (p : Node) (end : Ending) (first : Option ℕ) (a b : Running) : Type 0 where
   pub moves : Moves nothing nothing a b
-  pub known : AreOf (scans_in p) moves.events
-  pub exact : end ≡ None → first ≡ None → IsToldAt a → (price : Scan → ℕ) → paid price moves.events ≡ reached (reading a) price p []
+  pub known : AreOf (parts_of p) moves.events
+  pub exact : end ≡ None → first ≡ None → IsToldAt a → (P : Prices) → paid (stage a) P moves.events ≡ cost (stage a) P p []
 
 -- where a list ends well, or the output fails, and contents are told, few rows were handed to a loop over one scan
-pub record SparesRows (p : Node) (end : Ending) (first : Option ℕ) (a b : World) (out out' : SinkState) : Type 0 where
+pub record SparesRows (p : Node) (end : Ending) (first : Option ℕ) (a b : Running) (out out' : SinkState) : Type 0 where
   pub few : end ≡ None → IsToldAt a → HandsFew (reading a) a.settings.fetch p first (λ c rows. Handed c rows a b)
   pub written : end ≡ Some fault.Write → IsToldAt a → HandsWritten (reading a) a.settings.fetch p out out' (λ c rows. Handed c rows a b)
 
@@ -131,9 +133,9 @@ pub record SparesRows (p : Node) (end : Ending) (first : Option ℕ) (a b : Worl
 abbrev pub TookMore : SinkState → SinkState → Type 0
 TookMore out out' = (taken : List ℕ) × (out'.taken ≡ append_known out.taken taken)
 
--- a plan of a list makes sense in a session
-abbrev pub HasList : World → Node → Type 0
-HasList w p = (u : Ground) × TypesAt w [] p (coll kind.List u) × IsReady w
+-- a plan of a list makes sense in a run
+abbrev pub HasList : Running → Node → Type 0
+HasList w p = (u : Ground) × TypesAt w [] p (coll kind.List u) × IsReadyRun w
 
 -- a term has the type of a list
 abbrev pub IsListTerm : SourceTypes → Tree → Type 0
@@ -150,7 +152,7 @@ one_more (Some n) = Some (n + 1)
 
 -- What a draw answers of a cursor: what it gives next, for which no source was read on unless all that was printed is written. Or the
 -- output refused that: then as much is left as was, and nothing was handed.
-abbrev pub Draws : List Value → Snap → Result (Result (Option Value) EvalStop) PrintError → Snap → World → World → List ℕ → Type 0
+abbrev pub Draws : List Value → Snap → Result (Result (Option Value) EvalStop) PrintError → Snap → Running → Running → List ℕ → Type 0
 Draws env s (Ok r) t a b page = Nexts env s r t a b × NextsLazily env s r t a b × (Silent a b ⊎ (page ≡ []))
 Draws env s (Err e) t a b page = Onward env s a t b × Silent a b
 

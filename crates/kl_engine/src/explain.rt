@@ -7,14 +7,14 @@ ghost use Rattle.kl_desugar.specs.Translation.{term_of};
 ghost use Rattle.kl_rewrite.specs.Steps.{IsClosed};
 ghost use Rattle.kl_run.specs.Planned.{ships_of};
 ghost use Rattle.kl_scope.specs.Breaches.{is_marked};
-ghost use Rattle.kl_ship.specs.Nodes.{view as plan_view};
+ghost use Rattle.kl_plan.specs.Nodes.{view as plan_view};
 ghost use Rattle.kl_sources.specs.Sources.{ArePlaced, grounds_of, kinds_of, names_of};
 ghost use Rattle.kl_syntax.specs.View.{view, decls_of};
 ghost use Rattle.kl_engine.specs.Answering.{DoesText, PrintsPage};
 ghost use Rattle.kl_engine.specs.Explaining.{plan_lines};
 ghost use Rattle.kl_engine.specs.Faults.{ending};
 ghost use Rattle.kl_engine.specs.Outside.{outside_of};
-ghost use Rattle.kl_engine.specs.Planned.{AsksOf, CountsScansAlone, ExplainsPlan, IsUnrun, PlanOf, PlansAlone, PlansTerm, plan_in};
+ghost use Rattle.kl_engine.specs.Planned.{AsksOf, ExplainsPlan, IsUndone, IsUnrun, PlanOf, PlansAlone, PlansTerm, plan_in};
 ghost use Rattle.kl_engine.specs.Reading.{WasInScope};
 ghost use Rattle.kl_engine.specs.Running.{DoneWith};
 ghost use Rattle.kl_engine.specs.Typing.{IsTyped};
@@ -64,7 +64,7 @@ pub fn explain<S: Sink>(
         (S.state out.old) (S.state out.new) }
     ensures asks { AsksOf (plan_in ran.new.plan) ran.new.trace.starts (⟦<Drivers as SeenAll>⟧.states drivers.now)
         (⟦<Drivers as SeenAll>⟧.states drivers.now) }
-    ensures alone { CountsScansAlone (plan_in ran.new.plan) ran.new.trace }
+    ensures shows { IsUndone settings.block (plan_in ran.new.plan) ran.new.trace }
 {
     match read_over(alloc, text, sources) {
         Ok(scoped) => explain_program(alloc, &scoped, sources, settings, drivers, out, ran),
@@ -96,7 +96,7 @@ fn explain_program<S: Sink>(
         (S.state out.old) (S.state out.new) }
     ensures asks { AsksOf (plan_in ran.new.plan) ran.new.trace.starts (⟦<Drivers as SeenAll>⟧.states drivers.now)
         (⟦<Drivers as SeenAll>⟧.states drivers.now) }
-    ensures alone { CountsScansAlone (plan_in ran.new.plan) ran.new.trace }
+    ensures shows { IsUndone settings.block (plan_in ran.new.plan) ran.new.trace }
 {
     match infer_over(alloc, scoped, sources) {
         Ok(typed) => explain_typed(alloc, scoped, &typed, sources, settings, drivers, out, ran),
@@ -130,7 +130,7 @@ fn explain_typed<S: Sink>(
         (S.state out.old) (S.state out.new) }
     ensures asks { AsksOf (plan_in ran.new.plan) ran.new.trace.starts (⟦<Drivers as SeenAll>⟧.states drivers.now)
         (⟦<Drivers as SeenAll>⟧.states drivers.now) }
-    ensures alone { CountsScansAlone (plan_in ran.new.plan) ran.new.trace }
+    ensures shows { IsUndone settings.block (plan_in ran.new.plan) ran.new.trace }
 {
     match translate(alloc, scoped) {
         Ok(term) => explain_term(
@@ -170,7 +170,7 @@ fn explain_term<S: Sink>(
         (S.state out.old) (S.state out.new) }
     ensures asks { AsksOf (plan_in ran.new.plan) ran.new.trace.starts (⟦<Drivers as SeenAll>⟧.states drivers.now)
         (⟦<Drivers as SeenAll>⟧.states drivers.now) }
-    ensures alone { CountsScansAlone (plan_in ran.new.plan) ran.new.trace }
+    ensures shows { IsUndone settings.block (plan_in ran.new.plan) ran.new.trace }
 {
     match rewritten(alloc, term, settings.rewrite) {
         Ok(Normal { term, steps }) => match planned(

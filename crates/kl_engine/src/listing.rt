@@ -11,10 +11,11 @@ ghost use Rattle.kl_core.specs.Trees.{Tree};
 ghost use Rattle.kl_core.specs.Typing.{HaveSources};
 ghost use Rattle.kl_ask.specs.Driver.{DriverKind};
 ghost use Rattle.kl_ask.specs.World.{types_of, values_of};
-ghost use Rattle.kl_ship.specs.Nodes.{view};
+ghost use Rattle.kl_plan.specs.Nodes.{view};
 ghost use Rattle.kl_cursor.specs.Left.{snap, uses};
 ghost use Rattle.kl_cursor.specs.Sense.{Stands};
 ghost use Rattle.kl_scans.specs.Held.{Owned};
+ghost use Rattle.kl_scans.specs.Running.{session};
 ghost use Rattle.kl_sources.specs.declared.source.Source.{Source};
 ghost use Rattle.kl_run.specs.Running.{Runs};
 ghost use Rattle.kl_engine.specs.Answering.{PrintsPage};
@@ -27,11 +28,11 @@ ghost use Rattle.kl_engine.specs.Verdict.{list_front, value_page};
 use crate::fault::Fault;
 use crate::page::{put_item, write_fault};
 use crate::run::driver_fault;
-use kl_ask::{Seen, Session};
 use kl_cursor::{Cursor, Draw, open_plan};
 use kl_eval::EvalStop;
 use kl_exchange::{Page, PrintError};
 use kl_outside::Sink;
+use kl_scans::{Ran, Run};
 use kl_ship::Plan;
 use kl_value::Value;
 use std::alloc::Global;
@@ -42,27 +43,27 @@ use std::alloc::Global;
 /// # Errors
 /// `Overflow`, behind the items that come before it; `Read` and `Changed`, where a driver failed or a source is no longer what it
 /// was; `Write`, where the sink refused a piece; want of memory.
-pub fn print_list<S: Sink>(
+pub fn print_list<'p, S: Sink>(
     alloc: Global,
     plan: &Plan,
     first: Option<u32>,
-    session: &mut Session,
+    run: &mut Run<'p>,
     out: &mut S,
 ) -> Result<(), Fault>
-    requires { HasList (⟦<Session as Seen>⟧.world session.old) (view plan.now) }
+    requires { HasList (⟦<Run<'p> as Ran>⟧.world run.old) (view plan.now) }
     ensures prints { (files : FilesState) (ks : List DriverKind) (ss : List Source) (marks : ℕ → Bool) (t : Tree)
-        → Runs ks ss marks t (view plan.now) (⟦<Session as Seen>⟧.world session.old)
-        → IsListTerm (types_of (⟦<Session as Seen>⟧.world session.old)) t → AnswersTerm ⊤
-        (IsListOutcome first (core (values_of (⟦<Session as Seen>⟧.world session.old)) t []))
-        (HaveSources (types_of (⟦<Session as Seen>⟧.world session.old)) (values_of (⟦<Session as Seen>⟧.world session.old))) (ending result)
-        (plan_over (⟦<Session as Seen>⟧.world session.old) (view plan.now))
-        (outside_of files (⟦<Session as Seen>⟧.world session.old).drivers (S.state out.old))
-        (outside_of files (⟦<Session as Seen>⟧.world session.new).drivers (S.state out.new)) }
-    ensures scanned { Scanned (view plan.now) (ending result) first (⟦<Session as Seen>⟧.world session.old)
-        (⟦<Session as Seen>⟧.world session.new) }
-    ensures spares { SparesRows (view plan.now) (ending result) first (⟦<Session as Seen>⟧.world session.old)
-        (⟦<Session as Seen>⟧.world session.new) (S.state out.old) (S.state out.new) }
-    ensures none { first ≡ Some 0 → ⟦<Session as Seen>⟧.world session.new ≡ ⟦<Session as Seen>⟧.world session.old }
+        → Runs ks ss marks t (view plan.now) (⟦<Run<'p> as Ran>⟧.world run.old)
+        → IsListTerm (types_of (session (⟦<Run<'p> as Ran>⟧.world run.old))) t → AnswersTerm ⊤
+        (IsListOutcome first (core (values_of (session (⟦<Run<'p> as Ran>⟧.world run.old))) t []))
+        (HaveSources (types_of (session (⟦<Run<'p> as Ran>⟧.world run.old))) (values_of (session (⟦<Run<'p> as Ran>⟧.world run.old))))
+        (ending result) (plan_over (session (⟦<Run<'p> as Ran>⟧.world run.old)) (view plan.now))
+        (outside_of files (⟦<Run<'p> as Ran>⟧.world run.old).drivers (S.state out.old))
+        (outside_of files (⟦<Run<'p> as Ran>⟧.world run.new).drivers (S.state out.new)) }
+    ensures scanned { Scanned (view plan.now) (ending result) first (⟦<Run<'p> as Ran>⟧.world run.old)
+        (⟦<Run<'p> as Ran>⟧.world run.new) }
+    ensures spares { SparesRows (view plan.now) (ending result) first (⟦<Run<'p> as Ran>⟧.world run.old)
+        (⟦<Run<'p> as Ran>⟧.world run.new) (S.state out.old) (S.state out.new) }
+    ensures none { first ≡ Some 0 → ⟦<Run<'p> as Ran>⟧.world run.new ≡ ⟦<Run<'p> as Ran>⟧.world run.old }
 {
     let mut page = Page::new();
     match begin(&mut page, out) {
@@ -72,7 +73,7 @@ pub fn print_list<S: Sink>(
     if are_enough(first) {
         return end(&mut page, out);
     }
-    print_items(alloc, plan, first, &mut page, session, out)
+    print_items(alloc, plan, first, &mut page, run, out)
 }
 
 fn begin<S: Sink>(page: &mut Page, out: &mut S) -> Result<(), PrintError>
@@ -130,30 +131,30 @@ fn fewer(left: Option<u32>) -> Option<u32>
 }
 
 // Draws items and prints them, up to the end or until there are enough. That a list begins is printed.
-fn print_items<S: Sink>(
+fn print_items<'p, S: Sink>(
     alloc: Global,
     plan: &Plan,
     first: Option<u32>,
     page: &mut Page,
-    session: &mut Session,
+    run: &mut Run<'p>,
     out: &mut S,
 ) -> Result<(), Fault>
-    requires sense { HasList (⟦<Session as Seen>⟧.world session.old) (view plan.now) }
+    requires sense { HasList (⟦<Run<'p> as Ran>⟧.world run.old) (view plan.now) }
     requires some { are_enough first ≡ false }
     ensures prints { (files : FilesState) (ks : List DriverKind) (ss : List Source) (marks : ℕ → Bool) (t : Tree) (front : SinkState)
-        → Runs ks ss marks t (view plan.now) (⟦<Session as Seen>⟧.world session.old)
-        → IsListTerm (types_of (⟦<Session as Seen>⟧.world session.old)) t
+        → Runs ks ss marks t (view plan.now) (⟦<Run<'p> as Ran>⟧.world run.old)
+        → IsListTerm (types_of (session (⟦<Run<'p> as Ran>⟧.world run.old))) t
         → Puts {T = Unit {0}} (list_front []) (Ok tt) front [] (S.state out.old) page.old → AnswersTerm ⊤
-        (IsListOutcome first (core (values_of (⟦<Session as Seen>⟧.world session.old)) t []))
-        (HaveSources (types_of (⟦<Session as Seen>⟧.world session.old)) (values_of (⟦<Session as Seen>⟧.world session.old))) (ending result)
-        (plan_over (⟦<Session as Seen>⟧.world session.old) (view plan.now))
-        (outside_of files (⟦<Session as Seen>⟧.world session.old).drivers front)
-        (outside_of files (⟦<Session as Seen>⟧.world session.new).drivers (S.state out.new)) }
-    ensures scanned { Scanned (view plan.now) (ending result) first (⟦<Session as Seen>⟧.world session.old)
-        (⟦<Session as Seen>⟧.world session.new) }
+        (IsListOutcome first (core (values_of (session (⟦<Run<'p> as Ran>⟧.world run.old))) t []))
+        (HaveSources (types_of (session (⟦<Run<'p> as Ran>⟧.world run.old))) (values_of (session (⟦<Run<'p> as Ran>⟧.world run.old))))
+        (ending result) (plan_over (session (⟦<Run<'p> as Ran>⟧.world run.old)) (view plan.now))
+        (outside_of files (⟦<Run<'p> as Ran>⟧.world run.old).drivers front)
+        (outside_of files (⟦<Run<'p> as Ran>⟧.world run.new).drivers (S.state out.new)) }
+    ensures scanned { Scanned (view plan.now) (ending result) first (⟦<Run<'p> as Ran>⟧.world run.old)
+        (⟦<Run<'p> as Ran>⟧.world run.new) }
     ensures spares { (front : SinkState) → Puts {T = Unit {0}} (list_front []) (Ok tt) front [] (S.state out.old) page.old
-        → SparesRows (view plan.now) (ending result) first (⟦<Session as Seen>⟧.world session.old)
-        (⟦<Session as Seen>⟧.world session.new) front (S.state out.new) }
+        → SparesRows (view plan.now) (ending result) first (⟦<Run<'p> as Ran>⟧.world run.old)
+        (⟦<Run<'p> as Ran>⟧.world run.new) front (S.state out.new) }
 {
     match open_plan(alloc, plan, &[]) {
         Ok(cursor) => {
@@ -161,25 +162,25 @@ fn print_items<S: Sink>(
             let mut left = first;
             let mut place: usize = 0;
             'items: loop {
-                match draw(&mut cursor, page, session, out) {
+                match draw(&mut cursor, page, run, out) {
                     Ok(Ok(Some(item))) => match print_item(place, item, page, out) {
                         Ok(()) => {
                             place = 1;
                             left = fewer(left);
                             if are_enough(left) {
-                                cursor.close(session);
+                                cursor.close(run);
                                 return end(page, out);
                             }
                         }
                         Err(error) => {
-                            cursor.close(session);
+                            cursor.close(run);
                             return Err(write_fault(error));
                         }
                     },
                     Ok(Ok(None)) => return end(page, out),
                     Ok(Err(stop)) => return stopped(stop, page, out),
                     Err(error) => {
-                        cursor.close(session);
+                        cursor.close(run);
                         return Err(write_fault(error));
                     }
                 }
@@ -203,24 +204,24 @@ fn print_item<S: Sink>(
 
 // The next item, or why there is none, unless the output refused what was printed before. That is written where a source is read on
 // for the item, and only there.
-fn draw<S: Sink>(
+fn draw<'p, S: Sink>(
     cursor: &mut Cursor<'_>,
     page: &mut Page,
-    session: &mut Session,
+    run: &mut Run<'p>,
     out: &mut S,
 ) -> Result<Result<Option<Value>, EvalStop>, PrintError>
-    requires owned { Owned (uses (snap cursor.old.at)) (⟦<Session as Seen>⟧.world session.old) }
-    requires sense { Stands (⟦<Session as Seen>⟧.world session.old) (snap cursor.old.at) (reverse cursor.old.env) }
+    requires owned { Owned (uses (snap cursor.old.at)) (⟦<Run<'p> as Ran>⟧.world run.old) }
+    requires sense { Stands (⟦<Run<'p> as Ran>⟧.world run.old) (snap cursor.old.at) (reverse cursor.old.env) }
     ensures env { cursor.new.env ≡ cursor.old.env }
     ensures puts { Puts [] (as_stop result) (S.state out.old) page.old (S.state out.new) page.new }
     ensures draws { Draws (reverse cursor.old.env) (snap cursor.old.at) result (snap cursor.new.at)
-        (⟦<Session as Seen>⟧.world session.old) (⟦<Session as Seen>⟧.world session.new) page.new }
+        (⟦<Run<'p> as Ran>⟧.world run.old) (⟦<Run<'p> as Ran>⟧.world run.new) page.new }
 {
-    match cursor.next_held(session) {
+    match cursor.next_held(run) {
         Ok(Draw::Item(item)) => Ok(Ok(Some(item))),
         Ok(Draw::End) => Ok(Ok(None)),
         Ok(Draw::NeedsPull) => match page.flush(out) {
-            Ok(()) => Ok(cursor.next(session)),
+            Ok(()) => Ok(cursor.next(run)),
             Err(error) => Err(error),
         },
         Err(stop) => Ok(Err(stop)),

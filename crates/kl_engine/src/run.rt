@@ -15,14 +15,15 @@ ghost use Rattle.kl_infer.specs.Inferred.{Infers};
 ghost use Rattle.kl_rewrite.specs.Steps.{IsClosed};
 ghost use Rattle.kl_rows.specs.Schemes.{IsScheme, Instance};
 ghost use Rattle.kl_rules.specs.Preserving.{Preserves};
-ghost use Rattle.kl_run.specs.Counted.{AsksCounted, IsFreshTrace};
+ghost use Rattle.kl_run.specs.Counted.{AsksCounted, IsFreshTrace, Shows};
 ghost use Rattle.kl_run.specs.Planned.{IsPlanOf, ships_of};
 ghost use Rattle.kl_run.specs.Running.{Runs};
-ghost use Rattle.kl_scans.specs.Log.{without_starts};
+ghost use Rattle.kl_scans.specs.Keeping.{kept_in, room_in};
+ghost use Rattle.kl_scans.specs.Log.{Event};
+ghost use Rattle.kl_scans.specs.Running.{session};
 ghost use Rattle.kl_scope.specs.Breaches.{is_marked};
 ghost use Rattle.kl_ship.specs.Contents.{MakesSense};
-ghost use Rattle.kl_ship.specs.Nodes.{view as plan_view};
-ghost use Rattle.kl_ship.specs.Numbers.{scans_in};
+ghost use Rattle.kl_plan.specs.Nodes.{view as plan_view};
 ghost use Rattle.kl_sources.specs.Sources.{ArePlaced, names_of, grounds_of, kinds_of};
 ghost use Rattle.kl_sources.specs.declared.source.Source.{Source};
 ghost use Rattle.kl_syntax.specs.View.{view, decls_of};
@@ -30,7 +31,7 @@ ghost use Rattle.kl_type.specs.Ground.{Ground, IsProper};
 ghost use Rattle.kl_engine.specs.Answering.{DoesText, IsIdle};
 ghost use Rattle.kl_engine.specs.Faults.{ending};
 ghost use Rattle.kl_engine.specs.Outside.{outside_of};
-ghost use Rattle.kl_engine.specs.Planned.{AsksOf, CountsPlan, CountsScansAlone, IsEarly, IsUnrun, PlanOf, PlansText, RunsPlan};
+ghost use Rattle.kl_engine.specs.Planned.{AsksOf, CountsPlan, IsEarly, IsShown, IsUnrun, PlanOf, PlansText, RunsPlan};
 ghost use Rattle.kl_engine.specs.Planned.{course_of, plan_in};
 ghost use Rattle.kl_engine.specs.Reading.{WasInScope};
 ghost use Rattle.kl_engine.specs.Rewritten.{IsRewrittenTo};
@@ -38,7 +39,7 @@ ghost use Rattle.kl_engine.specs.Running.{AnswersTerm, DoneWith, DoneMeaning, Ha
 ghost use Rattle.kl_engine.specs.Running.{IsTermOutcome, IsListScheme, IsListOutcome, IsValueOutcome, fault_of};
 ghost use Rattle.kl_engine.specs.Typing.{IsTyped};
 ghost use Rattle.kl_engine.specs.Verdict.{GivesList};
-ghost use Rattle.kl_engine.specs.declared.top.Purpose.TheVariants.{Run};
+ghost use Rattle.kl_engine.specs.declared.top.Purpose.TheVariants as purpose;
 
 use crate::cut::cut;
 use crate::drivers::{Drivers, SeenAll};
@@ -46,16 +47,18 @@ use crate::fault::Fault;
 use crate::listing::print_list;
 use crate::page::print_value;
 use crate::read::{infer_over, read_over};
-use kl_ask::{DriverError, Seen, Session, Settings, Trace};
+use kl_ask::{DriverError, Session, Settings, Trace};
 use kl_base::{Label, NoMemory};
 use kl_core::Term;
 use kl_cursor::value_of;
 use kl_desugar::translate;
 use kl_eval::EvalStop;
 use kl_infer::Typed;
+use kl_memo::Memo;
 use kl_outside::Sink;
 use kl_rewrite::{Normal, rewrite};
-use kl_run::{plan_of, trace_of};
+use kl_run::{memo_for, plan_of, run_of, trace_of};
+use kl_scans::{Ran as Seen, Run};
 use kl_scope::Scoped;
 use kl_ship::Plan;
 use kl_sources::{AttachError, Source, attach_sources};
@@ -98,8 +101,9 @@ pub fn run<S: Sink>(
     requires placed { ArePlaced (kinds_of (⟦<Drivers as SeenAll>⟧.states drivers.old)) sources.items }
     requires idle { All IsIdle (⟦<Drivers as SeenAll>⟧.states drivers.old) }
     requires fetch { 0 < how.settings.fetch }
+    requires block { 0 < how.settings.block }
     requires unrun { IsUnrun ran.old }
-    ensures does { (files : FilesState) → DoesText sources.items (Run how.first) text.now (ending result)
+    ensures does { (files : FilesState) → DoesText sources.items (purpose.Run how.first) text.now (ending result)
         (outside_of files (⟦<Drivers as SeenAll>⟧.states drivers.old) (S.state out.old))
         (outside_of files (⟦<Drivers as SeenAll>⟧.states drivers.new) (S.state out.new)) }
     ensures plan { PlanOf (PlansText how sources.items text.now (course_of (ending result) ran.new.trace
@@ -107,7 +111,7 @@ pub fn run<S: Sink>(
         (ending result) ran.new.trace.steps (plan_in ran.new.plan) }
     ensures asks { AsksOf (plan_in ran.new.plan) ran.new.trace.starts (⟦<Drivers as SeenAll>⟧.states drivers.old)
         (⟦<Drivers as SeenAll>⟧.states drivers.new) }
-    ensures alone { CountsScansAlone (plan_in ran.new.plan) ran.new.trace }
+    ensures shows { IsShown how.settings.block (plan_in ran.new.plan) ran.new.trace }
     ensures silent { plan_in ran.new.plan ≡ None → S.state out.new ≡ S.state out.old }
 {
     match read_over(alloc, text, &sources) {
@@ -130,8 +134,9 @@ fn run_program<S: Sink>(
     requires placed { ArePlaced (kinds_of (⟦<Drivers as SeenAll>⟧.states drivers.old)) sources.items }
     requires idle { All IsIdle (⟦<Drivers as SeenAll>⟧.states drivers.old) }
     requires fetch { 0 < how.settings.fetch }
+    requires block { 0 < how.settings.block }
     requires unrun { IsUnrun ran.old }
-    ensures does { (files : FilesState) → DoneWith sources.items (is_marked scoped.now) (Run how.first)
+    ensures does { (files : FilesState) → DoneWith sources.items (is_marked scoped.now) (purpose.Run how.first)
         (decls_of scoped.now.program.defs) (view scoped.now.program.last) (ending result)
         (outside_of files (⟦<Drivers as SeenAll>⟧.states drivers.old) (S.state out.old))
         (outside_of files (⟦<Drivers as SeenAll>⟧.states drivers.new) (S.state out.new)) }
@@ -141,7 +146,7 @@ fn run_program<S: Sink>(
         (ending result) ran.new.trace.steps (plan_in ran.new.plan) }
     ensures asks { AsksOf (plan_in ran.new.plan) ran.new.trace.starts (⟦<Drivers as SeenAll>⟧.states drivers.old)
         (⟦<Drivers as SeenAll>⟧.states drivers.new) }
-    ensures alone { CountsScansAlone (plan_in ran.new.plan) ran.new.trace }
+    ensures shows { IsShown how.settings.block (plan_in ran.new.plan) ran.new.trace }
     ensures silent { plan_in ran.new.plan ≡ None → S.state out.new ≡ S.state out.old }
 {
     match infer_over(alloc, scoped, &sources) {
@@ -166,6 +171,7 @@ fn answer<S: Sink>(
     requires placed { ArePlaced (kinds_of (⟦<Drivers as SeenAll>⟧.states drivers.old)) sources.items }
     requires idle { All IsIdle (⟦<Drivers as SeenAll>⟧.states drivers.old) }
     requires fetch { 0 < how.settings.fetch }
+    requires block { 0 < how.settings.block }
     requires unrun { IsUnrun ran.old }
     ensures does { (files : FilesState) → DoneMeaning sources.items (is_marked scoped.now) how.first
         (decls_of scoped.now.program.defs) (view scoped.now.program.last) (ending result)
@@ -177,7 +183,7 @@ fn answer<S: Sink>(
         (ending result) ran.new.trace.steps (plan_in ran.new.plan) }
     ensures asks { AsksOf (plan_in ran.new.plan) ran.new.trace.starts (⟦<Drivers as SeenAll>⟧.states drivers.old)
         (⟦<Drivers as SeenAll>⟧.states drivers.new) }
-    ensures alone { CountsScansAlone (plan_in ran.new.plan) ran.new.trace }
+    ensures shows { IsShown how.settings.block (plan_in ran.new.plan) ran.new.trace }
     ensures silent { plan_in ran.new.plan ≡ None → S.state out.new ≡ S.state out.old }
 {
     match translate(alloc, scoped) {
@@ -207,6 +213,7 @@ fn answer_translated<S: Sink>(
     requires placed { ArePlaced (kinds_of (⟦<Drivers as SeenAll>⟧.states drivers.old)) sources.items }
     requires idle { All IsIdle (⟦<Drivers as SeenAll>⟧.states drivers.old) }
     requires fetch { 0 < how.settings.fetch }
+    requires block { 0 < how.settings.block }
     requires unrun { IsUnrun ran.old }
     ensures does { (files : FilesState) → DoneMeaning sources.items (is_marked scoped.now) how.first
         (decls_of scoped.now.program.defs) (view scoped.now.program.last) (ending result)
@@ -218,7 +225,7 @@ fn answer_translated<S: Sink>(
         (ending result) ran.new.trace.steps (plan_in ran.new.plan) }
     ensures asks { AsksOf (plan_in ran.new.plan) ran.new.trace.starts (⟦<Drivers as SeenAll>⟧.states drivers.old)
         (⟦<Drivers as SeenAll>⟧.states drivers.new) }
-    ensures alone { CountsScansAlone (plan_in ran.new.plan) ran.new.trace }
+    ensures shows { IsShown how.settings.block (plan_in ran.new.plan) ran.new.trace }
     ensures silent { plan_in ran.new.plan ≡ None → S.state out.new ≡ S.state out.old }
 {
     match rewritten(alloc, term, how.settings.rewrite) {
@@ -260,7 +267,7 @@ pub fn planned(
         (term_view term.now) }
     requires small { nodes_of (term_view term.now) ≤ 16384 }
     requires placed { ArePlaced (kinds_of (⟦<Drivers as SeenAll>⟧.states drivers.now)) sources.now }
-    ensures plan { IfOk result (λ r. IsPlanOf settings.delegate (ships_of
+    ensures plan { IfOk result (λ r. IsPlanOf settings (ships_of
         (kinds_of (⟦<Drivers as SeenAll>⟧.states drivers.now)) sources.now) (term_view term.now) (plan_view r.0)) }
     ensures trace { IfOk result (λ r. IsFreshTrace (plan_view r.0) steps r.1) }
 {
@@ -283,7 +290,7 @@ fn answer_over<S: Sink>(
 ) -> Result<(), Fault>
     requires scope { WasInScope (names_of sources.items) scoped.now }
     requires types { Infers (decls_of scoped.now.program.defs) (view scoped.now.program.last) (grounds_of sources.items) typed.now }
-    requires planned { (u : Tree) × IsPlanOf how.settings.delegate (ships_of
+    requires planned { (u : Tree) × IsPlanOf how.settings (ships_of
         (kinds_of (⟦<Drivers as SeenAll>⟧.states drivers.old)) sources.items) u (plan_view plan.now)
         × Preserves (term_of (decls_of scoped.now.program.defs) (view scoped.now.program.last) scoped.now.sources) u }
     requires mentioned { ReadsMentioned scoped.now
@@ -292,6 +299,7 @@ fn answer_over<S: Sink>(
     requires placed { ArePlaced (kinds_of (⟦<Drivers as SeenAll>⟧.states drivers.old)) sources.items }
     requires idle { All IsIdle (⟦<Drivers as SeenAll>⟧.states drivers.old) }
     requires fetch { 0 < how.settings.fetch }
+    requires block { 0 < how.settings.block }
     ensures does { (files : FilesState) → DoneMeaning sources.items (is_marked scoped.now) how.first
         (decls_of scoped.now.program.defs) (view scoped.now.program.last) (ending result)
         (outside_of files (⟦<Drivers as SeenAll>⟧.states drivers.old) (S.state out.old))
@@ -299,8 +307,57 @@ fn answer_over<S: Sink>(
     ensures late { IsEarly (ending result) → ⊥ }
     ensures asks { AsksCounted (plan_view plan.now) trace.new.starts (⟦<Drivers as SeenAll>⟧.states drivers.old)
         (⟦<Drivers as SeenAll>⟧.states drivers.new) }
-    ensures starts { map (λ e. e.0) trace.new.starts ≡ map (λ c. c.number) (scans_in (plan_view plan.now)) }
-    ensures rest { without_starts trace.new ≡ without_starts trace.old }
+    ensures shows { (es : List Event) × Shows how.settings.block (plan_view plan.now) es trace.new }
+    ensures steps { trace.new.steps ≡ trace.old.steps }
+    ensures counts { CountsPlan how sources.items (is_marked scoped.now)
+        (GivesList (grounds_of sources.items) (decls_of scoped.now.program.defs) (view scoped.now.program.last))
+        (course_of (ending result) trace.new (⟦<Drivers as SeenAll>⟧.states drivers.old) (⟦<Drivers as SeenAll>⟧.states drivers.new)
+        (S.state out.old) (S.state out.new)) (plan_view plan.now) }
+{
+    match memo_for(alloc, &how.settings) {
+        Ok(memo) => answer_kept(
+            alloc, plan, memo, scoped, typed, sources, how, drivers, out, trace,
+        ),
+        Err(_) => Err(Fault::NoMemory),
+    }
+}
+
+// The same, with a cache for the values of its subqueries.
+fn answer_kept<S: Sink>(
+    alloc: Global,
+    plan: &Plan,
+    memo: Option<Memo>,
+    scoped: &Scoped,
+    typed: &Typed,
+    sources: Vec<Source>,
+    how: How,
+    drivers: &mut Drivers,
+    out: &mut S,
+    trace: &mut Trace,
+) -> Result<(), Fault>
+    requires kept { kept_in memo ≡ [] }
+    requires room { room_in memo ≡ how.settings.cache }
+    requires scope { WasInScope (names_of sources.items) scoped.now }
+    requires types { Infers (decls_of scoped.now.program.defs) (view scoped.now.program.last) (grounds_of sources.items) typed.now }
+    requires planned { (u : Tree) × IsPlanOf how.settings (ships_of
+        (kinds_of (⟦<Drivers as SeenAll>⟧.states drivers.old)) sources.items) u (plan_view plan.now)
+        × Preserves (term_of (decls_of scoped.now.program.defs) (view scoped.now.program.last) scoped.now.sources) u }
+    requires mentioned { ReadsMentioned scoped.now
+        (term_of (decls_of scoped.now.program.defs) (view scoped.now.program.last) scoped.now.sources) }
+    requires traced { (steps : ℕ) × IsFreshTrace (plan_view plan.now) steps trace.old }
+    requires placed { ArePlaced (kinds_of (⟦<Drivers as SeenAll>⟧.states drivers.old)) sources.items }
+    requires idle { All IsIdle (⟦<Drivers as SeenAll>⟧.states drivers.old) }
+    requires fetch { 0 < how.settings.fetch }
+    requires block { 0 < how.settings.block }
+    ensures does { (files : FilesState) → DoneMeaning sources.items (is_marked scoped.now) how.first
+        (decls_of scoped.now.program.defs) (view scoped.now.program.last) (ending result)
+        (outside_of files (⟦<Drivers as SeenAll>⟧.states drivers.old) (S.state out.old))
+        (outside_of files (⟦<Drivers as SeenAll>⟧.states drivers.new) (S.state out.new)) }
+    ensures late { IsEarly (ending result) → ⊥ }
+    ensures asks { AsksCounted (plan_view plan.now) trace.new.starts (⟦<Drivers as SeenAll>⟧.states drivers.old)
+        (⟦<Drivers as SeenAll>⟧.states drivers.new) }
+    ensures shows { (es : List Event) × Shows how.settings.block (plan_view plan.now) es trace.new }
+    ensures steps { trace.new.steps ≡ trace.old.steps }
     ensures counts { CountsPlan how sources.items (is_marked scoped.now)
         (GivesList (grounds_of sources.items) (decls_of scoped.now.program.defs) (view scoped.now.program.last))
         (course_of (ending result) trace.new (⟦<Drivers as SeenAll>⟧.states drivers.old) (⟦<Drivers as SeenAll>⟧.states drivers.new)
@@ -309,13 +366,15 @@ fn answer_over<S: Sink>(
     let is_list = gives_list(typed);
     match attach_sources(alloc, sources, scoped, drivers) {
         Ok(attached) => {
-            let mut session = Session {
+            let session = Session {
                 drivers: mem::replace(drivers, Vec::new(alloc)),
                 sources: attached,
                 settings: how.settings,
                 trace: mem::replace(trace, Trace::new(alloc)),
             };
-            let result = answer_plan(alloc, plan, is_list, how.first, &mut session, out);
+            let mut run = run_of(session, memo, plan);
+            let result = answer_plan(alloc, plan, is_list, how.first, &mut run, out);
+            let Run { session, .. } = run;
             let Session {
                 drivers: back,
                 trace: counted,
@@ -344,35 +403,35 @@ pub fn rewritten(alloc: Global, term: Term, on: bool) -> Result<Normal, NoMemory
 }
 
 // Prints what a plan comes to.
-fn answer_plan<S: Sink>(
+fn answer_plan<'p, S: Sink>(
     alloc: Global,
     plan: &Plan,
     is_list: bool,
     first: Option<u32>,
-    session: &mut Session,
+    run: &mut Run<'p>,
     out: &mut S,
 ) -> Result<(), Fault>
-    requires sense { HasWorth (⟦<Session as Seen>⟧.world session.old) (plan_view plan.now) [] }
-    requires list { is_list ≡ true → HasList (⟦<Session as Seen>⟧.world session.old) (plan_view plan.now) }
+    requires sense { HasWorth (⟦<Run<'p> as Seen>⟧.world run.old) (plan_view plan.now) [] }
+    requires list { is_list ≡ true → HasList (⟦<Run<'p> as Seen>⟧.world run.old) (plan_view plan.now) }
     ensures prints { (files : FilesState) (ks : List DriverKind) (ss : List Source) (marks : ℕ → Bool) (t : Tree)
-        → Runs ks ss marks t (plan_view plan.now) (⟦<Session as Seen>⟧.world session.old)
-        → (is_list ≡ true → IsListTerm (types_of (⟦<Session as Seen>⟧.world session.old)) t) → AnswersTerm (is_list ≡ true)
-        (IsTermOutcome is_list first (core (values_of (⟦<Session as Seen>⟧.world session.old)) t []))
-        (HaveSources (types_of (⟦<Session as Seen>⟧.world session.old)) (values_of (⟦<Session as Seen>⟧.world session.old))) (ending result)
-        (plan_over (⟦<Session as Seen>⟧.world session.old) (plan_view plan.now))
-        (outside_of files (⟦<Session as Seen>⟧.world session.old).drivers (S.state out.old))
-        (outside_of files (⟦<Session as Seen>⟧.world session.new).drivers (S.state out.new)) }
-    ensures scanned { Scanned (plan_view plan.now) (ending result) first (⟦<Session as Seen>⟧.world session.old)
-        (⟦<Session as Seen>⟧.world session.new) }
-    ensures spares { is_list ≡ true → SparesRows (plan_view plan.now) (ending result) first (⟦<Session as Seen>⟧.world session.old)
-        (⟦<Session as Seen>⟧.world session.new) (S.state out.old) (S.state out.new) }
+        → Runs ks ss marks t (plan_view plan.now) (⟦<Run<'p> as Seen>⟧.world run.old)
+        → (is_list ≡ true → IsListTerm (types_of (session (⟦<Run<'p> as Seen>⟧.world run.old))) t) → AnswersTerm (is_list ≡ true)
+        (IsTermOutcome is_list first (core (values_of (session (⟦<Run<'p> as Seen>⟧.world run.old))) t []))
+        (HaveSources (types_of (session (⟦<Run<'p> as Seen>⟧.world run.old))) (values_of (session (⟦<Run<'p> as Seen>⟧.world run.old))))
+        (ending result) (plan_over (session (⟦<Run<'p> as Seen>⟧.world run.old)) (plan_view plan.now))
+        (outside_of files (⟦<Run<'p> as Seen>⟧.world run.old).drivers (S.state out.old))
+        (outside_of files (⟦<Run<'p> as Seen>⟧.world run.new).drivers (S.state out.new)) }
+    ensures scanned { Scanned (plan_view plan.now) (ending result) first (⟦<Run<'p> as Seen>⟧.world run.old)
+        (⟦<Run<'p> as Seen>⟧.world run.new) }
+    ensures spares { is_list ≡ true → SparesRows (plan_view plan.now) (ending result) first (⟦<Run<'p> as Seen>⟧.world run.old)
+        (⟦<Run<'p> as Seen>⟧.world run.new) (S.state out.old) (S.state out.new) }
     ensures none { is_list ≡ true → first ≡ Some 0
-        → ⟦<Session as Seen>⟧.world session.new ≡ ⟦<Session as Seen>⟧.world session.old }
+        → ⟦<Run<'p> as Seen>⟧.world run.new ≡ ⟦<Run<'p> as Seen>⟧.world run.old }
 {
     if is_list {
-        print_list(alloc, plan, first, session, out)
+        print_list(alloc, plan, first, run, out)
     } else {
-        answer_value(alloc, plan, first, session, out)
+        answer_value(alloc, plan, first, run, out)
     }
 }
 
@@ -406,26 +465,26 @@ fn gives_list(typed: &Typed) -> bool
 }
 
 // Prints a value that is no list.
-fn answer_value<S: Sink>(
+fn answer_value<'p, S: Sink>(
     alloc: Global,
     plan: &Plan,
     first: Option<u32>,
-    session: &mut Session,
+    run: &mut Run<'p>,
     out: &mut S,
 ) -> Result<(), Fault>
-    requires { HasWorth (⟦<Session as Seen>⟧.world session.old) (plan_view plan.now) [] }
+    requires { HasWorth (⟦<Run<'p> as Seen>⟧.world run.old) (plan_view plan.now) [] }
     ensures prints { (files : FilesState) (ks : List DriverKind) (ss : List Source) (marks : ℕ → Bool) (t : Tree)
-        → Runs ks ss marks t (plan_view plan.now) (⟦<Session as Seen>⟧.world session.old) → AnswersTerm ⊥
-        (IsValueOutcome first (core (values_of (⟦<Session as Seen>⟧.world session.old)) t []))
-        (HaveSources (types_of (⟦<Session as Seen>⟧.world session.old)) (values_of (⟦<Session as Seen>⟧.world session.old))) (ending result)
-        (plan_over (⟦<Session as Seen>⟧.world session.old) (plan_view plan.now))
-        (outside_of files (⟦<Session as Seen>⟧.world session.old).drivers (S.state out.old))
-        (outside_of files (⟦<Session as Seen>⟧.world session.new).drivers (S.state out.new)) }
-    ensures scanned { Scanned (plan_view plan.now) (ending result) first (⟦<Session as Seen>⟧.world session.old)
-        (⟦<Session as Seen>⟧.world session.new) }
+        → Runs ks ss marks t (plan_view plan.now) (⟦<Run<'p> as Seen>⟧.world run.old) → AnswersTerm ⊥
+        (IsValueOutcome first (core (values_of (session (⟦<Run<'p> as Seen>⟧.world run.old))) t []))
+        (HaveSources (types_of (session (⟦<Run<'p> as Seen>⟧.world run.old))) (values_of (session (⟦<Run<'p> as Seen>⟧.world run.old))))
+        (ending result) (plan_over (session (⟦<Run<'p> as Seen>⟧.world run.old)) (plan_view plan.now))
+        (outside_of files (⟦<Run<'p> as Seen>⟧.world run.old).drivers (S.state out.old))
+        (outside_of files (⟦<Run<'p> as Seen>⟧.world run.new).drivers (S.state out.new)) }
+    ensures scanned { Scanned (plan_view plan.now) (ending result) first (⟦<Run<'p> as Seen>⟧.world run.old)
+        (⟦<Run<'p> as Seen>⟧.world run.new) }
 {
     let mut env = Vec::new(alloc);
-    match value_of(alloc, plan, &mut env, session) {
+    match value_of(alloc, plan, &mut env, run) {
         Ok(value) => print_value(&cut(value, first), out),
         Err(EvalStop::Overflow) => Err(Fault::Overflow),
         Err(EvalStop::Driver { source, error }) => Err(driver_fault(source, error)),

@@ -6,8 +6,8 @@ ghost use Rattle.kl_engine.specs.Answering.{Does, IsIdle, IsRunning};
 ghost use Rattle.kl_engine.specs.Commands.{Files as FromFiles, Made, NamesNoFile, Program, asked, path_of, wants_stats};
 ghost use Rattle.kl_engine.specs.Faults.{TookLine, ending, status_of};
 ghost use Rattle.kl_engine.specs.Outside.{outside_of};
-ghost use Rattle.kl_engine.specs.Planned.{AsksOf, CountsScansAlone, Explains, ExplainsPlan, HasPlan, IsUnrun, course_of, how_in, how_of, plan_in};
-ghost use Rattle.kl_engine.specs.Planned.{usual_how};
+ghost use Rattle.kl_engine.specs.Planned.{AsksOf, Explains, ExplainsPlan, HasPlan, IsShown, IsUndone, IsUnrun};
+ghost use Rattle.kl_engine.specs.Planned.{course_of, how_in, how_of, plan_in, usual_how};
 ghost use Rattle.kl_sources.specs.Sources.{kinds_of};
 ghost use Rattle.kl_engine.specs.Stats.{handed_in, told_text};
 ghost use Rattle.kl_engine.specs.declared.top.Purpose.TheVariants.{Run, Explain, Check, Types};
@@ -46,16 +46,17 @@ pub struct Answer {
     /// The plan by which a program was run, or would have been, had its sources been there, or that was explained. None where a run
     /// or an explanation was refused before, and for every other command.
     pub plan: Option<Plan>,
-    /// What was counted while the program ran: the steps in which its term was rewritten, none with `--no-rewrite`, and how often
-    /// each scan of its plan was started. Each other count is 0.
+    /// What was counted while the program ran: the steps in which its term was rewritten, none with `--no-rewrite`; how often each
+    /// scan of its plan was started; the executions of joins that ended, with the most rows that a block of one held; and how
+    /// many look-ups of subqueries found a value and how many did not.
     pub trace: Trace,
 }
 
 /// Does what the words say, which are those of the command line without the program's name: `run`, `explain`, `types`,
 /// `check` and `show`, with the options that `kl_words` reads. `run PROGRAM [CATALOGUE]` prints on `out` the value that the
 /// program at the path means over the sources of the catalogue, and a newline. `explain` prints what the plan by which it
-/// would be run asks of the drivers, as `kl_tools` says; it attaches and reads no source. `types` prints the principal scheme of each of its
-/// declarations, a line each. `check` prints `ok` and a newline where the file is a program in scope. `show FILE` prints
+/// would be run asks of the drivers, as `kl_tools` says; it attaches and reads no source. `types` prints the principal scheme of
+/// each of its declarations, a line each. `check` prints `ok` and a newline where the file is a program in scope. `show FILE` prints
 /// the canonical text of each item of the exchange text at the path, each with a newline, as it is read.
 ///
 /// The refusals come in this order: words, before anything is opened; the program's file, missing or failing, and its
@@ -81,7 +82,8 @@ pub struct Answer {
 /// a source is waited for. With `--first N` no more items are drawn, and to a loop over one source its driver hands fewer rows
 /// than are fetched at once more than these items take; so it does where `out` fails, of the items of which the last is not whole
 /// on it. With `--first 0` no row is handed for a list, however the run ends. The answer tells the plan, in how many steps the term
-/// was rewritten, and how often each scan of the plan was started.
+/// was rewritten, how often each scan of the plan was started, how its joins were executed, and how often the values of its
+/// subqueries were found.
 ///
 /// The drivers are handed in with no source attached and no cursor open. They are left with no cursor open; the sources that
 /// a run attached stay attached. A run that is refused before it has a plan leaves them as they were, and prints nothing. No file is
@@ -113,7 +115,7 @@ pub fn kleisli<F: Files, S: Sink, E: Sink>(
         (F.state files.old) (F.state files.new) }
     ensures asks { AsksOf (plan_in result.plan) result.trace.starts (⟦<Drivers as SeenAll>⟧.states drivers.old)
         (⟦<Drivers as SeenAll>⟧.states drivers.new) }
-    ensures trace { CountsScansAlone (plan_in result.plan) result.trace }
+    ensures trace { IsShown (how_of (command_of (map (λ w. string_bytes w) words.now))).settings.block (plan_in result.plan) result.trace }
     ensures silent { IsRunning (asked (command_of (map (λ w. string_bytes w) words.now))) → plan_in result.plan ≡ None
         → S.state out.new ≡ S.state out.old }
     ensures explains { Explains (asked (command_of (map (λ w. string_bytes w) words.now)))
@@ -225,6 +227,7 @@ fn do_run<F: Files, S: Sink>(
     requires idle { All IsIdle (⟦<Drivers as SeenAll>⟧.states drivers.old) }
     requires few { length drivers.old.items < 2 ^ 32 }
     requires fetch { 0 < job.now.settings.fetch }
+    requires block { 0 < job.now.settings.block }
     requires unrun { IsUnrun ran.old }
     ensures does { Does (Program (Run job.now.first) (FromFiles job.now.program job.now.catalogue)) (ending result)
         (outside_of (F.state files.old) (⟦<Drivers as SeenAll>⟧.states drivers.old) (S.state out.old))
@@ -235,7 +238,7 @@ fn do_run<F: Files, S: Sink>(
         (F.state files.old) (F.state files.new) }
     ensures asks { AsksOf (plan_in ran.new.plan) ran.new.trace.starts (⟦<Drivers as SeenAll>⟧.states drivers.old)
         (⟦<Drivers as SeenAll>⟧.states drivers.new) }
-    ensures alone { CountsScansAlone (plan_in ran.new.plan) ran.new.trace }
+    ensures shows { IsShown job.now.settings.block (plan_in ran.new.plan) ran.new.trace }
     ensures silent { plan_in ran.new.plan ≡ None → S.state out.new ≡ S.state out.old }
 {
     match read_inputs(alloc, &job.program, &job.catalogue, drivers, files) {
@@ -279,7 +282,7 @@ fn do_gen<S: Sink>(
         files files }
     ensures asks { AsksOf (plan_in ran.new.plan) ran.new.trace.starts (⟦<Drivers as SeenAll>⟧.states drivers.old)
         (⟦<Drivers as SeenAll>⟧.states drivers.new) }
-    ensures alone { CountsScansAlone (plan_in ran.new.plan) ran.new.trace }
+    ensures shows { IsShown usual_how.settings.block (plan_in ran.new.plan) ran.new.trace }
     ensures silent { plan_in ran.new.plan ≡ None → S.state out.new ≡ S.state out.old }
 {
     match made_inputs(alloc, seed, size, drivers) {
@@ -323,7 +326,7 @@ fn do_explain<F: Files, S: Sink>(
         (S.state out.old) (S.state out.new) }
     ensures asks { AsksOf (plan_in ran.new.plan) ran.new.trace.starts (⟦<Drivers as SeenAll>⟧.states drivers.now)
         (⟦<Drivers as SeenAll>⟧.states drivers.now) }
-    ensures alone { CountsScansAlone (plan_in ran.new.plan) ran.new.trace }
+    ensures shows { IsUndone job.now.settings.block (plan_in ran.new.plan) ran.new.trace }
 {
     match read_inputs(alloc, &job.program, &job.catalogue, drivers, files) {
         Ok(inputs) => explain(

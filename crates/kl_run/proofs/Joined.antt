@@ -1,10 +1,8 @@
 -- What statements mean over tables whose rows are records, and of which type that is.
-use Rattle.std.proofs.Common.{◌≡◌, ℕ, zero, suc, Bool, true, false, not, ◌&&◌, cond, List, [], ◌∷◌, map, filter, Option, Some, None, IsSome, is_some, slice_get, refl, sym, ap, ◌∙◌, subst}
-use Rattle.std.specs.List.{AllByRecursion, flat_map, list_all}
-use Rattle.std.specs.Ordering.{eq_by_cmp}
+use Rattle.std.proofs.Common.{◌≡◌, ℕ, zero, suc, Bool, true, false, ◌&&◌, cond, List, [], ◌∷◌, map, filter, Option, Some, None, IsSome, is_some, slice_get, refl, sym, ap, ◌∙◌, subst}
+use Rattle.std.specs.List.{AllByRecursion, list_all}
 use Rattle.std.proofs.Math.Path.{fun_ext}
-use Rattle.kl_base.proofs.Each.{all_map, all_append}
-use Rattle.kl_value.specs.Order.{compare}
+use Rattle.kl_base.proofs.Each.{all_map}
 use Rattle.kl_value.specs.declared.Value.{Value}
 use Rattle.kl_type.specs.Ground.{Ground, Row, rec, row_by, ground_of}
 use Rattle.kl_outcome.specs.Outcome.{Name}
@@ -12,12 +10,11 @@ use Rattle.kl_outcome.specs.Typed.{Inhabits}
 use Rattle.kl_ask.specs.Asks.{column, item_of}
 use Rattle.kl_ask.specs.Driver.{Source, row_type}
 use Rattle.kl_ask.specs.Statements.{RowTypes, type_of_table, column_in, cell_type, SqlSideFits, SqlTestFits, SqlFits, sql_type}
-use Rattle.kl_sqltext.specs.Meaning.{Tuple, tuples, tuple_passes, shown_columns, shown_tuple, without_repeats, selected, spj}
+use Rattle.kl_sqltext.specs.Meaning.{tuples, tuple_passes, shown_columns, shown_tuple, without_repeats, selected, spj}
 use Rattle.kl_sqltext.specs.Grammar.{SqlColumn}
 use Rattle.kl_sqltext.specs.declared.ast.Spj.{Spj}
 use Rattle.kl_sqltext.specs.declared.ast.SqlRight.{SqlRight}
 use Rattle.kl_sqltext.specs.declared.ast.SqlRight.TheVariants as right
-use Rattle.kl_sqltext.specs.declared.ast.SqlTest.{SqlTest}
 use Rattle.kl_ship.proofs.Filtered.{all_filtered}
 use Rattle.kl_ship.proofs.Stated.{column_type, TupleOf, shown_inhabits}
 use Rattle.kl_ship.proofs.Stating.{all_without, all_shown, all_tuples}

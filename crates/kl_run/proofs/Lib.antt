@@ -11,3 +11,5 @@ pub mod Quiet
 pub mod Traces
 pub mod Shipped
 pub mod Logs
+pub mod Kept
+pub mod Known

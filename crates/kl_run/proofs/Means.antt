@@ -1,5 +1,5 @@
 -- A plan makes sense and means what a term means that was rewritten into the one from which it is made.
-use Rattle.std.proofs.Common.{◌≡◌, Bool, ℕ, zero, suc, List, [], ◌∷◌, map, slice_get, refl, ap, ◌∙◌, subst}
+use Rattle.std.proofs.Common.{◌≡◌, ℕ, zero, suc, List, [], ◌∷◌, map, slice_get, refl, ap, ◌∙◌, subst}
 use Rattle.std.proofs.Math.Path.{fun_ext}
 use Rattle.kl_value.specs.declared.Kind.TheVariants as kind
 use Rattle.kl_type.specs.Ground.{Ground, coll}
@@ -8,22 +8,23 @@ use Rattle.kl_core.specs.Trees.{Tree}
 use Rattle.kl_core.specs.Typing.{SourceTypes, CoreTypes}
 use Rattle.kl_rules.specs.Preserving.{Preserves}
 use Rattle.kl_ask.specs.Driver.{DriverKind}
+use Rattle.kl_ask.specs.declared.settings.Settings.{Settings}
 use Rattle.kl_ship.specs.Contents.{types_in, AreSources, MakesSense}
-use Rattle.kl_ship.specs.Nodes.{Node}
-use Rattle.kl_ship.specs.declared.needs.Need.TheVariants as need
+use Rattle.kl_plan.specs.Nodes.{Node}
 use Rattle.kl_ship.specs.declared.source.ShipSource.{ShipSource}
-use Rattle.kl_ship.proofs.Law.{told, law, law_coming}
+use Rattle.kl_ship.proofs.Law.{told}
+use Rattle.kl_ship.proofs.Whole.{shipped_worth, shipped_list}
 use Rattle.kl_sources.specs.Sources.{grounds_of}
 use Rattle.kl_sources.specs.declared.source.Source.{Source}
 use Rattle.kl_run.specs.Planned.{IsPlanOf, MeansTerm, ships_of}
 
-pub means_term : {on : Bool} (ss : List ShipSource) (t u : Tree) (p : Node) → AreSources ss → IsPlanOf on ss u p → Preserves t u → MeansTerm ss t p
+pub means_term : {how : Settings} (ss : List ShipSource) (t u : Tree) (p : Node) → AreSources ss → IsPlanOf how ss u p → Preserves t u → MeansTerm ss t p
 means_term ss t u p fit of keeps = record {
-  value = λ R T s holds c.
-      (law ss R T fit holds p _ need.Items u 0 of.ships.0 [] [] s tt (keeps.typed (types_in ss) [] s c) of.ships.1).0
+  value = λ R T s holds reads c.
+      shipped_worth _ ss u p of.ships fit R T holds reads s (keeps.typed (types_in ss) [] s c)
       ∙ keeps.means (types_in ss) T [] [] s (told ss R T fit holds) tt c;
-  list = λ R T s holds c.
-      law_coming ss R T fit holds _ u p kind.List s (keeps.typed (types_in ss) [] (coll kind.List s) c) of.ships
+  list = λ R T s holds reads c.
+      shipped_list _ ss u p of.ships fit R T holds reads s (keeps.typed (types_in ss) [] (coll kind.List s) c)
       ∙ ap items_of (keeps.means (types_in ss) T [] [] (coll kind.List s) (told ss R T fit holds) tt c);
 }
 

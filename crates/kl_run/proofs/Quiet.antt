@@ -3,16 +3,17 @@ use Rattle.std.proofs.Common.{◌≡◌, ℕ, ◌+◌, Option, Some, None, refl,
 use Rattle.std.proofs.Math.Path.{fun_ext}
 use Rattle.kl_ask.specs.Driver.{Cursor}
 use Rattle.kl_ask.specs.Lists.{EachSteps}
-use Rattle.kl_ask.specs.World.{World, Quiet}
+use Rattle.kl_ask.specs.World.{Quiet}
 use Rattle.kl_scans.specs.Held.{nothing, cursor_at, count_open, open_at}
 use Rattle.kl_scans.specs.Moves.{Moves}
+use Rattle.kl_scans.specs.Running.{Running}
 use Rattle.kl_scans.proofs.Stepped.{cursor_here}
 
 closed : (o : Option Cursor) → count_open o ≡ 0 → o ≡ None
 closed None e = refl
 closed (Some c) e = absurd (omega (arith, e))
 
-module _ (a b : World) (m : Moves nothing nothing a b) where
+module _ (a b : Running) (m : Moves nothing nothing a b) where
   same_cursor : (d k : ℕ) → cursor_at b d k ≡ cursor_at a d k
   same_cursor d k = by (cursor_at a d k) refl
     where

@@ -7,7 +7,7 @@ pub raised_new : (n : ℕ) → raised n 0 ≡ min n (2 ^ 64 - 1)
 raised_new zero = refl
 raised_new (suc n) = omega arith
 
-raised_first : (n count : ℕ) → raised n (raised_by 1 count) ≡ raised (suc n) count
+pub raised_first : (n count : ℕ) → raised n (raised_by 1 count) ≡ raised (suc n) count
 raised_first zero count = refl
 raised_first (suc n) count = omega arith
 

@@ -10,14 +10,16 @@ use Rattle.kl_outcome.specs.Outcome.{Name}
 use Rattle.kl_ask.specs.Asks.{kind_of, answers}
 use Rattle.kl_ask.specs.Driver.{DriverKind, State, Source as Held, Stored, Missing, Bad, Long, Deep, Rows, Suits, told_rows}
 use Rattle.kl_ask.specs.Lists.{EachSteps}
-use Rattle.kl_ask.specs.World.{World, at_driver, at_source, value_of_rows, value_in, values_of}
+use Rattle.kl_ask.specs.World.{at_driver, at_source, value_of_rows, value_in, values_of}
 use Rattle.kl_ask.specs.declared.ask.ColTest.{ColTest}
 use Rattle.kl_ask.specs.declared.ask.Ask.TheVariants as asks
 use Rattle.kl_ask.specs.declared.session.Attached.{Attached}
 use Rattle.kl_ask.specs.declared.settings.Settings.{Settings}
 use Rattle.kl_ask.specs.declared.settings.Trace.{Trace}
 use Rattle.kl_ask.proofs.Worlds.{there}
-use Rattle.kl_ship.specs.declared.plan.Scan.{Scan}
+use Rattle.kl_plan.specs.Nodes.{Node}
+use Rattle.kl_plan.specs.declared.plan.Scan.{Scan}
+use Rattle.kl_scans.specs.Running.{Running, session}
 use Rattle.kl_scans.specs.Stage.{stage, attached_by, joined_by, rows_there, answered_by, rows_asked, read_in}
 use Rattle.kl_cursor.specs.Left.{reading}
 use Rattle.kl_sources.specs.Attaching.{HaveNone, MayAttach, IsMarkedName, Stands, list_of, listed, world_of}
@@ -28,6 +30,7 @@ use Rattle.kl_sources.proofs.NameLemmas.{one_of_name, same_here}
 use Rattle.kl_sources.proofs.SessionLemmas.{shifts}
 use Rattle.kl_run.specs.Counted.{IsToldTable, ReadsMarked}
 use Rattle.kl_run.specs.Planned.{abilities_in, ship_source}
+use Rattle.kl_run.specs.Running.{fresh_run}
 use Rattle.kl_run.proofs.Joined.{HasRows, joined_reads}
 use Rattle.kl_run.proofs.Told.{held_there}
 use Rattle.kl_base.proofs.Each.{all_map}
@@ -121,9 +124,9 @@ module _ (ds mid : List State) (ss : List Source) (marks : ℕ → Bool) (placed
           let no : true ≡ false = sym on ∙ off in
           cc
 
-  module _ (stand : (i : ℕ) (s : Source) → slice_get ss i ≡ Some s → marks i ≡ true → Stands (kinds_of ds) mid s) (settings : Settings) (trace : Trace) where
-    abbrev w : World
-    w = world_of mid (list_of marks 0 ss) settings trace
+  module _ (stand : (i : ℕ) (s : Source) → slice_get ss i ≡ Some s → marks i ≡ true → Stands (kinds_of ds) mid s) (settings : Settings) (trace : Trace) (plan : Node) where
+    abbrev w : Running
+    w = fresh_run plan (world_of mid (list_of marks 0 ss) settings trace)
 
     pub entry_of : (i : ℕ) (s : Source) → slice_get ss i ≡ Some s → slice_get w.sources i ≡ Some (listed (marks i) s)
     entry_of i s at = entry_as marks 0 ss i ∙ ap (option_map (listed (marks (0 + i)))) at ∙ ap (λ k. Some (listed (marks k) s)) (zero-add i)
@@ -204,14 +207,14 @@ module _ (ds mid : List State) (ss : List Source) (marks : ℕ → Bool) (placed
 
     -- ---- values
 
-    value_at : (i : ℕ) (s : Source) (b : Bool) (a : Held) → slice_get ss i ≡ Some s → marks i ≡ b → at_source (Some (listed b s)) mid ≡ Some a → values_of w i ≡ value_of_rows (ground_of a.ty) a.rows
+    value_at : (i : ℕ) (s : Source) (b : Bool) (a : Held) → slice_get ss i ≡ Some s → marks i ≡ b → at_source (Some (listed b s)) mid ≡ Some a → values_of (session w) i ≡ value_of_rows (ground_of a.ty) a.rows
     unfolding values_of
     value_at i s b a at is here = ap (λ o. value_in (at_source o mid)) (entry_of i s at ∙ ap (λ m. Some (listed m s)) is) ∙ ap value_in here
 
-    pub value_marked : (i : ℕ) (s : Source) → slice_get ss i ≡ Some s → marks i ≡ true → values_of w i ≡ value_of_rows (ground_of s.ty) (told_rows (contents (kinds_of ds) s))
+    pub value_marked : (i : ℕ) (s : Source) → slice_get ss i ≡ Some s → marks i ≡ true → values_of (session w) i ≡ value_of_rows (ground_of s.ty) (told_rows (contents (kinds_of ds) s))
     value_marked i s at on =
         let st = stand i s at on in
         value_at i s true (record { ty = s.ty; rows = told_rows (contents (kinds_of ds) s); count = st.count; kept = st.kept }) at on (ap (at_driver (listed true s)) st.there ∙ st.attached)
 
-    pub value_unmarked : (i : ℕ) (s : Source) → slice_get ss i ≡ Some s → marks i ≡ false → values_of w i ≡ Some (canonical (kind_of (ground_of s.ty)) [])
+    pub value_unmarked : (i : ℕ) (s : Source) → slice_get ss i ≡ Some s → marks i ≡ false → values_of (session w) i ≡ Some (canonical (kind_of (ground_of s.ty)) [])
     value_unmarked i s at off = value_at i s false (record { ty = s.ty; rows = Some []; count = 0; kept = None }) at off refl

@@ -1,13 +1,20 @@
 -- Sums over the scans of a plan.
-use Rattle.std.proofs.Common.{◌≡◌, ◌≢◌, ⊎_elim, ℕ, ◌+◌, ◌-◌, ◌^◌, Bool, true, false, List, [], ◌∷◌, map, min, cond, nat_eq, refl, sym, ap, ◌∙◌, subst, arith}
+use Rattle.std.proofs.Common.{◌≡◌, ⊎_elim, ℕ, ◌+◌, ◌-◌, ◌^◌, Bool, true, false, List, [], ◌∷◌, map, min, cond, nat_eq, refl, sym, subst, arith}
 use Rattle.std.specs.List.{AllByRecursion, IsDistinct, Contains, sum_by}
 use Rattle.std.proofs.lemmas.List.Elements.{Contains-append_cases, Contains-append_left, Contains-append_right, Contains-push, Contains-push_cases}
 use Rattle.std.proofs.lemmas.List.Sums.{sum_by-cons}
-use Rattle.kl_ship.specs.declared.plan.Scan.{Scan}
-use Rattle.kl_scans.specs.Log.{Event, started, handed, scan_in, paid}
-use Rattle.kl_scans.proofs.Counted.{eq_self, eq_other}
-use Rattle.kl_ship.proofs.Numbering.{numbers}
-use Rattle.kl_run.specs.Counted.{at_number}
+use Rattle.kl_plan.specs.declared.plan.Scan.{Scan}
+use Rattle.kl_plan.specs.Holding.{Listing}
+use Rattle.kl_scans.specs.Log.{Event, started, handed, joined, missed, hit, IsOf}
+use Rattle.kl_scans.proofs.Counted.{eq_self}
+use Rattle.kl_counts.specs.Log.{times_in}
+use Rattle.kl_counts.proofs.Differing.{other_back}
+
+abbrev pub numbers : List Scan → List ℕ
+numbers = map (λ c. c.number)
+
+abbrev at_number : ℕ → Scan → ℕ
+at_number n c = cond (nat_eq c.number n) 1 0
 
 pub not_in_none : (c : Scan) → Contains [] c → ⊥
 not_in_none c i = let below = i.1 in omega arith
@@ -76,9 +83,6 @@ cond_none false = refl
 cond_off : (b x : Bool) → x ≡ false → ◌≡◌ {A = ℕ} (cond b (cond x 1 0) 0) 0
 cond_off b x e = rw e (cond_none b)
 
-turned : (m n : ℕ) → nat_eq m n ≡ false → nat_eq n m ≡ false
-turned m n off = eq_other n m (λ e. let f : nat_eq m n ≡ true = subst (λ x. nat_eq x n ≡ true) e (eq_self n) in let g : true ≡ false = sym f ∙ off in cc)
-
 abbrev of_one : (Scan → Bool) → Scan → Scan → ℕ
 of_one P c d = cond (P d) (at_number d.number c) 0
 
@@ -96,7 +100,7 @@ one_of P (d ∷ cs) c apart i =
     let rest : sum_by (of_one P c) cs ≡ 0 = sum_none (of_one P c) cs (λ x there. cond_off (P x) (nat_eq c.number x.number) (subst (λ y. nat_eq y.number x.number ≡ false) same (number_in (λ y. nat_eq d.number y ≡ false) cs x apart_first there))) in
     omega (arith, e, first, rest))
     (λ there.
-    let first : of_one P c d ≡ 0 = cond_off (P d) (nat_eq c.number d.number) (turned d.number c.number (number_in (λ y. nat_eq d.number y ≡ false) cs c apart_first there)) in
+    let first : of_one P c d ≡ 0 = cond_off (P d) (nat_eq c.number d.number) (other_back d.number c.number (number_in (λ y. nat_eq d.number y ≡ false) cs c apart_first there)) in
     let rest : sum_by (of_one P c) cs ≡ cond (P c) 1 0 = one_of P cs c apart_rest there in
     omega (arith, e, first, rest))
 
@@ -104,14 +108,26 @@ cond_both : (b : Bool) (m n : ℕ) → cond b (m + n) 0 ≡ cond b m 0 + cond b 
 cond_both true m n = refl
 cond_both false m n = refl
 
--- what is paid for starts is paid for each scan as often as it was started
-pub paid_each : (P : Scan → Bool) (cs : List Scan) → IsDistinct nat_eq (numbers cs) → (es : List Event) → AllByRecursion (λ e. Contains cs (scan_in e)) es
-    → paid (λ c. cond (P c) 1 0) es ≡ sum_by (λ c. cond (P c) (paid (at_number c.number) es) 0) cs
-paid_each P cs apart [] of = sym (sum_none (λ c. cond (P c) 0 0) cs (λ c i. cond_none (P c)))
-paid_each P cs apart (started c ∷ es) of =
-    let first : sum_by (of_one P c) cs ≡ cond (P c) 1 0 = one_of P cs c apart of.0 in
-    let rest : paid (λ c. cond (P c) 1 0) es ≡ sum_by (λ c. cond (P c) (paid (at_number c.number) es) 0) cs = paid_each P cs apart es of.1 in
-    let all : sum_by (λ d. cond (P d) (at_number d.number c + paid (at_number d.number) es) 0) cs ≡ sum_by (of_one P c) cs + sum_by (λ c. cond (P c) (paid (at_number c.number) es) 0) cs =
-    sum_both (of_one P c) (λ d. cond (P d) (paid (at_number d.number) es) 0) (λ d. cond (P d) (at_number d.number c + paid (at_number d.number) es) 0) cs (λ d. cond_both (P d) (at_number d.number c) (paid (at_number d.number) es)) in
-    omega (arith, first, rest, all)
-paid_each P cs apart (handed c n ∷ es) of = paid_each P cs apart es of.1
+-- how many starts of such scans stand in a log
+abbrev pub starts_in : (Scan → Bool) → List Event → ℕ
+starts_in P [] = 0
+starts_in P (started c ∷ es) = cond (P c) 1 0 + starts_in P es
+starts_in P (handed c n ∷ es) = starts_in P es
+starts_in P (joined n way outer starts ∷ es) = starts_in P es
+starts_in P (missed k v ∷ es) = starts_in P es
+starts_in P (hit n frees q env ∷ es) = starts_in P es
+
+-- these are the starts of each of them
+pub starts_each : (P : Scan → Bool) (all : Listing) → IsDistinct nat_eq (numbers all.scans) → (es : List Event) → AllByRecursion (IsOf all) es
+    → starts_in P es ≡ sum_by (λ c. cond (P c) (times_in c.number es) 0) all.scans
+starts_each P all apart [] of = sym (sum_none (λ c. cond (P c) 0 0) all.scans (λ c i. cond_none (P c)))
+starts_each P all apart (started c ∷ es) of =
+    let first : sum_by (of_one P c) all.scans ≡ cond (P c) 1 0 = one_of P all.scans c apart of.0 in
+    let rest : starts_in P es ≡ sum_by (λ c. cond (P c) (times_in c.number es) 0) all.scans = starts_each P all apart es of.1 in
+    let both : sum_by (λ d. cond (P d) (at_number d.number c + times_in d.number es) 0) all.scans ≡ sum_by (of_one P c) all.scans + sum_by (λ c. cond (P c) (times_in c.number es) 0) all.scans =
+    sum_both (of_one P c) (λ d. cond (P d) (times_in d.number es) 0) (λ d. cond (P d) (at_number d.number c + times_in d.number es) 0) all.scans (λ d. cond_both (P d) (at_number d.number c) (times_in d.number es)) in
+    omega (arith, first, rest, both)
+starts_each P all apart (handed c n ∷ es) of = starts_each P all apart es of.1
+starts_each P all apart (joined n way outer starts ∷ es) of = starts_each P all apart es of.1
+starts_each P all apart (missed k v ∷ es) of = starts_each P all apart es of.1
+starts_each P all apart (hit n frees q env ∷ es) of = starts_each P all apart es of.1

@@ -14,7 +14,6 @@ use Rattle.kl_ask.specs.Asks.{item_of, kind_of, columns, passes, shown, answers,
 use Rattle.kl_ask.specs.Driver.{State, Source, row_type, same_value}
 use Rattle.kl_sqltext.specs.Meaning.{spj}
 use Rattle.kl_ask.specs.World.{World, IsReady, at_driver, at_place, at_source, source_at, type_in, types_of, value_of_rows, value_in, values_of}
-use Rattle.kl_ask.specs.declared.ask.Abilities.{Abilities}
 use Rattle.kl_ask.specs.declared.ask.Ask.{Ask}
 use Rattle.kl_ask.specs.declared.ask.Ask.TheVariants as asks
 use Rattle.kl_ask.specs.declared.ask.ColTest.{ColTest}
@@ -22,8 +21,9 @@ use Rattle.kl_ask.specs.declared.session.Attached.{Attached}
 use Rattle.kl_ask.proofs.Equal.{same_names as names_decide}
 use Rattle.kl_ask.proofs.Whole.{whole_row}
 use Rattle.kl_ship.proofs.Filtered.{all_filtered}
-use Rattle.kl_ship.specs.declared.plan.Scan.{Scan}
+use Rattle.kl_plan.specs.declared.plan.Scan.{Scan}
 use Rattle.kl_scans.specs.Held.{Held, held_in, held_at}
+use Rattle.kl_scans.specs.Running.{Running, session}
 use Rattle.kl_scans.specs.Stage.{Stage, stage, StandsAt, table_rows, table_types, joined_by, answered_by, rows_asked, read_by, read_in, AskOf, AsksWholeSet, RepeatsNone, ScanOf}
 use Rattle.kl_scans.proofs.Statements.{reads_statement}
 use Rattle.kl_run.proofs.Joined.{IsTold, spj_typed, spj_told}
@@ -33,7 +33,7 @@ use Rattle.kl_run.proofs.Shown.{answers_typed}
 abbrev pub held_of : State → Held
 held_of s = record { abilities = s.kind.abilities; attached = s.attached }
 
-pub held_there : (w : World) (d : ℕ) (x : State) → slice_get w.drivers d ≡ Some x → (stage w).held d ≡ Some (held_of x)
+pub held_there : (w : Running) (d : ℕ) (x : State) → slice_get w.drivers d ≡ Some x → (stage w).held d ≡ Some (held_of x)
 unfolding stage held_at
 held_there w d x is = ap held_in is
 
@@ -44,11 +44,11 @@ held_is : (o : Option State) (h : Held) → held_in o ≡ Some h → IsHeld o h
 held_is (Some x) h e = (x, refl, sym (same_Some _ _ e))
 held_is None h e = absurd cc
 
-holder : (w : World) (d : ℕ) (h : Held) → (stage w).held d ≡ Some h → IsHeld (slice_get w.drivers d) h
+holder : (w : Running) (d : ℕ) (h : Held) → (stage w).held d ≡ Some h → IsHeld (slice_get w.drivers d) h
 unfolding stage held_at
 holder w d h e = held_is (slice_get w.drivers d) h e
 
-pub listed_in : (w : World) (i : ℕ) → slice_get (stage w).sources i ≡ slice_get w.sources i
+pub listed_in : (w : Running) (i : ℕ) → slice_get (stage w).sources i ≡ slice_get w.sources i
 unfolding stage
 listed_in w i = refl
 
@@ -134,20 +134,20 @@ read_there : (o : Option Held) (h : Held) (ask : Ask) (rows : List Value) → o 
 read_there o h ask rows is read = ap (λ q. read_in q ask) is ∙ read
 
 -- drivers keep what they say of repeats
-abbrev pub KeepApart : World → Type 0
+abbrev pub KeepApart : Running → Type 0
 KeepApart w = (c : Scan) (u : Ground) (f : ScanOf (stage w) c u) (rows : List Value) → f.source.rows ≡ Some rows → f.held.abilities.unique ≡ true → kind_of (ground_of f.source.ty) ≡ kind.Set → IsDistinct same_value rows
 
 -- a driver joins only records
-abbrev pub JoinsRecords : World → Type 0
+abbrev pub JoinsRecords : Running → Type 0
 JoinsRecords w = (driver : ℕ) (h : Held) (l : Name) (a : Source) → (stage w).held driver ≡ Some h → h.abilities.join ≡ true → StandsAt (stage w) driver l → h.attached l ≡ Some a → (r : Row) × (item_of (ground_of a.ty) ≡ rec r)
 
-pub told_at : (w : World) → IsReady w → HaveSources (types_of w) (values_of w) → KeepApart w → JoinsRecords w → IsToldAt w
+pub told_at : (w : Running) → IsReady (session w) → HaveSources (types_of (session w)) (values_of (session w)) → KeepApart w → JoinsRecords w → IsToldAt w
 told_at w ready have apart records c u f =
     let x = holder w c.driver f.held f.holds in
     let at : slice_get w.sources f.place ≡ Some f.entry = sym (listed_in w f.place) ∙ f.listed in
-    let here : source_at w f.place ≡ Some f.source = table_here w c.driver f.place f.entry x.0 f.held f.source at f.driver x.1 x.2 (ap f.held.attached (sym f.named) ∙ f.attached) in
-    let v = have f.place (ground_of f.source.ty) (type_at w f.place f.source here) in
-    let rows = rows_of (ground_of f.source.ty) f.source.rows v.0 (sym (value_at w f.place f.source here) ∙ v.1) in
+    let here : source_at (session w) f.place ≡ Some f.source = table_here (session w) c.driver f.place f.entry x.0 f.held f.source at f.driver x.1 x.2 (ap f.held.attached (sym f.named) ∙ f.attached) in
+    let v = have f.place (ground_of f.source.ty) (type_at (session w) f.place f.source here) in
+    let rows = rows_of (ground_of f.source.ty) f.source.rows v.0 (sym (value_at (session w) f.place f.source here) ∙ v.1) in
     let listed = ready.listed f.place f.entry f.source at here in
     let read = asked_told (stage w) f.held c f.source u rows.0 f.attached rows.1 (listed.typed rows.0 rows.1) (λ join l stands there. table l stands (f.held.attached l) refl there join) c.ask f.ask in
     (read.0, read_there ((stage w).held c.driver) f.held c.ask read.0 f.holds read.1, read.2, none_twice rows.0 rows.1 read.0 read.3)
@@ -158,9 +158,9 @@ told_at w ready have apart records c u f =
         let x = holder w c.driver f.held f.holds in
         let at : slice_get w.sources stands.0 ≡ Some stands.1 = sym (listed_in w stands.0) ∙ stands.2 in
         let attached : f.held.attached stands.1.source ≡ Some a = ap f.held.attached stands.3 ∙ is in
-        let here : source_at w stands.0 ≡ Some a = table_here w c.driver stands.0 stands.1 x.0 f.held a at stands.4 x.1 x.2 attached in
-        let v = have stands.0 (ground_of a.ty) (type_at w stands.0 a here) in
-        let rows = rows_of (ground_of a.ty) a.rows v.0 (sym (value_at w stands.0 a here) ∙ v.1) in
+        let here : source_at (session w) stands.0 ≡ Some a = table_here (session w) c.driver stands.0 stands.1 x.0 f.held a at stands.4 x.1 x.2 attached in
+        let v = have stands.0 (ground_of a.ty) (type_at (session w) stands.0 a here) in
+        let rows = rows_of (ground_of a.ty) a.rows v.0 (sym (value_at (session w) stands.0 a here) ∙ v.1) in
         let listed = ready.listed stands.0 stands.1 a at here in
         let record_is = records c.driver f.held l a f.holds join stands is in
         record {

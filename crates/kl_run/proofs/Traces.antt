@@ -1,16 +1,17 @@
 -- A trace in which nothing is counted of the scans of a plan.
-use Rattle.std.proofs.Common.{◌≡◌, ℕ, zero, suc, ◌+◌, ◌^◌, ◌<◌, ◌≤◌, Bool, List, [], ◌∷◌, ◌++◌, length, map, refl, sym, ap, ◌∙◌, arith}
-use Rattle.std.proofs.lemmas.List.{map-append, length-map}
+use Rattle.std.proofs.Common.{◌≡◌, ℕ, zero, suc, ◌+◌, ◌^◌, ◌<◌, ◌≤◌, List, [], ◌∷◌, ◌++◌, length, map, refl, sym, ap, ◌∙◌, arith}
+use Rattle.std.proofs.lemmas.List.{map-append}
 use Rattle.kl_core.specs.Counts.{nodes_of}
 use Rattle.kl_core.specs.Trees.{Tree}
-use Rattle.kl_ship.specs.Nodes.{Node}
-use Rattle.kl_ship.specs.Numbers.{scans_in}
-use Rattle.kl_ship.specs.declared.needs.Need.TheVariants as need
-use Rattle.kl_ship.specs.declared.plan.Scan.{Scan}
+use Rattle.kl_ask.specs.declared.settings.Settings.{Settings}
+use Rattle.kl_plan.specs.Nodes.{Node}
+use Rattle.kl_plan.specs.Numbers.{scans_in}
+use Rattle.kl_plan.specs.declared.plan.Scan.{Scan}
+use Rattle.kl_joins.specs.Numbered.{from}
 use Rattle.kl_ship.specs.declared.source.ShipSource.{ShipSource}
 use Rattle.kl_ship.proofs.Amounts.{scans_most}
-use Rattle.kl_ship.proofs.Numbering.{from, numbers, numbers_are}
 use Rattle.kl_run.specs.Planned.{IsPlanOf}
+use Rattle.kl_run.proofs.Sums.{numbers}
 
 -- an entry in which nothing is counted yet, of a number and of a scan
 abbrev pub entry : ℕ → ℕ × ℕ
@@ -33,20 +34,13 @@ entries_more count =
     let f : suc count ≡ count + 1 = omega arith in
     sym (map-append entry (from 0 count) (count ∷ [])) ∙ ap (map entry) (ap (λ k. from 0 count ++ k ∷ []) (sym e) ∙ sym (from_one 0 count)) ∙ ap entries f
 
-pub from_length : (n count : ℕ) → length (from n count) ≡ count
-from_length n zero = refl
-from_length n (suc count) = ap suc (from_length (suc n) count)
-
 numbered : (cs : List Scan) → map entry_of cs ≡ map entry (numbers cs)
 numbered [] = refl
 numbered (c ∷ cs) = ap (λ es. entry_of c ∷ es) (numbered cs)
 
-module _ {on : Bool} (ss : List ShipSource) (t : Tree) (p : Node) (of : IsPlanOf on ss t p) where
+module _ {how : Settings} (ss : List ShipSource) (t : Tree) (p : Node) (of : IsPlanOf how ss t p) where
   pub scans_few : nodes_of t ≤ 16384 → length (scans_in p) < 2 ^ 32
-  scans_few small = let most = scans_most ss on t p of.ships in omega (arith, most)
+  scans_few small = let most = scans_most _ ss t p of.ships in omega (arith, most, small)
 
   pub plan_entries : entries (length (scans_in p)) ≡ map entry_of (scans_in p)
-  plan_entries =
-      let are = numbers_are ss on t need.Items 0 p of.ships.0 of.ships.1 in
-      let long : length (scans_in p) ≡ are.0 = sym (length-map (scans_in p) (λ c. c.number)) ∙ ap length are.2 ∙ from_length 0 are.0 in
-      ap entries long ∙ ap (map entry) (sym are.2) ∙ sym (numbered (scans_in p))
+  plan_entries = ap (map entry) (sym of.ships.finishes.numbered.scans) ∙ sym (numbered (scans_in p))

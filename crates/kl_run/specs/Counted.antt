@@ -1,5 +1,5 @@
--- What is counted of the scans of a plan.
-use Rattle.std.specs.Prelude.{◌≡◌, ℕ, zero, suc, ◌-◌, ◌^◌, ◌&&◌, min, Bool, true, List, [], ◌∷◌, map, Option, Some, None, cond}
+-- What a run of a plan shows in its trace.
+use Rattle.std.specs.Prelude.{◌≡◌, ℕ, zero, suc, ◌&&◌, max, Bool, true, List, [], ◌∷◌, length, map, Option, Some, None, cond}
 use Rattle.std.specs.Prelude.{nat_eq, slice_get}
 use Rattle.std.specs.List.{AllByRecursion, Contains, sum_by}
 use Rattle.kl_outcome.specs.Outcome.{Name}
@@ -10,15 +10,19 @@ use Rattle.kl_ask.specs.Driver.{DriverKind, State, Rows}
 use Rattle.kl_ask.specs.declared.ask.Ask.{Ask}
 use Rattle.kl_ask.specs.declared.ask.Ask.TheVariants as asks
 use Rattle.kl_ask.specs.declared.ask.ColTest.{ColTest}
+use Rattle.kl_ask.specs.declared.settings.JoinRun.{JoinRun}
 use Rattle.kl_ask.specs.declared.settings.Trace.{Trace}
 use Rattle.kl_sqltext.specs.Meaning.{spj}
 use Rattle.kl_sqltext.specs.Reading.{SqlReads}
 use Rattle.kl_sqltext.specs.declared.ast.Spj.{Spj}
-use Rattle.kl_ship.specs.Meaning.{Readings}
-use Rattle.kl_ship.specs.Nodes.{Node}
-use Rattle.kl_ship.specs.Numbers.{scans_in}
-use Rattle.kl_ship.specs.Reached.{reached}
-use Rattle.kl_ship.specs.declared.plan.Scan.{Scan}
+use Rattle.kl_plan.specs.Meaning.{Readings}
+use Rattle.kl_plan.specs.Nodes.{Node}
+use Rattle.kl_plan.specs.Numbers.{scans_in}
+use Rattle.kl_plan.specs.Parts.{joins_of}
+use Rattle.kl_plan.specs.Prices.{inner_starts}
+use Rattle.kl_plan.specs.declared.plan.Scan.{Scan}
+use Rattle.kl_scans.specs.Log.{Event, counted, fullest}
+use Rattle.kl_counts.specs.Log.{Entry, entries_in, hits_in, misses_in, times_in}
 use Rattle.kl_sources.specs.Sources.{contents}
 use Rattle.kl_sources.specs.declared.source.Source.{Source}
 
@@ -35,14 +39,43 @@ abbrev pub count_in : Option (ℕ × ℕ) → ℕ
 count_in (Some e) = e.1
 count_in None = 0
 
+-- how often the scan of a number was started
+abbrev pub starts_of : List (ℕ × ℕ) → ℕ → ℕ
+starts_of starts n = count_in (slice_get starts n)
+
+-- ---- what was done, as a trace shows it
+
+-- an execution of a join of a plan, which started its inner scan as often as its outer rows ask for
+abbrev pub IsExecution : ℕ → Node → Entry → Type 0
+IsExecution block p e = Contains (joins_of p) (e.join, e.way) × (e.starts ≡ inner_starts block e.way e.outer)
+
+-- as a trace has it
+abbrev pub as_run : Entry → JoinRun
+as_run e = record { join = e.join; outer = counted e.outer; starts = counted e.starts }
+
+-- the most rows of a block of any of these
+abbrev pub greatest : ℕ → List Entry → ℕ
+greatest block [] = 0
+greatest block (e ∷ es) = max (fullest block e.way e.outer) (greatest block es)
+
+-- A trace shows what was done while a plan was run, whatever it came to: how often each scan was started, the executions of joins
+-- in their order and their greatest block, and how many look-ups found a value and how many did not. A count stands still at its
+-- greatest value.
+pub record Shows (block : ℕ) (p : Node) (es : List Event) (t : Trace) : Type 0 where
+  pub numbers : map (λ e. e.0) t.starts ≡ map (λ c. c.number) (scans_in p)
+  pub starts : (c : Scan) → Contains (scans_in p) c → starts_of t.starts c.number ≡ counted (times_in c.number es)
+  pub executions : AllByRecursion (IsExecution block p) (entries_in es)
+  pub joins : t.joins ≡ map as_run (entries_in es)
+  pub peak : t.peak ≡ greatest block (entries_in es)
+  pub hits : t.hits ≡ counted (length (hits_in es))
+  pub misses : t.misses ≡ counted (length (misses_in es))
+
+-- ---- what drivers were asked
+
 -- A count that was raised so often: it stands still at its greatest value, and one that was never raised is as it was.
 abbrev pub raised : ℕ → ℕ → ℕ
 raised zero count = count
 raised (suc n) count = raised_by (suc n) count
-
--- how often the scan of a number was started
-abbrev pub starts_of : List (ℕ × ℕ) → ℕ → ℕ
-starts_of starts n = count_in (slice_get starts n)
 
 -- how often an ask was asked, by the kept list of a driver
 abbrev pub times_of : Ask → List (Ask × ℕ) → ℕ
@@ -63,6 +96,8 @@ AsksCounted p starts old new =
     (d : ℕ) (a b : State) (ask : Ask) → slice_get old d ≡ Some a → slice_get new d ≡ Some b
     → times_of ask b.asked ≡ raised (starts_asking d ask (scans_in p) starts) (times_of ask a.asked)
 
+-- ---- what scans read
+
 -- a marked source that stands at a driver under this name, where its contents are told to be these rows
 abbrev pub IsToldTable : List DriverKind → List Source → (ℕ → Bool) → ℕ → (Name → List Value) → Name → Type 0
 IsToldTable ks ss marks driver rows l =
@@ -78,11 +113,3 @@ pub record ReadsMarked (ks : List DriverKind) (ss : List Source) (marks : ℕ �
   pub joined : (c : Scan) (text : List ℕ) (q : Spj) (rows : Name → List Value) → c.ask ≡ asks.Sql text → SqlReads text q
       → AllByRecursion (IsToldTable ks ss marks c.driver rows) q.tables
       → R c ≡ Some (spj rows q)
-
-abbrev pub at_number : ℕ → Scan → ℕ
-at_number n c = cond (nat_eq c.number n) 1 0
-
--- each scan was started once for each environment that reaches it
-abbrev pub StartsCounted : Readings → Node → List (ℕ × ℕ) → Type 0
-StartsCounted R p starts = (c : Scan) → Contains (scans_in p) c
-    → starts_of starts c.number ≡ min (reached R (at_number c.number) p []) (2 ^ 64 - 1)

@@ -2,7 +2,9 @@
 #![tactic(auto)]
 
 mod planning;
+mod running;
 mod tracing;
 
 pub use planning::plan_of;
+pub use running::{memo_for, run_of};
 pub use tracing::trace_of;

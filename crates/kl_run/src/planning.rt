@@ -2,16 +2,16 @@
 ghost use Rattle.std.specs.Prelude.{◌≡◌, ◌≤◌, IfOk, map};
 ghost use Rattle.kl_core.specs.Counts.{nodes_of};
 ghost use Rattle.kl_core.specs.Trees.{view as term_view};
-ghost use Rattle.kl_ask.specs.Driver.{State};
 ghost use Rattle.kl_ship.specs.Contents.{MakesSense};
-ghost use Rattle.kl_ship.specs.Nodes.{view};
+ghost use Rattle.kl_plan.specs.Nodes.{view};
 ghost use Rattle.kl_sources.specs.Sources.{ArePlaced, IsSuited, kinds_of};
 ghost use Rattle.kl_run.specs.Planned.{IsPlanOf, ship_source, ships_of};
 
 use kl_ask::{Driver, Settings, abilities_boxed};
 use kl_base::NoMemory;
 use kl_core::Term;
-use kl_ship::{Plan, ShipSource, ship};
+use kl_plan::Plan;
+use kl_ship::{ShipSource, ship};
 use kl_sources::Source;
 use std::alloc::Global;
 
@@ -29,7 +29,7 @@ pub fn plan_of(
     requires sense { MakesSense (ships_of (kinds_of (map (λ d. state d) drivers.now.items)) sources.now) (term_view term.now) }
     requires small { nodes_of (term_view term.now) ≤ 16384 }
     requires placed { ArePlaced (kinds_of (map (λ d. state d) drivers.now.items)) sources.now }
-    ensures { IfOk result (λ p. IsPlanOf settings.now.delegate (ships_of (kinds_of (map (λ d. state d) drivers.now.items)) sources.now)
+    ensures { IfOk result (λ p. IsPlanOf settings.now (ships_of (kinds_of (map (λ d. state d) drivers.now.items)) sources.now)
         (term_view term.now) (view p)) }
 {
     let ships = ship_sources(alloc, sources, drivers)?;

@@ -1,6 +1,7 @@
 //! A trace in which a plan's scans are counted.
-ghost use Rattle.std.specs.Prelude.{◌≤◌, Bool, List, IfOk};
-ghost use Rattle.kl_ship.specs.Nodes.{view};
+ghost use Rattle.std.specs.Prelude.{◌≤◌, List, IfOk};
+ghost use Rattle.kl_ask.specs.declared.settings.Settings.{Settings};
+ghost use Rattle.kl_plan.specs.Nodes.{view};
 ghost use Rattle.kl_ship.specs.declared.source.ShipSource.{ShipSource};
 ghost use Rattle.kl_core.specs.Counts.{nodes_of};
 ghost use Rattle.kl_core.specs.Trees.{Tree};
@@ -9,7 +10,7 @@ ghost use Rattle.kl_run.specs.Planned.{IsPlanOf};
 
 use kl_ask::Trace;
 use kl_base::{NoMemory, Seq};
-use kl_ship::{Plan, count_scans};
+use kl_plan::{Plan, count_scans};
 use std::alloc::Global;
 
 /// A trace of a run that took so many steps of rewriting, with a count for each scan of its plan, by its number. Nothing else is
@@ -18,7 +19,7 @@ use std::alloc::Global;
 /// # Errors
 /// Want of memory.
 pub fn trace_of(alloc: Global, plan: &Plan, steps: u32) -> Result<Trace, NoMemory>
-    requires { (delegate : Bool) × (ss : List ShipSource) × (t : Tree) × IsPlanOf delegate ss t (view plan.now) × (nodes_of t ≤ 16384) }
+    requires { (settings : Settings) × (ss : List ShipSource) × (t : Tree) × IsPlanOf settings ss t (view plan.now) × (nodes_of t ≤ 16384) }
     ensures { IfOk result (λ t. IsFreshTrace (view plan.now) steps t) }
 {
     let count = count_scans(plan);

@@ -8,7 +8,6 @@ use Rattle.kl_ask.specs.Driver.{State, Cursor, CanStart, IsAnswerable, IsAskedSq
 use Rattle.kl_ask.specs.Statements.{SqlFits, sql_type}
 use Rattle.kl_ask.specs.Driver as driver
 use Rattle.kl_ask.specs.Lists.{AtIndex, StepsAt}
-use Rattle.kl_ask.specs.World.{World}
 use Rattle.kl_ask.specs.declared.ask.Ask.{Ask}
 use Rattle.kl_ask.specs.declared.ask.Ask.TheVariants as asks
 use Rattle.kl_ask.specs.declared.DriverError.{DriverError}
@@ -16,13 +15,13 @@ use Rattle.kl_ask.specs.declared.DriverError.TheVariants as error
 use Rattle.kl_ask.specs.declared.Drift.{Drift}
 use Rattle.kl_sqltext.specs.declared.ast.Spj.{Spj}
 use Rattle.kl_ask.proofs.Worlds.{there, error_is}
-use Rattle.kl_ship.specs.declared.plan.Scan.{Scan}
+use Rattle.kl_plan.specs.declared.plan.Scan.{Scan}
 use Rattle.kl_eval.specs.World.{Drifted}
 use Rattle.kl_eval.specs.declared.stop.EvalStop.{EvalStop}
 use Rattle.kl_eval.specs.declared.stop.EvalStop.TheVariants as stop
-use Rattle.kl_eval.proofs.Reading.{with_drivers}
 use Rattle.kl_eval.proofs.Scanning.{not_started}
 use Rattle.kl_scans.specs.Held.{Held, held_in, held_at, cursor_in, cursor_at, count_open, open_at, nothing, one_at, Owned}
+use Rattle.kl_scans.specs.Running.{Running}
 use Rattle.kl_scans.specs.Log.{started, handed, times_after, times_at, CountsStart}
 use Rattle.kl_scans.specs.Moves.{Closes}
 use Rattle.kl_scans.specs.Scans.{CanScan, DriftedIn, Stopped, StopOf, AreRows, OpensIn, Started, NotStarted, IsOpen, PulledMore, PulledNone, NotPulled, Pulls}
@@ -31,13 +30,28 @@ use Rattle.kl_scans.proofs.Counted.{eq_self, eq_other}
 use Rattle.kl_scans.proofs.Moving.{unmoved, moves_same}
 use Rattle.kl_scans.proofs.Stepped.{uses, CalledAt, Calls, AreOf, Traced, cursor_here, moves_at}
 
--- the session after a start
-abbrev pub with_starts : World → List State → List (ℕ × ℕ) → World
+-- the run with other drivers
+abbrev pub with_drivers : Running → List State → Running
+with_drivers w ds = record {
+  drivers = ds;
+  sources = w.sources;
+  settings = w.settings;
+  trace = w.trace;
+  memos = w.memos;
+  kept = w.kept;
+  room = w.room;
+}
+
+-- the run after a start
+abbrev pub with_starts : Running → List State → List (ℕ × ℕ) → Running
 with_starts w ds ss = record {
   drivers = ds;
   sources = w.sources;
   settings = w.settings;
   trace = record { steps = w.trace.steps; starts = ss; joins = w.trace.joins; hits = w.trace.hits; misses = w.trace.misses; peak = w.trace.peak };
+  memos = w.memos;
+  kept = w.kept;
+  room = w.room;
 }
 
 -- ---- the driver of a scan
@@ -52,7 +66,7 @@ held_is None h e = absurd (none h e)
     none : (k : Held) → None ≡ Some k → ⊥
     none k f = cc
 
-module _ (w : World) (c : Scan) (can : CanScan w c) where
+module _ (w : Running) (c : Scan) (can : CanScan w c) where
   pub of_driver : (s : State) × (slice_get w.drivers c.driver ≡ Some s) × (can.1.held ≡ held_of s)
   unfolding stage held_at
   of_driver = held_is (slice_get w.drivers c.driver) can.1.held can.1.holds
@@ -85,7 +99,7 @@ module _ (w : World) (c : Scan) (can : CanScan w c) where
   drifted_in e (asks.Rows source keep tests) one joined = one
   drifted_in e (asks.Sql text) one joined = joined
 
-  pub stopped : (e : DriverError) (f : EvalStop) (b : World) (y : State) → slice_get b.drivers c.driver ≡ Some y → Cause e of_driver.0 y → DriftedIn of_driver.0 c.ask e → StopOf c.source e f → Stopped c f w b
+  pub stopped : (e : DriverError) (f : EvalStop) (b : Running) (y : State) → slice_get b.drivers c.driver ≡ Some y → Cause e of_driver.0 y → DriftedIn of_driver.0 c.ask e → StopOf c.source e f → Stopped c f w b
   stopped e stop.Overflow b y is cause drifted h = absurd h
   stopped e (stop.Driver m g) b y is cause drifted h = (
     h.0,
@@ -112,7 +126,7 @@ module _ (w : World) (c : Scan) (can : CanScan w c) where
 pub after : (d : ℕ) (P : State → State → Type 0) (xs ys : List State) (x : State) → slice_get xs d ≡ Some x → StepsAt d P xs ys → (y : State) × (slice_get ys d ≡ Some y)
 after d P xs ys x was s = there ys d (omega (arith, slice_get_within xs d x was, s.size))
 
-pub called : (d : ℕ) (P : State → State → Type 0) (a b : World) (x y : State) → slice_get a.drivers d ≡ Some x → slice_get b.drivers d ≡ Some y → StepsAt d P a.drivers b.drivers → CalledAt d a b x y
+pub called : (d : ℕ) (P : State → State → Type 0) (a b : Running) (x y : State) → slice_get a.drivers d ≡ Some x → slice_get b.drivers d ≡ Some y → StepsAt d P a.drivers b.drivers → CalledAt d a b x y
 called d P a b x y was is s = record { size = s.size; others = s.others; was = was; is = is }
 
 none_used : (d k e l : ℕ) → nothing e l ≡ uses d k 0 e l
@@ -131,14 +145,53 @@ start_of c = record { asked = λ e ne x. rw (eq_other c.driver e (λ is. ne (sym
 rows_of : (c : Scan) (n : ℕ) → AreOf c.driver (handed c n ∷ [])
 rows_of c n = record { asked = λ e ne x. refl; handed = λ e ne x. rw (eq_other c.driver e (λ is. ne (sym is))) refl }
 
-untraced : (w : World) (ds : List State) → Traced [] w (with_drivers w ds)
-untraced w ds = record { starts = λ n. unmoved (times_after n []) (λ x. refl) (times_at w n); numbers = refl; rest = refl }
+untraced : (w : Running) (ds : List State) → Traced [] w (with_drivers w ds)
+untraced w ds = record {
+  starts = λ n. unmoved (times_after n []) (λ x. refl) (times_at w n);
+  numbers = refl;
+  steps = refl;
+  joins = refl;
+  peak = refl;
+  hits = refl;
+  misses = refl;
+  executed = tt;
+  memos = refl;
+  room = refl;
+  kept = refl;
+  leaves = refl;
+}
 
-rows_traced : (w : World) (ds : List State) (c : Scan) (m : ℕ) → Traced (handed c m ∷ []) w (with_drivers w ds)
-rows_traced w ds c m = record { starts = λ n. unmoved (times_after n (handed c m ∷ [])) (λ x. refl) (times_at w n); numbers = refl; rest = refl }
+rows_traced : (w : Running) (ds : List State) (c : Scan) (m : ℕ) → Traced (handed c m ∷ []) w (with_drivers w ds)
+rows_traced w ds c m = record {
+  starts = λ n. unmoved (times_after n (handed c m ∷ [])) (λ x. refl) (times_at w n);
+  numbers = refl;
+  steps = refl;
+  joins = refl;
+  peak = refl;
+  hits = refl;
+  misses = refl;
+  executed = (tt, tt);
+  memos = refl;
+  room = refl;
+  kept = refl;
+  leaves = refl;
+}
 
-start_traced : (w : World) (ds : List State) (ss : List (ℕ × ℕ)) (c : Scan) → CountsStart c.number w.trace.starts ss → Traced (started c ∷ []) w (with_starts w ds ss)
-start_traced w ds ss c h = record { starts = λ n. h.times n; numbers = h.numbers; rest = refl }
+start_traced : (w : Running) (ds : List State) (ss : List (ℕ × ℕ)) (c : Scan) → CountsStart c.number w.trace.starts ss → Traced (started c ∷ []) w (with_starts w ds ss)
+start_traced w ds ss c h = record {
+  starts = λ n. h.times n;
+  numbers = h.numbers;
+  steps = refl;
+  joins = refl;
+  peak = refl;
+  hits = refl;
+  misses = refl;
+  executed = (tt, tt);
+  memos = refl;
+  room = refl;
+  kept = refl;
+  leaves = refl;
+}
 
 not_open : {A : Type 0} → count_open None ≡ 1 → A
 not_open h = absurd (let e : 0 ≡ 1 = h in omega (arith, e))
@@ -176,7 +229,7 @@ opens_in (asks.Sql text) s h o e f = λ q r.
       bound = j.bound;
     }
 
-pub starts : (w : World) (c : Scan) (k : ℕ) (ds : List State) (ss : List (ℕ × ℕ)) → CanScan w c → StepsAt c.driver (λ x y. driver.Starts c.ask (Ok k) x y) w.drivers ds → CountsStart c.number w.trace.starts ss → Started c k w (with_starts w ds ss)
+pub starts : (w : Running) (c : Scan) (k : ℕ) (ds : List State) (ss : List (ℕ × ℕ)) → CanScan w c → StepsAt c.driver (λ x y. driver.Starts c.ask (Ok k) x y) w.drivers ds → CountsStart c.number w.trace.starts ss → Started c k w (with_starts w ds ss)
 unfolding held_at
 starts w c k ds ss can s count =
     let x = of_driver w c can in
@@ -197,7 +250,7 @@ starts w c k ds ss can s count =
 never_changed : (ask : Ask) (e : DriverError) (x y : State) → driver.Starts ask (Err e) x y → (d : Drift) → e ≡ error.Changed d → {A : Type 0} → A
 never_changed ask e x y s d is = ⊎_elim (λ f. absurd (let k : error.Failed ≡ error.Changed d = sym (error_is f) ∙ is in cc)) (λ f. absurd (let k : error.NoMemory ≡ error.Changed d = sym (error_is f) ∙ is in cc)) s.no_other
 
-pub starts_not : (w : World) (c : Scan) (e : DriverError) (f : EvalStop) (ds : List State) → CanScan w c → StepsAt c.driver (λ x y. driver.Starts c.ask (Err e) x y) w.drivers ds → StopOf c.source e f → NotStarted c f w (with_drivers w ds)
+pub starts_not : (w : Running) (c : Scan) (e : DriverError) (f : EvalStop) (ds : List State) → CanScan w c → StepsAt c.driver (λ x y. driver.Starts c.ask (Err e) x y) w.drivers ds → StopOf c.source e f → NotStarted c f w (with_drivers w ds)
 starts_not w c e f ds can s stop =
     let x = of_driver w c can in
     let y = after c.driver (λ x y. driver.Starts c.ask (Err e) x y) w.drivers ds x.0 x.1 s in
@@ -213,7 +266,7 @@ starts_not w c e f ds can s stop =
 
 -- ---- pulls
 
-module _ (w : World) (c : Scan) (k : ℕ) (into into' : List Value) (ds : List State) (can : CanScan w c) (is_open : IsOpen w c k) where
+module _ (w : Running) (c : Scan) (k : ℕ) (into into' : List Value) (ds : List State) (can : CanScan w c) (is_open : IsOpen w c k) where
   abbrev x : State
   x = (of_driver w c can).0
 
@@ -303,7 +356,7 @@ module _ (w : World) (c : Scan) (k : ℕ) (into into' : List Value) (ds : List S
 
 -- ---- ends
 
-module _ (w : World) (d k : ℕ) (own : Owned (one_at d k) w) where
+module _ (w : Running) (d k : ℕ) (own : Owned (one_at d k) w) where
   pub owner : (s : State) × (o : Cursor) × (slice_get w.drivers d ≡ Some s) × (s.cursors k ≡ Some o)
   unfolding cursor_at
   owner = in_list (slice_get w.drivers d) refl

@@ -1,5 +1,8 @@
 pub mod Called
 pub mod Counted
+pub mod Doing
+pub mod Kept
+pub mod Looks
 pub mod Moving
 pub mod Repeats
 pub mod Stepped

@@ -5,10 +5,11 @@ use Rattle.std.proofs.lemmas.Option.{same_Some, slice_get_read, slice_get_within
 use Rattle.kl_type.specs.Ground.{ground_of}
 use Rattle.kl_ask.specs.Driver.{State}
 use Rattle.kl_ask.specs.Lists.{AtIndex}
-use Rattle.kl_ask.specs.World.{World, IsReady, at_driver, at_place, at_source, source_at}
+use Rattle.kl_ask.specs.World.{IsReady, at_driver, at_place, at_source, source_at}
 use Rattle.kl_ask.specs.declared.ask.Abilities.{Abilities}
 use Rattle.kl_ask.specs.declared.session.Attached.{Attached}
-use Rattle.kl_ship.specs.declared.plan.Scan.{Scan}
+use Rattle.kl_plan.specs.declared.plan.Scan.{Scan}
+use Rattle.kl_scans.specs.Running.{Running, session}
 use Rattle.kl_scans.specs.Scans.{CanScan, IsWholeSet, ListsWholeSet}
 use Rattle.kl_scans.specs.Stage.{stage, AsksWholeSet, RepeatsNone}
 use Rattle.kl_scans.proofs.Called.{of_driver, place_within, has, listed_there}
@@ -16,7 +17,7 @@ use Rattle.kl_scans.proofs.Called.{of_driver, place_within, has, listed_there}
 pub whole_listed : (all : List Attached) (c : Scan) (i : ℕ) (a : Attached) → i < length all → a ≡ get_or all i a → IsWholeSet a c → ListsWholeSet all c
 whole_listed all c i a lt is h = (i, a, slice_get_read all (length all) i a refl lt is, h)
 
-module _ {D : Type 0} (state : D → State) (boxes all : List D) (is : boxes ≡ all) (w : World) (c : Scan) (can : CanScan w c) (drivers : map state all ≡ w.drivers) where
+module _ {D : Type 0} (state : D → State) (boxes all : List D) (is : boxes ≡ all) (w : Running) (c : Scan) (can : CanScan w c) (drivers : map state all ≡ w.drivers) where
   pub driver_within : c.driver < length boxes
   driver_within = subst (λ n. c.driver < n) (ap length (sym drivers) ∙ length-map all state ∙ ap length (sym is)) (place_within w c can)
 
@@ -26,14 +27,14 @@ module _ {D : Type 0} (state : D → State) (boxes all : List D) (is : boxes ≡
       subst (AtIndex c.driver (λ s. a ≡ s.kind.abilities)) (ap (map state) is ∙ drivers) can_do d.0 d.1 ∙ ap (λ k. k.abilities) (sym d.2)
 
   -- a listed source that is the scan's is the one that its driver has attached
-  listed_type : IsReady w → (i : ℕ) (s : Attached) → slice_get w.sources i ≡ Some s → s.source ≡ c.source → s.driver ≡ Some c.driver → can.1.source.ty ≡ s.ty
+  listed_type : IsReady (session w) → (i : ℕ) (s : Attached) → slice_get w.sources i ≡ Some s → s.source ≡ c.source → s.driver ≡ Some c.driver → can.1.source.ty ≡ s.ty
   listed_type ready i s at named driver =
       let d = of_driver w c can in
-      let here : source_at w i ≡ Some can.1.source =
+      let here : source_at (session w) i ≡ Some can.1.source =
       ap (λ q. at_source q w.drivers) at ∙ ap (λ q. at_place s q w.drivers) driver ∙ ap (at_driver s) d.1 ∙ ap (d.0).attached named ∙ has w c can in
       (ready.listed i s can.1.source at here).ty
 
-  pub repeats : IsReady w → (a : Abilities) → AtIndex c.driver (λ s. a ≡ s.kind.abilities) (map state boxes) → a.unique ≡ true → (listed : List Attached) → listed ≡ w.sources → ListsWholeSet listed c → RepeatsNone (stage w) c
+  pub repeats : IsReady (session w) → (a : Abilities) → AtIndex c.driver (λ s. a ≡ s.kind.abilities) (map state boxes) → a.unique ≡ true → (listed : List Attached) → listed ≡ w.sources → ListsWholeSet listed c → RepeatsNone (stage w) c
   repeats ready a can_do unique listed same h' =
       let h : ListsWholeSet w.sources c = subst (λ z. ListsWholeSet z c) same h' in
       record {
@@ -53,7 +54,7 @@ module _ {D : Type 0} (state : D → State) (boxes all : List D) (is : boxes ≡
     pub states_it : (a : Abilities) → AtIndex c.driver (λ s. a ≡ s.kind.abilities) (map state boxes) → a.unique ≡ true
     states_it a can_do = ap (λ k. k.unique) (able a can_do) ∙ ap (λ k. k.abilities.unique) (sym same_held) ∙ h.unique
 
-    pub is_listed : IsReady w → (listed : List Attached) → listed ≡ w.sources → ListsWholeSet listed c
+    pub is_listed : IsReady (session w) → (listed : List Attached) → listed ≡ w.sources → ListsWholeSet listed c
     is_listed ready listed same =
         let f = can.1 in
         let source : h.source ≡ f.source = same_Some _ _ (sym h.attached ∙ ap (λ k. k.attached c.source) same_held ∙ f.attached) in

@@ -2,22 +2,26 @@
 use Rattle.std.proofs.Common.{◌≡◌, ◌≢◌, ◌⊎◌, inl, inr, ⊎_elim, ℕ, ◌+◌, ◌&&◌, Bool, true, false, List, length, map, Some, cond, nat_eq, slice_get, refl, sym, ap, ◌∙◌, subst}
 use Rattle.std.proofs.lemmas.Bool.{cases_eq}
 use Rattle.std.proofs.lemmas.Option.{same_Some}
+use Rattle.std.specs.List.{AllByRecursion}
 use Rattle.std.specs.Option.{option_map}
 use Rattle.kl_ask.specs.Driver.{State, OtherCursors}
-use Rattle.kl_ask.specs.World.{World}
 use Rattle.kl_ask.specs.declared.ask.Ask.{Ask}
 use Rattle.kl_scans.specs.Held.{cursor_in, cursor_at, count_open, open_at, Uses}
-use Rattle.kl_scans.specs.Log.{Event, times_after, asked_after, handed_after, times_at, asked_at, rows_at, without_starts}
+use Rattle.kl_scans.specs.Log.{Event, times_after, asked_after, handed_after, entries_after, peak_after, hits_after, misses_after, Leaves, StartsFit}
+use Rattle.kl_scans.specs.Log.{times_at, asked_at, rows_at}
 use Rattle.kl_scans.specs.Moves.{Stays, Moves}
+use Rattle.kl_scans.specs.Right.{AreRight}
+use Rattle.kl_scans.specs.Running.{Running}
+use Rattle.kl_scans.specs.Stage.{stage}
 use Rattle.kl_scans.proofs.Counted.{eq_self, eq_other}
-use Rattle.kl_scans.proofs.Moving.{stays_none, unmoved}
+use Rattle.kl_scans.proofs.Moving.{stays_none, unmoved, stage_on}
 
 -- a cursor stands u times in something
 abbrev pub uses : ℕ → ℕ → ℕ → Uses
 uses d k u e l = cond (nat_eq e d && nat_eq l k) u 0
 
 -- a call of the driver at a place turned its state x into y, and called no other driver
-pub record CalledAt (d : ℕ) (a b : World) (x y : State) : Type 0 where
+pub record CalledAt (d : ℕ) (a b : Running) (x y : State) : Type 0 where
   pub size : length b.drivers ≡ length a.drivers
   pub others : (j : ℕ) → j ≢ d → slice_get b.drivers j ≡ slice_get a.drivers j
   pub was : slice_get a.drivers d ≡ Some x
@@ -37,13 +41,22 @@ pub record AreOf (d : ℕ) (es : List Event) : Type 0 where
   pub asked : (e : ℕ) → e ≢ d → (x : List (Ask × ℕ)) → asked_after e es x ≡ x
   pub handed : (e : ℕ) → e ≢ d → (x : ℕ) → handed_after e es x ≡ x
 
--- what is traced of events
-pub record Traced (es : List Event) (a b : World) : Type 0 where
+-- what is traced of events, by which nothing is kept and no join is executed
+pub record Traced (es : List Event) (a b : Running) : Type 0 where
   pub starts : (n : ℕ) → times_at b n ≡ option_map (times_after n es) (times_at a n)
   pub numbers : map (λ e. e.0) b.trace.starts ≡ map (λ e. e.0) a.trace.starts
-  pub rest : without_starts b.trace ≡ without_starts a.trace
+  pub steps : b.trace.steps ≡ a.trace.steps
+  pub joins : b.trace.joins ≡ entries_after es a.trace.joins
+  pub peak : b.trace.peak ≡ peak_after a.settings.block es a.trace.peak
+  pub hits : b.trace.hits ≡ hits_after es a.trace.hits
+  pub misses : b.trace.misses ≡ misses_after es a.trace.misses
+  pub executed : AllByRecursion (StartsFit a.settings.block) es
+  pub memos : b.memos ≡ a.memos
+  pub room : b.room ≡ a.room
+  pub kept : b.kept ≡ a.kept
+  pub leaves : Leaves a.room es a.kept b.kept
 
-pub cursor_here : (w : World) (d k : ℕ) (x : State) → slice_get w.drivers d ≡ Some x → cursor_at w d k ≡ x.cursors k
+pub cursor_here : (w : Running) (d k : ℕ) (x : State) → slice_get w.drivers d ≡ Some x → cursor_at w d k ≡ x.cursors k
 unfolding cursor_at
 cursor_here w d k x is = ap (λ o. cursor_in o k) is
 
@@ -62,7 +75,7 @@ use_here d k u = rw (eq_self d, eq_self k) refl
 which : (d k e l : ℕ) → ((e ≡ d) × (l ≡ k)) ⊎ ((e ≢ d) ⊎ (l ≢ k))
 which d k e l = ⊎_elim (λ p. ⊎_elim (λ q. inl (p, q)) (λ n. inr (inr n)) (cases_eq l k)) (λ n. inr (inl n)) (cases_eq e d)
 
-module _ (d k u v : ℕ) (es : List Event) (a b : World) (x y : State) (at : CalledAt d a b x y) (call : Calls d k u v es x y) where
+module _ (d k u v : ℕ) (es : List Event) (a b : Running) (x y : State) (at : CalledAt d a b x y) (call : Calls d k u v es x y) where
   cursor_away : (e l : ℕ) → e ≢ d → cursor_at b e l ≡ cursor_at a e l
   unfolding cursor_at
   cursor_away e l ne = ap (λ o. cursor_in o l) (at.others e ne)
@@ -126,6 +139,22 @@ module _ (d k u v : ℕ) (es : List Event) (a b : World) (x y : State) (at : Cal
     drivers = record { size = at.size; each = stays_each };
     balance = balances;
     others = stays_others;
+    memos = trace.memos;
+    right = λ h. subst (λ kept. AreRight (stage b) kept) (sym trace.kept)
+        (subst (λ t. AreRight t a.kept) (sym (stage_on a b (record { size = at.size; each = stays_each }) same fixed trace.memos)) h);
     events = es;
-    logged = record { starts = trace.starts; asked = asks own; handed = hands own; numbers = trace.numbers; rest = trace.rest };
+    logged = record {
+      starts = trace.starts;
+      asked = asks own;
+      handed = hands own;
+      numbers = trace.numbers;
+      steps = trace.steps;
+      joins = trace.joins;
+      peak = trace.peak;
+      hits = trace.hits;
+      misses = trace.misses;
+      executed = trace.executed;
+      room = trace.room;
+      kept = trace.leaves;
+    };
   }

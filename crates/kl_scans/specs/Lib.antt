@@ -1,5 +1,10 @@
+pub mod Keeping
+pub mod Running
 pub mod Held
+pub mod Stage
+pub mod Right
+pub mod Same
 pub mod Log
 pub mod Moves
 pub mod Scans
-pub mod Stage
+pub mod Over

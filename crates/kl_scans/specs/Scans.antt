@@ -6,7 +6,7 @@ use Rattle.kl_value.specs.declared.Value.{Value}
 use Rattle.kl_type.specs.Ground.{Ground, ground_of}
 use Rattle.kl_ask.specs.Driver.{State, Source, Cursor, IsFresh, Hands, IsSpent, Cause, HasDriftedTable, emptied}
 use Rattle.kl_ask.specs.Statements.{sql_type}
-use Rattle.kl_ask.specs.World.{World}
+use Rattle.kl_scans.specs.Running.{Running}
 use Rattle.kl_ask.specs.declared.ask.Ask.{Ask}
 use Rattle.kl_ask.specs.declared.ask.Ask.TheVariants as asks
 use Rattle.kl_ask.specs.declared.session.Attached.{Attached}
@@ -17,7 +17,7 @@ use Rattle.kl_sqltext.specs.Meaning.{spj}
 use Rattle.kl_sqltext.specs.Reading.{SqlReads}
 use Rattle.kl_sqltext.specs.declared.ast.Spj.{Spj}
 use Rattle.kl_outcome.specs.Outcome.{Name}
-use Rattle.kl_ship.specs.declared.plan.Scan.{Scan}
+use Rattle.kl_plan.specs.declared.plan.Scan.{Scan}
 use Rattle.kl_eval.specs.World.{Drifted}
 use Rattle.kl_eval.specs.declared.stop.EvalStop.{EvalStop}
 use Rattle.kl_eval.specs.declared.stop.EvalStop.TheVariants as stop
@@ -26,7 +26,7 @@ use Rattle.kl_scans.specs.Log.{started, handed}
 use Rattle.kl_scans.specs.Moves.{Moves}
 use Rattle.kl_scans.specs.Stage.{stage, table_types, AsksWholeSet, ScanOf}
 
-abbrev pub CanScan : World → Scan → Type 0
+abbrev pub CanScan : Running → Scan → Type 0
 CanScan w c = (u : Ground) × ScanOf (stage w) c u
 
 -- a listed source that is the scan's, a set of which all rows are asked, whole
@@ -42,7 +42,7 @@ DriftedIn s (asks.Rows source keep tests) e = Drifted e (s.attached source)
 DriftedIn s (asks.Sql text) e = (d : Drift) → e ≡ error.Changed d → (q : Spj) → SqlReads text q → HasDriftedTable s q d
 
 -- The driver of the scan's source refused to go on: on a fault, or because contents that it does not tell drifted. The count rose.
-pub record StoppedBy (c : Scan) (source : Name) (e : DriverError) (old new : World) : Type 0 where
+pub record StoppedBy (c : Scan) (source : Name) (e : DriverError) (old new : Running) : Type 0 where
   pub number : ℕ
   pub listed : Attached
   pub at : slice_get old.sources number ≡ Some listed
@@ -58,7 +58,7 @@ pub record StoppedBy (c : Scan) (source : Name) (e : DriverError) (old new : Wor
   pub want : e ≢ error.NoMemory
 
 -- Why a scan is stopped: never by an overflow; and where its driver refused to go on, that has its cause.
-abbrev pub Stopped : Scan → EvalStop → World → World → Type 0
+abbrev pub Stopped : Scan → EvalStop → Running → Running → Type 0
 Stopped c stop.Overflow a b = ⊥
 Stopped c (stop.Driver l e) a b = (l ≡ c.source) × StoppedBy c l e a b
 Stopped c stop.NoMemory a b = ⊤
@@ -89,7 +89,7 @@ abbrev pub OpensIn : Held → Ask → Cursor → Type 0
 OpensIn h (asks.Rows source keep tests) o = (a : Source) → h.attached source ≡ Some a → IsFresh keep tests a o
 OpensIn h (asks.Sql text) o = (q : Spj) → SqlReads text q → IsJoined h q o
 
-pub record Started (c : Scan) (k : ℕ) (a b : World) : Type 0 where
+pub record Started (c : Scan) (k : ℕ) (a b : Running) : Type 0 where
   pub moves : Moves nothing (one_at c.driver k) a b
   pub only : moves.events ≡ started c ∷ []
   pub opened : Cursor
@@ -97,22 +97,22 @@ pub record Started (c : Scan) (k : ℕ) (a b : World) : Type 0 where
   pub ask : opened.ask ≡ c.ask
   pub opens : (h : Held) → held_at a c.driver ≡ Some h → OpensIn h c.ask opened
 
-pub record NotStarted (c : Scan) (e : EvalStop) (a b : World) : Type 0 where
+pub record NotStarted (c : Scan) (e : EvalStop) (a b : Running) : Type 0 where
   pub moves : Moves nothing nothing a b
   pub none : moves.events ≡ []
   pub cause : Stopped c e a b
 
-abbrev pub Starts : Scan → Result ℕ EvalStop → World → World → Type 0
+abbrev pub Starts : Scan → Result ℕ EvalStop → Running → Running → Type 0
 Starts c (Ok k) a b = Started c k a b
 Starts c (Err e) a b = NotStarted c e a b
 
 -- ---- a pull
 
 -- a cursor of a scan is open
-abbrev pub IsOpen : World → Scan → ℕ → Type 0
+abbrev pub IsOpen : Running → Scan → ℕ → Type 0
 IsOpen w c k = (o : Cursor) × (cursor_at w c.driver k ≡ Some o) × (o.ask ≡ c.ask)
 
-pub record PulledMore (c : Scan) (k : ℕ) (into into' : List Value) (a b : World) : Type 0 where
+pub record PulledMore (c : Scan) (k : ℕ) (into into' : List Value) (a b : Running) : Type 0 where
   pub moves : Moves (one_at c.driver k) (one_at c.driver k) a b
   pub was : Cursor
   pub here : cursor_at a c.driver k ≡ Some was
@@ -123,7 +123,7 @@ pub record PulledMore (c : Scan) (k : ℕ) (into into' : List Value) (a b : Worl
   pub appended : into' ≡ into ++ rows
   pub hands : Hands a.settings.fetch rows was then
 
-pub record PulledNone (c : Scan) (k : ℕ) (into into' : List Value) (a b : World) : Type 0 where
+pub record PulledNone (c : Scan) (k : ℕ) (into into' : List Value) (a b : Running) : Type 0 where
   pub moves : Moves (one_at c.driver k) (one_at c.driver k) a b
   pub none : moves.events ≡ []
   pub was : Cursor
@@ -132,12 +132,12 @@ pub record PulledNone (c : Scan) (k : ℕ) (into into' : List Value) (a b : Worl
   pub spent : IsSpent was
   pub same : into' ≡ into
 
-pub record NotPulled (c : Scan) (k : ℕ) (e : EvalStop) (a b : World) : Type 0 where
+pub record NotPulled (c : Scan) (k : ℕ) (e : EvalStop) (a b : Running) : Type 0 where
   pub moves : Moves (one_at c.driver k) nothing a b
   pub none : moves.events ≡ []
   pub cause : Stopped c e a b
 
-abbrev pub Pulls : Scan → ℕ → List Value → List Value → Result Bool EvalStop → World → World → Type 0
+abbrev pub Pulls : Scan → ℕ → List Value → List Value → Result Bool EvalStop → Running → Running → Type 0
 Pulls c k into into' (Ok true) a b = PulledMore c k into into' a b
 Pulls c k into into' (Ok false) a b = PulledNone c k into into' a b
 Pulls c k into into' (Err e) a b = NotPulled c k e a b

@@ -1,6 +1,6 @@
 -- What scans of a session read, where that is told, and which of them make sense.
 use Rattle.std.specs.Prelude.{◌≡◌, ◌≢◌, ℕ, Bool, false, true, List, [], Option, Some, None, cond, is_some, slice_get}
-use Rattle.std.specs.List.{AllByRecursion, IsDistinct, list_all}
+use Rattle.std.specs.List.{AllByRecursion, Contains, IsDistinct, list_all}
 use Rattle.kl_value.specs.declared.Kind.TheVariants as kind
 use Rattle.kl_value.specs.declared.Value.{Value}
 use Rattle.kl_type.specs.Ground.{Ground, ground_of}
@@ -9,7 +9,7 @@ use Rattle.kl_outcome.specs.Typed.{Inhabits}
 use Rattle.kl_ask.specs.Asks.{item_of, kind_of, shown_type, answers, is_allowed, AskFits}
 use Rattle.kl_ask.specs.Driver.{Source, row_type, same_value}
 use Rattle.kl_ask.specs.Statements.{RowTypes, SqlFits, sql_type}
-use Rattle.kl_ask.specs.World.{World}
+use Rattle.kl_scans.specs.Running.{Running}
 use Rattle.kl_ask.specs.declared.ask.Abilities.{Abilities}
 use Rattle.kl_ask.specs.declared.ask.Ask.{Ask}
 use Rattle.kl_ask.specs.declared.ask.Ask.TheVariants as asks
@@ -20,19 +20,23 @@ use Rattle.kl_sqltext.specs.Meaning.{spj}
 use Rattle.kl_sqltext.specs.Reading.{SqlReads}
 use Rattle.kl_sqltext.specs.Statements.{statement}
 use Rattle.kl_sqltext.specs.declared.ast.Spj.{Spj}
-use Rattle.kl_ship.specs.declared.plan.Scan.{Scan}
-use Rattle.kl_ship.specs.Meaning.{Readings}
+use Rattle.kl_plan.specs.declared.plan.Scan.{Scan}
+use Rattle.kl_plan.specs.Meaning.{Readings}
+use Rattle.kl_plan.specs.Nodes.{Node}
+use Rattle.kl_plan.specs.Subqueries.{Memo}
 use Rattle.kl_scans.specs.Held.{Held, held_at}
 
--- what plans mean in a session rests on this alone: what its drivers can do and have attached, its sources, and how many rows
--- are pulled at once
+-- what plans mean and cost in a session rests on this alone: what its drivers can do and have attached, its sources, how many rows
+-- are pulled at once and how many a block holds, and the memos of the plan that is run
 pub record Stage : Type 0 where
   pub held : ℕ → Option Held
   pub sources : List Attached
   pub fetch : ℕ
+  pub block : ℕ
+  pub memos : List Memo
 
-unfoldable pub stage : World → Stage
-stage w = record { held = held_at w; sources = w.sources; fetch = w.settings.fetch }
+unfoldable pub stage : Running → Stage
+stage w = record { held = held_at w; sources = w.sources; fetch = w.settings.fetch; block = w.settings.block; memos = w.memos }
 
 -- the rows that answer an ask, where they are told
 abbrev pub answered_by : Option (List Value) → List Name → List ColTest → Option (List Value)
@@ -152,3 +156,7 @@ pub record RepeatsNone (t : Stage) (c : Scan) : Type 0 where
 abbrev pub IsTold : Stage → Type 0
 IsTold t = (c : Scan) (u : Ground) → ScanOf t c u → (rows : List Value) × (readings t c ≡ Some rows) × AllByRecursion (Inhabits u) rows
     × (RepeatsNone t c → IsDistinct same_value rows)
+
+-- a memo of the plan that is run
+abbrev pub MemoOf : Stage → ℕ → List ℕ → Node → Type 0
+MemoOf t n frees p = Contains t.memos (n, (frees, p))

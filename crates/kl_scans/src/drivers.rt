@@ -6,7 +6,7 @@ ghost use Rattle.kl_ask.specs.Lists.{AtIndex, StepsAt};
 use kl_ask::{
     Abilities, Driver, DriverError, abilities_boxed, finish_boxed, pull_boxed, start_boxed,
 };
-use kl_ship::Scan;
+use kl_plan::Scan;
 use kl_value::Value;
 
 /// What the scan's driver can do.

@@ -2,26 +2,28 @@
 ghost use Rattle.std.specs.Prelude.{◌≡◌, Some, true};
 ghost use Rattle.kl_type.specs.Ground.{ground_of};
 ghost use Rattle.kl_ask.specs.Asks.{kind_of};
-ghost use Rattle.kl_ask.specs.World.{IsReady};
 ghost use Rattle.kl_value.specs.declared.Kind.TheVariants as kind;
+ghost use Rattle.kl_scans.specs.Right.{IsReadyRun};
 ghost use Rattle.kl_scans.specs.Scans.{CanScan, IsWholeSet, ListsWholeSet};
 ghost use Rattle.kl_scans.specs.Stage.{RepeatsNone, stage, only_selects};
 
 use crate::drivers::abilities_at;
-use kl_ask::{Abilities, Attached, Seen, Session, allows};
-use kl_ship::Scan;
+use crate::run::{Ran, Run};
+use kl_ask::{Abilities, Attached, allows};
+use kl_plan::Scan;
 use kl_type::Ty;
 use kl_value::Kind;
 
 /// Whether a scan is one of whole rows of a set, all or those that pass its tests, at a driver that states that it repeats no
 /// row of a set. Takes no memory.
-pub fn repeats_none(session: &Session, scan: &Scan) -> bool
-    requires ready { IsReady (⟦<Session as Seen>⟧.world session.now) }
-    requires scan { CanScan (⟦<Session as Seen>⟧.world session.now) scan.now }
-    ensures yes { result ≡ true → RepeatsNone (stage (⟦<Session as Seen>⟧.world session.now)) scan.now }
-    ensures no { RepeatsNone (stage (⟦<Session as Seen>⟧.world session.now)) scan.now → result ≡ true }
+pub fn repeats_none<'p>(run: &Run<'p>, scan: &Scan) -> bool
+    requires ready { IsReadyRun (⟦<Run<'p> as Ran>⟧.world run.now) }
+    requires scan { CanScan (⟦<Run<'p> as Ran>⟧.world run.now) scan.now }
+    ensures yes { result ≡ true → RepeatsNone (stage (⟦<Run<'p> as Ran>⟧.world run.now)) scan.now }
+    ensures no { RepeatsNone (stage (⟦<Run<'p> as Ran>⟧.world run.now)) scan.now → result ≡ true }
 {
-    abilities_at(&session.drivers, scan).unique && lists_whole_set(session.sources.slice(), scan)
+    abilities_at(&run.session.drivers, scan).unique
+        && lists_whole_set(run.session.sources.slice(), scan)
 }
 
 // Whether one of these is the source of the scan, a set, of which whole rows are asked.
@@ -57,7 +59,7 @@ fn is_at(source: &Attached, driver: u32) -> bool
     }
 }
 
-#[tactic(auto, using(kl_ship::proofs::Grounds::kind_rules))]
+#[tactic(auto, using(kl_plan::proofs::Grounds::kind_rules))]
 fn is_set(ty: &Ty) -> bool
     ensures yes { result ≡ true → kind_of (ground_of ty.now) ≡ kind.Set }
     ensures no { kind_of (ground_of ty.now) ≡ kind.Set → result ≡ true }

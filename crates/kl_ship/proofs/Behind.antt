@@ -1,5 +1,5 @@
 -- The body over what a statement shows: it makes sense, reads no more sources than before, and weighs less than the loop.
-use Rattle.std.proofs.Common.{◌≡◌, ℕ, zero, suc, ◌+◌, ◌*◌, ◌-◌, ◌<◌, ◌≤◌, Bool, true, ◌&&◌, List, [], ◌∷◌, length, Some, Result, Ok, Err, IfOk, slice_get, refl, sym, ap, subst, ◌∙◌, arith}
+use Rattle.std.proofs.Common.{◌≡◌, ℕ, zero, suc, ◌+◌, ◌*◌, ◌-◌, ◌<◌, ◌≤◌, Bool, true, ◌&&◌, List, [], ◌∷◌, length, Some, slice_get, refl, sym, ap, subst, ◌∙◌, arith}
 use Rattle.std.specs.List.{AllByRecursion}
 use Rattle.kl_value.specs.declared.Kind.{Kind}
 use Rattle.kl_type.specs.Ground.{IsGround, coll}
@@ -9,19 +9,14 @@ use Rattle.kl_core.specs.Typing.{CoreTypes}
 use Rattle.kl_ask.specs.Asks.{item_of}
 use Rattle.kl_sqltext.specs.declared.ast.SqlTest.{SqlTest}
 use Rattle.kl_ship.specs.declared.needs.Need.TheVariants as need
-use Rattle.kl_base.specs.declared.NoMemory.{NoMemory}
-use Rattle.kl_ship.specs.declared.plan.Plan.{Plan}
-use Rattle.kl_ship.specs.declared.plan.Scan.{Scan}
+use Rattle.kl_plan.specs.declared.plan.Scan.{Scan}
 use Rattle.kl_ship.specs.declared.source.ShipSource.{ShipSource}
 use Rattle.kl_ship.specs.Contents.{AreSources, types_in}
 use Rattle.kl_ship.specs.Joined.{Joins, columns_of, columns_at, label_in, over_shown, statement}
 use Rattle.kl_ship.specs.Shipping.{IsSound, LoopSense}
-use Rattle.kl_ship.specs.Full.{FullyShipped}
-use Rattle.kl_ship.specs.Nodes.{view}
-use Rattle.kl_ship.specs.Ships.{Becomes, BySql, IsScan}
+use Rattle.kl_ship.specs.Ships.{BySql, IsScan}
 use Rattle.kl_ship.specs.Sizes.{amount_in, loops_in, sources_in}
 use Rattle.kl_ship.specs.Sources.{fits, ground}
-use Rattle.kl_ship.proofs.FullLaw.{ships_full}
 use Rattle.kl_ship.proofs.Sense.{sql_types}
 use Rattle.kl_ship.proofs.Shipped.{most_of, weight}
 use Rattle.kl_ship.proofs.Smaller.{joined_amount, joined_nodes, packed_amount, packed_less, packed_nodes}
@@ -109,9 +104,3 @@ module _ (ss : List ShipSource) (place : ℕ) (s : ShipSource) (k : Kind) (b : T
         sound ss d _ (coll k sense.item) typed
 
 -- ---- a plan in which no work is left
-
-pub full_if : (ss : List ShipSource) → AreSources ss → AllByRecursion (λ s. IsGround (ground s)) ss → (delegate : Bool) (t : Tree) (m : ℕ) (r : Result Plan NoMemory) → delegate ≡ true
-    → IfOk r (λ p. Becomes delegate ss need.Items t 0 (view p) m) → IfOk r (λ p. FullyShipped ss (view p))
-full_if ss sources proper delegate t m (Ok p) on h =
-    ships_full ss sources (λ i s at. one_of (λ y. IsGround (ground y)) ss i s proper at) t (view p) (m, subst (λ d. Becomes d ss need.Items t 0 (view p) m) on h)
-full_if ss sources proper delegate t m (Err e) on h = tt

@@ -1,5 +1,6 @@
 -- What tests of plans have told.
 use Rattle.std.proofs.Common.{◌≡◌, ◌==◌, ◌⊎◌, inl, inr, ⊎_elim, ℕ, zero, suc, ◌+◌, ◌<◌, ◌≤◌, Bool, true, false, not, ◌&&◌, List, [], ◌∷◌, map, drop, get_or, length, Some, None, nat_eq, refl, sym, ap, subst, ◌∙◌, arith, add-one, drop-cons, Result, Ok, Err, IfOk}
+use mathlib.Core.Path.{ap₂}
 use Rattle.std.specs.Bool.{Decides}
 use Rattle.std.specs.Cmp.Lexicographic.{pointwise, same_text}
 use Rattle.std.specs.List.{AllByRecursion}
@@ -19,12 +20,13 @@ use Rattle.kl_sqltext.specs.Grammar.{SqlColumn}
 use Rattle.kl_sqltext.specs.Reading.{SqlReads}
 use Rattle.kl_ask.specs.declared.ask.Ask.{Ask}
 use Rattle.kl_ask.specs.declared.ask.Ask.TheVariants as asks
-use Rattle.kl_ship.specs.declared.plan.Scan.{Scan}
+use Rattle.kl_plan.specs.declared.plan.Scan.{Scan}
 use Rattle.kl_ship.specs.declared.source.ShipSource.{ShipSource}
 use Rattle.kl_ship.specs.Delegation.{taken}
-use Rattle.kl_ship.specs.Full.{erased, Shows, IsUsed, IsFull, IsFullAt}
-use Rattle.kl_ship.specs.Nodes as node
-use Rattle.kl_ship.specs.Nodes.{Node}
+use Rattle.kl_ship.specs.Full.{Shows, IsUsed, IsReading, IsLoopOver, IsFull, IsFullAt}
+use Rattle.kl_plan.specs.Erased.{erased}
+use Rattle.kl_plan.specs.Nodes as node
+use Rattle.kl_plan.specs.Nodes.{Node}
 use Rattle.kl_ship.specs.Whether.{has_tests, is_scan_by, is_loop_by, has_loop}
 
 -- ---- decisions
@@ -97,24 +99,39 @@ front_empty false (q ∷ qs) h e = cc
 -- ---- a loop directly inside
 
 abbrev pub IsLoopBy : ℕ → Kind → Node → Type 0
-IsLoopBy driver k b = (a : Node) × (d : Scan) × (b ≡ node.Ext k a (node.Scan d)) × (d.driver ≡ driver) × (d.kind ≡ k)
+IsLoopBy driver k b = (d : Scan) × IsLoopOver k d b × (d.driver ≡ driver) × (d.kind ≡ k)
 
-scan_by : (driver : ℕ) (k : Kind) (p : Node) → is_scan_by driver k p ≡ true → (d : Scan) × (p ≡ node.Scan d) × (d.driver ≡ driver) × (d.kind ≡ k)
+scan_by : (driver : ℕ) (k : Kind) (p : Node) → is_scan_by driver k p ≡ true → (d : Scan) × IsReading d p × (d.driver ≡ driver)
+    × (d.kind ≡ k)
 scan_by driver k (node.Scan d) h = let e = both_true (nat_eq d.driver driver) (same_kind d.kind k) h in (d, refl, eqb-true d.driver driver e.0, kinds_are d.kind k e.1)
+scan_by driver k (node.Memo n frees p) h = scan_by driver k p h
 scan_by driver k p h = cc
 
 loop_by : (driver : ℕ) (k : Kind) (b : Node) → is_loop_by driver k b ≡ true → IsLoopBy driver k b
 loop_by driver k (node.Ext j a s) h =
     let e = both_true (same_kind j k) (is_scan_by driver k s) h in
     let d = scan_by driver k s e.1 in
-    (a, d.0, ap (λ z. node.Ext z a s) (kinds_are j k e.0) ∙ ap (node.Ext k a) d.1, d.2, d.3)
+    (d.0, (kinds_are j k e.0, d.1), d.2, d.3)
+loop_by driver k (node.Join n j how o cs i q b) h =
+    let e = both_true (same_kind j k) (is_scan_by driver k o) h in
+    let d = scan_by driver k o e.1 in
+    (d.0, (kinds_are j k e.0, d.1), d.2, d.3)
+loop_by driver k (node.Memo n frees p) h = loop_by driver k p h
 loop_by driver k b h = cc
 
-by_loop : (driver : ℕ) (k : Kind) (b a : Node) (d : Scan) → b ≡ node.Ext k a (node.Scan d) → d.driver ≡ driver → d.kind ≡ k → is_loop_by driver k b ≡ true
-by_loop driver k b a d is e f =
-    let own : is_loop_by driver k (node.Ext k a (node.Scan d)) ≡ true =
-    rw (kind_is k, eq-eqb d.driver driver e, f, kind_is k) refl in
-    ap (is_loop_by driver k) is ∙ own
+by_scan : (driver : ℕ) (k : Kind) (p : Node) (d : Scan) → IsReading d p → d.driver ≡ driver → d.kind ≡ k → is_scan_by driver k p ≡ true
+by_scan driver k (node.Scan c) d is e f =
+    let own : is_scan_by driver k (node.Scan d) ≡ true = rw (eq-eqb d.driver driver e, f, kind_is k) refl in
+    ap (λ x. is_scan_by driver k (node.Scan x)) is ∙ own
+by_scan driver k (node.Memo n frees p) d is e f = by_scan driver k p d is e f
+by_scan driver k p d is e f = absurd is
+
+by_loop : (driver : ℕ) (k : Kind) (b : Node) (d : Scan) → IsLoopOver k d b → d.driver ≡ driver → d.kind ≡ k → is_loop_by driver k b ≡ true
+by_loop driver k (node.Ext j a s) d is e f = ap₂ (λ x y. x && y) (ap (λ z. same_kind z k) is.0 ∙ kind_is k) (by_scan driver k s d is.1 e f)
+by_loop driver k (node.Join n j how o cs i q b) d is e f =
+    ap₂ (λ x y. x && y) (ap (λ z. same_kind z k) is.0 ∙ kind_is k) (by_scan driver k o d is.1 e f)
+by_loop driver k (node.Memo n frees p) d is e f = by_loop driver k p d is e f
+by_loop driver k b d is e f = absurd is
 
 -- ---- columns
 
@@ -164,11 +181,12 @@ module _ (s : ShipSource) (k : Kind) (b : Node) (c : Scan) where
       let o = is_of r e f in
       let both_are = both_true s.abilities.join (is_loop_by c.driver k b) (sym g ∙ h) in
       let l = loop_by c.driver k b both_are.1 in
-      (full o.0 o.1).loops both_are.0 (kinds_are c.kind k (sym i ∙ j)) l.0 l.1 l.2 l.3 l.4)
+      (full o.0 o.1).loops both_are.0 (kinds_are c.kind k (sym i ∙ j)) l.0 l.1 l.2 l.3)
 
-  no_loop : (q : Bool) → q ≡ has_loop s c.driver k b → q ≡ false → s.abilities.join ≡ true → c.kind ≡ k → (a : Node) (d : Scan) → b ≡ node.Ext k a (node.Scan d) → d.driver ≡ c.driver → d.kind ≡ k → ⊥
-  no_loop q g h join same a d is e f =
-      let all : has_loop s c.driver k b ≡ true = ap (λ x. x && is_loop_by c.driver k b) join ∙ by_loop c.driver k b a d is e f in
+  no_loop : (q : Bool) → q ≡ has_loop s c.driver k b → q ≡ false → s.abilities.join ≡ true → c.kind ≡ k → (d : Scan) → IsLoopOver k d b
+      → d.driver ≡ c.driver → d.kind ≡ k → ⊥
+  no_loop q g h join same d is e f =
+      let all : has_loop s c.driver k b ≡ true = ap (λ x. x && is_loop_by c.driver k b) join ∙ by_loop c.driver k b d is e f in
       let wrong : true ≡ false = sym all ∙ sym g ∙ h in cc
 
   pub by_columns : (r m q l u : Bool) → r ≡ (nat_eq s.driver c.driver && pointwise nat_eq s.name c.source) → r ≡ true → q ≡ has_tests s k b → q ≡ false → m ≡ same_kind c.kind k → m ≡ true
@@ -176,6 +194,15 @@ module _ (s : ShipSource) (k : Kind) (b : Node) (c : Scan) where
   by_columns r m q l u e f g h i j x y project d =
       follows u (λ used v w. record { tests = no_tests q g h; columns = λ p n. used; loops = no_loop l x y })
       (λ full. let o = is_of r e f in (full o.0 o.1).columns project (kinds_are c.kind k (sym i ∙ j))) d
+
+  -- where the driver leaves no columns out
+  pub without_columns : (q l : Bool) → q ≡ has_tests s k b → q ≡ false → l ≡ has_loop s c.driver k b → l ≡ false
+      → s.abilities.project ≡ false → Decides true IsFullIf
+  without_columns q l g h x y p = yes (λ v w. record {
+    tests = no_tests q g h;
+    columns = λ on same ls shows. absurd (let wrong : true ≡ false = sym on ∙ p in cc);
+    loops = no_loop l x y;
+  })
 
 -- ---- all sources
 

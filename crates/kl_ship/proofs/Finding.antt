@@ -1,22 +1,24 @@
 -- What is asked of conditions and of uses of rows, over the parts of a term or of a plan.
-use Rattle.std.proofs.Common.{◌≡◌, ◌==◌, ℕ, ◌+◌, ◌<◌, ◌≤◌, Bool, true, false, ◌&&◌, ◌||◌, List, [], ◌∷◌, map, cond, Option, Some, None, is_some, length, arith, refl, sym, ap, ◌∙◌}
-use Rattle.std.proofs.Math.Bool.{and_assoc, or_assoc}
+use Rattle.std.proofs.Common.{◌≡◌, ◌==◌, ℕ, ◌+◌, ◌<◌, ◌≤◌, Bool, true, false, ◌||◌, List, [], ◌∷◌, map, cond, Option, Some, None, is_some, length, arith, refl, sym, ap, ◌∙◌}
+use Rattle.std.proofs.Math.Bool.{or_assoc}
 use Rattle.kl_value.specs.declared.Kind.{Kind}
 use Rattle.kl_outcome.specs.Outcome.{Name}
 use Rattle.kl_core.specs.declared.term.Term.{Term}
 use Rattle.kl_core.specs.declared.term.Term.TheVariants as term
 use Rattle.kl_core.specs.Trees.{Tree, If, Make, Arms, arms_of, view as term_view, view_part, trees_view, parts_view}
-use Rattle.kl_core.specs.Counts.{total_in, total_parts, total_arms}
 use Rattle.kl_core.proofs.Views.{view_Case as term_Case, view_Make as term_Make}
 use Rattle.kl_sqltext.specs.declared.ast.SqlOp.{SqlOp}
 use Rattle.kl_sqltext.specs.declared.ast.SqlTest.{SqlTest}
-use Rattle.kl_ship.specs.declared.plan.Plan.{Plan}
-use Rattle.kl_ship.specs.declared.plan.Plan.TheVariants as plan
-use Rattle.kl_ship.specs.Delegation.{is_empty, is_front, test_by, test_of, taken, taken_before, whole_use, whole_use_parts, whole_use_arms, column_use, column_use_parts, column_use_arms}
-use Rattle.kl_ship.specs.Full.{erased, erased_nodes, erased_fields, erased_branches}
-use Rattle.kl_ship.specs.Nodes.{Branches, branches_of, view, view_branch, nodes_view, fields_view}
-use Rattle.kl_ship.specs.Shipping.{other_view, other_node}
-use Rattle.kl_ship.proofs.Views.{view_Case, view_Make}
+use Rattle.kl_plan.specs.declared.plan.Plan.{Plan}
+use Rattle.kl_plan.specs.declared.plan.Plan.TheVariants as plan
+use Rattle.kl_ship.specs.Delegation.{comparison, is_empty, is_front, test_by, test_of, taken, taken_before, whole_use, whole_use_parts}
+use Rattle.kl_ship.specs.Delegation.{whole_use_arms, column_use, column_use_parts, column_use_arms}
+use Rattle.kl_plan.specs.Erased.{erased, erased_nodes, erased_fields, erased_branches}
+use Rattle.kl_plan.specs.Nodes.{Branches, branches_of, view, view_branch, nodes_view, fields_view}
+use Rattle.kl_ship.specs.Shipping.{other_view}
+use Rattle.kl_plan.specs.Joins.{other_node}
+use Rattle.kl_plan.proofs.Finding.{as_term}
+use Rattle.kl_plan.proofs.Views.{view_Case, view_Make, view_Prim}
 
 -- ---- a comparison with fewer or more sides than two
 
@@ -41,6 +43,14 @@ plans_too_many n o [] h = refl
 plans_too_many n o (p ∷ []) h = refl
 plans_too_many n o (p ∷ q ∷ []) h = absurd (omega (arith, h))
 plans_too_many n o (p ∷ q ∷ r ∷ ps) h = refl
+
+pub compared_is_test : (r : ℕ) (p : Plan) (k : ℕ) (ps qs : List Plan) (m : Option SqlOp) (o : SqlOp) (x : Bool) → p ≡ plan.Prim k ps
+    → m ≡ comparison k → m ≡ Some o
+    → qs ≡ ps → x ≡ is_some (test_by r (Some o) (erased_nodes (nodes_view qs))) → x ≡ is_some (test_of r (erased (view p)))
+compared_is_test r p k ps qs m o x is from some same h =
+    h ∙ ap (λ z. is_some (test_by r (Some o) (erased_nodes (nodes_view z)))) same
+    ∙ sym (ap (λ z. is_some (test_of r (erased (view z)))) is ∙ ap (λ z. is_some (test_of r (erased z))) (view_Prim k ps)
+    ∙ ap (λ z. is_some (test_by r z (erased_nodes (nodes_view ps)))) (sym from ∙ some))
 
 -- ---- a collection with items
 
@@ -69,50 +79,6 @@ none_taken E k n p c d e a b x y f g r is ac xe hf tf bc hg ng yd hr =
     ap (taken k n) is ∙ ap (λ z. cond z (taken_before (test_of n (E c)) (taken k n (E d))) []) front ∙ ap (λ o. taken_before o (taken k n (E d))) none in
     hr ∙ ap (λ z. length (taken k n (E z)) == 0) yd ∙ ap (λ z. length z == 0) (sym same)
 
--- ---- what is found in a case: in its branches, in the rest, or not at all
-
-module _ {P : Type 0} (here : P → Bool) (inside : List (Name × P) → Bool) (beyond : Option P → Bool) where
-  -- a search of all parts, and a demand on all of them
-  abbrev pub IsSearch : P → P → List (Name × P) → Option P → Type 0
-  IsSearch t a ps c = here t ≡ (here a || (inside ps || beyond c))
-
-  abbrev pub IsDemand : P → P → List (Name × P) → Option P → Type 0
-  IsDemand t a ps c = here t ≡ (here a && (inside ps && beyond c))
-
-  behind : (t a b : P) (ps qs : List (Name × P)) (c : Option P) (r s : Bool) → IsSearch t a ps c → b ≡ a → r ≡ here b → r ≡ false → qs ≡ ps → s ≡ inside qs → here t ≡ (s || beyond c)
-  behind t a b ps qs c r s e f g h i j =
-      let none : here a ≡ false = ap here (sym f) ∙ sym g ∙ h in
-      e ∙ ap (λ x. x || (inside ps || beyond c)) none ∙ ap (λ x. x || beyond c) (sym (j ∙ ap inside i))
-
-  pub found_inside : (t a b : P) (ps qs : List (Name × P)) (c : Option P) (r s : Bool) → IsSearch t a ps c → b ≡ a → r ≡ here b → r ≡ false → qs ≡ ps → s ≡ inside qs → s ≡ true → true ≡ here t
-  found_inside t a b ps qs c r s e f g h i j k = sym (behind t a b ps qs c r s e f g h i j ∙ ap (λ x. x || beyond c) k)
-
-  pub found_other : (t a b o d : P) (ps qs : List (Name × P)) (c : Option P) (r s q : Bool) → IsSearch t a ps c → b ≡ a → r ≡ here b → r ≡ false → qs ≡ ps → s ≡ inside qs → s ≡ false
-      → c ≡ Some o → d ≡ o → q ≡ beyond (Some d) → q ≡ here t
-  found_other t a b o d ps qs c r s q e f g h i j k l m n =
-      n ∙ ap (λ x. beyond (Some x)) m ∙ sym (behind t a b ps qs c r s e f g h i j ∙ ap (λ x. x || beyond c) k ∙ ap beyond l)
-
-  pub found_nowhere : (t a b : P) (ps qs : List (Name × P)) (c : Option P) (r s : Bool) → IsSearch t a ps c → b ≡ a → r ≡ here b → r ≡ false → qs ≡ ps → s ≡ inside qs → s ≡ false
-      → c ≡ None → false ≡ beyond None → false ≡ here t
-  found_nowhere t a b ps qs c r s e f g h i j k l m = m ∙ sym (behind t a b ps qs c r s e f g h i j ∙ ap (λ x. x || beyond c) k ∙ ap beyond l)
-
-  ahead : (t a b : P) (ps qs : List (Name × P)) (c : Option P) (r s : Bool) → IsDemand t a ps c → b ≡ a → r ≡ here b → r ≡ true → qs ≡ ps → s ≡ inside qs → here t ≡ (s && beyond c)
-  ahead t a b ps qs c r s e f g h i j =
-      let met : here a ≡ true = ap here (sym f) ∙ sym g ∙ h in
-      e ∙ ap (λ x. x && (inside ps && beyond c)) met ∙ ap (λ x. x && beyond c) (sym (j ∙ ap inside i))
-
-  pub missed_inside : (t a b : P) (ps qs : List (Name × P)) (c : Option P) (r s : Bool) → IsDemand t a ps c → b ≡ a → r ≡ here b → r ≡ true → qs ≡ ps → s ≡ inside qs → s ≡ false → false ≡ here t
-  missed_inside t a b ps qs c r s e f g h i j k = sym (ahead t a b ps qs c r s e f g h i j ∙ ap (λ x. x && beyond c) k)
-
-  pub met_other : (t a b o d : P) (ps qs : List (Name × P)) (c : Option P) (r s q : Bool) → IsDemand t a ps c → b ≡ a → r ≡ here b → r ≡ true → qs ≡ ps → s ≡ inside qs → s ≡ true
-      → c ≡ Some o → d ≡ o → q ≡ beyond (Some d) → q ≡ here t
-  met_other t a b o d ps qs c r s q e f g h i j k l m n =
-      n ∙ ap (λ x. beyond (Some x)) m ∙ sym (ahead t a b ps qs c r s e f g h i j ∙ ap (λ x. x && beyond c) k ∙ ap beyond l)
-
-  pub met_everywhere : (t a b : P) (ps qs : List (Name × P)) (c : Option P) (r s : Bool) → IsDemand t a ps c → b ≡ a → r ≡ here b → r ≡ true → qs ≡ ps → s ≡ inside qs → s ≡ true
-      → c ≡ None → true ≡ beyond None → true ≡ here t
-  met_everywhere t a b ps qs c r s e f g h i j k l m = m ∙ sym (ahead t a b ps qs c r s e f g h i j ∙ ap (λ x. x && beyond c) k ∙ ap beyond l)
-
 -- ---- of terms
 
 whole_branches : (n : ℕ) (ps : List (Name × Term)) (last : Arms) → whole_use_arms n (arms_of (map view_part ps) last) ≡ (whole_use_parts (n + 1) (parts_view ps) || whole_use_arms n last)
@@ -135,9 +101,6 @@ column_case n m t a ps c e = ap (column_use n m) (ap term_view e ∙ term_Case a
 
 -- ---- of plans as terms
 
-abbrev pub as_term : Plan → Tree
-as_term p = erased (view p)
-
 whole_choices : (n : ℕ) (bs : List (Name × Plan)) (last : Branches)
     → whole_use_arms n (erased_branches (branches_of (map view_branch bs) last)) ≡ (whole_use_parts (n + 1) (erased_fields (fields_view bs)) || whole_use_arms n (erased_branches last))
 whole_choices n [] last = refl
@@ -152,21 +115,10 @@ column_choices n m (b ∷ bs) last =
     ap (λ x. column_use (n + 1) m (as_term b.1) || x) (column_choices n m bs last)
     ∙ sym (or_assoc (column_use (n + 1) m (as_term b.1)) (column_use_parts (n + 1) m (erased_fields (fields_view bs))) (column_use_arms n m (erased_branches last)))
 
-total_choices : (bs : List (Name × Plan)) (last : Branches)
-    → total_arms (erased_branches (branches_of (map view_branch bs) last)) ≡ (total_parts (erased_fields (fields_view bs)) && total_arms (erased_branches last))
-total_choices [] last = refl
-total_choices (b ∷ bs) last =
-    ap (λ x. total_in (as_term b.1) && x) (total_choices bs last)
-    ∙ sym (and_assoc (total_in (as_term b.1)) (total_parts (erased_fields (fields_view bs))) (total_arms (erased_branches last)))
-
-pub plan_whole_case : (n : ℕ) (p a : Plan) (bs : List (Name × Plan)) (c : Option Plan) → p ≡ plan.Case a bs c
-    → whole_use n (as_term p) ≡ (whole_use n (as_term a) || (whole_use_parts (n + 1) (erased_fields (fields_view bs)) || whole_use_arms n (erased_branches (other_node c))))
+pub plan_whole_case : (n : ℕ) (p a : Plan) (bs : List (Name × Plan)) (c : Option Plan)
+    → p ≡ plan.Case a bs c → whole_use n (as_term p) ≡ (whole_use n (as_term a) || (whole_use_parts (n + 1) (erased_fields (fields_view bs)) || whole_use_arms n (erased_branches (other_node c))))
 plan_whole_case n p a bs c e = ap (λ x. whole_use n (erased x)) (ap view e ∙ view_Case a bs c) ∙ ap (λ b. whole_use n (as_term a) || b) (whole_choices n bs (other_node c))
 
 pub plan_column_case : (n : ℕ) (m : Name) (p a : Plan) (bs : List (Name × Plan)) (c : Option Plan) → p ≡ plan.Case a bs c
     → column_use n m (as_term p) ≡ (column_use n m (as_term a) || (column_use_parts (n + 1) m (erased_fields (fields_view bs)) || column_use_arms n m (erased_branches (other_node c))))
 plan_column_case n m p a bs c e = ap (λ x. column_use n m (erased x)) (ap view e ∙ view_Case a bs c) ∙ ap (λ b. column_use n m (as_term a) || b) (column_choices n m bs (other_node c))
-
-pub plan_total_case : (p a : Plan) (bs : List (Name × Plan)) (c : Option Plan) → p ≡ plan.Case a bs c
-    → total_in (as_term p) ≡ (total_in (as_term a) && (total_parts (erased_fields (fields_view bs)) && total_arms (erased_branches (other_node c))))
-plan_total_case p a bs c e = ap (λ x. total_in (erased x)) (ap view e ∙ view_Case a bs c) ∙ ap (λ b. total_in (as_term a) && b) (total_choices bs (other_node c))

@@ -18,16 +18,19 @@ use Rattle.kl_sqltext.proofs.Answer.{unique}
 use Rattle.kl_sqltext.specs.Written.{statement_text}
 use Rattle.kl_ship.specs.declared.needs.Need.{Need}
 use Rattle.kl_ship.specs.declared.needs.Need.TheVariants as need
-use Rattle.kl_ship.specs.declared.plan.Scan.{Scan}
+use Rattle.kl_plan.specs.declared.plan.Scan.{Scan}
 use Rattle.kl_ship.specs.declared.source.ShipSource.{ShipSource}
-use Rattle.kl_ship.specs.Nodes as node
-use Rattle.kl_ship.specs.Nodes.{Node, Nodes, no_nodes, nodes, Fields, no_fields, fields, Branches, no_branches, rest, branch}
+use Rattle.kl_plan.specs.Nodes as node
+use Rattle.kl_plan.specs.Nodes.{Node, Nodes, no_nodes, nodes, Fields, no_fields, fields, Branches, no_branches, rest, branch}
 use Rattle.kl_ship.specs.Sources.{ground, fits, fits_source}
 use Rattle.kl_ship.specs.Contents.{AreSources}
 use Rattle.kl_ship.specs.Delegation.{comparison, variable, constant, column_at, column_of, test_between, test_by, test_of, is_empty, is_front, taken_before, taken, body_left, whole_use, column_use, in_use, or_first, first_of, kept_of}
 use Rattle.kl_ship.specs.Joined.{MayJoin, IsJoinable, Joins, row_parts, packed_variable, packed_column, packed, packed_trees, label_in, columns_at, over_shown, statement}
-use Rattle.kl_ship.specs.Ships.{Ships, IsScan, Becomes, TreesBecome, PartsBecome, ArmsBecome, passed_on, is_generator, ByRows, BySql, ByAsk, Delegates}
-use Rattle.kl_ship.specs.Full.{erased, erased_nodes, Shows, IsUsed, IsFull, IsFullAt, FullyShipped, FullNodes, FullFields, FullBranches}
+use Rattle.kl_ship.specs.Ships.{Sends, IsScan, Becomes, TreesBecome, PartsBecome, ArmsBecome, passed_on, is_generator, ByRows, BySql, ByAsk, Delegates}
+use Rattle.kl_ship.specs.Full.{Shows, IsUsed, IsFull, IsFullAt, FullyShipped, FullNodes, FullFields, FullBranches}
+use Rattle.kl_plan.specs.Erased.{erased, erased_nodes}
+use Rattle.kl_ship.proofs.Bare.{sent_bare}
+use Rattle.kl_ship.proofs.Directly.{bare_loop}
 use Rattle.kl_ship.proofs.Kept.{none_left, not_variable, variable_none, packed_total}
 use Rattle.kl_ship.proofs.Fully.{uses_erased, variable_erased}
 use Rattle.kl_ship.proofs.ColumnsLeft.{Strict, AllStrict, labels_strict, shown_used}
@@ -453,12 +456,15 @@ module _ (ss : List ShipSource) (sources : AreSources ss) (good : (i : ℕ) (s :
             (λ rows. rows_in_use ss q.source k b q.reading d p i m fit able_too rows.1 w ls shows)
             (λ sql. statement_in_use q.source k b q.reading d p i m (good q.place q.source q.listed) able_too sql.1 w ls shows)
             q.ask;
-        loops = λ join kind a e same driver other.
-            no_loop_left ss q.source k b q.reading d a e n i m q.scan (sym (ap (λ x. x.join) able) ∙ join) kind q.ask (subst (λ x. Becomes true ss need.Items d i x m) same w) driver other;
+        loops = λ join kind e over driver other.
+            let a = bare_loop k p e (sent_bare true ss p need.Items d i m w) over in
+            no_loop_left ss q.source k b q.reading d a.0 e n i m q.scan (sym (ap (λ x. x.join) able) ∙ join) kind q.ask
+            (subst (λ x. Becomes true ss need.Items d i x m) a.1 w) driver other;
       })
 
   no_generator : (k : Kind) (y : Tree) (b s : Node) (n i : ℕ) → is_generator true y ≡ false → Becomes true ss (need.Source k) y n s i → IsFullAt ss k b s
   no_generator k y b (node.Scan c) n i off w = absurd (no_plain_scan ss k y c n i off w)
+  no_generator k y b (node.Memo number frees p) n i off w = absurd w
   no_generator k y b s n i off w = tt
 
   scan_full : (s : Node) (c : Scan) → s ≡ node.Scan c → FullyShipped ss s
@@ -504,5 +510,5 @@ module _ (ss : List ShipSource) (sources : AreSources ss) (good : (i : ℕ) (s :
     full_branches (branch l b bs) u ts n m w = (full b u w.0 n w.2 w.4, full_branches bs u w.1 w.2 m w.5)
 
   -- what is shipped with delegation is fully shipped
-  pub ships_full : (t : Tree) (p : Node) → Ships true ss t p → FullyShipped ss p
+  pub ships_full : (t : Tree) (p : Node) → Sends true ss t p → FullyShipped ss p
   ships_full t p w = full p need.Items t 0 w.0 w.1

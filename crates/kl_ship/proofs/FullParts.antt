@@ -3,16 +3,18 @@ use Rattle.std.proofs.Common.{◌≡◌, Bool, true, false, List, [], ◌∷◌,
 use Rattle.std.specs.Bool.{Decides}
 use Rattle.kl_value.specs.declared.Kind.{Kind}
 use Rattle.kl_outcome.specs.Outcome.{Name}
-use Rattle.kl_ship.specs.declared.plan.Plan.{Plan}
-use Rattle.kl_ship.specs.declared.plan.Plan.TheVariants as plan
-use Rattle.kl_ship.specs.declared.plan.Scan.{Scan}
+use Rattle.kl_plan.specs.declared.plan.Join.{Join, out-Join}
+use Rattle.kl_plan.specs.declared.plan.Plan.{Plan}
+use Rattle.kl_plan.specs.declared.plan.Plan.TheVariants as plan
+use Rattle.kl_plan.specs.declared.plan.Scan.{Scan}
 use Rattle.kl_ship.specs.declared.source.ShipSource.{ShipSource}
-use Rattle.kl_ship.specs.Full.{IsFullAt, FullyShipped, FullFields, FullBranches}
-use Rattle.kl_ship.specs.Nodes as node
-use Rattle.kl_ship.specs.Nodes.{Node, Branches, branches_of, view, view_branch, fields_view}
-use Rattle.kl_ship.specs.Shipping.{other_node}
+use Rattle.kl_ship.specs.Bodies.{inner_body}
+use Rattle.kl_ship.specs.Full.{IsFullAt, InnerFull, FullyShipped, FullFields, FullBranches}
+use Rattle.kl_plan.specs.Nodes as node
+use Rattle.kl_plan.specs.Nodes.{Node, Branches, branches_of, view, view_branch, fields_view}
+use Rattle.kl_plan.specs.Joins.{join_view, other_node}
 use Rattle.kl_ship.proofs.Deciding.{no, refuted, follows}
-use Rattle.kl_ship.proofs.Views.{view_Rec, view_Case, view_Ext, view_Scan}
+use Rattle.kl_plan.proofs.Views.{view_Rec, view_Case, view_Scan, view_join}
 
 -- what holds of the whole exactly where it does of the parts
 abbrev pub Same : Type 0 → Type 0 → Type 0
@@ -50,19 +52,20 @@ module _ (ss : List ShipSource) where
       let v : view p ≡ node.Rec (fields_view fs) = ap view is ∙ view_Rec fs in
       ((λ h. subst (λ w. FullFields ss (fields_view w)) (sym e) (opened p (node.Rec (fields_view fs)) v h)), (λ h. closed p (node.Rec (fields_view fs)) v (subst (λ w. FullFields ss (fields_view w)) e h)))
 
-  -- of a loop: its source, its body, and what it leaves to its source
-  pub same_ext : (p b s x y z : Plan) (k : Kind) → p ≡ plan.Ext k b s → x ≡ s → y ≡ b → z ≡ s → Same (Full p) (Full x × Full y × IsFullAt ss k (view y) (view z))
-  same_ext p b s x y z k is e f g =
-      let v : view p ≡ node.Ext k (view b) (view s) = ap view is ∙ view_Ext k b s in (
-        (λ h. let i = opened p (node.Ext k (view b) (view s)) v h in (moved s x e i.0, moved b y f i.1, subst (λ w. IsFullAt ss k (view w) (view z)) (sym f) (subst (λ w. IsFullAt ss k (view b) (view w)) (sym g) i.2))),
-        (λ h. closed p (node.Ext k (view b) (view s)) v (back s x e h.0, back b y f h.1, subst (λ w. IsFullAt ss k (view w) (view s)) f (subst (λ w. IsFullAt ss k (view y) (view w)) g h.2))),
+  -- what the inner loop of a join leaves
+  pub inner_full : (j : Join) → Same (InnerFull ss (join_view j))
+      (IsFullAt ss (out-Join j).kind (inner_body (join_view j)) (node.Scan (out-Join j).inner))
+  inner_full j =
+      let v = view_join j in (
+        (λ h. subst (λ x. IsFullAt ss (out-Join j).kind (inner_body x) (node.Scan (out-Join j).inner)) (sym v) (subst (InnerFull ss) v h)),
+        (λ h. subst (InnerFull ss) (sym v) (subst (λ x. IsFullAt ss (out-Join j).kind (inner_body x) (node.Scan (out-Join j).inner)) v h)),
       )
 
-  pub at_scan : (k : Kind) (b w y z : Plan) (c : Scan) → y ≡ b → w ≡ b → z ≡ plan.Scan c → Same (IsFullAt ss k (view y) (view z)) (IsFullAt ss k (view w) (node.Scan c))
-  at_scan k b w y z c f g is =
-      let e : y ≡ w = f ∙ sym g in
-      let v : view z ≡ node.Scan c = ap view is ∙ view_Scan c in
-      ((λ h. subst (λ n. IsFullAt ss k (view w) n) v (subst (λ q. IsFullAt ss k (view q) (view z)) e h)), (λ h. subst (λ q. IsFullAt ss k (view q) (view z)) (sym e) (subst (λ n. IsFullAt ss k (view w) n) (sym v) h)))
+  pub at_scan : (k : Kind) (b : Node) (p : Plan) (c : Scan) → p ≡ plan.Scan c
+      → Same (IsFullAt ss k b (view p)) (IsFullAt ss k b (node.Scan c))
+  at_scan k b p c is =
+      let v : view p ≡ node.Scan c = ap view is ∙ view_Scan c in
+      ((λ h. subst (λ n. IsFullAt ss k b n) v h), (λ h. subst (λ n. IsFullAt ss k b n) (sym v) h))
 
   choices : (bs : List (Name × Plan)) (last : Branches) → Same (FullBranches ss (branches_of (map view_branch bs) last)) (FullFields ss (fields_view bs) × FullBranches ss last)
   choices [] last = ((λ h. (tt, h)), (λ h. h.1))

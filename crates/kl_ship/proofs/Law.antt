@@ -30,24 +30,25 @@ use Rattle.kl_ask.proofs.Whole.{whole_rows, collection_is}
 use Rattle.kl_ship.specs.declared.needs.Need.{Need}
 use Rattle.kl_ship.specs.declared.needs.Need.TheVariants as need
 use Rattle.kl_ship.specs.declared.source.ShipSource.{ShipSource}
-use Rattle.kl_ship.specs.declared.plan.Scan.{Scan}
-use Rattle.kl_ship.specs.Nodes as node
-use Rattle.kl_ship.specs.Nodes.{Node, Nodes, no_nodes, nodes, Fields, no_fields, fields, Branches, no_branches, rest, branch}
+use Rattle.kl_plan.specs.declared.plan.Scan.{Scan}
+use Rattle.kl_plan.specs.Nodes as node
+use Rattle.kl_plan.specs.Nodes.{Node, Nodes, no_nodes, nodes, Fields, no_fields, fields, Branches, no_branches, rest, branch}
 use Rattle.kl_ship.specs.Delegation.{kept_of, tests_taken, body_left, row_test}
-use Rattle.kl_ship.specs.Meaning.{Come, one, many, worth, coming, drawn_for, come_after, come_chosen, come_opened, Readings, scanned, no_tables}
-use Rattle.kl_ship.specs.Meaning.{plan, plan_all, plan_items, plan_fields, plan_branches}
+use Rattle.kl_plan.specs.Meaning.{Come, one, many, worth, coming, drawn_for, come_after, come_chosen, come_opened, Readings, scanned, no_tables}
+use Rattle.kl_plan.specs.Meaning.{plan, plan_all, plan_items, plan_fields, plan_branches}
 use Rattle.kl_ship.specs.Sources.{ground, fits, fits_source}
-use Rattle.kl_ship.specs.Ships.{Ships, Becomes, TreesBecome, PartsBecome, ArmsBecome, Stays, passed_on, IsScan, IsWholeScan, Delegates, ByRows, BySql, columns_asked, scan_kind}
+use Rattle.kl_ship.specs.Ships.{Sends, Becomes, TreesBecome, PartsBecome, ArmsBecome, Stays, passed_on, IsScan, IsWholeScan, Delegates, ByRows, BySql, columns_asked, scan_kind}
 use Rattle.kl_ship.specs.Contents.{types_in, Holds, IsTable, HoldAll, AreSources}
 use Rattle.kl_ship.specs.Joined.{Joins, statement}
-use Rattle.kl_ship.specs.Alike.{Alike}
+use Rattle.kl_plan.specs.Alike.{Alike}
 use Rattle.kl_ship.proofs.Plain.{plain_core}
 use Rattle.kl_ship.proofs.Sources.{known}
 use Rattle.kl_ship.proofs.Fitting.{rows_flow, fitting_rows, itself}
 use Rattle.kl_ship.proofs.Joining.{RowsAt}
 use Rattle.kl_ship.proofs.Stating.{stated_type, sql_sense, sql_rows, sql_alike}
 use Rattle.kl_ship.proofs.Asking.{used_shown, whole_shown, asked_alike}
-use Rattle.kl_ship.proofs.Comings.{Shows, Same, passed, same_type, lift, worth_typed, coming_alike, drawn_for_typed, after_shows, choice_shows, cases_shows, union_shows, loop_shows, loop_by}
+use Rattle.kl_plan.proofs.Comings.{Same, same_type, worth_typed, coming_alike, drawn_for_typed, after_shows, choice_shows, cases_shows, union_shows, loop_shows, loop_by}
+use Rattle.kl_ship.proofs.Wanted.{Shows, passed, lift}
 use Rattle.kl_ship.proofs.Sense.{flat_record, is_coll, rows_sense}
 use Rattle.kl_ship.proofs.Shown.{shown_answers, whole_shown_answers}
 
@@ -404,7 +405,7 @@ module _ (ss : List ShipSource) (R : Readings) (T : Tables) (fit : AreSources ss
             off d = let f : pointwise nat_eq l k ≡ true = subst (λ x. pointwise nat_eq l x ≡ true) d (nat_list_eq_equiv.refl l) in let z : true ≡ false = sym f ∙ q in cc
 
   -- the items of a collection as they come
-  pub law_coming : (on : Bool) (t : Tree) (p : Node) (k : Kind) (s : Ground) → CoreTypes S [] t (coll k s) → Ships on ss t p → Alike k (items_of (core T t [])) (coming (plan R p []))
+  pub law_coming : (on : Bool) (t : Tree) (p : Node) (k : Kind) (s : Ground) → CoreTypes S [] t (coll k s) → Sends on ss t p → Alike k (items_of (core T t [])) (coming (plan R p []))
   law_coming on t p k s h w =
       let both = law p on need.Items t 0 w.0 [] [] (coll k s) tt h w.1 in
       subst (λ o. Alike k (items_of o) (coming (plan R p []))) both.0 (coming_alike k s (plan R p []) both.1)

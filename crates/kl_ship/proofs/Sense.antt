@@ -1,5 +1,5 @@
 -- A plan makes sense where the term does from which it was made.
-use Rattle.std.proofs.Common.{◌≡◌, ◌≢◌, ◌==◌, inl, inr, ⊎_elim, ℕ, zero, suc, Bool, true, false, ◌&&◌, ◌||◌, cond, List, [], ◌∷◌, length, map, filter, Some, None, IsSome, Result, Ok, Err, IfOk, slice_get, refl, sym, ap, subst, ◌∙◌}
+use Rattle.std.proofs.Common.{◌≡◌, ◌≢◌, ◌==◌, inl, inr, ⊎_elim, ℕ, zero, suc, Bool, true, false, ◌&&◌, ◌||◌, cond, List, [], ◌∷◌, length, map, filter, Some, None, IsSome, slice_get, refl, sym, ap, subst, ◌∙◌}
 use Rattle.std.specs.Cmp.Derive.{both_true as both_hold}
 use Rattle.std.proofs.Math.Bool.{or-true}
 use Rattle.std.specs.List.{AllByRecursion}
@@ -7,7 +7,6 @@ use Rattle.std.specs.List.Sorted.{IsStrictlySortedBy}
 use Rattle.std.proofs.lemmas.Bool.{and_parts}
 use Rattle.std.proofs.lemmas.List.Kept.{IsStrictlySortedBy-filter}
 use Rattle.kl_base.specs.Fields.{bytes_cmp}
-use Rattle.kl_base.specs.declared.NoMemory.{NoMemory}
 use Rattle.kl_value.specs.declared.Kind.{Kind}
 use Rattle.kl_value.specs.declared.Kind.TheVariants as kind
 use Rattle.kl_type.specs.Ground.{Ground, Row, bool, int, str, rec as rec_type, var as var_type, coll, arrow, at, IsGround, ground_of}
@@ -37,13 +36,13 @@ use Rattle.kl_ship.proofs.OverShown.{cs_there, row_type_good, shown_row, shown_t
 use Rattle.kl_ask.proofs.Whole.{whole_type, can_start_whole, collection_is}
 use Rattle.kl_ship.specs.declared.needs.Need.{Need}
 use Rattle.kl_ship.specs.declared.needs.Need.TheVariants as need
-use Rattle.kl_ship.specs.declared.plan.Plan.{Plan}
-use Rattle.kl_ship.specs.declared.plan.Scan.{Scan}
+use Rattle.kl_plan.specs.declared.plan.Scan.{Scan}
 use Rattle.kl_ship.specs.declared.source.ShipSource.{ShipSource}
-use Rattle.kl_ship.specs.Nodes as node
-use Rattle.kl_ship.specs.Nodes.{Node, Nodes, no_nodes, nodes, Fields, no_fields, fields, Branches, no_branches, rest, branch, view}
+use Rattle.kl_plan.specs.Nodes as node
+use Rattle.kl_plan.specs.Nodes.{Node, Nodes, no_nodes, nodes, Fields, no_fields, fields, Branches, no_branches, rest, branch, view}
 use Rattle.kl_ship.specs.Delegation.{whole_use, column_use, in_use, first_of, or_first, kept_of, tests_taken, body_left, row_test}
-use Rattle.kl_ship.specs.Ships.{Becomes, TreesBecome, PartsBecome, ArmsBecome, passed_on, IsScan, IsWholeScan, Delegates, ByRows, BySql, ByAsk, columns_asked, scan_kind, Nowhere}
+use Rattle.kl_ship.specs.Ships.{Sends, Becomes, TreesBecome, PartsBecome, ArmsBecome, passed_on, IsScan, IsWholeScan, Delegates, ByRows, BySql, ByAsk, columns_asked, scan_kind}
+use Rattle.kl_plan.specs.Typing.{AnyMemo, Nowhere}
 use Rattle.kl_ship.specs.Sources.{ground, fits, fits_source}
 use Rattle.kl_ship.specs.Contents.{types_in, AreSources}
 use Rattle.kl_ship.proofs.Sources.{Known, known}
@@ -51,9 +50,10 @@ use Rattle.kl_ship.proofs.Over.{types_over}
 use Rattle.kl_ship.proofs.TestTypes.{tests_fit}
 use Rattle.kl_ship.proofs.Fronts.{left_typed}
 use Rattle.kl_ship.proofs.Filtered.{all_filtered}
-use Rattle.kl_ship.proofs.Comings.{same_type}
+use Rattle.kl_plan.proofs.Comings.{same_type}
 use Rattle.kl_ship.proofs.Shown.{all_ground, all_shown_sense, shown_ground, shown_sense}
-use Rattle.kl_ship.specs.Typing.{PlanTypes, EachPlan, PlansOf, FieldTypes, BranchTypes, HasBranch, AreTypesOf, AskOf, ScanOf, KeepsTypes}
+use Rattle.kl_plan.specs.Typing.{PlanTypes, EachPlan, PlansOf, FieldTypes, BranchTypes, HasBranch}
+use Rattle.kl_ship.specs.Sense.{AreTypesOf, AskOf, ScanOf, KeepsTypes}
 
 -- ---- a scan of a whole source
 
@@ -219,7 +219,7 @@ module _ (ss : List ShipSource) (S : SourceTypes) (Of : Scan → Ground → Type
     → IsScan s (need.Source k) n c → ByAsk ss s k b c d → IsGround (ground s) → CoreTypes S (item_of (ground s) ∷ G) b (coll k v)
     → (r : Ground) × Of c r × IsGround r × CoreTypes S (r ∷ G) d (coll k v)) where
   abbrev Types : List Ground → Node → Ground → Type 0
-  Types = PlanTypes Of
+  Types = PlanTypes Of AnyMemo
 
   -- of what a loop draws, the kind may be another
   abbrev TypesFor : Need → List Ground → Node → Ground → Type 0
@@ -329,25 +329,25 @@ module _ (ss : List ShipSource) (S : SourceTypes) (Of : Scan → Ground → Type
     typed (node.Join number k how o cs c q b) on u t n m G s h w = absurd w
     typed (node.Memo number frees p) on u t n m G s h w = absurd w
 
-    typed_each : (p : Nodes) (on : Bool) (ts : Trees) (n m : ℕ) (G : List Ground) (s : Ground) → EachType S G ts s → TreesBecome on ss ts n p m → EachPlan Of G p s
+    typed_each : (p : Nodes) (on : Bool) (ts : Trees) (n m : ℕ) (G : List Ground) (s : Ground) → EachType S G ts s → TreesBecome on ss ts n p m → EachPlan Of AnyMemo G p s
     typed_each no_nodes on ts n m G s h w = tt
     typed_each (nodes p ps) on ts n m G s h w =
         let g : EachType S G (trees w.0 w.1) s = subst (λ x. EachType S G x s) w.3 h in
         (typed p on need.Whole w.0 n w.2 G s g.0 w.4, typed_each ps on w.1 w.2 m G s g.1 w.5)
 
-    typed_all : (p : Nodes) (on : Bool) (ts : Trees) (n m : ℕ) (G : List Ground) (us : List Ground) → AllTypes S G ts us → TreesBecome on ss ts n p m → PlansOf Of G p us
+    typed_all : (p : Nodes) (on : Bool) (ts : Trees) (n m : ℕ) (G : List Ground) (us : List Ground) → AllTypes S G ts us → TreesBecome on ss ts n p m → PlansOf Of AnyMemo G p us
     typed_all no_nodes on ts n m G us h w = subst (λ x. AllTypes S G x us) w.0 h
     typed_all (nodes p ps) on ts n m G us h w =
         let g : AllTypes S G (trees w.0 w.1) us = subst (λ x. AllTypes S G x us) w.3 h in
         (g.0, g.1, g.2, typed p on need.Whole w.0 n w.2 G g.0 g.3 w.4, typed_all ps on w.1 w.2 m G g.1 g.4 w.5)
 
-    typed_parts : (p : Fields) (on : Bool) (ts : Parts) (n m : ℕ) (G : List Ground) (r : Row) → PartTypes S G ts r → PartsBecome on ss need.Whole ts n p m → FieldTypes Of G p r
+    typed_parts : (p : Fields) (on : Bool) (ts : Parts) (n m : ℕ) (G : List Ground) (r : Row) → PartTypes S G ts r → PartsBecome on ss need.Whole ts n p m → FieldTypes Of AnyMemo G p r
     typed_parts no_fields on ts n m G r h w = subst (λ x. PartTypes S G x r) w.0 h
     typed_parts (fields l p ps) on ts n m G r h w =
         let g : PartTypes S G (parts l w.0 w.1) r = subst (λ x. PartTypes S G x r) w.3 h in
         (g.0, g.1, g.2, typed p on need.Whole w.0 n w.2 G g.0 g.3 w.4, typed_parts ps on w.1 w.2 m G g.1 g.4 w.5)
 
-    typed_arms : (p : Branches) (on : Bool) (u : Need) (bs : Arms) (n m : ℕ) (G : List Ground) (r : Row) (s : Ground) → ArmTypes S G bs r s → ArmsBecome on ss (passed_on u) bs n p m → BranchTypes Of G p r s
+    typed_arms : (p : Branches) (on : Bool) (u : Need) (bs : Arms) (n m : ℕ) (G : List Ground) (r : Row) (s : Ground) → ArmTypes S G bs r s → ArmsBecome on ss (passed_on u) bs n p m → BranchTypes Of AnyMemo G p r s
     typed_arms no_branches on u bs n m G r s h w = tt
     typed_arms (rest c) on u bs n m G r s h w =
         passed u G c s (typed c on (passed_on u) w.0 n m G s (subst (λ x. ArmTypes S G x r s) w.1 h) w.2)
@@ -355,7 +355,7 @@ module _ (ss : List ShipSource) (S : SourceTypes) (Of : Scan → Ground → Type
         let g : ArmTypes S G (arm l w.0 w.1) r s = subst (λ x. ArmTypes S G x r s) w.3 h in
         (g.0, g.1, passed u (g.0 ∷ G) b s (typed b on (passed_on u) w.0 n w.2 (g.0 ∷ G) s g.2 w.4), typed_arms cs on u w.1 w.2 m G r s g.3 w.5)
 
-  pub shipped_types : (p : Node) (on : Bool) (t : Tree) (n m : ℕ) (s : Ground) → CoreTypes S [] t s → Becomes on ss need.Items t n p m → PlanTypes Of [] p s
+  pub shipped_types : (p : Node) (on : Bool) (t : Tree) (n m : ℕ) (s : Ground) → CoreTypes S [] t s → Becomes on ss need.Items t n p m → PlanTypes Of AnyMemo [] p s
   shipped_types p on t n m s h w = typed p on need.Items t n m [] s h w
 
 -- ---- a scan by a statement
@@ -493,7 +493,7 @@ module _ (ss : List ShipSource) (fit : AreSources ss) where
       ))
       ask
 
-pub plan_makes_sense : (ss : List ShipSource) (on : Bool) (t : Tree) (n m : ℕ) (r : Result Plan NoMemory) → AreSources ss → IfOk r (λ p. Becomes on ss need.Items t n (view p) m) → IfOk r (λ p. KeepsTypes ss t (view p))
-plan_makes_sense ss on t n m (Ok p) fit h = λ s c.
-    shipped_types ss (types_in ss) (ScanOf ss) (λ i u x is at. (fit.suited i x at).collection) (known ss) (λ i u x v k q is. whole_scan ss i x v k q) (left_to_source ss fit) (view p) on t n m s c h
-plan_makes_sense ss on t n m (Err e) fit h = tt
+-- what is sent makes sense at each type of the term
+pub sends_sense : (ss : List ShipSource) (on : Bool) (t : Tree) (p : Node) → AreSources ss → Sends on ss t p → KeepsTypes ss t p
+sends_sense ss on t p fit w s c =
+    shipped_types ss (types_in ss) (ScanOf ss) (λ i u x is at. (fit.suited i x at).collection) (known ss) (λ i u x v k q is. whole_scan ss i x v k q) (left_to_source ss fit) p on t 0 w.0 s c w.1

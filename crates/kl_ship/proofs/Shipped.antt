@@ -17,20 +17,21 @@ use Rattle.kl_ask.specs.Asks.{columns, item_of}
 use Rattle.kl_ask.specs.declared.ask.Ask.TheVariants as asks
 use Rattle.kl_ship.specs.declared.needs.Need.{Need}
 use Rattle.kl_ship.specs.declared.needs.Need.TheVariants as need
-use Rattle.kl_ship.specs.declared.plan.Plan.{Plan}
-use Rattle.kl_ship.specs.declared.plan.Plan.TheVariants as plan
-use Rattle.kl_ship.specs.declared.plan.Scan.{Scan}
+use Rattle.kl_plan.specs.declared.plan.Plan.{Plan}
+use Rattle.kl_plan.specs.declared.plan.Plan.TheVariants as plan
+use Rattle.kl_plan.specs.declared.plan.Scan.{Scan}
 use Rattle.kl_ship.specs.declared.source.ShipSource.{ShipSource}
 use Rattle.kl_ship.specs.Delegation.{body_left}
 use Rattle.kl_ship.specs.Joined.{columns_of}
-use Rattle.kl_ship.specs.Nodes as node
-use Rattle.kl_ship.specs.Nodes.{Node, Nodes, no_nodes, nodes, Fields, no_fields, fields, Branches, branches_of, view, view_branch, nodes_view, fields_view}
+use Rattle.kl_plan.specs.Nodes as node
+use Rattle.kl_plan.specs.Nodes.{Node, Nodes, no_nodes, nodes, Fields, no_fields, fields, Branches, branches_of, view, view_branch, nodes_view, fields_view}
 use Rattle.kl_ship.specs.Ships.{Becomes, TreesBecome, PartsBecome, ArmsBecome, ByAsk, ByRows, IsScan, is_generator, passed_on}
-use Rattle.kl_ship.specs.Shipping.{IsSound, TreesSound, PartsSound, ArmsSound, IsStated, behind_statement, other_view, other_node, arms_view, UnionBecomes, LoopBecomes, LetBecomes, IfBecomes, CaseBecomes}
+use Rattle.kl_ship.specs.Shipping.{IsSound, TreesSound, PartsSound, ArmsSound, IsStated, behind_statement, other_view, arms_view, UnionBecomes, LoopBecomes, LetBecomes, IfBecomes, CaseBecomes}
+use Rattle.kl_plan.specs.Joins.{other_node}
 use Rattle.kl_ship.specs.Sizes.{amount_in, amount_of_parts, amount_of_arms, sources_in, sources_trees, sources_parts, loops_in, loops_trees, loops_parts}
 use Rattle.kl_ship.specs.Sources.{fits, ground}
 use Rattle.kl_ship.proofs.Smaller.{child_less, loops_nodes}
-use Rattle.kl_ship.proofs.Views.{view_Rec, view_Case, view_Union, view_Ext, view_If, view_Let, view_Scan}
+use Rattle.kl_plan.proofs.Views.{view_Rec, view_Case, view_Union, view_Ext, view_If, view_Let, view_Scan}
 
 -- ---- the measure: the nodes of a part, times a power of the most nodes that one becomes over a shown row, for its loops
 

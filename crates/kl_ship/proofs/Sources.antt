@@ -14,7 +14,8 @@ use Rattle.kl_ship.specs.declared.needs.Need.{Need}
 use Rattle.kl_ship.specs.declared.source.ShipSource.{ShipSource}
 use Rattle.kl_ship.specs.Contents.{types_in, type_in}
 use Rattle.kl_ship.specs.Sources.{ground}
-use Rattle.kl_ship.specs.Ships.{Anywhere, Nowhere, NoSource, MayStay}
+use Rattle.kl_ship.specs.Ships.{MayStay}
+use Rattle.kl_plan.specs.Typing.{Anywhere, Nowhere, NoSource}
 use Rattle.kl_ship.specs.Shipping.{other_view, IsSound, TreesSound, PartsSound, ArmsSound}
 use Rattle.kl_ship.specs.Reads.{reads_in, reads_trees, reads_parts, reads_arms}
 

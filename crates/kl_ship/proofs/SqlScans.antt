@@ -15,9 +15,9 @@ use Rattle.kl_sqltext.specs.declared.ast.SqlTest.{SqlTest}
 use Rattle.kl_sqltext.specs.Grammar.{SqlColumn}
 use Rattle.kl_sqltext.specs.Reading.{SqlReads}
 use Rattle.kl_ship.specs.declared.needs.Need.TheVariants as need
-use Rattle.kl_ship.specs.declared.plan.Plan.{Plan}
-use Rattle.kl_ship.specs.declared.plan.Plan.TheVariants as plan
-use Rattle.kl_ship.specs.declared.plan.Scan.{Scan}
+use Rattle.kl_plan.specs.declared.plan.Plan.{Plan}
+use Rattle.kl_plan.specs.declared.plan.Plan.TheVariants as plan
+use Rattle.kl_plan.specs.declared.plan.Scan.{Scan}
 use Rattle.kl_ship.specs.declared.source.ShipSource.{ShipSource}
 use Rattle.kl_ship.specs.Contents.{types_in}
 use Rattle.kl_ship.specs.Delegation.{body_left}

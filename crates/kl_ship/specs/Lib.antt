@@ -1,6 +1,3 @@
-pub mod Nodes
-pub mod Kinds
-pub mod Meaning
 pub mod Sources
 pub mod Delegation
 pub mod Joined
@@ -9,14 +6,11 @@ pub mod Ships
 pub mod Sizes
 pub mod Shipping
 pub mod Reads
-pub mod Alike
 pub mod Contents
 pub mod Stated
-pub mod Typing
-pub mod Numbers
-pub mod Reached
-pub mod Holding
-pub mod Joins
+pub mod Sense
 pub mod Full
 pub mod Marking
 pub mod Whether
+pub mod Bodies
+pub mod Whole

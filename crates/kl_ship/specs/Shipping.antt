@@ -10,14 +10,14 @@ use Rattle.kl_core.specs.Trees.{Parts, no_parts, parts, Arms, no_arms, rest, arm
 use Rattle.kl_core.specs.Typing.{CoreTypes}
 use Rattle.kl_ship.specs.declared.needs.Need.{Need}
 use Rattle.kl_ship.specs.declared.needs.Need.TheVariants as need
-use Rattle.kl_ship.specs.declared.plan.Plan.{Plan}
-use Rattle.kl_ship.specs.declared.plan.Plan.TheVariants as plan
-use Rattle.kl_ship.specs.declared.plan.Scan.{Scan}
+use Rattle.kl_plan.specs.declared.plan.Plan.{Plan}
+use Rattle.kl_plan.specs.declared.plan.Plan.TheVariants as plan
+use Rattle.kl_plan.specs.declared.plan.Scan.{Scan}
 use Rattle.kl_ship.specs.declared.source.ShipSource.{ShipSource}
 use Rattle.kl_ship.specs.Contents.{types_in}
 use Rattle.kl_ship.specs.Delegation.{body_left}
-use Rattle.kl_ship.specs.Nodes as node
-use Rattle.kl_ship.specs.Nodes.{Node, Branches, rest_of as rest_node, view}
+use Rattle.kl_plan.specs.Nodes as node
+use Rattle.kl_plan.specs.Nodes.{Node, Branches, rest_of as rest_node, view}
 use Rattle.kl_ship.specs.Ships.{Becomes, ArmsBecome, BySql, Delegates, IsScan, is_generator}
 
 -- ---- terms over these sources: each source is in the list, and each loop makes sense where positions have some types
@@ -64,9 +64,6 @@ module _ (ss : List ShipSource) where
 
 abbrev pub other_view : Option Term → Arms
 other_view c = rest_of (option_map term_view c)
-
-abbrev pub other_node : Option Plan → Branches
-other_node c = rest_node (option_map view c)
 
 abbrev pub arms_view : List (Name × Term) → Option Term → Arms
 arms_view ps c = arms_of (map view_part ps) (other_view c)

@@ -2,11 +2,11 @@
 //! nothing where that is told.
 ghost use Rattle.std.specs.Prelude.{◌≡◌, IfOk};
 ghost use Rattle.kl_core.specs.Building.{Makes, MakesOfTwo, MakesOfThree};
-ghost use Rattle.kl_ship.specs.declared.plan.Plan.TheVariants as plan;
+ghost use Rattle.kl_plan.specs.declared.plan.Plan.TheVariants as plan;
 
-use crate::plan::{Plan, PlanBranches, PlanFields, Plans, Scan};
 use kl_base::{Box, Label, NoMemory};
 use kl_core::Term;
+use kl_plan::{Plan, PlanBranches, PlanFields, Plans, Scan};
 use kl_value::Kind;
 
 /// A term, as it stands.

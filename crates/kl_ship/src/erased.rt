@@ -1,17 +1,19 @@
-//! What holds of a plan as a term, where a scan is a source. None of it takes memory.
+//! What holds of a plan as a term, where a scan is a source and a join is its loops. None of it takes memory.
 ghost use Rattle.std.specs.Prelude.{◌≡◌, ◌==◌, ◌-◌, ◌^◌, ℕ, length, min, Some, is_some};
-ghost use Rattle.kl_core.specs.Counts.{total_in, total_trees, total_parts};
 ghost use Rattle.kl_sqltext.specs.declared.ast.SqlOp.{SqlOp};
 ghost use Rattle.kl_ship.specs.Delegation.{variable, column_of, constant, test_by, test_of, is_empty, is_front, taken};
 ghost use Rattle.kl_ship.specs.Delegation.{whole_use, whole_use_trees, whole_use_parts, is_at};
 ghost use Rattle.kl_ship.specs.Delegation.{column_use, column_use_trees, column_use_parts};
-ghost use Rattle.kl_ship.specs.Full.{erased, erased_nodes, erased_fields};
-ghost use Rattle.kl_ship.specs.Nodes.{view, nodes_view, fields_view};
+ghost use Rattle.kl_plan.specs.Erased.{erased, erased_nodes, erased_fields};
+ghost use Rattle.kl_plan.specs.Joins.{join_view, keys_view};
+ghost use Rattle.kl_plan.specs.Nodes.{view, nodes_view, fields_view};
+ghost use Rattle.kl_ship.specs.Bodies.{outer_body, whole_key, column_key};
 
 use crate::conditions;
-use crate::conditions::{comparison, constant, is_same};
-use crate::plan::Plan;
+use crate::conditions::{comparison, constant};
 use kl_base::Label;
+use kl_joins::is_same;
+use kl_plan::{Join, JoinKey, Plan, is_total};
 use kl_value::Kind;
 
 fn variable(plan: &Plan) -> Option<u32>
@@ -20,18 +22,17 @@ fn variable(plan: &Plan) -> Option<u32>
     match plan {
         Plan::Plain(term) => conditions::variable(term),
         Plan::Var(x) => Some(*x),
-        Plan::Join(join) => variable(&join.outer),
         Plan::Memo(_, _, part) => variable(part.get()),
         _ => None,
     }
 }
 
-fn is_constant(plan: &Plan) -> bool
+/// Whether a plan is a constant.
+pub fn is_constant(plan: &Plan) -> bool
     ensures { result ≡ is_some (constant (erased (view plan.now))) }
 {
     match plan {
         Plan::Plain(term) => constant(term).is_some(),
-        Plan::Join(join) => is_constant(&join.outer),
         Plan::Memo(_, _, part) => is_constant(part.get()),
         _ => false,
     }
@@ -46,13 +47,13 @@ fn is_column(rows: u32, plan: &Plan) -> bool
             Some(x) => x < rows,
             None => false,
         },
-        Plan::Join(join) => is_column(rows, &join.outer),
         Plan::Memo(_, _, part) => is_column(rows, part.get()),
         _ => false,
     }
 }
 
-fn is_test(rows: u32, condition: &Plan) -> bool
+/// Whether a condition is a test of the rows at the positions below `rows`.
+pub fn is_test(rows: u32, condition: &Plan) -> bool
     ensures { result ≡ is_some (test_of rows (erased (view condition.now))) }
 {
     match condition {
@@ -61,7 +62,6 @@ fn is_test(rows: u32, condition: &Plan) -> bool
             Some(_) => compares(rows, plans.slice()),
             None => false,
         },
-        Plan::Join(join) => is_test(rows, &join.outer),
         Plan::Memo(_, _, part) => is_test(rows, part.get()),
         _ => false,
     }
@@ -89,67 +89,9 @@ fn is_empty(kind: Kind, plan: &Plan) -> bool
             [] => is_same(*k, kind),
             _ => false,
         },
-        Plan::Join(join) => is_empty(kind, &join.outer),
         Plan::Memo(_, _, part) => is_empty(kind, part.get()),
         _ => false,
     }
-}
-
-#[cycle(is_total)]
-fn is_total(plan: &Plan) -> bool
-    ensures { result ≡ total_in (erased (view plan.now)) }
-{
-    match plan {
-        Plan::Plain(term) => kl_core::is_total(term),
-        Plan::Var(_) | Plan::Scan(_) => true,
-        Plan::Rec(fields) => are_total_labelled(fields.slice()),
-        Plan::Proj(_, a) => is_total(a.get()),
-        Plan::Inj(_, a) => is_total(a.get()),
-        Plan::Case(a, branches, other) => {
-            if !is_total(a.get()) {
-                return false;
-            }
-            if !are_total_labelled(branches.slice()) {
-                return false;
-            }
-            match other {
-                Some(other) => is_total(other.get()),
-                None => true,
-            }
-        }
-        Plan::Make(_, plans) => are_total(plans.slice()),
-        Plan::Union(a, b) => is_total(a.get()) && is_total(b.get()),
-        Plan::Ext(_, body, source) => is_total(body.get()) && is_total(source.get()),
-        Plan::If(a, b, c) => is_total(a.get()) && is_total(b.get()) && is_total(c.get()),
-        Plan::Let(a, b) => is_total(a.get()) && is_total(b.get()),
-        Plan::Prim(code, plans) => kl_core::is_total_code(*code) && are_total(plans.slice()),
-        Plan::Join(join) => is_total(&join.outer),
-        Plan::Memo(_, _, part) => is_total(part.get()),
-    }
-}
-
-#[cycle(is_total)]
-fn are_total(plans: &[Plan]) -> bool
-    ensures { result ≡ total_trees (erased_nodes (nodes_view plans.now)) }
-{
-    for plan in plans {
-        if !is_total(plan) {
-            return false;
-        }
-    }
-    true
-}
-
-#[cycle(is_total)]
-fn are_total_labelled(parts: &[(Label, Plan)]) -> bool
-    ensures { result ≡ total_parts (erased_fields (fields_view parts.now)) }
-{
-    for part in parts {
-        if !is_total(&part.1) {
-            return false;
-        }
-    }
-    true
 }
 
 fn is_front(kind: Kind, condition: &Plan, other: &Plan) -> bool
@@ -171,7 +113,6 @@ pub fn takes_none(kind: Kind, rows: u32, body: &Plan) -> bool
                 true
             }
         }
-        Plan::Join(join) => takes_none(kind, rows, &join.outer),
         Plan::Memo(_, _, part) => takes_none(kind, rows, part.get()),
         _ => true,
     }
@@ -218,7 +159,12 @@ fn uses_whole(at: u64, plan: &Plan) -> bool
         }
         Plan::Let(a, b) => uses_whole(at, a.get()) || uses_whole(at.saturating_add(1), b.get()),
         Plan::Prim(_, plans) => uses_whole_all(at, plans.slice()),
-        Plan::Join(join) => uses_whole(at, &join.outer),
+        Plan::Join(join) => {
+            if uses_whole_outer(at.saturating_add(1), join.get()) {
+                return true;
+            }
+            uses_whole(at, &join.outer)
+        }
         Plan::Memo(_, _, part) => uses_whole(at, part.get()),
     }
 }
@@ -245,6 +191,30 @@ fn uses_whole_labelled(at: u64, parts: &[(Label, Plan)]) -> bool
         }
     }
     false
+}
+
+/// The same of the body of the outer loop of a join.
+#[cycle(uses_whole)]
+pub fn uses_whole_outer(at: u64, join: &Join) -> bool
+    ensures { (n : ℕ) → min n (2 ^ 64 - 1) ≡ at → result ≡ whole_use n (erased (outer_body (join_view join.now))) }
+{
+    if uses_whole_all(at, join.conds.slice()) {
+        return true;
+    }
+    if uses_whole_key(at, &join.key) {
+        return true;
+    }
+    uses_whole(at.saturating_add(1), &join.body)
+}
+
+#[cycle(uses_whole)]
+fn uses_whole_key(at: u64, key: &Option<JoinKey>) -> bool
+    ensures { (n : ℕ) → min n (2 ^ 64 - 1) ≡ at → result ≡ whole_key n (keys_view key.now) }
+{
+    match key {
+        Some(key) => uses_whole(at, &key.value),
+        None => false,
+    }
 }
 
 fn is_at(at: u64, plan: &Plan) -> bool
@@ -305,7 +275,12 @@ fn uses_column(at: u64, label: &Label, plan: &Plan) -> bool
             uses_column(at, label, a.get()) || uses_column(at.saturating_add(1), label, b.get())
         }
         Plan::Prim(_, plans) => uses_column_all(at, label, plans.slice()),
-        Plan::Join(join) => uses_column(at, label, &join.outer),
+        Plan::Join(join) => {
+            if uses_column_outer(at.saturating_add(1), label, join.get()) {
+                return true;
+            }
+            uses_column(at, label, &join.outer)
+        }
         Plan::Memo(_, _, part) => uses_column(at, label, part.get()),
     }
 }
@@ -332,4 +307,28 @@ fn uses_column_labelled(at: u64, label: &Label, parts: &[(Label, Plan)]) -> bool
         }
     }
     false
+}
+
+/// The same of the body of the outer loop of a join.
+#[cycle(uses_column)]
+pub fn uses_column_outer(at: u64, label: &Label, join: &Join) -> bool
+    ensures { (n : ℕ) → min n (2 ^ 64 - 1) ≡ at → result ≡ column_use n label.now (erased (outer_body (join_view join.now))) }
+{
+    if uses_column_all(at, label, join.conds.slice()) {
+        return true;
+    }
+    if uses_column_key(at, label, &join.key) {
+        return true;
+    }
+    uses_column(at.saturating_add(1), label, &join.body)
+}
+
+#[cycle(uses_column)]
+fn uses_column_key(at: u64, label: &Label, key: &Option<JoinKey>) -> bool
+    ensures { (n : ℕ) → min n (2 ^ 64 - 1) ≡ at → result ≡ column_key n label.now (keys_view key.now) }
+{
+    match key {
+        Some(key) => uses_column(at, label, &key.value),
+        None => false,
+    }
 }

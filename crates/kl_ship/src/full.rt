@@ -4,16 +4,18 @@ ghost use Rattle.std.specs.Bool.{Decides};
 ghost use Rattle.std.specs.Cmp.Lexicographic.{pointwise};
 ghost use Rattle.std.specs.List.{AllByRecursion, list_all};
 ghost use Rattle.kl_outcome.specs.Outcome.{Name};
-ghost use Rattle.kl_ship.specs.Full.{Shows, IsUsed, IsFull, IsFullAt, FullyShipped, FullNodes, FullFields};
-ghost use Rattle.kl_ship.specs.Nodes.{Scan as scan_node, view, nodes_view, fields_view};
-ghost use Rattle.kl_ship.specs.Whether.{has_tests, is_scan_by, is_loop_by, has_loop};
+ghost use Rattle.kl_ship.specs.Bodies.{body_view};
+ghost use Rattle.kl_ship.specs.Full.{Shows, IsUsed, IsFull, IsFullAt, FullyShipped, FullNodes, FullFields, FullKey, InnerFull};
+ghost use Rattle.kl_plan.specs.Joins.{join_view, keys_view};
+ghost use Rattle.kl_plan.specs.Nodes.{Scan as scan_node, view, nodes_view, fields_view};
+ghost use Rattle.kl_ship.specs.Whether.{has_tests, has_loop};
 
-use crate::conditions::is_same;
-use crate::erased::{column_use, takes_none, whole_use};
-use crate::plan::{Plan, Scan};
+use crate::bodies::{Body, column_use, is_loop_by, takes_none, whole_use};
 use crate::source::ShipSource;
 use kl_ask::Ask;
 use kl_base::{Label, NoMemory};
+use kl_joins::is_same;
+use kl_plan::{Join, JoinKey, Plan, Scan};
 use kl_sqltext::{SqlError, read_sql};
 use kl_value::Kind;
 use std::alloc::Global;
@@ -57,10 +59,7 @@ pub fn fully_shipped(alloc: Global, plan: &Plan, sources: &[ShipSource]) -> Resu
             if !fully_shipped(alloc, body.get(), sources)? {
                 return Ok(false);
             }
-            match source.get() {
-                Plan::Scan(scan) => leaves_nothing(alloc, *kind, body.get(), scan, sources),
-                _ => Ok(true),
-            }
+            leaves_nothing(alloc, *kind, &Body::Own(body.get()), source.get(), sources)
         }
         Plan::If(a, b, c) => {
             if !fully_shipped(alloc, a.get(), sources)? {
@@ -78,7 +77,7 @@ pub fn fully_shipped(alloc: Global, plan: &Plan, sources: &[ShipSource]) -> Resu
             fully_shipped(alloc, b.get(), sources)
         }
         Plan::Prim(_, plans) => are_full(alloc, plans.slice(), sources),
-        Plan::Join(_) => Ok(false),
+        Plan::Join(join) => join_shipped(alloc, join.get(), sources),
         Plan::Memo(_, _, part) => fully_shipped(alloc, part.get(), sources),
     }
 }
@@ -111,15 +110,76 @@ fn are_full_labelled(
     Ok(true)
 }
 
-// Whether a loop of a kind over a scan leaves nothing to the scan's source, whichever of these it is.
+// A join counts as its loops, the key a condition in front of the inner body.
+#[cycle(fully_shipped)]
+fn join_shipped(alloc: Global, join: &Join, sources: &[ShipSource]) -> Result<bool, NoMemory>
+    ensures { IfOk result (λ b. Decides b (FullyShipped sources.now (join_view join.now))) }
+{
+    if !fully_shipped(alloc, &join.outer, sources)? {
+        return Ok(false);
+    }
+    if !are_full(alloc, join.conds.slice(), sources)? {
+        return Ok(false);
+    }
+    if !key_shipped(alloc, &join.key, sources)? {
+        return Ok(false);
+    }
+    if !fully_shipped(alloc, &join.body, sources)? {
+        return Ok(false);
+    }
+    if !join_leaves_nothing(alloc, join, sources)? {
+        return Ok(false);
+    }
+    leaves_nothing(alloc, join.kind, &Body::Outer(join), &join.outer, sources)
+}
+
+#[cycle(fully_shipped)]
+fn key_shipped(
+    alloc: Global,
+    key: &Option<JoinKey>,
+    sources: &[ShipSource],
+) -> Result<bool, NoMemory>
+    ensures { IfOk result (λ b. Decides b (FullKey sources.now (keys_view key.now))) }
+{
+    match key {
+        Some(key) => fully_shipped(alloc, &key.value, sources),
+        None => Ok(true),
+    }
+}
+
+// Whether the inner loop of a join leaves nothing to the source of its scan.
+fn join_leaves_nothing(alloc: Global, join: &Join, sources: &[ShipSource]) -> Result<bool, NoMemory>
+    ensures { IfOk result (λ b. Decides b (InnerFull sources.now (join_view join.now))) }
+{
+    scan_leaves_nothing(alloc, join.kind, &Body::Inner(join), &join.inner, sources)
+}
+
+// Whether a loop of a kind leaves nothing to the source that it reads, if it reads one.
 fn leaves_nothing(
     alloc: Global,
     kind: Kind,
-    body: &Plan,
+    body: &Body,
+    plan: &Plan,
+    sources: &[ShipSource],
+) -> Result<bool, NoMemory>
+    ensures { IfOk result (λ b. Decides b (IsFullAt sources.now kind (body_view body.now) (view plan.now))) }
+{
+    match plan {
+        Plan::Scan(scan) => scan_leaves_nothing(alloc, kind, body, scan, sources),
+        Plan::Memo(_, _, part) => leaves_nothing(alloc, kind, body, part.get(), sources),
+        _ => Ok(true),
+    }
+}
+
+// Whether a loop of a kind over a scan leaves nothing to the scan's source, whichever of these it is.
+fn scan_leaves_nothing(
+    alloc: Global,
+    kind: Kind,
+    body: &Body,
     scan: &Scan,
     sources: &[ShipSource],
 ) -> Result<bool, NoMemory>
-    ensures { IfOk result (λ b. Decides b (IsFullAt sources.now kind (view body.now) (scan_node scan.now))) }
+    ensures { IfOk result (λ b. Decides b (IsFullAt sources.now kind (body_view body.now) (scan_node scan.now))) }
 {
     for source in sources {
         if !is_full(alloc, kind, body, scan, source)? {
@@ -133,12 +193,12 @@ fn leaves_nothing(
 fn is_full(
     alloc: Global,
     kind: Kind,
-    body: &Plan,
+    body: &Body,
     scan: &Scan,
     source: &ShipSource,
 ) -> Result<bool, NoMemory>
     ensures { IfOk result (λ b. Decides b (source.now.driver ≡ scan.now.driver → source.now.name ≡ scan.now.source
-        → IsFull source.now kind (view body.now) scan.now)) }
+        → IsFull source.now kind (body_view body.now) scan.now)) }
 {
     if !is_of(scan, source) {
         return Ok(true);
@@ -164,39 +224,21 @@ fn is_of(scan: &Scan, source: &ShipSource) -> bool
     source.driver == scan.driver && source.name == scan.source
 }
 
-fn has_tests(source: &ShipSource, kind: Kind, body: &Plan) -> bool
-    ensures { result ≡ has_tests source.now kind (view body.now) }
+fn has_tests(source: &ShipSource, kind: Kind, body: &Body) -> bool
+    ensures { result ≡ has_tests source.now kind (body_view body.now) }
 {
-    source.abilities.select && !takes_none(kind, 1, body)
+    source.abilities.select && !takes_none(kind, body)
 }
 
-fn has_loop(source: &ShipSource, driver: u32, kind: Kind, body: &Plan) -> bool
-    ensures { result ≡ has_loop source.now driver kind (view body.now) }
+fn has_loop(source: &ShipSource, driver: u32, kind: Kind, body: &Body) -> bool
+    ensures { result ≡ has_loop source.now driver kind (body_view body.now) }
 {
     source.abilities.join && is_loop_by(driver, kind, body)
 }
 
-fn is_loop_by(driver: u32, kind: Kind, body: &Plan) -> bool
-    ensures { result ≡ is_loop_by driver kind (view body.now) }
-{
-    match body {
-        Plan::Ext(own, _, source) => is_same(*own, kind) && is_scan_by(driver, kind, source.get()),
-        _ => false,
-    }
-}
-
-fn is_scan_by(driver: u32, kind: Kind, plan: &Plan) -> bool
-    ensures { result ≡ is_scan_by driver kind (view plan.now) }
-{
-    match plan {
-        Plan::Scan(scan) => scan.driver == driver && is_same(scan.kind, kind),
-        _ => false,
-    }
-}
-
 // Whether each column that an ask shows is used in the body, or there is one at most.
-fn uses_shown(alloc: Global, body: &Plan, ask: &Ask) -> Result<bool, NoMemory>
-    ensures { IfOk result (λ b. Decides b ((ls : List Name) → Shows ask.now ls → AllByRecursion (IsUsed (view body.now)) ls
+fn uses_shown(alloc: Global, body: &Body, ask: &Ask) -> Result<bool, NoMemory>
+    ensures { IfOk result (λ b. Decides b ((ls : List Name) → Shows ask.now ls → AllByRecursion (IsUsed (body_view body.now)) ls
         ⊎ (length ls ≤ 1))) }
 {
     match ask {
@@ -209,8 +251,8 @@ fn uses_shown(alloc: Global, body: &Plan, ask: &Ask) -> Result<bool, NoMemory>
     }
 }
 
-fn uses_labels(body: &Plan, labels: &[Label]) -> bool
-    ensures { Decides result (AllByRecursion (IsUsed (view body.now)) labels.now ⊎ (length labels.now ≤ 1)) }
+fn uses_labels(body: &Body, labels: &[Label]) -> bool
+    ensures { Decides result (AllByRecursion (IsUsed (body_view body.now)) labels.now ⊎ (length labels.now ≤ 1)) }
 {
     if labels.len() <= 1 {
         return true;
@@ -226,8 +268,8 @@ fn uses_labels(body: &Plan, labels: &[Label]) -> bool
     true
 }
 
-fn uses_columns(body: &Plan, columns: &[(u32, Label, Label)]) -> bool
-    ensures { Decides result (AllByRecursion (IsUsed (view body.now)) (map (λ c. c.2) columns.now) ⊎ (length columns.now ≤ 1)) }
+fn uses_columns(body: &Body, columns: &[(u32, Label, Label)]) -> bool
+    ensures { Decides result (AllByRecursion (IsUsed (body_view body.now)) (map (λ c. c.2) columns.now) ⊎ (length columns.now ≤ 1)) }
 {
     if columns.len() <= 1 {
         return true;

@@ -4,15 +4,14 @@
 //! refused growth.
 #![tactic(auto)]
 
+mod bodies;
 mod building;
 mod conditions;
-mod counting;
 mod erased;
 mod full;
 mod laws;
 mod needs;
 mod one_row;
-mod plan;
 mod reads;
 mod scanning;
 mod shipping;
@@ -22,10 +21,9 @@ mod statements;
 mod tests;
 mod used;
 
-pub use counting::count_scans;
 pub use full::fully_shipped;
+pub use kl_plan::{Frees, Join, JoinKey, Plan, PlanBranches, PlanFields, Plans, Scan, count_scans};
 pub use laws::plan_laws;
 pub use needs::Need;
-pub use plan::{Frees, Join, JoinKey, Plan, PlanBranches, PlanFields, Plans, Scan};
 pub use shipping::ship;
 pub use source::ShipSource;

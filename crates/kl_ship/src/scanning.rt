@@ -12,19 +12,19 @@ ghost use Rattle.kl_ship.specs.Ships.{ByRows, IsScan, columns_asked, scan_kind};
 ghost use Rattle.kl_ship.specs.Sources.{fits, fits_source, ground, unrepeated};
 
 use crate::needs::Need;
-use crate::plan::Scan;
 use crate::source::ShipSource;
 use crate::tests::{row_tests, tests_in};
 use crate::used::in_use;
 use kl_ask::{Ask, ColTest};
 use kl_base::{Label, NoMemory, Seq, labels_of};
 use kl_core::{Term, fits};
+use kl_plan::Scan;
 use kl_type::Ty;
 use kl_value::Kind;
 use std::alloc::Global;
 
 /// The kind of a collection type.
-#[tactic(auto, using(crate::proofs::Grounds::kind_rules))]
+#[tactic(auto, using(kl_plan::proofs::Grounds::kind_rules))]
 pub fn kind_in(ty: &Ty) -> Kind
     ensures { result ≡ kind_of (ground_of ty.now) }
 {

@@ -8,21 +8,27 @@ ghost use Rattle.kl_core.specs.Building.{Makes};
 ghost use Rattle.kl_type.specs.Ground.{IsGround};
 ghost use Rattle.kl_ship.specs.declared.source.ShipSource.{ShipSource as ASource};
 ghost use Rattle.kl_ship.specs.declared.needs.Need.TheVariants as need;
-ghost use Rattle.kl_ship.specs.declared.plan.Plan.TheVariants as plan;
+ghost use Rattle.kl_plan.specs.declared.plan.Plan.TheVariants as plan;
 ghost use Rattle.kl_ship.specs.Contents.{AreSources, MakesSense};
 ghost use Rattle.kl_ship.specs.Delegation.{body_left, left};
 ghost use Rattle.kl_ship.specs.Full.{FullyShipped};
-ghost use Rattle.kl_ship.specs.Nodes.{view, nodes_view, fields_view};
-ghost use Rattle.kl_ship.specs.Numbers.{NumbersDiffer};
-ghost use Rattle.kl_ship.specs.Shipping.{IsSound, TreesSound, PartsSound, ArmsSound, LoopSense, arms_view, other_view, other_node};
+ghost use Rattle.kl_plan.specs.Nodes.{view, nodes_view, fields_view};
+ghost use Rattle.kl_plan.specs.Numbers.{NumbersDiffer, scans_in};
+ghost use Rattle.kl_joins.specs.Bare.{Bare};
+ghost use Rattle.kl_joins.specs.Finished.{AreKept, Finishes};
+ghost use Rattle.kl_joins.specs.Keeping.{HasNoMemo};
+ghost use Rattle.kl_ship.specs.Shipping.{IsSound, TreesSound, PartsSound, ArmsSound, LoopSense, arms_view, other_view};
+ghost use Rattle.kl_plan.specs.Joins.{other_node};
 ghost use Rattle.kl_ship.specs.Shipping.{IsBehind, behind_statement};
 ghost use Rattle.kl_ship.specs.Shipping.{UnionBecomes, LoopBecomes, LetBecomes, IfBecomes, CaseBecomes};
-ghost use Rattle.kl_ship.specs.Ships.{Ships, Becomes, TreesBecome, PartsBecome, ArmsBecome};
-ghost use Rattle.kl_ship.specs.Ships.{MayStay, NoSource, passed_on, is_single};
+ghost use Rattle.kl_ship.specs.Ships.{Becomes, TreesBecome, PartsBecome, ArmsBecome};
+ghost use Rattle.kl_ship.specs.Ships.{MayStay, passed_on, is_single};
+ghost use Rattle.kl_plan.specs.Typing.{NoSource};
 ghost use Rattle.kl_ship.specs.Sizes.{sources_in, sources_trees, sources_parts, sources_arms};
 ghost use Rattle.kl_ship.specs.Sizes.{loops_in, loops_trees, loops_parts, loops_arms};
 ghost use Rattle.kl_ship.specs.Sources.{fits, ground};
-ghost use Rattle.kl_ship.specs.Typing.{KeepsTypes};
+ghost use Rattle.kl_ship.specs.Sense.{KeepsTypes};
+ghost use Rattle.kl_ship.specs.Whole.{Ships};
 
 use crate::building::{
     binding, case, collection, extension, injection, plain, primitive, projection, record,
@@ -30,7 +36,6 @@ use crate::building::{
 };
 use crate::conditions::{is_front, is_test};
 use crate::needs::Need;
-use crate::plan::{Plan, PlanFields, Plans, Scan};
 use crate::reads::reads;
 use crate::scanning::{fits_loop, rows_scan, whole_scan};
 use crate::source::ShipSource;
@@ -38,12 +43,15 @@ use crate::sql_scan::statement_scan;
 use kl_ask::Settings;
 use kl_base::{Box, Label, NoMemory, Seq};
 use kl_core::{Term, TermBranches};
+use kl_joins::{join_loops, keep};
+use kl_plan::{Plan, PlanFields, Plans, Scan};
 use kl_value::Kind;
 use std::alloc::Global;
 
 /// The plan of a term that makes sense over these sources. With `settings.delegate` as much work as can be is left to the drivers
-/// of the sources: tests, columns and joins; without it every scan is for all rows of a source with all columns. There is no join
-/// and no memo yet.
+/// of the sources: tests, columns and joins; without it every scan is for all rows of a source with all columns. Then loops over
+/// scans inside other loops become joins, in the way of `settings.join` where it serves; where `settings.cache` has room for any,
+/// values of parts that may be asked for again are kept; and scans, joins and memos are numbered.
 ///
 /// Each source has a proper type that a driver with its abilities may suit, the sources of one driver have the same abilities, and
 /// the term has no free position.
@@ -60,20 +68,44 @@ pub fn ship(
     requires small { nodes_of (term_view term.now) ≤ 16384 }
     requires sources { AreSources sources.now }
     requires proper { AllByRecursion (λ s. IsGround (ground s)) sources.now }
-    ensures ships { IfOk result (λ p. Ships settings.now.delegate sources.now (term_view term.now) (view p)) }
+    ensures ships { IfOk result (λ p. Ships settings.now sources.now (term_view term.now) (view p)) }
     ensures sense { IfOk result (λ p. KeepsTypes sources.now (term_view term.now) (view p)) }
     ensures numbers { IfOk result (λ p. NumbersDiffer (view p)) }
     ensures full { settings.now.delegate ≡ true → IfOk result (λ p. FullyShipped sources.now (view p)) }
 {
-    let mut number = 0;
-    part(
+    let mut next = 0;
+    let sent = part(
         alloc,
         term,
         Need::Items,
         settings.delegate,
         sources,
-        &mut number,
-    )
+        &mut next,
+    )?;
+    finished(alloc, sent, settings)
+}
+
+// Joins and memos are made, and all is numbered.
+fn finished(alloc: Global, sent: Plan, settings: &Settings) -> Result<Plan, NoMemory>
+    requires bare { Bare (view sent) }
+    requires few { length (scans_in (view sent)) ≤ 16384 }
+    ensures { IfOk result (λ p. Finishes settings.now.join settings.now.cache (view sent) (view p)) }
+{
+    let mut plan = sent;
+    join_loops(alloc, &mut plan, settings.join)?;
+    keep_values(alloc, &mut plan, settings.cache)?;
+    kl_joins::number(&mut plan);
+    Ok(plan)
+}
+
+fn keep_values(alloc: Global, plan: &mut Plan, cache: u32) -> Result<(), NoMemory>
+    requires bare { HasNoMemo (view plan.old) }
+    ensures { IfOk result (λ _. AreKept cache (view plan.old) (view plan.new)) }
+{
+    if cache > 0 {
+        return keep(alloc, plan);
+    }
+    Ok(())
 }
 
 // Whether the value of a term is made whole in any case.

@@ -13,13 +13,13 @@ ghost use Rattle.kl_ship.specs.Sources.{fits, ground};
 
 use crate::needs::Need;
 use crate::one_row::{Shown, packed_left};
-use crate::plan::Plan;
 use crate::scanning::scan_by;
 use crate::source::ShipSource;
 use crate::statements::statement;
 use kl_ask::Ask;
 use kl_base::{Box, Label, NoMemory, Seq};
 use kl_core::Term;
+use kl_plan::Plan;
 use kl_sqltext::SqlColumns;
 use kl_value::Kind;
 use std::alloc::Global;

@@ -1,5 +1,5 @@
 -- What is told of a plan, by its form.
-use Rattle.std.proofs.Common.{◌≡◌, ◌∙◌, ℕ, List, [], ◌∷◌, ◌++◌, Option, map, drop, get_or, length, suc, ◌<◌, ◌≤◌, ◌+◌, refl, sym, ap, ap₂, subst, rules, arith}
+use Rattle.std.proofs.Common.{◌≡◌, ◌∙◌, ℕ, List, [], ◌∷◌, ◌++◌, Option, map, drop, get_or, length, suc, ◌<◌, ◌≤◌, ◌+◌, refl, sym, ap, ap₂, subst, arith}
 use Rattle.std.specs.Prelude.{Result, Ok, Err, IsOkAnd, OnOk}
 use Rattle.std.specs.List.{flat_map}
 use Rattle.std.proofs.lemmas.Grind.{flat_map-append}
@@ -10,17 +10,15 @@ use Rattle.kl_base.specs.declared.NoMemory.{NoMemory}
 use Rattle.kl_value.specs.declared.Kind.{Kind}
 use Rattle.kl_outcome.specs.Outcome.{Name}
 use Rattle.kl_ask.specs.declared.settings.JoinHow.{JoinHow}
-use Rattle.kl_ship.specs.declared.plan.Join.{Join, out-Join}
-use Rattle.kl_ship.specs.declared.plan.Plan.{Plan, the_lemmas}
-use Rattle.kl_ship.specs.declared.plan.Plan.TheVariants as plan
-use Rattle.kl_ship.specs.declared.plan.Scan.{Scan}
-use Rattle.kl_ship.specs.Joins.{join_view, keys_view}
-use Rattle.kl_ship.specs.Nodes as node
-use Rattle.kl_ship.specs.Nodes.{Node, Nodes, Fields, Branches, Key, branches_of, view, view_branch, nodes_view, fields_view}
-use Rattle.kl_ship.specs.Numbers.{scans_in, scans_of_nodes, scans_of_fields, scans_of_branches, scans_of_key}
-use Rattle.kl_ship.specs.Numbers.{memos_in, memos_of_nodes, memos_of_fields, memos_of_branches, memos_of_key}
-use Rattle.kl_ship.specs.Shipping.{other_node}
-use Rattle.kl_ship.proofs.Views.{view_Case, view_Union, view_Ext, view_If, view_Let}
+use Rattle.kl_plan.specs.declared.plan.Plan.{Plan}
+use Rattle.kl_plan.specs.declared.plan.Plan.TheVariants as plan
+use Rattle.kl_plan.specs.declared.plan.Scan.{Scan}
+use Rattle.kl_plan.specs.Nodes as node
+use Rattle.kl_plan.specs.Nodes.{Node, Nodes, Fields, Branches, Key, branches_of, view, view_branch, nodes_view, fields_view}
+use Rattle.kl_plan.specs.Numbers.{scans_in, scans_of_nodes, scans_of_fields, scans_of_branches, scans_of_key}
+use Rattle.kl_plan.specs.Numbers.{memos_in, memos_of_nodes, memos_of_fields, memos_of_branches, memos_of_key}
+use Rattle.kl_plan.specs.Joins.{other_node}
+use Rattle.kl_plan.proofs.Views.{view_Case, view_Union, view_Ext, view_If, view_Let, view_Memo}
 use Rattle.kl_tools.specs.Explained.{Tells, join_lines, join_lines_of_branches, join_lines_of_fields, join_lines_of_key}
 use Rattle.kl_tools.specs.Explained.{join_line, join_lines_of_nodes, memo_line, scan_line}
 use Rattle.kl_tools.specs.declared.explaining.Lines.{Lines}
@@ -133,9 +131,6 @@ tells_Case names p a a' bs bs' o w x y z r is first second f g = on_ok_weaker r 
     (told_two names (scans_of_fields (fields_view bs')) (scans_of_branches (other_node o)) (join_lines_of_fields (fields_view bs')) (join_lines_of_branches (other_node o))
     (memos_of_fields (fields_view bs')) (memos_of_branches (other_node o)) x y z g h))))
 
-view_Memo : (n : ℕ) (frees : List ℕ) (a : Plan) → view (plan.Memo n frees a) ≡ node.Memo n frees (view a)
-view_Memo n frees a = search (rules, the_lemmas)
-
 pub tells_Memo : (names : List (List ℕ)) (p : Plan) (n : ℕ) (frees : List ℕ) (a a' : Plan) (x y z : Lines) (r : Result (Unit {0}) NoMemory) → p ≡ plan.Memo n frees a → a' ≡ a
     → y.scans.items ≡ x.scans.items → y.joins.items ≡ x.joins.items → y.memos.items ≡ x.memos.items ++ memo_line n
     → OnOk r (TellsNode names (view a') y z) → OnOk r (TellsNode names (view p) x z)
@@ -146,10 +141,6 @@ tells_Memo names p n frees a a' x y z r is inner scans joins memos = on_ok_weake
       joins_told = g.joins_told ∙ ap (λ s. s ++ join_lines (view a')) joins;
       memos_told = behind x.memos.items y.memos.items z.memos.items (memo_line n) (flat_map memo_line (memos_in (view a'))) memos g.memos_told;
     }))
-
-pub view_join : (j : Join) → join_view j ≡ node.Join (out-Join j).number (out-Join j).kind (out-Join j).how (view (out-Join j).outer)
-    (nodes_view (out-Join j).conds) (out-Join j).inner (keys_view (out-Join j).key) (view (out-Join j).body)
-view_join j = search (rules, the_lemmas)
 
 pub as_nodes : (names : List (List ℕ)) (ps qs : List Plan) (x y : Lines) → ps ≡ qs → TellsNodes names (nodes_view ps) x y → TellsNodes names (nodes_view qs) x y
 as_nodes names ps qs x y is told = subst (λ ns. TellsNodes names (nodes_view ns) x y) is told

@@ -14,11 +14,11 @@ use Rattle.kl_ask.specs.declared.ask.Right.{Right}
 use Rattle.kl_ask.specs.declared.ask.Right.TheVariants as right
 use Rattle.kl_ask.specs.declared.settings.JoinHow.{JoinHow}
 use Rattle.kl_ask.specs.declared.settings.JoinHow.TheVariants as join
-use Rattle.kl_ship.specs.declared.plan.Scan.{Scan}
-use Rattle.kl_ship.specs.Nodes as node
-use Rattle.kl_ship.specs.Nodes.{Node, Nodes, no_nodes, nodes, Fields, no_fields, fields, Branches, no_branches, rest, branch, Key}
-use Rattle.kl_ship.specs.Nodes.{no_key, key}
-use Rattle.kl_ship.specs.Numbers.{scans_in, memos_in}
+use Rattle.kl_plan.specs.declared.plan.Scan.{Scan}
+use Rattle.kl_plan.specs.Nodes as node
+use Rattle.kl_plan.specs.Nodes.{Node, Nodes, no_nodes, nodes, Fields, no_fields, fields, Branches, no_branches, rest, branch, Key}
+use Rattle.kl_plan.specs.Nodes.{no_key, key}
+use Rattle.kl_plan.specs.Numbers.{scans_in, memos_in}
 use Rattle.kl_tools.specs.declared.explaining.Lines.{Lines}
 
 -- ---- a scan
@@ -75,14 +75,16 @@ abbrev pub way_word : JoinHow → List ℕ
 way_word join.Block = codes "block"
 way_word join.Index = codes "index"
 
-abbrev pub on_text : Key → List ℕ
-on_text no_key = []
-on_text (key l p) = codes " on " ++ l
+-- the label of the key by which an index is used
+abbrev pub on_text : JoinHow → Key → List ℕ
+on_text join.Block q = []
+on_text join.Index no_key = []
+on_text join.Index (key l p) = codes " on " ++ l
 
 -- a join of this number, which goes this way over the scan of that number, by a key
 abbrev pub join_line : ℕ → JoinHow → ℕ → Key → List ℕ
 join_line n how i q =
-    codes "join " ++ (decimal n ++ (codes " " ++ (way_word how ++ (codes " scan " ++ (decimal i ++ (on_text q ++ codes "\n"))))))
+    codes "join " ++ (decimal n ++ (codes " " ++ (way_word how ++ (codes " scan " ++ (decimal i ++ (on_text how q ++ codes "\n"))))))
 
 abbrev pub memo_line : ℕ → List ℕ
 memo_line n = codes "memo " ++ (decimal n ++ codes "\n")

@@ -1,12 +1,13 @@
 //! What a plan asks of the drivers, as text.
 ghost use Rattle.std.specs.Prelude.{◌≡◌, ◌++◌, List, ℕ, decimal, slice_get, unwrap_or, IfOk, IsOkAnd, OnOk, []};
 ghost use Rattle.std.specs.List.{flat_map};
+ghost use Rattle.kl_ask.specs.declared.settings.JoinHow.TheVariants as way;
 ghost use Rattle.kl_value.specs.Written.{text_of};
-ghost use Rattle.kl_ship.specs.Joins.{join_view, keys_view};
-ghost use Rattle.kl_ship.specs.Nodes.{view, nodes_view, fields_view};
-ghost use Rattle.kl_ship.specs.Numbers.{scans_in, scans_of_nodes, scans_of_fields, scans_of_branches, scans_of_key};
-ghost use Rattle.kl_ship.specs.Numbers.{memos_in, memos_of_nodes, memos_of_fields, memos_of_branches, memos_of_key};
-ghost use Rattle.kl_ship.specs.Shipping.{other_node};
+ghost use Rattle.kl_plan.specs.Joins.{join_view, keys_view};
+ghost use Rattle.kl_plan.specs.Nodes.{view, nodes_view, fields_view};
+ghost use Rattle.kl_plan.specs.Numbers.{scans_in, scans_of_nodes, scans_of_fields, scans_of_branches, scans_of_key};
+ghost use Rattle.kl_plan.specs.Numbers.{memos_in, memos_of_nodes, memos_of_fields, memos_of_branches, memos_of_key};
+ghost use Rattle.kl_plan.specs.Joins.{other_node};
 ghost use Rattle.kl_tools.specs.Explained.{Tells, ask_text, asked_text, explained, join_line, join_lines, join_lines_of_branches};
 ghost use Rattle.kl_tools.specs.Explained.{join_lines_of_fields, join_lines_of_key, join_lines_of_nodes, keep_text, kind_word};
 ghost use Rattle.kl_tools.specs.Explained.{labels_text, memo_line, more_tests, on_text, right_text, scan_line, sign_of};
@@ -17,7 +18,7 @@ use kl_ask::{Ask, Cmp, ColTest, Driver, JoinHow, Right, name_boxed};
 use kl_base::{Box as Part, Label, NoMemory, Text};
 use kl_exchange::print;
 use kl_outside::MemSink;
-use kl_ship::{Join, JoinKey, Plan, Scan};
+use kl_plan::{Join, JoinKey, Plan, Scan};
 use kl_value::{Kind, Value};
 use std::alloc::Global;
 
@@ -294,7 +295,7 @@ fn put_join(
     put(b" ", out)?;
     put(way_word(how), out)?;
     put_numbered(b" scan ", scan, out)?;
-    put_on(key, out)?;
+    put_on(how, key, out)?;
     put(b"\n", out)
 }
 
@@ -307,8 +308,18 @@ fn way_word(how: JoinHow) -> &'static [u8]
     }
 }
 
-fn put_on(key: &Option<JoinKey>, out: &mut Vec<u8>) -> Result<(), NoMemory>
-    ensures { OnOk result (out.new.items ≡ out.old.items ++ on_text (keys_view key.now)) }
+// The label of the key by which an index is used: there is none where rows are joined by blocks.
+fn put_on(how: JoinHow, key: &Option<JoinKey>, out: &mut Vec<u8>) -> Result<(), NoMemory>
+    ensures { OnOk result (out.new.items ≡ out.old.items ++ on_text how (keys_view key.now)) }
+{
+    match how {
+        JoinHow::Block => Ok(()),
+        JoinHow::Index => put_key(key, out),
+    }
+}
+
+fn put_key(key: &Option<JoinKey>, out: &mut Vec<u8>) -> Result<(), NoMemory>
+    ensures { OnOk result (out.new.items ≡ out.old.items ++ on_text way.Index (keys_view key.now)) }
 {
     match key {
         Some(key) => {

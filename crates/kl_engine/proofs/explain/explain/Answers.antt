@@ -1,6 +1,5 @@
-use Rattle.std.proofs.Common.{Ok, Err, refl}
 use Rattle.kl_engine.specs.declared.top.Purpose.TheVariants as purpose
-use Rattle.kl_engine.proofs.CountLemmas.{unread_plan, unrun_alone, unrun_asks}
+use Rattle.kl_engine.proofs.CountLemmas.{unread_plan, unrun_undone, unrun_asks}
 use Rattle.kl_engine.proofs.DoneLemmas.{done_program, unread}
 use Rattle.kl_engine.proofs.ExplainLemmas.{explains_text, unrun_lines}
 use Rattle.kl_engine.proofs.explain.explain.Goals as goal
@@ -21,8 +20,8 @@ returns-in-Ok-clause-lines g c = c.explain_program.ensures.lines
 pub returns-in-Ok-clause-asks : goal.returns-in-Ok-clause-asks
 returns-in-Ok-clause-asks g c = c.explain_program.ensures.asks
 
-pub returns-in-Ok-clause-alone : goal.returns-in-Ok-clause-alone
-returns-in-Ok-clause-alone g c = c.explain_program.ensures.alone
+pub returns-in-Ok-clause-shows : goal.returns-in-Ok-clause-shows
+returns-in-Ok-clause-shows g c = c.explain_program.ensures.shows
 
 pub returns-in-Err-clause-does : goal.returns-in-Err-clause-does
 returns-in-Err-clause-does g c = λ files. unread _ (purpose.Explain c.args.settings) _ c.in-Err.fault files _ _ c.in-Err.ensures
@@ -36,5 +35,5 @@ returns-in-Err-clause-lines g c = unrun_lines _ _ _ _ c.requires.unrun
 pub returns-in-Err-clause-asks : goal.returns-in-Err-clause-asks
 returns-in-Err-clause-asks g c = unrun_asks _ _ c.requires.unrun
 
-pub returns-in-Err-clause-alone : goal.returns-in-Err-clause-alone
-returns-in-Err-clause-alone g c = unrun_alone _ c.requires.unrun
+pub returns-in-Err-clause-shows : goal.returns-in-Err-clause-shows
+returns-in-Err-clause-shows g c = unrun_undone _ _ c.requires.unrun

@@ -1,5 +1,4 @@
-use Rattle.std.proofs.Common.{Ok, Err, refl}
-use Rattle.kl_engine.proofs.CountLemmas.{unrun_alone, unrun_asks, untyped_plan}
+use Rattle.kl_engine.proofs.CountLemmas.{unrun_undone, unrun_asks, untyped_plan}
 use Rattle.kl_engine.proofs.DoneLemmas.{untyped_explained}
 use Rattle.kl_engine.proofs.ExplainLemmas.{unrun_lines}
 use Rattle.kl_engine.proofs.explain.explain_program.Goals as goal
@@ -16,8 +15,8 @@ returns-in-Ok-clause-lines g c = c.explain_typed.ensures.lines
 pub returns-in-Ok-clause-asks : goal.returns-in-Ok-clause-asks
 returns-in-Ok-clause-asks g c = c.explain_typed.ensures.asks
 
-pub returns-in-Ok-clause-alone : goal.returns-in-Ok-clause-alone
-returns-in-Ok-clause-alone g c = c.explain_typed.ensures.alone
+pub returns-in-Ok-clause-shows : goal.returns-in-Ok-clause-shows
+returns-in-Ok-clause-shows g c = c.explain_typed.ensures.shows
 
 pub returns-in-Err-clause-does : goal.returns-in-Err-clause-does
 returns-in-Err-clause-does g c = λ files. untyped_explained c.args.sources.now _ _ _ files _ c.args.settings c.in-Err.fault _ c.in-Err.ensures
@@ -31,5 +30,5 @@ returns-in-Err-clause-lines g c = unrun_lines _ _ _ _ c.requires.unrun
 pub returns-in-Err-clause-asks : goal.returns-in-Err-clause-asks
 returns-in-Err-clause-asks g c = unrun_asks _ _ c.requires.unrun
 
-pub returns-in-Err-clause-alone : goal.returns-in-Err-clause-alone
-returns-in-Err-clause-alone g c = unrun_alone _ c.requires.unrun
+pub returns-in-Err-clause-shows : goal.returns-in-Err-clause-shows
+returns-in-Err-clause-shows g c = unrun_undone _ _ c.requires.unrun

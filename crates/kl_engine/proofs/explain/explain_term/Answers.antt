@@ -1,9 +1,9 @@
 use Rattle.std.proofs.Common.{refl}
 use Rattle.kl_scope.specs.Breaches.{is_marked}
 use Rattle.kl_syntax.specs.View.{view, decls_of}
-use Rattle.kl_engine.proofs.CountLemmas.{unrun_alone, unrun_asks, wanted_plan}
+use Rattle.kl_engine.proofs.CountLemmas.{unrun_undone, unrun_asks, wanted_plan}
 use Rattle.kl_engine.proofs.DoneLemmas.{explained_done, wanted_done}
-use Rattle.kl_engine.proofs.ExplainLemmas.{explains_alone, explains_asks, explains_term, explanation, unrun_lines}
+use Rattle.kl_engine.proofs.ExplainLemmas.{explains_undone, explains_asks, explains_term, explanation, unrun_lines}
 use Rattle.kl_engine.proofs.MeaningLemmas.{planned_sense}
 use Rattle.kl_engine.proofs.RewriteLemmas.{keeps_from}
 use Rattle.kl_engine.proofs.explain.explain_term.Goals as goal
@@ -29,9 +29,9 @@ pub returns-in-Ok-planned-clause-asks : goal.returns-in-Ok-planned-clause-asks
 returns-in-Ok-planned-clause-asks g c =
     explains_asks c.args.settings c.args.sources.now _ (decls_of c.args.scoped.now.program.defs) (view c.args.scoped.now.program.last) c.args.scoped.now.sources _ _ _ _ _ c.requires.placed c.in-Ok-planned.ensures.plan c.in-Ok-planned.ensures.trace c.requires.term c.in-Ok.ensures.rewritten
 
-pub returns-in-Ok-planned-clause-alone : goal.returns-in-Ok-planned-clause-alone
-returns-in-Ok-planned-clause-alone g c =
-    explains_alone c.args.settings c.args.sources.now _ (decls_of c.args.scoped.now.program.defs) (view c.args.scoped.now.program.last) c.args.scoped.now.sources _ _ _ _ _ c.requires.placed c.in-Ok-planned.ensures.plan c.in-Ok-planned.ensures.trace c.requires.term c.in-Ok.ensures.rewritten
+pub returns-in-Ok-planned-clause-shows : goal.returns-in-Ok-planned-clause-shows
+returns-in-Ok-planned-clause-shows g c =
+    explains_undone c.args.settings c.args.sources.now _ (decls_of c.args.scoped.now.program.defs) (view c.args.scoped.now.program.last) c.args.scoped.now.sources _ _ _ _ _ c.requires.placed c.in-Ok-planned.ensures.plan c.in-Ok-planned.ensures.trace c.requires.term c.in-Ok.ensures.rewritten
 
 pub returns-in-Ok-clause-does : goal.returns-in-Ok-clause-does
 returns-in-Ok-clause-does g c = λ files. wanted_done _ files _ _
@@ -45,8 +45,8 @@ returns-in-Ok-clause-lines g c = unrun_lines _ _ _ _ c.requires.unrun
 pub returns-in-Ok-clause-asks : goal.returns-in-Ok-clause-asks
 returns-in-Ok-clause-asks g c = unrun_asks _ _ c.requires.unrun
 
-pub returns-in-Ok-clause-alone : goal.returns-in-Ok-clause-alone
-returns-in-Ok-clause-alone g c = unrun_alone _ c.requires.unrun
+pub returns-in-Ok-clause-shows : goal.returns-in-Ok-clause-shows
+returns-in-Ok-clause-shows g c = unrun_undone _ _ c.requires.unrun
 
 pub returns-clause-does : goal.returns-clause-does
 returns-clause-does g c = λ files. wanted_done _ files _ _
@@ -60,5 +60,5 @@ returns-clause-lines g c = unrun_lines _ _ _ _ c.requires.unrun
 pub returns-clause-asks : goal.returns-clause-asks
 returns-clause-asks g c = unrun_asks _ _ c.requires.unrun
 
-pub returns-clause-alone : goal.returns-clause-alone
-returns-clause-alone g c = unrun_alone _ c.requires.unrun
+pub returns-clause-shows : goal.returns-clause-shows
+returns-clause-shows g c = unrun_undone _ _ c.requires.unrun

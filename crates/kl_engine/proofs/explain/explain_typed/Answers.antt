@@ -1,4 +1,4 @@
-use Rattle.kl_engine.proofs.CountLemmas.{unrun_alone, unrun_asks, wanted_plan}
+use Rattle.kl_engine.proofs.CountLemmas.{unrun_undone, unrun_asks, wanted_plan}
 use Rattle.kl_engine.proofs.DoneLemmas.{wanted_done}
 use Rattle.kl_engine.proofs.ExplainLemmas.{unrun_lines}
 use Rattle.kl_engine.proofs.SizeLemmas.{all_within}
@@ -19,8 +19,8 @@ returns-in-Ok-clause-lines g c = c.explain_term.ensures.lines
 pub returns-in-Ok-clause-asks : goal.returns-in-Ok-clause-asks
 returns-in-Ok-clause-asks g c = c.explain_term.ensures.asks
 
-pub returns-in-Ok-clause-alone : goal.returns-in-Ok-clause-alone
-returns-in-Ok-clause-alone g c = c.explain_term.ensures.alone
+pub returns-in-Ok-clause-shows : goal.returns-in-Ok-clause-shows
+returns-in-Ok-clause-shows g c = c.explain_term.ensures.shows
 
 pub returns-in-Err-clause-does : goal.returns-in-Err-clause-does
 returns-in-Err-clause-does g c = λ files. wanted_done _ files _ _
@@ -34,5 +34,5 @@ returns-in-Err-clause-lines g c = unrun_lines _ _ _ _ c.requires.unrun
 pub returns-in-Err-clause-asks : goal.returns-in-Err-clause-asks
 returns-in-Err-clause-asks g c = unrun_asks _ _ c.requires.unrun
 
-pub returns-in-Err-clause-alone : goal.returns-in-Err-clause-alone
-returns-in-Err-clause-alone g c = unrun_alone _ c.requires.unrun
+pub returns-in-Err-clause-shows : goal.returns-in-Err-clause-shows
+returns-in-Err-clause-shows g c = unrun_undone _ _ c.requires.unrun

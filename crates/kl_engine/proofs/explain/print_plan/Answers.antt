@@ -1,4 +1,4 @@
-use Rattle.kl_ship.specs.Nodes.{view as plan_view}
+use Rattle.kl_plan.specs.Nodes.{view as plan_view}
 use Rattle.kl_engine.proofs.ExplainLemmas.{prints_lines}
 use Rattle.kl_engine.proofs.explain.print_plan.Goals as goal
 

@@ -1,7 +1,7 @@
 use Rattle.std.proofs.Common.{refl}
 use Rattle.kl_scope.specs.Breaches.{is_marked}
 use Rattle.kl_syntax.specs.View.{view, decls_of}
-use Rattle.kl_engine.proofs.CountLemmas.{unrun_alone, unrun_asks, wanted_plan}
+use Rattle.kl_engine.proofs.CountLemmas.{unrun_shown, unrun_asks, wanted_plan}
 use Rattle.kl_engine.proofs.MeaningLemmas.{meaning_wanted}
 use Rattle.kl_engine.proofs.SizeLemmas.{all_within}
 use Rattle.kl_engine.proofs.run.answer.Goals as goal
@@ -18,8 +18,8 @@ returns-in-Ok-clause-plan g c = c.answer_translated.ensures.plan
 pub returns-in-Ok-clause-asks : goal.returns-in-Ok-clause-asks
 returns-in-Ok-clause-asks g c = c.answer_translated.ensures.asks
 
-pub returns-in-Ok-clause-alone : goal.returns-in-Ok-clause-alone
-returns-in-Ok-clause-alone g c = c.answer_translated.ensures.alone
+pub returns-in-Ok-clause-shows : goal.returns-in-Ok-clause-shows
+returns-in-Ok-clause-shows g c = c.answer_translated.ensures.shows
 
 pub returns-in-Err-clause-does : goal.returns-in-Err-clause-does
 returns-in-Err-clause-does g c = λ files. meaning_wanted c.args.sources.items (is_marked c.args.scoped.now) _ (decls_of c.args.scoped.now.program.defs) (view c.args.scoped.now.program.last) files _ _
@@ -30,8 +30,8 @@ returns-in-Err-clause-plan g c = wanted_plan _ _ c.requires.unrun
 pub returns-in-Err-clause-asks : goal.returns-in-Err-clause-asks
 returns-in-Err-clause-asks g c = unrun_asks _ _ c.requires.unrun
 
-pub returns-in-Err-clause-alone : goal.returns-in-Err-clause-alone
-returns-in-Err-clause-alone g c = unrun_alone _ c.requires.unrun
+pub returns-in-Err-clause-shows : goal.returns-in-Err-clause-shows
+returns-in-Err-clause-shows g c = unrun_shown _ _ c.requires.unrun
 
 pub returns-in-Ok-clause-silent : goal.returns-in-Ok-clause-silent
 returns-in-Ok-clause-silent g c = c.answer_translated.ensures.silent

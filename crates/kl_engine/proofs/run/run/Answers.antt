@@ -1,6 +1,6 @@
 use Rattle.std.proofs.Common.{Ok, Err, refl}
 use Rattle.kl_engine.specs.declared.top.Purpose.TheVariants as purpose
-use Rattle.kl_engine.proofs.CountLemmas.{text_plan, unread_plan, unrun_alone, unrun_asks}
+use Rattle.kl_engine.proofs.CountLemmas.{text_plan, unread_plan, unrun_shown, unrun_asks}
 use Rattle.kl_engine.proofs.DoneLemmas.{done_program, reads_sources, unread}
 use Rattle.kl_engine.proofs.run.run.Goals as goal
 
@@ -22,8 +22,8 @@ returns-in-Ok-clause-plan g c =
 pub returns-in-Ok-clause-asks : goal.returns-in-Ok-clause-asks
 returns-in-Ok-clause-asks g c = c.run_program.ensures.asks
 
-pub returns-in-Ok-clause-alone : goal.returns-in-Ok-clause-alone
-returns-in-Ok-clause-alone g c = c.run_program.ensures.alone
+pub returns-in-Ok-clause-shows : goal.returns-in-Ok-clause-shows
+returns-in-Ok-clause-shows g c = c.run_program.ensures.shows
 
 pub returns-in-Err-clause-does : goal.returns-in-Err-clause-does
 returns-in-Err-clause-does g c =
@@ -36,8 +36,8 @@ returns-in-Err-clause-plan g c = unread_plan _ _ _ c.in-Err.fault _ c.requires.u
 pub returns-in-Err-clause-asks : goal.returns-in-Err-clause-asks
 returns-in-Err-clause-asks g c = unrun_asks _ _ c.requires.unrun
 
-pub returns-in-Err-clause-alone : goal.returns-in-Err-clause-alone
-returns-in-Err-clause-alone g c = unrun_alone _ c.requires.unrun
+pub returns-in-Err-clause-shows : goal.returns-in-Err-clause-shows
+returns-in-Err-clause-shows g c = unrun_shown _ _ c.requires.unrun
 
 pub returns-in-Ok-clause-silent : goal.returns-in-Ok-clause-silent
 returns-in-Ok-clause-silent g c = c.run_program.ensures.silent

@@ -1,5 +1,5 @@
 use Rattle.std.proofs.Common.{Ok, Err, refl}
-use Rattle.kl_engine.proofs.CountLemmas.{unrun_alone, unrun_asks, untyped_plan}
+use Rattle.kl_engine.proofs.CountLemmas.{unrun_shown, unrun_asks, untyped_plan}
 use Rattle.kl_engine.proofs.DoneLemmas.{answered, types_sources, untyped_run}
 use Rattle.kl_engine.proofs.run.run_program.Goals as goal
 
@@ -16,8 +16,8 @@ returns-in-Ok-clause-plan g c = c.answer.ensures.plan
 pub returns-in-Ok-clause-asks : goal.returns-in-Ok-clause-asks
 returns-in-Ok-clause-asks g c = c.answer.ensures.asks
 
-pub returns-in-Ok-clause-alone : goal.returns-in-Ok-clause-alone
-returns-in-Ok-clause-alone g c = c.answer.ensures.alone
+pub returns-in-Ok-clause-shows : goal.returns-in-Ok-clause-shows
+returns-in-Ok-clause-shows g c = c.answer.ensures.shows
 
 pub returns-in-Err-clause-does : goal.returns-in-Err-clause-does
 returns-in-Err-clause-does g c =
@@ -29,8 +29,8 @@ returns-in-Err-clause-plan g c = untyped_plan _ _ _ _ c.in-Err.fault _ c.require
 pub returns-in-Err-clause-asks : goal.returns-in-Err-clause-asks
 returns-in-Err-clause-asks g c = unrun_asks _ _ c.requires.unrun
 
-pub returns-in-Err-clause-alone : goal.returns-in-Err-clause-alone
-returns-in-Err-clause-alone g c = unrun_alone _ c.requires.unrun
+pub returns-in-Err-clause-shows : goal.returns-in-Err-clause-shows
+returns-in-Err-clause-shows g c = unrun_shown _ _ c.requires.unrun
 
 pub returns-in-Ok-clause-silent : goal.returns-in-Ok-clause-silent
 returns-in-Ok-clause-silent g c = c.answer.ensures.silent

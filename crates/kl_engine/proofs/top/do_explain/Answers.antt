@@ -1,6 +1,6 @@
 use Rattle.kl_engine.specs.Planned.{how_in}
 use Rattle.kl_engine.specs.declared.top.Purpose.TheVariants as purpose
-use Rattle.kl_engine.proofs.CountLemmas.{unrun_alone, unrun_asks}
+use Rattle.kl_engine.proofs.CountLemmas.{unrun_undone, unrun_asks}
 use Rattle.kl_engine.proofs.ExplainLemmas.{explains_command, refused_explanation, unrun_lines}
 use Rattle.kl_engine.proofs.ProgramLemmas.{does_same, program_does, program_refused}
 use Rattle.kl_engine.proofs.top.do_explain.Goals as goal
@@ -11,7 +11,7 @@ returns-in-Ok-clause-does g c =
 
 pub returns-in-Ok-clause-plan : goal.returns-in-Ok-clause-plan
 returns-in-Ok-clause-plan g c =
-    explains_command (how_in c.args.job.now) c.args.job.now.settings _ _ _ _ c.explain.new.ran.trace _ (g.S.Sink.state c.args.out.now) (g.S.Sink.state c.explain.new.out) _ c.in-Ok.inputs _ _ c.slice.ensures c.slice-in-Ok.ensures c.in-Ok.ensures c.explain.ensures.plan
+    explains_command (how_in c.args.job.now) c.args.job.now.settings _ _ _ _ c.explain.new.ran.trace _ (g.S.Sink.state c.args.out.now) (g.S.Sink.state c.explain.new.out) _ c.in-Ok.inputs _ _ c.slice.ensures c.slice-in-Ok.ensures c.in-Ok.ensures c.explain.ensures.plan c.explain.ensures.shows
 
 pub returns-in-Ok-clause-lines : goal.returns-in-Ok-clause-lines
 returns-in-Ok-clause-lines g c = c.explain.ensures.lines
@@ -19,8 +19,8 @@ returns-in-Ok-clause-lines g c = c.explain.ensures.lines
 pub returns-in-Ok-clause-asks : goal.returns-in-Ok-clause-asks
 returns-in-Ok-clause-asks g c = c.explain.ensures.asks
 
-pub returns-in-Ok-clause-alone : goal.returns-in-Ok-clause-alone
-returns-in-Ok-clause-alone g c = c.explain.ensures.alone
+pub returns-in-Ok-clause-shows : goal.returns-in-Ok-clause-shows
+returns-in-Ok-clause-shows g c = c.explain.ensures.shows
 
 pub returns-in-Err-clause-does : goal.returns-in-Err-clause-does
 returns-in-Err-clause-does g c = program_refused (purpose.Explain c.args.job.now.settings) _ _ _ c.in-Err.fault _ _ c.in-Err.ensures
@@ -34,5 +34,5 @@ returns-in-Err-clause-lines g c = unrun_lines _ _ _ _ c.requires.unrun
 pub returns-in-Err-clause-asks : goal.returns-in-Err-clause-asks
 returns-in-Err-clause-asks g c = unrun_asks _ _ c.requires.unrun
 
-pub returns-in-Err-clause-alone : goal.returns-in-Err-clause-alone
-returns-in-Err-clause-alone g c = unrun_alone _ c.requires.unrun
+pub returns-in-Err-clause-shows : goal.returns-in-Err-clause-shows
+returns-in-Err-clause-shows g c = unrun_undone _ _ c.requires.unrun

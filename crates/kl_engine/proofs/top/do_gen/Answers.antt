@@ -1,8 +1,9 @@
-use Rattle.std.proofs.Common.{None, refl}
+use Rattle.std.proofs.Common.{None, refl, subst}
+use Rattle.kl_ask.specs.declared.settings.Settings.{Settings}
 use Rattle.kl_engine.specs.Commands.{Made}
-use Rattle.kl_engine.specs.Planned.{usual_how}
+use Rattle.kl_engine.specs.Planned.{IsShown, plan_in, usual_how}
 use Rattle.kl_engine.specs.declared.top.Purpose.TheVariants as purpose
-use Rattle.kl_engine.proofs.CountLemmas.{made_plan, refused_plan, unrun_alone, unrun_asks}
+use Rattle.kl_engine.proofs.CountLemmas.{made_plan, refused_plan, unrun_shown, unrun_asks}
 use Rattle.kl_engine.proofs.ProgramLemmas.{does_same, no_files, program_does, program_refused}
 use Rattle.kl_engine.proofs.top.do_gen.Goals as goal
 
@@ -23,8 +24,9 @@ returns-in-Ok-clause-plan g c = λ files.
 pub returns-in-Ok-clause-asks : goal.returns-in-Ok-clause-asks
 returns-in-Ok-clause-asks g c = c.run.ensures.asks
 
-pub returns-in-Ok-clause-alone : goal.returns-in-Ok-clause-alone
-returns-in-Ok-clause-alone g c = c.run.ensures.alone
+pub returns-in-Ok-clause-shows : goal.returns-in-Ok-clause-shows
+returns-in-Ok-clause-shows g c =
+    subst (λ (s : Settings). IsShown s.block (plan_in c.run.new.ran.plan) c.run.new.ran.trace) c.usual.ensures c.run.ensures.shows
 
 pub returns-in-Err-clause-does : goal.returns-in-Err-clause-does
 returns-in-Err-clause-does g c = λ files. program_refused (purpose.Run None) (Made c.args.seed c.args.size) files files c.in-Err.fault _ _ (c.in-Err.ensures files)
@@ -35,8 +37,8 @@ returns-in-Err-clause-plan g c = λ files. refused_plan usual_how (Made c.args.s
 pub returns-in-Err-clause-asks : goal.returns-in-Err-clause-asks
 returns-in-Err-clause-asks g c = unrun_asks _ _ c.requires.unrun
 
-pub returns-in-Err-clause-alone : goal.returns-in-Err-clause-alone
-returns-in-Err-clause-alone g c = unrun_alone _ c.requires.unrun
+pub returns-in-Err-clause-shows : goal.returns-in-Err-clause-shows
+returns-in-Err-clause-shows g c = unrun_shown _ _ c.requires.unrun
 
 pub returns-in-Ok-clause-silent : goal.returns-in-Ok-clause-silent
 returns-in-Ok-clause-silent g c = c.run.ensures.silent

@@ -1,7 +1,7 @@
 use Rattle.std.proofs.Common.{refl}
 use Rattle.kl_engine.specs.Planned.{how_in}
 use Rattle.kl_engine.specs.declared.top.Purpose.TheVariants as purpose
-use Rattle.kl_engine.proofs.CountLemmas.{command_plan, refused_plan, unrun_alone, unrun_asks}
+use Rattle.kl_engine.proofs.CountLemmas.{command_plan, refused_plan, unrun_shown, unrun_asks}
 use Rattle.kl_engine.proofs.ProgramLemmas.{does_same, no_files, program_does, program_refused}
 use Rattle.kl_engine.proofs.top.do_run.Goals as goal
 
@@ -15,8 +15,8 @@ returns-in-Ok-clause-plan g c = command_plan (how_in c.args.job.now) _ _ _ _ c.r
 pub returns-in-Ok-clause-asks : goal.returns-in-Ok-clause-asks
 returns-in-Ok-clause-asks g c = c.run.ensures.asks
 
-pub returns-in-Ok-clause-alone : goal.returns-in-Ok-clause-alone
-returns-in-Ok-clause-alone g c = c.run.ensures.alone
+pub returns-in-Ok-clause-shows : goal.returns-in-Ok-clause-shows
+returns-in-Ok-clause-shows g c = c.run.ensures.shows
 
 pub returns-in-Err-clause-does : goal.returns-in-Err-clause-does
 returns-in-Err-clause-does g c = program_refused (purpose.Run c.args.job.now.first) _ _ _ c.in-Err.fault _ _ c.in-Err.ensures
@@ -27,8 +27,8 @@ returns-in-Err-clause-plan g c = refused_plan (how_in c.args.job.now) _ _ _ _ _ 
 pub returns-in-Err-clause-asks : goal.returns-in-Err-clause-asks
 returns-in-Err-clause-asks g c = unrun_asks _ _ c.requires.unrun
 
-pub returns-in-Err-clause-alone : goal.returns-in-Err-clause-alone
-returns-in-Err-clause-alone g c = unrun_alone _ c.requires.unrun
+pub returns-in-Err-clause-shows : goal.returns-in-Err-clause-shows
+returns-in-Err-clause-shows g c = unrun_shown _ _ c.requires.unrun
 
 pub returns-in-Ok-clause-silent : goal.returns-in-Ok-clause-silent
 returns-in-Ok-clause-silent g c = c.run.ensures.silent

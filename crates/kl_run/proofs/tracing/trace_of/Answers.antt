@@ -1,5 +1,5 @@
 use Rattle.std.proofs.Common.{◌≡◌, ℕ, ◌∷◌, [], ◌++◌, List, refl, ap, ◌∙◌, arith}
-use Rattle.kl_ship.specs.Nodes.{view}
+use Rattle.kl_plan.specs.Nodes.{view}
 use Rattle.kl_run.proofs.Traces.{entry, entries, entries_more, scans_few, plan_entries}
 use Rattle.kl_run.proofs.tracing.trace_of.Goals as goal
 

@@ -2,7 +2,8 @@ use Rattle.std.proofs.Common.{◌+◌, arith, refl}
 use Rattle.kl_core.specs.Trees.{view, parts_view}
 use Rattle.kl_ship.specs.Shipping.{other_view}
 use Rattle.kl_ship.specs.Delegation.{column_use, column_use_parts, column_use_arms}
-use Rattle.kl_ship.proofs.Finding.{found_inside, found_other, found_nowhere, column_case}
+use Rattle.kl_plan.proofs.Finding.{found_inside, found_other, found_nowhere}
+use Rattle.kl_ship.proofs.Finding.{column_case}
 use Rattle.kl_ship.proofs.conditions.+uses_column.Goals as goal
 
 pub uses_column-returns-then-uses_column_labelled : goal.uses_column-returns-then-uses_column_labelled

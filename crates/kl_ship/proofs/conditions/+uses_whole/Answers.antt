@@ -2,7 +2,8 @@ use Rattle.std.proofs.Common.{◌+◌, arith, refl}
 use Rattle.kl_core.specs.Trees.{view, parts_view}
 use Rattle.kl_ship.specs.Shipping.{other_view}
 use Rattle.kl_ship.specs.Delegation.{whole_use, whole_use_parts, whole_use_arms}
-use Rattle.kl_ship.proofs.Finding.{found_inside, found_other, found_nowhere, whole_case}
+use Rattle.kl_plan.proofs.Finding.{found_inside, found_other, found_nowhere}
+use Rattle.kl_ship.proofs.Finding.{whole_case}
 use Rattle.kl_ship.proofs.conditions.+uses_whole.Goals as goal
 
 pub uses_whole-returns-then-uses_whole_labelled : goal.uses_whole-returns-then-uses_whole_labelled

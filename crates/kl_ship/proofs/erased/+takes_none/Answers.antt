@@ -1,7 +1,8 @@
 use Rattle.std.proofs.Common.{ap, ◌∙◌}
-use Rattle.kl_ship.specs.Full.{erased}
-use Rattle.kl_ship.proofs.Finding.{as_term, none_taken}
-use Rattle.kl_ship.proofs.Views.{view_If}
+use Rattle.kl_plan.specs.Erased.{erased}
+use Rattle.kl_plan.proofs.Finding.{as_term}
+use Rattle.kl_ship.proofs.Finding.{none_taken}
+use Rattle.kl_plan.proofs.Views.{view_If}
 use Rattle.kl_ship.proofs.erased.+takes_none.Goals as goal
 
 pub returns-then-not-is_test : goal.returns-then-not-is_test

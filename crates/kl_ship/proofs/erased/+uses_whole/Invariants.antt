@@ -1,7 +1,7 @@
 use Rattle.std.proofs.Common.{◌≡◌, ◌-◌, ◌^◌, ℕ, min, drop}
 use Rattle.kl_ship.specs.Delegation.{whole_use_trees, whole_use_parts}
-use Rattle.kl_ship.specs.Full.{erased_nodes, erased_fields}
-use Rattle.kl_ship.specs.Nodes.{nodes_view, fields_view}
+use Rattle.kl_plan.specs.Erased.{erased_nodes, erased_fields}
+use Rattle.kl_plan.specs.Nodes.{nodes_view, fields_view}
 use Rattle.kl_ship.proofs.erased.+uses_whole.Given as goal
 
 abbrev pub invariant-uses_whole_all-loop-plan : goal.invariant-uses_whole_all-loop-plan

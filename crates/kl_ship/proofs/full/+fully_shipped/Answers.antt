@@ -1,5 +1,5 @@
 use Rattle.kl_ship.proofs.Deciding.{yes}
-use Rattle.kl_ship.proofs.FullParts.{if_ok, ok_is, part_not, same_rec, same_ext, at_scan, same_case, other_full, other_none, last_of_three}
+use Rattle.kl_ship.proofs.FullParts.{if_ok, ok_is, part_not, same_rec, same_case, other_full, other_none, last_of_three}
 use Rattle.kl_ship.proofs.full.+fully_shipped.Goals as goal
 
 pub fully_shipped-returns-then-not-branch-2 : goal.fully_shipped-returns-then-not-branch-2
@@ -20,10 +20,3 @@ pub fully_shipped-returns-in-None : goal.fully_shipped-returns-in-None
 fully_shipped-returns-in-None t c =
     yes ((same_case c.args.sources.now _ _ _ _ _ _ c.in-Case.is c.get-in-Case.ensures c.slice-in-Case.ensures).1
     ((ok_is _ _ c.in_ok-fully_shipped-in-Case.was c.fully_shipped-in-Case.ensures).0 c.if-not-branch.false, (ok_is _ _ c.in_ok-are_full_labelled-in-Case.was c.are_full_labelled-in-Case.ensures).0 c.if-not-branch-2.false, other_none c.args.sources.now _ c.in-None.is))
-
-pub fully_shipped-returns-in-Scan : goal.fully_shipped-returns-in-Scan
-fully_shipped-returns-in-Scan t c =
-    last_of_three _ _ c.leaves_nothing.result (same_ext c.args.sources.now _ _ _ _ _ _ _ c.in-Ext.is c.get-in-Ext.ensures c.get-in-Ext-2.ensures c.get-in-Ext-3.ensures)
-    (ok_is _ _ c.in_ok-fully_shipped-in-Ext.was c.fully_shipped-in-Ext.ensures) c.if-not-branch-4.false
-    (ok_is _ _ c.in_ok-fully_shipped-in-Ext-2.was c.fully_shipped-in-Ext-2.ensures) c.if-not-branch-5.false
-    (if_ok c.leaves_nothing.result (at_scan c.args.sources.now _ _ _ _ _ _ c.get-in-Ext-2.ensures c.get-in-Scan.ensures c.in-Scan.is) c.leaves_nothing.ensures)

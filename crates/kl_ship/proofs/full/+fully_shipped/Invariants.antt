@@ -1,5 +1,5 @@
 use Rattle.kl_ship.specs.Full.{FullyShipped, FullNodes, FullFields}
-use Rattle.kl_ship.specs.Nodes.{view, nodes_view, fields_view}
+use Rattle.kl_plan.specs.Nodes.{view, nodes_view, fields_view}
 use Rattle.kl_ship.proofs.Deciding.{Walked}
 use Rattle.kl_ship.proofs.full.+fully_shipped.Given as goal
 

@@ -1,8 +1,9 @@
 use Rattle.std.proofs.Common.{refl}
-use Rattle.kl_ship.specs.Joins.{join_view}
+use Rattle.kl_plan.specs.Joins.{join_view}
+use Rattle.kl_plan.proofs.Views.{view_join}
 use Rattle.kl_tools.proofs.Telling.{as_nodes, behind_part, behind_parts, fields_done, fields_goes, nodes_done, nodes_goes}
 use Rattle.kl_tools.proofs.Telling.{tells_Case, tells_Ext, tells_If, tells_Join, tells_Let}
-use Rattle.kl_tools.proofs.Telling.{tells_Memo, tells_Union, view_join}
+use Rattle.kl_tools.proofs.Telling.{tells_Memo, tells_Union}
 use Rattle.kl_tools.proofs.explaining.+tell.Goals as goal
 
 pub tell-returns-in-Case : goal.tell-returns-in-Case

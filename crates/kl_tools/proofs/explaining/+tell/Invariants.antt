@@ -1,5 +1,5 @@
 use Rattle.std.proofs.Common.{drop}
-use Rattle.kl_ship.specs.Nodes.{nodes_view, fields_view}
+use Rattle.kl_plan.specs.Nodes.{nodes_view, fields_view}
 use Rattle.kl_tools.proofs.Telling.{AreLeft, FieldsLeft}
 use Rattle.kl_tools.proofs.explaining.+tell.Given as goal
 

@@ -1,0 +1,17 @@
+pub mod Nodes
+pub mod Kinds
+pub mod Meaning
+pub mod Alike
+pub mod Occurs
+pub mod Typing
+pub mod Numbers
+pub mod Subqueries
+pub mod Prices
+pub mod Reached
+pub mod Holding
+pub mod Parts
+pub mod Erased
+pub mod Totals
+pub mod Loops
+pub mod Keys
+pub mod Joins
