@@ -34,10 +34,9 @@ use Rattle.kl_flat.specs.ColumnTable.{rows_of}
 use Rattle.kl_flat.specs.Columns.{is_table_type}
 use Rattle.kl_flat.specs.Fitting.{are_rows}
 use Rattle.kl_flat.proofs.Typing.{are_table_rows, rows_typed}
-use Rattle.kl_flat.specs.Flat.{Sources, flat_state, told_only, attached_of, contents_of, most_bytes, stored_bytes, stored_of, stored_rows}
+use Rattle.kl_flat.specs.Flat.{Cursors, Sources, flat_state, told_only, attached_of, contents_of, most_bytes, stored_bytes, stored_of, stored_rows}
 use Rattle.kl_flat.specs.Table.{bad_record, table_rows}
 use Rattle.kl_flat.specs.declared.parts.Source.{Source}
-use Rattle.kl_flat.specs.declared.parts.Open.{Open}
 use Rattle.kl_ask.proofs.Worlds.{error_is}
 
 some_none : {T : Type 0} {x : T} → Some x ≡ None → ⊥
@@ -100,7 +99,7 @@ unread_cause f (inl p) = inl p
 unread_cause f (inr e) = inr (untold f.told e.0, e.1)
 
 -- a refused `attach`
-refused : (e : DriverError) (source path : List ℕ) (ty : Ty) (f f' : FilesState) (sources : Sources) (cursors : List (Option Open)) (asked : List (Ask × ℕ)) (handed unread unread' : ℕ)
+refused : (e : DriverError) (source path : List ℕ) (ty : Ty) (f f' : FilesState) (sources : Sources) (cursors : Cursors) (asked : List (Ask × ℕ)) (handed unread unread' : ℕ)
     → f'.told ≡ f.told → f.faults ≤ f'.faults → CountsFault {T = ℕ} (Err e) f.faults f'.faults → unread ≤ unread' → CountsUnread (Err e) unread unread' → CauseOf e (at_path f.told path ty) f f' unread unread'
     → (at_path f.told path ty ≡ Some Missing → (f'.faults ≡ f.faults) × (unread' ≡ unread))
     → Attaches source path ty (Err e) (flat_state f sources cursors asked handed unread) (flat_state f' sources cursors asked handed unread')
@@ -131,7 +130,7 @@ refused e source path ty f f' sources cursors asked handed unread unread' told f
       no_change = λ d is. subst (λ e. CauseOf e (at_path f.told path ty) f f' unread unread') (error_is is) cause;
     })
 
-module _ (source path : List ℕ) (ty : Ty) (f f' : FilesState) (sources : Sources) (cursors : List (Option Open)) (asked : List (Ask × ℕ)) (handed unread : ℕ) where
+module _ (source path : List ℕ) (ty : Ty) (f f' : FilesState) (sources : Sources) (cursors : Cursors) (asked : List (Ask × ℕ)) (handed unread : ℕ) where
   -- the file was read, and memory wanted then
   no_memory : (whole : Whole) → ReadsWhole path most_bytes (Ok whole) f f' → Attaches source path ty (Err error.NoMemory) (flat_state f sources cursors asked handed unread) (flat_state f' sources cursors asked handed unread)
   no_memory whole reads = refused error.NoMemory source path ty f f' sources cursors asked handed unread unread reads.told reads.later reads.counts (omega arith) refl tt (λ is. ((reads.missing (is_missing path ty f is)).1, refl))
@@ -207,7 +206,7 @@ stays : {A : Type 0} (told : Option A) (sources sources' : Sources) → IsUnchan
 stays told sources sources' same = λ i name. option_map (attached_of told) (lookup (pointwise nat_eq name) (same i))
 
 -- it was read, and memory wanted then
-pub attach_stopped : (source path : List ℕ) (ty : Ty) (rows : List Value) (result : Result ℕ DriverError) (f f' : FilesState) (sources sources' : Sources) (cursors : List (Option Open)) (asked : List (Ask × ℕ)) (handed unread : ℕ)
+pub attach_stopped : (source path : List ℕ) (ty : Ty) (rows : List Value) (result : Result ℕ DriverError) (f f' : FilesState) (sources sources' : Sources) (cursors : Cursors) (asked : List (Ask × ℕ)) (handed unread : ℕ)
     → ReadsRows path ty (Ok rows) f f' → IsUnchanged sources sources' → result ≡ Err error.NoMemory
     → Attaches source path ty result (flat_state f sources cursors asked handed unread) (flat_state f' sources' cursors asked handed unread)
 attach_stopped source path ty rows result f f' sources sources' cursors asked handed unread read same is =
@@ -250,7 +249,7 @@ abbrev mk : Ty → Option (List Value) → ℕ → Attached
 mk t r n = record { ty = t; rows = r; count = n; kept = None }
 
 -- a table that was read and attached
-pub attach_done : (source path : List ℕ) (ty : Ty) (rows : List Value) (count : ℕ) (f f' : FilesState) (sources sources' : Sources) (cursors : List (Option Open)) (asked : List (Ask × ℕ)) (handed unread : ℕ)
+pub attach_done : (source path : List ℕ) (ty : Ty) (rows : List Value) (count : ℕ) (f f' : FilesState) (sources sources' : Sources) (cursors : Cursors) (asked : List (Ask × ℕ)) (handed unread : ℕ)
     → ReadsRows path ty (Ok rows) f f' → AddsSource source ty rows sources sources' count → are_rows ty rows ≡ true
     → Attaches source path ty (Ok count) (flat_state f sources cursors asked handed unread) (flat_state f' sources' cursors asked handed unread)
 attach_done source path ty rows count f f' sources sources' cursors asked handed unread read adds good =

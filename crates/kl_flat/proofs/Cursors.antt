@@ -1,11 +1,10 @@
 -- Cursors of a flat driver: how they are opened, what they hand, and how they are closed.
-use Rattle.std.proofs.Common.{◌≡◌, ◌≢◌, ◌⊎◌, ◌<◌, ◌+◌, ◌^◌, ℕ, Bool, true, false, List, [], ◌∷◌, ◌++◌, length, set, drop, Option, Some, None, Ok, Err, refl, sym, ◌∙◌, ap, subst, arith, inl, inr, slice_get, length-append, nat_lt, IsSome}
+use Rattle.std.proofs.Common.{◌≡◌, ◌≢◌, ◌⊎◌, ◌<◌, ◌+◌, ◌^◌, ℕ, Bool, true, false, List, [], ◌++◌, length, drop, Option, Some, None, Ok, Err, refl, sym, ◌∙◌, ap, subst, arith, inl, inr, length-append, nat_lt}
 use Rattle.std.proofs.lemmas.Bool.Decides.{nat_tests}
 use Rattle.std.proofs.lemmas.Grind.{common_steps}
-use Rattle.std.proofs.lemmas.List.Sorted.{IsPermutation-refl}
-use Rattle.std.proofs.lemmas.Option.{none-some, gets, same_Some, slice_get_within}
+use Rattle.std.proofs.lemmas.Option.{none-some, same_Some}
 use Rattle.std.specs.List.{AllByRecursion}
-use Rattle.std.specs.Option.{option_map, option_flatten}
+use Rattle.std.specs.Option.{option_map}
 use Rattle.kl_value.specs.declared.Kind.{Kind}
 use Rattle.kl_value.specs.declared.Kind.TheVariants as kind
 use Rattle.kl_value.specs.declared.Value.{Value}
@@ -20,15 +19,13 @@ use Rattle.kl_ask.specs.declared.ask.Ask.{Ask}
 use Rattle.kl_ask.specs.declared.ask.Ask.TheVariants as asks
 use Rattle.kl_ask.specs.declared.ask.ColTest.{ColTest}
 use Rattle.kl_ask.specs.declared.ask.DriverError.TheVariants as error
-use Rattle.kl_ask.specs.Cursors.{open_at}
-use Rattle.kl_ask.proofs.Opened.{added_free, added_now, added_others, changed_now, changed_others, replaced_other}
 use Rattle.kl_ask.proofs.Whole.{in_order}
 use Rattle.kl_flat.specs.Answering.{Takes}
 use Rattle.kl_flat.specs.Asked.{keep_of, tests_of}
 use Rattle.kl_flat.specs.ColumnTable.{rows_of}
-use Rattle.kl_flat.specs.Cursors.{HandsNext, OpensLast}
+use Rattle.kl_flat.specs.Cursors.{HandsNext, OpensRows}
 use Rattle.kl_ask.specs.Named.{asked_source}
-use Rattle.kl_flat.specs.Flat.{Sources, flat_state, told_only, attached_of, cursor_of, left_of}
+use Rattle.kl_flat.specs.Flat.{Cursors, Sources, flat_state, told_only, attached_of, cursor_of, left_of}
 use Rattle.kl_flat.specs.declared.parts.Source.{Source}
 use Rattle.kl_flat.specs.declared.parts.Open.{Open}
 use Rattle.kl_flat.proofs.Suiting.{item_flat}
@@ -65,7 +62,7 @@ fresh_over told source keep tests s o ask_is ty_is rows_is at_is small =
       bound = omega (arith, few, ap length left_is, ap (λ t. length (rows_of t)) rows_is, small);
     }
 
-opens_at : (ask : Ask) (s : Source) (o : Open) (f : FilesState) (sources : Sources) (cursors : List (Option Open)) (asked : List (Ask × ℕ)) (handed unread : ℕ)
+opens_at : (ask : Ask) (s : Source) (o : Open) (f : FilesState) (sources : Sources) (cursors : Cursors) (asked : List (Ask × ℕ)) (handed unread : ℕ)
     → CanStart (flat_state f sources cursors asked handed unread) ask → asked_source sources ask ≡ Some s
     → o.ask ≡ ask → o.ty ≡ s.ty → o.table ≡ s.table → o.at ≡ 0 → length (rows_of o.table) < 2 ^ 64
     → OpensAt ask (flat_state f sources cursors asked handed unread) (cursor_of f.told o)
@@ -74,11 +71,10 @@ opens_at (asks.Rows source keep tests) s o f sources cursors asked handed unread
     let same : attached_of f.told s ≡ a = same_Some _ _ (sym (ap (option_map (attached_of f.told)) found) ∙ is) in
     subst (λ a. IsFresh keep tests a (cursor_of f.told o)) same (fresh_over f.told source keep tests s o ask_is ty_is rows_is at_is small)
 
-pub start_done : (ask : Ask) (n : ℕ) (f : FilesState) (sources : Sources) (cursors cursors' : List (Option Open)) (asked asked' : List (Ask × ℕ)) (handed unread : ℕ)
-    → CanStart (flat_state f sources cursors asked handed unread) ask → n ≡ length cursors → OpensLast sources ask cursors cursors' → asked' ≡ with_ask ask asked
+pub start_done : (ask : Ask) (n : ℕ) (f : FilesState) (sources : Sources) (cursors cursors' : Cursors) (asked asked' : List (Ask × ℕ)) (handed unread : ℕ)
+    → CanStart (flat_state f sources cursors asked handed unread) ask → (o : Open) → OpensRows sources ask o → cursors n ≡ None → cursors' n ≡ Some o → ((k : ℕ) → k ≢ n → cursors' k ≡ cursors k) → asked' ≡ with_ask ask asked
     → Starts ask (Ok n) (flat_state f sources cursors asked handed unread) (flat_state f sources cursors' asked' handed unread)
-start_done ask n f sources cursors cursors' asked asked' handed unread can last opens counted =
-    let o = opens.made in
+start_done ask n f sources cursors cursors' asked asked' handed unread can o opens free now others counted =
     record {
       keeps = record { kind = refl; handed = omega arith; faults = omega arith; drifts = omega arith; no_drift = λ is. refl; unread = omega arith };
       attached = refl;
@@ -88,12 +84,12 @@ start_done ask n f sources cursors cursors' asked asked' handed unread can last 
       drifts = refl;
       unread = refl;
       opens = record {
-        free = ap (seen_as f.told) (added_free cursors cursors' n o last opens.grown);
+        free = ap (seen_as f.told) free;
         opened = cursor_of f.told o;
-        now = ap (seen_as f.told) (added_now cursors cursors' n o last opens.grown);
+        now = ap (seen_as f.told) now;
         ask_kept = opens.ask_is;
         fresh = opens_at ask opens.source o f sources cursors asked handed unread can opens.found opens.ask_is opens.ty opens.table opens.start o.small;
-        others = λ k ne. ap (seen_as f.told) (added_others cursors cursors' n o last opens.grown k ne);
+        others = λ k ne. ap (seen_as f.told) (others k ne);
         unread = λ r is. absurd (none-some _ is);
         asked = counted;
       };
@@ -175,27 +171,27 @@ module _ (most to : ℕ) (taken : List Value) (o o' : Open) (same : Same o o') (
     spent None all is = absurd cc
     spent (Some t) all is = sym (same_Some _ _ is) ∙ none_now
 
-module _ (cursor : ℕ) (o o' : Open) (f : FilesState) (sources : Sources) (cursors cursors' : List (Option Open)) (asked : List (Ask × ℕ)) (is : slice_get cursors cursor ≡ Some (Some o)) (made : cursors' ≡ set cursors cursor (Some o')) where
-  cursor_is : (c : Cursor) → seen_as f.told (open_at cursors cursor) ≡ Some c → cursor_of f.told o ≡ c
-  cursor_is c has = same_Some _ _ (sym (ap (λ x. seen_as f.told (option_flatten x)) is) ∙ has)
+module _ (cursor : ℕ) (o o' : Open) (f : FilesState) (sources : Sources) (cursors cursors' : Cursors) (asked : List (Ask × ℕ)) (is : cursors cursor ≡ Some o) (now : cursors' cursor ≡ Some o') (others : (k : ℕ) → k ≢ cursor → cursors' k ≡ cursors k) where
+  cursor_is : (c : Cursor) → seen_as f.told (cursors cursor) ≡ Some c → cursor_of f.told o ≡ c
+  cursor_is c has = same_Some _ _ (sym (ap (seen_as f.told) is) ∙ has)
 
   module _ (most n : ℕ) (into into' : List Value) (hand : HandsNext most into into' o o' n) (handed handed' unread : ℕ) (count : handed' ≡ raised_by n handed) (fits : handed < 2 ^ 64) (room : 0 < most) where
     same : Same o o'
     same = (hand.ask, hand.ty, hand.table)
 
-    more : 0 < n → (c : Cursor) → seen_as f.told (open_at cursors cursor) ≡ Some c
+    more : 0 < n → (c : Cursor) → seen_as f.told (cursors cursor) ≡ Some c
         → PullsMore cursor most into into' c (flat_state f sources cursors asked handed unread) (flat_state f sources cursors' asked handed' unread)
     more some c has =
         subst (λ c. PullsMore cursor most into into' c (flat_state f sources cursors asked handed unread) (flat_state f sources cursors' asked handed' unread)) (cursor_is c has) (record {
           rows = hand.taken;
           then = cursor_of f.told o';
           appended = hand.appended;
-          now = ap (seen_as f.told) (changed_now cursors cursors' cursor o o' is made);
+          now = ap (seen_as f.told) now;
           hands = hands most o'.at hand.taken o o' same refl hand.takes f.told (omega (arith, some, hand.size));
           handed = count ∙ ap (λ n. raised_by n handed) hand.size;
         })
 
-    none : n ≡ 0 → (c : Cursor) → seen_as f.told (open_at cursors cursor) ≡ Some c
+    none : n ≡ 0 → (c : Cursor) → seen_as f.told (cursors cursor) ≡ Some c
         → PullsNone cursor into into' c (flat_state f sources cursors asked handed unread) (flat_state f sources cursors' asked handed' unread)
     none nothing c has =
         let few : length hand.taken ≡ 0 = omega (arith, nothing, hand.size) in
@@ -203,12 +199,12 @@ module _ (cursor : ℕ) (o o' : Open) (f : FilesState) (sources : Sources) (curs
           same = grind (arith, common_steps);
           spent = spent most o'.at hand.taken o o' same refl hand.takes few room f.told;
           over = inl (ap length (none_now most o'.at hand.taken o o' same refl hand.takes few room));
-          now = ap (seen_as f.told) (changed_now cursors cursors' cursor o o' is made) ∙ ap Some (emptied_is most o'.at hand.taken o o' same refl hand.takes few room f.told);
+          now = ap (seen_as f.told) now ∙ ap Some (emptied_is most o'.at hand.taken o o' same refl hand.takes few room f.told);
           handed = omega (arith, count, fits, nothing);
           unchanged = λ r. absurd (none-some _ r.is_read);
         })
 
-    answer : (some : Bool) → nat_lt 0 n ≡ some → (c : Cursor) → seen_as f.told (open_at cursors cursor) ≡ Some c
+    answer : (some : Bool) → nat_lt 0 n ≡ some → (c : Cursor) → seen_as f.told (cursors cursor) ≡ Some c
         → PullResult cursor most into into' c (Ok some) (flat_state f sources cursors asked handed unread) (flat_state f sources cursors' asked handed' unread)
     answer true test c has = more (grind (arith, nat_tests)) c has
     answer false test c has = none (grind (arith, nat_tests)) c has
@@ -222,7 +218,7 @@ module _ (cursor : ℕ) (o o' : Open) (f : FilesState) (sources : Sources) (curs
       faults = refl;
       drifts = refl;
       unread = refl;
-      others = λ k ne. ap (seen_as f.told) (changed_others cursors cursors' cursor o o' is made k ne);
+      others = λ k ne. ap (seen_as f.told) (others k ne);
       reads = refl;
       same_file = λ is_open. refl;
       others_reading = λ k ne is_open. record { file = refl; read = refl };
@@ -230,10 +226,10 @@ module _ (cursor : ℕ) (o o' : Open) (f : FilesState) (sources : Sources) (curs
     }
 
 -- want of memory closes the cursor
-pub pull_stopped : (cursor most : ℕ) (into into' : List Value) (o : Option Open) (f : FilesState) (sources : Sources) (cursors cursors' : List (Option Open)) (asked : List (Ask × ℕ)) (handed unread : ℕ)
-    → open_at cursors' cursor ≡ None → ((k : ℕ) → k ≢ cursor → open_at cursors' k ≡ open_at (set cursors cursor o) k) → into' ≡ into
+pub pull_stopped : (cursor most : ℕ) (into into' : List Value) (f : FilesState) (sources : Sources) (cursors cursors' : Cursors) (asked : List (Ask × ℕ)) (handed unread : ℕ)
+    → cursors' cursor ≡ None → ((k : ℕ) → k ≢ cursor → cursors' k ≡ cursors k) → into' ≡ into
     → Pulls cursor most into into' (Err error.NoMemory) (flat_state f sources cursors asked handed unread) (flat_state f sources cursors' asked handed unread)
-pull_stopped cursor most into into' o f sources cursors cursors' asked handed unread closed others same = record {
+pull_stopped cursor most into into' f sources cursors cursors' asked handed unread closed others same = record {
   keeps = record { kind = refl; handed = omega arith; faults = omega arith; drifts = omega arith; no_drift = λ is. refl; unread = omega arith };
   attached = refl;
   asked = refl;
@@ -243,7 +239,7 @@ pull_stopped cursor most into into' o f sources cursors cursors' asked handed un
   reads = refl;
   same_file = λ is_open. refl;
   others_reading = λ k ne is_open. record { file = refl; read = refl };
-  others = λ k ne. ap (seen_as f.told) (others k ne ∙ replaced_other cursors cursor k o ne);
+  others = λ k ne. ap (seen_as f.told) (others k ne);
   answer = λ c has. record {
     same = same;
     closed = ap (seen_as f.told) closed;

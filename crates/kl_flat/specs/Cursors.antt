@@ -1,5 +1,5 @@
 -- Steps of cursors: one is opened, and hands rows. No public contract cites this.
-use Rattle.std.specs.Prelude.{◌≡◌, ℕ, List, [], ◌∷◌, ◌++◌, length, Option, Some}
+use Rattle.std.specs.Prelude.{◌≡◌, ℕ, List, ◌++◌, length, Some}
 use Rattle.kl_value.specs.declared.Value.{Value}
 use Rattle.kl_ask.specs.declared.ask.Ask.{Ask}
 use Rattle.kl_flat.specs.Answering.{Takes}
@@ -10,16 +10,14 @@ use Rattle.kl_flat.specs.Flat.{Sources}
 use Rattle.kl_flat.specs.declared.parts.Open.{Open}
 use Rattle.kl_flat.specs.declared.parts.Source.{Source}
 
--- a cursor at the first row of the source that is asked stands behind the others
-pub record OpensLast (sources : Sources) (ask : Ask) (old new : List (Option Open)) : Type 0 where
+-- a cursor stands at the first row of the source that is asked
+pub record OpensRows (sources : Sources) (ask : Ask) (o : Open) : Type 0 where
   pub source : Source
   pub found : asked_source sources ask ≡ Some source
-  pub made : Open
-  pub grown : new ≡ old ++ Some made ∷ []
-  pub ask_is : made.ask ≡ ask
-  pub ty : made.ty ≡ source.ty
-  pub table : made.table ≡ source.table
-  pub start : made.at ≡ 0
+  pub ask_is : o.ask ≡ ask
+  pub ty : o.ty ≡ source.ty
+  pub table : o.table ≡ source.table
+  pub start : o.at ≡ 0
 
 -- so many next answers of a cursor are appended, and the cursor stands behind them
 pub record HandsNext (most : ℕ) (into into' : List Value) (old new : Open) (count : ℕ) : Type 0 where

@@ -7,7 +7,6 @@ use Rattle.kl_type.specs.declared.ground.Ty.{Ty}
 use Rattle.kl_outside.specs.Files.{FilesState}
 use Rattle.kl_outcome.specs.Outcome.{Name}
 use Rattle.kl_ask.specs.Asks.{answers, item_of, shown_type}
-use Rattle.kl_ask.specs.Cursors.{open_at}
 use Rattle.kl_ask.specs.Named.{NamedSources, source_named}
 use Rattle.kl_ask.specs.Driver.{State, DriverKind, Stored, Missing, Bad, Long, Rows, Source as Attached, Cursor}
 use Rattle.kl_ask.specs.declared.ask.Ask.{Ask}
@@ -52,6 +51,10 @@ told_only (Some told) rows = Some rows
 abbrev pub Sources : Type 0
 Sources = NamedSources Source
 
+-- open cursors by their numbers
+abbrev pub Cursors : Type 0
+Cursors = ℕ → Option Open
+
 abbrev pub attached_of : {A : Type 0} → Option A → Source → Attached
 attached_of told source = record {
   ty = source.ty;
@@ -84,11 +87,11 @@ flat_kind told = record {
   spells = None;
 }
 
-abbrev pub flat_state : FilesState → Sources → List (Option Open) → List (Ask × ℕ) → ℕ → ℕ → State
+abbrev pub flat_state : FilesState → Sources → Cursors → List (Ask × ℕ) → ℕ → ℕ → State
 flat_state files sources cursors asked handed unread = record {
   kind = flat_kind files.told;
   attached = λ name. option_map (attached_of files.told) (source_named sources name);
-  cursors = λ k. option_map (cursor_of files.told) (open_at cursors k);
+  cursors = λ k. option_map (cursor_of files.told) (cursors k);
   file = λ k. None;
   read = λ n. None;
   asked = asked;

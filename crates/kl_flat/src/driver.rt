@@ -1,29 +1,27 @@
 //! The driver of tables.
-ghost use Rattle.std.specs.Prelude.{◌≡◌, ◌<◌, ◌^◌, ℕ, length, true, IfOk, None, OnErr, OnOk, IsSome};
+ghost use Rattle.std.specs.Prelude.{◌≡◌, ◌<◌, ◌^◌, length, true, IfOk, OnErr};
 ghost use Rattle.std.specs.HashMap.{IsUnchanged};
-ghost use Rattle.kl_ask.specs.Named.{asked_source};
 ghost use Rattle.kl_flat.specs.Attaching.{AddsSource, ReadsTable};
 ghost use Rattle.kl_flat.specs.ColumnTable.{rows_of};
 ghost use Rattle.kl_flat.specs.Columns.{is_table_type};
-ghost use Rattle.kl_flat.specs.Cursors.{HandsNext, OpensLast};
+ghost use Rattle.kl_flat.specs.Cursors.{HandsNext};
 ghost use Rattle.kl_flat.specs.Fitting.{are_rows};
 ghost use Rattle.kl_flat.specs.Flat.{flat_state, fresh_state};
 ghost use Rattle.kl_outside.specs.Files.{NoneOpen};
+ghost use Rattle.slab.specs.Slab.{get};
 
 use crate::answering::next_answers;
 use crate::column_table::ColumnTable;
 use crate::columns::is_table_type;
 use crate::parts::{Open, Source};
-use crate::sources::{opened, put_source};
+use crate::sources::{open_rows, put_source};
 use crate::table::read_columns;
-use kl_ask::{
-    Abilities, Ask, Driver, DriverError, asked_source, close_cursor, count_ask, sum_asked,
-    unread_by,
-};
+use kl_ask::{Abilities, Ask, Driver, DriverError, count_ask, sum_asked, unread_by};
 use kl_base::{Label, NoMemory, Shared, Text};
 use kl_outside::{Files, Stop, Whole, read_whole};
 use kl_type::Ty;
 use kl_value::Value;
+use slab::Slab;
 use std::alloc::Global;
 use std::collections::HashMap;
 
@@ -41,7 +39,7 @@ pub struct FlatDriver<F: Files + Drop> {
     alloc: Global,
     files: F,
     sources: HashMap<Label, Source>,
-    cursors: Vec<Option<Open>>,
+    cursors: Slab<Open>,
     asked: Vec<(Ask, u64)>,
     handed: u64,
     unread: u64,
@@ -58,7 +56,7 @@ impl<F: Files + Drop> FlatDriver<F> {
             alloc,
             files,
             sources: HashMap::new(alloc),
-            cursors: Vec::new(alloc),
+            cursors: Slab::new(alloc),
             asked: Vec::new(alloc),
             handed: 0,
             unread: 0,
@@ -67,7 +65,7 @@ impl<F: Files + Drop> FlatDriver<F> {
 }
 
 impl<F: Files + Drop> Driver for FlatDriver<F> {
-    ghost state = { λ d. flat_state (F.state d.files) d.sources d.cursors.items d.asked.items d.handed d.unread };
+    ghost state = { λ d. flat_state (F.state d.files) d.sources (get d.cursors) d.asked.items d.handed d.unread };
 
     fn name(&self) -> &[u8] {
         b"flat"
@@ -97,20 +95,15 @@ impl<F: Files + Drop> Driver for FlatDriver<F> {
     }
 
     fn start(&mut self, ask: &Ask) -> Result<u64, DriverError> {
-        let cursor = self.cursors.len();
-        open_cursor(self.alloc, &self.sources, ask, &mut self.cursors)?;
-        match count_ask(self.alloc, &mut self.asked, ask) {
-            Ok(()) => Ok(cursor as u64),
-            Err(NoMemory) => {
-                self.cursors.truncate(cursor);
-                Err(DriverError::NoMemory)
-            }
-        }
+        self.cursors.reserve(1)?;
+        let open = open_rows(self.alloc, &self.sources, ask)?;
+        count_ask(self.alloc, &mut self.asked, ask)?;
+        Ok(self.cursors.insert_reserved(open) as u64)
     }
 
     fn pull(&mut self, cursor: u64, most: u32, into: &mut Vec<Value>) -> Result<bool, DriverError> {
         let cursor = cursor as usize;
-        let Some(open) = &mut self.cursors[cursor] else {
+        let Some(open) = self.cursors.get_mut(cursor) else {
             unreachable!()
         };
         match hand_next(self.alloc, open, most, into) {
@@ -119,14 +112,14 @@ impl<F: Files + Drop> Driver for FlatDriver<F> {
                 Ok(count > 0)
             }
             Err(NoMemory) => {
-                close_cursor(&mut self.cursors, cursor);
+                self.cursors.remove(cursor);
                 Err(DriverError::NoMemory)
             }
         }
     }
 
     fn finish(&mut self, cursor: u64) {
-        close_cursor(&mut self.cursors, cursor as usize);
+        self.cursors.remove(cursor as usize);
     }
 
     fn starts(&self) -> u64 {
@@ -204,25 +197,6 @@ pub fn new_source(
     let name = name.dup()?;
     let ty = Shared::new(alloc, ty.dup(alloc)?)?;
     Ok(Source { name, ty, table })
-}
-
-// Opens a cursor for an ask, behind the others.
-fn open_cursor(
-    alloc: Global,
-    sources: &HashMap<Label, Source>,
-    ask: &Ask,
-    cursors: &mut Vec<Option<Open>>,
-) -> Result<(), NoMemory>
-    requires { IsSome (asked_source sources.now ask.now) }
-    ensures opened { OnOk result (OpensLast sources.now ask.now cursors.old.items cursors.new.items) }
-    ensures refused { OnErr result (cursors.new.items ≡ cursors.old.items) }
-{
-    let Some(source) = asked_source(sources, ask) else {
-        unreachable!()
-    };
-    let open = opened(alloc, source, ask)?;
-    cursors.push(Some(open))?;
-    Ok(())
 }
 
 /// Appends the next answers of a cursor, which then stands behind the last row that was looked at, and says how many.

@@ -24,6 +24,6 @@ pub use driver::{FlatDriver, hand_next, new_source, table_of_file};
 pub use held::{Cells, Column};
 pub use parts::{Open, Source};
 pub use row_tests::{Against, RowTest};
-pub use sources::{opened, put_source};
+pub use sources::{open_rows, put_source};
 pub use table::{Table, TableFront, read_columns, read_table};
 pub use texts::Texts;

@@ -1,11 +1,13 @@
 //! Attached sources by their names, and what is asked of them.
-ghost use Rattle.std.specs.Prelude.{◌≡◌, IfOk, OnErr, OnOk, Some, nat_eq};
+ghost use Rattle.std.specs.Prelude.{◌≡◌, IfOk, IsSome, OnErr, OnOk, Some, nat_eq};
 ghost use Rattle.std.specs.Cmp.Lexicographic.{pointwise};
 ghost use Rattle.std.specs.HashMap.{IsUnchanged, Updates};
+ghost use Rattle.kl_ask.specs.Named.{asked_source};
 ghost use Rattle.kl_flat.specs.Asked.{keep_of, tests_of};
+ghost use Rattle.kl_flat.specs.Cursors.{OpensRows};
 
 use crate::parts::{Open, Source};
-use kl_ask::{Ask, ColTest};
+use kl_ask::{Ask, ColTest, asked_source};
 use kl_base::{Label, NoMemory, Seq};
 use std::alloc::Global;
 use std::collections::HashMap;
@@ -26,11 +28,26 @@ pub fn put_source(
     Ok(())
 }
 
-/// A cursor at the first row of a source.
+/// A cursor at the first row of the source that is asked.
 ///
 /// # Errors
 /// Want of memory.
-pub fn opened(alloc: Global, source: &Source, ask: &Ask) -> Result<Open, NoMemory>
+pub fn open_rows(
+    alloc: Global,
+    sources: &HashMap<Label, Source>,
+    ask: &Ask,
+) -> Result<Open, NoMemory>
+    requires { IsSome (asked_source sources.now ask.now) }
+    ensures { IfOk result (OpensRows sources.now ask.now) }
+{
+    let Some(source) = asked_source(sources, ask) else {
+        unreachable!()
+    };
+    opened(alloc, source, ask)
+}
+
+// A cursor at the first row of a source.
+fn opened(alloc: Global, source: &Source, ask: &Ask) -> Result<Open, NoMemory>
     ensures ask { IfOk result (λ o. o.ask ≡ ask.now) }
     ensures ty { IfOk result (λ o. o.ty ≡ source.now.ty) }
     ensures table { IfOk result (λ o. o.table ≡ source.now.table) }

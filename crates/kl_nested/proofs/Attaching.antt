@@ -22,11 +22,9 @@ use Rattle.kl_ask.proofs.Worlds.{error_is}
 use Rattle.kl_nested.specs.Contents.{contents_of, first_misfit, item_ty, stored_in, stored_of, stored_unless}
 use Rattle.kl_nested.specs.Desk.{IsDesk, IsKept}
 use Rattle.kl_ask.specs.Named.{source_named}
-use Rattle.kl_nested.specs.Nested.{Sources, Tells, attached_of, nested_state, read_as}
-use Rattle.kl_ask.specs.Cursors.{open_at}
+use Rattle.kl_nested.specs.Nested.{Cursors, Sources, Tells, attached_of, nested_state, read_as}
 use Rattle.kl_nested.specs.Reading.{ReadsFile, Told}
 use Rattle.kl_nested.specs.declared.parts.Source.{Source}
-use Rattle.kl_nested.specs.declared.parts.Open.{Open}
 use Rattle.kl_nested.proofs.Collections.{rows_typed}
 use Rattle.kl_nested.proofs.Desks.{file_open}
 use Rattle.kl_nested.proofs.Progress.{under}
@@ -120,7 +118,7 @@ module _ (limit : ℕ) (path : List ℕ) (ty : Ty) where
         by files is (inl none) = absurd (some_none (sym is ∙ none))
         by files is (inr at) = let same : at.0 ≡ files = same_Some _ _ (sym at.2 ∙ is) in (at.1, at.4.0, ap (λ h. h path) (sym same) ∙ at.3, at.4.1, at.4.2, at.4.3)
 
-  module _ (source : Name) (f g : FilesState) (sources : Sources) (cursors : List (Option Open)) (asked : List (Ask × ℕ)) (handed drifts : ℕ) where
+  module _ (source : Name) (f g : FilesState) (sources : Sources) (cursors : Cursors) (asked : List (Ask × ℕ)) (handed drifts : ℕ) where
     -- a refused `attach`
     refused : (e : DriverError) (unread unread' : ℕ) → IsDesk limit f sources cursors → g.told ≡ f.told → ((k : ℕ) → IsSome (f.left k) → seen_in g k ≡ seen_in f k) → f.faults ≤ g.faults
         → CountsFault {T = ℕ} (Err e) f.faults g.faults → unread ≤ unread' → CountsUnread (Err e) unread unread' → CauseOf e (at_path limit f.told path ty) f g unread unread'
@@ -130,7 +128,7 @@ module _ (limit : ℕ) (path : List ℕ) (ty : Ty) where
         subst (λ t. Attaches source path ty (Err e) (nested_state limit f sources cursors asked handed drifts unread) (nested_state limit (record { told = t; left = g.left; log = g.log; faults = g.faults }) sources cursors asked handed drifts unread')) (sym told) (record {
           keeps = record { kind = refl; handed = omega arith; faults = faults; drifts = omega arith; no_drift = λ is. refl; unread = more };
           cursors = refl;
-          reading = λ k is. record { file = refl; read = under (open_at cursors k) _ _ (λ x at. ap (option_map read_as) (seen x.file (file_open limit f x (desk.reading k x at)))) };
+          reading = λ k is. record { file = refl; read = under (cursors k) _ _ (λ x at. ap (option_map read_as) (seen x.file (file_open limit f x (desk.reading k x at)))) };
           asked = refl;
           handed = refl;
           faults = fault_counts;
@@ -210,7 +208,7 @@ module _ (limit : ℕ) (path : List ℕ) (ty : Ty) where
           subst (λ t. Attaches source path ty (Ok count) (nested_state limit f sources cursors asked handed drifts unread) (nested_state limit (record { told = t; left = g.left; log = g.log; faults = g.faults }) sources' cursors asked handed drifts unread)) (sym reads.told) (record {
             keeps = record { kind = refl; handed = omega arith; faults = reads.later; drifts = omega arith; no_drift = λ is. refl; unread = omega arith };
             cursors = refl;
-            reading = λ k is. record { file = refl; read = under (open_at cursors k) _ _ (λ x at. ap (option_map read_as) (reads.open_seen x.file (file_open limit f x (desk.reading k x at)))) };
+            reading = λ k is. record { file = refl; read = under (cursors k) _ _ (λ x at. ap (option_map read_as) (reads.open_seen x.file (file_open limit f x (desk.reading k x at)))) };
             asked = refl;
             handed = refl;
             faults = reads.counts;

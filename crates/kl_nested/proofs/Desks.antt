@@ -1,5 +1,5 @@
 -- What stays true of the files, the sources and the open cursors of a driver.
-use Rattle.std.proofs.Common.{◌≡◌, ◌≢◌, ◌⊎◌, ℕ, false, List, [], ◌∷◌, ◌++◌, length, set, Option, Some, None, IsSome, slice_get, refl, sym, ap, subst, ◌∙◌, ⊎_elim, nat_eq, arith, inl, inr}
+use Rattle.std.proofs.Common.{◌≡◌, ◌≢◌, ◌⊎◌, ℕ, false, List, [], Option, Some, None, IsSome, refl, sym, ap, subst, ◌∙◌, ⊎_elim, nat_eq, arith, inl, inr}
 use Rattle.std.specs.Cmp.Lexicographic.{pointwise}
 use Rattle.std.specs.HashMap.{Updates}
 use Rattle.std.proofs.lemmas.Bool.{cases_eq}
@@ -9,15 +9,13 @@ use Rattle.kl_outside.specs.Files.{FilesState, OtherFiles, OtherSeen, left_at_fi
 use Rattle.kl_outcome.specs.Outcome.{Name}
 use Rattle.kl_exchange.proofs.FileReading.{begins_so}
 use Rattle.kl_exchange.specs.FileReading.{HasRead, HasSeen}
-use Rattle.kl_ask.specs.Cursors.{open_at}
 use Rattle.kl_ask.specs.declared.ask.Ask.{Ask}
 use Rattle.kl_ask.specs.declared.ask.Ask.TheVariants as asks
 use Rattle.kl_ask.proofs.Names.{not_same}
-use Rattle.kl_ask.proofs.Opened.{added_free, added_now, added_others, changed_now, changed_others}
 use Rattle.kl_nested.specs.Desk.{HasTaken, IsDesk, IsKept, IsReading}
 use Rattle.kl_nested.specs.Handing.{ReadsOne}
 use Rattle.kl_ask.specs.Named.{asked_source, source_named}
-use Rattle.kl_nested.specs.Nested.{Sources}
+use Rattle.kl_nested.specs.Nested.{Cursors, Sources}
 use Rattle.kl_nested.specs.Opening.{OpensOver}
 use Rattle.kl_nested.specs.declared.parts.Source.{Source}
 use Rattle.kl_nested.specs.declared.parts.Open.{Open}
@@ -50,7 +48,7 @@ module _ (limit : ℕ) (f g : FilesState) (told_on : g.told ≡ f.told) where
 pub file_open : (limit : ℕ) (f : FilesState) (o : Open) → IsReading limit f o → IsSome (f.left o.file)
 file_open limit f o h = subst (λ k. IsSome (f.left k)) h.same_file h.taken.is_open
 
-module _ (limit : ℕ) (f : FilesState) (sources : Sources) (cursors : List (Option Open)) (desk : IsDesk limit f sources cursors) where
+module _ (limit : ℕ) (f : FilesState) (sources : Sources) (cursors : Cursors) (desk : IsDesk limit f sources cursors) where
   -- the source that is asked is as it was attached
   pub kept_asked : (ask : Ask) (s : Source) → asked_source sources ask ≡ Some s → IsKept limit f.told s
   kept_asked (asks.Rows name keep tests) s is = desk.kept name s is
@@ -93,7 +91,7 @@ module _ (limit : ℕ) (f : FilesState) (sources : Sources) (cursors : List (Opt
           (told n name)
 
   -- one cursor more, whose file was not open
-  module _ (g : FilesState) (cursors' : List (Option Open)) (source : Source) (ask : Ask) (o : Open) (told_on : g.told ≡ f.told) (grown : cursors' ≡ cursors ++ Some o ∷ []) (over : OpensOver limit source ask f g o) (found : asked_source sources ask ≡ Some source) where
+  module _ (g : FilesState) (cursors' : Cursors) (source : Source) (ask : Ask) (number : ℕ) (o : Open) (told_on : g.told ≡ f.told) (free : cursors number ≡ None) (there : cursors' number ≡ Some o) (others : (k : ℕ) → k ≢ number → cursors' k ≡ cursors k) (over : OpensOver limit source ask f g o) (found : asked_source sources ask ≡ Some source) where
     kept : IsKept limit f.told source
     kept = kept_asked ask source found
 
@@ -116,14 +114,14 @@ module _ (limit : ℕ) (f : FilesState) (sources : Sources) (cursors : List (Opt
           };
         }
 
-    others_apart : (k : ℕ) (p : Open) → open_at cursors k ≡ Some p → p.file ≢ o.file
+    others_apart : (k : ℕ) (p : Open) → cursors k ≡ Some p → p.file ≢ o.file
     others_apart k p is same = some_not_none (Option (List ℕ)) (subst IsSome (ap f.left same ∙ over.free) (file_open limit f p (desk.reading k p is)))
 
-    cases : (k : ℕ) (p : Open) → open_at cursors' k ≡ Some p → ((k ≡ length cursors) × (p ≡ o)) ⊎ ((k ≢ length cursors) × (open_at cursors k ≡ Some p))
+    cases : (k : ℕ) (p : Open) → cursors' k ≡ Some p → ((k ≡ number) × (p ≡ o)) ⊎ ((k ≢ number) × (cursors k ≡ Some p))
     cases k p is = ⊎_elim
-        (λ last. inl (last, same_Some _ _ (sym is ∙ added_now cursors cursors' k o last grown)))
-        (λ ne. inr (ne, sym (added_others cursors cursors' (length cursors) o refl grown k ne) ∙ is))
-        (cases_eq k (length cursors))
+        (λ last. inl (last, same_Some _ _ (sym is ∙ ap cursors' last ∙ there)))
+        (λ ne. inr (ne, sym (others k ne) ∙ is))
+        (cases_eq k number)
 
     pub desk_opened : IsDesk limit g sources cursors'
     desk_opened = record {
@@ -137,66 +135,63 @@ module _ (limit : ℕ) (f : FilesState) (sources : Sources) (cursors : List (Opt
         | inr old ↦ reading_on limit f g told_on p (over.others p.file (others_apart k p old.1)) (over.others_seen p.file (others_apart k p old.1)) (desk.reading k p old.1)
       ];
       only = λ n is. elim (cases_eq n o.file) [
-        | inl same ↦ (length cursors, o, added_now cursors cursors' (length cursors) o refl grown, sym same)
+        | inl same ↦ (number, o, there, sym same)
         | inr ne ↦ (let old = desk.only n (subst IsSome (over.others n ne) is) in
-            (old.0, old.1, added_others cursors cursors' (length cursors) o refl grown old.0 (not_last old.0 old.1 old.2) ∙ old.2, old.3))
+            (old.0, old.1, others old.0 (not_last old.0 old.1 old.2) ∙ old.2, old.3))
       ];
       apart = λ j k p q isp isq same. by (cases j p isp) (cases k q isq) same;
     }
       where
-        not_last : (k : ℕ) (p : Open) → open_at cursors k ≡ Some p → k ≢ length cursors
-        not_last k p at same = let e : None ≡ Some p = sym (added_free cursors cursors' (length cursors) o refl grown) ∙ sym (ap (open_at cursors) same) ∙ at in cc
+        not_last : (k : ℕ) (p : Open) → cursors k ≡ Some p → k ≢ number
+        not_last k p at same = let e : None ≡ Some p = sym free ∙ sym (ap cursors same) ∙ at in cc
 
-        by : {j k : ℕ} {p q : Open} → ((j ≡ length cursors) × (p ≡ o)) ⊎ ((j ≢ length cursors) × (open_at cursors j ≡ Some p)) → ((k ≡ length cursors) × (q ≡ o)) ⊎ ((k ≢ length cursors) × (open_at cursors k ≡ Some q)) → p.file ≡ q.file → j ≡ k
+        by : {j k : ℕ} {p q : Open} → ((j ≡ number) × (p ≡ o)) ⊎ ((j ≢ number) × (cursors j ≡ Some p)) → ((k ≡ number) × (q ≡ o)) ⊎ ((k ≢ number) × (cursors k ≡ Some q)) → p.file ≡ q.file → j ≡ k
         by (inl a) (inl b) same = a.0 ∙ sym b.0
         by {j} {k} {p} {q} (inl a) (inr b) same = absurd (others_apart k q b.1 (sym same ∙ ap (λ (x : Open). x.file) a.1))
         by {j} {k} {p} {q} (inr a) (inl b) same = absurd (others_apart j p a.1 (same ∙ ap (λ (x : Open). x.file) b.1))
         by {j} {k} {p} {q} (inr a) (inr b) same = desk.apart j k p q a.1 b.1 same
 
   -- one cursor reads on
-  module _ (g : FilesState) (cursors' : List (Option Open)) (at : ℕ) (o o' : Open) (is : slice_get cursors at ≡ Some (Some o)) (made : cursors' ≡ set cursors at (Some o')) (reads : ReadsOne o.reader o'.reader f g) (ask : o'.ask ≡ o.ask) (source : o'.source ≡ o.source) (file : o'.file ≡ o.file) where
-    here : open_at cursors at ≡ Some o
-    here = search
-
-    its_own : (k : ℕ) (p : Open) → k ≢ at → open_at cursors k ≡ Some p → p.file ≢ o.reader.file
+  module _ (g : FilesState) (cursors' : Cursors) (at : ℕ) (o o' : Open) (here : cursors at ≡ Some o) (there : cursors' at ≡ Some o') (others : (k : ℕ) → k ≢ at → cursors' k ≡ cursors k) (reads : ReadsOne o.reader o'.reader f g) (ask : o'.ask ≡ o.ask) (source : o'.source ≡ o.source) (file : o'.file ≡ o.file) where
+    its_own : (k : ℕ) (p : Open) → k ≢ at → cursors k ≡ Some p → p.file ≢ o.reader.file
     its_own k p ne at_k same = ne (desk.apart k at p o at_k here (same ∙ (desk.reading at o here).same_file))
 
     pub desk_pulled : IsReading limit g o' → IsDesk limit g sources cursors'
     desk_pulled now = record {
       kept = λ name s is. kept_on limit f.told g.told s reads.told (desk.kept name s is);
       asked = λ k p at_k. elim (cases_eq k at) [
-        | inl same ↦ (let e : o' ≡ p = same_Some _ _ (sym (changed_now cursors cursors' at o o' is made) ∙ sym (ap (open_at cursors') same) ∙ at_k) in
+        | inl same ↦ (let e : o' ≡ p = same_Some _ _ (sym there ∙ sym (ap cursors' same) ∙ at_k) in
             subst (λ (x : Open). asked_source sources x.ask ≡ Some x.source) e (ap (asked_source sources) ask ∙ desk.asked at o here ∙ ap Some (sym source)))
-        | inr ne ↦ desk.asked k p (sym (changed_others cursors cursors' at o o' is made k ne) ∙ at_k)
+        | inr ne ↦ desk.asked k p (sym (others k ne) ∙ at_k)
       ];
       reading = λ k p at_k. elim (cases_eq k at) [
-        | inl same ↦ subst (IsReading limit g) (same_Some _ _ (sym (changed_now cursors cursors' at o o' is made) ∙ sym (ap (open_at cursors') same) ∙ at_k)) now
-        | inr ne ↦ (let old = sym (changed_others cursors cursors' at o o' is made k ne) ∙ at_k in reading_on limit f g reads.told p (reads.others p.file (its_own k p ne old)) (reads.others_seen p.file (its_own k p ne old)) (desk.reading k p old))
+        | inl same ↦ subst (IsReading limit g) (same_Some _ _ (sym there ∙ sym (ap cursors' same) ∙ at_k)) now
+        | inr ne ↦ (let old = sym (others k ne) ∙ at_k in reading_on limit f g reads.told p (reads.others p.file (its_own k p ne old)) (reads.others_seen p.file (its_own k p ne old)) (desk.reading k p old))
       ];
       only = λ n is_open. elim (cases_eq n o.reader.file) [
-        | inl same ↦ (at, o', changed_now cursors cursors' at o o' is made, file ∙ sym (desk.reading at o here).same_file ∙ sym same)
+        | inl same ↦ (at, o', there, file ∙ sym (desk.reading at o here).same_file ∙ sym same)
         | inr ne ↦ (let old = desk.only n (subst IsSome (reads.others n ne) is_open) in
-            (old.0, old.1, changed_others cursors cursors' at o o' is made old.0 (not_at n ne old.0 old.1 old.2 old.3) ∙ old.2, old.3))
+            (old.0, old.1, others old.0 (not_at n ne old.0 old.1 old.2 old.3) ∙ old.2, old.3))
       ];
       apart = λ j k p q isp isq same. by j k p q (cases_eq j at) (cases_eq k at) isp isq same;
     }
       where
-        not_at : (n : ℕ) → n ≢ o.reader.file → (k : ℕ) (p : Open) → open_at cursors k ≡ Some p → p.file ≡ n → k ≢ at
+        not_at : (n : ℕ) → n ≢ o.reader.file → (k : ℕ) (p : Open) → cursors k ≡ Some p → p.file ≡ n → k ≢ at
         not_at n ne k p at_k file_is same =
-            let one : o ≡ p = same_Some _ _ (sym here ∙ sym (ap (open_at cursors) same) ∙ at_k) in
+            let one : o ≡ p = same_Some _ _ (sym here ∙ sym (ap cursors same) ∙ at_k) in
             ne (sym file_is ∙ ap (λ (x : Open). x.file) (sym one) ∙ sym (desk.reading at o here).same_file)
 
-        was : (k : ℕ) (p : Open) → open_at cursors' k ≡ Some p → (p' : Open) × (open_at cursors k ≡ Some p') × (p'.file ≡ p.file)
+        was : (k : ℕ) (p : Open) → cursors' k ≡ Some p → (p' : Open) × (cursors k ≡ Some p') × (p'.file ≡ p.file)
         was k p at_k = elim (cases_eq k at) [
-          | inl same ↦ (o, ap (open_at cursors) same ∙ here, sym file ∙ ap (λ (x : Open). x.file) (same_Some _ _ (sym (changed_now cursors cursors' at o o' is made) ∙ sym (ap (open_at cursors') same) ∙ at_k)))
-          | inr ne ↦ (p, sym (changed_others cursors cursors' at o o' is made k ne) ∙ at_k, refl)
+          | inl same ↦ (o, ap cursors same ∙ here, sym file ∙ ap (λ (x : Open). x.file) (same_Some _ _ (sym there ∙ sym (ap cursors' same) ∙ at_k)))
+          | inr ne ↦ (p, sym (others k ne) ∙ at_k, refl)
         ]
 
-        by : (j k : ℕ) (p q : Open) → (j ≡ at) ⊎ (j ≢ at) → (k ≡ at) ⊎ (k ≢ at) → open_at cursors' j ≡ Some p → open_at cursors' k ≡ Some q → p.file ≡ q.file → j ≡ k
+        by : (j k : ℕ) (p q : Open) → (j ≡ at) ⊎ (j ≢ at) → (k ≡ at) ⊎ (k ≢ at) → cursors' j ≡ Some p → cursors' k ≡ Some q → p.file ≡ q.file → j ≡ k
         by j k p q a b isp isq same = let x = was j p isp in let y = was k q isq in desk.apart j k x.0 y.0 x.1 y.1 (x.2 ∙ same ∙ sym y.2)
 
   -- one cursor is closed, and its file, after its reader read on
-  module _ (g : FilesState) (cursors' : List (Option Open)) (at : ℕ) (o : Open) (here : open_at cursors at ≡ Some o) (closed : open_at cursors' at ≡ None) (others : (k : ℕ) → k ≢ at → open_at cursors' k ≡ open_at cursors k)
+  module _ (g : FilesState) (cursors' : Cursors) (at : ℕ) (o : Open) (here : cursors at ≡ Some o) (closed : cursors' at ≡ None) (others : (k : ℕ) → k ≢ at → cursors' k ≡ cursors k)
       (told_on : g.told ≡ f.told) (left : OtherFiles o.file f g) (gone : g.left o.file ≡ None) (seen : OtherSeen o.file f g) where
     pub desk_closed : IsDesk limit g sources cursors'
     desk_closed = record {
@@ -213,13 +208,13 @@ module _ (limit : ℕ) (f : FilesState) (sources : Sources) (cursors : List (Opt
       apart = λ j k p q isp isq same. desk.apart j k p q (was j p isp) (was k q isq) same;
     }
       where
-        not_at : (n : ℕ) → n ≢ o.file → (k : ℕ) (p : Open) → open_at cursors k ≡ Some p → p.file ≡ n → k ≢ at
+        not_at : (n : ℕ) → n ≢ o.file → (k : ℕ) (p : Open) → cursors k ≡ Some p → p.file ≡ n → k ≢ at
         not_at n other k p at_k file_is same =
-            let one : o ≡ p = same_Some _ _ (sym here ∙ sym (ap (open_at cursors) same) ∙ at_k) in
+            let one : o ≡ p = same_Some _ _ (sym here ∙ sym (ap cursors same) ∙ at_k) in
             other (sym file_is ∙ ap (λ (x : Open). x.file) (sym one))
 
-        ne : (k : ℕ) (p : Open) → open_at cursors' k ≡ Some p → k ≢ at
-        ne k p at_k same = let e : None ≡ Some p = sym closed ∙ sym (ap (open_at cursors') same) ∙ at_k in cc
+        ne : (k : ℕ) (p : Open) → cursors' k ≡ Some p → k ≢ at
+        ne k p at_k same = let e : None ≡ Some p = sym closed ∙ sym (ap cursors' same) ∙ at_k in cc
 
-        was : (k : ℕ) (p : Open) → open_at cursors' k ≡ Some p → open_at cursors k ≡ Some p
+        was : (k : ℕ) (p : Open) → cursors' k ≡ Some p → cursors k ≡ Some p
         was k p at_k = sym (others k (ne k p at_k)) ∙ at_k

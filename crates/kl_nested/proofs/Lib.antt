@@ -2,7 +2,6 @@ pub mod Attaching
 pub mod Collections
 pub mod Desks
 pub mod Handings
-pub mod Held
 pub mod Openings
 pub mod Places
 pub mod Progress

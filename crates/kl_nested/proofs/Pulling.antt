@@ -1,5 +1,5 @@
 -- What a pull, and the end of a cursor, do to what the driver means.
-use Rattle.std.proofs.Common.{◌≡◌, ◌≢◌, ◌⊎◌, inl, inr, ◌<◌, ◌≤◌, ◌+◌, ◌-◌, ◌^◌, ℕ, Bool, true, false, List, [], ◌∷◌, ◌++◌, length, drop, set, Option, Some, None, IsSome, Ok, Err, refl, sym, ◌∙◌, ap, subst, arith, slice_get, nat_lt, append-nil}
+use Rattle.std.proofs.Common.{◌≡◌, ◌≢◌, ◌⊎◌, inl, inr, ◌<◌, ◌≤◌, ◌+◌, ◌-◌, ◌^◌, ℕ, Bool, true, false, List, [], ◌∷◌, ◌++◌, length, drop, Option, Some, None, IsSome, Ok, Err, refl, sym, ◌∙◌, ap, subst, arith, nat_lt, append-nil}
 use Rattle.std.specs.Option.{option_map}
 use Rattle.std.proofs.lemmas.Bool.Decides.{nat_tests}
 use Rattle.std.proofs.lemmas.Option.{same_Some}
@@ -9,7 +9,6 @@ use Rattle.kl_outside.specs.Files.{FilesState, seen_in}
 use Rattle.kl_exchange.specs.FileReading.{SeesMore}
 use Rattle.kl_ask.specs.Asked.{raised_by}
 use Rattle.kl_ask.specs.Asks.{item_of}
-use Rattle.kl_ask.specs.Cursors.{open_at}
 use Rattle.kl_ask.specs.Driver.{Cause, CountsDrift, CountsFault, Cursor, IsAsAttached, IsShown, ReadSoFar, ReadsAnew, Spelt, read_under, Source as Attached, Finishes, Hands as Hand, HasDrifted, IsAskedSql, IsMetAhead, PullResult, Pulls, PullsMore, PullsNone, State, emptied, source_of}
 use Rattle.kl_ask.specs.declared.ask.Ask.{Ask}
 use Rattle.kl_ask.specs.declared.ask.Ask.TheVariants as asks
@@ -17,13 +16,12 @@ use Rattle.kl_ask.specs.declared.ask.Drift.{Drift}
 use Rattle.kl_ask.specs.declared.ask.Drift.TheVariants as drift
 use Rattle.kl_ask.specs.declared.ask.DriverError.{DriverError}
 use Rattle.kl_ask.specs.declared.ask.DriverError.TheVariants as error
-use Rattle.kl_ask.proofs.Opened.{changed_now, changed_others}
 use Rattle.kl_nested.specs.Closing.{ClosesOpen, drifts_by}
 use Rattle.kl_nested.specs.Contents.{contents_of, spelt_in}
 use Rattle.kl_nested.specs.Desk.{IsDesk}
 use Rattle.kl_nested.specs.Handing.{Differs, Hands, Refuses, ShowsDrift, StopsBehind}
 use Rattle.kl_ask.specs.Named.{asked_source}
-use Rattle.kl_nested.specs.Nested.{Sources, Tells, attached_of, cursor_of, nested_state, read_as, rows_at}
+use Rattle.kl_nested.specs.Nested.{Cursors, Sources, Tells, attached_of, cursor_of, nested_state, read_as, rows_at}
 use Rattle.kl_nested.specs.declared.parts.Source.{Source}
 use Rattle.kl_nested.specs.declared.parts.Open.{Open}
 use Rattle.kl_nested.proofs.Progress.{read_there, reads_on, reads_under, under}
@@ -39,20 +37,17 @@ no_rows : {T : Type 0} (xs : List T) → length xs ≡ 0 → xs ≡ []
 no_rows [] h = refl
 no_rows (x ∷ xs) h = absurd (omega (arith, h))
 
-module _ (limit : ℕ) (f : FilesState) (sources : Sources) (cursors : List (Option Open)) (asked : List (Ask × ℕ)) (handed drifts unread cursor : ℕ) (desk : IsDesk limit f sources cursors) where
+module _ (limit : ℕ) (f : FilesState) (sources : Sources) (cursors : Cursors) (asked : List (Ask × ℕ)) (handed drifts unread cursor : ℕ) (desk : IsDesk limit f sources cursors) where
   source_is : (ask : Ask) (s : Source) → asked_source sources ask ≡ Some s → source_of (nested_state limit f sources cursors asked handed drifts unread) ask ≡ Some (attached_of limit f.told s)
   source_is (asks.Rows name keep tests) s is = ap (option_map (attached_of limit f.told)) is
   source_is (asks.Sql text) s is = absurd cc
 
   -- each of the other cursors reads another file
-  apart_from : (o : Open) → open_at cursors cursor ≡ Some o → (k : ℕ) → k ≢ cursor → (y : Open) → open_at cursors k ≡ Some y → y.file ≢ o.reader.file
+  apart_from : (o : Open) → cursors cursor ≡ Some o → (k : ℕ) → k ≢ cursor → (y : Open) → cursors k ≡ Some y → y.file ≢ o.reader.file
   apart_from o here k ne y at same = ne (desk.apart k cursor y o at here (same ∙ (desk.reading cursor o here).same_file))
 
-  module _ (g : FilesState) (cursors' : List (Option Open)) (handed' most n : ℕ) (into into' : List Value) (o o' : Open) (is : slice_get cursors cursor ≡ Some (Some o)) (made : cursors' ≡ set cursors cursor (Some o')) (hand : Hands limit most into into' (Ok n) o o' f g)
+  module _ (g : FilesState) (cursors' : Cursors) (handed' most n : ℕ) (into into' : List Value) (o o' : Open) (here : cursors cursor ≡ Some o) (there : cursors' cursor ≡ Some o') (others : (k : ℕ) → k ≢ cursor → cursors' k ≡ cursors k) (hand : Hands limit most into into' (Ok n) o o' f g)
       (count : handed' ≡ raised_by n handed) (fits : handed < 2 ^ 64) (room : 0 < most) where
-    here : open_at cursors cursor ≡ Some o
-    here = search
-
     abbrev rows : List Value
     rows = hand.handed.rows
 
@@ -98,7 +93,7 @@ module _ (limit : ℕ) (f : FilesState) (sources : Sources) (cursors : List (Opt
     abbrev Told : FilesState
     Told = record { told = f.told; left = g.left; log = g.log; faults = g.faults }
 
-    cursor_is : (c : Cursor) → option_map seen (open_at cursors cursor) ≡ Some c → seen o ≡ c
+    cursor_is : (c : Cursor) → option_map seen (cursors cursor) ≡ Some c → seen o ≡ c
     cursor_is c has = same_Some _ _ (sym (ap (option_map seen) here) ∙ has)
 
     abbrev Old : State
@@ -107,17 +102,17 @@ module _ (limit : ℕ) (f : FilesState) (sources : Sources) (cursors : List (Opt
     abbrev New : State
     New = nested_state limit Told sources cursors' asked handed' drifts unread
 
-    more : 0 < n → (c : Cursor) → option_map seen (open_at cursors cursor) ≡ Some c → PullsMore cursor most into into' c Old New
+    more : 0 < n → (c : Cursor) → option_map seen (cursors cursor) ≡ Some c → PullsMore cursor most into into' c Old New
     more some c has = subst (λ c. PullsMore cursor most into into' c Old New) (cursor_is c has) (record {
       rows = rows;
       then = seen o';
       appended = hand.handed.are_next.appended;
-      now = ap (option_map seen) (changed_now cursors cursors' cursor o o' is made);
+      now = ap (option_map seen) there;
       hands = hands some;
       handed = count ∙ ap (λ k. raised_by k handed) (sym hand.handed.size);
     })
 
-    none : n ≡ 0 → (c : Cursor) → option_map seen (open_at cursors cursor) ≡ Some c → PullsNone cursor into into' c Old New
+    none : n ≡ 0 → (c : Cursor) → option_map seen (cursors cursor) ≡ Some c → PullsNone cursor into into' c Old New
     none zero_is c has =
         let spent' : o'.taken ≡ o.source.count = elim hand.handed.all [ inl m ↦ absurd (omega (arith, m, zero_is, room)) | inr m ↦ m ] in
         let same : o'.taken ≡ o.taken = omega (arith, hand.handed.after, zero_is) in
@@ -126,7 +121,7 @@ module _ (limit : ℕ) (f : FilesState) (sources : Sources) (cursors : List (Opt
           same = hand.handed.are_next.appended ∙ ap (λ more. into ++ more) none_rows ∙ append-nil into;
           spent = λ all e. spent_so (rows_at limit f.told o.source) refl same spent' all e;
           over = inl (omega (arith, spent', same));
-          now = ap (option_map seen) (changed_now cursors cursors' cursor o o' is made) ∙ ap Some (emptied_is same spent');
+          now = ap (option_map seen) there ∙ ap Some (emptied_is same spent');
           handed = omega (arith, count, fits, zero_is);
           unchanged = λ r s at. as_attached r s (its_source_is s at);
         })
@@ -160,7 +155,7 @@ module _ (limit : ℕ) (f : FilesState) (sources : Sources) (cursors : List (Opt
               bound = over i;
             }
 
-    answer : (some : Bool) → nat_lt 0 n ≡ some → (c : Cursor) → option_map seen (open_at cursors cursor) ≡ Some c → PullResult cursor most into into' c (Ok some) Old New
+    answer : (some : Bool) → nat_lt 0 n ≡ some → (c : Cursor) → option_map seen (cursors cursor) ≡ Some c → PullResult cursor most into into' c (Ok some) Old New
     answer true test c has = more (grind (arith, nat_tests)) c has
     answer false test c has = none (grind (arith, nat_tests)) c has
 
@@ -173,12 +168,12 @@ module _ (limit : ℕ) (f : FilesState) (sources : Sources) (cursors : List (Opt
       faults = hand.counts;
       drifts = refl;
       unread = refl;
-      others = λ k ne. ap (option_map seen) (changed_others cursors cursors' cursor o o' is made k ne);
-      reads = reads_under (open_at cursors cursor) o Old New here (reads_on (seen_in f o.file) (seen_in g o.file) (subst (λ k. SeesMore (seen_in f k) (seen_in g k)) (desk.reading cursor o here).same_file hand.reads.more));
-      same_file = λ open_now. ap (option_map (λ (x : Open). x.file)) (changed_now cursors cursors' cursor o o' is made) ∙ ap Some hand.file ∙ sym (ap (option_map (λ (x : Open). x.file)) here);
+      others = λ k ne. ap (option_map seen) (others k ne);
+      reads = reads_under (cursors cursor) o Old New here (reads_on (seen_in f o.file) (seen_in g o.file) (subst (λ k. SeesMore (seen_in f k) (seen_in g k)) (desk.reading cursor o here).same_file hand.reads.more));
+      same_file = λ open_now. ap (option_map (λ (x : Open). x.file)) there ∙ ap Some hand.file ∙ sym (ap (option_map (λ (x : Open). x.file)) here);
       others_reading = λ k ne open_then. record {
-        file = ap (option_map (λ (x : Open). x.file)) (changed_others cursors cursors' cursor o o' is made k ne);
-        read = under (open_at cursors k) Old New (λ y at. ap (option_map read_as) (hand.reads.others_seen y.file (apart_from o here k ne y at)));
+        file = ap (option_map (λ (x : Open). x.file)) (others k ne);
+        read = under (cursors k) Old New (λ y at. ap (option_map read_as) (hand.reads.others_seen y.file (apart_from o here k ne y at)));
       };
       answer = answer (nat_lt 0 n) refl;
     })
@@ -220,8 +215,8 @@ module _ (limit : ℕ) (f : FilesState) (sources : Sources) (cursors : List (Opt
   no_sql (asks.Rows source keep tests) s q is asked = asked
   no_sql (asks.Sql text) s q is asked = cc
 
-  module _ (g h : FilesState) (cursors' : List (Option Open)) (drifts' most : ℕ) (into into' : List Value) (e : DriverError) (o o' : Open) (here : open_at cursors cursor ≡ Some o) (hand : Hands limit most into into' (Err e) o o' f g)
-      (closed : open_at cursors' cursor ≡ None) (others : (k : ℕ) → k ≢ cursor → open_at cursors' k ≡ open_at cursors k) (told : h.told ≡ g.told) (seen : (k : ℕ) → seen_in h k ≡ seen_in g k) (faults : h.faults ≡ g.faults) (fits : drifts < 2 ^ 64) (counted : drifts' ≡ drifts_by e drifts) where
+  module _ (g h : FilesState) (cursors' : Cursors) (drifts' most : ℕ) (into into' : List Value) (e : DriverError) (o o' : Open) (here : cursors cursor ≡ Some o) (hand : Hands limit most into into' (Err e) o o' f g)
+      (closed : cursors' cursor ≡ None) (others : (k : ℕ) → k ≢ cursor → cursors' k ≡ cursors k) (told : h.told ≡ g.told) (seen : (k : ℕ) → seen_in h k ≡ seen_in g k) (faults : h.faults ≡ g.faults) (fits : drifts < 2 ^ 64) (counted : drifts' ≡ drifts_by e drifts) where
     abbrev was : State
     was = nested_state limit f sources cursors asked handed drifts unread
 
@@ -258,12 +253,12 @@ module _ (limit : ℕ) (f : FilesState) (sources : Sources) (cursors : List (Opt
       drifts = counts;
       unread = refl;
       others = λ k ne. ap (option_map (cursor_of limit f.told)) (others k ne);
-      reads = reads_under (open_at cursors cursor) o was (now (drifts_by e drifts)) here (reads_on (seen_in f o.file) (seen_in h o.file)
+      reads = reads_under (cursors cursor) o was (now (drifts_by e drifts)) here (reads_on (seen_in f o.file) (seen_in h o.file)
           (subst (λ x. SeesMore (seen_in f o.file) x) (sym (seen o.file)) (subst (λ k. SeesMore (seen_in f k) (seen_in g k)) (desk.reading cursor o here).same_file hand.reads.more)));
-      same_file = λ open_now. absurd (none_some (open_at cursors' cursor) closed (is_there (cursor_of limit f.told) (open_at cursors' cursor) open_now));
+      same_file = λ open_now. absurd (none_some (cursors' cursor) closed (is_there (cursor_of limit f.told) (cursors' cursor) open_now));
       others_reading = λ k ne open_then. record {
         file = ap (option_map (λ (x : Open). x.file)) (others k ne);
-        read = under (open_at cursors k) was (now (drifts_by e drifts)) (λ y at. ap (option_map read_as) (seen y.file ∙ hand.reads.others_seen y.file (apart_from o here k ne y at)));
+        read = under (cursors k) was (now (drifts_by e drifts)) (λ y at. ap (option_map read_as) (seen y.file ∙ hand.reads.others_seen y.file (apart_from o here k ne y at)));
       };
       answer = λ c has. record {
         same = hand.same;
@@ -297,7 +292,7 @@ module _ (limit : ℕ) (f : FilesState) (sources : Sources) (cursors : List (Opt
 
   -- ---- the end of a cursor
 
-  pub finish_done : (h : FilesState) (cursors' : List (Option Open)) (o : Open) → open_at cursors cursor ≡ Some o → ClosesOpen cursor cursors cursors' f h
+  pub finish_done : (h : FilesState) (cursors' : Cursors) (o : Open) → cursors cursor ≡ Some o → ClosesOpen cursor cursors cursors' f h
       → Finishes cursor (nested_state limit f sources cursors asked handed drifts unread) (nested_state limit h sources cursors' asked handed drifts unread)
   finish_done h cursors' o here closes =
       let file = closes.file o here in
@@ -313,6 +308,6 @@ module _ (limit : ℕ) (f : FilesState) (sources : Sources) (cursors : List (Opt
         others = λ k ne. ap (option_map (cursor_of limit f.told)) (closes.others k ne);
         others_reading = λ k ne open_then. record {
           file = ap (option_map (λ (x : Open). x.file)) (closes.others k ne);
-          read = under (open_at cursors k) _ _ (λ y at. ap (option_map read_as) (file.seen y.file));
+          read = under (cursors k) _ _ (λ y at. ap (option_map read_as) (file.seen y.file));
         };
       })

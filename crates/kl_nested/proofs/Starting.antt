@@ -1,9 +1,7 @@
 -- What opening a cursor does to what the driver means.
-use Rattle.std.proofs.Common.{◌≡◌, ◌≢◌, IsSome, ◌⊎◌, inl, inr, ◌<◌, ◌≤◌, ◌-◌, ◌^◌, ℕ, true, false, List, [], ◌∷◌, ◌++◌, length, drop, Option, Some, None, Ok, Err, IsErrOf, refl, sym, ◌∙◌, ap, subst, arith, ⊎_elim}
+use Rattle.std.proofs.Common.{◌≡◌, ◌≢◌, IsSome, ◌⊎◌, inl, inr, ◌<◌, ◌≤◌, ◌-◌, ◌^◌, ℕ, true, false, List, [], length, drop, Option, Some, None, Result, Ok, Err, IsErrOf, refl, sym, ◌∙◌, ap, subst, arith}
 use Rattle.std.specs.List.{AllByRecursion}
 use Rattle.std.specs.Option.{option_map}
-use Rattle.std.proofs.Math.Path.{fun_ext}
-use Rattle.std.proofs.lemmas.Bool.{cases_eq}
 use Rattle.std.proofs.lemmas.List.Sorted.{IsPermutation-refl}
 use Rattle.std.proofs.lemmas.Option.{same_Some}
 use Rattle.kl_base.specs.Counts.{Rose}
@@ -11,31 +9,30 @@ use Rattle.kl_value.specs.declared.Kind.{Kind}
 use Rattle.kl_value.specs.declared.Kind.TheVariants as kind
 use Rattle.kl_value.specs.declared.Value.{Value}
 use Rattle.kl_type.specs.Ground.{ground_of}
-use Rattle.kl_outside.specs.Files.{FilesState, IsMissing, Seen, nothing_seen, seen_in}
+use Rattle.kl_outside.specs.Files.{FilesState, Closes, IsMissing, Seen, nothing_seen, seen_in}
 use Rattle.kl_outcome.specs.Outcome.{Name}
 use Rattle.kl_outcome.specs.Typed.{Inhabits}
 use Rattle.kl_ask.specs.Asked.{with_ask}
 use Rattle.kl_ask.specs.Asks.{answers, columns, item_of, kind_of, shown_type}
-use Rattle.kl_ask.specs.Cursors.{open_at}
 use Rattle.kl_ask.specs.Driver.{CanStart, CountsFault, InOrder, ReadSoFar, read_under, IsFresh, OpensAt, Shows, Source as Attached, Starts}
 use Rattle.kl_ask.specs.declared.ask.Ask.{Ask}
 use Rattle.kl_ask.specs.declared.ask.Ask.TheVariants as asks
 use Rattle.kl_ask.specs.declared.ask.ColTest.{ColTest}
 use Rattle.kl_ask.specs.declared.ask.DriverError.{DriverError}
 use Rattle.kl_ask.specs.declared.ask.DriverError.TheVariants as error
-use Rattle.kl_ask.proofs.Opened.{added_free, added_now, added_others, some_of}
+use Rattle.kl_ask.proofs.Opened.{some_of}
 use Rattle.kl_ask.proofs.Whole.{only_whole, whole_rows, whole_type}
 use Rattle.kl_ask.proofs.Worlds.{error_is}
-use Rattle.kl_nested.specs.Closing.{ClosesOpen}
 use Rattle.kl_nested.specs.Desk.{IsDesk, IsKept}
 use Rattle.kl_ask.specs.Named.{asked_source}
-use Rattle.kl_nested.specs.Nested.{Sources, attached_of, cursor_of, nested_kind, nested_state, read_as, rows_at}
-use Rattle.kl_nested.specs.Opening.{OpensLast, OpensOver}
+use Rattle.kl_nested.specs.Nested.{Cursors, Sources, attached_of, cursor_of, nested_kind, nested_state, read_as, rows_at}
+use Rattle.kl_nested.specs.Opening.{OpensOne, OpensOver}
 use Rattle.kl_nested.specs.declared.parts.Source.{Source}
 use Rattle.kl_nested.specs.declared.parts.Open.{Open}
 use Rattle.kl_nested.proofs.Collections.{rows_typed}
 use Rattle.kl_nested.proofs.Desks.{file_open, kept_asked}
 use Rattle.kl_nested.proofs.Handings.{counts_as}
+use Rattle.kl_nested.proofs.Openings.{seen_as_before}
 use Rattle.kl_nested.proofs.Progress.{under}
 use Rattle.kl_nested.proofs.Takings.{knows}
 
@@ -57,7 +54,7 @@ in_order kind.List rows = refl
 in_order kind.Set rows = IsPermutation-refl rows
 in_order kind.Bag rows = IsPermutation-refl rows
 
-module _ (limit : ℕ) (room : limit < 2 ^ 63) (f : FilesState) (sources : Sources) (cursors : List (Option Open)) (asked : List (Ask × ℕ)) (handed drifts unread : ℕ) (desk : IsDesk limit f sources cursors) where
+module _ (limit : ℕ) (room : limit < 2 ^ 63) (f : FilesState) (sources : Sources) (cursors : Cursors) (asked : List (Ask × ℕ)) (handed drifts unread : ℕ) (desk : IsDesk limit f sources cursors) where
   -- rows that are told have the type
   typed_so : (s : Source) (rows : List Value) → IsKept limit f.told s → rows_at limit f.told s ≡ Some rows → AllByRecursion (Inhabits (item_of (ground_of s.ty))) rows
   typed_so s rows kept is = let k = knows limit f.told s kept rows is in rows_typed s.ty k.shows.read rows k.shows.items k.have
@@ -111,38 +108,39 @@ module _ (limit : ℕ) (room : limit < 2 ^ 63) (f : FilesState) (sources : Sourc
               let size = ap length e in
               omega (arith, whole, none, k.count, size)
 
-  module _ (g : FilesState) (cursors' : List (Option Open)) (ask : Ask) (s : Source) (found : asked_source sources ask ≡ Some s) where
+  module _ (g : FilesState) (cursors' : Cursors) (ask : Ask) (s : Source) (found : asked_source sources ask ≡ Some s) where
+    abbrev Started : Result ℕ DriverError → FilesState → List (Ask × ℕ) → Type 0
+    Started result h asked' = Starts ask result (nested_state limit f sources cursors asked handed drifts unread) (nested_state limit h sources cursors' asked' handed drifts unread)
+
     -- a cursor was opened, and its ask counted
-    pub start_done : (asked' : List (Ask × ℕ)) (n : ℕ) → CanStart (nested_state limit f sources cursors asked handed drifts unread) ask → n ≡ length cursors → OpensLast limit s ask (Ok tt) cursors cursors' f g → asked' ≡ with_ask ask asked
-        → Starts ask (Ok n) (nested_state limit f sources cursors asked handed drifts unread) (nested_state limit g sources cursors' asked' handed drifts unread)
-    start_done asked' n can last opens counted =
-        let o = opens.opened.0 in
-        let grown : cursors' ≡ cursors ++ Some o ∷ [] = opens.opened.1 in
-        let over = opens.opened.2 in
+    pub start_done : (asked' : List (Ask × ℕ)) (n : ℕ) (o : Open) → CanStart (nested_state limit f sources cursors asked handed drifts unread) ask → OpensOne limit s ask (Ok o) f g
+        → cursors n ≡ None → cursors' n ≡ Some o → ((k : ℕ) → k ≢ n → cursors' k ≡ cursors k) → asked' ≡ with_ask ask asked → Started (Ok n) g asked'
+    start_done asked' n o can opens free there others counted =
+        let over = opens.opened in
         let now = nested_state limit (record { told = f.told; left = g.left; log = g.log; faults = g.faults }) sources cursors' asked' handed drifts unread in
-        let apart : (y : Open) (k : ℕ) → open_at cursors k ≡ Some y → y.file ≢ o.file = (λ y k at same. none_some (f.left o.file) over.free (subst (λ i. IsSome (f.left i)) same (file_open limit f y (desk.reading k y at)))) in
-        subst (λ t. Starts ask (Ok n) (nested_state limit f sources cursors asked handed drifts unread) (nested_state limit (record { told = t; left = g.left; log = g.log; faults = g.faults }) sources cursors' asked' handed drifts unread)) (sym opens.told) (record {
+        let apart : (y : Open) (k : ℕ) → cursors k ≡ Some y → y.file ≢ o.file = (λ y k at same. none_some (f.left o.file) over.free (subst (λ i. IsSome (f.left i)) same (file_open limit f y (desk.reading k y at)))) in
+        subst (λ t. Started (Ok n) (record { told = t; left = g.left; log = g.log; faults = g.faults }) asked') (sym opens.told) (record {
           keeps = record { kind = refl; handed = omega arith; faults = opens.later; drifts = omega arith; no_drift = λ is. refl; unread = omega arith };
           attached = refl;
           reading = λ k is.
-              let x = some_of (open_at cursors k) (is_there (cursor_of limit f.told) (open_at cursors k) is) in
-              let ne : k ≢ n = (λ same. none_some (open_at cursors n) (added_free cursors cursors' n o last grown) (subst (λ i. IsSome (open_at cursors i)) same (subst IsSome (sym x.1) refl))) in
+              let x = some_of (cursors k) (is_there (cursor_of limit f.told) (cursors k) is) in
+              let ne : k ≢ n = (λ same. none_some (cursors n) free (subst (λ i. IsSome (cursors i)) same (subst IsSome (sym x.1) refl))) in
               record {
-                file = ap (option_map (λ (x : Open). x.file)) (added_others cursors cursors' n o last grown k ne);
-                read = under (open_at cursors k) _ _ (λ y at. ap (option_map read_as) (over.others_seen y.file (apart y k at)));
+                file = ap (option_map (λ (x : Open). x.file)) (others k ne);
+                read = under (cursors k) _ _ (λ y at. ap (option_map read_as) (over.others_seen y.file (apart y k at)));
               };
           handed = refl;
           faults = opens.counts;
           drifts = refl;
           unread = refl;
           opens = record {
-            free = ap (option_map (cursor_of limit f.told)) (added_free cursors cursors' n o last grown);
+            free = ap (option_map (cursor_of limit f.told)) free;
             opened = cursor_of limit f.told o;
-            now = ap (option_map (cursor_of limit f.told)) (added_now cursors cursors' n o last grown);
-            ask_kept = opens.opened.2.ask_is;
-            fresh = opens_at ask s g o can found opens.opened.2;
-            others = λ k ne. ap (option_map (cursor_of limit f.told)) (added_others cursors cursors' n o last grown k ne);
-            unread = λ r is. nothing_read f.log r (sym (ap (option_map read_as) over.unread) ∙ (sym (ap (λ (x : Option ℕ). read_under x now) (ap (option_map (λ (x : Open). x.file)) (added_now cursors cursors' n o last grown))) ∙ is));
+            now = ap (option_map (cursor_of limit f.told)) there;
+            ask_kept = over.ask_is;
+            fresh = opens_at ask s g o can found over;
+            others = λ k ne. ap (option_map (cursor_of limit f.told)) (others k ne);
+            unread = λ r is. nothing_read f.log r (sym (ap (option_map read_as) over.unread) ∙ (sym (ap (λ (x : Option ℕ). read_under x now) (ap (option_map (λ (x : Open). x.file)) there)) ∙ is));
             asked = counted;
           };
           refused = tt;
@@ -151,53 +149,56 @@ module _ (limit : ℕ) (room : limit < 2 ^ 63) (f : FilesState) (sources : Sourc
         })
 
     -- what is open is what was open
-    abbrev Refusal : DriverError → FilesState → List (Option Open) → Type 0
-    Refusal e h cursors'' = Starts ask (Err e) (nested_state limit f sources cursors asked handed drifts unread) (nested_state limit h sources cursors'' asked handed drifts unread)
-
-    refusal : (e : DriverError) (h : FilesState) (cursors'' : List (Option Open)) → h.told ≡ f.told → ((k : ℕ) → IsSome (f.left k) → seen_in h k ≡ seen_in f k) → f.faults ≤ h.faults → CountsFault {T = ℕ} (Err e) f.faults h.faults → ((k : ℕ) → open_at cursors'' k ≡ open_at cursors k) → (e ≡ error.Failed → Rose f.faults h.faults)
-        → (e ≡ error.Failed) ⊎ (e ≡ error.NoMemory) → Refusal e h cursors''
-    refusal e h cursors'' told seen later counts same failed other =
-        subst (λ t. Starts ask (Err e) (nested_state limit f sources cursors asked handed drifts unread) (nested_state limit (record { told = t; left = h.left; log = h.log; faults = h.faults }) sources cursors'' asked handed drifts unread)) (sym told) (record {
+    refusal : (e : DriverError) (h : FilesState) → h.told ≡ f.told → ((k : ℕ) → IsSome (f.left k) → seen_in h k ≡ seen_in f k) → f.faults ≤ h.faults → CountsFault {T = ℕ} (Err e) f.faults h.faults → cursors' ≡ cursors → (e ≡ error.Failed → Rose f.faults h.faults)
+        → (e ≡ error.Failed) ⊎ (e ≡ error.NoMemory) → Started (Err e) h asked
+    refusal e h told seen later counts same failed other =
+        subst (λ t. Started (Err e) (record { told = t; left = h.left; log = h.log; faults = h.faults }) asked) (sym told) (record {
           keeps = record { kind = refl; handed = omega arith; faults = later; drifts = omega arith; no_drift = λ is. refl; unread = omega arith };
           attached = refl;
           reading = λ k is. record {
-            file = ap (option_map (λ (x : Open). x.file)) (same k);
-            read = under (open_at cursors k) _ _ (λ y at. ap (option_map read_as) (seen y.file (file_open limit f y (desk.reading k y at))));
+            file = ap (λ (cursors : Cursors). option_map (λ (x : Open). x.file) (cursors k)) same;
+            read = under (cursors k) _ _ (λ y at. ap (option_map read_as) (seen y.file (file_open limit f y (desk.reading k y at))));
           };
           handed = refl;
           faults = counts;
           drifts = refl;
           unread = refl;
           opens = tt;
-          refused = (fun_ext (λ k. ap (option_map (cursor_of limit f.told)) (same k)), refl);
+          refused = (ap (λ (cursors : Cursors) k. option_map (cursor_of limit f.told) (cursors k)) same, refl);
           failed = λ is. failed (error_is is);
           no_other = elim other [ inl is ↦ inl (subst (λ d. IsErrOf {T = ℕ} (Err d) error.Failed) (sym is) refl) | inr is ↦ inr (subst (λ d. IsErrOf {T = ℕ} (Err d) error.NoMemory) (sym is) refl) ];
         })
 
-    there : IsMissing f s.path → ⊥
-    there missing = let k = (kept_asked limit f sources cursors desk ask s found).known missing.0 missing.1 in let e : None ≡ Some k.0 = sym missing.2 ∙ k.2 in cc
+    missing_not : IsMissing f s.path → ⊥
+    missing_not missing = let k = (kept_asked limit f sources cursors desk ask s found).known missing.0 missing.1 in let e : None ≡ Some k.0 = sym missing.2 ∙ k.2 in cc
 
     -- none was opened
-    pub start_refused : (e : DriverError) → OpensLast limit s ask (Err e) cursors cursors' f g → Refusal e g cursors'
-    start_refused e opens = refusal e g cursors' opens.told opens.refused.seen opens.later (counts_as (Unit {0}) ℕ e f.faults g.faults opens.counts) (λ k. ap (λ cs. open_at cs k) opens.same)
-        (λ is. elim (opens.refused.failed (subst (λ d. IsErrOf {T = Unit {0}} (Err d) error.Failed) (sym is) refl)) [ inl missing ↦ absurd (there missing) | inr rose ↦ rose ])
+    pub start_refused : (e : DriverError) → OpensOne limit s ask (Err e) f g → cursors' ≡ cursors → Started (Err e) g asked
+    start_refused e opens same = refusal e g opens.told opens.refused.seen opens.later (counts_as Open ℕ e f.faults g.faults opens.counts) same
+        (λ is. elim (opens.refused.failed (subst (λ d. IsErrOf {T = Open} (Err d) error.Failed) (sym is) refl)) [ inl missing ↦ absurd (missing_not missing) | inr rose ↦ rose ])
         (elim opens.refused.no_other [ inl is ↦ inl (wanted is) | inr is ↦ inr (wanted is) ])
       where
-        wanted : {x y : DriverError} → IsErrOf {T = Unit {0}} (Err x) y → x ≡ y
+        wanted : {x y : DriverError} → IsErrOf {T = Open} (Err x) y → x ≡ y
         wanted h = cc
 
-    -- one was opened, and closed again
-    pub start_uncounted : (n : ℕ) (h : FilesState) (cursors'' : List (Option Open)) → n ≡ length cursors → OpensLast limit s ask (Ok tt) cursors cursors' f g → ClosesOpen n cursors' cursors'' g h → Refusal error.NoMemory h cursors''
-    start_uncounted n h cursors'' last opens closes =
-        let o = opens.opened.0 in
-        let grown : cursors' ≡ cursors ++ Some o ∷ [] = opens.opened.1 in
-        let file = closes.file o (added_now cursors cursors' n o last grown) in
-        let over = opens.opened.2 in
-        refusal error.NoMemory h cursors'' (file.told ∙ opens.told)
-        (λ k is. file.seen k ∙ over.others_seen k (λ same. none_some (f.left o.file) over.free (subst (λ i. IsSome (f.left i)) same is)))
-        (omega (arith, opens.later, file.faults)) (file.faults ∙ opens.counts)
-        (λ k. ⊎_elim
-        (λ is. ap (open_at cursors'') is ∙ closes.closed ∙ sym (added_free cursors cursors' n o last grown) ∙ sym (ap (open_at cursors) is))
-        (λ ne. closes.others k ne ∙ added_others cursors cursors' n o last grown k ne)
-        (cases_eq k n))
-        (λ is. absurd cc) (inr refl)
+    -- one was opened, and its file closed again
+    pub start_uncounted : (o : Open) (h : FilesState) → OpensOne limit s ask (Ok o) f g → Closes o.file g h → cursors' ≡ cursors → Started (Err error.NoMemory) h asked
+    start_uncounted o h opens closes same =
+        refusal error.NoMemory h (closes.told ∙ opens.told) (seen_as_before limit s ask o f g h opens.opened closes) (omega (arith, opens.later, closes.faults)) (closes.faults ∙ opens.counts) same (λ is. absurd cc) (inr refl)
+
+-- no room was found for one
+pub start_full : (limit : ℕ) (f : FilesState) (sources : Sources) (cursors cursors' : Cursors) (asked : List (Ask × ℕ)) (handed drifts unread : ℕ) (ask : Ask) (result : Result ℕ DriverError) → result ≡ Err error.NoMemory → cursors' ≡ cursors
+    → Starts ask result (nested_state limit f sources cursors asked handed drifts unread) (nested_state limit f sources cursors' asked handed drifts unread)
+start_full limit f sources cursors cursors' asked handed drifts unread ask result is same = subst (λ r. Starts ask r (nested_state limit f sources cursors asked handed drifts unread) (nested_state limit f sources cursors' asked handed drifts unread)) (sym is) (record {
+  keeps = record { kind = refl; handed = omega arith; faults = omega arith; drifts = omega arith; no_drift = λ is. refl; unread = omega arith };
+  attached = refl;
+  reading = λ k is. record { file = ap (λ (cursors : Cursors). option_map (λ (x : Open). x.file) (cursors k)) same; read = refl };
+  handed = refl;
+  faults = refl;
+  drifts = refl;
+  unread = refl;
+  opens = tt;
+  refused = (ap (λ (cursors : Cursors) k. option_map (cursor_of limit f.told) (cursors k)) same, refl);
+  failed = λ is. absurd cc;
+  no_other = inr refl;
+})

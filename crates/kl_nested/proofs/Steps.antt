@@ -1,5 +1,5 @@
 -- The calls of a driver, step by step.
-use Rattle.std.proofs.Common.{◌≡◌, ◌≢◌, ◌<◌, ◌≤◌, ◌^◌, ℕ, true, false, List, Option, Some, None, IsSome, Result, Ok, Err, length, slice_get, refl, sym, ap, subst, ◌∙◌, nat_lt}
+use Rattle.std.proofs.Common.{◌≡◌, ◌≢◌, ◌<◌, ◌≤◌, ◌^◌, ℕ, true, false, List, Option, Some, None, IsSome, Result, Ok, Err, refl, sym, ap, subst, ◌∙◌, nat_lt}
 use Rattle.std.specs.HashMap.{IsUnchanged}
 use Rattle.std.specs.Option.{option_map}
 use Rattle.std.proofs.Math.Path.{fun_ext}
@@ -9,19 +9,18 @@ use Rattle.kl_type.specs.declared.ground.Ty.{Ty}
 use Rattle.kl_outside.specs.Files.{FilesState, Closes, OtherFiles, OtherSeen}
 use Rattle.kl_outcome.specs.Outcome.{Name}
 use Rattle.kl_ask.specs.Asked.{raised_by, unread_by, with_ask}
-use Rattle.kl_ask.specs.Cursors.{open_at}
 use Rattle.kl_ask.specs.Driver.{Attaches, CanStart, Finishes, Pulls, Starts, State}
 use Rattle.kl_ask.specs.declared.ask.Ask.{Ask}
 use Rattle.kl_ask.specs.declared.ask.Ask.TheVariants as asks
 use Rattle.kl_ask.specs.declared.ask.DriverError.{DriverError}
 use Rattle.kl_ask.specs.declared.ask.DriverError.TheVariants as error
-use Rattle.kl_ask.proofs.Opened.{added_now, changed_now, changed_others, some_of, unseen}
+use Rattle.kl_ask.proofs.Opened.{some_of, unseen}
 use Rattle.kl_nested.specs.Closing.{ClosesOpen, drifts_by}
 use Rattle.kl_nested.specs.Contents.{item_ty}
 use Rattle.kl_nested.specs.Desk.{HasTaken, IsDesk, IsKept}
 use Rattle.kl_nested.specs.Handing.{HandsAt}
 use Rattle.kl_ask.specs.Named.{asked_source, source_named}
-use Rattle.kl_nested.specs.Nested.{Sources, attached_of, nested_state}
+use Rattle.kl_nested.specs.Nested.{Cursors, Sources, attached_of, nested_state}
 use Rattle.kl_nested.specs.Opening.{OpensAsked}
 use Rattle.kl_nested.specs.Reading.{Adds, AttachesFile, ReadsFile}
 use Rattle.kl_nested.specs.declared.parts.Source.{Source}
@@ -29,11 +28,9 @@ use Rattle.kl_nested.specs.declared.parts.Open.{Open}
 use Rattle.kl_nested.proofs.Attaching.{attach_done, attach_refused, attach_stopped, kept_so}
 use Rattle.kl_nested.proofs.Desks.{desk_attached, desk_closed, desk_opened, desk_pulled, desk_same, file_open}
 use Rattle.kl_nested.proofs.Handings.{kept_on}
+use Rattle.kl_nested.proofs.Openings.{left_as_before, seen_as_before}
 use Rattle.kl_nested.proofs.Pulling.{finish_done, pull_done, pull_refused}
 use Rattle.kl_nested.proofs.Starting.{start_done, start_refused, start_uncounted}
-
-abbrev Cursors : Type 0
-Cursors = List (Option Open)
 
 some_open : {C D : Type 0} (seen : C → D) (o : Option C) → IsSome (option_map seen o) → IsSome o
 some_open seen (Some x) h = refl
@@ -83,43 +80,39 @@ module _ (limit : ℕ) (f : FilesState) (sources : Sources) (cursors : Cursors) 
 
   module _ (desk : IsDesk limit f sources cursors) where
     -- an open cursor has its file open
-    pub files_open : (k : ℕ) (o : Open) → open_at cursors k ≡ Some o → IsSome (f.left o.file)
+    pub files_open : (k : ℕ) (o : Open) → cursors k ≡ Some o → IsSome (f.left o.file)
     files_open k o is = file_open limit f o (desk.reading k o is)
 
     -- one that is closed leaves the others
-    pub desk_after_close : (h : FilesState) (cursors' : Cursors) (k : ℕ) → IsSome (open_at cursors k) → ClosesOpen k cursors cursors' f h → IsDesk limit h sources cursors'
+    pub desk_after_close : (h : FilesState) (cursors' : Cursors) (k : ℕ) → IsSome (cursors k) → ClosesOpen k cursors cursors' f h → IsDesk limit h sources cursors'
     desk_after_close h cursors' k is closes =
-        let o = some_of (open_at cursors k) is in
+        let o = some_of (cursors k) is in
         let file = closes.file o.0 o.1 in
         desk_closed limit f sources cursors desk h cursors' k o.0 o.1 closes.closed closes.others file.told file.others file.closed (λ n ne. file.seen n)
 
   module _ (desk : IsDesk limit f sources cursors) (g : FilesState) (cursors' : Cursors) (ask : Ask) where
-    pub desk_not_opened : (e : DriverError) → OpensAsked limit sources ask (Err e) cursors cursors' f g → IsDesk limit g sources cursors'
-    desk_not_opened e a = subst (IsDesk limit g sources) (sym a.opens.same) (desk_same limit f sources cursors desk g a.opens.told a.opens.refused.left a.opens.refused.seen)
+    pub desk_not_opened : (e : DriverError) → OpensAsked limit sources ask (Err e) f g → cursors' ≡ cursors → IsDesk limit g sources cursors'
+    desk_not_opened e a same = subst (IsDesk limit g sources) (sym same) (desk_same limit f sources cursors desk g a.opens.told a.opens.refused.left a.opens.refused.seen)
 
-    module _ (a : OpensAsked limit sources ask (Ok tt) cursors cursors' f g) where
-      pub desk_now_opened : IsDesk limit g sources cursors'
-      desk_now_opened = desk_opened limit f sources cursors desk g cursors' a.source ask a.opens.opened.0 a.opens.told a.opens.opened.1 a.opens.opened.2 a.found
+    module _ (o : Open) (a : OpensAsked limit sources ask (Ok o) f g) where
+      -- its file is open
+      pub opened_file : IsSome (g.left o.file)
+      opened_file = subst IsSome (sym a.opens.opened.left) refl
 
-      pub opened_there : (n : ℕ) → n ≡ length cursors → IsSome (open_at cursors' n)
-      opened_there n last = subst IsSome (sym (added_now cursors cursors' n a.opens.opened.0 last a.opens.opened.1)) refl
+      pub desk_now_opened : (n : ℕ) → cursors n ≡ None → cursors' n ≡ Some o → ((k : ℕ) → k ≢ n → cursors' k ≡ cursors k) → IsDesk limit g sources cursors'
+      desk_now_opened n free there others = desk_opened limit f sources cursors desk g cursors' a.source ask n o a.opens.told free there others a.opens.opened a.found
 
-      pub desk_reclosed : (n : ℕ) → n ≡ length cursors → (h : FilesState) (cursors'' : Cursors) → ClosesOpen n cursors' cursors'' g h → IsDesk limit h sources cursors''
-      desk_reclosed n last h cursors'' closes =
-          let o = a.opens.opened.0 in
-          let here = added_now cursors cursors' n o last a.opens.opened.1 in
-          let file = closes.file o here in
-          desk_closed limit g sources cursors' desk_now_opened h cursors'' n o here closes.closed closes.others file.told file.others file.closed (λ k ne. file.seen k)
+      pub desk_reclosed : (h : FilesState) → Closes o.file g h → cursors' ≡ cursors → IsDesk limit h sources cursors'
+      desk_reclosed h closes same =
+          let over = a.opens.opened in
+          subst (IsDesk limit h sources) (sym same) (desk_same limit f sources cursors desk h (closes.told ∙ a.opens.told) (left_as_before limit a.source ask o f g h over closes) (seen_as_before limit a.source ask o f g h over closes))
 
   module _ (desk : IsDesk limit f sources cursors) (g : FilesState) (cursors' : Cursors) (cursor most : ℕ) (into into' : List Value) where
-    open_here : (a : Open) → slice_get cursors cursor ≡ Some (Some a) → open_at cursors cursor ≡ Some a
-    open_here a is = search
-
     pub desk_handed : (count : ℕ) → HandsAt limit cursor most into into' (Ok count) cursors cursors' f g → IsDesk limit g sources cursors'
     desk_handed count a =
         let h = a.hands in
-        let old = desk.reading cursor a.old (open_here a.old a.here) in
-        desk_pulled limit f sources cursors desk g cursors' cursor a.old a.new a.here a.made h.reads h.ask h.source h.file (record {
+        let old = desk.reading cursor a.old a.here in
+        desk_pulled limit f sources cursors desk g cursors' cursor a.old a.new a.here a.now a.others h.reads h.ask h.source h.file (record {
           kept = subst (λ (s : Source). IsKept limit g.told s) (sym h.source) (kept_on limit f.told g.told a.old.source h.reads.told old.kept);
           within = subst (λ (s : Source). a.new.taken ≤ s.count) (sym h.source) h.handed.within;
           same_file = h.reads.same_file ∙ old.same_file ∙ sym h.file;
@@ -127,38 +120,35 @@ module _ (limit : ℕ) (f : FilesState) (sources : Sources) (cursors : Cursors) 
         })
 
     module _ (e : DriverError) (a : HandsAt limit cursor most into into' (Err e) cursors cursors' f g) where
-      now_here : open_at cursors' cursor ≡ Some a.new
-      now_here = changed_now cursors cursors' cursor a.old a.new a.here a.made
+      pub handed_there : IsSome (cursors' cursor)
+      handed_there = subst IsSome (sym a.now) refl
 
-      pub handed_there : IsSome (open_at cursors' cursor)
-      handed_there = subst IsSome (sym now_here) refl
-
-      pub handed_file : (o : Open) → open_at cursors' cursor ≡ Some o → IsSome (g.left o.file)
+      pub handed_file : (o : Open) → cursors' cursor ≡ Some o → IsSome (g.left o.file)
       handed_file o is =
           let h = a.hands in
-          let same : a.new ≡ o = same_Some _ _ (sym now_here ∙ is) in
-          let old = desk.reading cursor a.old (open_here a.old a.here) in
+          let same : a.new ≡ o = same_Some _ _ (sym a.now ∙ is) in
+          let old = desk.reading cursor a.old a.here in
           subst (λ k. IsSome (g.left k)) (old.same_file ∙ sym h.file ∙ ap (λ (x : Open). x.file) same) h.reads.is_open
 
       module _ (h : FilesState) (cursors'' : Cursors) (closes : ClosesOpen cursor cursors' cursors'' g h) where
         closed_file : Closes a.new.file g h
-        closed_file = closes.file a.new now_here
+        closed_file = closes.file a.new a.now
 
-        others_stay : (k : ℕ) → k ≢ cursor → open_at cursors'' k ≡ open_at cursors k
-        others_stay k ne = closes.others k ne ∙ changed_others cursors cursors' cursor a.old a.new a.here a.made k ne
+        others_stay : (k : ℕ) → k ≢ cursor → cursors'' k ≡ cursors k
+        others_stay k ne = closes.others k ne ∙ a.others k ne
 
         left_stays : OtherFiles a.old.file f h
         left_stays k ne =
-            let reading = desk.reading cursor a.old (open_here a.old a.here) in
+            let reading = desk.reading cursor a.old a.here in
             closed_file.others k (λ is. ne (is ∙ a.hands.file)) ∙ a.hands.reads.others k (λ is. ne (is ∙ reading.same_file))
 
         seen_stays : OtherSeen a.old.file f h
         seen_stays k ne =
-            let reading = desk.reading cursor a.old (open_here a.old a.here) in
+            let reading = desk.reading cursor a.old a.here in
             closed_file.seen k ∙ a.hands.reads.others_seen k (λ is. ne (is ∙ reading.same_file))
 
         pub desk_refused : IsDesk limit h sources cursors''
-        desk_refused = desk_closed limit f sources cursors desk h cursors'' cursor a.old (open_here a.old a.here) closes.closed others_stay (closed_file.told ∙ a.hands.reads.told) left_stays
+        desk_refused = desk_closed limit f sources cursors desk h cursors'' cursor a.old a.here closes.closed others_stay (closed_file.told ∙ a.hands.reads.told) left_stays
             (ap h.left (sym a.hands.file) ∙ closed_file.closed) seen_stays
 
 -- ---- the calls
@@ -199,31 +189,31 @@ module _ (limit : ℕ) (f : FilesState) (sources : Sources) (cursors : Cursors) 
   can_ask (asks.Sql text) can = absurd (let no : false ≡ true = can.answerable.2 in cc)
 
   module _ (desk : IsDesk limit f sources cursors) (g : FilesState) (cursors' : Cursors) (ask : Ask) (room : limit < 2 ^ 63) where
-    pub starts_ok : (asked' : List (Ask × ℕ)) (n : ℕ) → CanStart Old ask → n ≡ length cursors → OpensAsked limit sources ask (Ok tt) cursors cursors' f g → asked' ≡ with_ask ask asked
-        → Starts ask (Ok n) Old (nested_state limit g sources cursors' asked' handed drifts unread)
-    starts_ok asked' n can last a counted = start_done limit room f sources cursors asked handed drifts unread desk g cursors' ask a.source a.found asked' n can last a.opens counted
+    abbrev Started : Result ℕ DriverError → FilesState → List (Ask × ℕ) → Type 0
+    Started result h asked' = Starts ask result Old (nested_state limit h sources cursors' asked' handed drifts unread)
 
-    pub starts_err : (e : DriverError) → OpensAsked limit sources ask (Err e) cursors cursors' f g → Starts ask (Err e) Old (nested_state limit g sources cursors' asked handed drifts unread)
-    starts_err e a = start_refused limit room f sources cursors asked handed drifts unread desk g cursors' ask a.source a.found e a.opens
+    pub starts_ok : (asked' : List (Ask × ℕ)) (n : ℕ) (o : Open) → CanStart Old ask → OpensAsked limit sources ask (Ok o) f g → cursors n ≡ None → cursors' n ≡ Some o → ((k : ℕ) → k ≢ n → cursors' k ≡ cursors k) → asked' ≡ with_ask ask asked
+        → Started (Ok n) g asked'
+    starts_ok asked' n o can a free there others counted = start_done limit room f sources cursors asked handed drifts unread desk g cursors' ask a.source a.found asked' n o can a.opens free there others counted
 
-    pub starts_uncounted : (asked' : List (Ask × ℕ)) (n : ℕ) → n ≡ length cursors → OpensAsked limit sources ask (Ok tt) cursors cursors' f g → (h : FilesState) (cursors'' : Cursors) → ClosesOpen n cursors' cursors'' g h → asked' ≡ asked
-        → Starts ask (Err error.NoMemory) Old (nested_state limit h sources cursors'' asked' handed drifts unread)
-    starts_uncounted asked' n last a h cursors'' closes same =
-        subst (λ xs. Starts ask (Err error.NoMemory) Old (nested_state limit h sources cursors'' xs handed drifts unread)) (sym same)
-        (start_uncounted limit room f sources cursors asked handed drifts unread desk g cursors' ask a.source a.found n h cursors'' last a.opens closes)
+    pub starts_err : (e : DriverError) → OpensAsked limit sources ask (Err e) f g → cursors' ≡ cursors → Started (Err e) g asked
+    starts_err e a same = start_refused limit room f sources cursors asked handed drifts unread desk g cursors' ask a.source a.found e a.opens same
+
+    pub starts_uncounted : (asked' : List (Ask × ℕ)) (o : Open) → OpensAsked limit sources ask (Ok o) f g → (h : FilesState) → Closes o.file g h → cursors' ≡ cursors → asked' ≡ asked → Started (Err error.NoMemory) h asked'
+    starts_uncounted asked' o a h closes same uncounted =
+        subst (λ xs. Started (Err error.NoMemory) h xs) (sym uncounted) (start_uncounted limit room f sources cursors asked handed drifts unread desk g cursors' ask a.source a.found o h a.opens closes same)
 
   module _ (desk : IsDesk limit f sources cursors) (g : FilesState) (cursors' : Cursors) (cursor most : ℕ) (into into' : List Value) where
     pub pulls_ok : (count handed' : ℕ) → HandsAt limit cursor most into into' (Ok count) cursors cursors' f g → handed' ≡ raised_by count handed → handed < 2 ^ 64 → 0 < most
         → Pulls cursor most into into' (Ok (nat_lt 0 count)) Old (nested_state limit g sources cursors' asked handed' drifts unread)
-    pulls_ok count handed' a counted fits room = pull_done limit f sources cursors asked handed drifts unread cursor desk g cursors' handed' most count into into' a.old a.new a.here a.made a.hands counted fits room
+    pulls_ok count handed' a counted fits room = pull_done limit f sources cursors asked handed drifts unread cursor desk g cursors' handed' most count into into' a.old a.new a.here a.now a.others a.hands counted fits room
 
     pub pulls_err : (e : DriverError) (a : HandsAt limit cursor most into into' (Err e) cursors cursors' f g) (h : FilesState) (cursors'' : Cursors) (closes : ClosesOpen cursor cursors' cursors'' g h) (drifts' : ℕ) → drifts' ≡ drifts_by e drifts → drifts < 2 ^ 64
         → Pulls cursor most into into' (Err e) Old (nested_state limit h sources cursors'' asked handed drifts' unread)
     pulls_err e a h cursors'' closes drifts' counted fits =
-        let here = open_here limit f sources cursors desk g cursors' cursor most into into' a.old a.here in
         let file = closed_file limit f sources cursors desk g cursors' cursor most into into' e a h cursors'' closes in
-        pull_refused limit f sources cursors asked handed drifts unread cursor desk g h cursors'' drifts' most into into' e a.old a.new here a.hands closes.closed
+        pull_refused limit f sources cursors asked handed drifts unread cursor desk g h cursors'' drifts' most into into' e a.old a.new a.here a.hands closes.closed
         (others_stay limit f sources cursors desk g cursors' cursor most into into' e a h cursors'' closes) file.told file.seen file.faults fits counted
 
-  pub finishes : IsDesk limit f sources cursors → (h : FilesState) (cursors' : Cursors) (k : ℕ) → IsSome (open_at cursors k) → ClosesOpen k cursors cursors' f h → Finishes k Old (nested_state limit h sources cursors' asked handed drifts unread)
-  finishes desk h cursors' k is closes = let o = some_of (open_at cursors k) is in finish_done limit f sources cursors asked handed drifts unread k desk h cursors' o.0 o.1 closes
+  pub finishes : IsDesk limit f sources cursors → (h : FilesState) (cursors' : Cursors) (k : ℕ) → IsSome (cursors k) → ClosesOpen k cursors cursors' f h → Finishes k Old (nested_state limit h sources cursors' asked handed drifts unread)
+  finishes desk h cursors' k is closes = let o = some_of (cursors k) is in finish_done limit f sources cursors asked handed drifts unread k desk h cursors' o.0 o.1 closes

@@ -1,23 +1,23 @@
 -- The parts of a driver of files of values, and what stays true of its files and of what reads them. Public contracts cite
 -- `Desk` alone.
 use Rattle.std.specs.Prelude.{◌≡◌, ℕ, ◌≤◌, List, length, Option, Some, IsSome}
+use Rattle.slab.specs.Slab.{Slab}
 use Rattle.kl_value.specs.declared.Value.{Value}
 use Rattle.kl_outside.specs.Files.{FilesState, left_at_first, seen_in}
 use Rattle.kl_outcome.specs.Outcome.{Name}
 use Rattle.kl_exchange.specs.FileReading.{FileReading, HasRead, HasSeen}
-use Rattle.kl_ask.specs.Cursors.{open_at}
 use Rattle.kl_ask.specs.Driver.{Rows}
 use Rattle.kl_ask.specs.declared.ask.Ask.{Ask}
 use Rattle.kl_nested.specs.Contents.{item_ty, stored_in}
 use Rattle.kl_ask.specs.Named.{asked_source, source_named}
-use Rattle.kl_nested.specs.Nested.{Sources, Tells}
+use Rattle.kl_nested.specs.Nested.{Cursors, Sources, Tells}
 use Rattle.kl_nested.specs.declared.parts.Source.{Source}
 use Rattle.kl_nested.specs.declared.parts.Open.{Open}
 
 pub record Desk (F : Type 0) : Type 0 where
   pub files : F
   pub sources : Sources
-  pub cursors : List (Option Open)
+  pub cursors : Slab Open
   pub asked : List (Ask × ℕ)
   pub handed : ℕ
   pub drifts : ℕ
@@ -49,9 +49,9 @@ pub record IsReading (limit : ℕ) (f : FilesState) (o : Open) : Type 0 where
 
 -- Each source is as it was attached, each open cursor reads a file of its own, of the source that its ask names, and no other
 -- file is open.
-pub record IsDesk (limit : ℕ) (f : FilesState) (sources : Sources) (cursors : List (Option Open)) : Type 0 where
+pub record IsDesk (limit : ℕ) (f : FilesState) (sources : Sources) (cursors : Cursors) : Type 0 where
   pub kept : (name : Name) (s : Source) → source_named sources name ≡ Some s → IsKept limit f.told s
-  pub asked : (k : ℕ) (o : Open) → open_at cursors k ≡ Some o → asked_source sources o.ask ≡ Some o.source
-  pub reading : (k : ℕ) (o : Open) → open_at cursors k ≡ Some o → IsReading limit f o
-  pub only : (n : ℕ) → IsSome (f.left n) → (k : ℕ) × (o : Open) × (open_at cursors k ≡ Some o) × (o.file ≡ n)
-  pub apart : (j k : ℕ) (o p : Open) → open_at cursors j ≡ Some o → open_at cursors k ≡ Some p → o.file ≡ p.file → j ≡ k
+  pub asked : (k : ℕ) (o : Open) → cursors k ≡ Some o → asked_source sources o.ask ≡ Some o.source
+  pub reading : (k : ℕ) (o : Open) → cursors k ≡ Some o → IsReading limit f o
+  pub only : (n : ℕ) → IsSome (f.left n) → (k : ℕ) × (o : Open) × (cursors k ≡ Some o) × (o.file ≡ n)
+  pub apart : (j k : ℕ) (o p : Open) → cursors j ≡ Some o → cursors k ≡ Some p → o.file ≡ p.file → j ≡ k

@@ -1,5 +1,5 @@
 -- Steps of handing rows. No public contract cites this.
-use Rattle.std.specs.Prelude.{◌≡◌, ◌≢◌, ◌⊎◌, ℕ, ◌+◌, ◌<◌, ◌≤◌, true, List, [], ◌∷◌, ◌++◌, length, drop, set, slice_get, Option}
+use Rattle.std.specs.Prelude.{◌≡◌, ◌≢◌, ◌⊎◌, ℕ, ◌+◌, ◌<◌, ◌≤◌, true, List, [], ◌∷◌, ◌++◌, length, drop, Option}
 use Rattle.std.specs.Prelude.{Some, None, IsSome, Result, Ok, Err, IfOk, OnOk, OnErr, ⊤}
 use Rattle.std.specs.List.{AllByRecursion}
 use Rattle.kl_base.specs.Counts.{Rose}
@@ -20,7 +20,7 @@ use Rattle.kl_ask.specs.declared.ask.DriverError.{DriverError}
 use Rattle.kl_ask.specs.declared.ask.DriverError.TheVariants as error
 use Rattle.kl_nested.specs.Desk.{HasTaken}
 use Rattle.kl_nested.specs.Contents.{spelt_in}
-use Rattle.kl_nested.specs.Nested.{attached_of, read_as, rows_at}
+use Rattle.kl_nested.specs.Nested.{Cursors, attached_of, read_as, rows_at}
 use Rattle.kl_nested.specs.declared.parts.Source.{Source}
 use Rattle.kl_nested.specs.declared.parts.Open.{Open}
 use Rattle.kl_nested.specs.declared.rows.Halt.{Halt}
@@ -153,11 +153,12 @@ pub record Hands (limit most : ℕ) (into into' : List Value) (result : Result �
   pub cause : (e : DriverError) → result ≡ Err e → (found : ℕ) × StopsBehind old found
       × Refuses limit old.source old.reader.file found e files files'
 
--- the cursor at a place hands rows, and no other
+-- the cursor of a number hands rows, and no other
 pub record HandsAt (limit cursor most : ℕ) (into into' : List Value) (result : Result ℕ DriverError)
-    (cursors cursors' : List (Option Open)) (files files' : FilesState) : Type 0 where
+    (cursors cursors' : Cursors) (files files' : FilesState) : Type 0 where
   pub old : Open
   pub new : Open
-  pub here : slice_get cursors cursor ≡ Some (Some old)
-  pub made : cursors' ≡ set cursors cursor (Some new)
+  pub here : cursors cursor ≡ Some old
+  pub now : cursors' cursor ≡ Some new
+  pub others : (k : ℕ) → k ≢ cursor → cursors' k ≡ cursors k
   pub hands : Hands limit most into into' result old new files files'

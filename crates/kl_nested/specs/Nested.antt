@@ -6,7 +6,6 @@ use Rattle.kl_type.specs.Ground.{ground_of}
 use Rattle.kl_type.specs.declared.ground.Ty.{Ty, Ty-F, out-Ty}
 use Rattle.kl_outside.specs.Files.{FilesState, Seen, seen_in}
 use Rattle.kl_ask.specs.Asks.{item_of}
-use Rattle.kl_ask.specs.Cursors.{open_at}
 use Rattle.kl_ask.specs.Named.{NamedSources, source_named}
 use Rattle.kl_ask.specs.Driver.{State, DriverKind, ReadSoFar, Source as Attached, Cursor, stored_by, told_rows}
 use Rattle.kl_ask.specs.declared.ask.Ask.{Ask}
@@ -39,6 +38,10 @@ nested_kind limit told = record {
 abbrev pub Sources : Type 0
 Sources = NamedSources Source
 
+-- open cursors by their numbers
+abbrev pub Cursors : Type 0
+Cursors = ℕ → Option Open
+
 -- the rows of a source, where they are told
 abbrev pub rows_at : ℕ → Tells → Source → Option (List Value)
 rows_at limit told s = told_rows (stored_by (contents_of limit told) s.path s.ty)
@@ -60,12 +63,12 @@ abbrev pub read_as : Seen → ReadSoFar
 read_as seen = record { bytes = seen.bytes; ended = seen.ended }
 
 -- Of each file at most `limit` bytes are looked at.
-abbrev pub nested_state : ℕ → FilesState → Sources → List (Option Open) → List (Ask × ℕ) → ℕ → ℕ → ℕ → State
+abbrev pub nested_state : ℕ → FilesState → Sources → Cursors → List (Ask × ℕ) → ℕ → ℕ → ℕ → State
 nested_state limit files sources cursors asked handed drifts unread = record {
   kind = nested_kind limit files.told;
   attached = λ name. option_map (attached_of limit files.told) (source_named sources name);
-  cursors = λ k. option_map (cursor_of limit files.told) (open_at cursors k);
-  file = λ k. option_map (λ (o : Open). o.file) (open_at cursors k);
+  cursors = λ k. option_map (cursor_of limit files.told) (cursors k);
+  file = λ k. option_map (λ (o : Open). o.file) (cursors k);
   read = λ n. option_map read_as (seen_in files n);
   asked = asked;
   handed = handed;

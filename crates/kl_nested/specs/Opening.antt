@@ -1,9 +1,8 @@
 -- Steps of opening a cursor. No public contract cites this.
-use Rattle.std.specs.Prelude.{◌≡◌, ◌⊎◌, ℕ, ◌≤◌, false, List, [], ◌∷◌, ◌++◌, Option, Some, None, IsSome, Result, Err, IfOk, OnOk, OnErr}
-use Rattle.std.specs.Prelude.{IsErrOf}
+use Rattle.std.specs.Prelude.{◌≡◌, ◌⊎◌, ℕ, ◌≤◌, false, [], Some, None, IsSome, Result, IfOk, OnErr, IsErrOf}
 use Rattle.kl_base.specs.Counts.{Rose}
 use Rattle.std.specs.Option.{option_map}
-use Rattle.kl_outside.specs.Files.{FilesState, Closes, IsMissing, OtherFiles, OtherSeen, left_at_first, nothing_seen, seen_in}
+use Rattle.kl_outside.specs.Files.{FilesState, IsMissing, OtherFiles, OtherSeen, left_at_first, nothing_seen, seen_in}
 use Rattle.kl_outside.specs.declared.stop.Stop.{Stop}
 use Rattle.kl_outside.specs.declared.stop.Stop.TheVariants as stop
 use Rattle.kl_exchange.specs.FileItems.{reading}
@@ -50,25 +49,8 @@ pub record OpensOne (limit : ℕ) (source : Source) (ask : Ask) (result : Result
   pub opened : IfOk result (OpensOver limit source ask old new)
   pub refused : NotOpened source result old new
 
--- a cursor is put behind the others, or its file is closed
-pub record PutsLast (o : Open) (result : Result (Unit {0}) DriverError) (cursors cursors' : List (Option Open))
-    (old new : FilesState) : Type 0 where
-  pub put : OnOk result ((cursors' ≡ cursors ++ Some o ∷ []) × (new ≡ old))
-  pub refused : OnErr result ((cursors' ≡ cursors) × Closes o.file old new × (result ≡ Err error.NoMemory))
-
--- a cursor is opened behind the others
-pub record OpensLast (limit : ℕ) (source : Source) (ask : Ask) (result : Result (Unit {0}) DriverError)
-    (cursors cursors' : List (Option Open)) (old new : FilesState) : Type 0 where
-  pub told : new.told ≡ old.told
-  pub later : old.faults ≤ new.faults
-  pub counts : CountsFault result old.faults new.faults
-  pub opened : OnOk result ((o : Open) × (cursors' ≡ cursors ++ Some o ∷ []) × OpensOver limit source ask old new o)
-  pub same : OnErr result (cursors' ≡ cursors)
-  pub refused : NotOpened source result old new
-
--- a cursor over the source that is asked is opened behind the others
-pub record OpensAsked (limit : ℕ) (sources : Sources) (ask : Ask) (result : Result (Unit {0}) DriverError)
-    (cursors cursors' : List (Option Open)) (old new : FilesState) : Type 0 where
+-- a cursor over the source that is asked is made, and its file opened
+pub record OpensAsked (limit : ℕ) (sources : Sources) (ask : Ask) (result : Result Open DriverError) (old new : FilesState) : Type 0 where
   pub source : Source
   pub found : asked_source sources ask ≡ Some source
-  pub opens : OpensLast limit source ask result cursors cursors' old new
+  pub opens : OpensOne limit source ask result old new

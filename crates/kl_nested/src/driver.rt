@@ -1,23 +1,24 @@
 //! The driver of files of values.
 ghost use Rattle.std.specs.Prelude.{◌≡◌, ℕ, IsSome, Some};
-ghost use Rattle.kl_ask.specs.Cursors.{open_at};
 ghost use Rattle.kl_exchange.specs.FileItems.{most_read};
 ghost use Rattle.kl_outside.specs.Files.{NoneOpen};
 ghost use Rattle.kl_nested.specs.Nested.{fresh_state, nested_state};
 ghost use Rattle.kl_nested.specs.Closing.{ClosesOpen, drifts_by};
 ghost use Rattle.kl_nested.specs.declared.parts.Open.{Open as Opened};
+ghost use Rattle.slab.specs.Slab.{get};
 
 use crate::handing::hand_at;
 use crate::opening::open_asked;
 use crate::parts::{Open, Source};
 use crate::sources::attach_file;
 use crate::types::is_collection;
-use kl_ask::{Abilities, Ask, Driver, DriverError, close_cursor, count_ask, sum_asked, unread_by};
+use kl_ask::{Abilities, Ask, Driver, DriverError, count_ask, sum_asked, unread_by};
 use kl_base::{Label, NoMemory, Shared, Text};
 use kl_exchange::MOST_READ;
 use kl_outside::Files;
 use kl_type::Ty;
 use kl_value::Value;
+use slab::Slab;
 use std::alloc::Global;
 use std::collections::HashMap;
 use std::marker::Model;
@@ -40,7 +41,7 @@ pub struct NestedDriver<F: Files + Drop> {
     alloc: Global,
     files: F,
     sources: HashMap<Label, Shared<Source>>,
-    cursors: Vec<Option<Open>>,
+    cursors: Slab<Open>,
     asked: Vec<(Ask, u64)>,
     handed: u64,
     drifts: u64,
@@ -51,25 +52,26 @@ impl<F: Files + Drop> Model for NestedDriver<F> {
     ghost use Rattle.kl_exchange.specs.FileItems.{most_read};
     ghost use Rattle.std.specs.Coded.{codes};
     ghost use Rattle.std_collections.specs.Layout.HashMap.{hash_map_code};
+    ghost use Rattle.slab.specs.Slab.{get, slab_code};
     ghost use Rattle.kl_type.specs.contracts.ground.Ty as ty;
     ghost use Rattle.kl_value.specs.contracts.value.Value as value;
     ghost use Rattle.kl_nested.specs.Desk.{Desk, IsDesk};
 
     ghost Value = { Desk F };
 
-    ghost coded = { Prim.hlevel (codes, hash_map_code, ty.the_row.coded, value.the_row.coded) };
+    ghost coded = { Prim.hlevel (codes, hash_map_code, slab_code, ty.the_row.coded, value.the_row.coded) };
 
     ghost view = { λ d. record {
       files = d.files;
       sources = d.sources;
-      cursors = d.cursors.items;
+      cursors = d.cursors;
       asked = d.asked.items;
       handed = d.handed;
       drifts = d.drifts;
       unread = d.unread;
     } };
 
-    ghost invariant = { λ d. IsDesk most_read (F.state d.files) d.sources d.cursors.items };
+    ghost invariant = { λ d. IsDesk most_read (F.state d.files) d.sources (get d.cursors) };
 }
 
 impl<F: Files + Drop> NestedDriver<F> {
@@ -82,7 +84,7 @@ impl<F: Files + Drop> NestedDriver<F> {
             alloc,
             files,
             sources: HashMap::new(alloc),
-            cursors: Vec::new(alloc),
+            cursors: Slab::new(alloc),
             asked: Vec::new(alloc),
             handed: 0,
             drifts: 0,
@@ -92,7 +94,7 @@ impl<F: Files + Drop> NestedDriver<F> {
 }
 
 impl<F: Files + Drop> Driver for NestedDriver<F> {
-    ghost state = { λ d. nested_state most_read (F.state d.files) d.sources d.cursors d.asked d.handed d.drifts d.unread };
+    ghost state = { λ d. nested_state most_read (F.state d.files) d.sources (get d.cursors) d.asked d.handed d.drifts d.unread };
 
     fn name(&self) -> &[u8] {
         b"nested"
@@ -130,22 +132,15 @@ impl<F: Files + Drop> Driver for NestedDriver<F> {
     }
 
     fn start(&mut self, ask: &Ask) -> Result<u64, DriverError> {
-        let cursor = self.cursors.len();
-        match open_asked(
-            self.alloc,
-            &mut self.files,
-            &self.sources,
-            ask,
-            MOST_READ,
-            &mut self.cursors,
-        ) {
-            Ok(()) => {}
+        self.cursors.reserve(1)?;
+        let open = match open_asked(self.alloc, &mut self.files, &self.sources, ask, MOST_READ) {
+            Ok(open) => open,
             Err(error) => return Err(error),
-        }
+        };
         match count_ask(self.alloc, &mut self.asked, ask) {
-            Ok(()) => Ok(cursor as u64),
+            Ok(()) => Ok(self.cursors.insert_reserved(open) as u64),
             Err(NoMemory) => {
-                close_open(&mut self.files, &mut self.cursors, cursor);
+                self.files.close(open.file);
                 Err(DriverError::NoMemory)
             }
         }
@@ -186,17 +181,14 @@ impl<F: Files + Drop> Driver for NestedDriver<F> {
     }
 }
 
-// Closes the cursor at a place, and its file.
-fn close_open<F: Files>(files: &mut F, cursors: &mut Vec<Option<Open>>, cursor: usize)
-    requires is_open { IsSome (open_at cursors.old.items cursor) }
-    requires file { (o : Opened) → open_at cursors.old.items cursor ≡ Some o → IsSome ((F.state files.old).left o.file) }
-    ensures { ClosesOpen cursor cursors.old.items cursors.new.items (F.state files.old) (F.state files.new) }
+// Closes the cursor of a number, and its file.
+fn close_open<F: Files>(files: &mut F, cursors: &mut Slab<Open>, cursor: usize)
+    requires is_open { IsSome (get cursors.old cursor) }
+    requires file { (o : Opened) → get cursors.old cursor ≡ Some o → IsSome ((F.state files.old).left o.file) }
+    ensures { ClosesOpen cursor (get cursors.old) (get cursors.new) (F.state files.old) (F.state files.new) }
 {
-    let Some(open) = &cursors[cursor] else {
-        unreachable!()
-    };
+    let open = cursors.remove(cursor);
     files.close(open.file);
-    close_cursor(cursors, cursor);
 }
 
 // The count of drifts after a refusal. It stands still at its greatest value.

@@ -1,8 +1,8 @@
 //! The rows that a cursor hands.
 ghost use Rattle.std.specs.Prelude.{◌≡◌, ◌<◌, ◌≤◌, ◌+◌, ◌^◌, IsSome, Some};
-ghost use Rattle.kl_ask.specs.Cursors.{open_at};
 ghost use Rattle.kl_nested.specs.declared.parts.Open.{Open as Opened};
 ghost use Rattle.kl_nested.specs.Desk.{HasTaken, IsKept, IsReading};
+ghost use Rattle.slab.specs.Slab.{get};
 ghost use Rattle.kl_nested.specs.Handing.{HandsAt, HasBytes, Hands, MeetsEnd, Pushes, TakesRow, TakesRows, changed_as, unread_as};
 
 use crate::parts::{Open, Source};
@@ -12,15 +12,16 @@ use kl_ask::{Drift, DriverError};
 use kl_exchange::{FileError, FileReader};
 use kl_outside::Files;
 use kl_value::Value;
+use slab::Slab;
 
-/// Appends the next rows of the cursor at a place, which then stands behind them, and says how many. Where none is left,
+/// Appends the next rows of the cursor of a number, which then stands behind them, and says how many. Where none is left,
 /// the file has to end there, with as many bytes as were kept.
 ///
 /// # Errors
 /// `Failed` on a fault; `Changed`; `NoMemory`. No row is appended then, and the cursor is of no use any more.
 pub fn hand_at<F: Files>(
     files: &mut F,
-    cursors: &mut Vec<Option<Open>>,
+    cursors: &mut Slab<Open>,
     cursor: usize,
     limit: u64,
     most: u32,
@@ -28,12 +29,12 @@ pub fn hand_at<F: Files>(
 ) -> Result<u64, DriverError>
     requires room { limit < 2 ^ 63 }
     requires some { 0 < most }
-    requires is_open { IsSome (open_at cursors.old.items cursor) }
-    requires reading { (o : Opened) → open_at cursors.old.items cursor ≡ Some o → IsReading limit (F.state files.old) o }
-    ensures { HandsAt limit cursor most into.old.items into.new.items result cursors.old.items cursors.new.items (F.state files.old)
+    requires is_open { IsSome (get cursors.old cursor) }
+    requires reading { (o : Opened) → get cursors.old cursor ≡ Some o → IsReading limit (F.state files.old) o }
+    ensures { HandsAt limit cursor most into.old.items into.new.items result (get cursors.old) (get cursors.new) (F.state files.old)
         (F.state files.new) }
 {
-    let Some(open) = &mut cursors[cursor] else {
+    let Some(open) = cursors.get_mut(cursor) else {
         unreachable!()
     };
     hand_next(files, open, limit, most, into)

@@ -36,8 +36,7 @@ use Rattle.kl_sqltext.specs.declared.ast.SqlRight.{SqlRight}
 use Rattle.kl_sqltext.specs.declared.ast.SqlRight.TheVariants as right
 use Rattle.kl_sqltext.specs.declared.ast.SqlTest.{SqlTest}
 use Rattle.kl_sqlserve.specs.Fitting.{IsAskFor, are_attached, have_columns, is_fitting, is_typed_column, is_unshown, same_base, shows_apart, suit_tests, suits_right, suits_test, type_at, type_in_source, type_in_table}
-use Rattle.kl_sqlserve.specs.Server.{sql_state}
-use Rattle.kl_sqlserve.specs.declared.joined.Open.{Open}
+use Rattle.kl_sqlserve.specs.Server.{Cursors, sql_state}
 use Rattle.kl_sqlserve.proofs.Typed.{column_is}
 
 -- ---- labels that differ
@@ -128,7 +127,7 @@ made v t base e = subst IsCanonical (roll-out-Value v) (made_by (out-Value v) t 
 
 -- ---- what fits may be asked
 
-module _ (f : FilesState) (sources : Sources) (cursors : List (Option Open)) (asked : List (Ask × ℕ)) (handed unread : ℕ) where
+module _ (f : FilesState) (sources : Sources) (cursors : Cursors) (asked : List (Ask × ℕ)) (handed unread : ℕ) where
   abbrev now : State
   now = sql_state f sources cursors asked handed unread
 

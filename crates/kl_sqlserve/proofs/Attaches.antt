@@ -37,9 +37,7 @@ use Rattle.kl_flat.proofs.Suiting.{item_flat, suits as suits_flat}
 use Rattle.kl_flat.proofs.Typing.{rows_typed}
 use Rattle.kl_sqltext.specs.Meaning.{without_repeats}
 use Rattle.kl_sqlserve.specs.Attaching.{AddsTable}
-use Rattle.kl_sqlserve.specs.Server.{cursor_of, is_list_layer, is_served, is_set, is_set_layer, kept_contents, kept_rows, kept_stored, sql_kind, sql_state}
-use Rattle.kl_ask.specs.Cursors.{open_at}
-use Rattle.kl_sqlserve.specs.declared.joined.Open.{Open}
+use Rattle.kl_sqlserve.specs.Server.{Cursors, cursor_of, is_list_layer, is_served, is_set, is_set_layer, kept_contents, kept_rows, kept_stored, sql_kind, sql_state}
 use Rattle.kl_sqlserve.proofs.Repeated.{no_repeats}
 
 -- ---- `suits`
@@ -165,14 +163,14 @@ no_fault path ty rows f f' read = by read.read read.reads read.rows
     by (Err stop.Failed) reads is = absurd cc
     by (Err stop.NoMemory) reads is = absurd cc
 
-module _ (source path : List ℕ) (ty : Ty) (f f' : FilesState) (sources sources' : Sources) (cursors : List (Option Open)) (asked : List (Ask × ℕ)) (handed : ℕ) where
+module _ (source path : List ℕ) (ty : Ty) (f f' : FilesState) (sources sources' : Sources) (cursors : Cursors) (asked : List (Ask × ℕ)) (handed : ℕ) where
   -- a refusal of the driver of tables is one of the server
   pub refused : (e : DriverError) (unread unread' : ℕ) → f'.told ≡ f.told → ((name : Name) → source_named sources' name ≡ source_named sources name)
-      → Attaches source path ty (Err e) (flat_state f sources [] [] 0 unread) (flat_state f' sources [] [] 0 unread')
+      → Attaches source path ty (Err e) (flat_state f sources (λ k. None) [] 0 unread) (flat_state f' sources (λ k. None) [] 0 unread')
       → Attaches source path ty (Err e) (sql_state f sources cursors asked handed unread) (sql_state f' sources' cursors asked handed unread')
   refused e unread unread' told same flat = record {
     keeps = record { kind = ap sql_kind told; handed = omega arith; faults = flat.keeps.faults; drifts = omega arith; no_drift = λ is. refl; unread = flat.keeps.unread };
-    cursors = (λ i k. option_map (cursor_of (told i)) (open_at cursors k));
+    cursors = (λ i k. option_map (cursor_of (told i)) (cursors k));
     reading = λ k is. record { file = refl; read = refl };
     asked = refl;
     handed = refl;
@@ -204,14 +202,14 @@ module _ (source path : List ℕ) (ty : Ty) (f f' : FilesState) (sources sources
       → Attaches source path ty result (sql_state f sources cursors asked handed unread) (sql_state f' sources' cursors asked handed unread)
   stopped rows result unread read same is =
       subst (λ r. Attaches source path ty r (sql_state f sources cursors asked handed unread) (sql_state f' sources' cursors asked handed unread)) (sym is)
-      (refused error.NoMemory unread unread (good_read path ty rows f f' read).1 (λ name. ap (lookup (pointwise nat_eq name)) same) (attach_stopped source path ty rows (Err error.NoMemory) f f' sources sources [] [] 0 unread read refl refl))
+      (refused error.NoMemory unread unread (good_read path ty rows f f' read).1 (λ name. ap (lookup (pointwise nat_eq name)) same) (attach_stopped source path ty rows (Err error.NoMemory) f f' sources sources (λ k. None) [] 0 unread read refl refl))
 
   -- a table that was read is attached
   pub attached : (rows : List Value) (count unread : ℕ) → ReadsRows path ty (Ok rows) f f' → AddsTable source ty rows sources sources' count → is_served ty ≡ true
       → Attaches source path ty (Ok count) (sql_state f sources cursors asked handed unread) (sql_state f' sources' cursors asked handed unread)
   attached rows count unread read adds served = record {
     keeps = record { kind = ap sql_kind good.1; handed = omega arith; faults = good.2; drifts = omega arith; no_drift = λ is. refl; unread = omega arith };
-    cursors = (λ i k. option_map (cursor_of (good.1 i)) (open_at cursors k));
+    cursors = (λ i k. option_map (cursor_of (good.1 i)) (cursors k));
     reading = λ k is. record { file = refl; read = refl };
     asked = refl;
     handed = refl;

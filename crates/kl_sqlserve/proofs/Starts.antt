@@ -20,8 +20,8 @@ use Rattle.kl_ask.specs.Named.{source_named}
 use Rattle.kl_ask.specs.declared.ask.Ask.{Ask}
 use Rattle.kl_ask.specs.declared.ask.Ask.TheVariants as asks
 use Rattle.kl_ask.specs.declared.ask.ColTest.{ColTest}
-use Rattle.kl_ask.proofs.Opened.{added_free, added_now, added_others}
 use Rattle.kl_flat.specs.ColumnTable.{rows_of}
+use Rattle.kl_flat.specs.Cursors.{OpensRows}
 use Rattle.kl_flat.specs.Flat.{Sources, attached_of, contents_of, told_only}
 use Rattle.kl_flat.specs.declared.parts.Source.{Source}
 use Rattle.kl_flat.specs.declared.parts.Open.{Open as RowsOpen}
@@ -32,8 +32,8 @@ use Rattle.kl_sqltext.specs.declared.ast.Spj.{Spj}
 use Rattle.kl_sqltext.proofs.Answer.{unique}
 use Rattle.kl_sqlserve.specs.Handing.{left_of_joined}
 use Rattle.kl_sqlserve.specs.Left.{tables_of}
-use Rattle.kl_sqlserve.specs.Opening.{AreAttached, AreSides, CanOpen, OpensAt, OpensJoined, OpensRows, bag_over, rows_over}
-use Rattle.kl_sqlserve.specs.Server.{ask_of, cursor_of, kept_contents, sql_state}
+use Rattle.kl_sqlserve.specs.Opening.{AreAttached, AreSides, CanOpen, OpensAt, OpensJoined, bag_over, rows_over}
+use Rattle.kl_sqlserve.specs.Server.{Cursors, ask_of, cursor_of, kept_contents, sql_state}
 use Rattle.kl_sqlserve.specs.declared.joined.Joined.{Joined}
 use Rattle.kl_sqlserve.specs.declared.joined.Open.{Open}
 use Rattle.kl_sqlserve.specs.declared.joined.Open.TheVariants as opened
@@ -90,7 +90,7 @@ all_told : {A : Type 0} (told : Option A) (xs ys zs : List Value) → told_only 
 all_told None xs ys zs e = absurd cc
 all_told (Some t) xs ys zs e = refl
 
-module _ (f : FilesState) (sources : Sources) (cursors : List (Option Open)) (asked : List (Ask × ℕ)) (handed unread : ℕ) where
+module _ (f : FilesState) (sources : Sources) (cursors : Cursors) (asked : List (Ask × ℕ)) (handed unread : ℕ) where
   abbrev now : State
   now = sql_state f sources cursors asked handed unread
 
@@ -180,9 +180,9 @@ module _ (f : FilesState) (sources : Sources) (cursors : List (Option Open)) (as
       by (Some s) is = refl
   can_open (asks.Sql text) can = let a = can.answerable in (a.0, a.1, all_attached a.0.tables a.3.tables, a.3.apart)
 
-  pub start_done : (ask : Ask) (n : ℕ) (o : Open) (cursors' : List (Option Open)) (asked' : List (Ask × ℕ)) → OpensAt sources ask o → n ≡ length cursors → cursors' ≡ cursors ++ Some o ∷ [] → asked' ≡ with_ask ask asked
+  pub start_done : (ask : Ask) (n : ℕ) (o : Open) (cursors' : Cursors) (asked' : List (Ask × ℕ)) → OpensAt sources ask o → cursors n ≡ None → cursors' n ≡ Some o → ((k : ℕ) → k ≢ n → cursors' k ≡ cursors k) → asked' ≡ with_ask ask asked
       → Starts ask (Ok n) now (sql_state f sources cursors' asked' handed unread)
-  start_done ask n o cursors' asked' opens last grown counted = record {
+  start_done ask n o cursors' asked' opens free there others counted = record {
     keeps = record { kind = refl; handed = omega arith; faults = omega arith; drifts = omega arith; no_drift = λ is. refl; unread = omega arith };
     attached = refl;
     reading = λ k is. record { file = refl; read = refl };
@@ -191,12 +191,12 @@ module _ (f : FilesState) (sources : Sources) (cursors : List (Option Open)) (as
     drifts = refl;
     unread = refl;
     opens = record {
-      free = ap (option_map (cursor_of f.told)) (added_free cursors cursors' n o last grown);
+      free = ap (option_map (cursor_of f.told)) free;
       opened = cursor_of f.told o;
-      now = ap (option_map (cursor_of f.told)) (added_now cursors cursors' n o last grown);
+      now = ap (option_map (cursor_of f.told)) there;
       ask_kept = ask_kept ask o opens;
       fresh = opens_at ask o opens;
-      others = λ k ne. ap (option_map (cursor_of f.told)) (added_others cursors cursors' n o last grown k ne);
+      others = λ k ne. ap (option_map (cursor_of f.told)) (others k ne);
       unread = λ r is. absurd cc;
       asked = counted;
     };

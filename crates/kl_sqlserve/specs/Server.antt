@@ -7,7 +7,6 @@ use Rattle.kl_type.specs.Ground.{Ground, rec, row_by, ground_of}
 use Rattle.kl_type.specs.declared.ground.Ty.{Ty, Ty-F, out-Ty}
 use Rattle.kl_outside.specs.Files.{FilesState}
 use Rattle.kl_ask.specs.Asks.{item_of, shown_type}
-use Rattle.kl_ask.specs.Cursors.{open_at}
 use Rattle.kl_ask.specs.Driver.{State, DriverKind, Stored, Missing, Bad, Long, Deep, Rows, Cursor}
 use Rattle.kl_ask.specs.Named.{source_named}
 use Rattle.kl_ask.specs.declared.ask.Ask.{Ask}
@@ -83,11 +82,15 @@ cursor_of told o = record { ask = ask_of o; ty = type_of o; left = told_only tol
 
 -- ---- the server
 
-abbrev pub sql_state : FilesState → Sources → List (Option Open) → List (Ask × ℕ) → ℕ → ℕ → State
+-- open cursors by their numbers
+abbrev pub Cursors : Type 0
+Cursors = ℕ → Option Open
+
+abbrev pub sql_state : FilesState → Sources → Cursors → List (Ask × ℕ) → ℕ → ℕ → State
 sql_state files sources cursors asked handed unread = record {
   kind = sql_kind files.told;
   attached = λ name. option_map (attached_of files.told) (source_named sources name);
-  cursors = λ k. option_map (cursor_of files.told) (open_at cursors k);
+  cursors = λ k. option_map (cursor_of files.told) (cursors k);
   file = λ k. None;
   read = λ n. None;
   asked = asked;

@@ -6,6 +6,7 @@ ghost use Rattle.kl_ask.specs.declared.ask.Ask.TheVariants as asks;
 ghost use Rattle.kl_outside.specs.Files.{NoneOpen};
 ghost use Rattle.kl_sqlserve.specs.Hands.{HandsRows};
 ghost use Rattle.kl_sqlserve.specs.Server.{fresh_state, sql_state};
+ghost use Rattle.slab.specs.Slab.{get};
 
 use crate::asking::is_served;
 use crate::attaching::add_source;
@@ -13,12 +14,13 @@ use crate::fitting::ask_for;
 use crate::handing::hand_joined;
 use crate::joined::Open;
 use crate::opening::{find, open_asked};
-use kl_ask::{Abilities, Ask, Driver, DriverError, close_cursor, count_ask, sum_asked, unread_by};
+use kl_ask::{Abilities, Ask, Driver, DriverError, count_ask, sum_asked, unread_by};
 use kl_base::{Label, NoMemory, Text};
 use kl_flat::{Source, hand_next, table_of_file};
 use kl_outside::Files;
 use kl_type::Ty;
 use kl_value::Value;
+use slab::Slab;
 use std::alloc::Global;
 use std::collections::HashMap;
 
@@ -33,7 +35,7 @@ pub struct SqlServer<F: Files + Drop> {
     alloc: Global,
     files: F,
     sources: HashMap<Label, Source>,
-    cursors: Vec<Option<Open>>,
+    cursors: Slab<Open>,
     asked: Vec<(Ask, u64)>,
     handed: u64,
     unread: u64,
@@ -50,7 +52,7 @@ impl<F: Files + Drop> SqlServer<F> {
             alloc,
             files,
             sources: HashMap::new(alloc),
-            cursors: Vec::new(alloc),
+            cursors: Slab::new(alloc),
             asked: Vec::new(alloc),
             handed: 0,
             unread: 0,
@@ -80,7 +82,7 @@ impl<F: Files + Drop> SqlServer<F> {
 }
 
 impl<F: Files + Drop> Driver for SqlServer<F> {
-    ghost state = { λ d. sql_state (F.state d.files) d.sources d.cursors.items d.asked.items d.handed d.unread };
+    ghost state = { λ d. sql_state (F.state d.files) d.sources (get d.cursors) d.asked.items d.handed d.unread };
 
     fn name(&self) -> &[u8] {
         b"sql"
@@ -110,21 +112,15 @@ impl<F: Files + Drop> Driver for SqlServer<F> {
     }
 
     fn start(&mut self, ask: &Ask) -> Result<u64, DriverError> {
-        let cursor = self.cursors.len();
+        self.cursors.reserve(1)?;
         let open = open_asked(self.alloc, &self.sources, ask)?;
-        self.cursors.push(Some(open))?;
-        match count_ask(self.alloc, &mut self.asked, ask) {
-            Ok(()) => Ok(cursor as u64),
-            Err(NoMemory) => {
-                self.cursors.truncate(cursor);
-                Err(DriverError::NoMemory)
-            }
-        }
+        count_ask(self.alloc, &mut self.asked, ask)?;
+        Ok(self.cursors.insert_reserved(open) as u64)
     }
 
     fn pull(&mut self, cursor: u64, most: u32, into: &mut Vec<Value>) -> Result<bool, DriverError> {
         let cursor = cursor as usize;
-        let Some(open) = &mut self.cursors[cursor] else {
+        let Some(open) = self.cursors.get_mut(cursor) else {
             unreachable!()
         };
         match hand(self.alloc, open, most, into) {
@@ -133,14 +129,14 @@ impl<F: Files + Drop> Driver for SqlServer<F> {
                 Ok(count > 0)
             }
             Err(NoMemory) => {
-                close_cursor(&mut self.cursors, cursor);
+                self.cursors.remove(cursor);
                 Err(DriverError::NoMemory)
             }
         }
     }
 
     fn finish(&mut self, cursor: u64) {
-        close_cursor(&mut self.cursors, cursor as usize);
+        self.cursors.remove(cursor as usize);
     }
 
     fn starts(&self) -> u64 {

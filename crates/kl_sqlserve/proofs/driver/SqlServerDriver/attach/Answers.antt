@@ -1,4 +1,5 @@
-use Rattle.std.proofs.Common.{Ok, Err, [], rules, refl, subst}
+use Rattle.std.proofs.Common.{Ok, Err, None, [], rules, refl, subst}
+use Rattle.slab.specs.Slab.{get}
 use Rattle.kl_flat.specs.Attaching.{ReadsRows}
 use Rattle.kl_flat.specs.ColumnTable.{rows_of}
 use Rattle.kl_flat.proofs.Attaching.{attach_refused, read_rows_fit}
@@ -14,14 +15,14 @@ returns-in-Err g c =
     let f' = g.F.Files.state c.table_of_file.new.files in
     let read = subst (λ path. ReadsRows path c.args.ty.now (Err c.in-Err.error) f f') c.slice.ensures c.in-Err.ensures in
     refused c.args.source.now c.args.locator.now c.args.ty.now f f' c.args.self.now.sources c.args.self.now.sources _ _ _ c.in-Err.error c.args.self.now.unread _ read.reads.told (λ name. refl)
-    (attach_refused c.args.source.now c.args.locator.now c.args.ty.now f f' c.args.self.now.sources [] [] 0 c.args.self.now.unread c.in-Err.error _ read c.unread_by-self.ensures (search rules))
+    (attach_refused c.args.source.now c.args.locator.now c.args.ty.now f f' c.args.self.now.sources (λ k. None) [] 0 c.args.self.now.unread c.in-Err.error _ read c.unread_by-self.ensures (search rules))
 
 pub returns-in_err-add_source-in-Ok : goal.returns-in_err-add_source-in-Ok
 returns-in_err-add_source-in-Ok g c =
     let f = g.F.Files.state c.args.self.now.files in
     let f' = g.F.Files.state c.table_of_file.new.files in
     let read = subst (λ path. ReadsRows path c.args.ty.now (Ok (rows_of c.in-Ok.table)) f f') c.slice.ensures c.in-Ok.ensures in
-    stopped c.args.source.now c.args.locator.now c.args.ty.now f f' c.args.self.now.sources c.add_source.new.sources c.args.self.now.cursors.items c.args.self.now.asked.items c.args.self.now.handed (rows_of c.in-Ok.table) c.from_residual.result c.args.self.now.unread read c.in_err-add_source-in-Ok.ensures.refused (search rules)
+    stopped c.args.source.now c.args.locator.now c.args.ty.now f f' c.args.self.now.sources c.add_source.new.sources (get c.args.self.now.cursors) c.args.self.now.asked.items c.args.self.now.handed (rows_of c.in-Ok.table) c.from_residual.result c.args.self.now.unread read c.in_err-add_source-in-Ok.ensures.refused (search rules)
 
 pub returns-in_ok-add_source-in-Ok : goal.returns-in_ok-add_source-in-Ok
 returns-in_ok-add_source-in-Ok g c =

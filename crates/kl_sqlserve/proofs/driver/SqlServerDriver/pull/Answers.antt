@@ -1,18 +1,21 @@
-use Rattle.std.proofs.Common.{◌≡◌, ◌<◌, Some, rules, refl, length, slice_get}
-use Rattle.std.proofs.lemmas.Option.{slice_get_read}
-use Rattle.kl_ask.proofs.Opened.{is_within}
-use Rattle.kl_sqlserve.specs.Server.{cursor_of}
+use Rattle.std.proofs.Common.{◌≡◌, Some, IsSome, rules, sym, subst, refl, ◌∙◌}
+use Rattle.slab.specs.Slab.{get, with_value}
+use Rattle.slab.proofs.SlabLemmas.{Updates-with_value}
 use Rattle.kl_sqlserve.proofs.Pulls.{pull_done, pull_stopped}
 use Rattle.kl_sqlserve.proofs.driver.SqlServerDriver.pull.Goals as goal
 
 pub returns-in-Ok : goal.returns-in-Ok
 returns-in-Ok g c =
-    let f = g.F.Files.state c.args.self.now.files in
-    let cursors = c.args.self.now.cursors.items in
-    let within : c.args.cursor < length cursors = is_within (cursor_of f.told) cursors _ c.requires.is_open in
-    let there : slice_get cursors c.args.cursor ≡ Some (Some c.in-Some.open) = slice_get_read cursors (length cursors) c.args.cursor (Some c.in-Some.open) refl within (search rules) in
-    pull_done f c.args.self.now.sources cursors _ _ _ _ _ c.args.cursor c.args.most c.in-Ok.count _ _ c.in-Some.open c.hand.new.cursor there refl c.in-Ok.ensures.handed c.saturating_add-self.ensures (search rules) c.requires.room
+    let cursors = c.args.self.now.cursors in
+    let here : get cursors c.args.cursor ≡ Some c.in-Some.open.now = sym c.in-Some.ensures.value in
+    let made = Updates-with_value cursors c.args.cursor c.hand.new.cursor (subst IsSome (sym here) refl) in
+    pull_done (g.F.Files.state c.args.self.now.files) c.args.self.now.sources (get cursors) (get (with_value cursors c.args.cursor c.hand.new.cursor)) _ _ _ _ c.args.cursor c.args.most c.in-Ok.count _ _ c.in-Some.open.now c.hand.new.cursor
+    here made.changed made.others c.in-Ok.ensures.handed c.saturating_add-self.ensures (search rules) c.requires.room
 
 pub returns-in-Err : goal.returns-in-Err
 returns-in-Err g c =
-    pull_stopped (g.F.Files.state c.args.self.now.files) c.args.self.now.sources c.args.self.now.cursors.items _ (Some c.hand.new.cursor) _ _ _ c.args.cursor c.args.most _ _ c.close_cursor.ensures.closed c.close_cursor.ensures.others c.in-Err.ensures.refused
+    let cursors = c.args.self.now.cursors in
+    let here : get cursors c.args.cursor ≡ Some c.in-Some.open.now = sym c.in-Some.ensures.value in
+    let made = Updates-with_value cursors c.args.cursor c.hand.new.cursor (subst IsSome (sym here) refl) in
+    let gone = c.remove.ensures.updates in
+    pull_stopped (g.F.Files.state c.args.self.now.files) c.args.self.now.sources (get cursors) (get c.remove.new.self) _ _ _ c.args.cursor c.args.most _ _ gone.changed (λ k ne. gone.others k ne ∙ made.others k ne) c.in-Err.ensures.refused
