@@ -1,5 +1,5 @@
 -- Runs of plans without subqueries, in which nothing was done yet.
-use Rattle.std.proofs.Common.{◌≡◌, ◌<◌, ℕ, zero, suc, nat_eq, List, [], ◌∷◌, map, Some, slice_get, sym, subst, arith}
+use Rattle.std.proofs.Common.{◌≡◌, ◌<◌, ℕ, zero, suc, nat_eq, List, [], map, Some, slice_get, sym, ap, subst, ◌∙◌, arith}
 use Rattle.std.specs.List.{Contains, IsDistinct}
 use Rattle.kl_ask.specs.World.{World, IsReady}
 use Rattle.kl_ask.specs.declared.session.Attached.{Attached}
@@ -26,14 +26,13 @@ run_ready p w none ready block = record {
   right = tt;
 }
 
-none_attached : (ss : List Attached) (i : ℕ) (a : Attached) → ss ≡ [] → slice_get ss i ≡ Some a → ⊥
-none_attached [] zero a h e = cc
-none_attached [] (suc i) a h e = cc
-none_attached (s ∷ ss) i a h e = cc
+none_attached : (i : ℕ) (a : Attached) → slice_get {A = Attached} [] i ≡ Some a → ⊥
+none_attached zero a e = cc
+none_attached (suc i) a e = cc
 
 -- a session without sources
 pub bare_ready : (w : World) → w.sources ≡ [] → 0 < w.settings.fetch → IsReady w
 bare_ready w none fetch = record {
   fetch = fetch;
-  listed = λ i a s at is. absurd (none_attached w.sources i a none at);
+  listed = λ i a s at is. absurd (none_attached i a (ap (λ ss. slice_get ss i) (sym none) ∙ at));
 }

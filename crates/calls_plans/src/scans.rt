@@ -6,8 +6,7 @@ ghost use Rattle.kl_ask.specs.World.{IsReady};
 ghost use Rattle.kl_ask.specs.declared.ask.Ask.TheVariants as asks;
 ghost use Rattle.kl_outside.specs.Files.{NoneOpen};
 ghost use Rattle.kl_outside.specs.Memory.{files_state};
-ghost use Rattle.kl_plan.specs.Nodes.{Node, view};
-ghost use Rattle.kl_plan.specs.Parts.{memos_of};
+ghost use Rattle.kl_plan.specs.Nodes.{Node};
 ghost use Rattle.kl_run.specs.Running.{fresh_run};
 ghost use Rattle.kl_scans.specs.Right.{IsReadyRun};
 ghost use Rattle.kl_scans.specs.Scans.{CanScan};
@@ -176,21 +175,7 @@ fn scans<'p>(alloc: Global, run: &mut Run<'p>, scan: &Scan) -> bool
     may_repeat && reads(alloc, run, scan) && is_counted(run)
 }
 
-// A plan without subqueries.
-fn variable() -> Plan
-    ensures { memos_of (view result) ≡ [] }
-{
-    Plan::Var(0)
-}
-
-fn is_scanned(
-    alloc: Global,
-    driver: HeapBox<dyn Driver>,
-    ty: Ty,
-    scan: &Scan,
-    plan: &Plan,
-) -> Result<bool, Fail>
-    requires plan { memos_of (view plan.now) ≡ [] }
+fn is_scanned(alloc: Global, driver: HeapBox<dyn Driver>, ty: Ty, scan: &Scan) -> Result<bool, Fail>
     requires attached { HoldsNumbers (state driver) scan.now.source ty }
     requires ty { ground_of ty ≡ coll kind.List int }
     requires driver { scan.now.driver ≡ 0 }
@@ -198,8 +183,19 @@ fn is_scanned(
 {
     let session = session(alloc, driver, ty, scan)?;
     let memo = memo_for(alloc, &session.settings)?;
-    let mut run = run_of(session, memo, plan);
+    let plan = Plan::Var(0);
+    let mut run = run_of(session, memo, &plan);
     Ok(scans(alloc, &mut run, scan))
+}
+
+#[test]
+fn a_source_is_scanned(rt: HostRuntime) -> Result<(), Fail> {
+    let scan = scan(rt.alloc())?;
+    let ty = list_type(rt.alloc())?;
+    let driver = attached(rt.alloc(), &scan.source, &ty)?;
+    let boxed = boxed(rt.alloc(), driver)?;
+    assert!(rt; is_scanned(rt.alloc(), boxed, ty, &scan)?);
+    Ok(())
 }
 
 // Whether it is told what a plan asks of these drivers.

@@ -1,7 +1,6 @@
 //! What a case says.
 
 use anyhow::{Result, bail, ensure};
-use kl_ask::JoinRun;
 use kl_value::{Label, Text, Value};
 use std::alloc::Global;
 
@@ -13,7 +12,6 @@ use std::alloc::Global;
 /// - `status`: how the call ends, 0 if it is left out.
 /// - `out` and `err`: what they took, nothing if it is left out. `front` in place of `out`: of what `out` took this is
 ///   the page, and it took a front of it.
-/// - `joins`: the executions of joins that the trace tells, a list of records `[join=0, outer=7, starts=3]`; any if it is left out.
 /// - `piece`: how many bytes of a piece `out` and `err` take at most; all if it is left out.
 /// - `files_fail`, `flat_fails`, `nested_fails`, `sql_fails`, `out_fails`, `err_fails`: lists of the calls that fail,
 ///   counted from 1. The drivers of tables, of files of values and of SQL read the same files, but each counts its own
@@ -45,19 +43,11 @@ pub struct Wanted {
     pub status: i64,
     pub out: Took,
     pub err: Took,
-    pub joins: Option<Vec<JoinRun>>,
 }
 
 impl Wanted {
-    pub fn fits(&self, status: i64, joins: &[JoinRun], out: &[u8], err: &[u8]) -> bool {
-        status == self.status && self.fits_joins(joins) && self.out.fits(out) && self.err.fits(err)
-    }
-
-    fn fits_joins(&self, joins: &[JoinRun]) -> bool {
-        match &self.joins {
-            Some(wanted) => wanted.as_slice() == joins,
-            None => true,
-        }
+    pub fn fits(&self, status: i64, out: &[u8], err: &[u8]) -> bool {
+        status == self.status && self.out.fits(out) && self.err.fits(err)
     }
 }
 
@@ -107,7 +97,7 @@ pub enum Side {
 }
 
 // The fields of a case.
-const LABELS: [&[u8]; 16] = [
+const LABELS: [&[u8]; 15] = [
     b"shows",
     b"words",
     b"files",
@@ -115,7 +105,6 @@ const LABELS: [&[u8]; 16] = [
     b"out",
     b"front",
     b"err",
-    b"joins",
     b"piece",
     b"files_fail",
     b"flat_fails",
@@ -179,39 +168,7 @@ fn read_wanted(alloc: Global, fields: &[(Label, Value)]) -> Result<Wanted> {
         Some(page) => Took::Front(read_text(alloc, page)?),
         None => Took::All(text_at(alloc, fields, b"out")?),
     };
-    let joins = match find(fields, b"joins") {
-        Some(joins) => Some(read_joins(alloc, read_items(joins)?)?),
-        None => None,
-    };
-    Ok(Wanted {
-        status,
-        out,
-        err,
-        joins,
-    })
-}
-
-fn read_joins(alloc: Global, items: &[Value]) -> Result<Vec<JoinRun>> {
-    let mut joins = Vec::new(alloc);
-    for item in items {
-        joins.push(read_join(read_fields(item)?)?)?;
-    }
-    Ok(joins)
-}
-
-fn read_join(fields: &[(Label, Value)]) -> Result<JoinRun> {
-    let (Some(join), Some(outer), Some(starts)) = (
-        find(fields, b"join"),
-        find(fields, b"outer"),
-        find(fields, b"starts"),
-    ) else {
-        bail!("the number of a join, its outer rows and its starts are wanted");
-    };
-    Ok(JoinRun {
-        join: u32::try_from(read_int(join)?)?,
-        outer: u64::try_from(read_int(outer)?)?,
-        starts: u64::try_from(read_int(starts)?)?,
-    })
+    Ok(Wanted { status, out, err })
 }
 
 fn read_piece(fields: &[(Label, Value)]) -> Result<usize> {

@@ -7,7 +7,7 @@ ghost use Rattle.kl_outside.specs.Memory.{files_state};
 use crate::case::{Case, Side, read_case};
 use crate::pieces::Pieces;
 use anyhow::{Context, Result};
-use kl_ask::{Driver, JoinRun};
+use kl_ask::Driver;
 use kl_engine::{add_driver, kleisli};
 use kl_exchange::print;
 use kl_flat::FlatDriver;
@@ -78,7 +78,6 @@ fn try_over(
         case,
         call,
         status,
-        answer.trace.joins.slice(),
         out.sink.bytes(),
         err.sink.bytes(),
     )
@@ -90,14 +89,13 @@ fn differs(
     case: &Case,
     call: u64,
     status: i64,
-    joins: &[JoinRun],
     out: &[u8],
     err: &[u8],
 ) -> Result<Option<Vec<u8>>> {
-    if case.wanted.fits(status, joins, out, err) {
+    if case.wanted.fits(status, out, err) {
         Ok(None)
     } else {
-        Ok(Some(line_of(alloc, case, call, status, joins, out, err)?))
+        Ok(Some(line_of(alloc, case, call, status, out, err)?))
     }
 }
 
@@ -143,7 +141,6 @@ fn line_of(
     case: &Case,
     call: u64,
     status: i64,
-    joins: &[JoinRun],
     out: &[u8],
     err: &[u8],
 ) -> Result<Vec<u8>> {
@@ -154,13 +151,6 @@ fn line_of(
     put_text(alloc, &mut line, out)?;
     put(&mut line, b", err ")?;
     put_text(alloc, &mut line, err)?;
-    'joins: for it in joins {
-        let entry = format!(in alloc;
-            ", join {} outer {} starts {}",
-            it.join, it.outer, it.starts
-        )?;
-        put(&mut line, entry.as_bytes())?;
-    }
     put(&mut line, b"\n")?;
     Ok(Vec::from_slice(alloc, line.bytes())?)
 }

@@ -1,4 +1,4 @@
--- What `reached` sums, as a list: the scans, joins and memos of a plan in the order in which its meaning comes to them.
+-- The same as a list, in the order in which the meaning of a plan comes to its scans, joins and memos.
 use Rattle.std.specs.Prelude.{ℕ, ◌+◌, Bool, true, List, [], ◌∷◌, ◌++◌, Option, Some, None, cond, nat_eq}
 use Rattle.std.specs.List.{flat_map}
 use Rattle.std.specs.Cmp.Lexicographic.{pointwise}

@@ -13,6 +13,7 @@ use Rattle.kl_eval.specs.declared.stop.EvalStop.{EvalStop}
 use Rattle.kl_eval.specs.declared.stop.EvalStop.TheVariants as why
 use Rattle.kl_eval.specs.declared.stop.Halt.{Halt}
 use Rattle.kl_eval.specs.declared.stop.Halt.TheVariants as halt
+use Rattle.kl_plan.specs.declared.plan.Scan.{Scan}
 use Rattle.kl_plan.specs.Holding.{PartsIn, Listing}
 use Rattle.kl_plan.specs.Meaning.{one, worth, plan}
 use Rattle.kl_plan.specs.Nodes.{Node}

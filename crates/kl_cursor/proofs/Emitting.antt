@@ -12,6 +12,7 @@ use Rattle.kl_eval.specs.declared.stop.EvalStop.TheVariants as why
 use Rattle.kl_eval.specs.declared.stop.Halt.{Halt}
 use Rattle.kl_eval.specs.declared.stop.Halt.TheVariants as halt
 use Rattle.kl_plan.specs.Alike.{harm}
+use Rattle.kl_plan.specs.declared.plan.Scan.{Scan}
 use Rattle.kl_plan.specs.Meaning.{coming, plan}
 use Rattle.kl_plan.specs.Nodes.{Node}
 use Rattle.kl_plan.specs.Holding.{Listing}

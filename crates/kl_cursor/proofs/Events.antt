@@ -1,5 +1,6 @@
 -- Events of known scans.
 use Rattle.std.proofs.Common.{◌≡◌, List, [], ◌∷◌, ◌++◌, sym, subst}
+use Rattle.kl_plan.specs.declared.plan.Scan.{Scan}
 use Rattle.kl_plan.specs.Holding.{Listing}
 use Rattle.kl_scans.specs.Log.{Event}
 use Rattle.kl_cursor.specs.Steps.{AreOf}

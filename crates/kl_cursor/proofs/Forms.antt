@@ -10,6 +10,7 @@ use Rattle.kl_scans.specs.Running.{Running}
 use Rattle.kl_eval.specs.declared.stop.EvalStop.{EvalStop}
 use Rattle.kl_eval.specs.declared.stop.EvalStop.TheVariants as why
 use Rattle.kl_plan.specs.Alike.{harm}
+use Rattle.kl_plan.specs.declared.plan.Scan.{Scan}
 use Rattle.kl_plan.specs.Nodes.{Node}
 use Rattle.kl_plan.specs.Meaning.{coming, plan}
 use Rattle.kl_plan.specs.Prices.{Prices}

@@ -1,6 +1,8 @@
 -- Memos, from what the code has.
-use Rattle.std.proofs.Common.{◌≡◌, ℕ, ◌+◌, ◌≤◌, Bool, true, false, List, Result, Ok, Err, refl, sym, ap, subst, ◌∙◌, rules, arith, IfOk}
+use Rattle.std.proofs.Common.{◌≡◌, ◌⊎◌, ℕ, ◌+◌, ◌≤◌, Bool, true, false, List, Option, Some, None, Result, Ok, Err, refl, sym, ap, subst, ◌∙◌, rules, arith, IfOk}
+use Rattle.std.specs.Prelude.{⊤}
 use Rattle.std.specs.List.{Contains}
+use Rattle.kl_base.specs.declared.memory.NoMemory.{NoMemory}
 use Rattle.kl_value.specs.Views.{IsCollection}
 use Rattle.kl_value.specs.declared.Value.{Value}
 use Rattle.kl_outcome.specs.Outcome.{done}
@@ -14,7 +16,7 @@ use Rattle.kl_plan.specs.declared.plan.Plan.{Plan, the_lemmas}
 use Rattle.kl_plan.specs.declared.plan.Plan.TheVariants as plans
 use Rattle.kl_plan.specs.Nodes as node
 use Rattle.kl_plan.specs.Nodes.{Node, view}
-use Rattle.kl_plan.specs.Subqueries.{Subquery, values_at}
+use Rattle.kl_plan.specs.Subqueries.{Subquery, values_at, Covers}
 use Rattle.kl_scans.specs.Over.{Recalls, MayKeep, Keeps}
 use Rattle.kl_scans.specs.Running.{Running}
 use Rattle.kl_scans.specs.Same.{same_subquery}
@@ -23,7 +25,7 @@ use Rattle.kl_scans.specs.Held.{nothing}
 use Rattle.kl_cursor.specs.declared.state.State.{State}
 use Rattle.kl_cursor.specs.Gathering.{Gathered}
 use Rattle.kl_cursor.specs.Laziness.{BeginsLazily}
-use Rattle.kl_cursor.specs.Left.{fresh, snap}
+use Rattle.kl_cursor.specs.Left.{Snap, fresh, snap}
 use Rattle.kl_cursor.specs.Measure.{tall}
 use Rattle.kl_cursor.specs.Memos.{KeepsCopy, Misses, Fills}
 use Rattle.kl_cursor.specs.Sense.{HasWorth, HasItems}
@@ -31,8 +33,8 @@ use Rattle.kl_cursor.specs.Steps.{ComesTo, Wholly, Emits, AddsWhole}
 use Rattle.kl_cursor.proofs.Comings.{answers, whole_as, worth_as}
 use Rattle.kl_cursor.proofs.EmitCode.{emit_whole}
 use Rattle.kl_cursor.proofs.LazyCode.{other_spares}
-use Rattle.kl_cursor.proofs.Recalling.{memo_comes_one, memo_sense, hit_comes, may_keep, miss_comes, miss_lost, part_stopped}
-use Rattle.kl_cursor.proofs.Whole.{ComesOne, items_worth, whole_collection}
+use Rattle.kl_cursor.proofs.Recalling.{memo_comes_one, memo_sense, memo_covers, hit_comes, may_keep, miss_comes, miss_lost, part_stopped}
+use Rattle.kl_cursor.proofs.Whole.{ComesOne, spare, items_worth, whole_collection}
 
 -- ---- the plan of a memo
 

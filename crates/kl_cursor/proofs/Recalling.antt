@@ -1,39 +1,46 @@
 -- Values of memos: from what is kept, or from their parts, whose values are kept then.
-use Rattle.std.proofs.Common.{◌≡◌, ℕ, ◌+◌, true, false, List, [], map, length, nat_eq, Err, refl, sym, ap, subst, ◌∙◌, arith}
-use Rattle.std.specs.List.{Contains, IsDistinct}
+use Rattle.std.proofs.Common.{◌≡◌, ℕ, ◌+◌, ◌<◌, Bool, true, false, List, [], ◌∷◌, ◌++◌, map, length, get_or, slice_get, nat_eq, Option, Some, None, Result, Ok, Err, refl, sym, ap, subst, ◌∙◌, arith}
+use Rattle.std.specs.Prelude.{⊤}
+use Rattle.std.specs.List.{AllByRecursion, Contains, IsDistinct}
 use Rattle.std.proofs.lemmas.List.Elements.{All-contains, All-from_recursion}
+use Rattle.kl_base.specs.declared.memory.NoMemory.{NoMemory}
+use Rattle.kl_value.specs.declared.Kind.{Kind}
 use Rattle.kl_value.specs.declared.Value.{Value}
-use Rattle.kl_type.specs.Ground.{Ground}
-use Rattle.kl_outcome.specs.Outcome.{done, items_of}
+use Rattle.kl_type.specs.Ground.{Ground, coll}
+use Rattle.kl_outcome.specs.Outcome.{Outcome, done, over, items_of, collected}
+use Rattle.kl_outcome.specs.Typed.{Inhabits, HaveTypes, OfType}
 use Rattle.kl_outcome.proofs.Drawing.{collected_again}
 use Rattle.kl_eval.specs.declared.stop.Halt.{Halt}
 use Rattle.kl_eval.specs.declared.stop.Halt.TheVariants as halt
 use Rattle.kl_lookups.specs.Lookups.{has}
-use Rattle.kl_plan.specs.Holding.{PartsIn}
-use Rattle.kl_plan.specs.Meaning.{Come, one, many, coming, worth, come_kept, plan}
+use Rattle.kl_plan.specs.Holding.{Listing, PartsIn}
+use Rattle.kl_plan.specs.Meaning.{Come, one, many, coming, worth, come_kept, plan, Readings}
 use Rattle.kl_plan.specs.Nodes as node
 use Rattle.kl_plan.specs.Nodes.{Node}
-use Rattle.kl_plan.specs.Numbers.{scans_in}
+use Rattle.kl_plan.specs.Numbers.{memos_in, scans_in}
 use Rattle.kl_plan.specs.Occurs.{frees_in}
 use Rattle.kl_plan.specs.Parts.{joins_of}
-use Rattle.kl_plan.specs.Subqueries.{values_at, Covers}
+use Rattle.kl_plan.specs.Prices.{Prices}
+use Rattle.kl_plan.specs.Subqueries.{Subquery, Memo, values_at, Covers}
+use Rattle.kl_plan.specs.Typing.{PlanTypes}
 use Rattle.kl_plan.proofs.Agree.{plan_agrees}
 use Rattle.kl_plan.proofs.AgreeTypes.{plan_types_agree}
 use Rattle.kl_plan.proofs.Frees.{frees_covered}
 use Rattle.kl_plan.proofs.Holding.{parts_without_memos}
 use Rattle.kl_scans.specs.Held.{nothing}
-use Rattle.kl_scans.specs.Log.{missed, hit, paid}
-use Rattle.kl_scans.specs.Over.{Did, Recalls, MayKeep}
+use Rattle.kl_scans.specs.Log.{Event, started, handed, joined, missed, hit, IsOf, Leaves, paid}
+use Rattle.kl_scans.specs.Moves.{Moves}
+use Rattle.kl_scans.specs.Over.{Did, Recalls, MayKeep, Keeps}
 use Rattle.kl_scans.specs.Right.{IsRight, IsRightFor, AreRight, IsReadyRun}
 use Rattle.kl_scans.specs.Running.{Running}
 use Rattle.kl_scans.specs.Same.{same_subquery}
-use Rattle.kl_scans.specs.Stage.{stage, readings, ScanOf, MemoOf}
+use Rattle.kl_scans.specs.Stage.{Stage, stage, readings, ScanOf, MemoOf, IsTold}
 use Rattle.kl_scans.proofs.Kept.{right_for}
 use Rattle.kl_scans.proofs.Looks.{leaves_same, no_looks}
 use Rattle.kl_scans.proofs.Moving.{moves_then, stage_stays, ready_stays, paid_then}
 use Rattle.kl_cursor.specs.Left.{reading, cost}
-use Rattle.kl_cursor.specs.Sense.{HasWorth}
-use Rattle.kl_cursor.specs.Steps.{AreOf, ComesTo, Wholly}
+use Rattle.kl_cursor.specs.Sense.{TypesAt, IsToldAt, HasWorth}
+use Rattle.kl_cursor.specs.Steps.{AreOf, ComesTo, Wholly, Fails}
 use Rattle.kl_cursor.proofs.Whole.{ComesOne}
 use Rattle.kl_cursor.proofs.Events.{of_then}
 use Rattle.kl_cursor.proofs.Refusals.{halts_at}

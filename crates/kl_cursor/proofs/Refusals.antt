@@ -1,7 +1,9 @@
 -- Drivers that refuse to go on with a scan, through the forms in which it stands.
+use Rattle.std.proofs.Common.{List}
 use Rattle.kl_outcome.specs.Outcome.{Name}
 use Rattle.kl_scans.specs.Running.{Running}
 use Rattle.kl_ask.specs.declared.DriverError.{DriverError}
+use Rattle.kl_plan.specs.declared.plan.Scan.{Scan}
 use Rattle.kl_plan.specs.Holding.{Listing}
 use Rattle.kl_scans.specs.Held.{Uses}
 use Rattle.kl_scans.specs.Moves.{Moves}

@@ -1,5 +1,5 @@
 -- All items that are left, and the collection of them.
-use Rattle.std.proofs.Common.{◌≡◌, ◌⊎◌, ⊎_elim, inl, inr, List, [], ◌∷◌, ◌++◌, Result, Vec, Ok, Err, refl, sym, ap, subst, ◌∙◌, arith}
+use Rattle.std.proofs.Common.{◌≡◌, ◌⊎◌, ⊎_elim, inl, inr, ◌≤◌, List, [], ◌∷◌, ◌++◌, Result, Vec, Ok, Err, refl, sym, ap, subst, ◌∙◌, arith}
 use Rattle.std.specs.List.{AllByRecursion}
 use Rattle.std.specs.declared.alloc.Global.{Global}
 use Rattle.kl_value.specs.declared.Kind.{Kind}
@@ -20,14 +20,17 @@ use Rattle.kl_plan.specs.Nodes as node
 use Rattle.kl_plan.specs.Nodes.{Node, Nodes}
 use Rattle.kl_plan.proofs.Collections.{alike_same}
 use Rattle.kl_plan.proofs.Comings.{coming_typed}
+use Rattle.kl_plan.specs.Holding.{Listing}
 use Rattle.kl_scans.specs.Held.{nothing}
+use Rattle.kl_scans.specs.Moves.{Moves}
 use Rattle.kl_scans.proofs.Moving.{moves_none, moves_then, ready_stays, stage_stays}
 use Rattle.kl_scans.specs.Stage.{stage}
 use Rattle.kl_cursor.specs.Draining.{Draining}
 use Rattle.kl_cursor.specs.Left.{Snap, fresh, uses, left, reading, to_start, PartsLeft}
 use Rattle.kl_cursor.specs.Likeness.{Same}
-use Rattle.kl_cursor.specs.Sense.{TypesAt, IsToldAt, HasWorth, Stands}
-use Rattle.kl_cursor.specs.Steps.{Halts, Empties, Drains, ComesTo, Wholly, IsValue}
+use Rattle.kl_cursor.specs.Measure.{height}
+use Rattle.kl_cursor.specs.Sense.{Fits, TypesAt, IsToldAt, HasWorth, Stands}
+use Rattle.kl_cursor.specs.Steps.{AreOf, WhereTold, Counts, Halts, Empties, Drains, ComesTo, Wholly, IsValue}
 use Rattle.kl_cursor.proofs.Events.{of_then}
 use Rattle.kl_cursor.proofs.Forms.{told_on, paid_both}
 use Rattle.kl_cursor.proofs.Likes.{same_itself, same_on, same_followed, same_harm, same_alike}

@@ -29,6 +29,7 @@ use Rattle.kl_eval.specs.declared.stop.EvalStop.TheVariants as why
 use Rattle.kl_eval.specs.declared.stop.Halt.{Halt}
 use Rattle.kl_eval.specs.declared.stop.Halt.TheVariants as halt
 use Rattle.kl_plan.specs.declared.plan.Plan.{Plan}
+use Rattle.kl_plan.specs.declared.plan.Scan.{Scan}
 use Rattle.kl_plan.specs.Holding.{PartsIn, PartsInBranches}
 use Rattle.kl_plan.specs.Meaning.{one, worth, come_after, come_chosen, come_opened, no_tables, plan, plan_branches}
 use Rattle.kl_plan.specs.Nodes as node

@@ -21,6 +21,7 @@ use Rattle.kl_eval.specs.declared.stop.EvalStop.TheVariants as why
 use Rattle.kl_eval.specs.declared.stop.Halt.{Halt}
 use Rattle.kl_eval.specs.declared.stop.Halt.TheVariants as halt
 use Rattle.kl_plan.specs.Alike.{harm, weight}
+use Rattle.kl_plan.specs.declared.plan.Scan.{Scan}
 use Rattle.kl_plan.specs.declared.plan.Plan.{Plan}
 use Rattle.kl_plan.specs.Holding.{PartsIn, Listing}
 use Rattle.kl_plan.specs.Meaning.{Readings, coming, drawn_for, plan, worth}

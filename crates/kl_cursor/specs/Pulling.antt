@@ -1,7 +1,7 @@
 -- Which cursors may read on at a source. What was made of items is let go of before a source is waited for, and only then: so it is told
 -- beforehand whether the next step may wait for one. Where it may not, nothing is started and nothing handed. That this is so of rows
 -- that are at hand, though their loop gives no item of some of them, is told by the step itself (`AtHand`).
-use Rattle.std.specs.Prelude.{◌≡◌, Bool, true, false, ◌==◌, ◌&&◌, ◌||◌, not, [], length, Option, Some, None, Result, Ok, Err, ⊤}
+use Rattle.std.specs.Prelude.{◌≡◌, Bool, true, false, ◌==◌, ◌&&◌, ◌||◌, not, List, [], ◌∷◌, length, Option, Some, None, Result, Ok, Err, ⊤}
 use Rattle.kl_plan.specs.Nodes as node
 use Rattle.kl_plan.specs.Nodes.{Node, Nodes, no_nodes, nodes, Fields, no_fields, fields, Branches, no_branches, rest, branch}
 use Rattle.kl_value.specs.declared.Value.{Value}

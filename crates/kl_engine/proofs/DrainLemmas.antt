@@ -12,8 +12,7 @@ use Rattle.kl_cursor.specs.Left.{Snap, uses, PartsLeft}
 use Rattle.kl_cursor.specs.Steps.{Empties, Ends, Gives, Halts, Onward, Refused, StoppedAt, Stops}
 use Rattle.kl_cursor.proofs.Emitting.{ends_empties, gives_drains, onward_drains, stops_empties}
 use Rattle.kl_cursor.proofs.Refusals.{refused_then}
-use Rattle.kl_cursor.specs.Draining.{Draining}
-use Rattle.kl_cursor.proofs.ValueDrain.{drains_empties, drains_halts, drains_then}
+use Rattle.kl_cursor.proofs.ValueDrain.{Draining, drains_empties, drains_halts, drains_then}
 
 module _ (env : List Value) (s0 : Snap) (a : Running) (vs : List Value) (s : Snap) (b : Running) (d : Draining env s0 a vs s b) where
   pub drains_on : (v : Value) (t : Snap) (c : Running) → Gives env s b v t c → Draining env s0 a (vs ++ v ∷ []) t c

@@ -45,8 +45,7 @@ use Rattle.kl_cursor.proofs.Forms.{ends_then, gives_then, stops_then, told_on}
 use Rattle.kl_cursor.proofs.Handing.{handed_none, handed_still, handed_then}
 use Rattle.kl_cursor.proofs.Lazily.{spares_then}
 use Rattle.kl_cursor.proofs.LazyLaws.{Drawing as Along, drawing_goes, drawing_starts, lazy_frugal}
-use Rattle.kl_cursor.specs.Draining.{Draining}
-use Rattle.kl_cursor.proofs.ValueDrain.{drains_starts, drains_stands}
+use Rattle.kl_cursor.proofs.ValueDrain.{Draining, drains_starts, drains_stands}
 use Rattle.kl_run.specs.Running.{Runs}
 use Rattle.kl_engine.specs.Answering.{PrintsPage}
 use Rattle.kl_engine.specs.Faults.{Ending}

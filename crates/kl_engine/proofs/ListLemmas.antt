@@ -41,7 +41,7 @@ use Rattle.kl_scans.proofs.Moving.{moves_then}
 use Rattle.kl_cursor.specs.Left.{PartsLeft, Snap, fresh, uses, left, reading}
 use Rattle.kl_cursor.specs.Steps.{AreOf, Ends, Stops}
 use Rattle.kl_cursor.proofs.Events.{of_none, of_then}
-use Rattle.kl_cursor.specs.Draining.{Draining}
+use Rattle.kl_cursor.proofs.ValueDrain.{Draining}
 use Rattle.kl_run.specs.Running.{Runs}
 use Rattle.kl_engine.specs.Answering.{PrintsPage}
 use Rattle.kl_engine.specs.Faults.{Ending}

@@ -15,7 +15,7 @@ use Rattle.kl_ask.specs.declared.settings.Settings.{Settings}
 use Rattle.kl_sources.specs.Attaching.{RoseAt}
 use Rattle.kl_sources.specs.Sources.{kinds_of, names_of, grounds_of, contents}
 use Rattle.kl_sources.specs.declared.source.Source.{Source}
-use Rattle.kl_engine.specs.Commands.{Command, NoneNamed, Program, Show, Origin, Files, Made, Tell, TellTo}
+use Rattle.kl_engine.specs.Commands.{Command, NoneNamed, Program, Show, Upgrade, Origin, Files, Made, Tell, TellTo}
 use Rattle.kl_engine.specs.Faults.{Ending}
 use Rattle.kl_engine.specs.Outside.{Outside}
 use Rattle.kl_engine.specs.Reading.{IsProgramOf, definitions, last}
@@ -192,6 +192,14 @@ HasFault (Show path) (fault.BadFile place) = ⊤
 HasFault (Show path) fault.ItemNesting = ⊤
 HasFault (Show path) fault.FileBytes = ⊤
 HasFault (Show path) f = ⊥
+HasFault (Upgrade path type) fault.Write = ⊤
+HasFault (Upgrade path type) fault.NoMemory = ⊤
+HasFault (Upgrade path type) (fault.Type byte) = ⊤
+HasFault (Upgrade path type) fault.Nesting = ⊤
+HasFault (Upgrade path type) (fault.BadFile place) = ⊤
+HasFault (Upgrade path type) fault.ItemNesting = ⊤
+HasFault (Upgrade path type) fault.FileBytes = ⊤
+HasFault (Upgrade path type) f = ⊥
 
 -- a command ends well, or with one of these faults
 abbrev pub IsOneOf : (Fault → Type 0) → Ending → Type 0
@@ -287,6 +295,7 @@ OfRun command files ks P = ⊥
 -- nothing was printed before this end, where a run's program gives no list
 abbrev pub PrintsNothing : Command → FilesState → List DriverKind → Ending → Type 0
 PrintsNothing (Show path) files ks end = ⊥
+PrintsNothing (Upgrade path type) files ks end = ⊥
 PrintsNothing command files ks end = Unprinted (OfRun command files ks (λ text ss. IsOfList ss text)) end
 
 -- a driver tells that a source which the run's program mentions is missing

@@ -1,5 +1,5 @@
 -- What the private functions of `show` answer. No public contract cites this.
-use Rattle.std.specs.Prelude.{◌≡◌, ◌≢◌, ◌⊎◌, ℕ, ◌≤◌, Bool, true, false, List, [], Some, Result, IsOk, IsSome}
+use Rattle.std.specs.Prelude.{◌≡◌, ◌≢◌, ◌⊎◌, ℕ, ◌≤◌, Bool, true, false, List, [], Some, Result, Err, IsOk, IsSome}
 use Rattle.kl_exchange.specs.declared.error.FileError.{FileError}
 use Rattle.kl_exchange.specs.declared.error.FileError.TheVariants as error
 use Rattle.kl_exchange.specs.declared.error.PrintError.{PrintError}
@@ -12,10 +12,15 @@ use Rattle.kl_outside.specs.Files.{OtherFiles, IsMissing}
 use Rattle.kl_outside.specs.Sinks.{SinkState, WritesWhole, TookPart}
 use Rattle.kl_outside.specs.declared.stop.Stop.{Stop}
 use Rattle.kl_engine.specs.Answering.{IsDetermined, IsOneOf, HasFault}
-use Rattle.kl_engine.specs.Commands.{Show}
+use Rattle.kl_type.specs.Reading.{RefusesType}
+use Rattle.kl_type.specs.declared.TypeError.TheVariants as no_type
+use Rattle.kl_value.specs.declared.Value.{Value}
+use Rattle.kl_engine.specs.Commands.{Show, Upgrade}
+use Rattle.kl_engine.specs.declared.show.Form.{Form}
+use Rattle.kl_engine.specs.declared.show.Form.TheVariants as form
 use Rattle.kl_engine.specs.Faults.{Ending}
 use Rattle.kl_engine.specs.Outside.{Outside}
-use Rattle.kl_engine.specs.Verdict.{Verdict, IsFile, IsShowing}
+use Rattle.kl_engine.specs.Verdict.{Verdict, IsFile, IsShowing, IsUpgrading, item_line, value_line}
 use Rattle.kl_engine.specs.declared.fault.Fault.{Fault}
 use Rattle.kl_engine.specs.declared.fault.Fault.TheVariants as fault
 
@@ -50,6 +55,11 @@ pub record FollowsFile (v : Verdict) (end : Ending) (old new : Outside) : Type 0
   pub whole : end ≡ v.ending → new.out.taken ≡ append_known old.out.taken v.page
   pub part : TookPart v.page old.out new.out
 
+-- an item, listed so
+abbrev pub line_of : Form → Value → List ℕ
+line_of form.Values v = value_line v
+line_of form.Items v = item_line v
+
 -- the file at a path is shown
 pub record DoesShow (path : List ℕ) (end : Ending) (old new : Outside) : Type 0 where
   pub follows : (told : _) → old.files.told ≡ Some told → (v : Verdict) → IsFile IsShowing (told path) v → FollowsFile v end old new
@@ -57,6 +67,20 @@ pub record DoesShow (path : List ℕ) (end : Ending) (old new : Outside) : Type 
   pub read : end ≡ Some fault.Read → IsMissing old.files path ⊎ Rose old.files.faults new.files.faults
   pub write : end ≡ Some fault.Write → Rose old.out.faults new.out.faults
   pub no_other : IsOneOf (HasFault (Show path)) end
+  pub unfailed : (end ≡ Some fault.Read → ⊥) → new.files.faults ≡ old.files.faults
+  pub left : new.files.left ≡ old.files.left
+  pub told : new.files.told ≡ old.files.told
+
+-- the file at a path is upgraded to the type of this text
+pub record DoesUpgrade (path word : List ℕ) (end : Ending) (old new : Outside) : Type 0 where
+  pub follows : (told : _) → old.files.told ≡ Some told → (v : Verdict) → IsUpgrading word (told path) v → FollowsFile v end old new
+  pub meant : (told : _) → old.files.told ≡ Some told → IsDetermined end → (v : Verdict) × IsUpgrading word (told path) v × (v.ending ≡ end)
+  -- what is wrong with the type is told before a file is opened, and whether its bytes are told or not
+  pub no_type : (place : ℕ) → RefusesType word (Err (no_type.Bad place)) → IsOneOf (λ f. (f ≡ fault.Type place) ⊎ (f ≡ fault.NoMemory)) end
+      × (new.files ≡ old.files) × (new.out ≡ old.out)
+  pub read : end ≡ Some fault.Read → IsMissing old.files path ⊎ Rose old.files.faults new.files.faults
+  pub write : end ≡ Some fault.Write → Rose old.out.faults new.out.faults
+  pub no_other : IsOneOf (HasFault (Upgrade path word)) end
   pub unfailed : (end ≡ Some fault.Read → ⊥) → new.files.faults ≡ old.files.faults
   pub left : new.files.left ≡ old.files.left
   pub told : new.files.told ≡ old.files.told

@@ -18,7 +18,7 @@ use crate::explain::explain;
 use crate::fault::{Fault, status, tell};
 use crate::inputs::{Inputs, made_inputs, read_inputs};
 use crate::run::{How, Ran, run};
-use crate::show::show;
+use crate::show::{show, upgrade};
 use crate::stats::{rows_handed, tell_counts};
 use crate::types::types;
 use kl_ask::{Settings, Trace};
@@ -53,11 +53,13 @@ pub struct Answer {
 }
 
 /// Does what the words say, which are those of the command line without the program's name: `run`, `explain`, `types`,
-/// `check` and `show`, with the options that `kl_words` reads. `run PROGRAM [CATALOGUE]` prints on `out` the value that the
+/// `check`, `show` and `upgrade`, with the options that `kl_words` reads. `run PROGRAM [CATALOGUE]` prints on `out` the value that the
 /// program at the path means over the sources of the catalogue, and a newline. `explain` prints what the plan by which it
 /// would be run asks of the drivers, as `kl_tools` says; it attaches and reads no source. `types` prints the principal scheme of
 /// each of its declarations, a line each. `check` prints `ok` and a newline where the file is a program in scope. `show FILE` prints
-/// the canonical text of each item of the exchange text at the path, each with a newline, as it is read.
+/// the canonical text of each item of the exchange text at the path, each with a newline, as it is read. `upgrade FILE TYPE` prints
+/// `type T;` and a newline, and then the canonical text of each item, `;` and a newline, as it is read; what it prints of a whole file
+/// has, read again, the head T and the same items.
 ///
 /// The refusals come in this order: words, before anything is opened; the program's file, missing or failing, and its
 /// length; the same of the catalogue's; the catalogue's text; its entries in their order, of each first its name, then its
@@ -151,6 +153,10 @@ pub fn kleisli<F: Files, S: Sink, E: Sink>(
         }
         Ok(Command::Show { file }) => {
             let result = show(alloc, file.slice(), files, out);
+            end(result, file.slice(), false, ran, 0, err)
+        }
+        Ok(Command::Upgrade { file, ty }) => {
+            let result = upgrade(alloc, file.slice(), ty.slice(), files, out);
             end(result, file.slice(), false, ran, 0, err)
         }
         Ok(Command::Gen { seed, size }) => {

@@ -1,12 +1,12 @@
 -- What a reader of an open file has read, call by call.
 use Rattle.std.proofs.Common.{◌≡◌, inl, inr, ℕ, zero, suc, ◌+◌, ◌-◌, ◌<◌, ◌≤◌, nat_le, Bool, true, false, List, [], ◌∷◌, ◌++◌, length, take, min, Option, Some, None, Result, Ok, Err, IsErrOf, IsSome, refl, sym, ap, subst, ◌∙◌, arith, append_assoc, append-nil, length-append, length-take, take_all}
 use Rattle.std.proofs.Math.Seq.{take-append-add}
-use Rattle.std.specs.Prelude.{⊤}
+use Rattle.std.specs.Prelude.{⊤, OnErr}
 use Rattle.std.proofs.lemmas.Bool.{cases_eq, le-leb, lt-leb, false≢true}
 use Rattle.std.proofs.lemmas.List.{nil_from_length}
 use Rattle.std.proofs.lemmas.Option.{same_Some}
 use Rattle.kl_exchange.specs.FileItems.{Items, FileEnd, WholeText, BadAt, TooDeepAt, PastLimit, BeginsItem, reading, EndsIn, Shows}
-use Rattle.kl_exchange.specs.FileReading.{AsSeen, FileReading, Left, Remains, IsFetched, IsMetBy, IsRefusalOf, HasRead, HasSeen, EndsSo, Fetched, HeldOut, HandsOut, Leaves, Fetches, NextItem, SeesMore, Stands, end_to_come, to_come}
+use Rattle.kl_exchange.specs.FileReading.{AsSeen, FileReading, Left, Remains, IsFetched, IsMetBy, IsRefusalOf, HasRead, HasSeen, EndsSo, Fetched, FetchedPiece, HeldOut, HandsOut, Leaves, Fetches, FetchesPiece, MayGrow, NextItem, SeesMore, Stands, end_to_come, to_come}
 use Rattle.kl_exchange.specs.Fetching.{FetchesBehind}
 use Rattle.kl_exchange.specs.Grammar.{Blank, IsExchange, IsItem}
 use Rattle.kl_exchange.specs.Reading.{GivesItem, Waits, IsBad, IsDeep, ReadsNext}
@@ -292,7 +292,7 @@ consumed (Some (Some old)) (Some None) piece rest is known = absurd is
 consumed (Some (Some old)) None piece rest is known = absurd is
 
 -- what is fetched
-module _ (first : Left) (vs : List Value) (now : FileReading) (left left' : Left) (has : HasRead first vs now left) (waits : Waits now.text now.text) (unpast : now.past ≡ false) where
+module _ (first : Left) (vs : List Value) (now : FileReading) (left left' : Left) (has : HasRead first vs now left) (waits : MayGrow now.text) (unpast : now.past ≡ false) where
   pub has_fetched : (piece : List ℕ) → length piece ≤ now.limit - (now.text.place + length now.text.left) → Consumed left left' piece
       → HasRead first vs (record now { text = record now.text { left = now.text.left ++ piece } }) left'
   has_fetched piece few taken =
@@ -474,9 +474,9 @@ hands_out old result text reads total finished = record {
     falls (Ok item.End) gives v is = absurd cc
     falls (Err e) gives v is = absurd cc
 
--- `fetch`
+-- `fetch_piece`
 module _ (old : FileReading) (s t : FilesState) (told : t.told ≡ s.told) (others : OtherFiles old.file s t) (others_seen : OtherSeen old.file s t) (counts : t.faults ≡ s.faults)
-    (waits : Waits old.text old.text) (unpast : old.past ≡ false) where
+    (waits : MayGrow old.text) (unpast : old.past ≡ false) where
   leaves : (r : Result (Unit {0}) FileError) (piece : List ℕ) → Consumed (s.left old.file) (t.left old.file) piece → seen_in t old.file ≡ option_map (seen_then piece) (seen_in s old.file)
       → (IsErrOf r fault.Read → ⊥) → Leaves old.file r s t
   leaves r piece taken seen well = record {
@@ -500,10 +500,13 @@ module _ (old : FileReading) (s t : FilesState) (told : t.told ≡ s.told) (othe
       (λ q so. (goes q (widened q.bytes piece vs old so.0 waits.unfinished), meets q (read_so_much q.bytes vs old so.0 unpast)))
 
   pub fetches_end : Consumed (s.left old.file) (t.left old.file) [] → IsAtEnd (s.left old.file) → seen_in t old.file ≡ option_map (seen_then []) (seen_in s old.file)
-      → Fetches (Ok tt) old (record old { text = record old.text { finished = true } }) s t
+      → FetchesPiece (Ok tt) old (record old { text = record old.text { finished = true } }) s t
   fetches_end taken at_end seen = record {
     leaves = leaves (Ok tt) [] taken seen (λ is. cc);
     same = refl;
+    kept = tt;
+    place = refl;
+    fresh = refl;
     less = let one : end_to_come old.text.finished ≡ 1 = ap end_to_come waits.unfinished in omega arith;
     goes = λ first vs has. has_ended first vs old (s.left old.file) (t.left old.file) has waits unpast taken at_end;
     sees = λ vs. seen_so (record old { text = record old.text { finished = true } }) [] (λ first left. HasRead first vs (record old { text = record old.text { finished = true } }) left) vs seen
@@ -512,13 +515,16 @@ module _ (old : FileReading) (s t : FilesState) (told : t.told ≡ s.told) (othe
   }
 
   pub fetches_piece : (piece : List ℕ) → 0 < length piece → length piece ≤ old.limit - (old.text.place + length old.text.left) → Consumed (s.left old.file) (t.left old.file) piece
-      → seen_in t old.file ≡ option_map (seen_then piece) (seen_in s old.file) → Fetches (Ok tt) old (record old { text = record old.text { left = old.text.left ++ piece } }) s t
+      → seen_in t old.file ≡ option_map (seen_then piece) (seen_in s old.file) → FetchesPiece (Ok tt) old (record old { text = record old.text { left = old.text.left ++ piece } }) s t
   fetches_piece piece some few taken seen =
       let size : length (old.text.left ++ piece) ≡ length old.text.left + length piece = length-append old.text.left piece in
       let new = record old { text = record old.text { left = old.text.left ++ piece } } in
       record {
         leaves = leaves (Ok tt) piece taken seen (λ is. cc);
         same = refl;
+        kept = tt;
+        place = refl;
+        fresh = refl;
         less = omega arith;
         goes = λ first vs has. has_fetched first vs old (s.left old.file) (t.left old.file) has waits unpast piece few taken;
         sees = λ vs. seen_so new piece (λ first left. HasRead first vs new left) vs seen
@@ -527,32 +533,35 @@ module _ (old : FileReading) (s t : FilesState) (told : t.told ≡ s.told) (othe
       }
 
   pub fetches_past : (piece : List ℕ) → length piece ≡ 1 → old.text.place + length old.text.left ≡ old.limit → Consumed (s.left old.file) (t.left old.file) piece
-      → seen_in t old.file ≡ option_map (seen_then piece) (seen_in s old.file) → Fetches (Err fault.TooLong) old (record old { past = true }) s t
+      → seen_in t old.file ≡ option_map (seen_then piece) (seen_in s old.file) → FetchesPiece (Err fault.TooLong) old (record old { past = true }) s t
   fetches_past piece one met taken seen =
       let some : 0 < length piece = omega arith in
       record {
         leaves = leaves (Err fault.TooLong) piece taken seen (λ is. cc);
         same = refl;
+        kept = refl;
+        place = refl;
+        fresh = refl;
         less = tt;
-        goes = λ first vs has.
-            ends_past first vs (record old { past = true }) (t.left old.file) (has_passed first vs old (s.left old.file) (t.left old.file) has waits unpast piece some met taken) refl
-            (begins_item old.text waits);
-        sees = λ vs. seen_so (record old { past = true }) piece (λ first left. EndsSo first vs PastLimit (record old { past = true }) left) vs seen
-            (λ q has. ends_past (Some (Some (q.bytes ++ piece))) vs (record old { past = true }) (Some (Some []))
-            (has_passed (Some (Some (q.bytes ++ piece))) vs old (Some (Some piece)) (Some (Some [])) has waits unpast piece some met (sym (append-nil piece))) refl (begins_item old.text waits))
+        goes = λ first vs has. (has_passed first vs old (s.left old.file) (t.left old.file) has waits unpast piece some met taken, refl);
+        sees = λ vs. seen_so (record old { past = true }) piece (λ first left. FetchedPiece first vs (Err fault.TooLong) (record old { past = true }) left) vs seen
+            (λ q has. (has_passed (Some (Some (q.bytes ++ piece))) vs old (Some (Some piece)) (Some (Some [])) has waits unpast piece some met (sym (append-nil piece)), refl))
             (λ q size. record {
               ended = λ finished. absurd (false≢true (sym waits.unfinished ∙ finished));
               passed = λ past. length-append q.bytes piece ∙ omega (arith, size, one, met);
             });
       }
 
-pub fetches_again : (old : FileReading) (s : FilesState) → IsSome (s.left old.file) → Waits old.text old.text → old.past ≡ true → Fetches (Err fault.TooLong) old old s s
+pub fetches_again : (old : FileReading) (s : FilesState) → IsSome (s.left old.file) → MayGrow old.text → old.past ≡ true → FetchesPiece (Err fault.TooLong) old old s s
 fetches_again old s is_open waits past = record {
   leaves = record { told = refl; others = λ k ne. refl; is_open = is_open; others_seen = λ k ne. refl; more = same_seen (seen_in s old.file) (seen_in s old.file) refl; later = omega arith; well = λ not. refl; failed = λ is. absurd cc };
   same = refl;
+  kept = refl;
+  place = refl;
+  fresh = refl;
   less = tt;
-  goes = λ first vs has. ends_past first vs old (s.left old.file) has past (begins_item old.text waits);
-  sees = λ vs has q is. let so = has q is in (ends_past (Some (Some q.bytes)) vs old (Some (Some [])) so.0 past (begins_item old.text waits), so.1);
+  goes = λ first vs has. (has, past);
+  sees = λ vs has q is. let so = has q is in ((so.0, past), so.1);
 }
 
 -- a read that failed, or found no memory, left the reader as it was
@@ -563,7 +572,7 @@ IsFaultOf e why = ⊥
 
 pub fetches_not : (old : FileReading) (e : Stop) (why : FileError) (s t : FilesState) → t.told ≡ s.told → OtherFiles old.file s t → OtherSeen old.file s t → IsSome (s.left old.file)
     → t.left old.file ≡ s.left old.file → seen_in t old.file ≡ seen_in s old.file → CountsFailed {T = ℕ} (Err e) s.faults t.faults → (IsErrOf {T = ℕ} (Err e) stop.Failed → Rose s.faults t.faults)
-    → IsFaultOf e why → Fetches (Err why) old old s t
+    → IsFaultOf e why → FetchesPiece (Err why) old old s t
 fetches_not old stop.Failed fault.Read s t told others others_seen is_open left seen counts failed of = record {
   leaves = record {
     told = told;
@@ -576,6 +585,9 @@ fetches_not old stop.Failed fault.Read s t told others others_seen is_open left 
     failed = λ is. failed refl;
   };
   same = refl;
+  kept = refl;
+  place = refl;
+  fresh = refl;
   less = tt;
   goes = λ first vs has. subst (λ l. HasRead first vs old l) (sym left) has;
   sees = λ vs has q is. has q (sym seen ∙ is);
@@ -592,6 +604,9 @@ fetches_not old stop.NoMemory fault.NoMemory s t told others others_seen is_open
     failed = λ is. absurd cc;
   };
   same = refl;
+  kept = refl;
+  place = refl;
+  fresh = refl;
   less = tt;
   goes = λ first vs has. subst (λ l. HasRead first vs old l) (sym left) has;
   sees = λ vs has q is. has q (sym seen ∙ is);
@@ -607,68 +622,86 @@ fetches_not old stop.NoMemory (fault.TooDeep p) s t told others others_seen is_o
 
 -- a piece that was looked for
 pub piece_came : (old : FileReading) (most count : ℕ) (left : List ℕ) (s t : FilesState) → FetchesBehind old.file most (Ok count) old.text.left left s t → 0 < count
-    → most ≤ old.limit - (old.text.place + length old.text.left) → Waits old.text old.text → old.past ≡ false → Fetches (Ok tt) old (record old { text = record old.text { left = left } }) s t
+    → most ≤ old.limit - (old.text.place + length old.text.left) → MayGrow old.text → old.past ≡ false → FetchesPiece (Ok tt) old (record old { text = record old.text { left = left } }) s t
 piece_came old most count left s t b some few waits unpast =
     let came = b.came in
     let size = came.2 in
     let within = came.3 in
-    subst (λ l. Fetches (Ok tt) old (record old { text = record old.text { left = l } }) s t) (sym came.1)
+    subst (λ l. FetchesPiece (Ok tt) old (record old { text = record old.text { left = l } }) s t) (sym came.1)
     (fetches_piece old s t b.told b.others b.others_seen b.counts waits unpast came.0 (omega arith) (omega arith) came.4 came.6)
 
 pub end_came : (old : FileReading) (most count : ℕ) (left : List ℕ) (s t : FilesState) → FetchesBehind old.file most (Ok count) old.text.left left s t → count ≡ 0
-    → Waits old.text old.text → old.past ≡ false → Fetches (Ok tt) old (record old { text = record old.text { left = left; finished = true } }) s t
+    → MayGrow old.text → old.past ≡ false → FetchesPiece (Ok tt) old (record old { text = record old.text { left = left; finished = true } }) s t
 end_came old most count left s t b none waits unpast =
     let came = b.came in
     let empty : came.0 ≡ [] = nil_from_length came.0 (came.2 ∙ none) in
     let same : left ≡ old.text.left = came.1 ∙ (ap (λ bs. old.text.left ++ bs) empty ∙ append-nil old.text.left) in
-    subst (λ l. Fetches (Ok tt) old (record old { text = record old.text { left = l; finished = true } }) s t) (sym same)
+    subst (λ l. FetchesPiece (Ok tt) old (record old { text = record old.text { left = l; finished = true } }) s t) (sym same)
     (fetches_end old s t b.told b.others b.others_seen b.counts waits unpast (subst (λ bs. Consumed (s.left old.file) (t.left old.file) bs) empty came.4) (came.5 none)
     (subst (λ bs. seen_in t old.file ≡ option_map (seen_then bs) (seen_in s old.file)) empty came.6))
 
 -- nothing came
 pub none_came : (old view : FileReading) (e : Stop) (why : FileError) (most : ℕ) (text : State) (s t : FilesState) → view ≡ old → FetchesBehind view.file most (Err e) view.text.left text.left s t
-    → text ≡ record view.text { left = text.left } → IsSome (s.left old.file) → IsFaultOf e why → Fetches (Err why) old (record view { text = text }) s t
+    → text ≡ record view.text { left = text.left } → IsSome (s.left old.file) → IsFaultOf e why → FetchesPiece (Err why) old (record view { text = text }) s t
 none_came old view e why most text s t same b is is_open of =
     let text_is : text ≡ view.text = is ∙ ap {A = List ℕ} (λ l. record view.text { left = l }) b.came.0 in
-    subst (λ r. Fetches (Err why) r (record view { text = text }) s t) same
-    (subst (λ x. Fetches (Err why) view (record view { text = x }) s t) (sym text_is)
+    subst (λ r. FetchesPiece (Err why) r (record view { text = text }) s t) same
+    (subst (λ x. FetchesPiece (Err why) view (record view { text = x }) s t) (sym text_is)
     (fetches_not view e why s t b.told b.others b.others_seen (subst (λ r. IsSome (s.left r.file)) (sym same) is_open) b.came.1 b.came.2 b.counts b.failed of))
 
 -- the same, where a reader is known by what it is made of
-module _ (old view : FileReading) (same : view ≡ old) (s t : FilesState) (waits : Waits old.text old.text) (unpast : view.past ≡ false) where
-  waiting : Waits view.text view.text
-  waiting = subst (λ r. Waits r.text r.text) (sym same) waits
+module _ (old view : FileReading) (same : view ≡ old) (s t : FilesState) (waits : MayGrow old.text) (unpast : view.past ≡ false) where
+  waiting : MayGrow view.text
+  waiting = subst (λ r. MayGrow r.text) (sym same) waits
 
   pub ended_as : (most count : ℕ) (text text' : State) → FetchesBehind view.file most (Ok count) view.text.left text.left s t → text ≡ record view.text { left = text.left }
-      → text' ≡ record text { finished = true } → count ≡ 0 → Fetches (Ok tt) old (record view { text = text' }) s t
+      → text' ≡ record text { finished = true } → count ≡ 0 → FetchesPiece (Ok tt) old (record view { text = text' }) s t
   ended_as most count text text' behind is ends none =
-      subst (λ r. Fetches (Ok tt) r (record view { text = text' }) s t) same
-      (subst (λ x. Fetches (Ok tt) view (record view { text = x }) s t) (sym (ends ∙ ap {A = State} (λ x. record x { finished = true }) is))
+      subst (λ r. FetchesPiece (Ok tt) r (record view { text = text' }) s t) same
+      (subst (λ x. FetchesPiece (Ok tt) view (record view { text = x }) s t) (sym (ends ∙ ap {A = State} (λ x. record x { finished = true }) is))
       (end_came view most count text.left s t behind none waiting unpast))
 
   pub came_as : (most count : ℕ) (text : State) → FetchesBehind view.file most (Ok count) view.text.left text.left s t → text ≡ record view.text { left = text.left }
-      → 0 < count → most ≤ view.limit - (view.text.place + length view.text.left) → Fetches (Ok tt) old (record view { text = text }) s t
+      → 0 < count → most ≤ view.limit - (view.text.place + length view.text.left) → FetchesPiece (Ok tt) old (record view { text = text }) s t
   came_as most count text behind is some few =
-      subst (λ r. Fetches (Ok tt) r (record view { text = text }) s t) same
-      (subst (λ x. Fetches (Ok tt) view (record view { text = x }) s t) (sym is)
+      subst (λ r. FetchesPiece (Ok tt) r (record view { text = text }) s t) same
+      (subst (λ x. FetchesPiece (Ok tt) view (record view { text = x }) s t) (sym is)
       (piece_came view most count text.left s t behind some few waiting unpast))
 
   module _ (into : List ℕ) (count : ℕ) (reads : ReadsPiece view.file into (Ok count) s t) where
-    pub looked_end : (text : State) → text ≡ record view.text { finished = true } → count ≡ 0 → Fetches (Ok tt) old (record view { text = text }) s t
+    pub looked_end : (text : State) → text ≡ record view.text { finished = true } → count ≡ 0 → FetchesPiece (Ok tt) old (record view { text = text }) s t
     looked_end text ends none =
-        subst (λ r. Fetches (Ok tt) r (record view { text = text }) s t) same
-        (subst (λ x. Fetches (Ok tt) view (record view { text = x }) s t) (sym ends)
+        subst (λ r. FetchesPiece (Ok tt) r (record view { text = text }) s t) same
+        (subst (λ x. FetchesPiece (Ok tt) view (record view { text = x }) s t) (sym ends)
         (fetches_end view s t reads.told reads.others reads.others_seen reads.counts waiting unpast
         (subst (λ bs. Consumed (s.left view.file) (t.left view.file) bs) (ap (λ n. take n into) none) reads.bytes) (reads.end none)
         (subst (λ bs. seen_in t view.file ≡ option_map (seen_then bs) (seen_in s view.file)) (ap (λ n. take n into) none) reads.seen)))
 
-    pub looked_past : 0 < count → length into ≡ 1 → old.text.place + length old.text.left ≡ old.limit → Fetches (Err fault.TooLong) old (record view { past = true }) s t
+    pub looked_past : 0 < count → length into ≡ 1 → old.text.place + length old.text.left ≡ old.limit → FetchesPiece (Err fault.TooLong) old (record view { past = true }) s t
     looked_past some one met =
         let size : length (take count into) ≡ min count (length into) = length-take count into in
         let within = reads.within in
-        subst (λ r. Fetches (Err fault.TooLong) r (record view { past = true }) s t) same
+        subst (λ r. FetchesPiece (Err fault.TooLong) r (record view { past = true }) s t) same
         (fetches_past view s t reads.told reads.others reads.others_seen reads.counts waiting unpast (take count into) (size ∙ omega arith)
         (subst (λ r. r.text.place + length r.text.left ≡ r.limit) (sym same) met) reads.bytes reads.seen)
+
+-- `fetch`: where the bytes are less than an item, what was read ends in a limit that is passed
+pub fetches_so : (r : Result (Unit {0}) FileError) (old new : FileReading) (s t : FilesState) → Waits old.text old.text → FetchesPiece r old new s t → Fetches r old new s t
+fetches_so r old new s t waits f = record {
+  leaves = f.leaves;
+  same = f.same;
+  less = f.less;
+  goes = λ first vs has. so r f.kept first vs (t.left old.file) (f.goes first vs has);
+  sees = λ vs has q is. let at = f.sees vs has q is in (so r f.kept (Some (Some q.bytes)) vs (Some (Some [])) at.0, at.1);
+}
+  where
+    so : (x : Result (Unit {0}) FileError) → OnErr x (new.text ≡ old.text) → (first : Left) (vs : List Value) (left : Left) → FetchedPiece first vs x new left → Fetched first vs x new left
+    so (Ok done) kept first vs left has = has
+    so (Err fault.Read) kept first vs left has = has
+    so (Err fault.NoMemory) kept first vs left has = has
+    so (Err fault.TooLong) kept first vs left has = ends_past first vs new left has.0 has.1 (subst (λ x. BeginsItem x.left) (sym kept) (begins_item old.text waits))
+    so (Err (fault.Bad p)) kept first vs left has = has
+    so (Err (fault.TooDeep p)) kept first vs left has = has
 
 -- `next`, up to here: nothing was handed out
 pub record Meanwhile (old now : FileReading) (s t : FilesState) : Type 0 where

@@ -1,6 +1,6 @@
 -- What a reader of an open file knows, and what each call does.
 use Rattle.std.specs.Prelude.{◌≡◌, ◌⊎◌, ℕ, ◌+◌, ◌-◌, ◌*◌, ◌<◌, ◌≤◌, Bool, true, false, List, [], ◌∷◌, ◌++◌, length, ⊤}
-use Rattle.std.specs.Prelude.{Option, Some, None, Result, Ok, Err, OnOk, IsErrOf, IsSome}
+use Rattle.std.specs.Prelude.{Option, Some, None, Result, Ok, Err, OnOk, OnErr, IsErrOf, IsSome}
 use Rattle.kl_base.specs.Counts.{Rose}
 use Rattle.kl_outside.specs.Files.{FilesState, OtherFiles, OtherSeen, Seen, seen_in}
 use Rattle.kl_value.specs.declared.Value.{Value}
@@ -119,7 +119,21 @@ pub record HandsOut (result : Result Item ReadError) (old new : FileReading) : T
   pub less : (v : Value) → result ≡ Ok (item.Value v) → to_come new < to_come old
   pub goes : (first left : Left) (vs : List Value) → HasRead first vs old left → HeldOut first vs result new left
 
--- after a piece, or the reason why none was fetched
+-- more bytes may come, and nothing was refused
+pub record MayGrow (text : State) : Type 0 where
+  pub unfinished : text.finished ≡ false
+  pub fresh : text.refused ≡ None
+
+-- after a piece, or the reason why none was fetched, whatever the bytes fetched before it are
+abbrev pub FetchedPiece : Left → List Value → Result (Unit {0}) FileError → FileReading → Left → Type 0
+FetchedPiece first vs (Ok done) now left = HasRead first vs now left
+FetchedPiece first vs (Err fault.Read) now left = HasRead first vs now left
+FetchedPiece first vs (Err fault.NoMemory) now left = HasRead first vs now left
+FetchedPiece first vs (Err fault.TooLong) now left = HasRead first vs now left × (now.past ≡ true)
+FetchedPiece first vs (Err (fault.Bad p)) now left = ⊥
+FetchedPiece first vs (Err (fault.TooDeep p)) now left = ⊥
+
+-- after a piece behind bytes that are less than an item, or the reason why none was fetched
 abbrev pub Fetched : Left → List Value → Result (Unit {0}) FileError → FileReading → Left → Type 0
 Fetched first vs (Ok done) now left = HasRead first vs now left
 Fetched first vs (Err fault.Read) now left = HasRead first vs now left
@@ -138,6 +152,19 @@ pub record Leaves {T : Type 0} (file : ℕ) (result : Result T FileError) (old n
   pub later : old.faults ≤ new.faults
   pub well : (IsErrOf result fault.Read → ⊥) → new.faults ≡ old.faults
   pub failed : IsErrOf result fault.Read → Rose old.faults new.faults
+
+-- `fetch_piece`
+pub record FetchesPiece (result : Result (Unit {0}) FileError) (old new : FileReading) (files files' : FilesState) : Type 0 where
+  pub leaves : Leaves old.file result files files'
+  pub same : new ≡ record old { text = new.text; past = new.past }
+  pub kept : OnErr result (new.text ≡ old.text)
+  pub place : new.text.place ≡ old.text.place
+  pub fresh : new.text.refused ≡ old.text.refused
+  pub less : OnOk result (to_come new < to_come old)
+  pub goes : (first : Left) (vs : List Value) → HasRead first vs old (files.left old.file)
+      → FetchedPiece first vs result new (files'.left old.file)
+  pub sees : (vs : List Value) → HasSeen vs old (seen_in files old.file)
+      → AsSeen (λ first left. FetchedPiece first vs result new left) new (seen_in files' old.file)
 
 -- `fetch`
 pub record Fetches (result : Result (Unit {0}) FileError) (old new : FileReading) (files files' : FilesState) : Type 0 where

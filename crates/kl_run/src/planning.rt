@@ -2,6 +2,7 @@
 ghost use Rattle.std.specs.Prelude.{◌≡◌, ◌≤◌, IfOk, map};
 ghost use Rattle.kl_core.specs.Counts.{nodes_of};
 ghost use Rattle.kl_core.specs.Trees.{view as term_view};
+ghost use Rattle.kl_ask.specs.Driver.{State};
 ghost use Rattle.kl_ship.specs.Contents.{MakesSense};
 ghost use Rattle.kl_plan.specs.Nodes.{view};
 ghost use Rattle.kl_sources.specs.Sources.{ArePlaced, IsSuited, kinds_of};

@@ -1,5 +1,6 @@
 //! Runs of plans over sessions.
 ghost use Rattle.std.specs.Prelude.{◌≡◌, [], IfOk};
+ghost use Rattle.kl_ask.specs.World.{World};
 ghost use Rattle.kl_plan.specs.Nodes.{view};
 ghost use Rattle.kl_scans.specs.Keeping.{kept_in, room_in};
 ghost use Rattle.kl_run.specs.Running.{fresh_run};

@@ -1,7 +1,6 @@
-use Rattle.kl_blocks.proofs.Blocks.{starts_least}
 use Rattle.kl_counts.proofs.BlockJoins.{block_join}
 use Rattle.kl_counts.proofs.Whole.{machine_counts}
 use Rattle.kl_counts.proofs.laws.counting_laws.Goals as goal
 
 pub returns : goal.returns
-returns c = record { machine = machine_counts; blocks = block_join; starts = starts_least }
+returns c = record { machine = machine_counts; blocks = block_join }

@@ -1,0 +1,4 @@
+pub mod Completes
+pub mod Reaching
+pub mod Runs
+pub mod Scanning

@@ -1,0 +1,40 @@
+//! Laws of exchange text with heads, for the layers above to cite.
+ghost use Rattle.std.specs.Prelude.{◌≡◌, ◌≢◌, ◌≤◌, ◌++◌, ℕ, List, Option, Result, Err, codes};
+ghost use Rattle.kl_value.specs.declared.Value.{Value};
+ghost use Rattle.kl_type.specs.Ground.{IsProper};
+ghost use Rattle.kl_type.specs.Written.{type_text};
+ghost use Rattle.kl_type.specs.declared.Ty.{Ty};
+ghost use Rattle.kl_exchange.specs.FileItems.{FileEnd};
+ghost use Rattle.kl_exchange.specs.Found.{values_of};
+ghost use Rattle.kl_exchange.specs.Grammar.{IsItem};
+ghost use Rattle.kl_exchange.specs.declared.ReadError.{ReadError};
+ghost use Rattle.kl_exchange.specs.declared.ReadError.TheVariants as error;
+ghost use Rattle.kl_heads.specs.Files.{Shows};
+ghost use Rattle.kl_heads.specs.Found.{file_text};
+ghost use Rattle.kl_heads.specs.Heads.{IsHead, nests};
+ghost use Rattle.kl_heads.specs.Reading.{Headed, ReadsNext};
+ghost use Rattle.kl_heads.specs.declared.reader.Item.{Item};
+
+/// No spelling of a head or an item begins another's, and each spells one type or one value, whatever follows. So a state
+/// has one answer that is no want of memory: each answer comes exactly where its cause is. A type that a head states is
+/// proper, and its text behind `type ` and before `;` is a head of it again.
+pub fn head_laws()
+    ensures one_head { (m n : ℕ) (a b x y : List ℕ) (t u : Ty)
+        → IsHead m a t → IsHead n b u → a ++ x ≡ b ++ y → (a ≡ b) × (t ≡ u) }
+    ensures no_item { (m n : ℕ) (a b x y : List ℕ) (t : Ty) (v : Value)
+        → IsHead m a t → IsItem n b v → a ++ x ≡ b ++ y → ⊥ }
+    ensures one_answer { (old new other : Headed) (r s : Result Item ReadError)
+        → ReadsNext old r new → ReadsNext old s other → r ≢ Err error.NoMemory → s ≢ Err error.NoMemory
+        → (r ≡ s) × (new ≡ other) }
+    ensures proper { (n : ℕ) (bytes : List ℕ) (t : Ty) → IsHead n bytes t → IsProper t }
+    ensures again { (n : ℕ) (t : Ty) → IsProper t → nests t ≤ n → IsHead n (codes "type " ++ (type_text t ++ codes ";")) t }
+{}
+
+/// The head and the items of a file are a function of its bytes: each file has one head or none, one list of items at
+/// their places, and one end.
+pub fn text_laws()
+    ensures shows { (limit : ℕ) (bytes : List ℕ) → Shows limit bytes (file_text limit bytes).head
+        (values_of (file_text limit bytes).items) (file_text limit bytes).behind }
+    ensures one_text { (limit : ℕ) (bytes : List ℕ) (head other : Option Ty) (vs ws : List Value) (e f : FileEnd)
+        → Shows limit bytes head vs e → Shows limit bytes other ws f → (head ≡ other) × ((vs ≡ ws) × (e ≡ f)) }
+{}
