@@ -3,7 +3,7 @@ ghost use Rattle.std.specs.Prelude.{◌≡◌, true, ⊤};
 ghost use Rattle.std.specs.List.{Contains};
 ghost use Rattle.kl_lookups.specs.Lookups.{has};
 ghost use Rattle.kl_scans.specs.Keeping.{subquery};
-ghost use Rattle.kl_scans.specs.Over.{Keeps, MayKeep, Ran as Ended, Recalls};
+ghost use Rattle.kl_scans.specs.Over.{IsExecution, Keeps, MayKeep, Ran as Ended, Recalls};
 ghost use Rattle.kl_scans.specs.Same.{same_subquery};
 
 use crate::run::{Ran, Run};
@@ -70,9 +70,8 @@ pub fn keep<'p>(run: &mut Run<'p>, key: MemoKey, value: Value) -> Result<(), NoM
 ///
 /// # Errors
 /// Want of memory; nothing is counted then.
-// Any call meets the `requires`, as at `recall`.
 pub fn ran<'p>(run: &mut Run<'p>, alloc: Global, entry: JoinRun, peak: u32) -> Result<(), NoMemory>
-    requires { ⊤ }
+    requires { IsExecution (⟦<Run<'p> as Ran>⟧.world run.old).settings.block entry peak }
     ensures { Ended entry peak result (⟦<Run<'p> as Ran>⟧.world run.old) (⟦<Run<'p> as Ran>⟧.world run.new) }
 {
     let trace = &mut run.session.trace;

@@ -17,8 +17,8 @@ mod scanning;
 mod shipping;
 mod source;
 mod sql_scan;
+mod sql_tests;
 mod statements;
-mod tests;
 mod used;
 
 pub use full::fully_shipped;

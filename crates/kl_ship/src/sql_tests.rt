@@ -1,4 +1,4 @@
-//! The tests of rows that the front of a body has.
+//! The tests of rows that the front of a body has, as statements and asks hold them.
 ghost use Rattle.std.specs.Prelude.{◌≡◌, ◌++◌, map, IfOk, OnOk, Some};
 ghost use Rattle.kl_core.specs.Trees.{view, trees_view};
 ghost use Rattle.kl_ship.specs.Delegation.{column_of, constant, test_between, test_of, test_by, taken, cmp_of, side_of, row_test};
