@@ -52,6 +52,28 @@ fn files_in_memory_are_read(rt: HostRuntime) -> Result<(), Fail> {
     Ok(())
 }
 
+// At "a" stands `{1}`, from the second opening on `{2}`; at "b" nothing, from the third opening on `{3}`.
+fn changing_files(alloc: Global) -> Result<MemFiles, Fail> {
+    let mut files = one_file(alloc)?;
+    let bytes = Text::of(Vec::from_slice(alloc, b"{2}")?);
+    files.change_at(2, Text::of(Vec::from_slice(alloc, b"a")?), bytes)?;
+    let bytes = Text::of(Vec::from_slice(alloc, b"{3}")?);
+    files.change_at(3, Text::of(Vec::from_slice(alloc, b"b")?), bytes)?;
+    Ok(files)
+}
+
+#[test]
+fn files_in_memory_change(rt: HostRuntime) -> Result<(), Fail> {
+    let alloc = rt.alloc();
+    let mut files = changing_files(alloc)?;
+    assert!(rt; reads(alloc, &mut files, b"a", 3, b"{1}"));
+    assert!(rt; reads(alloc, &mut files, b"a", 3, b"{2}"));
+    assert!(rt; reads(alloc, &mut files, b"a", 3, b"{2}"));
+    assert!(rt; fails(alloc, &mut files, b"b") && fails(alloc, &mut files, b"b"));
+    assert!(rt; reads(alloc, &mut files, b"b", 3, b"{3}"));
+    Ok(())
+}
+
 #[test]
 fn a_sink_in_memory_keeps_what_it_took(rt: HostRuntime) -> Result<(), Fail> {
     let mut sink = MemSink::new(rt.alloc());

@@ -3,6 +3,7 @@ pub mod Files
 pub mod Sinks
 pub mod Schedule
 pub mod Entries
+pub mod Changes
 pub mod Memory
 pub mod MemorySink
 pub mod Host

@@ -28,7 +28,8 @@ fail_call calls = record calls { faults = next_count calls.faults }
 abbrev pub after_call : Calls → Calls
 after_call calls = if is_next_listed calls then fail_call (make_call calls) else make_call calls
 
--- The opening of a missing path counts no fault, listed or not.
-abbrev pub after_opening : Option (List ℕ) → Calls → Calls
-after_opening None calls = make_call calls
-after_opening (Some bytes) calls = after_call calls
+-- The opening of a missing path counts no fault, listed or not, where bytes are told, and else it counts one.
+abbrev pub after_opening : {T : Type 0} → Option T → Option (List ℕ) → Calls → Calls
+after_opening told (Some bytes) calls = after_call calls
+after_opening (Some files) None calls = make_call calls
+after_opening None None calls = fail_call (make_call calls)
