@@ -45,6 +45,9 @@ fn open_items<'p>(value: Value) -> State<'p>
 }
 
 /// What a part that is evaluated whole gives.
+///
+/// # Errors
+/// What stopped it, but for an overflow, which is told behind the items that come before it.
 pub fn open_whole<'p>(outcome: Result<Value, Halt>) -> Result<State<'p>, EvalStop>
     requires { IfOk outcome IsCollection }
     ensures { Halted outcome result }
@@ -63,6 +66,9 @@ pub fn open_whole<'p>(outcome: Result<Value, Halt>) -> Result<State<'p>, EvalSto
 }
 
 /// What a plan that is drained gives.
+///
+/// # Errors
+/// What stopped it, but for an overflow, which is told behind the items that come before it.
 pub fn open_drained<'p>(outcome: Result<Vec<Value>, Halt>) -> Result<State<'p>, EvalStop>
     ensures { Drained outcome result }
 {
