@@ -8,7 +8,7 @@ ghost use Rattle.kl_lookups.specs.Lookups.{has};
 ghost use Rattle.kl_scans.specs.Held.{Owned, one_at};
 ghost use Rattle.kl_scans.specs.Keeping.{subquery};
 ghost use Rattle.kl_scans.specs.Moves.{Closes};
-ghost use Rattle.kl_scans.specs.Over.{IsExecution, IsUndriven, IsUndrivenPart, Keeps, MayKeep, Ran as Ended, Recalls};
+ghost use Rattle.kl_scans.specs.Over.{IsSomeEntry, IsUndriven, IsUndrivenPart, Keeps, MayKeep, Recalls, TellsEntry};
 ghost use Rattle.kl_scans.specs.Right.{IsReadyRun};
 ghost use Rattle.kl_scans.specs.Running.{session};
 ghost use Rattle.kl_scans.specs.Same.{same_subquery};
@@ -62,8 +62,8 @@ pub trait Scans: Ran {
     /// # Errors
     /// Want of memory; nothing is counted then.
     fn ran(&mut self, alloc: Global, entry: JoinRun, peak: u32) -> Result<(), NoMemory>
-        requires { IsExecution (Self.world self.old).settings.block entry peak }
-        ensures { Ended entry peak result (Self.world self.old) (Self.world self.new) };
+        requires { IsSomeEntry (Self.world self.old).settings.block entry peak }
+        ensures { TellsEntry entry peak result (Self.world self.old) (Self.world self.new) };
 
     /// Opens a cursor of a scan, as `start_scan` does.
     ///

@@ -74,9 +74,9 @@ impl MemFiles {
         self.schedule.list(call)
     }
 
-    /// Gives a path other bytes from an opening of it on, counted from 1 over all calls of `open_path` that come behind
-    /// this one. Where several changes of a path have come, the last one that
-    /// was given counts. From this call on the files tell no bytes, and the opening of a missing path is a fault.
+    /// Gives a path other bytes from an opening of it on, counted from 1 over the calls of `open_path` with this path that come
+    /// behind this one. Where several changes of a path have come, the last one that was given counts. From this call on the
+    /// files tell no bytes, and the opening of a missing path is a fault.
     ///
     /// # Errors
     /// Want of memory; the files are as they were then.

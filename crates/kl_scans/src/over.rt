@@ -3,7 +3,7 @@ ghost use Rattle.std.specs.Prelude.{◌≡◌, true, ⊤};
 ghost use Rattle.std.specs.List.{Contains};
 ghost use Rattle.kl_lookups.specs.Lookups.{has};
 ghost use Rattle.kl_scans.specs.Keeping.{subquery};
-ghost use Rattle.kl_scans.specs.Over.{IsExecution, Keeps, MayKeep, Ran as Ended, Recalls};
+ghost use Rattle.kl_scans.specs.Over.{IsSomeEntry, Keeps, MayKeep, Recalls, TellsEntry};
 ghost use Rattle.kl_scans.specs.Same.{same_subquery};
 
 use crate::run::{Ran, Run};
@@ -15,7 +15,8 @@ use std::alloc::Global;
 use std::mem;
 
 /// Whether a value is kept under a key. Where one is, that is counted, and the value is used. Takes no memory.
-// Any call meets the `requires`. Of what has one a caller elsewhere knows that it makes no driver, without its body.
+// Any call meets the `requires`. It stands here since the checker has a caller in another crate look at the body of a function
+// without one, for the drivers that it may make.
 pub fn recall<'p>(run: &mut Run<'p>, key: &MemoKey) -> bool
     requires { ⊤ }
     ensures { Recalls (subquery key.now) result (⟦<Run<'p> as Ran>⟧.world run.old) (⟦<Run<'p> as Ran>⟧.world run.new) }
@@ -71,8 +72,8 @@ pub fn keep<'p>(run: &mut Run<'p>, key: MemoKey, value: Value) -> Result<(), NoM
 /// # Errors
 /// Want of memory; nothing is counted then.
 pub fn ran<'p>(run: &mut Run<'p>, alloc: Global, entry: JoinRun, peak: u32) -> Result<(), NoMemory>
-    requires { IsExecution (⟦<Run<'p> as Ran>⟧.world run.old).settings.block entry peak }
-    ensures { Ended entry peak result (⟦<Run<'p> as Ran>⟧.world run.old) (⟦<Run<'p> as Ran>⟧.world run.new) }
+    requires { IsSomeEntry (⟦<Run<'p> as Ran>⟧.world run.old).settings.block entry peak }
+    ensures { TellsEntry entry peak result (⟦<Run<'p> as Ran>⟧.world run.old) (⟦<Run<'p> as Ran>⟧.world run.new) }
 {
     let trace = &mut run.session.trace;
     let mut joins = mem::replace(&mut trace.joins, Seq::of(Vec::new(alloc))).into_vec();
