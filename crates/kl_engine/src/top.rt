@@ -48,7 +48,7 @@ pub struct Answer {
     pub plan: Option<Plan>,
     /// What was counted while the program ran: the steps in which its term was rewritten, none with `--no-rewrite`; how often each
     /// scan of its plan was started; the executions of joins that ended, with the most rows that a block of one held; and how
-    /// many look-ups of subqueries found a value and how many did not.
+    /// many look-ups of subqueries found a value, and how many found none, whose value was kept then.
     pub trace: Trace,
 }
 
