@@ -23,6 +23,7 @@ use Rattle.kl_joins.specs.declared.keeping.Place.TheVariants as place
 use Rattle.kl_joins.specs.Keeping.{MayKeep, WhetherKept}
 use Rattle.kl_joins.specs.MemosMade.{aside, at_source, IsLooping, IsKept, IsNotKept, MemosMade, EachKept, FieldsKept, BranchesKept, KeyKept}
 use Rattle.kl_joins.proofs.Fronts.{onto, Fronts}
+use Rattle.kl_joins.proofs.Views.{view_Plain}
 
 -- ---- results
 
@@ -99,9 +100,6 @@ source_made l k d r x z a q e f g h =
     subst (λ n. IfOk r (λ _. MemosMade n d (view a) q)) from (subst (λ (y : Plan). IfOk r (λ _. MemosMade k d (view y) q)) g h)
 
 -- ---- leaves
-
-view_Plain : (t : Term) → view (plan.Plain t) ≡ node.Plain (term_view t)
-view_Plain t = search (rules, the_lemmas)
 
 module _ (l : Place) (d : ℕ) (t : Plan) (ready : MayKeep d (view t)) (none : IsLooping (view t) → IsNotKept l (view t)) where
   plain_made : (x : Term) → t ≡ plan.Plain x → MemosMade l d (view t) (view t)

@@ -5,6 +5,7 @@ pub mod Raised
 pub mod KeyTypes
 pub mod JoinsTyped
 pub mod JoinsMean
+pub mod Sizes
 pub mod Likely
 pub mod NoMemos
 pub mod MemosTyped
@@ -18,13 +19,13 @@ pub mod Counters
 pub mod NumberedLists
 pub mod NumberedForms
 pub mod Reading
+pub mod Views
 pub mod Positioned
 pub mod Fronts
 pub mod Ready
 pub mod Kept
 pub mod Binding
 pub mod Pairing
-pub mod Finding
 pub mod Lowerings
 pub mod LoweredBack
 pub mod KeysFound

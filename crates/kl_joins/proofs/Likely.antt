@@ -17,7 +17,13 @@ use Rattle.kl_plan.specs.Meaning.{come_kept, on_test, tested, under_key, same_ke
 use Rattle.kl_plan.proofs.Likeness.{alike_itself, alike_on, alike_followed, alike_drawn, alike_bodies, alike_fits}
 use Rattle.kl_plan.proofs.Collections.{alike_same, alike_items}
 use Rattle.kl_plan.proofs.Comings.{ComesAs, same_type, same_kind, worth_typed, coming_typed, drawn_for_typed, union_shows}
-use Rattle.kl_joins.specs.Likely.{LikeCome}
+
+-- the same outcome, or items of one kind that are the same as far as a collection of that kind tells
+abbrev pub LikeCome : Come → Come → Type 0
+LikeCome (one o) (one q) = q ≡ o
+LikeCome (one o) (many j g) = ⊥
+LikeCome (many k f) (one q) = ⊥
+LikeCome (many k f) (many j g) = (j ≡ k) × Alike k f g
 
 -- like one another, and of a type
 abbrev pub Like : Ground → Come → Come → Type 0

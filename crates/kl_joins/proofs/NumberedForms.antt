@@ -24,9 +24,7 @@ use Rattle.kl_joins.specs.Numbering.{NumbersFrom}
 use Rattle.kl_joins.specs.Numbering.{PlanNumbered, EachNumbered, FieldsNumbered, BranchesNumbered, KeyNumbered}
 use Rattle.kl_joins.proofs.Counters.{none, one_scan, one_join, one_memo, both_assoc, room_as, room_first, room_next, counted_as}
 use Rattle.kl_joins.proofs.Counters.{counted_none, counted_both, counted_scan, counted_join, counted_memo}
-
-view_Plain : (t : Term) → view (plan.Plain t) ≡ node.Plain (term_view t)
-view_Plain t = search (rules, the_lemmas)
+use Rattle.kl_joins.proofs.Views.{view_Plain}
 
 -- what the code has for a part
 pub seen_as : (w v : Numbers) (a b c d : Node) → a ≡ c → b ≡ d → PlanNumbered w v c d → PlanNumbered w v a b

@@ -2,12 +2,10 @@ pub mod JoinsMade
 pub mod Keeping
 pub mod MemosMade
 pub mod Numbered
-pub mod Likely
 pub mod Finished
 pub mod Numbering
 pub mod Reading
 pub mod Bare
-pub mod Sizes
 pub mod Lowering
 pub mod Keyed
 pub mod Forming

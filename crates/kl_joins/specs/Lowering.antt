@@ -1,4 +1,4 @@
--- The free positions above one lowered by one, in terms and in plans without joins and memos.
+-- The free positions above one lowered by one, in terms and in plans without joins and memos. No public contract cites this.
 use Rattle.std.specs.Prelude.{ℕ, ◌+◌, ◌-◌, cond, nat_lt}
 use Rattle.kl_core.specs.Trees as term
 use Rattle.kl_core.specs.Trees.{Tree, Trees, no_trees, trees, Parts, no_parts, parts, Arms, no_arms, arm}

@@ -1,5 +1,5 @@
 //! How many positions of a plan are bound around one of its parts. Takes no memory.
-ghost use Rattle.std.specs.Prelude.{◌≡◌, ◌-◌, ◌^◌, min, true};
+ghost use Rattle.std.specs.Prelude.{◌≡◌, ◌-◌, ◌^◌, ◌↔◌, min, true};
 ghost use Rattle.kl_plan.specs.Joins.{join_view, keys_view, other_node};
 ghost use Rattle.kl_plan.specs.Nodes.{view, nodes_view, fields_view};
 ghost use Rattle.kl_joins.specs.Keeping.{binders, binders_of_nodes, binders_of_fields, binders_of_branches, binders_of_key, IsShallow};
@@ -7,9 +7,9 @@ ghost use Rattle.kl_joins.specs.Keeping.{binders, binders_of_nodes, binders_of_f
 use kl_base::{Box, Label};
 use kl_plan::{Join, JoinKey, Plan};
 
-/// Whether the positions of a plan may be counted in 32 bits.
+/// Whether the positions of a plan, and one more, may be counted in 32 bits.
 pub fn is_shallow(plan: &Plan) -> bool
-    ensures { result ≡ true → IsShallow 0 (view plan.now) }
+    ensures { (result ≡ true) ↔ IsShallow 1 (view plan.now) }
 {
     deep(plan) < u32::MAX
 }

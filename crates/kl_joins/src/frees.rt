@@ -12,13 +12,13 @@ use kl_plan::{Frees, Join, JoinKey, Plan};
 use std::alloc::Global;
 
 /// Whether the free position `at` stands in a plan.
-pub fn occurs(at: u32, plan: &Plan) -> bool
+pub fn occurs(plan: &Plan, at: u32) -> bool
     ensures { result ≡ occurs at (view plan.now) }
 {
     stands(u64::from(at), plan)
 }
 
-// Under binders the position may pass 32 bits, and the count stays at its greatest value: it stands nowhere then.
+// Under binders the position may pass 64 bits, and the count stays at its greatest value: it stands nowhere then.
 #[cycle(stands)]
 fn stands(at: u64, plan: &Plan) -> bool
     ensures { (n : ℕ) → min n (2 ^ 64 - 1) ≡ at → result ≡ occurs n (view plan.now) }
@@ -119,7 +119,7 @@ pub fn frees_of(alloc: Global, plan: &Plan, depth: u32) -> Result<Frees, NoMemor
 {
     let mut frees = Vec::new(alloc);
     for at in 0..depth {
-        if occurs(at, plan) {
+        if occurs(plan, at) {
             frees.push(at)?;
         }
     }

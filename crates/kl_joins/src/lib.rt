@@ -10,11 +10,8 @@ mod keys;
 mod lowering;
 mod numbering;
 mod positions;
-mod standing;
 
-pub use depths::is_shallow;
-pub use frees::{frees_of, has_scan, occurs};
 pub use joining::join_loops;
-pub use keeping::{Place, keep};
+pub use keeping::keep;
 pub use keys::is_same;
 pub use numbering::number;

@@ -6,7 +6,7 @@ ghost use Rattle.kl_core.specs.Positions.{occurs_in, occurs_trees, occurs_parts}
 use kl_base::Label;
 use kl_core::Term;
 
-/// Whether the free position `at` stands in the term. It may pass 32 bits, and the count stays at its greatest value: it stands
+/// Whether the free position `at` stands in the term. It may pass 64 bits, and the count stays at its greatest value: it stands
 /// nowhere then.
 #[cycle(stands_in)]
 pub fn stands_in(at: u64, term: &Term) -> bool
