@@ -1,6 +1,6 @@
 -- What is kept in a plan, by its form.
 use Rattle.std.proofs.Common.{◌≡◌, ◌⊎◌, ⊎_elim, ℕ, ◌+◌, Bool, true, false, List, [], ◌∷◌, map, Option, Some, None, Result}
-use Rattle.std.proofs.Common.{Ok, Err, IfOk, IsOkAnd, refl, sym, ap, subst, ◌∙◌, rules}
+use Rattle.std.proofs.Common.{Ok, Err, IfOk, IsOkAnd, refl, sym, ap, subst, ◌∙◌}
 use Rattle.kl_base.specs.declared.memory.NoMemory.{NoMemory}
 use Rattle.kl_value.specs.declared.Kind.{Kind}
 use Rattle.kl_outcome.specs.Outcome.{Name}
@@ -8,7 +8,7 @@ use Rattle.kl_core.specs.declared.term.Term.{Term}
 use Rattle.kl_core.specs.Trees.{view as term_view}
 use Rattle.kl_plan.specs.declared.plan.Join.{Join, out-Join}
 use Rattle.kl_plan.specs.declared.plan.JoinKey.{JoinKey, out-JoinKey, roll-JoinKey}
-use Rattle.kl_plan.specs.declared.plan.Plan.{Plan, the_lemmas}
+use Rattle.kl_plan.specs.declared.plan.Plan.{Plan}
 use Rattle.kl_plan.specs.declared.plan.Plan.TheVariants as plan
 use Rattle.kl_plan.specs.declared.plan.Scan.{Scan}
 use Rattle.kl_plan.specs.Joins.{join_view, key_view, keys_view, other_node}

@@ -1,19 +1,19 @@
 -- What is made of parts that come to like things comes to like things.
 use Rattle.std.proofs.Common.{◌≡◌, Bool, true, false, cond, Option, Some, None, IsSome, refl, sym, ap, subst, ◌∙◌}
 use mathlib.Core.Path.{ap₂}
-use Rattle.kl_value.specs.Views.{as_bool, field_at}
+use Rattle.kl_value.specs.Views.{as_bool}
 use Rattle.kl_value.specs.declared.Kind.{Kind}
 use Rattle.kl_value.specs.declared.Value.{Value}
-use Rattle.kl_type.specs.Ground.{Ground, Row, bool, rec as rec_type, coll, at}
-use Rattle.kl_outcome.specs.Outcome.{Name, Outcome, done, over, stuck, outcome_of, union_of}
+use Rattle.kl_type.specs.Ground.{Ground, bool, coll}
+use Rattle.kl_outcome.specs.Outcome.{Outcome, done, over, stuck, union_of}
 use Rattle.kl_outcome.specs.Outcome.{Flow, stop, fine, overflow, followed, drawn, items_of, collected}
 use Rattle.kl_outcome.specs.Typed.{Inhabits, OfType}
 use Rattle.kl_core.specs.Counts.{fits_in}
-use Rattle.kl_outcome.proofs.OutcomeTypes.{FlowOf, drawn_typed, items_typed, collected_typed, over_nil, part_typed, part_is}
+use Rattle.kl_outcome.proofs.OutcomeTypes.{FlowOf, drawn_typed, items_typed, collected_typed, over_nil}
 use Rattle.kl_plan.specs.Alike.{Alike}
 use Rattle.kl_plan.specs.Kinds.{first_kind}
 use Rattle.kl_plan.specs.Meaning.{Come, one, many, worth, coming, drawn_for, come_after, come_chosen, kind_come, joined_as, come_union}
-use Rattle.kl_plan.specs.Meaning.{come_kept, on_test, tested, under_key, same_key}
+use Rattle.kl_plan.specs.Meaning.{come_kept, on_test, tested, under_key}
 use Rattle.kl_plan.proofs.Likeness.{alike_itself, alike_on, alike_followed, alike_drawn, alike_bodies, alike_fits}
 use Rattle.kl_plan.proofs.Collections.{alike_same, alike_items}
 use Rattle.kl_plan.proofs.Comings.{ComesAs, same_type, same_kind, worth_typed, coming_typed, drawn_for_typed, union_shows}

@@ -1,9 +1,9 @@
 -- Lists whose items are changed in place, one after the other.
-use Rattle.std.proofs.Common.{◌≡◌, ℕ, suc, ◌+◌, ◌<◌, ◌≤◌, ◌≢◌, List, [], ◌∷◌, ◌++◌, length, take, drop, get_or, sym, ap, subst, ◌∙◌, arith, add-one}
+use Rattle.std.proofs.Common.{◌≡◌, ℕ, suc, ◌+◌, ◌<◌, ◌≤◌, List, [], ◌∷◌, ◌++◌, length, take, drop, get_or, sym, ap, subst, ◌∙◌, arith, add-one}
 use Rattle.std.specs.Bool.{⊤}
 use Rattle.std.proofs.Math.ListN.{set}
 use Rattle.std.proofs.Math.Seq.{take-suc, take-suc-set}
-use Rattle.std.proofs.lemmas.List.{length-set, get_or-set_other, get_or_default, take_all, drop_all, append-nil}
+use Rattle.std.proofs.lemmas.List.{take_all}
 use Rattle.kl_joins.proofs.Fronts.{put_back}
 
 -- what each item becomes

@@ -17,16 +17,10 @@ branches_stand n (b ∷ bs) l =
     ap (λ y. occurs (n + 1) (view b.1) || y) (branches_stand n bs l)
     ∙ sym (or_assoc (occurs (n + 1) (view b.1)) (occurs_fields (n + 1) (fields_view bs)) (occurs_branches n l))
 
-pub case_stands : (n : ℕ) (t a b : Plan) (bs cs : List (Name × Plan)) (o : Option Plan) (r s v : Bool) → t ≡ plan.Case a bs o → b ≡ a
-    → r ≡ occurs n (view b) → cs ≡ bs
-    → s ≡ (r || occurs_fields (n + 1) (fields_view cs)) → v ≡ (s || occurs_branches n (other_node o)) → v ≡ occurs n (view t)
-case_stands n t a b bs cs o r s v is same e branches f g =
-    let first : r ≡ occurs n (view a) = e ∙ ap (λ x. occurs n (view x)) same in
-    let second : s ≡ (occurs n (view a) || occurs_fields (n + 1) (fields_view bs)) = f
-    ∙ ap (λ x. r || occurs_fields (n + 1) (fields_view x)) branches ∙ ap (λ x. x || occurs_fields (n + 1) (fields_view bs)) first in
-    g ∙ ap (λ x. x || occurs_branches n (other_node o)) second
-    ∙ or_assoc (occurs n (view a)) (occurs_fields (n + 1) (fields_view bs)) (occurs_branches n (other_node o))
-    ∙ sym (ap (occurs n) (ap view is ∙ view_Case a bs o) ∙ ap (λ y. occurs n (view a) || y) (branches_stand n bs (other_node o)))
+pub case_stands : (n : ℕ) (p a : Plan) (bs : List (Name × Plan)) (c : Option Plan) → p ≡ plan.Case a bs c
+    → occurs n (view p) ≡ (occurs n (view a) || (occurs_fields (n + 1) (fields_view bs) || occurs_branches n (other_node c)))
+case_stands n p a bs c e =
+    ap (occurs n) (ap view e ∙ view_Case a bs c) ∙ ap (λ b. occurs n (view a) || b) (branches_stand n bs (other_node c))
 
 -- ---- the list
 

@@ -15,80 +15,82 @@ use std::alloc::Global;
 pub fn occurs(plan: &Plan, at: u32) -> bool
     ensures { result ≡ occurs at (view plan.now) }
 {
-    stands(u64::from(at), plan)
+    stands(plan, u64::from(at))
 }
 
 // Under binders the position may pass 64 bits, and the count stays at its greatest value: it stands nowhere then.
 #[cycle(stands)]
-fn stands(at: u64, plan: &Plan) -> bool
+fn stands(plan: &Plan, at: u64) -> bool
     ensures { (n : ℕ) → min n (2 ^ 64 - 1) ≡ at → result ≡ occurs n (view plan.now) }
 {
     match plan {
-        Plan::Plain(term) => stands_in(at, term),
+        Plan::Plain(term) => stands_in(term, at),
         Plan::Var(x) => u64::from(*x) == at,
         Plan::Scan(_) => false,
-        Plan::Rec(fields) => stands_labelled(false, at, fields.slice()),
-        Plan::Proj(_, a) => stands(at, a.get()),
-        Plan::Inj(_, a) => stands(at, a.get()),
+        Plan::Rec(fields) => stands_labelled(fields.slice(), at),
+        Plan::Proj(_, a) => stands(a.get(), at),
+        Plan::Inj(_, a) => stands(a.get(), at),
         Plan::Case(a, branches, other) => {
-            let subject = stands(at, a.get());
-            let branch = stands_labelled(subject, at.saturating_add(1), branches.slice());
-            stands_other(branch, at, other)
+            if stands(a.get(), at) {
+                return true;
+            }
+            if stands_labelled(branches.slice(), at.saturating_add(1)) {
+                return true;
+            }
+            stands_other(other, at)
         }
-        Plan::Make(_, plans) => stands_all(false, at, plans.slice()),
-        Plan::Union(a, b) => stands(at, a.get()) || stands(at, b.get()),
+        Plan::Make(_, plans) => stands_all(plans.slice(), at),
+        Plan::Union(a, b) => stands(a.get(), at) || stands(b.get(), at),
         Plan::Ext(_, body, source) => {
-            stands(at.saturating_add(1), body.get()) || stands(at, source.get())
+            stands(body.get(), at.saturating_add(1)) || stands(source.get(), at)
         }
-        Plan::If(a, b, c) => { stands(at, a.get()) || stands(at, b.get()) || stands(at, c.get()) }
-        Plan::Let(a, b) => stands(at, a.get()) || stands(at.saturating_add(1), b.get()),
-        Plan::Prim(_, plans) => stands_all(false, at, plans.slice()),
-        Plan::Join(join) => stands_join(at, join.get()),
-        Plan::Memo(_, _, part) => stands(at, part.get()),
+        Plan::If(a, b, c) => stands(a.get(), at) || stands(b.get(), at) || stands(c.get(), at),
+        Plan::Let(a, b) => stands(a.get(), at) || stands(b.get(), at.saturating_add(1)),
+        Plan::Prim(_, plans) => stands_all(plans.slice(), at),
+        Plan::Join(join) => stands_join(join.get(), at),
+        Plan::Memo(_, _, part) => stands(part.get(), at),
     }
 }
 
 #[cycle(stands)]
-fn stands_join(at: u64, join: &Join) -> bool
+fn stands_join(join: &Join, at: u64) -> bool
     ensures { (n : ℕ) → min n (2 ^ 64 - 1) ≡ at → result ≡ occurs n (join_view join.now) }
 {
-    let inside = at.saturating_add(1);
-    let outer = stands(at, &join.outer);
-    let cond = stands_all(outer, inside, join.conds.slice());
-    let key = stands_key(cond, inside, &join.key);
-    key || stands(at.saturating_add(2), &join.body)
-}
-
-// These take whether the position stands in what is before their part.
-#[cycle(stands)]
-fn stands_key(before: bool, at: u64, key: &Option<JoinKey>) -> bool
-    ensures { (n : ℕ) → min n (2 ^ 64 - 1) ≡ at → result ≡ (before || occurs_key n (keys_view key.now)) }
-{
-    match key {
-        Some(key) => before || stands(at, &key.value),
-        None => before,
-    }
-}
-
-#[cycle(stands)]
-fn stands_other(before: bool, at: u64, other: &Option<Box<Plan>>) -> bool
-    ensures { (n : ℕ) → min n (2 ^ 64 - 1) ≡ at → result ≡ (before || occurs_branches n (other_node other.now)) }
-{
-    match other {
-        Some(other) => before || stands(at, other.get()),
-        None => before,
-    }
-}
-
-#[cycle(stands)]
-fn stands_all(before: bool, at: u64, plans: &[Plan]) -> bool
-    ensures { (n : ℕ) → min n (2 ^ 64 - 1) ≡ at → result ≡ (before || occurs_nodes n (nodes_view plans.now)) }
-{
-    if before {
+    if stands(&join.outer, at) {
         return true;
     }
-    'plans: for plan in plans {
-        if stands(at, plan) {
+    if stands_all(join.conds.slice(), at.saturating_add(1)) {
+        return true;
+    }
+    stands_key(&join.key, at.saturating_add(1)) || stands(&join.body, at.saturating_add(2))
+}
+
+#[cycle(stands)]
+fn stands_key(key: &Option<JoinKey>, at: u64) -> bool
+    ensures { (n : ℕ) → min n (2 ^ 64 - 1) ≡ at → result ≡ occurs_key n (keys_view key.now) }
+{
+    match key {
+        Some(key) => stands(&key.value, at),
+        None => false,
+    }
+}
+
+#[cycle(stands)]
+fn stands_other(other: &Option<Box<Plan>>, at: u64) -> bool
+    ensures { (n : ℕ) → min n (2 ^ 64 - 1) ≡ at → result ≡ occurs_branches n (other_node other.now) }
+{
+    match other {
+        Some(other) => stands(other.get(), at),
+        None => false,
+    }
+}
+
+#[cycle(stands)]
+fn stands_all(plans: &[Plan], at: u64) -> bool
+    ensures { (n : ℕ) → min n (2 ^ 64 - 1) ≡ at → result ≡ occurs_nodes n (nodes_view plans.now) }
+{
+    for plan in plans {
+        if stands(plan, at) {
             return true;
         }
     }
@@ -96,14 +98,11 @@ fn stands_all(before: bool, at: u64, plans: &[Plan]) -> bool
 }
 
 #[cycle(stands)]
-fn stands_labelled(before: bool, at: u64, parts: &[(Label, Plan)]) -> bool
-    ensures { (n : ℕ) → min n (2 ^ 64 - 1) ≡ at → result ≡ (before || occurs_fields n (fields_view parts.now)) }
+fn stands_labelled(parts: &[(Label, Plan)], at: u64) -> bool
+    ensures { (n : ℕ) → min n (2 ^ 64 - 1) ≡ at → result ≡ occurs_fields n (fields_view parts.now) }
 {
-    if before {
-        return true;
-    }
-    'parts: for part in parts {
-        if stands(at, &part.1) {
+    for part in parts {
+        if stands(&part.1, at) {
             return true;
         }
     }
@@ -159,6 +158,7 @@ fn reads(plan: &Plan) -> bool
     }
 }
 
+// Takes whether a scan stands before it.
 #[cycle(reads)]
 fn reads_other(before: bool, other: &Option<Box<Plan>>) -> bool
     ensures { result ≡ (before || some (scans_of_branches (other_node other.now))) }
@@ -182,6 +182,7 @@ fn reads_all(plans: &[Plan]) -> bool
     false
 }
 
+// Takes whether a scan stands before them.
 #[cycle(reads)]
 #[tactic(auto, using(crate::proofs::Reading::some_then))]
 fn reads_labelled(before: bool, parts: &[(Label, Plan)]) -> bool

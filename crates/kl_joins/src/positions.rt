@@ -9,42 +9,42 @@ use kl_core::Term;
 /// Whether the free position `at` stands in the term. It may pass 64 bits, and the count stays at its greatest value: it stands
 /// nowhere then.
 #[cycle(stands_in)]
-pub fn stands_in(at: u64, term: &Term) -> bool
+pub fn stands_in(term: &Term, at: u64) -> bool
     ensures { (n : ℕ) → min n (2 ^ 64 - 1) ≡ at → result ≡ occurs_in n (view term.now) }
 {
     match term {
         Term::Var(x) => u64::from(*x) == at,
         Term::Const(_) | Term::Source(_) => false,
-        Term::Rec(fields) => stands_labelled(at, fields.slice()),
-        Term::Proj(_, a) => stands_in(at, a.get()),
-        Term::Inj(_, a) => stands_in(at, a.get()),
+        Term::Rec(fields) => stands_labelled(fields.slice(), at),
+        Term::Proj(_, a) => stands_in(a.get(), at),
+        Term::Inj(_, a) => stands_in(a.get(), at),
         Term::Case(a, branches, other) => {
-            stands_in(at, a.get())
-                || stands_labelled(at.saturating_add(1), branches.slice())
+            stands_in(a.get(), at)
+                || stands_labelled(branches.slice(), at.saturating_add(1))
                 || match other {
-                    Some(other) => stands_in(at, other.get()),
+                    Some(other) => stands_in(other.get(), at),
                     None => false,
                 }
         }
-        Term::Make(_, terms) => stands_all(at, terms.slice()),
-        Term::Union(a, b) => stands_in(at, a.get()) || stands_in(at, b.get()),
+        Term::Make(_, terms) => stands_all(terms.slice(), at),
+        Term::Union(a, b) => stands_in(a.get(), at) || stands_in(b.get(), at),
         Term::Ext(_, body, source) => {
-            stands_in(at.saturating_add(1), body.get()) || stands_in(at, source.get())
+            stands_in(body.get(), at.saturating_add(1)) || stands_in(source.get(), at)
         }
         Term::If(a, b, c) => {
-            stands_in(at, a.get()) || stands_in(at, b.get()) || stands_in(at, c.get())
+            stands_in(a.get(), at) || stands_in(b.get(), at) || stands_in(c.get(), at)
         }
-        Term::Let(a, b) => { stands_in(at, a.get()) || stands_in(at.saturating_add(1), b.get()) }
-        Term::Prim(_, terms) => stands_all(at, terms.slice()),
+        Term::Let(a, b) => { stands_in(a.get(), at) || stands_in(b.get(), at.saturating_add(1)) }
+        Term::Prim(_, terms) => stands_all(terms.slice(), at),
     }
 }
 
 #[cycle(stands_in)]
-fn stands_all(at: u64, terms: &[Term]) -> bool
+fn stands_all(terms: &[Term], at: u64) -> bool
     ensures { (n : ℕ) → min n (2 ^ 64 - 1) ≡ at → result ≡ occurs_trees n (trees_view terms.now) }
 {
     for term in terms {
-        if stands_in(at, term) {
+        if stands_in(term, at) {
             return true;
         }
     }
@@ -52,11 +52,11 @@ fn stands_all(at: u64, terms: &[Term]) -> bool
 }
 
 #[cycle(stands_in)]
-fn stands_labelled(at: u64, parts: &[(Label, Term)]) -> bool
+fn stands_labelled(parts: &[(Label, Term)], at: u64) -> bool
     ensures { (n : ℕ) → min n (2 ^ 64 - 1) ≡ at → result ≡ occurs_parts n (parts_view parts.now) }
 {
     for part in parts {
-        if stands_in(at, &part.1) {
+        if stands_in(&part.1, at) {
             return true;
         }
     }
