@@ -27,6 +27,7 @@ use Rattle.kl_ship.specs.Bodies.{outer_body, inner_body}
 use Rattle.kl_ship.specs.Delegation.{constant, test_between, test_of, taken_before, taken, whole_use, column_use}
 use Rattle.kl_ship.specs.Whether.{is_loop_by}
 use Rattle.kl_ship.proofs.Deciding.{kinds_are, kind_is}
+use Rattle.kl_ship.proofs.Finding.{none_of}
 use Rattle.kl_ship.proofs.JoinBodies.{outer_erased, whole_inner, column_inner}
 use Rattle.kl_ship.proofs.JoinsSight.{test_of_key}
 
@@ -51,10 +52,6 @@ other_kind k j c t h = front_by k j c t (total_in c) false refl h ∙ by (total_
 
 not_total : (k j : Kind) (c t : Tree) → total_in c ≡ false → taken k 1 (If c t (Make j no_trees)) ≡ []
 not_total k j c t h = front_by k j c t false (same_kind j k) h refl
-
-none_of : (o : Option SqlTest) → is_some o ≡ false → o ≡ None
-none_of None h = refl
-none_of (Some q) h = cc
 
 no_test : (k : Kind) (c t : Tree) → total_in c ≡ true → is_some (test_of 1 c) ≡ false → taken k 1 (If c t (Make k no_trees)) ≡ taken k 1 t
 no_test k c t e h = front_by k k c t true true e (kind_is k) ∙ ap (λ o. taken_before o (taken k 1 t)) (none_of (test_of 1 c) h)

@@ -65,16 +65,16 @@ plans_not_empty k j p ps (q ∷ qs) e f h =
 
 -- ---- a front
 
-is_none : (o : Option SqlTest) → is_some o ≡ false → o ≡ None
-is_none None h = refl
-is_none (Some q) h = cc
+pub none_of : (o : Option SqlTest) → is_some o ≡ false → o ≡ None
+none_of None h = refl
+none_of (Some q) h = cc
 
 -- behind a total condition that is no test
 pub none_taken : {P : Type 0} (E : P → Tree) (k : Kind) (n : ℕ) (p c d e a b x y : P) (f g r : Bool) → E p ≡ If (E c) (E d) (E e) → a ≡ c → x ≡ e → f ≡ is_front k (E a) (E x) → f ≡ true
     → b ≡ c → g ≡ is_some (test_of n (E b)) → g ≡ false → y ≡ d → r ≡ (length (taken k n (E y)) == 0) → r ≡ (length (taken k n (E p)) == 0)
 none_taken E k n p c d e a b x y f g r is ac xe hf tf bc hg ng yd hr =
     let front : is_front k (E c) (E e) ≡ true = sym (ap (λ z. is_front k (E z) (E e)) ac) ∙ sym (ap (λ z. is_front k (E a) (E z)) xe) ∙ sym hf ∙ tf in
-    let none : test_of n (E c) ≡ None = is_none (test_of n (E c)) (sym (ap (λ z. is_some (test_of n (E z))) bc) ∙ sym hg ∙ ng) in
+    let none : test_of n (E c) ≡ None = none_of (test_of n (E c)) (sym (ap (λ z. is_some (test_of n (E z))) bc) ∙ sym hg ∙ ng) in
     let same : taken k n (E p) ≡ taken k n (E d) =
     ap (taken k n) is ∙ ap (λ z. cond z (taken_before (test_of n (E c)) (taken k n (E d))) []) front ∙ ap (λ o. taken_before o (taken k n (E d))) none in
     hr ∙ ap (λ z. length (taken k n (E z)) == 0) yd ∙ ap (λ z. length z == 0) (sym same)

@@ -31,7 +31,7 @@ use Rattle.kl_ship.specs.Delegation.{whole_use, column_use}
 use Rattle.kl_ship.proofs.Deciding.{kind_is}
 use Rattle.kl_ship.proofs.Fully.{SameTree, itself}
 use Rattle.kl_ship.proofs.RaisedUses.{constant_raised, no_column_raised, none_behind_none}
-use Rattle.kl_ship.proofs.Sight.{SameSight, see_itself, EachSight, SameParts, SameArms, see_rec, see_proj, see_inj, see_case, see_make}
+use Rattle.kl_ship.proofs.Sight.{SameSight, see_itself, seen_from, EachSight, SameParts, SameArms, see_rec, see_proj, see_inj, see_case, see_make}
 use Rattle.kl_ship.proofs.Sight.{see_union}
 use Rattle.kl_ship.proofs.Sight.{see_ext, see_if, see_let, see_prim, see_no_parts, see_parts, see_no_arms, see_rest, see_arm, see_key}
 use Rattle.kl_ship.proofs.Sight.{around_erased, see_around}
@@ -195,9 +195,6 @@ without_bare how (key l v) k way.Index y z m b =
     let inner = node.If m.2 m.3 (node.Make k no_nodes) in
     subst Bare (sym m.6)
     (bare_around k m.1 m.3 (bare_conds k m.1 inner d) (bare_yes m.2 m.3 (node.Make k no_nodes) (bare_within k m.1 inner d)))
-
-abbrev seen_from : (p q : Node) (t : Tree) → p ≡ q → SameSight (erased q) t → SameSight (erased p) t
-seen_from p q t e h = subst (λ x. SameSight (erased x) t) (sym e) h
 
 -- a key taken out of the front: the same uses, and no test where there was none
 pub record Fronted (k : Kind) (y : Node) (t : Tree) : Type 0 where

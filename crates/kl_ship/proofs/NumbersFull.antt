@@ -11,15 +11,12 @@ use Rattle.kl_plan.specs.Nodes.{no_key, key}
 use Rattle.kl_joins.specs.Numbered.{SameScan, SamePlan, SameNodes, SameFields, SameBranches, SameKey}
 use Rattle.kl_ship.specs.declared.source.ShipSource.{ShipSource}
 use Rattle.kl_ship.specs.Full.{IsReading, IsLoopOver, FullyShipped, FullNodes, FullFields, FullBranches, FullKey}
-use Rattle.kl_ship.proofs.Sight.{SameSight, see_itself, EachSight, SameParts, SameArms, see_rec, see_proj, see_inj, see_case, see_make}
+use Rattle.kl_ship.proofs.Sight.{SameSight, see_itself, seen_from, EachSight, SameParts, SameArms, see_rec, see_proj, see_inj, see_case, see_make}
 use Rattle.kl_ship.proofs.Sight.{see_union}
 use Rattle.kl_ship.proofs.Sight.{see_ext, see_if, see_let, see_prim, see_source, see_no_parts, see_parts, see_no_arms, see_rest, see_arm}
 use Rattle.kl_ship.proofs.Sight.{see_key}
 use Rattle.kl_ship.proofs.Sight.{around_erased, keyed_erased, see_around}
 use Rattle.kl_ship.proofs.Moved.{HasLike, Moves, moves_by, scan_moved, source_moved}
-
-abbrev seen_from : (p q : Node) (t : Tree) → p ≡ q → SameSight (erased q) t → SameSight (erased p) t
-seen_from p q t e h = subst (λ x. SameSight (erased x) t) (sym e) h
 
 -- the inner loop of a join
 abbrev inner_tree : Kind → Scan → Key → Node → Tree

@@ -1,6 +1,6 @@
 -- Terms of which the same is seen: the same uses of each position, and the same tests of the nearest row, alone and in the front.
 use Rattle.std.proofs.Common.{◌≡◌, inr, ℕ, zero, suc, ◌+◌, arith, not, ◌&&◌, ◌||◌, cond, nat_eq, [], Option, Some, None, refl, sym, ap}
-use Rattle.std.proofs.Common.{◌∙◌}
+use Rattle.std.proofs.Common.{subst, ◌∙◌}
 use Rattle.std.specs.Cmp.Lexicographic.{pointwise}
 use mathlib.Core.Path.{ap₂}
 use Rattle.kl_value.specs.declared.Kind.{Kind}
@@ -33,6 +33,9 @@ pub record SameSight (t u : Tree) : Type 0 where
 pub see_itself : (t : Tree) → SameSight t t
 see_itself t =
     record { tree = itself t; position = refl; value = refl; column = refl; test = refl; empty = λ k. refl; front = λ k. refl }
+
+abbrev pub seen_from : (p q : Node) (t : Tree) → p ≡ q → SameSight (erased q) t → SameSight (erased p) t
+seen_from p q t e h = subst (λ x. SameSight (erased x) t) (sym e) h
 
 abbrev pub EachSight : Trees → Trees → Type 0
 EachSight no_trees no_trees = Unit {0}
