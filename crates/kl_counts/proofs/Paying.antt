@@ -2,10 +2,9 @@
 use Rattle.std.proofs.Common.{◌≡◌, ℕ, zero, suc, ◌+◌, ◌*◌, Bool, true, false, List, [], ◌∷◌, ◌++◌, Option, Some, None, cond, nat_eq, refl, ◌∙◌, arith}
 use Rattle.std.specs.Cmp.Lexicographic.{pointwise}
 use Rattle.std.proofs.Math.Nat.{suc-mul}
-use Rattle.std.proofs.lemmas.List.Sums.{sum_by-cons}
 use Rattle.kl_value.specs.Views.{as_bool, field_at}
 use Rattle.kl_value.specs.declared.Value.{Value}
-use Rattle.kl_outcome.specs.Outcome.{Name, Outcome, done, over, stuck, Flow, more, stop, items_in, as_variant}
+use Rattle.kl_outcome.specs.Outcome.{Name, Outcome, done, over, stuck, Flow, more, stop, as_variant}
 use Rattle.kl_ask.specs.declared.settings.JoinHow.{JoinHow}
 use Rattle.kl_plan.specs.Alike.{weight}
 use Rattle.kl_plan.specs.declared.plan.Scan.{Scan}
@@ -20,6 +19,7 @@ use Rattle.kl_plan.specs.Subqueries.{Subquery, values_at}
 use Rattle.kl_plan.specs.Prices.{Prices, inner_starts, executed}
 use Rattle.kl_scans.specs.Log.{Event, started, joined, missed, hit, paid}
 use Rattle.kl_counts.specs.Machine.{Entries, Act, idle, then_do, done_once, often, at_value, chosen, opened, each, looks, run, run_nodes, run_fields, run_branch, run_conds, run_key}
+use Rattle.kl_counts.proofs.Pricing.{weight_more}
 
 module _ (same : Subquery → Subquery → Bool) (capacity : ℕ) (value : Subquery → Value) (t : Stage) (P : Prices) where
   abbrev R : Readings
@@ -40,9 +40,6 @@ module _ (same : Subquery → Subquery → Bool) (capacity : ℕ) (value : Subqu
 
   then_pays : (a b : Act) (x y : ℕ) → Pays a x → Pays b y → Pays (then_do a b) (x + y)
   then_pays a b x y p q m = let l = (p m).is in let r = (q (a m).1).is in record { is = omega (arith, paid_then t P (a m).0 (b (a m).1).0) }
-
-  weight_more : (w : Value → ℕ) (v : Value) (f : Flow) → w v + weight w f ≡ weight w (more v f)
-  weight_more w v f = omega (arith, sum_by-cons w v (items_in f))
 
   each_pays : (go : Value → Act) (w : Value → ℕ) (f : Flow) → ((v : Value) → Pays (go v) (w v)) → Pays (each go f) (weight w f)
   each_pays go w (more v f) h = λ m. record { is = (then_pays (go v) (each go f) (w v) (weight w f) (h v) (each_pays go w f h) m).is ∙ weight_more w v f }

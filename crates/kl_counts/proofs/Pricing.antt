@@ -16,6 +16,9 @@ use Rattle.kl_plan.specs.Subqueries.{values_at}
 use Rattle.kl_plan.specs.Prices.{Prices, executed}
 use Rattle.kl_counts.specs.Places.{Places, PlacesNodes, PlacesFields, PlacesBranches, PlacesKey}
 
+pub weight_more : (w : Value → ℕ) (v : Value) (f : Flow) → w v + weight w f ≡ weight w (more v f)
+weight_more w v f = omega (arith, sum_by-cons w v (items_in f))
+
 -- Rel holds of what it comes to where it holds of the prices, if it holds of nothing and of sums. E is what is known of positions.
 module _ (R : Readings) (block : ℕ) (P Q : Prices) (Rel : ℕ → ℕ → Type 0) (none : Rel 0 0) (plus : (a b c d : ℕ) → Rel a b → Rel c d → Rel (a + c) (b + d))
     (S : Scan → Type 0) (J : ℕ → JoinHow → Scan → Type 0) (M : ℕ → ℕ → List ℕ → Node → Type 0)
@@ -25,9 +28,6 @@ module _ (R : Readings) (block : ℕ) (P Q : Prices) (Rel : ℕ → ℕ → Type
     (memo : (d n : ℕ) (frees : List ℕ) (p : Node) → M d n frees p → (env : List Value) → E d env
     → Rel (P.memo n (values_at env frees) + reached R block P p env) (Q.memo n (values_at env frees) + reached R block Q p env))
   where
-    weight_more : (w : Value → ℕ) (v : Value) (f : Flow) → w v + weight w f ≡ weight w (more v f)
-    weight_more w v f = omega (arith, sum_by-cons w v (items_in f))
-
     each_rel : (w z : Value → ℕ) (f : Flow) → ((v : Value) → Rel (w v) (z v)) → Rel (weight w f) (weight z f)
     each_rel w z (more v f) h = subst (λ a. Rel a (weight z (more v f))) (weight_more w v f) (subst (Rel (w v + weight w f)) (weight_more z v f) (plus (w v) (z v) (weight w f) (weight z f) (h v) (each_rel w z f h)))
     each_rel w z (stop e) h = none
