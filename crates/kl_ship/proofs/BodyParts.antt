@@ -20,7 +20,7 @@ use Rattle.kl_plan.specs.Erased.{key_test, erased, erased_around, erased_keyed}
 use Rattle.kl_plan.specs.Joins.{join_view, keys_view}
 use Rattle.kl_plan.specs.Loops.{around, keyed}
 use Rattle.kl_plan.specs.Nodes as node
-use Rattle.kl_plan.specs.Nodes.{Node, Nodes, no_nodes, nodes, Key, no_key, key, view, nodes_view}
+use Rattle.kl_plan.specs.Nodes.{Nodes, no_nodes, nodes, Key, key, view, nodes_view}
 use Rattle.kl_plan.proofs.TotalJoins.{total_key_test}
 use Rattle.kl_plan.proofs.Views.{view_join, view_key}
 use Rattle.kl_ship.specs.Bodies.{outer_body, inner_body}

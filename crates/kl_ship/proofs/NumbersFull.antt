@@ -1,5 +1,5 @@
 -- Whether work is left in a plan does not rest on its numbers.
-use Rattle.std.proofs.Common.{◌≡◌, List, refl, sym, subst}
+use Rattle.std.proofs.Common.{List, refl, sym, subst}
 use Rattle.kl_value.specs.declared.Kind.{Kind}
 use Rattle.kl_core.specs.Trees.{Tree, Var, Source, Make, Ext, no_trees}
 use Rattle.kl_plan.specs.declared.plan.Scan.{Scan}
