@@ -15,11 +15,16 @@ use std::alloc::Global;
 ///   the page, and it took a front of it.
 /// - `joins`: the executions of joins that the trace tells, a list of records `[join=0, outer=7, starts=3]`; any if it is left out.
 /// - `piece`: how many bytes of a piece `out` and `err` take at most; all if it is left out.
+/// - `changes`: a list of records `[path="r.kx", opening=2, text=..]`: from that opening on, counted from 1, the path has this
+///   text. The call and the drivers of tables, of files of values and of SQL read the same files, which change for each of
+///   them alike, but each counts its own openings.
 /// - `files_fail`, `flat_fails`, `nested_fails`, `sql_fails`, `out_fails`, `err_fails`: lists of the calls that fail,
-///   counted from 1. The drivers of tables, of files of values and of SQL read the same files, but each counts its own
-///   calls.
+///   counted from 1. Here too each counts its own calls.
 /// - `turns`: `<files=3>` has the case run three times, where one call of files fails each time, from the first to the
 ///   third. So do `<flat=3>`, `<nested=3>` and `<sql=3>` with a driver's files, and `<out=3>` and `<err=3>` with writes.
+/// - `every`: `<files="{1}\n">` has the case run with a call of files that fails, from the first on, until a run ends well: with
+///   status 0, this text on `out` and nothing on `err`. At least one run comes before it, and each ends as the case says.
+///   So do `<flat=..>`, `<nested=..>`, `<sql=..>`, `<out=..>` and `<err=..>`. It takes the place of `turns`.
 ///
 /// A text is a text, or a list of parts one behind the other: each a text, or a record `[text="{", times=256]`.
 #[derive(Drop)]
@@ -27,6 +32,7 @@ pub struct Case {
     pub shows: Vec<u8>,
     pub given: Given,
     pub wanted: Wanted,
+    pub last: Option<Wanted>,
 }
 
 /// What the top call is given.
@@ -34,9 +40,18 @@ pub struct Case {
 pub struct Given {
     pub words: Vec<String>,
     pub files: Vec<(Text, Text)>,
+    pub changes: Vec<Change>,
     pub piece: usize,
     pub fails: Fails,
     pub turns: Turns,
+}
+
+/// What a path has from one of its openings on, counted from 1.
+#[derive(Drop)]
+pub struct Change {
+    pub path: Text,
+    pub opening: u64,
+    pub text: Text,
 }
 
 /// What it is to answer.
@@ -107,7 +122,7 @@ pub enum Side {
 }
 
 // The fields of a case.
-const LABELS: [&[u8]; 16] = [
+const LABELS: [&[u8]; 18] = [
     b"shows",
     b"words",
     b"files",
@@ -117,6 +132,7 @@ const LABELS: [&[u8]; 16] = [
     b"err",
     b"joins",
     b"piece",
+    b"changes",
     b"files_fail",
     b"flat_fails",
     b"nested_fails",
@@ -124,7 +140,11 @@ const LABELS: [&[u8]; 16] = [
     b"out_fails",
     b"err_fails",
     b"turns",
+    b"every",
 ];
+
+// How many turns a case has at most that is run until a run ends well.
+const MOST_TURNS: u64 = 4096;
 
 /// The case that a record tells.
 ///
@@ -138,10 +158,12 @@ pub fn read_case(alloc: Global, value: &Value) -> Result<Case> {
     let shows = text_at(alloc, fields, b"shows")?;
     let given = read_given(alloc, fields)?;
     let wanted = read_wanted(alloc, fields)?;
+    let last = read_last(alloc, fields)?;
     Ok(Case {
         shows,
         given,
         wanted,
+        last,
     })
 }
 
@@ -159,10 +181,12 @@ fn read_given(alloc: Global, fields: &[(Label, Value)]) -> Result<Given> {
     let turns = read_turns(fields)?;
     let words = read_words(alloc, items_at(fields, b"words")?)?;
     let files = read_files(alloc, items_at(fields, b"files")?)?;
+    let changes = read_changes(alloc, items_at(fields, b"changes")?)?;
     let fails = read_fails(alloc, fields)?;
     Ok(Given {
         words,
         files,
+        changes,
         piece,
         fails,
         turns,
@@ -189,6 +213,22 @@ fn read_wanted(alloc: Global, fields: &[(Label, Value)]) -> Result<Wanted> {
         err,
         joins,
     })
+}
+
+// What the run that ends well is to answer, where a case is run until one does.
+fn read_last(alloc: Global, fields: &[(Label, Value)]) -> Result<Option<Wanted>> {
+    let Some(every) = find(fields, b"every") else {
+        return Ok(None);
+    };
+    let Value::Inj(_, page) = every else {
+        bail!("what fails until a run ends well is a variant");
+    };
+    Ok(Some(Wanted {
+        status: 0,
+        out: Took::All(read_text(alloc, page.get())?),
+        err: Took::All(Vec::new(alloc)),
+        joins: None,
+    }))
 }
 
 fn read_joins(alloc: Global, items: &[Value]) -> Result<Vec<JoinRun>> {
@@ -239,6 +279,13 @@ fn read_fails(alloc: Global, fields: &[(Label, Value)]) -> Result<Fails> {
 }
 
 fn read_turns(fields: &[(Label, Value)]) -> Result<Turns> {
+    if let Some(Value::Inj(label, _)) = find(fields, b"every") {
+        let of = read_side(label.slice())?;
+        return Ok(Turns {
+            of,
+            count: MOST_TURNS,
+        });
+    }
     let Some(turns) = find(fields, b"turns") else {
         return Ok(Turns {
             of: Side::Files,
@@ -300,6 +347,27 @@ fn read_file(alloc: Global, fields: &[(Label, Value)]) -> Result<(Text, Text)> {
     let path = text_at(alloc, fields, b"path")?;
     let text = text_at(alloc, fields, b"text")?;
     Ok((Text::of(path), Text::of(text)))
+}
+
+fn read_changes(alloc: Global, items: &[Value]) -> Result<Vec<Change>> {
+    let mut changes = Vec::new(alloc);
+    for item in items {
+        changes.push(read_change(alloc, read_fields(item)?)?)?;
+    }
+    Ok(changes)
+}
+
+fn read_change(alloc: Global, fields: &[(Label, Value)]) -> Result<Change> {
+    let Some(opening) = find(fields, b"opening") else {
+        bail!("the opening of a change is wanted");
+    };
+    let opening = u64::try_from(read_int(opening)?)?;
+    let (path, text) = read_file(alloc, fields)?;
+    Ok(Change {
+        path,
+        opening,
+        text,
+    })
 }
 
 /// What stands at a label, or none.

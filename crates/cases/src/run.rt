@@ -4,7 +4,7 @@ ghost use Rattle.kl_engine.specs.Answering.{IsIdle};
 ghost use Rattle.kl_outside.specs.Files.{NoneOpen};
 ghost use Rattle.kl_outside.specs.Memory.{files_state};
 
-use crate::case::{Case, Side, read_case};
+use crate::case::{Case, Side, Wanted, read_case};
 use crate::pieces::Pieces;
 use anyhow::{Context, Result};
 use kl_ask::{Driver, JoinRun};
@@ -28,11 +28,18 @@ pub fn try_value(alloc: Global, value: &Value) -> Result<Option<Vec<u8>>> {
 }
 
 fn try_case(alloc: Global, case: &Case) -> Result<Option<Vec<u8>>> {
+    match &case.last {
+        Some(last) => try_until(alloc, case, last),
+        None => try_turns(alloc, case),
+    }
+}
+
+fn try_turns(alloc: Global, case: &Case) -> Result<Option<Vec<u8>>> {
     if case.given.turns.count == 0 {
-        return try_turn(alloc, case, 0);
+        return try_turn(alloc, case, &case.wanted, 0);
     }
     for turn in 0..case.given.turns.count {
-        let line = try_turn(alloc, case, turn + 1)?;
+        let line = try_turn(alloc, case, &case.wanted, turn + 1)?;
         if line.is_some() {
             return Ok(line);
         }
@@ -40,8 +47,22 @@ fn try_case(alloc: Global, case: &Case) -> Result<Option<Vec<u8>>> {
     Ok(None)
 }
 
+// Runs a case until a run is not as the case says, which is to be the last one, and not the first.
+fn try_until(alloc: Global, case: &Case, last: &Wanted) -> Result<Option<Vec<u8>>> {
+    let first = try_turn(alloc, case, &case.wanted, 1)?;
+    if first.is_some() {
+        return Ok(first);
+    }
+    for turn in 1..case.given.turns.count {
+        if try_turn(alloc, case, &case.wanted, turn + 1)?.is_some() {
+            return try_turn(alloc, case, last, turn + 1);
+        }
+    }
+    try_turn(alloc, case, last, case.given.turns.count)
+}
+
 // Runs a case where this call fails too. There is no call 0.
-fn try_turn(alloc: Global, case: &Case, call: u64) -> Result<Option<Vec<u8>>> {
+fn try_turn(alloc: Global, case: &Case, wanted: &Wanted, call: u64) -> Result<Option<Vec<u8>>> {
     let mut files = files_of(alloc, case, &case.given.fails.files, Side::Files, call)?;
     let tables = files_of(alloc, case, &case.given.fails.flat, Side::Flat, call)?;
     let items = files_of(alloc, case, &case.given.fails.nested, Side::Nested, call)?;
@@ -55,13 +76,14 @@ fn try_turn(alloc: Global, case: &Case, call: u64) -> Result<Option<Vec<u8>>> {
     add_driver(&mut drivers, nested)?;
     add_driver(&mut drivers, sql)?;
     add_driver(&mut drivers, made)?;
-    try_over(alloc, case, call, &mut files, &mut drivers)
+    try_over(alloc, case, wanted, call, &mut files, &mut drivers)
 }
 
 // Runs a case over these files and drivers.
 fn try_over(
     alloc: Global,
     case: &Case,
+    wanted: &Wanted,
     call: u64,
     files: &mut MemFiles,
     drivers: &mut Vec<Box<dyn Driver>>,
@@ -76,6 +98,7 @@ fn try_over(
     differs(
         alloc,
         case,
+        wanted,
         call,
         status,
         answer.trace.joins.slice(),
@@ -88,13 +111,14 @@ fn try_over(
 fn differs(
     alloc: Global,
     case: &Case,
+    wanted: &Wanted,
     call: u64,
     status: i64,
     joins: &[JoinRun],
     out: &[u8],
     err: &[u8],
 ) -> Result<Option<Vec<u8>>> {
-    if case.wanted.fits(status, joins, out, err) {
+    if wanted.fits(status, joins, out, err) {
         Ok(None)
     } else {
         Ok(Some(line_of(alloc, case, call, status, joins, out, err)?))
@@ -112,6 +136,13 @@ fn files_of(alloc: Global, case: &Case, fails: &[u64], side: Side, call: u64) ->
     let mut files = MemFiles::new(alloc, entries_of(alloc, case)?);
     'calls: for failing in fails {
         files.fail_at(*failing)?;
+    }
+    'changes: for change in &case.given.changes {
+        files.change_at(
+            change.opening,
+            change.path.dup(alloc)?,
+            change.text.dup(alloc)?,
+        )?;
     }
     files.fail_at(call_of(case, side, call))?;
     Ok(files)
