@@ -7,7 +7,7 @@ each run that does not end as docs/LANGUAGE.md says.
 What is changed are the examples, by each catalogue beside them and by none, and the cases of crates/cases/data that say words
 and files. Of an input some bytes are put in place of others, put in, taken out or doubled; some are words of the language and
 pieces of other files. The command and its options are mostly those of the case, and else others that fit it. Made rows are kept
-at 2,000, so that a loop over loops of them ends.
+at 300, so that loops in loops over them end.
 
 Each run has a folder of its own, T seconds (10), MB of address space (512; 0 for no bound) and a stack of MB (4; 0 for that of
 the shell). It has to end with a status of the table, not by a signal and not by the clock:
@@ -24,7 +24,7 @@ import argparse, collections, multiprocessing, os, random, re, resource, shutil,
 TOP = os.path.dirname(os.path.dirname(os.path.abspath(__file__)))
 # What one seed may hold, and how many made rows there may be.
 MOST_BYTES = 200_000
-MOST_ROWS = 2_000
+MOST_ROWS = 300
 
 NUMBER = rb"[0-9]+"
 NAME = rb"[A-Za-z_][A-Za-z_0-9]*"
