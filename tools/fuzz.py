@@ -245,7 +245,10 @@ def input_of(jobs, by_sort, seed, number):
     choose = random.Random(f"{seed} {number}")
     job = choose.choice(jobs)
     files = dict(job.files)
-    for path in choose.sample(sorted(files), min(len(files), choose.choice((1, 1, 1, 2)))):
+    paths = sorted(files)
+    # (most changes of a program or a catalogue only make it none)
+    weights = [1 if sort_of(path) in (".cpl", ".cat") else 2 for path in paths]
+    for path in sorted(set(choose.choices(paths, weights, k=choose.choice((1, 1, 1, 2))))):
         files[path] = changed(files[path], by_sort[sort_of(path)], choose)
     for path in files:
         if sort_of(path) == ".cat":
