@@ -187,7 +187,8 @@ def all_jobs():
             continue
         seen.add(key)
         if job.words and all(is_sound(path) for path, _ in job.files):
-            jobs.append(job)
+            # (one over sources stands there four times, since it goes the whole way)
+            jobs += [job] * (4 if len(job.files) > 2 else 1)
     return jobs
 
 
