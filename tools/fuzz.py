@@ -179,7 +179,7 @@ def is_sound(path):
 
 
 def all_jobs():
-    """Each once, of those whose files are not too large and lie below the folder of their run."""
+    """All whose files are not too large and lie below the folder of their run; those over sources more than once."""
     seen, jobs = set(), []
     for job in [*examples(), *cases()]:
         key = repr((job.words, job.files))
