@@ -236,7 +236,7 @@ inside_reason env p s x i why.Overflow a b c m r = λ G k u e f told.
 inside_reason env p s x i (why.Driver l y) a b c m r = refused_before (λ all. PartsLeft all (inside p s x i)) (λ all. PartsLeft all i) l y (uses s) nothing a b c (λ all h. h.2) r m
 inside_reason env p s x i why.NoMemory a b c m r = tt
 
-abbrev beside_none : (u v : Uses) (a b : Running) → Moves v nothing a b → Moves (beside u v) u a b
+abbrev pub beside_none : (u v : Uses) (a b : Running) → Moves v nothing a b → Moves (beside u v) u a b
 beside_none u v a b m = moves_same (beside u v) (beside u v) (beside u nothing) u a b (λ d k. refl) (λ d k. omega arith) (moves_beside u v nothing a b m)
 
 pub inside_stop : (env : List Value) (p : Node) (s : Snap) (x : Value) (i : Snap) (e : EvalStop) (a b c : Running) → Stops (x ∷ env) i e a b → Closes (uses s) b c → Stops env (inside p s x i) e a c

@@ -42,7 +42,7 @@ NoScan s = (c : Scan) → IsScan c s → ⊥
 abbrev pub NoLoop : List Value → Snap → Type 0
 NoLoop env s = (R : Readings) (w : Running) (b : Node) (c : Scan) (all : List Value) (drawn handed used : ℕ) → LoopOver R w env b c all drawn handed used s → ⊥
 
-never_spares : (more : ℕ) (env : List Value) (s t : Snap) (a b : Running) → NoScan s → NoLoop env s → KeepsLazy more env s a t b
+pub never_spares : (more : ℕ) (env : List Value) (s t : Snap) (a b : Running) → NoScan s → NoLoop env s → KeepsLazy more env s a t b
 never_spares more env s t a b f g = record {
   scan = λ c all used handed told h. absurd (f c h.scan);
   loop = λ R p c all drawn handed told h. absurd (g R a p c all drawn handed h.used h.loops);

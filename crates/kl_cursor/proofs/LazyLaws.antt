@@ -14,7 +14,7 @@ use Rattle.kl_plan.specs.Nodes.{Node}
 use Rattle.kl_scans.specs.Log as log
 use Rattle.kl_scans.specs.Log.{Event, handed_after, rows_at}
 use Rattle.kl_cursor.specs.Laziness.{Fetching, Frugal, Handed, LazyLoop, ListTold, LoopOver, KeepsLazy, items_at, rows_in, only_scan, empty_listing}
-use Rattle.kl_cursor.specs.Left.{Snap, fresh, have, pulling, both, bound, outside, inside, made, ended, taking, reads, pairing, joining, matching, reading}
+use Rattle.kl_cursor.specs.Left.{Snap, fresh, have, pulling, both, bound, outside, inside, made, ended, taking, reads, pairing, joining, matching, leading, reading}
 use Rattle.kl_cursor.specs.Steps.{AreOf}
 use Rattle.kl_cursor.proofs.Handing.{handed_none, handed_then}
 
@@ -39,6 +39,7 @@ module _ (R : Readings) (w : Running) (env : List Value) (b : Node) (c : Scan) (
   frugal_at used (pairing k p xs s) l before = absurd l
   frugal_at used (joining j s h n) l before = absurd l
   frugal_at used (matching p ys x s) l before = absurd l
+  frugal_at used (leading x i s) l lower = absurd l
 
   pub lazy_frugal : (s : Snap) → LazyLoop R w env b c all drawn drawn handed s → Frugal R w.settings.fetch env b all drawn handed
   lazy_frugal s h = frugal_at h.used s h.loops h.before

@@ -58,3 +58,8 @@ pub mod Positions
 pub mod Recalling
 pub mod MemoCode
 pub mod Drained
+pub mod JoinDraws
+pub mod FindCode
+pub mod PairCode
+pub mod KeyedCode
+pub mod JoinStarts

@@ -15,7 +15,7 @@ use Rattle.kl_scans.specs.Moves.{Closes, Moves}
 use Rattle.kl_scans.proofs.Moving.{logged_none, unmoved}
 use Rattle.kl_cursor.specs.declared.state.State.{State}
 use Rattle.kl_cursor.specs.declared.state.State.TheVariants as state
-use Rattle.kl_cursor.specs.Left.{Snap, fresh, have, pulling, both, bound, outside, inside, made, ended, taking, reads, pairing, joining, matching, snap, uses, PartsLeft}
+use Rattle.kl_cursor.specs.Left.{Snap, fresh, have, pulling, both, bound, outside, inside, made, ended, taking, reads, pairing, joining, matching, leading, snap, uses, PartsLeft}
 use Rattle.kl_cursor.specs.Laziness.{empty_listing}
 use Rattle.kl_cursor.specs.Pulling.{has_scan, has_scan_nodes, has_scan_fields, has_scan_branches, gives, reads_on, loop_reads_on, pulls, Silent, SilentUnlessPulls, is_sure, SureGives, BeginsSure, Calm}
 use Rattle.kl_cursor.specs.Steps.{Ends, Gives, Steps, Stops}
@@ -122,6 +122,7 @@ reads_none (reads k p) h = absurd cc
 reads_none (pairing k p xs s) h = absurd cc
 reads_none (joining j s g n) h = absurd cc
 reads_none (matching p ys x s) h = absurd cc
+reads_none (leading x i s) h = absurd cc
 
 -- a cursor in which no scan stands
 gave_silent : (env : List Value) (s t : Snap) (v : Value) (a b : Running) → Gives env s a v t b → PartsLeft empty_listing s → Silent a b
@@ -170,6 +171,10 @@ calm_at x y r a b e h = subst (λ z. Calm z r a b) (sym e) h
 
 pub calm_still : (x y : Snap) (r : Result (Option Value × State) EvalStop) (w : Running) → x ≡ y → is_sure y ≡ false → Calm x r w w
 calm_still x y r w e n = calm_quiet x y r w w e n (λ h. silent_none w)
+
+-- what may always read on
+pub calm_on : (x y : Snap) (r : Result (Option Value × State) EvalStop) (a b : Running) → x ≡ y → is_sure y ≡ false → pulls y ≡ true → Calm x r a b
+calm_on x y r a b e n p = calm_quiet x y r a b e n (λ h. absurd (never (pulls y) p h))
 
 pub calm_begun : (env : List Value) (x : Snap) (p : Node) (t : State) (r : Result (Option Value × State) EvalStop) (a b c : Running) → x ≡ fresh p → BeginsSure (fresh p) (Ok t) → Calm (snap t) r b c → Steps env x r a c → Calm x r a c
 calm_begun env x p t r a b c e sure h steps = subst (λ z. Calm z r a c) (sym e) (record {

@@ -17,7 +17,7 @@ use Rattle.kl_scans.specs.Held.{cursor_at, open_at, Uses, one_at, beside, Owned}
 use Rattle.kl_scans.specs.Moves.{Moves}
 use Rattle.kl_scans.specs.Stage.{Stage, stage, readings, ScanOf, IsTold, MemoOf}
 use Rattle.kl_scans.proofs.Moving.{open_most, stage_stays}
-use Rattle.kl_cursor.specs.Left.{Snap, fresh, have, pulling, both, bound, outside, inside, made, ended, taking, reads, pairing, joining, matching, uses, left, rows_left, to_start, cost, cost_nodes}
+use Rattle.kl_cursor.specs.Left.{Snap, fresh, have, pulling, both, bound, outside, inside, made, ended, taking, reads, pairing, joining, matching, leading, uses, left, rows_left, to_start, cost, cost_nodes}
 use Rattle.kl_cursor.specs.Joining.{waiting, pairs, held_of, row_of, pairs_cost, rest_cost}
 use Rattle.kl_cursor.specs.Measure.{most, size, bound_in, asked_most}
 use Rattle.kl_cursor.specs.Sense.{Fits, CursorOf, JoinTypes, HoldsTypes}
@@ -57,6 +57,12 @@ still_source p s v i a b h = still_part (uses s) (uses (inside p s v i)) a b (fi
 still_inner : (p : Node) (s : Snap) (v : Value) (i : Snap) (a b : Running) → Still (uses (inside p s v i)) a b → Still (uses i) a b
 still_inner p s v i a b h = still_part (uses i) (uses (inside p s v i)) a b (second_part (uses s) (uses i)) h
 
+still_behind : (v : Value) (i s : Snap) (a b : Running) → Still (uses (leading v i s)) a b → Still (uses s) a b
+still_behind v i s a b h = still_part (uses s) (uses (leading v i s)) a b (first_part (uses s) (uses i)) h
+
+still_under : (v : Value) (i s : Snap) (a b : Running) → Still (uses (leading v i s)) a b → Still (uses i) a b
+still_under v i s a b h = still_part (uses i) (uses (leading v i s)) a b (second_part (uses s) (uses i)) h
+
 pub left_still : (s : Snap) (a b : Running) (env : List Value) → Still (uses s) a b → left b s env ≡ left a s env
 left_still (fresh p) a b env h = ap (λ H. coming (plan (readings H) p env)) h.held
 left_still (have vs e) a b env h = refl
@@ -75,6 +81,7 @@ left_still (reads k p) a b env h = ap (λ H. drawn_for k (plan (readings H) p en
 left_still (pairing i p xs s) a b env h = ap₂ (λ f H. pairs (readings H) env p xs f) (left_still s a b env h) h.held
 left_still (joining j s g n) a b env h = ap₂ (λ f H. followed (held_of (readings H) env j g) (drawn f (row_of (readings H) env j))) (left_still s a b env h) h.held
 left_still (matching p ys x s) a b env h = ap₂ (λ f H. followed (drawn (flow ys fine) (λ y. coming (plan (readings H) p (y ∷ x ∷ env)))) f) (left_still s a b env h) h.held
+left_still (leading v i s) a b env h = ap₂ followed (left_still i a b (v ∷ env) (still_under v i s a b h)) (left_still s a b env (still_behind v i s a b h))
 
 -- the prices of a loop's bodies
 abbrev pub bodies : Stage → Prices → Node → List Value → Flow → ℕ
@@ -98,6 +105,7 @@ start_still (reads k p) a b P env h = ap (λ H. cost H P p env) h.held
 start_still (pairing i p xs s) a b P env h = ap₂ (λ x y. x + y) (start_still s a b P env h) (ap₂ (λ H f. pairs_cost (readings H) H.block P env p xs f) h.held (left_still s a b env h))
 start_still (joining j s g n) a b P env h = ap₂ (λ x y. x + y) (start_still s a b P env h) (ap₂ (λ H f. rest_cost (readings H) H.block P env j g n f) h.held (left_still s a b env h))
 start_still (matching p ys x s) a b P env h = ap₂ (λ H y. weight (λ z. cost H P p (z ∷ x ∷ env)) (flow ys fine) + y) h.held (start_still s a b P env h)
+start_still (leading v i s) a b P env h = ap₂ (λ x y. x + y) (start_still i a b P (v ∷ env) (still_under v i s a b h)) (start_still s a b P env (still_behind v i s a b h))
 
 pub most_still : (s : Snap) (a b : Running) → Still (uses s) a b → most b s ≡ most a s
 most_still (fresh p) a b h = refl
@@ -117,6 +125,7 @@ most_still (reads k p) a b h = refl
 most_still (pairing i p xs s) a b h = ap (λ m. length xs * (m * size p)) (most_still s a b h)
 most_still (joining j s g n) a b h = ap (λ m. (waiting g + m) * (max (asked_most j.inner.ask) (2 ^ 64) * size j.body)) (most_still s a b h)
 most_still (matching p ys x s) a b h = ap (λ m. length ys * size p + m) (most_still s a b h)
+most_still (leading v i s) a b h = ap₂ (λ m n. m + n) (most_still i a b (still_under v i s a b h)) (most_still s a b (still_behind v i s a b h))
 
 pub types_on : (H J : Stage) (G : List Ground) (p : Node) (s : Ground) → J ≡ H → PlanTypes (ScanOf H) (MemoOf H) G p s → PlanTypes (ScanOf J) (MemoOf J) G p s
 types_on H J G p s e h = subst (λ K. PlanTypes (ScanOf K) (MemoOf K) G p s) (sym e) h
@@ -152,3 +161,4 @@ fits_still (joining j s g n) a b G k u h f =
     (f.0, f.1, f.2, f.3, fits_still s a b G f.0 f.1 h f.4, subst (λ K. JoinTypes K G j k f.1 f.2 u) (sym h.held) f.5, subst (λ K. HoldsTypes K j g f.1 f.2) (sym h.held) f.6)
 fits_still (matching p ys x s) a b G k u h f =
     (f.0, f.1, f.2, f.3, types_on (stage a) (stage b) (f.1 ∷ f.0 ∷ G) p (coll k u) h.held f.4, fits_still s a b G k u h f.5)
+fits_still (leading v i s) a b G k u h f = (f.0, f.1, fits_still i a b (f.0 ∷ G) k u (still_under v i s a b h) f.2, fits_still s a b G k u (still_behind v i s a b h) f.3)

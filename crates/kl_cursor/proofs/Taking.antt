@@ -10,7 +10,7 @@ use Rattle.kl_cursor.specs.declared.state.State.TheVariants as state
 use Rattle.kl_eval.specs.declared.stop.EvalStop.{EvalStop}
 use Rattle.kl_scans.specs.Held.{nothing, beside, Owned}
 use Rattle.kl_scans.specs.Moves.{Closes}
-use Rattle.kl_cursor.specs.Left.{Snap, fresh, have, pulling, both, bound, outside, inside, made, ended, taking, reads, pairing, joining, matching, snap, uses, end_of, nodes_from}
+use Rattle.kl_cursor.specs.Left.{Snap, fresh, have, pulling, both, bound, outside, inside, made, ended, taking, reads, pairing, joining, matching, leading, snap, uses, end_of, nodes_from}
 use Rattle.kl_cursor.specs.Measure.{falling, rank, most}
 use Rattle.kl_cursor.specs.Sense.{Stands}
 use Rattle.kl_cursor.specs.Steps.{Onward, Gives, Ends, Stops, Steps, Begins}
@@ -143,10 +143,10 @@ pub inside_err : (env : List Value) (p : Bor Plan) (s : State) (x : Value) (j1 j
     → Stops env (inside (view p.now) (snap s) x (snap j)) w a c
 inside_err env p s x j1 j w r a b c e f h m = inside_stop env (view p.now) (snap s) x (snap j) w a b c (stopped (x ∷ env) j1 j w r a b e f h) m
 
--- both cursors of a loop inside its body are closed
-pub both_closed : (x : Snap) (p : Node) (s : Snap) (v : Value) (i : Snap) (a b c : Running) → x ≡ inside p s v i → Closes (uses s) a b → Closes (uses i) b c → Closes (uses x) a c
-both_closed x p s v i a b c e m n =
-    subst (λ z. Closes (uses z) a c) (sym e)
+-- both parts of a cursor are closed
+pub both_closed : (x s i : Snap) (a b c : Running) → uses x ≡ beside (uses s) (uses i) → Closes (uses s) a b → Closes (uses i) b c → Closes (uses x) a c
+both_closed x s i a b c e m n =
+    subst (λ z. Closes z a c) (sym e)
     (record {
       moves = moves_then (beside (uses s) (uses i)) (uses i) nothing a b c
           (moves_same (beside (uses i) (uses s)) (beside (uses s) (uses i)) (beside (uses i) nothing) (uses i) a b (λ d k. omega arith) (λ d k. omega arith) (moves_beside (uses i) (uses s) nothing a b m.moves)) n.moves;
@@ -161,7 +161,7 @@ begun_falls env x p t a b e m = let h = m.1 in let g : falling x ≡ falling (fr
 pub same_falls : (x y : Snap) → x ≡ y → 2 * falling y < 2 * falling x + 1
 same_falls x y e = let g : falling x ≡ falling y = ap falling e in omega arith
 
-rank_most : (s : Snap) → rank s ≤ 3
+pub rank_most : (s : Snap) → rank s ≤ 3
 rank_most (fresh p) = omega arith
 rank_most (have vs e) = omega arith
 rank_most (pulling c k rows n) = omega arith
@@ -176,6 +176,7 @@ rank_most (reads k p) = omega arith
 rank_most (pairing k b xs s) = omega arith
 rank_most (joining j s h n) = omega arith
 rank_most (matching b ys x s) = omega arith
+rank_most (leading v i s) = omega arith
 
 pub outside_falls : (p : Node) (s : Snap) (v : Value) (i : Snap) → 2 * falling (outside p s) < 2 * falling (inside p s v i)
 outside_falls p s v i = omega arith

@@ -14,7 +14,8 @@ use Rattle.kl_plan.specs.Meaning.{Readings, coming, drawn_for, plan, plan_items}
 use Rattle.kl_plan.specs.Prices.{Prices}
 use Rattle.kl_plan.specs.Reached.{reached, reached_nodes, reached_fields, reached_branch}
 use Rattle.kl_plan.specs.Holding.{Listing, PartsIn, PartsInNodes}
-use Rattle.kl_cursor.specs.Joining.{JoinParts, Holding, JoinIn, pairs, held_of, row_of, pairs_cost, rest_cost}
+use Rattle.kl_cursor.specs.FiledRows.{index_in, passed_in}
+use Rattle.kl_cursor.specs.Joining.{JoinParts, Holding, files, join_parts, JoinIn, pairs, held_of, row_of, pairs_cost, rest_cost}
 use Rattle.kl_cursor.specs.declared.state.State.{State, State-F, fold-State}
 use Rattle.kl_scans.specs.Held.{cursor_at, Uses, nothing, one_at, beside}
 use Rattle.kl_scans.specs.Stage.{Stage, stage, readings, or_none}
@@ -41,6 +42,8 @@ pub data Snap : Type 0 where
   joining : JoinParts → Snap → Holding → ℕ → Snap
   -- a body at the rows that were found for an outer row, and what comes behind them
   matching : Node → List Value → Value → Snap → Snap
+  -- a cursor where a value is bound, and what comes behind it
+  leading : Value → Snap → Snap → Snap
 
 abbrev pub end_of : Bool → End
 end_of true = overflow
@@ -57,6 +60,8 @@ snap_layer (State-F.Union s p) = both s (view p.now)
 snap_layer (State-F.Bound v s) = bound v s
 snap_layer (State-F.Outside b s i) = outside (view b.now) s
 snap_layer (State-F.Inside b s v i) = inside (view b.now) s v i
+snap_layer (State-F.Keyed j s f) = joining (join_parts j.now) s (files (index_in f)) (passed_in f)
+snap_layer (State-F.Found j s f v i) = leading v i (joining (join_parts j.now) s (files (index_in f)) (passed_in f))
 snap_layer (State-F.Make ps i) = made (nodes_from i ps.now)
 snap_layer State-F.Done = ended
 
@@ -79,6 +84,7 @@ uses (reads k p) = nothing
 uses (pairing k b xs s) = uses s
 uses (joining j s h n) = uses s
 uses (matching b ys x s) = uses s
+uses (leading v i s) = beside (uses s) (uses i)
 
 -- the rows that a cursor of a driver has left, where they are told
 abbrev pub rows_left : Option Cursor → List Value
@@ -105,6 +111,7 @@ left w (reads k p) env = drawn_for k (plan (reading w) p env)
 left w (pairing k b xs s) env = pairs (reading w) env b xs (left w s env)
 left w (joining j s h n) env = followed (held_of (reading w) env j h) (drawn (left w s env) (row_of (reading w) env j))
 left w (matching b ys x s) env = followed (drawn (flow ys fine) (λ y. coming (plan (reading w) b (y ∷ x ∷ env)))) (left w s env)
+left w (leading v i s) env = followed (left w i (v ∷ env)) (left w s env)
 
 -- ---- what is still to be done
 
@@ -139,6 +146,7 @@ to_start w P (reads k p) env = cost (stage w) P p env
 to_start w P (pairing k b xs s) env = to_start w P s env + pairs_cost (reading w) (stage w).block P env b xs (left w s env)
 to_start w P (joining j s h n) env = to_start w P s env + rest_cost (reading w) (stage w).block P env j h n (left w s env)
 to_start w P (matching b ys x s) env = weight (λ y. cost (stage w) P b (y ∷ x ∷ env)) (flow ys fine) + to_start w P s env
+to_start w P (leading v i s) env = to_start w P i (v ∷ env) + to_start w P s env
 
 -- ---- which scans, joins and memos stand in it
 
@@ -158,3 +166,4 @@ module _ (all : Listing) where
   PartsLeft (pairing k b xs s) = PartsIn all b × PartsLeft s
   PartsLeft (joining j s h n) = JoinIn all j × PartsLeft s
   PartsLeft (matching b ys x s) = PartsIn all b × PartsLeft s
+  PartsLeft (leading v i s) = PartsLeft i × PartsLeft s

@@ -1,6 +1,8 @@
 pub mod AtHand
 pub mod Draining
 pub mod Drawing
+pub mod FiledRows
+pub mod Finding
 pub mod Gathering
 pub mod JoinSteps
 pub mod Joining

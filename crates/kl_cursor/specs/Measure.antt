@@ -11,7 +11,7 @@ use Rattle.kl_plan.specs.Nodes.{no_key, key}
 use Rattle.kl_scans.specs.Held.{cursor_at}
 use Rattle.kl_scans.specs.Stage.{statement_of}
 use Rattle.kl_cursor.specs.Joining.{waiting}
-use Rattle.kl_cursor.specs.Left.{Snap, fresh, have, pulling, both, bound, outside, inside, made, ended, taking, reads, pairing, joining, matching}
+use Rattle.kl_cursor.specs.Left.{Snap, fresh, have, pulling, both, bound, outside, inside, made, ended, taking, reads, pairing, joining, matching, leading}
 
 -- how deep a plan is
 abbrev mutual
@@ -29,7 +29,7 @@ abbrev mutual
   tall (node.Let a b) = 1 + max (tall a) (tall b)
   tall (node.Prim c ps) = 1 + tall_nodes ps
   tall (node.Scan c) = 1
-  tall (node.Join n k how o cs i q b) = 1 + max (tall o) (max (tall_nodes cs) (max (tall_key q) (tall b)))
+  tall (node.Join n k how o cs i q b) = 2 + max (tall o) (max (tall_nodes cs) (max (tall_key q) (tall b)))
   tall (node.Memo n frees p) = 1 + tall p
 
   pub tall_nodes : Nodes → ℕ
@@ -100,13 +100,17 @@ height ended = 0
 height (taking vs s) = height s
 height (reads k p) = tall p
 height (pairing k b xs s) = 1 + max (height s) (tall b)
-height (joining j s h n) = 1 + max (height s) (max (tall_nodes j.conds) (max (tall_key j.key) (tall j.body)))
-height (matching b ys x s) = max (1 + tall b) (height s)
+height (joining j s h n) = 2 + max (height s) (max (tall_nodes j.conds) (max (tall_key j.key) (tall j.body)))
+height (matching b ys x s) = max (2 + tall b) (height s)
+height (leading v i s) = max (1 + height i) (height s)
 
--- a cursor with nothing done yet comes before what it becomes, and a loop inside its body before the same loop outside
+-- a cursor with nothing done yet comes before what it becomes, a loop inside its body before the same loop outside, and a join at an outer
+-- row before the same join between two
 abbrev pub rank : Snap → ℕ
 rank (fresh p) = 3
 rank (inside b s v i) = 1
+rank (joining j s h n) = 1
+rank (leading v i s) = 2
 rank _ = 0
 
 -- what falls from step to step inside one call
@@ -133,3 +137,4 @@ most w (reads k p) = size p
 most w (pairing k b xs s) = length xs * (most w s * size b)
 most w (joining j s h n) = (waiting h + most w s) * (max (asked_most j.inner.ask) (2 ^ 64) * size j.body)
 most w (matching b ys x s) = length ys * size b + most w s
+most w (leading v i s) = most w i + most w s

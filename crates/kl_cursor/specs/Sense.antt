@@ -19,7 +19,7 @@ use Rattle.kl_plan.specs.Typing.{PlanTypes, EachPlan, PlansOf, FieldTypes, KeyTy
 use Rattle.kl_scans.specs.Held.{cursor_at}
 use Rattle.kl_scans.specs.Stage.{Stage, stage, readings, ScanOf, MemoOf, IsTold}
 use Rattle.kl_cursor.specs.Joining.{JoinParts, Holding, waits, files, inner_of}
-use Rattle.kl_cursor.specs.Left.{Snap, fresh, have, pulling, both, bound, outside, inside, made, ended, taking, reads, pairing, joining, matching}
+use Rattle.kl_cursor.specs.Left.{Snap, fresh, have, pulling, both, bound, outside, inside, made, ended, taking, reads, pairing, joining, matching, leading}
 use Rattle.kl_cursor.specs.Likeness.{Same}
 
 abbrev pub TypesAt : Running → List Ground → Node → Ground → Type 0
@@ -81,6 +81,7 @@ Fits w G k u (joining j s h n) = (i : Kind) × (t : Ground) × (v : Ground) × (
     × JoinTypes (stage w) G j k t v u × HoldsTypes (stage w) j h t v
 Fits w G k u (matching b ys x s) = (t : Ground) × (v : Ground) × Inhabits t x × AllByRecursion (Inhabits v) ys
     × TypesAt w (v ∷ t ∷ G) b (coll k u) × Fits w G k u s
+Fits w G k u (leading v i s) = (t : Ground) × Inhabits t v × Fits w (t ∷ G) k u i × Fits w G k u s
 
 -- a cursor that makes sense where it stands
 abbrev pub Stands : Running → Snap → List Value → Type 0

@@ -7,6 +7,7 @@
 mod ahead;
 mod cursor;
 mod drawing;
+mod finding;
 mod gathering;
 mod held;
 mod joins;

@@ -102,6 +102,7 @@ fn reads_on(at: &State) -> bool
             reads_on(inner.get()) || has_scan(body) || reads_on(source.get())
         }
         State::Make(parts, place) => has_scan_from(parts.slice(), *place),
+        State::Keyed(_, _, _) | State::Found(_, _, _, _, _) => true,
     }
 }
 
@@ -129,5 +130,6 @@ pub fn may_pull(at: &State) -> bool
             may_pull(inner.get()) || may_pull(source.get()) || loop_reads_on(body, source.get())
         }
         State::Make(parts, place) => has_scan_from(parts.slice(), *place),
+        State::Keyed(_, _, _) | State::Found(_, _, _, _, _) => true,
     }
 }
