@@ -208,7 +208,7 @@ module _ (ss : List Source) (text : List ℕ) (first : Option ℕ) (end : Ending
   Done = DoesText ss (purpose.Run first) text end (outside_of files old blank) (outside_of files new printed)
 
   rests : Done → Rests ss text (course_of end trace old new blank printed)
-  rests does = record { unread = does.unread; changed = does.changed; nothing = does.nothing }
+  rests does = record { attached = does.drivers; unread = does.unread; changed = does.changed; nothing = does.nothing }
 
 pub command_plan : (how : How) (from : Origin) (f f' : FilesState) (end : Ending) (trace : Trace) (old new : List State) (blank printed : SinkState) (plan : Option Node) (i : Inputs) (text : List ℕ) (ss : List Source) → text ≡ i.text → ss ≡ i.sources
     → ReadsInputs from (kinds_of old) (Ok i) f f' → DoesText ss (purpose.Run how.first) text end (outside_of no_files old blank) (outside_of no_files new printed)

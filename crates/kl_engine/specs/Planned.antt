@@ -35,7 +35,7 @@ use Rattle.kl_run.specs.Planned.{IsPlanOf, MeansTerm, ships_of}
 use Rattle.kl_sources.specs.Sources.{grounds_of, kinds_of, names_of, HaveValues}
 use Rattle.kl_sources.specs.declared.source.Source.{Source}
 use Rattle.kl_engine.specs.Answering.{IsMentionedIn, IsOfList, IsRunning, IsUnreadBy, IsUnreadFault, OfRun, PrintsPage, SomeDrifted}
-use Rattle.kl_engine.specs.Answering.{Unprinted}
+use Rattle.kl_engine.specs.Answering.{KeepsDrivers, Unprinted}
 use Rattle.kl_engine.specs.Commands.{Command, Origin, TellTo, Program as AProgram}
 use Rattle.kl_engine.specs.Explaining.{plan_lines}
 use Rattle.kl_engine.specs.Faults.{Ending}
@@ -177,9 +177,10 @@ PlansText how ss text course p =
     × CountsPlan how ss marks (GivesList (grounds_of ss) (definitions (names_of ss) q) (last (names_of ss) q)) course p
     × PlansTerm how.settings (ships_of (kinds_of course.old) ss) (term_in (names_of ss) q) course.trace.steps p
 
--- What comes of the sources of the program that a text is: one that is unreadable or that changed is a source that it mentions, and
--- nothing is printed before a fault, but where the program gives a list.
+-- What comes of the sources of the program that a text is: one that is attached, that is unreadable or that changed is a source that it
+-- mentions, and nothing is printed before a fault, but where the program gives a list.
 pub record Rests (ss : List Source) (text : List ℕ) (course : Course) : Type 0 where
+  pub attached : KeepsDrivers (IsMentionedIn ss text) course.old course.new
   pub unread : (f : Fault) → course.ending ≡ Some f → IsUnreadFault f → IsUnreadBy ss (IsMentionedIn ss text) f course.old course.new
   pub changed : (name : Name) → course.ending ≡ Some (fault.Changed name)
       → SomeDrifted ss (λ x. IsMentionedIn ss text x × (x ≡ name)) course.old course.new
