@@ -283,7 +283,8 @@ def wrong_with(words, status, out, err):
         return f"status {status}, and {out[:200]!r} was printed"
     if not status and err and not ("--stats" in words and COUNTS.fullmatch(err)):
         return f"status 0, with {err[:200]!r} on the stream of errors"
-    if not status and words[0] != "show" and not out.endswith(b"\n"):
+    # (a file without items has no line, and no source is asked by a plan without scans)
+    if not status and (out or words[0] not in ("show", "explain")) and not out.endswith(b"\n"):
         return f"status 0, and {out[-200:]!r} was printed"
     return None
 
