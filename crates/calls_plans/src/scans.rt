@@ -202,25 +202,6 @@ fn is_scanned(
     Ok(scans(alloc, &mut run, scan))
 }
 
-// Whether the file is read by a scan beside a plan that names no source. Who calls it makes the plan: what holds both it and a
-// driver takes the prover gigabytes.
-fn is_read(alloc: Global, plan: &Plan) -> Result<bool, Fail>
-    requires { memos_of (view plan.now) ≡ [] }
-{
-    let scan = scan(alloc)?;
-    let ty = list_type(alloc)?;
-    let driver = attached(alloc, &scan.source, &ty)?;
-    let boxed = boxed(alloc, driver)?;
-    is_scanned(alloc, boxed, ty, &scan, plan)
-}
-
-#[test]
-fn a_source_is_scanned(rt: HostRuntime) -> Result<(), Fail> {
-    let plan = variable();
-    assert!(rt; is_read(rt.alloc(), &plan)?);
-    Ok(())
-}
-
 // Whether it is told what a plan asks of these drivers.
 fn is_told(alloc: Global, plan: &Plan, drivers: &Vec<HeapBox<dyn Driver>>) -> bool {
     match explain(alloc, plan, drivers) {
