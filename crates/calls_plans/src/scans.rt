@@ -13,8 +13,9 @@ ghost use Rattle.kl_scans.specs.Right.{IsReadyRun};
 ghost use Rattle.kl_scans.specs.Scans.{CanScan};
 ghost use Rattle.calls_plans.specs.Reading.{HoldsNumbers, IsReading};
 
-use kl_ask::{Ask, Attached, Driver, Seen, Session, Settings, Trace};
+use kl_ask::{Ask, Attached, Drift, Driver, DriverError, Seen, Session, Settings, Trace};
 use kl_base::{Box, Label, Seq, Text};
+use kl_eval::EvalStop;
 use kl_nested::NestedDriver;
 use kl_outside::MemFiles;
 use kl_run::{memo_for, run_of};
@@ -68,13 +69,28 @@ fn files(alloc: Global) -> Result<MemFiles, Fail>
     Ok(MemFiles::new(alloc, vec![in alloc; (path, items)]?))
 }
 
+// The file, which has other bytes from its second opening on.
+fn changing(alloc: Global, bytes: &[u8]) -> Result<MemFiles, Fail>
+    ensures { IfOk result (λ f. NoneOpen (files_state f)) }
+{
+    let mut files = files(alloc)?;
+    files.change_at(2, text(alloc, b"n.kx")?, text(alloc, bytes)?)?;
+    Ok(files)
+}
+
 // A driver at which the file is attached.
-fn attached(alloc: Global, name: &Label, ty: &Ty) -> Result<NestedDriver<MemFiles>, Fail>
-    requires { ground_of ty.now ≡ coll kind.List int }
+fn attached(
+    alloc: Global,
+    files: MemFiles,
+    name: &Label,
+    ty: &Ty,
+) -> Result<NestedDriver<MemFiles>, Fail>
+    requires open { NoneOpen (files_state files) }
+    requires ty { ground_of ty.now ≡ coll kind.List int }
     ensures { IfOk result (λ d. HoldsNumbers (⟦<NestedDriver<MemFiles> as Driver>⟧.state d) name.now ty.now) }
 {
     let path = text(alloc, b"n.kx")?;
-    let mut driver = NestedDriver::new(alloc, files(alloc)?);
+    let mut driver = NestedDriver::new(alloc, files);
     if !driver.suits(ty) {
         return Err(Fail::from("not suited"));
     }
@@ -200,6 +216,130 @@ fn is_scanned(
     let memo = memo_for(alloc, &session.settings)?;
     let mut run = run_of(session, memo, plan);
     Ok(scans(alloc, &mut run, scan))
+}
+
+// Whether the file is read by a scan beside a plan that names no source. Who calls it makes the plan: what holds both it and a
+// driver takes the prover gigabytes.
+fn is_read(alloc: Global, plan: &Plan) -> Result<bool, Fail>
+    requires { memos_of (view plan.now) ≡ [] }
+{
+    let scan = scan(alloc)?;
+    let ty = list_type(alloc)?;
+    let driver = attached(alloc, files(alloc)?, &scan.source, &ty)?;
+    let boxed = boxed(alloc, driver)?;
+    is_scanned(alloc, boxed, ty, &scan, plan)
+}
+
+#[test]
+fn a_source_is_scanned(rt: HostRuntime) -> Result<(), Fail> {
+    let plan = variable();
+    assert!(rt; is_read(rt.alloc(), &plan)?);
+    Ok(())
+}
+
+// What a stop tells of a change, where it was one.
+fn change_of(stop: &EvalStop) -> Option<Drift> {
+    match stop {
+        EvalStop::Driver { source: _, error } => match error {
+            DriverError::Changed { drift } => Some(*drift),
+            _ => None,
+        },
+        _ => None,
+    }
+}
+
+// Whether the next pull gives rows, or what it tells of a change.
+fn tries<'p>(
+    run: &mut Run<'p>,
+    scan: &Scan,
+    cursor: u64,
+    into: &mut Vec<Value>,
+) -> Result<bool, Option<Drift>>
+    requires { IsReading (⟦<Run<'p> as Ran>⟧.world run.old) scan.now cursor }
+    ensures { IfOk result (λ more. IsReading (⟦<Run<'p> as Ran>⟧.world run.new) scan.now cursor) }
+{
+    match pull_scan(run, scan, cursor, into) {
+        Ok(more) => Ok(more),
+        Err(stop) => Err(change_of(&stop)),
+    }
+}
+
+// What the first two pulls tell of a change.
+fn meets<'p>(alloc: Global, run: &mut Run<'p>, scan: &Scan) -> Option<Drift>
+    requires can { CanScan (⟦<Run<'p> as Ran>⟧.world run.old) scan.now }
+    requires ready { IsReadyRun (⟦<Run<'p> as Ran>⟧.world run.old) }
+{
+    let mut rows = Vec::new(alloc);
+    let Some(cursor) = starts(run, scan) else {
+        return None;
+    };
+    match tries(run, scan, cursor, &mut rows) {
+        Err(change) => change,
+        Ok(_) => match tries(run, scan, cursor, &mut rows) {
+            Err(change) => change,
+            Ok(_) => {
+                finish_scan(run, scan, cursor);
+                None
+            }
+        },
+    }
+}
+
+fn change_met(
+    alloc: Global,
+    driver: HeapBox<dyn Driver>,
+    ty: Ty,
+    scan: &Scan,
+    plan: &Plan,
+) -> Result<Option<Drift>, Fail>
+    requires plan { memos_of (view plan.now) ≡ [] }
+    requires attached { HoldsNumbers (state driver) scan.now.source ty }
+    requires ty { ground_of ty ≡ coll kind.List int }
+    requires driver { scan.now.driver ≡ 0 }
+    requires ask { scan.now.ask ≡ asks.Rows scan.now.source [] [] }
+{
+    let session = session(alloc, driver, ty, scan)?;
+    let memo = memo_for(alloc, &session.settings)?;
+    let mut run = run_of(session, memo, plan);
+    Ok(meets(alloc, &mut run, scan))
+}
+
+// What is told of a file that has these bytes when it is scanned.
+fn change_to(alloc: Global, plan: &Plan, bytes: &[u8]) -> Result<Option<Drift>, Fail>
+    requires { memos_of (view plan.now) ≡ [] }
+{
+    let scan = scan(alloc)?;
+    let ty = list_type(alloc)?;
+    let driver = attached(alloc, changing(alloc, bytes)?, &scan.source, &ty)?;
+    let boxed = boxed(alloc, driver)?;
+    change_met(alloc, boxed, ty, &scan, plan)
+}
+
+// Text that stops, an item of another type, and fewer bytes and items.
+#[test]
+fn a_change_is_told_by_what_it_is(rt: HostRuntime) -> Result<(), Fail> {
+    let plan = variable();
+    let stops = change_to(rt.alloc(), &plan, b"4; 5")?;
+    assert!(rt; matches!(stops, Some(Drift::Unread { place: 4 })));
+    let lacks = change_to(rt.alloc(), &plan, b"4; true;")?;
+    assert!(rt; matches!(lacks, Some(Drift::Misfit { item: 1 })));
+    let fewer = change_to(rt.alloc(), &plan, b"4;")?;
+    assert!(rt;
+        matches!(
+            fewer,
+            Some(Drift::Bytes { kept: 5, found: 2 } | Drift::Count { kept: 2, found: 1 })
+        )
+    );
+    Ok(())
+}
+
+// Other items of the type in as many bytes are read as they are.
+#[test]
+fn a_change_in_kind_is_none(rt: HostRuntime) -> Result<(), Fail> {
+    let plan = variable();
+    let other = change_to(rt.alloc(), &plan, b"4; 9;")?;
+    assert!(rt; other.is_none());
+    Ok(())
 }
 
 // Whether it is told what a plan asks of these drivers.
