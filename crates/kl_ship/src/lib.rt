@@ -13,11 +13,11 @@ mod laws;
 mod needs;
 mod one_row;
 mod reads;
+mod row_conditions;
 mod scanning;
 mod shipping;
 mod source;
 mod sql_scan;
-mod sql_tests;
 mod statements;
 mod used;
 

@@ -12,8 +12,8 @@ ghost use Rattle.kl_ship.specs.Ships.{ByRows, IsScan, columns_asked, scan_kind};
 ghost use Rattle.kl_ship.specs.Sources.{fits, fits_source, ground, unrepeated};
 
 use crate::needs::Need;
+use crate::row_conditions::{row_tests, tests_in};
 use crate::source::ShipSource;
-use crate::sql_tests::{row_tests, tests_in};
 use crate::used::in_use;
 use kl_ask::{Ask, ColTest};
 use kl_base::{Label, NoMemory, Seq, labels_of};

@@ -3,7 +3,7 @@ use Rattle.kl_core.specs.declared.term.Term.{Term}
 use Rattle.kl_core.specs.Trees.{trees_view}
 use Rattle.kl_sqltext.specs.declared.ast.SqlOp.{SqlOp}
 use Rattle.kl_ship.specs.Delegation.{test_by}
-use Rattle.kl_ship.proofs.sql_tests.test_by.Goals as goal
+use Rattle.kl_ship.proofs.row_conditions.test_by.Goals as goal
 
 not_two : (n : ℕ) (o : SqlOp) (ts : List Term) → length ts ≢ 2 → None ≡ test_by n (Some o) (trees_view ts)
 not_two n o [] h = refl
