@@ -55,11 +55,14 @@ pub mod JoinOuter
 pub mod JoinFalls
 pub mod JoinWhole
 pub mod Positions
+pub mod KeptSame
 pub mod Recalling
 pub mod MemoCode
 pub mod Drained
 pub mod JoinDraws
 pub mod FindCode
+pub mod RowQuiet
 pub mod PairCode
 pub mod KeyedCode
+pub mod KeyedHeld
 pub mod JoinStarts

@@ -1,20 +1,21 @@
 -- Memos, from what the code has.
-use Rattle.std.proofs.Common.{◌≡◌, ℕ, ◌+◌, ◌≤◌, Bool, true, false, List, Result, Ok, Err, refl, sym, ap, subst, ◌∙◌, rules, arith, IfOk}
+use Rattle.std.proofs.Common.{◌≡◌, ℕ, ◌+◌, ◌≤◌, Bool, true, false, List, Result, Ok, Err, refl, sym, ap, subst, ◌∙◌, arith, IfOk, OnErr}
 use Rattle.std.specs.List.{Contains}
 use Rattle.kl_value.specs.Views.{IsCollection}
 use Rattle.kl_value.specs.declared.Value.{Value}
 use Rattle.kl_outcome.specs.Outcome.{done}
-use Rattle.kl_eval.specs.Steps.{AnswersOutcome}
+use Rattle.kl_eval.specs.Steps.{AnswersOutcome, inside_of}
 use Rattle.kl_eval.specs.declared.stop.EvalStop.{EvalStop}
 use Rattle.kl_eval.specs.declared.stop.EvalStop.TheVariants as why
 use Rattle.kl_eval.specs.declared.stop.Halt.{Halt}
 use Rattle.kl_eval.specs.declared.stop.Halt.TheVariants as halt
 use Rattle.kl_lookups.specs.Lookups.{has}
-use Rattle.kl_plan.specs.declared.plan.Plan.{Plan, the_lemmas}
+use Rattle.kl_plan.specs.declared.plan.Plan.{Plan}
 use Rattle.kl_plan.specs.declared.plan.Plan.TheVariants as plans
 use Rattle.kl_plan.specs.Nodes as node
 use Rattle.kl_plan.specs.Nodes.{Node, view}
 use Rattle.kl_plan.specs.Subqueries.{Subquery, values_at}
+use Rattle.kl_plan.proofs.Views.{view_Memo}
 use Rattle.kl_scans.specs.Over.{Recalls, MayKeep, Keeps}
 use Rattle.kl_scans.specs.Running.{Running}
 use Rattle.kl_scans.specs.Same.{same_subquery}
@@ -25,19 +26,17 @@ use Rattle.kl_cursor.specs.Gathering.{Gathered}
 use Rattle.kl_cursor.specs.Laziness.{BeginsLazily}
 use Rattle.kl_cursor.specs.Left.{fresh, snap}
 use Rattle.kl_cursor.specs.Measure.{tall}
-use Rattle.kl_cursor.specs.Memos.{KeepsCopy, Misses, Fills}
+use Rattle.kl_cursor.specs.Memos.{IsMemo, KeepsSame, KeepsCopy, Misses, Fills}
 use Rattle.kl_cursor.specs.Sense.{HasWorth, HasItems}
 use Rattle.kl_cursor.specs.Steps.{ComesTo, Wholly, Emits, AddsWhole}
 use Rattle.kl_cursor.proofs.Comings.{answers, whole_as, worth_as}
 use Rattle.kl_cursor.proofs.EmitCode.{emit_whole}
+use Rattle.kl_cursor.proofs.KeptSame.{keeps_same}
 use Rattle.kl_cursor.proofs.LazyCode.{other_spares}
-use Rattle.kl_cursor.proofs.Recalling.{memo_comes_one, memo_sense, hit_comes, may_keep, miss_comes, miss_lost, part_stopped}
+use Rattle.kl_cursor.proofs.Recalling.{memo_comes_one, memo_sense, hit_comes, hit_keeps, may_keep, miss_comes, miss_lost, part_leaves, part_stopped, stopped_leaves}
 use Rattle.kl_cursor.proofs.Whole.{ComesOne, items_worth, whole_collection}
 
 -- ---- the plan of a memo
-
-view_Memo : (n : ℕ) (frees : List ℕ) (p : Plan) → view (plans.Memo n frees p) ≡ node.Memo n frees (view p)
-view_Memo n frees p = search (rules, the_lemmas)
 
 module _ (t : Plan) (n : ℕ) (frees gs : List ℕ) (p q : Plan) (et : t ≡ plans.Memo n frees p) (eg : gs ≡ frees) (eq : q ≡ p) where
   pub at_Memo : view t ≡ node.Memo n gs (view q)
@@ -66,6 +65,30 @@ pub memo_begins_lazily : (t : Plan) (n : ℕ) (frees : List ℕ) (p : Plan) → 
 memo_begins_lazily t n frees p e env (Ok s) a b = other_spares env (view t) (node.Memo n frees (view p)) (snap s) a b (ap view e ∙ view_Memo n frees p) refl
 memo_begins_lazily t n frees p e env (Err z) a b = tt
 
+-- another plan is none
+pub no_memo : (t p : Plan) (x : Node) (P : Type 0) → t ≡ p → view p ≡ x → (IsMemo x → ⊥) → IsMemo (view t) → P
+no_memo t p x P e f none h = absurd (none (subst IsMemo (ap view e ∙ f) h))
+
+-- ---- stops
+
+-- what holds in any case
+any_stop : (r : Result Value Halt) (P : Type 0) → P → OnErr r P
+any_stop (Ok v) P h = tt
+any_stop (Err e) P h = h
+
+on_stop : (r : Result Value Halt) (P Q : Type 0) → (P → Q) → OnErr r P → OnErr r Q
+on_stop (Ok v) P Q f h = tt
+on_stop (Err e) P Q f h = f h
+
+pub stop_inside : (r : Result Value Halt) (q : Result Value EvalStop) (P : Type 0) → q ≡ inside_of r → OnErr r P → OnErr q P
+stop_inside r q P e h = subst (λ z. OnErr z P) (sym e) (go r h)
+  where
+    go : (r : Result Value Halt) → OnErr r P → OnErr (inside_of r) P
+    go (Ok v) h = tt
+    go (Err (halt.Over vs)) h = h
+    go (Err (halt.Driver l f)) h = h
+    go (Err halt.NoMemory) h = h
+
 -- ---- a look-up
 
 -- a fact on the key that was made, at the number and the values
@@ -90,6 +113,9 @@ module _ (env : List Value) (n : ℕ) (frees : List ℕ) (p : Node) (k : Subquer
   pub found_emits : (v : Value) (z : Result (Unit {0}) EvalStop) (old new : Gathered) → b ≡ true → HasItems w (node.Memo n frees p) env → Contains x.kept (k, v) → AddsWhole (Ok v) z old new → Emits env (fresh (node.Memo n frees p)) z old new w x
   found_emits v z old new is h c a = emit_whole env (node.Memo n frees p) (Ok v) z old new w x (memo_comes_one n frees p) (found_comes v is (items_worth env (node.Memo n frees p) w h) c) a
 
+  pub found_keeps : (q : Result Value Halt) → b ≡ true → HasWorth w (node.Memo n frees p) env → OnErr q (KeepsSame w x)
+  found_keeps q is h = any_stop q (KeepsSame w x) (hit_keeps env n frees p w x h (at_key (λ z. Recalls z true w x) k (n, values_at env frees) e (subst (λ z. Recalls k z w x) is r)))
+
   -- nothing was found, and nothing changed
   unfound : b ≡ false → (has same_subquery k w.kept ≡ false) × (x ≡ w)
   unfound is = subst (λ z. Recalls k z w x) is r
@@ -105,6 +131,9 @@ module _ (env : List Value) (n : ℕ) (frees : List ℕ) (p : Node) (k : Subquer
       let u = unfound is in
       subst (λ m. Wholly env (node.Memo m frees p) q w y) (ap (λ z. z.0) e) (subst (λ z. Wholly env (node.Memo k.0 frees p) q z y) u.1 (f frees (unfound_misses is h)))
 
+  pub unfound_keeps : (q : Result Value Halt) (y : Running) → b ≡ false → HasWorth w (node.Memo n frees p) env → OnErr q (y.kept ≡ x.kept) → OnErr q (KeepsSame w y)
+  unfound_keeps q y is h f = on_stop q (y.kept ≡ x.kept) (KeepsSame w y) (λ same. keeps_same w y (same ∙ ap (λ (z : Running). z.kept) (unfound is).1)) f
+
   pub unfound_collection : (q : Result Value Halt) (y : Running) → b ≡ false → HasItems w (node.Memo n frees p) env → Fills env k p q x y → IfOk q IsCollection
   unfound_collection q y is h f = whole_collection env (node.Memo n frees p) q w y h (unfound_whole q y is (items_worth env (node.Memo n frees p) w h) f)
 
@@ -112,6 +141,9 @@ module _ (env : List Value) (n : ℕ) (frees : List ℕ) (p : Node) (k : Subquer
   unfound_emits q z old new y is h f a = emit_whole env (node.Memo n frees p) q z old new w y (memo_comes_one n frees p) (unfound_whole q y is (items_worth env (node.Memo n frees p) w h) f) a
 
 -- without room for a key nothing is done
+pub lost_keeps : (w : Running) → KeepsSame w w
+lost_keeps w = keeps_same w w refl
+
 pub memo_lost : (env : List Value) (p : Node) (w : Running) → Wholly env p (Err halt.NoMemory) w w
 memo_lost env p w = record { moves = moves_none nothing w; known = λ all i. tt; reason = tt }
 
@@ -143,6 +175,16 @@ module _ (env : List Value) (k : Subquery) (p : Node) (w x : Running) where
   part_fills v (Err halt.NoMemory) y h c frees m = subst (λ z. Wholly env (node.Memo k.0 frees p) (Err halt.NoMemory) w z) (sym c) (miss_lost env k.0 frees p w x v m.0 h)
   part_fills v (Err (halt.Over vs)) y h c frees m = absurd c
   part_fills v (Err (halt.Driver l f)) y h c frees m = absurd c
+
+  -- what is kept stays where no copy could be made, and where the part stopped
+  pub copy_leaves : (frees : List ℕ) (v : Value) (r : Result Value Halt) (y : Running) → Misses w env k frees p → ComesTo env p (done v) w x → KeepsCopy k v r x y → OnErr r (y.kept ≡ w.kept)
+  copy_leaves frees v (Ok u) y m h c = tt
+  copy_leaves frees v (Err halt.NoMemory) y m h c = ap (λ (z : Running). z.kept) c ∙ part_leaves env k.0 frees p w x m.0 h.moves h.known
+  copy_leaves frees v (Err (halt.Over vs)) y m h c = absurd c
+  copy_leaves frees v (Err (halt.Driver l f)) y m h c = absurd c
+
+  pub stop_leaves : (frees : List ℕ) (e : Halt) → Misses w env k frees p → Wholly env p (Err e) w x → x.kept ≡ w.kept
+  stop_leaves frees e m h = stopped_leaves env k.0 frees p w x m.0 e h
 
   pub part_fails : (e : Halt) → Wholly env p (Err e) w x → Fills env k p (Err e) w x
   part_fails e h frees m = part_stopped env k.0 frees p w x e h

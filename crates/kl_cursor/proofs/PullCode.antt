@@ -10,7 +10,7 @@ use Rattle.kl_plan.specs.declared.plan.Join.{Join}
 use Rattle.kl_plan.specs.declared.plan.Plan.{Plan, the_lemmas}
 use Rattle.kl_plan.specs.declared.plan.Plan.TheVariants as plans
 use Rattle.kl_plan.specs.declared.plan.Scan.{Scan}
-use Rattle.kl_plan.proofs.Views.{view_Case, view_Make, view_Scan, view_Join}
+use Rattle.kl_plan.proofs.Views.{view_Case, view_Make, view_Memo, view_Scan, view_Join}
 use Rattle.kl_cursor.specs.Pulling.{has_scan, has_scan_fields, has_scan_branches, gives}
 
 or_again : (a b c : Bool) → (a || (b || c)) ≡ ((a || b) || c)
@@ -53,10 +53,7 @@ make_gives t k ps n e f = ap (nat_lt 0) f ∙ by_parts ps ∙ sym (ap gives (ap 
 join_scans : (j : Join) → has_scan (join_view j) ≡ true
 join_scans j = search (rules, the_lemmas)
 
-memo_is : (n : ℕ) (frees : List ℕ) (p : Plan) → view (plans.Memo n frees p) ≡ node.Memo n frees (view p)
-memo_is n frees p = search (rules, the_lemmas)
-
 pub scan_found : (t : Plan) → ((c : Scan) × (t ≡ plans.Scan c)) ⊎ (((j : Join) × (t ≡ plans.Join j)) ⊎ ((n : ℕ) × (frees : List ℕ) × (p : Plan) × (t ≡ plans.Memo n frees p))) → true ≡ has_scan (view t)
 scan_found t =
     ⊎_elim (λ h. sym (ap has_scan (ap view h.1 ∙ view_Scan h.0)))
-    (⊎_elim (λ h. sym (ap has_scan (ap view h.1 ∙ view_Join h.0) ∙ join_scans h.0)) (λ h. sym (ap has_scan (ap view h.3 ∙ memo_is h.0 h.1 h.2))))
+    (⊎_elim (λ h. sym (ap has_scan (ap view h.1 ∙ view_Join h.0) ∙ join_scans h.0)) (λ h. sym (ap has_scan (ap view h.3 ∙ view_Memo h.0 h.1 h.2))))

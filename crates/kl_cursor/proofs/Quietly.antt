@@ -25,7 +25,7 @@ use Rattle.kl_cursor.proofs.Snaps.{snap_Fresh}
 
 -- ---- truth values
 
-neither : (a b : Bool) → (a || b) ≡ false → (a ≡ false) × (b ≡ false)
+pub neither : (a b : Bool) → (a || b) ≡ false → (a ≡ false) × (b ≡ false)
 neither false b h = (refl, h)
 neither true b h = absurd cc
 
@@ -64,7 +64,7 @@ silent_then a b c m n = record {
   kept = n.kept ∙ m.kept;
 }
 
-moved_silent : (u v : Uses) (a b : Running) (m : Moves u v a b) → m.events ≡ [] → Silent a b
+pub moved_silent : (u v : Uses) (a b : Running) (m : Moves u v a b) → m.events ≡ [] → Silent a b
 moved_silent u v a b m e = subst (λ es. Logged es a b) e m.logged
 
 pub closes_silent : (u : Uses) (a b : Running) → Closes u a b → Silent a b
@@ -73,7 +73,7 @@ closes_silent u a b h = moved_silent u nothing a b h.moves h.none
 -- ---- where no scan stands
 
 mutual
-  no_scan : (p : Node) → has_scan p ≡ false → PartsIn empty_listing p
+  pub no_scan : (p : Node) → has_scan p ≡ false → PartsIn empty_listing p
   no_scan (node.Plain t) h = tt
   no_scan (node.Var x) h = tt
   no_scan (node.Rec ps) h = no_scan_fields ps h
@@ -92,7 +92,7 @@ mutual
   no_scan (node.Join n k how o cs i q b) h = absurd cc
   no_scan (node.Memo n frees p) h = absurd cc
 
-  no_scan_nodes : (ps : Nodes) → has_scan_nodes ps ≡ false → PartsInNodes empty_listing ps
+  pub no_scan_nodes : (ps : Nodes) → has_scan_nodes ps ≡ false → PartsInNodes empty_listing ps
   no_scan_nodes no_nodes h = tt
   no_scan_nodes (nodes p ps) h = let x = neither (has_scan p) (has_scan_nodes ps) h in (no_scan p x.0, no_scan_nodes ps x.1)
 

@@ -1,6 +1,7 @@
 -- Values of memos: from what is kept, or from their parts, whose values are kept then.
 use Rattle.std.proofs.Common.{◌≡◌, ℕ, ◌+◌, true, false, List, [], map, length, nat_eq, Err, refl, sym, ap, subst, ◌∙◌, arith}
 use Rattle.std.specs.List.{Contains, IsDistinct}
+use Rattle.std.specs.List.Sorted.{IsPermutation}
 use Rattle.std.proofs.lemmas.List.Elements.{All-contains, All-from_recursion}
 use Rattle.kl_value.specs.declared.Value.{Value}
 use Rattle.kl_type.specs.Ground.{Ground}
@@ -9,7 +10,7 @@ use Rattle.kl_outcome.proofs.Drawing.{collected_again}
 use Rattle.kl_eval.specs.declared.stop.Halt.{Halt}
 use Rattle.kl_eval.specs.declared.stop.Halt.TheVariants as halt
 use Rattle.kl_lookups.specs.Lookups.{has}
-use Rattle.kl_plan.specs.Holding.{PartsIn}
+use Rattle.kl_plan.specs.Holding.{Listing, PartsIn}
 use Rattle.kl_plan.specs.Meaning.{Come, one, many, coming, worth, come_kept, plan}
 use Rattle.kl_plan.specs.Nodes as node
 use Rattle.kl_plan.specs.Nodes.{Node}
@@ -22,7 +23,8 @@ use Rattle.kl_plan.proofs.AgreeTypes.{plan_types_agree}
 use Rattle.kl_plan.proofs.Frees.{frees_covered}
 use Rattle.kl_plan.proofs.Holding.{parts_without_memos}
 use Rattle.kl_scans.specs.Held.{nothing}
-use Rattle.kl_scans.specs.Log.{missed, hit, paid}
+use Rattle.kl_scans.specs.Log.{missed, hit, paid, Leaves}
+use Rattle.kl_scans.specs.Moves.{Moves}
 use Rattle.kl_scans.specs.Over.{Did, Recalls, MayKeep}
 use Rattle.kl_scans.specs.Right.{IsRight, IsRightFor, AreRight, IsReadyRun}
 use Rattle.kl_scans.specs.Running.{Running}
@@ -32,10 +34,12 @@ use Rattle.kl_scans.proofs.Kept.{right_for}
 use Rattle.kl_scans.proofs.Looks.{leaves_same, no_looks}
 use Rattle.kl_scans.proofs.Moving.{moves_then, stage_stays, ready_stays, paid_then}
 use Rattle.kl_cursor.specs.Left.{reading, cost}
+use Rattle.kl_cursor.specs.Memos.{KeepsSame}
 use Rattle.kl_cursor.specs.Sense.{HasWorth}
 use Rattle.kl_cursor.specs.Steps.{AreOf, ComesTo, Wholly}
 use Rattle.kl_cursor.proofs.Whole.{ComesOne}
 use Rattle.kl_cursor.proofs.Events.{of_then}
+use Rattle.kl_cursor.proofs.KeptSame.{moved_same}
 use Rattle.kl_cursor.proofs.Refusals.{halts_at}
 use Rattle.kl_cursor.proofs.Positions.{have_length, values_agree, retyped, retyped_have, retyped_at}
 
@@ -90,6 +94,28 @@ module _ (env : List Value) (n : ℕ) (frees : List ℕ) (p : Node) (w x : Runni
           subst (λ t. IsRight t frees p (values_at env frees) v) st
           (right_at x n frees p (values_at env frees) v (ready_stays nothing nothing w x did.moves sense.4).right (subst (λ t. MemoOf t n frees p) (sym st) sense.3.6) kept)
 
+  -- and all that was kept stays
+  pub hit_keeps : Recalls (n, values_at env frees) true w x → KeepsSame w x
+  hit_keeps r =
+      let did = r.1 frees p env refl in
+      let left = subst (λ es. Leaves w.room es w.kept x.kept) did.only did.moves.logged.kept in
+      subst (λ es. IsPermutation w.kept es) (sym left.1) (moved_same same_subquery (n, values_at env frees) w.kept)
+
+-- ---- what is kept while a part is evaluated
+
+-- no memo stands in the part of a memo, so nothing is looked up there
+module _ (env : List Value) (n : ℕ) (frees : List ℕ) (p : Node) (w x : Running) (sense : HasWorth w (node.Memo n frees p) env) where
+  pub part_leaves : (m : Moves nothing nothing w x) → ((all : Listing) → PartsIn all p → AreOf all m.events) → x.kept ≡ w.kept
+  part_leaves m known =
+      leaves_same w.room m.events w.kept x.kept
+      (no_looks (record { scans = scans_in p; joins = joins_of p; memos = [] }) m.events refl (known (record { scans = scans_in p; joins = joins_of p; memos = [] }) (parts_without_memos p sense.3.5)))
+      m.logged.kept
+
+  pub stopped_leaves : (e : Halt) → Wholly env p (Err e) w x → x.kept ≡ w.kept
+  stopped_leaves (halt.Over vs) h = part_leaves h.moves h.known
+  stopped_leaves (halt.Driver l f) h = part_leaves h.moves h.known
+  stopped_leaves halt.NoMemory h = part_leaves h.moves h.known
+
 -- ---- a value that is kept anew
 
 -- a value that a part comes to here, it comes to wherever its free positions have the same values
@@ -132,10 +158,7 @@ module _ (env : List Value) (n : ℕ) (frees : List ℕ) (p : Node) (w x : Runni
       }
     where
       still : x.kept ≡ w.kept
-      still =
-          leaves_same w.room h.moves.events w.kept x.kept
-          (no_looks (record { scans = scans_in p; joins = joins_of p; memos = [] }) h.moves.events refl
-          (h.known (record { scans = scans_in p; joins = joins_of p; memos = [] }) (parts_without_memos p sense.3.5))) h.moves.logged.kept
+      still = part_leaves env n frees p w x sense h.moves h.known
 
   -- and then it is the memo's
   pub miss_comes : (y : Running) → Did (missed (n, values_at env frees) v) x y → ComesTo env (node.Memo n frees p) (done v) w y

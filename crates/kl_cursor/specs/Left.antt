@@ -16,6 +16,7 @@ use Rattle.kl_plan.specs.Reached.{reached, reached_nodes, reached_fields, reache
 use Rattle.kl_plan.specs.Holding.{Listing, PartsIn, PartsInNodes}
 use Rattle.kl_cursor.specs.FiledRows.{index_in, passed_in}
 use Rattle.kl_cursor.specs.Joining.{JoinParts, Holding, files, join_parts, JoinIn, pairs, held_of, row_of, pairs_cost, rest_cost}
+use Rattle.kl_cursor.specs.declared.state.FiledRows.{FiledRows}
 use Rattle.kl_cursor.specs.declared.state.State.{State, State-F, fold-State}
 use Rattle.kl_scans.specs.Held.{cursor_at, Uses, nothing, one_at, beside}
 use Rattle.kl_scans.specs.Stage.{Stage, stage, readings, or_none}
@@ -52,6 +53,10 @@ end_of false = fine
 abbrev pub nodes_from : ℕ → List Plan → Nodes
 nodes_from i ps = nodes_of (map view (drop i ps))
 
+-- a join by an index that holds this between two outer rows
+abbrev pub keyed : JoinParts → Snap → Option FiledRows → Snap
+keyed j s f = joining j s (files (index_in f)) (passed_in f)
+
 abbrev pub snap_layer : State-F Snap → Snap
 snap_layer (State-F.Fresh p) = fresh (view p.now)
 snap_layer (State-F.Have vs past) = have (reverse vs) (end_of past)
@@ -60,8 +65,8 @@ snap_layer (State-F.Union s p) = both s (view p.now)
 snap_layer (State-F.Bound v s) = bound v s
 snap_layer (State-F.Outside b s i) = outside (view b.now) s
 snap_layer (State-F.Inside b s v i) = inside (view b.now) s v i
-snap_layer (State-F.Keyed j s f) = joining (join_parts j.now) s (files (index_in f)) (passed_in f)
-snap_layer (State-F.Found j s f v i) = leading v i (joining (join_parts j.now) s (files (index_in f)) (passed_in f))
+snap_layer (State-F.Keyed j s f) = keyed (join_parts j.now) s f
+snap_layer (State-F.Found j s f v i) = leading v i (keyed (join_parts j.now) s f)
 snap_layer (State-F.Make ps i) = made (nodes_from i ps.now)
 snap_layer State-F.Done = ended
 

@@ -1,5 +1,6 @@
--- What the helpers of memos do.
-use Rattle.std.specs.Prelude.{◌≡◌, ℕ, false, List, Result, Ok, Err}
+-- What is done with the values of memos.
+use Rattle.std.specs.Prelude.{◌≡◌, ℕ, false, List, Result, Ok, Err, ⊤}
+use Rattle.std.specs.List.Sorted.{IsPermutation}
 use Rattle.kl_value.specs.declared.Value.{Value}
 use Rattle.kl_eval.specs.declared.stop.Halt.{Halt}
 use Rattle.kl_eval.specs.declared.stop.Halt.TheVariants as halt
@@ -13,6 +14,17 @@ use Rattle.kl_scans.specs.Running.{Running}
 use Rattle.kl_scans.specs.Same.{same_subquery}
 use Rattle.kl_cursor.specs.Sense.{HasWorth}
 use Rattle.kl_cursor.specs.Steps.{Wholly}
+
+-- a plan is a memo
+abbrev pub IsMemo : Node → Type 0
+IsMemo (node.Memo n frees p) = ⊤
+IsMemo _ = ⊥
+
+-- the same values are kept, whichever of them was used last
+abbrev pub KeepsSame : Running → Running → Type 0
+KeepsSame a b = IsPermutation a.kept b.kept
+
+-- ---- for private functions alone
 
 -- a value was kept under a key, and is answered; or memory ran out, and nothing was kept
 abbrev pub KeepsCopy : Subquery → Value → Result Value Halt → Running → Running → Type 0

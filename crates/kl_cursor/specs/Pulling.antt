@@ -3,12 +3,14 @@
 -- that are at hand, though their loop gives no item of some of them, is told by the step itself (`AtHand`).
 use Rattle.std.specs.Prelude.{◌≡◌, Bool, true, false, ◌==◌, ◌&&◌, ◌||◌, not, [], length, Option, Some, None, Result, Ok, Err, ⊤}
 use Rattle.kl_plan.specs.Nodes as node
-use Rattle.kl_plan.specs.Nodes.{Node, Nodes, no_nodes, nodes, Fields, no_fields, fields, Branches, no_branches, rest, branch}
+use Rattle.kl_plan.specs.Nodes.{Node, Nodes, no_nodes, nodes, Fields, no_fields, fields, Branches, no_branches, rest, branch, Key, no_key, key}
 use Rattle.kl_value.specs.declared.Value.{Value}
 use Rattle.kl_scans.specs.Running.{Running}
 use Rattle.kl_eval.specs.declared.stop.EvalStop.{EvalStop}
 use Rattle.kl_scans.specs.Log.{Logged}
+use Rattle.kl_cursor.specs.declared.state.FiledRows.{FiledRows}
 use Rattle.kl_cursor.specs.declared.state.State.{State}
+use Rattle.kl_cursor.specs.Joining.{JoinParts}
 use Rattle.kl_cursor.specs.Left.{Snap, fresh, have, pulling, both, bound, outside, inside, made, ended, snap}
 
 -- A scan stands in a plan. In a join one does, and a subquery may come to one.
@@ -42,6 +44,16 @@ abbrev mutual
   has_scan_branches no_branches = false
   has_scan_branches (rest c) = has_scan c
   has_scan_branches (branch l b bs) = has_scan b || has_scan_branches bs
+
+-- one stands in the key of a join
+abbrev pub has_scan_key : Key → Bool
+has_scan_key no_key = false
+has_scan_key (key l p) = has_scan p
+
+-- A join by an index reads on for an outer row: its inner rows are not filed yet, or a scan stands in its conditions, its key or its body.
+abbrev pub reads_for_row : JoinParts → Option FiledRows → Bool
+reads_for_row j None = true
+reads_for_row j (Some g) = has_scan_nodes j.conds || (has_scan_key j.key || has_scan j.body)
 
 -- a plan of a collection gives an item whatever its tests come to
 abbrev pub gives : Node → Bool
@@ -88,6 +100,10 @@ Silent a b = Logged [] a b
 -- it is silent where a cursor may not read on
 abbrev pub SilentUnlessPulls : Snap → Running → Running → Type 0
 SilentUnlessPulls s a b = pulls s ≡ false → Silent a b
+
+-- for private functions alone: the same of what becomes of an outer row
+abbrev pub SilentRow : JoinParts → Option FiledRows → Running → Running → Type 0
+SilentRow j f a b = reads_for_row j f ≡ false → Silent a b
 
 -- ---- for private functions alone: cursors that are sure to give an item
 

@@ -1,11 +1,12 @@
 //! The public calls.
-ghost use Rattle.std.specs.Prelude.{◌≡◌, reverse, IfOk};
+ghost use Rattle.std.specs.Prelude.{◌≡◌, reverse, IfOk, OnErr};
 ghost use Rattle.kl_plan.specs.Nodes.{view};
 ghost use Rattle.kl_scans.specs.Held.{Owned};
 ghost use Rattle.kl_scans.specs.Moves.{Closes};
 ghost use Rattle.kl_cursor.specs.AtHand.{NextsHeld, NextsHeldLazily, PullsAlone};
 ghost use Rattle.kl_cursor.specs.Laziness.{NextsLazily};
 ghost use Rattle.kl_cursor.specs.Left.{fresh, snap, uses};
+ghost use Rattle.kl_cursor.specs.Memos.{IsMemo, KeepsSame};
 ghost use Rattle.kl_cursor.specs.Pulling.{SilentUnlessPulls, Silent, pulls};
 ghost use Rattle.kl_cursor.specs.Sense.{HasWorth, Stands};
 ghost use Rattle.kl_cursor.specs.Steps.{Nexts, Partly};
@@ -47,7 +48,8 @@ pub enum Draw {
 /// collection.
 ///
 /// The plan makes sense under the types of what the run's session has attached and those of the values in `env`. Afterwards, also after
-/// a stop, no cursor of a driver is open that was not, and all that was done is counted.
+/// a stop, no cursor of a driver is open that was not, and all that was done is counted. Where it is a memo, nothing is kept of an
+/// evaluation that stopped.
 ///
 /// # Errors
 /// `Overflow` exactly where the value is one; `Driver` where the driver of that source refused to go on, with its cause; want of
@@ -62,6 +64,7 @@ pub fn value_of<'r>(
     ensures env { env.new.items ≡ env.old.items }
     ensures value { Partly (reverse env.old.items) (view plan.now) result (⟦<Run<'r> as Ran>⟧.world run.old)
         (⟦<Run<'r> as Ran>⟧.world run.new) }
+    ensures kept { IsMemo (view plan.now) → OnErr result (KeepsSame (⟦<Run<'r> as Ran>⟧.world run.old) (⟦<Run<'r> as Ran>⟧.world run.new)) }
 {
     inside(whole(alloc, plan, &Env::Base(env.as_slice()), run))
 }

@@ -1,12 +1,15 @@
 //! Whether the next step of a cursor may read on at a source.
-ghost use Rattle.std.specs.Prelude.{◌≡◌, drop};
+ghost use Rattle.std.specs.Prelude.{◌≡◌, ◌||◌, drop};
+ghost use Rattle.kl_plan.specs.Joins.{keys_view};
 ghost use Rattle.kl_plan.specs.Nodes.{fields_view, nodes_view, view};
+ghost use Rattle.kl_cursor.specs.Joining.{join_parts};
 ghost use Rattle.kl_cursor.specs.Left.{snap};
-ghost use Rattle.kl_cursor.specs.Pulling.{has_scan, has_scan_nodes, has_scan_fields, gives, reads_on, loop_reads_on, pulls};
+ghost use Rattle.kl_cursor.specs.Pulling.{has_scan, has_scan_key, has_scan_nodes, has_scan_fields, gives, reads_for_row, reads_on};
+ghost use Rattle.kl_cursor.specs.Pulling.{loop_reads_on, pulls};
 
-use crate::state::State;
-use kl_base::Label;
-use kl_plan::Plan;
+use crate::state::{FiledRows, State};
+use kl_base::{Box, Label};
+use kl_plan::{Join, JoinKey, Plan};
 
 /// Whether a scan stands in a plan. In a join and in a subquery one does.
 #[cycle(scan)]
@@ -111,6 +114,35 @@ fn loop_reads_on(body: &Plan, source: &State) -> bool
     ensures { result ≡ loop_reads_on (view body.now) (snap source.now) }
 {
     has_scan(body) || (reads_on(source) && !gives(body))
+}
+
+// Whether a scan stands in the key of a join.
+fn has_scan_key(key: &Option<JoinKey>) -> bool
+    ensures { result ≡ has_scan_key (keys_view key.now) }
+{
+    match key {
+        Some(key) => has_scan(&key.value),
+        None => false,
+    }
+}
+
+// Whether a join by an index reads on for an outer row.
+fn reads_for_row(join: &Join, filed: &Option<Box<FiledRows>>) -> bool
+    ensures { result ≡ reads_for_row (join_parts join.now) filed.now }
+{
+    match filed {
+        Some(_) => has_scan_all(join.conds.slice())
+            || has_scan_key(&join.key)
+            || has_scan(&join.body),
+        None => true,
+    }
+}
+
+/// Whether a join by an index between two outer rows may read on at a source for the next one and its pairs.
+pub fn row_pulls(join: &Join, outer: &State, filed: &Option<Box<FiledRows>>) -> bool
+    ensures { result ≡ (pulls (snap outer.now) || reads_for_row (join_parts join.now) filed.now) }
+{
+    may_pull(outer) || reads_for_row(join, filed)
 }
 
 /// Whether the next step of a cursor may read on at a source. It does not where an item is at hand.
