@@ -13,7 +13,7 @@ ghost use Rattle.kl_scans.specs.Right.{IsReadyRun};
 ghost use Rattle.kl_scans.specs.Scans.{CanScan};
 ghost use Rattle.calls_plans.specs.Reading.{HoldsNumbers, IsReading};
 
-use kl_ask::{Ask, Attached, Drift, Driver, DriverError, Seen, Session, Settings, Trace};
+use kl_ask::{Ask, Attached, Drift, Driver, DriverError, Head, Seen, Session, Settings, Trace};
 use kl_base::{Box, Label, Seq, Text};
 use kl_eval::EvalStop;
 use kl_nested::NestedDriver;
@@ -144,38 +144,63 @@ fn starts<'p>(run: &mut Run<'p>, scan: &Scan) -> Option<u64>
     }
 }
 
-// Whether the next pull gives rows.
-fn pulls<'p>(run: &mut Run<'p>, scan: &Scan, cursor: u64, into: &mut Vec<Value>) -> Option<bool>
-    requires { IsReading (⟦<Run<'p> as Ran>⟧.world run.old) scan.now cursor }
-    ensures { IfSome result (λ more. IsReading (⟦<Run<'p> as Ran>⟧.world run.new) scan.now cursor) }
-{
-    match pull_scan(run, scan, cursor, into) {
-        Ok(more) => Some(more),
-        Err(_stop) => None,
+// What two pulls of a scan come to.
+#[derive(Drop)]
+enum Reading {
+    // Rows by the first, and none by the second.
+    Rows(Vec<Value>),
+    Change(Drift),
+    Other,
+}
+
+fn change_of(stop: EvalStop) -> Reading {
+    match stop {
+        EvalStop::Driver { source: _, error } => match error {
+            DriverError::Changed { drift } => Reading::Change(drift),
+            _ => Reading::Other,
+        },
+        _ => Reading::Other,
     }
 }
 
-fn are_rows(rows: &[Value]) -> bool {
-    matches!(rows, [Value::Int(4), Value::Int(5)])
+// Whether the next pull gives rows, or what stopped it.
+fn pulls<'p>(
+    run: &mut Run<'p>,
+    scan: &Scan,
+    cursor: u64,
+    into: &mut Vec<Value>,
+) -> Result<bool, Reading>
+    requires { IsReading (⟦<Run<'p> as Ran>⟧.world run.old) scan.now cursor }
+    ensures { IfOk result (λ more. IsReading (⟦<Run<'p> as Ran>⟧.world run.new) scan.now cursor) }
+{
+    match pull_scan(run, scan, cursor, into) {
+        Ok(more) => Ok(more),
+        Err(stop) => Err(change_of(stop)),
+    }
 }
 
-// Whether one pull gives all rows, and the next one none.
-fn reads<'p>(alloc: Global, run: &mut Run<'p>, scan: &Scan) -> bool
+fn reads<'p>(alloc: Global, run: &mut Run<'p>, scan: &Scan) -> Reading
     requires can { CanScan (⟦<Run<'p> as Ran>⟧.world run.old) scan.now }
     requires ready { IsReadyRun (⟦<Run<'p> as Ran>⟧.world run.old) }
 {
     let mut rows = Vec::new(alloc);
     let Some(cursor) = starts(run, scan) else {
-        return false;
+        return Reading::Other;
     };
-    let Some(first) = pulls(run, scan, cursor, &mut rows) else {
-        return false;
-    };
-    let Some(second) = pulls(run, scan, cursor, &mut rows) else {
-        return false;
-    };
-    finish_scan(run, scan, cursor);
-    first && !second && are_rows(&rows)
+    match pulls(run, scan, cursor, &mut rows) {
+        Err(reading) => reading,
+        Ok(first) => match pulls(run, scan, cursor, &mut rows) {
+            Err(reading) => reading,
+            Ok(second) => {
+                finish_scan(run, scan, cursor);
+                if first && !second {
+                    Reading::Rows(rows)
+                } else {
+                    Reading::Other
+                }
+            }
+        },
+    }
 }
 
 fn is_counted(run: &Run<'_>) -> bool {
@@ -183,13 +208,18 @@ fn is_counted(run: &Run<'_>) -> bool {
     matches!(starts, [only] if only.0 == 0 && only.1 == 1)
 }
 
-// Whether a scan may repeat rows, and is read and counted.
-fn scans<'p>(alloc: Global, run: &mut Run<'p>, scan: &Scan) -> bool
+// A scan that may repeat rows is read and counted.
+fn scans<'p>(alloc: Global, run: &mut Run<'p>, scan: &Scan) -> Reading
     requires can { CanScan (⟦<Run<'p> as Ran>⟧.world run.old) scan.now }
     requires ready { IsReadyRun (⟦<Run<'p> as Ran>⟧.world run.old) }
 {
     let may_repeat = !repeats_none(run, scan);
-    may_repeat && reads(alloc, run, scan) && is_counted(run)
+    let reading = reads(alloc, run, scan);
+    if may_repeat && is_counted(run) {
+        reading
+    } else {
+        Reading::Other
+    }
 }
 
 // A plan without subqueries.
@@ -199,13 +229,13 @@ fn variable() -> Plan
     Plan::Var(0)
 }
 
-fn is_scanned(
+fn read_by(
     alloc: Global,
     driver: HeapBox<dyn Driver>,
     ty: Ty,
     scan: &Scan,
     plan: &Plan,
-) -> Result<bool, Fail>
+) -> Result<Reading, Fail>
     requires plan { memos_of (view plan.now) ≡ [] }
     requires attached { HoldsNumbers (state driver) scan.now.source ty }
     requires ty { ground_of ty ≡ coll kind.List int }
@@ -218,116 +248,72 @@ fn is_scanned(
     Ok(scans(alloc, &mut run, scan))
 }
 
-// Whether the file is read by a scan beside a plan that names no source. Who calls it makes the plan: what holds both it and a
+// What a scan of the file comes to, beside a plan that names no source. Who calls it makes the plan: what holds both it and a
 // driver takes the prover gigabytes.
-fn is_read(alloc: Global, plan: &Plan) -> Result<bool, Fail>
-    requires { memos_of (view plan.now) ≡ [] }
+fn read_of(alloc: Global, plan: &Plan, files: MemFiles) -> Result<Reading, Fail>
+    requires plan { memos_of (view plan.now) ≡ [] }
+    requires open { NoneOpen (files_state files) }
 {
     let scan = scan(alloc)?;
     let ty = list_type(alloc)?;
-    let driver = attached(alloc, files(alloc)?, &scan.source, &ty)?;
+    let driver = attached(alloc, files, &scan.source, &ty)?;
     let boxed = boxed(alloc, driver)?;
-    is_scanned(alloc, boxed, ty, &scan, plan)
+    read_by(alloc, boxed, ty, &scan, plan)
+}
+
+fn unchanged(alloc: Global, plan: &Plan) -> Result<Reading, Fail>
+    requires { memos_of (view plan.now) ≡ [] }
+{
+    read_of(alloc, plan, files(alloc)?)
+}
+
+// What is told of a file that has these bytes when it is scanned.
+fn changed_to(alloc: Global, plan: &Plan, bytes: &[u8]) -> Result<Reading, Fail>
+    requires { memos_of (view plan.now) ≡ [] }
+{
+    read_of(alloc, plan, changing(alloc, bytes)?)
+}
+
+fn are_numbers(reading: &Reading, first: i64, second: i64) -> bool {
+    match reading {
+        Reading::Rows(rows) => {
+            matches!(rows.as_slice(), [Value::Int(a), Value::Int(b)] if *a == first && *b == second)
+        }
+        _ => false,
+    }
 }
 
 #[test]
 fn a_source_is_scanned(rt: HostRuntime) -> Result<(), Fail> {
     let plan = variable();
-    assert!(rt; is_read(rt.alloc(), &plan)?);
+    let reading = unchanged(rt.alloc(), &plan)?;
+    assert!(rt; are_numbers(&reading, 4, 5));
     Ok(())
 }
 
-// What a stop tells of a change, where it was one.
-fn change_of(stop: &EvalStop) -> Option<Drift> {
-    match stop {
-        EvalStop::Driver { source: _, error } => match error {
-            DriverError::Changed { drift } => Some(*drift),
-            _ => None,
-        },
-        _ => None,
-    }
-}
-
-// Whether the next pull gives rows, or what it tells of a change.
-fn tries<'p>(
-    run: &mut Run<'p>,
-    scan: &Scan,
-    cursor: u64,
-    into: &mut Vec<Value>,
-) -> Result<bool, Option<Drift>>
-    requires { IsReading (⟦<Run<'p> as Ran>⟧.world run.old) scan.now cursor }
-    ensures { IfOk result (λ more. IsReading (⟦<Run<'p> as Ran>⟧.world run.new) scan.now cursor) }
-{
-    match pull_scan(run, scan, cursor, into) {
-        Ok(more) => Ok(more),
-        Err(stop) => Err(change_of(&stop)),
-    }
-}
-
-// What the first two pulls tell of a change.
-fn meets<'p>(alloc: Global, run: &mut Run<'p>, scan: &Scan) -> Option<Drift>
-    requires can { CanScan (⟦<Run<'p> as Ran>⟧.world run.old) scan.now }
-    requires ready { IsReadyRun (⟦<Run<'p> as Ran>⟧.world run.old) }
-{
-    let mut rows = Vec::new(alloc);
-    let Some(cursor) = starts(run, scan) else {
-        return None;
-    };
-    match tries(run, scan, cursor, &mut rows) {
-        Err(change) => change,
-        Ok(_) => match tries(run, scan, cursor, &mut rows) {
-            Err(change) => change,
-            Ok(_) => {
-                finish_scan(run, scan, cursor);
-                None
-            }
-        },
-    }
-}
-
-fn change_met(
-    alloc: Global,
-    driver: HeapBox<dyn Driver>,
-    ty: Ty,
-    scan: &Scan,
-    plan: &Plan,
-) -> Result<Option<Drift>, Fail>
-    requires plan { memos_of (view plan.now) ≡ [] }
-    requires attached { HoldsNumbers (state driver) scan.now.source ty }
-    requires ty { ground_of ty ≡ coll kind.List int }
-    requires driver { scan.now.driver ≡ 0 }
-    requires ask { scan.now.ask ≡ asks.Rows scan.now.source [] [] }
-{
-    let session = session(alloc, driver, ty, scan)?;
-    let memo = memo_for(alloc, &session.settings)?;
-    let mut run = run_of(session, memo, plan);
-    Ok(meets(alloc, &mut run, scan))
-}
-
-// What is told of a file that has these bytes when it is scanned.
-fn change_to(alloc: Global, plan: &Plan, bytes: &[u8]) -> Result<Option<Drift>, Fail>
-    requires { memos_of (view plan.now) ≡ [] }
-{
-    let scan = scan(alloc)?;
-    let ty = list_type(alloc)?;
-    let driver = attached(alloc, changing(alloc, bytes)?, &scan.source, &ty)?;
-    let boxed = boxed(alloc, driver)?;
-    change_met(alloc, boxed, ty, &scan, plan)
-}
-
-// Text that stops, an item of another type, and fewer bytes and items.
+// Text that stops, an item of another type, fewer bytes and items, and a type where none was stated.
 #[test]
 fn a_change_is_told_by_what_it_is(rt: HostRuntime) -> Result<(), Fail> {
     let plan = variable();
-    let stops = change_to(rt.alloc(), &plan, b"4; 5")?;
-    assert!(rt; matches!(stops, Some(Drift::Unread { place: 4 })));
-    let lacks = change_to(rt.alloc(), &plan, b"4; true;")?;
-    assert!(rt; matches!(lacks, Some(Drift::Misfit { item: 1 })));
-    let fewer = change_to(rt.alloc(), &plan, b"4;")?;
+    let stops = changed_to(rt.alloc(), &plan, b"4; 5")?;
+    assert!(rt; matches!(stops, Reading::Change(Drift::Unread { place: 4 })));
+    let lacks = changed_to(rt.alloc(), &plan, b"4; true;")?;
+    assert!(rt; matches!(lacks, Reading::Change(Drift::Misfit { item: 1 })));
+    let fewer = changed_to(rt.alloc(), &plan, b"4;")?;
     assert!(rt;
         matches!(
             fewer,
-            Some(Drift::Bytes { kept: 5, found: 2 } | Drift::Count { kept: 2, found: 1 })
+            Reading::Change(Drift::Bytes { kept: 5, found: 2 } | Drift::Count { kept: 2, found: 1 })
+        )
+    );
+    let states = changed_to(rt.alloc(), &plan, b"type int; 4; 5;")?;
+    assert!(rt;
+        matches!(
+            states,
+            Reading::Change(Drift::Header {
+                kept: Head::Absent,
+                found: Head::Stated(Ty::Int)
+            })
         )
     );
     Ok(())
@@ -337,8 +323,8 @@ fn a_change_is_told_by_what_it_is(rt: HostRuntime) -> Result<(), Fail> {
 #[test]
 fn a_change_in_kind_is_none(rt: HostRuntime) -> Result<(), Fail> {
     let plan = variable();
-    let other = change_to(rt.alloc(), &plan, b"4; 9;")?;
-    assert!(rt; other.is_none());
+    let other = changed_to(rt.alloc(), &plan, b"4; 9;")?;
+    assert!(rt; are_numbers(&other, 4, 9));
     Ok(())
 }
 

@@ -3,7 +3,7 @@ use Rattle.kl_plan.specs.Nodes.{view}
 use Rattle.kl_scans.specs.Right.{IsReadyRun}
 use Rattle.kl_scans.specs.Scans.{CanScan}
 use Rattle.calls_plans.proofs.Begun.{run_ready}
-use Rattle.calls_plans.proofs.scans.is_scanned.Goals as goal
+use Rattle.calls_plans.proofs.scans.read_by.Goals as goal
 
 pub scans-requires-clause-can : goal.scans-requires-clause-can
 scans-requires-clause-can g c = subst (λ w. CanScan w c.args.scan.now) (sym c.run_of-run.ensures) (c.in_ok-session.ensures.can (view c.args.plan.now))
