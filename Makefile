@@ -6,7 +6,8 @@
 #   make run          the first example, by the proved program; PROGRAM=.. CATALOGUE=.. for another
 #   make test         what the gate does: every proof, every test, and the repository's own checks
 #   make wrong        tries the wrong bodies that contracts have to refuse; CRATES=.. for some crates
-#   make install      the program under PREFIX, /usr/local where none is given
+#   make install      the program and its man page under PREFIX, /usr/local where none is given; DESTDIR=.. puts a folder
+#                     before it
 #   make clean        removes what was built
 
 .DEFAULT_GOAL := kleisli
@@ -65,6 +66,7 @@ wrong:
 
 install: kleisli
 	install -D $(BUILT) $(DESTDIR)$(PREFIX)/bin/kleisli
+	install -D -m 644 docs/kleisli.1 $(DESTDIR)$(PREFIX)/share/man/man1/kleisli.1
 
 clean:
 	rm -rf crates/*/out
