@@ -33,7 +33,7 @@ LINES = {
     1: rb"usage: .*",
     2: rb"text: (?:no token|syntax|refutable pattern|unknown name NAME|name NAME (?:twice|misapplied))" + PLACE,
     3: rb"types: no typing for declaration " + NUMBER,
-    4: rb"catalogue: (?:syntax" + PLACE + rb"|name NAME twice|no driver NAME|type of NAME does not suit its driver)",
+    4: rb"(?:catalogue: (?:syntax" + PLACE + rb"|name NAME twice|no driver NAME|type of NAME does not suit its driver)|type: syntax" + PLACE + rb")",
     5: rb"source .*: bad at " + NUMBER,
     6: rb"overflow",
     7: rb"read fault",
@@ -51,6 +51,12 @@ PIECES = [
     b"\0", b"\xff", b"#", b"0", b"-1", b"9223372036854775807", b"9223372036854775808", b"-9223372036854775808", b"true", b"false",
     b"if ", b" then ", b" else ", b"let ", b" in ", b"case ", b" of ", b" end", b"otherwise ", b"define ", b"not ", b" and ", b" or ",
     b"count(", b"sum(", b"member(", b"source ", b"flat", b"nested", b"sql", b"made", b"int", b"string", b"bool", b": {|[a: int]|}",
+    b"type ", b"type [a: int];",
+]
+TYPES = [
+    b"int", b"string", b"{int}", b"[|string|]", b"[]", b"[a: int]", b"[a: int, b: {|bool|}]", b"<a: int, b: []>",
+    b"[acc: string, domains: {string}, product: <protein: int, rna: string>]",
+    b"[acc: string, loc: <chr: int, unknown: string>, refs: {string}]",
 ]
 SETTINGS = [
     ["--no-rewrite"], ["--no-delegate"], ["--join", "block"], ["--join", "index"], ["--block", "1"], ["--block", "2"], ["--fetch", "1"],
@@ -154,7 +160,7 @@ def cases():
             continue
         for case in Values(bytes_at(os.path.join(folder, name))).all():
             if "words" in case and "files" in case:
-                words = [word.decode() for word in case["words"]]
+                words = [text_of(word).decode() for word in case["words"]]
                 yield Job(words, [(file["path"].decode(), text_of(file.get("text", b""))) for file in case["files"]])
 
 
@@ -232,6 +238,11 @@ def fewer_rows(text):
 
 def other_words(words, choose):
     words = list(words)
+    if words[0] == "show" and choose.random() < 0.3:
+        words = ["upgrade", words[1], choose.choice(TYPES).decode()]
+    if words[0] == "upgrade" and choose.random() < 0.4:
+        # (a word of the command line ends at a byte 0, and is UTF-8)
+        words[2] = changed(words[2].encode(), TYPES, choose).replace(b"\0", b"").decode(errors="ignore")
     if words[0] in ("run", "explain", "check", "types") and choose.random() < 0.3:
         words = [choose.choice(("run", "run", "explain", "check", "types")), *(it for it in words[1:3] if not it.startswith("-"))]
         if words[0] in ("run", "explain"):

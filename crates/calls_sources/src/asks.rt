@@ -62,7 +62,7 @@ fn asks_are_counted(rt: HostRuntime) -> Result<(), Fail> {
 #[test]
 fn an_unreadable_source_is_counted(rt: HostRuntime) -> Result<(), Fail> {
     let bad = DriverError::BadSource { place: 0 };
-    assert_eq!(rt; unread_by(bad, 2), 3);
-    assert_eq!(rt; unread_by(DriverError::Failed, 2), 2);
+    assert_eq!(rt; unread_by(&bad, 2), 3);
+    assert_eq!(rt; unread_by(&DriverError::Failed, 2), 2);
     Ok(())
 }

@@ -76,3 +76,26 @@ fn a_seed_and_a_size_are_read(rt: HostRuntime) -> Result<(), Fail> {
     );
     Ok(())
 }
+
+fn is_upgrade(found: &Result<Command, WordsError>) -> bool {
+    match found {
+        Ok(Command::Upgrade { file, ty }) => {
+            file.slice() == b"f".as_slice() && ty.slice() == b"{int}".as_slice()
+        }
+        _ => false,
+    }
+}
+
+#[test]
+fn a_file_and_a_type_are_read(rt: HostRuntime) -> Result<(), Fail> {
+    let found = read(rt.alloc(), "upgrade f {int}")?;
+    assert!(rt; is_upgrade(&found));
+    Ok(())
+}
+
+#[test]
+fn a_file_without_a_type_is_not_upgraded(rt: HostRuntime) -> Result<(), Fail> {
+    let found = read(rt.alloc(), "upgrade f")?;
+    assert!(rt; found == Err(WordsError::Usage));
+    Ok(())
+}

@@ -9,6 +9,8 @@ mod containers;
 #[cfg(test)]
 mod exchange;
 #[cfg(test)]
+mod heads;
+#[cfg(test)]
 mod joins;
 #[cfg(test)]
 mod memos;

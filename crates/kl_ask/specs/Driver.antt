@@ -3,6 +3,7 @@ use Rattle.std.specs.Prelude.{◌≡◌, ◌≢◌, ◌⊎◌, ◌<◌, ◌≤�
 use Rattle.std.specs.Prelude.{Some, None, IsSome, slice_get, ⊤}
 use Rattle.std.specs.Prelude.{Result, Ok, Err, IfOk, OnOk, OnErr, IsErrOf}
 use Rattle.std.specs.List.{AllByRecursion, IsDistinct}
+use Rattle.std.specs.Option.{option_map}
 use Rattle.std.specs.List.Sorted.{IsPermutation}
 use Rattle.std.specs.Ordering.{is_eq}
 use Rattle.kl_base.specs.Counts.{Rose}
@@ -27,6 +28,7 @@ use Rattle.kl_ask.specs.declared.ask.ColTest.{ColTest}
 use Rattle.kl_ask.specs.declared.ask.Drift.{Drift}
 use Rattle.kl_ask.specs.declared.ask.Drift.TheVariants as drift
 use Rattle.kl_ask.specs.declared.ask.DriverError.{DriverError}
+use Rattle.kl_ask.specs.declared.ask.Head.{Head}
 use Rattle.kl_ask.specs.declared.ask.DriverError.TheVariants as error
 
 -- ---- what a driver means
@@ -47,8 +49,10 @@ pub data Behind : Type 0 where
   StopsAt : ℕ → Behind
   Beyond : Behind
 
--- the items that bytes spell one behind the other, from the first byte on, and what stands behind them
+-- what bytes state of the type of their items, before all of them; the items that they spell one behind the other; and what stands
+-- behind them
 pub record Spelt : Type 0 where
+  pub head : Head
   pub items : List Value
   pub behind : Behind
 
@@ -63,13 +67,18 @@ pub record DriverKind : Type 0 where
   pub stored : Option (List ℕ → Ty → Stored)
   pub spells : Option (List ℕ → Spelt)
 
+-- what is kept of a source that cursors read anew: the number of its bytes, and what it states of its type
+pub record Kept : Type 0 where
+  pub bytes : ℕ
+  pub head : Head
+
 -- an attached source: the type of the whole collection; its rows, where contents are told; how many rows a whole scan
--- hands; and the number of its bytes when it was attached, where the driver keeps that
+-- hands; and what it was when it was attached, where the driver keeps that
 pub record Source : Type 0 where
   pub ty : Ty
   pub rows : Option (List Value)
   pub count : ℕ
-  pub kept : Option ℕ
+  pub kept : Option Kept
 
 -- an open cursor: its ask, the type of its rows, the rows that are left where contents are told, and how many rows it may
 -- still hand
@@ -225,7 +234,7 @@ pub record Attaches (source : Name) (locator : List ℕ) (ty : Ty) (result : Res
   pub unread : CountsUnread result old.unread new.unread
   pub others : OtherSources source old new
   -- the answer is the number of rows that a whole scan hands
-  pub attached : IfOk result (λ count. (kept : Option ℕ)
+  pub attached : IfOk result (λ count. (kept : Option Kept)
       × (new.attached source ≡ Some (record { ty = ty; rows = told_rows (stored_at old locator ty); count = count; kept = kept })))
   pub count : IfOk result (λ count. (rows : List Value) → stored_at old locator ty ≡ Some (Rows rows) → count ≡ length rows)
   -- a driver with `unique` repeats no row of a set
@@ -379,10 +388,11 @@ pub record ReadsAnew (cursor : ℕ) (old new : State) : Type 0 where
 abbrev pub spelt : {cursor : ℕ} {old new : State} → ReadsAnew cursor old new → Spelt
 spelt r = r.spells r.read.bytes
 
--- the whole source was read, and it has as many bytes and as many rows as when it was attached
+-- the whole source was read, and it has as many bytes and as many rows, and states the same, as when it was attached
 pub record IsAsAttached (s : Source) (read : ReadSoFar) (spelt : Spelt) : Type 0 where
   pub all : IsWholeText read spelt s.count
-  pub size : (kept : ℕ) → s.kept ≡ Some kept → length read.bytes ≡ kept
+  pub size : (kept : Kept) → s.kept ≡ Some kept → length read.bytes ≡ kept.bytes
+  pub head : (kept : Kept) → s.kept ≡ Some kept → spelt.head ≡ kept.head
 
 pub record PullsNone (cursor : ℕ) (into into' : List Value) (c : Cursor) (old new : State) : Type 0 where
   pub same : into' ≡ into
@@ -394,10 +404,11 @@ pub record PullsNone (cursor : ℕ) (into into' : List Value) (c : Cursor) (old 
   -- where a cursor reads its source anew, that is as it was when it was attached
   pub unchanged : (r : ReadsAnew cursor old new) (s : Source) → source_of old c.ask ≡ Some s → IsAsAttached s r.read (spelt r)
 
--- a source is not what it was when it was attached: it has other bytes than were kept, or another number of rows, or what
--- stands at a place or an item no longer reads
+-- a source is not what it was when it was attached: it has other bytes than were kept, or another number of rows, or states
+-- another type or none, or what stands at a place or an item no longer reads
 abbrev pub HasDrifted : Source → Drift → Type 0
-HasDrifted s (drift.Bytes kept found) = (s.kept ≡ Some kept) × (found ≢ kept)
+HasDrifted s (drift.Bytes kept found) = (option_map (λ (k : Kept). k.bytes) s.kept ≡ Some kept) × (found ≢ kept)
+HasDrifted s (drift.Header kept found) = (option_map (λ (k : Kept). k.head) s.kept ≡ Some kept) × (found ≢ kept)
 HasDrifted s (drift.Count kept found) = (s.count ≡ kept) × (found ≢ kept)
 HasDrifted s (drift.Unread place) = ⊤
 HasDrifted s (drift.Misfit item) = ⊤
@@ -417,21 +428,23 @@ pub record IsPastEnd (c : Cursor) (kept found : ℕ) : Type 0 where
 abbrev pub IsSizeMet : Option ℕ → Cursor → ℕ → Type 0
 IsSizeMet most c found = ((n : ℕ) × (most ≡ Some n) × (found ≡ n + 1)) ⊎ ((HasTests c.ask → ⊥) → c.bound ≡ 0)
 
--- What is told of was met ahead of what the cursor handed: a number of bytes; a row that lacks the type, or the first that is not
--- there, or one behind the last.
+-- What is told of was met ahead of what the cursor handed: a number of bytes; what the source states, before any row; a row that
+-- lacks the type, or the first that is not there, or one behind the last.
 abbrev pub IsMetAhead : Option ℕ → Source → Cursor → Drift → Type 0
 IsMetAhead most s c (drift.Bytes kept found) = IsSizeMet most c found
 IsMetAhead most s c (drift.Count kept found) = IsAhead s c found ⊎ IsPastEnd c kept found
+IsMetAhead most s c (drift.Header kept found) = (HasTests c.ask → ⊥) → c.bound ≡ s.count
 IsMetAhead most s c (drift.Unread place) = ⊤
 IsMetAhead most s c (drift.Misfit item) = IsAhead s c item
 
 -- What is told of stands so in what the cursor read: all bytes of the source, or one more than are looked at; all rows of it, or
--- one more than it had; the place where the bytes stop being text, or where they nest too deep, which is behind them only where
--- the source ends; a row that lacks the type.
+-- one more than it had; what it states of its type; the place where the bytes stop being text, or where they nest too deep, which is
+-- behind them only where the source ends; a row that lacks the type.
 abbrev pub IsShown : Option ℕ → Source → ReadSoFar → Spelt → Drift → Type 0
 IsShown most s read spelt (drift.Bytes kept found) = (length read.bytes ≡ found)
     × (((n : ℕ) × (most ≡ Some n) × (found ≡ n + 1)) ⊎ IsWholeText read spelt s.count)
 IsShown most s read spelt (drift.Count kept found) = IsWholeText read spelt found ⊎ ((kept < found) × (found ≤ length spelt.items))
+IsShown most s read spelt (drift.Header kept found) = spelt.head ≡ found
 IsShown most s read spelt (drift.Unread place) = (spelt.behind ≡ StopsAt place) × ((place < length read.bytes) ⊎ (read.ended ≡ true))
 IsShown most s read spelt (drift.Misfit item) = (v : Value) × (slice_get spelt.items item ≡ Some v)
     × (Inhabits (item_of (ground_of s.ty)) v → ⊥)

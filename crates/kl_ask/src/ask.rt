@@ -3,6 +3,7 @@ ghost use Rattle.std.specs.Prelude.{◌≡◌};
 ghost use Rattle.kl_ask.specs.declared.ask.DriverError.TheVariants.{NoMemory as WantOfMemory};
 
 use kl_base::{Label, NoMemory, Seq, Text};
+use kl_type::Ty;
 use kl_value::Value;
 use std::alloc::{AllocError, AllocFailed};
 
@@ -63,8 +64,17 @@ pub enum Ask {
     },
 }
 
+/// What a source states of its type.
+#[derive(Drop, PartialEq, Eq)]
+pub enum Head {
+    /// Nothing.
+    Absent,
+    /// The type of its items.
+    Stated(Ty),
+}
+
 /// What was found to have changed since a source was attached.
-#[derive(Clone, Copy, PartialEq, Eq)]
+#[derive(Drop, PartialEq, Eq)]
 pub enum Drift {
     /// It had so many bytes, and has others.
     Bytes { kept: u64, found: u64 },
@@ -74,10 +84,12 @@ pub enum Drift {
     Unread { place: u64 },
     /// The item of this number, counted from 0, lacks the type.
     Misfit { item: u64 },
+    /// It stated one type, or none, and states another or none.
+    Header { kept: Head, found: Head },
 }
 
 /// Why a driver refuses.
-#[derive(Clone, Copy, PartialEq, Eq)]
+#[derive(Drop, PartialEq, Eq)]
 pub enum DriverError {
     /// A file is missing or could not be read.
     Failed,

@@ -44,8 +44,8 @@ pub fn sum_asked(asked: &[(Ask, u64)]) -> u64
 }
 
 /// The count of unreadable sources after a refusal. It stands still at its greatest value.
-pub fn unread_by(error: DriverError, unread: u64) -> u64
-    ensures { result ≡ unread_by error unread }
+pub fn unread_by(error: &DriverError, unread: u64) -> u64
+    ensures { result ≡ unread_by error.now unread }
 {
     match error {
         DriverError::BadSource { .. } | DriverError::TooLong { .. } | DriverError::TooDeep { .. } =>

@@ -68,7 +68,8 @@ pub trait Driver: Drop {
     /// contents are told, it appends `most` rows, or all that are left. Where they are not, an ask with tests, or of a
     /// statement with WHERE, may answer false while more rows were possible, and none is left from then on. A driver that
     /// reads the source anew answers false only where all of it was read, with as many bytes and rows as when it was
-    /// attached. The count of rows handed rises by the number of rows appended.
+    /// attached, and the same statement of its type or none as then. The count of rows handed rises by the number of rows
+    /// appended.
     ///
     /// # Errors
     /// After an error the cursor is closed, and `into` is as before.
@@ -80,6 +81,7 @@ pub trait Driver: Drop {
     ///     were, one more.
     ///   - `Unread` tells the byte from which on what was read is no text of rows, or where it nests too deep.
     ///   - `Misfit` tells the number, from 0 on, of the row that lacks the type.
+    ///   - `Header` tells the type that the source stated, or that it stated none, and what it states in its place.
     ///
     ///   What is told lies ahead of the rows that this cursor handed, unless its ask has tests.
     /// - `NoMemory`.

@@ -15,7 +15,7 @@ mod session;
 mod settings;
 mod tables;
 
-pub use ask::{Abilities, Ask, Cmp, ColTest, Drift, DriverError, Right};
+pub use ask::{Abilities, Ask, Cmp, ColTest, Drift, DriverError, Head, Right};
 pub use asked::{ask_laws, count_ask, sum_asked, unread_by};
 pub use asking::allows;
 pub use boxed::{

@@ -70,7 +70,7 @@ pub struct Trace {
     pub joins: Seq<JoinRun>,
     /// Look-ups in the cache of subqueries that found their answer.
     pub hits: u64,
-    /// Look-ups in the cache of subqueries that did not.
+    /// Look-ups in the cache of subqueries that found none, and whose value was then worked out and kept.
     pub misses: u64,
     /// The most rows that a block of a join held.
     pub peak: u32,

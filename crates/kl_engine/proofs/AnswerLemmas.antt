@@ -54,6 +54,7 @@ module _ (run : PlanOver) (files : FilesState) (ds ds' : List State) (out out' :
   stopped_outside v (fault.NoDriver name) rose = absurd rose
   stopped_outside v (fault.Unsuited name) rose = absurd rose
   stopped_outside v (fault.BadFile place) rose = absurd rose
+  stopped_outside v (fault.NoType byte) rose = absurd rose
   stopped_outside v (fault.BadSource name place) rose = absurd rose
   stopped_outside v fault.Overflow rose = absurd rose
   stopped_outside v fault.Write rose = absurd rose
@@ -79,6 +80,7 @@ module _ (run : PlanOver) (files : FilesState) (ds ds' : List State) (out out' :
   stopped_end (fault.NoDriver name) rose is = is
   stopped_end (fault.Unsuited name) rose is = is
   stopped_end (fault.BadFile place) rose is = is
+  stopped_end (fault.NoType byte) rose is = is
   stopped_end (fault.BadSource name place) rose is = is
   stopped_end fault.Write rose is = is
   stopped_end fault.ProgramBytes rose is = is
@@ -104,6 +106,7 @@ module _ (run : PlanOver) (files : FilesState) (ds ds' : List State) (out out' :
   stopped_fault (fault.NoDriver name) rose = rose
   stopped_fault (fault.Unsuited name) rose = rose
   stopped_fault (fault.BadFile place) rose = rose
+  stopped_fault (fault.NoType byte) rose = rose
   stopped_fault (fault.BadSource name place) rose = rose
   stopped_fault fault.ProgramBytes rose = rose
   stopped_fault fault.CatalogueBytes rose = rose
@@ -147,6 +150,7 @@ module _ (Lists : Type 0) (IsOut : Verdict → Type 0) (told : Type 0) (run : Pl
   stopped_speaks lists (fault.NoDriver name) rose is = rose
   stopped_speaks lists (fault.Unsuited name) rose is = rose
   stopped_speaks lists (fault.BadFile place) rose is = rose
+  stopped_speaks lists (fault.NoType byte) rose is = rose
   stopped_speaks lists (fault.BadSource name place) rose is = rose
   stopped_speaks lists fault.Overflow rose is = rose
   stopped_speaks lists fault.Read rose is = is lists
@@ -218,6 +222,7 @@ module _ (Lists : Type 0) (IsOut : Verdict → Type 0) (told : Type 0) (run : Pl
   run_fault (Some (fault.NoDriver name)) is = is
   run_fault (Some (fault.Unsuited name)) is = is
   run_fault (Some (fault.BadFile place)) is = is
+  run_fault (Some (fault.NoType byte)) is = is
   run_fault (Some (fault.BadSource name place)) is = is
   run_fault (Some fault.ProgramBytes) is = is
   run_fault (Some fault.CatalogueBytes) is = is
@@ -243,6 +248,7 @@ module _ (Lists : Type 0) (IsOut : Verdict → Type 0) (told : Type 0) (run : Pl
   never_before (Some (fault.NoDriver name)) is nothing = is
   never_before (Some (fault.Unsuited name)) is nothing = is
   never_before (Some (fault.BadFile place)) is nothing = is
+  never_before (Some (fault.NoType byte)) is nothing = is
   never_before (Some (fault.BadSource name place)) is nothing = is
   never_before (Some fault.ProgramBytes) is nothing = is
   never_before (Some fault.CatalogueBytes) is nothing = is

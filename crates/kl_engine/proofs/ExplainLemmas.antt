@@ -22,7 +22,7 @@ use Rattle.kl_sources.specs.Sources.{ArePlaced, kinds_of, names_of}
 use Rattle.kl_sources.specs.declared.source.Source.{Source}
 use Rattle.kl_tools.specs.Explained.{explained}
 use Rattle.kl_engine.specs.Answering.{PrintsPage}
-use Rattle.kl_engine.specs.Commands.{Command, NoneNamed, Origin, Program, Show, asked}
+use Rattle.kl_engine.specs.Commands.{Command, NoneNamed, Origin, Program, Show, Upgrade, asked}
 use Rattle.kl_words.specs.declared.command.Command.{Command as Read}
 use Rattle.kl_engine.specs.Explaining.{IsExplanation, plan_lines}
 use Rattle.kl_engine.specs.Faults.{Ending}
@@ -156,6 +156,7 @@ explains_nothing (Program purpose.Check from) ks end out = tt
 explains_nothing (Program purpose.Types from) ks end out = tt
 explains_nothing (Program (purpose.Explain settings) from) ks end out = refl
 explains_nothing (Show path) ks end out = tt
+explains_nothing (Upgrade path word) ks end out = tt
 
 -- nothing was done
 pub undone_explains : (command : Command) (ks : List DriverKind) (plan : Option Plan) (end : Ending) (out : SinkState) → plan ≡ None → Explains command ks (plan_in plan) end out out

@@ -24,7 +24,11 @@ pub mod MeaningLemmas
 pub mod PlanLemmas
 pub mod ProgramLemmas
 pub mod CountLemmas
+pub mod WordLemmas
+pub mod ListingLemmas
 pub mod ShowLemmas
+pub mod AgainLemmas
 pub mod TopLemmas
+pub mod WantedPlan
 pub mod UnreadLemmas
 pub mod BegunLemmas

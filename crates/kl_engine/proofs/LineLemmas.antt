@@ -133,6 +133,7 @@ module _ (xs : List Named) (out mid new : SinkState) (before : ListsAll xs out m
   lists_stopped d (fault.Text w byte) others is = absurd is
   lists_stopped d (fault.IllTyped n) others is = absurd is
   lists_stopped d (fault.BadFile n) others is = absurd is
+  lists_stopped d (fault.NoType byte) others is = absurd is
   lists_stopped d fault.Overflow others is = absurd is
   lists_stopped d fault.Read others is = absurd is
   lists_stopped d fault.ProgramBytes others is = absurd is

@@ -16,6 +16,7 @@ unread_cases P bad long deep (fault.NameTwice name) is = absurd is
 unread_cases P bad long deep (fault.NoDriver name) is = absurd is
 unread_cases P bad long deep (fault.Unsuited name) is = absurd is
 unread_cases P bad long deep (fault.BadFile place) is = absurd is
+unread_cases P bad long deep (fault.NoType byte) is = absurd is
 unread_cases P bad long deep fault.Overflow is = absurd is
 unread_cases P bad long deep fault.Read is = absurd is
 unread_cases P bad long deep fault.Write is = absurd is

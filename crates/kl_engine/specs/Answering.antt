@@ -1,10 +1,15 @@
 -- What a command does: how it ends, what it prints, the cause of each fault, and what stays as it was.
-use Rattle.std.specs.Prelude.{◌≡◌, ◌≢◌, ◌⊎◌, ℕ, List, [], ◌∷◌, ◌++◌, All, Option, Some, None, slice_get, IsSome, ⊤}
+use Rattle.std.specs.Prelude.{◌≡◌, ◌≢◌, ◌⊎◌, ℕ, ◌≤◌, List, [], ◌∷◌, ◌++◌, length, All, Option, Some, None, slice_get, IsSome, ⊤}
 use Rattle.std.specs.Io.KnownBytes.{append_known}
 use Rattle.kl_outside.specs.Counts.{Rose}
-use Rattle.kl_outside.specs.Files.{FilesState}
+use Rattle.kl_outside.specs.Files.{FilesState, Holds}
 use Rattle.kl_outside.specs.Sinks.{SinkState, TookPart}
+use Rattle.kl_value.specs.declared.Value.{Value}
+use Rattle.kl_exchange.specs.FileItems.{FileEnd, WholeText, most_read}
+use Rattle.kl_heads.specs.Files.{Shows}
 use Rattle.kl_type.specs.Ground.{Ground}
+use Rattle.kl_type.specs.Reading.{ReadsType}
+use Rattle.kl_type.specs.declared.Ty.{Ty}
 use Rattle.kl_outcome.specs.Outcome.{Name}
 use Rattle.kl_syntax.specs.Syntax.{Decls, Exp}
 use Rattle.kl_syntax.specs.declared.tree.Program.{Program as AProgram}
@@ -15,11 +20,11 @@ use Rattle.kl_ask.specs.declared.settings.Settings.{Settings}
 use Rattle.kl_sources.specs.Attaching.{RoseAt}
 use Rattle.kl_sources.specs.Sources.{kinds_of, names_of, grounds_of, contents}
 use Rattle.kl_sources.specs.declared.source.Source.{Source}
-use Rattle.kl_engine.specs.Commands.{Command, NoneNamed, Program, Show, Origin, Files, Made, Tell, TellTo}
+use Rattle.kl_engine.specs.Commands.{Command, NoneNamed, Program, Show, Upgrade, Origin, Files, Made, Tell, TellTo}
 use Rattle.kl_engine.specs.Faults.{Ending}
 use Rattle.kl_engine.specs.Outside.{Outside}
 use Rattle.kl_engine.specs.Reading.{IsProgramOf, definitions, last}
-use Rattle.kl_engine.specs.Verdict.{Verdict, refused, stored_fault, GivesList, IsExplained, IsListing, IsTextVerdict, HasInputs, IsVerdict}
+use Rattle.kl_engine.specs.Verdict.{Verdict, refused, stored_fault, GivesList, IsExplained, IsListing, IsTextVerdict, HasInputs, IsTypeFault, IsVerdict}
 use Rattle.kl_engine.specs.declared.fault.Fault.{Fault}
 use Rattle.kl_engine.specs.declared.fault.Fault.TheVariants as fault
 use Rattle.kl_engine.specs.declared.fault.Wrong.{Wrong}
@@ -173,6 +178,15 @@ abbrev pub AreFiles : Origin → Type 0
 AreFiles (Files path catalogue) = ⊤
 AreFiles (Made seed size) = ⊥
 
+-- the faults of a file that is shown or upgraded, beside that of reading it
+abbrev pub HasFileFault : Fault → Type 0
+HasFileFault fault.Write = ⊤
+HasFileFault fault.NoMemory = ⊤
+HasFileFault (fault.BadFile place) = ⊤
+HasFileFault fault.ItemNesting = ⊤
+HasFileFault fault.FileBytes = ⊤
+HasFileFault f = ⊥
+
 -- the faults of each command
 abbrev pub HasFault : Command → Fault → Type 0
 HasFault NoneNamed fault.Usage = ⊤
@@ -186,12 +200,10 @@ HasFault (Program p from) (fault.NameTwice name) = ⊤
 HasFault (Program p from) (fault.NoDriver name) = ⊤
 HasFault (Program p from) (fault.Unsuited name) = ⊤
 HasFault (Program p from) f = HasTextFault p f
-HasFault (Show path) fault.Write = ⊤
-HasFault (Show path) fault.NoMemory = ⊤
-HasFault (Show path) (fault.BadFile place) = ⊤
-HasFault (Show path) fault.ItemNesting = ⊤
-HasFault (Show path) fault.FileBytes = ⊤
-HasFault (Show path) f = ⊥
+HasFault (Show path) f = HasFileFault f
+HasFault (Upgrade path word) (fault.NoType byte) = IsTypeFault word (fault.NoType byte)
+HasFault (Upgrade path word) fault.Nesting = IsTypeFault word fault.Nesting
+HasFault (Upgrade path word) f = HasFileFault f
 
 -- a command ends well, or with one of these faults
 abbrev pub IsOneOf : (Fault → Type 0) → Ending → Type 0
@@ -284,9 +296,15 @@ OfRun (Program (purpose.Run first) from) files ks P =
     × ((told : _) → TellTo from files told → HasInputs told ks from text ss) × P text ss
 OfRun command files ks P = ⊥
 
+-- the word was refused that is to be a type
+abbrev pub EndsAtType : List ℕ → Ending → Type 0
+EndsAtType word None = ⊥
+EndsAtType word (Some f) = IsTypeFault word f
+
 -- nothing was printed before this end, where a run's program gives no list
 abbrev pub PrintsNothing : Command → FilesState → List DriverKind → Ending → Type 0
 PrintsNothing (Show path) files ks end = ⊥
+PrintsNothing (Upgrade path word) files ks end = EndsAtType word end
 PrintsNothing command files ks end = Unprinted (OfRun command files ks (λ text ss. IsOfList ss text)) end
 
 -- a driver tells that a source which the run's program mentions is missing
@@ -367,3 +385,19 @@ pub record Does (command : Command) (end : Ending) (old new : Outside) : Type 0 
   pub caused : IsCaused command end old new
   pub unread : UnreadCause command end old new
   pub closed : IsClosed command old new
+
+-- A word that is no type is refused before anything else is done.
+abbrev pub RefusesFirst : Command → Ending → Type 0 → Type 0
+RefusesFirst (Upgrade path word) end Same = (f : Fault) → IsTypeFault word f → ((end ≡ Some f) ⊎ (end ≡ Some fault.NoMemory)) × Same
+RefusesFirst command end Same = ⊤
+
+-- What was printed of a whole file, read again, has the type of the word as its head and the same items.
+abbrev pub UpgradesTo : List ℕ → List ℕ → SinkState → SinkState → Type 0
+UpgradesTo word bytes out out' =
+    (head : Option Ty) (vs : List Value) (behind : FileEnd) → Shows most_read bytes head vs behind
+    → (t : Ty) × (page : List ℕ) × ReadsType word t × (out'.taken ≡ append_known out.taken page)
+    × ((limit : ℕ) → length page ≤ limit → Shows limit page (Some t) vs WholeText)
+
+abbrev pub ReadsAgain : Command → Ending → FilesState → SinkState → SinkState → Type 0
+ReadsAgain (Upgrade path word) None files out out' = (bytes : List ℕ) → Holds files path bytes → UpgradesTo word bytes out out'
+ReadsAgain command end files out out' = ⊤

@@ -17,6 +17,8 @@ pub data Command : Type 0 where
   -- something is done with a program
   Program : Purpose → Origin → Command
   Show : List ℕ → Command
+  -- a file, and the text of a type
+  Upgrade : List ℕ → List ℕ → Command
 
 -- the command of the words, as they are read
 abbrev pub asked : Option Read → Command
@@ -26,6 +28,7 @@ asked (Some (read.Explain job)) = Program (purpose.Explain job.settings) (Files 
 asked (Some (read.Types program catalogue)) = Program purpose.Types (Files program catalogue)
 asked (Some (read.Check program catalogue)) = Program purpose.Check (Files program catalogue)
 asked (Some (read.Show file)) = Show file
+asked (Some (read.Upgrade file word)) = Upgrade file word
 asked (Some (read.Gen seed size)) = Program (purpose.Run None) (Made seed size)
 
 -- whether what was counted is to be told
@@ -39,6 +42,7 @@ path_of NoneNamed = []
 path_of (Program purpose (Files path catalogue)) = path
 path_of (Program purpose (Made seed size)) = []
 path_of (Show path) = path
+path_of (Upgrade path word) = path
 
 -- no word names a file
 abbrev pub NamesNoFile : Command → Type 0
@@ -46,6 +50,7 @@ NamesNoFile NoneNamed = ⊤
 NamesNoFile (Program purpose (Files path catalogue)) = ⊥
 NamesNoFile (Program purpose (Made seed size)) = ⊤
 NamesNoFile (Show path) = ⊥
+NamesNoFile (Upgrade path word) = ⊥
 
 -- The files tell these bytes. A program over made rows reads none, so any do.
 abbrev pub TellTo : Origin → FilesState → (List ℕ → Option (List ℕ)) → Type 0

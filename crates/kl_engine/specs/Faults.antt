@@ -26,6 +26,7 @@ fault_status (fault.Catalogue byte) = 4
 fault_status (fault.NameTwice name) = 4
 fault_status (fault.NoDriver name) = 4
 fault_status (fault.Unsuited name) = 4
+fault_status (fault.NoType byte) = 4
 fault_status (fault.BadFile place) = 5
 fault_status (fault.BadSource name place) = 5
 fault_status fault.Overflow = 6
@@ -69,13 +70,15 @@ bad_line name place = joined (codes "source " ∷ name ∷ codes ": bad at " ∷
 -- the line of a fault, where the words name this path
 abbrev pub fault_line : List ℕ → Fault → List ℕ
 fault_line path fault.Usage =
-    codes "usage: kleisli (run|explain|types|check) PROGRAM [CATALOGUE] [OPTIONS], kleisli show FILE, kleisli gen SEED N\n"
+    joined (codes "usage: kleisli (run|explain|types|check) PROGRAM [CATALOGUE] [OPTIONS], kleisli show FILE, "
+    ∷ codes "kleisli gen SEED N, kleisli upgrade FILE TYPE\n" ∷ [])
 fault_line path (fault.Text w byte) = wrong_line w byte
 fault_line path (fault.IllTyped decl) = joined (codes "types: no typing for declaration " ∷ decimal (decl + 1) ∷ codes "\n" ∷ [])
 fault_line path (fault.Catalogue byte) = joined (codes "catalogue: syntax at byte " ∷ decimal byte ∷ codes "\n" ∷ [])
 fault_line path (fault.NameTwice name) = joined (codes "catalogue: name " ∷ name ∷ codes " twice\n" ∷ [])
 fault_line path (fault.NoDriver name) = joined (codes "catalogue: no driver " ∷ name ∷ codes "\n" ∷ [])
 fault_line path (fault.Unsuited name) = joined (codes "catalogue: type of " ∷ name ∷ codes " does not suit its driver\n" ∷ [])
+fault_line path (fault.NoType byte) = joined (codes "type: syntax at byte " ∷ decimal byte ∷ codes "\n" ∷ [])
 fault_line path (fault.BadFile place) = bad_line path place
 fault_line path (fault.BadSource name place) = bad_line name place
 fault_line path fault.Overflow = codes "overflow\n"

@@ -1,13 +1,21 @@
 -- What words mean over files: what is to be printed, and the fault with which that ends.
-use Rattle.std.specs.Prelude.{◌≡◌, ◌⊎◌, ℕ, ◌<◌, ◌≤◌, ◌↔◌, nat_lt, nat_le, Bool, false, IsTrue, if◌then◌else◌}
-use Rattle.std.specs.Prelude.{List, [], ◌∷◌, ◌++◌, length, map, take, codes, Option, Some, None}
-use Rattle.std.specs.List.{flat_map, zip}
-use Rattle.kl_exchange.specs.FileItems.{FileEnd, WholeText, BadAt, TooDeepAt, PastLimit, Shows, most_read}
+use Rattle.std.specs.Prelude.{◌≡◌, ◌⊎◌, ℕ, ◌<◌, ◌≤◌, ◌↔◌, nat_lt, nat_le, Bool, true, false, IsTrue, if◌then◌else◌}
+use Rattle.std.specs.Prelude.{List, [], ◌∷◌, ◌++◌, length, map, take, codes, Option, Some, None, Err}
+use Rattle.std.specs.List.{zip}
+use Rattle.kl_exchange.specs.FileItems.{FileEnd, WholeText, BadAt, TooDeepAt, PastLimit, most_read}
+use Rattle.kl_exchange.specs.Found.{FileItem}
+use Rattle.kl_heads.specs.Found.{FileText, file_text}
+use Rattle.kl_heads.specs.Stated.{states_no_other}
 use Rattle.kl_value.specs.Written.{text_of, with_commas}
 use Rattle.kl_value.specs.declared.value.Kind.TheVariants as kind
 use Rattle.kl_value.specs.declared.Value.{Value, Value-F, out-Value}
 use Rattle.kl_value.specs.declared.Value.TheVariants as value
 use Rattle.kl_type.specs.Ground.{Ground, coll}
+use Rattle.kl_type.specs.Has.{has_type}
+use Rattle.kl_type.specs.Reading.{ReadsType, RefusesType}
+use Rattle.kl_type.specs.Written.{type_text}
+use Rattle.kl_type.specs.declared.Ty.{Ty}
+use Rattle.kl_type.specs.declared.TypeError.TheVariants as no_type
 use Rattle.kl_rows.specs.declared.Scheme.{Scheme}
 use Rattle.kl_outcome.specs.Outcome.{Name, Outcome, done, over, stuck}
 use Rattle.kl_syntax.specs.Syntax.{Exp, Decls, no_decls, constant, function}
@@ -28,7 +36,7 @@ use Rattle.kl_sources.specs.declared.source.Source.{Source}
 use Rattle.kl_engine.specs.Catalogues.{IsCatalogueFault, IsCatalogueOf}
 use Rattle.kl_engine.specs.Reading.{IsTextFault, IsProgramOf, definitions, last}
 use Rattle.kl_tools.specs.Texts.{catalogue_text, program_text}
-use Rattle.kl_engine.specs.Commands.{Command, NoneNamed, Program as AProgram, Show, Origin, Files, Made}
+use Rattle.kl_engine.specs.Commands.{Command, NoneNamed, Program as AProgram, Show, Upgrade, Origin, Files, Made}
 use Rattle.kl_engine.specs.Explaining.{IsExplanation}
 use Rattle.kl_engine.specs.Faults.{Ending}
 use Rattle.kl_engine.specs.declared.fault.Fault.{Fault}
@@ -75,6 +83,10 @@ IsSized ds e Goes v = AfterSizes (size_fault (declared ds e [])) Goes v
 -- the program has no typing: the first declaration without one is told
 abbrev pub IsUntyped : List (Name × Ground) → Decls → Exp → Verdict → Type 0
 IsUntyped grounds ds e v = (n : ℕ) × IsIllTyped ds e grounds n × (v ≡ refused (fault.IllTyped n))
+
+abbrev pub IsFile : (List ℕ → Verdict → Type 0) → Option (List ℕ) → Verdict → Type 0
+IsFile AreBytes None v = v ≡ refused fault.Read
+IsFile AreBytes (Some bytes) v = AreBytes bytes v
 
 -- ---- `types`
 
@@ -190,14 +202,54 @@ end_fault (BadAt place) = Some (fault.BadFile place)
 end_fault (TooDeepAt place) = Some fault.ItemNesting
 end_fault PastLimit = Some fault.FileBytes
 
--- the canonical text of each, and a newline
-abbrev pub lines : List Value → List ℕ
-lines vs = flat_map (λ v. text_of v ++ codes "\n") vs
+-- ---- `show` and `upgrade`
 
--- the items of an exchange text, a line each, and what stands behind them
+-- the value has the type, where one is stated
+abbrev pub fits : Option Ty → Value → Bool
+fits None v = true
+fits (Some t) v = has_type v t
+
+-- A line of each item, up to the first that lacks the type, and what stands there: the file is bad at the number of bytes before
+-- that item; or what stands behind all items.
+abbrev pub listed : (Value → List ℕ) → Option Ty → List FileItem → FileEnd → Verdict
+listed line t [] end = record { page = []; ending = end_fault end }
+listed line t (x ∷ xs) end = if fits t x.1 then behind (line x.1) (listed line t xs end) else refused (fault.BadFile x.0)
+
+-- the canonical text, and a newline
+abbrev pub value_line : Value → List ℕ
+value_line v = text_of v ++ codes "\n"
+
+-- the same with the `;` of an item
+abbrev pub item_line : Value → List ℕ
+item_line v = text_of v ++ codes ";\n"
+
+-- What `file_text` is of a file's bytes, `text_laws` of kl_heads says by the grammar alone.
+abbrev pub shown : FileText → Verdict
+shown f = listed value_line f.head f.items f.behind
+
 abbrev pub IsShowing : List ℕ → Verdict → Type 0
-IsShowing bytes v = (vs : List Value) × (end : FileEnd) × Shows most_read bytes vs end
-    × (v ≡ record { page = lines vs; ending = end_fault end })
+IsShowing bytes v = v ≡ shown (file_text most_read bytes)
+
+-- the line of a head
+abbrev pub head_line : Ty → List ℕ
+head_line t = codes "type " ++ type_text t ++ codes ";\n"
+
+-- the items as items of this type, behind its head; a head of another type is bad at 0
+abbrev pub upgraded : Ty → FileText → Verdict
+upgraded t f = behind (head_line t)
+    (if states_no_other t f.head then listed item_line (Some t) f.items f.behind else refused (fault.BadFile 0))
+
+-- the word is no type: a byte where it goes wrong, or nests too deep
+abbrev pub IsTypeFault : List ℕ → Fault → Type 0
+IsTypeFault word f =
+    ((byte : ℕ) × RefusesType word (Err (no_type.Bad byte)) × (f ≡ fault.NoType byte))
+    ⊎ ((byte : ℕ) × RefusesType word (Err (no_type.TooDeep byte)) × (f ≡ fault.Nesting))
+
+-- what is wrong with the word is told first, and then what its type makes of the file
+abbrev pub IsUpgrading : List ℕ → Option (List ℕ) → Verdict → Type 0
+IsUpgrading word file v =
+    ((f : Fault) × IsTypeFault word f × (v ≡ refused f))
+    ⊎ ((t : Ty) × ReadsType word t × IsFile (λ bytes w. w ≡ upgraded t (file_text most_read bytes)) file v)
 
 -- these marks tell which sources the program mentions
 abbrev pub AreMarks : Program → List Name → (ℕ → Bool) → Type 0
@@ -255,12 +307,9 @@ IsProgramVerdict told ks p from v =
     ((f : Fault) × IsInputsFault told ks from f × (v ≡ refused f))
     ⊎ ((text : List ℕ) × (ss : List Source) × HasInputs told ks from text ss × IsTextVerdict ks ss p text v)
 
-abbrev pub IsFile : (List ℕ → Verdict → Type 0) → Option (List ℕ) → Verdict → Type 0
-IsFile AreBytes None v = v ≡ refused fault.Read
-IsFile AreBytes (Some bytes) v = AreBytes bytes v
-
 -- the verdict on a command, over files with these bytes and drivers of these kinds
 abbrev pub IsVerdict : (List ℕ → Option (List ℕ)) → List DriverKind → Command → Verdict → Type 0
 IsVerdict told ks NoneNamed v = v ≡ refused fault.Usage
 IsVerdict told ks (AProgram p from) v = IsProgramVerdict told ks p from v
 IsVerdict told ks (Show path) v = IsFile IsShowing (told path) v
+IsVerdict told ks (Upgrade path word) v = IsUpgrading word (told path) v

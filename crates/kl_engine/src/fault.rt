@@ -25,7 +25,10 @@ pub enum Fault {
     NoDriver(Label),
     /// An entry of the catalogue has a type that does not suit its driver.
     Unsuited(Label),
-    /// The file that is shown is no exchange text; its longest prefix that begins one has this length.
+    /// The word that is to be a type is none, from this byte on: that of the token, or the text's length where tokens are missing.
+    NoType(u64),
+    /// The file that is shown or upgraded is no exchange text, and its longest prefix that begins one has this length; or an item
+    /// lacks the type that is stated or wanted, and so many bytes stand before it; or another type than is wanted is stated.
     BadFile(u64),
     /// The source of this name is unreadable as its type, from this place on: of a table the record of this number, the
     /// header being 0.
@@ -44,11 +47,11 @@ pub enum Fault {
     ProgramBytes,
     /// The catalogue has more than 65,536 bytes.
     CatalogueBytes,
-    /// The file that is shown has more than 17,179,869,184 bytes, or that of a source more than its driver reads.
+    /// The file that is shown or upgraded has more than 17,179,869,184 bytes, or that of a source more than its driver reads.
     FileBytes,
-    /// The program or the catalogue nests deeper than 256.
+    /// The program, the catalogue or the type nests deeper than 256.
     Nesting,
-    /// An item of the file that is shown, or of a source, has a bracket inside 256 others.
+    /// An item or the head of the file that is shown or upgraded, or of a source, has a bracket inside 256 others.
     ItemNesting,
     /// The term of a declaration has more than 4,096 nodes.
     TermNodes,
@@ -84,6 +87,7 @@ pub fn status(fault: &Fault) -> u8
         Fault::Text(_, _) => 2,
         Fault::IllTyped(_) => 3,
         Fault::Catalogue(_) | Fault::NameTwice(_) | Fault::NoDriver(_) | Fault::Unsuited(_) => 4,
+        Fault::NoType(_) => 4,
         Fault::BadFile(_) | Fault::BadSource(_, _) => 5,
         Fault::Overflow => 6,
         Fault::Read => 7,
@@ -114,9 +118,12 @@ fn write_line<E: Sink>(fault: &Fault, path: &[u8], err: &mut E) -> Result<(), St
     ensures { WritesWhole (fault_line path.now fault.now) result (E.state err.old) (E.state err.new) }
 {
     match fault {
-        Fault::Usage => write_whole(
+        Fault::Usage => write_parts(
             err,
-            b"usage: kleisli (run|explain|types|check) PROGRAM [CATALOGUE] [OPTIONS], kleisli show FILE, kleisli gen SEED N\n",
+            &[
+                b"usage: kleisli (run|explain|types|check) PROGRAM [CATALOGUE] [OPTIONS], kleisli show FILE, ",
+                b"kleisli gen SEED N, kleisli upgrade FILE TYPE\n",
+            ],
         ),
         Fault::Text(wrong, byte) => write_wrong(wrong, *byte, err),
         Fault::IllTyped(decl) => write_untyped(*decl as u64 + 1, err),
@@ -125,6 +132,14 @@ fn write_line<E: Sink>(fault: &Fault, path: &[u8], err: &mut E) -> Result<(), St
             err,
             &[
                 b"catalogue: syntax at byte ",
+                Buffer::new().format(*byte).as_bytes(),
+                b"\n",
+            ],
+        ),
+        Fault::NoType(byte) => write_parts(
+            err,
+            &[
+                b"type: syntax at byte ",
                 Buffer::new().format(*byte).as_bytes(),
                 b"\n",
             ],

@@ -6,7 +6,7 @@ ghost use Rattle.kl_value.specs.Written.{text_of, with_commas, separator};
 ghost use Rattle.kl_engine.specs.Answering.{PrintsPage};
 ghost use Rattle.kl_engine.specs.Faults.{ending};
 ghost use Rattle.kl_engine.specs.Showing.{write_fault};
-ghost use Rattle.kl_engine.specs.Verdict.{value_page, cut_list, suffice, overflowing, list_front, well};
+ghost use Rattle.kl_engine.specs.Verdict.{value_page, cut_list, item_line, suffice, overflowing, list_front, well};
 
 use crate::cut::cut;
 use crate::fault::Fault;
@@ -53,6 +53,23 @@ pub(crate) fn put_line<S: Sink>(
 {
     match page.print(value, out) {
         Ok(()) => page.put(b"\n", out),
+        Err(error) => Err(error),
+    }
+}
+
+/// Puts a value on a page as an item, which ends with `;`, and a newline.
+///
+/// # Errors
+/// Where the page was full: the sink refused it, or memory ran out.
+pub(crate) fn put_entry<S: Sink>(
+    value: &Value,
+    page: &mut Page,
+    out: &mut S,
+) -> Result<(), PrintError>
+    ensures { Puts (item_line value.now) (as_stop result) (S.state out.old) page.old (S.state out.new) page.new }
+{
+    match page.print(value, out) {
+        Ok(()) => page.put(b";\n", out),
         Err(error) => Err(error),
     }
 }

@@ -2,7 +2,7 @@
 ghost use Rattle.std.specs.Prelude.{◌≡◌, ◌<◌, ◌^◌, None, All, length, map, string_bytes, true};
 ghost use Rattle.kl_words.specs.Commands.{command_of};
 ghost use Rattle.kl_outside.specs.Files.{FilesState};
-ghost use Rattle.kl_engine.specs.Answering.{Does, IsIdle, IsRunning};
+ghost use Rattle.kl_engine.specs.Answering.{Does, IsIdle, IsRunning, ReadsAgain, RefusesFirst};
 ghost use Rattle.kl_engine.specs.Commands.{Files as FromFiles, Made, NamesNoFile, Program, asked, path_of, wants_stats};
 ghost use Rattle.kl_engine.specs.Faults.{TookLine, ending, status_of};
 ghost use Rattle.kl_engine.specs.Outside.{outside_of};
@@ -18,7 +18,7 @@ use crate::explain::explain;
 use crate::fault::{Fault, status, tell};
 use crate::inputs::{Inputs, made_inputs, read_inputs};
 use crate::run::{How, Ran, run};
-use crate::show::show;
+use crate::show::{show, upgrade};
 use crate::stats::{rows_handed, tell_counts};
 use crate::types::types;
 use kl_ask::{Settings, Trace};
@@ -33,13 +33,15 @@ use std::alloc::Global;
 pub struct Answer {
     /// 0: well, and all that the command prints was written. Else that of the fault: 1: the words name no command. 2: the
     /// program is none in scope. 3: the program has no typing. 4: the catalogue is none, or an entry of it has a name that
-    /// was used before or is a primitive's, a driver that is not there, or a type that does not suit its driver. 5: a source
-    /// that the program mentions is unreadable as its type, or the file that is shown is no exchange text. 6: the program
-    /// means an overflow. 7: a file is missing or could not be read. 8: `out` refused a write. 9: want of memory. 10: the
-    /// program or the catalogue has more than 65,536 bytes or nests deeper than 256, the term of a declaration has more than
-    /// 4,096 nodes or is deeper than 512, the text of a scheme has more than 65,536 bytes, a source has more bytes than its
-    /// driver reads, the file that is shown has more than 17,179,869,184 bytes, or an item of one of them has a bracket
-    /// inside 256 others. 11: a source changed while it was read. There is no other.
+    /// was used before or is a primitive's, a driver that is not there, or a type that does not suit its driver; or the word
+    /// by which a file is upgraded is no type. 5: a source that the program mentions is unreadable as its type; the file that
+    /// is shown is no exchange text, or an item lacks the type that its head states; or the file that is upgraded is unreadable
+    /// as items of the type. 6: the program means an overflow. 7: a file is missing or could not be read. 8: `out` refused a
+    /// write. 9: want of memory. 10: the program or the catalogue has more than 65,536 bytes, one of them or the type of an
+    /// upgrade nests deeper than 256, the term of a declaration has more than 4,096 nodes or is deeper than 512, the text of a
+    /// scheme has more than 65,536 bytes, a source has more bytes than its driver reads, the file that is shown or upgraded has
+    /// more than 17,179,869,184 bytes, or an item or a head of one of these has a bracket inside 256 others. 11: a source
+    /// changed while it was read. There is no other.
     pub status: u8,
     /// Why the command did not end well, or none where it did.
     pub fault: Option<Fault>,
@@ -53,11 +55,13 @@ pub struct Answer {
 }
 
 /// Does what the words say, which are those of the command line without the program's name: `run`, `explain`, `types`,
-/// `check` and `show`, with the options that `kl_words` reads. `run PROGRAM [CATALOGUE]` prints on `out` the value that the
+/// `check`, `show` and `upgrade`, with the options that `kl_words` reads. `run PROGRAM [CATALOGUE]` prints on `out` the value that the
 /// program at the path means over the sources of the catalogue, and a newline. `explain` prints what the plan by which it
 /// would be run asks of the drivers, as `kl_tools` says; it attaches and reads no source. `types` prints the principal scheme of
 /// each of its declarations, a line each. `check` prints `ok` and a newline where the file is a program in scope. `show FILE` prints
-/// the canonical text of each item of the exchange text at the path, each with a newline, as it is read.
+/// the canonical text of each item of the exchange text at the path, each with a newline, as it is read. `upgrade FILE TYPE` prints
+/// `type T;` and a newline, where T is the type's text, and then the canonical text of each item, `;` and a newline, as it is read;
+/// what it printed with status 0 has, read again, the head T and the same items.
 ///
 /// The refusals come in this order: words, before anything is opened; the program's file, missing or failing, and its
 /// length; the same of the catalogue's; the catalogue's text; its entries in their order, of each first its name, then its
@@ -66,15 +70,17 @@ pub struct Answer {
 /// term is too large, and then the first that has no type, where `explain` ends. `types` ends with a scheme whose text is too
 /// long. `run` attaches
 /// the sources that the program mentions, in the order of the catalogue, and no others; the first that is unreadable as its
-/// type is refused. Last comes an overflow. Of a file that is shown that comes whose place stands first in the file, and its
-/// bytes behind the limit are not looked at.
+/// type is refused. Last comes an overflow. Of an upgrade the word that is to be a type comes before its file: a byte where no
+/// token starts, and then tokens that are no type or nest too deep. Of a file that is shown or upgraded that comes whose place
+/// stands first in the file, where a head of another type than is wanted stands at 0 and an item that lacks the type behind the
+/// head and the items before it; its bytes behind the limit are not looked at.
 ///
 /// Where a command ends well `out` took exactly its page: of `run` the value and a newline, of `types` and of `check`
-/// their lines, of `show` the lines of all items. With `--first N` a list ends with its first N items, also before an
+/// their lines, of `show` the lines of all items, of `upgrade` the line of the head and those of all items. With `--first N` a list ends with its first N items, also before an
 /// overflow, and a set or a bag is cut to its first N. Of an overflow the page is `[|` and the items before it where each
 /// type of the program is that of a list, and else empty; of a scheme whose text is too long it is the lines before that
-/// one; of a file that is bad, too deep or too long the lines of the items that stand whole before the place; of every
-/// other refusal it is empty. After a fault of reading or writing, after a
+/// one; of a file that is bad, too deep or too long the lines of the items that stand whole and have the type before the place,
+/// of `upgrade` behind the line of the head; of every other refusal it is empty. After a fault of reading or writing, after a
 /// source that changed and after want of memory `out` took a front of the page.
 ///
 /// A run makes a plan of the term that its program is rewritten to, unless its words say `--no-rewrite`, and runs that; what it
@@ -121,6 +127,12 @@ pub fn kleisli<F: Files, S: Sink, E: Sink>(
     ensures explains { Explains (asked (command_of (map (λ w. string_bytes w) words.now)))
         (kinds_of (⟦<Drivers as SeenAll>⟧.states drivers.old)) (plan_in result.plan) result.fault (S.state out.old) (S.state out.new) }
     ensures no_file { NamesNoFile (asked (command_of (map (λ w. string_bytes w) words.now))) → files.new ≡ files.old }
+    ensures type_first { RefusesFirst (asked (command_of (map (λ w. string_bytes w) words.now))) result.fault
+        ((files.new ≡ files.old)
+        × (⟦<Drivers as SeenAll>⟧.states drivers.new ≡ ⟦<Drivers as SeenAll>⟧.states drivers.old)
+        × (out.new ≡ out.old)) }
+    ensures again { ReadsAgain (asked (command_of (map (λ w. string_bytes w) words.now))) result.fault (F.state files.old)
+        (S.state out.old) (S.state out.new) }
     ensures words_first { command_of (map (λ w. string_bytes w) words.now) ≡ None
         → (files.new ≡ files.old)
         × (⟦<Drivers as SeenAll>⟧.states drivers.new ≡ ⟦<Drivers as SeenAll>⟧.states drivers.old)
@@ -151,6 +163,10 @@ pub fn kleisli<F: Files, S: Sink, E: Sink>(
         }
         Ok(Command::Show { file }) => {
             let result = show(alloc, file.slice(), files, out);
+            end(result, file.slice(), false, ran, 0, err)
+        }
+        Ok(Command::Upgrade { file, ty }) => {
+            let result = upgrade(alloc, file.slice(), ty.slice(), files, out);
             end(result, file.slice(), false, ran, 0, err)
         }
         Ok(Command::Gen { seed, size }) => {

@@ -1,12 +1,13 @@
 -- What a reader of an open file has read, call by call.
 use Rattle.std.proofs.Common.{◌≡◌, inl, inr, ℕ, zero, suc, ◌+◌, ◌-◌, ◌<◌, ◌≤◌, nat_le, Bool, true, false, List, [], ◌∷◌, ◌++◌, length, take, min, Option, Some, None, Result, Ok, Err, IsErrOf, IsSome, refl, sym, ap, subst, ◌∙◌, arith, append_assoc, append-nil, length-append, length-take, take_all}
 use Rattle.std.proofs.Math.Seq.{take-append-add}
-use Rattle.std.specs.Prelude.{⊤}
+use Rattle.std.specs.Prelude.{⊤, OnErr}
+use Rattle.std.specs.Result.{IfErr}
 use Rattle.std.proofs.lemmas.Bool.{cases_eq, le-leb, lt-leb, false≢true}
 use Rattle.std.proofs.lemmas.List.{nil_from_length}
 use Rattle.std.proofs.lemmas.Option.{same_Some}
 use Rattle.kl_exchange.specs.FileItems.{Items, FileEnd, WholeText, BadAt, TooDeepAt, PastLimit, BeginsItem, reading, EndsIn, Shows}
-use Rattle.kl_exchange.specs.FileReading.{AsSeen, FileReading, Left, Remains, IsFetched, IsMetBy, IsRefusalOf, HasRead, HasSeen, EndsSo, Fetched, HeldOut, HandsOut, Leaves, Fetches, NextItem, SeesMore, Stands, end_to_come, to_come}
+use Rattle.kl_exchange.specs.FileReading.{AsSeen, AsSeenBehind, FileReading, IsFaultPlaced, IsFedWithin, IsPlaced, IsRefusedWithin, Left, Remains, IsFetched, IsMetBy, IsRefusalOf, HasRead, HasSeen, EndsSo, Fetched, FetchedPiece, HeldOut, HandsOut, Leaves, Fetches, FetchesPiece, MayGrow, NextItem, SeesMore, Stands, end_to_come, to_come}
 use Rattle.kl_exchange.specs.Fetching.{FetchesBehind}
 use Rattle.kl_exchange.specs.Grammar.{Blank, IsExchange, IsItem}
 use Rattle.kl_exchange.specs.Reading.{GivesItem, Waits, IsBad, IsDeep, ReadsNext}
@@ -292,7 +293,7 @@ consumed (Some (Some old)) (Some None) piece rest is known = absurd is
 consumed (Some (Some old)) None piece rest is known = absurd is
 
 -- what is fetched
-module _ (first : Left) (vs : List Value) (now : FileReading) (left left' : Left) (has : HasRead first vs now left) (waits : Waits now.text now.text) (unpast : now.past ≡ false) where
+module _ (first : Left) (vs : List Value) (now : FileReading) (left left' : Left) (has : HasRead first vs now left) (waits : MayGrow now.text) (unpast : now.past ≡ false) where
   pub has_fetched : (piece : List ℕ) → length piece ≤ now.limit - (now.text.place + length now.text.left) → Consumed left left' piece
       → HasRead first vs (record now { text = record now.text { left = now.text.left ++ piece } }) left'
   has_fetched piece few taken =
@@ -445,14 +446,35 @@ first_shown first vs ws now left bytes end has known shows =
     first_items has.read (now.text.left ++ take room (r.beyond ++ r.behind)) shows.read shows.left vs ws has.items shows.items
     (end_has_none (length shows.read) shows.left (nat_le (length bytes) now.limit) end shows.ends) (sym seen ∙ shows.seen)
 
+-- a refusal's place is among the bytes that are looked at
+module _ (limit : ℕ) (old : State) (within : old.place + length old.left ≤ limit) (refused : IsRefusedWithin limit old.refused) where
+  pub placed : (r : Result Item ReadError) (text : State) → ReadsNext old r text → IfErr r (λ e. IsPlaced limit e)
+  placed (Ok i) text reads = tt
+  placed (Err (error.Bad p)) text (inl c) = subst (IsRefusedWithin limit) c.0 refused
+  placed (Err (error.Bad p)) text (inr c) = let at = c.1.1 in let k = c.1.2.within in omega arith
+  placed (Err (error.TooDeep p)) text (inl c) = subst (IsRefusedWithin limit) c.0 refused
+  placed (Err (error.TooDeep p)) text (inr c) = let at = c.1.1 in let k = c.1.2.within in omega arith
+  placed (Err error.NoMemory) text reads = tt
+
+  pub refused_within : (r : Result Item ReadError) (text : State) → ReadsNext old r text → IsRefusedWithin limit text.refused
+  refused_within (Ok (item.Value v)) text reads = subst (IsRefusedWithin limit) (sym reads.refused) tt
+  refused_within (Ok item.NeedMore) text reads = subst (λ t. IsRefusedWithin limit t.refused) (sym reads.same) refused
+  refused_within (Ok item.End) text reads = subst (λ t. IsRefusedWithin limit t.refused) (sym reads.same) refused
+  refused_within (Err (error.Bad p)) text (inl c) = subst (λ t. IsRefusedWithin limit t.refused) (sym c.1) refused
+  refused_within (Err (error.Bad p)) text (inr c) = subst (λ t. IsRefusedWithin limit t.refused) (sym c.2) (placed (Err (error.Bad p)) text (inr c))
+  refused_within (Err (error.TooDeep p)) text (inl c) = subst (λ t. IsRefusedWithin limit t.refused) (sym c.1) refused
+  refused_within (Err (error.TooDeep p)) text (inr c) = subst (λ t. IsRefusedWithin limit t.refused) (sym c.2) (placed (Err (error.TooDeep p)) text (inr c))
+  refused_within (Err error.NoMemory) text reads = subst (λ t. IsRefusedWithin limit t.refused) (sym reads) refused
+
 -- `next_held`
-pub hands_out : (old : FileReading) (result : Result Item ReadError) (text : State) → ReadsNext old.text result text → text.place + length text.left ≡ old.text.place + length old.text.left
-    → text.finished ≡ old.text.finished → HandsOut result old (record old { text = text })
-hands_out old result text reads total finished = record {
+pub hands_out : (old : FileReading) (result : Result Item ReadError) (text : State) → IsFedWithin old.text old.limit old.piece → ReadsNext old.text result text
+    → text.place + length text.left ≡ old.text.place + length old.text.left → text.finished ≡ old.text.finished → HandsOut result old (record old { text = text })
+hands_out old result text fed reads total finished = record {
   text = reads;
   same = refl;
   finished = finished;
   waits = waiting result reads;
+  placed = placed old.limit old.text fed.within fed.refused result text reads;
   less = falls result reads;
   goes = λ first left vs has. held_out first vs old left has result text reads;
 }
@@ -474,9 +496,9 @@ hands_out old result text reads total finished = record {
     falls (Ok item.End) gives v is = absurd cc
     falls (Err e) gives v is = absurd cc
 
--- `fetch`
+-- `fetch_piece`
 module _ (old : FileReading) (s t : FilesState) (told : t.told ≡ s.told) (others : OtherFiles old.file s t) (others_seen : OtherSeen old.file s t) (counts : t.faults ≡ s.faults)
-    (waits : Waits old.text old.text) (unpast : old.past ≡ false) where
+    (waits : MayGrow old.text) (unpast : old.past ≡ false) where
   leaves : (r : Result (Unit {0}) FileError) (piece : List ℕ) → Consumed (s.left old.file) (t.left old.file) piece → seen_in t old.file ≡ option_map (seen_then piece) (seen_in s old.file)
       → (IsErrOf r fault.Read → ⊥) → Leaves old.file r s t
   leaves r piece taken seen well = record {
@@ -491,68 +513,91 @@ module _ (old : FileReading) (s t : FilesState) (told : t.told ≡ s.told) (othe
   }
 
   -- what a piece makes of what was read
-  seen_so : (new : FileReading) (piece : List ℕ) (P : Left → Left → Type 0) (vs : List Value) → seen_in t old.file ≡ option_map (seen_then piece) (seen_in s old.file)
+  seen_so : (new : FileReading) (piece : List ℕ) (P : Left → Left → Type 0) (front : List ℕ) (vs : List Value) → seen_in t old.file ≡ option_map (seen_then piece) (seen_in s old.file)
       → ((q : Seen) → HasRead (Some (Some (q.bytes ++ piece))) vs old (Some (Some piece)) → P (Some (Some (q.bytes ++ piece))) (Some (Some [])))
       → ((q : Seen) → length q.bytes ≡ old.text.place + length old.text.left → IsMetBy new (seen_then piece q))
-      → HasSeen vs old (seen_in s old.file) → AsSeen P new (seen_in t old.file)
-  seen_so new piece P vs seen goes meets has = by_seen (seen_in s old.file) (seen_in t old.file) piece (λ q. HasRead (Some (Some q.bytes)) vs old (Some (Some [])) × IsMetBy old q)
-      (λ q. P (Some (Some q.bytes)) (Some (Some [])) × IsMetBy new q) seen has
-      (λ q so. (goes q (widened q.bytes piece vs old so.0 waits.unfinished), meets q (read_so_much q.bytes vs old so.0 unpast)))
+      → AsSeenBehind front (λ first left. HasRead first vs old left) old (seen_in s old.file) → AsSeenBehind front P new (seen_in t old.file)
+  seen_so new piece P front vs seen goes meets has = by_seen (seen_in s old.file) (seen_in t old.file) piece
+      (λ q. (bytes : List ℕ) × (q.bytes ≡ front ++ bytes) × HasRead (Some (Some bytes)) vs old (Some (Some [])) × IsMetBy old (record q { bytes = bytes }))
+      (λ q. (bytes : List ℕ) × (q.bytes ≡ front ++ bytes) × P (Some (Some bytes)) (Some (Some [])) × IsMetBy new (record q { bytes = bytes })) seen has
+      (λ q so. (
+        so.0 ++ piece,
+        ap (λ bs. bs ++ piece) so.1 ∙ append_assoc front so.0 piece,
+        goes (record q { bytes = so.0 }) (widened so.0 piece vs old so.2 waits.unfinished),
+        meets (record q { bytes = so.0 }) (read_so_much so.0 vs old so.2 unpast),
+      ))
 
   pub fetches_end : Consumed (s.left old.file) (t.left old.file) [] → IsAtEnd (s.left old.file) → seen_in t old.file ≡ option_map (seen_then []) (seen_in s old.file)
-      → Fetches (Ok tt) old (record old { text = record old.text { finished = true } }) s t
+      → FetchesPiece (Ok tt) old (record old { text = record old.text { finished = true } }) s t
   fetches_end taken at_end seen = record {
     leaves = leaves (Ok tt) [] taken seen (λ is. cc);
     same = refl;
+    kept = tt;
+    grows = ([], sym (append-nil old.text.left));
+    place = refl;
+    fresh = refl;
+    placed = tt;
     less = let one : end_to_come old.text.finished ≡ 1 = ap end_to_come waits.unfinished in omega arith;
     goes = λ first vs has. has_ended first vs old (s.left old.file) (t.left old.file) has waits unpast taken at_end;
-    sees = λ vs. seen_so (record old { text = record old.text { finished = true } }) [] (λ first left. HasRead first vs (record old { text = record old.text { finished = true } }) left) vs seen
+    sees = λ front vs. seen_so (record old { text = record old.text { finished = true } }) [] (λ first left. HasRead first vs (record old { text = record old.text { finished = true } }) left) front vs seen
         (λ q has. has_ended (Some (Some (q.bytes ++ []))) vs old (Some (Some [])) (Some (Some [])) has waits unpast refl (λ bytes is. cc))
         (λ q size. record { ended = λ finished. refl; passed = λ past. absurd (false≢true (sym unpast ∙ past)) });
   }
 
   pub fetches_piece : (piece : List ℕ) → 0 < length piece → length piece ≤ old.limit - (old.text.place + length old.text.left) → Consumed (s.left old.file) (t.left old.file) piece
-      → seen_in t old.file ≡ option_map (seen_then piece) (seen_in s old.file) → Fetches (Ok tt) old (record old { text = record old.text { left = old.text.left ++ piece } }) s t
+      → seen_in t old.file ≡ option_map (seen_then piece) (seen_in s old.file) → FetchesPiece (Ok tt) old (record old { text = record old.text { left = old.text.left ++ piece } }) s t
   fetches_piece piece some few taken seen =
       let size : length (old.text.left ++ piece) ≡ length old.text.left + length piece = length-append old.text.left piece in
       let new = record old { text = record old.text { left = old.text.left ++ piece } } in
       record {
         leaves = leaves (Ok tt) piece taken seen (λ is. cc);
         same = refl;
+        kept = tt;
+        grows = (piece, refl);
+        place = refl;
+        fresh = refl;
+        placed = tt;
         less = omega arith;
         goes = λ first vs has. has_fetched first vs old (s.left old.file) (t.left old.file) has waits unpast piece few taken;
-        sees = λ vs. seen_so new piece (λ first left. HasRead first vs new left) vs seen
+        sees = λ front vs. seen_so new piece (λ first left. HasRead first vs new left) front vs seen
             (λ q has. has_fetched (Some (Some (q.bytes ++ piece))) vs old (Some (Some piece)) (Some (Some [])) has waits unpast piece few (sym (append-nil piece)))
             (λ q size. record { ended = λ finished. absurd (false≢true (sym waits.unfinished ∙ finished)); passed = λ past. absurd (false≢true (sym unpast ∙ past)) });
       }
 
   pub fetches_past : (piece : List ℕ) → length piece ≡ 1 → old.text.place + length old.text.left ≡ old.limit → Consumed (s.left old.file) (t.left old.file) piece
-      → seen_in t old.file ≡ option_map (seen_then piece) (seen_in s old.file) → Fetches (Err fault.TooLong) old (record old { past = true }) s t
+      → seen_in t old.file ≡ option_map (seen_then piece) (seen_in s old.file) → FetchesPiece (Err fault.TooLong) old (record old { past = true }) s t
   fetches_past piece one met taken seen =
       let some : 0 < length piece = omega arith in
       record {
         leaves = leaves (Err fault.TooLong) piece taken seen (λ is. cc);
         same = refl;
+        kept = refl;
+        grows = ([], sym (append-nil old.text.left));
+        place = refl;
+        fresh = refl;
+        placed = tt;
         less = tt;
-        goes = λ first vs has.
-            ends_past first vs (record old { past = true }) (t.left old.file) (has_passed first vs old (s.left old.file) (t.left old.file) has waits unpast piece some met taken) refl
-            (begins_item old.text waits);
-        sees = λ vs. seen_so (record old { past = true }) piece (λ first left. EndsSo first vs PastLimit (record old { past = true }) left) vs seen
-            (λ q has. ends_past (Some (Some (q.bytes ++ piece))) vs (record old { past = true }) (Some (Some []))
-            (has_passed (Some (Some (q.bytes ++ piece))) vs old (Some (Some piece)) (Some (Some [])) has waits unpast piece some met (sym (append-nil piece))) refl (begins_item old.text waits))
+        goes = λ first vs has. (has_passed first vs old (s.left old.file) (t.left old.file) has waits unpast piece some met taken, refl);
+        sees = λ front vs. seen_so (record old { past = true }) piece (λ first left. FetchedPiece first vs (Err fault.TooLong) (record old { past = true }) left) front vs seen
+            (λ q has. (has_passed (Some (Some (q.bytes ++ piece))) vs old (Some (Some piece)) (Some (Some [])) has waits unpast piece some met (sym (append-nil piece)), refl))
             (λ q size. record {
               ended = λ finished. absurd (false≢true (sym waits.unfinished ∙ finished));
               passed = λ past. length-append q.bytes piece ∙ omega (arith, size, one, met);
             });
       }
 
-pub fetches_again : (old : FileReading) (s : FilesState) → IsSome (s.left old.file) → Waits old.text old.text → old.past ≡ true → Fetches (Err fault.TooLong) old old s s
+pub fetches_again : (old : FileReading) (s : FilesState) → IsSome (s.left old.file) → MayGrow old.text → old.past ≡ true → FetchesPiece (Err fault.TooLong) old old s s
 fetches_again old s is_open waits past = record {
   leaves = record { told = refl; others = λ k ne. refl; is_open = is_open; others_seen = λ k ne. refl; more = same_seen (seen_in s old.file) (seen_in s old.file) refl; later = omega arith; well = λ not. refl; failed = λ is. absurd cc };
   same = refl;
+  kept = refl;
+  grows = ([], sym (append-nil old.text.left));
+  place = refl;
+  fresh = refl;
+  placed = tt;
   less = tt;
-  goes = λ first vs has. ends_past first vs old (s.left old.file) has past (begins_item old.text waits);
-  sees = λ vs has q is. let so = has q is in (ends_past (Some (Some q.bytes)) vs old (Some (Some [])) so.0 past (begins_item old.text waits), so.1);
+  goes = λ first vs has. (has, past);
+  sees = λ front vs has q is. let so = has q is in (so.0, so.1, (so.2, past), so.3);
 }
 
 -- a read that failed, or found no memory, left the reader as it was
@@ -563,7 +608,7 @@ IsFaultOf e why = ⊥
 
 pub fetches_not : (old : FileReading) (e : Stop) (why : FileError) (s t : FilesState) → t.told ≡ s.told → OtherFiles old.file s t → OtherSeen old.file s t → IsSome (s.left old.file)
     → t.left old.file ≡ s.left old.file → seen_in t old.file ≡ seen_in s old.file → CountsFailed {T = ℕ} (Err e) s.faults t.faults → (IsErrOf {T = ℕ} (Err e) stop.Failed → Rose s.faults t.faults)
-    → IsFaultOf e why → Fetches (Err why) old old s t
+    → IsFaultOf e why → FetchesPiece (Err why) old old s t
 fetches_not old stop.Failed fault.Read s t told others others_seen is_open left seen counts failed of = record {
   leaves = record {
     told = told;
@@ -576,9 +621,14 @@ fetches_not old stop.Failed fault.Read s t told others others_seen is_open left 
     failed = λ is. failed refl;
   };
   same = refl;
+  kept = refl;
+  grows = ([], sym (append-nil old.text.left));
+  place = refl;
+  fresh = refl;
+  placed = tt;
   less = tt;
   goes = λ first vs has. subst (λ l. HasRead first vs old l) (sym left) has;
-  sees = λ vs has q is. has q (sym seen ∙ is);
+  sees = λ front vs has q is. has q (sym seen ∙ is);
 }
 fetches_not old stop.NoMemory fault.NoMemory s t told others others_seen is_open left seen counts failed of = record {
   leaves = record {
@@ -592,9 +642,14 @@ fetches_not old stop.NoMemory fault.NoMemory s t told others others_seen is_open
     failed = λ is. absurd cc;
   };
   same = refl;
+  kept = refl;
+  grows = ([], sym (append-nil old.text.left));
+  place = refl;
+  fresh = refl;
+  placed = tt;
   less = tt;
   goes = λ first vs has. subst (λ l. HasRead first vs old l) (sym left) has;
-  sees = λ vs has q is. has q (sym seen ∙ is);
+  sees = λ front vs has q is. has q (sym seen ∙ is);
 }
 fetches_not old stop.Failed fault.NoMemory s t told others others_seen is_open left seen counts failed of = absurd of
 fetches_not old stop.Failed fault.TooLong s t told others others_seen is_open left seen counts failed of = absurd of
@@ -607,68 +662,90 @@ fetches_not old stop.NoMemory (fault.TooDeep p) s t told others others_seen is_o
 
 -- a piece that was looked for
 pub piece_came : (old : FileReading) (most count : ℕ) (left : List ℕ) (s t : FilesState) → FetchesBehind old.file most (Ok count) old.text.left left s t → 0 < count
-    → most ≤ old.limit - (old.text.place + length old.text.left) → Waits old.text old.text → old.past ≡ false → Fetches (Ok tt) old (record old { text = record old.text { left = left } }) s t
+    → most ≤ old.limit - (old.text.place + length old.text.left) → MayGrow old.text → old.past ≡ false → FetchesPiece (Ok tt) old (record old { text = record old.text { left = left } }) s t
 piece_came old most count left s t b some few waits unpast =
     let came = b.came in
     let size = came.2 in
     let within = came.3 in
-    subst (λ l. Fetches (Ok tt) old (record old { text = record old.text { left = l } }) s t) (sym came.1)
+    subst (λ l. FetchesPiece (Ok tt) old (record old { text = record old.text { left = l } }) s t) (sym came.1)
     (fetches_piece old s t b.told b.others b.others_seen b.counts waits unpast came.0 (omega arith) (omega arith) came.4 came.6)
 
 pub end_came : (old : FileReading) (most count : ℕ) (left : List ℕ) (s t : FilesState) → FetchesBehind old.file most (Ok count) old.text.left left s t → count ≡ 0
-    → Waits old.text old.text → old.past ≡ false → Fetches (Ok tt) old (record old { text = record old.text { left = left; finished = true } }) s t
+    → MayGrow old.text → old.past ≡ false → FetchesPiece (Ok tt) old (record old { text = record old.text { left = left; finished = true } }) s t
 end_came old most count left s t b none waits unpast =
     let came = b.came in
     let empty : came.0 ≡ [] = nil_from_length came.0 (came.2 ∙ none) in
     let same : left ≡ old.text.left = came.1 ∙ (ap (λ bs. old.text.left ++ bs) empty ∙ append-nil old.text.left) in
-    subst (λ l. Fetches (Ok tt) old (record old { text = record old.text { left = l; finished = true } }) s t) (sym same)
+    subst (λ l. FetchesPiece (Ok tt) old (record old { text = record old.text { left = l; finished = true } }) s t) (sym same)
     (fetches_end old s t b.told b.others b.others_seen b.counts waits unpast (subst (λ bs. Consumed (s.left old.file) (t.left old.file) bs) empty came.4) (came.5 none)
     (subst (λ bs. seen_in t old.file ≡ option_map (seen_then bs) (seen_in s old.file)) empty came.6))
 
 -- nothing came
 pub none_came : (old view : FileReading) (e : Stop) (why : FileError) (most : ℕ) (text : State) (s t : FilesState) → view ≡ old → FetchesBehind view.file most (Err e) view.text.left text.left s t
-    → text ≡ record view.text { left = text.left } → IsSome (s.left old.file) → IsFaultOf e why → Fetches (Err why) old (record view { text = text }) s t
+    → text ≡ record view.text { left = text.left } → IsSome (s.left old.file) → IsFaultOf e why → FetchesPiece (Err why) old (record view { text = text }) s t
 none_came old view e why most text s t same b is is_open of =
     let text_is : text ≡ view.text = is ∙ ap {A = List ℕ} (λ l. record view.text { left = l }) b.came.0 in
-    subst (λ r. Fetches (Err why) r (record view { text = text }) s t) same
-    (subst (λ x. Fetches (Err why) view (record view { text = x }) s t) (sym text_is)
+    subst (λ r. FetchesPiece (Err why) r (record view { text = text }) s t) same
+    (subst (λ x. FetchesPiece (Err why) view (record view { text = x }) s t) (sym text_is)
     (fetches_not view e why s t b.told b.others b.others_seen (subst (λ r. IsSome (s.left r.file)) (sym same) is_open) b.came.1 b.came.2 b.counts b.failed of))
 
 -- the same, where a reader is known by what it is made of
-module _ (old view : FileReading) (same : view ≡ old) (s t : FilesState) (waits : Waits old.text old.text) (unpast : view.past ≡ false) where
-  waiting : Waits view.text view.text
-  waiting = subst (λ r. Waits r.text r.text) (sym same) waits
+module _ (old view : FileReading) (same : view ≡ old) (s t : FilesState) (waits : MayGrow old.text) (unpast : view.past ≡ false) where
+  waiting : MayGrow view.text
+  waiting = subst (λ r. MayGrow r.text) (sym same) waits
 
   pub ended_as : (most count : ℕ) (text text' : State) → FetchesBehind view.file most (Ok count) view.text.left text.left s t → text ≡ record view.text { left = text.left }
-      → text' ≡ record text { finished = true } → count ≡ 0 → Fetches (Ok tt) old (record view { text = text' }) s t
+      → text' ≡ record text { finished = true } → count ≡ 0 → FetchesPiece (Ok tt) old (record view { text = text' }) s t
   ended_as most count text text' behind is ends none =
-      subst (λ r. Fetches (Ok tt) r (record view { text = text' }) s t) same
-      (subst (λ x. Fetches (Ok tt) view (record view { text = x }) s t) (sym (ends ∙ ap {A = State} (λ x. record x { finished = true }) is))
+      subst (λ r. FetchesPiece (Ok tt) r (record view { text = text' }) s t) same
+      (subst (λ x. FetchesPiece (Ok tt) view (record view { text = x }) s t) (sym (ends ∙ ap {A = State} (λ x. record x { finished = true }) is))
       (end_came view most count text.left s t behind none waiting unpast))
 
   pub came_as : (most count : ℕ) (text : State) → FetchesBehind view.file most (Ok count) view.text.left text.left s t → text ≡ record view.text { left = text.left }
-      → 0 < count → most ≤ view.limit - (view.text.place + length view.text.left) → Fetches (Ok tt) old (record view { text = text }) s t
+      → 0 < count → most ≤ view.limit - (view.text.place + length view.text.left) → FetchesPiece (Ok tt) old (record view { text = text }) s t
   came_as most count text behind is some few =
-      subst (λ r. Fetches (Ok tt) r (record view { text = text }) s t) same
-      (subst (λ x. Fetches (Ok tt) view (record view { text = x }) s t) (sym is)
+      subst (λ r. FetchesPiece (Ok tt) r (record view { text = text }) s t) same
+      (subst (λ x. FetchesPiece (Ok tt) view (record view { text = x }) s t) (sym is)
       (piece_came view most count text.left s t behind some few waiting unpast))
 
   module _ (into : List ℕ) (count : ℕ) (reads : ReadsPiece view.file into (Ok count) s t) where
-    pub looked_end : (text : State) → text ≡ record view.text { finished = true } → count ≡ 0 → Fetches (Ok tt) old (record view { text = text }) s t
+    pub looked_end : (text : State) → text ≡ record view.text { finished = true } → count ≡ 0 → FetchesPiece (Ok tt) old (record view { text = text }) s t
     looked_end text ends none =
-        subst (λ r. Fetches (Ok tt) r (record view { text = text }) s t) same
-        (subst (λ x. Fetches (Ok tt) view (record view { text = x }) s t) (sym ends)
+        subst (λ r. FetchesPiece (Ok tt) r (record view { text = text }) s t) same
+        (subst (λ x. FetchesPiece (Ok tt) view (record view { text = x }) s t) (sym ends)
         (fetches_end view s t reads.told reads.others reads.others_seen reads.counts waiting unpast
         (subst (λ bs. Consumed (s.left view.file) (t.left view.file) bs) (ap (λ n. take n into) none) reads.bytes) (reads.end none)
         (subst (λ bs. seen_in t view.file ≡ option_map (seen_then bs) (seen_in s view.file)) (ap (λ n. take n into) none) reads.seen)))
 
-    pub looked_past : 0 < count → length into ≡ 1 → old.text.place + length old.text.left ≡ old.limit → Fetches (Err fault.TooLong) old (record view { past = true }) s t
+    pub looked_past : 0 < count → length into ≡ 1 → old.text.place + length old.text.left ≡ old.limit → FetchesPiece (Err fault.TooLong) old (record view { past = true }) s t
     looked_past some one met =
         let size : length (take count into) ≡ min count (length into) = length-take count into in
         let within = reads.within in
-        subst (λ r. Fetches (Err fault.TooLong) r (record view { past = true }) s t) same
+        subst (λ r. FetchesPiece (Err fault.TooLong) r (record view { past = true }) s t) same
         (fetches_past view s t reads.told reads.others reads.others_seen reads.counts waiting unpast (take count into) (size ∙ omega arith)
         (subst (λ r. r.text.place + length r.text.left ≡ r.limit) (sym same) met) reads.bytes reads.seen)
+
+-- `fetch`: where the bytes are less than an item, what was read ends in a limit that is passed
+pub fetches_so : (r : Result (Unit {0}) FileError) (old new : FileReading) (s t : FilesState) → Waits old.text old.text → FetchesPiece r old new s t → Fetches r old new s t
+fetches_so r old new s t waits f = record {
+  leaves = f.leaves;
+  same = f.same;
+  placed = f.placed;
+  less = f.less;
+  goes = λ first vs has. so r f.kept first vs (t.left old.file) (f.goes first vs has);
+  sees = λ vs has q is.
+      let at = f.sees [] vs (λ p was. let now = has p was in (p.bytes, refl, now.0, now.1)) q is in
+      subst (λ bs. Fetched (Some (Some bs)) vs r new (Some (Some [])) × IsMetBy new (record q { bytes = bs })) (sym at.1)
+      (so r f.kept (Some (Some at.0)) vs (Some (Some [])) at.2, at.3);
+}
+  where
+    so : (x : Result (Unit {0}) FileError) → OnErr x (new.text ≡ old.text) → (first : Left) (vs : List Value) (left : Left) → FetchedPiece first vs x new left → Fetched first vs x new left
+    so (Ok done) kept first vs left has = has
+    so (Err fault.Read) kept first vs left has = has
+    so (Err fault.NoMemory) kept first vs left has = has
+    so (Err fault.TooLong) kept first vs left has = ends_past first vs new left has.0 has.1 (subst (λ x. BeginsItem x.left) (sym kept) (begins_item old.text waits))
+    so (Err (fault.Bad p)) kept first vs left has = has
+    so (Err (fault.TooDeep p)) kept first vs left has = has
 
 -- `next`, up to here: nothing was handed out
 pub record Meanwhile (old now : FileReading) (s t : FilesState) : Type 0 where
@@ -699,30 +776,37 @@ module _ (old now new : FileReading) (s t : FilesState) (far : Meanwhile old now
       limit_same : new.limit ≡ now.limit
       limit_same = ap (λ r. r.limit) hands.same
 
-  held_item : (r : Result (Option Value) FileError) → (IsErrOf r fault.Read → ⊥) → ((v : Value) → r ≡ Ok (Some v) → held ≡ Ok (item.Value v))
+  limit_now : now.limit ≡ old.limit
+  limit_now = ap (λ r. r.limit) far.same
+
+  at_place : (p : ℕ) → p ≤ now.limit → p ≤ old.limit
+  at_place p within = subst (λ l. p ≤ l) limit_now within
+
+  held_item : (r : Result (Option Value) FileError) → IfErr r (λ e. IsFaultPlaced old.limit e) → (IsErrOf r fault.Read → ⊥) → ((v : Value) → r ≡ Ok (Some v) → held ≡ Ok (item.Value v))
       → ((first left : Left) (vs : List Value) → HeldOut first vs held new left → Stands first vs r new left) → NextItem r old new s t
-  held_item r well value stands = record {
+  held_item r at well value stands = record {
     leaves = record { told = far.told; others = far.others; is_open = far.is_open; others_seen = far.others_seen; more = far.more; later = omega (arith, far.counts); well = λ not. far.counts; failed = λ is. absurd (well is) };
     same = both_same;
+    placed = at;
     less = λ v is. let a = hands.less v (value v is) in let b = far.less in omega arith;
     goes = λ first vs has. stands first (t.left old.file) vs (hands.goes first (t.left old.file) vs (far.goes first vs has));
     sees = λ vs has q is. let so = far.sees vs has q is in (stands (Some (Some q.bytes)) (Some (Some [])) vs (hands.goes (Some (Some q.bytes)) (Some (Some [])) vs so.0), met_by q so.1);
   }
 
   pub next_value : (v : Value) → held ≡ Ok (item.Value v) → NextItem (Ok (Some v)) old new s t
-  next_value v is = held_item (Ok (Some v)) (λ e. cc) (λ w e. is ∙ ap (λ x. Ok (item.Value x)) (let same : v ≡ w = cc in same)) (λ first left vs h. subst (λ r. HeldOut first vs r new left) is h)
+  next_value v is = held_item (Ok (Some v)) tt (λ e. cc) (λ w e. is ∙ ap (λ x. Ok (item.Value x)) (let same : v ≡ w = cc in same)) (λ first left vs h. subst (λ r. HeldOut first vs r new left) is h)
 
   pub next_wanting : held ≡ Err error.NoMemory → NextItem (Err fault.NoMemory) old new s t
-  next_wanting is = held_item (Err fault.NoMemory) (λ e. cc) (λ w e. absurd cc) (λ first left vs h. subst (λ r. HeldOut first vs r new left) is h)
+  next_wanting is = held_item (Err fault.NoMemory) tt (λ e. cc) (λ w e. absurd cc) (λ first left vs h. subst (λ r. HeldOut first vs r new left) is h)
 
   pub next_end : held ≡ Ok item.End → NextItem (Ok None) old new s t
-  next_end is = held_item (Ok None) (λ e. cc) (λ w e. absurd cc) (λ first left vs h. subst (λ r. HeldOut first vs r new left) is h)
+  next_end is = held_item (Ok None) tt (λ e. cc) (λ w e. absurd cc) (λ first left vs h. subst (λ r. HeldOut first vs r new left) is h)
 
   pub next_bad : (p : ℕ) → held ≡ Err (error.Bad p) → NextItem (Err (fault.Bad p)) old new s t
-  next_bad p is = held_item (Err (fault.Bad p)) (λ e. cc) (λ w e. absurd cc) (λ first left vs h. subst (λ r. HeldOut first vs r new left) is h)
+  next_bad p is = held_item (Err (fault.Bad p)) (at_place p (subst (λ r. IfErr r (λ e. IsPlaced now.limit e)) is hands.placed)) (λ e. cc) (λ w e. absurd cc) (λ first left vs h. subst (λ r. HeldOut first vs r new left) is h)
 
   pub next_deep : (p : ℕ) → held ≡ Err (error.TooDeep p) → NextItem (Err (fault.TooDeep p)) old new s t
-  next_deep p is = held_item (Err (fault.TooDeep p)) (λ e. cc) (λ w e. absurd cc) (λ first left vs h. subst (λ r. HeldOut first vs r new left) is h)
+  next_deep p is = held_item (Err (fault.TooDeep p)) (at_place p (subst (λ r. IfErr r (λ e. IsPlaced now.limit e)) is hands.placed)) (λ e. cc) (λ w e. absurd cc) (λ first left vs h. subst (λ r. HeldOut first vs r new left) is h)
 
   -- a piece was fetched meanwhile
   module _ (is : held ≡ Ok item.NeedMore) (next : FileReading) (u : FilesState) where
@@ -747,6 +831,7 @@ module _ (old now new : FileReading) (s t : FilesState) (far : Meanwhile old now
             failed = λ bad. let a = far.counts in let b = fetch.failed (cc_err bad) in omega arith;
           };
           same = fetches.same ∙ ap {A = FileReading} (λ r. record r { text = next.text; past = next.past }) both_same;
+          placed = subst (λ l. IsFaultPlaced l e) (ap (λ r. r.limit) both_same) fetches.placed;
           less = λ v bad. absurd cc;
           goes = λ first vs has. stood e fetches first vs (held_more first vs has);
           sees = λ vs has q now. let so = subst (λ n. AsSeen (λ first left. Fetched first vs (Err e) next left) next (seen_in u n)) new_file (fetches.sees vs (seen_more vs has)) q now in (stood_as e next (Some (Some q.bytes)) (Some (Some [])) vs so.0, so.1);

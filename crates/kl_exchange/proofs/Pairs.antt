@@ -168,7 +168,7 @@ pub room : List Pair → ℕ
 room [] = 0
 room (f ∷ fs) = length f.0 + room fs
 
-shorter_differs : (k l : List ℕ) → length l < length k → pointwise nat_eq k l ≡ false
+pub shorter_differs : (k l : List ℕ) → length l < length k → pointwise nat_eq k l ≡ false
 shorter_differs [] l short = absurd (omega arith)
 shorter_differs (k ∷ ks) [] short = refl
 shorter_differs (k ∷ ks) (l ∷ ls) short = rw (shorter_differs ks ls (omega arith)) (and-false (k == l))

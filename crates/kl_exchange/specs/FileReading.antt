@@ -1,6 +1,7 @@
 -- What a reader of an open file knows, and what each call does.
 use Rattle.std.specs.Prelude.{◌≡◌, ◌⊎◌, ℕ, ◌+◌, ◌-◌, ◌*◌, ◌<◌, ◌≤◌, Bool, true, false, List, [], ◌∷◌, ◌++◌, length, ⊤}
-use Rattle.std.specs.Prelude.{Option, Some, None, Result, Ok, Err, OnOk, IsErrOf, IsSome}
+use Rattle.std.specs.Prelude.{Option, Some, None, Result, Ok, Err, OnOk, OnErr, IsErrOf, IsSome}
+use Rattle.std.specs.Result.{IfErr}
 use Rattle.kl_base.specs.Counts.{Rose}
 use Rattle.kl_outside.specs.Files.{FilesState, OtherFiles, OtherSeen, Seen, seen_in}
 use Rattle.kl_value.specs.declared.Value.{Value}
@@ -83,6 +84,11 @@ pub record IsMetBy (now : FileReading) (seen : Seen) : Type 0 where
 abbrev pub AsSeen : (Left → Left → Type 0) → FileReading → Option Seen → Type 0
 AsSeen stands now seen = (s : Seen) → seen ≡ Some s → stands (Some (Some s.bytes)) (Some (Some [])) × IsMetBy now s
 
+-- The same where bytes were taken away at the front of the file: the reader stands as in a file that has those behind them.
+abbrev pub AsSeenBehind : List ℕ → (Left → Left → Type 0) → FileReading → Option Seen → Type 0
+AsSeenBehind front stands now seen = (s : Seen) → seen ≡ Some s → (bytes : List ℕ) × (s.bytes ≡ front ++ bytes)
+    × stands (Some (Some bytes)) (Some (Some [])) × IsMetBy now (record s { bytes = bytes })
+
 abbrev pub HasSeen : List Value → FileReading → Option Seen → Type 0
 HasSeen vs now seen = AsSeen (λ first left. HasRead first vs now left) now seen
 
@@ -101,6 +107,17 @@ end_to_come false = 1
 abbrev pub to_come : FileReading → ℕ
 to_come s = (2 * (s.limit - (s.text.place + length s.text.left)) + length s.text.left) + end_to_come s.text.finished
 
+-- a refusal's place is among the bytes that are looked at
+abbrev pub IsPlaced : ℕ → ReadError → Type 0
+IsPlaced limit (error.Bad place) = place ≤ limit
+IsPlaced limit (error.TooDeep place) = place ≤ limit
+IsPlaced limit error.NoMemory = ⊤
+
+abbrev pub IsFaultPlaced : ℕ → FileError → Type 0
+IsFaultPlaced limit (fault.Bad place) = place ≤ limit
+IsFaultPlaced limit (fault.TooDeep place) = place ≤ limit
+IsFaultPlaced limit e = ⊤
+
 -- after an answer from the bytes that were fetched
 abbrev pub HeldOut : Left → List Value → Result Item ReadError → FileReading → Left → Type 0
 HeldOut first vs (Ok (item.Value v)) now left = HasRead first (vs ++ v ∷ []) now left
@@ -116,10 +133,25 @@ pub record HandsOut (result : Result Item ReadError) (old new : FileReading) : T
   pub same : new ≡ record old { text = new.text }
   pub finished : new.text.finished ≡ old.text.finished
   pub waits : result ≡ Ok item.NeedMore → Waits new.text new.text
+  pub placed : IfErr result (λ e. IsPlaced old.limit e)
   pub less : (v : Value) → result ≡ Ok (item.Value v) → to_come new < to_come old
   pub goes : (first left : Left) (vs : List Value) → HasRead first vs old left → HeldOut first vs result new left
 
--- after a piece, or the reason why none was fetched
+-- more bytes may come, and nothing was refused
+pub record MayGrow (text : State) : Type 0 where
+  pub unfinished : text.finished ≡ false
+  pub fresh : text.refused ≡ None
+
+-- after a piece, or the reason why none was fetched, whatever the bytes fetched before it are
+abbrev pub FetchedPiece : Left → List Value → Result (Unit {0}) FileError → FileReading → Left → Type 0
+FetchedPiece first vs (Ok done) now left = HasRead first vs now left
+FetchedPiece first vs (Err fault.Read) now left = HasRead first vs now left
+FetchedPiece first vs (Err fault.NoMemory) now left = HasRead first vs now left
+FetchedPiece first vs (Err fault.TooLong) now left = HasRead first vs now left × (now.past ≡ true)
+FetchedPiece first vs (Err (fault.Bad p)) now left = ⊥
+FetchedPiece first vs (Err (fault.TooDeep p)) now left = ⊥
+
+-- after a piece behind bytes that are less than an item, or the reason why none was fetched
 abbrev pub Fetched : Left → List Value → Result (Unit {0}) FileError → FileReading → Left → Type 0
 Fetched first vs (Ok done) now left = HasRead first vs now left
 Fetched first vs (Err fault.Read) now left = HasRead first vs now left
@@ -139,10 +171,26 @@ pub record Leaves {T : Type 0} (file : ℕ) (result : Result T FileError) (old n
   pub well : (IsErrOf result fault.Read → ⊥) → new.faults ≡ old.faults
   pub failed : IsErrOf result fault.Read → Rose old.faults new.faults
 
+-- `fetch_piece`
+pub record FetchesPiece (result : Result (Unit {0}) FileError) (old new : FileReading) (files files' : FilesState) : Type 0 where
+  pub leaves : Leaves old.file result files files'
+  pub same : new ≡ record old { text = new.text; past = new.past }
+  pub kept : OnErr result (new.text ≡ old.text)
+  pub grows : (piece : List ℕ) × (new.text.left ≡ old.text.left ++ piece)
+  pub place : new.text.place ≡ old.text.place
+  pub fresh : new.text.refused ≡ old.text.refused
+  pub placed : IfErr result (λ e. IsFaultPlaced old.limit e)
+  pub less : OnOk result (to_come new < to_come old)
+  pub goes : (first : Left) (vs : List Value) → HasRead first vs old (files.left old.file)
+      → FetchedPiece first vs result new (files'.left old.file)
+  pub sees : (front : List ℕ) (vs : List Value) → AsSeenBehind front (λ first left. HasRead first vs old left) old (seen_in files old.file)
+      → AsSeenBehind front (λ first left. FetchedPiece first vs result new left) new (seen_in files' old.file)
+
 -- `fetch`
 pub record Fetches (result : Result (Unit {0}) FileError) (old new : FileReading) (files files' : FilesState) : Type 0 where
   pub leaves : Leaves old.file result files files'
   pub same : new ≡ record old { text = new.text; past = new.past }
+  pub placed : IfErr result (λ e. IsFaultPlaced old.limit e)
   pub less : OnOk result (to_come new < to_come old)
   pub goes : (first : Left) (vs : List Value) → HasRead first vs old (files.left old.file)
       → Fetched first vs result new (files'.left old.file)
@@ -163,13 +211,20 @@ Stands first vs (Err fault.NoMemory) now left = HasRead first vs now left
 pub record NextItem (result : Result (Option Value) FileError) (old new : FileReading) (files files' : FilesState) : Type 0 where
   pub leaves : Leaves old.file result files files'
   pub same : new ≡ record old { text = new.text; past = new.past }
+  pub placed : IfErr result (λ e. IsFaultPlaced old.limit e)
   pub less : (v : Value) → result ≡ Ok (Some v) → to_come new < to_come old
   pub goes : (first : Left) (vs : List Value) → HasRead first vs old (files.left old.file)
       → Stands first vs result new (files'.left old.file)
   pub sees : (vs : List Value) → HasSeen vs old (seen_in files old.file)
       → AsSeen (λ first left. Stands first vs result new left) new (seen_in files' old.file)
 
+-- what was refused, if anything
+abbrev pub IsRefusedWithin : ℕ → Option ReadError → Type 0
+IsRefusedWithin limit None = ⊤
+IsRefusedWithin limit (Some e) = IsPlaced limit e
+
 -- what stays true of a reader
 pub record IsFedWithin (text : State) (limit piece : ℕ) : Type 0 where
   pub within : text.place + length text.left ≤ limit
   pub some : 0 < piece
+  pub refused : IsRefusedWithin limit text.refused

@@ -1,7 +1,7 @@
 //! The items of an open file.
-ghost use Rattle.std.specs.Prelude.{◌≡◌, ◌+◌, ◌<◌, ◌≤◌, [], None, Ok, true, false, length, IsSome};
+ghost use Rattle.std.specs.Prelude.{◌≡◌, ◌+◌, ◌-◌, ◌<◌, ◌≤◌, [], None, Ok, true, false, length, drop, IsSome};
 ghost use Rattle.kl_exchange.specs.FileItems.{most_read};
-ghost use Rattle.kl_exchange.specs.FileReading.{HandsOut, Fetches, NextItem};
+ghost use Rattle.kl_exchange.specs.FileReading.{HandsOut, Fetches, FetchesPiece, MayGrow, NextItem};
 ghost use Rattle.kl_exchange.specs.Reading.{Waits};
 
 use crate::error::{FileError, ReadError};
@@ -67,16 +67,48 @@ impl FileReader {
 
     /// The number of bytes in the items read so far.
     pub fn place(&self) -> u64
-        ensures { result ≡ self.now.text.place }
+        ensures place { result ≡ self.now.text.place }
+        ensures within { result ≤ self.now.limit }
     {
         self.reader.place()
     }
 
     /// The number of bytes that were fetched.
     pub fn total(&self) -> u64
-        ensures { result ≡ self.now.text.place + length self.now.text.left }
+        ensures total { result ≡ self.now.text.place + length self.now.text.left }
+        ensures within { result ≤ self.now.limit }
     {
         self.reader.total()
+    }
+
+    /// The bytes that were fetched behind the items read so far.
+    pub fn left(&self) -> &[u8]
+        ensures left { result.now ≡ self.now.text.left }
+        ensures within { self.now.text.place + length self.now.text.left ≤ self.now.limit }
+    {
+        self.reader.left()
+    }
+
+    /// Whether the file was found to end behind the bytes that were fetched.
+    pub fn has_ended(&self) -> bool
+        ensures { result ≡ self.now.text.finished }
+    {
+        self.reader.is_finished()
+    }
+
+    /// Takes bytes off the front of those that were fetched, before the first item: the reader stands as one of a file that
+    /// begins behind them, of which as many bytes fewer are looked at.
+    pub fn cut(&mut self, count: usize)
+        requires first { self.old.text.place ≡ 0 }
+        requires fresh { self.old.text.refused ≡ None }
+        requires within { count ≤ length self.old.text.left }
+        ensures { self.new ≡ record self.old {
+          limit = self.old.limit - count;
+          text = record self.old.text { left = drop count self.old.text.left };
+        } }
+    {
+        self.reader.cut(count);
+        self.limit -= count as u64;
     }
 
     /// The next item among the bytes that were fetched, as `Reader::next`. It reads no file.
@@ -102,6 +134,18 @@ impl FileReader {
         requires waits { Waits self.old.text self.old.text }
         ensures { Fetches result self.old self.new (F.state files.old) (F.state files.new) }
     {
+        self.fetch_piece(files)
+    }
+
+    /// As `fetch`, whatever the bytes fetched so far are, as long as the file was not found to end.
+    ///
+    /// # Errors
+    /// As `fetch`. `TooLong`: the file has more bytes than are looked at, and all that are were fetched.
+    pub fn fetch_piece<F: Files>(&mut self, files: &mut F) -> Result<(), FileError>
+        requires is_open { IsSome ((F.state files.old).left self.old.file) }
+        requires grows { MayGrow self.old.text }
+        ensures { FetchesPiece result self.old self.new (F.state files.old) (F.state files.new) }
+    {
         if self.past {
             return Err(FileError::TooLong);
         }
@@ -124,10 +168,10 @@ impl FileReader {
     // Learns whether the file has more bytes than are looked at, all of which were fetched.
     fn look_past<F: Files>(&mut self, files: &mut F) -> Result<(), FileError>
         requires is_open { IsSome ((F.state files.old).left self.old.file) }
-        requires waits { Waits self.old.text self.old.text }
+        requires grows { MayGrow self.old.text }
         requires met { self.old.text.place + length self.old.text.left ≡ self.old.limit }
         requires so_far { self.old.past ≡ false }
-        ensures { Fetches result self.old self.new (F.state files.old) (F.state files.new) }
+        ensures { FetchesPiece result self.old self.new (F.state files.old) (F.state files.new) }
     {
         let mut byte = [0u8; 1];
         match files.read(self.file, &mut byte) {

@@ -33,6 +33,9 @@ mod stack;
 
 pub use error::{FileError, PrintError, ReadError};
 pub use file_reader::{FileReader, MOST_READ};
+pub use gathered::Growing;
 pub use laws::{file_laws, found_laws, reading_laws};
+pub use machine::is_blank;
 pub use printing::{Page, print};
 pub use reader::{Item, Reader};
+pub use stack::Stack;

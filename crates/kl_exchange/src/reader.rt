@@ -120,6 +120,30 @@ impl Reader {
         self.place + (self.buffer.len() - self.start) as u64
     }
 
+    /// The bytes behind the items read so far.
+    pub fn left(&self) -> &[u8]
+        ensures { result.now ≡ self.now.left }
+    {
+        &self.buffer[self.start..]
+    }
+
+    /// Takes bytes off the front of those left. They are in no item: the reader stands as if they had not come.
+    pub fn cut(&mut self, count: usize)
+        requires { count ≤ length self.old.left }
+        ensures { self.new ≡ record self.old { left = drop count self.old.left } }
+    {
+        self.start += count;
+        self.scanned = self.start;
+        put(&mut self.machine, Machine::new(self.alloc));
+    }
+
+    /// Whether no more bytes come.
+    pub(crate) fn is_finished(&self) -> bool
+        ensures { result ≡ self.now.finished }
+    {
+        self.finished
+    }
+
     /// Says that no more bytes come. Takes no memory.
     pub fn finish(&mut self)
         ensures { self.new ≡ record self.old { finished = true } }

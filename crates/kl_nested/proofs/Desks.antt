@@ -7,14 +7,13 @@ use Rattle.std.proofs.lemmas.Option.{same_Some}
 use Rattle.kl_type.proofs.RowLemmas.{same_label, told}
 use Rattle.kl_outside.specs.Files.{FilesState, OtherFiles, OtherSeen, left_at_first, seen_in}
 use Rattle.kl_outcome.specs.Outcome.{Name}
-use Rattle.kl_exchange.proofs.FileReading.{begins_so}
-use Rattle.kl_exchange.specs.FileReading.{HasRead, HasSeen}
+use Rattle.kl_heads.specs.FileReading.{AsSeen}
 use Rattle.kl_ask.specs.Cursors.{open_at}
 use Rattle.kl_ask.specs.declared.ask.Ask.{Ask}
 use Rattle.kl_ask.specs.declared.ask.Ask.TheVariants as asks
 use Rattle.kl_ask.proofs.Names.{not_same}
 use Rattle.kl_ask.proofs.Opened.{added_free, added_now, added_others, changed_now, changed_others}
-use Rattle.kl_nested.specs.Desk.{HasTaken, IsDesk, IsKept, IsReading}
+use Rattle.kl_nested.specs.Desk.{HasReadOf, HasTaken, IsDesk, IsKept, IsReading}
 use Rattle.kl_nested.specs.Handing.{ReadsOne}
 use Rattle.kl_ask.specs.Named.{asked_source, source_named}
 use Rattle.kl_nested.specs.Nested.{Sources}
@@ -22,17 +21,17 @@ use Rattle.kl_nested.specs.Opening.{OpensOver}
 use Rattle.kl_nested.specs.declared.parts.Source.{Source}
 use Rattle.kl_nested.specs.declared.parts.Open.{Open}
 use Rattle.kl_nested.proofs.Handings.{kept_on}
-use Rattle.kl_nested.proofs.Progress.{begins_seen}
+use Rattle.kl_nested.proofs.Progress.{begins_open, begins_seen}
 
 some_not_none : (T : Type 0) → IsSome {T = T} None → ⊥
 some_not_none T h = cc
 
 module _ (limit : ℕ) (f g : FilesState) (told_on : g.told ≡ f.told) where
-  taken_on : (s : Source) (n : ℕ) (o : Open) → g.left o.reader.file ≡ f.left o.reader.file → seen_in g o.reader.file ≡ seen_in f o.reader.file → HasTaken limit s n o.reader f → HasTaken limit s n o.reader g
+  taken_on : (s : Source) (n : ℕ) (o : Open) → g.left o.reader.items.file ≡ f.left o.reader.items.file → seen_in g o.reader.items.file ≡ seen_in f o.reader.items.file → HasTaken limit s n o.reader f → HasTaken limit s n o.reader g
   taken_on s n o left seen h = record {
     values = h.values;
-    has_seen = subst (HasSeen h.values o.reader) (sym seen) h.has_seen;
-    has_read = subst (λ l. HasRead (Some (left_at_first g.told s.path)) h.values o.reader l) (sym left) (subst (λ t. HasRead (Some (left_at_first t s.path)) h.values o.reader (f.left o.reader.file)) (sym told_on) h.has_read);
+    has_seen = subst (AsSeen (HasReadOf s h.values o.reader) o.reader) (sym seen) h.has_seen;
+    has_read = subst (λ l. HasReadOf s h.values o.reader (Some (left_at_first g.told s.path)) l) (sym left) (subst (λ t. HasReadOf s h.values o.reader (Some (left_at_first t s.path)) (f.left o.reader.items.file)) (sym told_on) h.has_read);
     is_open = subst IsSome (sym left) h.is_open;
     counted = h.counted;
     same_limit = h.same_limit;
@@ -106,13 +105,13 @@ module _ (limit : ℕ) (f : FilesState) (sources : Sources) (cursors : List (Opt
           same_file = over.same_file;
           taken = record {
             values = [];
-            has_seen = subst (HasSeen [] o.reader) (sym (ap (seen_in g) over.same_file ∙ over.unread)) (begins_seen o.reader f.log over.text over.unpast);
+            has_seen = subst (AsSeen (HasReadOf o.source [] o.reader) o.reader) (sym (ap (seen_in g) over.same_file ∙ over.unread)) (λ q is. let h = begins_seen o.reader f.log over.front over.size over.fresh over.text over.unpast q is in (inl (refl, h.0), h.1));
             has_read =
-                subst (λ l. HasRead l [] o.reader (g.left o.reader.file)) (ap g.left over.same_file ∙ over.left ∙ ap Some (λ i. left_at_first (sym told_on i) (sym (ap (λ (s : Source). s.path) same) i)))
-                (begins_so o.reader (g.left o.reader.file) over.text over.unpast);
+                subst (λ l. HasReadOf o.source [] o.reader l (g.left o.reader.items.file)) (ap g.left over.same_file ∙ over.left ∙ ap Some (λ i. left_at_first (sym told_on i) (sym (ap (λ (s : Source). s.path) same) i)))
+                (inl (refl, begins_open o.reader (g.left o.reader.items.file) over.front over.size over.fresh over.text over.unpast));
             is_open = subst IsSome (sym (ap g.left over.same_file ∙ over.left)) refl;
             counted = over.none_taken;
-            same_limit = over.same_limit;
+            same_limit = omega (arith, over.size, over.same_limit);
           };
         }
 
@@ -158,7 +157,7 @@ module _ (limit : ℕ) (f : FilesState) (sources : Sources) (cursors : List (Opt
     here : open_at cursors at ≡ Some o
     here = search
 
-    its_own : (k : ℕ) (p : Open) → k ≢ at → open_at cursors k ≡ Some p → p.file ≢ o.reader.file
+    its_own : (k : ℕ) (p : Open) → k ≢ at → open_at cursors k ≡ Some p → p.file ≢ o.reader.items.file
     its_own k p ne at_k same = ne (desk.apart k at p o at_k here (same ∙ (desk.reading at o here).same_file))
 
     pub desk_pulled : IsReading limit g o' → IsDesk limit g sources cursors'
@@ -173,7 +172,7 @@ module _ (limit : ℕ) (f : FilesState) (sources : Sources) (cursors : List (Opt
         | inl same ↦ subst (IsReading limit g) (same_Some _ _ (sym (changed_now cursors cursors' at o o' is made) ∙ sym (ap (open_at cursors') same) ∙ at_k)) now
         | inr ne ↦ (let old = sym (changed_others cursors cursors' at o o' is made k ne) ∙ at_k in reading_on limit f g reads.told p (reads.others p.file (its_own k p ne old)) (reads.others_seen p.file (its_own k p ne old)) (desk.reading k p old))
       ];
-      only = λ n is_open. elim (cases_eq n o.reader.file) [
+      only = λ n is_open. elim (cases_eq n o.reader.items.file) [
         | inl same ↦ (at, o', changed_now cursors cursors' at o o' is made, file ∙ sym (desk.reading at o here).same_file ∙ sym same)
         | inr ne ↦ (let old = desk.only n (subst IsSome (reads.others n ne) is_open) in
             (old.0, old.1, changed_others cursors cursors' at o o' is made old.0 (not_at n ne old.0 old.1 old.2 old.3) ∙ old.2, old.3))
@@ -181,7 +180,7 @@ module _ (limit : ℕ) (f : FilesState) (sources : Sources) (cursors : List (Opt
       apart = λ j k p q isp isq same. by j k p q (cases_eq j at) (cases_eq k at) isp isq same;
     }
       where
-        not_at : (n : ℕ) → n ≢ o.reader.file → (k : ℕ) (p : Open) → open_at cursors k ≡ Some p → p.file ≡ n → k ≢ at
+        not_at : (n : ℕ) → n ≢ o.reader.items.file → (k : ℕ) (p : Open) → open_at cursors k ≡ Some p → p.file ≡ n → k ≢ at
         not_at n ne k p at_k file_is same =
             let one : o ≡ p = same_Some _ _ (sym here ∙ sym (ap (open_at cursors) same) ∙ at_k) in
             ne (sym file_is ∙ ap (λ (x : Open). x.file) (sym one) ∙ sym (desk.reading at o here).same_file)

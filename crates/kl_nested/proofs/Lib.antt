@@ -4,6 +4,7 @@ pub mod Desks
 pub mod Handings
 pub mod Held
 pub mod Openings
+pub mod Passing
 pub mod Places
 pub mod Progress
 pub mod Shown
@@ -13,3 +14,4 @@ pub mod Starting
 pub mod Steps
 pub mod Takings
 pub mod Throughs
+pub mod SameTypes

@@ -1,11 +1,12 @@
 -- What open cursors have read.
-use Rattle.std.proofs.Common.{◌≡◌, ℕ, [], Option, Some, None, false, refl, sym, ap, subst, ◌∙◌}
+use Rattle.std.proofs.Common.{◌≡◌, ℕ, [], Option, Some, None, true, false, refl, sym, ap, subst, ◌∙◌}
 use Rattle.std.specs.Option.{option_map}
 use Rattle.std.proofs.lemmas.Bool.{false≢true}
 use Rattle.std.proofs.lemmas.Option.{same_Some}
 use Rattle.kl_outside.specs.Files.{Seen, nothing_seen}
 use Rattle.kl_exchange.specs.FileItems.{reading}
-use Rattle.kl_exchange.specs.FileReading.{FileReading, HasRead, HasSeen, IsMetBy, SeesMore}
+use Rattle.kl_exchange.specs.FileReading.{Left, SeesMore}
+use Rattle.kl_heads.specs.FileReading.{AsSeen, HasOpened, HeadedFile, IsMetBy}
 use Rattle.kl_exchange.proofs.FileReading.{begins_so}
 use Rattle.kl_ask.specs.Driver.{ReadSoFar, ReadsOn, State, read_under}
 use Rattle.kl_nested.specs.Nested.{read_as}
@@ -33,13 +34,18 @@ read_there None read is = absurd cc
 read_there (Some q) read is = (q, refl, same_Some _ _ is)
 
 -- of a file that was just opened nothing was read
-pub begins_seen : (now : FileReading) (log : Option (ℕ → Seen)) → now.text ≡ reading 0 [] false → now.past ≡ false → HasSeen [] now (option_map (λ seen. nothing_seen) log)
-begins_seen now None text unpast q is = absurd cc
-begins_seen now (Some log) text unpast q is =
-    subst (λ (q : Seen). HasRead (Some (Some q.bytes)) [] now (Some (Some [])) × IsMetBy now q) (same_Some _ _ is) (
-      begins_so now (Some (Some [])) text unpast,
-      record {
-        ended = λ finished. absurd (false≢true (sym (ap (λ t. t.finished) text) ∙ finished));
-        passed = λ past. absurd (false≢true (sym unpast ∙ past));
-      },
-    )
+module _ (now : HeadedFile) where
+  pub begins_open : (left : Left) → now.front ≡ true → now.head ≡ 0 → now.refused ≡ None → now.items.text ≡ reading 0 [] false → now.items.past ≡ false → HasOpened left now left
+  begins_open left front size fresh text unpast = record { unknown = front; size = size; fresh = fresh; items = begins_so now.items left text unpast }
+
+  pub begins_seen : (log : Option (ℕ → Seen)) → now.front ≡ true → now.head ≡ 0 → now.refused ≡ None → now.items.text ≡ reading 0 [] false → now.items.past ≡ false
+      → AsSeen (λ first left. HasOpened first now left) now (option_map (λ seen. nothing_seen) log)
+  begins_seen None front size fresh text unpast q is = absurd cc
+  begins_seen (Some log) front size fresh text unpast q is =
+      subst (λ (q : Seen). HasOpened (Some (Some q.bytes)) now (Some (Some [])) × IsMetBy now q) (same_Some _ _ is) (
+        begins_open (Some (Some [])) front size fresh text unpast,
+        record {
+          ended = λ finished. absurd (false≢true (sym (ap (λ t. t.finished) text) ∙ finished));
+          passed = λ past. absurd (false≢true (sym unpast ∙ past));
+        },
+      )

@@ -1,5 +1,5 @@
 -- What a pull, and the end of a cursor, do to what the driver means.
-use Rattle.std.proofs.Common.{◌≡◌, ◌≢◌, ◌⊎◌, inl, inr, ◌<◌, ◌≤◌, ◌+◌, ◌-◌, ◌^◌, ℕ, Bool, true, false, List, [], ◌∷◌, ◌++◌, length, drop, set, Option, Some, None, IsSome, Ok, Err, refl, sym, ◌∙◌, ap, subst, arith, slice_get, nat_lt, append-nil}
+use Rattle.std.proofs.Common.{◌≡◌, ◌≢◌, ◌⊎◌, inl, inr, ◌<◌, ◌≤◌, ◌+◌, ◌-◌, ◌^◌, ℕ, Bool, true, false, List, [], ◌∷◌, ◌++◌, length, drop, set, Option, Some, None, IsSome, Ok, Err, refl, sym, ◌∙◌, ap, subst, arith, slice_get, nat_lt, append-nil, zero, suc}
 use Rattle.std.specs.Option.{option_map}
 use Rattle.std.proofs.lemmas.Bool.Decides.{nat_tests}
 use Rattle.std.proofs.lemmas.Option.{same_Some}
@@ -39,13 +39,17 @@ no_rows : {T : Type 0} (xs : List T) → length xs ≡ 0 → xs ≡ []
 no_rows [] h = refl
 no_rows (x ∷ xs) h = absurd (omega (arith, h))
 
+positive : (n : ℕ) → (n ≡ 0 → ⊥) → 0 < n
+positive zero other = absurd (other refl)
+positive (suc n) other = omega arith
+
 module _ (limit : ℕ) (f : FilesState) (sources : Sources) (cursors : List (Option Open)) (asked : List (Ask × ℕ)) (handed drifts unread cursor : ℕ) (desk : IsDesk limit f sources cursors) where
   source_is : (ask : Ask) (s : Source) → asked_source sources ask ≡ Some s → source_of (nested_state limit f sources cursors asked handed drifts unread) ask ≡ Some (attached_of limit f.told s)
   source_is (asks.Rows name keep tests) s is = ap (option_map (attached_of limit f.told)) is
   source_is (asks.Sql text) s is = absurd cc
 
   -- each of the other cursors reads another file
-  apart_from : (o : Open) → open_at cursors cursor ≡ Some o → (k : ℕ) → k ≢ cursor → (y : Open) → open_at cursors k ≡ Some y → y.file ≢ o.reader.file
+  apart_from : (o : Open) → open_at cursors cursor ≡ Some o → (k : ℕ) → k ≢ cursor → (y : Open) → open_at cursors k ≡ Some y → y.file ≢ o.reader.items.file
   apart_from o here k ne y at same = ne (desk.apart k cursor y o at here (same ∙ (desk.reading cursor o here).same_file))
 
   module _ (g : FilesState) (cursors' : List (Option Open)) (handed' most n : ℕ) (into into' : List Value) (o o' : Open) (is : slice_get cursors cursor ≡ Some (Some o)) (made : cursors' ≡ set cursors cursor (Some o')) (hand : Hands limit most into into' (Ok n) o o' f g)
@@ -142,7 +146,7 @@ module _ (limit : ℕ) (f : FilesState) (sources : Sources) (cursors : List (Opt
             subst (λ s. IsAsAttached s r.read (r.spells r.read.bytes)) same_source
             (subst (λ (spells : List ℕ → Spelt). IsAsAttached (attached_of limit f.told o.source) r.read (spells r.read.bytes)) spells
             (subst (λ (read : ReadSoFar). IsAsAttached (attached_of limit f.told o.source) read (spelt_in limit read.bytes)) was.2
-            (record { all = ended.all; size = ended.size })))
+            (record { all = ended.all; size = ended.size; head = ended.head })))
 
         spent_so : (r : Option (List Value)) → rows_at limit f.told o.source ≡ r → o'.taken ≡ o.taken → o'.taken ≡ o.source.count → (all : List Value) → (seen o).left ≡ Some all → all ≡ []
         spent_so None told same spent' all e = absurd (let k : None ≡ Some all = sym (ap (option_map (drop o.taken)) told) ∙ e in cc)
@@ -188,6 +192,7 @@ module _ (limit : ℕ) (f : FilesState) (sources : Sources) (cursors : List (Opt
   shown_of : (s : Source) (read : ReadSoFar) (spelt : Spelt) (d : Drift) → IsShown (Some limit) (attached_of limit None s) read spelt d → IsShown (Some limit) (attached_of limit f.told s) read spelt d
   shown_of s read spelt (drift.Bytes kept size) h = (h.0, elim h.1 [ inl past ↦ inl past | inr all ↦ inr all ])
   shown_of s read spelt (drift.Count kept count) h = h
+  shown_of s read spelt (drift.Header kept stated) h = h
   shown_of s read spelt (drift.Unread place) h = h
   shown_of s read spelt (drift.Misfit item) h = h
 
@@ -198,22 +203,36 @@ module _ (limit : ℕ) (f : FilesState) (sources : Sources) (cursors : List (Opt
   drifted_so : (o : Open) (found : ℕ) (d : Drift) → Differs limit o.source found d → HasDrifted (attached_of limit f.told o.source) d
   drifted_so o found (drift.Bytes kept size) h = (ap Some (sym h.0), h.1)
   drifted_so o found (drift.Count kept count) h = (sym h.0, h.2)
+  drifted_so o found (drift.Header kept stated) h = (ap Some (sym h.0), h.1)
   drifted_so o found (drift.Unread place) h = tt
   drifted_so o found (drift.Misfit item) h = tt
 
   ahead_so : (o : Open) (found : ℕ) (d : Drift) → StopsBehind o found → Differs limit o.source found d → IsMetAhead (Some limit) (attached_of limit f.told o.source) (cursor_of limit f.told o) d
   ahead_so o found (drift.Bytes kept size) stops h = elim h.2 [
     | inl past ↦ inl (limit, refl, past)
-    | inr behind ↦ inr (λ whole. elim stops [ inl row ↦ absurd (omega (arith, row.1, behind)) | inr past ↦ omega (arith, past.0) ])
+    | inr behind ↦ inr (λ whole. elim stops [
+      | inl first ↦ absurd (omega (arith, first.1, behind))
+      | inr later ↦ elim later [ inl row ↦ absurd (omega (arith, row.1, behind)) | inr past ↦ omega (arith, past.0) ]
+    ])
   ]
   ahead_so o found (drift.Count kept count) stops h = elim stops [
-    | inl row ↦ inl (record { within = omega (arith, row.1, h.1); ahead = λ whole. omega (arith, row.0, row.1, h.1) })
-    | inr past ↦ inr (record { over = λ whole. omega (arith, past.0); next = omega (arith, past.1, h.0, h.1) })
+    | inl first ↦ inl (let some : 0 < o.source.count = positive o.source.count (λ none. h.2 (h.1 ∙ first.1 ∙ sym none ∙ sym h.0)) in record { within = omega (arith, some, first.1, h.1); ahead = λ whole. omega (arith, first.0, first.1, h.1) })
+    | inr later ↦ elim later [
+      | inl row ↦ inl (record { within = omega (arith, row.1, h.1); ahead = λ whole. omega (arith, row.0, row.1, h.1) })
+      | inr past ↦ inr (record { over = λ whole. omega (arith, past.0); next = omega (arith, past.1, h.0, h.1) })
+    ]
+  ]
+  ahead_so o found (drift.Header kept stated) stops h = λ whole. elim stops [
+    | inl first ↦ omega (arith, first.0)
+    | inr later ↦ elim later [ inl row ↦ omega (arith, row.0, h.2) | inr past ↦ absurd (omega (arith, past.1, h.2)) ]
   ]
   ahead_so o found (drift.Unread place) stops h = tt
   ahead_so o found (drift.Misfit item) stops h = elim stops [
-    | inl row ↦ record { within = h.1; ahead = λ whole. omega (arith, row.0, row.1, h.0) }
-    | inr past ↦ absurd (omega (arith, past.1, h.0, h.1))
+    | inl first ↦ record { within = h.1; ahead = λ whole. omega (arith, first.0, first.1, h.0) }
+    | inr later ↦ elim later [
+      | inl row ↦ record { within = h.1; ahead = λ whole. omega (arith, row.0, row.1, h.0) }
+      | inr past ↦ absurd (omega (arith, past.1, h.0, h.1))
+    ]
   ]
 
   no_sql : (ask : Ask) (s : Source) (q : Spj) → asked_source sources ask ≡ Some s → IsAskedSql ask q → ⊥
@@ -236,7 +255,7 @@ module _ (limit : ℕ) (f : FilesState) (sources : Sources) (cursors : List (Opt
         let ask : o.ask ≡ c.ask = ap (λ (c : Cursor). c.ask) (cursor_at_is c has) in
         same_Some _ _ (sym (source_is o.ask o.source (desk.asked cursor o here)) ∙ ap (source_of was) ask ∙ at)
 
-    drift_shown : (m : ℕ) (d : Drift) → ShowsDrift limit o.source (seen_in g o.reader.file) d → (r : ReadsAnew cursor was (now m)) (s : Attached) → attached_of limit f.told o.source ≡ s
+    drift_shown : (m : ℕ) (d : Drift) → ShowsDrift limit o.source (seen_in g o.reader.items.file) d → (r : ReadsAnew cursor was (now m)) (s : Attached) → attached_of limit f.told o.source ≡ s
         → IsShown (Some limit) s r.read (r.spells r.read.bytes) d
     drift_shown m d shows r s same_source =
         let read = read_there (seen_in h o.file) r.read (sym (ap (λ x. read_under (option_map (λ (x : Open). x.file) x) (now m)) here) ∙ r.is_read) in
@@ -247,7 +266,7 @@ module _ (limit : ℕ) (f : FilesState) (sources : Sources) (cursors : List (Opt
         (subst (λ (read : ReadSoFar). IsShown (Some limit) (attached_of limit f.told o.source) read (spelt_in limit read.bytes) d) read.2
         (shown_of o.source (read_as read.0) (spelt_in limit read.0.bytes) d so)))
 
-    build : (e : DriverError) → CountsFault {T = Bool} (Err e) f.faults h.faults → ((d : Drift) → e ≡ error.Changed d → ShowsDrift limit o.source (seen_in g o.reader.file) d) → drifts ≤ drifts_by e drifts → (IsSome (contents_of limit f.told) → drifts_by e drifts ≡ drifts) → CountsDrift (Err e) drifts (drifts_by e drifts) → Cause e was (now (drifts_by e drifts)) → ((d : Drift) → e ≡ error.Changed d → HasDrifted (attached_of limit f.told o.source) d)
+    build : (e : DriverError) → CountsFault {T = Bool} (Err e) f.faults h.faults → ((d : Drift) → e ≡ error.Changed d → ShowsDrift limit o.source (seen_in g o.reader.items.file) d) → drifts ≤ drifts_by e drifts → (IsSome (contents_of limit f.told) → drifts_by e drifts ≡ drifts) → CountsDrift (Err e) drifts (drifts_by e drifts) → Cause e was (now (drifts_by e drifts)) → ((d : Drift) → e ≡ error.Changed d → HasDrifted (attached_of limit f.told o.source) d)
         → ((d : Drift) → e ≡ error.Changed d → IsMetAhead (Some limit) (attached_of limit f.told o.source) (cursor_of limit f.told o) d)
         → Pulls cursor most into into' (Err e) was (now (drifts_by e drifts))
     build e fault_counts shown up no_drift counts cause drifted ahead = record {
@@ -279,10 +298,10 @@ module _ (limit : ℕ) (f : FilesState) (sources : Sources) (cursors : List (Opt
       };
     }
 
-    by : (e : DriverError) (found : ℕ) → StopsBehind o found → CountsFault {T = ℕ} (Err e) f.faults g.faults → Refuses limit o.source o.reader.file found e f g → Pulls cursor most into into' (Err e) was (now (drifts_by e drifts))
+    by : (e : DriverError) (found : ℕ) → StopsBehind o found → CountsFault {T = ℕ} (Err e) f.faults g.faults → Refuses limit o.source o.reader.items.file found e f g → Pulls cursor most into into' (Err e) was (now (drifts_by e drifts))
     by error.Failed found stops counts cause = build error.Failed (omega (arith, hand.reads.later, faults)) (λ d is. absurd cc) (omega arith) (λ is. refl) refl (omega (arith, cause, faults)) (λ d is. absurd cc) (λ d is. absurd cc)
     by error.NoMemory found stops counts cause = build error.NoMemory (faults ∙ counts) (λ d is. absurd cc) (omega arith) (λ is. refl) refl tt (λ d is. absurd cc) (λ d is. absurd cc)
-    by (error.Changed d) found stops counts cause = build (error.Changed d) (faults ∙ counts) (λ k is. let same : d ≡ k = cc in subst (ShowsDrift limit o.source (seen_in g o.reader.file)) same cause.2) (omega (arith, fits)) (λ is. absurd (told_not f.told cause.0 is)) (omega (arith, fits)) (told_not f.told cause.0, omega (arith, fits))
+    by (error.Changed d) found stops counts cause = build (error.Changed d) (faults ∙ counts) (λ k is. let same : d ≡ k = cc in subst (ShowsDrift limit o.source (seen_in g o.reader.items.file)) same cause.2) (omega (arith, fits)) (λ is. absurd (told_not f.told cause.0 is)) (omega (arith, fits)) (told_not f.told cause.0, omega (arith, fits))
         (λ k is. let same : d ≡ k = cc in subst (HasDrifted (attached_of limit f.told o.source)) same (drifted_so o found d cause.1))
         (λ k is. let same : d ≡ k = cc in subst (IsMetAhead (Some limit) (attached_of limit f.told o.source) (cursor_of limit f.told o)) same (ahead_so o found d stops cause.1))
     by (error.BadSource p) found stops counts cause = absurd cause

@@ -26,6 +26,7 @@ use Rattle.kl_nested.specs.Opening.{OpensAsked}
 use Rattle.kl_nested.specs.Reading.{Adds, AttachesFile, ReadsFile}
 use Rattle.kl_nested.specs.declared.parts.Source.{Source}
 use Rattle.kl_nested.specs.declared.parts.Open.{Open}
+use Rattle.kl_nested.specs.declared.through.Kept.{Kept}
 use Rattle.kl_nested.proofs.Attaching.{attach_done, attach_refused, attach_stopped, kept_so}
 use Rattle.kl_nested.proofs.Desks.{desk_attached, desk_closed, desk_opened, desk_pulled, desk_same, file_open}
 use Rattle.kl_nested.proofs.Handings.{kept_on}
@@ -49,16 +50,15 @@ same_named sources sources' same name = rw same refl
 
 module _ (limit : ℕ) (f : FilesState) (sources : Sources) (cursors : Cursors) where
   module _ (g : FilesState) (sources' : Sources) (source : Name) (path : List ℕ) (ty : Ty) (desk : IsDesk limit f sources cursors) where
-    read_same : (kept : Result (ℕ × ℕ) DriverError) → ReadsFile limit path (item_ty ty) kept f g → IsDesk limit g sources cursors
+    read_same : (kept : Result Kept DriverError) → ReadsFile limit path (item_ty ty) kept f g → IsDesk limit g sources cursors
     read_same kept reads = desk_same limit f sources cursors desk g reads.told reads.left reads.open_seen
 
     pub desk_after_ok : (count : ℕ) → option_map (attached_of limit f.told) (source_named sources source) ≡ None → AttachesFile limit source path ty (Ok count) sources sources' f g → IsDesk limit g sources' cursors
     desk_after_ok count fresh a = by a.kept a.reads a.adds
       where
-        by : (kept : Result (ℕ × ℕ) DriverError) → ReadsFile limit path (item_ty ty) kept f g → Adds source path ty kept (Ok count) sources sources' → IsDesk limit g sources' cursors
-        by (Ok (bytes, n)) reads adds =
-            let kept = kept_so limit path ty f g bytes n reads in
-            desk_attached limit g sources cursors (read_same (Ok (bytes, n)) reads) sources' source _ (unseen (attached_of limit f.told) (source_named sources source) fresh) adds.1 (kept_on limit f.told g.told _ reads.told kept)
+        by : (kept : Result Kept DriverError) → ReadsFile limit path (item_ty ty) kept f g → Adds source path ty kept (Ok count) sources sources' → IsDesk limit g sources' cursors
+        by (Ok kept) reads adds =
+            desk_attached limit g sources cursors (read_same (Ok kept) reads) sources' source _ (unseen (attached_of limit f.told) (source_named sources source) fresh) adds.1 (kept_on limit f.told g.told _ reads.told (kept_so limit path ty f g kept reads))
         by (Err e) reads adds = absurd adds
 
     unchanged_desk : IsDesk limit g sources cursors → IsUnchanged sources sources' → IsDesk limit g sources' cursors
@@ -77,7 +77,7 @@ module _ (limit : ℕ) (f : FilesState) (sources : Sources) (cursors : Cursors) 
     pub desk_after_err : (e : DriverError) → AttachesFile limit source path ty (Err e) sources sources' f g → IsDesk limit g sources' cursors
     desk_after_err e a = by a.kept a.reads a.adds
       where
-        by : (kept : Result (ℕ × ℕ) DriverError) → ReadsFile limit path (item_ty ty) kept f g → Adds source path ty kept (Err e) sources sources' → IsDesk limit g sources' cursors
+        by : (kept : Result Kept DriverError) → ReadsFile limit path (item_ty ty) kept f g → Adds source path ty kept (Err e) sources sources' → IsDesk limit g sources' cursors
         by (Ok kept) reads adds = unchanged_desk (read_same (Ok kept) reads) adds.1
         by (Err d) reads adds = subst (λ ss. IsDesk limit g ss cursors) (sym adds.1) (read_same (Err d) reads)
 
@@ -174,14 +174,14 @@ module _ (limit : ℕ) (f : FilesState) (sources : Sources) (cursors : Cursors) 
     pub attaches_ok : IsDesk limit f sources cursors → (count : ℕ) → AttachesFile limit source path ty (Ok count) sources sources' f g → Attached (Ok count) unread
     attaches_ok desk count a = by a.kept a.reads a.adds
       where
-        by : (kept : Result (ℕ × ℕ) DriverError) → ReadsFile limit path (item_ty ty) kept f g → Adds source path ty kept (Ok count) sources sources' → Attached (Ok count) unread
-        by (Ok (bytes, n)) reads adds = subst (λ n. Attached (Ok n) unread) (sym adds.0) (attach_done limit path ty source f g sources cursors asked handed drifts bytes n reads unread sources' desk adds.1)
+        by : (kept : Result Kept DriverError) → ReadsFile limit path (item_ty ty) kept f g → Adds source path ty kept (Ok count) sources sources' → Attached (Ok count) unread
+        by (Ok kept) reads adds = subst (λ n. Attached (Ok n) unread) (sym adds.0) (attach_done limit path ty source f g sources cursors asked handed drifts kept reads unread sources' desk adds.1)
         by (Err e) reads adds = absurd adds
 
     pub attaches_err : IsDesk limit f sources cursors → unread < 2 ^ 64 → (e : DriverError) (unread' : ℕ) → AttachesFile limit source path ty (Err e) sources sources' f g → unread' ≡ unread_by e unread → Attached (Err e) unread'
     attaches_err desk fits e unread' a counted = by a.kept a.reads a.adds
       where
-        by : (kept : Result (ℕ × ℕ) DriverError) → ReadsFile limit path (item_ty ty) kept f g → Adds source path ty kept (Err e) sources sources' → Attached (Err e) unread'
+        by : (kept : Result Kept DriverError) → ReadsFile limit path (item_ty ty) kept f g → Adds source path ty kept (Err e) sources sources' → Attached (Err e) unread'
         by (Ok kept) reads adds =
             let none : unread' ≡ unread = counted ∙ ap (λ d. unread_by d unread) adds.0 in
             let made = attach_stopped limit path ty source f g sources cursors asked handed drifts unread fits desk kept reads in

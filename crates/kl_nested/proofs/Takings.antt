@@ -1,30 +1,34 @@
 -- The next rows of a source that was read so far.
 use Rattle.std.proofs.Common.{◌≡◌, ◌≢◌, inl, inr, ℕ, ◌+◌, ◌<◌, ◌≤◌, true, false, List, [], ◌∷◌, ◌++◌, length, drop, Option, Some, None, IsErrOf, IsSome, Result, Ok, Err, refl, sym, ap, subst, ◌∙◌, arith, append_assoc, length-append}
+use Rattle.std.proofs.lemmas.Bool.{false≢true}
 use Rattle.std.proofs.lemmas.Option.{same_Some}
 use Rattle.kl_value.specs.declared.Value.{Value}
 use Rattle.kl_type.specs.Has.{has_type}
 use Rattle.kl_type.specs.declared.ground.Ty.{Ty}
 use Rattle.kl_outside.specs.Files.{FilesState, left_at_first, seen_in}
-use Rattle.kl_exchange.specs.FileItems.{FileEnd, WholeText, BadAt, TooDeepAt, PastLimit, Shows}
-use Rattle.kl_exchange.specs.FileReading.{AsSeen, FileReading, HasRead, HasSeen, EndsSo, Left, NextItem, Stands}
+use Rattle.kl_exchange.specs.FileItems.{FileEnd, WholeText, BadAt, TooDeepAt, PastLimit}
+use Rattle.kl_exchange.specs.FileReading.{Left}
 use Rattle.kl_exchange.specs.declared.error.FileError.{FileError}
 use Rattle.kl_exchange.specs.declared.error.FileError.TheVariants as fault
-use Rattle.kl_exchange.proofs.FileItems.{one_showing}
-use Rattle.kl_exchange.proofs.FileReading.{first_shown}
+use Rattle.kl_heads.specs.FileReading.{AsSeen, EndsSo, HasRead, HeadedFile, NextItem, Stands, limit_of, place_of}
+use Rattle.kl_heads.specs.Files.{Shows}
+use Rattle.kl_heads.specs.Found.{file_text}
 use Rattle.kl_ask.specs.Driver.{CountsFault, Rows, rows_in}
 use Rattle.kl_ask.specs.declared.ask.Drift.TheVariants as drift
 use Rattle.kl_ask.specs.declared.ask.DriverError.{DriverError}
 use Rattle.kl_ask.specs.declared.ask.DriverError.TheVariants as error
-use Rattle.kl_nested.specs.Contents.{item_ty, stored_of}
-use Rattle.kl_nested.specs.Desk.{HasTaken, IsKept}
+use Rattle.kl_nested.specs.Contents.{head_as, item_ty, stored_of}
+use Rattle.kl_nested.specs.Desk.{HasReadOf, HasTaken, IsKept}
 use Rattle.kl_nested.specs.Handing.{AllHave, HasBytes, MeetsEnd, Pushes, ReadsOne, Refuses, TakesRow, changed_as, unread_as}
-use Rattle.kl_nested.specs.Nested.{Tells, rows_at}
+use Rattle.kl_nested.specs.Nested.{Tells, rows_at, stated_of}
 use Rattle.kl_nested.specs.Reading.{NextRow, RowOf, SaysWhether, SkipsRow}
 use Rattle.kl_nested.specs.declared.parts.Source.{Source}
 use Rattle.kl_nested.specs.declared.rows.Halt.{Halt}
 use Rattle.kl_nested.specs.declared.rows.Halt.TheVariants as halt
 use Rattle.kl_nested.proofs.Collections.{last_typed}
-use Rattle.kl_nested.proofs.Shown.{all_shown, bytes_shown, fewer_shown, misfit_shown, more_shown, past_shown, unread_shown}
+use Rattle.kl_heads.proofs.OneEnd.{one_text}
+use Rattle.kl_heads.proofs.Shown.{first_shown}
+use Rattle.kl_nested.proofs.Shown.{all_shown, bytes_shown, fewer_shown, misfit_shown, more_shown, past_shown, read_to_end, unread_shown}
 use Rattle.kl_nested.proofs.Standings.{holds}
 
 -- ---- lists
@@ -37,13 +41,27 @@ have_at : (t : Ty) (vs : List Value) (v : Value) (us : List Value) → AllHave t
 have_at t [] v us h = h.0
 have_at t (w ∷ vs) v us h = have_at t vs v us h.1
 
+-- ---- heads
+
+-- a head is known by how it is told
+pub same_head : (a b : Option Ty) → head_as a ≡ head_as b → a ≡ b
+same_head None None h = refl
+same_head (Some t) (Some u) h = cc
+same_head None (Some u) h = absurd cc
+same_head (Some t) None h = absurd cc
+
+-- behind the head
+pub behind_head : (s : Source) (values : List Value) (now : HeadedFile) (first left : Left) → now.front ≡ false → HasReadOf s values now first left → HasRead first (stated_of s) values now left
+behind_head s values now first left known (inl opened) = absurd (false≢true (sym known ∙ opened.1.unknown))
+behind_head s values now first left known (inr has) = has
+
 -- ---- what is told of a source
 
 -- the rows of a source that is as it was kept
 pub record Knows (limit : ℕ) (told : Tells) (s : Source) (all : List Value) : Type 0 where
   pub bytes : List ℕ
   pub first : Some (left_at_first told s.path) ≡ Some (Some bytes)
-  pub shows : Shows limit bytes all WholeText
+  pub shows : Shows limit bytes (stated_of s) all WholeText
   pub have : AllHave (item_ty s.ty) all
   pub count : s.count ≡ length all
   pub size : s.bytes ≡ length bytes
@@ -59,7 +77,7 @@ module _ (limit : ℕ) (told : Tells) (s : Source) (kept : IsKept limit told s) 
         record {
           bytes = k.0;
           first = ap Some (ap (λ t. left_at_first t s.path) is ∙ k.2);
-          shows = h.0;
+          shows = subst (λ o. Shows limit k.0 o k.1 WholeText) (same_head (file_text limit k.0).head (stated_of s) k.6) h.0;
           have = h.1;
           count = k.4;
           size = k.5;
@@ -84,7 +102,7 @@ module _ (limit : ℕ) (told : Tells) (s : Source) (kept : IsKept limit told s) 
 
 -- ---- one read
 
-module _ (limit : ℕ) (s : Source) (taken : ℕ) (now then : FileReading) (f f' : FilesState) (kept : IsKept limit f.told s) (so_far : HasTaken limit s taken now f) where
+module _ (limit : ℕ) (s : Source) (taken : ℕ) (now then : HeadedFile) (f f' : FilesState) (kept : IsKept limit f.told s) (so_far : HasTaken limit s taken now f) (behind : now.front ≡ false) where
   module _ (found : Result (Option Value) FileError) (next : NextItem found now then f f') where
     pub reads_one : ReadsOne now then f f'
     reads_one = record {
@@ -94,7 +112,7 @@ module _ (limit : ℕ) (s : Source) (taken : ℕ) (now then : FileReading) (f f'
       others_seen = next.leaves.others_seen;
       more = next.leaves.more;
       later = next.leaves.later;
-      same_file = ap (λ r. r.file) next.same;
+      same_file = next.same.file;
     }
 
     -- no read failed
@@ -102,27 +120,30 @@ module _ (limit : ℕ) (s : Source) (taken : ℕ) (now then : FileReading) (f f'
     well_read r is well = next.leaves.well (subst (λ r. IsErrOf r fault.Read → ⊥) (sym is) well)
 
     -- as it stands in what was read
-    as_seen : (r : Result (Option Value) FileError) → found ≡ r → AsSeen (λ first left. Stands first so_far.values r then left) then (seen_in f' now.file)
-    as_seen r is = subst (λ r. AsSeen (λ first left. Stands first so_far.values r then left) then (seen_in f' now.file)) is (next.sees so_far.values so_far.has_seen)
+    as_seen : (r : Result (Option Value) FileError) → found ≡ r → AsSeen (λ first left. Stands first (stated_of s) so_far.values r then left) then (seen_in f' now.items.file)
+    as_seen r is = subst (λ r. AsSeen (λ first left. Stands first (stated_of s) so_far.values r then left) then (seen_in f' now.items.file)) is
+        (next.sees (stated_of s) so_far.values (λ q e. let h = so_far.has_seen q e in (behind_head s so_far.values now (Some (Some q.bytes)) (Some (Some [])) behind h.0, h.1)))
 
     abbrev first : Left
     first = Some (left_at_first f.told s.path)
 
-    stands : (r : Result (Option Value) FileError) → found ≡ r → Stands first so_far.values r then (f'.left now.file)
-    stands r is = subst (λ r. Stands first so_far.values r then (f'.left now.file)) is (next.goes first so_far.values so_far.has_read)
+    stands : (r : Result (Option Value) FileError) → found ≡ r → Stands first (stated_of s) so_far.values r then (f'.left now.items.file)
+    stands r is = subst (λ r. Stands first (stated_of s) so_far.values r then (f'.left now.items.file)) is
+        (next.goes first (stated_of s) so_far.values (behind_head s so_far.values now first (f.left now.items.file) behind so_far.has_read))
 
-    limit_on : then.limit ≡ limit
-    limit_on = ap (λ r. r.limit) next.same ∙ so_far.same_limit
+    limit_on : limit_of then ≡ limit
+    limit_on = next.same.limit ∙ so_far.same_limit
 
     -- the reader after it
-    has_taken : (n : ℕ) (values : List Value) → n ≡ length values → HasRead first values then (f'.left now.file) → HasSeen values then (seen_in f' now.file) → HasTaken limit s n then f'
+    has_taken : (n : ℕ) (values : List Value) → n ≡ length values → HasRead first (stated_of s) values then (f'.left now.items.file)
+        → AsSeen (λ first left. HasRead first (stated_of s) values then left) then (seen_in f' now.items.file) → HasTaken limit s n then f'
     has_taken n values counted read seen = record {
       values = values;
-      has_seen = subst (λ k. HasSeen values then (seen_in f' k)) (sym (ap (λ r. r.file) next.same)) seen;
+      has_seen = subst (λ k. AsSeen (HasReadOf s values then) then (seen_in f' k)) (sym next.same.file) (λ q e. let h = seen q e in (inr h.0, h.1));
       has_read =
-          subst (λ k. HasRead (Some (left_at_first f'.told s.path)) values then (f'.left k)) (sym (ap (λ r. r.file) next.same))
-          (subst (λ t. HasRead (Some (left_at_first t s.path)) values then (f'.left now.file)) (sym next.leaves.told) read);
-      is_open = subst (λ k. IsSome (f'.left k)) (sym (ap (λ r. r.file) next.same)) next.leaves.is_open;
+          subst (λ k. HasReadOf s values then (Some (left_at_first f'.told s.path)) (f'.left k)) (sym next.same.file)
+          (subst (λ t. HasReadOf s values then (Some (left_at_first t s.path)) (f'.left now.items.file)) (sym next.leaves.told) (inr read));
+      is_open = subst (λ k. IsSome (f'.left k)) (sym next.same.file) next.leaves.is_open;
       counted = counted;
       same_limit = limit_on;
     }
@@ -135,9 +156,9 @@ module _ (limit : ℕ) (s : Source) (taken : ℕ) (now then : FileReading) (f f'
     -- it is the next one of those that are told
     the_next : (v : Value) → found ≡ Ok (Some v) → (all : List Value) → Knows limit f.told s all → (us : List Value) × (all ≡ so_far.values ++ v ∷ us)
     the_next v is all k =
-        let shows : Shows then.limit k.bytes all WholeText = subst (λ n. Shows n k.bytes all WholeText) (sym limit_on) k.shows in
-        let front = first_shown first (so_far.values ++ v ∷ []) all then (f'.left now.file) k.bytes WholeText (stands (Ok (Some v)) is) k.first shows in
-        (front.0, front.1 ∙ append_assoc so_far.values (v ∷ []) front.0)
+        let shows : Shows (limit_of then) k.bytes (stated_of s) all WholeText = subst (λ n. Shows n k.bytes (stated_of s) all WholeText) (sym limit_on) k.shows in
+        let front = (first_shown first (stated_of s) (stated_of s) (so_far.values ++ v ∷ []) all then (f'.left now.items.file) k.bytes WholeText (stands (Ok (Some v)) is) k.first shows) in
+        (front.1.0, front.1.1 ∙ append_assoc so_far.values (v ∷ []) front.1.0)
 
     pub next_told : (v : Value) → found ≡ Ok (Some v) → (all : List Value) → rows_at limit f.told s ≡ Some all → drop taken all ≡ v ∷ drop (taken + 1) all
     next_told v is all rows =
@@ -164,49 +185,45 @@ module _ (limit : ℕ) (s : Source) (taken : ℕ) (now then : FileReading) (f f'
         let b = k.count in
         omega arith)
 
-    one_end : (end : FileEnd) → EndsSo first so_far.values end then (f'.left now.file) → (all : List Value) → Knows limit f.told s all → (so_far.values ≡ all) × (end ≡ WholeText)
-    one_end end so all k = one_showing limit k.bytes so_far.values all end WholeText (subst (λ n. Shows n k.bytes so_far.values end) limit_on (so.1 k.bytes k.first)) k.shows
+    one_end : (end : FileEnd) → EndsSo first (stated_of s) so_far.values end then → (all : List Value) → Knows limit f.told s all → (so_far.values ≡ all) × (end ≡ WholeText)
+    one_end end so all k =
+        let one = one_text limit k.bytes (stated_of s) (stated_of s) so_far.values all end WholeText (subst (λ n. Shows n k.bytes (stated_of s) so_far.values end) limit_on (so k.bytes k.first).0) k.shows in
+        one.1
 
     pub fewer_untold : found ≡ Ok None → taken < s.count → f.told ≡ None
     fewer_untold is less = untold limit f.told s kept (λ all k.
-        let one = one_end WholeText (stands (Ok None) is) all k in
+        let one = one_end WholeText (stands (Ok None) is).1 all k in
         let size : length so_far.values ≡ length all = ap length one.0 in
         let a = so_far.counted in
         let b = k.count in
         omega arith)
 
-    pub size_untold : (size : ℕ) → found ≡ Ok None → then.text.finished ≡ true → size ≡ then.text.place + length then.text.left → size ≢ s.bytes → f.told ≡ None
+    pub size_untold : (size : ℕ) → found ≡ Ok None → then.items.text.finished ≡ true → size ≡ place_of then + length then.items.text.left → size ≢ s.bytes → f.told ≡ None
     size_untold size is finished total other = untold limit f.told s kept (λ all k.
-        let so : EndsSo first so_far.values WholeText then (f'.left now.file) = stands (Ok None) is in
-        let r = so.0.remains k.bytes k.first in
-        let a : length k.bytes ≡ length (so.0.read ++ then.text.left) + length (r.beyond ++ r.behind) = ap length r.whole ∙ length-append (so.0.read ++ then.text.left) (r.beyond ++ r.behind) in
-        let b : length (so.0.read ++ then.text.left) ≡ length so.0.read + length then.text.left = length-append so.0.read then.text.left in
-        let c : length (r.beyond ++ r.behind) ≡ 0 = ap length (r.end_met finished) in
-        let d = so.0.place in
-        let e = k.size in
-        other (omega arith))
+        let a = read_to_end k.bytes (stated_of s) so_far.values then (f'.left now.items.file) (subst (λ l. HasRead l (stated_of s) so_far.values then (f'.left now.items.file)) k.first (stands (Ok None) is).0) finished in
+        other (total ∙ sym a ∙ sym k.size))
 
     pub ended : found ≡ Ok None → HasTaken limit s taken then f'
-    ended is = let so : EndsSo first so_far.values WholeText then (f'.left now.file) = stands (Ok None) is in has_taken taken so_far.values so_far.counted so.0 (λ q e. let h = as_seen (Ok None) is q e in (h.0.0, h.1))
+    ended is = has_taken taken so_far.values so_far.counted (stands (Ok None) is).0 (λ q e. let h = as_seen (Ok None) is q e in (h.0.0, h.1))
 
-    not_whole : (end : FileEnd) → EndsSo first so_far.values end then (f'.left now.file) → (end ≡ WholeText → ⊥) → f.told ≡ None
+    not_whole : (end : FileEnd) → EndsSo first (stated_of s) so_far.values end then → (end ≡ WholeText → ⊥) → f.told ≡ None
     not_whole end so other = untold limit f.told s kept (λ all k. other (one_end end so all k).1)
 
-    pub unread_refuses : (n : ℕ) (e : FileError) → found ≡ Err e → Refuses limit s now.file n (unread_as limit s.bytes e) f f'
+    pub unread_refuses : (n : ℕ) (e : FileError) → found ≡ Err e → Refuses limit s now.items.file n (unread_as limit s.bytes e) f f'
     unread_refuses n (fault.Bad p) is = (
-      not_whole (BadAt p) (stands (Err (fault.Bad p)) is) (λ e. cc),
+      not_whole (BadAt p) (stands (Err (fault.Bad p)) is).1 (λ e. cc),
       tt,
-      unread_shown limit s then (seen_in f' now.file) so_far.values limit_on (BadAt p) p refl (λ h. h) (as_seen (Err (fault.Bad p)) is),
+      unread_shown limit s then (seen_in f' now.items.file) (stated_of s) so_far.values (BadAt p) p refl (λ bytes h. h) limit_on (λ q e. let h = as_seen (Err (fault.Bad p)) is q e in (h.0.1, h.1)),
     )
     unread_refuses n (fault.TooDeep p) is = (
-      not_whole (TooDeepAt p) (stands (Err (fault.TooDeep p)) is) (λ e. cc),
+      not_whole (TooDeepAt p) (stands (Err (fault.TooDeep p)) is).1 (λ e. cc),
       tt,
-      unread_shown limit s then (seen_in f' now.file) so_far.values limit_on (TooDeepAt p) p refl (λ h. h) (as_seen (Err (fault.TooDeep p)) is),
+      unread_shown limit s then (seen_in f' now.items.file) (stated_of s) so_far.values (TooDeepAt p) p refl (λ bytes h. h) limit_on (λ q e. let h = as_seen (Err (fault.TooDeep p)) is q e in (h.0.1, h.1)),
     )
     unread_refuses n fault.TooLong is = (
-      not_whole PastLimit (stands (Err fault.TooLong) is) (λ e. cc),
+      not_whole PastLimit (stands (Err fault.TooLong) is).1 (λ e. cc),
       (refl, (λ e. let a = kept.short in omega (arith, a, e)), inl refl),
-      past_shown limit s then (seen_in f' now.file) so_far.values limit_on (as_seen (Err fault.TooLong) is),
+      past_shown limit s then (seen_in f' now.items.file) (stated_of s) so_far.values limit_on (λ q e. let h = as_seen (Err fault.TooLong) is q e in (h.0.1, h.1)),
     )
     unread_refuses n fault.Read is = next.leaves.failed (rw is refl)
     unread_refuses n fault.NoMemory is = tt
@@ -232,11 +249,12 @@ module _ (limit : ℕ) (s : Source) (taken : ℕ) (now then : FileReading) (f f'
             w,
             record {
               appended = appended ∙ ap (λ x. into ++ x ∷ []) row.0;
-              typed = (last_typed s.ty _ so_far.values w (stands (Ok (Some w)) next (Ok (Some w)) refl).items row.1, tt);
+              typed = (last_typed s.ty _ so_far.values w (stands (Ok (Some w)) next (Ok (Some w)) refl).items.items row.1, tt);
               next = next_told (Ok (Some w)) next w refl;
             },
             one_more (Ok (Some w)) next w refl,
           );
+          behind = (stands (Ok (Some w)) next (Ok (Some w)) refl).known;
           same = tt;
           counts = well_read (Ok (Some w)) next (Ok (Some w)) refl (λ e. cc);
           cause = λ e is. absurd cc;
@@ -250,7 +268,7 @@ module _ (limit : ℕ) (s : Source) (taken : ℕ) (now then : FileReading) (f f'
     item_counts (Err e) v next row = absurd row
 
     no_room : (v : Value) → NextRow (item_ty s.ty) (Ok (Some v)) now then f f' → into' ≡ into → TakesRow limit s taken into into' (Err error.NoMemory) now then f f'
-    no_room v n same = record { reads = reads_one n.found n.next; row = tt; same = same; counts = item_counts n.found v n.next n.row; cause = λ e is. let k : e ≡ error.NoMemory = cc in subst (λ e. Refuses limit s now.file taken e f f') (sym k) tt }
+    no_room v n same = record { reads = reads_one n.found n.next; row = tt; behind = tt; same = same; counts = item_counts n.found v n.next n.row; cause = λ e is. let k : e ≡ error.NoMemory = cc in subst (λ e. Refuses limit s now.items.file taken e f f') (sym k) tt }
 
     pub pushed : (v : Value) (result : Result (Unit {0}) DriverError) → NextRow (item_ty s.ty) (Ok (Some v)) now then f f' → Pushes v into into' result → TakesRow limit s taken into into' result now then f f'
     pushed v (Ok done) n pushes = took v n pushes
@@ -263,14 +281,15 @@ module _ (limit : ℕ) (s : Source) (taken : ℕ) (now then : FileReading) (f f'
         by (Ok None) next row = record {
           reads = reads_one (Ok None) next;
           row = tt;
+          behind = tt;
           same = same;
           counts = well_read (Ok None) next (Ok None) refl (λ e. cc);
           cause = λ e is.
               let k : error.Changed (drift.Count s.count taken) ≡ e = cc in
-              subst (λ e. Refuses limit s now.file taken e f f') k (
+              subst (λ e. Refuses limit s now.items.file taken e f f') k (
                 fewer_untold (Ok None) next refl less,
                 (refl, refl, λ e. omega (arith, e, less)),
-                fewer_shown limit s then (seen_in f' now.file) so_far.values (limit_on (Ok None) next) (as_seen (Ok None) next (Ok None) refl) row taken so_far.counted,
+                fewer_shown limit s then (seen_in f' now.items.file) so_far.values (limit_on (Ok None) next) (as_seen (Ok None) next (Ok None) refl) row taken so_far.counted,
               );
         }
         by (Ok (Some v)) next row = absurd row
@@ -280,9 +299,10 @@ module _ (limit : ℕ) (s : Source) (taken : ℕ) (now then : FileReading) (f f'
     halted h e n same less is = record {
       reads = reads_one n.found n.next;
       row = tt;
+      behind = tt;
       same = same;
       counts = subst (λ d. CountsFault {T = Unit {0}} (Err d) f.faults f'.faults) (sym is) (counts n.found h n.next n.row);
-      cause = λ d at. let k : d ≡ changed_as limit s.bytes taken h = let j : d ≡ e = cc in j ∙ is in subst (λ d. Refuses limit s now.file taken d f f') (sym k) (by n.found h n.next n.row);
+      cause = λ d at. let k : d ≡ changed_as limit s.bytes taken h = let j : d ≡ e = cc in j ∙ is in subst (λ d. Refuses limit s now.items.file taken d f f') (sym k) (by n.found h n.next n.row);
     }
       where
         counts : (r : Result (Option Value) FileError) (h : Halt) → NextItem r now then f f' → RowOf (item_ty s.ty) r (Err h) then → CountsFault {T = Unit {0}} (Err (changed_as limit s.bytes taken h)) f.faults f'.faults
@@ -293,39 +313,39 @@ module _ (limit : ℕ) (s : Source) (taken : ℕ) (now then : FileReading) (f f'
         counts (Err e) halt.Misfit next row = absurd row
         counts (Err e) (halt.Unread why) next row = subst (λ w. CountsFault {T = Unit {0}} (Err (unread_as limit s.bytes w)) f.faults f'.faults) (sym row) (unread_counts (Err e) next e refl)
 
-        by : (r : Result (Option Value) FileError) (h : Halt) → NextItem r now then f f' → RowOf (item_ty s.ty) r (Err h) then → Refuses limit s now.file taken (changed_as limit s.bytes taken h) f f'
+        by : (r : Result (Option Value) FileError) (h : Halt) → NextItem r now then f f' → RowOf (item_ty s.ty) r (Err h) then → Refuses limit s now.items.file taken (changed_as limit s.bytes taken h) f f'
         by (Ok (Some v)) halt.Misfit next row = (
           misfit_untold (Ok (Some v)) next v refl row,
           (refl, less),
-          misfit_shown limit s then (seen_in f' now.file) so_far.values (limit_on (Ok (Some v)) next) v taken so_far.counted (as_seen (Ok (Some v)) next (Ok (Some v)) refl) row,
+          misfit_shown limit s then (seen_in f' now.items.file) so_far.values (limit_on (Ok (Some v)) next) v taken so_far.counted (as_seen (Ok (Some v)) next (Ok (Some v)) refl) row,
         )
         by (Ok (Some v)) (halt.Unread why) next row = absurd row
         by (Ok None) halt.Misfit next row = absurd row
         by (Ok None) (halt.Unread why) next row = absurd row
         by (Err e) halt.Misfit next row = absurd row
-        by (Err e) (halt.Unread why) next row = subst (λ w. Refuses limit s now.file taken (unread_as limit s.bytes w) f f') (sym row) (unread_refuses (Err e) next taken e refl)
+        by (Err e) (halt.Unread why) next row = subst (λ w. Refuses limit s now.items.file taken (unread_as limit s.bytes w) f f') (sym row) (unread_refuses (Err e) next taken e refl)
 
 -- ---- the end
 
-module _ (limit : ℕ) (s : Source) (now then : FileReading) (f f' : FilesState) (kept : IsKept limit f.told s) (so_far : HasTaken limit s s.count now f) where
-  met : (r : Result (Option Value) FileError) (e : DriverError) → NextItem r now then f f' → CountsFault {T = Unit {0}} (Err e) f.faults f'.faults → Refuses limit s now.file (s.count + 1) e f f'
+module _ (limit : ℕ) (s : Source) (now then : HeadedFile) (f f' : FilesState) (kept : IsKept limit f.told s) (so_far : HasTaken limit s s.count now f) (behind : now.front ≡ false) where
+  met : (r : Result (Option Value) FileError) (e : DriverError) → NextItem r now then f f' → CountsFault {T = Unit {0}} (Err e) f.faults f'.faults → Refuses limit s now.items.file (s.count + 1) e f f'
       → MeetsEnd limit s (Err e) now then f f'
   met r e next counts cause = record {
-    reads = reads_one limit s s.count now then f f' kept so_far r next;
+    reads = reads_one limit s s.count now then f f' kept so_far behind r next;
     taken = tt;
     all = tt;
     counts = counts;
-    cause = λ d is. let k : e ≡ d = cc in subst (λ d. Refuses limit s now.file (s.count + 1) d f f') k cause;
+    cause = λ d is. let k : e ≡ d = cc in subst (λ d. Refuses limit s now.items.file (s.count + 1) d f f') k cause;
   }
 
   abbrev one_more_counted : DriverError
   one_more_counted = error.Changed (drift.Count s.count (s.count + 1))
 
   meets_item : (v : Value) → NextItem (Ok (Some v)) now then f f' → MeetsEnd limit s (Err one_more_counted) now then f f'
-  meets_item v next = met (Ok (Some v)) one_more_counted next (well_read limit s s.count now then f f' kept so_far (Ok (Some v)) next (Ok (Some v)) refl (λ e. cc)) (
-    more_untold limit s s.count now then f f' kept so_far (Ok (Some v)) next v refl (omega arith),
+  meets_item v next = met (Ok (Some v)) one_more_counted next (well_read limit s s.count now then f f' kept so_far behind (Ok (Some v)) next (Ok (Some v)) refl (λ e. cc)) (
+    more_untold limit s s.count now then f f' kept so_far behind (Ok (Some v)) next v refl (omega arith),
     (refl, refl, λ e. omega (arith, e)),
-    more_shown limit s then (seen_in f' now.file) so_far.values (limit_on limit s s.count now then f f' kept so_far (Ok (Some v)) next) v so_far.counted (as_seen limit s s.count now then f f' kept so_far (Ok (Some v)) next (Ok (Some v)) refl),
+    more_shown limit s then (seen_in f' now.items.file) so_far.values (limit_on limit s s.count now then f f' kept so_far behind (Ok (Some v)) next) v so_far.counted (as_seen limit s s.count now then f f' kept so_far behind (Ok (Some v)) next (Ok (Some v)) refl),
   )
 
   row_met : (v : Value) → NextRow (item_ty s.ty) (Ok (Some v)) now then f f' → MeetsEnd limit s (Err one_more_counted) now then f f'
@@ -356,7 +376,7 @@ module _ (limit : ℕ) (s : Source) (now then : FileReading) (f f' : FilesState)
     λ is. absurd cc,
     λ d is.
         let same : e ≡ d = sym row ∙ (let k : why ≡ d = cc in k) in
-        subst (λ d. MeetsEnd limit s (Err (unread_as limit s.bytes d)) now then f f') same (met (Err e) (unread_as limit s.bytes e) next (unread_counts limit s s.count now then f f' kept so_far (Err e) next e refl) (unread_refuses limit s s.count now then f f' kept so_far (Err e) next (s.count + 1) e refl)),
+        subst (λ d. MeetsEnd limit s (Err (unread_as limit s.bytes d)) now then f f') same (met (Err e) (unread_as limit s.bytes e) next (unread_counts limit s s.count now then f f' kept so_far behind (Err e) next e refl) (unread_refuses limit s s.count now then f f' kept so_far behind (Err e) next (s.count + 1) e refl)),
   )
 
   skip_halted : (h : Halt) → SkipsRow (item_ty s.ty) (Err h) now then f f'
@@ -379,7 +399,7 @@ module _ (limit : ℕ) (s : Source) (now then : FileReading) (f f' : FilesState)
   meets_fault e d skips is = subst (λ d. MeetsEnd limit s (Err d) now then f f') (sym is) ((skip_halted (halt.Unread e) skips).1 e refl)
 
   -- the end, with these bytes
-  pub meets_end : (result : Result (Unit {0}) DriverError) (size : ℕ) → SkipsRow (item_ty s.ty) (Ok false) now then f f' → size ≡ then.text.place + length then.text.left → HasBytes s.bytes size result
+  pub meets_end : (result : Result (Unit {0}) DriverError) (size : ℕ) → SkipsRow (item_ty s.ty) (Ok false) now then f f' → size ≡ place_of then + length then.items.text.left → HasBytes s.bytes size result
       → MeetsEnd limit s result now then f f'
   meets_end result size skips total has = by skips.row skips.next skips.says
     where
@@ -387,24 +407,24 @@ module _ (limit : ℕ) (s : Source) (now then : FileReading) (f f' : FilesState)
       Met result = MeetsEnd limit s result now then f f'
 
       well_so : NextItem (Ok None) now then f f' → f'.faults ≡ f.faults
-      well_so next = well_read limit s s.count now then f f' kept so_far (Ok None) next (Ok None) refl (λ e. cc)
+      well_so next = well_read limit s s.count now then f f' kept so_far behind (Ok None) next (Ok None) refl (λ e. cc)
 
-      seen_so : NextItem (Ok None) now then f f' → AsSeen (λ first left. EndsSo first so_far.values WholeText then left) then (seen_in f' now.file)
-      seen_so next = as_seen limit s s.count now then f f' kept so_far (Ok None) next (Ok None) refl
+      seen_so : NextItem (Ok None) now then f f' → AsSeen (λ first left. HasRead first (stated_of s) so_far.values then left × EndsSo first (stated_of s) so_far.values WholeText then) then (seen_in f' now.items.file)
+      seen_so next = as_seen limit s s.count now then f f' kept so_far behind (Ok None) next (Ok None) refl
 
-      at : (result : Result (Unit {0}) DriverError) → NextItem (Ok None) now then f f' → then.text.finished ≡ true → HasBytes s.bytes size result → Met result
+      at : (result : Result (Unit {0}) DriverError) → NextItem (Ok None) now then f f' → then.items.text.finished ≡ true → HasBytes s.bytes size result → Met result
       at (Ok done) next finished has = record {
-        reads = reads_one limit s s.count now then f f' kept so_far (Ok None) next;
-        taken = ended limit s s.count now then f f' kept so_far (Ok None) next refl;
-        all = all_shown limit s then (seen_in f' now.file) so_far.values (limit_on limit s s.count now then f f' kept so_far (Ok None) next) (seen_so next) finished size so_far.counted total has;
+        reads = reads_one limit s s.count now then f f' kept so_far behind (Ok None) next;
+        taken = ended limit s s.count now then f f' kept so_far behind (Ok None) next refl;
+        all = all_shown limit s then (seen_in f' now.items.file) so_far.values (limit_on limit s s.count now then f f' kept so_far behind (Ok None) next) (seen_so next) finished size so_far.counted total has;
         counts = well_so next;
         cause = λ e is. absurd cc;
       }
       at (Err e) next finished has = subst (λ e. Met (Err e)) (sym has.0)
           (met (Ok None) (error.Changed (drift.Bytes s.bytes size)) next (well_so next) (
-            size_untold limit s s.count now then f f' kept so_far (Ok None) next size refl finished total has.1,
+            size_untold limit s s.count now then f f' kept so_far behind (Ok None) next size refl finished total has.1,
             (refl, has.1, inr refl),
-            bytes_shown limit s then (seen_in f' now.file) so_far.values (limit_on limit s s.count now then f f' kept so_far (Ok None) next) (seen_so next) finished size so_far.counted total,
+            bytes_shown limit s then (seen_in f' now.items.file) so_far.values (limit_on limit s s.count now then f f' kept so_far behind (Ok None) next) (seen_so next) finished size so_far.counted total,
           ))
 
       item : (r : Result (Option Value) FileError) → NextItem r now then f f' → RowOf (item_ty s.ty) r (Ok None) then → Met result

@@ -4,8 +4,12 @@ use Rattle.kl_value.specs.declared.Value.{Value}
 use Rattle.kl_type.specs.Has.{has_type}
 use Rattle.kl_type.specs.declared.ground.Ty.{Ty, Ty-F, out-Ty}
 use Rattle.kl_exchange.specs.FileItems.{FileEnd, WholeText, BadAt, TooDeepAt, PastLimit}
-use Rattle.kl_exchange.specs.Found.{FileItem, Found, file_items, values_of}
+use Rattle.kl_exchange.specs.Found.{FileItem, values_of}
+use Rattle.kl_heads.specs.Found.{FileText, file_text}
+use Rattle.kl_heads.specs.Stated.{states_no_other}
 use Rattle.kl_ask.specs.Driver.{Behind, Nothing, StopsAt, Beyond, Spelt, Stored, Missing, Bad, Long, Deep, Rows}
+use Rattle.kl_ask.specs.declared.ask.Head.{Head}
+use Rattle.kl_ask.specs.declared.ask.Head.TheVariants as head
 
 abbrev pub item_layer : Ty → Ty-F Ty → Ty
 item_layer t (Ty-F.Coll k u) = u
@@ -26,14 +30,21 @@ stored_behind limit vs (BadAt place) = Bad place
 stored_behind limit vs (TooDeepAt place) = Deep place
 stored_behind limit vs PastLimit = Long limit
 
-abbrev pub stored_unless : ℕ → Option ℕ → Found → Stored
+abbrev pub stored_unless : ℕ → Option ℕ → FileText → Stored
 stored_unless limit None f = stored_behind limit (values_of f.items) f.behind
 stored_unless limit (Some place) f = Bad place
 
--- Of a file at most `limit` bytes are looked at. Whichever stands first in it counts: an item that lacks the type makes it
--- unreadable at the number of bytes of the items before it.
+abbrev pub stored_as : ℕ → Ty → FileText → Stored
+stored_as limit item f = cond (states_no_other item f.head) (stored_unless limit (first_misfit item f.items) f) (Bad 0)
+
+-- Of a file at most `limit` bytes are looked at. Whichever stands first in it counts: a head of another type makes it unreadable at
+-- 0, an item that lacks the type at the number of bytes of the head and the items before it.
 abbrev pub stored_in : ℕ → List ℕ → Ty → Stored
-stored_in limit bytes item = stored_unless limit (first_misfit item (file_items limit bytes).items) (file_items limit bytes)
+stored_in limit bytes item = stored_as limit item (file_text limit bytes)
+
+abbrev pub head_as : Option Ty → Head
+head_as None = head.Absent
+head_as (Some t) = head.Stated t
 
 -- what stands behind the items
 abbrev pub behind_of : FileEnd → Behind
@@ -44,7 +55,11 @@ behind_of PastLimit = Beyond
 
 -- what bytes spell, of which at most `limit` are looked at
 abbrev pub spelt_in : ℕ → List ℕ → Spelt
-spelt_in limit bytes = record { items = values_of (file_items limit bytes).items; behind = behind_of (file_items limit bytes).behind }
+spelt_in limit bytes = record {
+  head = head_as (file_text limit bytes).head;
+  items = values_of (file_text limit bytes).items;
+  behind = behind_of (file_text limit bytes).behind;
+}
 
 -- what stands at a path, read as a collection of a type
 abbrev pub stored_of : ℕ → Option (List ℕ) → Ty → Stored

@@ -1,5 +1,5 @@
 -- What a driver of files of values means.
-use Rattle.std.specs.Prelude.{Bool, true, false, ℕ, ◌-◌, List, [], Option, Some, None, codes, drop}
+use Rattle.std.specs.Prelude.{Bool, true, false, ℕ, ◌-◌, List, [], Option, Some, None, codes, cond, drop}
 use Rattle.std.specs.Option.{option_map}
 use Rattle.kl_value.specs.declared.Value.{Value}
 use Rattle.kl_type.specs.Ground.{ground_of}
@@ -10,7 +10,8 @@ use Rattle.kl_ask.specs.Cursors.{open_at}
 use Rattle.kl_ask.specs.Named.{NamedSources, source_named}
 use Rattle.kl_ask.specs.Driver.{State, DriverKind, ReadSoFar, Source as Attached, Cursor, stored_by, told_rows}
 use Rattle.kl_ask.specs.declared.ask.Ask.{Ask}
-use Rattle.kl_nested.specs.Contents.{contents_of, spelt_in}
+use Rattle.kl_ask.specs.declared.ask.Head.{Head}
+use Rattle.kl_nested.specs.Contents.{contents_of, head_as, item_ty, spelt_in}
 use Rattle.kl_nested.specs.declared.parts.Source.{Source}
 use Rattle.kl_nested.specs.declared.parts.Open.{Open}
 
@@ -43,8 +44,20 @@ Sources = NamedSources Source
 abbrev pub rows_at : ℕ → Tells → Source → Option (List Value)
 rows_at limit told s = told_rows (stored_by (contents_of limit told) s.path s.ty)
 
+-- the type that the file of a source stated when it was attached, which is that of its items
+abbrev pub stated_of : Source → Option Ty
+stated_of s = cond s.stated (Some (item_ty s.ty)) None
+
+abbrev pub head_of : Source → Head
+head_of s = head_as (stated_of s)
+
 abbrev pub attached_of : ℕ → Tells → Source → Attached
-attached_of limit told s = record { ty = s.ty; rows = rows_at limit told s; count = s.count; kept = Some s.bytes }
+attached_of limit told s = record {
+  ty = s.ty;
+  rows = rows_at limit told s;
+  count = s.count;
+  kept = Some (record { bytes = s.bytes; head = head_of s });
+}
 
 -- the rows that a cursor has not handed are those behind the first ones, which it took
 abbrev pub cursor_of : ℕ → Tells → Open → Cursor

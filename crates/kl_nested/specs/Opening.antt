@@ -1,5 +1,5 @@
 -- Steps of opening a cursor. No public contract cites this.
-use Rattle.std.specs.Prelude.{◌≡◌, ◌⊎◌, ℕ, ◌≤◌, false, List, [], ◌∷◌, ◌++◌, Option, Some, None, IsSome, Result, Err, IfOk, OnOk, OnErr}
+use Rattle.std.specs.Prelude.{◌≡◌, ◌⊎◌, ℕ, ◌≤◌, true, false, List, [], ◌∷◌, ◌++◌, Option, Some, None, IsSome, Result, Err, IfOk, OnOk, OnErr}
 use Rattle.std.specs.Prelude.{IsErrOf}
 use Rattle.kl_base.specs.Counts.{Rose}
 use Rattle.std.specs.Option.{option_map}
@@ -25,10 +25,13 @@ pub record OpensOver (limit : ℕ) (source : Source) (ask : Ask) (old new : File
   pub source_is : o.source ≡ source
   pub ask_is : o.ask ≡ ask
   pub none_taken : o.taken ≡ 0
-  pub text : o.reader.text ≡ reading 0 [] false
-  pub unpast : o.reader.past ≡ false
-  pub same_file : o.reader.file ≡ o.file
-  pub same_limit : o.reader.limit ≡ limit
+  pub front : o.reader.front ≡ true
+  pub size : o.reader.head ≡ 0
+  pub fresh : o.reader.refused ≡ None
+  pub text : o.reader.items.text ≡ reading 0 [] false
+  pub unpast : o.reader.items.past ≡ false
+  pub same_file : o.reader.items.file ≡ o.file
+  pub same_limit : o.reader.items.limit ≡ limit
   pub free : old.left o.file ≡ None
   pub left : new.left o.file ≡ Some (left_at_first old.told source.path)
   pub others : OtherFiles o.file old new

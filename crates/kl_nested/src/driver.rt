@@ -22,14 +22,18 @@ use std::alloc::Global;
 use std::collections::HashMap;
 use std::marker::Model;
 
-/// A driver over files of values. A locator is the path of an exchange file, whose items are the rows. The file is read
-/// through when its source is attached, and each cursor opens it anew and reads it at its own place, so that no rows are
-/// held but those that were handed. A file is open as long as its cursor is, and no other is.
+/// A driver over files of values. A locator is the path of an exchange file, whose items are the rows; where it has a head,
+/// that states the type of the source's items. The file is read through when its source is attached, and each cursor opens
+/// it anew and reads it at its own place, so that no rows are held but those that were handed. A file is open as long as
+/// its cursor is, and no other is.
 ///
 /// It tells its contents exactly where its files tell their bytes, and its count of faults is theirs. Its count of sources
-/// that it could not read rises where an item is none or lacks the type, nests too deep, or the file has too many bytes.
+/// that it could not read rises where the head or an item is none, nests too deep, states another type or lacks the type,
+/// or the file has too many bytes.
 /// Its count of drifts rises where a cursor finds that its file has changed since it was attached:
-/// - `Unread` tells the byte where no item goes on or the 257th bracket opens, in place of the next row or behind the last.
+/// - `Header` tells the head, or that there was none, and what stands in its place now.
+/// - `Unread` tells the byte where no head and no item goes on or the 257th bracket opens, in place of the next row or
+///   behind the last.
 /// - `Misfit` tells the number of the next item, which lacks the type.
 /// - `Count` tells how many items were read: where the file ended too early all that it has, and where it goes on one
 ///   more than were kept.
@@ -123,7 +127,7 @@ impl<F: Files + Drop> Driver for NestedDriver<F> {
         ) {
             Ok(count) => Ok(count),
             Err(error) => {
-                self.unread = unread_by(error, self.unread);
+                self.unread = unread_by(&error, self.unread);
                 Err(error)
             }
         }
@@ -154,6 +158,7 @@ impl<F: Files + Drop> Driver for NestedDriver<F> {
     fn pull(&mut self, cursor: u64, most: u32, into: &mut Vec<Value>) -> Result<bool, DriverError> {
         let cursor = cursor as usize;
         match hand_at(
+            self.alloc,
             &mut self.files,
             &mut self.cursors,
             cursor,
@@ -166,7 +171,7 @@ impl<F: Files + Drop> Driver for NestedDriver<F> {
                 Ok(count > 0)
             }
             Err(error) => {
-                self.drifts = drifts_by(error, self.drifts);
+                self.drifts = drifts_by(&error, self.drifts);
                 close_open(&mut self.files, &mut self.cursors, cursor);
                 Err(error)
             }
@@ -200,8 +205,8 @@ fn close_open<F: Files>(files: &mut F, cursors: &mut Vec<Option<Open>>, cursor: 
 }
 
 // The count of drifts after a refusal. It stands still at its greatest value.
-fn drifts_by(error: DriverError, drifts: u64) -> u64
-    ensures { result ≡ drifts_by error drifts }
+fn drifts_by(error: &DriverError, drifts: u64) -> u64
+    ensures { result ≡ drifts_by error.now drifts }
 {
     match error {
         DriverError::Changed { .. } => drifts.saturating_add(1),

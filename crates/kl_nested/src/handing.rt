@@ -1,17 +1,24 @@
 //! The rows that a cursor hands.
-ghost use Rattle.std.specs.Prelude.{◌≡◌, ◌<◌, ◌≤◌, ◌+◌, ◌^◌, IsSome, Some};
+ghost use Rattle.std.specs.Prelude.{◌≡◌, ◌<◌, ◌≤◌, ◌+◌, ◌^◌, false, IfOk, IsSome, Some};
 ghost use Rattle.kl_ask.specs.Cursors.{open_at};
+ghost use Rattle.kl_nested.specs.Contents.{head_as};
 ghost use Rattle.kl_nested.specs.declared.parts.Open.{Open as Opened};
 ghost use Rattle.kl_nested.specs.Desk.{HasTaken, IsKept, IsReading};
-ghost use Rattle.kl_nested.specs.Handing.{HandsAt, HasBytes, Hands, MeetsEnd, Pushes, TakesRow, TakesRows, changed_as, unread_as};
+ghost use Rattle.kl_nested.specs.Handing.{HandsAt, HasBytes, HasHead, Hands, MeetsEnd, PassesHead, Pushes};
+ghost use Rattle.kl_nested.specs.Handing.{TakesRow, TakesRows, changed_as, unread_as};
+ghost use Rattle.kl_nested.specs.Nested.{head_of};
 
 use crate::parts::{Open, Source};
 use crate::rows::{Halt, next_row, skip_row};
 use crate::types::item_of;
-use kl_ask::{Drift, DriverError};
-use kl_exchange::{FileError, FileReader};
+use kl_ask::{Drift, DriverError, Head};
+use kl_base::NoMemory;
+use kl_exchange::FileError;
+use kl_heads::{FileReader, states_no_other};
 use kl_outside::Files;
+use kl_type::Ty;
 use kl_value::Value;
+use std::alloc::Global;
 
 /// Appends the next rows of the cursor at a place, which then stands behind them, and says how many. Where none is left,
 /// the file has to end there, with as many bytes as were kept.
@@ -19,6 +26,7 @@ use kl_value::Value;
 /// # Errors
 /// `Failed` on a fault; `Changed`; `NoMemory`. No row is appended then, and the cursor is of no use any more.
 pub fn hand_at<F: Files>(
+    alloc: Global,
     files: &mut F,
     cursors: &mut Vec<Option<Open>>,
     cursor: usize,
@@ -36,11 +44,12 @@ pub fn hand_at<F: Files>(
     let Some(open) = &mut cursors[cursor] else {
         unreachable!()
     };
-    hand_next(files, open, limit, most, into)
+    hand_next(alloc, files, open, limit, most, into)
 }
 
 // Appends the next rows of a cursor.
 fn hand_next<F: Files>(
+    alloc: Global,
     files: &mut F,
     cursor: &mut Open,
     limit: u64,
@@ -53,6 +62,17 @@ fn hand_next<F: Files>(
     ensures { Hands limit most into.old.items into.new.items result cursor.old cursor.new (F.state files.old) (F.state files.new) }
 {
     let source = cursor.source.get();
+    match pass_head(
+        alloc,
+        files,
+        &mut cursor.reader,
+        source,
+        limit,
+        cursor.taken,
+    ) {
+        Ok(()) => {}
+        Err(error) => return Err(error),
+    }
     let left = source.count - cursor.taken;
     let count = left.min(u64::from(most));
     if count == 0 {
@@ -82,6 +102,66 @@ fn hand_next<F: Files>(
     }
 }
 
+// Reads the head over, where it was not yet. It has to be as it was when the source was attached.
+fn pass_head<F: Files>(
+    alloc: Global,
+    files: &mut F,
+    reader: &mut FileReader,
+    source: &Source,
+    limit: u64,
+    taken: u64,
+) -> Result<(), DriverError>
+    requires room { limit < 2 ^ 63 }
+    requires kept { IsKept limit (F.state files.old).told source.now }
+    requires so_far { HasTaken limit source.now taken reader.old (F.state files.old) }
+    ensures { PassesHead limit source.now taken result reader.old reader.new (F.state files.old) (F.state files.new) }
+{
+    if !reader.is_at_front() {
+        return Ok(());
+    }
+    match reader.head(files) {
+        Ok(found) => same_head(alloc, source, found),
+        Err(error) => Err(unread(error, limit, source.bytes)),
+    }
+}
+
+// The file states what it stated when the source was attached.
+fn same_head(alloc: Global, source: &Source, found: Option<Ty>) -> Result<(), DriverError>
+    ensures { HasHead source.now found result }
+{
+    if source.stated == found.is_some() && states_no_other(&found, item_of(&source.ty)) {
+        return Ok(());
+    }
+    let kept = kept_head(alloc, source)?;
+    Err(DriverError::Changed {
+        drift: Drift::Header {
+            kept,
+            found: head_as(found),
+        },
+    })
+}
+
+// What the file stated when the source was attached.
+fn kept_head(alloc: Global, source: &Source) -> Result<Head, NoMemory>
+    ensures { IfOk result (λ head. head ≡ head_of source.now) }
+{
+    if source.stated {
+        let ty = item_of(&source.ty).dup(alloc)?;
+        Ok(Head::Stated(ty))
+    } else {
+        Ok(Head::Absent)
+    }
+}
+
+fn head_as(found: Option<Ty>) -> Head
+    ensures { result ≡ head_as found }
+{
+    match found {
+        None => Head::Absent,
+        Some(ty) => Head::Stated(ty),
+    }
+}
+
 // Appends so many next rows of a source, of which so many were taken before.
 fn take_rows<F: Files>(
     files: &mut F,
@@ -96,6 +176,7 @@ fn take_rows<F: Files>(
     requires kept { IsKept limit (F.state files.old).told source.now }
     requires within { taken + count ≤ source.now.count }
     requires so_far { HasTaken limit source.now taken reader.old (F.state files.old) }
+    requires behind { reader.old.front ≡ false }
     ensures { TakesRows limit source.now taken count into.old.items into.new.items result reader.old reader.new (F.state files.old)
         (F.state files.new) }
 {
@@ -121,6 +202,7 @@ fn take_row<F: Files>(
     requires kept { IsKept limit (F.state files.old).told source.now }
     requires within { number < source.now.count }
     requires so_far { HasTaken limit source.now number reader.old (F.state files.old) }
+    requires behind { reader.old.front ≡ false }
     ensures { TakesRow limit source.now number into.old.items into.new.items result reader.old reader.new (F.state files.old)
         (F.state files.new) }
 {
@@ -153,6 +235,7 @@ fn meet_end<F: Files>(
     requires room { limit < 2 ^ 63 }
     requires kept { IsKept limit (F.state files.old).told source.now }
     requires so_far { HasTaken limit source.now source.now.count reader.old (F.state files.old) }
+    requires behind { reader.old.front ≡ false }
     ensures { MeetsEnd limit source.now result reader.old reader.new (F.state files.old) (F.state files.new) }
 {
     let more = DriverError::Changed {

@@ -7,7 +7,7 @@ use crate::parts::{Open, Source};
 use crate::through::{PIECE, stopped};
 use kl_ask::{Ask, DriverError, asked_source};
 use kl_base::{Label, Shared};
-use kl_exchange::FileReader;
+use kl_heads::FileReader;
 use kl_outside::Files;
 use std::alloc::Global;
 use std::collections::HashMap;

@@ -1,8 +1,9 @@
 //! The rows of an open file.
-ghost use Rattle.std.specs.Prelude.{IsSome};
+ghost use Rattle.std.specs.Prelude.{◌≡◌, false, IsSome};
 ghost use Rattle.kl_nested.specs.Reading.{NextRow, SkipsRow};
 
-use kl_exchange::{FileError, FileReader};
+use kl_exchange::FileError;
+use kl_heads::FileReader;
 use kl_outside::Files;
 use kl_type::{Ty, has};
 use kl_value::Value;
@@ -12,7 +13,7 @@ use kl_value::Value;
 pub enum Halt {
     /// The next item lacks the type.
     Misfit,
-    /// No item was read.
+    /// No head or no item was read.
     Unread(FileError),
 }
 
@@ -25,7 +26,8 @@ pub fn next_row<F: Files>(
     files: &mut F,
     item: &Ty,
 ) -> Result<Option<Value>, Halt>
-    requires { IsSome ((F.state files.old).left reader.old.file) }
+    requires is_open { IsSome ((F.state files.old).left reader.old.items.file) }
+    requires behind { reader.old.front ≡ false }
     ensures { NextRow item.now result reader.old reader.new (F.state files.old) (F.state files.new) }
 {
     match reader.next(files) {
@@ -46,7 +48,8 @@ pub fn next_row<F: Files>(
 /// # Errors
 /// The next item lacks the type, or none was read.
 pub fn skip_row<F: Files>(reader: &mut FileReader, files: &mut F, item: &Ty) -> Result<bool, Halt>
-    requires { IsSome ((F.state files.old).left reader.old.file) }
+    requires is_open { IsSome ((F.state files.old).left reader.old.items.file) }
+    requires behind { reader.old.front ≡ false }
     ensures { SkipsRow item.now result reader.old reader.new (F.state files.old) (F.state files.new) }
 {
     match next_row(reader, files, item) {

@@ -5,7 +5,7 @@ ghost use Rattle.std.specs.HashMap.{IsUnchanged, Updates};
 ghost use Rattle.kl_nested.specs.Reading.{AttachesFile};
 
 use crate::parts::Source;
-use crate::through::read_file;
+use crate::through::{Kept, read_file};
 use crate::types::item_of;
 use kl_ask::DriverError;
 use kl_base::{Label, NoMemory, Shared, Text};
@@ -31,42 +31,41 @@ pub fn attach_file<F: Files>(
     ensures { AttachesFile limit name.now path.now ty.now result sources.old sources.new (F.state files.old) (F.state files.new) }
 {
     match read_file(alloc, files, path.slice(), limit, item_of(ty)) {
-        Ok((bytes, count)) => match add_source(alloc, sources, name, path, ty, bytes, count) {
-            Ok(()) => Ok(count),
+        Ok(kept) => match add_source(alloc, sources, name, path, ty, kept) {
+            Ok(()) => Ok(kept.count),
             Err(NoMemory) => Err(DriverError::NoMemory),
         },
         Err(error) => Err(error),
     }
 }
 
-// Attaches the file at a path under a name: its type, and how many bytes and items it has.
+// Attaches the file at a path under a name: its type, and what is kept of it.
 fn add_source(
     alloc: Global,
     sources: &mut HashMap<Label, Shared<Source>>,
     name: &Label,
     path: &Text,
     ty: &Ty,
-    bytes: u64,
-    count: u64,
+    kept: Kept,
 ) -> Result<(), NoMemory>
     ensures added { OnOk result (Updates (pointwise nat_eq) sources.old sources.new name.now
-        (Some (record { path = path.now; ty = ty.now; bytes = bytes; count = count }))) }
+        (Some (record { path = path.now; ty = ty.now; stated = kept.stated; bytes = kept.bytes; count = kept.count }))) }
     ensures refused { OnErr result (IsUnchanged sources.old sources.new) }
 {
-    let source = new_source(alloc, path, ty, bytes, count)?;
+    let source = new_source(alloc, path, ty, kept)?;
     let name = name.dup()?;
     sources.insert(name, source)?;
     Ok(())
 }
 
-fn new_source(
-    alloc: Global,
-    path: &Text,
-    ty: &Ty,
-    bytes: u64,
-    count: u64,
-) -> Result<Shared<Source>, NoMemory>
-    ensures { IfOk result (λ s. s ≡ record { path = path.now; ty = ty.now; bytes = bytes; count = count }) }
+fn new_source(alloc: Global, path: &Text, ty: &Ty, kept: Kept) -> Result<Shared<Source>, NoMemory>
+    ensures { IfOk result (λ s. s ≡ record {
+      path = path.now;
+      ty = ty.now;
+      stated = kept.stated;
+      bytes = kept.bytes;
+      count = kept.count;
+    }) }
 {
     let path = path.dup(alloc)?;
     let ty = ty.dup(alloc)?;
@@ -75,8 +74,9 @@ fn new_source(
         Source {
             path,
             ty,
-            bytes,
-            count,
+            stated: kept.stated,
+            bytes: kept.bytes,
+            count: kept.count,
         },
     )
 }

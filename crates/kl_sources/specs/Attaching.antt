@@ -10,7 +10,7 @@ use Rattle.kl_type.specs.Ground.{ground_of}
 use Rattle.kl_outcome.specs.Outcome.{Name}
 use Rattle.kl_outcome.specs.Typed.{Inhabits}
 use Rattle.kl_ask.specs.Asks.{item_of, kind_of}
-use Rattle.kl_ask.specs.Driver.{DriverKind, State, Stored, Missing, Bad, Long, Deep, Rows, KeepsState, same_value, told_rows}
+use Rattle.kl_ask.specs.Driver.{Kept, DriverKind, State, Stored, Missing, Bad, Long, Deep, Rows, KeepsState, same_value, told_rows}
 use Rattle.kl_ask.specs.Lists.{EachSteps}
 use Rattle.kl_ask.specs.declared.ask.DriverError.{DriverError}
 use Rattle.kl_ask.specs.declared.ask.DriverError.TheVariants as error
@@ -96,7 +96,7 @@ pub record Stands (ks : List DriverKind) (ds : List State) (s : Source) : Type 0
   pub driver : State
   pub there : slice_get ds s.driver ≡ Some driver
   pub count : ℕ
-  pub kept : Option ℕ
+  pub kept : Option Kept
   pub attached : driver.attached s.name ≡ Some (record { ty = s.ty; rows = told_rows (contents ks s); count = count; kept = kept })
   pub counted : (rows : List Value) → contents ks s ≡ Some (Rows rows) → count ≡ length rows
   pub typed : HasTyped s (contents ks s)

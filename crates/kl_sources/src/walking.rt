@@ -15,7 +15,7 @@ use kl_scope::Scoped;
 use std::alloc::Global;
 
 /// The number of a source that is refused, and why.
-#[derive(Clone, Copy, PartialEq, Eq)]
+#[derive(Drop, PartialEq, Eq)]
 pub struct Refused {
     pub place: usize,
     pub error: DriverError,

@@ -103,7 +103,7 @@ impl<F: Files + Drop> Driver for SqlServer<F> {
         match table_of_file(self.alloc, &mut self.files, locator.slice(), ty) {
             Ok(table) => Ok(add_source(self.alloc, &mut self.sources, source, ty, table)?),
             Err(error) => {
-                self.unread = unread_by(error, self.unread);
+                self.unread = unread_by(&error, self.unread);
                 Err(error)
             }
         }

@@ -15,7 +15,7 @@ use Rattle.kl_words.specs.declared.command.Command.TheVariants as command
 use Rattle.kl_words.specs.declared.command.Job.{Job}
 use Rattle.kl_words.specs.declared.command.WordsError.{WordsError}
 use Rattle.kl_words.specs.declared.command.WordsError.TheVariants.{NoMemory, Usage}
-use Rattle.kl_words.specs.Lines.{gen_line, job_line, program_line, show_line}
+use Rattle.kl_words.specs.Lines.{gen_line, job_line, program_line, show_line, upgrade_line}
 
 -- ---- what clap reads
 
@@ -88,6 +88,10 @@ paths_of rows = (path_at (codes "program") rows, first_of (codes "catalogue") ro
 abbrev pub on_program : Text → List Text → Option (Text × Option Text)
 on_program name words = option_map paths_of (reading (program_line name) words)
 
+-- a file, and the text of a type
+abbrev pub file_and_type_of : List Row → Text × Text
+file_and_type_of rows = (path_at (codes "file") rows, path_at (codes "type") rows)
+
 -- a job, for a command of this name
 abbrev pub on_job : Text → List Text → Option Job
 on_job name words = option_and_then job_of (reading (job_line name) words)
@@ -105,6 +109,8 @@ named name words =
     else if bytes_eq name (codes "types") then option_map (λ p. command.Types p.0 p.1) (on_program (codes "types") words)
     else if bytes_eq name (codes "check") then option_map (λ p. command.Check p.0 p.1) (on_program (codes "check") words)
     else if bytes_eq name (codes "show") then option_map command.Show (option_map (path_at (codes "file")) (reading show_line words))
+    else if bytes_eq name (codes "upgrade") then
+    option_map (λ p. command.Upgrade p.0 p.1) (option_map file_and_type_of (reading upgrade_line words))
     else if bytes_eq name (codes "gen") then option_map (λ n. command.Gen n.0 n.1) (option_and_then numbers_of (reading gen_line words))
     else None
 

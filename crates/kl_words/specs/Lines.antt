@@ -50,6 +50,10 @@ job_line name =
 unfoldable pub show_line : App
 show_line = with_rule (new_app (codes "show")) (place_rule (codes "file") true)
 
+-- `upgrade`, on a file and a type
+unfoldable pub upgrade_line : App
+upgrade_line = with_rule (with_rule (new_app (codes "upgrade")) (place_rule (codes "file") true)) (place_rule (codes "type") true)
+
 -- `gen`, with a seed and a number of rows
 unfoldable pub gen_line : App
 gen_line = with_rule (with_rule (new_app (codes "gen")) (amount_rule (codes "seed") (pos 4294967295)))

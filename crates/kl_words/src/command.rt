@@ -55,6 +55,11 @@ pub enum Command {
     Show {
         file: Text,
     },
+    /// A file of values is printed with a head that states this type, which is given by its text.
+    Upgrade {
+        file: Text,
+        ty: Text,
+    },
     /// The program over made rows is run: with this seed, and so many rows, at most 1,000,000.
     Gen {
         seed: u32,

@@ -2,7 +2,7 @@
 ghost use Rattle.std.specs.Prelude.{◌≡◌, false, IfOk};
 ghost use Rattle.clap.specs.Words.{app_of, rule_of};
 ghost use Rattle.kl_words.specs.Lines.{amount_rule, flag_rule, gen_line, job_line, number_rule, place_rule, program_line};
-ghost use Rattle.kl_words.specs.Lines.{show_line, text_rule};
+ghost use Rattle.kl_words.specs.Lines.{show_line, text_rule, upgrade_line};
 
 use clap::builder::ValueParser;
 use clap::{Arg, ArgAction, Command};
@@ -85,6 +85,18 @@ pub fn show<'a>(alloc: Global) -> Result<Command<'a>, AllocError>
     ensures { IfOk result (λ line. app_of line ≡ show_line) }
 {
     Command::new(alloc, "show").arg(place(alloc, "file", true))
+}
+
+/// `upgrade`, on a file and a type.
+///
+/// # Errors
+/// Want of memory.
+pub fn upgrade<'a>(alloc: Global) -> Result<Command<'a>, AllocError>
+    ensures { IfOk result (λ line. app_of line ≡ upgrade_line) }
+{
+    Command::new(alloc, "upgrade")
+        .arg(place(alloc, "file", true))?
+        .arg(place(alloc, "type", true))
 }
 
 /// `gen`, with a seed and a number of rows.

@@ -1,9 +1,10 @@
 //! Reads the words.
 ghost use Rattle.std.specs.Prelude.{◌≡◌, ◌≢◌, ◌≤◌, IfOk, IfErr, codes, map, string_bytes, None, Some, option_and_then, option_map, true};
 ghost use Rattle.clap.specs.Words.{app_of, first_of, found_of, IsParsedFrom, is_simple_and_free, kind_of, rows_of};
-ghost use Rattle.kl_words.specs.Lines.{gen_line, show_line};
+ghost use Rattle.kl_words.specs.Lines.{gen_line, show_line, upgrade_line};
 ghost use Rattle.kl_words.specs.Commands.{AnswersWanted, AreInRange, KeepsLimits, OnlyWants, command_of, reading};
-ghost use Rattle.kl_words.specs.Commands.{has_flag, job_of, join_named, join_of, number_of, numbers_of, on_job, on_program, path_at};
+ghost use Rattle.kl_words.specs.Commands.{has_flag, file_and_type_of, job_of, join_named, join_of, number_of};
+ghost use Rattle.kl_words.specs.Commands.{numbers_of, on_job, on_program, path_at};
 
 use crate::command::{Command, Job, WordsError};
 use crate::line;
@@ -152,6 +153,17 @@ fn file(alloc: Global, words: &[String]) -> Result<Text, WordsError>
     path(alloc, &matches, "file")
 }
 
+// A file and the text of a type.
+fn file_and_type(alloc: Global, words: &[String]) -> Result<(Text, Text), WordsError>
+    ensures { AnswersWanted (option_map file_and_type_of (reading upgrade_line (map string_bytes words.now))) result }
+{
+    let matches = read_line(line::upgrade(alloc)?, words)?;
+    Ok((
+        path(alloc, &matches, "file")?,
+        path(alloc, &matches, "type")?,
+    ))
+}
+
 // A seed and a number of rows, as the arguments tell them.
 fn numbers(matches: &ArgMatches<'_>) -> Result<(u32, u32), WordsError>
     ensures { AnswersWanted (numbers_of (rows_of (found_of matches.now))) result }
@@ -175,8 +187,8 @@ fn made(alloc: Global, words: &[String]) -> Result<(u32, u32), WordsError>
 /// `run PROGRAM [CATALOGUE]` and `explain PROGRAM [CATALOGUE]` have the options `--block N` (1 to 65,536; 256 where it is
 /// not given), `--fetch N` (1 to 4,096; 64), `--cache N` (0 to 4,096; 64), `--join block` or `--join index` (the second),
 /// `--no-rewrite`, `--no-delegate`, `--first N` (0 to 4,294,967,295) and `--stats`. `types PROGRAM [CATALOGUE]`, `check PROGRAM
-/// [CATALOGUE]`, `show FILE` and `gen SEED N` (0 to 4,294,967,295; 0 to 1,000,000) have none. A number is digits, with a
-/// sign before them or not.
+/// [CATALOGUE]`, `show FILE`, `upgrade FILE TYPE` and `gen SEED N` (0 to 4,294,967,295; 0 to 1,000,000) have none. A number is
+/// digits, with a sign before them or not.
 ///
 /// # Errors
 /// `Usage` where there is no first word or it names no command, and where the words behind it are not those of that
@@ -202,6 +214,10 @@ pub fn read_words(alloc: Global, words: &[String]) -> Result<Command, WordsError
         [name, ..] if name.as_str() == "show" => {
             let file = file(alloc, words)?;
             Ok(Command::Show { file })
+        }
+        [name, ..] if name.as_str() == "upgrade" => {
+            let (file, ty) = file_and_type(alloc, words)?;
+            Ok(Command::Upgrade { file, ty })
         }
         [name, ..] if name.as_str() == "gen" => {
             let (seed, size) = made(alloc, words)?;

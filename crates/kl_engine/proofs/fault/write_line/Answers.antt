@@ -1,5 +1,11 @@
 use Rattle.kl_engine.proofs.fault.write_line.Goals as goal
 
+pub returns-in-Usage : goal.returns-in-Usage
+returns-in-Usage g c = rw c.in-Usage.is c.write_parts.ensures
+
+pub returns-in-NoType : goal.returns-in-NoType
+returns-in-NoType g c = rw c.in-NoType.is (rw c.format-in-NoType.ensures.text at (rw c.as_bytes-in-NoType.ensures.value at c.write_parts-in-NoType.ensures))
+
 pub returns-in-Read : goal.returns-in-Read
 returns-in-Read g c = rw c.in-Read.is c.write_whole-in-Read.ensures
 
@@ -37,7 +43,7 @@ pub returns-in-CatalogueBytes : goal.returns-in-CatalogueBytes
 returns-in-CatalogueBytes g c = rw c.in-CatalogueBytes.is c.write_whole-in-CatalogueBytes.ensures
 
 pub returns-in-Catalogue : goal.returns-in-Catalogue
-returns-in-Catalogue g c = rw c.in-Catalogue.is (rw c.format.ensures.text at (rw c.as_bytes.ensures.value at c.write_parts.ensures))
+returns-in-Catalogue g c = rw c.in-Catalogue.is (rw c.format.ensures.text at (rw c.as_bytes.ensures.value at c.write_parts-in-Catalogue.ensures))
 
 pub returns-in-NameTwice : goal.returns-in-NameTwice
 returns-in-NameTwice g c = rw c.in-NameTwice.is (rw c.slice.ensures at c.write_parts-in-NameTwice.ensures)

@@ -1,9 +1,0 @@
-use Rattle.kl_exchange.specs.FileReading.{to_come}
-use Rattle.kl_engine.proofs.ShowLemmas.{Going}
-use Rattle.kl_engine.proofs.show.show_items.Given as goal
-
-abbrev pub invariant-items : goal.invariant-items
-invariant-items g l = Going l.initial.items.file l.items (g.F.Files.state l.initial.files) (g.F.Files.state l.files) (g.S.Sink.state l.initial.out) (g.S.Sink.state l.out) l.page l.begun
-
-abbrev pub decreases-items : goal.decreases-items
-decreases-items g l = to_come l.items

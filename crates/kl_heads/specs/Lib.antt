@@ -1,0 +1,10 @@
+pub mod FileReading
+pub mod Files
+pub mod Found
+pub mod Fronts
+pub mod Heads
+pub mod Machine
+pub mod Reading
+pub mod Scan
+pub mod Stated
+pub mod Texts
