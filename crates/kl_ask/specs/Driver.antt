@@ -49,10 +49,11 @@ pub data Behind : Type 0 where
   StopsAt : ℕ → Behind
   Beyond : Behind
 
--- what bytes state of the type of their items, before all of them; the items that they spell one behind the other; and what stands
--- behind them
+-- What bytes state of the type of their items, before all of them, where the source ends behind them or may go on: a type, or that
+-- they state none; it is not known yet of too few bytes, and never of what is no text. And the items that they spell one behind the
+-- other, and what stands behind them.
 pub record Spelt : Type 0 where
-  pub head : Head
+  pub head : Bool → Option Head
   pub items : List Value
   pub behind : Behind
 
@@ -365,14 +366,6 @@ HasTests (asks.Sql text) = (q : Spj) × SqlReads text q × (q.tests ≢ [])
 abbrev pub emptied : Cursor → Cursor
 emptied c = record { ask = c.ask; ty = c.ty; left = c.left; bound = 0 }
 
-pub record PullsMore (cursor most : ℕ) (into into' : List Value) (c : Cursor) (old new : State) : Type 0 where
-  pub rows : List Value
-  pub then : Cursor
-  pub appended : into' ≡ into ++ rows
-  pub now : new.cursors cursor ≡ Some then
-  pub hands : Hands most rows c then
-  pub handed : new.handed ≡ raised_by (length rows) old.handed
-
 -- the attached source that an ask of rows names
 abbrev pub source_of : State → Ask → Option Source
 source_of s (asks.Rows source keep tests) = s.attached source
@@ -388,11 +381,25 @@ pub record ReadsAnew (cursor : ℕ) (old new : State) : Type 0 where
 abbrev pub spelt : {cursor : ℕ} {old new : State} → ReadsAnew cursor old new → Spelt
 spelt r = r.spells r.read.bytes
 
+-- what was read states of its type what was kept of the source
+abbrev pub StatesAsKept : Source → ReadSoFar → Spelt → Type 0
+StatesAsKept s read spelt = (kept : Kept) → s.kept ≡ Some kept → spelt.head read.ended ≡ Some kept.head
+
+pub record PullsMore (cursor most : ℕ) (into into' : List Value) (c : Cursor) (old new : State) : Type 0 where
+  pub rows : List Value
+  pub then : Cursor
+  pub appended : into' ≡ into ++ rows
+  pub now : new.cursors cursor ≡ Some then
+  pub hands : Hands most rows c then
+  pub handed : new.handed ≡ raised_by (length rows) old.handed
+  -- where a cursor reads its source anew, rows come of none that states another type than when it was attached
+  pub stated : (r : ReadsAnew cursor old new) (s : Source) → source_of old c.ask ≡ Some s → StatesAsKept s r.read (spelt r)
+
 -- the whole source was read, and it has as many bytes and as many rows, and states the same, as when it was attached
 pub record IsAsAttached (s : Source) (read : ReadSoFar) (spelt : Spelt) : Type 0 where
   pub all : IsWholeText read spelt s.count
   pub size : (kept : Kept) → s.kept ≡ Some kept → length read.bytes ≡ kept.bytes
-  pub head : (kept : Kept) → s.kept ≡ Some kept → spelt.head ≡ kept.head
+  pub head : StatesAsKept s read spelt
 
 pub record PullsNone (cursor : ℕ) (into into' : List Value) (c : Cursor) (old new : State) : Type 0 where
   pub same : into' ≡ into
@@ -444,7 +451,7 @@ abbrev pub IsShown : Option ℕ → Source → ReadSoFar → Spelt → Drift →
 IsShown most s read spelt (drift.Bytes kept found) = (length read.bytes ≡ found)
     × (((n : ℕ) × (most ≡ Some n) × (found ≡ n + 1)) ⊎ IsWholeText read spelt s.count)
 IsShown most s read spelt (drift.Count kept found) = IsWholeText read spelt found ⊎ ((kept < found) × (found ≤ length spelt.items))
-IsShown most s read spelt (drift.Header kept found) = spelt.head ≡ found
+IsShown most s read spelt (drift.Header kept found) = spelt.head read.ended ≡ Some found
 IsShown most s read spelt (drift.Unread place) = (spelt.behind ≡ StopsAt place) × ((place < length read.bytes) ⊎ (read.ended ≡ true))
 IsShown most s read spelt (drift.Misfit item) = (v : Value) × (slice_get spelt.items item ≡ Some v)
     × (Inhabits (item_of (ground_of s.ty)) v → ⊥)

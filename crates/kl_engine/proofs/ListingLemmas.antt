@@ -14,7 +14,7 @@ use Rattle.kl_heads.specs.FileReading.{HeadedFile, HasRead, EndsSo, limit_of, pl
 use Rattle.kl_heads.specs.Found.{IsFileText, file_text}
 use Rattle.kl_heads.proofs.FoundText.{is_file_text, text_shows}
 use Rattle.kl_heads.proofs.OneEnd.{one_text}
-use Rattle.kl_heads.proofs.Reaching.{one_head}
+use Rattle.kl_heads.proofs.OneFile.{one_states}
 use Rattle.kl_heads.proofs.Shown.{first_shown}
 use Rattle.kl_engine.specs.Answering.{IsDetermined}
 use Rattle.kl_engine.specs.Verdict.{Verdict, behind, end_fault, fits, listed, refused}
@@ -49,11 +49,6 @@ next_at q (y ∷ ys) x zs read all a b (item, rest, split, spells, others) (othe
     let step = next_at (q + length other) ys x zs rest behind a b others more tails in
     let size : length item ≡ length other = ap length one in
     omega arith
-
--- a head at the front of the same bytes is the same
-one_states : (head : Option Ty) (a b x y : List ℕ) → States head a → States head b → a ++ x ≡ b ++ y → a ≡ b
-one_states None a b x y this that same = this ∙ sym that
-one_states (Some t) a b x y this that same = (one_head 256 256 a b x y t t this that same).0
 
 module _ (line : Value → List ℕ) (t : Option Ty) where
   abbrev pub lines : List Value → List ℕ

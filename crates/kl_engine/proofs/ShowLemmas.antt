@@ -71,13 +71,6 @@ unlike f page s0 s out0 out cause told = elim cause [
   | inr (inr h) ↦ subst (λ g. IsDetermined (Some g)) h told
 ]
 
-stop_other : (f : Fault) (page : List ℕ) (s0 s : FilesState) (out0 out : SinkState) → Cause f page s0 s out0 out → HasFault (Show []) f
-stop_other f page s0 s out0 out cause = elim cause [
-  | inl h ↦ subst (HasFault (Show [])) (sym h.0) tt
-  | inr (inl h) ↦ subst (HasFault (Show [])) (sym h.0) tt
-  | inr (inr h) ↦ subst (HasFault (Show [])) (sym h) tt
-]
-
 -- the faults do not rest on the path, nor on the word
 as_path : (path : List ℕ) (end : Ending) → IsOneOf (HasFault (Show [])) end → IsOneOf (HasFault (Show path)) end
 as_path path None has = tt
@@ -235,16 +228,6 @@ going_none items line t s out is_open = record {
   none = λ is. refl;
   printed = λ first head has. record { vs = []; read = has; fit = tt; done = []; all = refl; took = sym (append_known-nil out.taken); some = λ is. absurd cc };
 }
-
--- where no item came, the same items were read
-held_has : (first left : Left) (head : Option Ty) (vs : List Value) (new : HeadedFile) (result : Result Item ReadError) → ((v : Value) → result ≡ Ok (item.Value v) → ⊥) → HeldOut first head vs result new left → HasRead first head vs new left
-held_has first left head vs new (Ok (item.Head t)) none held = absurd held
-held_has first left head vs new (Ok (item.Value v)) none held = absurd (none v refl)
-held_has first left head vs new (Ok item.NeedMore) none held = held
-held_has first left head vs new (Ok item.End) none held = held.0
-held_has first left head vs new (Err (read.Bad place)) none held = held.0
-held_has first left head vs new (Err (read.TooDeep place)) none held = held.0
-held_has first left head vs new (Err read.NoMemory) none held = held
 
 module _ (items : HeadedFile) (line : Value → List ℕ) (t : Option Ty) (now : HeadedFile) (s0 s : FilesState) (out0 out : SinkState) (held : List ℕ) (begun : Bool) (so : Going items line t now s0 s out0 out held begun) where
   stays_held : (new : HeadedFile) (result : Result Item ReadError) → HandsOut result now new → Stays items new s0 s
@@ -652,12 +635,6 @@ module _ (ds : List State) (file : ℕ) (s0 s1 : FilesState) (new : HeadedFile) 
 
   -- the head was read
   module _ (head : Option Ty) (reads : ReadsHead (Ok head) (new_reader file) new s0 s1) where
-    pub head_open : IsSome (s1.left new.items.file)
-    head_open = subst (λ n. IsSome (s1.left n)) (sym reads.same.file) reads.leaves.is_open
-
-    pub head_unread : (first : Left) × (h : Option Ty) × HasRead first h [] new (s1.left new.items.file)
-    head_unread = (s0.left file, head, subst (λ n. HasRead (s0.left file) head [] new (s1.left n)) (sym reads.same.file) (reads.goes (s0.left file) (opened file (s0.left file))))
-
     text_head : (bytes : List ℕ) → s0.left file ≡ Some (Some bytes) → head ≡ (file_text most_read bytes).head
     text_head bytes known = head_is value_line head bytes head [] new (s1.left file) reads.same.limit (at_head (Ok head) reads bytes known) tt
 

@@ -44,7 +44,7 @@ begins_front n bytes behind b = record {
   whole = subst (λ bs. IsExchange n bs b.values) (append_assoc bytes behind b.more) b.whole;
 }
 
-taken_front : (j k : ℕ) (xs : List ℕ) → j ≤ k → (rest : List ℕ) × (take k xs ≡ take j xs ++ rest)
+pub taken_front : (j k : ℕ) (xs : List ℕ) → j ≤ k → (rest : List ℕ) × (take k xs ≡ take j xs ++ rest)
 taken_front zero k xs le = (take k xs, refl)
 taken_front (suc j) zero xs le = absurd (omega arith)
 taken_front (suc j) (suc k) [] le = ([], refl)
@@ -122,7 +122,7 @@ first_items read left other rest (v ∷ vs) (w ∷ ws) items others none same =
     (r.0, ap₂ ◌∷◌ (sym one.0) r.1)
 
 -- Items with no item behind them are all.
-one_items : (read left other rest : List ℕ) (vs ws : List Value) → Items read vs → Items other ws → NoItem 256 left → NoItem 256 rest → read ++ left ≡ other ++ rest
+pub one_items : (read left other rest : List ℕ) (vs ws : List Value) → Items read vs → Items other ws → NoItem 256 left → NoItem 256 rest → read ++ left ≡ other ++ rest
     → (vs ≡ ws) × (left ≡ rest)
 one_items read left other rest [] [] items others none also same = (refl, ap (λ bs. bs ++ left) (sym items) ∙ (same ∙ ap (λ bs. bs ++ rest) others))
 one_items read left other rest [] (w ∷ ws) items others none also same =

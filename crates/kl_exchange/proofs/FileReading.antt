@@ -456,16 +456,6 @@ module _ (limit : ℕ) (old : State) (within : old.place + length old.left ≤ l
   placed (Err (error.TooDeep p)) text (inr c) = let at = c.1.1 in let k = c.1.2.within in omega arith
   placed (Err error.NoMemory) text reads = tt
 
-  pub refused_within : (r : Result Item ReadError) (text : State) → ReadsNext old r text → IsRefusedWithin limit text.refused
-  refused_within (Ok (item.Value v)) text reads = subst (IsRefusedWithin limit) (sym reads.refused) tt
-  refused_within (Ok item.NeedMore) text reads = subst (λ t. IsRefusedWithin limit t.refused) (sym reads.same) refused
-  refused_within (Ok item.End) text reads = subst (λ t. IsRefusedWithin limit t.refused) (sym reads.same) refused
-  refused_within (Err (error.Bad p)) text (inl c) = subst (λ t. IsRefusedWithin limit t.refused) (sym c.1) refused
-  refused_within (Err (error.Bad p)) text (inr c) = subst (λ t. IsRefusedWithin limit t.refused) (sym c.2) (placed (Err (error.Bad p)) text (inr c))
-  refused_within (Err (error.TooDeep p)) text (inl c) = subst (λ t. IsRefusedWithin limit t.refused) (sym c.1) refused
-  refused_within (Err (error.TooDeep p)) text (inr c) = subst (λ t. IsRefusedWithin limit t.refused) (sym c.2) (placed (Err (error.TooDeep p)) text (inr c))
-  refused_within (Err error.NoMemory) text reads = subst (λ t. IsRefusedWithin limit t.refused) (sym reads) refused
-
 -- `next_held`
 pub hands_out : (old : FileReading) (result : Result Item ReadError) (text : State) → IsFedWithin old.text old.limit old.piece → ReadsNext old.text result text
     → text.place + length text.left ≡ old.text.place + length old.text.left → text.finished ≡ old.text.finished → HandsOut result old (record old { text = text })
@@ -760,7 +750,7 @@ pub record Meanwhile (old now : FileReading) (s t : FilesState) : Type 0 where
   pub goes : (first : Left) (vs : List Value) → HasRead first vs old (s.left old.file) → HasRead first vs now (t.left old.file)
   pub sees : (vs : List Value) → HasSeen vs old (seen_in s old.file) → HasSeen vs now (seen_in t old.file)
 
-no_read : {T : Type 0} {e : FileError} → IsErrOf {T = T} (Err e) fault.Read → e ≡ fault.Read
+pub no_read : {T : Type 0} {e : FileError} → IsErrOf {T = T} (Err e) fault.Read → e ≡ fault.Read
 no_read is = cc
 
 module _ (old now new : FileReading) (s t : FilesState) (far : Meanwhile old now s t) (held : Result Item ReadError) (hands : HandsOut held now new) where

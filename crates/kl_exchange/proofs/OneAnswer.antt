@@ -19,7 +19,7 @@ use Rattle.kl_exchange.proofs.Reading.{begins, begins_more, ends_item, one_item,
 use Rattle.kl_exchange.proofs.FileItems.{begins_front}
 
 -- cutting what follows
-same_front : (a b x : List ℕ) → a ++ x ≡ b ++ x → a ≡ b
+pub same_front : (a b x : List ℕ) → a ++ x ≡ b ++ x → a ≡ b
 same_front a b x e =
     let size : length a ≡ length b = omega (arith, ap length e, length-append a x, length-append b x) in
     sym (take_at a x (length a) refl) ∙ (ap (take (length a)) e ∙ take_at b x (length a) (sym size))

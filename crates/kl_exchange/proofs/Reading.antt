@@ -291,6 +291,10 @@ deeper_step n b sound e =
     goes (inl c) = (c.0, go_on 257 n c.0 b [] c.1)
     goes (inr f) = absurd (let high = subst (Right 257 n.stack n.phase b) f (right 257 n.stack n.phase b sound_there) in let low = sound.nesting in omega arith)
 
+pub one_taken : (front : List ℕ) (b : ℕ) (others : List ℕ) → take (length front + 1) (front ++ b ∷ others) ≡ front ++ b ∷ []
+one_taken [] b others = refl
+one_taken (a ∷ front) b others = rw (suc-add (length front) 1) (ap (λ bs. a ∷ bs) (one_taken front b others))
+
 pub deep_there : (old : State) (front : List ℕ) (b : ℕ) (others : List ℕ) (n : Machine) → old.left ≡ front ++ b ∷ others → run 256 front start ≡ more n
     → IsSound 256 n.stack n.phase → advanced 256 n.stack n.phase b ≡ Err stop.TooDeep → IsDeep old (length front)
 deep_there old front b others n is met sound stop =
@@ -304,10 +308,6 @@ deep_there old front b others n is met sound stop =
       no_item = none_there 256 256 old.left (omega arith) (λ v rest e. stuck_not_ends 256 (run 256 old.left start) v rest (subst (λ bs. Stuck 256 (run 256 bs start)) (sym is) (stuck others)) e);
     }
   where
-    one_taken : (front : List ℕ) (b : ℕ) (others : List ℕ) → take (length front + 1) (front ++ b ∷ others) ≡ front ++ b ∷ []
-    one_taken [] b others = refl
-    one_taken (a ∷ front) b others = rw (suc-add (length front) 1) (ap (λ bs. a ∷ bs) (one_taken front b others))
-
     stuck : (ys : List ℕ) → Stuck 256 (run 256 (front ++ b ∷ ys) start)
     stuck ys = rw (run_append 256 front (b ∷ ys) start, met, stop) tt
 

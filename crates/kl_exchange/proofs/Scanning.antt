@@ -17,13 +17,13 @@ use Rattle.kl_exchange.specs.declared.machine.Stop.{Stop}
 use Rattle.kl_exchange.specs.declared.machine.Stop.TheVariants as stop
 use Rattle.kl_exchange.proofs.Completes.{Right, right}
 
-module _ (m : Machine) (bytes : List ℕ) (i : ℕ) (within : i < length bytes) where
-  here : drop i bytes ≡ get_or bytes i 0 ∷ drop (i + 1) bytes
-  here = drop-cons bytes i 0 within ∙ ap (λ k. get_or bytes i 0 ∷ drop k bytes) (sym (add-one i))
+pub byte_at : (bytes : List ℕ) (i : ℕ) → i < length bytes → drop i bytes ≡ get_or bytes i 0 ∷ drop (i + 1) bytes
+byte_at bytes i within = drop-cons bytes i 0 within ∙ ap (λ k. get_or bytes i 0 ∷ drop k bytes) (sym (add-one i))
 
+module _ (m : Machine) (bytes : List ℕ) (i : ℕ) (within : i < length bytes) where
   pub scan_step : (o : Result Step Stop) → advanced 256 m.stack m.phase (get_or bytes i 0) ≡ o
       → run 256 (drop i bytes) m ≡ followed o (get_or bytes i 0) (drop (i + 1) bytes) (λ n. run 256 (drop (i + 1) bytes) n)
-  scan_step o e = ap (λ bs. run 256 bs m) here ∙ ap (λ p. followed p (get_or bytes i 0) (drop (i + 1) bytes) (λ n. run 256 (drop (i + 1) bytes) n)) e
+  scan_step o e = ap (λ bs. run 256 bs m) (byte_at bytes i within) ∙ ap (λ p. followed p (get_or bytes i 0) (drop (i + 1) bytes) (λ n. run 256 (drop (i + 1) bytes) n)) e
 
   pub scan_sound : (n : Machine) → IsSound 256 m.stack m.phase → advanced 256 m.stack m.phase (get_or bytes i 0) ≡ Ok (Step.Goes n) → IsSound 256 n.stack n.phase
   scan_sound n sound e =
@@ -31,10 +31,10 @@ module _ (m : Machine) (bytes : List ℕ) (i : ℕ) (within : i < length bytes) 
       (subst (Right 256 m.stack m.phase (get_or bytes i 0)) e r).0
 
   pub scan_fails : advanced 256 m.stack m.phase (get_or bytes i 0) ≡ Err stop.Bad → run 256 (drop i bytes) m ≡ fails (drop i bytes)
-  scan_fails e = scan_step (Err stop.Bad) e ∙ ap fails (sym here)
+  scan_fails e = scan_step (Err stop.Bad) e ∙ ap fails (sym (byte_at bytes i within))
 
   pub scan_deep : advanced 256 m.stack m.phase (get_or bytes i 0) ≡ Err stop.TooDeep → run 256 (drop i bytes) m ≡ deep (drop i bytes)
-  scan_deep e = scan_step (Err stop.TooDeep) e ∙ ap deep (sym here)
+  scan_deep e = scan_step (Err stop.TooDeep) e ∙ ap deep (sym (byte_at bytes i within))
 
 -- The bytes from a place on, of which the first were taken.
 pub skipped : (bytes sub : List ℕ) (at count : ℕ) (m n : Machine) → sub ≡ drop at bytes → run 256 (take count sub) m ≡ more n → run 256 (drop at bytes) m ≡ run 256 (drop (at + count) bytes) n

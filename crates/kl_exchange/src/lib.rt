@@ -35,7 +35,7 @@ pub use error::{FileError, PrintError, ReadError};
 pub use file_reader::{FileReader, MOST_READ};
 pub use gathered::Growing;
 pub use laws::{file_laws, found_laws, reading_laws};
-pub use machine::is_blank;
+pub use machine::{is_blank, last_of_close};
 pub use printing::{Page, print};
 pub use reader::{Item, Reader};
 pub use stack::Stack;

@@ -275,7 +275,8 @@ fn first_of_close(kind: Kind) -> u8
     }
 }
 
-fn last_of_close(kind: Kind) -> u8
+/// The last byte of the bracket that closes a collection of a kind.
+pub fn last_of_close(kind: Kind) -> u8
     ensures { result ≡ last_of_close kind }
 {
     match kind {

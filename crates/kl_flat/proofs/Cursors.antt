@@ -193,6 +193,7 @@ module _ (cursor : ℕ) (o o' : Open) (f : FilesState) (sources : Sources) (curs
           now = ap (seen_as f.told) (changed_now cursors cursors' cursor o o' is made);
           hands = hands most o'.at hand.taken o o' same refl hand.takes f.told (omega (arith, some, hand.size));
           handed = count ∙ ap (λ n. raised_by n handed) hand.size;
+          stated = λ r. absurd (none-some _ r.is_read);
         })
 
     none : n ≡ 0 → (c : Cursor) → seen_as f.told (open_at cursors cursor) ≡ Some c

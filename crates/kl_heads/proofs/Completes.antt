@@ -15,8 +15,9 @@ use Rattle.kl_type.specs.declared.ground.Ty.TheVariants as ty
 use Rattle.kl_exchange.specs.Grammar.{is_blank, Blank, More}
 use Rattle.kl_exchange.proofs.Bytes.{equal, word_push, lt_from, le_from}
 use Rattle.kl_exchange.proofs.Pairs.{letters, letters_word, letters_bytes, length-letters, word_goes_on, shorter_differs}
+use Rattle.kl_exchange.specs.Machine.{last_of_close}
 use Rattle.kl_heads.specs.Heads.{Types, has_label, put_all, AreNew, SpellsBase, SpellsFieldType, SpellsBracketType, SpellsType, IsHead}
-use Rattle.kl_heads.specs.Machine.{Brackets, goes, run, Run, more, ends, no_head, fails, deep, followed, advanced, keyword, in_keyword, behind_keyword, type_due, opens_bracket, behind_brace, behind_bracket, record_opened, label_due, in_name, named, in_word, after_type, after_item, after_field, ends_closing, closer_of, type_of, base_word, base_type, last_of_close}
+use Rattle.kl_heads.specs.Machine.{Brackets, goes, run, Run, more, ends, no_head, fails, deep, followed, advanced, keyword, in_keyword, behind_keyword, type_due, opens_bracket, behind_brace, behind_bracket, record_opened, label_due, in_name, named, in_word, after_type, after_item, after_field, ends_closing, closer_of, type_of, base_word, base_type}
 use Rattle.kl_heads.specs.Machine.{Step}
 use Rattle.kl_heads.specs.declared.machine.Base.{Base}
 use Rattle.kl_heads.specs.declared.machine.Base.TheVariants as base

@@ -14,7 +14,7 @@ use Rattle.kl_exchange.specs.declared.FileError.{FileError}
 use Rattle.kl_exchange.specs.declared.FileError.TheVariants as fault
 use Rattle.kl_exchange.specs.declared.ReadError.{ReadError}
 use Rattle.kl_exchange.specs.declared.ReadError.TheVariants as error
-use Rattle.kl_exchange.proofs.FileReading.{begins_item, ends_past, more_then}
+use Rattle.kl_exchange.proofs.FileReading.{begins_item, ends_past, more_then, no_read}
 use Rattle.kl_heads.specs.FileReading.{HeadedFile, HasOpened, HasRead, Behind, IsMetBy, AsSeen, MayFetch, FetchedFirst, FetchedMore, FetchesMore, AnswersHead, Answers, HandsItem, HeldItem, IsBegun, LooksAt, Opens, Stands, ReadsHead, NextItem, SameFile, fault_of}
 use Rattle.kl_heads.specs.Files.{BeginsNext}
 use Rattle.kl_heads.specs.Fronts.{HasTaken}
@@ -174,9 +174,6 @@ met_still now next q same finished past met = record {
   ended = λ is. met.ended (sym finished ∙ is);
   passed = λ is. met.passed (sym past ∙ is) ∙ ap (λ n. n + 1) (sym same.limit);
 }
-
-no_read : {T : Type 0} {e : FileError} → IsErrOf {T = T} (Err e) fault.Read → e ≡ fault.Read
-no_read is = cc
 
 module _ (I : Type 0) (P : I → Left → HeadedFile → Left → Type 0) (old now : HeadedFile) (s t : FilesState) (far : Meanwhile I P old now s t) where
   -- an answer was found among what was fetched

@@ -154,9 +154,9 @@ items_of : (place : ℕ) (bytes : List ℕ) (xs : List FileItem) → Placed plac
 items_of place bytes [] h = h
 items_of place bytes (x ∷ xs) (item, rest, is, at, spells, others) = (item, rest, is, spells, items_of (place + length item) rest xs others)
 
--- it shows that head and these items
+-- what is so found, shows that head and these items
+pub file_shows : (limit : ℕ) (bytes : List ℕ) (f : FileText) → IsFileText limit bytes f → Shows limit bytes f.head (values_of f.items) f.behind
+file_shows limit bytes f h = record { front = h.front; read = h.read; left = h.left; seen = h.seen; states = h.states; items = items_of (length h.front) h.read f.items h.items; ends = h.ends }
+
 pub text_shows : (limit : ℕ) (bytes : List ℕ) → Shows limit bytes (file_text limit bytes).head (values_of (file_text limit bytes).items) (file_text limit bytes).behind
-text_shows limit bytes = by (file_text limit bytes) (is_file_text limit bytes)
-  where
-    by : (f : FileText) → IsFileText limit bytes f → Shows limit bytes f.head (values_of f.items) f.behind
-    by f h = record { front = h.front; read = h.read; left = h.left; seen = h.seen; states = h.states; items = items_of (length h.front) h.read f.items h.items; ends = h.ends }
+text_shows limit bytes = file_shows limit bytes (file_text limit bytes) (is_file_text limit bytes)

@@ -1,9 +1,8 @@
 -- What runs over the bytes left say of a text that may begin with a head.
 use Rattle.std.proofs.Common.{◌≡◌, ℕ, ◌+◌, ◌-◌, ◌<◌, true, false, List, [], ◌∷◌, ◌++◌, length, take, refl, sym, ap, subst, ◌∙◌, arith, inl, inr, Some, None, Err, append-nil, length-append, take_all, true≢false}
-use Rattle.std.proofs.Math.Nat.{suc-add}
 use Rattle.kl_type.specs.declared.ground.Ty.{Ty}
 use Rattle.kl_exchange.specs.State.{State}
-use Rattle.kl_exchange.proofs.Reading.{front_taken, more_taken}
+use Rattle.kl_exchange.proofs.Reading.{front_taken, more_taken, one_taken}
 use Rattle.kl_heads.specs.Heads.{IsHead}
 use Rattle.kl_heads.specs.Machine.{Run, run, more, ends, fails, deep, advanced, start, may_be_item}
 use Rattle.kl_heads.specs.Reading.{IsNext, NoneNext, IsBad, IsDeep}
@@ -113,10 +112,6 @@ deep_there text front b others n is met sound stop =
       none_next = stuck_next 256 256 text.left (omega arith) (subst Typed (sym is) (typed others)) (subst (λ bs. Stuck 256 (run 256 bs start)) (sym is) (stuck others));
     }
   where
-    one_taken : (front : List ℕ) (b : ℕ) (others : List ℕ) → take (length front + 1) (front ++ b ∷ others) ≡ front ++ b ∷ []
-    one_taken [] b others = refl
-    one_taken (a ∷ front) b others = rw (suc-add (length front) 1) (ap (λ bs. a ∷ bs) (one_taken front b others))
-
     falls : (ys : List ℕ) → run 256 (front ++ b ∷ ys) start ≡ deep (b ∷ ys)
     falls ys = rw (run_append 256 front (b ∷ ys) start, met, stop) refl
 

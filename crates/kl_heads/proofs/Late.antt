@@ -11,8 +11,9 @@ use Rattle.kl_type.specs.Grammar.{put}
 use Rattle.kl_type.specs.declared.ground.Ty.{Ty}
 use Rattle.kl_exchange.specs.Grammar.{is_blank, Blank}
 use Rattle.kl_exchange.proofs.Bytes.{equal, le_from}
+use Rattle.kl_exchange.specs.Machine.{last_of_close}
 use Rattle.kl_heads.specs.Heads.{Types, has_label}
-use Rattle.kl_heads.specs.Machine.{Brackets, Run, run, more, ends, no_head, fails, deep, followed, advanced, start, or_bad, keyword, in_keyword, behind_keyword, type_due, opens_bracket, behind_brace, behind_bracket, record_opened, label_due, in_name, named, in_word, after_type, after_item, after_field, ends_closing, closer_of, base_word, last_of_close, may_be_item}
+use Rattle.kl_heads.specs.Machine.{Brackets, Run, run, more, ends, no_head, fails, deep, followed, advanced, start, or_bad, keyword, in_keyword, behind_keyword, type_due, opens_bracket, behind_brace, behind_bracket, record_opened, label_due, in_name, named, in_word, after_type, after_item, after_field, ends_closing, closer_of, base_word, may_be_item}
 use Rattle.kl_heads.specs.Machine.{Step}
 use Rattle.kl_heads.specs.declared.machine.Base.{Base}
 use Rattle.kl_heads.specs.declared.machine.Shape.{Shape}

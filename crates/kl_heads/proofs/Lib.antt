@@ -15,9 +15,11 @@ pub mod Looking
 pub mod Looks
 pub mod OneAnswer
 pub mod OneEnd
+pub mod OneFile
 pub mod Proper
 pub mod Reaching
 pub mod Runs
 pub mod Scanning
 pub mod Shown
+pub mod SoFar
 pub mod TextReading

@@ -6,7 +6,7 @@ use Rattle.kl_type.specs.declared.ground.Ty.{Ty}
 use Rattle.kl_exchange.specs.FileItems.{Items, FileEnd, WholeText, BadAt, TooDeepAt, PastLimit}
 use Rattle.kl_exchange.specs.Grammar.{Blank}
 use Rattle.kl_exchange.specs.Reading.{NoItem}
-use Rattle.kl_exchange.proofs.FileItems.{one_first}
+use Rattle.kl_exchange.proofs.FileItems.{one_first, taken_front, one_items}
 use Rattle.kl_exchange.proofs.OneAnswer.{one_front}
 use Rattle.kl_exchange.proofs.Reading.{Stuck as StuckItem, none_there, one_item}
 use Rattle.kl_exchange.proofs.Runs.{run_blank as items_blank}
@@ -58,12 +58,6 @@ blank_none false n left blank item rest is (v, i) = blank_items n left blank ite
 
 pub begins_front : (first : Bool) (n : ℕ) (bytes behind : List ℕ) → Begins first n (bytes ++ behind) → Begins first n bytes
 begins_front first n bytes behind b = record { more = behind ++ b.more; whole = subst (MayFollow first n) (append_assoc bytes behind b.more) b.whole }
-
-taken_front : (j k : ℕ) (xs : List ℕ) → j ≤ k → (rest : List ℕ) × (take k xs ≡ take j xs ++ rest)
-taken_front zero k xs le = (take k xs, refl)
-taken_front (suc j) zero xs le = absurd (omega arith)
-taken_front (suc j) (suc k) [] le = ([], refl)
-taken_front (suc j) (suc k) (x ∷ xs) le = let r = taken_front j k xs (omega arith) in (r.0, ap (λ ys. x ∷ ys) r.1)
 
 begins_taken : (first : Bool) (n j k : ℕ) (xs : List ℕ) → j ≤ k → Begins first n (take k xs) → Begins first n (take j xs)
 begins_taken first n j k xs le b = let r = taken_front j k xs le in begins_front first n (take j xs) r.0 (subst (Begins first n) r.1 b)
@@ -153,20 +147,6 @@ no_next_item false n left none item rest v is i = none item rest is (v, i)
 pub cut_front : (a x y : List ℕ) → a ++ x ≡ a ++ y → x ≡ y
 cut_front [] x y e = e
 cut_front (b ∷ a) x y e = let others : a ++ x ≡ a ++ y = cc in cut_front a x y others
-
--- items with no item behind them are all
-one_items : (read left other rest : List ℕ) (vs ws : List Value) → Items read vs → Items other ws → NoItem 256 left → NoItem 256 rest → read ++ left ≡ other ++ rest
-    → (vs ≡ ws) × (left ≡ rest)
-one_items read left other rest [] [] items others none also same = (refl, ap (λ bs. bs ++ left) (sym items) ∙ (same ∙ ap (λ bs. bs ++ rest) others))
-one_items read left other rest [] (w ∷ ws) items others none also same =
-    absurd (none others.0 (others.1 ++ rest) w (ap (λ bs. bs ++ left) (sym items) ∙ (same ∙ (ap (λ bs. bs ++ rest) others.2 ∙ append_assoc others.0 others.1 rest))) others.3)
-one_items read left other rest (v ∷ vs) [] items others none also same =
-    absurd (also items.0 (items.1 ++ left) v (ap (λ bs. bs ++ rest) (sym others) ∙ (sym same ∙ (ap (λ bs. bs ++ left) items.2 ∙ append_assoc items.0 items.1 left))) items.3)
-one_items read left other rest (v ∷ vs) (w ∷ ws) items others none also same =
-    let one = one_first items.0 (items.1 ++ left) others.0 (others.1 ++ rest) v w items.3 others.3
-    (sym (ap (λ bs. bs ++ left) items.2 ∙ append_assoc items.0 items.1 left) ∙ (same ∙ (ap (λ bs. bs ++ rest) others.2 ∙ append_assoc others.0 others.1 rest))) in
-    let r = one_items items.1 left others.1 rest vs ws items.4 others.4 none also one.1 in
-    (ap₂ ◌∷◌ one.0 r.0, r.1)
 
 end_as : (a b : Bool) (p q : ℕ) (xs ys : List ℕ) (finished : Bool) (e : FileEnd) → a ≡ b → p ≡ q → xs ≡ ys → EndsIn a p xs finished e → EndsIn b q ys finished e
 end_as a b p q xs ys finished e same place bytes h =

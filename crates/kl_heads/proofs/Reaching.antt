@@ -2,6 +2,7 @@
 use Rattle.std.proofs.Common.{◌≡◌, ℕ, ◌+◌, ◌≤◌, List, [], ◌∷◌, ◌++◌, length, take, refl, sym, ap, subst, ◌∙◌, arith, ◌⊎◌, inl, inr, Result, Ok, Err, length-append, take_at, lit<}
 use Rattle.std.specs.Prelude.{⊤}
 use Rattle.kl_type.specs.declared.ground.Ty.{Ty}
+use Rattle.kl_exchange.proofs.OneAnswer.{same_front}
 use Rattle.kl_heads.specs.Heads.{IsHead}
 use Rattle.kl_heads.specs.Machine.{Run, run, more, ends, no_head, fails, deep, followed, advanced, start}
 use Rattle.kl_heads.specs.Machine.{Step}
@@ -176,12 +177,6 @@ type_of_run o other = other
 rest_of_run : Run → List ℕ
 rest_of_run (ends t rest) = rest
 rest_of_run o = []
-
--- cutting what follows
-same_front : (a b x : List ℕ) → a ++ x ≡ b ++ x → a ≡ b
-same_front a b x e =
-    let size : length a ≡ length b = omega (arith, ap length e, length-append a x, length-append b x) in
-    sym (take_at a x (length a) refl) ∙ (ap (take (length a)) e ∙ take_at b x (length a) (sym size))
 
 pub one_head : (m n : ℕ) (a b x y : List ℕ) (t u : Ty) → IsHead m a t → IsHead n b u → a ++ x ≡ b ++ y → (a ≡ b) × (t ≡ u)
 unfolding type_of_run rest_of_run

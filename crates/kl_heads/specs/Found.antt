@@ -1,5 +1,5 @@
 -- The head of a file, its items and where each begins, and what stands behind them, as a function of the file's bytes. What
--- it is, `IsFileText` says by the grammar alone (`text_laws`): no contract rests on how it is written here.
+-- it is, `IsFileText` says by the grammar alone, which allows no other (`text_laws`): no contract rests on how it is written here.
 use Rattle.std.specs.Prelude.{◌≡◌, ℕ, ◌+◌, ◌-◌, nat_le, Bool, true, false, cond, List, [], ◌++◌, length, take, map, Option, Some, None}
 use Rattle.std.proofs.Common.{drop}
 use Rattle.kl_type.specs.declared.ground.Ty.{Ty}

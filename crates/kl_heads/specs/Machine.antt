@@ -1,5 +1,5 @@
--- What one byte makes of what a head's bytes have come to. Only contracts of private functions cite this; what a reader
--- answers is said by the grammar.
+-- What one byte makes of what a head's bytes have come to. Contracts of private functions cite this, and the function `file_text`,
+-- which `text_laws` says by the grammar; what a reader answers is said by the grammar.
 use Rattle.std.specs.Prelude.{◌≡◌, ℕ, ◌+◌, Bool, false, ◌&&◌, ◌==◌, nat_lt, cond, codes}
 use Rattle.std.specs.Prelude.{List, [], ◌∷◌, ◌++◌, length, ⊤, Option, Some, None, Result, Ok, Err, slice_index}
 use Rattle.std.specs.Char.{is_ascii_alphabetic}
@@ -10,6 +10,7 @@ use Rattle.kl_type.specs.Grammar.{put}
 use Rattle.kl_type.specs.declared.ground.Ty.{Ty}
 use Rattle.kl_type.specs.declared.ground.Ty.TheVariants as ty
 use Rattle.kl_exchange.specs.Grammar.{is_blank}
+use Rattle.kl_exchange.specs.Machine.{last_of_close}
 use Rattle.kl_heads.specs.Heads.{Types, has_label}
 use Rattle.kl_heads.specs.declared.machine.Base.{Base}
 use Rattle.kl_heads.specs.declared.machine.Base.TheVariants as base
@@ -68,11 +69,6 @@ abbrev pub base_type : Base → Ty
 base_type base.Bool = ty.Bool
 base_type base.Int = ty.Int
 base_type base.Str = ty.Str
-
-abbrev pub last_of_close : Kind → ℕ
-last_of_close kind.Set = 125
-last_of_close kind.Bag = 125
-last_of_close kind.List = 93
 
 abbrev pub closer_of : Shape → ℕ
 closer_of shape.Record = 93

@@ -3,11 +3,11 @@ ghost use Rattle.std.specs.Prelude.{◌≡◌};
 ghost use Rattle.kl_heads.specs.Machine.{LeadsOn, Advances, Brackets, going, opens_bracket, in_keyword, behind_keyword};
 ghost use Rattle.kl_heads.specs.Machine.{type_due, behind_brace, behind_bracket, record_opened, label_due, in_name, named};
 ghost use Rattle.kl_heads.specs.Machine.{in_word, after_type, after_item, after_field, ends_closing, advanced, start};
-ghost use Rattle.kl_heads.specs.Machine.{keyword, base_word, base_type, last_of_close, closer_of, may_be_item};
+ghost use Rattle.kl_heads.specs.Machine.{keyword, base_word, base_type, closer_of, may_be_item};
 
 use crate::fields::Fields;
 use kl_base::{Box, Label, NoMemory};
-use kl_exchange::{Growing, Stack, is_blank};
+use kl_exchange::{Growing, Stack, is_blank, last_of_close};
 use kl_type::Ty;
 use kl_value::Kind;
 use std::alloc::Global;
@@ -423,15 +423,6 @@ fn after_item(alloc: Global, kind: Kind, item: Ty, byte: u8) -> Result<Next, Sto
                 Err(Stop::Bad)
             }
         }
-    }
-}
-
-fn last_of_close(kind: Kind) -> u8
-    ensures { result ≡ last_of_close kind }
-{
-    match kind {
-        Kind::Set | Kind::Bag => b'}',
-        Kind::List => b']',
     }
 }
 

@@ -20,7 +20,7 @@ use Rattle.kl_ask.specs.declared.ask.DriverError.{DriverError}
 use Rattle.kl_ask.specs.declared.ask.DriverError.TheVariants as error
 use Rattle.kl_ask.proofs.Names.{not_same}
 use Rattle.kl_ask.proofs.Worlds.{error_is}
-use Rattle.kl_nested.specs.Contents.{contents_of, first_misfit, head_as, item_ty, spelt_in, stored_as, stored_in, stored_of, stored_unless}
+use Rattle.kl_nested.specs.Contents.{contents_of, first_misfit, head_as, item_ty, stored_as, stored_in, stored_of, stored_unless}
 use Rattle.kl_nested.specs.Desk.{IsDesk, IsKept}
 use Rattle.kl_ask.specs.Named.{source_named}
 use Rattle.kl_nested.specs.Nested.{Sources, Tells, attached_of, head_of, nested_state, read_as}
@@ -123,7 +123,7 @@ module _ (limit : ℕ) (path : List ℕ) (ty : Ty) where
     }
       where
         by : (files : List ℕ → Option (List ℕ)) → f.told ≡ Some files → Stands f.told (Ok kept) → (bs : List ℕ) × (rows : List Value)
-            × (files path ≡ Some bs) × (stored_in limit bs (item_ty ty) ≡ Rows rows) × (kept.count ≡ length rows) × (kept.bytes ≡ length bs) × ((spelt_in limit bs).head ≡ head_of made)
+            × (files path ≡ Some bs) × (stored_in limit bs (item_ty ty) ≡ Rows rows) × (kept.count ≡ length rows) × (kept.bytes ≡ length bs) × (head_as (file_text limit bs).head ≡ head_of made)
         by files is (inl none) = absurd (some_none (sym is ∙ none))
         by files is (inr at) =
             let same : at.0 ≡ files = same_Some _ _ (sym at.2 ∙ is) in

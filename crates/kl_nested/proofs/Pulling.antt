@@ -5,12 +5,12 @@ use Rattle.std.proofs.lemmas.Bool.Decides.{nat_tests}
 use Rattle.std.proofs.lemmas.Option.{same_Some}
 use Rattle.kl_value.specs.declared.Value.{Value}
 use Rattle.kl_type.specs.Ground.{ground_of}
-use Rattle.kl_outside.specs.Files.{FilesState, seen_in}
+use Rattle.kl_outside.specs.Files.{FilesState, Seen, seen_in}
 use Rattle.kl_exchange.specs.FileReading.{SeesMore}
 use Rattle.kl_ask.specs.Asked.{raised_by}
 use Rattle.kl_ask.specs.Asks.{item_of}
 use Rattle.kl_ask.specs.Cursors.{open_at}
-use Rattle.kl_ask.specs.Driver.{Cause, CountsDrift, CountsFault, Cursor, IsAsAttached, IsShown, ReadSoFar, ReadsAnew, Spelt, read_under, Source as Attached, Finishes, Hands as Hand, HasDrifted, IsAskedSql, IsMetAhead, PullResult, Pulls, PullsMore, PullsNone, State, emptied, source_of}
+use Rattle.kl_ask.specs.Driver.{Cause, CountsDrift, CountsFault, Cursor, IsAsAttached, IsShown, Kept, ReadSoFar, ReadsAnew, Spelt, StatesAsKept, read_under, Source as Attached, Finishes, Hands as Hand, HasDrifted, IsAskedSql, IsMetAhead, PullResult, Pulls, PullsMore, PullsNone, State, emptied, source_of}
 use Rattle.kl_ask.specs.declared.ask.Ask.{Ask}
 use Rattle.kl_ask.specs.declared.ask.Ask.TheVariants as asks
 use Rattle.kl_ask.specs.declared.ask.Drift.{Drift}
@@ -23,9 +23,10 @@ use Rattle.kl_nested.specs.Contents.{contents_of, spelt_in}
 use Rattle.kl_nested.specs.Desk.{IsDesk}
 use Rattle.kl_nested.specs.Handing.{Differs, Hands, Refuses, ShowsDrift, StopsBehind}
 use Rattle.kl_ask.specs.Named.{asked_source}
-use Rattle.kl_nested.specs.Nested.{Sources, Tells, attached_of, cursor_of, nested_state, read_as, rows_at}
+use Rattle.kl_nested.specs.Nested.{Sources, Tells, attached_of, cursor_of, head_of, nested_state, read_as, rows_at, stated_of}
 use Rattle.kl_nested.specs.declared.parts.Source.{Source}
 use Rattle.kl_nested.specs.declared.parts.Open.{Open}
+use Rattle.kl_nested.proofs.Shown.{says_head}
 use Rattle.kl_nested.proofs.Progress.{read_there, reads_on, reads_under, under}
 use Rattle.kl_nested.proofs.Starting.{is_there, none_some}
 use Rattle.kl_nested.proofs.Takings.{knows}
@@ -111,6 +112,28 @@ module _ (limit : ℕ) (f : FilesState) (sources : Sources) (cursors : List (Opt
     abbrev New : State
     New = nested_state limit Told sources cursors' asked handed' drifts unread
 
+    its_source_is : (s : Attached) → source_of Old o.ask ≡ Some s → attached_of limit f.told o.source ≡ s
+    its_source_is s at = same_Some _ _ (sym (source_is o.ask o.source (desk.asked cursor o here)) ∙ at)
+
+    -- what the cursor reads its file by has read the head that was kept
+    has_head : 0 < n → (q : Seen) → seen_in g o.file ≡ Some q → (spelt_in limit q.bytes).head q.ended ≡ Some (head_of o.source)
+    has_head some q is =
+        let taken = hand.handed.taken in
+        let so = taken.has_seen q (ap (seen_in g) (hand.reads.same_file ∙ (desk.reading cursor o here).same_file) ∙ is) in
+        elim so.0 [
+          | inl none ↦ absurd (omega (arith, some, hand.handed.after, taken.counted, ap length none.0))
+          | inr has ↦ says_head limit (stated_of o.source) taken.values o'.reader q taken.same_limit has so.1
+        ]
+
+    states_as_kept : 0 < n → (r : ReadsAnew cursor Old New) (s : Attached) → attached_of limit f.told o.source ≡ s → StatesAsKept s r.read (r.spells r.read.bytes)
+    states_as_kept some r s same_source =
+        let was = read_there (seen_in g o.file) r.read (sym (ap (λ x. read_under (option_map (λ (x : Open). x.file) x) New) here) ∙ r.is_read) in
+        let spells : spelt_in limit ≡ r.spells = same_Some _ _ r.kind_spells in
+        subst (λ s. StatesAsKept s r.read (r.spells r.read.bytes)) same_source
+        (subst (λ (spells : List ℕ → Spelt). StatesAsKept (attached_of limit f.told o.source) r.read (spells r.read.bytes)) spells
+        (subst (λ (read : ReadSoFar). StatesAsKept (attached_of limit f.told o.source) read (spelt_in limit read.bytes)) was.2
+        (λ k at. has_head some was.0 was.1 ∙ ap (λ (k : Kept). Some k.head) (same_Some _ _ at))))
+
     more : 0 < n → (c : Cursor) → option_map seen (open_at cursors cursor) ≡ Some c → PullsMore cursor most into into' c Old New
     more some c has = subst (λ c. PullsMore cursor most into into' c Old New) (cursor_is c has) (record {
       rows = rows;
@@ -119,6 +142,7 @@ module _ (limit : ℕ) (f : FilesState) (sources : Sources) (cursors : List (Opt
       now = ap (option_map seen) (changed_now cursors cursors' cursor o o' is made);
       hands = hands some;
       handed = count ∙ ap (λ k. raised_by k handed) (sym hand.handed.size);
+      stated = λ r s at. states_as_kept some r s (its_source_is s at);
     })
 
     none : n ≡ 0 → (c : Cursor) → option_map seen (open_at cursors cursor) ≡ Some c → PullsNone cursor into into' c Old New
@@ -135,9 +159,6 @@ module _ (limit : ℕ) (f : FilesState) (sources : Sources) (cursors : List (Opt
           unchanged = λ r s at. as_attached r s (its_source_is s at);
         })
       where
-        its_source_is : (s : Attached) → source_of Old o.ask ≡ Some s → attached_of limit f.told o.source ≡ s
-        its_source_is s at = same_Some _ _ (sym (source_is o.ask o.source (desk.asked cursor o here)) ∙ at)
-
         as_attached : (r : ReadsAnew cursor Old New) (s : Attached) → attached_of limit f.told o.source ≡ s → IsAsAttached s r.read (r.spells r.read.bytes)
         as_attached r s same_source =
             let was = read_there (seen_in g o.file) r.read (sym (ap (λ x. read_under (option_map (λ (x : Open). x.file) x) New) here) ∙ r.is_read) in

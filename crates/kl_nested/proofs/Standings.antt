@@ -16,7 +16,7 @@ use Rattle.kl_nested.specs.Contents.{first_misfit, stored_behind, stored_in, sto
 use Rattle.kl_nested.specs.Handing.{AllHave}
 use Rattle.kl_heads.proofs.FoundText.{is_file_text, text_shows}
 use Rattle.kl_heads.proofs.OneEnd.{one_text}
-use Rattle.kl_heads.proofs.Reaching.{one_head}
+use Rattle.kl_heads.proofs.OneFile.{one_states}
 use Rattle.kl_heads.proofs.Shown.{first_shown}
 use Rattle.kl_nested.proofs.Places.{none_misfit, misfit_at}
 
@@ -28,11 +28,6 @@ all_have t (x ∷ xs) h = by (has_type x.1 t) refl (all_have t xs)
     by : (b : Bool) → has_type x.1 t ≡ b → (first_misfit t xs ≡ None → AllHave t (values_of xs)) → AllHave t (values_of (x ∷ xs))
     by true is more = (is, more (rw is at h))
     by false is more = absurd (let k = rw is at h in cc)
-
--- a head stands once in the bytes
-same_front : (head : Option Ty) (a b x y : List ℕ) → States head a → States head b → a ++ x ≡ b ++ y → a ≡ b
-same_front None a b x y one other same = one ∙ sym other
-same_front (Some t) a b x y one other same = (one_head 256 256 a b x y t t one other same).0
 
 -- of a file at most `limit` bytes are looked at
 module _ (limit : ℕ) (bytes : List ℕ) (item : Ty) where
@@ -74,7 +69,7 @@ module _ (limit : ℕ) (bytes : List ℕ) (item : Ty) where
       let more : behind.0 ≡ before.items.read ++ (now.items.text.left ++ (r.beyond ++ r.behind)) = r.whole ∙ append_assoc before.items.read now.items.text.left (r.beyond ++ r.behind) in
       let cut : before.front ++ behind.0 ≡ found.front ++ (found.read ++ (found.left ++ drop limit bytes)) =
       sym behind.1 ∙ sym (take-append-drop limit bytes) ∙ ap (λ z. z ++ drop limit bytes) found.seen ∙ append_assoc found.front (found.read ++ found.left) (drop limit bytes) ∙ ap (λ z. found.front ++ z) (append_assoc found.read found.left (drop limit bytes)) in
-      let one : before.front ≡ found.front = same_front head before.front found.front behind.0 (found.read ++ (found.left ++ drop limit bytes)) before.states (subst (λ h. States h found.front) (sym front.0) found.states) cut in
+      let one : before.front ≡ found.front = one_states head before.front found.front behind.0 (found.read ++ (found.left ++ drop limit bytes)) before.states (subst (λ h. States h found.front) (sym front.0) found.states) cut in
       let split : before.items.read ++ (now.items.text.left ++ (r.beyond ++ r.behind)) ≡ found.read ++ (found.left ++ drop limit bytes) =
       sym more ∙ append_cancel_left before.front behind.0 (found.read ++ (found.left ++ drop limit bytes)) (cut ∙ ap (λ z. z ++ (found.read ++ (found.left ++ drop limit bytes))) (sym one)) in
       let at = misfit_at item vs v front.1.0 (length found.front) text.items before.items.read found.read (now.items.text.left ++ (r.beyond ++ r.behind)) (found.left ++ drop limit bytes) before.items.items have misfit found.items split

@@ -1,12 +1,13 @@
 -- What a file of values holds as a source.
 use Rattle.std.specs.Prelude.{ℕ, List, [], ◌∷◌, Option, Some, None, cond}
+use Rattle.std.specs.Option.{option_map}
 use Rattle.kl_value.specs.declared.Value.{Value}
 use Rattle.kl_type.specs.Has.{has_type}
 use Rattle.kl_type.specs.declared.ground.Ty.{Ty, Ty-F, out-Ty}
 use Rattle.kl_exchange.specs.FileItems.{FileEnd, WholeText, BadAt, TooDeepAt, PastLimit}
 use Rattle.kl_exchange.specs.Found.{FileItem, values_of}
 use Rattle.kl_heads.specs.Found.{FileText, file_text}
-use Rattle.kl_heads.specs.Stated.{states_no_other}
+use Rattle.kl_heads.specs.Stated.{states_no_other, stated_in}
 use Rattle.kl_ask.specs.Driver.{Behind, Nothing, StopsAt, Beyond, Spelt, Stored, Missing, Bad, Long, Deep, Rows}
 use Rattle.kl_ask.specs.declared.ask.Head.{Head}
 use Rattle.kl_ask.specs.declared.ask.Head.TheVariants as head
@@ -56,7 +57,7 @@ behind_of PastLimit = Beyond
 -- what bytes spell, of which at most `limit` are looked at
 abbrev pub spelt_in : ℕ → List ℕ → Spelt
 spelt_in limit bytes = record {
-  head = head_as (file_text limit bytes).head;
+  head = λ ended. option_map head_as (stated_in limit ended bytes);
   items = values_of (file_text limit bytes).items;
   behind = behind_of (file_text limit bytes).behind;
 }

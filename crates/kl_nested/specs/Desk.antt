@@ -9,7 +9,8 @@ use Rattle.kl_heads.specs.FileReading.{AsSeen, HasOpened, HasRead, HeadedFile, l
 use Rattle.kl_ask.specs.Cursors.{open_at}
 use Rattle.kl_ask.specs.Driver.{Rows}
 use Rattle.kl_ask.specs.declared.ask.Ask.{Ask}
-use Rattle.kl_nested.specs.Contents.{item_ty, spelt_in, stored_in}
+use Rattle.kl_heads.specs.Found.{file_text}
+use Rattle.kl_nested.specs.Contents.{head_as, item_ty, stored_in}
 use Rattle.kl_ask.specs.Named.{asked_source, source_named}
 use Rattle.kl_nested.specs.Nested.{Sources, Tells, head_of, stated_of}
 use Rattle.kl_nested.specs.declared.parts.Source.{Source}
@@ -30,7 +31,7 @@ pub record IsKept (limit : ℕ) (told : Tells) (s : Source) : Type 0 where
   pub few : s.count ≤ limit
   pub known : (files : List ℕ → Option (List ℕ)) → told ≡ Some files → (bytes : List ℕ) × (rows : List Value)
       × (files s.path ≡ Some bytes) × (stored_in limit bytes (item_ty s.ty) ≡ Rows rows) × (s.count ≡ length rows)
-      × (s.bytes ≡ length bytes) × ((spelt_in limit bytes).head ≡ head_of s)
+      × (s.bytes ≡ length bytes) × (head_as (file_text limit bytes).head ≡ head_of s)
 
 -- Of a file that had `first` left nothing was read, or the head that was kept of the source, or that it has none, and these items.
 abbrev pub HasReadOf : Source → List Value → HeadedFile → Left → Left → Type 0

@@ -80,6 +80,7 @@ module _ (f : FilesState) (sources : Sources) (cursors cursors' : List (Option O
       now = ap (option_map (cursor_of f.told)) (changed_now cursors cursors' cursor o o' is made);
       hands = hands most n into into' o o' hand f.told some;
       handed = count ∙ ap (λ k. raised_by k handed) hand.size;
+      stated = λ r. absurd (reads_none r.is_read);
     })
 
     none : n ≡ 0 → (c : Cursor) → option_map (cursor_of f.told) (open_at cursors cursor) ≡ Some c → PullsNone cursor into into' c (sql_state f sources cursors asked handed unread) (sql_state f sources cursors' asked handed' unread)

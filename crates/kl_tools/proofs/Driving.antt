@@ -190,6 +190,7 @@ module _ (sources : Sources) (cursors cursors' : List (Option Open)) (asked : Li
       now = ap (option_map cursor_of) (changed_now cursors cursors' cursor o o' is made);
       hands = hands some;
       handed = count ∙ ap (λ k. raised_by k handed) (sym size);
+      stated = λ r. absurd (none-some _ r.is_read);
     })
 
     none : n ≡ 0 → (c : Cursor) → cursor_at cursors cursor ≡ Some c → PullsNone cursor into into' c (made_state sources cursors asked handed) (made_state sources cursors' asked handed')
