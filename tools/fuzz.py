@@ -238,9 +238,9 @@ def fewer_rows(text):
 
 def other_words(words, choose):
     words = list(words)
-    if words[0] == "show" and choose.random() < 0.3:
+    if words[0] == "show" and len(words) > 1 and choose.random() < 0.3:
         words = ["upgrade", words[1], choose.choice(TYPES).decode()]
-    if words[0] == "upgrade" and choose.random() < 0.4:
+    if words[0] == "upgrade" and len(words) > 2 and choose.random() < 0.4:
         # (a word of the command line ends at a byte 0, and is UTF-8)
         words[2] = changed(words[2].encode(), TYPES, choose).replace(b"\0", b"").decode(errors="ignore")
     if words[0] in ("run", "explain", "check", "types") and choose.random() < 0.3:
