@@ -1,0 +1,11 @@
+pub mod Holding
+pub mod Meaning
+pub mod Typings
+pub mod Programs
+pub mod Ending
+pub mod ProgramEnding
+pub mod Counting
+pub mod Accepting
+pub mod ProgramAccepting
+pub mod Shaping
+pub mod Fields

@@ -1,0 +1,41 @@
+//! Laws of expansions.
+ghost use Rattle.std.specs.Prelude.{◌≡◌, ◌↔◌, List, Option, ℕ};
+ghost use Rattle.kl_value.specs.declared.Value.{Value};
+ghost use Rattle.kl_type.specs.Ground.{Ground};
+ghost use Rattle.kl_outcome.specs.Outcome.{Name, Outcome};
+ghost use Rattle.kl_syntax.specs.Syntax.{Exp, Decls};
+ghost use Rattle.kl_meaning.specs.Run.{meaning_of_program};
+ghost use Rattle.kl_meaning.specs.Typing.{ProgramTypes, HasTyping};
+ghost use Rattle.kl_ho.specs.Expansion.{New, IsExpansionAt};
+ghost use Rattle.kl_ho.specs.Functions.{AreFunctionFields, HaveSameParts};
+ghost use Rattle.kl_ho.specs.Highers.{Highers, Funs};
+ghost use Rattle.kl_ho.specs.HoPrograms.{FunctionFields, ProgramComes, HoProgramTypes, HoHasTyping, IsExpansion};
+ghost use Rattle.kl_ho.specs.Keeps.{AreOld, KnowsFirst, KeepsDecls, IsAccepted};
+ghost use Rattle.kl_ho.specs.Nodes.{nodes};
+ghost use Rattle.kl_ho.specs.Shapes.{Chooses, DefinesOld, World};
+
+/// The laws of expansions. At some depth the outcome of a program comes, and it is that of its expansion; at no depth
+/// another outcome comes. A program has the types of its expansion. The expansion of a program that keeps to the rules of
+/// scope has no breach, and there is one, where each list of names leaves a new one. All expansions of an expression have
+/// as many expressions.
+pub fn expansion_laws()
+    ensures comes { (fields : FunctionFields) (ds : Decls) (e : Exp) (cs : Decls) (x : Exp) → IsExpansion fields ds e cs x → (sources : List (Name × Value))
+        → (n : ℕ) × ProgramComes n fields ds e sources (meaning_of_program cs x sources) }
+    ensures comes_alone { (fields : FunctionFields) (ds : Decls) (e : Exp) (cs : Decls) (x : Exp) → IsExpansion fields ds e cs x → (sources : List (Name × Value)) (n : ℕ) (o : Outcome)
+        → ProgramComes n fields ds e sources o → o ≡ meaning_of_program cs x sources }
+    ensures types { (fields : FunctionFields) (ds : Decls) (e : Exp) (cs : Decls) (x : Exp) → IsExpansion fields ds e cs x → (sources : List (Name × Ground)) (t : Ground)
+        → HoProgramTypes fields ds e sources t ↔ ProgramTypes cs x sources t }
+    ensures typing { (fields : FunctionFields) (ds : Decls) (e : Exp) (cs : Decls) (x : Exp) → IsExpansion fields ds e cs x → (sources : List (Name × Ground))
+        → HoHasTyping fields ds e sources ↔ HasTyping cs x sources }
+    ensures accepted { (fields : FunctionFields) (ds : Decls) (e : Exp) (cs : Decls) (x : Exp) → IsExpansion fields ds e cs x → (sources : List Name) (world : World) (arity : Name → Option ℕ)
+        → KnowsFirst sources world arity → KeepsDecls fields ds e world arity → IsAccepted cs x sources }
+    ensures has_expansion { (fields : FunctionFields) (is_new : New) (sources : List Name) (world : World) (arity : Name → Option ℕ) (ds : Decls) (e : Exp) → Chooses is_new → AreOld is_new arity
+        → DefinesOld is_new ds → KnowsFirst sources world arity → KeepsDecls fields ds e world arity → (cs : Decls) × (x : Exp) × IsExpansion fields ds e cs x }
+    ensures same_size { (highers : Highers) (n m : ℕ) (funs : Funs) (e x y : Exp) → IsExpansionAt n highers funs e x → IsExpansionAt m highers funs e y → nodes x ≡ nodes y }
+{}
+
+/// The function fields of a program's definitions, as the least ones that its calls make so, are unique: whatever two lists
+/// of labels have them, the definitions have the same parts.
+pub fn function_field_laws()
+    ensures unique { (fields also : FunctionFields) (ds : Decls) (sources : List Name) → AreFunctionFields fields ds sources → AreFunctionFields also ds sources → HaveSameParts fields also ds }
+{}
