@@ -106,7 +106,7 @@ module _ (is_new : New) (g : scope.Scope) where
 
 -- ---- labels and variables, none of them twice
 
-split_clean : (xs ys : List Finding) → Clean (xs ++ ys) → Clean xs × Clean ys
+pub split_clean : (xs ys : List Finding) → Clean (xs ++ ys) → Clean xs × Clean ys
 split_clean [] ys h = (tt, h)
 split_clean (x ∷ xs) ys h = let r = split_clean xs ys h.1 in ((h.0, r.0), r.1)
 
@@ -114,7 +114,7 @@ pub none_clean : (b : Bool) (f : Finding) → b ≡ false → Clean (only_if b f
 none_clean true f e = absurd (true≢false e)
 none_clean false f e = tt
 
-clean_none : (b : Bool) (e : ScopeError) → Clean (only_if b (breach e)) → b ≡ false
+pub clean_none : (b : Bool) (e : ScopeError) → Clean (only_if b (breach e)) → b ≡ false
 clean_none true e h = absurd h.0
 clean_none false e h = refl
 
@@ -122,7 +122,7 @@ not_true : (b c : Bool) → (b ≡ true → c ≡ true) → c ≡ false → b �
 not_true true c h e = absurd (true≢false (sym (h refl) ∙ e))
 not_true false c h e = refl
 
-repeat_step : (b b' : List Name) (w w' : Word) (ws ws' : List Word) → (scope_findings.is_among w'.text b' ≡ true → scope_findings.is_among w.text b ≡ true) → Clean (repeated b (w ∷ ws))
+pub repeat_step : (b b' : List Name) (w w' : Word) (ws ws' : List Word) → (scope_findings.is_among w'.text b' ≡ true → scope_findings.is_among w.text b ≡ true) → Clean (repeated b (w ∷ ws))
     → (Clean (repeated (w.text ∷ b) ws) → Clean (repeated (w'.text ∷ b') ws')) → Clean (repeated b' (w' ∷ ws'))
 repeat_step b b' w w' ws ws' h c go =
     let r = split_clean (only_if (scope_findings.is_among w.text b) (breach (Twice w.text w.token))) (repeated (w.text ∷ b) ws) c in
@@ -140,7 +140,7 @@ labels_clean (p_more {l = l} {m = m} {ps = ps} {qs = qs} e p h) b c = same_repea
 abbrev Linked : List Name → List Name → Scope → Type 0
 Linked b b' S = (x y : Name) → HidesNone x y S → scope_findings.is_among y b' ≡ true → scope_findings.is_among x b ≡ true
 
-or_more : (a b c d : Bool) → (a ≡ true → c ≡ true) → (b ≡ true → d ≡ true) → (a || b) ≡ true → (c || d) ≡ true
+pub or_more : (a b c d : Bool) → (a ≡ true → c ≡ true) → (b ≡ true → d ≡ true) → (a || b) ≡ true → (c || d) ≡ true
 or_more true b c d f g e = or_left c d (f refl)
 or_more false b true d f g e = refl
 or_more false b false d f g e = g e
@@ -188,11 +188,11 @@ module _ (is_new : New) (O : Scope) where
 
 -- ---- sure patterns
 
-nil_left : {A : Type 0} (xs ys : List A) → xs ++ ys ≡ [] → xs ≡ []
+pub nil_left : {A : Type 0} (xs ys : List A) → xs ++ ys ≡ [] → xs ≡ []
 nil_left [] ys e = refl
 nil_left (x ∷ xs) ys e = let n : ⊥ = cc in absurd n
 
-nil_right : {A : Type 0} (xs ys : List A) → xs ++ ys ≡ [] → ys ≡ []
+pub nil_right : {A : Type 0} (xs ys : List A) → xs ++ ys ≡ [] → ys ≡ []
 nil_right [] ys e = e
 nil_right (x ∷ xs) ys e = let n : ⊥ = cc in absurd n
 
@@ -216,7 +216,7 @@ abbrev pub pushed : List Word → List Name → List Name
 pushed [] ys = ys
 pushed (w ∷ ws) ys = pushed ws (w.text ∷ ys)
 
-pushed_both : (xs zs : List Word) (ys : List Name) → pushed (xs ++ zs) ys ≡ pushed zs (pushed xs ys)
+pub pushed_both : (xs zs : List Word) (ys : List Name) → pushed (xs ++ zs) ys ≡ pushed zs (pushed xs ys)
 pushed_both [] zs ys = refl
 pushed_both (x ∷ xs) zs ys = pushed_both xs zs (x.text ∷ ys)
 
@@ -261,7 +261,7 @@ counts_same : {is_new : New} {highers : Highers} {n : ℕ} {funs : Funs} {S : Sc
 counts_same a_none = refl
 counts_same (a_more e es) = ap suc (counts_same es)
 
-abbrev Includes : List Name → List Name → Type 0
+abbrev pub Includes : List Name → List Name → Type 0
 Includes b b' = (x : Name) → scope_findings.is_among x b' ≡ true → scope_findings.is_among x b ≡ true
 
 field_labels_clean : {is_new : New} {highers : Highers} {n : ℕ} {funs : Funs} {S : Scope} {skips : List (Name × Name)} {fs gs : Flds} → FieldsExpand is_new highers n funs S skips fs gs → (b b' : List Name)

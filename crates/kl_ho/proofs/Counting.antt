@@ -11,7 +11,7 @@ use Rattle.kl_ho.specs.Expansion.{e_if, e_let, e_case, e_path, e_not, e_neg, e_c
 use Rattle.kl_ho.specs.Expansion.{f_none, f_skip, f_more, QualsExpand, q_none, q_draw, q_test, BranchesExpand, b_none}
 use Rattle.kl_ho.specs.Expansion.{b_otherwise, b_more, StepsExpand, s_none, s_more}
 
-some_none : {A : Type 0} {a : A} {o : Option A} → o ≡ Some a → o ≡ None → ⊥
+pub some_none : {A : Type 0} {a : A} {o : Option A} → o ≡ Some a → o ≡ None → ⊥
 some_none e f = true≢false (sym (ap is_some e) ∙ ap is_some f)
 
 module _ (is_new also_new : New) (highers : Highers) where
@@ -41,11 +41,11 @@ module _ (is_new also_new : New) (highers : Highers) where
     same_nodes (e_neg a) (e_neg b) = ap suc (same_nodes a b)
     same_nodes (e_chain a ss) (e_chain b rs) = ap suc (ap₂ (λ i j. i + j) (same_nodes a b) (same_steps ss rs))
 
-    same_all : {n m : ℕ} {funs : Funs} {S T : Scope} {es xs ys : Exps} → ExpandAll is_new highers n funs S es xs → ExpandAll also_new highers m funs T es ys → nodes_all xs ≡ nodes_all ys
+    pub same_all : {n m : ℕ} {funs : Funs} {S T : Scope} {es xs ys : Exps} → ExpandAll is_new highers n funs S es xs → ExpandAll also_new highers m funs T es ys → nodes_all xs ≡ nodes_all ys
     same_all a_none a_none = refl
     same_all (a_more e es) (a_more f fs) = ap₂ (λ i j. i + j) (same_nodes e f) (same_all es fs)
 
-    same_fields : {n m : ℕ} {funs : Funs} {S T : Scope} {skips : List (Name × Name)} {fs gs hs : Flds} → FieldsExpand is_new highers n funs S skips fs gs → FieldsExpand also_new highers m funs T skips fs hs
+    pub same_fields : {n m : ℕ} {funs : Funs} {S T : Scope} {skips : List (Name × Name)} {fs gs hs : Flds} → FieldsExpand is_new highers n funs S skips fs gs → FieldsExpand also_new highers m funs T skips fs hs
         → nodes_fields gs ≡ nodes_fields hs
     same_fields f_none f_none = refl
     same_fields (f_skip s fs) (f_skip t gs) = same_fields fs gs
@@ -53,16 +53,16 @@ module _ (is_new also_new : New) (highers : Highers) where
     same_fields (f_skip s fs) (f_more u v f gs) = absurd (true≢false (sym s ∙ ap is_some u))
     same_fields (f_more s t e fs) (f_skip u gs) = absurd (true≢false (sym u ∙ ap is_some s))
 
-    same_quals : {n m : ℕ} {funs : Funs} {S T U V : Scope} {qs rs ts : Quals} → QualsExpand is_new highers n funs S qs rs U → QualsExpand also_new highers m funs T qs ts V → nodes_quals rs ≡ nodes_quals ts
+    pub same_quals : {n m : ℕ} {funs : Funs} {S T U V : Scope} {qs rs ts : Quals} → QualsExpand is_new highers n funs S qs rs U → QualsExpand also_new highers m funs T qs ts V → nodes_quals rs ≡ nodes_quals ts
     same_quals q_none q_none = refl
     same_quals (q_draw e p qs) (q_draw f r rs) = ap₂ (λ i j. i + j) (same_nodes e f) (same_quals qs rs)
     same_quals (q_test e qs) (q_test f rs) = ap₂ (λ i j. i + j) (same_nodes e f) (same_quals qs rs)
 
-    same_branches : {n m : ℕ} {funs : Funs} {S T : Scope} {bs cs ds : Branches} → BranchesExpand is_new highers n funs S bs cs → BranchesExpand also_new highers m funs T bs ds → nodes_branches cs ≡ nodes_branches ds
+    pub same_branches : {n m : ℕ} {funs : Funs} {S T : Scope} {bs cs ds : Branches} → BranchesExpand is_new highers n funs S bs cs → BranchesExpand also_new highers m funs T bs ds → nodes_branches cs ≡ nodes_branches ds
     same_branches b_none b_none = refl
     same_branches (b_otherwise e) (b_otherwise f) = same_nodes e f
     same_branches (b_more t p e bs) (b_more u q f cs) = ap₂ (λ i j. i + j) (same_nodes e f) (same_branches bs cs)
 
-    same_steps : {n m : ℕ} {funs : Funs} {S T : Scope} {ss rs ts : Steps} → StepsExpand is_new highers n funs S ss rs → StepsExpand also_new highers m funs T ss ts → nodes_steps rs ≡ nodes_steps ts
+    pub same_steps : {n m : ℕ} {funs : Funs} {S T : Scope} {ss rs ts : Steps} → StepsExpand is_new highers n funs S ss rs → StepsExpand also_new highers m funs T ss ts → nodes_steps rs ≡ nodes_steps ts
     same_steps s_none s_none = refl
     same_steps (s_more e ss) (s_more f rs) = ap₂ (λ i j. i + j) (same_nodes e f) (same_steps ss rs)

@@ -51,26 +51,26 @@ module _ (is_new : New) (highers : Highers) where
     raise (e_neg a) m h = e_neg (raise a m h)
     raise (e_chain a ss) m h = e_chain (raise a m h) (raise_steps ss m h)
 
-    raise_all : {n : ℕ} {funs : Funs} {S : Scope} {es xs : Exps} → ExpandAll is_new highers n funs S es xs → (m : ℕ) → n ≤ m → ExpandAll is_new highers m funs S es xs
+    pub raise_all : {n : ℕ} {funs : Funs} {S : Scope} {es xs : Exps} → ExpandAll is_new highers n funs S es xs → (m : ℕ) → n ≤ m → ExpandAll is_new highers m funs S es xs
     raise_all a_none m h = a_none
     raise_all (a_more e es) m h = a_more (raise e m h) (raise_all es m h)
 
-    raise_fields : {n : ℕ} {funs : Funs} {S : Scope} {skips : List (Name × Name)} {fs gs : Flds} → FieldsExpand is_new highers n funs S skips fs gs → (m : ℕ) → n ≤ m → FieldsExpand is_new highers m funs S skips fs gs
+    pub raise_fields : {n : ℕ} {funs : Funs} {S : Scope} {skips : List (Name × Name)} {fs gs : Flds} → FieldsExpand is_new highers n funs S skips fs gs → (m : ℕ) → n ≤ m → FieldsExpand is_new highers m funs S skips fs gs
     raise_fields f_none m h = f_none
     raise_fields (f_skip s fs) m h = f_skip s (raise_fields fs m h)
     raise_fields (f_more s t e fs) m h = f_more s t (raise e m h) (raise_fields fs m h)
 
-    raise_quals : {n : ℕ} {funs : Funs} {S T : Scope} {qs rs : Quals} → QualsExpand is_new highers n funs S qs rs T → (m : ℕ) → n ≤ m → QualsExpand is_new highers m funs S qs rs T
+    pub raise_quals : {n : ℕ} {funs : Funs} {S T : Scope} {qs rs : Quals} → QualsExpand is_new highers n funs S qs rs T → (m : ℕ) → n ≤ m → QualsExpand is_new highers m funs S qs rs T
     raise_quals q_none m h = q_none
     raise_quals (q_draw e p qs) m h = q_draw (raise e m h) p (raise_quals qs m h)
     raise_quals (q_test e qs) m h = q_test (raise e m h) (raise_quals qs m h)
 
-    raise_branches : {n : ℕ} {funs : Funs} {S : Scope} {bs cs : Branches} → BranchesExpand is_new highers n funs S bs cs → (m : ℕ) → n ≤ m → BranchesExpand is_new highers m funs S bs cs
+    pub raise_branches : {n : ℕ} {funs : Funs} {S : Scope} {bs cs : Branches} → BranchesExpand is_new highers n funs S bs cs → (m : ℕ) → n ≤ m → BranchesExpand is_new highers m funs S bs cs
     raise_branches b_none m h = b_none
     raise_branches (b_otherwise e) m h = b_otherwise (raise e m h)
     raise_branches (b_more t p e bs) m h = b_more t p (raise e m h) (raise_branches bs m h)
 
-    raise_steps : {n : ℕ} {funs : Funs} {S : Scope} {ss rs : Steps} → StepsExpand is_new highers n funs S ss rs → (m : ℕ) → n ≤ m → StepsExpand is_new highers m funs S ss rs
+    pub raise_steps : {n : ℕ} {funs : Funs} {S : Scope} {ss rs : Steps} → StepsExpand is_new highers n funs S ss rs → (m : ℕ) → n ≤ m → StepsExpand is_new highers m funs S ss rs
     raise_steps s_none m h = s_none
     raise_steps (s_more e ss) m h = s_more (raise e m h) (raise_steps ss m h)
 

@@ -9,3 +9,5 @@ pub mod Accepting
 pub mod ProgramAccepting
 pub mod Shaping
 pub mod Fields
+pub mod Scoping
+pub mod ProgramScoping

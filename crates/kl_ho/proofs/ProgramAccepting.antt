@@ -27,7 +27,7 @@ use Rattle.kl_ho.proofs.Fields.{nothing_contained}
 use Rattle.kl_ho.proofs.Accepting.{At, both_clean, none_clean, pushed, all_bound_is, at_after, BodyKeeps, TableAt, Fitting}
 use Rattle.kl_ho.proofs.Accepting.{sure_clean, clean}
 
-flipped : (x d : Name) → same_name x d ≡ false → bytes_eq d x ≡ false
+pub flipped : (x d : Name) → same_name x d ≡ false → bytes_eq d x ≡ false
 flipped x d e = by_name (bytes_eq d x) refl
   where
     by_name : (b : Bool) → bytes_eq d x ≡ b → b ≡ false

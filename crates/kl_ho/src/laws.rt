@@ -12,7 +12,8 @@ ghost use Rattle.kl_ho.specs.Highers.{Highers, Funs};
 ghost use Rattle.kl_ho.specs.HoPrograms.{FunctionFields, ProgramComes, HoProgramTypes, HoHasTyping, IsExpansion};
 ghost use Rattle.kl_ho.specs.Keeps.{AreOld, KnowsFirst, KeepsDecls, IsAccepted};
 ghost use Rattle.kl_ho.specs.Nodes.{nodes};
-ghost use Rattle.kl_ho.specs.Shapes.{Chooses, DefinesOld, World};
+ghost use Rattle.kl_ho.specs.Plain.{CatchFunctions, HasNoBreach, first_arity, first_world};
+ghost use Rattle.kl_ho.specs.Shapes.{Chooses, DefinesOld, IsShapedDecls, World};
 
 /// The laws of expansions. At some depth the outcome of a program comes, and it is that of its expansion; at no depth
 /// another outcome comes. A program has the types of its expansion. The expansion of a program that keeps to the rules of
@@ -32,6 +33,14 @@ pub fn expansion_laws()
     ensures has_expansion { (fields : FunctionFields) (is_new : New) (sources : List Name) (world : World) (arity : Name → Option ℕ) (ds : Decls) (e : Exp) → Chooses is_new → AreOld is_new arity
         → DefinesOld is_new ds → KnowsFirst sources world arity → KeepsDecls fields ds e world arity → (cs : Decls) × (x : Exp) × IsExpansion fields ds e cs x }
     ensures same_size { (highers : Highers) (n m : ℕ) (funs : Funs) (e x y : Exp) → IsExpansionAt n highers funs e x → IsExpansionAt m highers funs e y → nodes x ≡ nodes y }
+{}
+
+/// What may be refused. A program whose functions keep to their shapes, and which breaks no rule of names once its functions
+/// are taken out, keeps to the rules over what stands before a program.
+pub fn scoping_laws()
+    ensures keeps { (fields : FunctionFields) (ds : Decls) (e : Exp) (sources : List Name) → CatchFunctions fields ds → IsShapedDecls fields ds e (first_world sources) → HasNoBreach fields ds e sources
+        → KeepsDecls fields ds e (first_world sources) (first_arity sources) }
+    ensures first { (sources : List Name) → KnowsFirst sources (first_world sources) (first_arity sources) }
 {}
 
 /// The function fields of a program's definitions, as the least ones that its calls make so, are unique: whatever two lists

@@ -7,4 +7,4 @@
 
 mod laws;
 
-pub use laws::{expansion_laws, function_field_laws};
+pub use laws::{expansion_laws, function_field_laws, scoping_laws};
