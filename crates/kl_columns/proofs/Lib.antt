@@ -1,0 +1,5 @@
+pub mod Entries
+pub mod Equal
+pub mod Held
+pub mod Narrowed
+pub mod Walked

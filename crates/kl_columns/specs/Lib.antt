@@ -1,0 +1,6 @@
+pub mod Answering
+pub mod Listing
+pub mod Narrowing
+pub mod Refusals
+pub mod Words
+pub mod Writing

@@ -1,0 +1,29 @@
+-- The narrowest types of columns.
+use Rattle.std.specs.Prelude.{ℕ, Bool, List, cond, length, map, is_some}
+use Rattle.std.specs.List.{list_all, range_with_len}
+use Rattle.kl_type.specs.declared.ground.Ty.{Ty}
+use Rattle.kl_type.specs.declared.ground.Ty.TheVariants as ty
+use Rattle.kl_flat.specs.Cells.{cell_value}
+use Rattle.kl_flat.specs.ColumnTable.{rows_of}
+use Rattle.kl_flat.specs.Held.{text_at}
+use Rattle.kl_flat.specs.Table.{Columns}
+use Rattle.kl_flat.specs.declared.column_table.ColumnTable.{ColumnTable}
+use Rattle.kl_flat.specs.declared.held.Cells.{Cells}
+use Rattle.kl_flat.specs.declared.held.Cells.TheVariants as cells
+
+abbrev pub reads_as : Ty → List ℕ → Bool
+reads_as t cell = is_some (cell_value cell t)
+
+-- `int` where each cell reads as one, else `bool` where each does, else `string`
+abbrev pub narrowest : List (List ℕ) → Ty
+narrowest texts = cond (list_all (reads_as ty.Int) texts) ty.Int (cond (list_all (reads_as ty.Bool) texts) ty.Bool ty.Str)
+
+-- the same of the first cells of a column that is held as texts
+abbrev pub narrow_type : ℕ → Cells → Ty
+narrow_type rows (cells.Text texts) = narrowest (map (text_at texts) (range_with_len 0 rows))
+narrow_type rows (cells.Bool truths) = ty.Str
+narrow_type rows (cells.Int numbers) = ty.Str
+
+-- the columns of a table with their narrowest types
+abbrev pub narrow_columns : ColumnTable → Columns
+narrow_columns t = map (λ c. (c.label, narrow_type (length (rows_of t)) c.cells)) t.columns.items

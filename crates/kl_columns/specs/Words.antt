@@ -1,0 +1,23 @@
+-- What the words ask for.
+use Rattle.std.specs.Prelude.{ℕ, Bool, not, ◌&&◌, ◌==◌, List, length, cond, codes, filter, nat_eq}
+use Rattle.std.specs.Cmp.Lexicographic.{pointwise}
+use Rattle.std.specs.List.{ends_with, list_all, list_any}
+
+-- the option: tables are for the server of SQL
+abbrev pub is_option : List ℕ → Bool
+is_option word = pointwise nat_eq word (codes "--sql")
+
+-- each other word is a path
+abbrev pub paths_of : List (List ℕ) → List (List ℕ)
+paths_of words = filter (λ word. not (is_option word)) words
+
+-- the driver that is to read the tables
+abbrev pub driver_of : List (List ℕ) → List ℕ
+driver_of words = cond (list_any is_option words) (codes "sql") (codes "flat")
+
+abbrev pub is_table : List ℕ → Bool
+is_table path = ends_with nat_eq path (codes ".csv")
+
+-- paths of tables, one at least
+abbrev pub are_tables : List (List ℕ) → Bool
+are_tables paths = list_all is_table paths && not (length paths == 0)

@@ -1,0 +1,47 @@
+//! Types of tables.
+ghost use Rattle.std.specs.Prelude.{◌≡◌, IfOk, map};
+ghost use Rattle.kl_ask.specs.Tables.{columns_of};
+ghost use Rattle.kl_columns.specs.Narrowing.{narrow_columns};
+
+use crate::narrowing::narrowest;
+use kl_base::{Box, Label, NoMemory, Seq};
+use kl_flat::ColumnTable;
+use kl_type::Ty;
+use kl_value::Kind;
+use std::alloc::Global;
+use std::collections::BTreeMap;
+
+/// The type of a bag of records whose fields are texts.
+///
+/// # Errors
+/// Want of memory.
+pub fn of_texts(alloc: Global, labels: Vec<Label>) -> Result<Ty, NoMemory> {
+    let mut columns = BTreeMap::new(alloc);
+    for label in labels {
+        columns.insert(label, Ty::Str)?;
+    }
+    bag_of(alloc, columns.into_iter().collect(alloc)?)
+}
+
+/// The type of a table of texts with the narrowest type of each column.
+///
+/// # Errors
+/// Want of memory.
+pub fn narrowed(alloc: Global, table: &ColumnTable) -> Result<Ty, NoMemory>
+    ensures { IfOk result (λ ty. columns_of ty ≡ narrow_columns table.now) }
+{
+    let columns = table.columns();
+    let mut fields = Vec::with_capacity(alloc, columns.len())?;
+    for column in columns {
+        let label = column.label.dup()?;
+        fields.push((label, narrowest(&column.cells, table.len())))?;
+    }
+    bag_of(alloc, fields)
+}
+
+fn bag_of(alloc: Global, fields: Vec<(Label, Ty)>) -> Result<Ty, NoMemory>
+    ensures { IfOk result (λ ty. columns_of ty ≡ fields.items) }
+{
+    let row = Box::new(alloc, Ty::Rec(Seq::of(fields)))?;
+    Ok(Ty::Coll(Kind::Bag, row))
+}

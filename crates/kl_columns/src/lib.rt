@@ -1,0 +1,22 @@
+//! Catalogues that write themselves: for tables the entries by which programs read them.
+//!
+//! `klcat` does what the words of its command line say: of each table it finds out the columns and their types, and prints
+//! the catalogue of all of them. What it prints was read back before, and each table was read as its type.
+//!
+//! What `rt plant` lets through here: bodies that answer want of memory, which no contract of this project ties to a
+//! refused growth, and other names, which no contract fixes.
+#![tactic(auto)]
+
+mod columns;
+mod header;
+mod listing;
+mod naming;
+mod narrowing;
+mod refusal;
+mod table;
+mod top;
+mod words;
+mod writing;
+
+pub use refusal::{Refusal, put_line, status};
+pub use top::klcat;

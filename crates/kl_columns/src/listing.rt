@@ -1,0 +1,115 @@
+//! The catalogue of tables.
+ghost use Rattle.std.specs.Prelude.{◌≡◌, ◌++◌, ◌∷◌, [], OnOk, IfOk};
+ghost use Rattle.std.specs.List.{flat_map};
+ghost use Rattle.kl_catalogue.specs.Reading.{IsCatalogue};
+ghost use Rattle.kl_columns.specs.Listing.{IsCatalogueOf, IsEntryFor, ListAll};
+ghost use Rattle.kl_columns.specs.Writing.{entry_line};
+
+use crate::naming::free_name;
+use crate::refusal::Refusal;
+use crate::table::type_of_file;
+use crate::writing::put_entry;
+use kl_base::{Label, NoMemory, Seq, Text};
+use kl_catalogue::{Catalogue, CatalogueError, Entry, read_catalogue};
+use kl_outside::Files;
+use kl_type::Ty;
+use std::alloc::Global;
+
+// The greatest length of a catalogue.
+const MOST_BYTES: usize = 65_536;
+
+/// The text of the catalogue of the tables at these paths. What is left out of it is told behind the notes.
+///
+/// # Errors
+/// What is wrong with the first file that is wrong, or the catalogue's length. Want of memory.
+pub fn catalogue_of<F: Files>(
+    alloc: Global,
+    files: &mut F,
+    driver: &[u8],
+    paths: &[Text],
+    notes: &mut Vec<u8>,
+) -> Result<Text, Refusal>
+    ensures { IfOk result (λ page. IsCatalogueOf (F.state files.old).told driver.now paths.now page) }
+{
+    let entries = entries_of(alloc, files, driver, paths, notes)?;
+    page_of(alloc, &Seq::of(entries))
+}
+
+fn entries_of<F: Files>(
+    alloc: Global,
+    files: &mut F,
+    driver: &[u8],
+    paths: &[Text],
+    notes: &mut Vec<u8>,
+) -> Result<Vec<Entry>, Refusal>
+    ensures { IfOk result (λ entries. ListAll (F.state files.old).told driver.now paths.now entries.items) }
+{
+    let mut entries = Vec::new(alloc);
+    'paths: for path in paths {
+        let ty = type_of_file(alloc, files, path, notes)?;
+        let entry = entry_of(alloc, &entries, driver, path, ty)?;
+        add(&mut entries, entry)?;
+    }
+    Ok(entries)
+}
+
+fn add(entries: &mut Vec<Entry>, entry: Entry) -> Result<(), NoMemory>
+    ensures { OnOk result (entries.new.items ≡ entries.old.items ++ entry ∷ []) }
+{
+    entries.push(entry)?;
+    Ok(())
+}
+
+fn entry_of(
+    alloc: Global,
+    entries: &[Entry],
+    driver: &[u8],
+    path: &Text,
+    ty: Ty,
+) -> Result<Entry, NoMemory>
+    ensures { IfOk result (IsEntryFor entries.now driver.now path.now ty) }
+{
+    let name = free_name(alloc, entries, path.slice())?;
+    let Some(driver) = Label::new(alloc, driver)? else {
+        return Err(NoMemory);
+    };
+    Ok(Entry {
+        name,
+        ty,
+        driver,
+        locator: path.dup(alloc)?,
+    })
+}
+
+// The text of a catalogue, which reads back as it.
+fn page_of(alloc: Global, entries: &Catalogue) -> Result<Text, Refusal>
+    ensures text { IfOk result (λ page. page ≡ flat_map entry_line entries.now) }
+    ensures reads { IfOk result (λ page. IsCatalogue page entries.now) }
+{
+    let page = text_of(alloc, entries)?;
+    if page.len() > MOST_BYTES {
+        return Err(Refusal::CatalogueBytes);
+    }
+    match read_catalogue(alloc, page.slice()) {
+        Ok(read) => {
+            if read == *entries {
+                Ok(page)
+            } else {
+                Err(Refusal::BadCatalogue { byte: 0 })
+            }
+        }
+        Err(CatalogueError::Bad { byte }) => Err(Refusal::BadCatalogue { byte }),
+        Err(CatalogueError::TooDeep { byte }) => Err(Refusal::BadCatalogue { byte }),
+        Err(CatalogueError::NoMemory) => Err(Refusal::NoMemory),
+    }
+}
+
+fn text_of(alloc: Global, entries: &Catalogue) -> Result<Text, NoMemory>
+    ensures { IfOk result (λ page. page ≡ flat_map entry_line entries.now) }
+{
+    let mut page = Vec::new(alloc);
+    for entry in entries.slice() {
+        put_entry(alloc, entry, &mut page)?;
+    }
+    Ok(Text::of(page))
+}

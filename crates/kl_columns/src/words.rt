@@ -1,0 +1,73 @@
+//! The words of the command line.
+ghost use Rattle.std.specs.Prelude.{◌≡◌, ◌∷◌, ◌++◌, [], map, string_bytes, IfOk, OnOk};
+ghost use Rattle.std.specs.List.{list_any};
+ghost use Rattle.kl_columns.specs.Words.{are_tables, driver_of, is_option, is_table, paths_of};
+
+use kl_base::{NoMemory, Text};
+use std::alloc::Global;
+
+/// The paths among the words.
+///
+/// # Errors
+/// Want of memory.
+pub fn paths_of(alloc: Global, words: &[String]) -> Result<Vec<Text>, NoMemory>
+    ensures { IfOk result (λ paths. paths.items ≡ paths_of (map string_bytes words.now)) }
+{
+    let mut paths = Vec::new(alloc);
+    for word in words {
+        add_path(alloc, word.as_bytes(), &mut paths)?;
+    }
+    Ok(paths)
+}
+
+// Puts a word behind the paths, unless it is the option.
+fn add_path(alloc: Global, word: &[u8], paths: &mut Vec<Text>) -> Result<(), NoMemory>
+    ensures { OnOk result (paths.new.items ≡ paths.old.items ++ paths_of (word.now ∷ [])) }
+{
+    if !is_option(word) {
+        paths.push(Text::of(Vec::from_slice(alloc, word)?))?;
+    }
+    Ok(())
+}
+
+/// The driver of the tables.
+pub fn driver_of(words: &[String]) -> &'static [u8]
+    ensures { result.now ≡ driver_of (map string_bytes words.now) }
+{
+    if has_option(words) { b"sql" } else { b"flat" }
+}
+
+fn has_option(words: &[String]) -> bool
+    ensures { result ≡ list_any is_option (map string_bytes words.now) }
+{
+    for word in words {
+        if is_option(word.as_bytes()) {
+            return true;
+        }
+    }
+    false
+}
+
+fn is_option(word: &[u8]) -> bool
+    ensures { result ≡ is_option word.now }
+{
+    word == b"--sql".as_slice()
+}
+
+/// Whether these are paths of tables, one at least.
+pub fn are_tables(paths: &[Text]) -> bool
+    ensures { result ≡ are_tables paths.now }
+{
+    for path in paths {
+        if !is_table(path.slice()) {
+            return false;
+        }
+    }
+    !paths.is_empty()
+}
+
+fn is_table(path: &[u8]) -> bool
+    ensures { result ≡ is_table path.now }
+{
+    path.ends_with(b".csv")
+}
