@@ -1,5 +1,5 @@
 -- What the words ask for.
-use Rattle.std.specs.Prelude.{ℕ, Bool, not, ◌&&◌, ◌==◌, List, length, cond, codes, filter, nat_eq}
+use Rattle.std.specs.Prelude.{ℕ, Bool, not, ◌&&◌, ◌==◌, List, length, codes, filter, nat_eq}
 use Rattle.std.specs.Cmp.Lexicographic.{pointwise}
 use Rattle.std.specs.List.{ends_with, list_all, list_any}
 
@@ -11,9 +11,8 @@ is_option word = pointwise nat_eq word (codes "--sql")
 abbrev pub paths_of : List (List ℕ) → List (List ℕ)
 paths_of words = filter (λ word. not (is_option word)) words
 
--- the driver that is to read the tables
-abbrev pub driver_of : List (List ℕ) → List ℕ
-driver_of words = cond (list_any is_option words) (codes "sql") (codes "flat")
+abbrev pub wants_sql : List (List ℕ) → Bool
+wants_sql words = list_any is_option words
 
 abbrev pub is_table : List ℕ → Bool
 is_table path = ends_with nat_eq path (codes ".csv")

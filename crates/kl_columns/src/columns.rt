@@ -1,6 +1,7 @@
 //! Types of tables.
-ghost use Rattle.std.specs.Prelude.{◌≡◌, IfOk, map};
+ghost use Rattle.std.specs.Prelude.{◌≡◌, false, IfOk};
 ghost use Rattle.kl_ask.specs.Tables.{columns_of};
+ghost use Rattle.kl_sqlserve.specs.Server.{is_list};
 ghost use Rattle.kl_columns.specs.Narrowing.{narrow_columns};
 
 use crate::narrowing::narrowest;
@@ -28,7 +29,8 @@ pub fn of_texts(alloc: Global, labels: Vec<Label>) -> Result<Ty, NoMemory> {
 /// # Errors
 /// Want of memory.
 pub fn narrowed(alloc: Global, table: &ColumnTable) -> Result<Ty, NoMemory>
-    ensures { IfOk result (λ ty. columns_of ty ≡ narrow_columns table.now) }
+    ensures columns { IfOk result (λ ty. columns_of ty ≡ narrow_columns table.now) }
+    ensures unordered { IfOk result (λ ty. is_list ty ≡ false) }
 {
     let columns = table.columns();
     let mut fields = Vec::with_capacity(alloc, columns.len())?;
@@ -40,7 +42,8 @@ pub fn narrowed(alloc: Global, table: &ColumnTable) -> Result<Ty, NoMemory>
 }
 
 fn bag_of(alloc: Global, fields: Vec<(Label, Ty)>) -> Result<Ty, NoMemory>
-    ensures { IfOk result (λ ty. columns_of ty ≡ fields.items) }
+    ensures columns { IfOk result (λ ty. columns_of ty ≡ fields.items) }
+    ensures unordered { IfOk result (λ ty. is_list ty ≡ false) }
 {
     let row = Box::new(alloc, Ty::Rec(Seq::of(fields)))?;
     Ok(Ty::Coll(Kind::Bag, row))

@@ -2,7 +2,7 @@
 ghost use Rattle.std.specs.Prelude.{◌≡◌, ◌++◌, ◌∷◌, [], OnOk, IfOk};
 ghost use Rattle.std.specs.List.{flat_map};
 ghost use Rattle.kl_catalogue.specs.Reading.{IsCatalogue};
-ghost use Rattle.kl_columns.specs.Listing.{IsCatalogueOf, IsEntryFor, ListAll};
+ghost use Rattle.kl_columns.specs.Listing.{IsCatalogueOf, IsEntryFor, ListAll, Told, driver_for};
 ghost use Rattle.kl_columns.specs.Writing.{entry_line};
 
 use crate::naming::free_name;
@@ -25,29 +25,29 @@ const MOST_BYTES: usize = 65_536;
 pub fn catalogue_of<F: Files>(
     alloc: Global,
     files: &mut F,
-    driver: &[u8],
+    sql: bool,
     paths: &[Text],
     notes: &mut Vec<u8>,
 ) -> Result<Text, Refusal>
-    ensures { IfOk result (λ page. IsCatalogueOf (F.state files.old).told driver.now paths.now page) }
+    ensures { IfOk result (λ page. IsCatalogueOf (driver_for sql (F.state files.old).told) paths.now page) }
 {
-    let entries = entries_of(alloc, files, driver, paths, notes)?;
+    let entries = entries_of(alloc, files, sql, paths, notes)?;
     page_of(alloc, &Seq::of(entries))
 }
 
 fn entries_of<F: Files>(
     alloc: Global,
     files: &mut F,
-    driver: &[u8],
+    sql: bool,
     paths: &[Text],
     notes: &mut Vec<u8>,
 ) -> Result<Vec<Entry>, Refusal>
-    ensures { IfOk result (λ entries. ListAll (F.state files.old).told driver.now paths.now entries.items) }
+    ensures { IfOk result (λ entries. ListAll (driver_for sql (F.state files.old).told) paths.now entries.items) }
 {
     let mut entries = Vec::new(alloc);
     'paths: for path in paths {
         let ty = type_of_file(alloc, files, path, notes)?;
-        let entry = entry_of(alloc, &entries, driver, path, ty)?;
+        let entry = entry_of(alloc, &entries, sql, path, ty)?;
         add(&mut entries, entry)?;
     }
     Ok(entries)
@@ -63,14 +63,14 @@ fn add(entries: &mut Vec<Entry>, entry: Entry) -> Result<(), NoMemory>
 fn entry_of(
     alloc: Global,
     entries: &[Entry],
-    driver: &[u8],
+    sql: bool,
     path: &Text,
     ty: Ty,
 ) -> Result<Entry, NoMemory>
-    ensures { IfOk result (IsEntryFor entries.now driver.now path.now ty) }
+    ensures { IfOk result (IsEntryFor entries.now sql path.now ty) }
 {
     let name = free_name(alloc, entries, path.slice())?;
-    let Some(driver) = Label::new(alloc, driver)? else {
+    let Some(driver) = Label::new(alloc, driver_name(sql))? else {
         return Err(NoMemory);
     };
     Ok(Entry {
@@ -79,6 +79,12 @@ fn entry_of(
         driver,
         locator: path.dup(alloc)?,
     })
+}
+
+fn driver_name(sql: bool) -> &'static [u8]
+    ensures { (told : Told) → result.now ≡ (driver_for sql told).name }
+{
+    if sql { b"sql" } else { b"flat" }
 }
 
 // The text of a catalogue, which reads back as it.

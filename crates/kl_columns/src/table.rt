@@ -1,7 +1,6 @@
 //! The type of a table.
-ghost use Rattle.std.specs.Prelude.{◌≡◌, IfOk, true};
-ghost use Rattle.kl_flat.specs.Columns.{is_table_type};
-ghost use Rattle.kl_columns.specs.Listing.{HoldsRows, Reads};
+ghost use Rattle.std.specs.Prelude.{◌≡◌, Bool, IfOk};
+ghost use Rattle.kl_columns.specs.Listing.{HasType, Reads, driver_for};
 
 use crate::columns::{narrowed, of_texts};
 use crate::header::{header_of, labels_in};
@@ -33,8 +32,7 @@ pub fn type_of_file<F: Files>(
     notes: &mut Vec<u8>,
 ) -> Result<Ty, Refusal>
     ensures told { (F.state files.new).told ≡ (F.state files.old).told }
-    ensures suits { IfOk result (λ ty. is_table_type ty ≡ true) }
-    ensures rows { IfOk result (HoldsRows (F.state files.old).told path.now) }
+    ensures rows { IfOk result (λ ty. (sql : Bool) → HasType (driver_for sql (F.state files.old).told) path.now ty) }
 {
     match read_whole(alloc, files, path.slice(), MOST_BYTES) {
         Err(Stop::Failed) => Err(Refusal::Read),

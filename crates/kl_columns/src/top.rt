@@ -4,7 +4,7 @@ ghost use Rattle.kl_columns.specs.Answering.{IsPageFor, Prints, PrintsNothing, P
 
 use crate::listing::catalogue_of;
 use crate::refusal::{OUT_OF_MEMORY, Refusal, put_line, status};
-use crate::words::{are_tables, driver_of, paths_of};
+use crate::words::{are_tables, paths_of, wants_sql};
 use kl_base::{NoMemory, Text};
 use kl_outside::{Files, Sink, Stop, write_whole};
 use std::alloc::Global;
@@ -63,7 +63,7 @@ fn page_of<F: Files>(
     if !are_tables(&paths) {
         return Err(Refusal::Usage);
     }
-    catalogue_of(alloc, files, driver_of(words), &paths, notes)
+    catalogue_of(alloc, files, wants_sql(words), &paths, notes)
 }
 
 // Prints a page that was made.

@@ -1,7 +1,6 @@
 //! The words of the command line.
 ghost use Rattle.std.specs.Prelude.{◌≡◌, ◌∷◌, ◌++◌, [], map, string_bytes, IfOk, OnOk};
-ghost use Rattle.std.specs.List.{list_any};
-ghost use Rattle.kl_columns.specs.Words.{are_tables, driver_of, is_option, is_table, paths_of};
+ghost use Rattle.kl_columns.specs.Words.{are_tables, is_option, is_table, paths_of, wants_sql};
 
 use kl_base::{NoMemory, Text};
 use std::alloc::Global;
@@ -30,15 +29,9 @@ fn add_path(alloc: Global, word: &[u8], paths: &mut Vec<Text>) -> Result<(), NoM
     Ok(())
 }
 
-/// The driver of the tables.
-pub fn driver_of(words: &[String]) -> &'static [u8]
-    ensures { result.now ≡ driver_of (map string_bytes words.now) }
-{
-    if has_option(words) { b"sql" } else { b"flat" }
-}
-
-fn has_option(words: &[String]) -> bool
-    ensures { result ≡ list_any is_option (map string_bytes words.now) }
+/// Whether a word is the option.
+pub fn wants_sql(words: &[String]) -> bool
+    ensures { result ≡ wants_sql (map string_bytes words.now) }
 {
     for word in words {
         if is_option(word.as_bytes()) {

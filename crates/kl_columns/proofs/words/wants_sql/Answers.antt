@@ -1,7 +1,7 @@
 use Rattle.std.proofs.Common.{◌∙◌, ap, string_bytes, sym}
 use Rattle.kl_columns.specs.Words.{is_option}
 use Rattle.kl_columns.proofs.Walked.{found_there, none_more}
-use Rattle.kl_columns.proofs.words.has_option.Goals as goal
+use Rattle.kl_columns.proofs.words.wants_sql.Goals as goal
 
 pub returns-then-is_option : goal.returns-then-is_option
 returns-then-is_option c =
