@@ -1,14 +1,17 @@
 //! The header of a table, and which of its columns programs can name.
-ghost use Rattle.std.specs.Prelude.{◌≡◌, [], IfOk, option_map};
+ghost use Rattle.std.specs.Prelude.{◌≡◌, ◌∷◌, ◌++◌, [], IfOk, OnOk, codes, cond, filter, option_map};
 ghost use Rattle.csv.specs.Machine.{next_record};
 ghost use Rattle.csv.specs.Reading.{default_config, strip_bom};
 ghost use Rattle.csv.specs.Records.{fields_of};
 ghost use Rattle.csv.specs.declared.parser.State.TheVariants as state;
+ghost use Rattle.kl_base.specs.Word.{is_word};
+ghost use Rattle.kl_flat.specs.Table.{times};
+ghost use Rattle.kl_columns.specs.Headers.{is_nameable, nameable, note, notes_of};
 
 use crate::writing::{put, put_quoted};
 use csv::{ByteRecord, ReaderBuilder};
 use itoa::Buffer;
-use kl_base::{Label, NoMemory};
+use kl_base::{Label, NoMemory, is_word};
 use std::alloc::Global;
 
 /// The first record of a table, if it has one.
@@ -40,53 +43,87 @@ pub fn labels_in(
     path: &[u8],
     header: &ByteRecord,
     notes: &mut Vec<u8>,
-) -> Result<Vec<Label>, NoMemory> {
+) -> Result<Vec<Label>, NoMemory>
+    ensures labels { IfOk result (λ labels. labels.items ≡ nameable (fields_of header.now)) }
+    ensures notes { OnOk result (notes.new.items ≡ notes.old.items ++ notes_of path.now (fields_of header.now)) }
+{
     let mut labels = Vec::new(alloc);
-    for i in 0..header.len() {
+    'cells: for i in 0..header.len() {
         let Some(cell) = header.get(i) else {
             return Ok(labels);
         };
-        let number = i as u64 + 1;
-        match Label::new(alloc, cell)? {
-            None => note(path, number, cell, b" is no word\n", notes)?,
-            Some(label) => {
-                if stands_once(header, cell) {
-                    labels.push(label)?;
-                } else {
-                    note(path, number, cell, b" stands twice\n", notes)?;
-                }
-            }
-        }
+        add_label(alloc, header, cell, &mut labels)?;
+        put_note(path, header, i as u64 + 1, cell, notes)?;
     }
     Ok(labels)
 }
 
-// Tells that a column is left out, and why.
-fn note(
+// Puts a header behind the labels, if it can be named.
+fn add_label(
+    alloc: Global,
+    header: &ByteRecord,
+    cell: &[u8],
+    labels: &mut Vec<Label>,
+) -> Result<(), NoMemory>
+    ensures { OnOk result (labels.new.items ≡ labels.old.items ++ filter (is_nameable (fields_of header.now)) (cell.now ∷ [])) }
+{
+    if is_nameable(header, cell) {
+        if let Some(label) = Label::new(alloc, cell)? {
+            labels.push(label)?;
+        }
+    }
+    Ok(())
+}
+
+// Tells that the column of a number is left out, and why, if it is.
+fn put_note(
     path: &[u8],
+    header: &ByteRecord,
     number: u64,
     cell: &[u8],
-    why: &[u8],
     notes: &mut Vec<u8>,
-) -> Result<(), NoMemory> {
+) -> Result<(), NoMemory>
+    ensures { OnOk result (notes.new.items ≡ notes.old.items ++ note path.now (fields_of header.now) number cell.now) }
+{
+    if is_nameable(header, cell) {
+        return Ok(());
+    }
     put(path, notes)?;
     put(b": column ", notes)?;
     put(Buffer::new().format(number).as_bytes(), notes)?;
     put(b" is left out: ", notes)?;
     put_quoted(cell, notes)?;
-    put(why, notes)
+    put(reason(cell), notes)
 }
 
-// Whether one field alone of the header has these bytes.
-fn stands_once(header: &ByteRecord, name: &[u8]) -> bool {
-    let mut found = false;
-    for i in 0..header.len() {
-        if header.get(i) == Some(name) {
-            if found {
-                return false;
-            }
-            found = true;
+fn reason(cell: &[u8]) -> &'static [u8]
+    ensures { result.now ≡ cond (is_word cell.now) (codes " stands twice\n") (codes " is no word\n") }
+{
+    if is_word(cell) {
+        b" stands twice\n"
+    } else {
+        b" is no word\n"
+    }
+}
+
+fn is_nameable(header: &ByteRecord, cell: &[u8]) -> bool
+    ensures { result ≡ is_nameable (fields_of header.now) cell.now }
+{
+    is_word(cell) && times(header, cell) == 1
+}
+
+// How often the header has these bytes.
+fn times(header: &ByteRecord, name: &[u8]) -> usize
+    ensures { result ≡ times name.now (fields_of header.now) }
+{
+    let mut count: usize = 0;
+    'cells: for i in 0..header.len() {
+        let Some(cell) = header.get(i) else {
+            return count;
+        };
+        if name == cell {
+            count += 1;
         }
     }
-    found
+    count
 }

@@ -1,0 +1,27 @@
+-- Which columns of a table programs can name.
+use Rattle.std.specs.Prelude.{ℕ, ◌+◌, Bool, ◌&&◌, ◌==◌, List, [], ◌∷◌, ◌++◌, codes, cond, decimal, filter}
+use Rattle.kl_base.specs.Word.{is_word}
+use Rattle.kl_flat.specs.Table.{Record, times}
+use Rattle.kl_columns.specs.Writing.{quoted}
+
+-- a word that stands there once
+abbrev pub is_nameable : Record → List ℕ → Bool
+is_nameable header cell = is_word cell && (times cell header == 1)
+
+abbrev pub nameable : Record → List (List ℕ)
+nameable header = filter (is_nameable header) header
+
+-- what is told of the column of a number: why it is left out, if it is
+abbrev pub note : List ℕ → Record → ℕ → List ℕ → List ℕ
+note path header n cell =
+    cond (is_nameable header cell) []
+    (path ++ codes ": column " ++ decimal n ++ codes " is left out: " ++ quoted cell
+    ++ cond (is_word cell) (codes " stands twice\n") (codes " is no word\n"))
+
+-- what is told of columns, from a number on
+abbrev pub notes_from : List ℕ → Record → ℕ → List (List ℕ) → List ℕ
+notes_from path header n [] = []
+notes_from path header n (cell ∷ cells) = note path header n cell ++ notes_from path header (n + 1) cells
+
+abbrev pub notes_of : List ℕ → Record → List ℕ
+notes_of path header = notes_from path header 1 header
