@@ -1,5 +1,5 @@
 -- What a driver has at a path whose file was read, where no record of it is bad.
-use Rattle.std.proofs.Common.{◌≡◌, refl, ℕ, Bool, true, false, List, length, Option, Some, None, Ok, sym, ap, ◌∙◌, arith, nat_lt, not, ◌&&◌}
+use Rattle.std.proofs.Common.{◌≡◌, refl, ℕ, Bool, true, false, List, length, Option, Some, None, Ok, sym, ap, subst, ◌∙◌, arith, nat_lt, not, ◌&&◌}
 use Rattle.std.proofs.lemmas.Bool.Decides.{nat_tests}
 use Rattle.std.proofs.lemmas.Option.{same_Some}
 use Rattle.kl_value.specs.declared.Value.{Value}
@@ -11,7 +11,8 @@ use Rattle.kl_ask.specs.Driver.{Rows, Stored, stored_by}
 use Rattle.kl_flat.specs.Flat.{contents_of, most_bytes, stored_of, stored_rows}
 use Rattle.kl_flat.specs.Table.{bad_record, table_rows}
 use Rattle.kl_sqlserve.specs.Server.{kept_contents, kept_rows, kept_stored}
-use Rattle.kl_columns.specs.Listing.{HasType, IsReadAs, Told, driver_for}
+use Rattle.kl_columns.specs.Listing.{HasType, IsNarrowAt, IsReadAs, Told}
+use Rattle.kl_columns.specs.Narrowing.{IsNarrow}
 
 abbrev Holds : Told → List ℕ → Ty → Type 0
 Holds told path ty = (files : List ℕ → Option (List ℕ)) → told ≡ Some files → (rows : List Value) × (stored_of (files path) ty ≡ Rows rows)
@@ -37,13 +38,21 @@ module _ (path : List ℕ) (ty : Ty) (stored : Stored) where
       let found = holds files refl in
       (kept_rows ty found.0, sym (same_Some (kept_stored ty (stored_of (files path) ty)) stored at) ∙ ap (kept_stored ty) found.1)
 
+narrow_there : (path bytes : List ℕ) (ty : Ty) (f f' : FilesState) → ReadsWhole path most_bytes (Ok (Bytes bytes)) f f' → IsReadAs bytes ty → IsNarrowAt f.told path ty
+narrow_there path bytes ty f f' reads is files held told at =
+    let found = was_there path most_bytes (Bytes bytes) f f' files reads told in
+    let same : bytes ≡ held = found.2.0 ∙ same_Some found.0 held (sym found.1 ∙ at) in
+    subst (λ b. IsNarrow b ty) same is.narrow
+
 -- either driver has rows there
-pub has_type : (path bytes : List ℕ) (ty : Ty) (f f' : FilesState) → ReadsWhole path most_bytes (Ok (Bytes bytes)) f f' → IsReadAs bytes ty → (sql : Bool) → HasType (driver_for sql f.told) path ty
+pub has_type : (path bytes : List ℕ) (ty : Ty) (f f' : FilesState) → ReadsWhole path most_bytes (Ok (Bytes bytes)) f f' → IsReadAs bytes ty → (sql : Bool) → HasType sql f.told path ty
 has_type path bytes ty f f' reads is true = record {
   suits = (λ i. is.suits i && not (is.unordered i));
   rows = λ stored at. sql_rows path ty stored f.told (holds_rows path bytes ty f f' reads is.good) at;
+  narrow = narrow_there path bytes ty f f' reads is;
 }
 has_type path bytes ty f f' reads is false = record {
   suits = is.suits;
   rows = λ stored at. flat_rows path ty stored f.told (holds_rows path bytes ty f f' reads is.good) at;
+  narrow = narrow_there path bytes ty f f' reads is;
 }

@@ -1,8 +1,8 @@
 -- A table that is read as texts is read as its narrowest types too.
 use Rattle.std.proofs.Common.{◌≡◌, ◌<◌, ◌≤◌, ◌+◌, ◌==◌, ◌&&◌, ◌||◌, ℕ, zero, suc, Bool, true, false, not, List, [], ◌∷◌, length, get_or, map, cond, codes, nat_eq, Option, Some, None, refl, sym, ap, ◌∙◌, subst, arith, zero-add, true≢false}
 use Rattle.std.specs.Cmp.Lexicographic.{pointwise}
-use Rattle.std.specs.List.{list_all, range_with_len, zip}
-use Rattle.std.specs.Option.{is_some, option_map}
+use Rattle.std.specs.List.{AllByRecursion, list_all, range_with_len, zip}
+use Rattle.std.specs.Option.{is_some, option_map, unwrap_or}
 use Rattle.std.proofs.lemmas.Bool.{and_parts}
 use Rattle.std.proofs.lemmas.List.{length-map}
 use Rattle.std.proofs.lemmas.List.Folds.{list_all-append, list_all_at}
@@ -11,7 +11,7 @@ use Rattle.std.proofs.lemmas.Option.{same_Some}
 use Rattle.kl_base.specs.Fields.{field}
 use Rattle.kl_value.specs.declared.Value.{Value, Value-F, out-Value}
 use Rattle.kl_value.specs.declared.Value.TheVariants as value
-use Rattle.kl_type.specs.declared.ground.Ty.{Ty}
+use Rattle.kl_type.specs.declared.ground.Ty.{Ty, out-Ty}
 use Rattle.kl_type.specs.declared.ground.Ty.TheVariants as ty
 use Rattle.kl_prim.specs.Meaning.{number_in}
 use Rattle.kl_ask.specs.Tables.{columns_of}
@@ -24,9 +24,12 @@ use Rattle.kl_flat.specs.declared.column_table.ColumnTable.{ColumnTable}
 use Rattle.kl_flat.specs.declared.held.Cells.{Cells}
 use Rattle.kl_flat.specs.declared.held.Cells.TheVariants as cells
 use Rattle.kl_flat.specs.declared.held.Column.{Column}
+use Rattle.kl_flat.specs.declared.texts.Texts.{Texts}
 use Rattle.kl_flat.proofs.Gaining.{number_cell, text_cell, truth_cell}
 use Rattle.kl_flat.proofs.Rows.{part_is, part_none}
-use Rattle.kl_columns.specs.Narrowing.{narrow_columns, narrow_type, narrowest, reads_as}
+use Rattle.kl_sqlserve.specs.Server.{is_list}
+use Rattle.kl_columns.specs.Listing.{IsReadAs}
+use Rattle.kl_columns.specs.Narrowing.{are_texts, cells_under, narrow_columns, narrow_type, narrowest, reads_as, text_layer}
 
 -- ---- one cell
 
@@ -226,12 +229,110 @@ suits_narrow rows columns given is suits =
     let size : length (map (narrow rows) columns) ≡ length given = length-map columns (narrow rows) ∙ (sym (length-map columns (λ (c : Column). (c.label, type_of c.cells))) ∙ ap length is) in
     (λ i. not (size i == 0) && all_base rows columns i) ∙ ap (λ b. b && true) some
 
+-- ---- the cells of each column
+
+module _ {P Q R : Column → Type 0} where
+  all_both : (columns : List Column) → ((c : Column) → P c → Q c → R c) → AllByRecursion P columns → AllByRecursion Q columns → AllByRecursion R columns
+  all_both [] both ps qs = tt
+  all_both (c ∷ columns) both ps qs = (both c ps.0 qs.0, all_both columns both ps.1 qs.1)
+
+all_any : {P : Column → Type 0} (columns : List Column) → ((c : Column) → P c) → AllByRecursion P columns
+all_any [] any = tt
+all_any (c ∷ columns) any = (any c, all_any columns any)
+
+-- a record has a cell in the column, which means what is held there
+abbrev HasCell : List (List ℕ × List ℕ) → ℕ → Column → Type 0
+HasCell cells i c = (cell : List ℕ) × (field c.label cells ≡ Some cell) × (cell_value cell (type_of c.cells) ≡ Some (value_at c.cells i))
+
+cells_in : (cells : List (List ℕ × List ℕ)) (i : ℕ) (columns : List Column) → all_of (map (part_in cells) (columns_in columns)) ≡ Some (fields_at columns i) → AllByRecursion (HasCell cells i) columns
+cells_in cells i [] e = tt
+cells_in cells i (c ∷ columns) e =
+    let parts = first_and_rest (part_in cells (c.label, type_of c.cells)) (map (part_in cells) (columns_in columns)) (c.label, value_at c.cells i) (fields_at columns i) e in
+    (cell_of cells c.label (type_of c.cells) (value_at c.cells i) parts.0, cells_in cells i columns parts.1)
+
+row_cells : (header entry : Record) (i : ℕ) (columns : List Column) → row_in (columns_in columns) header entry ≡ Some (row_at columns i) → AllByRecursion (HasCell (zip header entry) i) columns
+row_cells header entry i columns e = by (length entry == length header) e
+  where
+    parts : (o : Option (List (List ℕ × Value))) → option_map value.Rec o ≡ Some (row_at columns i) → o ≡ Some (fields_at columns i)
+    parts None is = absurd (none_some is)
+    parts (Some fs) is = ap Some (same_records fs (fields_at columns i) (same_Some (value.Rec fs) (row_at columns i) is))
+
+    by : (b : Bool) → cond b (option_map value.Rec (all_of (map (part_in (zip header entry)) (columns_in columns)))) None ≡ Some (row_at columns i) → AllByRecursion (HasCell (zip header entry) i) columns
+    by true is = cells_in (zip header entry) i columns (parts _ is)
+    by false is = absurd (none_some is)
+
+module _ (header : Record) where
+  -- the cells that records have there are the texts that the column holds
+  abbrev HoldsCells : ℕ → ℕ → List Record → Column → Type 0
+  HoldsCells n m rs c = (texts : Texts) → c.cells ≡ cells.Text texts → map (λ r. unwrap_or (field c.label (zip header r)) []) rs ≡ map (text_at texts) (range_with_len n m)
+
+  one_cell : (r : Record) (n m : ℕ) (rs : List Record) (c : Column) → HasCell (zip header r) n c → HoldsCells (n + 1) m rs c → HoldsCells n (suc m) (r ∷ rs) c
+  one_cell r n m rs c here rest texts is =
+      let meant : cell_value here.0 ty.Str ≡ Some (value.Text (text_at texts n)) = subst (λ cs. cell_value here.0 (type_of cs) ≡ Some (value_at cs n)) is here.2 in
+      let same : here.0 ≡ text_at texts n = same_texts here.0 (text_at texts n) (same_Some (value.Text here.0) (value.Text (text_at texts n)) (sym (text_cell here.0) ∙ meant)) in
+      let first : unwrap_or (field c.label (zip header r)) [] ≡ text_at texts n = ap (λ o. unwrap_or o []) here.1 ∙ same in
+      (λ i. first i ∷ rest texts is i)
+
+  all_cells : (columns : List Column) (k n m : ℕ) (rs : List Record) → first_missing k (map (row_in (columns_in columns) header) rs) ≡ None
+      → front_of (map (row_in (columns_in columns) header) rs) ≡ map (row_at columns) (range_with_len n m) → AllByRecursion (HoldsCells n m rs) columns
+  all_cells columns k n zero [] none front = all_any columns (λ c texts is. refl)
+  all_cells columns k n (suc m) [] none front = absurd (nothing_some front)
+    where
+      nothing_some : {x : Value} {xs : List Value} → [] ≡ x ∷ xs → ⊥
+      nothing_some h = cc
+  all_cells columns k n zero (r ∷ rs) none front = absurd (by (row_in (columns_in columns) header r) none front)
+    where
+      by : (o : Option Value) → first_missing k (o ∷ map (row_in (columns_in columns) header) rs) ≡ None → front_of (o ∷ map (row_in (columns_in columns) header) rs) ≡ [] → ⊥
+      by None none front = cc
+      by (Some x) none front = cc
+  all_cells columns k n (suc m) (r ∷ rs) none front = by (all_cells columns (k + 1) (n + 1) m rs) (row_in (columns_in columns) header r) refl none front
+    where
+      by : (first_missing (k + 1) (map (row_in (columns_in columns) header) rs) ≡ None → front_of (map (row_in (columns_in columns) header) rs) ≡ map (row_at columns) (range_with_len (n + 1) m)
+          → AllByRecursion (HoldsCells (n + 1) m rs) columns) → (o : Option Value) → row_in (columns_in columns) header r ≡ o → first_missing k (o ∷ map (row_in (columns_in columns) header) rs) ≡ None
+          → front_of (o ∷ map (row_in (columns_in columns) header) rs) ≡ row_at columns n ∷ map (row_at columns) (range_with_len (n + 1) m)
+          → AllByRecursion (HoldsCells n (suc m) (r ∷ rs)) columns
+      by more None is none front = absurd (none_some (sym none))
+      by more (Some x) is none front =
+          let first : x ≡ row_at columns n = cc in
+          let rest : front_of (map (row_in (columns_in columns) header) rs) ≡ map (row_at columns) (range_with_len (n + 1) m) = cc in
+          all_both columns (one_cell r n m rs) (row_cells header r n columns (is ∙ ap Some first)) (more none rest)
+
+text_column : (c : Cells) → text_layer (out-Ty (type_of c)) ≡ true → (texts : Texts) × (c ≡ cells.Text texts)
+text_column (cells.Bool truths) e = absurd (true≢false (sym e ∙ ap text_layer ty.outs-Bool))
+text_column (cells.Int numbers) e = absurd (true≢false (sym e ∙ ap text_layer ty.outs-Int))
+text_column (cells.Text texts) e = (texts, refl)
+
+all_narrow : (rows : ℕ) (records : List Record) (columns : List Column) → are_texts (columns_in columns) ≡ true
+    → AllByRecursion (λ c. (texts : Texts) → c.cells ≡ cells.Text texts → cells_under records c.label ≡ map (text_at texts) (range_with_len 0 rows)) columns
+    → AllByRecursion (λ (c : List ℕ × Ty). c.1 ≡ narrowest (cells_under records c.0)) (map (narrow rows) columns)
+all_narrow rows records [] texts held = tt
+all_narrow rows records (c ∷ columns) texts held =
+    let both = and_parts (text_layer (out-Ty (type_of c.cells))) (are_texts (columns_in columns)) texts in
+    let found = text_column c.cells both.0 in
+    (ap (narrow_type rows) found.1 ∙ ap narrowest (sym (held.0 found.0 found.1)), all_narrow rows records columns both.1 held.1)
+
+narrow_cells : (rows m : ℕ) (columns : List Column) (records : List Record) → rows ≡ m → are_texts (columns_in columns) ≡ true → bad_in (columns_in columns) records ≡ None
+    → rows_in (columns_in columns) records ≡ map (row_at columns) (range_with_len 0 m) → AllByRecursion (λ (c : List ℕ × Ty). c.1 ≡ narrowest (cells_under records c.0)) (map (narrow rows) columns)
+narrow_cells rows m columns [] same texts none front = absurd (none_some (sym none))
+narrow_cells rows m columns (header ∷ rs) same texts none front =
+    all_narrow rows (header ∷ rs) columns texts (subst (λ n. AllByRecursion (HoldsCells header 0 n rs) columns) (sym same) (by (is_header (columns_in columns) header) none front))
+  where
+    by : (b : Bool) → cond b (first_missing 1 (map (row_in (columns_in columns) header) rs)) (Some 0) ≡ None
+        → cond b (front_of (map (row_in (columns_in columns) header) rs)) [] ≡ map (row_at columns) (range_with_len 0 m) → AllByRecursion (HoldsCells header 0 m rs) columns
+    by true none front = all_cells header columns 1 0 m rs none front
+    by false none front = absurd (none_some (sym none))
+
 -- the type of the columns of a table of texts, with their narrowest types
-pub narrow_reads : (bytes : List ℕ) (texts narrow_ty : Ty) (t : ColumnTable) → is_table_type texts ≡ true → columns_in t.columns.items ≡ columns_of texts → rows_of t ≡ table_rows bytes texts → bad_record bytes texts ≡ None
-    → columns_of narrow_ty ≡ narrow_columns t → (is_table_type narrow_ty ≡ true) × (bad_record bytes narrow_ty ≡ None)
-narrow_reads bytes texts narrow_ty t suits columns rows good is = (
-  ap (λ (cs : Columns). not (length cs == 0) && list_all (λ (c : List ℕ × Ty). is_base c.1) cs) is ∙ suits_narrow (length (rows_of t)) t.columns.items (columns_of texts) columns suits,
-  ap (λ cs. bad_in cs (table_records bytes)) is
-      ∙ narrow_bad (length (rows_of t)) t.len t.columns.items (table_records bytes) (omega (arith, length-map-range_with_len (row_at t.columns.items) 0 t.len))
-      (ap (λ cs. bad_in cs (table_records bytes)) columns ∙ good) (ap (λ cs. rows_in cs (table_records bytes)) columns ∙ sym rows),
-)
+pub narrow_reads : (bytes : List ℕ) (texts narrow_ty : Ty) (t : ColumnTable) → is_table_type texts ≡ true → are_texts (columns_of texts) ≡ true → columns_in t.columns.items ≡ columns_of texts → rows_of t ≡ table_rows bytes texts
+    → bad_record bytes texts ≡ None → columns_of narrow_ty ≡ narrow_columns t → is_list narrow_ty ≡ false → IsReadAs bytes narrow_ty
+narrow_reads bytes texts narrow_ty t suits all columns rows good is unordered =
+    let size : length (rows_of t) ≡ t.len = length-map-range_with_len (row_at t.columns.items) 0 t.len in
+    let none = ap (λ cs. bad_in cs (table_records bytes)) columns ∙ good in
+    let front = ap (λ cs. rows_in cs (table_records bytes)) columns ∙ sym rows in
+    record {
+      suits = ap (λ (cs : Columns). not (length cs == 0) && list_all (λ (c : List ℕ × Ty). is_base c.1) cs) is ∙ suits_narrow (length (rows_of t)) t.columns.items (columns_of texts) columns suits;
+      unordered = unordered;
+      good = ap (λ cs. bad_in cs (table_records bytes)) is ∙ narrow_bad (length (rows_of t)) t.len t.columns.items (table_records bytes) (omega (arith, size)) none front;
+      narrow = subst (AllByRecursion (λ (c : List ℕ × Ty). c.1 ≡ narrowest (cells_under (table_records bytes) c.0))) (sym is)
+          (narrow_cells (length (rows_of t)) t.len t.columns.items (table_records bytes) size (ap are_texts columns ∙ all) none front);
+    }

@@ -3,14 +3,14 @@ use Rattle.std.specs.Prelude.{◌≡◌, ◌⊎◌, ℕ, List, IsTrue, Result, O
 use Rattle.std.specs.Io.KnownBytes.{append_known}
 use Rattle.kl_base.specs.Counts.{Rose}
 use Rattle.kl_outside.specs.Sinks.{SinkState}
-use Rattle.kl_columns.specs.Listing.{IsCatalogueOf, Told, driver_for}
+use Rattle.kl_columns.specs.Listing.{IsCatalogueOf, Told}
 use Rattle.kl_columns.specs.Words.{are_tables, paths_of, wants_sql}
 use Rattle.kl_columns.specs.declared.refusal.Refusal.{Refusal}
 
 -- the words name tables, and the page is their catalogue
 pub record IsPageFor (told : Told) (words : List (List ℕ)) (page : List ℕ) : Type 0 where
   pub tables : IsTrue (are_tables (paths_of words))
-  pub lists : IsCatalogueOf (driver_for (wants_sql words) told) (paths_of words) page
+  pub lists : IsCatalogueOf (wants_sql words) told (paths_of words) page
 
 -- the sink took the catalogue of the tables that the words name
 abbrev pub Prints : Told → List (List ℕ) → SinkState → SinkState → Type 0

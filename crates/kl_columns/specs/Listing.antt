@@ -11,6 +11,7 @@ use Rattle.kl_flat.specs.Flat.{flat_kind}
 use Rattle.kl_flat.specs.Table.{bad_record}
 use Rattle.kl_sources.specs.Sources.{is_taken}
 use Rattle.kl_sqlserve.specs.Server.{is_list, sql_kind}
+use Rattle.kl_columns.specs.Narrowing.{IsNarrow}
 use Rattle.kl_columns.specs.Writing.{entry_line}
 use Rattle.kl_columns.specs.declared.table.Found.{Found}
 use Rattle.kl_columns.specs.declared.table.Found.TheVariants as found
@@ -29,39 +30,45 @@ abbrev pub HasRows : DriverKind → List ℕ → Ty → Type 0
 HasRows kind locator ty = (stored : Stored) → stored_by kind.stored locator ty ≡ Some stored
     → (rows : List Value) × (stored ≡ Rows rows)
 
--- the type suits the driver, and the file has rows of it
-pub record HasType (kind : DriverKind) (path : List ℕ) (ty : Ty) : Type 0 where
-  pub suits : kind.suits ty ≡ true
-  pub rows : HasRows kind path ty
+-- where files tell their bytes, each column of the type has the narrowest type of the cells in the file
+abbrev pub IsNarrowAt : Told → List ℕ → Ty → Type 0
+IsNarrowAt told path ty = (files : List ℕ → Option (List ℕ)) (bytes : List ℕ) → told ≡ Some files → files path ≡ Some bytes
+    → IsNarrow bytes ty
+
+-- the type suits the driver, which has rows of it there, and is no wider than need be
+pub record HasType (sql : Bool) (told : Told) (path : List ℕ) (ty : Ty) : Type 0 where
+  pub suits : (driver_for sql told).suits ty ≡ true
+  pub rows : HasRows (driver_for sql told) path ty
+  pub narrow : IsNarrowAt told path ty
 
 -- the entry says of a file where it is, the driver that reads it, and a type
-pub record Lists (kind : DriverKind) (path : List ℕ) (entry : Entry) : Type 0 where
+pub record Lists (sql : Bool) (told : Told) (path : List ℕ) (entry : Entry) : Type 0 where
   pub locator : entry.locator ≡ path
-  pub driver : entry.driver ≡ kind.name
-  pub ty : HasType kind path entry.ty
+  pub driver : entry.driver ≡ (driver_for sql told).name
+  pub ty : HasType sql told path entry.ty
 
 -- one entry for each file, in their order
-abbrev pub ListEach : DriverKind → List (List ℕ) → List Entry → Type 0
-ListEach kind [] [] = ⊤
-ListEach kind (p ∷ ps) (e ∷ es) = Lists kind p e × ListEach kind ps es
-ListEach kind [] (e ∷ es) = ⊥
-ListEach kind (p ∷ ps) [] = ⊥
+abbrev pub ListEach : Bool → Told → List (List ℕ) → List Entry → Type 0
+ListEach sql told [] [] = ⊤
+ListEach sql told (p ∷ ps) (e ∷ es) = Lists sql told p e × ListEach sql told ps es
+ListEach sql told [] (e ∷ es) = ⊥
+ListEach sql told (p ∷ ps) [] = ⊥
 
 -- no entry has one of these names, that of an entry before it, or a primitive's
 abbrev pub AreFree : List (List ℕ) → List Entry → Type 0
 AreFree before [] = ⊤
 AreFree before (e ∷ es) = (is_taken before e.name ≡ false) × AreFree (before ++ e.name ∷ []) es
 
-pub record ListAll (kind : DriverKind) (paths : List (List ℕ)) (entries : List Entry) : Type 0 where
-  pub each : ListEach kind paths entries
+pub record ListAll (sql : Bool) (told : Told) (paths : List (List ℕ)) (entries : List Entry) : Type 0 where
+  pub each : ListEach sql told paths entries
   pub named : AreFree [] entries
 
 -- the page is the text of entries that list these files, and reads back as them
-pub record IsCatalogueOf (kind : DriverKind) (paths : List (List ℕ)) (page : List ℕ) : Type 0 where
+pub record IsCatalogueOf (sql : Bool) (told : Told) (paths : List (List ℕ)) (page : List ℕ) : Type 0 where
   pub entries : List Entry
   pub text : page ≡ flat_map entry_line entries
   pub reads : IsCatalogue page entries
-  pub lists : ListAll kind paths entries
+  pub lists : ListAll sql told paths entries
 
 -- ---- for private functions alone
 
@@ -77,6 +84,7 @@ pub record IsReadAs (bytes : List ℕ) (ty : Ty) : Type 0 where
   pub suits : is_table_type ty ≡ true
   pub unordered : is_list ty ≡ false
   pub good : bad_record bytes ty ≡ None
+  pub narrow : IsNarrow bytes ty
 
 abbrev pub Reads : List ℕ → Found → Type 0
 Reads bytes (found.Type ty) = IsReadAs bytes ty

@@ -1,8 +1,8 @@
 //! Types of tables.
-ghost use Rattle.std.specs.Prelude.{◌≡◌, false, IfOk};
+ghost use Rattle.std.specs.Prelude.{◌≡◌, false, true, IfOk};
 ghost use Rattle.kl_ask.specs.Tables.{columns_of};
 ghost use Rattle.kl_sqlserve.specs.Server.{is_list};
-ghost use Rattle.kl_columns.specs.Narrowing.{narrow_columns};
+ghost use Rattle.kl_columns.specs.Narrowing.{are_texts, narrow_columns};
 
 use crate::narrowing::narrowest;
 use kl_base::{Box, Label, NoMemory, Seq};
@@ -10,18 +10,24 @@ use kl_flat::ColumnTable;
 use kl_type::Ty;
 use kl_value::Kind;
 use std::alloc::Global;
-use std::collections::BTreeMap;
+use std::collections::BTreeSet;
 
 /// The type of a bag of records whose fields are texts.
 ///
 /// # Errors
 /// Want of memory.
-pub fn of_texts(alloc: Global, labels: Vec<Label>) -> Result<Ty, NoMemory> {
-    let mut columns = BTreeMap::new(alloc);
+pub fn of_texts(alloc: Global, labels: Vec<Label>) -> Result<Ty, NoMemory>
+    ensures { IfOk result (λ ty. are_texts (columns_of ty) ≡ true) }
+{
+    let mut ordered = BTreeSet::new(alloc);
     for label in labels {
-        columns.insert(label, Ty::Str)?;
+        ordered.insert(label)?;
     }
-    bag_of(alloc, columns.into_iter().collect(alloc)?)
+    let mut fields = Vec::new(alloc);
+    for label in ordered {
+        fields.push((label, Ty::Str))?;
+    }
+    bag_of(alloc, fields)
 }
 
 /// The type of a table of texts with the narrowest type of each column.

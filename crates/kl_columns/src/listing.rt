@@ -29,7 +29,7 @@ pub fn catalogue_of<F: Files>(
     paths: &[Text],
     notes: &mut Vec<u8>,
 ) -> Result<Text, Refusal>
-    ensures { IfOk result (λ page. IsCatalogueOf (driver_for sql (F.state files.old).told) paths.now page) }
+    ensures { IfOk result (λ page. IsCatalogueOf sql (F.state files.old).told paths.now page) }
 {
     let entries = entries_of(alloc, files, sql, paths, notes)?;
     page_of(alloc, &Seq::of(entries))
@@ -42,7 +42,7 @@ fn entries_of<F: Files>(
     paths: &[Text],
     notes: &mut Vec<u8>,
 ) -> Result<Vec<Entry>, Refusal>
-    ensures { IfOk result (λ entries. ListAll (driver_for sql (F.state files.old).told) paths.now entries.items) }
+    ensures { IfOk result (λ entries. ListAll sql (F.state files.old).told paths.now entries.items) }
 {
     let mut entries = Vec::new(alloc);
     'paths: for path in paths {

@@ -1,6 +1,6 @@
 //! The type of a table.
 ghost use Rattle.std.specs.Prelude.{◌≡◌, Bool, IfOk};
-ghost use Rattle.kl_columns.specs.Listing.{HasType, Reads, driver_for};
+ghost use Rattle.kl_columns.specs.Listing.{HasType, Reads};
 
 use crate::columns::{narrowed, of_texts};
 use crate::header::{header_of, labels_in};
@@ -32,7 +32,7 @@ pub fn type_of_file<F: Files>(
     notes: &mut Vec<u8>,
 ) -> Result<Ty, Refusal>
     ensures told { (F.state files.new).told ≡ (F.state files.old).told }
-    ensures rows { IfOk result (λ ty. (sql : Bool) → HasType (driver_for sql (F.state files.old).told) path.now ty) }
+    ensures rows { IfOk result (λ ty. (sql : Bool) → HasType sql (F.state files.old).told path.now ty) }
 {
     match read_whole(alloc, files, path.slice(), MOST_BYTES) {
         Err(Stop::Failed) => Err(Refusal::Read),

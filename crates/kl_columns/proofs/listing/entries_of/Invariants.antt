@@ -1,9 +1,9 @@
 use Rattle.std.proofs.Common.{◌≡◌, take}
-use Rattle.kl_columns.specs.Listing.{ListAll, driver_for}
+use Rattle.kl_columns.specs.Listing.{ListAll}
 use Rattle.kl_columns.proofs.listing.entries_of.Given as goal
 
 abbrev pub invariant-paths : goal.invariant-paths
 invariant-paths g l = record {
   told : (g.F.Files.state l.files).told ≡ (g.F.Files.state l.fn.files).told;
-  lists : ListAll (driver_for l.sql (g.F.Files.state l.fn.files).told) (take l.path-index l.paths) l.entries.items;
+  lists : ListAll l.sql (g.F.Files.state l.fn.files).told (take l.path-index l.paths) l.entries.items;
 }
