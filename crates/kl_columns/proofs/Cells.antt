@@ -23,11 +23,12 @@ pub left_more : (path : List ℕ) (header : Record) (i : ℕ) (cell : List ℕ) 
     → labels' ≡ labels ++ filter (is_nameable header) (cell ∷ []) → notes' ≡ notes ++ note path header (i + 1) cell → Left path header i labels notes before → Left path header (i + 1) labels' notes' before
 left_more path header i cell labels notes before labels' notes' at grown told left =
     let next : drop i header ≡ cell ∷ drop (i + 1) header = drop_field header i cell at ∙ ap (λ n. cell ∷ drop n header) (sym (add-one i)) in
-    let rest : List (List ℕ) = drop (i + 1) header in
-    (ap (λ ls. ls ++ filter (is_nameable header) rest) grown ∙ append_assoc labels (filter (is_nameable header) (cell ∷ [])) (filter (is_nameable header) rest)
-    ∙ ap (λ ls. labels ++ ls) (sym (filter-append (is_nameable header) (cell ∷ []) rest)) ∙ ap (λ cs. labels ++ filter (is_nameable header) cs) (sym next) ∙ left.0,
-    ap (λ ns. ns ++ notes_from path header (i + 1 + 1) rest) told ∙ append_assoc notes (note path header (i + 1) cell) (notes_from path header (i + 1 + 1) rest)
-    ∙ ap (λ cs. notes ++ notes_from path header (i + 1) cs) (sym next) ∙ left.1)
+    let rest : List (List ℕ) = drop (i + 1) header in (
+      ap (λ ls. ls ++ filter (is_nameable header) rest) grown ∙ append_assoc labels (filter (is_nameable header) (cell ∷ [])) (filter (is_nameable header) rest)
+          ∙ ap (λ ls. labels ++ ls) (sym (filter-append (is_nameable header) (cell ∷ []) rest)) ∙ ap (λ cs. labels ++ filter (is_nameable header) cs) (sym next) ∙ left.0,
+      ap (λ ns. ns ++ notes_from path header (i + 1 + 1) rest) told ∙ append_assoc notes (note path header (i + 1) cell) (notes_from path header (i + 1 + 1) rest)
+          ∙ ap (λ cs. notes ++ notes_from path header (i + 1) cs) (sym next) ∙ left.1,
+    )
 
 -- one more cell is counted
 pub times_more : (name : List ℕ) (header : Record) (i : ℕ) (cell : List ℕ) (count : ℕ) → field_at header i ≡ Some cell → count ≡ times name (take i header) → count + cond (pointwise nat_eq name cell) 1 0 ≡ times name (take (i + 1) header)

@@ -14,11 +14,11 @@ cells-preserved c =
     let more = times_more c.args.name.now (fields_of c.args.header.now) c.cells.i c.in-Some.cell.now count (sym c.in-Some.ensures.value) c.cells.invariant.counted in
     elim c.if-eq.branch [
       | then-eq w ↦ record {
-          counted = w.count-is ∙ ap (λ b. count + cond b 1 0) (sym w.if-eq.true ∙ c.eq.ensures) ∙ more;
-          few = omega (arith, w.count-is, c.cells.invariant.few);
-        }
+        counted = w.count-is ∙ ap (λ b. count + cond b 1 0) (sym w.if-eq.true ∙ c.eq.ensures) ∙ more;
+        few = omega (arith, w.count-is, c.cells.invariant.few);
+      }
       | else-eq w ↦ record {
-          counted = w.count-is ∙ sym (add-zero count) ∙ ap (λ b. count + cond b 1 0) (sym w.if-eq.false ∙ c.eq.ensures) ∙ more;
-          few = omega (arith, w.count-is, c.cells.invariant.few);
-        }
+        counted = w.count-is ∙ sym (add-zero count) ∙ ap (λ b. count + cond b 1 0) (sym w.if-eq.false ∙ c.eq.ensures) ∙ more;
+        few = omega (arith, w.count-is, c.cells.invariant.few);
+      }
     ]
