@@ -11,7 +11,8 @@ use Rattle.std.proofs.lemmas.Option.{same_Some}
 use Rattle.kl_base.specs.Fields.{field}
 use Rattle.kl_value.specs.declared.Value.{Value, Value-F, out-Value}
 use Rattle.kl_value.specs.declared.Value.TheVariants as value
-use Rattle.kl_type.specs.declared.ground.Ty.{Ty, out-Ty}
+use Rattle.kl_type.specs.Parts.{is_string}
+use Rattle.kl_type.specs.declared.ground.Ty.{Ty}
 use Rattle.kl_type.specs.declared.ground.Ty.TheVariants as ty
 use Rattle.kl_prim.specs.Meaning.{number_in}
 use Rattle.kl_ask.specs.Tables.{columns_of}
@@ -28,8 +29,9 @@ use Rattle.kl_flat.specs.declared.texts.Texts.{Texts}
 use Rattle.kl_flat.proofs.Gaining.{number_cell, text_cell, truth_cell}
 use Rattle.kl_flat.proofs.Rows.{part_is, part_none}
 use Rattle.kl_sqlserve.specs.Server.{is_list}
+use Rattle.kl_columns.specs.Headers.{table_labels}
 use Rattle.kl_columns.specs.Listing.{IsReadAs}
-use Rattle.kl_columns.specs.Narrowing.{are_texts, cells_under, narrow_columns, narrow_type, narrowest, reads_as, text_layer}
+use Rattle.kl_columns.specs.Narrowing.{are_texts, cells_under, narrow_columns, narrow_type, narrowest, reads_as}
 
 -- ---- one cell
 
@@ -297,9 +299,9 @@ module _ (header : Record) where
           let rest : front_of (map (row_in (columns_in columns) header) rs) ≡ map (row_at columns) (range_with_len (n + 1) m) = cc in
           all_both columns (one_cell r n m rs) (row_cells header r n columns (is ∙ ap Some first)) (more none rest)
 
-text_column : (c : Cells) → text_layer (out-Ty (type_of c)) ≡ true → (texts : Texts) × (c ≡ cells.Text texts)
-text_column (cells.Bool truths) e = absurd (true≢false (sym e ∙ ap text_layer ty.outs-Bool))
-text_column (cells.Int numbers) e = absurd (true≢false (sym e ∙ ap text_layer ty.outs-Int))
+text_column : (c : Cells) → is_string (type_of c) ≡ true → (texts : Texts) × (c ≡ cells.Text texts)
+text_column (cells.Bool truths) e = let g = rw ty.outs-Bool at e in absurd (true≢false (sym g))
+text_column (cells.Int numbers) e = let g = rw ty.outs-Int at e in absurd (true≢false (sym g))
 text_column (cells.Text texts) e = (texts, refl)
 
 all_narrow : (rows : ℕ) (records : List Record) (columns : List Column) → are_texts (columns_in columns) ≡ true
@@ -307,7 +309,7 @@ all_narrow : (rows : ℕ) (records : List Record) (columns : List Column) → ar
     → AllByRecursion (λ (c : List ℕ × Ty). c.1 ≡ narrowest (cells_under records c.0)) (map (narrow rows) columns)
 all_narrow rows records [] texts held = tt
 all_narrow rows records (c ∷ columns) texts held =
-    let both = and_parts (text_layer (out-Ty (type_of c.cells))) (are_texts (columns_in columns)) texts in
+    let both = and_parts (is_string (type_of c.cells)) (are_texts (columns_in columns)) texts in
     let found = text_column c.cells both.0 in
     (ap (narrow_type rows) found.1 ∙ ap narrowest (sym (held.0 found.0 found.1)), all_narrow rows records columns both.1 held.1)
 
@@ -322,10 +324,14 @@ narrow_cells rows m columns (header ∷ rs) same texts none front =
     by true none front = all_cells header columns 1 0 m rs none front
     by false none front = absurd (none_some (sym none))
 
+same_labels : (rows : ℕ) (columns : List Column) → map (λ (c : List ℕ × Ty). c.0) (map (narrow rows) columns) ≡ map (λ (c : List ℕ × Ty). c.0) (columns_in columns)
+same_labels rows [] = refl
+same_labels rows (c ∷ columns) = ap (λ ls. c.label ∷ ls) (same_labels rows columns)
+
 -- the type of the columns of a table of texts, with their narrowest types
-pub narrow_reads : (bytes : List ℕ) (texts narrow_ty : Ty) (t : ColumnTable) → is_table_type texts ≡ true → are_texts (columns_of texts) ≡ true → columns_in t.columns.items ≡ columns_of texts → rows_of t ≡ table_rows bytes texts
+pub narrow_reads : (bytes : List ℕ) (texts narrow_ty : Ty) (t : ColumnTable) → is_table_type texts ≡ true → are_texts (columns_of texts) ≡ true → map (λ c. c.0) (columns_of texts) ≡ table_labels (table_records bytes) → columns_in t.columns.items ≡ columns_of texts → rows_of t ≡ table_rows bytes texts
     → bad_record bytes texts ≡ None → columns_of narrow_ty ≡ narrow_columns t → is_list narrow_ty ≡ false → IsReadAs bytes narrow_ty
-narrow_reads bytes texts narrow_ty t suits all columns rows good is unordered =
+narrow_reads bytes texts narrow_ty t suits all labels columns rows good is unordered =
     let size : length (rows_of t) ≡ t.len = length-map-range_with_len (row_at t.columns.items) 0 t.len in
     let none = ap (λ cs. bad_in cs (table_records bytes)) columns ∙ good in
     let front = ap (λ cs. rows_in cs (table_records bytes)) columns ∙ sym rows in
@@ -333,6 +339,9 @@ narrow_reads bytes texts narrow_ty t suits all columns rows good is unordered =
       suits = ap (λ (cs : Columns). not (length cs == 0) && list_all (λ (c : List ℕ × Ty). is_base c.1) cs) is ∙ suits_narrow (length (rows_of t)) t.columns.items (columns_of texts) columns suits;
       unordered = unordered;
       good = ap (λ cs. bad_in cs (table_records bytes)) is ∙ narrow_bad (length (rows_of t)) t.len t.columns.items (table_records bytes) (omega (arith, size)) none front;
-      narrow = subst (AllByRecursion (λ (c : List ℕ × Ty). c.1 ≡ narrowest (cells_under (table_records bytes) c.0))) (sym is)
-          (narrow_cells (length (rows_of t)) t.len t.columns.items (table_records bytes) size (ap are_texts columns ∙ all) none front);
+      narrow = record {
+        labels = ap (λ (cs : Columns). map (λ c. c.0) cs) is ∙ same_labels (length (rows_of t)) t.columns.items ∙ ap (λ (cs : Columns). map (λ c. c.0) cs) columns ∙ labels;
+        types = subst (AllByRecursion (λ (c : List ℕ × Ty). c.1 ≡ narrowest (cells_under (table_records bytes) c.0))) (sym is)
+            (narrow_cells (length (rows_of t)) t.len t.columns.items (table_records bytes) size (ap are_texts columns ∙ all) none front);
+      };
     }

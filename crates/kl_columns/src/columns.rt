@@ -1,7 +1,8 @@
 //! Types of tables.
-ghost use Rattle.std.specs.Prelude.{◌≡◌, false, true, IfOk};
+ghost use Rattle.std.specs.Prelude.{◌≡◌, false, map, true, IfOk};
 ghost use Rattle.kl_ask.specs.Tables.{columns_of};
 ghost use Rattle.kl_sqlserve.specs.Server.{is_list};
+ghost use Rattle.kl_columns.specs.Headers.{rising};
 ghost use Rattle.kl_columns.specs.Narrowing.{are_texts, narrow_columns};
 
 use crate::narrowing::narrowest;
@@ -16,18 +17,27 @@ use std::collections::BTreeSet;
 ///
 /// # Errors
 /// Want of memory.
-pub fn of_texts(alloc: Global, labels: Vec<Label>) -> Result<Ty, NoMemory>
-    ensures { IfOk result (λ ty. are_texts (columns_of ty) ≡ true) }
+pub fn of_texts(alloc: Global, labels: &[Label]) -> Result<Ty, NoMemory>
+    ensures texts { IfOk result (λ ty. are_texts (columns_of ty) ≡ true) }
+    ensures labels { IfOk result (λ ty. map (λ c. c.0) (columns_of ty) ≡ rising labels.now) }
 {
-    let mut ordered = BTreeSet::new(alloc);
-    for label in labels {
-        ordered.insert(label)?;
-    }
-    let mut fields = Vec::new(alloc);
-    for label in ordered {
-        fields.push((label, Ty::Str))?;
+    let rising = in_order(alloc, labels)?;
+    let mut fields = Vec::with_capacity(alloc, rising.len())?;
+    for label in &rising {
+        fields.push((label.dup()?, Ty::Str))?;
     }
     bag_of(alloc, fields)
+}
+
+// The labels in their order.
+fn in_order(alloc: Global, labels: &[Label]) -> Result<Vec<Label>, NoMemory>
+    ensures { IfOk result (λ found. found.items ≡ rising labels.now) }
+{
+    let mut found = BTreeSet::new(alloc);
+    for label in labels {
+        found.insert(label.dup()?)?;
+    }
+    Ok(found.into_iter().collect(alloc)?)
 }
 
 /// The type of a table of texts with the narrowest type of each column.

@@ -55,7 +55,7 @@ fn type_of(alloc: Global, path: &[u8], bytes: &[u8], notes: &mut Vec<u8>) -> Res
         return Ok(Found::Bad(0));
     };
     let labels = labels_in(alloc, path, &header, notes)?;
-    let texts = of_texts(alloc, labels)?;
+    let texts = of_texts(alloc, &labels)?;
     if !is_table_type(&texts) {
         return Ok(Found::Bad(0));
     }
