@@ -4,7 +4,7 @@ They build nothing: each takes the path of a built program, makes its inputs in 
 turns with its peers, and prints a table for docs/PERFORMANCE.md: the medians of processor time (user and system), of wall-clock
 time and of peak memory, and the ratio of processor time to the peer's. Peers that are not installed are left out.
 Nothing but Python's own modules is needed."""
-import argparse, atexit, collections, os, random, re, shutil, statistics, subprocess, tempfile, time
+import argparse, atexit, collections, os, random, re, resource, shutil, statistics, subprocess, tempfile, time
 
 Run = collections.namedtuple("Run", "cpu wall memory told")
 
@@ -50,20 +50,32 @@ def make_tables(rows):
     write("h.csv", "grp,label\n" + "".join(f"{i},group {i}\n" for i in range(100)))
 
 
+def watched(child):
+    """Waits until a run ends, and answers its peak of memory in KB as it was last seen."""
+    seen = 0
+    while os.waitid(os.P_PID, child.pid, os.WEXITED | os.WNOWAIT | os.WNOHANG) is None:
+        with open(f"/proc/{child.pid}/status", encoding="utf-8") as file:
+            seen = max([seen, *(int(it) for it in re.findall(r"^VmHWM:\s*([0-9]+)", file.read(), re.M))])
+        time.sleep(0.005)
+    return seen
+
+
 def measured(words, given=os.devnull, wanted=0):
     """One run, whose output is thrown away; a status other than the wanted one ends the script."""
     begun = time.time()
     with open(given, "rb") as given, tempfile.TemporaryFile("w+") as told:
         child = subprocess.Popen(words, stdin=given, stdout=subprocess.DEVNULL, stderr=told)
+        seen = watched(child)
+        wall = time.time() - begun
         _, status, usage = os.wait4(child.pid, 0)
         child.returncode = os.waitstatus_to_exitcode(status)
-        wall = time.time() - begun
         told.seek(0)
         said = told.read()
     if child.returncode != wanted:
         raise SystemExit(f"{' '.join(words)}: status {child.returncode}, {said[:500]}")
-    # (below 14 MB it is the memory of Python's own fork)
-    return Run(usage.ru_utime + usage.ru_stime, wall, usage.ru_maxrss / 1024, said)
+    # (what the system counts of a run begins with what Python had when it forked)
+    forked = resource.getrusage(resource.RUSAGE_SELF).ru_maxrss
+    return Run(usage.ru_utime + usage.ru_stime, wall, (usage.ru_maxrss if usage.ru_maxrss > forked else seen) / 1024, said)
 
 
 class Table:
@@ -90,5 +102,5 @@ class Table:
             cpu, wall, memory = (statistics.median(getattr(run, it) for run in runs) for it in ("cpu", "wall", "memory"))
             beside = statistics.median(run.cpu for run in took[peer]) if peer in took else None
             ratio = f"{cpu / beside:.2f}" if beside else ""
-            cells = [name, f"{cpu:.2f} s", f"{wall:.2f} s", f"{memory:.0f} MB" if memory > 14 else f"{memory:.1f} MB", ratio]
+            cells = [name, f"{cpu:.2f} s", f"{wall:.2f} s", f"{memory:.0f} MB" if memory >= 10 else f"{memory:.1f} MB", ratio]
             print("|" + "|".join(f" {it} " for it in cells + ([" ".join(re.findall(self.last[1], runs[-1].told, re.M))] if self.last else [])) + "|", flush=True)
