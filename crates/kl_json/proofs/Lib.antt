@@ -1,0 +1,5 @@
+mod Back
+mod Meanings
+mod Numbers
+mod Records
+mod WrittenLemmas
