@@ -1,6 +1,6 @@
 # What people look for. `rt`, of Rattle's kit, has to be on the path; crates.txt says which crate stands on which.
 #
-#   make              the programs, proved: crates/kleisli/out/kleisli and crates/klcat/out/klcat; -jN proves N crates at once
+#   make              the programs, proved: crates/NAME/out/NAME of kleisli, klcat and kljson; -jN proves N crates at once
 #   make try          the first example, by a program of which nothing is proved, within three minutes; PROGRAM=.. for
 #                     another without a catalogue
 #   make run          the first example, by the proved program; PROGRAM=.. CATALOGUE=.. for another
@@ -18,34 +18,41 @@ PROGRAM ?= examples/first.cpl
 CATALOGUE ?=
 CRATES ?=
 
+PROGRAMS := kleisli klcat kljson
 BUILT := crates/kleisli/out/kleisli
-LISTER := crates/klcat/out/klcat
 
-# The libraries of the programs, each behind those that it stands on.
-LIBRARIES := $(shell { .ci/order kleisli; .ci/order klcat; } | awk '!seen[$$0]++')
-LAST := $(words $(LIBRARIES) kleisli klcat)
+# What each program is run with once it is built.
+first_of_kleisli := check ../../examples/first.cpl
+first_of_klcat := ../../examples/biology/genes.csv
+first_of_kljson := to ../../examples/biology/papers.json
+
+# The libraries of each program, and of all, each behind those that it stands on.
+$(foreach it,$(PROGRAMS),$(eval below_$(it) := $(shell .ci/order $(it))))
+LIBRARIES := $(below_kleisli)
+$(foreach it,$(PROGRAMS),$(eval LIBRARIES += $(filter-out $(LIBRARIES),$(below_$(it)))))
+LAST := $(words $(LIBRARIES) $(PROGRAMS))
 
 # What a crate is made of: folders too, since a file that is gone changes its folder.
 files = $(shell find crates/$(1)/src crates/$(1)/specs crates/$(1)/proofs 2> /dev/null)
-$(foreach it,$(LIBRARIES) kleisli klcat,$(eval files_of_$(it) := $(call files,$(it))))
+$(foreach it,$(LIBRARIES) $(PROGRAMS),$(eval files_of_$(it) := $(call files,$(it))))
 below = $(filter $(LIBRARIES),$(shell sed -n 's/^$(1)[^:]*://p' crates.txt))
 
-.PHONY: programs kleisli klcat libraries try run test wrong install clean
+.PHONY: programs $(PROGRAMS) libraries try run test wrong install clean
 
-programs: kleisli klcat
-
-kleisli: $(BUILT)
-
-klcat: $(LISTER)
+programs: $(PROGRAMS)
 
 # A program that is newer than all that it is made of is done, whoever built it: the gate leaves one too.
-$(BUILT): crates.txt $(foreach it,$(LIBRARIES) kleisli,$(files_of_$(it)))
-	@$(MAKE) --no-print-directory libraries
-	@.ci/build $(LAST) $(LAST) kleisli rt run -- check ../../examples/first.cpl
+# $(1): the program, $(2): its number
+define program
+$(1): crates/$(1)/out/$(1)
 
-$(LISTER): crates.txt $(foreach it,$(LIBRARIES) klcat,$(files_of_$(it)))
-	@$(MAKE) --no-print-directory libraries
-	@.ci/build $(LAST) $(LAST) klcat rt run -- ../../examples/biology/genes.csv
+crates/$(1)/out/$(1): crates.txt $(foreach it,$(below_$(1)) $(1),$(files_of_$(it)))
+	@$$(MAKE) --no-print-directory $(below_$(1):%=crates/%/out/made)
+	@.ci/build $(2) $(LAST) $(1) rt run -- $(first_of_$(1))
+endef
+
+place := $(words $(LIBRARIES))
+$(foreach it,$(PROGRAMS),$(eval place := $(shell expr $(place) + 1))$(eval $(call program,$(it),$(place))))
 
 # Libraries are built from the bottom up, which spares the pass over all sources with which a first build of the program
 # begins otherwise.
@@ -74,8 +81,7 @@ wrong:
 	@.ci/wrong $(CRATES)
 
 install: programs
-	install -D $(BUILT) $(DESTDIR)$(PREFIX)/bin/kleisli
-	install -D $(LISTER) $(DESTDIR)$(PREFIX)/bin/klcat
+	for it in $(PROGRAMS); do install -D crates/$$it/out/$$it $(DESTDIR)$(PREFIX)/bin/$$it || exit 1; done
 	install -D -m 644 docs/kleisli.1 $(DESTDIR)$(PREFIX)/share/man/man1/kleisli.1
 
 clean:

@@ -1,5 +1,12 @@
+mod Answering
 mod Back
+mod ItemPutting
+mod Listing
 mod Meanings
+mod Meanwhile
 mod Numbers
+mod Putting
 mod Records
+mod Telling
+mod Values
 mod WrittenLemmas

@@ -1,3 +1,6 @@
+ghost use Rattle.std.specs.Prelude.{◌≡◌};
+ghost use Rattle.kl_json.specs.Words.{is_plain};
+
 use kl_base::Label;
 
 /// What is made of JSON values that are no values of the language as they stand.
@@ -22,4 +25,13 @@ pub enum Refusal {
     Word,
     /// A label stands twice in an object.
     Twice,
+}
+
+impl Choices {
+    /// Whether nothing is chosen.
+    pub fn is_plain(&self) -> bool
+        ensures { result ≡ is_plain self.now }
+    {
+        self.null.is_none() && !self.text_numbers && !self.words
+    }
 }

@@ -10,7 +10,7 @@ use kl_prim::number_in;
 use kl_value::Value;
 use std::alloc::Global;
 
-/// The value that a JSON value is: objects are records, arrays lists, strings texts in UTF-8. It is canonical.
+/// The value that a JSON value is: objects are records, arrays lists, strings texts in UTF-8.
 ///
 /// # Errors
 /// Want of memory. Within, the refusal that stands first in the text: where a label stands twice in an object, that is
