@@ -1,5 +1,5 @@
 -- What is written of a value that a JSON value is, is that value again.
-use Rattle.std.proofs.Common.{◌≡◌, ℕ, ℤ, Bool, true, false, cond, ◌||◌, eqb, List, [], ◌∷◌, ◌++◌, map, Option, Some, None, Result, Ok, Err, refl, ap, subst, ◌∙◌, arith}
+use Rattle.std.proofs.Common.{◌≡◌, ℕ, ℤ, Bool, true, false, cond, ◌||◌, eqb, List, [], ◌∷◌, ◌++◌, map, Option, Some, None, IsTrue, Result, Ok, Err, refl, ap, subst, ◌∙◌, arith}
 use Rattle.std.specs.Char.{is_ascii_alphabetic, is_ascii_alphanumeric}
 use Rattle.std.specs.Int.{is_in_range}
 use Rattle.std.specs.Fmt.{signed_decimal}
@@ -54,6 +54,9 @@ is_a_word x l h =
       | true ↦ λ e f. let same : x ≡ l = cc in subst (λ y. is_word y ≡ true) same e
       | false ↦ λ e f. cc
     ] refl h
+
+pub label_word : (c : Choices) (k l : List ℕ) → label_meaning c k ≡ Ok l → IsTrue (is_word l)
+label_word c k l h = is_a_word (cond c.words (as_word k) k) l h
 
 pub label_kept : (c : Choices) (k l : List ℕ) → label_meaning c k ≡ Ok l → label_meaning c l ≡ Ok l
 label_kept c k l h =

@@ -2,6 +2,7 @@ mod Answering
 mod Back
 mod ItemPutting
 mod Listing
+mod Made
 mod Meanings
 mod Meanwhile
 mod Numbers

@@ -29,13 +29,6 @@ pub record Meanwhile (c : Choices) (old now : Reading) (files files' : FilesStat
   pub keeps : Keeps old.items.file files files'
   pub goes : (first : Left) (vs : List Value) → HasValues c first vs old (files.left old.items.file) → HasValues c first vs now (files'.left old.items.file)
 
-pub started : (c : Choices) (old : Reading) (files : FilesState) → IsSome (files.left old.items.file) → Meanwhile c old old files files
-started c old files is_open = record {
-  file = refl;
-  keeps = record { told = refl; others = λ k d. refl; is_open = is_open; later = omega arith };
-  goes = λ first vs h. h;
-}
-
 module _ (c : Choices) (old now : Reading) (files files' : FilesState) (m : Meanwhile c old now files files') where
   abbrev Has : Left → List Value → Reading → Type 0
   Has first vs new = HasValues c first vs new (files'.left old.items.file)
@@ -118,9 +111,6 @@ module _ (c : Choices) (old now : Reading) (files files' : FilesState) (m : Mean
 
   pub next_deep : (p : ℕ) → NextValue c (Err (error.TooDeep p)) old now files files'
   next_deep p = record { file = m.file; keeps = m.keeps; failed = λ e. absurd cc; goes = m.goes }
-
-  pub next_long : NextValue c (Err error.TooLong) old now files files'
-  next_long = record { file = m.file; keeps = m.keeps; failed = λ e. absurd cc; goes = m.goes }
 
   pub next_fault : (e : JsonError) (new : Reading) (files'' : FilesState) → FetchesOn (Err e) now new files' files'' → NextValue c (Err e) old new files files''
   next_fault e new files'' f =

@@ -1,5 +1,7 @@
 -- An integer is the number that its digits write.
 use Rattle.std.proofs.Common.{◌≡◌, ℕ, suc, ◌<◌, ◌^◌, ℤ, pos, negsuc, neg_ℤ, Bool, true, false, cond, ◌&&◌, List, [], ◌∷◌, length, drop, Option, Some, None, refl, ap, subst, ◌∙◌, arith}
+use Rattle.std.specs.Prelude.{FitsSigned}
+use Rattle.std.specs.Int.{w64}
 use Rattle.std.specs.Fmt.{decimal, signed_decimal}
 use Rattle.std.specs.Str.Parse.{AllDigits, digits_value, starts_with_minus}
 use Rattle.std.proofs.lemmas.Bool.{ltb-true, and_parts, and_from}
@@ -51,3 +53,7 @@ found_fits s n h = by_test (is_numeral (digits_part s)) (signed_value s) h
           | true ↦ λ e f. let is : z ≡ n = cc in subst (λ y. fits_word y ≡ true) is (and_parts b (fits_word z) e).1
           | false ↦ λ e f. cc
         ] refl found
+
+pub found_signed : (s : List ℕ) (n : ℤ) → number_in s ≡ Some n → FitsSigned w64 n
+found_signed s (pos n) h = record { sfits = ltb-true n (2 ^ 63) (found_fits s (pos n) h) }
+found_signed s (negsuc n) h = record { sfits = ltb-true n (2 ^ 63) (found_fits s (negsuc n) h) }

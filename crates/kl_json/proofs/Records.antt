@@ -5,7 +5,7 @@ use Rattle.std.specs.List.{AllByRecursion, IsDistinct, list_all}
 use Rattle.std.proofs.lemmas.Bool.{and_parts, and_from}
 use Rattle.std.proofs.lemmas.Cmp.{then_total, on_total, nat_list_cmp_total}
 use Rattle.std.proofs.lemmas.List.Sorted.{IsPermutation-refl}
-use Rattle.kl_base.specs.Fields.{labels_of, IsFieldsOf}
+use Rattle.kl_base.specs.Fields.{labels_of, IsFieldsOf, LabelsRise}
 use Rattle.kl_base.proofs.SortedLemmas.{all-sorted}
 use Rattle.kl_exchange.specs.Fields.{pair_cmp, fields_of}
 use Rattle.kl_exchange.proofs.Pairs.{Pair, fields_are, fields_of_is, differ_from_fields}
@@ -62,3 +62,6 @@ pub all_fields : (P : Pair → Type 0) (pairs : List Pair) → AllByRecursion P 
 unfolding fields_of
 all_fields P pairs all =
     all-sorted pair_cmp (then_total (on_total (λ (f : Pair). f.0) nat_list_cmp_total) (on_total (λ (f : Pair). f.1) compare_total)) P pairs all
+
+pub fields_rise : (pairs : List Pair) → differ (labels_of pairs) ≡ true → LabelsRise (fields_of pairs)
+fields_rise pairs e = (fields_of_is pairs (distinct (labels_of pairs) e)).1

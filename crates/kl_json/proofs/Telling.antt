@@ -1,10 +1,10 @@
 -- Parts that are written one behind the other.
-use Rattle.std.proofs.Common.{◌≡◌, ℕ, ◌+◌, ◌<◌, length, get_or, List, [], ◌∷◌, ◌++◌, drop, Ok, Err, refl, sym, ap, subst, ◌∙◌, append_assoc, append-nil}
+use Rattle.std.proofs.Common.{◌≡◌, ℕ, ◌+◌, ◌<◌, length, get_or, List, ◌∷◌, ◌++◌, drop, Ok, Err, sym, ap, subst, ◌∙◌, append_assoc}
 use Rattle.std.specs.List.{flat_map}
 use Rattle.std.proofs.lemmas.List.{drop_more}
 use Rattle.kl_outside.specs.Sinks.{SinkState, WritesWhole}
 use Rattle.kl_outside.specs.declared.Stop.{Stop}
-use Rattle.kl_outside.proofs.SinkLemmas.{writes_nothing, writes_then, writes_stopped}
+use Rattle.kl_outside.proofs.SinkLemmas.{writes_then, writes_stopped}
 
 module _ {X : Type 0} (f : X → List ℕ) (parts : List X) (s : SinkState) where
   -- the bytes before those of the parts that are left
@@ -12,9 +12,6 @@ module _ {X : Type 0} (f : X → List ℕ) (parts : List X) (s : SinkState) wher
     pub done : List ℕ
     pub all : flat_map f parts ≡ done ++ flat_map f left
     pub wrote : WritesWhole {T = Unit {0}} done (Ok tt) s t
-
-  pub none_written : Written parts s
-  none_written = record { done = []; all = refl; wrote = writes_nothing tt s }
 
   part_written : (left rest : List X) (x : X) (t u : SinkState) (ok : Unit {0}) → left ≡ x ∷ rest → Written left t → WritesWhole (f x) (Ok ok) t u → Written rest u
   part_written left rest x t u ok here w p = record {
@@ -33,7 +30,3 @@ module _ {X : Type 0} (f : X → List ℕ) (parts : List X) (s : SinkState) wher
 
   pub refused_at : (i : ℕ) (x : X) (e : Stop) (t u : SinkState) → i < length parts → Written (drop i parts) t → WritesWhole {T = Unit {0}} (f (get_or parts i x)) (Err e) t u → WritesWhole {T = Unit {0}} (flat_map f parts) (Err e) s u
   refused_at i x e t u less w p = part_refused (drop i parts) (drop (i + 1) parts) (get_or parts i x) t u e (drop_more parts i x less) w p
-
-  pub all_written : (left : List X) (t : SinkState) → left ≡ [] → Written left t → WritesWhole {T = Unit {0}} (flat_map f parts) (Ok tt) s t
-  all_written left t none w =
-      subst (λ bytes. WritesWhole {T = Unit {0}} bytes (Ok tt) s t) (sym (w.all ∙ ap (λ ys. w.done ++ flat_map f ys) none ∙ append-nil w.done)) w.wrote
