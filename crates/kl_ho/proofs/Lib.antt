@@ -11,3 +11,6 @@ pub mod Shaping
 pub mod Fields
 pub mod Scoping
 pub mod ProgramScoping
+pub mod Growing
+pub mod Arms
+pub mod Loops
