@@ -210,5 +210,34 @@ module _ (base : Name) (highers : Highers) (funs : Funs) (V : List Name) (ss : L
       subst (λ z. GivesSteps base highers funs V (steps_view ss) a (made z b)) (steps_made xs ∙ ap steps_view (sym q))
       (inv (made no_steps b) (subst (λ z. GivesSteps base highers funs V (steps_view z) b (made no_steps b)) (sym (drop_all i ss l)) (steps_none base highers funs V b)))
 
+  pub steps_error : (i b d : ℕ) (e : Op × Expr) (xs : List (Op × Expr)) (r : Result (List (Op × Expr)) Stop) (s : Stop) → i < length ss → e ≡ get_or ss i e → IsErrAnd r (λ z. z ≡ s) → GivesExp base highers funs V (view e.1) b (told view (Err s) d)
+      → ((r : Made Steps) → GivesSteps base highers funs V (steps_view (drop i ss)) b r → GivesSteps base highers funs V (steps_view ss) a (map_made (onto step_front xs) r))
+      → GivesSteps base highers funs V (steps_view ss) a (told steps_view r d)
+  steps_error i b d e xs (Ok x) s l q h g inv = absurd h
+  steps_error i b d e xs (Err NoMemory) s l q h g inv = tt
+  steps_error i b d e xs (Err TooBig) s l q h g inv =
+      let big : GivesExp base highers funs V (view e.1) b too_big = subst (λ z. GivesExp base highers funs V (view e.1) b (told {X = Expr} view (Err z) d)) (sym h) g in
+      inv too_big (subst (λ z. GivesSteps base highers funs V (steps_view z) b too_big) (sym (next_left ss i e l q)) (steps_big base highers funs V e.0 (view e.1) (steps_view (drop (i + 1) ss)) b big))
+
+module _ (base : Name) (highers : Highers) (funs : Funs) (V : List Name) (qs : List Qual) (a : ℕ) where
+  pub quals_step : (i b d : ℕ) (e x : Qual) (U W : List Name) (xs ys : List Qual) → i < length qs → e ≡ get_or qs i e → ys ≡ xs ++ x ∷ []
+      → ((rest : Quals) (r : Made Quals) → GivesQuals base highers funs W rest d r → GivesQuals base highers funs U (qual_view e rest) b (map_made (qual_view x) r))
+      → ((r : Made Quals) → GivesQuals base highers funs U (quals_view (drop i qs)) b r → GivesQuals base highers funs V (quals_view qs) a (map_made (onto qual_view xs) r))
+      → (r : Made Quals) → GivesQuals base highers funs W (quals_view (drop (i + 1) qs)) d r → GivesQuals base highers funs V (quals_view qs) a (map_made (onto qual_view ys) r)
+  quals_step i b d e x U W xs ys l q p h inv r g =
+      one_more qual_view (GivesQuals base highers funs U (quals_view (e ∷ drop (i + 1) qs)) b) (GivesQuals base highers funs W (quals_view (drop (i + 1) qs)) d) (GivesQuals base highers funs V (quals_view qs) a) xs ys x p
+      (λ r g. inv r (subst (λ z. GivesQuals base highers funs U (quals_view z) b r) (sym (next_left qs i e l q)) g)) (λ r g. h (quals_view (drop (i + 1) qs)) r g) r g
+
+  pub quals_behind : (i : ℕ) (e : Qual) (U W : List Name) → i < length qs → e ≡ get_or qs i e → ((rest : Quals) → behind_shaped (qual_view e rest) U ≡ behind_shaped rest W)
+      → behind_shaped (quals_view (drop i qs)) U ≡ behind_shaped (quals_view qs) V → behind_shaped (quals_view (drop (i + 1) qs)) W ≡ behind_shaped (quals_view qs) V
+  quals_behind i e U W l q h inv = sym (h (quals_view (drop (i + 1) qs))) ∙ sym (ap (λ z. behind_shaped (quals_view z) U) (next_left qs i e l q)) ∙ inv
+
+  pub quals_done : (i b : ℕ) (U : List Name) (xs ys : List Qual) → length qs ≤ i → ys ≡ xs
+      → ((r : Made Quals) → GivesQuals base highers funs U (quals_view (drop i qs)) b r → GivesQuals base highers funs V (quals_view qs) a (map_made (onto qual_view xs) r))
+      → GivesQuals base highers funs V (quals_view qs) a (made (quals_view ys) b)
+  quals_done i b U xs ys l q inv =
+      subst (λ z. GivesQuals base highers funs V (quals_view qs) a (made z b)) (quals_made xs ∙ ap quals_view (sym q))
+      (inv (made no_quals b) (subst (λ z. GivesQuals base highers funs U (quals_view z) b (made no_quals b)) (sym (drop_all i qs l)) (quals_none base highers funs U b)))
+
 pub otherwise_made : (base : Name) (highers : Highers) (funs : Funs) (V : List Name) (e x : Exp) (b d : ℕ) → GivesExp base highers funs V e b (made x d) → GivesBranches base highers funs V (otherwise e) b (made (otherwise x) d)
 otherwise_made base highers funs V e x b d h = (h.0, b_otherwise h.1, h.2)

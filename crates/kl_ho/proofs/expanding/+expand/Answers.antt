@@ -2,7 +2,7 @@ use Rattle.std.proofs.Common.{refl, sym, ap, ◌∙◌, rules, arith}
 use Rattle.kl_syntax.specs.View.{view, quals_view}
 use Rattle.kl_ho.specs.Growing.{highers_of}
 use Rattle.kl_ho.proofs.Arms.{const_arm, name_arm, rec_arm, more_arm, inj_arm, coll_arm, if_arm, let_arm, case_arm, path_arm, not_arm, neg_arm, chain_arm, comp_arm}
-use Rattle.kl_ho.proofs.Loops.{all_step, all_done, all_error, steps_step, steps_done, otherwise_made}
+use Rattle.kl_ho.proofs.Loops.{all_step, all_done, all_error, steps_step, steps_done, steps_error, quals_step, quals_behind, quals_done, otherwise_made}
 use Rattle.kl_ho.specs.Expansion.{b_none}
 use Rattle.kl_ho.proofs.expanding.+expand.Goals as goal
 
@@ -97,13 +97,13 @@ pub expand_quals-returns-in_err-expand_qual-clause-gives : goal.expand_quals-ret
 expand_quals-returns-in_err-expand_qual-clause-gives t c = ?
 
 pub expand_quals-loop-qual-preserved : goal.expand_quals-loop-qual-preserved
-expand_quals-loop-qual-preserved t c = ?
+expand_quals-loop-qual-preserved t c = (omega (arith, c.expand_qual.ensures.less, c.loop-qual.invariant.0), quals_step c.args.t.now.base.now (highers_of c.args.t.now) c.args.funs.now c.args.vars.now.items c.args.quals.now _ _ _ _ c.qual-item.result c.in_ok-expand_qual.field-0 c.loop-qual.vars.items c.expand_qual.new.vars.items c.loop-qual.made.items _ c.loop-qual-test.true c.qual-item.is c.in_ok-push.ensures.items c.in_ok-expand_qual.ensures.gives.0 c.loop-qual.invariant.1, quals_behind c.args.t.now.base.now (highers_of c.args.t.now) c.args.funs.now c.args.vars.now.items c.args.quals.now c.args.budget.now c.loop-qual.qual-index c.qual-item.result c.loop-qual.vars.items c.expand_qual.new.vars.items c.loop-qual-test.true c.qual-item.is c.in_ok-expand_qual.ensures.gives.1 c.loop-qual.invariant.2)
 
 pub expand_quals-returns-clause-gives : goal.expand_quals-returns-clause-gives
-expand_quals-returns-clause-gives t c = ?
+expand_quals-returns-clause-gives t c = quals_done c.args.t.now.base.now (highers_of c.args.t.now) c.args.funs.now c.args.vars.now.items c.args.quals.now _ c.loop-qual.qual-index c.loop-qual.budget c.loop-qual.vars.items c.loop-qual.made.items _ c.loop-qual-test.false c.of.ensures c.loop-qual.invariant.1
 
 pub expand_steps-returns-in_err-expand-clause-gives : goal.expand_steps-returns-in_err-expand-clause-gives
-expand_steps-returns-in_err-expand-clause-gives t c = ?
+expand_steps-returns-in_err-expand-clause-gives t c = steps_error c.args.t.now.base.now (highers_of c.args.t.now) c.args.funs.now c.args.vars.now c.args.steps.now _ c.loop-step.step-index c.loop-step.budget _ c.step-item.result c.loop-step.made.items c.from_residual-in_err-expand.result c.in_err-expand.field-0.0 c.loop-step-test.true c.step-item.is c.from_residual-in_err-expand.ensures.1 c.in_err-expand.ensures.gives c.loop-step.invariant.1
 
 pub expand_steps-loop-step-preserved : goal.expand_steps-loop-step-preserved
 expand_steps-loop-step-preserved t c = (omega (arith, c.expand.ensures.less, c.loop-step.invariant.0), steps_step c.args.t.now.base.now (highers_of c.args.t.now) c.args.funs.now c.args.vars.now c.args.steps.now _ _ _ _ c.step-item.result c.in_ok-expand.field-0 c.loop-step.made.items _ c.loop-step-test.true c.step-item.is c.in_ok-push.ensures.items c.in_ok-expand.ensures.gives c.loop-step.invariant.1)
