@@ -11,6 +11,3 @@ pub mod Shaping
 pub mod Fields
 pub mod Scoping
 pub mod ProgramScoping
-pub mod Growing
-pub mod Arms
-pub mod Loops

@@ -1,5 +1,5 @@
 //! Laws of expansions.
-ghost use Rattle.std.specs.Prelude.{◌≡◌, ◌↔◌, ◌<◌, List, Option, ℕ};
+ghost use Rattle.std.specs.Prelude.{◌≡◌, ◌↔◌, List, Option, ℕ};
 ghost use Rattle.kl_value.specs.declared.Value.{Value};
 ghost use Rattle.kl_type.specs.Ground.{Ground};
 ghost use Rattle.kl_outcome.specs.Outcome.{Name, Outcome};
@@ -47,9 +47,4 @@ pub fn scoping_laws()
 /// of labels have them, the definitions have the same parts.
 pub fn function_field_laws()
     ensures unique { (fields also : FunctionFields) (ds : Decls) (sources : List Name) → AreFunctionFields fields ds sources → AreFunctionFields also ds sources → HaveSameParts fields also ds }
-{}
-
-/// An expression has itself at least.
-pub fn making_laws()
-    ensures some { (x : Exp) → 0 < nodes x }
 {}

@@ -5,9 +5,6 @@
 //! functions, shapes, meaning, typing and expansions. The functions here are laws; no command reads such programs yet.
 #![tactic(auto)]
 
-mod expanding;
 mod laws;
-mod stop;
-mod table;
 
 pub use laws::{expansion_laws, function_field_laws, scoping_laws};
