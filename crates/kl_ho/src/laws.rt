@@ -35,7 +35,7 @@ pub fn expansion_laws()
     ensures same_size { (highers : Highers) (n m : ℕ) (funs : Funs) (e x y : Exp) → IsExpansionAt n highers funs e x → IsExpansionAt m highers funs e y → nodes x ≡ nodes y }
 {}
 
-/// What may be refused. A program whose functions keep to their shapes, and which breaks no rule of names once its functions
+/// A program whose functions keep to their shapes, and which breaks no rule of names once its functions
 /// are taken out, keeps to the rules over what stands before a program.
 pub fn scoping_laws()
     ensures keeps { (fields : FunctionFields) (ds : Decls) (e : Exp) (sources : List Name) → CatchFunctions fields ds → IsShapedDecls fields ds e (first_world sources) → HasNoBreach fields ds e sources
