@@ -1,0 +1,5 @@
+pub mod Answering
+pub mod Naming
+pub mod Refusals
+pub mod Tables
+pub mod Words

@@ -1,0 +1,31 @@
+-- Words for the headers of a table.
+use Rattle.std.specs.Prelude.{◌≡◌, ◌≤◌, ◌<◌, ℕ, Bool, true, false, not, ◌&&◌, ◌==◌, List, [], ◌∷◌, ◌++◌, codes, cond, decimal, nat_eq, ⊤}
+use Rattle.std.specs.Cmp.Lexicographic.{pointwise}
+use Rattle.std.specs.List.{list_any}
+use Rattle.kl_base.specs.Word.{is_word}
+use Rattle.kl_json.specs.Meaning.{as_word}
+
+-- the word itself as the first name, and with its number behind it as each later one
+abbrev pub numbered : List ℕ → ℕ → List ℕ
+numbered word n = cond (n == 1) word (word ++ codes "_" ++ decimal n)
+
+abbrev pub is_one : List ℕ → List ℕ → Bool
+is_one name taken = pointwise nat_eq name taken
+
+-- a word that is no name before it
+abbrev pub is_free : List (List ℕ) → List ℕ → Bool
+is_free before name = is_word name && not (list_any (is_one name) before)
+
+-- the header made a word: the first of its names that is free
+pub record IsNameOf (before : List (List ℕ)) (cell name : List ℕ) : Type 0 where
+  pub number : ℕ
+  pub name_is : name ≡ numbered (as_word cell) number
+  pub free : is_free before name ≡ true
+  pub first : (n : ℕ) → 1 ≤ n → n < number → is_free before (numbered (as_word cell) n) ≡ false
+
+-- one name for each header, in their order
+abbrev pub AreNames : List (List ℕ) → List (List ℕ) → List (List ℕ) → Type 0
+AreNames before [] [] = ⊤
+AreNames before (cell ∷ cells) (name ∷ names) = IsNameOf before cell name × AreNames (before ++ name ∷ []) cells names
+AreNames before [] (name ∷ names) = ⊥
+AreNames before (cell ∷ cells) [] = ⊥

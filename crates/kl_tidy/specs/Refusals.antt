@@ -1,0 +1,20 @@
+-- The status of each refusal, and the line that tells of it.
+use Rattle.std.specs.Prelude.{ℕ, List, ◌++◌, codes, decimal}
+use Rattle.kl_tidy.specs.declared.refusal.Refusal.{Refusal}
+use Rattle.kl_tidy.specs.declared.refusal.Refusal.TheVariants as refusal
+
+abbrev pub refusal_status : Refusal → ℕ
+refusal_status refusal.Usage = 1
+refusal_status (refusal.BadFile path n) = 5
+refusal_status refusal.Read = 7
+refusal_status refusal.Write = 8
+refusal_status refusal.NoMemory = 9
+refusal_status refusal.FileBytes = 10
+
+abbrev pub refusal_line : Refusal → List ℕ
+refusal_line refusal.Usage = codes "usage: kltable [--from tab|semicolon] FILE\n"
+refusal_line (refusal.BadFile path n) = codes "source " ++ path ++ codes ": bad at " ++ decimal n ++ codes "\n"
+refusal_line refusal.Read = codes "read fault\n"
+refusal_line refusal.Write = codes "write fault\n"
+refusal_line refusal.NoMemory = codes "out of memory\n"
+refusal_line refusal.FileBytes = codes "limit: file bytes\n"

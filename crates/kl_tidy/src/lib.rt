@@ -1,0 +1,20 @@
+//! Tables made tidy: copies of tables whose columns programs can name.
+//!
+//! `kltable` does what the words of its command line say: it reads a table, makes a word of each header, and prints the
+//! table with commas between its cells. A table is held whole, and nothing is printed of one that is refused.
+//!
+//! What `rt plant` lets through here: bodies that answer want of memory, which no contract of this project ties to a
+//! refused growth, and other notes, which no contract fixes.
+#![tactic(auto)]
+
+mod naming;
+mod reading;
+mod refusal;
+mod table;
+mod top;
+mod words;
+mod writing;
+
+pub use refusal::{Refusal, put_line, status};
+pub use top::kltable;
+pub use words::Command;
