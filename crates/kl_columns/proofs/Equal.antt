@@ -1,5 +1,5 @@
 -- `==` on entries of catalogues is equality.
-use Rattle.std.proofs.Common.{◌≡◌, ◌&&◌, List, Decides, true, nat_eq, refl, ap}
+use Rattle.std.proofs.Common.{◌≡◌, ◌&&◌, List, Decides, true, false, nat_eq, refl, sym, ap, ◌∙◌}
 use Rattle.std.specs.Cmp.Lexicographic.{pointwise}
 use Rattle.std.proofs.lemmas.Bool.Decides.{Decides-and, Decides-like}
 use Rattle.std.proofs.lemmas.Slice.Eq.{bytes_eq-Decides, slice_eq-Decides}
@@ -18,3 +18,9 @@ same_entry a b =
 
 pub same_entries : (es fs : List Entry) → pointwise entries.ghosts.eq es fs ≡ true → es ≡ fs
 same_entries es fs h = (slice_eq-Decides same_entry es fs (pointwise entries.ghosts.eq es fs) refl).0 h
+
+true_false : true ≡ false → ⊥
+true_false h = cc
+
+pub other_entries : (es fs : List Entry) → pointwise entries.ghosts.eq es fs ≡ false → es ≡ fs → ⊥
+other_entries es fs h e = true_false (sym ((slice_eq-Decides same_entry es fs (pointwise entries.ghosts.eq es fs) refl).1 e) ∙ h)

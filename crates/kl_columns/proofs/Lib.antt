@@ -1,7 +1,10 @@
+pub mod Answering
+pub mod Causing
 pub mod Cells
 pub mod Entries
 pub mod Equal
 pub mod Firsts
 pub mod Held
 pub mod Narrowed
+pub mod Telling
 pub mod Walked

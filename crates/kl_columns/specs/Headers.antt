@@ -1,9 +1,11 @@
 -- Which columns of a table programs can name.
-use Rattle.std.specs.Prelude.{ℕ, ◌+◌, Bool, ◌&&◌, ◌==◌, List, [], ◌∷◌, ◌++◌, codes, cond, decimal, filter, fold}
+use Rattle.std.specs.Prelude.{ℕ, ◌+◌, Bool, ◌&&◌, ◌==◌, List, [], ◌∷◌, ◌++◌, Option, Some, codes, cond, decimal, filter, fold, length, map}
 use Rattle.std.specs.BTreeSet.{insert_key}
 use Rattle.kl_base.specs.Fields.{bytes_cmp}
 use Rattle.kl_base.specs.Word.{is_word}
-use Rattle.kl_flat.specs.Table.{Record, times}
+use Rattle.csv.specs.Reading.{default_config, records, strip_bom}
+use Rattle.kl_type.specs.declared.ground.Ty.TheVariants as ty
+use Rattle.kl_flat.specs.Table.{Columns, Record, bad_in, times}
 use Rattle.kl_columns.specs.Writing.{quoted}
 
 -- a word that stands there once
@@ -36,3 +38,19 @@ notes_from path header n (cell ∷ cells) = note path header n cell ++ notes_fro
 
 abbrev pub notes_of : List ℕ → Record → List ℕ
 notes_of path header = notes_from path header 1 header
+
+-- what is told of the columns of a table's bytes
+abbrev pub header_notes : List ℕ → List Record → List ℕ
+header_notes path [] = []
+header_notes path (header ∷ rs) = notes_of path header
+
+abbrev pub table_notes : List ℕ → List ℕ → List ℕ
+table_notes path bytes = header_notes path (records default_config (strip_bom bytes))
+
+abbrev pub text_columns : List (List ℕ) → Columns
+text_columns labels = map (λ l. (l, ty.Str)) labels
+
+-- The number of the first record that is bad as texts under the headers that programs can name. Where there is no such header,
+-- it is the header's.
+abbrev pub first_bad : List Record → Option ℕ
+first_bad rs = cond (length (table_labels rs) == 0) (Some 0) (bad_in (text_columns (table_labels rs)) rs)

@@ -1,4 +1,5 @@
 pub mod Answering
+pub mod Causes
 pub mod Headers
 pub mod Listing
 pub mod Narrowing

@@ -8,9 +8,10 @@ use Rattle.kl_catalogue.specs.Reading.{IsCatalogue}
 use Rattle.kl_catalogue.specs.declared.reading.Entry.{Entry}
 use Rattle.kl_flat.specs.Columns.{is_table_type}
 use Rattle.kl_flat.specs.Flat.{flat_kind}
-use Rattle.kl_flat.specs.Table.{bad_record}
+use Rattle.kl_flat.specs.Table.{bad_record, table_records}
 use Rattle.kl_sources.specs.Sources.{is_taken}
 use Rattle.kl_sqlserve.specs.Server.{is_list, sql_kind}
+use Rattle.kl_columns.specs.Headers.{first_bad}
 use Rattle.kl_columns.specs.Narrowing.{IsNarrow}
 use Rattle.kl_columns.specs.Writing.{entry_line}
 use Rattle.kl_columns.specs.declared.table.Found.{Found}
@@ -88,4 +89,4 @@ pub record IsReadAs (bytes : List ℕ) (ty : Ty) : Type 0 where
 
 abbrev pub Reads : List ℕ → Found → Type 0
 Reads bytes (found.Type ty) = IsReadAs bytes ty
-Reads bytes (found.Bad n) = ⊤
+Reads bytes (found.Bad n) = first_bad (table_records bytes) ≡ Some n

@@ -1,9 +1,9 @@
 //! Types of tables.
-ghost use Rattle.std.specs.Prelude.{◌≡◌, false, map, true, IfOk};
+ghost use Rattle.std.specs.Prelude.{◌≡◌, false, IfOk};
 ghost use Rattle.kl_ask.specs.Tables.{columns_of};
 ghost use Rattle.kl_sqlserve.specs.Server.{is_list};
-ghost use Rattle.kl_columns.specs.Headers.{rising};
-ghost use Rattle.kl_columns.specs.Narrowing.{are_texts, narrow_columns};
+ghost use Rattle.kl_columns.specs.Headers.{rising, text_columns};
+ghost use Rattle.kl_columns.specs.Narrowing.{narrow_columns};
 
 use crate::narrowing::narrowest;
 use kl_base::{Box, Label, NoMemory, Seq};
@@ -18,8 +18,7 @@ use std::collections::BTreeSet;
 /// # Errors
 /// Want of memory.
 pub fn of_texts(alloc: Global, labels: &[Label]) -> Result<Ty, NoMemory>
-    ensures texts { IfOk result (λ ty. are_texts (columns_of ty) ≡ true) }
-    ensures labels { IfOk result (λ ty. map (λ c. c.0) (columns_of ty) ≡ rising labels.now) }
+    ensures { IfOk result (λ ty. columns_of ty ≡ text_columns (rising labels.now)) }
 {
     let rising = in_order(alloc, labels)?;
     let mut fields = Vec::with_capacity(alloc, rising.len())?;

@@ -1,7 +1,8 @@
 //! The catalogue of tables.
-ghost use Rattle.std.specs.Prelude.{◌≡◌, ◌++◌, ◌∷◌, [], OnOk, IfOk};
+ghost use Rattle.std.specs.Prelude.{◌≡◌, ◌++◌, ◌∷◌, [], OnOk, IfOk, IfErr};
 ghost use Rattle.std.specs.List.{flat_map};
 ghost use Rattle.kl_catalogue.specs.Reading.{IsCatalogue};
+ghost use Rattle.kl_columns.specs.Causes.{AreNotes, WhyNoCatalogue, WhyNoText};
 ghost use Rattle.kl_columns.specs.Listing.{IsCatalogueOf, IsEntryFor, ListAll, Told, driver_for};
 ghost use Rattle.kl_columns.specs.Writing.{entry_line};
 
@@ -29,10 +30,15 @@ pub fn catalogue_of<F: Files>(
     paths: &[Text],
     notes: &mut Vec<u8>,
 ) -> Result<Text, Refusal>
-    ensures { IfOk result (λ page. IsCatalogueOf sql (F.state files.old).told paths.now page) }
+    requires { notes.old.items ≡ [] }
+    ensures lists { IfOk result (λ page. IsCatalogueOf sql (F.state files.old).told paths.now page) }
+    ensures notes { IfOk result (λ page. AreNotes (F.state files.old).told paths.now notes.new.items) }
+    ensures why { IfErr result (λ r. WhyNoCatalogue r sql paths.now (F.state files.old) (F.state files.new) notes.new.items) }
 {
-    let entries = entries_of(alloc, files, sql, paths, notes)?;
-    page_of(alloc, &Seq::of(entries))
+    match entries_of(alloc, files, sql, paths, notes) {
+        Ok(entries) => page_of(alloc, &Seq::of(entries)),
+        Err(refusal) => Err(refusal),
+    }
 }
 
 fn entries_of<F: Files>(
@@ -42,11 +48,17 @@ fn entries_of<F: Files>(
     paths: &[Text],
     notes: &mut Vec<u8>,
 ) -> Result<Vec<Entry>, Refusal>
-    ensures { IfOk result (λ entries. ListAll sql (F.state files.old).told paths.now entries.items) }
+    requires { notes.old.items ≡ [] }
+    ensures lists { IfOk result (λ entries. ListAll sql (F.state files.old).told paths.now entries.items) }
+    ensures notes { IfOk result (λ entries. AreNotes (F.state files.old).told paths.now notes.new.items) }
+    ensures why { IfErr result (λ r. WhyNoCatalogue r sql paths.now (F.state files.old) (F.state files.new) notes.new.items) }
 {
     let mut entries = Vec::new(alloc);
     'paths: for path in paths {
-        let ty = type_of_file(alloc, files, path, notes)?;
+        let ty = match type_of_file(alloc, files, path, notes) {
+            Ok(ty) => ty,
+            Err(refusal) => return Err(refusal),
+        };
         let entry = entry_of(alloc, &entries, sql, path, ty)?;
         add(&mut entries, entry)?;
     }
@@ -91,6 +103,7 @@ fn driver_name(sql: bool) -> &'static [u8]
 fn page_of(alloc: Global, entries: &Catalogue) -> Result<Text, Refusal>
     ensures text { IfOk result (λ page. page ≡ flat_map entry_line entries.now) }
     ensures reads { IfOk result (λ page. IsCatalogue page entries.now) }
+    ensures why { IfErr result (WhyNoText entries.now) }
 {
     let page = text_of(alloc, entries)?;
     if page.len() > MOST_BYTES {

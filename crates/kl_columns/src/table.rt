@@ -1,5 +1,7 @@
 //! The type of a table.
-ghost use Rattle.std.specs.Prelude.{◌≡◌, Bool, IfOk};
+ghost use Rattle.std.specs.Prelude.{◌≡◌, ◌≤◌, ◌++◌, Bool, IfOk, IfErr, OnOk};
+ghost use Rattle.kl_columns.specs.Causes.{AddsNotes, RefusesFile};
+ghost use Rattle.kl_columns.specs.Headers.{table_notes};
 ghost use Rattle.kl_columns.specs.Listing.{HasType, Reads};
 
 use crate::columns::{narrowed, of_texts};
@@ -32,7 +34,10 @@ pub fn type_of_file<F: Files>(
     notes: &mut Vec<u8>,
 ) -> Result<Ty, Refusal>
     ensures told { (F.state files.new).told ≡ (F.state files.old).told }
+    ensures later { (F.state files.old).faults ≤ (F.state files.new).faults }
     ensures rows { IfOk result (λ ty. (sql : Bool) → HasType sql (F.state files.old).told path.now ty) }
+    ensures why { IfErr result (λ r. RefusesFile r path.now (F.state files.old) (F.state files.new)) }
+    ensures notes { AddsNotes result (F.state files.old).told path.now notes.old.items notes.new.items }
 {
     match read_whole(alloc, files, path.slice(), MOST_BYTES) {
         Err(Stop::Failed) => Err(Refusal::Read),
@@ -49,7 +54,8 @@ pub fn type_of_file<F: Files>(
 }
 
 fn type_of(alloc: Global, path: &[u8], bytes: &[u8], notes: &mut Vec<u8>) -> Result<Found, NoMemory>
-    ensures { IfOk result (Reads bytes.now) }
+    ensures reads { IfOk result (Reads bytes.now) }
+    ensures notes { OnOk result (notes.new.items ≡ notes.old.items ++ table_notes path.now bytes.now) }
 {
     let Some(header) = header_of(alloc, bytes)? else {
         return Ok(Found::Bad(0));

@@ -1,6 +1,7 @@
 //! What the program does.
-ghost use Rattle.std.specs.Prelude.{◌≡◌, ◌≢◌, map, string_bytes, IfOk};
-ghost use Rattle.kl_columns.specs.Answering.{IsPageFor, Prints, PrintsNothing, Puts};
+ghost use Rattle.std.specs.Prelude.{◌≡◌, ◌≢◌, ◌++◌, [], Err, map, string_bytes};
+ghost use Rattle.kl_columns.specs.Answering.{Answers, Ends, Makes, Prints, PrintsNothing, Puts};
+ghost use Rattle.kl_outside.specs.Sinks.{WritesWhole};
 
 use crate::listing::catalogue_of;
 use crate::refusal::{OUT_OF_MEMORY, Refusal, put_line, status};
@@ -9,7 +10,8 @@ use kl_base::{NoMemory, Text};
 use kl_outside::{Files, Sink, Stop, write_whole};
 use std::alloc::Global;
 
-/// Prints on `out` the catalogue of the tables that the words name, and answers the status.
+/// Prints on `out` the catalogue of the tables that the words name, and answers the status. On `err` it tells what is left
+/// out, and then why nothing is printed, if so it is. A write that `err` refuses changes no status.
 pub fn klcat<F: Files, O: Sink, E: Sink>(
     alloc: Global,
     words: &[String],
@@ -19,32 +21,40 @@ pub fn klcat<F: Files, O: Sink, E: Sink>(
 ) -> u8
     ensures well { result ≡ 0 → Prints (F.state files.old).told (map string_bytes words.now) (O.state out.old) (O.state out.new) }
     ensures refused { result ≢ 0 → PrintsNothing (O.state out.old) (O.state out.new) }
+    ensures answers { Answers (map string_bytes words.now) result (F.state files.old) (F.state files.new)
+        (O.state out.old) (O.state out.new) (E.state err.old) (E.state err.new) }
 {
     let mut notes = Vec::new(alloc);
     let page = page_of(alloc, words, files, &mut notes);
-    match printed(page, out) {
+    let ended = printed(page, out);
+    end(alloc, ended, &notes, err)
+}
+
+// The status of how the call ended, which is told behind the notes.
+fn end<E: Sink>(alloc: Global, ended: Result<(), Refusal>, notes: &[u8], err: &mut E) -> u8
+    ensures { Ends ended notes.now result (E.state err.old) (E.state err.new) }
+{
+    match ended {
         Ok(()) => {
-            tell(&notes, err);
+            let _told = tell(notes, b"", err);
             0
         }
-        Err(refusal) => refused(&refusal, &mut notes, err),
+        Err(refusal) => refused(alloc, &refusal, notes, err),
     }
 }
 
 // Tells of a refusal behind the notes, and answers its status.
-fn refused<E: Sink>(refusal: &Refusal, notes: &mut Vec<u8>, err: &mut E) -> u8
-    ensures { result ≢ 0 }
+fn refused<E: Sink>(alloc: Global, refusal: &Refusal, notes: &[u8], err: &mut E) -> u8
+    ensures { Ends (Err refusal.now) notes.now result (E.state err.old) (E.state err.new) }
 {
-    let noted = notes.len();
-    match put_line(refusal, notes) {
+    let mut line = Vec::new(alloc);
+    match put_line(refusal, &mut line) {
         Ok(()) => {
-            tell(notes, err);
+            let _told = tell(notes, &line, err);
             status(refusal)
         }
         Err(NoMemory) => {
-            notes.truncate(noted);
-            tell(notes, err);
-            tell(OUT_OF_MEMORY, err);
+            let _told = tell(notes, OUT_OF_MEMORY, err);
             status(&Refusal::NoMemory)
         }
     }
@@ -57,9 +67,13 @@ fn page_of<F: Files>(
     files: &mut F,
     notes: &mut Vec<u8>,
 ) -> Result<Text, Refusal>
-    ensures { IfOk result (IsPageFor (F.state files.old).told (map string_bytes words.now)) }
+    requires { notes.old.items ≡ [] }
+    ensures { Makes result (map string_bytes words.now) (F.state files.old) (F.state files.new) notes.new.items }
 {
-    let paths = paths_of(alloc, words)?;
+    let paths = match paths_of(alloc, words) {
+        Ok(paths) => paths,
+        Err(NoMemory) => return Err(Refusal::NoMemory),
+    };
     if !are_tables(&paths) {
         return Err(Refusal::Usage);
     }
@@ -80,9 +94,12 @@ fn printed<O: Sink>(page: Result<Text, Refusal>, out: &mut O) -> Result<(), Refu
     }
 }
 
-// Tells what is left out. Where the lines are refused, nothing else comes of it.
-fn tell<E: Sink>(lines: &[u8], err: &mut E) {
-    match write_whole(err, lines) {
-        Ok(()) | Err(_) => {}
+// Writes a line behind the notes.
+fn tell<E: Sink>(notes: &[u8], line: &[u8], err: &mut E) -> Result<(), Stop>
+    ensures { WritesWhole (notes.now ++ line.now) result (E.state err.old) (E.state err.new) }
+{
+    match write_whole(err, notes) {
+        Ok(()) => write_whole(err, line),
+        Err(stop) => Err(stop),
     }
 }
