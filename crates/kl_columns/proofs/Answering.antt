@@ -1,8 +1,8 @@
 -- How the call ends.
-use Rattle.std.proofs.Common.{◌≡◌, ◌≢◌, refl, ◌⊎◌, inl, inr, ℕ, Bool, true, IsTrue, List, ◌++◌, Result, Ok, Err, IfOk, IfErr, ap, subst, ◌∙◌, sym}
+use Rattle.std.proofs.Common.{◌≡◌, ◌≢◌, refl, ◌⊎◌, inl, inr, ℕ, Bool, true, false, IsTrue, List, ◌++◌, Result, Ok, Err, IfOk, IfErr, ap, subst, ◌∙◌, sym}
 use Rattle.kl_outside.specs.Files.{FilesState}
 use Rattle.kl_outside.specs.Sinks.{SinkState, WritesWhole}
-use Rattle.kl_columns.specs.Answering.{Answers, Cause, Does, Ending, Ends, IsPageFor, Makes, Prints, PrintsNothing, Puts, StopsWriting, end_line, end_status}
+use Rattle.kl_columns.specs.Answering.{Answers, Cause, Does, Ending, Ends, IsPageFor, Makes, Prints, PrintsNothing, Puts, StopsWriting, TellsUsage, end_line, end_status}
 use Rattle.kl_columns.specs.Causes.{AreNotes, WhyNoCatalogue, WhyNoPage}
 use Rattle.kl_columns.specs.Listing.{IsCatalogueOf}
 use Rattle.kl_columns.specs.Refusals.{refusal_status}
@@ -34,6 +34,9 @@ makes_at r words sql paths old new notes wants are tables lists noted why =
     (subst (λ ps. IfOk r (λ page. AreNotes old.told ps notes)) are noted)
     (subst (λ s. IfErr r (λ e. WhyNoCatalogue e s (paths_of words) old new notes)) wants (subst (λ ps. IfErr r (λ e. WhyNoCatalogue e sql ps old new notes)) are why))
 
+true_false : true ≡ false → ⊥
+true_false h = cc
+
 nonzero : (r : Refusal) → refusal_status r ≡ 0 → ⊥
 nonzero refusal.Usage h = cc
 nonzero (refusal.BadFile at n) h = cc
@@ -58,6 +61,20 @@ module _ (words : List (List ℕ)) (files files' : FilesState) (out out' err err
 
   pub prints_nothing : (status : ℕ) → Answers words status files files' out out' err err' → status ≢ 0 → PrintsNothing out out'
   prints_nothing status a is = silent a.end a.notes a.does (λ zero. is (a.status_is ∙ zero))
+
+  used : (end : Ending) (notes : List ℕ) → Does end words files files' out out' notes → are_tables (paths_of words) ≡ false → (end_status end ≡ 1) ⊎ (end_status end ≡ 9)
+  used (Ok done) notes does no_tables = absurd (true_false (sym does.0.2.tables ∙ no_tables))
+  used (Err refusal.Usage) notes does no_tables = inl refl
+  used (Err refusal.NoMemory) notes does no_tables = inr refl
+  used (Err refusal.Write) notes does no_tables = absurd (true_false (sym does.1.1.1.tables ∙ no_tables))
+  used (Err (refusal.BadFile at n)) notes does no_tables = absurd (true_false (sym does.1.0 ∙ no_tables))
+  used (Err (refusal.BadCatalogue byte)) notes does no_tables = absurd (true_false (sym does.1.0 ∙ no_tables))
+  used (Err refusal.Read) notes does no_tables = absurd (true_false (sym does.1.0 ∙ no_tables))
+  used (Err refusal.CatalogueBytes) notes does no_tables = absurd (true_false (sym does.1.0 ∙ no_tables))
+  used (Err refusal.FileBytes) notes does no_tables = absurd (true_false (sym does.1.0 ∙ no_tables))
+
+  pub tells_usage : (status : ℕ) → Answers words status files files' out out' err err' → TellsUsage words status
+  tells_usage status a no_tables = subst (λ n. (n ≡ 1) ⊎ (n ≡ 9)) (sym a.status_is) (used a.end a.notes a.does no_tables)
 
   writing : (r : Refusal) (page notes : List ℕ) → IsPageFor files.told words page → AreNotes files.told (paths_of words) notes → StopsWriting r out out' → Cause r words files files' out out' notes
   writing refusal.Write page notes is noted why = (why, (page, is), noted)

@@ -1,5 +1,5 @@
 -- What the program does.
-use Rattle.std.specs.Prelude.{◌≡◌, ◌⊎◌, ◌++◌, ℕ, List, [], IsTrue, Result, Ok, Err, ⊤}
+use Rattle.std.specs.Prelude.{◌≡◌, ◌⊎◌, ◌++◌, ℕ, false, List, [], IsTrue, Result, Ok, Err, ⊤}
 use Rattle.std.specs.Io.KnownBytes.{append_known}
 use Rattle.kl_base.specs.Counts.{Rose}
 use Rattle.kl_outside.specs.Files.{FilesState}
@@ -55,6 +55,10 @@ pub record Answers (words : List (List ℕ)) (status : ℕ) (files files' : File
   pub does : Does end words files files' out out' notes
   pub told : Result (Unit {0}) Stop
   pub tells : WritesWhole (notes ++ end_line end) told err err'
+
+-- where the words name no tables, the status says so, or that memory was wanting
+abbrev pub TellsUsage : List (List ℕ) → ℕ → Type 0
+TellsUsage words status = are_tables (paths_of words) ≡ false → (status ≡ 1) ⊎ (status ≡ 9)
 
 -- ---- for private functions alone
 

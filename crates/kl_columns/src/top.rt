@@ -1,6 +1,6 @@
 //! What the program does.
 ghost use Rattle.std.specs.Prelude.{◌≡◌, ◌≢◌, ◌++◌, [], Err, map, string_bytes};
-ghost use Rattle.kl_columns.specs.Answering.{Answers, Ends, Makes, Prints, PrintsNothing, Puts};
+ghost use Rattle.kl_columns.specs.Answering.{Answers, Ends, Makes, Prints, PrintsNothing, Puts, TellsUsage};
 ghost use Rattle.kl_outside.specs.Sinks.{WritesWhole};
 
 use crate::listing::catalogue_of;
@@ -21,6 +21,7 @@ pub fn klcat<F: Files, O: Sink, E: Sink>(
 ) -> u8
     ensures well { result ≡ 0 → Prints (F.state files.old).told (map string_bytes words.now) (O.state out.old) (O.state out.new) }
     ensures refused { result ≢ 0 → PrintsNothing (O.state out.old) (O.state out.new) }
+    ensures usage { TellsUsage (map string_bytes words.now) result }
     ensures answers { Answers (map string_bytes words.now) result (F.state files.old) (F.state files.new)
         (O.state out.old) (O.state out.new) (E.state err.old) (E.state err.new) }
 {

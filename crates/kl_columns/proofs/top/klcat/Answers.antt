@@ -1,6 +1,6 @@
 use Rattle.std.proofs.Common.{map, string_bytes, subst}
 use Rattle.kl_columns.specs.Answering.{Ends}
-use Rattle.kl_columns.proofs.Answering.{answers, prints_nothing, prints_well}
+use Rattle.kl_columns.proofs.Answering.{answers, prints_nothing, prints_well, tells_usage}
 use Rattle.kl_columns.proofs.top.klcat.Goals as goal
 
 pub returns : goal.returns
@@ -17,5 +17,6 @@ returns g c =
     record {
       well = prints_well words files files' out out' err err' c.end.result all;
       refused = prints_nothing words files files' out out' err err' c.end.result all;
+      usage = tells_usage words files files' out out' err err' c.end.result all;
       answers = all;
     }
