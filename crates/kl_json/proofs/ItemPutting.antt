@@ -9,10 +9,11 @@ use Rattle.kl_exchange.specs.Printing.{Puts}
 use Rattle.kl_exchange.specs.declared.FileError.{FileError}
 use Rattle.kl_exchange.specs.declared.FileError.TheVariants as file
 use Rattle.kl_exchange.specs.declared.PrintError.{PrintError}
+use Rattle.kl_exchange.specs.declared.PrintError.TheVariants as page
 use Rattle.kl_exchange.proofs.FileReading.{begins_so as begins_fetching}
 use Rattle.kl_heads.specs.FileReading.{HasOpened, HasRead, HeadedFile, NextItem, Opens, ReadsHead, Stands, limit_of}
 use Rattle.kl_heads.specs.Files.{Shows}
-use Rattle.kl_json.specs.Answers.{ArePrinted, Ending, Printing, PutsItems, PutsLine, HasNoLine, IsPrinted, ItemsStand, PutsLines, BeginsItems, file_fault, json_line, json_lines, print_fault}
+use Rattle.kl_json.specs.Answers.{ArePrinted, Ending, FromEnds, Printing, PutsItems, PutsLine, HasNoLine, IsPrinted, ItemsStand, PutsLines, BeginsItems, file_fault, json_line, json_lines, open_fault, print_fault}
 use Rattle.kl_json.specs.Files.{Keeps}
 use Rattle.kl_json.specs.declared.fault.Fault.{Fault}
 use Rattle.kl_json.specs.declared.fault.Fault.TheVariants as fault
@@ -20,6 +21,8 @@ use Rattle.kl_json.proofs.Listing.{failed, line_more, no_read, none_put, well}
 use Rattle.kl_json.proofs.Putting.{keeps_none, keeps_then}
 use Rattle.kl_outside.specs.Files.{FilesState}
 use Rattle.kl_outside.specs.Sinks.{SinkState}
+use Rattle.kl_outside.specs.declared.Stop.{Stop}
+use Rattle.kl_outside.specs.declared.Stop.TheVariants as stop
 use Rattle.kl_type.specs.declared.Ty.{Ty}
 use Rattle.kl_value.specs.declared.Value.{Value}
 
@@ -59,6 +62,34 @@ shown_begins bytes head vs s =
       states = s.states;
       items = s.items;
     }
+
+-- ---- what `from` does not end with
+
+pub from_unopened : (e : Stop) → FromEnds (Err (open_fault e))
+from_unopened stop.Failed = tt
+from_unopened stop.NoMemory = tt
+
+pub from_unprinted : (e : PrintError) → FromEnds (Err (print_fault e))
+from_unprinted page.Failed = tt
+from_unprinted page.NoMemory = tt
+
+from_stopped : (e : FileError) → FromEnds (Err (file_fault e))
+from_stopped file.Read = tt
+from_stopped file.NoMemory = tt
+from_stopped (file.Bad p) = tt
+from_stopped (file.TooDeep p) = tt
+from_stopped file.TooLong = tt
+
+from_no_line : (head : Option Ty) (v : Value) (f : Fault) → HasNoLine head v f → FromEnds (Err f)
+from_no_line head v fault.Usage h = h
+from_no_line head v fault.Read h = tt
+from_no_line head v fault.Write h = tt
+from_no_line head v fault.NoMemory h = tt
+from_no_line head v (fault.Bad p) h = tt
+from_no_line head v (fault.Refused r p) h = h
+from_no_line head v (fault.NoUnicode p) h = tt
+from_no_line head v fault.Nesting h = tt
+from_no_line head v fault.FileBytes h = tt
 
 -- the items read are on the page
 pub record Listed (head : Option Ty) (old : HeadedFile) (files files' : FilesState) (out out' : SinkState) (now : HeadedFile) (held : List ℕ) : Type 0 where
@@ -128,9 +159,10 @@ module _ (number : ℕ) (files files' : FilesState) (old now : HeadedFile) (same
   pub now_unread : (head : Option Ty) → ReadsHead (Ok head) old now files files' → (first : Left) × HasRead first head [] now (files'.left now.items.file)
   now_unread head h = (files.left number, subst (λ k. HasRead (files.left number) head [] now (files'.left k)) (sym (now_file (Ok head) h)) (opened (Ok head) h))
 
-  pub head_stopped : (out : SinkState) (held : List ℕ) → held ≡ [] → (e : FileError) → ReadsHead (Err e) old now files files' → PutsLines json_lines ItemsStand number (Ok (Err (file_fault e))) files files' out out held
+  pub head_stopped : (out : SinkState) (held : List ℕ) → held ≡ [] → (e : FileError) → ReadsHead (Err e) old now files files' → PutsLines json_lines FromEnds ItemsStand number (Ok (Err (file_fault e))) files files' out out held
   head_stopped out held empty e h = record {
     keeps = keeps_head (Err e) h;
+    ends = from_stopped e;
     printed = [];
     meant = λ bytes is. inl refl;
     puts = subst (Puts {T = Unit {0}} [] (Ok tt) out [] out) (sym empty) (none_put out);
@@ -139,10 +171,11 @@ module _ (number : ℕ) (files files' : FilesState) (old now : HeadedFile) (same
   }
 
   pub head_read : (head : Option Ty) → ReadsHead (Ok head) old now files files' → (r : Printing) (files'' : FilesState) (out out' : SinkState) (held : List ℕ)
-      → PutsItems now head r files' files'' out out' held → PutsLines json_lines ItemsStand number r files files'' out out' held
+      → PutsItems now head r files' files'' out out' held → PutsLines json_lines FromEnds ItemsStand number r files files'' out out' held
   unfolding now_unread
   head_read head h r files'' out out' held p = record {
     keeps = keeps_then number files files' files'' (keeps_head (Ok head) h) (subst (λ k. Keeps k files' files'') (now_file (Ok head) h) p.keeps);
+    ends = p.ends;
     printed = p.printed;
     meant = p.meant (files.left number) (now_unread head h).1;
     puts = p.puts;
@@ -164,6 +197,7 @@ module _ (head : Option Ty) (old : HeadedFile) (files files' : FilesState) (out 
   pub listed_all : PutsItems old head (Ok (Err fault.FileBytes)) files files' out out' held
   listed_all = record {
     keeps = l.keeps;
+    ends = tt;
     printed = l.printed;
     meant = λ first has bytes is. was_read l.printed now (files'.left old.items.file) l.read l.lines first has bytes is fault.FileBytes;
     puts = l.puts;
@@ -204,6 +238,7 @@ module _ (head : Option Ty) (old : HeadedFile) (files files' : FilesState) (out 
   listed_unprinted v new files'' n (Ok (Ok u)) out'' held' stopped p = absurd (stopped u refl)
   listed_unprinted v new files'' n (Ok (Err f)) out'' held' stopped p = record {
     keeps = keeps_on (Ok (Some v)) new files'' n;
+    ends = from_no_line head v f p.0;
     printed = l.printed;
     meant = λ first has bytes at. was_read l.printed now (files'.left old.items.file) l.read l.lines first has bytes at f;
     puts = subst (λ o. Puts {T = Unit {0}} (json_lines l.printed) (Ok tt) out [] o held') (sym p.1) (subst (Puts {T = Unit {0}} (json_lines l.printed) (Ok tt) out [] out') (sym p.2) l.puts);
@@ -215,6 +250,7 @@ module _ (head : Option Ty) (old : HeadedFile) (files files' : FilesState) (out 
       same_fault f g e = cc
   listed_unprinted v new files'' n (Err e) out'' held' stopped p = record {
     keeps = keeps_on (Ok (Some v)) new files'' n;
+    ends = from_unprinted e;
     printed = l.printed ++ v ∷ [];
     meant = λ first has bytes at.
         was_read (l.printed ++ v ∷ []) new (files''.left old.items.file) (λ f h. told_on (Ok (Some v)) new files'' n f (l.read f h)) (all_printed v p.0) first has bytes at (print_fault e);
@@ -226,6 +262,7 @@ module _ (head : Option Ty) (old : HeadedFile) (files files' : FilesState) (out 
   pub listed_end : (u : Unit {0}) (new : HeadedFile) (files'' : FilesState) → NextItem (Ok None) now new files' files'' → PutsItems old head (Ok (Ok u)) files files'' out out' held
   listed_end u new files'' n = record {
     keeps = keeps_on (Ok None) new files'' n;
+    ends = tt;
     printed = l.printed;
     meant = λ first has bytes at.
         (head, subst (λ k. Shows k bytes head l.printed WholeText) (limit_on (Ok None) new files'' n) ((told_on (Ok None) new files'' n first (l.read first has)).1 bytes at).0, l.lines);
@@ -237,6 +274,7 @@ module _ (head : Option Ty) (old : HeadedFile) (files files' : FilesState) (out 
   pub listed_stopped : (e : FileError) (new : HeadedFile) (files'' : FilesState) → NextItem (Err e) now new files' files'' → PutsItems old head (Ok (Err (file_fault e))) files files'' out out' held
   listed_stopped e new files'' n = record {
     keeps = keeps_on (Err e) new files'' n;
+    ends = from_stopped e;
     printed = l.printed;
     meant = λ first has bytes at. was_read l.printed now (files'.left old.items.file) l.read l.lines first has bytes at (file_fault e);
     puts = l.puts;

@@ -64,13 +64,14 @@ wrote_rose : (e : PrintError) (bytes : List ℕ) (s t : SinkState) → WritesWho
 wrote_rose page.Failed bytes s t w is = w.cause.failed refl
 wrote_rose page.NoMemory bytes s t w is = absurd cc
 
-module _ (lines : List Value → List ℕ) (Stands : List ℕ → List Value → Ending → Type 0)
+module _ (lines : List Value → List ℕ) (Ends : Ending → Type 0) (Stands : List ℕ → List Value → Ending → Type 0)
     (weaker : (bytes : List ℕ) (vs : List Value) (end : Ending) (e : PrintError) → Stands bytes vs end → Stands bytes vs (Err (print_fault e)))
+    (unprinted : (e : PrintError) → Ends (Err (print_fault e)))
     (path : List ℕ) (file : ℕ) (s0 s1 s2 s3 : FilesState) (opens : OpensPath path (Ok file) s0 s1) (closes : Closes file s2 s3) (out out1 : SinkState) (held : List ℕ) where
   held_bytes : (bytes : List ℕ) → Holds s0 path bytes → s1.left file ≡ Some (Some bytes)
   held_bytes bytes h = opens.left ∙ ap (λ told. Some (left_at_first told path)) h.1 ∙ ap Some h.2
 
-  module _ (r : Printing) (p : PutsLines lines Stands file r s1 s2 out out1 held) where
+  module _ (r : Printing) (p : PutsLines lines Ends Stands file r s1 s2 out out1 held) where
     abbrev told_so : s3.told ≡ s0.told
     told_so = closes.told ∙ (p.keeps.told ∙ opens.told)
 
@@ -80,15 +81,16 @@ module _ (lines : List Value → List ℕ) (Stands : List ℕ → List Value →
     rose : Rose s1.faults s2.faults → Rose s0.faults s3.faults
     rose up = subst (λ n. Rose s0.faults n) (sym closes.faults) (rose_after s0.faults s1.faults s2.faults opens.later up)
 
-  pub done : (r : Printing) (end : Ending) (out2 : SinkState) → PutsLines lines Stands file r s1 s2 out out1 held → Finishes r end held out1 out2 → Does lines Stands path end s0 s3 out out2
+  pub done : (r : Printing) (end : Ending) (out2 : SinkState) → PutsLines lines Ends Stands file r s1 s2 out out1 held → Finishes r end held out1 out2 → Does lines Ends Stands path end s0 s3 out out2
   done (Ok inner) end out2 p (flushed, wrote, is) = by flushed wrote is
     where
-      by : (f : Result (Unit {0}) PrintError) → WritesWhole held (as_stop f) out1 out2 → end ≡ flushed_end inner f → Does lines Stands path end s0 s3 out out2
+      by : (f : Result (Unit {0}) PrintError) → WritesWhole held (as_stop f) out1 out2 → end ≡ flushed_end inner f → Does lines Ends Stands path end s0 s3 out out2
       by (Ok u) w is =
           let all = whole (lines p.printed) tt (Ok tt) held out out1 out2 p.puts w in
           record {
             told = told_so (Ok inner) p;
             closed = closed_so (Ok inner) p;
+            ends = subst Ends (sym is) p.ends;
             printed = p.printed;
             meant = λ bytes h. subst (Stands bytes p.printed) (sym is) (p.meant bytes (held_bytes bytes h));
             part = all.part;
@@ -101,6 +103,7 @@ module _ (lines : List Value → List ℕ) (Stands : List ℕ → List Value →
           record {
             told = told_so (Ok inner) p;
             closed = closed_so (Ok inner) p;
+            ends = subst Ends (sym is) (unprinted e);
             printed = p.printed;
             meant = λ bytes h. subst (Stands bytes p.printed) (sym is) (weaker bytes p.printed inner e (p.meant bytes (held_bytes bytes h)));
             part = all.part;
@@ -111,6 +114,7 @@ module _ (lines : List Value → List ℕ) (Stands : List ℕ → List Value →
   done (Err e) end out2 p (is, same) = record {
     told = told_so (Err e) p;
     closed = closed_so (Err e) p;
+    ends = subst Ends (sym is) p.ends;
     printed = p.printed;
     meant = λ bytes h. subst (Stands bytes p.printed) (sym is) (p.meant bytes (held_bytes bytes h));
     part = subst (λ o. TookPart (lines p.printed) out o) (sym same) (record { done = p.puts.done; rest = p.puts.rest; all = p.puts.all; took = p.puts.took });
@@ -120,11 +124,12 @@ module _ (lines : List Value → List ℕ) (Stands : List ℕ → List Value →
   }
 
 -- a file that is not opened
-pub unopened : (lines : List Value → List ℕ) (Stands : List ℕ → List Value → Ending → Type 0) (path : List ℕ) (why : Stop) (s0 s1 : FilesState) (out : SinkState) → lines [] ≡ []
-    → ((bytes : List ℕ) → Stands bytes [] (Err (open_fault why))) → OpensPath path (Err why) s0 s1 → Does lines Stands path (Err (open_fault why)) s0 s1 out out
-unopened lines Stands path why s0 s1 out none stands opens = record {
+pub unopened : (lines : List Value → List ℕ) (Ends : Ending → Type 0) (Stands : List ℕ → List Value → Ending → Type 0) (path : List ℕ) (why : Stop) (s0 s1 : FilesState) (out : SinkState) → lines [] ≡ []
+    → ((w : Stop) → Ends (Err (open_fault w))) → ((bytes : List ℕ) → Stands bytes [] (Err (open_fault why))) → OpensPath path (Err why) s0 s1 → Does lines Ends Stands path (Err (open_fault why)) s0 s1 out out
+unopened lines Ends Stands path why s0 s1 out none ends stands opens = record {
   told = opens.told;
   closed = λ k. ap (λ left. left k) opens.refused;
+  ends = ends why;
   printed = [];
   meant = λ bytes h. stands bytes;
   part = record { done = []; rest = []; all = none; took = sym (append_known-nil out.taken) };

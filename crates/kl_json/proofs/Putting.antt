@@ -7,7 +7,7 @@ use Rattle.kl_exchange.specs.Printing.{Puts, as_stop}
 use Rattle.kl_exchange.specs.declared.PrintError.{PrintError}
 use Rattle.kl_exchange.specs.declared.PrintError.TheVariants as page
 use Rattle.kl_exchange.proofs.FileReading.{begins_so as begins_fetching}
-use Rattle.kl_json.specs.Answers.{Ending, JsonStands, PutsLines, item_lines, json_fault, open_fault, print_fault, value_item}
+use Rattle.kl_json.specs.Answers.{Ending, JsonStands, PutsLines, ToEnds, item_lines, json_fault, open_fault, print_fault, value_item}
 use Rattle.kl_json.specs.Files.{Begins, HasPassed, HasValues, Keeps, NextValue, Reading, Told, unread}
 use Rattle.kl_json.specs.declared.choices.Choices.{Choices}
 use Rattle.kl_json.specs.declared.fault.Fault.TheVariants as fault
@@ -29,6 +29,24 @@ keeps_then k s t u a b =
     let before = a.later in
     let after = b.later in
     record { told = b.told ∙ a.told; others = λ j d. b.others j d ∙ a.others j d; is_open = b.is_open; later = omega arith }
+
+-- ---- what `to` does not end with
+
+pub to_unopened : (e : Stop) → ToEnds (Err (open_fault e))
+to_unopened stop.Failed = tt
+to_unopened stop.NoMemory = tt
+
+pub to_unprinted : (e : PrintError) → ToEnds (Err (print_fault e))
+to_unprinted page.Failed = tt
+to_unprinted page.NoMemory = tt
+
+to_stopped : (e : JsonError) → ToEnds (Err (json_fault e))
+to_stopped error.Read = tt
+to_stopped error.NoMemory = tt
+to_stopped (error.Bad p) = tt
+to_stopped (error.TooDeep p) = tt
+to_stopped error.TooLong = tt
+to_stopped (error.Refused r p) = tt
 
 -- the values read are on the page
 pub record Listed (c : Choices) (number : ℕ) (files files' : FilesState) (out out' : SinkState) (now : Reading) (held : List ℕ) : Type 0 where
@@ -106,9 +124,10 @@ no_write error.TooLong is = cc
 no_write (error.Refused r p) is = cc
 
 module _ (c : Choices) (number : ℕ) (files files' : FilesState) (out out' : SinkState) (now : Reading) (held : List ℕ) (l : Listed c number files files' out out' now held) where
-  pub listed_all : PutsLines item_lines (JsonStands c) number (Ok (Err fault.FileBytes)) files files' out out' held
+  pub listed_all : PutsLines item_lines ToEnds (JsonStands c) number (Ok (Err fault.FileBytes)) files files' out out' held
   listed_all = record {
     keeps = l.keeps;
+    ends = tt;
     printed = l.printed;
     meant = λ bytes is. begins_so c bytes l.printed now (files'.left number) (l.values bytes is);
     puts = l.puts;
@@ -136,9 +155,10 @@ module _ (c : Choices) (number : ℕ) (files files' : FilesState) (out out' : Si
   }
 
   pub listed_unprinted : (v : Value) (new : Reading) (files'' : FilesState) → NextValue c (Ok (Some v)) now new files' files'' → (e : PrintError) (out'' : SinkState) (held' : List ℕ)
-      → Puts {T = Unit {0}} (value_item v) (as_stop {T = Unit {0}} (Err e)) out' held out'' held' → PutsLines item_lines (JsonStands c) number (Err e) files files'' out out'' held'
+      → Puts {T = Unit {0}} (value_item v) (as_stop {T = Unit {0}} (Err e)) out' held out'' held' → PutsLines item_lines ToEnds (JsonStands c) number (Err e) files files'' out out'' held'
   listed_unprinted v new files'' n e out'' held' p = record {
     keeps = keeps_on (Ok (Some v)) new files'' n;
+    ends = to_unprinted e;
     printed = l.printed ++ v ∷ [];
     meant = λ bytes is. stands_unprinted c bytes (l.printed ++ v ∷ []) e (begins_so c bytes (l.printed ++ v ∷ []) new (files''.left number) (told_on (Ok (Some v)) new files'' n bytes is));
     puts = line_more value_item item_lines lines_more l.printed v (Err e) out out' out'' held held' l.puts p;
@@ -146,9 +166,10 @@ module _ (c : Choices) (number : ℕ) (files files' : FilesState) (out out' : Si
     unwritten = λ end is f. absurd cc;
   }
 
-  pub listed_end : (u : Unit {0}) (new : Reading) (files'' : FilesState) → NextValue c (Ok None) now new files' files'' → PutsLines item_lines (JsonStands c) number (Ok (Ok u)) files files'' out out' held
+  pub listed_end : (u : Unit {0}) (new : Reading) (files'' : FilesState) → NextValue c (Ok None) now new files' files'' → PutsLines item_lines ToEnds (JsonStands c) number (Ok (Ok u)) files files'' out out' held
   listed_end u new files'' n = record {
     keeps = keeps_on (Ok None) new files'' n;
+    ends = tt;
     printed = l.printed;
     meant = told_on (Ok None) new files'' n;
     puts = l.puts;
@@ -156,9 +177,10 @@ module _ (c : Choices) (number : ℕ) (files files' : FilesState) (out out' : Si
     unwritten = λ end is f. let no : well u ≡ failed fault.Write = (let it : Ok u ≡ end = cc in it) ∙ f in cc;
   }
 
-  pub listed_stopped : (e : JsonError) (new : Reading) (files'' : FilesState) → NextValue c (Err e) now new files' files'' → PutsLines item_lines (JsonStands c) number (Ok (Err (json_fault e))) files files'' out out' held
+  pub listed_stopped : (e : JsonError) (new : Reading) (files'' : FilesState) → NextValue c (Err e) now new files' files'' → PutsLines item_lines ToEnds (JsonStands c) number (Ok (Err (json_fault e))) files files'' out out' held
   listed_stopped e new files'' n = record {
     keeps = keeps_on (Err e) new files'' n;
+    ends = to_stopped e;
     printed = l.printed;
     meant = stands_stopped c (files.left number) l.printed e new (files''.left number) (told_on (Err e) new files'' n);
     puts = l.puts;

@@ -60,12 +60,24 @@ IsWritten (Err fault.Write) = ⊥
 IsWritten (Err fault.NoMemory) = ⊥
 IsWritten end = ⊤
 
+-- The other causes never come: words that are a command are no misuse, `to` writes no JSON text, and `from` reads none.
+abbrev pub ToEnds : Ending → Type 0
+ToEnds (Err fault.Usage) = ⊥
+ToEnds (Err (fault.NoUnicode place)) = ⊥
+ToEnds end = ⊤
+
+abbrev pub FromEnds : Ending → Type 0
+FromEnds (Err fault.Usage) = ⊥
+FromEnds (Err (fault.Refused r place)) = ⊥
+FromEnds end = ⊤
+
 -- What a command does to a file, which holds what is said of it, and to a sink: these lines of values that were read are printed,
 -- or a front of them.
-pub record Does (lines : List Value → List ℕ) (Stands : List ℕ → List Value → Ending → Type 0) (path : List ℕ) (end : Ending)
-    (files files' : FilesState) (out out' : SinkState) : Type 0 where
+pub record Does (lines : List Value → List ℕ) (Ends : Ending → Type 0) (Stands : List ℕ → List Value → Ending → Type 0) (path : List ℕ)
+    (end : Ending) (files files' : FilesState) (out out' : SinkState) : Type 0 where
   pub told : files'.told ≡ files.told
   pub closed : (k : ℕ) → files'.left k ≡ files.left k
+  pub ends : Ends end
   pub printed : List Value
   pub meant : (bytes : List ℕ) → Holds files path bytes → Stands bytes printed end
   pub part : TookPart (lines printed) out out'
@@ -161,8 +173,8 @@ path_of (Some (command.From file)) = file
 -- a command is done, or the words are none
 abbrev pub DoesCommand : Option Command → Ending → FilesState → FilesState → SinkState → SinkState → Type 0
 DoesCommand None end files files' out out' = (end ≡ Err fault.Usage) × (files' ≡ files) × (out' ≡ out)
-DoesCommand (Some (command.To file c)) end files files' out out' = Does item_lines (JsonStands c) file end files files' out out'
-DoesCommand (Some (command.From file)) end files files' out out' = Does json_lines ItemsStand file end files files' out out'
+DoesCommand (Some (command.To file c)) end files files' out out' = Does item_lines ToEnds (JsonStands c) file end files files' out out'
+DoesCommand (Some (command.From file)) end files files' out out' = Does json_lines FromEnds ItemsStand file end files files' out out'
 
 -- memory was wanting for the words
 abbrev pub DoesNothing : Ending → FilesState → FilesState → SinkState → SinkState → Type 0
@@ -213,9 +225,10 @@ end_of (Ok end) = end
 end_of (Err e) = Err (print_fault e)
 
 -- Lines of values that were read of an open file are on a page that was empty, or were handed to the sink.
-pub record PutsLines (lines : List Value → List ℕ) (Stands : List ℕ → List Value → Ending → Type 0) (number : ℕ) (result : Printing)
-    (files files' : FilesState) (out out' : SinkState) (held : List ℕ) : Type 0 where
+pub record PutsLines (lines : List Value → List ℕ) (Ends : Ending → Type 0) (Stands : List ℕ → List Value → Ending → Type 0) (number : ℕ)
+    (result : Printing) (files files' : FilesState) (out out' : SinkState) (held : List ℕ) : Type 0 where
   pub keeps : Keeps number files files'
+  pub ends : Ends (end_of result)
   pub printed : List Value
   pub meant : (bytes : List ℕ) → files.left number ≡ Some (Some bytes) → Stands bytes printed (end_of result)
   pub puts : Puts (lines printed) (as_puts result) out [] out' held
@@ -233,11 +246,10 @@ Finishes (Err e) end held old new = (end ≡ Err (print_fault e)) × (new ≡ ol
 
 -- why an item has no line: it lacks the type that is stated, or has a text that is no UTF-8; or memory was wanting
 abbrev pub HasNoLine : Option Ty → Value → Fault → Type 0
-HasNoLine head v fault.Read = ⊥
-HasNoLine head v fault.Write = ⊥
 HasNoLine head v fault.NoMemory = ⊤
 HasNoLine head v (fault.Bad place) = fits head v ≡ false
-HasNoLine head v f = IsUnicode (json_of v) → ⊥
+HasNoLine head v (fault.NoUnicode place) = IsUnicode (json_of v) → ⊥
+HasNoLine head v f = ⊥
 
 -- the line of an item is on the page, or the item has none, or the sink refused it
 abbrev pub PutsLine : Option Ty → Value → Printing → SinkState → List ℕ → SinkState → List ℕ → Type 0
@@ -248,6 +260,7 @@ PutsLine head v (Err e) old held new after = IsPrinted head v × Puts {T = Unit 
 -- A head was read of a file, or that there is none, and no item; then items are printed.
 pub record PutsItems (old : HeadedFile) (head : Option Ty) (result : Printing) (files files' : FilesState) (out out' : SinkState) (held : List ℕ) : Type 0 where
   pub keeps : Keeps old.items.file files files'
+  pub ends : FromEnds (end_of result)
   pub printed : List Value
   pub meant : (first : Left) → HasRead first head [] old (files.left old.items.file) → (bytes : List ℕ) → first ≡ Some (Some bytes) → ItemsStand bytes printed (end_of result)
   pub puts : Puts (json_lines printed) (as_puts result) out [] out' held

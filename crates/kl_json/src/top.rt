@@ -4,8 +4,8 @@ ghost use Rattle.kl_exchange.specs.FileItems.{most_read};
 ghost use Rattle.kl_exchange.specs.FileReading.{Left};
 ghost use Rattle.kl_exchange.specs.Printing.{Puts, as_stop};
 ghost use Rattle.kl_heads.specs.FileReading.{HasRead, limit_of};
-ghost use Rattle.kl_json.specs.Answers.{AnswersWords, Does, Finishes, ItemsStand, JsonStands, HasNoLine, IsPrinted, PutsItems, PutsLine, PutsLines, fits, json_line, value_item, item_lines, json_lines};
-ghost use Rattle.kl_json.specs.Answers.{TellsOf, file_fault, json_fault, open_fault, print_fault, status_of};
+ghost use Rattle.kl_json.specs.Answers.{AnswersWords, Does, Finishes, FromEnds, ItemsStand, JsonStands, HasNoLine, IsPrinted, PutsItems, PutsLine, PutsLines, fits, json_line, value_item, item_lines, json_lines};
+ghost use Rattle.kl_json.specs.Answers.{TellsOf, ToEnds, file_fault, json_fault, open_fault, print_fault, status_of};
 ghost use Rattle.kl_json.specs.Files.{unread};
 ghost use Rattle.kl_json.specs.Words.{command_in};
 ghost use Rattle.kl_json.specs.declared.fault.Fault.TheVariants.{NoMemory as no_memory};
@@ -85,7 +85,7 @@ pub fn to<F: Files, S: Sink>(
     files: &mut F,
     out: &mut S,
 ) -> Result<(), Fault>
-    ensures { Does item_lines (JsonStands choices.now) path.now result (F.state files.old) (F.state files.new) (S.state out.old) (S.state out.new) }
+    ensures { Does item_lines ToEnds (JsonStands choices.now) path.now result (F.state files.old) (F.state files.new) (S.state out.old) (S.state out.new) }
 {
     let file = match files.open_path(path) {
         Ok(file) => file,
@@ -120,7 +120,7 @@ fn put_values<F: Files, S: Sink>(
 ) -> Printing
     requires is_open { IsSome ((F.state files.old).left file) }
     requires empty { page.old ≡ [] }
-    ensures { PutsLines item_lines (JsonStands choices.now) file result (F.state files.old) (F.state files.new) (S.state out.old) (S.state out.new) page.new }
+    ensures { PutsLines item_lines ToEnds (JsonStands choices.now) file result (F.state files.old) (F.state files.new) (S.state out.old) (S.state out.new) page.new }
 {
     let mut reader = JsonReader::new(alloc, file);
     list_values(&mut reader, choices, files, page, out)
@@ -136,7 +136,7 @@ fn list_values<F: Files, S: Sink>(
     requires is_open { IsSome ((F.state files.old).left reader.old.items.file) }
     requires fresh { reader.old ≡ unread reader.old.items.file }
     requires empty { page.old ≡ [] }
-    ensures { PutsLines item_lines (JsonStands choices.now) reader.old.items.file result (F.state files.old) (F.state files.new) (S.state out.old) (S.state out.new) page.new }
+    ensures { PutsLines item_lines ToEnds (JsonStands choices.now) reader.old.items.file result (F.state files.old) (F.state files.new) (S.state out.old) (S.state out.new) page.new }
 {
     'items: for _ in 0..u64::MAX {
         match reader.next(choices, files) {
@@ -176,7 +176,7 @@ pub fn from<F: Files, S: Sink>(
     files: &mut F,
     out: &mut S,
 ) -> Result<(), Fault>
-    ensures { Does json_lines ItemsStand path.now result (F.state files.old) (F.state files.new) (S.state out.old) (S.state out.new) }
+    ensures { Does json_lines FromEnds ItemsStand path.now result (F.state files.old) (F.state files.new) (S.state out.old) (S.state out.new) }
 {
     let file = match files.open_path(path) {
         Ok(file) => file,
@@ -197,7 +197,7 @@ fn put_file<F: Files, S: Sink>(
 ) -> Printing
     requires is_open { IsSome ((F.state files.old).left file) }
     requires empty { page.old ≡ [] }
-    ensures { PutsLines json_lines ItemsStand file result (F.state files.old) (F.state files.new) (S.state out.old) (S.state out.new) page.new }
+    ensures { PutsLines json_lines FromEnds ItemsStand file result (F.state files.old) (F.state files.new) (S.state out.old) (S.state out.new) page.new }
 {
     let mut reader = FileReader::new(alloc, file, MOST_READ, PIECE);
     match reader.head(files) {

@@ -1,7 +1,7 @@
 use Rattle.std.proofs.Common.{Err, IsSome, inl, refl, sym, subst}
-use Rattle.kl_json.specs.Answers.{Does, ItemsStand, json_lines}
+use Rattle.kl_json.specs.Answers.{Does, FromEnds, ItemsStand, json_lines}
 use Rattle.kl_json.proofs.Listing.{done, unopened}
-use Rattle.kl_json.proofs.ItemPutting.{items_weaker}
+use Rattle.kl_json.proofs.ItemPutting.{from_unopened, from_unprinted, items_weaker}
 use Rattle.kl_json.proofs.top.from.Goals as goal
 
 pub returns-in-Err : goal.returns-in-Err
@@ -9,8 +9,8 @@ returns-in-Err g c =
     let s = g.F.Files.state c.args.files.now in
     let t = g.F.Files.state c.open_path.new.self in
     let out = g.S.Sink.state c.args.out.now in
-    subst (λ f. Does json_lines ItemsStand c.args.path.now (Err f) s t out out) (sym c.open_fault.ensures)
-    (unopened json_lines ItemsStand c.args.path.now c.in-Err.stop s t out refl (λ bytes. inl refl) c.in-Err.ensures)
+    subst (λ f. Does json_lines FromEnds ItemsStand c.args.path.now (Err f) s t out out) (sym c.open_fault.ensures)
+    (unopened json_lines FromEnds ItemsStand c.args.path.now c.in-Err.stop s t out refl from_unopened (λ bytes. inl refl) c.in-Err.ensures)
 
 pub put_file-ended-requires-clause-is_open : goal.put_file-ended-requires-clause-is_open
 put_file-ended-requires-clause-is_open g c = subst IsSome (sym c.in-Ok.ensures.left) refl
@@ -23,5 +23,5 @@ close-requires g c = c.put_file-ended.ensures.keeps.is_open
 
 pub returns : goal.returns
 returns g c =
-    done json_lines ItemsStand items_weaker c.args.path.now c.in-Ok.file _ _ _ _ c.in-Ok.ensures c.close.ensures _ _ _ c.put_file-ended.result c.finish.result _
+    done json_lines FromEnds ItemsStand items_weaker from_unprinted c.args.path.now c.in-Ok.file _ _ _ _ c.in-Ok.ensures c.close.ensures _ _ _ c.put_file-ended.result c.finish.result _
     c.put_file-ended.ensures c.finish.ensures

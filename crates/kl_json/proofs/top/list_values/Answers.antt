@@ -1,5 +1,5 @@
 use Rattle.std.proofs.Common.{Ok, Err, IsSome, sym, subst}
-use Rattle.kl_json.specs.Answers.{JsonStands, PutsLines, item_lines}
+use Rattle.kl_json.specs.Answers.{JsonStands, PutsLines, ToEnds, item_lines}
 use Rattle.kl_json.proofs.Putting.{listed_first, listed_more, listed_unprinted, listed_end, listed_stopped, listed_all}
 use Rattle.kl_json.proofs.top.list_values.Goals as goal
 
@@ -20,7 +20,7 @@ returns-in-Ok-None g c = listed_end _ _ _ _ _ _ _ _ c.items.invariant tt _ _ (rw
 
 pub returns-in-Err : goal.returns-in-Err
 returns-in-Err g c =
-    subst (λ f. PutsLines item_lines (JsonStands c.args.choices.now) c.args.reader.now.items.file (Ok (Err f)) (g.F.Files.state c.args.files.now) (g.F.Files.state c.next.new.files)
+    subst (λ f. PutsLines item_lines ToEnds (JsonStands c.args.choices.now) c.args.reader.now.items.file (Ok (Err f)) (g.F.Files.state c.args.files.now) (g.F.Files.state c.next.new.files)
     (g.S.Sink.state c.args.out.now) (g.S.Sink.state c.items.out) c.items.page) (sym c.json_fault.ensures)
     (listed_stopped _ _ _ _ _ _ _ _ c.items.invariant c.in-Err.error _ _ c.in-Err.ensures)
 

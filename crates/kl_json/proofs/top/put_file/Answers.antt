@@ -1,5 +1,5 @@
 use Rattle.std.proofs.Common.{Ok, Err, IsSome, sym, ap, subst, arith}
-use Rattle.kl_json.specs.Answers.{ItemsStand, PutsLines, json_lines}
+use Rattle.kl_json.specs.Answers.{FromEnds, ItemsStand, PutsLines, json_lines}
 use Rattle.kl_json.proofs.ItemPutting.{head_read, head_stopped, now_limit, now_open, now_unread}
 use Rattle.kl_json.proofs.top.put_file.Goals as goal
 
@@ -29,6 +29,6 @@ returns-in-Ok g c = head_read c.args.file _ _ _ _ c.new-reader.ensures c.in-Ok.s
 
 pub returns : goal.returns
 returns g c =
-    subst (λ f. PutsLines json_lines ItemsStand c.args.file (Ok (Err f)) (g.F.Files.state c.args.files.now) (g.F.Files.state c.head.new.files)
+    subst (λ f. PutsLines json_lines FromEnds ItemsStand c.args.file (Ok (Err f)) (g.F.Files.state c.args.files.now) (g.F.Files.state c.head.new.files)
     (g.S.Sink.state c.args.out.now) (g.S.Sink.state c.args.out.now) c.args.page.now) (sym c.file_fault.ensures)
     (head_stopped c.args.file _ _ _ _ c.new-reader.ensures _ _ c.requires.empty c.in-Err.error c.in-Err.ensures)
