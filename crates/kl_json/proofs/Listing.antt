@@ -41,6 +41,13 @@ line_more line lines more vs v r s t w k m p q =
 
 -- ---- the end
 
+-- what opening a file answers
+abbrev opened_as : ℕ → Result ℕ Stop
+opened_as file = Ok file
+
+abbrev refused_as : Stop → Result ℕ Stop
+refused_as why = Err why
+
 -- a command that ended so
 abbrev pub failed : Fault → Ending
 failed f = Err f
@@ -71,6 +78,9 @@ module _ (lines : List Value → List ℕ) (Ends : Ending → Type 0) (Stands : 
   held_bytes : (bytes : List ℕ) → Holds s0 path bytes → s1.left file ≡ Some (Some bytes)
   held_bytes bytes h = opens.left ∙ ap (λ told. Some (left_at_first told path)) h.1 ∙ ap Some h.2
 
+  none_missing : IsMissing s0 path → ⊥
+  none_missing m = let no : opened_as file ≡ refused_as stop.Failed = (opens.missing m).0 in cc
+
   module _ (r : Printing) (p : PutsLines lines Ends Stands file r s1 s2 out out1 held) where
     abbrev told_so : s3.told ≡ s0.told
     told_so = closes.told ∙ (p.keeps.told ∙ opens.told)
@@ -96,6 +106,7 @@ module _ (lines : List Value → List ℕ) (Ends : Ending → Type 0) (Stands : 
             part = all.part;
             whole = λ written. all.took;
             read = λ e. inr (rose (Ok inner) p (p.read (sym is ∙ e)));
+            missing = λ m. absurd (none_missing m);
             write = λ e. absurd (p.unwritten inner refl (sym is ∙ e));
           }
       by (Err e) w is =
@@ -109,6 +120,7 @@ module _ (lines : List Value → List ℕ) (Ends : Ending → Type 0) (Stands : 
             part = all.part;
             whole = λ written. absurd (not_whole e (subst IsWritten is written));
             read = λ f. absurd (no_read e (sym is ∙ f));
+            missing = λ m. absurd (none_missing m);
             write = λ f. wrote_rose e (lines p.printed) out out2 all (sym is ∙ f);
           }
   done (Err e) end out2 p (is, same) = record {
@@ -120,6 +132,7 @@ module _ (lines : List Value → List ℕ) (Ends : Ending → Type 0) (Stands : 
     part = subst (λ o. TookPart (lines p.printed) out o) (sym same) (record { done = p.puts.done; rest = p.puts.rest; all = p.puts.all; took = p.puts.took });
     whole = λ written. absurd (not_whole e (subst IsWritten is written));
     read = λ f. absurd (no_read e (sym is ∙ f));
+    missing = λ m. absurd (none_missing m);
     write = λ f. subst (λ o. Rose out.faults o.faults) (sym same) (put_rose e (lines p.printed) [] held out out1 p.puts (sym is ∙ f));
   }
 
@@ -135,12 +148,17 @@ unopened lines Ends Stands path why s0 s1 out none ends stands opens = record {
   part = record { done = []; rest = []; all = none; took = sym (append_known-nil out.taken) };
   whole = λ written. sym (append_known-nil out.taken) ∙ ap (append_known out.taken) (sym none);
   read = read why opens;
+  missing = missing why opens;
   write = λ e. absurd (no_write why e);
 }
   where
     read : (w : Stop) → OpensPath path (Err w) s0 s1 → failed (open_fault w) ≡ failed fault.Read → IsMissing s0 path ⊎ Rose s0.faults s1.faults
     read stop.Failed o e = o.failed refl
     read stop.NoMemory o e = absurd cc
+
+    missing : (w : Stop) → OpensPath path (Err w) s0 s1 → IsMissing s0 path → (failed (open_fault w) ≡ failed fault.Read) × (s1.faults ≡ s0.faults) × (out ≡ out)
+    missing stop.Failed o m = (refl, (o.missing m).1, refl)
+    missing stop.NoMemory o m = absurd (let no : refused_as stop.NoMemory ≡ refused_as stop.Failed = (o.missing m).0 in cc)
 
     no_write : (w : Stop) → failed (open_fault w) ≡ failed fault.Write → ⊥
     no_write stop.Failed e = cc

@@ -83,6 +83,7 @@ pub record Does (lines : List Value → List ℕ) (Ends : Ending → Type 0) (St
   pub part : TookPart (lines printed) out out'
   pub whole : IsWritten end → out'.taken ≡ append_known out.taken (lines printed)
   pub read : end ≡ Err fault.Read → IsMissing files path ⊎ Rose files.faults files'.faults
+  pub missing : IsMissing files path → (end ≡ Err fault.Read) × (files'.faults ≡ files.faults) × (out' ≡ out)
   pub write : end ≡ Err fault.Write → Rose out.faults out'.faults
 
 -- `to`: the file has these values and no more, or these and then one that is refused, or it begins with these.
