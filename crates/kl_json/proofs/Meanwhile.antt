@@ -1,8 +1,8 @@
 -- What a reader's calls come to, one behind the other.
-use Rattle.std.proofs.Common.{◌≡◌, ℕ, ◌≤◌, length, true, List, [], ◌∷◌, ◌++◌, Option, Some, None, Result, Ok, Err, IsSome, refl, sym, ap, subst, ◌∙◌, arith}
+use Rattle.std.proofs.Common.{◌≡◌, ℕ, ◌≤◌, length, true, false, List, [], ◌∷◌, ◌++◌, Option, Some, None, Result, Ok, Err, IsSome, refl, sym, ap, subst, ◌∙◌, arith}
 use Rattle.kl_base.proofs.Rises.{rose_after}
 use Rattle.kl_exchange.specs.FileReading.{HasRead, Left}
-use Rattle.kl_json.specs.Files.{HasPassed, HasValues, Keeps, Told, NextValue, PassesBlank, FetchesOn, TakesText, EndsWith, Reading}
+use Rattle.kl_json.specs.Files.{HasPassed, HasValues, Keeps, Told, NextValue, PassesBlank, FetchesOn, TakesText, EndsWith, Reading, starts_blank}
 use Rattle.kl_json.specs.declared.choices.Choices.{Choices}
 use Rattle.kl_json.specs.declared.choices.Refusal.{Refusal}
 use Rattle.kl_json.specs.declared.reader.JsonError.{JsonError}
@@ -78,36 +78,36 @@ module _ (c : Choices) (old now : Reading) (files files' : FilesState) (m : Mean
   same_file : (new : Reading) → new ≡ now → new.items.file ≡ old.items.file
   same_file new same = ap (λ r. r.items.file) same ∙ m.file
 
-  pub next_taken : (n : ℕ) (r : Result (Option Value) JsonError) (new : Reading) → n ≤ length now.items.text.left → TakesText c n r now new → NextValue c r old new files files'
-  next_taken n (Ok (Some v)) new few t = record {
+  pub next_taken : (n : ℕ) (r : Result (Option Value) JsonError) (new : Reading) → n ≤ length now.items.text.left → starts_blank now.items.text.left ≡ false → TakesText c n r now new → NextValue c r old new files files'
+  next_taken n (Ok (Some v)) new few start t = record {
     file = ap (λ r. r.items.file) t.2 ∙ m.file;
     keeps = m.keeps;
     failed = λ e. absurd cc;
     goes = λ first vs h bytes is.
         subst (λ r. HasPassed c bytes (vs ++ v ∷ []) r (files'.left old.items.file)) (sym t.2) (value_taken c bytes vs now (files'.left old.items.file) (m.goes first vs h bytes is) n v few t.0 t.1);
   }
-  next_taken n (Ok None) new few t = absurd t
-  next_taken n (Err (error.Refused r p)) new few t = record {
+  next_taken n (Ok None) new few start t = absurd t
+  next_taken n (Err (error.Refused r p)) new few start t = record {
     file = same_file new t.3;
     keeps = m.keeps;
     failed = λ e. absurd cc;
-    goes = λ first vs h bytes is. value_refused c bytes vs now (files'.left old.items.file) (m.goes first vs h bytes is) n r p few t.0 t.1 t.2;
+    goes = λ first vs h bytes is. value_refused c bytes vs now (files'.left old.items.file) (m.goes first vs h bytes is) n r p few start t.0 t.1 t.2;
   }
-  next_taken n (Err error.Read) new few t = absurd t
-  next_taken n (Err error.NoMemory) new few t = record { file = same_file new t; keeps = m.keeps; failed = λ e. absurd cc; goes = still new t }
-  next_taken n (Err (error.Bad p)) new few t = record { file = same_file new t; keeps = m.keeps; failed = λ e. absurd cc; goes = still new t }
-  next_taken n (Err (error.TooDeep p)) new few t = record { file = same_file new t; keeps = m.keeps; failed = λ e. absurd cc; goes = still new t }
-  next_taken n (Err error.TooLong) new few t = record { file = same_file new t; keeps = m.keeps; failed = λ e. absurd cc; goes = still new t }
+  next_taken n (Err error.Read) new few start t = absurd t
+  next_taken n (Err error.NoMemory) new few start t = record { file = same_file new t; keeps = m.keeps; failed = λ e. absurd cc; goes = still new t }
+  next_taken n (Err (error.Bad p)) new few start t = record { file = same_file new t; keeps = m.keeps; failed = λ e. absurd cc; goes = still new t }
+  next_taken n (Err (error.TooDeep p)) new few start t = record { file = same_file new t; keeps = m.keeps; failed = λ e. absurd cc; goes = still new t }
+  next_taken n (Err error.TooLong) new few start t = record { file = same_file new t; keeps = m.keeps; failed = λ e. absurd cc; goes = still new t }
 
-  pub next_last : (r : Result (Option Value) JsonError) (new : Reading) → now.items.text.finished ≡ true → EndsWith c r now new → NextValue c r old new files files'
-  next_last (Ok None) new finished t = record {
+  pub next_last : (r : Result (Option Value) JsonError) (new : Reading) → now.items.text.finished ≡ true → starts_blank now.items.text.left ≡ false → EndsWith c r now new → NextValue c r old new files files'
+  next_last (Ok None) new finished start t = record {
     file = same_file new t.1;
     keeps = m.keeps;
     failed = λ e. absurd cc;
     goes = λ first vs h bytes is. all_passed c bytes vs now (files'.left old.items.file) (m.goes first vs h bytes is) finished t.0;
   }
-  next_last (Ok (Some v)) new finished t = next_taken (length now.items.text.left) (Ok (Some v)) new (omega arith) t
-  next_last (Err e) new finished t = next_taken (length now.items.text.left) (Err e) new (omega arith) t
+  next_last (Ok (Some v)) new finished start t = next_taken (length now.items.text.left) (Ok (Some v)) new (omega arith) start t
+  next_last (Err e) new finished start t = next_taken (length now.items.text.left) (Err e) new (omega arith) start t
 
   pub next_deep : (p : ℕ) → NextValue c (Err (error.TooDeep p)) old now files files'
   next_deep p = record { file = m.file; keeps = m.keeps; failed = λ e. absurd cc; goes = m.goes }

@@ -1,13 +1,19 @@
 -- What a reader knows of a file, from call to call.
-use Rattle.std.proofs.Common.{◌≡◌, ℕ, ◌≤◌, length, Bool, true, false, ◌||◌, IsTrue, List, [], ◌∷◌, ◌++◌, take, drop, Some, None, refl, sym, ap, subst, ◌∙◌, arith, append_assoc, append-nil, length-append}
+use Rattle.std.proofs.Common.{◌≡◌, ℕ, zero, suc, ◌≤◌, length, Bool, true, false, ◌||◌, IsTrue, List, [], ◌∷◌, ◌++◌, take, drop, Some, None, refl, sym, ap, subst, ◌∙◌, arith, append_assoc, append-nil, length-append}
 use Rattle.std.proofs.lemmas.List.{take-append-drop, length-take, length-drop}
 use Rattle.kl_base.proofs.Each.{all_append}
 use Rattle.kl_exchange.specs.FileReading.{FileReading, HasRead as HasFetched, Left, Remains}
 use Rattle.kl_exchange.specs.Grammar.{Blank, is_blank}
-use Rattle.kl_json.specs.Files.{IsJson, Ends, closes_itself, ends_before, follows, Values, IsFile, Begins, RefusesAt, IsRefused, Reading, HasPassed, cut, passed}
+use Rattle.kl_json.specs.Files.{IsJson, Ends, closes_itself, ends_before, follows, Values, IsFile, Begins, RefusesAt, IsRefused, Reading, HasPassed, cut, passed, starts_blank}
 use Rattle.kl_json.specs.declared.choices.Choices.{Choices}
 use Rattle.kl_json.specs.declared.choices.Refusal.{Refusal}
 use Rattle.kl_value.specs.declared.Value.{Value}
+
+-- a front of bytes that begin with no white space begins with none
+starts_so : (n : ℕ) (bs : List ℕ) → starts_blank bs ≡ false → starts_blank (take n bs) ≡ false
+starts_so zero bs h = refl
+starts_so (suc n) [] h = refl
+starts_so (suc n) (b ∷ bs) h = h
 
 -- one value more
 push : (c : Choices) (read white text rest : List ℕ) (vs : List Value) (v : Value) → Values c read vs (white ++ (text ++ rest)) → Blank white → IsJson c text v → Ends text rest
@@ -142,9 +148,9 @@ module _ (c : Choices) (bytes : List ℕ) (vs : List Value) (now : Reading) (lef
         fetched = k.fetched;
       }
 
-  pub value_refused : (n : ℕ) (r : Refusal) (place : ℕ) → n ≤ length now.items.text.left → IsRefused c (take n now.items.text.left) r
+  pub value_refused : (n : ℕ) (r : Refusal) (place : ℕ) → n ≤ length now.items.text.left → starts_blank now.items.text.left ≡ false → IsRefused c (take n now.items.text.left) r
       → IsTrue (closes_itself (take n now.items.text.left) || follows now.items.text.finished (drop n now.items.text.left)) → place ≡ now.place → RefusesAt c bytes vs r place
-  value_refused n r place few is ends at =
+  value_refused n r place few start is ends at =
       let k = cut_here n now.items left has.rest few has.fresh has.fetched in
       record {
         read = has.read;
@@ -154,6 +160,7 @@ module _ (c : Choices) (bytes : List ℕ) (vs : List Value) (now : Reading) (lef
         whole = has.whole ∙ ap (λ x. (has.read ++ has.white) ++ x) k.whole;
         values = subst (λ x. Values c has.read vs (has.white ++ x)) k.whole has.values;
         blank = has.blank;
+        starts = starts_so n now.items.text.left start;
         refused = is;
         ends = ends_here n k ends;
         stands = at ∙ has.stands;

@@ -77,6 +77,11 @@ pub record Begins (c : Choices) (bytes : List ℕ) (vs : List Value) : Type 0 wh
   pub whole : bytes ≡ read ++ rest
   pub values : Values c read vs rest
 
+-- whether white space stands first
+abbrev pub starts_blank : List ℕ → Bool
+starts_blank [] = false
+starts_blank (b ∷ bs) = is_blank b
+
 -- A file that begins with these values, behind which a JSON value stands that is refused so, behind so many bytes.
 pub record RefusesAt (c : Choices) (bytes : List ℕ) (vs : List Value) (r : Refusal) (place : ℕ) : Type 0 where
   pub read : List ℕ
@@ -86,6 +91,7 @@ pub record RefusesAt (c : Choices) (bytes : List ℕ) (vs : List Value) (r : Ref
   pub whole : bytes ≡ (read ++ white) ++ (text ++ rest)
   pub values : Values c read vs (white ++ (text ++ rest))
   pub blank : Blank white
+  pub starts : starts_blank text ≡ false
   pub refused : IsRefused c text r
   pub ends : Ends text rest
   pub stands : place ≡ length read + length white
@@ -165,9 +171,10 @@ abbrev pub follows : Bool → List ℕ → Bool
 follows ended [] = ended
 follows ended (b ∷ bs) = may_follow b
 
--- white space was passed
+-- white space was passed, and none is known to come next
 abbrev pub PassesBlank : Reading → Reading → Type 0
 PassesBlank old new = (n : ℕ) × (n ≤ length old.items.text.left) × Blank (take n old.items.text.left) × (new ≡ passed n old)
+    × (starts_blank new.items.text.left ≡ false)
 
 -- more bytes were fetched, or it was learnt that there are none, or not
 pub record FetchesOn (result : Result (Unit {0}) JsonError) (old new : Reading) (files files' : FilesState) : Type 0 where

@@ -1,8 +1,8 @@
 //! Where a JSON value ends that stands first in some bytes.
-ghost use Rattle.std.specs.Prelude.{◌≡◌, ◌≤◌, ◌||◌, ◌-◌, length, take, drop, true};
+ghost use Rattle.std.specs.Prelude.{◌≡◌, ◌≤◌, ◌||◌, ◌-◌, length, take, drop, true, false};
 ghost use Rattle.std.specs.List.{list_all};
 ghost use Rattle.kl_exchange.specs.Grammar.{is_blank};
-ghost use Rattle.kl_json.specs.Files.{IsWithin, begins_closed, closes_itself, follows, may_follow};
+ghost use Rattle.kl_json.specs.Files.{IsWithin, begins_closed, closes_itself, follows, may_follow, starts_blank};
 
 use kl_exchange::is_blank;
 
@@ -209,6 +209,7 @@ fn follows(ended: bool, behind: &[u8]) -> bool
 pub fn blanks(bytes: &[u8]) -> usize
     ensures within { result ≤ length bytes.now }
     ensures all { list_all is_blank (take result bytes.now) ≡ true }
+    ensures behind { starts_blank (drop result bytes.now) ≡ false }
 {
     for (i, byte) in bytes.iter().enumerate() {
         if !is_blank(*byte) {

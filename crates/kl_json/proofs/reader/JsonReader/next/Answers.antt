@@ -1,4 +1,5 @@
-use Rattle.std.proofs.Common.{Ok, sym, ◌∙◌}
+use Rattle.std.proofs.Common.{◌≡◌, false, Ok, subst, sym, ◌∙◌}
+use Rattle.kl_json.specs.Files.{starts_blank}
 use Rattle.kl_json.proofs.Meanwhile.{blanks_on, stays_on, fetched_on, next_taken, next_last, next_deep, next_fault}
 use Rattle.kl_json.proofs.reader.JsonReader.next.Goals as goal
 
@@ -8,7 +9,8 @@ returns-in-Ends g c =
     let t = g.F.Files.state c.pieces.files in
     let blank = blanks_on c.args.choices.now c.args.self.now c.pieces.self s t c.pieces.invariant c.pass_blanks.new.self c.pass_blanks.ensures in
     let here = stays_on c.args.choices.now c.args.self.now c.pass_blanks.new.self s t blank c.look.new.self c.look.ensures.same in
-    next_taken c.args.choices.now c.args.self.now c.look.new.self s t here c.in-Ends.count c.take.result c.take.new.self c.in-Ends.ensures.within c.take.ensures
+    let start = subst (λ r. starts_blank r.items.text.left ≡ false) (sym c.look.ensures.same) c.pass_blanks.ensures.4 in
+    next_taken c.args.choices.now c.args.self.now c.look.new.self s t here c.in-Ends.count c.take.result c.take.new.self c.in-Ends.ensures.within start c.take.ensures
 
 pub returns-in-TooDeep : goal.returns-in-TooDeep
 returns-in-TooDeep g c =
@@ -24,7 +26,8 @@ returns-then-has_ended g c =
     let t = g.F.Files.state c.pieces.files in
     let blank = blanks_on c.args.choices.now c.args.self.now c.pieces.self s t c.pieces.invariant c.pass_blanks.new.self c.pass_blanks.ensures in
     let here = stays_on c.args.choices.now c.args.self.now c.pass_blanks.new.self s t blank c.look.new.self c.look.ensures.same in
-    next_last c.args.choices.now c.args.self.now c.look.new.self s t here c.last.result c.last.new.self (sym c.has_ended.ensures ∙ c.if-has_ended.true) c.last.ensures
+    let start = subst (λ r. starts_blank r.items.text.left ≡ false) (sym c.look.ensures.same) c.pass_blanks.ensures.4 in
+    next_last c.args.choices.now c.args.self.now c.look.new.self s t here c.last.result c.last.new.self (sym c.has_ended.ensures ∙ c.if-has_ended.true) start c.last.ensures
 
 pub returns-in-Err : goal.returns-in-Err
 returns-in-Err g c =
