@@ -3,7 +3,7 @@ use Rattle.std.proofs.Common.{◌≡◌, inl, inr, ℕ, true, false, List, [], �
 use Rattle.std.proofs.lemmas.List.{flat_map_more, take-append-drop}
 use Rattle.kl_base.proofs.Each.{all_append}
 use Rattle.kl_base.proofs.Rises.{rose_after}
-use Rattle.kl_exchange.specs.FileItems.{most_read, WholeText}
+use Rattle.kl_exchange.specs.FileItems.{BadAt, most_read, TooDeepAt, WholeText}
 use Rattle.kl_exchange.specs.FileReading.{Leaves, Left}
 use Rattle.kl_exchange.specs.Printing.{Puts}
 use Rattle.kl_exchange.specs.declared.FileError.{FileError}
@@ -13,7 +13,7 @@ use Rattle.kl_exchange.specs.declared.PrintError.TheVariants as page
 use Rattle.kl_exchange.proofs.FileReading.{begins_so as begins_fetching}
 use Rattle.kl_heads.specs.FileReading.{HasOpened, HasRead, HeadedFile, NextItem, Opens, ReadsHead, Stands, limit_of}
 use Rattle.kl_heads.specs.Files.{Shows}
-use Rattle.kl_json.specs.Answers.{ArePrinted, Ending, FromEnds, Printing, PutsItems, PutsLine, HasNoLine, IsPrinted, ItemsStand, PutsLines, BeginsItems, file_fault, json_line, json_lines, open_fault, print_fault}
+use Rattle.kl_json.specs.Answers.{ArePrinted, Ending, FromEnds, ItemsCause, Printing, PutsItems, PutsLine, HasNoLine, IsPrinted, ItemsStand, PutsLines, BeginsItems, file_fault, json_line, json_lines, open_fault, print_fault}
 use Rattle.kl_json.specs.Files.{Keeps}
 use Rattle.kl_json.specs.declared.fault.Fault.{Fault}
 use Rattle.kl_json.specs.declared.fault.Fault.TheVariants as fault
@@ -91,6 +91,43 @@ from_no_line head v (fault.NoUnicode p) h = tt
 from_no_line head v fault.Nesting h = tt
 from_no_line head v fault.FileBytes h = tt
 
+-- ---- why nothing more was read
+
+unprinted_cause : (bytes : List ℕ) (vs : List Value) (e : PrintError) → ItemsCause bytes vs (print_fault e)
+unprinted_cause bytes vs page.Failed = tt
+unprinted_cause bytes vs page.NoMemory = tt
+
+pub items_unopened : (bytes : List ℕ) (w : Stop) → ItemsStand bytes [] (Err (open_fault w))
+items_unopened bytes stop.Failed = (inl refl, tt)
+items_unopened bytes stop.NoMemory = (inl refl, tt)
+
+head_cause : (first : Left) (e : FileError) (now : HeadedFile) (left : Left) → limit_of now ≡ most_read → Opens first (Err e) now left
+    → (bytes : List ℕ) → first ≡ Some (Some bytes) → ItemsCause bytes [] (file_fault e)
+head_cause first file.Read now left limit o bytes is = tt
+head_cause first file.NoMemory now left limit o bytes is = tt
+head_cause first (file.Bad p) now left limit o bytes is = inl (None, subst (λ k. Shows k bytes None [] (BadAt p)) limit (o bytes is).0)
+head_cause first (file.TooDeep p) now left limit o bytes is = (None, p, subst (λ k. Shows k bytes None [] (TooDeepAt p)) limit (o bytes is).0)
+head_cause first file.TooLong now left limit o bytes is = tt
+
+item_cause : (first : Left) (head : Option Ty) (vs : List Value) (e : FileError) (now : HeadedFile) (left : Left) → limit_of now ≡ most_read → Stands first head vs (Err e) now left
+    → (bytes : List ℕ) → first ≡ Some (Some bytes) → ItemsCause bytes vs (file_fault e)
+item_cause first head vs file.Read now left limit s bytes is = tt
+item_cause first head vs file.NoMemory now left limit s bytes is = tt
+item_cause first head vs (file.Bad p) now left limit s bytes is = inl (head, subst (λ k. Shows k bytes head vs (BadAt p)) limit (s.1 bytes is).0)
+item_cause first head vs (file.TooDeep p) now left limit s bytes is = (head, p, subst (λ k. Shows k bytes head vs (TooDeepAt p)) limit (s.1 bytes is).0)
+item_cause first head vs file.TooLong now left limit s bytes is = tt
+
+line_cause : (bytes : List ℕ) (head : Option Ty) (vs : List Value) (v : Value) (f : Fault) → HasNoLine head v f → BeginsItems bytes head (vs ++ v ∷ []) → ItemsCause bytes vs f
+line_cause bytes head vs v fault.Usage h b = tt
+line_cause bytes head vs v fault.Read h b = tt
+line_cause bytes head vs v fault.Write h b = tt
+line_cause bytes head vs v fault.NoMemory h b = tt
+line_cause bytes head vs v (fault.Bad p) h b = inr (head, v, b, h)
+line_cause bytes head vs v (fault.Refused r p) h b = tt
+line_cause bytes head vs v (fault.NoUnicode p) h b = (head, v, b, h)
+line_cause bytes head vs v fault.Nesting h b = absurd h
+line_cause bytes head vs v fault.FileBytes h b = tt
+
 -- the items read are on the page
 pub record Listed (head : Option Ty) (old : HeadedFile) (files files' : FilesState) (out out' : SinkState) (now : HeadedFile) (held : List ℕ) : Type 0 where
   pub file : now.items.file ≡ old.items.file
@@ -164,7 +201,7 @@ module _ (number : ℕ) (files files' : FilesState) (old now : HeadedFile) (same
     keeps = keeps_head (Err e) h;
     ends = from_stopped e;
     printed = [];
-    meant = λ bytes is. inl refl;
+    meant = λ bytes is. (inl refl, head_cause (files.left number) e now (files'.left number) (now_limit (Err e) h) (opened (Err e) h) bytes is);
     puts = subst (Puts {T = Unit {0}} [] (Ok tt) out [] out) (sym empty) (none_put out);
     read = λ f. h.leaves.failed (ap Err (is_read e f));
     unwritten = λ end is f. absurd (no_write e ((let it : failed (file_fault e) ≡ end = cc in it) ∙ f));
@@ -191,15 +228,15 @@ module _ (head : Option Ty) (old : HeadedFile) (files files' : FilesState) (out 
   open_on = subst (λ k. IsSome (files'.left k)) (sym l.file) l.keeps.is_open
 
   was_read : (vs : List Value) (new : HeadedFile) (left : Left) → ((first : Left) → HasRead first head [] old (files.left old.items.file) → HasRead first head vs new left) → ArePrinted head vs
-      → (first : Left) → HasRead first head [] old (files.left old.items.file) → (bytes : List ℕ) → first ≡ Some (Some bytes) → (e : Fault) → ItemsStand bytes vs (Err e)
-  was_read vs new left goes lines first has bytes is e = inr (head, begins_items bytes head vs new left (subst (λ f. HasRead f head vs new left) is (goes first has)), lines)
+      → (first : Left) → HasRead first head [] old (files.left old.items.file) → (bytes : List ℕ) → first ≡ Some (Some bytes) → (e : Fault) → ItemsCause bytes vs e → ItemsStand bytes vs (Err e)
+  was_read vs new left goes lines first has bytes is e why = (inr (head, begins_items bytes head vs new left (subst (λ f. HasRead f head vs new left) is (goes first has)), lines), why)
 
   pub listed_all : PutsItems old head (Ok (Err fault.FileBytes)) files files' out out' held
   listed_all = record {
     keeps = l.keeps;
     ends = tt;
     printed = l.printed;
-    meant = λ first has bytes is. was_read l.printed now (files'.left old.items.file) l.read l.lines first has bytes is fault.FileBytes;
+    meant = λ first has bytes is. was_read l.printed now (files'.left old.items.file) l.read l.lines first has bytes is fault.FileBytes tt;
     puts = l.puts;
     read = λ e. absurd cc;
     unwritten = λ end is e. let no : failed fault.FileBytes ≡ failed fault.Write = (let it : failed fault.FileBytes ≡ end = cc in it) ∙ e in cc;
@@ -240,7 +277,9 @@ module _ (head : Option Ty) (old : HeadedFile) (files files' : FilesState) (out 
     keeps = keeps_on (Ok (Some v)) new files'' n;
     ends = from_no_line head v f p.0;
     printed = l.printed;
-    meant = λ first has bytes at. was_read l.printed now (files'.left old.items.file) l.read l.lines first has bytes at f;
+    meant = λ first has bytes at. was_read l.printed now (files'.left old.items.file) l.read l.lines first has bytes at f
+        (line_cause bytes head l.printed v f p.0 (begins_items bytes head (l.printed ++ v ∷ []) new (files''.left old.items.file)
+        (subst (λ g. HasRead g head (l.printed ++ v ∷ []) new (files''.left old.items.file)) at (told_on (Ok (Some v)) new files'' n first (l.read first has)))));
     puts = subst (λ o. Puts {T = Unit {0}} (json_lines l.printed) (Ok tt) out [] o held') (sym p.1) (subst (Puts {T = Unit {0}} (json_lines l.printed) (Ok tt) out [] out') (sym p.2) l.puts);
     read = λ e. absurd (subst (HasNoLine head v) (same_fault f fault.Read e) p.0);
     unwritten = λ end at e. absurd (subst (HasNoLine head v) (same_fault f fault.Write ((let it : failed f ≡ end = cc in it) ∙ e)) p.0);
@@ -253,7 +292,8 @@ module _ (head : Option Ty) (old : HeadedFile) (files files' : FilesState) (out 
     ends = from_unprinted e;
     printed = l.printed ++ v ∷ [];
     meant = λ first has bytes at.
-        was_read (l.printed ++ v ∷ []) new (files''.left old.items.file) (λ f h. told_on (Ok (Some v)) new files'' n f (l.read f h)) (all_printed v p.0) first has bytes at (print_fault e);
+        was_read (l.printed ++ v ∷ []) new (files''.left old.items.file) (λ f h. told_on (Ok (Some v)) new files'' n f (l.read f h)) (all_printed v p.0) first has bytes at (print_fault e)
+        (unprinted_cause bytes (l.printed ++ v ∷ []) e);
     puts = line_more json_line json_lines lines_more l.printed v (Err e) out out' out'' held held' l.puts p.1;
     read = λ f. absurd (no_read e f);
     unwritten = λ end at f. absurd cc;
@@ -276,12 +316,13 @@ module _ (head : Option Ty) (old : HeadedFile) (files files' : FilesState) (out 
     keeps = keeps_on (Err e) new files'' n;
     ends = from_stopped e;
     printed = l.printed;
-    meant = λ first has bytes at. was_read l.printed now (files'.left old.items.file) l.read l.lines first has bytes at (file_fault e);
+    meant = λ first has bytes at. was_read l.printed now (files'.left old.items.file) l.read l.lines first has bytes at (file_fault e)
+        (item_cause first head l.printed e new (files''.left old.items.file) (limit_on (Err e) new files'' n) (told_on (Err e) new files'' n first (l.read first has)) bytes at);
     puts = l.puts;
     read = λ f. rose_after files.faults files'.faults files''.faults l.keeps.later (n.leaves.failed (ap Err (is_read e f)));
     unwritten = λ end is f. absurd (no_write e ((let it : failed (file_fault e) ≡ end = cc in it) ∙ f));
   }
 
 pub items_weaker : (bytes : List ℕ) (vs : List Value) (end : Ending) (e : PrintError) → ItemsStand bytes vs end → ItemsStand bytes vs (Err (print_fault e))
-items_weaker bytes vs (Ok done) e s = inr (s.0, shown_begins bytes s.0 vs s.1, s.2)
-items_weaker bytes vs (Err f) e s = s
+items_weaker bytes vs (Ok done) e s = (inr (s.0, shown_begins bytes s.0 vs s.1, s.2), unprinted_cause bytes vs e)
+items_weaker bytes vs (Err f) e s = (s.0, unprinted_cause bytes vs e)

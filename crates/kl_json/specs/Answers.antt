@@ -5,7 +5,7 @@ use Rattle.std.specs.List.{AllByRecursion, flat_map}
 use Rattle.json.specs.Print.{print}
 use Rattle.json.specs.Tree.{json_tokens}
 use Rattle.kl_base.specs.Counts.{Rose}
-use Rattle.kl_exchange.specs.FileItems.{Items, most_read, WholeText}
+use Rattle.kl_exchange.specs.FileItems.{BadAt, Items, most_read, TooDeepAt, WholeText}
 use Rattle.kl_exchange.specs.FileReading.{Left}
 use Rattle.kl_exchange.specs.Printing.{Puts, as_stop}
 use Rattle.kl_exchange.specs.declared.FileError.{FileError}
@@ -114,11 +114,24 @@ pub record BeginsItems (bytes : List ℕ) (head : Option Ty) (vs : List Value) :
   pub states : States head front
   pub items : Items read vs
 
--- `from`: the file has this head, or none, and these items and no more, or it begins with them; each has the type that the head
--- states, and texts in UTF-8.
+-- One item more stands there, of which this is true.
+abbrev pub HasItem : List ℕ → List Value → (Option Ty → Value → Type 0) → Type 0
+HasItem bytes vs Lacks = (head : Option Ty) × (v : Value) × BeginsItems bytes head (vs ++ v ∷ []) × Lacks head v
+
+-- Why nothing more was read behind these items: the file goes on with what is no item, or no head; or an item lacks the type
+-- that the head states, or has a text that is no UTF-8; or a bracket opens inside too many others. Of the other
+-- faults nothing is said here.
+abbrev pub ItemsCause : List ℕ → List Value → Fault → Type 0
+ItemsCause bytes vs (fault.Bad place) = ((head : Option Ty) × Shows most_read bytes head vs (BadAt place)) ⊎ HasItem bytes vs (λ head v. fits head v ≡ false)
+ItemsCause bytes vs (fault.NoUnicode place) = HasItem bytes vs (λ head v. IsUnicode (json_of v) → ⊥)
+ItemsCause bytes vs fault.Nesting = (head : Option Ty) × (place : ℕ) × Shows most_read bytes head vs (TooDeepAt place)
+ItemsCause bytes vs f = ⊤
+
+-- `from`: the file has this head, or none, and these items and no more, or it begins with them, and there is a cause for that;
+-- each has the type that the head states, and texts in UTF-8.
 abbrev pub ItemsStand : List ℕ → List Value → Ending → Type 0
 ItemsStand bytes vs (Ok done) = (head : Option Ty) × Shows most_read bytes head vs WholeText × ArePrinted head vs
-ItemsStand bytes vs (Err e) = (vs ≡ []) ⊎ ((head : Option Ty) × BeginsItems bytes head vs × ArePrinted head vs)
+ItemsStand bytes vs (Err e) = ((vs ≡ []) ⊎ ((head : Option Ty) × BeginsItems bytes head vs × ArePrinted head vs)) × ItemsCause bytes vs e
 
 -- ---- the command line's answer
 
