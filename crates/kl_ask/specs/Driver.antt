@@ -50,8 +50,8 @@ pub data Behind : Type 0 where
   Beyond : Behind
 
 -- What bytes state of the type of their items, before all of them, where the source ends behind them or may go on: a type, or that
--- they state none; it is not known yet of too few bytes, and never of what is no text. And the items that they spell one behind the
--- other, and what stands behind them.
+-- they state none; it is not known yet of too few bytes, and never of what begins to state a type and states none. And the items that
+-- they spell one behind the other, and what stands behind them.
 pub record Spelt : Type 0 where
   pub head : Bool → Option Head
   pub items : List Value
@@ -237,6 +237,8 @@ pub record Attaches (source : Name) (locator : List ℕ) (ty : Ty) (result : Res
   -- the answer is the number of rows that a whole scan hands
   pub attached : IfOk result (λ count. (kept : Option Kept)
       × (new.attached source ≡ Some (record { ty = ty; rows = told_rows (stored_at old locator ty); count = count; kept = kept })))
+  -- where cursors read their sources anew, what this one is is kept
+  pub kept : OnOk result (IsSome old.kind.spells → (s : Source) → new.attached source ≡ Some s → IsSome s.kept)
   pub count : IfOk result (λ count. (rows : List Value) → stored_at old locator ty ≡ Some (Rows rows) → count ≡ length rows)
   -- a driver with `unique` repeats no row of a set
   pub unique : old.kind.abilities.unique ≡ true → kind_of (ground_of ty) ≡ kind.Set
@@ -322,7 +324,8 @@ pub record OpensCursor (ask : Ask) (cursor : ℕ) (old new : State) : Type 0 whe
   pub ask_kept : opened.ask ≡ ask
   pub fresh : OpensAt ask old opened
   pub others : OtherCursors cursor old new
-  -- it has read nothing yet
+  -- where cursors read their sources anew, it has one to read, of which it has read nothing yet
+  pub anew : IsSome old.kind.spells → IsSome (new.file cursor)
   pub unread : (r : ReadSoFar) → read_under (new.file cursor) new ≡ Some r → r.bytes ≡ []
   pub asked : new.asked ≡ with_ask ask old.asked
 

@@ -38,7 +38,8 @@ pub trait Driver: Drop {
 
     /// Attaches the source at a locator under a name that has none, and answers the number of rows that a whole scan
     /// hands, also where contents are not told. Told rows have the type's items, and where the driver has `unique`, those
-    /// of a set differ. The count of faults rises with `Failed` alone, and that of unreadable sources with `BadSource`,
+    /// of a set differ. Where cursors read their sources anew, it keeps of how many bytes the source is and what it states of
+    /// its type. The count of faults rises with `Failed` alone, and that of unreadable sources with `BadSource`,
     /// `TooLong` or `TooDeep` alone.
     ///
     /// # Errors
@@ -67,8 +68,9 @@ pub trait Driver: Drop {
     /// Appends the next rows of an open cursor, at least one and at most `most`, or answers false: no row is left. Where
     /// contents are told, it appends `most` rows, or all that are left. Where they are not, an ask with tests, or of a
     /// statement with WHERE, may answer false while more rows were possible, and none is left from then on. A driver that
-    /// reads the source anew answers false only where all of it was read, with as many bytes and rows as when it was
-    /// attached, and the same statement of its type or none as then. The count of rows handed rises by the number of rows
+    /// reads the source anew appends rows only where what it read states of its type what it stated when it was attached, and
+    /// answers false only where all of it was read, with as many bytes and rows as then, and the same statement of its type
+    /// or none. The count of rows handed rises by the number of rows
     /// appended.
     ///
     /// # Errors

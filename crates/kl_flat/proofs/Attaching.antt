@@ -116,6 +116,7 @@ refused e source path ty f f' sources cursors asked handed unread unread' told f
       unread = counts;
       others = λ name ne. refl;
       attached = tt;
+      kept = tt;
       count = tt;
       unique = λ is_unique is_set. tt;
       typed = tt;
@@ -273,6 +274,7 @@ attach_done source path ty rows count f f' sources sources' cursors asked handed
       unread = refl;
       others = λ n ne. ap (option_map (attached_of f.told)) (adds.added.0 n ∙ (let other = not_same source n (λ e. ne (sym e)) in rw other refl));
       attached = (None, ap (option_map (attached_of f.told)) here ∙ ap Some kept);
+      kept = λ anew. absurd cc;
       count = λ all is. adds.size ∙ ap length (sym (facts.1 all is));
       unique = λ is_unique is_set. absurd cc;
       typed = λ all is. subst (AllByRecursion (Inhabits (item_of (ground_of ty)))) (sym (facts.1 all is)) (rows_typed ty rows good);

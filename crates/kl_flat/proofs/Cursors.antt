@@ -94,6 +94,7 @@ start_done ask n f sources cursors cursors' asked asked' handed unread can last 
         ask_kept = opens.ask_is;
         fresh = opens_at ask opens.source o f sources cursors asked handed unread can opens.found opens.ask_is opens.ty opens.table opens.start o.small;
         others = λ k ne. ap (seen_as f.told) (added_others cursors cursors' n o last opens.grown k ne);
+        anew = λ is. absurd cc;
         unread = λ r is. absurd (none-some _ is);
         asked = counted;
       };

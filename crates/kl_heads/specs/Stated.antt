@@ -26,7 +26,7 @@ abbrev pub stated_or : Option Ty → Bool → Option (Option Ty)
 stated_or (Some t) none = Some (Some t)
 stated_or None none = cond none (Some None) None
 
--- What bytes state, of which at most `limit` are looked at, where they end or more may come: the type of a head that stands whole
--- in front of them, or none, where none is begun. Else it is not known yet, or they are no text.
+-- What bytes state, where they end or more may come: the type of a head that stands whole in front of them, of which at most `limit`
+-- bytes are looked at, or none, where none is begun. Else it is not known yet, or they begin a head and have none.
 abbrev pub stated_in : ℕ → Bool → List ℕ → Option (Option Ty)
 stated_in limit ended bytes = stated_or (file_text limit bytes).head (begins_no_head ended bytes)

@@ -134,6 +134,10 @@ impl Machine {
 }
 
 /// One more byte. It answers the type where the byte ends the head, and then the machine stands at its beginning.
+///
+/// # Errors
+/// `NoHead` where the bytes are no head and may be an item; `Bad` where a head is begun and cannot go on with the byte, and `TooDeep`
+/// where it nests too deep; `NoMemory`.
 pub fn advance(alloc: Global, machine: &mut Machine, byte: u8) -> Result<Option<Ty>, Stop>
     ensures { Advances machine.new result (advanced 256 machine.old.stack machine.old.phase byte) }
 {

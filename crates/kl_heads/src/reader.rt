@@ -161,6 +161,7 @@ fn next_item(
     }
 }
 
+/// An item of a text without a head as one of a text with or without.
 pub fn item_of(item: kl_exchange::Item) -> Item
     ensures { result ≡ item_as item }
 {

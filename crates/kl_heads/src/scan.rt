@@ -25,7 +25,10 @@ pub enum Halt {
     NoMemory,
 }
 
-/// Takes bytes up to a head's end.
+/// Takes bytes up to a head's end, or to where they show that no head is begun.
+///
+/// # Errors
+/// `Bad` and `TooDeep` with the place among the bytes at which a head cannot go on, or nests too deep; `NoMemory`.
 pub fn scan(alloc: Global, machine: &mut Machine, bytes: &[u8]) -> Result<Scanned, Halt>
     ensures { Scans bytes.now machine.new result (run 256 bytes.now machine.old) }
 {

@@ -14,7 +14,7 @@ use Rattle.kl_exchange.specs.FileItems.{FileEnd, WholeText, BadAt, TooDeepAt, Pa
 use Rattle.kl_heads.specs.Found.{FileText, file_text}
 use Rattle.kl_heads.specs.Stated.{states_no_other}
 use Rattle.kl_ask.specs.Asked.{raised_by, unread_by}
-use Rattle.kl_ask.specs.Driver.{Attaches, CountsUnread, Stored, Missing, Bad, Long, Deep, Rows, stored_by, told_rows, CountsFault}
+use Rattle.kl_ask.specs.Driver.{Attaches, CountsUnread, Source as Attached, Stored, Missing, Bad, Long, Deep, Rows, stored_by, told_rows, CountsFault}
 use Rattle.kl_ask.specs.declared.ask.Ask.{Ask}
 use Rattle.kl_ask.specs.declared.ask.DriverError.{DriverError}
 use Rattle.kl_ask.specs.declared.ask.DriverError.TheVariants as error
@@ -148,6 +148,7 @@ module _ (limit : ℕ) (path : List ℕ) (ty : Ty) where
           unread = counts;
           others = λ name ne. refl;
           attached = tt;
+          kept = tt;
           count = tt;
           unique = λ is_unique is_set. tt;
           typed = tt;
@@ -228,6 +229,7 @@ module _ (limit : ℕ) (path : List ℕ) (ty : Ty) where
             unread = refl;
             others = λ name ne. ap (option_map (attached_of limit f.told)) (added.0 name ∙ (let other = not_same source name (λ e. ne (sym e)) in rw other refl));
             attached = (Some (record { bytes = kept.bytes; head = head_of (made f g kept reads) }), ap (option_map (attached_of limit f.told)) here);
+            kept = λ anew s at. subst (λ (a : Attached). IsSome a.kept) (same_Some _ _ (sym (ap (option_map (attached_of limit f.told)) here) ∙ at)) refl;
             count = λ all is. (told_all all is).2;
             unique = λ is_unique is_set. absurd cc;
             typed = λ all is. let at = told_all all is in let h = holds limit at.0 (item_ty ty) all at.1 in rows_typed ty h.0.read all h.0.items h.1;

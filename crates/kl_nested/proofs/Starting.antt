@@ -142,6 +142,7 @@ module _ (limit : ℕ) (room : limit < 2 ^ 63) (f : FilesState) (sources : Sourc
             ask_kept = opens.opened.2.ask_is;
             fresh = opens_at ask s g o can found opens.opened.2;
             others = λ k ne. ap (option_map (cursor_of limit f.told)) (added_others cursors cursors' n o last grown k ne);
+            anew = λ is. subst IsSome (sym (ap (option_map (λ (x : Open). x.file)) (added_now cursors cursors' n o last grown))) refl;
             unread = λ r is. nothing_read f.log r (sym (ap (option_map read_as) over.unread) ∙ (sym (ap (λ (x : Option ℕ). read_under x now) (ap (option_map (λ (x : Open). x.file)) (added_now cursors cursors' n o last grown))) ∙ is));
             asked = counted;
           };

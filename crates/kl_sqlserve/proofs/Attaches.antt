@@ -181,6 +181,7 @@ module _ (source path : List ℕ) (ty : Ty) (f f' : FilesState) (sources sources
     unread = flat.unread;
     others = λ name ne. (λ i. option_map (attached_of (told i)) (same name i));
     attached = tt;
+    kept = tt;
     count = tt;
     unique = λ is_unique is_set. tt;
     typed = tt;
@@ -220,6 +221,7 @@ module _ (source path : List ℕ) (ty : Ty) (f f' : FilesState) (sources sources
     unread = refl;
     others = λ name ne. (λ i. option_map (attached_of (good.1 i)) (others_stay name ne i));
     attached = (None, (λ i. option_map (attached_of (good.1 i)) (now_there i)) ∙ ap Some stands);
+    kept = λ anew. absurd cc;
     count = λ all is. adds.size ∙ ap length (sym (all_are all is));
     unique = λ is_unique is_set all is. subst (IsDistinct same_value) (sym (all_are all is)) (subst (IsDistinct same_value) (sym adds.with) (apart is_set));
     typed = λ all is. subst (AllByRecursion (Inhabits (item_of (ground_of ty)))) (sym (all_are all is)) (subst (λ t. AllByRecursion (Inhabits (item_of (ground_of t))) (rows_of adds.made.table)) adds.of (rows_typed adds.made.ty (rows_of adds.made.table) adds.made.typed));

@@ -197,6 +197,7 @@ module _ (f : FilesState) (sources : Sources) (cursors : List (Option Open)) (as
       ask_kept = ask_kept ask o opens;
       fresh = opens_at ask o opens;
       others = λ k ne. ap (option_map (cursor_of f.told)) (added_others cursors cursors' n o last grown k ne);
+      anew = λ is. absurd cc;
       unread = λ r is. absurd cc;
       asked = counted;
     };

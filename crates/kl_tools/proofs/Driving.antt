@@ -71,6 +71,7 @@ module _ (source locator : List ℕ) (ty : Ty) (s : Source) (seed rows : ℕ) (s
       ap (option_map attached_of) here
           ∙ ap Some ((λ i. attached (of i) (made_rows (seeded i) (many i)) (many i)) ∙ sym (λ i. record { ty = ty; rows = told_rows (Some (stored i)); count = rows; kept = None })),
     );
+    kept = λ anew. absurd cc;
     count = λ all is. sym (ap length (all_are all is) ∙ rows_length seed 0 rows);
     unique = λ is_unique is_set all is. subst (IsDistinct same_value) (sym (all_are all is)) (rows_distinct seed 0 rows);
     typed = λ all is. subst (λ t. AllByRecursion (Inhabits t) all) (sym (item_is ty suits)) (subst (AllByRecursion (Inhabits made_type)) (sym (all_are all is)) (rows_typed seed 0 rows));
@@ -131,6 +132,7 @@ module _ (sources : Sources) (cursors : List (Option Open)) (asked : List (Ask �
         ask_kept = opens.ask_is;
         fresh = opens_at ask o can opens;
         others = λ k ne. ap (option_map cursor_of) (added_others cursors cursors' n o last grown k ne);
+        anew = λ is. absurd cc;
         unread = λ r is. absurd (none-some _ is);
         asked = counted;
       };
