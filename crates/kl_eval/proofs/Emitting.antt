@@ -1,10 +1,11 @@
 -- Items of a body, added to those that were drawn before.
-use Rattle.std.proofs.Common.{◌≡◌, ℕ, ◌<◌, Bool, List, [], ◌∷◌, ◌+◌, length, drop, get_or, Some, Result, Ok, Err, refl, sym, ◌∙◌, ap, subst, append-nil}
+use Rattle.std.proofs.Common.{◌≡◌, ℕ, ◌<◌, Bool, List, [], ◌∷◌, ◌+◌, length, drop, get_or, Option, IfSome, Some, Result, Ok, Err, refl, sym, ◌∙◌, ap, subst, append-nil}
 use Rattle.kl_value.proofs.CanonLemmas.{canonical-nil, canonical-one}
 use Rattle.kl_value.specs.Views.{collection, as_bool, IsCollection}
 use Rattle.kl_value.specs.declared.Kind.{Kind}
 use Rattle.kl_value.specs.declared.Kind.TheVariants as kind
 use Rattle.kl_value.specs.declared.Value.{Value}
+use Rattle.kl_value.specs.declared.Value.TheVariants as value
 use Rattle.kl_type.specs.Ground.{coll}
 use Rattle.kl_outcome.specs.Outcome.{done, over, End, Flow, more, stop, fine, overflow, flow, collected}
 use Rattle.kl_outcome.specs.Typed.{OfType, Inhabits}
@@ -12,7 +13,8 @@ use Rattle.kl_outcome.proofs.OutcomeTypes.{items_inhabit}
 use Rattle.kl_core.specs.declared.term.Term.{Term}
 use Rattle.kl_core.specs.declared.term.Term.TheVariants as term
 use Rattle.kl_core.specs.Trees.{Tree, Make, Prim, no_trees, trees, view, trees_view}
-use Rattle.kl_core.specs.Typing.{CoreTypes}
+use Rattle.kl_core.specs.Core.{Tables}
+use Rattle.kl_core.specs.Typing.{CoreTypes, SourceTypes}
 use Rattle.kl_eval.specs.declared.stop.EvalStop.{EvalStop}
 use Rattle.kl_eval.specs.declared.stop.EvalStop.TheVariants as eval_stop
 use Rattle.kl_eval.specs.declared.stop.Halt.{Halt}
@@ -125,6 +127,10 @@ module _ (t : Term) (k : Kind) (ts us : List Term) (env : List Value) (et : t �
 -- ---- a primitive that is looked at
 
 module _ (t : Term) (c : ℕ) (ts us : List Term) (env : List Value) (et : t ≡ term.Prim c ts) (eu : us ≡ ts) where
+  pub prim_comes : (r : Option Bool) → IfSome r (λ yes. (S : SourceTypes) (T : Tables) → Comes S T env (Prim c (trees_view us)) (done (value.Bool yes)))
+      → IfSome r (λ yes. (S : SourceTypes) (T : Tables) → Comes S T env (view t) (done (value.Bool yes)))
+  prim_comes r = subst (λ q. IfSome r (λ yes. (S : SourceTypes) (T : Tables) → Comes S T env q (done (value.Bool yes)))) (sym (at_Prim t c ts us env et eu))
+
   pub look_prim : (r : Result Value EvalStop) (a b : World) → EvalsCall c (trees_view us) env r a b → EvalsPart (view t) env r a b
   look_prim r a b h = subst (λ q. EvalsPart q env r a b) (sym (at_Prim t c ts us env et eu)) (record { moved = h.moved; still = h.still; gives = go r h.gives })
     where

@@ -1,5 +1,5 @@
 -- Each form of a term, from its parts.
-use Rattle.std.proofs.Common.{◌≡◌, ℕ, ◌<◌, ◌≤◌, ◌+◌, ◌⊎◌, ⊎_elim, Bool, true, false, zero, suc, cond, nat_eq, List, [], ◌∷◌, ◌++◌, map, length, drop, get_or, Option, Result, Vec, Some, None, Ok, Err, IsSome, All, refl, sym, ◌∙◌, ap, subst, append_assoc, append-nil, arith, slice_get, IfOk}
+use Rattle.std.proofs.Common.{◌≡◌, ℕ, ◌<◌, ◌≤◌, ◌+◌, ◌⊎◌, ⊎_elim, Bool, true, false, zero, suc, cond, nat_eq, List, [], ◌∷◌, ◌++◌, map, length, drop, get_or, Option, Result, Vec, Some, None, Ok, Err, IsSome, All, refl, sym, ◌∙◌, ap, subst, append_assoc, append-nil, arith, slice_get, IfOk, IfSome}
 use Rattle.std.specs.Cmp.Lexicographic.{pointwise, same_text}
 use Rattle.std.proofs.lemmas.Cmp.{nat_list_eq_equiv}
 use Rattle.std.specs.List.{AllByRecursion}
@@ -18,7 +18,7 @@ use Rattle.kl_value.specs.declared.Kind.{Kind}
 use Rattle.kl_value.specs.declared.Value.{Value}
 use Rattle.kl_value.specs.declared.Value.TheVariants as value
 use Rattle.kl_type.specs.Ground.{Ground, Row, at, bool, rec as rec_type, var as var_type, coll}
-use Rattle.kl_prim.specs.Meaning.{Answer}
+use Rattle.kl_prim.specs.Meaning.{Answer, gives}
 use Rattle.kl_prim.specs.Table.{Fits, meaning, row_at, Row as Primitive}
 use Rattle.kl_outcome.specs.Outcome.{Name, Outcome, done, over, End, Flow, more, stop, fine, overflow, flow, outcome_of, answered, as_variant, items_of, items_at_all, followed, kept, gathered, collected, joined_to, union_of}
 use Rattle.kl_outcome.specs.Typed.{Inhabits, HaveTypes, OfType, RowTypes, PrimTypes}
@@ -853,6 +853,12 @@ module _ (c : ℕ) (ts : List Term) (x y : Term) (env : List Value) (a : World) 
         still = λ n. g.still n.1.0 ∙ h.still n.0;
         gives = prim_gives (ArgsCome (types_of a) (values_of a) env Both (λ vs. answered (meaning c vs))) a d (meaning c (v ∷ w ∷ [])) r (λ o e. (done v, h.gives, (done w, g', e))) m;
       })
+
+  -- a comparison of values that stand somewhere
+  pub comparison_comes : (v w : Value) (r : Option Bool) → ((S : SourceTypes) (T : Tables) → Comes S T env (view x) (done v)) → ((S : SourceTypes) (T : Tables) → Comes S T env (view y) (done w))
+      → IfSome r (λ yes. meaning c (v ∷ w ∷ []) ≡ gives (value.Bool yes)) → IfSome r (λ yes. (S : SourceTypes) (T : Tables) → Comes S T env (Prim c (trees_view ts)) (done (value.Bool yes)))
+  comparison_comes v w None f g m = tt
+  comparison_comes v w (Some bit) f g m = λ S T. subst (λ q. ArgsCome S T env q (λ vs. answered (meaning c vs)) (done (value.Bool bit))) (sym both) (done v, f S T, (done w, g S T, sym (ap answered m)))
 
   pub call_latter_stop : (v : Value) (e : EvalStop) (b d : World) → EvalsPart (view x) env (Ok v) a b → EvalsPart (view y) env (Err e) b d → EvalsCall c (trees_view ts) env (Err e) a d
   call_latter_stop v e b d h g =

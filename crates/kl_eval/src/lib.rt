@@ -5,6 +5,7 @@
 //! No clause says where memory is wanted: that it is not with ample memory is for tests and cases.
 #![tactic(auto)]
 
+mod comparing;
 mod env;
 mod evaluator;
 mod public;

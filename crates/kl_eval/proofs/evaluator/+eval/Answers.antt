@@ -123,6 +123,12 @@ look-lent-requires g t c = (_, (c.requires.0, c.requires.1, c.requires.2, c.requ
 pub look-returns-in-Some : goal.look-returns-in-Some
 look-returns-in-Some g t c = evals_lent _ _ _ _ (λ S T. c.in-Some.ensures.value S T)
 
+pub look-compared-requires : goal.look-compared-requires
+look-compared-requires g t c = (g.T.Seen.world c.args.tables.now, c.requires)
+
+pub look-returns-in-Some-compared : goal.look-returns-in-Some-compared
+look-returns-in-Some-compared g t c = evals_lent _ _ _ _ (λ S T. c.in-Some-compared.ensures S T)
+
 pub each-owned-requires : goal.each-owned-requires
 each-owned-requires g t c κs within = (search (rules, the_lemmas, arith), (within, each_sense _ _ _ _ _ _ _ _ c.terms-test.true c.term-item.is c.terms.invariant))
 
@@ -257,11 +263,11 @@ emit-returns-in-Err-inside g t c = into_one_stop _ _ _ _ _ c.in-Make.is c.slice-
 pub emit_whole-append-requires : goal.emit_whole-append-requires
 emit_whole-append-requires g t c = whole_there _ _ _ _ _ c.requires c.in-Ok.ensures
 
-pub look-returns-in-Ok : goal.look-returns-in-Ok
-look-returns-in-Ok g t c = look_prim _ _ _ _ _ c.in-Prim.is c.slice.ensures _ _ _ c.in-Ok.ensures
+pub look_made-returns-in-Ok : goal.look_made-returns-in-Ok
+look_made-returns-in-Ok g t c = look_prim _ _ _ _ _ c.in-Prim.is c.slice.ensures _ _ _ c.in-Ok.ensures
 
-pub look-returns-in-Err : goal.look-returns-in-Err
-look-returns-in-Err g t c = look_prim _ _ _ _ _ c.in-Prim.is c.slice.ensures _ _ _ c.in-Err.ensures
+pub look_made-returns-in-Err : goal.look_made-returns-in-Err
+look_made-returns-in-Err g t c = look_prim _ _ _ _ _ c.in-Prim.is c.slice.ensures _ _ _ c.in-Err.ensures
 
 pub emit-look-requires-in-Let : goal.emit-look-requires-in-Let
 emit-look-requires-in-Let g t c κs within = (search (rules, the_lemmas, arith), (within, sense_bound _ _ _ _ _ c.in-Let.is c.get-in-Let.ensures (g.T.Seen.world c.args.tables.now) (sense_of _ _ _ c.requires)))
@@ -341,23 +347,23 @@ emit-emit_within-requires g t c κs within = (search (rules, the_lemmas, arith),
 pub emit-returns-in-Ok-look : goal.emit-returns-in-Ok-look
 emit-returns-in-Ok-look g t c = into_let _ _ _ _ _ c.in-Let.is c.get-in-Let.ensures _ _ _ _ _ _ _ _ _ c.get-in-Ok-look.ensures refl c.in-Ok-look.ensures c.emit_within.ensures
 
-pub look-look-requires : goal.look-look-requires
-look-look-requires g t c κs within = (search (rules, the_lemmas, arith), (within, sense_test _ _ _ _ _ _ c.in-If.is c.get.ensures (g.T.Seen.world c.args.tables.now) c.requires))
+pub look_made-look-requires : goal.look_made-look-requires
+look_made-look-requires g t c κs within = (search (rules, the_lemmas, arith), (within, sense_test _ _ _ _ _ _ c.in-If.is c.get.ensures (g.T.Seen.world c.args.tables.now) c.requires))
 
-pub look-truth-requires : goal.look-truth-requires
-look-truth-requires g t c = test_told _ _ _ _ _ _ c.in-If.is c.get.ensures _ _ _ c.requires c.look.ensures
+pub look_made-truth-requires : goal.look_made-truth-requires
+look_made-truth-requires g t c = test_told _ _ _ _ _ _ c.in-If.is c.get.ensures _ _ _ c.requires c.look.ensures
 
-pub look-look-requires-then-yes : goal.look-look-requires-then-yes
-look-look-requires-then-yes g t c κs within = (search (rules, the_lemmas, arith), (within, sense_picked _ _ _ _ _ _ c.in-If.is c.get.ensures _ true _ _ c.get-then-yes.ensures c.look.ensures.moved c.requires))
+pub look_made-look-requires-then-yes : goal.look_made-look-requires-then-yes
+look_made-look-requires-then-yes g t c κs within = (search (rules, the_lemmas, arith), (within, sense_picked _ _ _ _ _ _ c.in-If.is c.get.ensures _ true _ _ c.get-then-yes.ensures c.look.ensures.moved c.requires))
 
-pub look-look-requires-else-yes : goal.look-look-requires-else-yes
-look-look-requires-else-yes g t c κs within = (search (rules, the_lemmas, arith), (within, sense_picked _ _ _ _ _ _ c.in-If.is c.get.ensures _ false _ _ c.get-else-yes.ensures c.look.ensures.moved c.requires))
+pub look_made-look-requires-else-yes : goal.look_made-look-requires-else-yes
+look_made-look-requires-else-yes g t c κs within = (search (rules, the_lemmas, arith), (within, sense_picked _ _ _ _ _ _ c.in-If.is c.get.ensures _ false _ _ c.get-else-yes.ensures c.look.ensures.moved c.requires))
 
-pub look-returns-then-yes : goal.look-returns-then-yes
-look-returns-then-yes g t c = look_tested _ _ _ _ _ _ c.in-If.is c.get.ensures _ true _ _ _ _ _ _ c.get-then-yes.ensures c.if-yes.true c.in-Ok-truth.ensures c.look.ensures c.look-then-yes.ensures
+pub look_made-returns-then-yes : goal.look_made-returns-then-yes
+look_made-returns-then-yes g t c = look_tested _ _ _ _ _ _ c.in-If.is c.get.ensures _ true _ _ _ _ _ _ c.get-then-yes.ensures c.if-yes.true c.in-Ok-truth.ensures c.look.ensures c.look-then-yes.ensures
 
-pub look-returns-else-yes : goal.look-returns-else-yes
-look-returns-else-yes g t c = look_tested _ _ _ _ _ _ c.in-If.is c.get.ensures _ false _ _ _ _ _ _ c.get-else-yes.ensures c.if-yes.false c.in-Ok-truth.ensures c.look.ensures c.look-else-yes.ensures
+pub look_made-returns-else-yes : goal.look_made-returns-else-yes
+look_made-returns-else-yes g t c = look_tested _ _ _ _ _ _ c.in-If.is c.get.ensures _ false _ _ _ _ _ _ c.get-else-yes.ensures c.if-yes.false c.in-Ok-truth.ensures c.look.ensures c.look-else-yes.ensures
 
-pub look-returns-in-Err-truth : goal.look-returns-in-Err-truth
-look-returns-in-Err-truth g t c = look_tested_stop _ _ _ _ _ _ c.in-If.is c.get.ensures _ _ _ _ c.in-Err-truth.ensures c.look.ensures
+pub look_made-returns-in-Err-truth : goal.look_made-returns-in-Err-truth
+look_made-returns-in-Err-truth g t c = look_tested_stop _ _ _ _ _ _ c.in-If.is c.get.ensures _ _ _ _ c.in-Err-truth.ensures c.look.ensures
