@@ -63,7 +63,8 @@ def fat(n, k):
 
 
 def promoted(n):
-    return "{1 | \\x <- {1, 2}, " + ", ".join(["_ <- {1, 2}"] * n + ["x = 1"] * n) + "}"
+    # (where the conditions held, the loops behind them would be run 2**n times)
+    return "{1 | \\x <- {1, 2}, " + ", ".join(["_ <- {1, 2}"] * n + ["x = 3"] * n) + "}"
 
 
 # A name, the commands, the text, and its catalogue if it has one.
@@ -93,7 +94,8 @@ PROGRAMS = [
     ("240 and 240 of them", ["run"], conditions(240) + ";", None),
     ("120 `let`s round 60 and 60 conditions", ["run"], lets(120, 60) + ";", None),
     ("235 and 235 conditions on paths of 26 fields", ["run"], fat(235, 26) + ";", None),
-    ("60 generators before 60 conditions on the first", ["run"], promoted(60) + ";", None),
+    ("60 generators before 60 conditions on the first, none of which holds", ["run"], promoted(60) + ";", None),
+    ("160 and 160 of them", ["run"], promoted(160) + ";", None),
     ("`{1|` 256 times", ["check"], wrapped("1", "{1|", "}", 256) + ";", None),
     ("255 `case` in the branch, and 29,000 `+1` inside", ["check"], wrapped("1" + "+1" * 29000, "case <a=1> of <a=_> => ", " end", 255) + ";", None),
     ("256 groups, and 32,000 `+1` inside", ["check"], wrapped("1" + "+1" * 32000, "(", ")", 256) + ";", None),
