@@ -2,6 +2,8 @@ pub mod Holding
 pub mod Meaning
 pub mod Typings
 pub mod Programs
+pub mod Failing
+pub mod Translated
 pub mod Ending
 pub mod ProgramEnding
 pub mod Counting
