@@ -56,10 +56,10 @@ pub record Tested (t : Term) : Type 0 where
 abbrev Promoted : (t : Term) → Tested t → Tree → Type 0
 Promoted t p u = (j : Kind) × (w : Tree) × (view p.rest ≡ empty_of j) × (view p.test ≡ shift_of w 0 1) × (total_in w ≡ true) × (total_in (view p.source) ≡ true) × (u ≡ If w (Ext p.kind (view p.part) (view p.source)) (empty_of j))
 
-tested_view : (t : Term) (p : Tested t) → view t ≡ Ext p.kind (If (view p.test) (view p.part) (view p.rest)) (view p.source)
+pub tested_view : (t : Term) (p : Tested t) → view t ≡ Ext p.kind (If (view p.test) (view p.part) (view p.rest)) (view p.source)
 tested_view t p = ap view p.loop ∙ view_Ext p.kind p.body p.source ∙ ap (λ b. Ext p.kind b (view p.source)) (ap view p.choice_is ∙ view_If p.test p.part p.rest)
 
-promotes_of : (t : Term) (p : Tested t) (u : Tree) → FilterPromotion (view t) u → Promoted t p u
+pub promotes_of : (t : Term) (p : Tested t) (u : Tree) → FilterPromotion (view t) u → Promoted t p u
 promotes_of t p u h =
     let f : Ext p.kind (If (view p.test) (view p.part) (view p.rest)) (view p.source) ≡ Ext h.0 (If (shift_of h.3 0 1) h.2 (empty_of h.1)) h.4 = sym (tested_view t p) ∙ h.5 in
     let kind_is : p.kind ≡ h.0 = cc in
@@ -75,31 +75,6 @@ promotes_of t p u h =
       ap total_in source_is ∙ h.8,
       h.6 ∙ rw (sym kind_is, sym part_is, sym source_is) refl,
     )
-
-pub promotes_some : (t : Term) (p : Tested t) (j : Kind) (r c : Term) → view p.rest ≡ empty_of j → view p.test ≡ shift_of (view c) 0 1 → total_in (view p.test) ≡ true → total_in (view p.source) ≡ true
-    → view r ≡ If (view c) (Ext p.kind (view p.part) (view p.source)) (empty_of j) → IsRewritten FilterPromotion (view t) (Some r)
-promotes_some t p j r c e low test drawn f = (
-  (
-    p.kind,
-    j,
-    view p.part,
-    view c,
-    view p.source,
-    tested_view t p ∙ rw (low, e) refl,
-    f,
-    sym (total_shift (view c) 0 1) ∙ ap total_in (sym low) ∙ test,
-    drawn,
-  ),
-  only,
-)
-  where
-    only : (u : Tree) → FilterPromotion (view t) u → u ≡ view r
-    only u h =
-        let g = promotes_of t p u h in
-        let same : g.1 ≡ view c = one_lowered g.1 (view c) 0 (sym g.3 ∙ low) in
-        let kinds : Make g.0 no_trees ≡ Make j no_trees = sym g.2 ∙ e in
-        let kind_is : g.0 ≡ j = cc in
-        g.6 ∙ rw (same, kind_is) (sym f)
 
 pub promotes_unsure : (t : Term) (p : Tested t) → total_in (view p.test) ≡ false → IsRewritten FilterPromotion (view t) None
 promotes_unsure t p n u h =

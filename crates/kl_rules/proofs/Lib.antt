@@ -10,3 +10,5 @@ pub mod Walks
 pub mod KnownShapes
 pub mod PlainTerms
 pub mod Rooms
+pub mod RaisedSizes
+pub mod Moves

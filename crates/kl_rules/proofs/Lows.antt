@@ -8,7 +8,7 @@ use Rattle.kl_core.specs.Leaves.{Leaves, LeavesOfTrees, LeavesOfParts, LeavesOfA
 use Rattle.kl_core.specs.Positions.{raised, shift_of, shift_trees, shift_parts, shift_arms, binders, AnySource, InRange, TreesInRange, PartsInRange, ArmsInRange}
 use Rattle.kl_core.specs.Counts.{nodes_of}
 use Rattle.kl_core.specs.Keeping.{Room}
-use Rattle.kl_core.proofs.Views.{view_Ext, view_Let, view_If}
+use Rattle.kl_core.proofs.Views.{view_Ext, view_Let}
 use Rattle.kl_core.proofs.Sizes.{few_binders}
 use Rattle.kl_rules.specs.Rewriting.{IsLowPosition, IsShiftable}
 
@@ -78,10 +78,3 @@ let_small t a b c e f h = subst (λ x. IsShiftable (view x)) (sym f) ((small_Let
 -- room for a small term in itself
 pub self_room : (t : Tree) → IsShiftable t → Room t 0 t
 self_room t h = low_room t t h.1 h.0
-
--- a condition in the body of a loop
-pub tested_small : (t b s c a e x y : Term) (k : Kind) → t ≡ term.Ext k b s → y ≡ b → y ≡ term.If c a e → x ≡ c → IsShiftable (view t) → IsShiftable (view x)
-tested_small t b s c a e x y k p q r f h =
-    let body : IsShiftable (view y) = subst (λ z. IsShiftable (view z)) (sym q) ((small_Ext t b s k p h).0) in
-    let g : IsShiftable (If (view c) (view a) (view e)) = subst IsShiftable (ap view r ∙ view_If c a e) body in
-    subst (λ z. IsShiftable (view z)) (sym f) (g.0.0, omega (arith, g.1))

@@ -6,3 +6,4 @@ pub mod Rewriting
 pub mod Nearness
 pub mod Sameness
 pub mod Unpacked
+pub mod Moving

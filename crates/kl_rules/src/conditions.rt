@@ -3,10 +3,10 @@ ghost use Rattle.kl_core.specs.Trees.{view};
 ghost use Rattle.kl_rules.specs.Rules.{KnownCondition, NestedCondition, ConditionOrder};
 ghost use Rattle.kl_rules.specs.Rewriting.{IsShiftable, RewritesBy, AreEmptyCollections};
 
-use crate::nearness::is_farther;
+use crate::moving::exchange;
 use crate::pieces::{empty_kind, nothing, tested};
 use kl_base::NoMemory;
-use kl_core::{Term, is_total};
+use kl_core::Term;
 use kl_value::{Kind, Value};
 use std::alloc::Global;
 
@@ -68,37 +68,15 @@ pub fn rule_17(alloc: Global, term: &Term) -> Result<Option<Term>, NoMemory>
     requires small { IsShiftable (view term.now) }
     ensures { RewritesBy ConditionOrder (view term.now) result }
 {
-    let Term::If(c, inside, e) = term else {
-        return Ok(None);
-    };
-    let Term::If(d, s, f) = inside.get() else {
-        return Ok(None);
-    };
-    if !is_total(c.get()) {
-        return Ok(None);
+    let mut moved = term.dup(alloc)?;
+    if exchange(&mut moved, u64::MAX) {
+        return Ok(Some(moved));
     }
-    if !is_total(d.get()) {
-        return Ok(None);
-    }
-    if !is_farther(d.get(), c.get()) {
-        return Ok(None);
-    }
-    match empty_kinds(e.get(), f.get()) {
-        Some(k) => {
-            let inner = tested(
-                alloc,
-                c.get().dup(alloc)?,
-                s.get().dup(alloc)?,
-                nothing(alloc, k),
-            )?;
-            Ok(Some(tested(alloc, d.get().dup(alloc)?, inner, nothing(alloc, k))?))
-        }
-        None => Ok(None),
-    }
+    Ok(None)
 }
 
-// The kind of two empty collections of one kind.
-fn empty_kinds(first: &Term, second: &Term) -> Option<Kind>
+/// The kind of two empty collections of one kind.
+pub fn empty_kinds(first: &Term, second: &Term) -> Option<Kind>
     ensures { AreEmptyCollections (view first.now) (view second.now) result }
 {
     match empty_kind(first) {

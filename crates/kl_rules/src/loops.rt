@@ -5,12 +5,12 @@ ghost use Rattle.kl_rules.specs.Rules.{VerticalFusion, HorizontalFusion, FilterP
 ghost use Rattle.kl_rules.specs.Rules.{ConditionalSource, LetSource};
 ghost use Rattle.kl_rules.specs.Rewriting.{IsShiftable, RewritesBy, IsOnlyItem};
 
-use crate::guards::lowered;
+use crate::moving::promote;
 use crate::pieces::{bound, empty_kind, looped, nothing, tested, united};
 use crate::plainness::is_plain;
 use crate::sameness::is_same;
 use kl_base::NoMemory;
-use kl_core::{Term, fits, is_total, shift};
+use kl_core::{Term, fits, shift};
 use kl_value::Kind;
 use std::alloc::Global;
 
@@ -78,28 +78,11 @@ pub fn rule_3(alloc: Global, term: &Term) -> Result<Option<Term>, NoMemory>
     requires small { IsShiftable (view term.now) }
     ensures { RewritesBy FilterPromotion (view term.now) result }
 {
-    let Term::Ext(k, body, s) = term else {
-        return Ok(None);
-    };
-    let Term::If(c, a, e) = body.get() else {
-        return Ok(None);
-    };
-    if !is_total(s.get()) {
-        return Ok(None);
+    let mut moved = term.dup(alloc)?;
+    if promote(alloc, &mut moved, u64::MAX)? {
+        return Ok(Some(moved));
     }
-    if !is_total(c.get()) {
-        return Ok(None);
-    }
-    match empty_kind(e.get()) {
-        Some(j) => match lowered(alloc, c.get())? {
-            Some(outside) => {
-                let inner = looped(alloc, *k, a.get().dup(alloc)?, s.get().dup(alloc)?)?;
-                Ok(Some(tested(alloc, outside, inner, nothing(alloc, j))?))
-            }
-            None => Ok(None),
-        },
-        None => Ok(None),
-    }
+    Ok(None)
 }
 
 /// Rule 4: a loop over no item gives none.
