@@ -6,5 +6,7 @@
 #![tactic(auto)]
 
 mod laws;
+mod program;
 
 pub use laws::{expansion_laws, function_field_laws, scoping_laws};
+pub use program::HoScoped;
