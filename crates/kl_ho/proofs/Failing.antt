@@ -58,8 +58,7 @@ pub ill_typed : (is_new : New) (fields : FunctionFields) (n : ℕ) (ds cs : Decl
     → IsHoIllTyped fields ds e sources i ↔ ((k : ℕ) × (i ≡ given_number fields ds k) × IsIllTyped cs x sources k)
 ill_typed is_new fields n ds cs e x h sources i =
     let typing = program_has_typing is_new fields n ds cs e x h sources in
-    let first = types_at_first sources in
-    (
+    let first = types_at_first sources in (
       (λ bad. let found = fails_back is_new fields h first first (first_alike sources) i bad.fails in (found.0, found.1, record { fails = found.2; none = λ o. bad.none (typing.1 o) })),
       (λ bad. record { fails = subst (HoFailsAt fields ds e no_highers first) (sym bad.1) (fails_to is_new fields h first first (first_alike sources) bad.0 bad.2.fails); none = λ o. bad.2.none (typing.0 o) }),
     )
