@@ -1,3 +1,7 @@
+pub mod Adding
 pub mod Answered
+pub mod Answering
 pub mod Copied
 pub mod Named
+pub mod Noted
+pub mod Printing

@@ -1,5 +1,9 @@
 pub mod Answering
+pub mod Causes
+pub mod Cells
 pub mod Naming
 pub mod Refusals
+pub mod Rows
 pub mod Tables
 pub mod Words
+pub mod Writing

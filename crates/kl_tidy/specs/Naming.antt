@@ -1,9 +1,10 @@
 -- Words for the headers of a table.
-use Rattle.std.specs.Prelude.{◌≡◌, ◌≤◌, ◌<◌, ℕ, Bool, true, false, not, ◌&&◌, ◌==◌, List, [], ◌∷◌, ◌++◌, codes, cond, decimal, nat_eq, ⊤}
+use Rattle.std.specs.Prelude.{◌≡◌, ◌≤◌, ◌<◌, ℕ, Bool, true, false, not, ◌&&◌, ◌==◌, ◌+◌, List, [], ◌∷◌, ◌++◌, codes, cond, decimal, nat_eq, ⊤}
 use Rattle.std.specs.Cmp.Lexicographic.{pointwise}
 use Rattle.std.specs.List.{list_any}
 use Rattle.kl_base.specs.Word.{is_word}
 use Rattle.kl_json.specs.Meaning.{as_word}
+use Rattle.kl_tidy.specs.Writing.{quoted}
 
 -- the word itself as the first name, and with its number behind it as each later one
 abbrev pub numbered : List ℕ → ℕ → List ℕ
@@ -29,3 +30,19 @@ AreNames before [] [] = ⊤
 AreNames before (cell ∷ cells) (name ∷ names) = IsNameOf before cell name × AreNames (before ++ name ∷ []) cells names
 AreNames before [] (name ∷ names) = ⊥
 AreNames before (cell ∷ cells) [] = ⊥
+
+-- what is told of the column of a number: its name, if that is another than its header
+abbrev pub note : List ℕ → ℕ → List ℕ → List ℕ → List ℕ
+note path n cell name =
+    cond (pointwise nat_eq cell name) []
+    (path ++ codes ": column " ++ decimal n ++ codes " is " ++ name ++ codes ": " ++ quoted cell ++ codes "\n")
+
+-- what is told of columns, from a number on
+abbrev pub notes_from : List ℕ → ℕ → List (List ℕ) → List (List ℕ) → List ℕ
+notes_from path n [] names = []
+notes_from path n (cell ∷ cells) [] = []
+notes_from path n (cell ∷ cells) (name ∷ names) = note path n cell name ++ notes_from path (n + 1) cells names
+
+-- which headers were changed
+abbrev pub header_notes : List ℕ → List (List ℕ) → List (List ℕ) → List ℕ
+header_notes path header names = notes_from path 1 header names

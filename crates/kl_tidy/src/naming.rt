@@ -3,7 +3,7 @@ ghost use Rattle.std.specs.Prelude.{◌≡◌, ◌++◌, ◌∷◌, [], IfOk, On
 ghost use Rattle.std.specs.List.{list_any};
 ghost use Rattle.csv.specs.Records.{fields_of};
 ghost use Rattle.kl_json.specs.Meaning.{as_word, begins_word, word_byte};
-ghost use Rattle.kl_tidy.specs.Naming.{AreNames, IsNameOf, is_free, is_one, numbered};
+ghost use Rattle.kl_tidy.specs.Naming.{AreNames, IsNameOf, header_notes, is_free, is_one, note, numbered};
 
 use crate::writing::{put, put_quoted};
 use csv::ByteRecord;
@@ -56,7 +56,8 @@ fn is_free(names: &[Text], name: &[u8]) -> bool
     is_word(name) && !is_taken(names, name)
 }
 
-fn is_taken(names: &[Text], name: &[u8]) -> bool
+/// Whether one of the names is this one.
+pub fn is_taken(names: &[Text], name: &[u8]) -> bool
     ensures { result ≡ list_any (is_one name.now) names.now }
 {
     for taken in names {
@@ -121,11 +122,14 @@ pub fn put_notes(
     header: &ByteRecord,
     names: &[Text],
     notes: &mut Vec<u8>,
-) -> Result<(), NoMemory> {
-    for i in 0..names.len() {
-        if let Some(cell) = header.get(i) {
-            put_note(path, i as u64 + 1, cell, names[i].slice(), notes)?;
-        }
+) -> Result<(), NoMemory>
+    ensures { OnOk result (notes.new.items ≡ notes.old.items ++ header_notes path.now (fields_of header.now) names.now) }
+{
+    'names: for i in 0..names.len() {
+        let Some(cell) = header.get(i) else {
+            return Ok(());
+        };
+        put_note(path, i as u64 + 1, cell, names[i].slice(), notes)?;
     }
     Ok(())
 }
@@ -136,7 +140,9 @@ fn put_note(
     cell: &[u8],
     name: &[u8],
     notes: &mut Vec<u8>,
-) -> Result<(), NoMemory> {
+) -> Result<(), NoMemory>
+    ensures { OnOk result (notes.new.items ≡ notes.old.items ++ note path.now number cell.now name.now) }
+{
     if cell == name {
         return Ok(());
     }

@@ -1,9 +1,10 @@
 //! Why no table is printed: the status, and the line that tells of it.
 ghost use Rattle.std.specs.Prelude.{◌≡◌, ◌++◌, OnOk};
-ghost use Rattle.kl_tidy.specs.Refusals.{refusal_line, refusal_status};
+ghost use Rattle.kl_tidy.specs.Refusals.{place_text, refusal_line, refusal_status, wrong_text};
 ghost use Rattle.kl_tidy.specs.declared.refusal.Refusal.TheVariants.{NoMemory as WantOfMemory};
 
-use crate::writing::put;
+use crate::columns::Wrong;
+use crate::writing::{put, put_quoted};
 use itoa::Buffer;
 use kl_base::{NoMemory, Text};
 
@@ -15,8 +16,8 @@ pub const OUT_OF_MEMORY: &[u8] = b"out of memory\n";
 pub enum Refusal {
     /// The words name no table.
     Usage,
-    /// The file at this path is no table: the record of this number is bad, the header being 0.
-    BadFile { path: Text, record: u64 },
+    /// The file at this path is no table as the words name it: so it is wrong first.
+    BadFile { path: Text, wrong: Wrong },
     /// The file is missing or could not be read.
     Read,
     /// `out` refused a write.
@@ -57,12 +58,15 @@ pub fn put_line(refusal: &Refusal, page: &mut Vec<u8>) -> Result<(), NoMemory>
     ensures { OnOk result (page.new.items ≡ page.old.items ++ refusal_line refusal.now) }
 {
     match refusal {
-        Refusal::Usage => put(b"usage: kltable [--from tab|semicolon] FILE\n", page),
-        Refusal::BadFile { path, record } => {
+        Refusal::Usage => put(
+            b"usage: kltable [--from tab|semicolon] [--missing COLUMN VALUE] [--scale COLUMN N] FILE\n",
+            page,
+        ),
+        Refusal::BadFile { path, wrong } => {
             put(b"source ", page)?;
             put(path.slice(), page)?;
-            put(b": bad at ", page)?;
-            put(Buffer::new().format(*record).as_bytes(), page)?;
+            put(b": ", page)?;
+            put_wrong(wrong, page)?;
             put(b"\n", page)
         }
         Refusal::Read => put(b"read fault\n", page),
@@ -70,4 +74,34 @@ pub fn put_line(refusal: &Refusal, page: &mut Vec<u8>) -> Result<(), NoMemory>
         Refusal::NoMemory => put(OUT_OF_MEMORY, page),
         Refusal::FileBytes => put(b"limit: file bytes\n", page),
     }
+}
+
+fn put_wrong(wrong: &Wrong, page: &mut Vec<u8>) -> Result<(), NoMemory>
+    ensures { OnOk result (page.new.items ≡ page.old.items ++ wrong_text wrong.now) }
+{
+    match wrong {
+        Wrong::Record(number) => put_place(*number, page),
+        Wrong::Column(column) => {
+            put(b"no column ", page)?;
+            put_quoted(column.slice(), page)
+        }
+        Wrong::Cell {
+            record,
+            column,
+            cell,
+        } => {
+            put_place(*record, page)?;
+            put(b" in ", page)?;
+            put(column.slice(), page)?;
+            put(b": ", page)?;
+            put_quoted(cell.slice(), page)
+        }
+    }
+}
+
+fn put_place(number: u64, page: &mut Vec<u8>) -> Result<(), NoMemory>
+    ensures { OnOk result (page.new.items ≡ page.old.items ++ place_text number) }
+{
+    put(b"bad at ", page)?;
+    put(Buffer::new().format(number).as_bytes(), page)
 }

@@ -1,27 +1,22 @@
-//! The text of a table.
+//! The text of a table, and of lines that tell of it.
 ghost use Rattle.std.specs.Prelude.{◌≡◌, ◌++◌, IfOk, OnOk};
-ghost use Rattle.std.specs.List.{flat_map};
 ghost use Rattle.csv.specs.Records.{fields_of};
 ghost use Rattle.csv.specs.Writing.{default_writer, row_text};
+ghost use Rattle.kl_tidy.specs.Writing.{quoted, shown};
 
 use csv::{ByteRecord, WriterBuilder};
 use kl_base::{NoMemory, Text};
 use std::alloc::Global;
 
-/// The text of a table with this header and these rows: cells with commas between them, each in quotes where it has a
-/// comma, a quote or an end of line.
+/// The text of a record of these cells, with commas between them, each in quotes where it has a comma, a quote or an end
+/// of line.
 ///
 /// # Errors
 /// Want of memory.
-pub fn text_of(alloc: Global, header: &[Text], rows: &[ByteRecord]) -> Result<Text, NoMemory>
-    ensures { IfOk result (λ page. page ≡ row_text default_writer header.now ++ flat_map (λ row. row_text default_writer (fields_of row)) rows.now) }
+pub fn names_line(alloc: Global, names: &[Text]) -> Result<Vec<u8>, NoMemory>
+    ensures { IfOk result (λ line. line.items ≡ row_text default_writer names.now) }
 {
-    let mut page = line_of(alloc, &record_of(alloc, header)?)?;
-    for row in rows {
-        let line = line_of(alloc, row)?;
-        put(&line, &mut page)?;
-    }
-    Ok(Text::of(page))
+    line_of(alloc, &record_of(alloc, names)?)
 }
 
 fn record_of(alloc: Global, cells: &[Text]) -> Result<ByteRecord, NoMemory>
@@ -34,8 +29,11 @@ fn record_of(alloc: Global, cells: &[Text]) -> Result<ByteRecord, NoMemory>
     Ok(record)
 }
 
-// The text of a record.
-fn line_of(alloc: Global, row: &ByteRecord) -> Result<Vec<u8>, NoMemory>
+/// The text of a record.
+///
+/// # Errors
+/// Want of memory.
+pub fn line_of(alloc: Global, row: &ByteRecord) -> Result<Vec<u8>, NoMemory>
     ensures { IfOk result (λ line. line.items ≡ row_text default_writer (fields_of row.now)) }
 {
     let mut writer = WriterBuilder::new().from_writer(Vec::new(alloc));
@@ -53,19 +51,26 @@ fn line_of(alloc: Global, row: &ByteRecord) -> Result<Vec<u8>, NoMemory>
 ///
 /// # Errors
 /// Want of memory.
-pub fn put_quoted(text: &[u8], page: &mut Vec<u8>) -> Result<(), NoMemory> {
+pub fn put_quoted(text: &[u8], page: &mut Vec<u8>) -> Result<(), NoMemory>
+    ensures { OnOk result (page.new.items ≡ page.old.items ++ quoted text.now) }
+{
     put(b"\"", page)?;
     for byte in text {
-        if *byte == b'"' || *byte == b'\\' {
-            put(b"\\", page)?;
-        }
-        if *byte < 32 || *byte == 127 {
-            put(b"?", page)?;
-        } else {
-            put(&[*byte], page)?;
-        }
+        put_shown(*byte, page)?;
     }
     put(b"\"", page)
+}
+
+fn put_shown(byte: u8, page: &mut Vec<u8>) -> Result<(), NoMemory>
+    ensures { OnOk result (page.new.items ≡ page.old.items ++ shown byte) }
+{
+    if byte == b'"' || byte == b'\\' {
+        put(&[b'\\', byte], page)
+    } else if byte < 32 || byte == 127 {
+        put(b"?", page)
+    } else {
+        put(&[byte], page)
+    }
 }
 
 /// Puts a piece behind a page.

@@ -1,14 +1,14 @@
-use Rattle.std.proofs.Common.{◌∙◌, ◌++◌, ap, map, sym}
-use Rattle.std.specs.List.{flat_map}
+use Rattle.std.proofs.Common.{◌∙◌, ◌++◌, IfOk, map, subst}
 use Rattle.csv.specs.Records.{fields_of}
-use Rattle.csv.specs.Writing.{default_writer, row_text}
-use Rattle.kl_tidy.proofs.Copied.{copy_of, texts_of}
+use Rattle.kl_tidy.specs.Naming.{header_notes}
+use Rattle.kl_tidy.specs.Tables.{FindsBelow}
+use Rattle.kl_tidy.proofs.Copied.{found_more}
 use Rattle.kl_tidy.proofs.table.found_under.Goals as goal
 
-pub returns-in_ok-text_of-in-None : goal.returns-in_ok-text_of-in-None
-returns-in_ok-text_of-in-None c =
-    let names = c.in_ok-names-in-None.names.items in
-    let none = sym c.bad_under.ensures ∙ c.in-None.is in
-    let named = c.in_ok-names-in-None.ensures in
-    let text = c.in_ok-text_of-in-None.ensures ∙ ap (λ ns. row_text default_writer ns ++ flat_map (λ row. row_text default_writer (fields_of row)) c.args.rows.now) c.deref-in-None.ensures.value ∙ ap (λ t. row_text default_writer names ++ t) (texts_of c.args.rows.now) in
-    copy_of (fields_of c.args.header.now) (map fields_of c.args.rows.now) names c.in_ok-text_of-in-None.field-0 none named text
+pub returns : goal.returns
+returns c =
+    let header = fields_of c.args.header.now in
+    let rows = map fields_of c.args.rows.now in
+    found_more c.found_below.result c.args.command.now header c.in_ok-names.names.items rows c.put_notes.new.notes.items c.in_ok-names.ensures
+    (c.in_ok-put_notes.ensures ∙ (λ j. c.requires j ++ header_notes (c.slice.ensures j) header (c.deref.ensures.value j)))
+    (subst (λ names. IfOk c.found_below.result (FindsBelow c.args.command.now names rows)) c.deref-2.ensures.value c.found_below.ensures)
