@@ -134,10 +134,6 @@ found_so command bytes header rows notes found reads under = by (rows_printed co
     })
     by (Err w) is f below = subst (Finds command bytes notes) below (record { records = header ∷ rows; names = under.names; table = table; refused = is })
 
--- a table without records
-pub no_header : (command : Command) (bytes : List ℕ) → AreRecords (config_of command.delimiter) state.StartRecord (strip_bom bytes) [] → Finds command bytes [] (found.Wrong (wrong.Record 0))
-no_header command bytes reads = record { records = []; names = []; table = record { reads = reads; named = tt; noted = refl }; refused = refl }
-
 -- the same of what a call answers
 pub found_all : {E : Type 0} (r : Result Found E) (command : Command) (bytes : List ℕ) (header : Record) (rows records : List Record) (notes : List ℕ)
     → AreRecords (config_of command.delimiter) state.StartRecord (strip_bom bytes) records → records ≡ header ∷ rows → IfOk r (FindsUnder command header rows notes) → IfOk r (Finds command bytes notes)

@@ -26,15 +26,8 @@ as_well cells = Ok cells
 abbrev pub as_wrong : Wrong → Result Record Wrong
 as_wrong w = Err w
 
-abbrev all_well : List Record → Result (List Record) Wrong
-all_well rows = Ok rows
-
 abbrev pub none_well : Wrong → Result (List Record) Wrong
 none_well w = Err w
-
-pub behind_none : {A : Type 0} (r : Result (List A) Wrong) → r ≡ behind [] r
-behind_none (Ok xs) = refl
-behind_none (Err w) = refl
 
 behind_one : {A : Type 0} (done : List A) (x : A) (r : Result (List A) Wrong) → behind done (and_then x r) ≡ behind (done ++ x ∷ []) r
 behind_one done x (Ok xs) = ap (λ ys. Ok ys) (sym (append_assoc done (x ∷ []) xs))
@@ -76,22 +69,12 @@ cell_wrong columns n row i column cell old new at less is adds so_far =
     so_far ∙ ap (behind old) (next_cell columns n row i column cell at less is)
     ∙ wrong_there (cell_printed column cell) old new column n cell (cells_printed (drop (i + 1) columns) n (drop (i + 1) row)) adds
 
--- all cells
-pub cells_all : (columns : List Column) (n : ℕ) (row rest done : Record) → cells_printed columns n row ≡ behind done (cells_printed [] n rest) → cells_printed columns n row ≡ Ok done
-cells_all columns n row rest done so_far = so_far ∙ ap (λ cells. as_well cells) (append-nil done)
-
 -- a record of as many cells as columns
 pub record_level : (columns : List Column) (n : ℕ) (row : Record) (made : Result Record Wrong) → length row ≡ length columns → cells_printed columns n row ≡ made → made ≡ record_printed columns n row
 record_level columns n row made level is = sym is ∙ ap (λ b. cond b (cells_printed columns n row) (Err (wrong.Record n))) (sym (same (length row) (length columns) level))
   where
     same : (a b : ℕ) → a ≡ b → (a == b) ≡ true
     same a b e = grind (arith, nat_tests, e)
-
-pub record_uneven : (columns : List Column) (n : ℕ) (row : Record) → (length row ≡ length columns → ⊥) → Err (wrong.Record n) ≡ record_printed columns n row
-record_uneven columns n row uneven = ap (λ b. cond b (cells_printed columns n row) (Err (wrong.Record n))) (sym (apart (length row) (length columns) uneven))
-  where
-    apart : (a b : ℕ) → (a ≡ b → ⊥) → (a == b) ≡ false
-    apart a b e = grind (arith, nat_tests, e)
 
 -- ---- records
 
@@ -110,17 +93,6 @@ record_more columns n rows i row made done all less is well so_far =
     so_far ∙ ap (behind done) (next_record columns n rows i row less is)
     ∙ (λ j. behind done (by_record (records_printed columns (n + 1) (map fields_of (drop (i + 1) rows))) (sym well j)))
     ∙ behind_one done made (records_printed columns (n + 1) (map fields_of (drop (i + 1) rows)))
-
--- a record that is wrong
-pub record_wrong : (columns : List Column) (n : ℕ) (rows : List Row) (i : ℕ) (row : Row) (w : Wrong) (done : List Record) (all : Result (List Record) Wrong) → i < length rows → row ≡ get_or rows i row
-    → as_wrong w ≡ record_printed columns n (fields_of row) → all ≡ behind done (records_printed columns n (map fields_of (drop i rows))) → all ≡ Err w
-record_wrong columns n rows i row w done all less is why so_far =
-    so_far ∙ ap (behind done) (next_record columns n rows i row less is)
-    ∙ (λ j. behind done (by_record (records_printed columns (n + 1) (map fields_of (drop (i + 1) rows))) (sym why j)))
-
--- all records
-pub records_all : (columns : List Column) (n : ℕ) (done : List Record) (all : Result (List Record) Wrong) → all ≡ behind done (records_printed columns n []) → all ≡ Ok done
-records_all columns n done all so_far = so_far ∙ ap all_well (append-nil done)
 
 -- the text of one record more
 pub text_more : (names made : Record) (done : List Record) → table_text (names ∷ done) ++ row_text default_writer made ≡ table_text (names ∷ (done ++ made ∷ []))
