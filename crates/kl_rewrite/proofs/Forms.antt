@@ -262,6 +262,7 @@ module _ {L : Type 0} (at : L → ℕ → Option Tree) (with : L → ℕ → Tre
           trail = k.step.trail;
           path = k.step.path ∙ ap (λ m. m ∷ k.step.trail) (omega arith);
           settled = k.step.settled;
+          along = k.step.along;
         };
       }
 

@@ -3,6 +3,7 @@ pub mod Sizes
 pub mod Searching
 pub mod StepLaws
 pub mod RuleForms
+pub mod Beyond
 pub mod OnePlace
 pub mod Trails
 pub mod Parts

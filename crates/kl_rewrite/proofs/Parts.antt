@@ -1,11 +1,11 @@
 -- The search in the parts of a term, one after the other.
-use Rattle.std.proofs.Common.{◌≡◌, ℕ, zero, suc, ◌+◌, ◌≤◌, ◌<◌, Bool, true, false, List, [], ◌∷◌, reverse, Option, Some, None, Result, Ok, Err, IfOk, refl, sym, ap, subst, ◌∙◌, arith, ⊎_elim, true≢false}
+use Rattle.std.proofs.Common.{◌≡◌, ℕ, zero, suc, ◌+◌, ◌≤◌, ◌<◌, Bool, true, false, List, [], ◌∷◌, reverse, Option, Some, Result, Ok, Err, IfOk, refl, sym, ap, subst, ◌∙◌, arith, ⊎_elim, true≢false}
 use Rattle.std.specs.Bool.{⊤}
 use Rattle.std.proofs.lemmas.Option.{same_Some}
 use Rattle.std.proofs.lemmas.Bool.{cases_lt}
 use Rattle.kl_base.specs.declared.memory.NoMemory.{NoMemory}
 use Rattle.kl_core.specs.declared.term.Term.{Term}
-use Rattle.kl_core.specs.Trees.{Tree, Var, Const, Source, Rec, Proj, Inj, Case, Make, Union, Ext, If, Let, Prim, Trees, no_trees, trees, Parts, no_parts, parts, Arms, no_arms, rest, arm}
+use Rattle.kl_core.specs.Trees.{view, Tree, Var, Const, Source, Rec, Proj, Inj, Case, Make, Union, Ext, If, Let, Prim, Trees, no_trees, trees, Parts, no_parts, parts, Arms, no_arms, rest, arm}
 use Rattle.kl_core.specs.Leaves.{Leaves, LeavesOfTrees, LeavesOfParts, LeavesOfArms}
 use Rattle.kl_core.specs.Positions.{AnySource}
 use Rattle.kl_core.specs.Counts.{nodes_of, depth_of}
@@ -14,10 +14,11 @@ use Rattle.kl_rules.specs.Rewriting.{IsLowPosition}
 use Rattle.kl_rewrite.specs.declared.place.Allowance.{Allowance}
 use Rattle.kl_rewrite.specs.declared.search.Search.{Search}
 use Rattle.kl_rewrite.specs.Places.{tree_at, field_at, arm_at, part_at, with_part}
+use Rattle.kl_rewrite.specs.Beyond.{is_beyond}
 use Rattle.kl_rewrite.specs.Search.{IsQuiet, IsStill, Leads, IsSettled}
 use Rattle.kl_rewrite.specs.Searched.{IsSearchable, KeepsRoom, Found, Passes, StepsIn, Searched, IsTraced, IsReady, IsOpen, StepsInPart, SearchedPart, AreOpen, PassesAll, StepsInOne, SearchedAll, AfterNone, Behind}
 use Rattle.kl_rewrite.proofs.Sizes.{nodes_part, put_back, inside}
-use Rattle.kl_rewrite.proofs.Searching.{quieter, settled_less, leads_in, settled_in, quiet_whole}
+use Rattle.kl_rewrite.proofs.Searching.{quieter, still_at, settled_less, leads_in, settled_in, quiet_whole}
 
 -- ---- what is known goes on
 
@@ -93,6 +94,7 @@ module _ {L : Type 0} (at : L → ℕ → Option Tree) where
           trail = p.trail;
           path = p.path;
           settled = p.settled;
+          along = p.along;
         };
       }
 
@@ -178,20 +180,16 @@ parts_open level t trail s v h k e = record {
       λ q. settled_less s.allowance.calm v.allowance.calm (level + 1) b r k.lower (g.1 b (ap (part_at t) (sym q) ∙ f)),
     )
 
-still_less : (room less level : ℕ) (t : Tree) → less ≤ room → IsStill room level t → IsStill less level t
-still_less room less level t h s i u m =
-    s i u (record { before = m.before; after = m.after; stands = m.stands; rewrites = m.rewrites; whole = m.whole; small = omega (arith, h, m.small); shallow = m.shallow })
-
 term_passes : (level : ℕ) (t u : Tree) (s v w : Search) → KeepsRoom s.allowance v.allowance → IsStill v.allowance.calm level t → PassesAll part_at (level + 1) t u v w → Passes level t u s w
 term_passes level t u s v w k still p = record {
   same = p.same;
   path = p.path;
   keeps = keeps_both s v w k p.keeps;
-  quiet = quiet_whole w.allowance.calm level t (still_less v.allowance.calm w.allowance.calm level t p.keeps.lower still) p.quiet;
+  quiet = quiet_whole w.allowance.calm level t (still_at v.allowance.calm w.allowance.calm level t p.keeps.lower still) p.quiet;
 }
 
-term_steps : (level : ℕ) (t u : Tree) (s v w : Search) → KeepsRoom s.allowance v.allowance → IsStill v.allowance.calm level t → StepsInOne part_at with_part (level + 1) 0 t u v w → StepsIn level t u s w
-term_steps level t u s v w k still p =
+term_steps : (level : ℕ) (t u : Tree) (s v w : Search) → level + depth_of t ≤ 512 → KeepsRoom s.allowance v.allowance → IsStill v.allowance.calm level t → StepsInOne part_at with_part (level + 1) 0 t u v w → StepsIn level t u s w
+term_steps level t u s v w deep k still p =
     let room : v.allowance.room ≡ s.allowance.room = k.room in
     let lower : v.allowance.calm ≤ s.allowance.calm = k.lower in
     let first : s.allowance.room ≤ v.allowance.calm = k.least in
@@ -201,7 +199,7 @@ term_steps level t u s v w k still p =
     let many : nodes_of (with_part t p.index p.after) + nodes_of p.before ≡ nodes_of t + nodes_of p.after = nodes_part p.before p.after t p.index p.stands in
     let now : nodes_of u ≡ nodes_of (with_part t p.index p.after) = ap nodes_of p.whole in
     let step = leads_in v.allowance.room level t p.before p.after p.index
-    (still_less v.allowance.calm v.allowance.room level t (omega (arith, room, first)) still)
+    (still_at v.allowance.calm v.allowance.room level t (omega (arith, room, first)) still)
     (λ j b l f. quieter w.allowance.calm v.allowance.room (level + 1) b least (p.quiet j b l f)) p.stands p.step.leads in
     record {
       leads = subst (λ r. Leads r level t u) room (subst (Leads v.allowance.room level t) (sym p.whole) step);
@@ -209,17 +207,49 @@ term_steps level t u s v w k still p =
       settled =
           subst (λ x. IsSettled w.allowance.calm level x (reverse w.path.items)) (sym p.whole)
           (subst (IsSettled w.allowance.calm level (with_part t p.index p.after)) (sym (p.step.path ∙ ap (λ n. n ∷ p.step.trail) (omega arith)))
-          (settled_in w.allowance.calm level t p.before p.after p.index p.step.trail p.stands p.quiet p.step.settled));
+          (settled_in w.allowance.calm level t p.before p.after p.index p.step.trail p.stands p.quiet p.step.settled
+          deep (still_at v.allowance.calm w.allowance.calm level t less still) p.step.along));
+      along = λ j r e. (p.after, p.whole ∙ ap (λ n. with_part t n p.after) (same_number j r (sym e ∙ p.step.path)));
+    }
+  where
+    same_number : (j : ℕ) (r : List ℕ) → j ∷ r ≡ (0 + p.index) ∷ p.step.trail → p.index ≡ j
+    same_number j r e = let same : j ≡ 0 + p.index = cc in omega (arith, same)
+
+pub found_nothing : (level : ℕ) (t u : Term) (b : Bool) (w v : Allowance) → b ≡ false → Found level t u b w v → (u ≡ t) × KeepsRoom w v × IsStill v.calm level (view t)
+found_nothing level t u b w v e h = subst (λ c. Found level t u c w v) e h
+
+-- before the search in the parts of a term at which nothing was made
+pub parts_behind : (level : ℕ) (t u : Term) (b : Bool) (trail : List ℕ) (s v : Search) → IsTraced level (view t) trail s → b ≡ false → Found level t u b s.allowance v.allowance → v.path.items ≡ s.path.items
+    → AreOpen part_at (level + 1) 0 (view u) trail v
+parts_behind level t u b trail s v h e f path =
+    let g = found_nothing level t u b s.allowance v.allowance e f in
+    subst (λ x. AreOpen part_at (level + 1) 0 (view x) trail v) (sym g.0) (parts_open level (view t) trail s v h g.1 path)
+
+pub term_searched : (level : ℕ) (t x : Term) (u : Tree) (b : Bool) (trail : List ℕ) (r : Result Bool NoMemory) (s v w : Search) → IsTraced level (view t) trail s → b ≡ false → Found level t x b s.allowance v.allowance
+    → IfOk r (λ c. SearchedAll part_at with_part (level + 1) 0 (view x) u c v w) → IfOk r (λ c. Searched level (view t) u c s w)
+term_searched level t x u b trail (Ok true) s v w o e f h =
+    let g = found_nothing level t x b s.allowance v.allowance e f in
+    term_steps level (view t) u s v w o.searchable.shallow g.1 g.2 (subst (λ y. StepsInOne part_at with_part (level + 1) 0 (view y) u v w) g.0 h)
+term_searched level t x u b trail (Ok false) s v w o e f h =
+    let g = found_nothing level t x b s.allowance v.allowance e f in
+    term_passes level (view t) u s v w g.1 g.2 (subst (λ y. PassesAll part_at (level + 1) (view y) u v w) g.0 h)
+term_searched level t x u b trail (Err e) s v w o is f h = tt
+
+-- the step at the term itself
+pub term_stepped : (level : ℕ) (t u : Term) (b : Bool) (s v : Search) → b ≡ true → v.path.items ≡ [] → Found level t u b s.allowance v.allowance → StepsIn level (view t) (view u) s v
+term_stepped level t u b s v e path h =
+    let g = subst (λ c. Found level t u c s.allowance v.allowance) e h in
+    record {
+      leads = g.0;
+      leaves = g.1;
+      settled = subst (λ p. IsSettled v.allowance.calm level (view u) (reverse p)) (sym path) tt;
+      along = λ i q f. absurd (let none : [] ≡ i ∷ q = sym (ap reverse path) ∙ f in cc);
     }
 
-pub found_nothing : (level : ℕ) (t : Tree) (o : Option Term) (w v : Allowance) → o ≡ None → Found level t o w v → KeepsRoom w v × IsStill v.calm level t
-found_nothing level t o w v e h = subst (λ q. Found level t q w v) e h
-
-pub term_searched : (level : ℕ) (t u : Tree) (o : Option Term) (r : Result Bool NoMemory) (s v w : Search) → o ≡ None → Found level t o s.allowance v.allowance → IfOk r (λ b. SearchedAll part_at with_part (level + 1) 0 t u b v w)
-    → IfOk r (λ b. Searched level t u b s w)
-term_searched level t u o (Ok true) s v w e f h = let g = found_nothing level t o s.allowance v.allowance e f in term_steps level t u s v w g.0 g.1 h
-term_searched level t u o (Ok false) s v w e f h = let g = found_nothing level t o s.allowance v.allowance e f in term_passes level t u s v w g.0 g.1 h
-term_searched level t u o (Err x) s v w e f h = tt
+-- what is known at a node that the trail leads beyond
+pub still_beyond : (calm level : ℕ) (t : Tree) (r : List ℕ) → IsSettled calm level t r → is_beyond r t ≡ true → IsStill calm level t
+still_beyond calm level t [] s h = absurd cc
+still_beyond calm level t (i ∷ r) s h = s.2 h
 
 -- ---- the parts of a term, as far as a number
 

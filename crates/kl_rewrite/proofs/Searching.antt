@@ -1,13 +1,16 @@
 -- How a search goes from a term into its parts, and from the root of the whole.
-use Rattle.std.proofs.Common.{◌≡◌, ◌≢◌, ◌⊎◌, inl, inr, ℕ, zero, suc, ◌+◌, ◌-◌, ◌≤◌, ◌<◌, List, [], ◌∷◌, Option, Some, None, option_and_then, refl, sym, ap, ap₂, subst, ◌∙◌, arith, ⊎_elim}
+use Rattle.std.proofs.Common.{true, ◌≡◌, ◌≢◌, ◌⊎◌, inl, inr, ℕ, zero, suc, ◌+◌, ◌-◌, ◌≤◌, ◌<◌, List, [], ◌∷◌, Option, Some, None, option_and_then, refl, sym, ap, ap₂, subst, ◌∙◌, arith, ⊎_elim}
 use Rattle.std.proofs.lemmas.Option.{same_Some}
 use Rattle.std.proofs.lemmas.Bool.{cases_lt, cases_eq}
 use Rattle.kl_core.specs.Trees.{Tree, Var, Const, Source, Rec, Proj, Inj, Case, Make, Union, Ext, If, Let, Prim, Trees, no_trees, trees, Parts, no_parts, parts, Arms, no_arms, rest, arm}
 use Rattle.kl_core.specs.Counts.{nodes_of, depth_of}
 use Rattle.kl_rewrite.specs.Places.{tree_at, field_at, arm_at, part_at, with_tree, with_field, with_arm, with_part, Place, stands_at, in_part, with_at}
+use Rattle.kl_rewrite.specs.Beyond.{beyond_parts, is_beyond}
+use Rattle.kl_rewrite.specs.Searched.{IsAlong}
 use Rattle.kl_rewrite.specs.Steps.{IsWithin, Makes, IsFirst, Step, IsNormal}
 use Rattle.kl_rewrite.specs.Search.{Made, IsQuiet, IsStill, Leads, IsSettled}
 use Rattle.kl_rewrite.proofs.Sizes.{nodes_place, depth_place}
+use Rattle.kl_rewrite.proofs.Beyond.{beyond_still}
 
 -- ---- the whole
 
@@ -66,9 +69,17 @@ normal_of t w q p i u m = q p i u (made_of t p i u w m)
 pub quieter : (room less level : ℕ) (t : Tree) → less ≤ room → IsQuiet room level t → IsQuiet less level t
 quieter room less level t h q p i u m = q p i u (record { before = m.before; after = m.after; stands = m.stands; rewrites = m.rewrites; whole = m.whole; small = omega (arith, h, m.small); shallow = m.shallow })
 
+pub still_at : (room less level : ℕ) (t : Tree) → less ≤ room → IsStill room level t → IsStill less level t
+still_at room less level t h s i u m =
+    s i u (record { before = m.before; after = m.after; stands = m.stands; rewrites = m.rewrites; whole = m.whole; small = omega (arith, h, m.small); shallow = m.shallow })
+
 pub settled_less : (room less level : ℕ) (t : Tree) (r : List ℕ) → less ≤ room → IsSettled room level t r → IsSettled less level t r
 settled_less room less level t [] h s = tt
-settled_less room less level t (i ∷ r) h s = (λ j b l e. quieter room less (level + 1) b h (s.0 j b l e), λ a e. settled_less room less (level + 1) a r h (s.1 a e))
+settled_less room less level t (i ∷ r) h s = (
+  λ j b l e. quieter room less (level + 1) b h (s.0 j b l e),
+  λ a e. settled_less room less (level + 1) a r h (s.1 a e),
+  λ b. still_at room less level t h (s.2 b),
+)
 
 -- ---- into a part
 
@@ -259,8 +270,15 @@ other_part (Prim c ts) v a i j e n = other_tree ts v i j n
 
 -- after a step in a part the trail leads there, and the parts before it are as they were
 pub settled_in : (calm level : ℕ) (t a v : Tree) (i : ℕ) (r : List ℕ) → part_at t i ≡ Some a → ((j : ℕ) (b : Tree) → j < i → part_at t j ≡ Some b → IsQuiet calm (level + 1) b) → IsSettled calm (level + 1) v r
-    → IsSettled calm level (with_part t i v) (i ∷ r)
-settled_in calm level t a v i r e quiet s = (
+    → level + depth_of t ≤ 512 → IsStill calm level t → IsAlong a v r → IsSettled calm level (with_part t i v) (i ∷ r)
+settled_in calm level t a v i r e quiet s deep still along = (
   λ j b l f. quiet j b l (sym (other_part t v a i j e (λ g. omega (arith, l, g))) ∙ f),
   λ b f. subst (λ w. IsSettled calm (level + 1) w r) (same_Some v b (sym (this_part t v a i e) ∙ f)) s,
+  beyond r along,
 )
+  where
+    beyond : (q : List ℕ) → IsAlong a v q → is_beyond (i ∷ q) (with_part t i v) ≡ true → IsStill calm level (with_part t i v)
+    beyond [] g h = absurd cc
+    beyond (j ∷ q) g h =
+        let x = g j q refl in
+        subst (λ w. IsStill calm level (with_part t i w)) (sym x.1) (beyond_still calm level t a x.0 i j e deep still (subst (λ w. beyond_parts i j (with_part t i w) ≡ true) x.1 h))

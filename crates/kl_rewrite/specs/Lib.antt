@@ -1,5 +1,6 @@
 pub mod Places
 pub mod Steps
+pub mod Beyond
 pub mod Search
 pub mod RuleForms
 pub mod Searched

@@ -10,6 +10,7 @@ use Rattle.kl_core.specs.Counts.{nodes_of, depth_of}
 use Rattle.kl_rules.specs.Rewriting.{IsLowPosition}
 use Rattle.kl_rewrite.specs.declared.place.Allowance.{Allowance}
 use Rattle.kl_rewrite.specs.declared.search.Search.{Search}
+use Rattle.kl_rewrite.specs.Places.{with_part}
 use Rattle.kl_rewrite.specs.Search.{Made, IsQuiet, IsStill, Leads, IsSettled}
 
 -- ---- at one place
@@ -32,15 +33,20 @@ pub record LeavesRoom (t u : Tree) (w v : Allowance) : Type 0 where
   pub least : w.room ≤ v.calm
   pub lower : v.calm ≤ w.calm
 
--- one rule tried: what it makes, or that it makes nothing
-abbrev pub Tried : ℕ → ℕ → Tree → Option Term → Allowance → Allowance → Type 0
-Tried level n t (Some u) w v = Made w.room level t [] n (view u) × LeavesRoom t (view u) w v × (v.calm ≡ w.calm)
-Tried level n t None w v = KeepsRoom w v × ((u : Tree) → Made v.calm level t [] n u → ⊥)
+-- what one rule makes, or that it makes nothing
+abbrev pub Given : ℕ → ℕ → Tree → Option Term → Allowance → Allowance → Type 0
+Given level n t (Some u) w v = Made w.room level t [] n (view u) × LeavesRoom t (view u) w v × (v.calm ≡ w.calm)
+Given level n t None w v = KeepsRoom w v × ((u : Tree) → Made v.calm level t [] n u → ⊥)
+
+-- one rule tried: it is made, or nothing is
+abbrev pub Tried : ℕ → ℕ → Term → Term → Bool → Allowance → Allowance → Type 0
+Tried level n t u true w v = Made w.room level (view t) [] n (view u) × LeavesRoom (view t) (view u) w v × (v.calm ≡ w.calm)
+Tried level n t u false w v = (u ≡ t) × KeepsRoom w v × ((x : Tree) → Made v.calm level (view t) [] n x → ⊥)
 
 -- all rules tried: what the lowest makes that makes anything
-abbrev pub Found : ℕ → Tree → Option Term → Allowance → Allowance → Type 0
-Found level t (Some u) w v = Leads w.room level t (view u) × LeavesRoom t (view u) w v
-Found level t None w v = KeepsRoom w v × IsStill v.calm level t
+abbrev pub Found : ℕ → Term → Term → Bool → Allowance → Allowance → Type 0
+Found level t u true w v = Leads w.room level (view t) (view u) × LeavesRoom (view t) (view u) w v
+Found level t u false w v = (u ≡ t) × KeepsRoom w v × IsStill v.calm level (view t)
 
 -- ---- in a part
 
@@ -51,11 +57,16 @@ pub record Passes (level : ℕ) (t u : Tree) (s s' : Search) : Type 0 where
   pub keeps : KeepsRoom s.allowance s'.allowance
   pub quiet : IsQuiet s'.allowance.calm level t
 
+-- only the first part on the way is another
+abbrev pub IsAlong : Tree → Tree → List ℕ → Type 0
+IsAlong t u p = (i : ℕ) (q : List ℕ) → p ≡ i ∷ q → (a : Tree) × (u ≡ with_part t i a)
+
 -- the first step is made, and the path leads to it
 pub record StepsIn (level : ℕ) (t u : Tree) (s s' : Search) : Type 0 where
   pub leads : Leads s.allowance.room level t u
   pub leaves : LeavesRoom t u s.allowance s'.allowance
   pub settled : IsSettled s'.allowance.calm level u (reverse s'.path.items)
+  pub along : IsAlong t u (reverse s'.path.items)
 
 abbrev pub Searched : ℕ → Tree → Tree → Bool → Search → Search → Type 0
 Searched level t u true s s' = StepsIn level t u s s'
@@ -92,6 +103,7 @@ pub record StepsInPart (level n : ℕ) (t u : Tree) (s s' : Search) : Type 0 whe
   pub trail : List ℕ
   pub path : reverse s'.path.items ≡ n ∷ trail
   pub settled : IsSettled s'.allowance.calm level u trail
+  pub along : IsAlong t u trail
 
 abbrev pub SearchedPart : ℕ → ℕ → Tree → Tree → Bool → Search → Search → Type 0
 SearchedPart level n t u true s s' = StepsInPart level n t u s s'

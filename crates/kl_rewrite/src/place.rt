@@ -2,11 +2,11 @@
 ghost use Rattle.std.specs.Prelude.{◌≡◌, ◌≤◌, IfOk};
 ghost use Rattle.kl_core.specs.Trees.{view};
 ghost use Rattle.kl_rewrite.specs.RuleForms.{first_rule, behind_rules};
-ghost use Rattle.kl_rewrite.specs.Searched.{IsSearchable, Tried, Found};
+ghost use Rattle.kl_rewrite.specs.Searched.{IsSearchable, Given, Tried, Found};
 
 use kl_base::NoMemory;
 use kl_core::{Term, depth, nodes};
-use kl_rules::rule;
+use kl_rules::{exchange, promote, rule};
 use std::alloc::Global;
 
 /// A term may nest so deep while it is rewritten.
@@ -21,24 +21,63 @@ pub struct Allowance {
 }
 
 impl Allowance {
-    /// What the lowest rule makes of the term, which stands at the level, where that keeps the limits.
-    pub fn find(&mut self, alloc: Global, term: &Term, level: u64) -> Result<Option<Term>, NoMemory>
-        requires searchable { IsSearchable self.old.room level (view term.now) }
+    /// Puts what the lowest rule makes of the term, which stands at the level, in its place, where that keeps the limits.
+    pub fn find(&mut self, alloc: Global, term: &mut Term, level: u64) -> Result<bool, NoMemory>
+        requires searchable { IsSearchable self.old.room level (view term.old) }
         requires least { self.old.room ≤ self.old.calm }
-        ensures { IfOk result (λ o. Found level (view term.now) o self.old self.new) }
+        ensures { IfOk result (λ b. Found level term.old term.new b self.old self.new) }
     {
         let (from, to) = numbers_of(term);
         'rules: for number in from..to {
-            match self.tried(alloc, number, term, level)? {
-                Some(next) => return Ok(Some(next)),
-                None => {}
+            if self.tried(alloc, number, term, level)? {
+                return Ok(true);
             }
         }
-        Ok(None)
+        Ok(false)
+    }
+
+    // Puts what the rule makes in place of the term, where that keeps the limits. The rules that move parts keep the number of
+    // nodes.
+    fn tried(
+        &mut self,
+        alloc: Global,
+        number: u8,
+        term: &mut Term,
+        level: u64,
+    ) -> Result<bool, NoMemory>
+        requires searchable { IsSearchable self.old.room level (view term.old) }
+        requires least { self.old.room ≤ self.old.calm }
+        ensures { IfOk result (λ b. Tried level number term.old term.new b self.old self.new) }
+    {
+        match number {
+            3 => promote(alloc, term, MOST_DEPTH - level),
+            17 => Ok(exchange(term, MOST_DEPTH - level)),
+            _ => self.replaced(alloc, number, term, level),
+        }
+    }
+
+    fn replaced(
+        &mut self,
+        alloc: Global,
+        number: u8,
+        term: &mut Term,
+        level: u64,
+    ) -> Result<bool, NoMemory>
+        requires searchable { IsSearchable self.old.room level (view term.old) }
+        requires least { self.old.room ≤ self.old.calm }
+        ensures { IfOk result (λ b. Tried level number term.old term.new b self.old self.new) }
+    {
+        match self.made(alloc, number, term, level)? {
+            Some(next) => {
+                *term = next;
+                Ok(true)
+            }
+            None => Ok(false),
+        }
     }
 
     // What the rule makes, where that keeps the limits.
-    fn tried(
+    fn made(
         &mut self,
         alloc: Global,
         number: u8,
@@ -47,7 +86,7 @@ impl Allowance {
     ) -> Result<Option<Term>, NoMemory>
         requires searchable { IsSearchable self.old.room level (view term.now) }
         requires least { self.old.room ≤ self.old.calm }
-        ensures { IfOk result (λ o. Tried level number (view term.now) o self.old self.new) }
+        ensures { IfOk result (λ o. Given level number (view term.now) o self.old self.new) }
     {
         let next = match rule(alloc, number, term)? {
             Some(next) => next,

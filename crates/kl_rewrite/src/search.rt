@@ -1,9 +1,10 @@
 //! The search for the first place at which a rule makes something.
-ghost use Rattle.std.specs.Prelude.{◌≡◌, ◌^◌, ◌<◌, IfOk, length};
+ghost use Rattle.std.specs.Prelude.{◌≡◌, ◌^◌, ◌<◌, IfOk, length, reverse, true};
 ghost use Rattle.std.specs.Option.{option_copied, option_map};
 ghost use Rattle.kl_core.specs.Trees.{view, rest_of, trees_view, parts_view};
 ghost use Rattle.kl_rewrite.specs.Places.{tree_at, field_at, arm_at, part_at, with_tree, with_field, with_arm, with_part};
-ghost use Rattle.kl_rewrite.specs.Searched.{IsTraced, Searched, IsOpen, IsTrailIn, SearchedPart, AreOpen, SearchedAll, AfterNone, Behind};
+ghost use Rattle.kl_rewrite.specs.Beyond.{is_beyond, stays_tested, stays_drawn, behind_test};
+ghost use Rattle.kl_rewrite.specs.Searched.{Found, IsTraced, Searched, IsOpen, IsTrailIn, SearchedPart, AreOpen, SearchedAll, AfterNone, Behind};
 
 use crate::place::Allowance;
 use kl_base::{Box, NoMemory};
@@ -27,13 +28,22 @@ impl Search {
         requires traced { IsTraced level (view term.old) trail.now self.old }
         ensures { IfOk result (λ b. Searched level (view term.old) (view term.new) b self.old self.new) }
     {
-        match self.allowance.find(self.alloc, term, level)? {
-            Some(next) => {
-                *term = next;
-                Ok(true)
-            }
-            None => self.parts(term, trail, level + 1),
+        if self.here(term, trail, level)? {
+            return Ok(true);
         }
+        self.parts(term, trail, level + 1)
+    }
+
+    // At the term itself. Where the last step was made beyond what the rules see there, none fits that did not before it.
+    fn here(&mut self, term: &mut Term, trail: &[usize], level: u64) -> Result<bool, NoMemory>
+        requires traced { IsTraced level (view term.old) trail.now self.old }
+        ensures found { IfOk result (λ b. Found level term.old term.new b self.old.allowance self.new.allowance) }
+        ensures path { self.new.path ≡ self.old.path }
+    {
+        if is_beyond(term, trail) {
+            return Ok(false);
+        }
+        self.allowance.find(self.alloc, term, level)
     }
 
     // In the parts of a term, which stand at the level.
@@ -196,6 +206,50 @@ impl Search {
             }
         }
         Ok(false)
+    }
+}
+
+// Whether the trail leads beyond what the rules see at the term.
+fn is_beyond(term: &Term, trail: &[usize]) -> bool
+    ensures { result ≡ true → is_beyond (reverse trail.now) (view term.now) ≡ true }
+{
+    if trail.len() < 2 {
+        return false;
+    }
+    let first = trail[trail.len() - 1];
+    let second = trail[trail.len() - 2];
+    match term {
+        Term::If(test, inside, _) => {
+            first == 1 && stays_tested(test.get()) && is_behind_test(inside.get(), second)
+        }
+        Term::Ext(_, body, source) => {
+            first == 0 && stays_drawn(source.get()) && is_behind_test(body.get(), second)
+        }
+        _ => false,
+    }
+}
+
+fn stays_tested(test: &Term) -> bool
+    ensures { result ≡ stays_tested (view test.now) }
+{
+    !matches!(test, Term::Const(_) | Term::If(_, _, _))
+}
+
+fn stays_drawn(source: &Term) -> bool
+    ensures { result ≡ stays_drawn (view source.now) }
+{
+    !matches!(
+        source,
+        Term::Ext(_, _, _) | Term::If(_, _, _) | Term::Let(_, _)
+    )
+}
+
+fn is_behind_test(term: &Term, number: usize) -> bool
+    ensures { result ≡ behind_test (view term.now) number }
+{
+    match term {
+        Term::If(_, _, _) => number == 1,
+        _ => true,
     }
 }
 

@@ -5,6 +5,7 @@ use Rattle.kl_rewrite.proofs.place.Allowance.find.Given as goal
 
 abbrev pub invariant-rules : goal.invariant-rules
 invariant-rules l = record {
+  same : l.term ≡ l.initial.term;
   room : l.self.room ≡ l.initial.self.room;
   least : l.self.room ≤ l.self.calm;
   lower : l.self.calm ≤ l.initial.self.calm;

@@ -4,7 +4,7 @@ use Rattle.kl_core.specs.declared.term.Term.{the_lemmas}
 use Rattle.kl_core.specs.Trees.{Proj, Inj, Union, Ext, Let, view}
 use Rattle.kl_core.proofs.Views.{view_Proj, view_Inj, view_Union, view_Ext, view_Let}
 use Rattle.kl_rewrite.proofs.Trails.{passed_over}
-use Rattle.kl_rewrite.proofs.Parts.{parts_open, found_nothing, term_searched}
+use Rattle.kl_rewrite.proofs.Parts.{parts_behind, term_stepped, term_searched}
 use Rattle.kl_rewrite.proofs.Forms.{none_ok, no_leaf, made_ok, made_open, prim_ok, prim_open, record_ok, record_open, one_Proj, one_Inj, one_open, one_ok, two_Union, two_Ext, two_Let, two_open, two_next, two_ok, if_open, if_next, if_last, if_ok, case_open, case_branches, case_other, case_ok, rest_open, rest_ok, no_rest}
 use Rattle.kl_rewrite.proofs.Lists.{rest_lent, terms_begun, terms_open, terms_passed, terms_steps, terms_ended, fields_begun, fields_open, fields_passed, fields_steps, fields_ended}
 use Rattle.kl_rewrite.proofs.search.Search.+step.Goals as goal
@@ -12,13 +12,18 @@ use Rattle.kl_rewrite.proofs.search.Search.+step.Goals as goal
 pub step-parts-requires : goal.step-parts-requires
 step-parts-requires t c = (
   search (rules, the_lemmas, arith),
-  parts_open c.args.level (view c.args.term.now) c.args.trail.now c.args.self.now _ c.requires.traced
-      (found_nothing c.args.level (view c.args.term.now) c.in_ok-next.field-0 c.args.self.now.allowance c.find.new.self c.in-None.is c.in_ok-next.ensures).0 refl,
+  parts_behind c.args.level c.args.term.now c.here.new.term c.in_ok-here.field-0 c.args.trail.now c.args.self.now c.here.new.self c.requires.traced
+      c.if-branch.false c.in_ok-here.ensures.found (ap (λ p. p.items) c.here.ensures.path),
 )
 
-pub step-returns-in-None : goal.step-returns-in-None
-step-returns-in-None t c =
-    term_searched c.args.level (view c.args.term.now) _ c.in_ok-next.field-0 c.parts.result c.args.self.now _ c.parts.new.self c.in-None.is c.in_ok-next.ensures c.parts.ensures
+pub step-returns-then-branch : goal.step-returns-then-branch
+step-returns-then-branch t c =
+    term_stepped c.args.level c.args.term.now c.here.new.term c.in_ok-here.field-0 c.args.self.now c.here.new.self c.if-branch.true (ap (λ p. p.items) c.here.ensures.path ∙ c.requires.traced.path) c.in_ok-here.ensures.found
+
+pub step-returns : goal.step-returns
+step-returns t c =
+    term_searched c.args.level c.args.term.now c.here.new.term (view c.parts.new.term) c.in_ok-here.field-0 c.args.trail.now c.parts.result c.args.self.now c.here.new.self c.parts.new.self c.requires.traced c.if-branch.false
+    c.in_ok-here.ensures.found c.parts.ensures
 
 pub at-returns-in-None : goal.at-returns-in-None
 at-returns-in-None t c = passed_over c.args.level c.args.number (view c.args.part.now) c.args.trail.now (option_copied c.trail_in.result) c.args.self.now c.requires.ready c.trail_in.ensures (ap option_copied c.in-None.is)
