@@ -13,12 +13,3 @@ pub mod Shaping
 pub mod Fields
 pub mod Scoping
 pub mod ProgramScoping
-pub mod Occurring
-pub mod Siting
-pub mod Searching
-pub mod Settling
-pub mod Beginning
-pub mod Knowing
-pub mod Rounding
-pub mod Naming
-pub mod Listing

@@ -2,17 +2,9 @@
 //!
 //! A field of a definition's parameter may be a function: one that the body calls, or hands on to a call. A call of such
 //! a definition hands over a bare name in each of these fields. The definitions are in `specs/`: which fields are
-//! functions, shapes, meaning, typing and expansions. What is exported are laws and what a program is that keeps to the rules;
-//! which fields are functions is found by code already (`functions`). No command reads such programs yet.
+//! functions, shapes, meaning, typing and expansions. The functions here are laws; no command reads such programs yet.
 #![tactic(auto)]
 
-mod candidates;
-mod first;
-mod functions;
 mod laws;
-mod occurrences;
-mod program;
-mod variables;
 
 pub use laws::{expansion_laws, function_field_laws, scoping_laws};
-pub use program::HoScoped;
