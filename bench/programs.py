@@ -96,6 +96,7 @@ PROGRAMS = [
     ("235 and 235 conditions on paths of 26 fields", ["run"], fat(235, 26) + ";", None),
     ("60 generators before 60 conditions on the first, none of which holds", ["run"], promoted(60) + ";", None),
     ("160 and 160 of them", ["run"], promoted(160) + ";", None),
+    ("240 and 240 of them, generators and conditions", ["run"], promoted(240) + ";", None),
     ("`{1|` 256 times", ["check"], wrapped("1", "{1|", "}", 256) + ";", None),
     ("255 `case` in the branch, and 29,000 `+1` inside", ["check"], wrapped("1" + "+1" * 29000, "case <a=1> of <a=_> => ", " end", 255) + ";", None),
     ("256 groups, and 32,000 `+1` inside", ["check"], wrapped("1" + "+1" * 32000, "(", ")", 256) + ";", None),
