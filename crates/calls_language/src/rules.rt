@@ -1,14 +1,16 @@
-ghost use Rattle.std.specs.Prelude.{IfOk};
-ghost use Rattle.kl_core.specs.Trees.{view};
+ghost use Rattle.std.specs.Prelude.{◌≡◌, ◌≤◌, IfOk};
+ghost use Rattle.kl_value.specs.declared.Kind.TheVariants as kind;
+ghost use Rattle.kl_core.specs.Trees.{If, Make, no_trees, view};
+ghost use Rattle.kl_core.specs.Counts.{depth_of};
 ghost use Rattle.kl_rules.specs.Rewriting.{IsShiftable};
 
-use kl_base::{Box, NoMemory};
+use kl_base::{Box, NoMemory, Seq};
 use kl_core::Term;
 use kl_rules::{
-    RULES, rule, rule_1, rule_2, rule_3, rule_4, rule_5, rule_6, rule_7, rule_8, rule_9, rule_10,
-    rule_11, rule_12, rule_13, rule_14, rule_15, rule_16, rule_17, rule_laws,
+    RULES, exchange, promote, rule, rule_1, rule_2, rule_3, rule_4, rule_5, rule_6, rule_7, rule_8,
+    rule_9, rule_10, rule_11, rule_12, rule_13, rule_14, rule_15, rule_16, rule_17, rule_laws,
 };
-use kl_value::Value;
+use kl_value::{Kind, Value};
 use std::alloc::Global;
 use std::test::Fail;
 
@@ -81,6 +83,60 @@ fn are_tried(alloc: Global, term: &Term) -> Result<bool, Fail>
 fn all_tried(alloc: Global) -> Result<bool, Fail> {
     let term = bound_constant(alloc)?;
     are_tried(alloc, &term)
+}
+
+// The condition, behind which nothing is.
+fn tested(alloc: Global, test: Term, yes: Term) -> Result<Term, Fail>
+    ensures { IfOk result (λ t. view t ≡ If (view test) (view yes) (Make kind.Set no_trees)) }
+{
+    let nothing = Term::Make(Kind::Set, Seq::of(Vec::new(alloc)));
+    let test = Box::new(alloc, test)?;
+    let yes = Box::new(alloc, yes)?;
+    Ok(Term::If(test, yes, Box::new(alloc, nothing)?))
+}
+
+// A condition on a variable before a constant one.
+fn two_tests(alloc: Global) -> Result<Term, Fail>
+    ensures { IfOk result (λ t. depth_of (view t) ≤ 512) }
+{
+    let inner = tested(
+        alloc,
+        Term::Const(Value::Bool(true)),
+        Term::Const(Value::Int(1)),
+    )?;
+    tested(alloc, Term::Var(0), inner)
+}
+
+// A loop over a source whose body is under a constant condition.
+fn tested_loop(alloc: Global) -> Result<Term, Fail>
+    ensures small { IfOk result (λ t. IsShiftable (view t)) }
+    ensures within { IfOk result (λ t. depth_of (view t) ≤ 512) }
+{
+    let body = tested(
+        alloc,
+        Term::Const(Value::Bool(true)),
+        Term::Const(Value::Int(1)),
+    )?;
+    let body = Box::new(alloc, body)?;
+    Ok(Term::Ext(Kind::Set, body, Box::new(alloc, Term::Source(0))?))
+}
+
+fn exchanges(alloc: Global) -> Result<bool, Fail> {
+    let mut term = two_tests(alloc)?;
+    Ok(exchange(&mut term, 512) && matches!(term, Term::If(_, _, _)))
+}
+
+fn promotes(alloc: Global) -> Result<bool, Fail> {
+    let mut term = tested_loop(alloc)?;
+    let promoted = promote(alloc, &mut term, 512)?;
+    Ok(promoted && matches!(term, Term::If(_, _, _)))
+}
+
+#[test]
+fn conditions_are_moved_where_they_stand(rt: HostRuntime) -> Result<(), Fail> {
+    assert!(rt; exchanges(rt.alloc())?);
+    assert!(rt; promotes(rt.alloc())?);
+    Ok(())
 }
 
 // Each rule has terms where it fits among the cases of the program `cases`.
