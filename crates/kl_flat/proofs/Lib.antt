@@ -1,4 +1,3 @@
-pub mod Adding
 pub mod Attaching
 pub mod Cursors
 pub mod Digits
