@@ -2,8 +2,6 @@ pub mod Holding
 pub mod Meaning
 pub mod Typings
 pub mod Programs
-pub mod Failing
-pub mod Translated
 pub mod Ending
 pub mod ProgramEnding
 pub mod Counting
@@ -13,3 +11,12 @@ pub mod Shaping
 pub mod Fields
 pub mod Scoping
 pub mod ProgramScoping
+pub mod Occurring
+pub mod Siting
+pub mod Searching
+pub mod Settling
+pub mod Beginning
+pub mod Knowing
+pub mod Rounding
+pub mod Naming
+pub mod Listing

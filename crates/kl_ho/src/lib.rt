@@ -5,6 +5,13 @@
 //! functions, shapes, meaning, typing and expansions. The functions here are laws; no command reads such programs yet.
 #![tactic(auto)]
 
+mod candidates;
+mod first;
+mod functions;
 mod laws;
+mod occurrences;
+mod program;
+mod variables;
 
 pub use laws::{expansion_laws, function_field_laws, scoping_laws};
+pub use program::HoScoped;
