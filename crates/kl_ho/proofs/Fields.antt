@@ -46,10 +46,10 @@ flip_labels fields also s d l = ((s d l).1, (s d l).0)
 
 -- ---- the parts of a definition
 
-pub among_contained : (x : Name) (ys : List Name) → is_among x ys ≡ true → Contains ys x
+among_contained : (x : Name) (ys : List Name) → is_among x ys ≡ true → Contains ys x
 among_contained x ys e = Contains-from_any {eq = same_name} (λ y z i. same_text y z (sym i)) x ys e
 
-pub contained_among : (x : Name) (ys : List Name) → Contains ys x → is_among x ys ≡ true
+contained_among : (x : Name) (ys : List Name) → Contains ys x → is_among x ys ≡ true
 contained_among x ys c = list_any-from_Contains nat_list_eq_equiv x ys c
 
 same_among : (ls ms : List Name) → ((l : Name) → Contains ls l ↔ Contains ms l) → (x : Name) → is_among x ls ≡ is_among x ms
