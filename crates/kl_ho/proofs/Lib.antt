@@ -2,6 +2,8 @@ pub mod Holding
 pub mod Meaning
 pub mod Typings
 pub mod Programs
+pub mod Failing
+pub mod Translated
 pub mod Ending
 pub mod ProgramEnding
 pub mod Counting
@@ -11,10 +13,3 @@ pub mod Shaping
 pub mod Fields
 pub mod Scoping
 pub mod ProgramScoping
-pub mod Growing
-pub mod Arms
-pub mod Loops
-pub mod Renaming
-pub mod Reaching
-pub mod KeptLemmas
-pub mod Handing

@@ -61,7 +61,7 @@ program_comes_alone is_new fields n ds cs e x h sources m o c =
 
 -- ---- typing
 
-with_alike : (d : Name) (k j : Sort) (known also : KnownTypes) → Alike k j → AllAlike known also → AllAlike (with_sort d k known) (with_sort d j also)
+pub with_alike : (d : Name) (k j : Sort) (known also : KnownTypes) → Alike k j → AllAlike known also → AllAlike (with_sort d k known) (with_sort d j also)
 with_alike d k j known also a h x = elim (same_name x d) as (λ b. Alike (sort_if b k (known x)) (sort_if b j (also x))) [ true ↦ a | false ↦ h x ]
 
 same_code : (c : Option ℕ) → Alike (sort_by_code c) (sort_by_code c)
@@ -72,14 +72,14 @@ same_source : (s : Option Ground) (c : Option ℕ) → Alike (sort_at s c) (sort
 same_source (Some s) c = λ t. ((λ h. h), (λ h. h))
 same_source None c = same_code c
 
-first_alike : (sources : List (Name × Ground)) → AllAlike (types_at_first sources) (types_at_first sources)
+pub first_alike : (sources : List (Name × Ground)) → AllAlike (types_at_first sources) (types_at_first sources)
 first_alike sources x = same_source (field x sources) (code_named x)
 
 module _ (is_new : New) (highers : Highers) (known also : KnownTypes) (alike : AllAlike known also) (n : ℕ) where
-  expression_types : (S : Scope) (e x : Exp) (G H : Context) → Expands is_new highers n [] S e x → Holds is_new S G H → (t : Ground) → HoTypes highers [] known e G t ↔ Types x also H t
+  pub expression_types : (S : Scope) (e x : Exp) (G H : Context) → Expands is_new highers n [] S e x → Holds is_new S G H → (t : Ground) → HoTypes highers [] known e G t ↔ Types x also H t
   expression_types S e x G H h k t = ((λ i. types_to is_new highers known also alike h i.0 G H t k i.1), (λ i. (n, types_back is_new highers known also alike h G H t k i)))
 
-  function_types : (S : Scope) (p q : Pat) (a b : Exp) → PatBecomes is_new [] [] p q S → Expands is_new highers n [] S a b → (s t : Ground)
+  pub function_types : (S : Scope) (p q : Pat) (a b : Exp) → PatBecomes is_new [] [] p q S → Expands is_new highers n [] S a b → (s t : Ground)
       → HoFunctionTypes highers known p a s t ↔ FunctionTypes also q b s t
   function_types S p q a b r h s t = (
     (λ i. let k = takes_to is_new [] (NameTypes known []) (NameTypes also []) (names_to is_new highers known also alike [] [] [] (holds_nothing is_new)) r s [] [] i.1 (holds_nothing is_new) i.2 in

@@ -9,6 +9,9 @@ ghost use Rattle.kl_meaning.specs.Typing.{ProgramTypes, HasTyping};
 ghost use Rattle.kl_ho.specs.Expansion.{New, IsExpansionAt};
 ghost use Rattle.kl_ho.specs.Functions.{AreFunctionFields, HaveSameParts};
 ghost use Rattle.kl_ho.specs.Highers.{Highers, Funs};
+ghost use Rattle.kl_infer.specs.Inferred.{IsIllTyped};
+ghost use Rattle.kl_desugar.specs.Translation.{term_of};
+ghost use Rattle.kl_ho.specs.HoFails.{IsHoIllTyped, given_number};
 ghost use Rattle.kl_ho.specs.HoPrograms.{FunctionFields, ProgramComes, HoProgramTypes, HoHasTyping, IsExpansion};
 ghost use Rattle.kl_ho.specs.Keeps.{AreOld, KnowsFirst, KeepsDecls, IsAccepted};
 ghost use Rattle.kl_ho.specs.Nodes.{nodes};
@@ -16,9 +19,10 @@ ghost use Rattle.kl_ho.specs.Plain.{CatchFunctions, HasNoBreach, first_arity, fi
 ghost use Rattle.kl_ho.specs.Shapes.{Chooses, DefinesOld, IsShapedDecls, World};
 
 /// The laws of expansions. At some depth the outcome of a program comes, and it is that of its expansion; at no depth
-/// another outcome comes. A program has the types of its expansion. The expansion of a program that keeps to the rules of
-/// scope has no breach, and there is one, where each list of names leaves a new one. All expansions of an expression have
-/// as many expressions.
+/// another outcome comes. A program has the types of its expansion, and where it has no typing the first declaration without
+/// one is that of its expansion, by its number in the program. The expansion of a program that keeps to the rules of scope has
+/// no breach, and there is one, where each list of names leaves a new one. All expansions of an expression have as many
+/// expressions, and all expansions of a program the same term.
 pub fn expansion_laws()
     ensures comes { (fields : FunctionFields) (ds : Decls) (e : Exp) (cs : Decls) (x : Exp) → IsExpansion fields ds e cs x → (sources : List (Name × Value))
         → (n : ℕ) × ProgramComes n fields ds e sources (meaning_of_program cs x sources) }
@@ -28,6 +32,10 @@ pub fn expansion_laws()
         → HoProgramTypes fields ds e sources t ↔ ProgramTypes cs x sources t }
     ensures typing { (fields : FunctionFields) (ds : Decls) (e : Exp) (cs : Decls) (x : Exp) → IsExpansion fields ds e cs x → (sources : List (Name × Ground))
         → HoHasTyping fields ds e sources ↔ HasTyping cs x sources }
+    ensures ill_typed { (fields : FunctionFields) (ds : Decls) (e : Exp) (cs : Decls) (x : Exp) → IsExpansion fields ds e cs x → (sources : List (Name × Ground)) (i : ℕ)
+        → IsHoIllTyped fields ds e sources i ↔ ((k : ℕ) × (i ≡ given_number fields ds k) × IsIllTyped cs x sources k) }
+    ensures same_term { (fields : FunctionFields) (ds : Decls) (e : Exp) (cs : Decls) (x : Exp) (also : Decls) (y : Exp) → IsExpansion fields ds e cs x → IsExpansion fields ds e also y
+        → (sources : List Name) → term_of cs x sources ≡ term_of also y sources }
     ensures accepted { (fields : FunctionFields) (ds : Decls) (e : Exp) (cs : Decls) (x : Exp) → IsExpansion fields ds e cs x → (sources : List Name) (world : World) (arity : Name → Option ℕ)
         → KnowsFirst sources world arity → KeepsDecls fields ds e world arity → IsAccepted cs x sources }
     ensures has_expansion { (fields : FunctionFields) (is_new : New) (sources : List Name) (world : World) (arity : Name → Option ℕ) (ds : Decls) (e : Exp) → Chooses is_new → AreOld is_new arity

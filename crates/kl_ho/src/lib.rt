@@ -5,14 +5,6 @@
 //! functions, shapes, meaning, typing and expansions. The functions here are laws; no command reads such programs yet.
 #![tactic(auto)]
 
-mod declaring;
-mod expanded;
-mod expanding;
 mod laws;
-mod program;
-mod stop;
-mod table;
 
-pub use expanded::{ExpandError, Expanded, Numbers, expand};
 pub use laws::{expansion_laws, function_field_laws, scoping_laws};
-pub use program::HoScoped;

@@ -1,0 +1,5 @@
+pub mod Fills
+pub mod Joins
+pub mod Records
+pub mod ShapeLemmas
+pub mod Variants
