@@ -1,0 +1,7 @@
+pub mod Attached
+pub mod Beginnings
+pub mod Blamed
+pub mod Explained
+pub mod Findings
+pub mod Idle
+pub mod Placed
