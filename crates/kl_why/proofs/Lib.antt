@@ -1,7 +1,0 @@
-pub mod Attached
-pub mod Beginnings
-pub mod Blamed
-pub mod Explained
-pub mod Findings
-pub mod Idle
-pub mod Placed
