@@ -1,6 +1,6 @@
 use Rattle.std.proofs.Common.{Ok, Err, IsSome, sym, subst}
 use Rattle.kl_json.specs.Answers.{JsonStands, PutsLines, ToEnds, item_lines}
-use Rattle.kl_json.proofs.Putting.{listed_first, listed_more, listed_unprinted, listed_end, listed_stopped}
+use Rattle.kl_json.proofs.Putting.{listed_first, listed_more, listed_unprinted, listed_end, listed_stopped, listed_all}
 use Rattle.kl_json.proofs.top.list_values.Goals as goal
 
 pub items-init : goal.items-init
@@ -27,3 +27,6 @@ returns-in-Err g c =
 pub items-preserved : goal.items-preserved
 items-preserved g c =
     listed_more _ _ _ _ _ _ _ _ c.items.invariant c.in-Ok-Some.value _ _ (rw c.in-Ok-Some.field-0-is at c.in-Ok-Some.ensures) tt _ _ c.in-Ok.ensures
+
+pub returns : goal.returns
+returns g c = listed_all _ _ _ _ _ _ _ _ c.items.invariant

@@ -1,6 +1,6 @@
 use Rattle.std.proofs.Common.{Ok, Err, sym, subst}
 use Rattle.kl_json.specs.Answers.{PutsItems}
-use Rattle.kl_json.proofs.ItemPutting.{known_on, open_on, listed_first, listed_more, listed_unprinted, listed_end, listed_stopped}
+use Rattle.kl_json.proofs.ItemPutting.{known_on, open_on, listed_first, listed_more, listed_unprinted, listed_end, listed_stopped, listed_all}
 use Rattle.kl_json.proofs.top.put_items.Goals as goal
 
 pub items-init : goal.items-init
@@ -17,12 +17,12 @@ next-requires-clause-behind g c = known_on _ _ _ _ _ _ _ _ c.items.invariant
 pub returns-in-Ok-Err : goal.returns-in-Ok-Err
 returns-in-Ok-Err g c =
     let read = rw c.in-Ok-Some.field-0-is at c.in-Ok-Some.ensures in
-    listed_unprinted _ _ _ _ _ _ _ _ c.items.invariant c.in-Ok-Some.value _ _ read.reads (Ok (Err c.in-Ok-Err.fault)) _ _ (λ u e. absurd cc) (rw (c.place-place.ensures, c.in-Ok-Err.field-0-is) at c.in-Ok-Err.ensures)
+    listed_unprinted _ _ _ _ _ _ _ _ c.items.invariant c.in-Ok-Some.value _ _ read.reads (Ok (Err c.in-Ok-Err.fault)) _ _ (λ u e. absurd cc) (rw c.in-Ok-Err.field-0-is at c.in-Ok-Err.ensures)
 
 pub returns-in-Err-put_line : goal.returns-in-Err-put_line
 returns-in-Err-put_line g c =
     let read = rw c.in-Ok-Some.field-0-is at c.in-Ok-Some.ensures in
-    listed_unprinted _ _ _ _ _ _ _ _ c.items.invariant c.in-Ok-Some.value _ _ read.reads (Err c.in-Err-put_line.error) _ _ (λ u e. absurd cc) (rw c.place-place.ensures at c.in-Err-put_line.ensures)
+    listed_unprinted _ _ _ _ _ _ _ _ c.items.invariant c.in-Ok-Some.value _ _ read.reads (Err c.in-Err-put_line.error) _ _ (λ u e. absurd cc) c.in-Err-put_line.ensures
 
 pub returns-in-Ok-None : goal.returns-in-Ok-None
 returns-in-Ok-None g c = let read = rw c.in-Ok-None.field-0-is at c.in-Ok-None.ensures in listed_end _ _ _ _ _ _ _ _ c.items.invariant tt _ _ read.reads
@@ -36,4 +36,7 @@ returns-in-Err g c =
 pub items-preserved : goal.items-preserved
 items-preserved g c =
     let read = rw c.in-Ok-Some.field-0-is at c.in-Ok-Some.ensures in
-    listed_more _ _ _ _ _ _ _ _ c.items.invariant c.in-Ok-Some.value _ _ read.reads tt _ _ (rw (c.place-place.ensures, c.in-Ok-Ok.field-0-is) at c.in-Ok-Ok.ensures)
+    listed_more _ _ _ _ _ _ _ _ c.items.invariant c.in-Ok-Some.value _ _ read.reads tt _ _ (rw c.in-Ok-Ok.field-0-is at c.in-Ok-Ok.ensures)
+
+pub returns : goal.returns
+returns g c = listed_all _ _ _ _ _ _ _ _ c.items.invariant
