@@ -283,6 +283,13 @@ fn are_numbers(reading: &Reading, first: i64, second: i64) -> bool {
     }
 }
 
+fn is_change(reading: &Reading, drift: &Drift) -> bool {
+    match reading {
+        Reading::Change(found) => found == drift,
+        _ => false,
+    }
+}
+
 #[test]
 fn a_source_is_scanned(rt: HostRuntime) -> Result<(), Fail> {
     let plan = variable();
@@ -307,15 +314,9 @@ fn a_change_is_told_by_what_it_is(rt: HostRuntime) -> Result<(), Fail> {
         )
     );
     let states = changed_to(rt.alloc(), &plan, b"type int; 4; 5;")?;
-    assert!(rt;
-        matches!(
-            states,
-            Reading::Change(Drift::Header {
-                kept: Head::Absent,
-                found: Head::Stated(Ty::Int)
-            })
-        )
-    );
+    let kept = Box::new(rt.alloc(), Head::Absent)?;
+    let found = Box::new(rt.alloc(), Head::Stated(Ty::Int))?;
+    assert!(rt; is_change(&states, &Drift::Header { kept, found }));
     Ok(())
 }
 

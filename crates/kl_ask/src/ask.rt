@@ -2,7 +2,7 @@
 ghost use Rattle.std.specs.Prelude.{◌≡◌};
 ghost use Rattle.kl_ask.specs.declared.ask.DriverError.TheVariants.{NoMemory as WantOfMemory};
 
-use kl_base::{Label, NoMemory, Seq, Text};
+use kl_base::{Box, Label, NoMemory, Seq, Text};
 use kl_type::Ty;
 use kl_value::Value;
 use std::alloc::{AllocError, AllocFailed};
@@ -84,8 +84,9 @@ pub enum Drift {
     Unread { place: u64 },
     /// The item of this number, counted from 0, lacks the type.
     Misfit { item: u64 },
-    /// It stated one type, or none, and states another or none.
-    Header { kept: Head, found: Head },
+    /// It stated one type, or none, and states another or none. In boxes, since all that may end an evaluation has room for a
+    /// drift.
+    Header { kept: Box<Head>, found: Box<Head> },
 }
 
 /// Why a driver refuses.

@@ -57,7 +57,8 @@ pub trait Driver: Drop {
     /// ask answers, of a list in order. An ask of SQL is of a driver that joins, for a statement whose tables are attached
     /// and whose columns are there, none of them shown under one label with another, with one type on both sides of each
     /// test. Its cursor has the rows that the statement means (`kl_sqltext`), in some order, and of n tables at most 2^64 to
-    /// the n, a table named twice counting twice. The ask is counted once more, and no other count rises.
+    /// the n, a table named twice counting twice. Where cursors read their sources anew, this one has a source to read, of
+    /// which it has read nothing yet. The ask is counted once more, and no other count rises.
     ///
     /// # Errors
     /// `Failed` on a fault, and the count of faults rose; `NoMemory`. Nothing is opened or counted then.
@@ -70,8 +71,7 @@ pub trait Driver: Drop {
     /// statement with WHERE, may answer false while more rows were possible, and none is left from then on. A driver that
     /// reads the source anew appends rows only where what it read states of its type what it stated when it was attached, and
     /// answers false only where all of it was read, with as many bytes and rows as then, and the same statement of its type
-    /// or none. The count of rows handed rises by the number of rows
-    /// appended.
+    /// or none. The count of rows handed rises by the number of rows appended.
     ///
     /// # Errors
     /// After an error the cursor is closed, and `into` is as before.

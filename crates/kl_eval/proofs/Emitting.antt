@@ -1,12 +1,12 @@
 -- Items of a body, added to those that were drawn before.
-use Rattle.std.proofs.Common.{◌≡◌, ℕ, ◌<◌, Bool, List, [], ◌∷◌, ◌+◌, length, drop, get_or, Option, IfSome, Some, Result, Ok, Err, refl, sym, ◌∙◌, ap, subst, append-nil}
+use Rattle.std.proofs.Common.{◌≡◌, ℕ, ◌<◌, Bool, List, [], ◌∷◌, ◌+◌, length, drop, get_or, Option, IfOk, IfSome, Some, Result, Ok, Err, refl, sym, ◌∙◌, ap, subst, append-nil}
 use Rattle.kl_value.proofs.CanonLemmas.{canonical-nil, canonical-one}
-use Rattle.kl_value.specs.Views.{collection, as_bool, IsCollection}
+use Rattle.kl_value.specs.Views.{collection, as_bool, IsBool, IsCollection}
 use Rattle.kl_value.specs.declared.Kind.{Kind}
 use Rattle.kl_value.specs.declared.Kind.TheVariants as kind
 use Rattle.kl_value.specs.declared.Value.{Value}
 use Rattle.kl_value.specs.declared.Value.TheVariants as value
-use Rattle.kl_type.specs.Ground.{coll}
+use Rattle.kl_type.specs.Ground.{bool, coll}
 use Rattle.kl_outcome.specs.Outcome.{done, over, End, Flow, more, stop, fine, overflow, flow, collected}
 use Rattle.kl_outcome.specs.Typed.{OfType, Inhabits}
 use Rattle.kl_outcome.proofs.OutcomeTypes.{items_inhabit}
@@ -23,7 +23,7 @@ use Rattle.kl_ask.specs.World.{World, Moved, types_of, values_of}
 use Rattle.kl_ask.proofs.Worlds.{moved_none, ready_on}
 use Rattle.kl_eval.specs.Comes.{Comes, ItemsCome}
 use Rattle.kl_eval.specs.Sources.{NoSource}
-use Rattle.kl_eval.specs.Evals.{Sense, SenseWhole, PartGives, CallGives, Evals, EvalsPart, EvalsBody, EvalsCall, EvalsInto, AddsAll}
+use Rattle.kl_eval.specs.Evals.{Sense, SenseTest, SenseWhole, PartGives, CallGives, Evals, EvalsPart, EvalsBody, EvalsCall, EvalsInto, AddsAll}
 use Rattle.kl_eval.proofs.Loops.{OnBody}
 use Rattle.kl_eval.specs.Steps.{AppendsAll, AddsItems, Behind, Outside, TellsTruth}
 use Rattle.kl_eval.proofs.Laws.{comes_typed}
@@ -70,6 +70,18 @@ module _ (t x y z x' : Term) (env : List Value) (et : t ≡ term.If x y z) (ex :
 
   pub into_tested_stop : (q : Result Value EvalStop) (e : EvalStop) (h : Halt) (old new : List Value) (a b : World) → TellsTruth q (Err e) → EvalsPart (view x') env q a b → Outside e h → new ≡ old → EvalsInto (view t) env (Err h) old new a b
   into_tested_stop q e h old new a b k p o s = into_if_stop e h old new a b (subst (λ z. EvalsPart (view x') env z a b) k p) o s
+
+-- ---- a test
+
+pub sense_told : (t : Tree) (env : List Value) (a : World) → SenseTest t env a → Sense t env a
+sense_told t env a s = (s.0, bool, s.1, s.2, s.3)
+
+pub truth_told : (t : Tree) (env : List Value) (q : Result Value EvalStop) (a b : World) → SenseTest t env a → EvalsPart t env q a b → IfOk q IsBool
+truth_told t env (Ok v) a b s h = (comes_typed (types_of a) (values_of a) t s.0 env bool (done v) s.1 s.2 h.gives).0
+truth_told t env (Err e) a b s h = tt
+
+pub test_sense : (t x y z x' : Term) (env : List Value) → t ≡ term.If x y z → x' ≡ x → (a : World) → SenseWhole (view t) env a → SenseTest (view x') env a
+test_sense t x y z x' env et ex a s = let s' = subst (λ q. SenseWhole q env a) (at_If t x y z x' env et ex) s in (s'.0, s'.3, s'.4.0, s'.5)
 
 -- ---- what is bound
 

@@ -6,7 +6,7 @@ use Rattle.kl_value.specs.declared.Kind.{Kind}
 use Rattle.kl_value.specs.declared.Kind.TheVariants as kind
 use Rattle.kl_value.specs.declared.Value.{Value}
 use Rattle.kl_value.specs.declared.Value.TheVariants as value
-use Rattle.kl_type.specs.Ground.{Ground, Row, coll}
+use Rattle.kl_type.specs.Ground.{Ground, Row, bool, coll}
 use Rattle.kl_prim.specs.Table.{meaning}
 use Rattle.kl_outcome.specs.Outcome.{Name, Outcome, done, over, stuck, End, Flow, fine, overflow, flow, answered}
 use Rattle.kl_outcome.specs.Typed.{Inhabits, HaveTypes, PrimTypes}
@@ -15,7 +15,7 @@ use Rattle.kl_core.specs.Trees.{Tree, Trees, Parts}
 use Rattle.kl_core.specs.Typing.{SourceTypes, CoreTypes, EachType, AllTypes, PartTypes, HaveSources}
 use Rattle.kl_ask.specs.World.{World, IsReady, Moved, types_of, values_of}
 use Rattle.kl_eval.specs.World.{StoppedBy}
-use Rattle.kl_eval.specs.Steps.{AddsItems}
+use Rattle.kl_eval.specs.Steps.{AddsItems, TellsTruth}
 use Rattle.kl_eval.specs.Comes.{Comes, ItemsCome, ArgsCome, PartsCome, Draws}
 use Rattle.kl_eval.specs.Sources.{NoSource, NoSourceInTrees, NoSourceInParts}
 use Rattle.kl_eval.specs.declared.stop.EvalStop.{EvalStop}
@@ -63,6 +63,10 @@ SenseBody b vs env w =
 -- a term makes sense as a collection
 abbrev pub SenseWhole : Tree → List Value → World → Type 0
 SenseWhole t env w = (G : List Ground) × (k : Kind) × (s : Ground) × HaveTypes G env × CoreTypes (types_of w) G t (coll k s) × IsReady w
+
+-- a term makes sense as a truth value
+abbrev pub SenseTest : Tree → List Value → World → Type 0
+SenseTest t env w = (G : List Ground) × HaveTypes G env × CoreTypes (types_of w) G t bool × IsReady w
 
 -- a term makes sense as a list
 abbrev pub SenseList : Tree → List Value → World → Type 0
@@ -113,6 +117,10 @@ pub record EvalsPart (t : Tree) (env : List Value) (r : Result Value EvalStop) (
   pub moved : Moved a b
   pub still : NoSource t → b ≡ a
   pub gives : PartGives (Comes (types_of a) (values_of a) env t) a b r
+
+-- the truth value of a test
+abbrev pub Tests : Tree → List Value → Result Bool EvalStop → World → World → Type 0
+Tests t env r a b = (p : Result Value EvalStop) × EvalsPart t env p a b × TellsTruth p r
 
 pub record EvalsEach (ts : Trees) (env : List Value) (r : Result (Vec Value Global) Halt) (a b : World) : Type 0 where
   pub moved : Moved a b

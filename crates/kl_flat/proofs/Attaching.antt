@@ -1,5 +1,5 @@
 -- What attaching says of a file that was read.
-use Rattle.std.proofs.Common.{Result, ◌≡◌, ◌≢◌, ◌⊎◌, ◌<◌, ◌≤◌, ◌+◌, ◌-◌, ◌^◌, min, ℕ, Bool, true, false, List, [], ◌∷◌, ◌++◌, length, Option, Some, None, Ok, Err, IsSome, refl, sym, ◌∙◌, ap, subst, arith, inl, inr, nat_lt, nat_eq, cond}
+use Rattle.std.proofs.Common.{Result, ◌≡◌, ◌⊎◌, ◌<◌, ◌≤◌, ◌+◌, ◌-◌, ◌^◌, min, ℕ, Bool, true, false, List, length, Option, Some, None, Ok, Err, IsSome, refl, sym, ◌∙◌, ap, subst, arith, inl, inr, nat_lt, nat_eq, cond}
 use Rattle.std.proofs.lemmas.Bool.Decides.{nat_tests}
 use Rattle.std.specs.List.{AllByRecursion}
 use Rattle.std.specs.Cmp.Lexicographic.{pointwise}
@@ -28,7 +28,6 @@ use Rattle.kl_ask.specs.declared.ask.Ask.{Ask}
 use Rattle.kl_ask.specs.declared.ask.DriverError.{DriverError}
 use Rattle.kl_ask.specs.declared.ask.DriverError.TheVariants as error
 use Rattle.kl_ask.proofs.Names.{not_same}
-use Rattle.kl_ask.proofs.Opened.{unseen}
 use Rattle.kl_flat.specs.Attaching.{AddsSource, ReadsRows, RowsOf}
 use Rattle.kl_flat.specs.ColumnTable.{rows_of}
 use Rattle.kl_flat.specs.Columns.{is_table_type}
@@ -36,7 +35,6 @@ use Rattle.kl_flat.specs.Fitting.{are_rows}
 use Rattle.kl_flat.proofs.Typing.{are_table_rows, rows_typed}
 use Rattle.kl_flat.specs.Flat.{Sources, flat_state, told_only, attached_of, contents_of, most_bytes, stored_bytes, stored_of, stored_rows}
 use Rattle.kl_flat.specs.Table.{bad_record, table_rows}
-use Rattle.kl_flat.specs.declared.parts.Source.{Source}
 use Rattle.kl_flat.specs.declared.parts.Open.{Open}
 use Rattle.kl_ask.proofs.Worlds.{error_is}
 

@@ -1,13 +1,11 @@
 -- Cursors of a flat driver: how they are opened, what they hand, and how they are closed.
-use Rattle.std.proofs.Common.{◌≡◌, ◌≢◌, ◌⊎◌, ◌<◌, ◌+◌, ◌^◌, ℕ, Bool, true, false, List, [], ◌∷◌, ◌++◌, length, set, drop, Option, Some, None, Ok, Err, refl, sym, ◌∙◌, ap, subst, arith, inl, inr, slice_get, length-append, nat_lt, IsSome}
+use Rattle.std.proofs.Common.{◌≡◌, ◌≢◌, ◌⊎◌, ◌<◌, ◌+◌, ◌^◌, ℕ, Bool, true, false, List, [], ◌++◌, length, set, drop, Option, Some, None, Ok, Err, refl, sym, ◌∙◌, ap, subst, arith, inl, inr, slice_get, length-append, nat_lt}
 use Rattle.std.proofs.lemmas.Bool.Decides.{nat_tests}
 use Rattle.std.proofs.lemmas.Grind.{common_steps}
-use Rattle.std.proofs.lemmas.List.Sorted.{IsPermutation-refl}
-use Rattle.std.proofs.lemmas.Option.{none-some, gets, same_Some, slice_get_within}
+use Rattle.std.proofs.lemmas.Option.{none-some, same_Some}
 use Rattle.std.specs.List.{AllByRecursion}
 use Rattle.std.specs.Option.{option_map, option_flatten}
 use Rattle.kl_value.specs.declared.Kind.{Kind}
-use Rattle.kl_value.specs.declared.Kind.TheVariants as kind
 use Rattle.kl_value.specs.declared.Value.{Value}
 use Rattle.kl_type.specs.Ground.{ground_of}
 use Rattle.kl_outcome.specs.Outcome.{Name}
@@ -15,7 +13,7 @@ use Rattle.kl_outcome.specs.Typed.{Inhabits}
 use Rattle.kl_outside.specs.Files.{FilesState}
 use Rattle.kl_ask.specs.Asked.{raised_by, with_ask}
 use Rattle.kl_ask.specs.Asks.{answers, item_of, kind_of, shown_type}
-use Rattle.kl_ask.specs.Driver.{Cursor, CanStart, Starts, OpensAt, IsFresh, InOrder, Shows, Pulls, PullsMore, PullsNone, PullResult, Hands, IsFlat, emptied}
+use Rattle.kl_ask.specs.Driver.{Cursor, CanStart, Starts, OpensAt, IsFresh, Shows, Pulls, PullsMore, PullsNone, PullResult, Hands, emptied}
 use Rattle.kl_ask.specs.declared.ask.Ask.{Ask}
 use Rattle.kl_ask.specs.declared.ask.Ask.TheVariants as asks
 use Rattle.kl_ask.specs.declared.ask.ColTest.{ColTest}

@@ -1,3 +1,4 @@
+pub mod Adding
 pub mod Attaching
 pub mod Cursors
 pub mod Digits

@@ -1,13 +1,11 @@
 -- Rows that are picked out of columns.
-use Rattle.std.proofs.Common.{◌≡◌, ◌<◌, ◌≤◌, ◌⊎◌, ◌≢◌, inl, inr, ℕ, ℤ, zero, suc, ◌+◌, pos, Bool, false, List, [], ◌∷◌, ◌++◌, Vec, Global, All, map, length, take, get_or, slice_get, Option, Some, refl, sym, ap, ◌∙◌, subst, arith, add-one, length-append}
+use Rattle.std.proofs.Common.{◌≡◌, ◌<◌, ◌≤◌, ◌⊎◌, ◌≢◌, inl, inr, ℕ, ℤ, zero, suc, ◌+◌, pos, Bool, false, List, [], ◌∷◌, ◌++◌, Vec, Global, All, map, length, get_or, slice_get, Some, refl, sym, ap, ◌∙◌, subst, arith}
 use Rattle.std.specs.List.{range_with_len}
 use Rattle.std.proofs.lemmas.Bool.{cases_eq}
-use Rattle.std.proofs.lemmas.Grind.{common_steps}
-use Rattle.std.proofs.lemmas.List.{length-map, map-append, take_more}
-use Rattle.std.proofs.lemmas.List.Elements.{All-append}
+use Rattle.std.proofs.lemmas.List.{length-map}
 use Rattle.std.proofs.lemmas.Option.{get_or_from_slice_get, same_Some}
 use Rattle.kl_value.specs.declared.Value.TheVariants as value
-use Rattle.kl_flat.specs.Held.{fields_at, height, row_at, text_at, value_at}
+use Rattle.kl_flat.specs.Held.{height, row_at, text_at, value_at}
 use Rattle.kl_flat.specs.ColumnTable.{rows_of}
 use Rattle.kl_flat.specs.Picking.{Picks, PicksRows}
 use Rattle.kl_flat.specs.declared.column_table.ColumnTable.{ColumnTable}

@@ -2,11 +2,10 @@
 use Rattle.std.proofs.Common.{◌≡◌, ℕ, ◌==◌, not, true, false, [], ◌∷◌, length, refl, sym, ap, ◌∙◌, subst}
 use Rattle.std.specs.List.{list_all}
 use Rattle.std.proofs.lemmas.Bool.{and_parts}
-use Rattle.kl_value.specs.declared.Kind.{Kind}
-use Rattle.kl_type.specs.Ground.{Ground, rec, coll, row_by, ground_of}
+use Rattle.kl_type.specs.Ground.{rec, row_by, ground_of}
 use Rattle.kl_type.specs.declared.ground.Ty.{Ty, Ty-F, out-Ty, roll-Ty, roll-out-Ty}
 use Rattle.kl_type.specs.declared.ground.Ty.TheVariants as ty
-use Rattle.kl_type.proofs.GroundLemmas.{ground-Bool, ground-Int, ground-Str, ground-Rec, ground-Coll}
+use Rattle.kl_type.proofs.GroundLemmas.{ground-Bool, ground-Int, ground-Str}
 use Rattle.kl_ask.specs.Asks.{item_of}
 use Rattle.kl_ask.specs.Driver.{IsBase, AllBase, IsFlat, Suits}
 use Rattle.kl_ask.specs.Tables.{columns_of}

@@ -12,3 +12,14 @@ pub record Takes (rows : List Value) (from : ℕ) (keep : List Name) (tests : Li
   pub most : length taken ≤ limit
   pub all : (length taken ≡ limit) ⊎ (to ≡ length rows)
   pub within : to ≤ length rows
+
+-- a list goes on behind another
+abbrev pub Continues : List Value → List Value → Type 0
+Continues old new = (more : List Value) × (new ≡ old ++ more)
+
+-- these answers are added at the end of a list
+pub record AddsAnswers (rows : List Value) (from : ℕ) (keep : List Name) (tests : List ColTest) (limit : ℕ) (old new : List Value)
+    (to : ℕ) : Type 0 where
+  pub taken : List Value
+  pub grown : new ≡ old ++ taken
+  pub takes : Takes rows from keep tests limit taken to

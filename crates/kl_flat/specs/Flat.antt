@@ -5,7 +5,6 @@ use Rattle.kl_value.specs.declared.Value.{Value}
 use Rattle.kl_type.specs.Ground.{ground_of}
 use Rattle.kl_type.specs.declared.ground.Ty.{Ty}
 use Rattle.kl_outside.specs.Files.{FilesState}
-use Rattle.kl_outcome.specs.Outcome.{Name}
 use Rattle.kl_ask.specs.Asks.{answers, item_of, shown_type}
 use Rattle.kl_ask.specs.Cursors.{open_at}
 use Rattle.kl_ask.specs.Named.{NamedSources, source_named}

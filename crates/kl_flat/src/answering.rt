@@ -1,7 +1,7 @@
 //! The rows that answer an ask.
 ghost use Rattle.std.specs.Prelude.{◌≡◌, ℕ, ◌<◌, All, IfOk, MatchOption};
 ghost use Rattle.std.specs.List.{list_all};
-ghost use Rattle.kl_flat.specs.Answering.{Takes};
+ghost use Rattle.kl_flat.specs.Answering.{AddsAnswers, Continues};
 ghost use Rattle.kl_flat.specs.Asked.{keep_of, tests_of};
 ghost use Rattle.kl_flat.specs.ColumnTable.{rows_of};
 ghost use Rattle.kl_flat.specs.RowTests.{HasCells, NonePasses, SaySame, passes_at};
@@ -15,22 +15,26 @@ use kl_base::NoMemory;
 use kl_value::Value;
 use std::alloc::Global;
 
-/// The next answers of a cursor: at most `most`, and the place behind the last row that was looked at.
+/// Adds the next answers of a cursor, at most `most`, at the end of a list, and answers the place behind the last row that was
+/// looked at. They go straight there: a list of their own for each pull would be so large a block that the allocator joined
+/// all the small ones that rows left behind.
 ///
 /// # Errors
-/// Want of memory.
-pub fn next_answers(
+/// Want of memory; some answers may stand at the end of the list then.
+pub fn add_answers(
     alloc: Global,
     cursor: &Open,
     most: u32,
-) -> Result<(Vec<Value>, usize), NoMemory>
-    ensures { IfOk result (λ r. Takes (rows_of cursor.now.table) cursor.now.at (keep_of cursor.now.ask)
-        (tests_of cursor.now.ask) most r.0.items r.1) }
+    into: &mut Vec<Value>,
+) -> Result<usize, NoMemory>
+    ensures added { IfOk result (AddsAnswers (rows_of cursor.now.table) cursor.now.at (keep_of cursor.now.ask)
+        (tests_of cursor.now.ask) most into.old.items into.new.items) }
+    ensures stays { Continues into.old.items into.new.items }
 {
     let table = cursor.table.get();
     match row_tests(alloc, table, tests_of(&cursor.ask))? {
-        Some(tests) => passing(alloc, cursor, &tests, most),
-        None => Ok((Vec::new(alloc), table.len())),
+        Some(tests) => add_passing(alloc, cursor, &tests, most, into),
+        None => Ok(table.len()),
     }
 }
 
@@ -52,29 +56,32 @@ fn row_tests<'a>(
     Ok(Some(found))
 }
 
-// The next answers, which are the rows that pass these tests.
-fn passing(
+// Adds the next answers, which are the rows that pass these tests.
+fn add_passing(
     alloc: Global,
     cursor: &Open,
     tests: &[RowTest<'_>],
     most: u32,
-) -> Result<(Vec<Value>, usize), NoMemory>
+    into: &mut Vec<Value>,
+) -> Result<usize, NoMemory>
     requires { SaySame cursor.now.table (tests_of cursor.now.ask) tests.now }
-    ensures { IfOk result (λ r. Takes (rows_of cursor.now.table) cursor.now.at (keep_of cursor.now.ask)
-        (tests_of cursor.now.ask) most r.0.items r.1) }
+    ensures added { IfOk result (AddsAnswers (rows_of cursor.now.table) cursor.now.at (keep_of cursor.now.ask)
+        (tests_of cursor.now.ask) most into.old.items into.new.items) }
+    ensures stays { Continues into.old.items into.new.items }
 {
     let table = cursor.table.get();
     let mut at = cursor.at;
-    let room = (table.len() - at).min(most as usize);
-    let mut taken = Vec::with_capacity(alloc, room)?;
-    'rows: while at < table.len() && taken.len() < most as usize {
+    let mut left = most;
+    into.reserve((table.len() - at).min(most as usize))?;
+    'rows: while at < table.len() && left > 0 {
         if passes_all(tests, at) {
             let row = table.row(alloc, at, cursor.places.slice())?;
-            taken.push(row)?;
+            into.push(row)?;
+            left -= 1;
         }
         at += 1;
     }
-    Ok((taken, at))
+    Ok(at)
 }
 
 fn passes_all(tests: &[RowTest<'_>], at: usize) -> bool

@@ -10,7 +10,7 @@ ghost use Rattle.kl_flat.specs.Fitting.{are_rows};
 ghost use Rattle.kl_flat.specs.Flat.{flat_state, fresh_state};
 ghost use Rattle.kl_outside.specs.Files.{NoneOpen};
 
-use crate::answering::next_answers;
+use crate::answering::add_answers;
 use crate::column_table::ColumnTable;
 use crate::columns::is_table_type;
 use crate::parts::{Open, Source};
@@ -238,9 +238,16 @@ pub fn hand_next(
     ensures handed { IfOk result (HandsNext most into.old.items into.new.items cursor.old cursor.new) }
     ensures refused { OnErr result (into.new.items ≡ into.old.items) }
 {
-    let (mut taken, at) = next_answers(alloc, cursor, most)?;
-    let count = taken.len() as u64;
-    into.append(&mut taken)?;
-    cursor.at = at;
-    Ok(count)
+    let before = into.len();
+    match add_answers(alloc, cursor, most, into) {
+        Ok(at) => {
+            let count = (into.len() - before) as u64;
+            cursor.at = at;
+            Ok(count)
+        }
+        Err(NoMemory) => {
+            into.truncate(before);
+            Err(NoMemory)
+        }
+    }
 }

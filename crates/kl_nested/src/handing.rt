@@ -12,7 +12,7 @@ use crate::parts::{Open, Source};
 use crate::rows::{Halt, next_row, skip_row};
 use crate::types::item_of;
 use kl_ask::{Drift, DriverError, Head};
-use kl_base::NoMemory;
+use kl_base::{Box, NoMemory};
 use kl_exchange::FileError;
 use kl_heads::{FileReader, states_no_other};
 use kl_outside::Files;
@@ -133,11 +133,10 @@ fn same_head(alloc: Global, source: &Source, found: Option<Ty>) -> Result<(), Dr
         return Ok(());
     }
     let kept = kept_head(alloc, source)?;
+    let kept = Box::new(alloc, kept)?;
+    let found = Box::new(alloc, head_as(found))?;
     Err(DriverError::Changed {
-        drift: Drift::Header {
-            kept,
-            found: head_as(found),
-        },
+        drift: Drift::Header { kept, found },
     })
 }
 

@@ -2,7 +2,7 @@ use Rattle.std.proofs.Common.{◌≡◌, length, true, false, refl, sym, ap, rul
 use Rattle.kl_core.specs.declared.term.Term.{the_lemmas}
 use Rattle.kl_outcome.specs.Outcome.{done, over, fine, overflow, flow}
 use Rattle.kl_eval.proofs.Forms.{body_fine, body_past, body_starts, call_arity, call_both, call_former_stop, call_latter_stop, call_only, call_only_stop, each_ends, each_goes, each_lost, each_none, each_over, each_refused, each_sense, each_starts, evals_copied, evals_lent, evals_part, fields_ends, fields_goes, fields_lost, fields_sense, fields_starts, fields_stops, first_there, fits_both, fits_only, found, items_done, loop_lost, loop_refused, missing, no_branch, over_gives, sense_body, sense_bound, sense_branch, sense_first, sense_former, sense_inj, sense_items, sense_latter, sense_make, sense_only, sense_other_at, sense_picked, sense_prim, sense_proj, sense_rec, sense_second, sense_source, sense_subject, sense_test, sense_var, source_ready, source_there, source_whole, there_field, value_branch, value_case_stop, value_tested, value_tested_stop, test_told, second_told, value_join, look_tested, look_tested_stop, value_inj, value_inj_stop, value_let, value_let_stop, value_loop, value_make, value_other_at, value_prim, value_proj, value_proj_stop, value_rec, value_rec_stop, value_source, value_source_stop, value_union_first, value_var, variant_there}
-use Rattle.kl_eval.proofs.Emitting.{body_sense_whole, body_added, body_stops, into_tested, into_tested_stop, into_none, into_one, into_one_stop, look_prim, sense_of, whole_there, whole_picked, whole_bound, into_let, into_let_stop}
+use Rattle.kl_eval.proofs.Emitting.{body_sense_whole, body_added, body_stops, into_tested, into_tested_stop, into_none, into_one, into_one_stop, look_prim, sense_of, sense_told, truth_told, test_sense, whole_there, whole_picked, whole_bound, into_let, into_let_stop}
 use Rattle.kl_ask.proofs.Worlds.{moved_none}
 use Rattle.kl_eval.proofs.evaluator.+eval.Goals as goal
 
@@ -254,11 +254,11 @@ emit-returns-then-is_empty g t c =
     let none : length c.slice-terms.result.now ≡ 0 = search rules in
     into_none _ _ _ _ _ c.in-Make.is c.slice-terms.ensures _ _ _ none refl
 
-pub emit-returns-in-Ok-inside : goal.emit-returns-in-Ok-inside
-emit-returns-in-Ok-inside g t c = into_one _ _ _ _ _ c.in-Make.is c.slice-terms.ensures _ c.if-terms-eq1.true c.index-terms-0.is _ _ _ _ _ _ (evals_part _ _ _ _ _ _ c.owned.ensures c.in-Ok-inside.ensures) c.push.ensures
+pub emit_other-returns-in-Ok : goal.emit_other-returns-in-Ok
+emit_other-returns-in-Ok g t c = into_one _ _ _ _ _ c.in-Make.is c.slice-terms.ensures _ c.if-terms-eq1.true c.index-terms-0.is _ _ _ _ _ _ (evals_part _ _ _ _ _ _ c.owned.ensures c.in-Ok.ensures) c.push.ensures
 
-pub emit-returns-in-Err-inside : goal.emit-returns-in-Err-inside
-emit-returns-in-Err-inside g t c = into_one_stop _ _ _ _ _ c.in-Make.is c.slice-terms.ensures _ c.if-terms-eq1.true c.index-terms-0.is _ _ _ _ _ _ (evals_part _ _ _ _ _ _ c.owned.ensures c.in-Err-inside.ensures) c.outside-in-Err-inside.ensures refl
+pub emit_other-returns-in-Err : goal.emit_other-returns-in-Err
+emit_other-returns-in-Err g t c = into_one_stop _ _ _ _ _ c.in-Make.is c.slice-terms.ensures _ c.if-terms-eq1.true c.index-terms-0.is _ _ _ _ _ _ (evals_part _ _ _ _ _ _ c.owned.ensures c.in-Err.ensures) c.outside.ensures refl
 
 pub emit_whole-append-requires : goal.emit_whole-append-requires
 emit_whole-append-requires g t c = whole_there _ _ _ _ _ c.requires c.in-Ok.ensures
@@ -269,11 +269,11 @@ look_made-returns-in-Ok g t c = look_prim _ _ _ _ _ c.in-Prim.is c.slice.ensures
 pub look_made-returns-in-Err : goal.look_made-returns-in-Err
 look_made-returns-in-Err g t c = look_prim _ _ _ _ _ c.in-Prim.is c.slice.ensures _ _ _ c.in-Err.ensures
 
-pub emit-look-requires-in-Let : goal.emit-look-requires-in-Let
-emit-look-requires-in-Let g t c κs within = (search (rules, the_lemmas, arith), (within, sense_bound _ _ _ _ _ c.in-Let.is c.get-in-Let.ensures (g.T.Seen.world c.args.tables.now) (sense_of _ _ _ c.requires)))
+pub emit_other-look-requires : goal.emit_other-look-requires
+emit_other-look-requires g t c κs within = (search (rules, the_lemmas, arith), (within, sense_bound _ _ _ _ _ c.in-Let.is c.get.ensures (g.T.Seen.world c.args.tables.now) (sense_of _ _ _ c.requires)))
 
-pub emit-returns-in-Err-look : goal.emit-returns-in-Err-look
-emit-returns-in-Err-look g t c = into_let_stop _ _ _ _ _ c.in-Let.is c.get-in-Let.ensures _ _ _ _ _ _ c.in-Err-look.ensures c.outside-in-Err-look.ensures refl
+pub emit_other-returns-in-Err-look : goal.emit_other-returns-in-Err-look
+emit_other-returns-in-Err-look g t c = into_let_stop _ _ _ _ _ c.in-Let.is c.get.ensures _ _ _ _ _ _ c.in-Err-look.ensures c.outside-in-Err-look.ensures refl
 
 pub owned-lent-requires : goal.owned-lent-requires
 owned-lent-requires g t c = (_, (c.requires.0, c.requires.1, c.requires.2, c.requires.3))
@@ -320,32 +320,38 @@ value-value_within-requires g t c κs within = (search (rules, the_lemmas, arith
 pub value-returns-in-Ok-look-3 : goal.value-returns-in-Ok-look-3
 value-returns-in-Ok-look-3 g t c = value_let _ _ _ _ _ c.in-Let.is c.get-in-Let.ensures _ _ _ _ _ _ _ c.get-in-Ok-look-3.ensures refl c.in-Ok-look-3.ensures c.value_within.ensures
 
-pub emit-look-requires : goal.emit-look-requires
-emit-look-requires g t c κs within = (search (rules, the_lemmas, arith), (within, sense_test _ _ _ _ _ _ c.in-If.is c.get.ensures (g.T.Seen.world c.args.tables.now) (sense_of _ _ _ c.requires)))
+pub emit_tested-holds-requires : goal.emit_tested-holds-requires
+emit_tested-holds-requires g t c κs within = (search (rules, the_lemmas, arith), (within, test_sense _ _ _ _ _ _ c.in-If.is c.get.ensures (g.T.Seen.world c.args.tables.now) c.requires))
 
-pub emit-truth-requires : goal.emit-truth-requires
-emit-truth-requires g t c = test_told _ _ _ _ _ _ c.in-If.is c.get.ensures _ _ _ (sense_of _ _ _ c.requires) c.look.ensures
+pub holds-look-requires : goal.holds-look-requires
+holds-look-requires g t c κs within = (search (rules, the_lemmas, arith), (within, sense_told _ _ _ c.requires))
 
-pub emit-emit-requires : goal.emit-emit-requires
-emit-emit-requires g t c κs within = (search (rules, the_lemmas, arith), (within, whole_picked _ _ _ _ _ _ c.in-If.is c.get.ensures _ true _ _ c.get-then-yes.ensures c.look.ensures.moved c.requires))
+pub holds-truth-requires : goal.holds-truth-requires
+holds-truth-requires g t c = truth_told _ _ _ _ _ c.requires c.look.ensures
 
-pub emit-returns-then-yes : goal.emit-returns-then-yes
-emit-returns-then-yes g t c = into_tested _ _ _ _ _ _ c.in-If.is c.get.ensures _ true _ _ _ _ _ _ _ _ c.get-then-yes.ensures c.if-yes.true c.in-Ok.ensures c.look.ensures c.emit.ensures
+pub holds-returns : goal.holds-returns
+holds-returns g t c = (_, c.look.ensures, c.truth.ensures)
 
-pub emit-emit-requires-else-yes : goal.emit-emit-requires-else-yes
-emit-emit-requires-else-yes g t c κs within = (search (rules, the_lemmas, arith), (within, whole_picked _ _ _ _ _ _ c.in-If.is c.get.ensures _ false _ _ c.get-else-yes.ensures c.look.ensures.moved c.requires))
+pub emit_tested-emit-requires : goal.emit_tested-emit-requires
+emit_tested-emit-requires g t c κs within = (search (rules, the_lemmas, arith), (within, whole_picked _ _ _ _ _ _ c.in-If.is c.get.ensures _ true _ _ c.get-then-yes.ensures c.in-Ok.ensures.1.moved c.requires))
 
-pub emit-returns-else-yes : goal.emit-returns-else-yes
-emit-returns-else-yes g t c = into_tested _ _ _ _ _ _ c.in-If.is c.get.ensures _ false _ _ _ _ _ _ _ _ c.get-else-yes.ensures c.if-yes.false c.in-Ok.ensures c.look.ensures c.emit-else-yes.ensures
+pub emit_tested-returns-then-yes : goal.emit_tested-returns-then-yes
+emit_tested-returns-then-yes g t c = into_tested _ _ _ _ _ _ c.in-If.is c.get.ensures _ true _ _ _ _ _ _ _ _ c.get-then-yes.ensures c.if-yes.true c.in-Ok.ensures.2 c.in-Ok.ensures.1 c.emit.ensures
 
-pub emit-returns-in-Err : goal.emit-returns-in-Err
-emit-returns-in-Err g t c = into_tested_stop _ _ _ _ _ _ c.in-If.is c.get.ensures _ _ _ _ _ _ _ c.in-Err.ensures c.look.ensures c.outside.ensures refl
+pub emit_tested-emit-requires-else-yes : goal.emit_tested-emit-requires-else-yes
+emit_tested-emit-requires-else-yes g t c κs within = (search (rules, the_lemmas, arith), (within, whole_picked _ _ _ _ _ _ c.in-If.is c.get.ensures _ false _ _ c.get-else-yes.ensures c.in-Ok.ensures.1.moved c.requires))
 
-pub emit-emit_within-requires : goal.emit-emit_within-requires
-emit-emit_within-requires g t c κs within = (search (rules, the_lemmas, arith), (within, whole_bound _ _ _ _ _ c.in-Let.is c.get-in-Let.ensures _ _ _ _ _ c.get-in-Ok-look.ensures refl c.requires c.in-Ok-look.ensures))
+pub emit_tested-returns-else-yes : goal.emit_tested-returns-else-yes
+emit_tested-returns-else-yes g t c = into_tested _ _ _ _ _ _ c.in-If.is c.get.ensures _ false _ _ _ _ _ _ _ _ c.get-else-yes.ensures c.if-yes.false c.in-Ok.ensures.2 c.in-Ok.ensures.1 c.emit-else-yes.ensures
 
-pub emit-returns-in-Ok-look : goal.emit-returns-in-Ok-look
-emit-returns-in-Ok-look g t c = into_let _ _ _ _ _ c.in-Let.is c.get-in-Let.ensures _ _ _ _ _ _ _ _ _ c.get-in-Ok-look.ensures refl c.in-Ok-look.ensures c.emit_within.ensures
+pub emit_tested-returns-in-Err : goal.emit_tested-returns-in-Err
+emit_tested-returns-in-Err g t c = into_tested_stop _ _ _ _ _ _ c.in-If.is c.get.ensures _ _ _ _ _ _ _ c.in-Err.ensures.2 c.in-Err.ensures.1 c.outside.ensures refl
+
+pub emit_other-emit_within-requires : goal.emit_other-emit_within-requires
+emit_other-emit_within-requires g t c κs within = (search (rules, the_lemmas, arith), (within, whole_bound _ _ _ _ _ c.in-Let.is c.get.ensures _ _ _ _ _ c.get-in-Ok-look.ensures refl c.requires c.in-Ok-look.ensures))
+
+pub emit_other-returns-in-Ok-look : goal.emit_other-returns-in-Ok-look
+emit_other-returns-in-Ok-look g t c = into_let _ _ _ _ _ c.in-Let.is c.get.ensures _ _ _ _ _ _ _ _ _ c.get-in-Ok-look.ensures refl c.in-Ok-look.ensures c.emit_within.ensures
 
 pub look_made-look-requires : goal.look_made-look-requires
 look_made-look-requires g t c κs within = (search (rules, the_lemmas, arith), (within, sense_test _ _ _ _ _ _ c.in-If.is c.get.ensures (g.T.Seen.world c.args.tables.now) c.requires))

@@ -1,5 +1,4 @@
-use Rattle.std.proofs.Common.{◌≡◌, rules, subst, length}
-use Rattle.kl_flat.specs.Cursors.{OpensLast}
+use Rattle.std.proofs.Common.{◌≡◌, rules, length}
 use Rattle.kl_flat.proofs.Cursors.{start_done}
 use Rattle.kl_flat.proofs.driver.FlatDriverDriver.start.Goals as goal
 
