@@ -16,7 +16,7 @@ use crate::env::{Env, lent};
 use kl_core::Term;
 use kl_value::{Value, cmp};
 
-// Whether a comparison holds of two values. None of a primitive that is none.
+// Whether a comparison holds of two values. None of a primitive that is no comparison: these have the codes 1 to 6.
 fn holds(code: u8, first: &Value, second: &Value) -> Option<bool>
     ensures { IfSome result (λ yes. meaning code (first.now ∷ second.now ∷ []) ≡ gives (value.Bool yes)) }
 {

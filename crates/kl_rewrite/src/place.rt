@@ -22,6 +22,9 @@ pub struct Allowance {
 
 impl Allowance {
     /// Puts what the lowest rule makes of the term, which stands at the level, in its place, where that keeps the limits.
+    ///
+    /// # Errors
+    /// Want of memory.
     pub fn find(&mut self, alloc: Global, term: &mut Term, level: u64) -> Result<bool, NoMemory>
         requires searchable { IsSearchable self.old.room level (view term.old) }
         requires least { self.old.room ≤ self.old.calm }

@@ -23,6 +23,9 @@ pub struct Search {
 
 impl Search {
     /// Makes the first step in the term, which stands at the level, if there is one.
+    ///
+    /// # Errors
+    /// Want of memory.
     #[cycle(step)]
     pub fn step(&mut self, term: &mut Term, trail: &[usize], level: u64) -> Result<bool, NoMemory>
         requires traced { IsTraced level (view term.old) trail.now self.old }

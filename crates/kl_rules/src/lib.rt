@@ -2,7 +2,7 @@
 //!
 //! A rule borrows the term and answers a new one, or none where it does not fit; what it takes over is copied. The
 //! definitions of the rules are one table, `specs/Rules.antt`, and `rule` takes them by number. Rules 3 and 17 are also
-//! made where the term stands, and copy nothing of what stands below.
+//! made where the term stands: they move its parts, of which rule 3 copies the condition that it takes out of a loop.
 //!
 //! What `rt plant` lets through here: bodies that answer want of memory, which no contract of this project ties to a
 //! refused growth.

@@ -1,5 +1,6 @@
-//! The rules that permute or promote conditions, where a term stands: they move its parts, and copy none of what stands below.
-ghost use Rattle.std.specs.Prelude.{◌≡◌, ◌≤◌, IfOk};
+//! The rules that permute or promote conditions, where a term stands: they move its parts. Only a condition that comes out of a loop
+//! is copied, with its positions lowered.
+ghost use Rattle.std.specs.Prelude.{◌≡◌, ◌≤◌, IfOk, OnErr};
 ghost use Rattle.kl_core.specs.Trees.{view};
 ghost use Rattle.kl_core.specs.Counts.{depth_of};
 ghost use Rattle.kl_rules.specs.Rules.{FilterPromotion, ConditionOrder};
@@ -15,15 +16,16 @@ use kl_core::{Term, depth, is_total};
 use std::alloc::Global;
 use std::mem;
 
-/// Rule 3 where the term stands: it becomes what the rule makes of it where that nests at most so deep, which is told by `true`,
-/// and stays as it is else.
+/// Rule 3 where the term stands: it becomes what the rule makes of it where that nests within so many levels, which is told by
+/// `true`, and stays as it is else.
 ///
 /// # Errors
 /// Want of memory. The term stays as it is.
 pub fn promote(alloc: Global, term: &mut Term, most: u64) -> Result<bool, NoMemory>
     requires small { IsShiftable (view term.old) }
     requires within { depth_of (view term.old) ≤ most }
-    ensures { IfOk result (λ b. MovesWithin FilterPromotion most term.old term.new b) }
+    ensures moves { IfOk result (λ b. MovesWithin FilterPromotion most term.old term.new b) }
+    ensures kept { OnErr result (term.new ≡ term.old) }
 {
     match outside(alloc, term, most)? {
         Some(test) => {
@@ -35,8 +37,8 @@ pub fn promote(alloc: Global, term: &mut Term, most: u64) -> Result<bool, NoMemo
     }
 }
 
-/// Rule 17 where the term stands: it becomes what the rule makes of it where that nests at most so deep, which is told by `true`,
-/// and stays as it is else.
+/// Rule 17 where the term stands: it becomes what the rule makes of it where that nests within so many levels, which is told by
+/// `true`, and stays as it is else.
 pub fn exchange(term: &mut Term, most: u64) -> bool
     requires within { depth_of (view term.old) ≤ most }
     ensures { MovesWithin ConditionOrder most term.old term.new result }

@@ -3,7 +3,7 @@ use Rattle.std.proofs.Common.{◌≡◌, ◌≢◌, ◌⊎◌, inl, inr, ℕ, Li
 use Rattle.std.proofs.lemmas.Bool.{false≢true}
 use Rattle.kl_outside.specs.Files.{FilesState}
 use Rattle.kl_outside.specs.Sinks.{SinkState}
-use Rattle.kl_tidy.specs.Answering.{Answers, Cause, Does, IsTold, Prints, PrintsNothing, PutsOut, TellsSo, TellsUsage, status_of}
+use Rattle.kl_tidy.specs.Answering.{Answers, Cause, Does, HoldsBack, IsSaid, Prints, PrintsNothing, PutsOut, TellsSo, TellsUsage, status_of}
 use Rattle.kl_tidy.specs.Causes.{IsPageFor, Makes, MakesFor, RefusesFile, WhyNoPage}
 use Rattle.kl_tidy.specs.Refusals.{refusal_status}
 use Rattle.kl_tidy.specs.Words.{command_of}
@@ -37,11 +37,11 @@ nonzero refusal.NoMemory h = cc
 nonzero refusal.FileBytes h = cc
 
 -- a refusal is told as itself, or that memory was wanting
-pub told_itself : (why : Option Refusal) → IsTold why why
+pub told_itself : (why : Option Refusal) → IsSaid why why
 told_itself None = refl
 told_itself (Some r) = inl refl
 
-pub told_wanting : (why : Option Refusal) → IsSome why → IsTold why (Some refusal.NoMemory)
+pub told_wanting : (why : Option Refusal) → IsSome why → IsSaid why (Some refusal.NoMemory)
 told_wanting None some = absurd (false≢true some)
 told_wanting (Some r) some = inr refl
 
@@ -50,6 +50,23 @@ some_command words command is none = apart (sym is ∙ none)
   where
     apart : Some command ≡ no_command → ⊥
     apart e = cc
+
+-- a sink that took nothing took nothing of what is printed
+held_back : (r : Refusal) (old new : SinkState) → HoldsBack r old new → PrintsNothing old new
+held_back refusal.Write old new h = h
+held_back refusal.NoMemory old new h = h
+held_back refusal.Usage old new h = inl (ap (λ (s : SinkState). s.taken) h)
+held_back (refusal.BadFile path w) old new h = inl (ap (λ (s : SinkState). s.taken) h)
+held_back refusal.Read old new h = inl (ap (λ (s : SinkState). s.taken) h)
+held_back refusal.FileBytes old new h = inl (ap (λ (s : SinkState). s.taken) h)
+
+untouched : (r : Refusal) (old new : SinkState) → new ≡ old → HoldsBack r old new
+untouched refusal.Write old new h = inl (ap (λ (s : SinkState). s.taken) h)
+untouched refusal.NoMemory old new h = inl (ap (λ (s : SinkState). s.taken) h)
+untouched refusal.Usage old new h = h
+untouched (refusal.BadFile path w) old new h = h
+untouched refusal.Read old new h = h
+untouched refusal.FileBytes old new h = h
 
 module _ (words : List (List ℕ)) (files files' : FilesState) (out out' err err' : SinkState) where
   -- the words that are no command come to no other refusal
@@ -65,7 +82,7 @@ module _ (words : List (List ℕ)) (files files' : FilesState) (out out' err err
   by_status : (why : Option Refusal) (notes : List ℕ) → Does why words files files' out out' notes
       → (status_of why ≡ 0 → Prints files.told words out out') × (status_of why ≢ 0 → PrintsNothing out out')
   by_status None notes does = ((λ is. (notes, does)), λ other. absurd (other refl))
-  by_status (Some r) notes does = ((λ is. absurd (nonzero r is)), λ other. does.0)
+  by_status (Some r) notes does = ((λ is. absurd (nonzero r is)), λ other. held_back r out out' does.0)
 
   -- what the status alone says
   pub told_by_status : (status : ℕ) → Answers words status files files' out out' err err'
@@ -98,13 +115,13 @@ module _ (words : List (List ℕ)) (files files' : FilesState) (out out' err err
   comes : (made : Result (List ℕ) Refusal) (why : Option Refusal) (notes : List ℕ) → Makes made words files files' notes → PutsOut made why out out' → Does why words files files' out out' notes
   comes (Ok page) why notes made puts = done page why notes made puts
   comes (Err r) why notes made puts =
-      subst (λ w. Does w words files files' out out' notes) (sym puts.0) (inl (ap (λ (s : SinkState). s.taken) puts.1), making r notes made)
+      subst (λ w. Does w words files files' out out' notes) (sym puts.0) (untouched r out out' puts.1, making r notes made)
 
   -- where there is no memory for the line, nothing else is said
-  wanting : (why told : Option Refusal) (notes : List ℕ) → IsTold why told → Does why words files files' out out' notes → Does told words files files' out out' notes
+  wanting : (why told : Option Refusal) (notes : List ℕ) → IsSaid why told → Does why words files files' out out' notes → Does told words files files' out out' notes
   wanting None told notes is does = subst (λ w. Does w words files files' out out' notes) (sym is) does
   wanting (Some r) told notes (inl is) does = subst (λ w. Does w words files files' out out' notes) (sym is) does
-  wanting (Some r) told notes (inr is) does = subst (λ w. Does w words files files' out out' notes) (sym is) (does.0, tt)
+  wanting (Some r) told notes (inr is) does = subst (λ w. Does w words files files' out out' notes) (sym is) (held_back r out out' does.0, tt)
 
   -- what was made, printed and told
   pub answers : (made : Result (List ℕ) Refusal) (why : Option Refusal) (notes : List ℕ) (status : ℕ) → Makes made words files files' notes → PutsOut made why out out'

@@ -35,9 +35,15 @@ abbrev pub Cause : Refusal → List (List ℕ) → FilesState → FilesState →
 Cause refusal.Write words files files' out out' notes = Rose out.faults out'.faults × ((page : List ℕ) × IsPageFor files.told words page notes)
 Cause r words files files' out out' notes = WhyNoPage r words files files' notes
 
+-- What the sink took where the call is refused: nothing. Only a sink that failed, or found no memory, may have taken a part.
+abbrev pub HoldsBack : Refusal → SinkState → SinkState → Type 0
+HoldsBack refusal.Write old new = PrintsNothing old new
+HoldsBack refusal.NoMemory old new = PrintsNothing old new
+HoldsBack r old new = new ≡ old
+
 abbrev pub Does : Option Refusal → List (List ℕ) → FilesState → FilesState → SinkState → SinkState → List ℕ → Type 0
 Does None words files files' out out' notes = PrintsWith files.told words out out' notes
-Does (Some r) words files files' out out' notes = PrintsNothing out out' × Cause r words files files' out out' notes
+Does (Some r) words files files' out out' notes = HoldsBack r out out' × Cause r words files files' out out' notes
 
 -- What comes of the call is told by the status and, behind the notes, by the line of a refusal, as far as the sink takes them.
 pub record Answers (words : List (List ℕ)) (status : ℕ) (files files' : FilesState) (out out' err err' : SinkState) : Type 0 where
@@ -62,12 +68,12 @@ PutsOut (Ok page) (Some r) old new = ⊥
 PutsOut (Err r) why old new = (why ≡ Some r) × (new ≡ old)
 
 -- what is told of a refusal: itself, or that there is no memory for its line
-abbrev pub IsTold : Option Refusal → Option Refusal → Type 0
-IsTold None told = told ≡ None
-IsTold (Some r) told = (told ≡ Some r) ⊎ (told ≡ Some refusal.NoMemory)
+abbrev pub IsSaid : Option Refusal → Option Refusal → Type 0
+IsSaid None told = told ≡ None
+IsSaid (Some r) told = (told ≡ Some r) ⊎ (told ≡ Some refusal.NoMemory)
 
 pub record TellsSo (why : Option Refusal) (notes : List ℕ) (status : ℕ) (old new : SinkState) : Type 0 where
   pub told : Option Refusal
-  pub same : IsTold why told
+  pub same : IsSaid why told
   pub status_is : status ≡ status_of told
   pub tells : Tells (notes ++ line_of told) old new

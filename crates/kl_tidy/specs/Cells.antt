@@ -17,7 +17,7 @@ abbrev pub joined : ℕ → List ℕ → List ℕ → Option ℤ
 joined n whole fraction =
     cond (is_none (number_in whole) || nat_lt n (length fraction)) None (number_in (whole ++ (fraction ++ replicate (n - length fraction) 48)))
 
--- no point, or one with digits behind it
+-- the integer of a number by where its point stands: nowhere, or before digits
 abbrev pub at_point : ℕ → List ℕ → Option ℕ → Option ℤ
 at_point n cell None = joined n cell []
 at_point n cell (Some at) = cond (is_some (number_in (drop (at + 1) cell))) (joined n (take at cell) (drop (at + 1) cell)) None

@@ -31,7 +31,7 @@ abbrev pub and_then : {A : Type 0} → A → Result (List A) Wrong → Result (L
 and_then x (Ok xs) = Ok (x ∷ xs)
 and_then x (Err w) = Err w
 
--- a cell of the record of a number that is no number of so many decimals
+-- a cell of the record of a number that is no number of at most so many decimals
 abbrev pub wrong_cell : Column → ℕ → List ℕ → Wrong
 wrong_cell column n cell = wrong.Cell n column.name (filled column.missing cell)
 

@@ -11,7 +11,7 @@ use kl_base::NoMemory;
 use kl_prim::number_in;
 use std::alloc::Global;
 
-/// Puts a cell of a column behind a record, as it is printed there. False where it is no number of so many decimals.
+/// Puts a cell of a column behind a record, as it is printed there. False where it is no number of at most so many decimals.
 ///
 /// # Errors
 /// Want of memory.

@@ -28,7 +28,7 @@ pub enum Wrong {
     Record(u64),
     /// No column has this name.
     Column(Text),
-    /// The cell of this record and column is no number of so many decimals.
+    /// The cell of this record and column is no number of at most so many decimals.
     Cell {
         record: u64,
         column: Text,

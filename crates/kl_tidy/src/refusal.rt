@@ -14,7 +14,7 @@ pub const OUT_OF_MEMORY: &[u8] = b"out of memory\n";
 /// Why no table is printed.
 #[derive(Drop, PartialEq, Eq)]
 pub enum Refusal {
-    /// The words name no table.
+    /// The words are no command.
     Usage,
     /// The file at this path is no table as the words name it: so it is wrong first.
     BadFile { path: Text, wrong: Wrong },

@@ -1,6 +1,6 @@
 //! The program `kltable`: copies of tables, over the system's words, files and streams.
 //!
-//! It ends with the status that `kl_tidy` answers. A word that is not UTF-8 is told as words that name no table. Before
+//! It ends with the status that `kl_tidy` answers. A word that is not UTF-8 is told as words that are no command. Before
 //! that call the program can end with 9, where there is no memory for the words, and with 12, where the system gives no
 //! words.
 #![tactic(auto)]
