@@ -13,7 +13,7 @@ returns-then-states_no_other c =
 
 pub returns : goal.returns
 returns c = (
-  ap₂ drift.Header c.in_ok-kept.ensures c.head_as.ensures,
+  ap₂ drift.Header (c.in_ok-kept-2.ensures ∙ c.in_ok-kept.ensures) (c.in_ok-found.ensures ∙ c.head_as.ensures),
   head_not c.args.source.now c.args.found (elim c.else-source-is_some.branch [
     | else-source-is_some-via-then-source-is_some+else-states_no_other w ↦ λ h. false≢true (sym w.if-states_no_other.false ∙ (w.states_no_other.ensures ∙ (ap (λ t. states_no_other t c.args.found) w.item_of.ensures ∙ h.1)))
     | else-source-is_some-via-else-source-is_some w ↦ λ h. beq_other _ _ w.if-source-is_some.false (h.0 ∙ sym c.is_some.ensures)
