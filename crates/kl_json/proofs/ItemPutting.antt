@@ -1,20 +1,28 @@
 -- What is printed of the items of an exchange text, one by one.
-use Rattle.std.proofs.Common.{◌≡◌, inl, inr, ℕ, true, false, List, [], ◌∷◌, ◌++◌, Option, Some, None, Result, Ok, Err, IsSome, refl, sym, ap, subst, ◌∙◌, drop, append_assoc}
+use Rattle.std.proofs.Common.{◌≡◌, inl, inr, ℕ, true, false, List, [], ◌∷◌, ◌++◌, Option, Some, None, Result, Ok, Err, IsSome, refl, sym, ap, subst, ◌∙◌, drop, append_assoc, append-nil}
+use Rattle.std.specs.Prelude.{◌+◌}
 use Rattle.std.proofs.lemmas.List.{flat_map_more, take-append-drop}
 use Rattle.kl_base.proofs.Each.{all_append}
 use Rattle.kl_base.proofs.Rises.{rose_after}
-use Rattle.kl_exchange.specs.FileItems.{BadAt, most_read, TooDeepAt, WholeText}
+use Rattle.kl_exchange.specs.FileItems.{BadAt, Items, PastLimit, most_read, TooDeepAt, WholeText}
 use Rattle.kl_exchange.specs.FileReading.{Leaves, Left}
+use Rattle.kl_exchange.specs.Grammar.{IsItem}
 use Rattle.kl_exchange.specs.Printing.{Puts}
+use Rattle.kl_exchange.specs.Reading.{nesting}
 use Rattle.kl_exchange.specs.declared.FileError.{FileError}
 use Rattle.kl_exchange.specs.declared.FileError.TheVariants as file
 use Rattle.kl_exchange.specs.declared.PrintError.{PrintError}
 use Rattle.kl_exchange.specs.declared.PrintError.TheVariants as page
+use Rattle.kl_exchange.proofs.FileItems.{one_first}
 use Rattle.kl_exchange.proofs.FileReading.{begins_so as begins_fetching}
-use Rattle.kl_heads.specs.FileReading.{HasOpened, HasRead, HeadedFile, NextItem, Opens, ReadsHead, Stands, limit_of}
+use Rattle.kl_exchange.proofs.OneAnswer.{one_front}
+use Rattle.kl_heads.specs.FileReading.{HasOpened, HasRead, HeadedFile, NextItem, Opens, ReadsHead, Stands, limit_of, place_of}
 use Rattle.kl_heads.specs.Files.{Shows}
-use Rattle.kl_json.specs.Answers.{ArePrinted, Ending, FromEnds, ItemsCause, Printing, PutsItems, PutsLine, HasNoLine, IsPrinted, ItemsStand, PutsLines, BeginsItems, file_fault, json_line, json_lines, open_fault, print_fault}
+use Rattle.kl_heads.proofs.OneEnd.{cut_front}
+use Rattle.kl_heads.proofs.OneFile.{one_states}
+use Rattle.kl_json.specs.Answers.{ArePrinted, Ending, FromEnds, ItemsCause, Printing, PutsItems, PutsLine, HasItemAt, HasNoLine, IsPrinted, ItemsStand, PutsLines, BeginsItems, file_fault, fits, json_line, json_lines, open_fault, print_fault}
 use Rattle.kl_json.specs.Files.{Keeps}
+use Rattle.kl_json.specs.Written.{IsUnicode, json_of}
 use Rattle.kl_json.specs.declared.fault.Fault.{Fault}
 use Rattle.kl_json.specs.declared.fault.Fault.TheVariants as fault
 use Rattle.kl_json.proofs.Listing.{failed, line_more, no_read, none_put, well}
@@ -38,7 +46,7 @@ start number = record {
 keeps_of : {T : Type 0} (k : ℕ) (r : Result T FileError) (s t : FilesState) → Leaves k r s t → Keeps k s t
 keeps_of k r s t l = record { told = l.told; others = l.others; is_open = l.is_open; later = l.later }
 
-begins_items : (bytes : List ℕ) (head : Option Ty) (vs : List Value) (now : HeadedFile) (left : Left) → HasRead (Some (Some bytes)) head vs now left → BeginsItems bytes head vs
+abbrev begins_items : (bytes : List ℕ) (head : Option Ty) (vs : List Value) (now : HeadedFile) (left : Left) → HasRead (Some (Some bytes)) head vs now left → BeginsItems bytes head vs
 begins_items bytes head vs now left has =
     let b = has.behind in
     let r = has.items.remains b.0 b.2 in
@@ -80,16 +88,16 @@ from_stopped (file.Bad p) = tt
 from_stopped (file.TooDeep p) = tt
 from_stopped file.TooLong = tt
 
-from_no_line : (head : Option Ty) (v : Value) (f : Fault) → HasNoLine head v f → FromEnds (Err f)
-from_no_line head v fault.Usage h = h
-from_no_line head v fault.Read h = tt
-from_no_line head v fault.Write h = tt
-from_no_line head v fault.NoMemory h = tt
-from_no_line head v (fault.Bad p) h = tt
-from_no_line head v (fault.Refused r p) h = h
-from_no_line head v (fault.NoUnicode p) h = tt
-from_no_line head v fault.Nesting h = tt
-from_no_line head v fault.FileBytes h = tt
+from_no_line : (head : Option Ty) (v : Value) (place : ℕ) (f : Fault) → HasNoLine head v place f → FromEnds (Err f)
+from_no_line head v place fault.Usage h = h
+from_no_line head v place fault.Read h = tt
+from_no_line head v place fault.Write h = tt
+from_no_line head v place fault.NoMemory h = tt
+from_no_line head v place (fault.Bad p) h = tt
+from_no_line head v place (fault.Refused r p) h = h
+from_no_line head v place (fault.NoUnicode p) h = tt
+from_no_line head v place fault.Nesting h = tt
+from_no_line head v place fault.FileBytes h = tt
 
 -- ---- why nothing more was read
 
@@ -107,7 +115,7 @@ head_cause first file.Read now left limit o bytes is = tt
 head_cause first file.NoMemory now left limit o bytes is = tt
 head_cause first (file.Bad p) now left limit o bytes is = inl (None, subst (λ k. Shows k bytes None [] (BadAt p)) limit (o bytes is).0)
 head_cause first (file.TooDeep p) now left limit o bytes is = (None, p, subst (λ k. Shows k bytes None [] (TooDeepAt p)) limit (o bytes is).0)
-head_cause first file.TooLong now left limit o bytes is = tt
+head_cause first file.TooLong now left limit o bytes is = (None, subst (λ k. Shows k bytes None [] PastLimit) limit (o bytes is).0)
 
 item_cause : (first : Left) (head : Option Ty) (vs : List Value) (e : FileError) (now : HeadedFile) (left : Left) → limit_of now ≡ most_read → Stands first head vs (Err e) now left
     → (bytes : List ℕ) → first ≡ Some (Some bytes) → ItemsCause bytes vs (file_fault e)
@@ -115,18 +123,67 @@ item_cause first head vs file.Read now left limit s bytes is = tt
 item_cause first head vs file.NoMemory now left limit s bytes is = tt
 item_cause first head vs (file.Bad p) now left limit s bytes is = inl (head, subst (λ k. Shows k bytes head vs (BadAt p)) limit (s.1 bytes is).0)
 item_cause first head vs (file.TooDeep p) now left limit s bytes is = (head, p, subst (λ k. Shows k bytes head vs (TooDeepAt p)) limit (s.1 bytes is).0)
-item_cause first head vs file.TooLong now left limit s bytes is = tt
+item_cause first head vs file.TooLong now left limit s bytes is = (head, subst (λ k. Shows k bytes head vs PastLimit) limit (s.1 bytes is).0)
 
-line_cause : (bytes : List ℕ) (head : Option Ty) (vs : List Value) (v : Value) (f : Fault) → HasNoLine head v f → BeginsItems bytes head (vs ++ v ∷ []) → ItemsCause bytes vs f
-line_cause bytes head vs v fault.Usage h b = tt
-line_cause bytes head vs v fault.Read h b = tt
-line_cause bytes head vs v fault.Write h b = tt
-line_cause bytes head vs v fault.NoMemory h b = tt
-line_cause bytes head vs v (fault.Bad p) h b = inr (head, v, b, h)
-line_cause bytes head vs v (fault.Refused r p) h b = tt
-line_cause bytes head vs v (fault.NoUnicode p) h b = (head, v, b, h)
-line_cause bytes head vs v fault.Nesting h b = absurd h
-line_cause bytes head vs v fault.FileBytes h b = tt
+-- one item more was read of bytes that begin with these
+pub record MoreItem (read whole rest : List ℕ) (v : Value) : Type 0 where
+  pub item : List ℕ
+  pub is : IsItem nesting item v
+  pub whole_is : whole ≡ read ++ item
+
+more_item : (vs : List Value) (v : Value) (read whole x y : List ℕ) → Items read vs → Items whole (vs ++ v ∷ []) → read ++ x ≡ whole ++ y → MoreItem read whole y v
+more_item [] v read whole x y none (item, rest, is, spells, no_more) same = record {
+  item = item;
+  is = spells;
+  whole_is = is ∙ ap (λ r. item ++ r) no_more ∙ append-nil item ∙ ap (λ r. r ++ item) (sym none);
+}
+more_item (w ∷ vs) v read whole x y (item, rest, is, spells, items) (also, others, is', spells', more) same =
+    let front : item ++ (rest ++ x) ≡ also ++ (others ++ y) =
+    sym (ap (λ bs. bs ++ x) is ∙ append_assoc item rest x) ∙ (same ∙ (ap (λ bs. bs ++ y) is' ∙ append_assoc also others y)) in
+    let first = (one_front nesting nesting item also (rest ++ x) (others ++ y) w w spells spells' front).0 in
+    let behind = (one_first item (rest ++ x) also (others ++ y) w w spells spells' front).1 in
+    let m = more_item vs v rest others x y items more behind in
+    record {
+      item = m.item;
+      is = m.is;
+      whole_is = is' ∙ (λ j. sym first j ++ m.whole_is j) ∙ sym (append_assoc item rest m.item) ∙ ap (λ bs. bs ++ m.item) (sym is);
+    }
+
+-- The item that was read last stands behind those before it, at the place where the reader stood.
+item_there : (bytes : List ℕ) (head : Option Ty) (vs : List Value) (v : Value) (old new : HeadedFile) (left left' : Left) (Lacks : Option Ty → Value → Type 0) (p : ℕ)
+    → HasRead (Some (Some bytes)) head vs old left → HasRead (Some (Some bytes)) head (vs ++ v ∷ []) new left' → p ≡ place_of old → Lacks head v → HasItemAt bytes vs p Lacks
+item_there bytes head vs v old new left left' Lacks p before after place lacks =
+    let b = begins_items bytes head vs old left before in
+    let a = begins_items bytes head (vs ++ v ∷ []) new left' after in
+    let fronts : b.front ≡ a.front = one_states head b.front a.front (b.read ++ b.rest) (a.read ++ a.rest) b.states a.states (sym b.whole ∙ a.whole) in
+    let behind : b.read ++ b.rest ≡ a.read ++ a.rest = cut_front b.front (b.read ++ b.rest) (a.read ++ a.rest) (sym b.whole ∙ a.whole ∙ ap (λ f. f ++ (a.read ++ a.rest)) (sym fronts)) in
+    let m = more_item vs v b.read a.read b.rest a.rest b.items a.items behind in
+    record {
+      head = head;
+      value = v;
+      front = b.front;
+      read = b.read;
+      item = m.item;
+      rest = a.rest;
+      whole = a.whole ∙ (λ j. sym fronts j ++ (m.whole_is j ++ a.rest)) ∙ ap (λ r. b.front ++ r) (append_assoc b.read m.item a.rest);
+      states = b.states;
+      items = b.items;
+      is = m.is;
+      stands = place ∙ (λ j. sym before.size j + before.items.place j);
+      lacks = lacks;
+    }
+
+line_cause : (bytes : List ℕ) (head : Option Ty) (vs : List Value) (v : Value) (old new : HeadedFile) (left left' : Left) (f : Fault) → HasNoLine head v (place_of old) f
+    → HasRead (Some (Some bytes)) head vs old left → HasRead (Some (Some bytes)) head (vs ++ v ∷ []) new left' → ItemsCause bytes vs f
+line_cause bytes head vs v old new left left' fault.Usage h b a = tt
+line_cause bytes head vs v old new left left' fault.Read h b a = tt
+line_cause bytes head vs v old new left left' fault.Write h b a = tt
+line_cause bytes head vs v old new left left' fault.NoMemory h b a = tt
+line_cause bytes head vs v old new left left' (fault.Bad p) h b a = inr (item_there bytes head vs v old new left left' (λ g w. fits g w ≡ false) p b a h.0 h.1)
+line_cause bytes head vs v old new left left' (fault.Refused r p) h b a = tt
+line_cause bytes head vs v old new left left' (fault.NoUnicode p) h b a = item_there bytes head vs v old new left left' (λ g w. IsUnicode (json_of w) → ⊥) p b a h.0 h.1
+line_cause bytes head vs v old new left left' fault.Nesting h b a = absurd h
+line_cause bytes head vs v old new left left' fault.FileBytes h b a = absurd h
 
 -- the items read are on the page
 pub record Listed (head : Option Ty) (old : HeadedFile) (files files' : FilesState) (out out' : SinkState) (now : HeadedFile) (held : List ℕ) : Type 0 where
@@ -231,17 +288,6 @@ module _ (head : Option Ty) (old : HeadedFile) (files files' : FilesState) (out 
       → (first : Left) → HasRead first head [] old (files.left old.items.file) → (bytes : List ℕ) → first ≡ Some (Some bytes) → (e : Fault) → ItemsCause bytes vs e → ItemsStand bytes vs (Err e)
   was_read vs new left goes lines first has bytes is e why = (inr (head, begins_items bytes head vs new left (subst (λ f. HasRead f head vs new left) is (goes first has)), lines), why)
 
-  pub listed_all : PutsItems old head (Ok (Err fault.FileBytes)) files files' out out' held
-  listed_all = record {
-    keeps = l.keeps;
-    ends = tt;
-    printed = l.printed;
-    meant = λ first has bytes is. was_read l.printed now (files'.left old.items.file) l.read l.lines first has bytes is fault.FileBytes tt;
-    puts = l.puts;
-    read = λ e. absurd cc;
-    unwritten = λ end is e. let no : failed fault.FileBytes ≡ failed fault.Write = (let it : failed fault.FileBytes ≡ end = cc in it) ∙ e in cc;
-  }
-
   module _ (r : Result (Option Value) FileError) (new : HeadedFile) (files'' : FilesState) (n : NextItem r now new files' files'') where
     keeps_on : Keeps old.items.file files files''
     keeps_on = keeps_then old.items.file files files' files'' l.keeps (subst (λ k. Keeps k files' files'') l.file (keeps_of now.items.file r files' files'' n.leaves))
@@ -258,7 +304,7 @@ module _ (head : Option Ty) (old : HeadedFile) (files files' : FilesState) (out 
   all_printed v p = all_append (IsPrinted head) l.printed (v ∷ []) l.lines (p, tt)
 
   pub listed_more : (v : Value) (new : HeadedFile) (files'' : FilesState) → NextItem (Ok (Some v)) now new files' files'' → (u : Unit {0}) (out'' : SinkState) (held' : List ℕ)
-      → PutsLine head v (Ok (Ok u)) out' held out'' held' → Listed head old files files'' out out'' new held'
+      → PutsLine head v (place_of now) (Ok (Ok u)) out' held out'' held' → Listed head old files files'' out out'' new held'
   listed_more v new files'' n u out'' held' p = record {
     file = n.same.file ∙ l.file;
     limit = limit_on (Ok (Some v)) new files'' n;
@@ -271,18 +317,19 @@ module _ (head : Option Ty) (old : HeadedFile) (files files' : FilesState) (out 
   }
 
   pub listed_unprinted : (v : Value) (new : HeadedFile) (files'' : FilesState) → NextItem (Ok (Some v)) now new files' files'' → (r : Printing) (out'' : SinkState) (held' : List ℕ)
-      → ((u : Unit {0}) → r ≡ Ok (Ok u) → ⊥) → PutsLine head v r out' held out'' held' → PutsItems old head r files files'' out out'' held'
+      → ((u : Unit {0}) → r ≡ Ok (Ok u) → ⊥) → PutsLine head v (place_of now) r out' held out'' held' → PutsItems old head r files files'' out out'' held'
   listed_unprinted v new files'' n (Ok (Ok u)) out'' held' stopped p = absurd (stopped u refl)
   listed_unprinted v new files'' n (Ok (Err f)) out'' held' stopped p = record {
     keeps = keeps_on (Ok (Some v)) new files'' n;
-    ends = from_no_line head v f p.0;
+    ends = from_no_line head v (place_of now) f p.0;
     printed = l.printed;
     meant = λ first has bytes at. was_read l.printed now (files'.left old.items.file) l.read l.lines first has bytes at f
-        (line_cause bytes head l.printed v f p.0 (begins_items bytes head (l.printed ++ v ∷ []) new (files''.left old.items.file)
-        (subst (λ g. HasRead g head (l.printed ++ v ∷ []) new (files''.left old.items.file)) at (told_on (Ok (Some v)) new files'' n first (l.read first has)))));
+        (line_cause bytes head l.printed v now new (files'.left old.items.file) (files''.left old.items.file) f p.0
+        (subst (λ g. HasRead g head l.printed now (files'.left old.items.file)) at (l.read first has))
+        (subst (λ g. HasRead g head (l.printed ++ v ∷ []) new (files''.left old.items.file)) at (told_on (Ok (Some v)) new files'' n first (l.read first has))));
     puts = subst (λ o. Puts {T = Unit {0}} (json_lines l.printed) (Ok tt) out [] o held') (sym p.1) (subst (Puts {T = Unit {0}} (json_lines l.printed) (Ok tt) out [] out') (sym p.2) l.puts);
-    read = λ e. absurd (subst (HasNoLine head v) (same_fault f fault.Read e) p.0);
-    unwritten = λ end at e. absurd (subst (HasNoLine head v) (same_fault f fault.Write ((let it : failed f ≡ end = cc in it) ∙ e)) p.0);
+    read = λ e. absurd (subst (HasNoLine head v (place_of now)) (same_fault f fault.Read e) p.0);
+    unwritten = λ end at e. absurd (subst (HasNoLine head v (place_of now)) (same_fault f fault.Write ((let it : failed f ≡ end = cc in it) ∙ e)) p.0);
   }
     where
       same_fault : (f g : Fault) → failed f ≡ failed g → f ≡ g

@@ -1,5 +1,6 @@
 mod Answering
 mod Back
+mod Fetched
 mod ItemPutting
 mod Listing
 mod Made

@@ -70,6 +70,7 @@ listed_first c number files out now held is_open same empty = record {
     values = refl;
     blank = tt;
     stands = refl;
+    total = refl;
     fresh = refl;
     fetched = subst (HasRead (Some (Some bytes)) [] (unread number).items) (sym is) (begins_fetching (unread number).items (Some (Some bytes)) refl refl);
   });
@@ -86,7 +87,7 @@ begins_of c bytes vs (Err fault.NoMemory) s = s
 begins_of c bytes vs (Err (fault.Bad p)) s = s
 begins_of c bytes vs (Err (fault.NoUnicode p)) s = s
 begins_of c bytes vs (Err fault.Nesting) s = s
-begins_of c bytes vs (Err fault.FileBytes) s = s
+begins_of c bytes vs (Err fault.FileBytes) s = s.0
 
 stands_unprinted : (c : Choices) (bytes : List ℕ) (vs : List Value) (e : PrintError) → Begins c bytes vs → JsonStands c bytes vs (Err (print_fault e))
 stands_unprinted c bytes vs page.Failed b = b
@@ -104,7 +105,7 @@ stands_stopped c first vs error.Read now left t bytes is = begins_so c bytes vs 
 stands_stopped c first vs error.NoMemory now left t bytes is = begins_so c bytes vs now left (t bytes is)
 stands_stopped c first vs (error.Bad p) now left t bytes is = begins_so c bytes vs now left (t bytes is)
 stands_stopped c first vs (error.TooDeep p) now left t bytes is = begins_so c bytes vs now left (t bytes is)
-stands_stopped c first vs error.TooLong now left t bytes is = begins_so c bytes vs now left (t bytes is)
+stands_stopped c first vs error.TooLong now left t bytes is = let long = t bytes is in (begins_so c bytes vs now left long.0, long.1)
 stands_stopped c first vs (error.Refused r p) now left t bytes is = t bytes is
 
 is_read : (e : JsonError) → failed (json_fault e) ≡ failed fault.Read → e ≡ error.Read
@@ -124,17 +125,6 @@ no_write error.TooLong is = cc
 no_write (error.Refused r p) is = cc
 
 module _ (c : Choices) (number : ℕ) (files files' : FilesState) (out out' : SinkState) (now : Reading) (held : List ℕ) (l : Listed c number files files' out out' now held) where
-  pub listed_all : PutsLines item_lines ToEnds (JsonStands c) number (Ok (Err fault.FileBytes)) files files' out out' held
-  listed_all = record {
-    keeps = l.keeps;
-    ends = tt;
-    printed = l.printed;
-    meant = λ bytes is. begins_so c bytes l.printed now (files'.left number) (l.values bytes is);
-    puts = l.puts;
-    read = λ e. absurd cc;
-    unwritten = λ end is e. let no : failed fault.FileBytes ≡ failed fault.Write = (let it : Err fault.FileBytes ≡ end = cc in it) ∙ e in cc;
-  }
-
   module _ (r : Result (Option Value) JsonError) (new : Reading) (files'' : FilesState) (n : NextValue c r now new files' files'') where
     keeps_on : Keeps number files files''
     keeps_on = keeps_then number files files' files'' l.keeps (subst (λ k. Keeps k files' files'') l.file n.keeps)

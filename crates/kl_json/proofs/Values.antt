@@ -97,6 +97,8 @@ module _ (c : Choices) (bytes : List ℕ) (vs : List Value) (now : Reading) (lef
       let front = take n now.items.text.left in
       let stands = has.stands in
       let size = length-append has.white front in
+      let total = has.total in
+      let within = has.fetched.within in
       let length_front = length-take n now.items.text.left in
       let f = few in
       record {
@@ -108,6 +110,7 @@ module _ (c : Choices) (bytes : List ℕ) (vs : List Value) (now : Reading) (lef
         values = subst (Values c has.read vs) (ap (λ x. has.white ++ x) k.whole ∙ sym (append_assoc has.white front k.behind)) has.values;
         blank = all_append (λ b. IsTrue (is_blank b)) has.white front has.blank blank;
         stands = omega arith;
+        total = omega arith;
         fresh = has.fresh;
         fetched = k.fetched;
       }
@@ -131,6 +134,8 @@ module _ (c : Choices) (bytes : List ℕ) (vs : List Value) (now : Reading) (lef
       let text = take n now.items.text.left in
       let read = (has.read ++ has.white) ++ text in
       let stands = has.stands in
+      let total = has.total in
+      let within = has.fetched.within in
       let one = length-append has.read has.white in
       let two = length-append (has.read ++ has.white) text in
       let length_text = length-take n now.items.text.left in
@@ -144,6 +149,7 @@ module _ (c : Choices) (bytes : List ℕ) (vs : List Value) (now : Reading) (lef
         values = push c has.read has.white text k.behind vs v (subst (λ x. Values c has.read vs (has.white ++ x)) k.whole has.values) has.blank is (ends_here n k ends);
         blank = tt;
         stands = omega arith;
+        total = omega arith;
         fresh = has.fresh;
         fetched = k.fetched;
       }

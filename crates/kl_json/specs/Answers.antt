@@ -1,13 +1,15 @@
 -- What the commands do to a file and a sink, and how they end.
-use Rattle.std.specs.Prelude.{◌≡◌, ◌⊎◌, ℕ, Bool, true, false, List, [], ◌∷◌, ◌++◌, codes, decimal, Option, Some, None, Result, Ok, Err, ⊤}
+use Rattle.std.specs.Prelude.{◌≡◌, ◌⊎◌, ◌+◌, ◌<◌, ℕ, length, Bool, true, false, List, [], ◌∷◌, ◌++◌, codes, decimal, Option, Some, None, Result, Ok, Err, ⊤}
 use Rattle.std.specs.Io.KnownBytes.{append_known}
 use Rattle.std.specs.List.{AllByRecursion, flat_map}
 use Rattle.json.specs.Print.{print}
 use Rattle.json.specs.Tree.{json_tokens}
 use Rattle.kl_base.specs.Counts.{Rose}
-use Rattle.kl_exchange.specs.FileItems.{BadAt, Items, most_read, TooDeepAt, WholeText}
+use Rattle.kl_exchange.specs.FileItems.{BadAt, Items, PastLimit, most_read, TooDeepAt, WholeText}
 use Rattle.kl_exchange.specs.FileReading.{Left}
+use Rattle.kl_exchange.specs.Grammar.{IsItem}
 use Rattle.kl_exchange.specs.Printing.{Puts, as_stop}
+use Rattle.kl_exchange.specs.Reading.{nesting}
 use Rattle.kl_exchange.specs.declared.FileError.{FileError}
 use Rattle.kl_exchange.specs.declared.FileError.TheVariants as file
 use Rattle.kl_exchange.specs.declared.PrintError.{PrintError}
@@ -86,10 +88,12 @@ pub record Does (lines : List Value → List ℕ) (Ends : Ending → Type 0) (St
   pub missing : IsMissing files path → (end ≡ Err fault.Read) × (files'.faults ≡ files.faults) × (out' ≡ out)
   pub write : end ≡ Err fault.Write → Rose out.faults out'.faults
 
--- `to`: the file has these values and no more, or these and then one that is refused, or it begins with these.
+-- `to`: the file has these values and no more, or these and then one that is refused, or it begins with these. It is too long
+-- where it has more bytes than are looked at.
 abbrev pub JsonStands : Choices → List ℕ → List Value → Ending → Type 0
 JsonStands c bytes vs (Ok done) = IsFile c bytes vs
 JsonStands c bytes vs (Err (fault.Refused r place)) = RefusesAt c bytes vs r place
+JsonStands c bytes vs (Err fault.FileBytes) = Begins c bytes vs × (most_read < length bytes)
 JsonStands c bytes vs (Err e) = Begins c bytes vs
 
 -- whether a value has the type that is stated, if any is
@@ -114,17 +118,29 @@ pub record BeginsItems (bytes : List ℕ) (head : Option Ty) (vs : List Value) :
   pub states : States head front
   pub items : Items read vs
 
--- One item more stands there, of which this is true.
-abbrev pub HasItem : List ℕ → List Value → (Option Ty → Value → Type 0) → Type 0
-HasItem bytes vs Lacks = (head : Option Ty) × (v : Value) × BeginsItems bytes head (vs ++ v ∷ []) × Lacks head v
+-- One item more stands behind these, and so many bytes before it; of the head that is stated and its value this is true.
+pub record HasItemAt (bytes : List ℕ) (vs : List Value) (place : ℕ) (Lacks : Option Ty → Value → Type 0) : Type 0 where
+  pub head : Option Ty
+  pub value : Value
+  pub front : List ℕ
+  pub read : List ℕ
+  pub item : List ℕ
+  pub rest : List ℕ
+  pub whole : bytes ≡ front ++ (read ++ (item ++ rest))
+  pub states : States head front
+  pub items : Items read vs
+  pub is : IsItem nesting item value
+  pub stands : place ≡ length front + length read
+  pub lacks : Lacks head value
 
--- Why nothing more was read behind these items: the file goes on with what is no item, or no head; or an item lacks the type
--- that the head states, or has a text that is no UTF-8; or a bracket opens inside too many others. Of the other
--- faults nothing is said here.
+-- Why nothing more was read behind these items: the file goes on with what is no item, or no head; or the item that stands
+-- there lacks the type that the head states, or has a text that is no UTF-8; or a bracket opens inside too many others; or the
+-- file has more bytes than are looked at, and less than an item up to there. Of the other faults nothing is said here.
 abbrev pub ItemsCause : List ℕ → List Value → Fault → Type 0
-ItemsCause bytes vs (fault.Bad place) = ((head : Option Ty) × Shows most_read bytes head vs (BadAt place)) ⊎ HasItem bytes vs (λ head v. fits head v ≡ false)
-ItemsCause bytes vs (fault.NoUnicode place) = HasItem bytes vs (λ head v. IsUnicode (json_of v) → ⊥)
+ItemsCause bytes vs (fault.Bad place) = ((head : Option Ty) × Shows most_read bytes head vs (BadAt place)) ⊎ HasItemAt bytes vs place (λ head v. fits head v ≡ false)
+ItemsCause bytes vs (fault.NoUnicode place) = HasItemAt bytes vs place (λ head v. IsUnicode (json_of v) → ⊥)
 ItemsCause bytes vs fault.Nesting = (head : Option Ty) × (place : ℕ) × Shows most_read bytes head vs (TooDeepAt place)
+ItemsCause bytes vs fault.FileBytes = (head : Option Ty) × Shows most_read bytes head vs PastLimit
 ItemsCause bytes vs f = ⊤
 
 -- `from`: the file has this head, or none, and these items and no more, or it begins with them, and there is a cause for that;
@@ -258,18 +274,18 @@ abbrev pub Finishes : Printing → Ending → List ℕ → SinkState → SinkSta
 Finishes (Ok inner) end held old new = (flushed : Result (Unit {0}) PrintError) × WritesWhole held (as_stop flushed) old new × (end ≡ flushed_end inner flushed)
 Finishes (Err e) end held old new = (end ≡ Err (print_fault e)) × (new ≡ old)
 
--- why an item has no line: it lacks the type that is stated, or has a text that is no UTF-8; or memory was wanting
-abbrev pub HasNoLine : Option Ty → Value → Fault → Type 0
-HasNoLine head v fault.NoMemory = ⊤
-HasNoLine head v (fault.Bad place) = fits head v ≡ false
-HasNoLine head v (fault.NoUnicode place) = IsUnicode (json_of v) → ⊥
-HasNoLine head v f = ⊥
+-- why an item at a place has no line: it lacks the type that is stated, or has a text that is no UTF-8; or memory was wanting
+abbrev pub HasNoLine : Option Ty → Value → ℕ → Fault → Type 0
+HasNoLine head v place fault.NoMemory = ⊤
+HasNoLine head v place (fault.Bad p) = (p ≡ place) × (fits head v ≡ false)
+HasNoLine head v place (fault.NoUnicode p) = (p ≡ place) × (IsUnicode (json_of v) → ⊥)
+HasNoLine head v place f = ⊥
 
--- the line of an item is on the page, or the item has none, or the sink refused it
-abbrev pub PutsLine : Option Ty → Value → Printing → SinkState → List ℕ → SinkState → List ℕ → Type 0
-PutsLine head v (Ok (Ok done)) old held new after = IsPrinted head v × Puts {T = Unit {0}} (json_line v) (Ok tt) old held new after
-PutsLine head v (Ok (Err f)) old held new after = HasNoLine head v f × (new ≡ old) × (after ≡ held)
-PutsLine head v (Err e) old held new after = IsPrinted head v × Puts {T = Unit {0}} (json_line v) (as_stop {T = Unit {0}} (Err e)) old held new after
+-- the line of an item at a place is on the page, or the item has none, or the sink refused it
+abbrev pub PutsLine : Option Ty → Value → ℕ → Printing → SinkState → List ℕ → SinkState → List ℕ → Type 0
+PutsLine head v place (Ok (Ok done)) old held new after = IsPrinted head v × Puts {T = Unit {0}} (json_line v) (Ok tt) old held new after
+PutsLine head v place (Ok (Err f)) old held new after = HasNoLine head v place f × (new ≡ old) × (after ≡ held)
+PutsLine head v place (Err e) old held new after = IsPrinted head v × Puts {T = Unit {0}} (json_line v) (as_stop {T = Unit {0}} (Err e)) old held new after
 
 -- A head was read of a file, or that there is none, and no item; then items are printed.
 pub record PutsItems (old : HeadedFile) (head : Option Ty) (result : Printing) (files files' : FilesState) (out out' : SinkState) (held : List ℕ) : Type 0 where

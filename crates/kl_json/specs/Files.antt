@@ -1,11 +1,11 @@
 -- The JSON values of a file, one behind the other.
-use Rattle.std.specs.Prelude.{◌≡◌, ℕ, ◌+◌, ◌-◌, ◌≤◌, Bool, true, false, ◌||◌, ◌==◌, IsTrue, List, [], ◌∷◌, ◌++◌, length, take, drop, ⊤}
-use Rattle.std.specs.Prelude.{Option, Some, None, Result, Ok, Err, IsSome}
+use Rattle.std.specs.Prelude.{◌≡◌, ℕ, ◌+◌, ◌-◌, ◌<◌, ◌≤◌, Bool, true, false, ◌||◌, ◌==◌, IsTrue, List, [], ◌∷◌, ◌++◌, length, take, drop, ⊤}
+use Rattle.std.specs.Prelude.{Option, Some, None, Result, Ok, Err, OnOk, IsSome}
 use Rattle.std.specs.Str.{IsUtf8}
 use Rattle.json.specs.Json.{Json, document}
 use Rattle.kl_base.specs.Counts.{Rose}
 use Rattle.kl_exchange.specs.FileItems.{most_read}
-use Rattle.kl_exchange.specs.FileReading.{FileReading, HasRead as HasFetched, Left}
+use Rattle.kl_exchange.specs.FileReading.{FileReading, HasRead as HasFetched, Left, to_come}
 use Rattle.kl_exchange.specs.declared.FileError.{FileError}
 use Rattle.kl_exchange.specs.declared.FileError.TheVariants as fault
 use Rattle.kl_exchange.specs.Grammar.{Blank, is_blank}
@@ -132,6 +132,7 @@ pub record HasPassed (c : Choices) (bytes : List ℕ) (vs : List Value) (now : R
   pub values : Values c read vs (white ++ rest)
   pub blank : Blank white
   pub stands : now.place ≡ length read + length white
+  pub total : now.place + now.items.limit ≡ most_read
   pub fresh : now.items.text.refused ≡ None
   pub fetched : HasFetched (Some (Some rest)) [] now.items left
 
@@ -143,6 +144,7 @@ abbrev pub Told : Choices → Left → List Value → Result (Option Value) Json
 Told c first vs (Ok (Some v)) now left = HasValues c first (vs ++ v ∷ []) now left
 Told c first vs (Ok None) now left = (bytes : List ℕ) → first ≡ Some (Some bytes) → IsFile c bytes vs
 Told c first vs (Err (error.Refused r place)) now left = (bytes : List ℕ) → first ≡ Some (Some bytes) → RefusesAt c bytes vs r place
+Told c first vs (Err error.TooLong) now left = (bytes : List ℕ) → first ≡ Some (Some bytes) → HasPassed c bytes vs now left × (most_read < length bytes)
 Told c first vs (Err e) now left = HasValues c first vs now left
 
 -- the other files are left alone, and this one is open still
@@ -157,6 +159,7 @@ pub record NextValue (c : Choices) (result : Result (Option Value) JsonError) (o
   pub file : new.items.file ≡ old.items.file
   pub keeps : Keeps old.items.file files files'
   pub failed : result ≡ Err error.Read → Rose files.faults files'.faults
+  pub less : (v : Value) → result ≡ Ok (Some v) → to_come new.items < to_come old.items
   pub goes : (first : Left) (vs : List Value) → HasValues c first vs old (files.left old.items.file) → Told c first vs result new (files'.left old.items.file)
 
 -- ---- for private functions alone
@@ -181,10 +184,13 @@ pub record FetchesOn (result : Result (Unit {0}) JsonError) (old new : Reading) 
   pub file : new.items.file ≡ old.items.file
   pub place : new.place ≡ old.place
   pub fresh : new.items.text.refused ≡ old.items.text.refused
+  pub limit : new.items.limit ≡ old.items.limit
+  pub less : OnOk result (to_come new.items < to_come old.items)
   pub keeps : Keeps old.items.file files files'
   pub failed : result ≡ Err error.Read → Rose files.faults files'.faults
   pub goes : (first : Left) → HasFetched first [] old.items (files.left old.items.file) → HasFetched first [] new.items (files'.left old.items.file)
   pub plain : (r : Refusal) (p : ℕ) → result ≡ Err (error.Refused r p) → ⊥
+  pub long : (first : Left) → HasFetched first [] old.items (files.left old.items.file) → result ≡ Err error.TooLong → new.items.past ≡ true
 
 -- what comes of the text of the first bytes
 abbrev pub TakesText : Choices → ℕ → Result (Option Value) JsonError → Reading → Reading → Type 0
@@ -194,6 +200,8 @@ TakesText c n (Ok None) old new = ⊥
 TakesText c n (Err (error.Refused r p)) old new = IsRefused c (take n old.items.text.left) r
     × IsTrue (closes_itself (take n old.items.text.left) || follows old.items.text.finished (drop n old.items.text.left)) × (p ≡ old.place) × (new ≡ old)
 TakesText c n (Err error.Read) old new = ⊥
+TakesText c n (Err error.TooLong) old new = ⊥
+TakesText c n (Err (error.TooDeep p)) old new = ⊥
 TakesText c n (Err e) old new = new ≡ old
 
 -- what is left where the file has ended

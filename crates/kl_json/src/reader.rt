@@ -90,7 +90,7 @@ impl JsonReader {
         requires { IsSome ((F.state files.old).left self.old.items.file) }
         ensures { NextValue choices.now result self.old self.new (F.state files.old) (F.state files.new) }
     {
-        'pieces: for _ in 0..u64::MAX {
+        'pieces: loop {
             self.pass_blanks();
             match self.look() {
                 Found::Ends(count) => return self.take(choices, count),
@@ -109,7 +109,6 @@ impl JsonReader {
                 Err(error) => return Err(error),
             }
         }
-        Err(JsonError::TooLong)
     }
 
     // Where the value ends that stands first in what was fetched.
@@ -194,7 +193,7 @@ impl JsonReader {
     {
         self.items.cut(count);
         self.place += count as u64;
-        self.scan = self.scan.behind(count);
+        self.scan.pass(count);
     }
 
     // Fetches more bytes, or learns that there are none.

@@ -1,9 +1,13 @@
 //! Where a JSON value ends that stands first in some bytes.
+//!
+//! It is found by brackets, quotes, commas and colons: where all is closed, or with the first byte that no JSON value has
+//! there. So what is no JSON is mostly known some bytes behind what is wrong, and no more is held of the file than that.
 ghost use Rattle.std.specs.Prelude.{◌≡◌, ◌≤◌, ◌||◌, ◌-◌, length, take, drop, true, false};
 ghost use Rattle.std.specs.List.{list_all};
 ghost use Rattle.kl_exchange.specs.Grammar.{is_blank};
 ghost use Rattle.kl_json.specs.Files.{IsWithin, begins_closed, closes_itself, follows, may_follow, starts_blank};
 
+use arrayvec::ArrayVec;
 use kl_exchange::is_blank;
 
 // How many arrays and objects may stand in one another.
@@ -16,8 +20,10 @@ enum Place {
     First,
     // A number or a word.
     Word,
-    // Brackets, and no string.
-    Brackets,
+    // Brackets, where a value may begin.
+    Before,
+    // Brackets, where none may begin: behind a value, or in a number or a word.
+    After,
     // A string.
     Text,
     // Behind a backslash.
@@ -30,17 +36,18 @@ enum Step {
     On,
     // It stands behind the value.
     Behind,
-    // It is its last.
+    // It is its last, or no JSON value goes on with it.
     Last,
     // It opens a bracket too many.
     TooDeep,
 }
 
 /// How far the bytes of a value were looked at, and what is open there.
-#[derive(Clone, Copy, Drop)]
+#[derive(Drop)]
 pub struct Scan {
     at: usize,
-    open: usize,
+    // What closes the brackets that are open, the innermost last.
+    open: ArrayVec<u8, MOST_OPEN>,
     place: Place,
 }
 
@@ -49,7 +56,7 @@ pub struct Scan {
 pub enum Found {
     /// The bytes are less than the value, as far as is known.
     More,
-    /// It ends behind so many bytes.
+    /// It ends behind so many bytes, or they are none.
     Ends(usize),
     /// The byte at this place opens a bracket inside 128 others.
     TooDeep(usize),
@@ -60,14 +67,16 @@ impl Scan {
     pub fn new() -> Scan {
         Scan {
             at: 0,
-            open: 0,
+            open: ArrayVec::new(),
             place: Place::First,
         }
     }
 
-    /// Before the first of the bytes behind so many.
-    pub fn behind(self, count: usize) -> Scan {
-        if count > 0 { Scan::new() } else { self }
+    /// Goes to the first of the bytes behind so many.
+    pub fn pass(&mut self, count: usize) {
+        if count > 0 {
+            *self = Scan::new();
+        }
     }
 
     /// Whether the bytes are a number or a word so far, which may end behind them.
@@ -93,10 +102,7 @@ impl Scan {
 
     fn step(&mut self, byte: u8) -> Step {
         match self.place {
-            Place::First => {
-                self.begin(byte);
-                Step::On
-            }
+            Place::First => self.begin(byte),
             Place::Word => {
                 if may_follow(byte) {
                     Step::Behind
@@ -104,7 +110,14 @@ impl Scan {
                     Step::On
                 }
             }
-            Place::Brackets => self.in_brackets(byte),
+            Place::Before => self.inside(byte),
+            Place::After => {
+                if begins_closed(byte) {
+                    Step::Last
+                } else {
+                    self.inside(byte)
+                }
+            }
             Place::Text => self.in_text(byte),
             Place::Escape => {
                 self.place = Place::Text;
@@ -113,40 +126,52 @@ impl Scan {
         }
     }
 
-    fn begin(&mut self, byte: u8) {
+    fn begin(&mut self, byte: u8) -> Step {
         match byte {
-            b'{' | b'[' => {
-                self.open = 1;
-                self.place = Place::Brackets;
-            }
-            b'"' => self.place = Place::Text,
-            _ => self.place = Place::Word,
-        }
-    }
-
-    fn in_brackets(&mut self, byte: u8) -> Step {
-        match byte {
+            b'{' => self.opens(b'}'),
+            b'[' => self.opens(b']'),
             b'"' => {
                 self.place = Place::Text;
                 Step::On
             }
-            b'{' | b'[' => {
-                if self.open < MOST_OPEN {
-                    self.open += 1;
-                    Step::On
-                } else {
-                    Step::TooDeep
-                }
+            _ => {
+                self.place = Place::Word;
+                Step::On
             }
+        }
+    }
+
+    fn opens(&mut self, closing: u8) -> Step {
+        match self.open.try_push(closing) {
+            Ok(()) => {
+                self.place = Place::Before;
+                Step::On
+            }
+            Err(_) => Step::TooDeep,
+        }
+    }
+
+    fn inside(&mut self, byte: u8) -> Step {
+        match byte {
+            b'"' | b'{' | b'[' => self.begin(byte),
             b'}' | b']' => {
-                if self.open > 1 {
-                    self.open -= 1;
+                if self.open.pop() == Some(byte) && !self.open.is_empty() {
+                    self.place = Place::After;
                     Step::On
                 } else {
                     Step::Last
                 }
             }
-            _ => Step::On,
+            b',' | b':' => {
+                self.place = Place::Before;
+                Step::On
+            }
+            _ => {
+                if !is_blank(byte) {
+                    self.place = Place::After;
+                }
+                Step::On
+            }
         }
     }
 
@@ -156,11 +181,12 @@ impl Scan {
                 self.place = Place::Escape;
                 Step::On
             }
-            b'"' if self.open == 0 => Step::Last,
-            b'"' => {
-                self.place = Place::Brackets;
+            b'"' if !self.open.is_empty() => {
+                self.place = Place::After;
                 Step::On
             }
+            b'"' => Step::Last,
+            _ if byte < b' ' => Step::Last,
             _ => Step::On,
         }
     }

@@ -138,7 +138,7 @@ fn list_values<F: Files, S: Sink>(
     requires empty { page.old ≡ [] }
     ensures { PutsLines item_lines ToEnds (JsonStands choices.now) reader.old.items.file result (F.state files.old) (F.state files.new) (S.state out.old) (S.state out.new) page.new }
 {
-    'items: for _ in 0..u64::MAX {
+    'items: loop {
         match reader.next(choices, files) {
             Ok(Some(value)) => match put_item(&value, page, out) {
                 Ok(()) => {}
@@ -148,7 +148,6 @@ fn list_values<F: Files, S: Sink>(
             Err(error) => return Ok(Err(json_fault(error))),
         }
     }
-    Ok(Err(Fault::FileBytes))
 }
 
 fn put_item<S: Sink>(value: &Value, page: &mut Page, out: &mut S) -> Result<(), PrintError>
@@ -220,7 +219,7 @@ fn put_items<F: Files, S: Sink>(
     requires empty { page.old ≡ [] }
     ensures { PutsItems reader.old stated.now result (F.state files.old) (F.state files.new) (S.state out.old) (S.state out.new) page.new }
 {
-    'items: for _ in 0..u64::MAX {
+    'items: loop {
         let place = reader.place();
         match reader.next(files) {
             Ok(Some(value)) => match put_line(alloc, &value, place, stated, page, out) {
@@ -232,10 +231,9 @@ fn put_items<F: Files, S: Sink>(
             Err(error) => return Ok(Err(file_fault(error))),
         }
     }
-    Ok(Err(Fault::FileBytes))
 }
 
-// Puts the line of an item on the page, where it has one.
+// Puts the line of an item behind so many bytes on the page, where it has one.
 fn put_line<S: Sink>(
     alloc: Global,
     value: &Value,
@@ -244,7 +242,7 @@ fn put_line<S: Sink>(
     page: &mut Page,
     out: &mut S,
 ) -> Printing
-    ensures { PutsLine stated.now value.now result (S.state out.old) page.old (S.state out.new) page.new }
+    ensures { PutsLine stated.now value.now place result (S.state out.old) page.old (S.state out.new) page.new }
 {
     let line = match line_of(alloc, value, place, stated) {
         Ok(line) => line,
@@ -259,7 +257,7 @@ fn put_line<S: Sink>(
 // The line of an item, behind so many bytes, where it has the type that is stated.
 fn line_of(alloc: Global, value: &Value, place: u64, stated: &Option<Ty>) -> Result<Vec<u8>, Fault>
     ensures { MatchResult result (λ line. (line.items ≡ json_line value.now) × IsPrinted stated.now value.now)
-        (λ fault. HasNoLine stated.now value.now fault) }
+        (λ fault. HasNoLine stated.now value.now place fault) }
 {
     if !fits(stated, value) {
         return Err(Fault::Bad(place));

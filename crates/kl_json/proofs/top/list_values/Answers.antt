@@ -1,6 +1,6 @@
 use Rattle.std.proofs.Common.{Ok, Err, IsSome, sym, subst}
 use Rattle.kl_json.specs.Answers.{JsonStands, PutsLines, ToEnds, item_lines}
-use Rattle.kl_json.proofs.Putting.{listed_first, listed_more, listed_unprinted, listed_end, listed_stopped, listed_all}
+use Rattle.kl_json.proofs.Putting.{listed_first, listed_more, listed_unprinted, listed_end, listed_stopped}
 use Rattle.kl_json.proofs.top.list_values.Goals as goal
 
 pub items-init : goal.items-init
@@ -28,5 +28,26 @@ pub items-preserved : goal.items-preserved
 items-preserved g c =
     listed_more _ _ _ _ _ _ _ _ c.items.invariant c.in-Ok-Some.value _ _ (rw c.in-Ok-Some.field-0-is at c.in-Ok-Some.ensures) tt _ _ c.in-Ok.ensures
 
-pub returns : goal.returns
-returns g c = listed_all _ _ _ _ _ _ _ _ c.items.invariant
+pub items-preserved-in-Ok : goal.items-preserved-in-Ok
+items-preserved-in-Ok g c =
+    listed_more _ _ _ _ _ _ _ _ c.items.invariant c.in-Ok-Some.value _ _ (rw c.in-Ok-Some.field-0-is at c.in-Ok-Some.ensures) tt _ _ c.in-Ok.ensures
+
+pub items-preserved-in-Ok-2 : goal.items-preserved-in-Ok-2
+items-preserved-in-Ok-2 g c =
+    listed_more _ _ _ _ _ _ _ _ c.items.invariant c.in-Ok-Some.value _ _ (rw c.in-Ok-Some.field-0-is at c.in-Ok-Some.ensures) tt _ _ c.in-Ok.ensures
+
+pub items-preserved-in-Ok-3 : goal.items-preserved-in-Ok-3
+items-preserved-in-Ok-3 g c =
+    listed_more _ _ _ _ _ _ _ _ c.items.invariant c.in-Ok-Some.value _ _ (rw c.in-Ok-Some.field-0-is at c.in-Ok-Some.ensures) tt _ _ c.in-Ok.ensures
+
+pub items-preserved-in-Ok-4 : goal.items-preserved-in-Ok-4
+items-preserved-in-Ok-4 g c =
+    listed_more _ _ _ _ _ _ _ _ c.items.invariant c.in-Ok-Some.value _ _ (rw c.in-Ok-Some.field-0-is at c.in-Ok-Some.ensures) tt _ _ c.in-Ok.ensures
+
+pub items-preserved-in-Ok-5 : goal.items-preserved-in-Ok-5
+items-preserved-in-Ok-5 g c =
+    listed_more _ _ _ _ _ _ _ _ c.items.invariant c.in-Ok-Some.value _ _ (rw c.in-Ok-Some.field-0-is at c.in-Ok-Some.ensures) tt _ _ c.in-Ok.ensures
+
+pub items-preserved-in-Ok-6 : goal.items-preserved-in-Ok-6
+items-preserved-in-Ok-6 g c =
+    listed_more _ _ _ _ _ _ _ _ c.items.invariant c.in-Ok-Some.value _ _ (rw c.in-Ok-Some.field-0-is at c.in-Ok-Some.ensures) tt _ _ c.in-Ok.ensures

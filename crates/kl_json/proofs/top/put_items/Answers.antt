@@ -1,6 +1,6 @@
 use Rattle.std.proofs.Common.{Ok, Err, sym, subst}
-use Rattle.kl_json.specs.Answers.{PutsItems}
-use Rattle.kl_json.proofs.ItemPutting.{known_on, open_on, listed_first, listed_more, listed_unprinted, listed_end, listed_stopped, listed_all}
+use Rattle.kl_json.specs.Answers.{PutsItems, PutsLine}
+use Rattle.kl_json.proofs.ItemPutting.{known_on, open_on, listed_first, listed_more, listed_unprinted, listed_end, listed_stopped}
 use Rattle.kl_json.proofs.top.put_items.Goals as goal
 
 pub items-init : goal.items-init
@@ -17,7 +17,9 @@ next-requires-clause-behind g c = known_on _ _ _ _ _ _ _ _ c.items.invariant
 pub returns-in-Ok-Err : goal.returns-in-Ok-Err
 returns-in-Ok-Err g c =
     let read = rw c.in-Ok-Some.field-0-is at c.in-Ok-Some.ensures in
-    listed_unprinted _ _ _ _ _ _ _ _ c.items.invariant c.in-Ok-Some.value _ _ read.reads (Ok (Err c.in-Ok-Err.fault)) _ _ (λ u e. absurd cc) (rw c.in-Ok-Err.field-0-is at c.in-Ok-Err.ensures)
+    listed_unprinted _ _ _ _ _ _ _ _ c.items.invariant c.in-Ok-Some.value _ _ read.reads (Ok (Err c.in-Ok-Err.fault)) _ _ (λ u e. absurd cc)
+    (subst (λ place. PutsLine c.args.stated.now c.in-Ok-Some.value place (Ok (Err c.in-Ok-Err.fault)) (g.S.Sink.state c.items.out) c.items.page (g.S.Sink.state c.put_line.new.out) c.put_line.new.page)
+    c.place-place.ensures (rw c.in-Ok-Err.field-0-is at c.in-Ok-Err.ensures))
 
 pub returns-in-Err-put_line : goal.returns-in-Err-put_line
 returns-in-Err-put_line g c =
@@ -38,5 +40,32 @@ items-preserved g c =
     let read = rw c.in-Ok-Some.field-0-is at c.in-Ok-Some.ensures in
     listed_more _ _ _ _ _ _ _ _ c.items.invariant c.in-Ok-Some.value _ _ read.reads tt _ _ (rw c.in-Ok-Ok.field-0-is at c.in-Ok-Ok.ensures)
 
-pub returns : goal.returns
-returns g c = listed_all _ _ _ _ _ _ _ _ c.items.invariant
+pub items-preserved-in-Ok-Ok : goal.items-preserved-in-Ok-Ok
+items-preserved-in-Ok-Ok g c =
+    let read = rw c.in-Ok-Some.field-0-is at c.in-Ok-Some.ensures in
+    listed_more _ _ _ _ _ _ _ _ c.items.invariant c.in-Ok-Some.value _ _ read.reads tt _ _ (rw c.in-Ok-Ok.field-0-is at c.in-Ok-Ok.ensures)
+
+pub items-preserved-in-Ok-Ok-2 : goal.items-preserved-in-Ok-Ok-2
+items-preserved-in-Ok-Ok-2 g c =
+    let read = rw c.in-Ok-Some.field-0-is at c.in-Ok-Some.ensures in
+    listed_more _ _ _ _ _ _ _ _ c.items.invariant c.in-Ok-Some.value _ _ read.reads tt _ _ (rw c.in-Ok-Ok.field-0-is at c.in-Ok-Ok.ensures)
+
+pub items-preserved-in-Ok-Ok-3 : goal.items-preserved-in-Ok-Ok-3
+items-preserved-in-Ok-Ok-3 g c =
+    let read = rw c.in-Ok-Some.field-0-is at c.in-Ok-Some.ensures in
+    listed_more _ _ _ _ _ _ _ _ c.items.invariant c.in-Ok-Some.value _ _ read.reads tt _ _ (rw c.in-Ok-Ok.field-0-is at c.in-Ok-Ok.ensures)
+
+pub items-preserved-in-Ok-Ok-4 : goal.items-preserved-in-Ok-Ok-4
+items-preserved-in-Ok-Ok-4 g c =
+    let read = rw c.in-Ok-Some.field-0-is at c.in-Ok-Some.ensures in
+    listed_more _ _ _ _ _ _ _ _ c.items.invariant c.in-Ok-Some.value _ _ read.reads tt _ _ (rw c.in-Ok-Ok.field-0-is at c.in-Ok-Ok.ensures)
+
+pub items-preserved-in-Ok-Ok-5 : goal.items-preserved-in-Ok-Ok-5
+items-preserved-in-Ok-Ok-5 g c =
+    let read = rw c.in-Ok-Some.field-0-is at c.in-Ok-Some.ensures in
+    listed_more _ _ _ _ _ _ _ _ c.items.invariant c.in-Ok-Some.value _ _ read.reads tt _ _ (rw c.in-Ok-Ok.field-0-is at c.in-Ok-Ok.ensures)
+
+pub items-preserved-in-Ok-Ok-6 : goal.items-preserved-in-Ok-Ok-6
+items-preserved-in-Ok-Ok-6 g c =
+    let read = rw c.in-Ok-Some.field-0-is at c.in-Ok-Some.ensures in
+    listed_more _ _ _ _ _ _ _ _ c.items.invariant c.in-Ok-Some.value _ _ read.reads tt _ _ (rw c.in-Ok-Ok.field-0-is at c.in-Ok-Ok.ensures)

@@ -1,4 +1,4 @@
-use Rattle.std.proofs.Common.{◌≡◌, false, Ok, subst, sym, ◌∙◌}
+use Rattle.std.proofs.Common.{◌≡◌, false, subst, sym, ◌∙◌}
 use Rattle.kl_json.specs.Files.{starts_blank}
 use Rattle.kl_json.proofs.Meanwhile.{blanks_on, stays_on, fetched_on, next_taken, next_last, next_deep, next_fault}
 use Rattle.kl_json.proofs.reader.JsonReader.next.Goals as goal
@@ -43,4 +43,4 @@ pieces-preserved g c =
     let t = g.F.Files.state c.pieces.files in
     let blank = blanks_on c.args.choices.now c.args.self.now c.pieces.self s t c.pieces.invariant c.pass_blanks.new.self c.pass_blanks.ensures in
     let here = stays_on c.args.choices.now c.args.self.now c.pass_blanks.new.self s t blank c.look.new.self c.look.ensures.same in
-    fetched_on c.args.choices.now c.args.self.now c.look.new.self s t here (Ok c.in-Ok.field-0) c.fetch.new.self (g.F.Files.state c.fetch.new.files) c.in-Ok.ensures
+    fetched_on c.args.choices.now c.args.self.now c.look.new.self s t here c.in-Ok.field-0 c.fetch.new.self (g.F.Files.state c.fetch.new.files) c.in-Ok.ensures
