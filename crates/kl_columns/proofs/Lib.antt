@@ -1,4 +1,5 @@
 pub mod Answering
+pub mod ByKind
 pub mod Causing
 pub mod Cells
 pub mod Entries
@@ -6,5 +7,7 @@ pub mod Equal
 pub mod Firsts
 pub mod Held
 pub mod Narrowed
+pub mod Reads
 pub mod Telling
+pub mod ValuesHeld
 pub mod Walked
