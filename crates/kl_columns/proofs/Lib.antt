@@ -1,5 +1,4 @@
 pub mod Answering
-pub mod ByKind
 pub mod Causing
 pub mod Cells
 pub mod Entries
@@ -7,7 +6,5 @@ pub mod Equal
 pub mod Firsts
 pub mod Held
 pub mod Narrowed
-pub mod Reads
 pub mod Telling
-pub mod ValuesHeld
 pub mod Walked
