@@ -1,6 +1,0 @@
-pub mod Firsts
-pub mod Occurrences
-pub mod Known
-pub mod Rounds
-pub mod Plainly
-pub mod Named
