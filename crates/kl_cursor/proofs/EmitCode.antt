@@ -61,9 +61,10 @@ use Rattle.kl_cursor.proofs.Refusals.{halts_at}
 comes_as : (env : List Value) (p q : Node) (o : Outcome) (a b : Running) → p ≡ q → ComesTo env q o a b → ComesTo env p o a b
 comes_as env p q o a b e h = subst (λ z. ComesTo env z o a b) (sym e) h
 
-pub lends_plain : (env : List Value) (t : Plan) (m : Term) (o : Option (Bor Value)) → t ≡ plans.Plain m → IfSome o (λ v. core no_tables (term_view m) env ≡ done v.now) → IfSome o (λ v. (w : Running) → ComesTo env (view t) (done v.now) w w)
-lends_plain env t m (Some v) e h = λ w. comes_as env (view t) (node.Plain (term_view m)) (done v.now) w w (ap view e ∙ view_Plain m) (plain_comes env (term_view m) (done v.now) w w refl h)
-lends_plain env t m None e h = tt
+-- what a term comes to, where something tells of it
+pub tells_plain : {X : Type 0} (value : X → Value) (env : List Value) (t : Plan) (m : Term) (o : Option X) → t ≡ plans.Plain m → IfSome o (λ x. core no_tables (term_view m) env ≡ done (value x)) → IfSome o (λ x. (w : Running) → ComesTo env (view t) (done (value x)) w w)
+tells_plain value env t m (Some x) e h = λ w. comes_as env (view t) (node.Plain (term_view m)) (done (value x)) w w (ap view e ∙ view_Plain m) (plain_comes env (term_view m) (done (value x)) w w refl h)
+tells_plain value env t m None e h = tt
 
 pub lends_var : (env : List Value) (t : Plan) (x : ℕ) (v : Value) → t ≡ plans.Var x → slice_get env x ≡ Some v → (w : Running) → ComesTo env (view t) (done v) w w
 lends_var env t x v e h = λ w. comes_as env (view t) (node.Var x) (done v) w w (at_Var t x e) (var_comes env x v w h)

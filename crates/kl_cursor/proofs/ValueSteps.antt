@@ -103,7 +103,7 @@ node_tall ps i p lt is =
     let y = spare_most (view p) in
     omega arith
 
-pub cond_tall : (ps : List Plan) (i : ℕ) (p : Plan) → i < length ps → p ≡ get_or ps i p → 32 * tall (view p) + 10 < 32 * tall_nodes (nodes_view ps) + 11
+pub cond_tall : (ps : List Plan) (i : ℕ) (p : Plan) → i < length ps → p ≡ get_or ps i p → 32 * tall (view p) + 11 < 32 * tall_nodes (nodes_view ps) + 12
 cond_tall ps i p lt is =
     let f : tall_nodes (nodes_from i ps) ≡ max (tall (view p)) (tall_nodes (nodes_from (i + 1) ps)) = ap tall_nodes (from_place ps i p lt is) in
     let x = nodes_low ps i in

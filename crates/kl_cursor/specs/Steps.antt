@@ -1,8 +1,8 @@
 -- What the steps of a cursor do.
-use Rattle.std.specs.Prelude.{◌≡◌, ◌⊎◌, ◌≤◌, ◌<◌, ◌^◌, ◌+◌, ℕ, length, List, [], ◌∷◌, Option, Some, None, Result, Ok, Err, Vec, ⊤}
+use Rattle.std.specs.Prelude.{◌≡◌, ◌⊎◌, ◌≤◌, ◌<◌, ◌^◌, ◌+◌, ℕ, Bool, length, List, [], ◌∷◌, Option, Some, None, Result, Ok, Err, IfOk, Vec, ⊤}
 use Rattle.std.specs.List.{AllByRecursion, Contains}
 use Rattle.std.specs.declared.alloc.Global.{Global}
-use Rattle.kl_value.specs.Views.{collection}
+use Rattle.kl_value.specs.Views.{collection, IsBool}
 use Rattle.kl_value.specs.declared.Kind.{Kind}
 use Rattle.kl_value.specs.declared.Value.{Value}
 use Rattle.kl_type.specs.Ground.{Ground, Row, no_row, row}
@@ -11,6 +11,7 @@ use Rattle.kl_outcome.specs.Outcome.{Name, Outcome, done, over, stuck, End, more
 use Rattle.kl_outcome.specs.Typed.{Inhabits, HaveTypes, OfType, PrimTypes}
 use Rattle.kl_scans.specs.Running.{Running}
 use Rattle.kl_ask.specs.declared.DriverError.{DriverError}
+use Rattle.kl_eval.specs.Steps.{TellsTruth}
 use Rattle.kl_eval.specs.declared.stop.EvalStop.{EvalStop}
 use Rattle.kl_eval.specs.declared.stop.EvalStop.TheVariants as why
 use Rattle.kl_eval.specs.declared.stop.Halt.{Halt}
@@ -32,7 +33,7 @@ use Rattle.kl_plan.specs.Holding.{Listing, PartsIn, PartsInNodes, PartsInFields}
 use Rattle.kl_cursor.specs.Gathering.{Gathered, with_all, answer_in}
 use Rattle.kl_cursor.specs.Likeness.{Same}
 use Rattle.kl_cursor.specs.Measure.{height, falling, most}
-use Rattle.kl_cursor.specs.Sense.{TypesAt, IsToldAt, Fits, Stands}
+use Rattle.kl_cursor.specs.Sense.{TypesAt, IsToldAt, Fits, HasWorth, Stands}
 
 -- the scans, joins and memos of some events are all listed
 abbrev pub AreOf : Listing → List Event → Type 0
@@ -196,6 +197,14 @@ Partly env p (Ok v) a b = ComesTo env p (done v) a b
 Partly env p (Err why.Overflow) a b = (vs : List Value) × ComesTo env p (over vs) a b
 Partly env p (Err (why.Driver l e)) a b = Refused nothing (λ all. PartsIn all p) l e a b
 Partly env p (Err why.NoMemory) a b = Fails (λ all. PartsIn all p) ⊤ a b
+
+-- a part makes sense, and what it comes to is a truth value
+abbrev pub HasTruth : Running → Node → List Value → Type 0
+HasTruth w p env = HasWorth w p env × ((q : Result Value EvalStop) (x : Running) → Partly env p q w x → IfOk q IsBool)
+
+-- the truth value of a part
+abbrev pub Tests : List Value → Node → Result Bool EvalStop → Running → Running → Type 0
+Tests env p r a b = (q : Result Value EvalStop) × Partly env p q a b × TellsTruth q r
 
 -- the fields of a record
 abbrev pub FieldsHave : List (Name × Value) → Row → Type 0

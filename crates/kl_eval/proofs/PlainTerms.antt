@@ -81,9 +81,10 @@ plain_comes t env w o s c = come_plain t env (types_of w) (values_of w) o s.0 s.
 pub anywhere_sense : (t : Tree) (env : List Value) → SenseAnywhere t env → HasSense t env
 anywhere_sense t env s = (no_types, (s.0, s.1, s.2, s.3 no_types))
 
-pub lent_is : (t : Tree) (env : List Value) (o : Option (Bor Value)) → NoSource t → SenseAnywhere t env → IfSome o (λ v. (S : SourceTypes) (T : Tables) → Comes S T env t (done v.now)) → IfSome o (λ v. core no_tables t env ≡ done v.now)
-lent_is t env (Some v) n s h = come_plain t env no_types no_tables (done v.now) n s (h no_types no_tables)
-lent_is t env None n s h = tt
+-- what a term comes to, where something tells of it
+pub told_is : {X : Type 0} (value : X → Value) (t : Tree) (env : List Value) (o : Option X) → NoSource t → SenseAnywhere t env → IfSome o (λ x. (S : SourceTypes) (T : Tables) → Comes S T env t (done (value x))) → IfSome o (λ x. core no_tables t env ≡ done (value x))
+told_is value t env (Some x) n s h = come_plain t env no_types no_tables (done (value x)) n s (h no_types no_tables)
+told_is value t env None n s h = tt
 
 pub plain_same : (t : Tree) (env : List Value) (r : Result Value Halt) (a b : World) → SensePlain t env a → Evals t env r a b → b ≡ a
 plain_same t env r a b s h = h.still s.0

@@ -15,7 +15,7 @@ mod stop;
 mod tables;
 
 pub use env::{Env, variable};
-pub use public::{eval, eval_list, lent_plain, part, plain};
+pub use public::{compared_plain, eval, eval_list, lent_plain, part, plain};
 pub use steps::{
     append, apply, copy, gather, inside, join, outside, place, push, push_field, tag, truth,
     variant,

@@ -1,14 +1,17 @@
 //! The public calls.
 ghost use Rattle.std.specs.Prelude.{◌≡◌, IfSome, IsSome, reverse};
+ghost use Rattle.kl_value.specs.declared.value.Value.TheVariants as value;
 ghost use Rattle.kl_core.specs.Core.{core};
 ghost use Rattle.kl_core.specs.Trees.{view};
 ghost use Rattle.kl_outcome.specs.Outcome.{done};
+ghost use Rattle.kl_ask.specs.World.{World};
 ghost use Rattle.kl_eval.specs.Evals.{Sense, SenseAnywhere, SenseList, SensePlain, Evaluates, EvaluatesList, TellsPart};
 ghost use Rattle.kl_eval.specs.Evals.{TellsPlain, no_tables};
 ghost use Rattle.kl_eval.specs.Sources.{NoSource};
 ghost use Rattle.kl_eval.specs.Standing.{IsStanding};
 ghost use Rattle.kl_eval.specs.Values.{arg_in, values};
 
+use crate::comparing::compared;
 use crate::env::{Env, lent};
 use crate::evaluator::{look, value};
 use crate::steps::{add_list, inside};
@@ -105,4 +108,13 @@ pub fn lent_plain<'a>(term: &'a Term, env: &'a Env<'a>) -> Option<&'a Value>
     ensures no_other { IsSome result → IsStanding (view term.now) }
 {
     lent(term, env)
+}
+
+/// Whether a comparison holds, if what it compares stands in the term or in the environment. None tells nothing of the term. No
+/// source stands in it, and it makes sense whatever sources are attached. Takes no memory.
+pub fn compared_plain(term: &Term, env: &Env) -> Option<bool>
+    requires { (w : World) × SensePlain (view term.now) (values env.now) w }
+    ensures { IfSome result (λ yes. core no_tables (view term.now) (values env.now) ≡ done (value.Bool yes)) }
+{
+    compared(term, &*env)
 }
