@@ -66,6 +66,10 @@ pub record OnFields (whole rest : Fields) (env : List Value) (now : List (Name �
   pub counts : (G : List Ground) (r : Row) → HaveTypes G env → FieldTypes (ScanOf (stage a)) (MemoOf (stage a)) G whole r → IsToldAt a
       → (P : Prices) → paid (stage a) P moves.events + cost_fields (stage a) P rest env ≡ cost_fields (stage a) P whole env
 
+-- there was no room for them
+pub fields_full : (env : List Value) (ps : Fields) (a : Running) → FieldsGive env ps (Err why.NoMemory) a a
+fields_full env ps a = record { moves = moves_none nothing a; known = λ all i. tt; reason = tt }
+
 pub fields_starts : (ps : Fields) (env : List Value) (none : List (Name × Value)) (a : Running) → none ≡ [] → HasFields a ps env → OnFields ps ps env none a a
 fields_starts ps env none a e s = subst (λ q. OnFields ps ps env q a a) (sym e) (record {
   moves = moves_none nothing a;

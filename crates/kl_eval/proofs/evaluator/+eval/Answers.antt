@@ -133,10 +133,10 @@ pub each-owned-requires : goal.each-owned-requires
 each-owned-requires g t c κs within = (search (rules, the_lemmas, arith), (within, each_sense _ _ _ _ _ _ _ _ c.terms-test.true c.term-item.is c.terms.invariant))
 
 pub each-returns-in-Err-push : goal.each-returns-in-Err-push
-each-returns-in-Err-push g t c = each_lost _ _ _ _ _ _ _ _ c.terms-test.true c.term-item.is c.terms.invariant _ _ _ _ c.in-Ok.ensures c.in-Err-push.ensures
+each-returns-in-Err-push g t c = each_lost _ _ _ _ _ _ _ _ c.terms-test.true c.term-item.is c.terms.invariant _ _ _ _ c.in-Ok-owned.ensures c.in-Err-push.ensures
 
 pub each-terms-preserved : goal.each-terms-preserved
-each-terms-preserved g t c = each_goes _ _ _ _ _ _ _ _ c.terms-test.true c.term-item.is c.terms.invariant _ _ _ c.in-Ok.ensures c.in-Ok-push.ensures
+each-terms-preserved g t c = each_goes _ _ _ _ _ _ _ _ c.terms-test.true c.term-item.is c.terms.invariant _ _ _ c.in-Ok-owned.ensures c.in-Ok-push.ensures
 
 pub each-returns : goal.each-returns
 each-returns g t c = each_ends _ _ _ _ _ _ _ c.terms-test.false c.terms.invariant
@@ -145,13 +145,13 @@ pub each_field-owned-requires : goal.each_field-owned-requires
 each_field-owned-requires g t c κs within = (search (rules, the_lemmas, arith), (within, fields_sense _ _ _ _ _ _ _ _ c.parts-test.true c.part-item.is c.parts.invariant))
 
 pub each_field-returns-in-Err-push_field : goal.each_field-returns-in-Err-push_field
-each_field-returns-in-Err-push_field g t c = fields_lost _ _ _ _ _ _ _ _ c.parts-test.true c.part-item.is c.parts.invariant _ _ _ _ (evals_part _ _ _ _ _ _ c.owned.ensures c.in-Ok.ensures) c.in-Err-push_field.ensures
+each_field-returns-in-Err-push_field g t c = fields_lost _ _ _ _ _ _ _ _ c.parts-test.true c.part-item.is c.parts.invariant _ _ _ _ (evals_part _ _ _ _ _ _ c.owned.ensures c.in-Ok-inside.ensures) c.in-Err-push_field.ensures
 
 pub each_field-parts-preserved : goal.each_field-parts-preserved
-each_field-parts-preserved g t c = fields_goes _ _ _ _ _ _ _ _ c.parts-test.true c.part-item.is c.parts.invariant _ _ _ (evals_part _ _ _ _ _ _ c.owned.ensures c.in-Ok.ensures) c.in-Ok-push_field.ensures
+each_field-parts-preserved g t c = fields_goes _ _ _ _ _ _ _ _ c.parts-test.true c.part-item.is c.parts.invariant _ _ _ (evals_part _ _ _ _ _ _ c.owned.ensures c.in-Ok-inside.ensures) c.in-Ok-push_field.ensures
 
-pub each_field-returns-in-Err : goal.each_field-returns-in-Err
-each_field-returns-in-Err g t c = fields_stops _ _ _ _ _ _ _ _ c.parts-test.true c.part-item.is c.parts.invariant _ _ (evals_part _ _ _ _ _ _ c.owned.ensures c.in-Err.ensures)
+pub each_field-returns-in-Err-inside : goal.each_field-returns-in-Err-inside
+each_field-returns-in-Err-inside g t c = fields_stops _ _ _ _ _ _ _ _ c.parts-test.true c.part-item.is c.parts.invariant _ _ (evals_part _ _ _ _ _ _ c.owned.ensures c.in-Err-inside.ensures)
 
 pub each_field-returns : goal.each_field-returns
 each_field-returns g t c = fields_ends _ _ _ _ _ _ _ c.parts-test.false c.parts.invariant
@@ -169,16 +169,16 @@ pub value-returns-in-Over : goal.value-returns-in-Over
 value-returns-in-Over g t c = value_loop _ _ _ _ _ _ _ c.in-Ext.is c.get-in-Over.ensures c.get-in-None-lent.ensures (over _) _ overflow _ _ _ _ _ c.in-Err-value-2.ensures.moved c.in-Err-value-2.ensures.still (ap (λ q. flow q overflow) (sym c.deref.ensures.value)) (over_gives _ _ _ _ _ _ c.in-Over.is c.in-Err-value-2.ensures) c.draw-in-Over.ensures c.gather-in-Over.ensures
 
 pub each-returns-in-Over : goal.each-returns-in-Over
-each-returns-in-Over g t c = each_over _ _ _ _ _ _ _ _ c.terms-test.true c.term-item.is c.terms.invariant _ _ _ _ c.in-Over.is c.in-Err.ensures refl
+each-returns-in-Over g t c = each_over _ _ _ _ _ _ _ _ c.terms-test.true c.term-item.is c.terms.invariant _ _ _ _ c.in-Over.is c.in-Err-owned.ensures refl
 
 pub each-returns-in-NoMemory : goal.each-returns-in-NoMemory
-each-returns-in-NoMemory g t c = each_none _ _ _ _ _ _ _ _ c.terms-test.true c.term-item.is c.terms.invariant _ _ c.in-Err.ensures
+each-returns-in-NoMemory g t c = each_none _ _ _ _ _ _ _ _ c.terms-test.true c.term-item.is c.terms.invariant _ _ c.in-Err-owned.ensures
 
 pub each-terms-init : goal.each-terms-init
-each-terms-init g t c = each_starts _ _ _ _ c.new-items.ensures.items c.requires
+each-terms-init g t c = each_starts _ _ _ _ c.in-Ok.ensures.items c.requires
 
 pub each_field-parts-init : goal.each_field-parts-init
-each_field-parts-init g t c = fields_starts _ _ _ _ c.new-fields.ensures.items c.requires
+each_field-parts-init g t c = fields_starts _ _ _ _ c.in-Ok.ensures.items c.requires
 
 pub draw-drawn-init : goal.draw-drawn-init
 draw-drawn-init g t c = body_starts _ _ _ _ _ _ c.new-items.ensures.items c.requires
@@ -238,7 +238,7 @@ pub value-returns-in-Driver : goal.value-returns-in-Driver
 value-returns-in-Driver g t c = loop_refused _ _ _ _ _ _ _ c.in-Ext.is refl c.get-in-None-lent.ensures _ _ _ _ _ c.in-Driver.is c.in-Err-value-2.ensures
 
 pub each-returns-in-Driver : goal.each-returns-in-Driver
-each-returns-in-Driver g t c = each_refused _ _ _ _ _ _ _ _ c.terms-test.true c.term-item.is c.terms.invariant _ _ _ _ c.in-Driver.is c.in-Err.ensures
+each-returns-in-Driver g t c = each_refused _ _ _ _ _ _ _ _ c.terms-test.true c.term-item.is c.terms.invariant _ _ _ _ c.in-Driver.is c.in-Err-owned.ensures
 
 pub draw-emit-requires : goal.draw-emit-requires
 draw-emit-requires g t c κs within = (search (rules, the_lemmas, arith), (within, body_sense_whole _ _ _ _ _ _ _ _ _ _ c.drawn-test.true c.item-item.is c.drawn.invariant))
