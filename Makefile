@@ -1,6 +1,7 @@
 # What people look for. `rt`, of Rattle's kit, has to be on the path; crates.txt says which crate stands on which.
 #
-#   make              the programs, proved: crates/NAME/out/NAME of kleisli, klcat, kljson and kltable; -jN proves N crates at once
+#   make              the programs, proved: crates/NAME/out/NAME of kleisli, klcat, kljson, kltable and klwhy; -jN proves N
+#                     crates at once
 #   make try          the first example, by a program of which nothing is proved, within three minutes; PROGRAM=.. for
 #                     another without a catalogue
 #   make run          the first example, by the proved program; PROGRAM=.. CATALOGUE=.. for another
@@ -18,7 +19,7 @@ PROGRAM ?= examples/first.cpl
 CATALOGUE ?=
 CRATES ?=
 
-PROGRAMS := kleisli klcat kljson kltable
+PROGRAMS := kleisli klcat kljson kltable klwhy
 BUILT := crates/kleisli/out/kleisli
 
 # What each program is run with once it is built.
@@ -26,6 +27,7 @@ first_of_kleisli := check ../../examples/first.cpl
 first_of_klcat := ../../examples/biology/genes.csv
 first_of_kljson := to ../../examples/biology/papers.json
 first_of_kltable := ../../examples/biology/genes.csv
+first_of_klwhy := ../../examples/first.cpl
 
 # The libraries of each program, and of all, each behind those that it stands on.
 $(foreach it,$(PROGRAMS),$(eval below_$(it) := $(shell .ci/order $(it))))

@@ -1,0 +1,6 @@
+pub mod Attached
+pub mod Beginnings
+pub mod Explained
+pub mod Findings
+pub mod Idle
+pub mod Placed

@@ -1,0 +1,12 @@
+pub mod Catalogues
+pub mod Explaining
+pub mod Finding
+pub mod Places
+pub mod Programs
+pub mod Refused
+pub mod Rules
+pub mod Sources
+pub mod Tokens
+pub mod Untyped
+pub mod Whys
+pub mod Words
