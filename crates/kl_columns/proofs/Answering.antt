@@ -6,7 +6,7 @@ use Rattle.kl_columns.specs.Answering.{Answers, Cause, Does, Ending, Ends, IsPag
 use Rattle.kl_columns.specs.Causes.{AreNotes, WhyNoCatalogue, WhyNoPage}
 use Rattle.kl_columns.specs.Listing.{IsCatalogueOf}
 use Rattle.kl_columns.specs.Refusals.{refusal_status}
-use Rattle.kl_columns.specs.Words.{are_tables, paths_of, wants_sql}
+use Rattle.kl_columns.specs.Words.{are_files, paths_of, wants_sql}
 use Rattle.kl_columns.specs.declared.refusal.Refusal.{Refusal}
 use Rattle.kl_columns.specs.declared.refusal.Refusal.TheVariants as refusal
 use Rattle.kl_columns.proofs.Causing.{no_page}
@@ -17,16 +17,16 @@ failed r = Err r
 abbrev ended_well : Ending
 ended_well = Ok tt
 
--- the tables have a catalogue, or it is said why not
-pub makes : (r : Result (List ℕ) Refusal) (words : List (List ℕ)) (old new : FilesState) (notes : List ℕ) → IsTrue (are_tables (paths_of words))
+-- the files have a catalogue, or it is said why not
+pub makes : (r : Result (List ℕ) Refusal) (words : List (List ℕ)) (old new : FilesState) (notes : List ℕ) → IsTrue (are_files (paths_of words))
     → IfOk r (λ page. IsCatalogueOf (wants_sql words) old.told (paths_of words) page) → IfOk r (λ page. AreNotes old.told (paths_of words) notes)
     → IfErr r (λ e. WhyNoCatalogue e (wants_sql words) (paths_of words) old new notes) → Makes r words old new notes
-makes (Ok page) words old new notes tables lists noted why = (record { tables = tables; lists = lists }, noted)
+makes (Ok page) words old new notes tables lists noted why = (record { files = tables; lists = lists }, noted)
 makes (Err e) words old new notes tables lists noted why = no_page e words old new notes tables why
 
--- the words tell which tables, and which driver
+-- the words tell which files, and which driver
 pub makes_at : (r : Result (List ℕ) Refusal) (words : List (List ℕ)) (sql : Bool) (paths : List (List ℕ)) (old new : FilesState) (notes : List ℕ) → sql ≡ wants_sql words → paths ≡ paths_of words
-    → are_tables (paths_of words) ≡ true → IfOk r (λ page. IsCatalogueOf sql old.told paths page) → IfOk r (λ page. AreNotes old.told paths notes)
+    → are_files (paths_of words) ≡ true → IfOk r (λ page. IsCatalogueOf sql old.told paths page) → IfOk r (λ page. AreNotes old.told paths notes)
     → IfErr r (λ e. WhyNoCatalogue e sql paths old new notes) → Makes r words old new notes
 makes_at r words sql paths old new notes wants are tables lists noted why =
     makes r words old new notes tables
@@ -46,6 +46,9 @@ nonzero refusal.Write h = cc
 nonzero refusal.NoMemory h = cc
 nonzero refusal.CatalogueBytes h = cc
 nonzero refusal.FileBytes h = cc
+nonzero (refusal.BadText at n) h = cc
+nonzero (refusal.NoCommonType at n) h = cc
+nonzero refusal.ItemNesting h = cc
 
 module _ (words : List (List ℕ)) (files files' : FilesState) (out out' err err' : SinkState) where
   prints : (end : Ending) (notes : List ℕ) → Does end words files files' out out' notes → end_status end ≡ 0 → Prints files.told words out out'
@@ -62,16 +65,19 @@ module _ (words : List (List ℕ)) (files files' : FilesState) (out out' err err
   pub prints_nothing : (status : ℕ) → Answers words status files files' out out' err err' → status ≢ 0 → PrintsNothing out out'
   prints_nothing status a is = silent a.end a.notes a.does (λ zero. is (a.status_is ∙ zero))
 
-  used : (end : Ending) (notes : List ℕ) → Does end words files files' out out' notes → are_tables (paths_of words) ≡ false → (end_status end ≡ 1) ⊎ (end_status end ≡ 9)
-  used (Ok done) notes does no_tables = absurd (true_false (sym does.0.2.tables ∙ no_tables))
+  used : (end : Ending) (notes : List ℕ) → Does end words files files' out out' notes → are_files (paths_of words) ≡ false → (end_status end ≡ 1) ⊎ (end_status end ≡ 9)
+  used (Ok done) notes does no_tables = absurd (true_false (sym does.0.2.files ∙ no_tables))
   used (Err refusal.Usage) notes does no_tables = inl refl
   used (Err refusal.NoMemory) notes does no_tables = inr refl
-  used (Err refusal.Write) notes does no_tables = absurd (true_false (sym does.1.1.1.tables ∙ no_tables))
+  used (Err refusal.Write) notes does no_tables = absurd (true_false (sym does.1.1.1.files ∙ no_tables))
   used (Err (refusal.BadFile at n)) notes does no_tables = absurd (true_false (sym does.1.0 ∙ no_tables))
   used (Err (refusal.BadCatalogue byte)) notes does no_tables = absurd (true_false (sym does.1.0 ∙ no_tables))
   used (Err refusal.Read) notes does no_tables = absurd (true_false (sym does.1.0 ∙ no_tables))
   used (Err refusal.CatalogueBytes) notes does no_tables = absurd (true_false (sym does.1.0 ∙ no_tables))
   used (Err refusal.FileBytes) notes does no_tables = absurd (true_false (sym does.1.0 ∙ no_tables))
+  used (Err (refusal.BadText at n)) notes does no_tables = absurd (true_false (sym does.1.0 ∙ no_tables))
+  used (Err (refusal.NoCommonType at n)) notes does no_tables = absurd (true_false (sym does.1.0 ∙ no_tables))
+  used (Err refusal.ItemNesting) notes does no_tables = absurd (true_false (sym does.1.0 ∙ no_tables))
 
   pub tells_usage : (status : ℕ) → Answers words status files files' out out' err err' → TellsUsage words status
   tells_usage status a no_tables = subst (λ n. (n ≡ 1) ⊎ (n ≡ 9)) (sym a.status_is) (used a.end a.notes a.does no_tables)
@@ -85,6 +91,9 @@ module _ (words : List (List ℕ)) (files files' : FilesState) (out out' err err
   writing refusal.Read page notes is noted why = absurd why
   writing refusal.CatalogueBytes page notes is noted why = absurd why
   writing refusal.FileBytes page notes is noted why = absurd why
+  writing (refusal.BadText at n) page notes is noted why = absurd why
+  writing (refusal.NoCommonType at n) page notes is noted why = absurd why
+  writing refusal.ItemNesting page notes is noted why = absurd why
 
   making : (r : Refusal) (notes : List ℕ) → WhyNoPage r words files files' notes → Cause r words files files' out out' notes
   making refusal.Write notes why = absurd why.1
@@ -95,6 +104,9 @@ module _ (words : List (List ℕ)) (files files' : FilesState) (out out' err err
   making refusal.Read notes why = why
   making refusal.CatalogueBytes notes why = why
   making refusal.FileBytes notes why = why
+  making (refusal.BadText at n) notes why = why
+  making (refusal.NoCommonType at n) notes why = why
+  making refusal.ItemNesting notes why = why
 
   module _ (ended : Ending) (notes : List ℕ) (status : ℕ) (e : Ends ended notes status err err') where
     closing : (end : Ending) → e.end ≡ end → Does end words files files' out out' notes → Answers words status files files' out out' err err'

@@ -1,14 +1,15 @@
 -- Why no catalogue is printed.
-use Rattle.std.proofs.Common.{◌≡◌, ◌<◌, ◌≤◌, ◌+◌, inl, inr, ℕ, Bool, IsTrue, List, [], ◌∷◌, ◌++◌, length, get_or, take, drop, Some, Ok, Err, sym, ap, subst, ◌∙◌, arith}
+use Rattle.std.proofs.Common.{◌≡◌, ◌⊎◌, ◌<◌, ◌≤◌, ◌+◌, inl, inr, ℕ, Bool, true, false, IsTrue, List, [], ◌∷◌, ◌++◌, length, get_or, take, drop, Some, Ok, Err, sym, ap, subst, ◌∙◌, arith}
 use Rattle.std.specs.List.{flat_map}
 use Rattle.std.proofs.lemmas.List.{drop_more, take_more}
 use Rattle.std.proofs.lemmas.Grind.{common_steps}
 use Rattle.kl_type.specs.declared.ground.Ty.{Ty}
-use Rattle.kl_outside.specs.Files.{FilesState}
+use Rattle.kl_base.specs.Counts.{Rose}
+use Rattle.kl_outside.specs.Files.{FilesState, IsMissing}
 use Rattle.kl_catalogue.specs.declared.reading.Entry.{Entry}
-use Rattle.kl_columns.specs.Causes.{AddsNotes, AreNotes, NotesUpTo, RefusesFile, StopsAt, WhyNoCatalogue, WhyNoPage, notes_at}
+use Rattle.kl_columns.specs.Causes.{AddsNotes, AreNotes, NotesUpTo, RefusesAs, RefusesFile, RefusesTable, RefusesValues, StopsAt, WhyNoCatalogue, WhyNoPage, notes_at}
 use Rattle.kl_columns.specs.Listing.{ListAll, Told}
-use Rattle.kl_columns.specs.Words.{are_tables, paths_of, wants_sql}
+use Rattle.kl_columns.specs.Words.{are_files, is_table, paths_of, wants_sql}
 use Rattle.kl_columns.specs.declared.refusal.Refusal.{Refusal}
 use Rattle.kl_columns.specs.declared.refusal.Refusal.TheVariants as refusal
 
@@ -34,28 +35,49 @@ up_to refusal.Read told before path old new were adds = λ files is. adds ∙ we
 up_to refusal.Write told before path old new were adds = λ files is. adds ∙ were files is
 up_to refusal.CatalogueBytes told before path old new were adds = λ files is. adds ∙ were files is
 up_to refusal.FileBytes told before path old new were adds = λ files is. adds ∙ were files is
+up_to (refusal.BadText at n) told before path old new were adds = λ files is. adds ∙ were files is
+up_to (refusal.NoCommonType at n) told before path old new were adds = λ files is. adds ∙ were files is
+up_to refusal.ItemNesting told before path old new were adds = λ files is. adds ∙ were files is
+
+failed_after : (path : List ℕ) (old mid new : FilesState) → mid.told ≡ old.told → old.faults ≤ mid.faults → IsMissing mid path ⊎ Rose mid.faults new.faults → IsMissing old path ⊎ Rose old.faults new.faults
+failed_after path old mid new told later (inl why) = inl (why.0, sym told ∙ why.1, why.2)
+failed_after path old mid new told later (inr rose) = inr (omega (arith, later, rose))
+
+table_after : (r : Refusal) (path : List ℕ) (old mid new : FilesState) → mid.told ≡ old.told → old.faults ≤ mid.faults → RefusesTable r path mid new → RefusesTable r path old new
+table_after (refusal.BadFile at n) path old mid new told later why = (why.0, λ files is. why.1 files (told ∙ is))
+table_after refusal.Read path old mid new told later why = failed_after path old mid new told later why
+table_after refusal.FileBytes path old mid new told later why = λ files is. why files (told ∙ is)
+table_after r path old mid new told later why = why
+
+values_after : (r : Refusal) (path : List ℕ) (old mid new : FilesState) → mid.told ≡ old.told → old.faults ≤ mid.faults → RefusesValues r path mid new → RefusesValues r path old new
+values_after (refusal.BadText at n) path old mid new told later why = (why.0, λ files is. why.1 files (told ∙ is))
+values_after (refusal.NoCommonType at n) path old mid new told later why = (why.0, λ files is. why.1 files (told ∙ is))
+values_after refusal.ItemNesting path old mid new told later why = λ files is. why files (told ∙ is)
+values_after refusal.FileBytes path old mid new told later why = λ files is. why files (told ∙ is)
+values_after refusal.Read path old mid new told later why = failed_after path old mid new told later why
+values_after r path old mid new told later why = why
 
 -- what a later call refuses is refused over all calls
-refuses_after : (r : Refusal) (path : List ℕ) (old mid new : FilesState) → mid.told ≡ old.told → old.faults ≤ mid.faults → RefusesFile r path mid new → RefusesFile r path old new
-refuses_after (refusal.BadFile at n) path old mid new told later why = (why.0, λ files is. why.1 files (told ∙ is))
-refuses_after refusal.Read path old mid new told later (inl why) = inl (why.0, sym told ∙ why.1, why.2)
-refuses_after refusal.Read path old mid new told later (inr rose) = inr (omega (arith, later, rose))
-refuses_after refusal.FileBytes path old mid new told later why = λ files is. why files (told ∙ is)
-refuses_after refusal.NoMemory path old mid new told later why = tt
-refuses_after refusal.Usage path old mid new told later why = why
-refuses_after (refusal.BadCatalogue byte) path old mid new told later why = why
-refuses_after refusal.Write path old mid new told later why = why
-refuses_after refusal.CatalogueBytes path old mid new told later why = why
+pub refuses_after : (table : Bool) (r : Refusal) (path : List ℕ) (old mid new : FilesState) → mid.told ≡ old.told → old.faults ≤ mid.faults → RefusesAs table r path mid new → RefusesAs table r path old new
+refuses_after true r path old mid new told later why = table_after r path old mid new told later why
+refuses_after false r path old mid new told later why = values_after r path old mid new told later why
+
+never : (table : Bool) (r : Refusal) (path : List ℕ) (old new : FilesState) → (RefusesTable r path old new → ⊥) → (RefusesValues r path old new → ⊥) → RefusesAs table r path old new → ⊥
+never true r path old new no_table no_values why = no_table why
+never false r path old new no_table no_values why = no_values why
 
 stopped : (r : Refusal) (sql : Bool) (paths : List (List ℕ)) (old new : FilesState) (notes : List ℕ) → StopsAt sql paths r old new notes → WhyNoCatalogue r sql paths old new notes
 stopped (refusal.BadFile at n) sql paths old new notes s = s
 stopped refusal.Read sql paths old new notes s = s
 stopped refusal.FileBytes sql paths old new notes s = s
+stopped (refusal.BadText at n) sql paths old new notes s = s
+stopped (refusal.NoCommonType at n) sql paths old new notes s = s
+stopped refusal.ItemNesting sql paths old new notes s = s
 stopped refusal.NoMemory sql paths old new notes s = tt
-stopped refusal.Usage sql paths old new notes s = absurd s.why
-stopped (refusal.BadCatalogue byte) sql paths old new notes s = absurd s.why
-stopped refusal.Write sql paths old new notes s = absurd s.why
-stopped refusal.CatalogueBytes sql paths old new notes s = absurd s.why
+stopped refusal.Usage sql paths old new notes s = absurd (never (is_table s.path) refusal.Usage s.path old new (λ h. h) (λ h. h) s.why)
+stopped (refusal.BadCatalogue byte) sql paths old new notes s = absurd (never (is_table s.path) (refusal.BadCatalogue byte) s.path old new (λ h. h) (λ h. h) s.why)
+stopped refusal.Write sql paths old new notes s = absurd (never (is_table s.path) refusal.Write s.path old new (λ h. h) (λ h. h) s.why)
+stopped refusal.CatalogueBytes sql paths old new notes s = absurd (never (is_table s.path) refusal.CatalogueBytes s.path old new (λ h. h) (λ h. h) s.why)
 
 parts : (paths : List (List ℕ)) (i : ℕ) → paths ≡ take i paths ++ drop i paths
 parts paths i = grind (arith, common_steps)
@@ -74,16 +96,19 @@ stops_there r sql paths i path entries first old new before after less at told l
   split = split_at paths i path less at;
   entries = entries;
   good = all.each;
-  why = refuses_after r path first old new told later why;
+  why = refuses_after (is_table path) r path first old new told later why;
   noted = up_to r first.told (take i paths) path before after were (subst (λ t. AddsNotes (Err r) t path before after) told adds);
 })
 
--- tables without a catalogue have no page
-pub no_page : (r : Refusal) (words : List (List ℕ)) (old new : FilesState) (notes : List ℕ) → IsTrue (are_tables (paths_of words))
+-- files without a catalogue have no page
+pub no_page : (r : Refusal) (words : List (List ℕ)) (old new : FilesState) (notes : List ℕ) → IsTrue (are_files (paths_of words))
     → WhyNoCatalogue r (wants_sql words) (paths_of words) old new notes → WhyNoPage r words old new notes
 no_page (refusal.BadFile at n) words old new notes tables why = (tables, why)
 no_page refusal.Read words old new notes tables why = (tables, why)
 no_page refusal.FileBytes words old new notes tables why = (tables, why)
+no_page (refusal.BadText at n) words old new notes tables why = (tables, why)
+no_page (refusal.NoCommonType at n) words old new notes tables why = (tables, why)
+no_page refusal.ItemNesting words old new notes tables why = (tables, why)
 no_page (refusal.BadCatalogue byte) words old new notes tables why = (tables, why)
 no_page refusal.CatalogueBytes words old new notes tables why = (tables, why)
 no_page refusal.NoMemory words old new notes tables why = tt

@@ -11,7 +11,7 @@ use Rattle.kl_ask.specs.Driver.{Rows, Stored, stored_by}
 use Rattle.kl_flat.specs.Flat.{contents_of, most_bytes, stored_of, stored_rows}
 use Rattle.kl_flat.specs.Table.{bad_record, table_rows}
 use Rattle.kl_sqlserve.specs.Server.{kept_contents, kept_rows, kept_stored}
-use Rattle.kl_columns.specs.Listing.{HasType, IsNarrowAt, IsReadAs, Told}
+use Rattle.kl_columns.specs.Listing.{HasTypeAs, IsNarrowAt, IsReadAs, Told}
 use Rattle.kl_columns.specs.Narrowing.{IsNarrow}
 
 abbrev Holds : Told → List ℕ → Ty → Type 0
@@ -38,14 +38,14 @@ module _ (path : List ℕ) (ty : Ty) (stored : Stored) where
       let found = holds files refl in
       (kept_rows ty found.0, sym (same_Some (kept_stored ty (stored_of (files path) ty)) stored at) ∙ ap (kept_stored ty) found.1)
 
-narrow_there : (path bytes : List ℕ) (ty : Ty) (f f' : FilesState) → ReadsWhole path most_bytes (Ok (Bytes bytes)) f f' → IsReadAs bytes ty → IsNarrowAt f.told path ty
+narrow_there : (path bytes : List ℕ) (ty : Ty) (f f' : FilesState) → ReadsWhole path most_bytes (Ok (Bytes bytes)) f f' → IsReadAs bytes ty → IsNarrowAt true f.told path ty
 narrow_there path bytes ty f f' reads is files held told at =
     let found = was_there path most_bytes (Bytes bytes) f f' files reads told in
     let same : bytes ≡ held = found.2.0 ∙ same_Some found.0 held (sym found.1 ∙ at) in
     subst (λ b. IsNarrow b ty) same is.narrow
 
 -- either driver has rows there
-pub has_type : (path bytes : List ℕ) (ty : Ty) (f f' : FilesState) → ReadsWhole path most_bytes (Ok (Bytes bytes)) f f' → IsReadAs bytes ty → (sql : Bool) → HasType sql f.told path ty
+pub has_type : (path bytes : List ℕ) (ty : Ty) (f f' : FilesState) → ReadsWhole path most_bytes (Ok (Bytes bytes)) f f' → IsReadAs bytes ty → (sql : Bool) → HasTypeAs true sql f.told path ty
 has_type path bytes ty f f' reads is true = record {
   suits = (λ i. is.suits i && not (is.unordered i));
   rows = λ stored at. sql_rows path ty stored f.told (holds_rows path bytes ty f f' reads is.good) at;

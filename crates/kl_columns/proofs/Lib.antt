@@ -1,10 +1,13 @@
 pub mod Answering
+pub mod ByKind
 pub mod Causing
 pub mod Cells
 pub mod Entries
 pub mod Equal
 pub mod Firsts
 pub mod Held
+pub mod ItemsRead
 pub mod Narrowed
 pub mod Telling
+pub mod ValuesHeld
 pub mod Walked

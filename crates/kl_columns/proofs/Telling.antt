@@ -18,9 +18,10 @@ use Rattle.kl_flat.proofs.Fuel.{left-none, left-some}
 use Rattle.kl_outside.proofs.FileLemmas.{was_there}
 use Rattle.kl_outside.specs.Files.{FilesState, ReadsWhole}
 use Rattle.kl_outside.specs.declared.files.Whole.TheVariants.{Bytes, TooLong}
-use Rattle.kl_columns.specs.Causes.{HasBytes, notes_at}
+use Rattle.kl_columns.specs.Causes.{HasBytes, notes_at, notes_in}
 use Rattle.kl_columns.specs.Headers.{first_bad, nameable, notes_of, rising, table_notes, header_notes, text_columns}
 use Rattle.kl_columns.specs.Narrowing.{are_texts}
+use Rattle.kl_columns.specs.Words.{is_table}
 
 none_there : {A : Type 0} {x : A} → None ≡ Some x → ⊥
 none_there h = cc
@@ -65,16 +66,16 @@ all_base : (labels : List (List ℕ)) → list_all (λ c. is_base c.1) (text_col
 all_base [] = refl
 all_base (l ∷ ls) = rw ty.outs-Str (all_base ls)
 
-abbrev is_table : Columns → Bool
-is_table cs = not (length cs == 0) && list_all (λ c. is_base c.1) cs
+abbrev has_columns : Columns → Bool
+has_columns cs = not (length cs == 0) && list_all (λ c. is_base c.1) cs
 
 not_none : (n : ℕ) → (suc n == 0) ≡ false
 not_none n = grind (arith, common_steps)
 
-named : (l : List ℕ) (ls : List (List ℕ)) → is_table (text_columns (l ∷ ls)) ≡ true
+named : (l : List ℕ) (ls : List (List ℕ)) → has_columns (text_columns (l ∷ ls)) ≡ true
 named l ls = (λ j. not (not_none (length (text_columns ls)) j) && all_base (l ∷ ls) j)
 
-none_named : (labels : List (List ℕ)) → is_table (text_columns labels) ≡ false → labels ≡ []
+none_named : (labels : List (List ℕ)) → has_columns (text_columns labels) ≡ false → labels ≡ []
 none_named [] h = refl
 none_named (l ∷ ls) h = absurd (true_false (sym (named l ls) ∙ h))
 
@@ -97,7 +98,7 @@ pub bad_header : (bytes : List ℕ) (header : Record) (texts : Ty) → Some head
 bad_header bytes header texts is columns suits = by (starts_with nat_eq bytes two_marks)
   where
     none : rising (nameable header) ≡ []
-    none = none_named (rising (nameable header)) (sym (ap is_table columns) ∙ suits)
+    none = none_named (rising (nameable header)) (sym (ap has_columns columns) ∙ suits)
 
     found : (rs : List Record) × (records default_config (strip_bom bytes) ≡ header ∷ rs)
     found = header_there bytes header is
@@ -114,13 +115,13 @@ bad_there bytes header texts n is columns suits bad = by (starts_with nat_eq byt
     found : (rs : List Record) × (records default_config (strip_bom bytes) ≡ header ∷ rs)
     found = header_there bytes header is
 
-    under : (labels : List (List ℕ)) → is_table (text_columns labels) ≡ true → bad_under labels (header ∷ found.0) ≡ bad_in (text_columns labels) (header ∷ found.0)
+    under : (labels : List (List ℕ)) → has_columns (text_columns labels) ≡ true → bad_under labels (header ∷ found.0) ≡ bad_in (text_columns labels) (header ∷ found.0)
     under [] t = absurd (true_false (sym t))
     under (l ∷ ls) t = ap (λ b. cond b (Some 0) (bad_in (text_columns (l ∷ ls)) (header ∷ found.0))) (not_none (length ls))
 
     by : (b : Bool) → bad_in (text_columns (rising (nameable header))) (cond b [] (records default_config (strip_bom bytes))) ≡ Some n → first_bad (cond b [] (records default_config (strip_bom bytes))) ≡ Some n
     by true e = e
-    by false e = ap first_bad found.1 ∙ under (rising (nameable header)) (sym (ap is_table columns) ∙ suits) ∙ sym (ap (bad_in (text_columns (rising (nameable header)))) found.1) ∙ e
+    by false e = ap first_bad found.1 ∙ under (rising (nameable header)) (sym (ap has_columns columns) ∙ suits) ∙ sym (ap (bad_in (text_columns (rising (nameable header)))) found.1) ∙ e
 
 -- ---- where files tell
 
@@ -133,10 +134,10 @@ pub too_long : (path : List ℕ) (old new : FilesState) → ReadsWhole path most
 too_long path old new reads files told = was_there path most_bytes TooLong old new files reads told
 
 pub notes_told : (path bytes before after : List ℕ) (old new : FilesState) → ReadsWhole path most_bytes (Ok (Bytes bytes)) old new → after ≡ before ++ table_notes path bytes
-    → (files : List ℕ → Option (List ℕ)) → old.told ≡ Some files → after ≡ before ++ notes_at files path
-notes_told path bytes before after old new reads adds files told =
+    → is_table path ≡ true → (files : List ℕ → Option (List ℕ)) → old.told ≡ Some files → after ≡ before ++ notes_at files path
+notes_told path bytes before after old new reads adds table files told =
     let found = was_there path most_bytes (Bytes bytes) old new files reads told in
     adds ∙ ap (λ b. before ++ table_notes path b) found.2.0 ∙ ap (λ n. before ++ n) (sym (at found.1))
   where
     at : {b : List ℕ} → files path ≡ Some b → notes_at files path ≡ table_notes path b
-    at e = ap (λ o. elim o [ None ↦ [] | Some c ↦ table_notes path c ]) e
+    at e = ap (λ b. cond b (notes_in path (files path)) []) table ∙ ap (notes_in path) e

@@ -8,7 +8,7 @@ use Rattle.kl_outside.specs.declared.Stop.{Stop}
 use Rattle.kl_columns.specs.Causes.{AreNotes, WhyNoPage}
 use Rattle.kl_columns.specs.Listing.{IsCatalogueOf, Told}
 use Rattle.kl_columns.specs.Refusals.{refusal_line, refusal_status}
-use Rattle.kl_columns.specs.Words.{are_tables, paths_of, wants_sql}
+use Rattle.kl_columns.specs.Words.{are_files, paths_of, wants_sql}
 use Rattle.kl_columns.specs.declared.refusal.Refusal.{Refusal}
 use Rattle.kl_columns.specs.declared.refusal.Refusal.TheVariants as refusal
 
@@ -24,12 +24,12 @@ abbrev pub end_line : Ending → List ℕ
 end_line (Ok done) = []
 end_line (Err r) = refusal_line r
 
--- the words name tables, and the page is their catalogue
+-- the words name files, and the page is their catalogue
 pub record IsPageFor (told : Told) (words : List (List ℕ)) (page : List ℕ) : Type 0 where
-  pub tables : IsTrue (are_tables (paths_of words))
+  pub files : IsTrue (are_files (paths_of words))
   pub lists : IsCatalogueOf (wants_sql words) told (paths_of words) page
 
--- the sink took the catalogue of the tables that the words name
+-- the sink took the catalogue of the files that the words name
 abbrev pub Prints : Told → List (List ℕ) → SinkState → SinkState → Type 0
 Prints told words old new = (page : List ℕ) × (new.taken ≡ append_known old.taken page) × IsPageFor told words page
 
@@ -56,9 +56,9 @@ pub record Answers (words : List (List ℕ)) (status : ℕ) (files files' : File
   pub told : Result (Unit {0}) Stop
   pub tells : WritesWhole (notes ++ end_line end) told err err'
 
--- where the words name no tables, the status says so, or that memory was wanting
+-- where the words name no files, the status says so, or that memory was wanting
 abbrev pub TellsUsage : List (List ℕ) → ℕ → Type 0
-TellsUsage words status = are_tables (paths_of words) ≡ false → (status ≡ 1) ⊎ (status ≡ 9)
+TellsUsage words status = are_files (paths_of words) ≡ false → (status ≡ 1) ⊎ (status ≡ 9)
 
 -- ---- for private functions alone
 

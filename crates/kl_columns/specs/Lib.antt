@@ -3,6 +3,8 @@ pub mod Causes
 pub mod Headers
 pub mod Listing
 pub mod Narrowing
+pub mod Reading
 pub mod Refusals
+pub mod Values
 pub mod Words
 pub mod Writing

@@ -1,5 +1,5 @@
 -- What the words ask for.
-use Rattle.std.specs.Prelude.{ℕ, Bool, not, ◌&&◌, ◌==◌, List, length, codes, filter, nat_eq}
+use Rattle.std.specs.Prelude.{ℕ, Bool, not, ◌&&◌, ◌||◌, ◌==◌, List, length, codes, filter, nat_eq}
 use Rattle.std.specs.Cmp.Lexicographic.{pointwise}
 use Rattle.std.specs.List.{ends_with, list_all, list_any}
 
@@ -17,6 +17,9 @@ wants_sql words = list_any is_option words
 abbrev pub is_table : List ℕ → Bool
 is_table path = ends_with nat_eq path (codes ".csv")
 
--- paths of tables, one at least
-abbrev pub are_tables : List (List ℕ) → Bool
-are_tables paths = list_all is_table paths && not (length paths == 0)
+abbrev pub is_values : List ℕ → Bool
+is_values path = ends_with nat_eq path (codes ".kx")
+
+-- paths of tables and files of values, one at least
+abbrev pub are_files : List (List ℕ) → Bool
+are_files paths = list_all (λ path. is_table path || is_values path) paths && not (length paths == 0)

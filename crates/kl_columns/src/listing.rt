@@ -1,4 +1,4 @@
-//! The catalogue of tables.
+//! The catalogue of files.
 ghost use Rattle.std.specs.Prelude.{◌≡◌, ◌++◌, ◌∷◌, [], OnOk, IfOk, IfErr};
 ghost use Rattle.std.specs.List.{flat_map};
 ghost use Rattle.kl_catalogue.specs.Reading.{IsCatalogue};
@@ -6,9 +6,10 @@ ghost use Rattle.kl_columns.specs.Causes.{AreNotes, WhyNoCatalogue, WhyNoText};
 ghost use Rattle.kl_columns.specs.Listing.{IsCatalogueOf, IsEntryFor, ListAll, Told, driver_for};
 ghost use Rattle.kl_columns.specs.Writing.{entry_line};
 
+use crate::file::type_of_file;
 use crate::naming::free_name;
 use crate::refusal::Refusal;
-use crate::table::type_of_file;
+use crate::words::is_table;
 use crate::writing::put_entry;
 use kl_base::{Label, NoMemory, Seq, Text};
 use kl_catalogue::{Catalogue, CatalogueError, Entry, read_catalogue};
@@ -19,7 +20,7 @@ use std::alloc::Global;
 // The greatest length of a catalogue.
 const MOST_BYTES: usize = 65_536;
 
-/// The text of the catalogue of the tables at these paths. What is left out of it is told behind the notes.
+/// The text of the catalogue of the files at these paths. What is left out of it is told behind the notes.
 ///
 /// # Errors
 /// What is wrong with the first file that is wrong, or the catalogue's length. Want of memory.
@@ -82,7 +83,7 @@ fn entry_of(
     ensures { IfOk result (IsEntryFor entries.now sql path.now ty) }
 {
     let name = free_name(alloc, entries, path.slice())?;
-    let Some(driver) = Label::new(alloc, driver_name(sql))? else {
+    let Some(driver) = Label::new(alloc, driver_name(sql, path.slice()))? else {
         return Err(NoMemory);
     };
     Ok(Entry {
@@ -93,10 +94,16 @@ fn entry_of(
     })
 }
 
-fn driver_name(sql: bool) -> &'static [u8]
-    ensures { (told : Told) → result.now ≡ (driver_for sql told).name }
+fn driver_name(sql: bool, path: &[u8]) -> &'static [u8]
+    ensures { (told : Told) → result.now ≡ (driver_for sql told path.now).name }
 {
-    if sql { b"sql" } else { b"flat" }
+    if !is_table(path) {
+        b"nested"
+    } else if sql {
+        b"sql"
+    } else {
+        b"flat"
+    }
 }
 
 // The text of a catalogue, which reads back as it.

@@ -63,6 +63,7 @@ fn numbered(alloc: Global, stem: &[u8], number: u32) -> Result<Option<Label>, No
 fn stem_of(alloc: Global, path: &[u8]) -> Result<Vec<u8>, NoMemory> {
     let name = file_name(path);
     let name = name.strip_suffix(b".csv").unwrap_or(name);
+    let name = name.strip_suffix(b".kx").unwrap_or(name);
     let mut stem = Vec::new(alloc);
     for (i, byte) in name.iter().enumerate() {
         if i == 0 && !byte.is_ascii_alphabetic() {

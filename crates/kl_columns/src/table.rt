@@ -1,8 +1,9 @@
 //! The type of a table.
-ghost use Rattle.std.specs.Prelude.{◌≡◌, ◌≤◌, ◌++◌, Bool, IfOk, IfErr, OnOk};
-ghost use Rattle.kl_columns.specs.Causes.{AddsNotes, RefusesFile};
+ghost use Rattle.std.specs.Prelude.{◌≡◌, ◌≤◌, ◌++◌, Bool, true, IfOk, IfErr, OnOk};
+ghost use Rattle.kl_columns.specs.Causes.{AddsNotes, RefusesTable};
 ghost use Rattle.kl_columns.specs.Headers.{table_notes};
-ghost use Rattle.kl_columns.specs.Listing.{HasType, Reads};
+ghost use Rattle.kl_columns.specs.Listing.{HasTypeAs, Reads};
+ghost use Rattle.kl_columns.specs.Words.{is_table};
 
 use crate::columns::{narrowed, of_texts};
 use crate::header::{header_of, labels_in};
@@ -27,16 +28,17 @@ enum Found {
 /// # Errors
 /// `Read` where the file is missing or fails, `FileBytes` where it is too long, `BadFile` with the first record that is bad as
 /// texts under the headers that are words. Want of memory.
-pub fn type_of_file<F: Files>(
+pub fn type_of_table<F: Files>(
     alloc: Global,
     files: &mut F,
     path: &Text,
     notes: &mut Vec<u8>,
 ) -> Result<Ty, Refusal>
+    requires { is_table path.now ≡ true }
     ensures told { (F.state files.new).told ≡ (F.state files.old).told }
     ensures later { (F.state files.old).faults ≤ (F.state files.new).faults }
-    ensures rows { IfOk result (λ ty. (sql : Bool) → HasType sql (F.state files.old).told path.now ty) }
-    ensures why { IfErr result (λ r. RefusesFile r path.now (F.state files.old) (F.state files.new)) }
+    ensures rows { IfOk result (λ ty. (sql : Bool) → HasTypeAs true sql (F.state files.old).told path.now ty) }
+    ensures why { IfErr result (λ r. RefusesTable r path.now (F.state files.old) (F.state files.new)) }
     ensures notes { AddsNotes result (F.state files.old).told path.now notes.old.items notes.new.items }
 {
     match read_whole(alloc, files, path.slice(), MOST_BYTES) {

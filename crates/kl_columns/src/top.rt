@@ -5,12 +5,12 @@ ghost use Rattle.kl_outside.specs.Sinks.{WritesWhole};
 
 use crate::listing::catalogue_of;
 use crate::refusal::{OUT_OF_MEMORY, Refusal, put_line, status};
-use crate::words::{are_tables, paths_of, wants_sql};
+use crate::words::{are_files, paths_of, wants_sql};
 use kl_base::{NoMemory, Text};
 use kl_outside::{Files, Sink, Stop, write_whole};
 use std::alloc::Global;
 
-/// Prints on `out` the catalogue of the tables that the words name, and answers the status. On `err` it tells what is left
+/// Prints on `out` the catalogue of the files that the words name, and answers the status. On `err` it tells what is left
 /// out, and then why nothing is printed, if so it is. A write that `err` refuses changes no status.
 pub fn klcat<F: Files, O: Sink, E: Sink>(
     alloc: Global,
@@ -61,7 +61,7 @@ fn refused<E: Sink>(alloc: Global, refusal: &Refusal, notes: &[u8], err: &mut E)
     }
 }
 
-// The catalogue of the tables that the words name.
+// The catalogue of the files that the words name.
 fn page_of<F: Files>(
     alloc: Global,
     words: &[String],
@@ -75,7 +75,7 @@ fn page_of<F: Files>(
         Ok(paths) => paths,
         Err(NoMemory) => return Err(Refusal::NoMemory),
     };
-    if !are_tables(&paths) {
+    if !are_files(&paths) {
         return Err(Refusal::Usage);
     }
     catalogue_of(alloc, files, wants_sql(words), &paths, notes)

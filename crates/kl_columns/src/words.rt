@@ -1,6 +1,6 @@
 //! The words of the command line.
-ghost use Rattle.std.specs.Prelude.{◌≡◌, ◌∷◌, ◌++◌, [], map, string_bytes, IfOk, OnOk};
-ghost use Rattle.kl_columns.specs.Words.{are_tables, is_option, is_table, paths_of, wants_sql};
+ghost use Rattle.std.specs.Prelude.{◌≡◌, ◌∷◌, ◌++◌, ◌||◌, [], map, string_bytes, IfOk, OnOk};
+ghost use Rattle.kl_columns.specs.Words.{are_files, is_option, is_table, is_values, paths_of, wants_sql};
 
 use kl_base::{NoMemory, Text};
 use std::alloc::Global;
@@ -47,20 +47,33 @@ fn is_option(word: &[u8]) -> bool
     word == b"--sql".as_slice()
 }
 
-/// Whether these are paths of tables, one at least.
-pub fn are_tables(paths: &[Text]) -> bool
-    ensures { result ≡ are_tables paths.now }
+/// Whether these are paths of tables and files of values, one at least.
+pub fn are_files(paths: &[Text]) -> bool
+    ensures { result ≡ are_files paths.now }
 {
     for path in paths {
-        if !is_table(path.slice()) {
+        if !is_file(path.slice()) {
             return false;
         }
     }
     !paths.is_empty()
 }
 
-fn is_table(path: &[u8]) -> bool
+fn is_file(path: &[u8]) -> bool
+    ensures { result ≡ (is_table path.now || is_values path.now) }
+{
+    is_table(path) || is_values(path)
+}
+
+/// Whether this is the path of a table.
+pub fn is_table(path: &[u8]) -> bool
     ensures { result ≡ is_table path.now }
 {
     path.ends_with(b".csv")
+}
+
+fn is_values(path: &[u8]) -> bool
+    ensures { result ≡ is_values path.now }
+{
+    path.ends_with(b".kx")
 }

@@ -8,7 +8,7 @@ use Rattle.kl_columns.specs.Listing.{Reads}
 use Rattle.kl_columns.specs.declared.table.Found.TheVariants as found
 use Rattle.kl_columns.proofs.Held.{has_type}
 use Rattle.kl_columns.proofs.Telling.{bytes_there, notes_told, too_long}
-use Rattle.kl_columns.proofs.table.type_of_file.Goals as goal
+use Rattle.kl_columns.proofs.table.type_of_table.Goals as goal
 
 pub returns-in-Type-clause-rows : goal.returns-in-Type-clause-rows
 returns-in-Type-clause-rows g c =
@@ -28,6 +28,7 @@ returns-in-Type-clause-notes g c =
     let here = subst (λ p. ReadsWhole p most_bytes (Ok (Bytes c.in-Ok-Bytes.bytes)) old new) c.slice.ensures read in
     notes_told c.args.path.now c.in-Ok-Bytes.bytes c.args.notes.now.items c.type_of.new.notes.items old new here
     (c.in_ok-ty-in-Ok-Bytes.ensures.notes ∙ (λ j. c.args.notes.now.items ++ table_notes (c.slice-in-Ok-Bytes.ensures j) (c.slice-in-Ok-Bytes-2.ensures j)))
+    c.requires
 
 pub returns-clause-notes : goal.returns-clause-notes
 returns-clause-notes g c =
@@ -37,6 +38,7 @@ returns-clause-notes g c =
     let here = subst (λ p. ReadsWhole p most_bytes (Ok (Bytes c.in-Ok-Bytes.bytes)) old new) c.slice.ensures read in
     notes_told c.args.path.now c.in-Ok-Bytes.bytes c.args.notes.now.items c.type_of.new.notes.items old new here
     (c.in_ok-ty-in-Ok-Bytes.ensures.notes ∙ (λ j. c.args.notes.now.items ++ table_notes (c.slice-in-Ok-Bytes.ensures j) (c.slice-in-Ok-Bytes-2.ensures j)))
+    c.requires
 
 pub returns-clause-why : goal.returns-clause-why
 returns-clause-why g c =
