@@ -1,5 +1,5 @@
 -- The first declaration of a program without a type is that of its expansion, by its number in the program.
-use Rattle.std.proofs.Common.{◌≡◌, ◌↔◌, inl, inr, ℕ, suc, List, [], Some, None, refl, sym, ap, ◌∙◌, subst}
+use Rattle.std.proofs.Common.{◌≡◌, ◌↔◌, inl, inr, ℕ, suc, List, [], refl, sym, ap, ◌∙◌, subst}
 use Rattle.kl_type.specs.Ground.{Ground}
 use Rattle.kl_outcome.specs.Outcome.{Name}
 use Rattle.kl_syntax.specs.Syntax.{Exp, Decls}

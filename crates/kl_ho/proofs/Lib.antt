@@ -13,3 +13,9 @@ pub mod Shaping
 pub mod Fields
 pub mod Scoping
 pub mod ProgramScoping
+pub mod Growing
+pub mod Arms
+pub mod Loops
+pub mod Renaming
+pub mod Reaching
+pub mod KeptLemmas

@@ -4,7 +4,7 @@ use Rattle.std.proofs.lemmas.Option.{same_Some}
 use Rattle.kl_base.specs.Fields.{field}
 use Rattle.kl_value.specs.declared.Kind.{Kind}
 use Rattle.kl_value.specs.declared.Value.TheVariants as value
-use Rattle.kl_prim.specs.Records.{Fields, in_order}
+use Rattle.kl_prim.specs.Records.{in_order}
 use Rattle.kl_outcome.specs.Outcome.{Name}
 use Rattle.kl_type.proofs.RowLemmas.{same_label}
 use Rattle.kl_syntax.specs.declared.tree.Tail.{Tail}
@@ -14,19 +14,19 @@ use Rattle.kl_syntax.specs.Syntax.{Pat, shape, Pats, Exp, Exps, Flds, Quals, Bra
 use Rattle.kl_meaning.specs.Match.{same_name}
 use Rattle.kl_core.specs.Trees as term
 use Rattle.kl_core.specs.Trees.{Tree, Trees, no_trees, trees, Arms, no_arms, rest, arm}
-use Rattle.kl_desugar.specs.Translation.{Codes, Place, here, inside, place_tree, level_of, name_tree, level_tree, at_level, code_tree, marks, mask, others, with_rest}
+use Rattle.kl_desugar.specs.Translation.{Codes, Place, here, inside, place_tree, level_of, name_tree, level_tree, at_level, code_tree, marks, others, with_rest}
 use Rattle.kl_desugar.specs.Translation.{matched, matched_fields, matched_here, tested, empty, called_tree, operated_tree, projected, no_sense, pair}
 use Rattle.kl_desugar.specs.Translation.{tree, tree_all, tree_fields, tree_quals, tree_branches, tree_steps, with_code, value_by, function_by}
 use Rattle.kl_desugar.specs.Translation.{function_tree, codes_after, codes_first, term_of}
 use Rattle.kl_desugar.specs.Translation.{Scope as Places}
-use Rattle.kl_ho.specs.Highers.{Higher, Highers, Funs, given_by}
+use Rattle.kl_ho.specs.Highers.{Highers, Funs, given_by}
 use Rattle.kl_ho.specs.Expansion.{Scope, New, HidesNone, BecomesBy, Becomes, PatBecomes, p_catch, p_any, p_same, p_is, p_shape, p_variant}
 use Rattle.kl_ho.specs.Expansion.{TailBecomes, t_exact, t_open, t_rest, PatsBecome, p_none, p_more, texts, Expands, e_const}
 use Rattle.kl_ho.specs.Expansion.{e_name, e_call, e_unfold, e_rec, e_extend, e_inj, e_coll, e_comp, e_if, e_let, e_case, e_path}
 use Rattle.kl_ho.specs.Expansion.{e_not, e_neg, e_chain, ExpandAll, a_none, a_more, FieldsExpand, f_none, f_skip, f_more}
 use Rattle.kl_ho.specs.Expansion.{QualsExpand, q_none, q_draw, q_test, BranchesExpand, b_none, b_otherwise, b_more, StepsExpand}
 use Rattle.kl_ho.specs.Expansion.{s_none, s_more}
-use Rattle.kl_ho.specs.HoPrograms.{FunctionFields, higher_from, no_highers, with_higher, ProgramExpands, x_last, x_constant, x_function, x_dropped}
+use Rattle.kl_ho.specs.HoPrograms.{FunctionFields, no_highers, with_higher, ProgramExpands, x_last, x_constant, x_function, x_dropped}
 use Rattle.kl_ho.proofs.Counting.{some_none}
 use Rattle.kl_ho.proofs.Holding.{differs, old_other}
 
