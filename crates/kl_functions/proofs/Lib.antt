@@ -1,0 +1,15 @@
+pub mod Among
+pub mod Basing
+pub mod Beginning
+pub mod Knowing
+pub mod Listing
+pub mod Naming
+pub mod Occurring
+pub mod Rounding
+pub mod Searching
+pub mod Settling
+pub mod Siting
+pub mod Copying
+pub mod Paraming
+pub mod Declaring
+pub mod Scoped

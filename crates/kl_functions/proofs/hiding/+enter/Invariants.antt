@@ -1,0 +1,9 @@
+use Rattle.std.proofs.Common.{◌≡◌, drop}
+use Rattle.kl_syntax.specs.View.{patterns_view}
+use Rattle.kl_ho.specs.Shapes.{names_after_all}
+use Rattle.kl_functions.specs.Occurrences.{names_of}
+use Rattle.kl_functions.proofs.hiding.+enter.Given as goal
+
+abbrev pub invariant-enter_all-fields : goal.invariant-enter_all-fields
+invariant-enter_all-fields l =
+    names_after_all (patterns_view (drop l.field-index l.fields)) (names_of l.names.items) ≡ names_after_all (patterns_view l.fields) (names_of l.initial.names.items)
