@@ -18,6 +18,7 @@ use Rattle.kl_syntax.specs.Syntax.{Exp, Const, name, Call, Rec, More, Inj, Coll,
 use Rattle.kl_syntax.specs.View.{view, exps_view, fields_view, quals_view, qual_view, steps_view, branch_view, branches_of, branches_view, rest_of, pattern_view}
 use Rattle.kl_syntax.proofs.Views.{view_Const, view_Name, view_Call, view_Rec, view_More, view_Inj, view_Coll, view_Comp, view_If, view_Let, view_Case, view_Path, view_Not, view_Neg, view_Chain}
 use Rattle.kl_scope.specs.Walks.{onto, expr_front, field_front, step_front}
+use Rattle.kl_ho.proofs.Loops.{onto_push}
 use Rattle.kl_ho.specs.HoPrograms.{FunctionFields}
 use Rattle.kl_ho.specs.Plain.{nothing, is_parameter, takes_function, is_bare_function, called_parameter, plainly, plainly_handed, plainly_all, plainly_fields, plainly_quals, plainly_branches, plainly_steps}
 use Rattle.kl_ho.specs.Shapes.{names_after, behind_shaped}
@@ -54,13 +55,9 @@ many_called f (x ∷ y ∷ es) now c n h i = ap (λ z. view (expr.Call f z)) i �
 
 -- ---- lists that are made one by one
 
-put_last : {A T : Type 0} (front : A → T → T) (xs : List A) (x : A) (t : T) → onto front (xs ++ x ∷ []) t ≡ onto front xs (front x t)
-put_last front [] x t = refl
-put_last front (y ∷ xs) x t = ap (λ z. front y z) (put_last front xs x t)
-
 -- one more is made of what is left
 pub made_next : {A T : Type 0} (front : A → T → T) (made now : List A) (x : A) (left rest all : T) → now ≡ made ++ x ∷ [] → left ≡ front x rest → onto front made left ≡ all → onto front now rest ≡ all
-made_next front made now x left rest all n e h = ap (λ zs. onto front zs rest) n ∙ put_last front made x rest ∙ ap (λ z. onto front made z) (sym e) ∙ h
+made_next front made now x left rest all n e h = ap (λ zs. onto front zs rest) n ∙ onto_push front made x rest ∙ ap (λ z. onto front made z) (sym e) ∙ h
 
 exps_seen : (es : List Expr) → exps_view es ≡ onto expr_front es no_exps
 exps_seen [] = refl
