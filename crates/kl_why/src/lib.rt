@@ -4,7 +4,9 @@
 //! is wrong the file, the line and the column, the rule, and the line with a caret under the place.
 //!
 //! What `rt plant` lets through here: bodies that answer want of memory, which no contract of this project ties to a
-//! refused growth.
+//! refused growth; and all of `blame`, `reasons` and `spans`, with what asks for a part in `asking`. They choose which part of a
+//! program without types is told, and say why in words for the reader: no contract says that it is the smallest, or that
+//! the reason is the best. Whatever they choose, the program that asks for the part has no typing (`IsUntyped`).
 #![tactic(auto)]
 
 mod asking;
